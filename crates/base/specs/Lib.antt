@@ -1,0 +1,4 @@
+pub mod Word
+pub mod Operator
+pub mod Steps
+pub mod Device

@@ -1,0 +1,56 @@
+ghost use Rattle.std.specs.Prelude.{◌≡◌, ℕ, ◌&&◌};
+ghost use Rattle.base.specs.Steps.{one_more};
+
+use std::marker::Model;
+
+/// A count of steps. It stays at its greatest value, 2^128 - 1, once it is there.
+#[derive(Debug, Drop)]
+pub struct Tally {
+    count: u128,
+}
+
+impl Model for Tally {
+    ghost Value = { ℕ };
+
+    ghost view = { λ t. t.count };
+}
+
+impl Tally {
+    /// No steps yet.
+    pub fn new() -> Tally
+        ensures { result ≡ 0 }
+    {
+        Tally { count: 0 }
+    }
+
+    /// The steps so far.
+    pub fn steps(&self) -> u128
+        ensures { result ≡ self.now }
+    {
+        self.count
+    }
+
+    pub(crate) fn step(&mut self)
+        ensures { self.new ≡ one_more self.old }
+    {
+        self.count = self.count.saturating_add(1);
+    }
+}
+
+/// A value taken as it is: a leaf's word, or a state's word that moves. One step.
+pub fn take<T: Copy>(x: T, tally: &mut Tally) -> T
+    ensures value { result ≡ x }
+    ensures step { tally.new ≡ one_more tally.old }
+{
+    tally.step();
+    x
+}
+
+/// The output of an AND gate from its two operands. One step.
+pub fn gate(a: bool, b: bool, tally: &mut Tally) -> bool
+    ensures value { result ≡ (a && b) }
+    ensures step { tally.new ≡ one_more tally.old }
+{
+    tally.step();
+    a && b
+}
