@@ -1,0 +1,4 @@
+pub mod NetLemmas
+mod NameLemmas
+mod CircuitLemmas
+mod TraceLemmas

@@ -1,0 +1,10 @@
+pub mod Limits
+pub mod Literal
+pub mod Net
+pub mod Refusal
+pub mod Names
+pub mod NameTable
+pub mod Circuit
+pub mod View
+pub mod Trace
+pub mod Worked

@@ -1,0 +1,24 @@
+-- Faults of a circuit: their numbers, and what an answer says of the first fault that applies.
+use Rattle.std.specs.Prelude.{◌≡◌, ℕ, ◌⊎◌, Option, None, Some, Result, Ok, Err}
+use Rattle.aiger.specs.declared.fault.CircuitFault.{CircuitFault}
+use Rattle.aiger.specs.declared.fault.CircuitFault.TheVariants.{LiteralOutOfRange, OrderBroken, TooBig, NoMemory, NoSuchPosition, NameTaken, BadName}
+
+-- done only where there is no fault; an error is the first fault, or want of memory where there is none
+abbrev pub RefusesBy : {T : Type 0} → Result T CircuitFault → Option CircuitFault → Type 0
+RefusesBy (Ok x) fault = fault ≡ None
+RefusesBy (Err e) fault = (fault ≡ Some e) ⊎ ((fault ≡ None) × (e ≡ NoMemory))
+
+-- the same of a call that takes no memory: done exactly where there is no fault
+abbrev pub RefusesOnlyBy : {T : Type 0} → Result T CircuitFault → Option CircuitFault → Type 0
+RefusesOnlyBy (Ok x) fault = fault ≡ None
+RefusesOnlyBy (Err e) fault = fault ≡ Some e
+
+-- the number that is printed for a fault
+abbrev pub fault_number : CircuitFault → ℕ
+fault_number LiteralOutOfRange = 40
+fault_number OrderBroken = 41
+fault_number TooBig = 42
+fault_number NoMemory = 43
+fault_number NoSuchPosition = 44
+fault_number NameTaken = 45
+fault_number BadName = 46

@@ -1,0 +1,49 @@
+-- Traces of a circuit ("AIGER 1.9 and Beyond", semantics: latches begin at their resets and take their next literals' bits).
+use Rattle.std.specs.Prelude.{◌≡◌, ℕ, ◌≤◌, Bool, true, false, List, [], ◌∷◌, map, length, All}
+use Rattle.aiger.specs.declared.circuit.Latch.{Latch}
+use Rattle.aiger.specs.declared.circuit.Reset.{Reset}
+use Rattle.aiger.specs.declared.circuit.Reset.TheVariants.{Zero, One, Free}
+use Rattle.aiger.specs.Literal.{Valuation, literal_value}
+use Rattle.aiger.specs.Net.{Net, variables, Satisfies, input_bits, latch_bits}
+use Rattle.aiger.specs.Circuit.{Circuit, net}
+
+-- a frame from these latch bits and input bits: a valuation that satisfies the gates and has them
+pub record IsFrame (c : Circuit) (state : List Bool) (input : List Bool) (v : Valuation) : Type 0 where
+  pub gates : Satisfies (net c) v
+  pub inputs : input_bits (net c) v ≡ input
+  pub latches : latch_bits (net c) v ≡ state
+
+-- the latches' bits in the frame after v: those of their next literals
+abbrev pub next_state : Circuit → Valuation → List Bool
+next_state c v = map (λ latch. literal_value v latch.next) c.latches
+
+-- a trace: as many frames as input frames, each from the state that the one before leaves
+abbrev pub IsTrace : Circuit → List Bool → List (List Bool) → List Valuation → Type 0
+IsTrace c state [] [] = Unit {0}
+IsTrace c state [] (v ∷ vs) = ⊥
+IsTrace c state (input ∷ inputs) [] = ⊥
+IsTrace c state (input ∷ inputs) (v ∷ vs) = IsFrame c state input v × IsTrace c (next_state c v) inputs vs
+
+-- a first bit agrees with a reset
+abbrev pub AgreesWithReset : Reset → Bool → Type 0
+AgreesWithReset Zero b = b ≡ false
+AgreesWithReset One b = b ≡ true
+AgreesWithReset Free b = Unit {0}
+
+-- initial bits: one for each latch, and each agrees with its reset
+abbrev pub AreInitial : List Latch → List Bool → Type 0
+AreInitial [] [] = Unit {0}
+AreInitial [] (b ∷ bs) = ⊥
+AreInitial (l ∷ ls) [] = ⊥
+AreInitial (l ∷ ls) (b ∷ bs) = AgreesWithReset l.reset b × AreInitial ls bs
+
+-- two valuations say the same of each variable of a circuit
+abbrev pub SameFrame : Circuit → Valuation → Valuation → Type 0
+SameFrame c v w = (k : ℕ) → 1 ≤ k → k ≤ variables (net c) → v k ≡ w k
+
+-- two traces are as long, and say the same in each frame
+abbrev pub SameTrace : Circuit → List Valuation → List Valuation → Type 0
+SameTrace c [] [] = Unit {0}
+SameTrace c [] (w ∷ ws) = ⊥
+SameTrace c (v ∷ vs) [] = ⊥
+SameTrace c (v ∷ vs) (w ∷ ws) = SameFrame c v w × SameTrace c vs ws

@@ -1,0 +1,35 @@
+-- Worked circuits: a latch that toggles, and one gate.
+use Rattle.std.specs.Prelude.{ℕ, List, [], ◌∷◌, Bool, false, ◌==◌, Option, None}
+use Rattle.aiger.specs.declared.circuit.Gate.{Gate}
+use Rattle.aiger.specs.declared.circuit.Latch.{Latch}
+use Rattle.aiger.specs.declared.circuit.Reset.TheVariants.{Zero}
+use Rattle.aiger.specs.Literal.{Valuation}
+use Rattle.aiger.specs.Net.{Net}
+use Rattle.aiger.specs.Circuit.{Circuit}
+
+-- one latch that begins with 0 and takes its negation, and is bad where it is 1
+abbrev pub toggler : Circuit
+toggler =
+    record {
+      inputs = 0;
+      latches = record { next = 3; reset = Zero } ∷ [];
+      gates = [];
+      bads = 2 ∷ [];
+      constraints = [];
+      input_names = [];
+      latch_names = None ∷ [];
+      bad_names = None ∷ [];
+      constraint_names = [];
+    }
+
+-- its latch is 0, and 1
+abbrev pub off : Valuation
+off k = false
+
+abbrev pub on : Valuation
+on k = k == 1
+
+-- one gate of two inputs, with these operands
+abbrev pub one_gate : ℕ → ℕ → Net
+one_gate rhs0 rhs1 =
+    record { inputs = 2; latches = 0; gates = record { rhs0 = rhs0; rhs1 = rhs1 } ∷ [] }

@@ -1,0 +1,50 @@
+ghost use Rattle.std.specs.Prelude.{◌≡◌, ℕ, ◌+◌, ◌*◌, ◌<◌, ◌↔◌, List, [], ◌∷◌, Bool, true, false, not, ◌&&◌, All, length};
+ghost use Rattle.aiger.specs.Literal.{Valuation, literal_value, negation};
+ghost use Rattle.aiger.specs.Net.{Satisfies, AreOrdered};
+ghost use Rattle.aiger.specs.Circuit.{Circuit, IsCircuit};
+ghost use Rattle.aiger.specs.Trace.{IsTrace, SameTrace, AreInitial};
+ghost use Rattle.aiger.specs.Worked.{toggler, off, on, one_gate};
+
+use crate::literal::Lit;
+
+/// From initial latch bits, under any input frames, a circuit has exactly one trace
+/// ("AIGER 1.9 and Beyond", semantics). It does nothing: its contract is the law.
+pub fn exactly_one_trace()
+    // There is one.
+    ensures exists { (c : Circuit) (state : List Bool) (inputs : List (List Bool))
+        → IsCircuit c → length state ≡ length c.latches
+        → All (λ input. length input ≡ c.inputs) inputs
+        → (vs : List Valuation) × IsTrace c state inputs vs }
+    // Any two say the same of each variable in each frame.
+    ensures unique { (c : Circuit) (state : List Bool) (inputs : List (List Bool)) (vs ws : List Valuation)
+        → IsCircuit c → IsTrace c state inputs vs → IsTrace c state inputs ws
+        → SameTrace c vs ws }
+{}
+
+/// Worked rows of literals, gates and traces. It does nothing: its contract and what it
+/// proves of the two named literals are the rows.
+pub fn worked_traces()
+    // 0 is false and 1 is true, 2k is variable k and 2k + 1 its negation.
+    ensures constants { (v : Valuation)
+        → (literal_value v 0 ≡ false) × (literal_value v 1 ≡ true) }
+    ensures even { (v : Valuation) (k : ℕ) → 0 < k → literal_value v (2 * k) ≡ v k }
+    ensures odd { (v : Valuation) (k : ℕ) → 0 < k → literal_value v (2 * k + 1) ≡ not (v k) }
+    ensures negations { (negation 0 ≡ 1) × (negation 1 ≡ 0) × (negation 6 ≡ 7) × (negation 7 ≡ 6) }
+    // A gate of two inputs is true exactly when both are.
+    ensures gate { (v : Valuation) → Satisfies (one_gate 4 2) v ↔ (v 3 ≡ (v 1 && v 2)) }
+    // Its operands are below it, the greater one first.
+    ensures ordered { AreOrdered (one_gate 4 2) × AreOrdered (one_gate 5 5) }
+    ensures exchanged { ¬ AreOrdered (one_gate 2 4) }
+    ensures of_itself { ¬ AreOrdered (one_gate 6 2) }
+    // The latch that toggles begins with 0, and is 1 in the frame after.
+    ensures valid { IsCircuit toggler }
+    ensures begins { AreInitial toggler.latches (false ∷ []) }
+    ensures begins_otherwise { ¬ AreInitial toggler.latches (true ∷ []) }
+    ensures toggles { IsTrace toggler (false ∷ []) ([] ∷ [] ∷ []) (off ∷ on ∷ []) }
+    ensures stays { ¬ IsTrace toggler (false ∷ []) ([] ∷ [] ∷ []) (off ∷ off ∷ []) }
+    ensures ends_early { ¬ IsTrace toggler (false ∷ []) ([] ∷ [] ∷ []) (off ∷ []) }
+    ensures rises { (literal_value off 2 ≡ false) × (literal_value on 2 ≡ true) }
+{
+    prove!(Lit::FALSE.number() == 0);
+    prove!(Lit::TRUE.number() == 1);
+}

@@ -1,0 +1,173 @@
+use super::*;
+use std::alloc::Global;
+use std::test::Fail;
+
+/// Two inputs, a latch, the gate 8 of the literals 5 and 2, a bad property and a constraint.
+fn small(alloc: Global) -> Result<Circuit, CircuitFault> {
+    let mut circuit = Circuit::new(alloc, 2, 1)?;
+    let gate = circuit.push_gate(Lit::new(5), Lit::new(2))?;
+    circuit.push_bad(gate)?;
+    circuit.push_constraint(Lit::TRUE)?;
+    Ok(circuit)
+}
+
+/// Whether a name was given, and is then the position's name.
+fn takes_name(circuit: &mut Circuit, section: Section, position: usize, name: &[u8]) -> bool {
+    circuit.set_name(section, position, name).is_ok()
+        && circuit.name(section, position) == Some(name)
+}
+
+/// The fault of a name for a position.
+fn name_fault(
+    circuit: &mut Circuit,
+    section: Section,
+    position: usize,
+    name: &[u8],
+) -> Option<CircuitFault> {
+    circuit.set_name(section, position, name).err()
+}
+
+#[test]
+fn literals_of_variables(rt: HostRuntime) {
+    // number, variable, negation
+    for (number, variable, negation) in [(0, 0, 1), (1, 0, 0), (6, 3, 7), (7, 3, 6)] {
+        let lit = Lit::new(number);
+        assert_eq!(rt; lit.number(), number);
+        assert_eq!(rt; lit.var(), variable, "of {number}");
+        assert_eq!(rt; lit.not().number(), negation, "of {number}");
+    }
+    assert_eq!(rt; Lit::FALSE.number(), 0);
+    assert_eq!(rt; Lit::TRUE.number(), 1);
+}
+
+#[test]
+fn gates_and_properties_are_kept(rt: HostRuntime) -> Result<(), Fail> {
+    let circuit = small(rt.alloc())?;
+    assert_eq!(rt; circuit.inputs(), 2);
+    assert_eq!(rt; circuit.variables(), 4);
+    let operands = Gate {
+        rhs0: Lit::new(5),
+        rhs1: Lit::new(2),
+    };
+    assert!(rt; circuit.gates() == [operands].as_slice());
+    assert!(rt; circuit.bads() == [Lit::new(8)].as_slice());
+    assert!(rt; circuit.constraints() == [Lit::TRUE].as_slice());
+    Ok(())
+}
+
+#[test]
+fn a_latch_is_set(rt: HostRuntime) -> Result<(), Fail> {
+    let mut circuit = small(rt.alloc())?;
+    let latch = Latch {
+        next: Lit::new(9),
+        reset: Reset::Free,
+    };
+    assert_eq!(rt; circuit.latches().len(), 1);
+    circuit.set_latch(0, latch.next, latch.reset)?;
+    assert!(rt; circuit.latches() == [latch].as_slice());
+    Ok(())
+}
+
+#[test]
+fn names_are_given(rt: HostRuntime) -> Result<(), Fail> {
+    let mut circuit = small(rt.alloc())?;
+    assert!(rt; takes_name(&mut circuit, Section::Input, 1, b"b"));
+    assert!(rt; takes_name(&mut circuit, Section::Latch, 0, b"q[0]"));
+    assert!(rt; takes_name(&mut circuit, Section::Bad, 0, b"~"));
+    assert!(rt; takes_name(&mut circuit, Section::Constraint, 0, b" "));
+    assert!(rt; takes_name(&mut circuit, Section::Input, 0, b"a"));
+    assert!(rt; circuit.name(Section::Input, 1) == Some(b"b".as_slice()));
+    assert!(rt; circuit.name(Section::Latch, 1).is_none());
+    Ok(())
+}
+
+#[test]
+fn too_many_variables(rt: HostRuntime) {
+    for (inputs, latches) in [(1_073_741_825, 0), (1_073_741_824, 1), (u32::MAX, u32::MAX)] {
+        let fault = Circuit::new(rt.alloc(), inputs, latches).err();
+        assert_eq!(rt; fault, Some(CircuitFault::TooBig));
+    }
+}
+
+#[test]
+fn the_first_fault_of_a_gate(rt: HostRuntime) -> Result<(), Fail> {
+    let mut circuit = Circuit::new(rt.alloc(), 1, 1)?;
+    for (rhs0, rhs1, fault) in [
+        (6, 7, CircuitFault::LiteralOutOfRange),
+        (5, 6, CircuitFault::LiteralOutOfRange),
+        (4, 5, CircuitFault::OrderBroken),
+    ] {
+        let answer = circuit.push_gate(Lit::new(rhs0), Lit::new(rhs1)).err();
+        assert_eq!(rt; answer, Some(fault), "of {rhs0} and {rhs1}");
+    }
+    Ok(())
+}
+
+#[test]
+fn literals_out_of_range(rt: HostRuntime) -> Result<(), Fail> {
+    let mut circuit = Circuit::new(rt.alloc(), 1, 1)?;
+    let fault = Some(CircuitFault::LiteralOutOfRange);
+    assert_eq!(rt; circuit.push_bad(Lit::new(6)).err(), fault);
+    assert_eq!(rt; circuit.push_constraint(Lit::new(7)).err(), fault);
+    assert_eq!(rt; circuit.latches().len(), 1);
+    assert_eq!(rt; circuit.set_latch(0, Lit::new(6), Reset::One).err(), fault);
+    Ok(())
+}
+
+#[test]
+fn the_first_fault_of_a_name(rt: HostRuntime) -> Result<(), Fail> {
+    let mut circuit = Circuit::new(rt.alloc(), 1, 1)?;
+    circuit.set_name(Section::Input, 0, b"x")?;
+    for (section, position, name, fault) in [
+        (
+            Section::Input,
+            1,
+            b"".as_slice(),
+            CircuitFault::NoSuchPosition,
+        ),
+        (
+            Section::Bad,
+            0,
+            b"y".as_slice(),
+            CircuitFault::NoSuchPosition,
+        ),
+        (Section::Input, 0, b"".as_slice(), CircuitFault::NameTaken),
+        (Section::Latch, 0, b"".as_slice(), CircuitFault::BadName),
+        (Section::Latch, 0, b"\x1f".as_slice(), CircuitFault::BadName),
+        (Section::Latch, 0, b"\x7f".as_slice(), CircuitFault::BadName),
+    ] {
+        let answer = name_fault(&mut circuit, section, position, name);
+        assert_eq!(rt; answer, Some(fault), "{section:?} {position}");
+    }
+    Ok(())
+}
+
+#[test]
+fn names_have_300_bytes_at_most(rt: HostRuntime) -> Result<(), Fail> {
+    let mut circuit = Circuit::new(rt.alloc(), 1, 1)?;
+    let long = [b'x'; 301];
+    let (name, _) = long.split_at(300);
+    assert_eq!(rt;
+        name_fault(&mut circuit, Section::Latch, 0, &long),
+        Some(CircuitFault::BadName)
+    );
+    assert_eq!(rt; name_fault(&mut circuit, Section::Latch, 0, name), None);
+    Ok(())
+}
+
+#[test]
+fn faults_have_numbers(rt: HostRuntime) -> Result<(), Fail> {
+    for (fault, number, text) in [
+        (CircuitFault::LiteralOutOfRange, 40, "40 LiteralOutOfRange"),
+        (CircuitFault::OrderBroken, 41, "41 OrderBroken"),
+        (CircuitFault::TooBig, 42, "42 TooBig"),
+        (CircuitFault::NoMemory, 43, "43 NoMemory"),
+        (CircuitFault::NoSuchPosition, 44, "44 NoSuchPosition"),
+        (CircuitFault::NameTaken, 45, "45 NameTaken"),
+        (CircuitFault::BadName, 46, "46 BadName"),
+    ] {
+        assert_eq!(rt; fault.number(), number);
+        assert_eq!(rt; format!(in rt.alloc(); "{fault}")?.as_str(), text);
+    }
+    Ok(())
+}

@@ -1,0 +1,17 @@
+use Rattle.std.proofs.Common.{arith, rules, ◌+◌, ◌-◌, ◌∙◌, ◌++◌, ap, sym}
+use Rattle.aigertext.proofs.PieceLemmas.{put_more, put_fails}
+use Rattle.aigertext.proofs.SectionLemmas.{name_lines_at}
+use Rattle.aigertext.proofs.names.put_names.Goals as goal
+
+pub returns-in-Err-clause-puts : goal.returns-in-Err-clause-puts
+returns-in-Err-clause-puts g c =
+    put_fails _ _ _ _ _ _ _ _ _ c.loop-position.invariant.put c.in-Err.ensures.puts
+    (name_lines_at c.args.letter c.loop-position.position _ (omega arith))
+
+pub loop-position-preserved : goal.loop-position-preserved
+loop-position-preserved g c = record {
+  put =
+      put_more _ _ _ _ _ _ _ _ _ _ c.loop-position.invariant.put c.in-Ok.ensures.puts
+      (name_lines_at c.args.letter c.loop-position.position _ (omega arith));
+  counted = omega (arith, c.in-Ok.ensures.failures.0);
+}

@@ -1,0 +1,11 @@
+use Rattle.std.proofs.Common.{◌≡◌, ◌+◌, ◌-◌, ◌≤◌, drop}
+use Rattle.aiger.specs.Circuit.{names_of}
+use Rattle.aigertext.specs.Ascii.{input_lines, latch_lines, literal_lines, gate_lines, name_lines}
+use Rattle.aigertext.proofs.PieceLemmas.{Put}
+use Rattle.aigertext.proofs.names.put_names.Given as goal
+
+abbrev pub invariant-loop-position : goal.invariant-loop-position
+invariant-loop-position g l = record {
+  put : Put (g.K.Sink.written l.initial.sink) (g.K.Sink.written l.sink) l.initial.outbox l.outbox (name_lines l.letter 0 (names_of l.section l.circuit)) (name_lines l.letter l.position (drop l.position (names_of l.section l.circuit)));
+  counted : g.K.Sink.failures l.initial.sink ≤ g.K.Sink.failures l.sink;
+}

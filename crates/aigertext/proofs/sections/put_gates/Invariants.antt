@@ -1,0 +1,12 @@
+use Rattle.std.proofs.Common.{◌≡◌, ◌+◌, ◌-◌, ◌≤◌, drop}
+use Rattle.aiger.specs.Circuit.{names_of}
+use Rattle.aigertext.specs.Ascii.{input_lines, latch_lines, literal_lines, gate_lines, name_lines}
+use Rattle.aigertext.proofs.PieceLemmas.{Put}
+use Rattle.aigertext.proofs.sections.put_gates.Given as goal
+
+abbrev pub invariant-loop-gate : goal.invariant-loop-gate
+invariant-loop-gate g l = record {
+  put : Put (g.K.Sink.written l.initial.sink) (g.K.Sink.written l.sink) l.initial.outbox l.outbox (gate_lines l.first l.gates) (gate_lines l.variable (drop l.gate-index l.gates));
+  counted : g.K.Sink.failures l.initial.sink ≤ g.K.Sink.failures l.sink;
+  in_order : l.variable ≡ l.first + l.gate-index;
+}

@@ -1,0 +1,12 @@
+use Rattle.std.proofs.Common.{◌≡◌, ◌+◌, ◌-◌, ◌≤◌, drop}
+use Rattle.aiger.specs.Circuit.{names_of}
+use Rattle.aigertext.specs.Ascii.{input_lines, latch_lines, literal_lines, gate_lines, name_lines}
+use Rattle.aigertext.proofs.PieceLemmas.{Put}
+use Rattle.aigertext.proofs.sections.put_latches.Given as goal
+
+abbrev pub invariant-loop-latch : goal.invariant-loop-latch
+invariant-loop-latch g l = record {
+  put : Put (g.K.Sink.written l.initial.sink) (g.K.Sink.written l.sink) l.initial.outbox l.outbox (latch_lines l.first l.latches) (latch_lines l.variable (drop l.latch-index l.latches));
+  counted : g.K.Sink.failures l.initial.sink ≤ g.K.Sink.failures l.sink;
+  in_order : l.variable ≡ l.first + l.latch-index;
+}

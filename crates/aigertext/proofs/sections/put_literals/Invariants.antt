@@ -1,0 +1,11 @@
+use Rattle.std.proofs.Common.{◌≡◌, ◌+◌, ◌-◌, ◌≤◌, drop}
+use Rattle.aiger.specs.Circuit.{names_of}
+use Rattle.aigertext.specs.Ascii.{input_lines, latch_lines, literal_lines, gate_lines, name_lines}
+use Rattle.aigertext.proofs.PieceLemmas.{Put}
+use Rattle.aigertext.proofs.sections.put_literals.Given as goal
+
+abbrev pub invariant-loop-literal : goal.invariant-loop-literal
+invariant-loop-literal g l = record {
+  put : Put (g.K.Sink.written l.initial.sink) (g.K.Sink.written l.sink) l.initial.outbox l.outbox (literal_lines l.literals) (literal_lines (drop l.literal-index l.literals));
+  counted : g.K.Sink.failures l.initial.sink ≤ g.K.Sink.failures l.sink;
+}

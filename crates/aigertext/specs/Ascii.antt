@@ -1,0 +1,79 @@
+-- The ascii text of a circuit ("AIGER 1.9 and Beyond", the ascii format): the one spelling that the writer gives.
+use Rattle.std.specs.Prelude.{ℕ, suc, zero, ◌+◌, ◌*◌, List, [], ◌∷◌, ◌++◌, length, Option, Some, None, codes, decimal, flat_map}
+use Rattle.aiger.specs.declared.circuit.Gate.{Gate}
+use Rattle.aiger.specs.declared.circuit.Latch.{Latch}
+use Rattle.aiger.specs.declared.circuit.Reset.{Reset}
+use Rattle.aiger.specs.declared.circuit.Reset.TheVariants.{Zero, One, Free}
+use Rattle.aiger.specs.Net.{variables}
+use Rattle.aiger.specs.Circuit.{Circuit, Names, net}
+
+-- a line of numbers: decimals with one space between, and byte 10
+abbrev pub numbers_line : List ℕ → List ℕ
+numbers_line [] = 10 ∷ []
+numbers_line (n ∷ []) = decimal n ++ 10 ∷ []
+numbers_line (n ∷ m ∷ ns) = decimal n ++ 32 ∷ numbers_line (m ∷ ns)
+
+-- a number and those behind it, nothing where all of them are 0
+abbrev pub before_kept : ℕ → List ℕ → List ℕ
+before_kept zero [] = []
+before_kept (suc n) [] = suc n ∷ []
+before_kept n (m ∷ ns) = n ∷ m ∷ ns
+
+-- numbers without the zeros at their end
+abbrev pub without_zero_tail : List ℕ → List ℕ
+without_zero_tail [] = []
+without_zero_tail (n ∷ ns) = before_kept n (without_zero_tail ns)
+
+-- the header: the greatest variable, how many inputs, latches, outputs and gates, and then as far as they are not 0 bad properties and constraints
+abbrev pub header : Circuit → List ℕ
+header c =
+    codes "aag" ++ 32 ∷ numbers_line (variables (net c) ∷ c.inputs ∷ length c.latches ∷ 0 ∷ length c.gates
+    ∷ without_zero_tail (length c.bads ∷ length c.constraints ∷ []))
+
+-- a line for each input: its literal. The first has the given variable
+abbrev pub input_lines : ℕ → ℕ → List ℕ
+input_lines first zero = []
+input_lines first (suc count) = numbers_line (2 * first ∷ []) ++ input_lines (suc first) count
+
+-- the number of a reset, left out where it is 0: 1, or the latch's own literal where it has no initial value
+abbrev pub reset_numbers : ℕ → Reset → List ℕ
+reset_numbers own Zero = []
+reset_numbers own One = 1 ∷ []
+reset_numbers own Free = own ∷ []
+
+-- a line for each latch: its literal, its next literal and its reset
+abbrev pub latch_lines : ℕ → List Latch → List ℕ
+latch_lines first [] = []
+latch_lines first (l ∷ ls) = numbers_line (2 * first ∷ l.next ∷ reset_numbers (2 * first) l.reset) ++ latch_lines (suc first) ls
+
+-- a line for each literal
+abbrev pub literal_lines : List ℕ → List ℕ
+literal_lines [] = []
+literal_lines (l ∷ ls) = numbers_line (l ∷ []) ++ literal_lines ls
+
+-- a line for each gate: its literal and its operands, the greater one first
+abbrev pub gate_lines : ℕ → List Gate → List ℕ
+gate_lines first [] = []
+gate_lines first (g ∷ gs) = numbers_line (2 * first ∷ g.rhs0 ∷ g.rhs1 ∷ []) ++ gate_lines (suc first) gs
+
+-- a line for each name of a section: the section's letter with the position, a space and the name
+abbrev pub name_line : ℕ → ℕ → Option (List ℕ) → List ℕ
+name_line letter position None = []
+name_line letter position (Some name) = letter ∷ decimal position ++ 32 ∷ name ++ 10 ∷ []
+
+abbrev pub name_lines : ℕ → ℕ → Names → List ℕ
+name_lines letter position [] = []
+name_lines letter position (n ∷ ns) = name_line letter position n ++ name_lines letter (suc position) ns
+
+-- the names, by section in the order of the letters i l b c
+abbrev pub all_names : Circuit → List ℕ
+all_names c =
+    name_lines 105 0 c.input_names ++ (name_lines 108 0 c.latch_names
+    ++ (name_lines 98 0 c.bad_names ++ name_lines 99 0 c.constraint_names))
+
+-- the text: header, inputs, latches, bad properties, constraints, gates and names
+abbrev pub ascii_text : Circuit → List ℕ
+ascii_text c =
+    header c ++ (input_lines 1 c.inputs ++ (latch_lines (suc c.inputs) c.latches
+    ++ (literal_lines c.bads ++ (literal_lines c.constraints
+    ++ (gate_lines (suc (c.inputs + length c.latches)) c.gates ++ all_names c)))))

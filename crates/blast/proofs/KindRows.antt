@@ -1,0 +1,169 @@
+-- Rows of nodes: that they are there, and what they read as.
+use Rattle.std.proofs.Common.{◌≡◌, ℕ, zero, suc, ◌+◌, ◌<◌, Bool, true, false, cond, ◌==◌, List, [], ◌∷◌, ◌++◌, length, Option, Some, None, is_some, is_none, unwrap_or, option_and_then, MatchOption, slice_get, get_or, ◌&&◌, if◌then◌else◌, refl, sym, ap, subst, ◌∙◌, append_assoc, length-append, arith}
+use Rattle.std.specs.List.{position_from}
+use Rattle.std.proofs.lemmas.Option.{slice_get_within, none-some, same_Some}
+use Rattle.btor2.specs.declared.item.Item.{Item}
+use Rattle.btor2.specs.declared.item.Body.{Body}
+use Rattle.btor2.specs.Items.{find_item, position_of, width_of_body, node_width, is_state, constant_of_body, constant_of, init_value, next_value}
+use Rattle.btor2.specs.Check.{IsWellFormed}
+use Rattle.btor2.specs.Lists.{places, init_place, next_place, constant_at}
+use Rattle.btor2.proofs.LookUps.{found}
+use Rattle.btor2.proofs.ModelLemmas.{IsIn-from_find, then_parts, some_of, IsNextOf-from_value}
+use Rattle.aiger.specs.Net.{Net}
+use Rattle.blast.specs.Reads.{ReadsWord, RowReads, RowsRead}
+use Rattle.blast.specs.Refusal.{first_without_next}
+use Rattle.blast.specs.Rows.{row_at, init_word}
+use Rattle.blast.proofs.KindBlocks.{slice_get-behind}
+
+-- a found item has a place
+place_of : (items : List Item) (id : ℕ) (x : Item) (o : Option ℕ) → MatchOption o (find_item items id ≡ None) (λ k. slice_get items k ≡ find_item items id) → find_item items id ≡ Some x
+    → (k : ℕ) × (o ≡ Some k) × (slice_get items k ≡ Some x)
+place_of items id x None h e = absurd (none-some x (sym h ∙ e))
+place_of items id x (Some k) h e = (k, refl, h ∙ e)
+
+-- a node's place
+pub node_place : (items : List Item) (id n : ℕ) → node_width items id ≡ Some n
+    → (k : ℕ) × (x : Item) × (position_of items id ≡ Some k) × (slice_get items k ≡ Some x) × (x.id ≡ id) × (width_of_body items x.body ≡ Some n)
+node_place items id n h =
+    let parts = then_parts (λ (x : Item). width_of_body items x.body) (find_item items id) n h in
+    let there = place_of items id parts.0 (position_of items id) (found id items) parts.1 in
+    let own = (IsIn-from_find items id parts.0 parts.1).1 in
+    (there.0, parts.0, there.1, there.2, sym own, parts.2)
+
+-- an entry of a list that is long enough
+pub entry : {A : Type 0} (list : List A) (k : ℕ) → k < length list → (x : A) × (slice_get list k ≡ Some x)
+entry [] k h = absurd (omega arith)
+entry (x ∷ list) zero h = (x, refl)
+entry (x ∷ list) (suc k) h = entry list k (omega arith)
+
+reads_from : (items : List Item) (n : Net) (x : Item) (id width : ℕ) (row : List ℕ) → x.id ≡ id → width_of_body items x.body ≡ Some width → RowReads items n x row → ReadsWord items n id width row
+reads_from items n x id width row e w h = subst (λ (i : ℕ). ReadsWord items n i width row) e (rw w at h)
+
+-- the row of a node with a value reads as its word
+pub row_at-reads : (items : List Item) (n : Net) (rows : List (List ℕ)) (id width : ℕ) → RowsRead items n rows → length rows ≡ length items → node_width items id ≡ Some width
+    → ReadsWord items n id width (row_at items rows (Some id))
+unfolding row_at
+row_at-reads items n rows id width reads all h =
+    let node = node_place items id width h in
+    let k = node.0 in
+    let x = node.1 in
+    let within : k < length rows = omega (arith, slice_get_within items k x node.3) in
+    let row = entry rows k within in
+    let same : row_at items rows (Some id) ≡ row.0 =
+    ap (λ (o : Option ℕ). unwrap_or (option_and_then (slice_get rows) o) []) node.2 ∙ ap (λ (o : Option (List ℕ)). unwrap_or o []) row.1 in
+    subst (ReadsWord items n id width) (sym same) (reads_from items n x id width row.0 node.4 node.5 (reads k x row.0 node.3 row.1))
+
+-- the row at the place that was found
+pub row_at-found : (items : List Item) (rows : List (List ℕ)) (o : Option ℕ) (place : ℕ) (row : List ℕ) → Some place ≡ option_and_then (position_of items) o → slice_get rows place ≡ Some row
+    → row ≡ row_at items rows o
+unfolding row_at
+row_at-found items rows o place row e at =
+    sym (ap (λ (p : Option ℕ). unwrap_or (option_and_then (slice_get rows) p) []) (sym e) ∙ ap (λ (r : Option (List ℕ)). unwrap_or r []) at)
+
+-- the state at a place: its lines' places
+pub next_place-at : (items : List Item) (place : ℕ) (x : Item) → slice_get items place ≡ Some x → next_place items place ≡ option_and_then (position_of items) (next_value items x.id)
+next_place-at items place x at = ap (λ (o : Option Item). option_and_then (position_of items) (option_and_then (next_value items) (option_and_then (λ (y : Item). Some y.id) o))) at
+
+pub init_place-at : (items : List Item) (place : ℕ) (x : Item) → slice_get items place ≡ Some x → init_place items place ≡ option_and_then (position_of items) (init_value items x.id)
+init_place-at items place x at = ap (λ (o : Option Item). option_and_then (position_of items) (option_and_then (init_value items) (option_and_then (λ (y : Item). Some y.id) o))) at
+
+-- a position is that of an item
+position_found : (items : List Item) (id place : ℕ) (o : Option ℕ) → MatchOption o (find_item items id ≡ None) (λ k. slice_get items k ≡ find_item items id) → o ≡ Some place
+    → slice_get items place ≡ find_item items id
+position_found items id place None h e = absurd (none-some place e)
+position_found items id place (Some k) h e = ap (slice_get items) (sym (same_Some k place e)) ∙ h
+
+position_none : (items : List Item) (id : ℕ) (o : Option ℕ) → MatchOption o (find_item items id ≡ None) (λ k. slice_get items k ≡ find_item items id) → o ≡ None → find_item items id ≡ None
+position_none items id None h e = h
+position_none items id (Some k) h e = absurd (none-some k (sym e))
+
+position_below : (test : Item → Bool) (n : ℕ) (items : List Item) (k : ℕ) → position_from test n items ≡ Some k → k < n + length items
+position_below test n [] k h = absurd (none-some k h)
+position_below test n (x ∷ xs) k h =
+    elim (test x) as (λ b. cond b (Some n) (position_from test (n + 1) xs) ≡ Some k → k < n + suc (length xs)) [
+      | true ↦ λ e. omega (arith, same_Some n k e)
+      | false ↦ λ e. omega (arith, position_below test (n + 1) xs k e)
+    ] h
+
+pub place_below : (items : List Item) (id place : ℕ) → position_of items id ≡ Some place → place < length items
+place_below items id place e = omega (arith, position_below (λ (x : Item). id == x.id) 0 items place e)
+
+-- a next line's node has a place
+pub next_there : (items : List Item) (id : ℕ) → IsWellFormed items → is_some (next_value items id) ≡ true
+    → (place : ℕ) × (option_and_then (position_of items) (next_value items id) ≡ Some place) × (place < length items)
+next_there items id h some =
+    let next = some_of (next_value items id) some in
+    let line = IsNextOf-from_value items id next.0 h next.1 in
+    let node = node_place items next.0 line.width line.of_value in
+    (node.0, ap (option_and_then (position_of items)) next.1 ∙ node.2, slice_get_within items node.0 node.1 node.3)
+
+-- the constant at the place of an id is that of the id
+constant_by : (items : List Item) (o : Option ℕ) (place : ℕ) → option_and_then (position_of items) o ≡ Some place → (constant_at items place ≡ option_and_then (constant_of items) o) × (place < length items)
+constant_by items None place e = absurd (none-some place e)
+constant_by items (Some v) place e =
+    let at : slice_get items place ≡ find_item items v = position_found items v place (position_of items v) (found v items) e in
+    (ap (option_and_then (λ (x : Item). constant_of_body items x.body)) at, place_below items v place e)
+
+no_constant : (items : List Item) (o : Option ℕ) → option_and_then (position_of items) o ≡ None → None ≡ option_and_then (constant_of items) o
+no_constant items None e = refl
+no_constant items (Some v) e =
+    sym (ap (option_and_then (λ (x : Item). constant_of_body items x.body)) (position_none items v (position_of items v) (found v items) e))
+
+-- what an init line says, by its place
+pub init_word-at : (items : List Item) (id place : ℕ) → Some place ≡ option_and_then (position_of items) (init_value items id) → constant_at items place ≡ init_word items id
+init_word-at items id place e = (constant_by items (init_value items id) place (sym e)).0
+
+pub init_word-within : (items : List Item) (id place : ℕ) → Some place ≡ option_and_then (position_of items) (init_value items id) → place < length items
+init_word-within items id place e = (constant_by items (init_value items id) place (sym e)).1
+
+pub init_word-none : (items : List Item) (id : ℕ) → None ≡ option_and_then (position_of items) (init_value items id) → None ≡ init_word items id
+init_word-none items id e = no_constant items (init_value items id) (sym e)
+
+-- an item at a place of a kind is of the kind
+kind_first : (kind : Body → Bool) (items : List Item) (y : Item) (ps : List ℕ) (n k : ℕ) (x : Item) → kind y.body ≡ true → slice_get items n ≡ Some y
+    → ((j : ℕ) → j < length ps → slice_get items (get_or ps j 0) ≡ Some x → kind x.body ≡ true)
+    → k < suc (length ps) → slice_get items (get_or (n ∷ ps) k 0) ≡ Some x → kind x.body ≡ true
+kind_first kind items y ps n zero x test own rest low at = ap (λ (z : Item). kind z.body) (sym (same_Some y x (sym own ∙ at))) ∙ test
+kind_first kind items y ps n (suc k) x test own rest low at = rest k (omega arith) at
+
+kind_step : (kind : Body → Bool) (items : List Item) (b : Bool) (y : Item) (ps : List ℕ) (n k : ℕ) (x : Item) → kind y.body ≡ b → slice_get items n ≡ Some y
+    → ((j : ℕ) → j < length ps → slice_get items (get_or ps j 0) ≡ Some x → kind x.body ≡ true)
+    → k < length (cond b (n ∷ ps) ps) → slice_get items (get_or (cond b (n ∷ ps) ps) k 0) ≡ Some x → kind x.body ≡ true
+kind_step kind items true y ps n k x test own rest low at = kind_first kind items y ps n k x test own rest low at
+kind_step kind items false y ps n k x test own rest low at = rest k low at
+
+kind_from : (kind : Body → Bool) (before xs : List Item) (n k : ℕ) (x : Item) → length before ≡ n → k < length (places kind n xs) → slice_get (before ++ xs) (get_or (places kind n xs) k 0) ≡ Some x → kind x.body ≡ true
+kind_from kind before [] n k x e low at = absurd (omega arith)
+kind_from kind before (y ∷ ys) n k x e low at =
+    let own : slice_get (before ++ y ∷ ys) n ≡ Some y = ap (slice_get (before ++ y ∷ ys)) (omega arith) ∙ slice_get-behind before (y ∷ ys) n 0 e in
+    let rest : (j : ℕ) → j < length (places kind (suc n) ys) → slice_get (before ++ y ∷ ys) (get_or (places kind (suc n) ys) j 0) ≡ Some x → kind x.body ≡ true =
+    λ j l h. kind_from kind (before ++ y ∷ []) ys (suc n) j x (omega (arith, length-append before (y ∷ []))) l
+    (ap (λ (list : List Item). slice_get list (get_or (places kind (suc n) ys) j 0)) (append_assoc before (y ∷ []) ys) ∙ h) in
+    kind_step kind (before ++ y ∷ ys) (kind y.body) y (places kind (suc n) ys) n k x refl own rest low at
+
+pub place-kind : (kind : Body → Bool) (items : List Item) (ps : List ℕ) (k : ℕ) (x : Item) → ps ≡ places kind 0 items → k < length ps → slice_get items (get_or ps k 0) ≡ Some x → kind x.body ≡ true
+place-kind kind items ps k x e low at =
+    subst (λ (l : List ℕ). k < length l → slice_get items (get_or l k 0) ≡ Some x → kind x.body ≡ true) (sym e) (λ b h. kind_from kind [] items 0 k x refl b h) low at
+
+-- where each state has a next, the first item has one if it is a state, and the others have theirs
+some_next : (items ys : List Item) (id : ℕ) (o : Option ℕ) → (if true && is_none o then Some id else first_without_next items ys) ≡ None → is_some o ≡ true
+some_next items ys id None h = absurd (none-some id (sym h))
+some_next items ys id (Some v) h = refl
+
+pub head_next : (items : List Item) (y : Item) (ys : List Item) → first_without_next items (y ∷ ys) ≡ None → is_state y.body ≡ true → is_some (next_value items y.id) ≡ true
+head_next items y ys h state = some_next items ys y.id (next_value items y.id) (rw state at h)
+
+later_next : (items ys : List Item) (id : ℕ) (b : Bool) → (if b then Some id else first_without_next items ys) ≡ None → first_without_next items ys ≡ None
+later_next items ys id true h = absurd (none-some id (sym h))
+later_next items ys id false h = h
+
+pub tail_next : (items : List Item) (y : Item) (ys : List Item) → first_without_next items (y ∷ ys) ≡ None → first_without_next items ys ≡ None
+tail_next items y ys h = later_next items ys y.id (is_state y.body && is_none (next_value items y.id)) h
+
+-- where each state has a next, this one has
+pub next-given : (items xs : List Item) (k : ℕ) (x : Item) → first_without_next items xs ≡ None → slice_get xs k ≡ Some x → is_state x.body ≡ true → is_some (next_value items x.id) ≡ true
+next-given items [] k x h at state = absurd (none-some x at)
+next-given items (y ∷ ys) zero x h at state =
+    let same = same_Some y x at in
+    ap (λ (z : Item). is_some (next_value items z.id)) (sym same) ∙ head_next items y ys h (ap (λ (z : Item). is_state z.body) same ∙ state)
+next-given items (y ∷ ys) (suc k) x h at state = next-given items ys k x (tail_next items y ys h) at state

@@ -1,0 +1,152 @@
+-- The parts of a lowering, put together.
+use Rattle.std.proofs.Common.{◌≡◌, ℕ, ◌+◌, ◌<◌, ◌≤◌, Bool, true, false, ◌&&◌, List, [], ◌∷◌, ◌++◌, length, map, replicate, nat_lt, Option, Some, None, cond, is_none, is_some, if◌then◌else◌, option_and_then, refl, sym, ap, ◌∙◌, subst, arith, length-append}
+use Rattle.std.proofs.lemmas.List.{length-map, length-replicate}
+use Rattle.std.specs.Prelude.{sum_by}
+use Rattle.std.proofs.lemmas.List.Sums.{sum_by-cons}
+use Rattle.std.proofs.lemmas.Bool.Decides.{nat_tests}
+use Rattle.base.proofs.BitLemmas.{length-bits}
+use Rattle.btor2.specs.declared.item.Item.{Item}
+use Rattle.btor2.specs.Items.{is_state, find_item, names_state, next_value, constant_of, init_value}
+use Rattle.btor2.specs.Check.{IsWellFormed}
+use Rattle.btor2.specs.Trace.{Frame, bits_of, IsFrame, IsState, IsInput, next_state}
+use Rattle.btor2.proofs.ModelLemmas.{IsIn, IsIn-from_find}
+use Rattle.btor2.proofs.TraceLemmas.{next_state_fits}
+use Rattle.aiger.specs.declared.circuit.Reset.{Reset}
+use Rattle.aiger.specs.Limits.{greatest_count}
+use Rattle.aiger.specs.Net.{Net}
+use Rattle.aiger.specs.declared.circuit.Gate.{Gate}
+use Rattle.aiger.specs.Circuit.{Circuit, Names, net, fresh_latch}
+use Rattle.gates.specs.Made.{gates_only}
+use Rattle.blast.specs.declared.fault.LowerFault.{LowerFault}
+use Rattle.blast.specs.declared.fault.LowerFault.TheVariants as fault
+use Rattle.blast.specs.Cost.{cost, bound, input_width, state_width}
+use Rattle.blast.specs.Leaves.{of_kind, leaf_resets, resets_of_word, reset_of_bit, input_names, state_names, bad_names, constraint_names}
+use Rattle.blast.specs.Lowering.{Lowers}
+use Rattle.blast.specs.Reads.{leaves_only, LowersNodes, RowsRead, LatchesRead, BadsRead, ConstraintsRead}
+use Rattle.blast.specs.Refusal.{first_without_next, lowering_refusal, refusal_for, too_big}
+use Rattle.blast.proofs.LowerLemmas.{Observes, show_same}
+
+no_first : (items : List Item) (o : Option ℕ) → refusal_for items o ≡ None → o ≡ None
+no_first items None e = refl
+no_first items (Some id) e = absurd (cc)
+
+-- in a model that is not refused each state has a next
+pub nexts_given : (items : List Item) → lowering_refusal items ≡ None → first_without_next items items ≡ None
+nexts_given items e = no_first items (first_without_next items items) e
+
+-- and its bound is small enough
+pub bound_given : (items : List Item) → lowering_refusal items ≡ None → bound items ≤ greatest_count
+bound_given items e =
+    let small : too_big items ≡ None = rw (nexts_given items e) at e in
+    by_test (nat_lt greatest_count (bound items)) refl small
+  where
+    by_test : (b : Bool) → nat_lt greatest_count (bound items) ≡ b → (if b then Some fault.TooBig else None) ≡ None → bound items ≤ greatest_count
+    by_test true is none = absurd (cc)
+    by_test false is none = grind (arith, nat_tests)
+
+-- a state among some items, none of which lacks a next, has one
+has_next : (items front back : List Item) (x : Item) → is_state x.body ≡ true → first_without_next items (front ++ x ∷ back) ≡ None → is_some (next_value items x.id) ≡ true
+has_next items [] back x state none = here (is_state x.body) (next_value items x.id) state none
+  where
+    here : (b : Bool) (o : Option ℕ) → b ≡ true → (if b && is_none o then Some x.id else first_without_next items back) ≡ None → is_some o ≡ true
+    here true None e none = absurd (cc)
+    here true (Some v) e none = refl
+    here false o e none = absurd (cc)
+has_next items (y ∷ front) back x state none = later (has_next items front back x state) (is_state y.body && is_none (next_value items y.id)) none
+  where
+    later : (first_without_next items (front ++ x ∷ back) ≡ None → is_some (next_value items x.id) ≡ true) → (b : Bool) → (if b then Some y.id else first_without_next items (front ++ x ∷ back)) ≡ None → is_some (next_value items x.id) ≡ true
+    later rest true none = absurd (cc)
+    later rest false none = rest none
+
+-- by ids
+nexts_by_id : (items : List Item) → first_without_next items items ≡ None → (id : ℕ) → names_state items id ≡ true → is_some (next_value items id) ≡ true
+nexts_by_id items none id names = by_item (find_item items id) refl names
+  where
+    state_of : (x : Item) (b : Bool) → is_state x.body ≡ b → is_some (if b then Some x else None) ≡ true → is_state x.body ≡ true
+    state_of x true is some = is
+    state_of x false is some = absurd (cc)
+
+    by_item : (o : Option Item) → find_item items id ≡ o → names_state items id ≡ true → is_some (next_value items id) ≡ true
+    by_item None is names = let e : false ≡ true = rw is at names in absurd (cc)
+    by_item (Some x) is names =
+        let known = IsIn-from_find items id x is in
+        let some = rw is at names in
+        let whole : first_without_next items (known.0.before ++ x ∷ known.0.after) ≡ None = subst (λ (l : List Item). first_without_next items l ≡ None) known.0.splits none in
+        rw known.1 (has_next items known.0.before known.0.after x (state_of x (is_state x.body) refl some) whole)
+
+-- as many resets as bits
+length-resets : (w : ℕ) (o : Option ℕ) → length (resets_of_word w o) ≡ w
+length-resets w None = length-replicate w _
+length-resets w (Some x) = length-map _ reset_of_bit ∙ length-bits w x
+
+-- the bits of the states among some items
+abbrev state_sum : List Item → List Item → ℕ
+state_sum items xs = sum_by (λ (x : Item). if is_state x.body then bits_of items x.id else 0) xs
+
+-- the states' resets are as many as their bits
+length-state_resets : (items xs : List Item) → length (of_kind is_state (leaf_resets items) xs) ≡ state_sum items xs
+length-state_resets items [] = refl
+length-state_resets items (x ∷ xs) = by_kind (is_state x.body) (length-state_resets items xs) ∙ sym (sum_by-cons (λ (y : Item). if is_state y.body then bits_of items y.id else 0) x xs)
+  where
+    by_kind : (b : Bool) → length (of_kind is_state (leaf_resets items) xs) ≡ state_sum items xs
+        → length ((if b then leaf_resets items x else []) ++ of_kind is_state (leaf_resets items) xs) ≡ (if b then bits_of items x.id else 0) + state_sum items xs
+    by_kind true rest = length-append (leaf_resets items x) (of_kind is_state (leaf_resets items) xs) ∙ rw (length-resets (bits_of items x.id) (option_and_then (constant_of items) (init_value items x.id)), rest) refl
+    by_kind false rest = rest ∙ omega arith
+
+-- latches that read as the states are as many as the states' bits
+latch_count : (items : List Item) (n : Net) (c : Circuit) → LatchesRead items n items c.latches → length c.latches ≡ state_width items
+latch_count items n c reads =
+    sym (length-map c.latches (λ latch. latch.reset)) ∙ ap length reads.resets ∙ length-state_resets items items
+
+net_same : (i j k l : ℕ) (g h : List Gate) → i ≡ j → k ≡ l → g ≡ h → (let m : Net = record { inputs = i; latches = k; gates = g } in m) ≡ record { inputs = j; latches = l; gates = h }
+net_same i j k l g h p q r = rw (p, q, r) refl
+
+-- the parts of a lowering make one
+pub assemble : (items : List Item) (n : Net) (rows : List (List ℕ)) (c1 c2 c3 c4 : Circuit) (unnamed_bads unnamed_constraints : Names)
+    → IsWellFormed items → lowering_refusal items ≡ None
+    → LowersNodes items (leaves_only items) n rows → c1 ≡ gates_only n
+    → LatchesRead items (net c1) items c2.latches → c2 ≡ record c1 { latches = c2.latches }
+    → BadsRead items (net c2) items c3.bads → ConstraintsRead items (net c2) items c3.constraints
+    → c3 ≡ record c2 { bads = c3.bads; constraints = c3.constraints; bad_names = unnamed_bads; constraint_names = unnamed_constraints }
+    → c4 ≡ record c3 { input_names = input_names items; latch_names = state_names items; bad_names = bad_names items; constraint_names = constraint_names items }
+    → Lowers items c4
+assemble items n rows c1 c2 c3 c4 unnamed_bads unnamed_constraints well accepted nodes is1 latches is2 bads constraints is3 is4 =
+    let inputs1 : c1.inputs ≡ n.inputs = ap (λ (c : Circuit). c.inputs) is1 in
+    let inputs2 : c2.inputs ≡ c1.inputs = ap (λ (c : Circuit). c.inputs) is2 in
+    let inputs4 : c4.inputs ≡ c2.inputs = ap (λ (c : Circuit). c.inputs) is4 ∙ ap (λ (c : Circuit). c.inputs) is3 in
+    let gates1 : c1.gates ≡ n.gates = ap (λ (c : Circuit). c.gates) is1 in
+    let gates2 : c2.gates ≡ c1.gates = ap (λ (c : Circuit). c.gates) is2 in
+    let gates4 : c4.gates ≡ c2.gates = ap (λ (c : Circuit). c.gates) is4 ∙ ap (λ (c : Circuit). c.gates) is3 in
+    let latches4 : c4.latches ≡ c2.latches = ap (λ (c : Circuit). c.latches) is4 ∙ ap (λ (c : Circuit). c.latches) is3 in
+    let bads4 : c4.bads ≡ c3.bads = ap (λ (c : Circuit). c.bads) is4 in
+    let constraints4 : c4.constraints ≡ c3.constraints = ap (λ (c : Circuit). c.constraints) is4 in
+    let count1 : length c1.latches ≡ n.latches = ap (λ (c : Circuit). length c.latches) is1 ∙ length-replicate n.latches fresh_latch in
+    let count2 : length c2.latches ≡ state_width items = latch_count items (net c1) c2 latches in
+    let net2 : net c2 ≡ net c1 = net_same c2.inputs c1.inputs (length c2.latches) (length c1.latches) c2.gates c1.gates inputs2 (count2 ∙ sym nodes.grows.latches ∙ sym count1) gates2 in
+    let net4 : net c4 ≡ net c2 = net_same c4.inputs c2.inputs (length c4.latches) (length c2.latches) c4.gates c2.gates inputs4 (ap length latches4) gates4 in
+    let observes : Observes items c4 = record {
+      latches = subst (λ (m : Net). LatchesRead items m items c4.latches) (sym (net4 ∙ net2)) (rw latches4 latches);
+      bads = subst (λ (m : Net). BadsRead items m items c4.bads) (sym net4) (rw bads4 bads);
+      constraints = subst (λ (m : Net). ConstraintsRead items m items c4.constraints) (sym net4) (rw constraints4 constraints);
+      stays = λ state input f fits in_fits frame. next_state_fits items state input f well fits in_fits frame (nexts_by_id items (nexts_given items accepted));
+    } in
+    let more = nodes.grows.gates in
+    record {
+      inputs = inputs4 ∙ inputs2 ∙ inputs1 ∙ nodes.grows.inputs;
+      input_names = ap (λ (c : Circuit). c.input_names) is4;
+      latch_names = ap (λ (c : Circuit). c.latch_names) is4;
+      resets = rw latches4 latches.resets;
+      bad_names = ap (λ (c : Circuit). c.bad_names) is4;
+      constraint_names = ap (λ (c : Circuit). c.constraint_names) is4;
+      few_gates = rw (gates4, gates2, gates1, more.1) more.2;
+      frames = λ state inputs initial in_fit fs t vs u. show_same items c4 observes state inputs fs vs initial.fits in_fit t u;
+    }
+
+-- the rows read as before once the latches are set
+pub rows_still : (items : List Item) (n : Net) (rows : List (List ℕ)) (c1 c2 : Circuit) → LowersNodes items (leaves_only items) n rows → c1 ≡ gates_only n
+    → LatchesRead items (net c1) items c2.latches → c2 ≡ record c1 { latches = c2.latches } → RowsRead items (net c2) rows
+rows_still items n rows c1 c2 nodes is1 latches is2 =
+    let inputs2 : c2.inputs ≡ n.inputs = ap (λ (c : Circuit). c.inputs) is2 ∙ ap (λ (c : Circuit). c.inputs) is1 in
+    let gates2 : c2.gates ≡ n.gates = ap (λ (c : Circuit). c.gates) is2 ∙ ap (λ (c : Circuit). c.gates) is1 in
+    let same : net c2 ≡ n = net_same c2.inputs n.inputs (length c2.latches) n.latches c2.gates n.gates inputs2 (latch_count items (net c1) c2 latches ∙ sym nodes.grows.latches) gates2 in
+    subst (λ (m : Net). RowsRead items m rows) (sym same) nodes.reads

@@ -1,0 +1,168 @@
+-- Widths and gate bounds of well-formed lists.
+use Rattle.std.proofs.Common.{◌≡◌, ℕ, zero, suc, ◌+◌, ◌^◌, ◌<◌, ◌≤◌, Bool, true, false, cond, nat_eq, List, [], ◌∷◌, ◌++◌, length, Option, Some, None, is_some, unwrap_or, option_and_then, slice_get, take, get_or, All, sum_by, refl, sym, ap, subst, ◌∙◌, arith, length-append}
+use Rattle.std.specs.List.{position_from}
+use Rattle.std.proofs.lemmas.Option.{none-some, same_Some, slice_get_within, slice_get_read}
+use Rattle.std.proofs.lemmas.List.{take_all}
+use Rattle.std.proofs.lemmas.List.Sums.{sum_by-le, sum_by_more, sum_by_more_le}
+use Rattle.std.proofs.lemmas.List.Elements.{All-nil, All-cons}
+use Rattle.base.specs.declared.operators.Unary.{Unary}
+use Rattle.base.specs.declared.operators.Unary.TheVariants.{Not}
+use Rattle.base.specs.declared.operators.Binary.{Binary}
+use Rattle.base.specs.declared.operators.Binary.TheVariants.{And}
+use Rattle.gates.specs.Bound.{unary_bound, binary_bound}
+use Rattle.btor2.specs.declared.item.Item.{Item}
+use Rattle.btor2.specs.declared.item.Body.{Body}
+use Rattle.btor2.specs.declared.item.Body.TheVariants as body
+use Rattle.btor2.specs.Items.{find_item, position_of, width_of_body, node_width, operands, is_input, is_state}
+use Rattle.btor2.specs.Lists.{width_at}
+use Rattle.btor2.specs.Check.{IsWellFormed, IsWellFormedAfter}
+use Rattle.btor2.specs.Trace.{bits_of}
+use Rattle.btor2.proofs.ModelLemmas.{is_some_from, IsIn-from_place, IsAccepted-at, IsAccepted-from_refusal, BodyIsAccepted, node_width-append, node_width-at, node_width-range}
+use Rattle.blast.specs.Cost.{line_cost, cost, input_width, state_width}
+
+-- a test of an id, and what it finds
+there_from : (b : Bool) (x : Item) (xs : List Item) (id n k : ℕ)
+    → (position_from (λ (y : Item). nat_eq id y.id) (n + 1) xs ≡ Some k → (y : Item) × (j : ℕ) × (k ≡ n + 1 + j) × (slice_get xs j ≡ Some y) × (find_item xs id ≡ Some y))
+    → cond b (Some n) (position_from (λ (y : Item). nat_eq id y.id) (n + 1) xs) ≡ Some k
+    → (y : Item) × (j : ℕ) × (k ≡ n + j) × (slice_get (x ∷ xs) j ≡ Some y) × (cond b (Some x) (find_item xs id) ≡ Some y)
+there_from true x xs id n k rest h = (x, zero, omega (arith, same_Some n k h), refl, refl)
+there_from false x xs id n k rest h =
+    let r = rest h in
+    (r.0, suc r.1, omega (arith, r.2), r.3, r.4)
+
+there_at : (items : List Item) (id n k : ℕ) → position_from (λ (y : Item). nat_eq id y.id) n items ≡ Some k → (y : Item) × (j : ℕ) × (k ≡ n + j) × (slice_get items j ≡ Some y) × (find_item items id ≡ Some y)
+there_at [] id n k h = absurd (none-some k h)
+there_at (x ∷ xs) id n k h = there_from (nat_eq id x.id) x xs id n k (there_at xs id (n + 1) k) h
+
+-- the item at the place of an id is the one that it finds
+pub record IsThere (items : List Item) (id k : ℕ) : Type 0 where
+  pub item : Item
+  pub at : slice_get items k ≡ Some item
+  pub found : find_item items id ≡ Some item
+  pub within : k < length items
+
+pub IsThere-from_position : (items : List Item) (id k : ℕ) → position_of items id ≡ Some k → IsThere items id k
+IsThere-from_position items id k h =
+    let t = there_at items id 0 k h in
+    let e : t.1 ≡ k = omega (arith, t.2) in
+    let at : slice_get items k ≡ Some t.0 = subst (λ (j : ℕ). slice_get items j ≡ Some t.0) e t.3 in
+    record { item = t.0; at = at; found = t.4; within = slice_get_within items k t.0 at }
+
+-- the width at the place of an id is that of its node
+pub width_at-position : (items : List Item) (id k : ℕ) → position_of items id ≡ Some k → width_at items k ≡ node_width items id
+width_at-position items id k h =
+    let t = IsThere-from_position items id k h in
+    ap (option_and_then (λ (y : Item). width_of_body items y.body)) (t.at ∙ sym t.found)
+
+-- a node with a value has a place
+pub position_from_node : (items : List Item) (id : ℕ) → position_of items id ≡ None → find_item items id ≡ None
+position_from_node items id h = none_from items id 0 h
+  where
+    none_one : (b : Bool) (x : Item) (xs : List Item) (id n : ℕ) → (position_from (λ (y : Item). nat_eq id y.id) (n + 1) xs ≡ None → find_item xs id ≡ None)
+        → cond b (Some n) (position_from (λ (y : Item). nat_eq id y.id) (n + 1) xs) ≡ None → cond b (Some x) (find_item xs id) ≡ None
+    none_one true x xs id n rest h = absurd (none-some n (sym h))
+    none_one false x xs id n rest h = rest h
+
+    none_from : (items : List Item) (id n : ℕ) → position_from (λ (y : Item). nat_eq id y.id) n items ≡ None → find_item items id ≡ None
+    none_from [] id n h = refl
+    none_from (x ∷ xs) id n h = none_one (nat_eq id x.id) x xs id n (none_from xs id (n + 1)) h
+
+pub no_node : (items : List Item) (id : ℕ) → position_of items id ≡ None → is_some (node_width items id) ≡ false
+no_node items id h = ap (λ (o : Option Item). is_some (option_and_then (λ (y : Item). width_of_body items y.body) o)) (position_from_node items id h)
+
+-- the width of the item at a place
+pub bits_of-at : (items : List Item) (k : ℕ) (x : Item) → IsWellFormed items → slice_get items k ≡ Some x → unwrap_or (width_at items k) 0 ≡ bits_of items x.id
+bits_of-at items k x w at =
+    ap (λ (o : Option ℕ). unwrap_or o 0) (ap (option_and_then (λ (y : Item). width_of_body items y.body)) at ∙ sym (node_width-at items k x w at))
+
+-- the width of a node, or 0, is at most 64
+most_of : (items : List Item) (id : ℕ) (o : Option ℕ) → IsWellFormed items → node_width items id ≡ o → unwrap_or o 0 ≤ 64
+most_of items id None w e = omega arith
+most_of items id (Some n) w e = (node_width-range items id n w e).1
+
+pub bits_of-most : (items : List Item) (id : ℕ) → IsWellFormed items → bits_of items id ≤ 64
+bits_of-most items id w = most_of items id (node_width items id) w refl
+
+-- no operator takes more gates than this, and no list has more items than that
+unary_most : (op : Unary) (n : ℕ) → n ≤ 64 → unary_bound op n ≤ 65536
+unary_most Not n h = omega arith
+
+binary_most : (op : Binary) (n : ℕ) → n ≤ 64 → binary_bound op n ≤ 65536
+binary_most And n h = omega arith
+
+pub line_cost-most : (items : List Item) (b : Body) → IsWellFormed items → line_cost items b ≤ 65536
+line_cost-most items (body.Unary op s a) w = unary_most op (bits_of items a) (bits_of-most items a w)
+line_cost-most items (body.Binary op s a b) w = binary_most op (bits_of items a) (bits_of-most items a w)
+line_cost-most items _ w = omega arith
+
+few_after : (before xs : List Item) → IsWellFormedAfter before xs → length before ≤ 1048576 → length before + length xs ≤ 1048576
+few_after before [] w h = omega arith
+few_after before (x ∷ xs) w h =
+    let accepted = IsAccepted-from_refusal before x w.0 in
+    let longer = length-append before (x ∷ []) in
+    omega (arith, accepted.few, few_after (before ++ x ∷ []) xs w.1 (omega (arith, accepted.few)))
+
+pub few_items : (items : List Item) → IsWellFormed items → length items ≤ 1048576
+few_items items w = omega (arith, few_after [] items w (omega arith))
+
+-- a sum of small parts is small
+small_sum : (f : Item → ℕ) (xs : List Item) → ((x : Item) → f x ≤ 65536) → length xs ≤ 1048576 → sum_by f xs < 2 ^ 37
+small_sum f xs h few = omega (arith, sum_by-le f 65536 xs (λ k d below. h (get_or xs k d)))
+
+choice_most : (b : Bool) (n : ℕ) → n ≤ 64 → cond b n 0 ≤ 65536
+choice_most true n h = omega arith
+choice_most false n h = omega arith
+
+pub input_width-small : (items : List Item) → IsWellFormed items → input_width items < 2 ^ 37
+input_width-small items w = small_sum _ items (λ x. choice_most (is_input x.body) (bits_of items x.id) (bits_of-most items x.id w)) (few_items items w)
+
+pub state_width-small : (items : List Item) → IsWellFormed items → state_width items < 2 ^ 37
+state_width-small items w = small_sum _ items (λ x. choice_most (is_state x.body) (bits_of items x.id) (bits_of-most items x.id w)) (few_items items w)
+
+pub cost-small : (items : List Item) → IsWellFormed items → cost items < 2 ^ 37
+cost-small items w = small_sum _ items (λ x. line_cost-most items x.body w) (few_items items w)
+
+-- the operands of an item that stands in a well-formed list are nodes of it
+later : (before more : List Item) (a n : ℕ) → node_width before a ≡ Some n → is_some (node_width (before ++ more) a) ≡ true
+later before more a n h = is_some_from (node_width (before ++ more) a) n (node_width-append before more a n h)
+
+abbrev IsNode : List Item → ℕ → Type 0
+IsNode items a = is_some (node_width items a) ≡ true
+
+one : (items : List Item) (a : ℕ) → IsNode items a → All (λ b. is_some (node_width items b) ≡ true) (a ∷ [])
+one items a h = All-cons (λ b. is_some (node_width items b) ≡ true) a [] h (All-nil (λ b. is_some (node_width items b) ≡ true))
+
+two : (items : List Item) (a b : ℕ) → IsNode items a → IsNode items b → All (λ k. is_some (node_width items k) ≡ true) (a ∷ b ∷ [])
+two items a b h k = All-cons (λ i. is_some (node_width items i) ≡ true) a (b ∷ []) h (one items b k)
+
+accepted_operands : (before more : List Item) (b : Body) → BodyIsAccepted before b → All (λ a. is_some (node_width (before ++ more) a) ≡ true) (operands b)
+accepted_operands before more (body.Sort n) says = All-nil (λ b. is_some (node_width (before ++ more) b) ≡ true)
+accepted_operands before more (body.Input s) says = All-nil (λ b. is_some (node_width (before ++ more) b) ≡ true)
+accepted_operands before more (body.State s) says = All-nil (λ b. is_some (node_width (before ++ more) b) ≡ true)
+accepted_operands before more (body.Zero s) says = All-nil (λ b. is_some (node_width (before ++ more) b) ≡ true)
+accepted_operands before more (body.Unary op s a) says = one (before ++ more) a (later before more a says.0 says.1)
+accepted_operands before more (body.Binary op s a b) says = two (before ++ more) a b (later before more a says.0 says.1) (later before more b says.0 says.2)
+accepted_operands before more (body.Init s t v) says = two (before ++ more) t v (later before more t says.0 says.3) (later before more v says.0 says.4)
+accepted_operands before more (body.Next s t v) says = two (before ++ more) t v (later before more t says.0 says.2) (later before more v says.0 says.3)
+accepted_operands before more (body.Bad a) says = one (before ++ more) a (later before more a 1 says)
+accepted_operands before more (body.Constraint a) says = one (before ++ more) a (later before more a 1 says)
+
+pub operands_there : (items : List Item) (k : ℕ) (x : Item) → IsWellFormed items → slice_get items k ≡ Some x → All (λ a. is_some (node_width items a) ≡ true) (operands x.body)
+operands_there items k x w at =
+    let there = (IsIn-from_place items k x at).0 in
+    subst (λ (l : List Item). All (λ a. is_some (node_width l a) ≡ true) (operands x.body)) (sym there.splits)
+    (accepted_operands there.before (x ∷ there.after) x.body (IsAccepted-at items x w there).says)
+
+-- a sum so far, with the next item's part
+pub sum_step : (f : Item → ℕ) (xs : List Item) (i total n : ℕ) (x : Item) → i < length xs → x ≡ get_or xs i x → total ≡ sum_by f (take i xs) → n ≡ f x
+    → (total + n ≡ sum_by f (take (i + 1) xs)) × (total + n ≤ sum_by f xs)
+sum_step f xs i total n x h is sum own =
+    let next : n ≡ f (get_or xs i x) = own ∙ ap f is in
+    (omega (arith, sum_by_more f xs i x h), omega (arith, sum_by_more_le f xs i x h))
+
+pub sum_whole : (f : Item → ℕ) (xs ys : List Item) (i total : ℕ) → length xs ≤ i → xs ≡ ys → total ≡ sum_by f (take i xs) → total ≡ sum_by f ys
+sum_whole f xs ys i total h same sum = sum ∙ ap (sum_by f) (take_all i xs h ∙ same)
+
+-- the item that a list gives at a place, in an equal list
+pub item_read : (xs ys : List Item) (i : ℕ) (x : Item) → xs ≡ ys → i < length xs → x ≡ get_or xs i x → slice_get ys i ≡ Some x
+item_read xs ys i x same h is = rw (← same) (slice_get_read xs (length xs) i x refl h is)

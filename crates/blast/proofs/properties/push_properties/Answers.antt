@@ -1,0 +1,36 @@
+use Rattle.std.proofs.Common.{ap, length, arith}
+use Rattle.blast.proofs.PropertyLemmas.{WithProperties-few, WithProperties-more, all_properties}
+use Rattle.aiger.specs.Circuit.{net}
+use Rattle.blast.proofs.properties.push_properties.Goals as goal
+
+pub push_item-requires-clause-few_bads : goal.push_item-requires-clause-few_bads
+push_item-requires-clause-few_bads c =
+    let few = WithProperties-few c.args.model.now c.args.table.now c.args.circuit.now c.loop-place.circuit c.loop-place.place c.item_at.result.now c.items-items.ensures.well_formed c.loop-place.invariant c.requires.bads c.requires.constraints
+    (rw c.items-items.ensures.items at c.item_at.ensures) in
+    omega (arith, few.0)
+
+pub push_item-requires-clause-few_constraints : goal.push_item-requires-clause-few_constraints
+push_item-requires-clause-few_constraints c =
+    let few = WithProperties-few c.args.model.now c.args.table.now c.args.circuit.now c.loop-place.circuit c.loop-place.place c.item_at.result.now c.items-items.ensures.well_formed c.loop-place.invariant c.requires.bads c.requires.constraints
+    (rw c.items-items.ensures.items at c.item_at.ensures) in
+    omega (arith, few.1)
+
+pub loop-place-preserved : goal.loop-place-preserved
+loop-place-preserved c =
+    WithProperties-more c.args.model.now c.args.table.now c.args.circuit.now c.loop-place.circuit c.push_item.new.circuit c.loop-place.place c.item_at.result.now c.loop-place.invariant
+    (rw c.items-items.ensures.items at c.item_at.ensures) c.in-Ok.ensures.ok
+
+pub returns-clause-bads : goal.returns-clause-bads
+returns-clause-bads c =
+    (all_properties c.args.model.now (net c.args.circuit.now) c.args.table.now c.args.circuit.now c.loop-place.circuit c.loop-place.place c.items-items.ensures.well_formed c.requires.reads c.requires.all c.loop-place.invariant (omega (arith, ap length c.items-items.ensures.items))
+    c.requires.bads c.requires.constraints c.requires.bad_names c.requires.constraint_names).0
+
+pub returns-clause-constraints : goal.returns-clause-constraints
+returns-clause-constraints c =
+    (all_properties c.args.model.now (net c.args.circuit.now) c.args.table.now c.args.circuit.now c.loop-place.circuit c.loop-place.place c.items-items.ensures.well_formed c.requires.reads c.requires.all c.loop-place.invariant (omega (arith, ap length c.items-items.ensures.items))
+    c.requires.bads c.requires.constraints c.requires.bad_names c.requires.constraint_names).1
+
+pub returns-clause-others : goal.returns-clause-others
+returns-clause-others c =
+    (all_properties c.args.model.now (net c.args.circuit.now) c.args.table.now c.args.circuit.now c.loop-place.circuit c.loop-place.place c.items-items.ensures.well_formed c.requires.reads c.requires.all c.loop-place.invariant (omega (arith, ap length c.items-items.ensures.items))
+    c.requires.bads c.requires.constraints c.requires.bad_names c.requires.constraint_names).2

@@ -1,0 +1,70 @@
+-- What a conversion from a model's text to a circuit's text answers, and what it has written then.
+use Rattle.std.specs.Prelude.{◌≡◌, ℕ, List, Option, Some, IfSome, Result, Ok, Err, ◌⊎◌}
+use Rattle.std.specs.Io.KnownBytes.{Appends}
+use Rattle.base.specs.Device.{AppendsBeginning, HasRisen}
+use Rattle.btor2.specs.declared.item.Item.{Item}
+use Rattle.btor2text.specs.declared.fault.ReadFault.{ReadFault}
+use Rattle.btor2text.specs.declared.fault.Why.TheVariants as why
+use Rattle.btor2text.specs.Spelling.{StandsFor}
+use Rattle.aiger.specs.Circuit.{Circuit}
+use Rattle.aigertext.specs.declared.ascii.Form.{Form}
+use Rattle.aigertext.specs.declared.ascii.Form.TheVariants.{Ascii}
+use Rattle.aigertext.specs.Ascii.{ascii_text}
+use Rattle.blast.specs.declared.fault.LowerFault.{LowerFault}
+use Rattle.blast.specs.declared.fault.ConvertFault.{ConvertFault}
+use Rattle.blast.specs.declared.fault.ConvertFault.TheVariants as fault
+use Rattle.blast.specs.Lowering.{Lowers}
+use Rattle.blast.specs.Refusal.{AnswersLowering, lowering_refusal}
+
+-- the writer's text of a circuit in a form
+abbrev pub circuit_text : Form → Circuit → List ℕ
+circuit_text Ascii c = ascii_text c
+
+-- the bytes of a source, where it knows them, are a text of some items
+abbrev pub IsTextOf : Option (List ℕ) → List Item → Type 0
+IsTextOf known items = IfSome known (λ text. StandsFor text items)
+
+-- all that was to come is a text of some model, and what was written is the text of a circuit that lowers it
+pub record Converts (known written now : Option (List ℕ)) (form : Form) : Type 0 where
+  pub items : List Item
+  pub circuit : Circuit
+  pub text : IsTextOf known items
+  pub lowers : Lowers items circuit
+  pub appends : Appends written now (circuit_text form circuit)
+
+-- the same, where only a beginning was written
+pub record BeginsToConvert (known written now : Option (List ℕ)) (form : Form) : Type 0 where
+  pub items : List Item
+  pub circuit : Circuit
+  pub text : IsTextOf known items
+  pub lowers : Lowers items circuit
+  pub appends : AppendsBeginning written now (circuit_text form circuit)
+
+-- the text is of some model, whose lowering is refused for this reason
+pub record RefusesModel (known : Option (List ℕ)) (e : LowerFault) : Type 0 where
+  pub items : List Item
+  pub text : IsTextOf known items
+  pub answer : AnswersLowering {T = Circuit} (Err e) (lowering_refusal items)
+
+-- a text that stands for a model is refused only for the device or for memory
+abbrev pub RefusesText : Option (List ℕ) → ReadFault → Type 0
+RefusesText known e = (text : List ℕ) (items : List Item) → known ≡ Some text → StandsFor text items → (e.why ≡ why.Device) ⊎ (e.why ≡ why.NoMemory)
+
+-- `known`: the bytes to come; `written` and `now`: what the sink held before and holds after
+abbrev pub AnswersConversion : Option (List ℕ) → Option (List ℕ) → Option (List ℕ) → Form → Result (Unit {0}) ConvertFault → Type 0
+AnswersConversion known written now form (Ok u) = Converts known written now form
+AnswersConversion known written now form (Err (fault.Read e)) = RefusesText known e
+AnswersConversion known written now form (Err (fault.Lower e)) = RefusesModel known e
+AnswersConversion known written now form (Err (fault.Write e)) = BeginsToConvert known written now form
+
+-- nothing was written: the fault is one of reading or lowering
+abbrev pub IsBeforeWriting : ConvertFault → Type 0
+IsBeforeWriting (fault.Write e) = ⊥
+IsBeforeWriting _ = Unit {0}
+
+-- a fault of a device comes only with a risen count of that device
+abbrev pub RaisesFailures : Result (Unit {0}) ConvertFault → ℕ → ℕ → ℕ → ℕ → Type 0
+RaisesFailures (Ok u) source source' sink sink' = Unit {0}
+RaisesFailures (Err (fault.Read e)) source source' sink sink' = e.why ≡ why.Device → HasRisen source source'
+RaisesFailures (Err (fault.Lower e)) source source' sink sink' = Unit {0}
+RaisesFailures (Err (fault.Write e)) source source' sink sink' = HasRisen sink sink'

@@ -1,0 +1,84 @@
+-- What a lowering makes of the leaves and the observed lines of a model, in file order ("Btor2, BtorMC and Boolector 3.0" on one side, "AIGER 1.9 and Beyond" on the other; how the one becomes the other is this project's profile).
+use Rattle.std.specs.Prelude.{ℕ, zero, suc, Bool, true, false, List, [], ◌∷◌, ◌++◌, ◌==◌, Option, Some, None, if◌then◌else◌, option_and_then, map, replicate, decimal}
+use Rattle.base.specs.Word.{bits}
+use Rattle.btor2.specs.declared.item.Item.{Item}
+use Rattle.btor2.specs.declared.item.Body.{Body}
+use Rattle.btor2.specs.declared.item.Body.TheVariants as body
+use Rattle.btor2.specs.Items.{is_input, is_state, is_bad, is_constraint, constant_of, init_value}
+use Rattle.btor2.specs.Trace.{Frame, bits_of}
+use Rattle.aiger.specs.declared.circuit.Reset.{Reset}
+use Rattle.aiger.specs.declared.circuit.Reset.TheVariants as reset
+use Rattle.aiger.specs.Circuit.{Names}
+
+-- what the items of a kind give, one after another
+abbrev pub of_kind : {A : Type 0} → (Body → Bool) → (Item → List A) → List Item → List A
+of_kind kind give [] = []
+of_kind kind give (x ∷ xs) = (if kind x.body then give x else []) ++ of_kind kind give xs
+
+-- the bits of a leaf's word in a frame, the lowest first
+abbrev pub leaf_bits : List Item → Frame → Item → List Bool
+leaf_bits items f x = bits (bits_of items x.id) (f x.id)
+
+-- the bits of the inputs, and of the states
+abbrev pub input_bits : List Item → Frame → List Bool
+input_bits items f = of_kind is_input (leaf_bits items f) items
+
+abbrev pub state_bits : List Item → Frame → List Bool
+state_bits items f = of_kind is_state (leaf_bits items f) items
+
+-- the name of a bit: the symbol, and the bit's number in brackets
+abbrev pub bit_name : List ℕ → ℕ → List ℕ
+bit_name symbol bit = symbol ++ 91 ∷ decimal bit ++ 93 ∷ []
+
+-- the names of so many bits from a first one on: none without a symbol
+abbrev pub bit_names : Option (List ℕ) → ℕ → ℕ → Names
+bit_names symbol first zero = []
+bit_names None first (suc count) = None ∷ bit_names None (suc first) count
+bit_names (Some symbol) first (suc count) = Some (bit_name symbol first) ∷ bit_names (Some symbol) (suc first) count
+
+abbrev pub leaf_names : List Item → Item → Names
+leaf_names items x = bit_names x.symbol 0 (bits_of items x.id)
+
+abbrev pub input_names : List Item → Names
+input_names items = of_kind is_input (leaf_names items) items
+
+abbrev pub state_names : List Item → Names
+state_names items = of_kind is_state (leaf_names items) items
+
+-- the name of a bad property or a constraint is its symbol
+abbrev pub own_name : Item → Names
+own_name x = x.symbol ∷ []
+
+abbrev pub bad_names : List Item → Names
+bad_names items = of_kind is_bad own_name items
+
+abbrev pub constraint_names : List Item → Names
+constraint_names items = of_kind is_constraint own_name items
+
+-- how a latch begins for a bit of an init constant
+abbrev pub reset_of_bit : Bool → Reset
+reset_of_bit true = reset.One
+reset_of_bit false = reset.Zero
+
+-- how the latches of a state begin: with the bits of the word of its init line, and freely without one
+abbrev pub resets_of_word : ℕ → Option ℕ → List Reset
+resets_of_word width None = replicate width reset.Free
+resets_of_word width (Some x) = map reset_of_bit (bits width x)
+
+abbrev pub leaf_resets : List Item → Item → List Reset
+leaf_resets items x = resets_of_word (bits_of items x.id) (option_and_then (constant_of items) (init_value items x.id))
+
+abbrev pub state_resets : List Item → List Reset
+state_resets items = of_kind is_state (leaf_resets items) items
+
+-- whether a bad property rises, or a constraint holds, in a frame: its operand is 1
+abbrev pub observed : Frame → Body → List Bool
+observed f (body.Bad a) = (f a == 1) ∷ []
+observed f (body.Constraint a) = (f a == 1) ∷ []
+observed f _ = []
+
+abbrev pub bad_values : List Item → Frame → List Bool
+bad_values items f = of_kind is_bad (λ x. observed f x.body) items
+
+abbrev pub constraint_values : List Item → Frame → List Bool
+constraint_values items f = of_kind is_constraint (λ x. observed f x.body) items

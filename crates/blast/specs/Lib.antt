@@ -1,0 +1,11 @@
+pub mod Faults
+pub mod Leaves
+pub mod Cost
+pub mod Lowering
+pub mod Refusal
+pub mod Conversion
+pub mod Reads
+pub mod Blocks
+pub mod Sections
+pub mod Rows
+pub mod Table

@@ -1,0 +1,37 @@
+-- A circuit lowers a model (the profile of this project, over the traces of both formats).
+use Rattle.std.specs.Prelude.{◌≡◌, ◌≤◌, List, [], ◌∷◌, length, map}
+use Rattle.btor2.specs.declared.item.Item.{Item}
+use Rattle.btor2.specs.Trace.{Frame, IsInitial, AreInputs, IsTrace}
+use Rattle.aiger.specs.Literal.{Valuation, literal_value}
+use Rattle.aiger.specs.Circuit.{Circuit}
+use Rattle.aiger.specs.Trace.{IsTrace as IsCircuitTrace}
+use Rattle.blast.specs.Leaves.{input_bits, state_bits, input_names, state_names, bad_names, constraint_names, state_resets, bad_values, constraint_values}
+use Rattle.blast.specs.Cost.{cost, input_width}
+
+-- a frame of the model and a valuation of the circuit show the same bad properties and constraints
+pub record ShowsSame (items : List Item) (c : Circuit) (f : Frame) (v : Valuation) : Type 0 where
+  pub bads : map (literal_value v) c.bads ≡ bad_values items f
+  pub constraints : map (literal_value v) c.constraints ≡ constraint_values items f
+
+-- two traces are as long, and show the same in each frame
+abbrev pub ShowSame : List Item → Circuit → List Frame → List Valuation → Type 0
+ShowSame items c [] [] = Unit {0}
+ShowSame items c [] (v ∷ vs) = ⊥
+ShowSame items c (f ∷ fs) [] = ⊥
+ShowSame items c (f ∷ fs) (v ∷ vs) = ShowsSame items c f v × ShowSame items c fs vs
+
+pub record Lowers (items : List Item) (c : Circuit) : Type 0 where
+  -- inputs and latches are the bits of the inputs and the states, in file order, the lowest first; names and resets are theirs
+  pub inputs : c.inputs ≡ input_width items
+  pub input_names : c.input_names ≡ input_names items
+  pub latch_names : c.latch_names ≡ state_names items
+  pub resets : map (λ latch. latch.reset) c.latches ≡ state_resets items
+  pub bad_names : c.bad_names ≡ bad_names items
+  pub constraint_names : c.constraint_names ≡ constraint_names items
+  -- there are at most the stated number of gates
+  pub few_gates : length c.gates ≤ cost items
+  -- from all initial words and under all input frames, the two traces from the same bits show the same in every frame
+  pub frames : (state : Frame) (inputs : List Frame) → IsInitial items state → AreInputs items inputs
+      → (fs : List Frame) → IsTrace items state inputs fs
+      → (vs : List Valuation) → IsCircuitTrace c (state_bits items state) (map (input_bits items) inputs) vs
+      → ShowSame items c fs vs

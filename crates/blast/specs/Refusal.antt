@@ -1,0 +1,29 @@
+-- Which models are not lowered, and why.
+use Rattle.std.specs.Prelude.{◌≡◌, ℕ, ◌&&◌, List, [], ◌∷◌, Option, Some, None, Result, Ok, Err, if◌then◌else◌, is_none, nat_lt, ◌⊎◌}
+use Rattle.btor2.specs.declared.item.Item.{Item}
+use Rattle.btor2.specs.Items.{is_state, next_value}
+use Rattle.aiger.specs.Limits.{greatest_count}
+use Rattle.blast.specs.Cost.{bound}
+use Rattle.blast.specs.declared.fault.LowerFault.{LowerFault}
+use Rattle.blast.specs.declared.fault.LowerFault.TheVariants as fault
+
+-- the id of the first state, from some items on, that has no next
+abbrev pub first_without_next : List Item → List Item → Option ℕ
+first_without_next items [] = None
+first_without_next items (x ∷ xs) = if is_state x.body && is_none (next_value items x.id) then Some x.id else first_without_next items xs
+
+-- a state without a next, and else too many variables
+abbrev pub too_big : List Item → Option LowerFault
+too_big items = if nat_lt greatest_count (bound items) then Some fault.TooBig else None
+
+abbrev pub refusal_for : List Item → Option ℕ → Option LowerFault
+refusal_for items None = too_big items
+refusal_for items (Some id) = Some (fault.NoNext id)
+
+abbrev pub lowering_refusal : List Item → Option LowerFault
+lowering_refusal items = refusal_for items (first_without_next items items)
+
+-- a lowering answers the first refusal that applies, and for a model that none applies to a circuit, or want of memory
+abbrev pub AnswersLowering : {T : Type 0} → Result T LowerFault → Option LowerFault → Type 0
+AnswersLowering (Ok c) r = r ≡ None
+AnswersLowering (Err e) r = (r ≡ Some e) ⊎ ((r ≡ None) × (e ≡ fault.NoMemory))

@@ -1,0 +1,52 @@
+-- The literals that a circuit's latches, bad properties and constraints take from the rows of a model's nodes.
+use Rattle.std.specs.Prelude.{ℕ, suc, List, [], ◌∷◌, ◌++◌, ◌==◌, length, replicate, Option, Some, None, option_and_then, unwrap_or, slice_get, slice_index}
+use Rattle.base.specs.Word.{bit}
+use Rattle.btor2.specs.declared.item.Item.{Item}
+use Rattle.btor2.specs.declared.item.Body.{Body}
+use Rattle.btor2.specs.declared.item.Body.TheVariants as body
+use Rattle.btor2.specs.Items.{position_of, constant_of, init_value, next_value}
+use Rattle.aiger.specs.declared.circuit.Latch.{Latch}
+use Rattle.aiger.specs.declared.circuit.Reset.{Reset}
+use Rattle.aiger.specs.declared.circuit.Reset.TheVariants as reset
+use Rattle.aiger.specs.Circuit.{Circuit}
+use Rattle.blast.specs.Leaves.{reset_of_bit}
+
+-- the row of the node that an id may name, and none of no node
+unfoldable pub row_at : List Item → List (List ℕ) → Option ℕ → List ℕ
+row_at items rows id = unwrap_or (option_and_then (slice_get rows) (option_and_then (position_of items) id)) []
+
+-- the word of a state's init line
+abbrev pub init_word : List Item → ℕ → Option ℕ
+init_word items id = option_and_then (constant_of items) (init_value items id)
+
+-- how a bit of a state begins
+abbrev pub reset_at : Option ℕ → ℕ → Reset
+reset_at None i = reset.Free
+reset_at (Some x) i = reset_of_bit (bit x i == 1)
+
+-- the latches of a row, from a bit on
+unfoldable pub row_latches : Option ℕ → ℕ → List ℕ → List Latch
+row_latches init i [] = []
+row_latches init i (l ∷ row) = record { next = l; reset = reset_at init i } ∷ row_latches init (suc i) row
+
+-- the latches of a state: of the row of its next node
+abbrev pub state_latches : List Item → List (List ℕ) → Item → List Latch
+state_latches items rows x = row_latches (init_word items x.id) 0 (row_at items rows (next_value items x.id))
+
+-- the literal of a node of one bit
+abbrev pub literal_at : List Item → List (List ℕ) → ℕ → ℕ
+literal_at items rows id = slice_index (row_at items rows (Some id)) 0
+
+-- the literals that a line adds to the bad properties, and to the constraints
+abbrev pub bad_literals : List Item → List (List ℕ) → Body → List ℕ
+bad_literals items rows (body.Bad a) = literal_at items rows a ∷ []
+bad_literals items rows _ = []
+
+abbrev pub constraint_literals : List Item → List (List ℕ) → Body → List ℕ
+constraint_literals items rows (body.Constraint a) = literal_at items rows a ∷ []
+constraint_literals items rows _ = []
+
+-- a circuit with more bad properties and constraints, which have no names
+abbrev pub with_literals : Circuit → List ℕ → List ℕ → Circuit
+with_literals c bads constraints =
+    record c { bads = c.bads ++ bads; constraints = c.constraints ++ constraints; bad_names = c.bad_names ++ replicate (length bads) None; constraint_names = c.constraint_names ++ replicate (length constraints) None }

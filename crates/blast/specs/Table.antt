@@ -1,0 +1,68 @@
+-- Rows of numbers, kept one after another in one list beside the places where they end; and what the rows of a lowering are while it is made.
+use Rattle.std.specs.Prelude.{◌≡◌, ℕ, suc, ◌+◌, ◌≤◌, true, List, [], ◌∷◌, Option, Some, option_and_then, if◌then◌else◌, is_some, All, length, map, sum_by, take, slice_range, slice_index, slice_get}
+use Rattle.base.specs.Word.{bits}
+use Rattle.btor2.specs.declared.item.Item.{Item}
+use Rattle.btor2.specs.Items.{is_input, is_state, position_of, node_width}
+use Rattle.btor2.specs.Trace.{Frame, bits_of}
+use Rattle.aiger.specs.Literal.{Valuation, literal_value}
+use Rattle.aiger.specs.Net.{Net, IsDefined}
+use Rattle.gates.specs.Made.{Grows}
+use Rattle.blast.specs.Cost.{line_cost, input_width}
+use Rattle.blast.specs.Reads.{Together, ReadsWord, RowReads, RowsRead, leaves_only}
+
+-- the rows with these ends, of which the first begins at a place
+abbrev pub rows_from : ℕ → List ℕ → List ℕ → List (List ℕ)
+rows_from start [] all = []
+rows_from start (stop ∷ stops) all = slice_range all start stop ∷ rows_from stop stops all
+
+-- each row ends where it begins or later, and the last at the end of the list
+abbrev pub AreEnds : ℕ → List ℕ → ℕ → Type 0
+AreEnds start [] total = start ≡ total
+AreEnds start (stop ∷ stops) total = (start ≤ stop) × AreEnds stop stops total
+
+-- where a row begins: where the one before it ends
+abbrev pub start_at : List ℕ → ℕ → ℕ
+start_at stops place = slice_index (0 ∷ stops) place
+
+-- a row that reads in every frame as a value of the frame, made with at most so many gates more
+pub record MakesNode (items : List Item) (old new : Net) (most width : ℕ) (value : Frame → ℕ) (row : List ℕ) : Type 0 where
+  pub grows : Grows old new most
+  pub wide : length row ≡ width
+  pub defined : All (IsDefined new) row
+  pub bits : (state input f : Frame) (v : Valuation) → Together items new state input f v → map (literal_value v) row ≡ bits width (value f)
+
+-- the row of an item, made with at most its line's gates more
+pub record MakesRow (items : List Item) (old new : Net) (x : Item) (row : List ℕ) : Type 0 where
+  pub grows : Grows old new (line_cost items x.body)
+  pub reads : RowReads items new x row
+
+-- the row of the node with an id
+abbrev pub row_of : List Item → List (List ℕ) → ℕ → Option (List ℕ)
+row_of items rows id = option_and_then (slice_get rows) (position_of items id)
+
+-- an operand: a node whose row is there and reads as its word
+pub record IsOperand (items : List Item) (n : Net) (rows : List (List ℕ)) (id : ℕ) : Type 0 where
+  pub row : List ℕ
+  pub at : row_of items rows id ≡ Some row
+  pub there : is_some (node_width items id) ≡ true
+  pub some : 1 ≤ bits_of items id
+  pub most : bits_of items id ≤ 64
+  pub reads : ReadsWord items n id (bits_of items id) row
+
+-- the gate bounds, the bits of the inputs and the bits of the states of some items
+abbrev pub cost_among : List Item → List Item → ℕ
+cost_among items some = sum_by (λ x. line_cost items x.body) some
+
+abbrev pub inputs_among : List Item → List Item → ℕ
+inputs_among items some = sum_by (λ x. if is_input x.body then bits_of items x.id else 0) some
+
+abbrev pub states_among : List Item → List Item → ℕ
+states_among items some = sum_by (λ x. if is_state x.body then bits_of items x.id else 0) some
+
+-- the rows of the first so many items, and the variables of the next input bit and the next state bit
+pub record LowersFront (items : List Item) (place : ℕ) (n : Net) (rows : List (List ℕ)) (input latch : ℕ) : Type 0 where
+  pub all : length rows ≡ place
+  pub reads : RowsRead items n rows
+  pub grows : Grows (leaves_only items) n (cost_among items (take place items))
+  pub next_input : input ≡ suc (inputs_among items (take place items))
+  pub next_latch : latch ≡ suc (input_width items + states_among items (take place items))

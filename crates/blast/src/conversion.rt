@@ -1,0 +1,54 @@
+ghost use Rattle.std.specs.Prelude.{◌≡◌, ◌≤◌, IfErr, OnOk, OnErr};
+ghost use Rattle.std.specs.Io.KnownBytes.{Appends, IsAtEnd};
+ghost use Rattle.base.specs.Device.{HasRisen, CountsFaults, AppendsBeginning};
+ghost use Rattle.btor2text.specs.declared.fault.Why.TheVariants as why;
+ghost use Rattle.blast.specs.declared.fault.ConvertFault.TheVariants as fault;
+ghost use Rattle.blast.specs.Conversion.{AnswersConversion, IsBeforeWriting, circuit_text, RaisesFailures};
+
+use crate::fault::ConvertFault;
+use crate::lowering::lower;
+use aiger::Circuit;
+use aigertext::{Form, write_ascii};
+use base::{DeviceFault, Sink, Source};
+use btor2text::read;
+use std::alloc::Global;
+
+/// Writes the text of a circuit in a form.
+fn write<K: Sink>(circuit: &Circuit, sink: &mut K, form: Form) -> Result<(), DeviceFault>
+    ensures ok { OnOk result (Appends (K.written sink.old) (K.written sink.new) (circuit_text form circuit.now)) }
+    ensures err { OnErr result (AppendsBeginning (K.written sink.old) (K.written sink.new) (circuit_text form circuit.now)) }
+    ensures failures { CountsFaults result (K.failures sink.old) (K.failures sink.new) }
+{
+    match form {
+        Form::Ascii => write_ascii(circuit, sink),
+    }
+}
+
+/// Reads the text of a model to its end, lowers the model and writes the text of the circuit.
+///
+/// Errors: `Read` where the text is no model or the source failed, `Lower` where the model is not
+/// lowered (nothing was written after either); `Write` where the sink failed (a beginning was written).
+pub fn convert<S: Source, K: Sink>(
+    alloc: Global,
+    source: &mut S,
+    sink: &mut K,
+    form: Form,
+) -> Result<(), ConvertFault>
+    ensures answer { AnswersConversion (S.to_come source.old) (K.written sink.old) (K.written sink.new) form result }
+    ensures end { OnOk result (IsAtEnd (S.to_come source.new)) }
+    ensures unwritten { IfErr result (λ e. IsBeforeWriting e → sink.new ≡ sink.old) }
+    ensures device { RaisesFailures result (S.failures source.old) (S.failures source.new) (K.failures sink.old) (K.failures sink.new) }
+{
+    let model = match read(alloc, source) {
+        Ok(model) => model,
+        Err(fault) => return Err(ConvertFault::Read(fault)),
+    };
+    let circuit = match lower(alloc, &model) {
+        Ok(circuit) => circuit,
+        Err(fault) => return Err(ConvertFault::Lower(fault)),
+    };
+    match write(&circuit, sink, form) {
+        Ok(()) => Ok(()),
+        Err(fault) => Err(ConvertFault::Write(fault)),
+    }
+}

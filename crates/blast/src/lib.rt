@@ -1,0 +1,17 @@
+//! Lowering of word-level models to and-inverter circuits, and of their texts.
+#![tactic(auto)]
+
+mod conversion;
+mod fault;
+mod latches;
+mod lowering;
+mod names;
+mod nodes;
+mod properties;
+mod table;
+mod widths;
+
+pub use conversion::convert;
+pub use fault::{ConvertFault, LowerFault};
+pub use lowering::lower;
+pub use widths::{bound, cost};

@@ -1,0 +1,105 @@
+ghost use Rattle.std.specs.Prelude.{◌≡◌, ℕ, ◌≤◌, None, Some, IfOk, IfErr, option_copied};
+ghost use Rattle.btor2.specs.Check.{IsWellFormed};
+ghost use Rattle.btor2.specs.Lists.{id_at};
+ghost use Rattle.blast.specs.Lowering.{Lowers};
+ghost use Rattle.blast.specs.Refusal.{AnswersLowering, lowering_refusal, first_without_next};
+
+use crate::fault::LowerFault;
+use crate::latches::set_latches;
+use crate::names::set_names;
+use crate::nodes::lower_nodes;
+use crate::properties::push_properties;
+use crate::widths::{bound, input_width, state_width};
+use aiger::Circuit;
+use btor2::{Item, Model};
+use gates::{GateFault, PlainGates};
+use std::alloc::Global;
+
+/// The greatest number of variables that a circuit may have, 2^30.
+const GREATEST_COUNT: u64 = 1073741824;
+
+/// The id of the item at a place.
+fn id_at(items: &[Item], place: usize) -> Option<u64>
+    ensures { result ≡ id_at items.now place }
+{
+    match items.get(place) {
+        Some(item) => Some(item.id),
+        None => None,
+    }
+}
+
+/// The id of the first state in file order that has no next.
+fn state_without_next(model: &Model) -> Option<u64>
+    ensures first { result ≡ first_without_next model.now model.now }
+    ensures well_formed { IsWellFormed model.now }
+{
+    let items = model.items();
+    for (k, place) in model.states().iter().enumerate() {
+        if model.next_of(k).is_none() {
+            return id_at(items, *place);
+        }
+    }
+    None
+}
+
+/// Why a model is not lowered, want of memory apart.
+fn refusal(model: &Model) -> Option<LowerFault>
+    ensures first { result ≡ lowering_refusal model.now }
+    ensures well_formed { IsWellFormed model.now }
+{
+    match state_without_next(model) {
+        Some(id) => Some(LowerFault::NoNext(id)),
+        None => {
+            if bound(model) > GREATEST_COUNT {
+                Some(LowerFault::TooBig)
+            } else {
+                None
+            }
+        }
+    }
+}
+
+/// The circuit of a model that nothing speaks against.
+fn lower_accepted(alloc: Global, model: &Model) -> Result<Circuit, LowerFault>
+    requires accepted { lowering_refusal model.now ≡ None }
+    requires well_formed { IsWellFormed model.now }
+    ensures ok { IfOk result (λ circuit. Lowers model.now circuit) }
+    ensures memory { IfErr result (λ e. e ≡ LowerFault.NoMemory) }
+{
+    let inputs = input_width(model) as u32;
+    let latches = state_width(model) as u32;
+    let mut gates = match PlainGates::new(alloc, inputs, latches) {
+        Ok(gates) => gates,
+        Err(GateFault::NoMemory) => return Err(LowerFault::NoMemory),
+        Err(GateFault::TooBig) => unreachable!(),
+    };
+    let table = match lower_nodes(alloc, model, &mut gates) {
+        Ok(table) => table,
+        Err(GateFault::NoMemory) => return Err(LowerFault::NoMemory),
+        Err(GateFault::TooBig) => unreachable!(),
+    };
+    let mut circuit = gates.finish();
+    set_latches(model, &table, &mut circuit);
+    match push_properties(model, &table, &mut circuit) {
+        Ok(()) => {}
+        Err(fault) => return Err(fault),
+    }
+    match set_names(model, &mut circuit) {
+        Ok(()) => Ok(circuit),
+        Err(fault) => Err(fault),
+    }
+}
+
+/// The circuit that lowers a model: the bits of its inputs are the inputs, those of its states the latches.
+///
+/// Errors: `NoNext` with the first state in file order that has no next; else `TooBig` where the bound
+/// on the variables is above 2^30; else `NoMemory`. Nothing is given then.
+pub fn lower(alloc: Global, model: &Model) -> Result<Circuit, LowerFault>
+    ensures ok { IfOk result (λ circuit. Lowers model.now circuit) }
+    ensures answer { AnswersLowering result (lowering_refusal model.now) }
+{
+    match refusal(model) {
+        Some(fault) => Err(fault),
+        None => lower_accepted(alloc, model),
+    }
+}

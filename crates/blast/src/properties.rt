@@ -1,0 +1,113 @@
+ghost use Rattle.std.specs.Prelude.{◌≡◌, ℕ, ◌+◌, ◌<◌, ◌≤◌, [], ◌++◌, length, replicate, Some, None, IfErr, OnOk, slice_get};
+ghost use Rattle.btor2.specs.Check.{IsWellFormed};
+ghost use Rattle.btor2.specs.Items.{node_width};
+ghost use Rattle.aiger.specs.Limits.{greatest_count};
+ghost use Rattle.aiger.specs.Net.{IsDefined};
+ghost use Rattle.aiger.specs.Circuit.{net, with_bad, with_constraint};
+ghost use Rattle.blast.specs.declared.fault.LowerFault.TheVariants as fault;
+ghost use Rattle.blast.specs.Leaves.{bad_names, constraint_names};
+ghost use Rattle.blast.specs.Reads.{RowsRead, BadsRead, ConstraintsRead};
+ghost use Rattle.blast.specs.Rows.{row_at, literal_at, with_literals, bad_literals, constraint_literals};
+
+use crate::fault::LowerFault;
+use crate::names::item_at;
+use crate::table::Table;
+use aiger::{Circuit, CircuitFault, Lit};
+use btor2::{Body, Item, Model};
+
+/// The literal of a node of one bit.
+fn literal(model: &Model, table: &Table, id: u64) -> Lit
+    requires all { length table.now ≡ length model.now }
+    requires one { node_width model.now id ≡ Some 1 }
+    requires row { length (row_at model.now table.now (Some id)) ≡ 1 }
+    ensures { result ≡ literal_at model.now table.now id }
+{
+    match model.position(id) {
+        Some(place) => table.row(place)[0],
+        None => unreachable!(),
+    }
+}
+
+/// Adds a bad property of a literal that is there.
+fn push_bad(lit: Lit, circuit: &mut Circuit) -> Result<(), LowerFault>
+    requires defined { IsDefined (net circuit.old) lit }
+    requires few { length circuit.old.bads < greatest_count }
+    ensures ok { OnOk result (circuit.new ≡ with_bad circuit.old lit) }
+    ensures err { IfErr result (λ e. e ≡ fault.NoMemory) }
+{
+    match circuit.push_bad(lit) {
+        Ok(()) => Ok(()),
+        Err(CircuitFault::NoMemory) => Err(LowerFault::NoMemory),
+        Err(_) => unreachable!(),
+    }
+}
+
+/// Adds a constraint of a literal that is there.
+fn push_constraint(lit: Lit, circuit: &mut Circuit) -> Result<(), LowerFault>
+    requires defined { IsDefined (net circuit.old) lit }
+    requires few { length circuit.old.constraints < greatest_count }
+    ensures ok { OnOk result (circuit.new ≡ with_constraint circuit.old lit) }
+    ensures err { IfErr result (λ e. e ≡ fault.NoMemory) }
+{
+    match circuit.push_constraint(lit) {
+        Ok(()) => Ok(()),
+        Err(CircuitFault::NoMemory) => Err(LowerFault::NoMemory),
+        Err(_) => unreachable!(),
+    }
+}
+
+/// Adds what an item adds: the literal of its operand, for a bad property or a constraint.
+fn push_item(
+    model: &Model,
+    table: &Table,
+    place: usize,
+    item: &Item,
+    circuit: &mut Circuit,
+) -> Result<(), LowerFault>
+    requires well_formed { IsWellFormed model.now }
+    requires place { slice_get model.now place ≡ Some item.now }
+    requires reads { RowsRead model.now (net circuit.old) table.now }
+    requires all { length table.now ≡ length model.now }
+    requires few_bads { length circuit.old.bads < greatest_count }
+    requires few_constraints { length circuit.old.constraints < greatest_count }
+    ensures ok { OnOk result (circuit.new ≡ with_literals circuit.old (bad_literals model.now table.now item.now.body) (constraint_literals model.now table.now item.now.body)) }
+    ensures err { IfErr result (λ e. e ≡ fault.NoMemory) }
+{
+    match item.body {
+        Body::Bad { operand } => push_bad(literal(model, table, operand), circuit),
+        Body::Constraint { operand } => push_constraint(literal(model, table, operand), circuit),
+        _ => Ok(()),
+    }
+}
+
+/// Adds the bad properties and the constraints of a model, in file order: the literals of their operands.
+///
+/// Conditions: the table has a row for each item, which reads as its node's word; the circuit has no bad property
+/// and no constraint yet.
+///
+/// Error: `NoMemory`. Some of them may then be there.
+pub(crate) fn push_properties(
+    model: &Model,
+    table: &Table,
+    circuit: &mut Circuit,
+) -> Result<(), LowerFault>
+    requires reads { RowsRead model.now (net circuit.old) table.now }
+    requires all { length table.now ≡ length model.now }
+    requires bads { circuit.old.bads ≡ [] }
+    requires constraints { circuit.old.constraints ≡ [] }
+    requires bad_names { circuit.old.bad_names ≡ [] }
+    requires constraint_names { circuit.old.constraint_names ≡ [] }
+    ensures bads { OnOk result (BadsRead model.now (net circuit.old) model.now circuit.new.bads) }
+    ensures constraints { OnOk result (ConstraintsRead model.now (net circuit.old) model.now circuit.new.constraints) }
+    ensures others { OnOk result (circuit.new ≡ record circuit.old { bads = circuit.new.bads; constraints = circuit.new.constraints; bad_names = replicate (length (bad_names model.now)) None; constraint_names = replicate (length (constraint_names model.now)) None }) }
+    ensures err { IfErr result (λ e. e ≡ fault.NoMemory) }
+{
+    let items = model.items();
+    for place in 0..items.len() {
+        match push_item(model, table, place, item_at(items, place), circuit) {
+            Ok(()) => {}
+            Err(fault) => return Err(fault),
+        }
+    }
+    Ok(())
+}

@@ -1,0 +1,4 @@
+pub mod LookUps
+pub mod ModelLemmas
+pub mod PushLemmas
+pub mod TraceLemmas

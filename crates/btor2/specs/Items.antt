@@ -1,0 +1,111 @@
+-- What a list of items says of ids ("Btor2, BtorMC and Boolector 3.0", syntax: a line names sorts and nodes by the ids of earlier lines).
+use Rattle.std.specs.Prelude.{ℕ, Bool, true, false, List, [], ◌∷◌, Option, Some, None, ◌==◌, if◌then◌else◌, option_and_then, unwrap_or, is_some}
+use Rattle.std.specs.List.{position_from}
+use Rattle.std.specs.Option.{option_or}
+use Rattle.btor2.specs.declared.item.Item.{Item}
+use Rattle.btor2.specs.declared.item.Body.{Body}
+use Rattle.btor2.specs.declared.item.Body.TheVariants as body
+
+-- the sort that an item names
+abbrev pub named_sort : Body → Option ℕ
+named_sort (body.Input s) = Some s
+named_sort (body.State s) = Some s
+named_sort (body.Zero s) = Some s
+named_sort (body.Unary op s a) = Some s
+named_sort (body.Binary op s a b) = Some s
+named_sort (body.Init s t v) = Some s
+named_sort (body.Next s t v) = Some s
+named_sort _ = None
+
+-- the nodes that an item names, from left to right
+abbrev pub operands : Body → List ℕ
+operands (body.Unary op s a) = a ∷ []
+operands (body.Binary op s a b) = a ∷ b ∷ []
+operands (body.Init s t v) = t ∷ v ∷ []
+operands (body.Next s t v) = t ∷ v ∷ []
+operands (body.Bad a) = a ∷ []
+operands (body.Constraint a) = a ∷ []
+operands _ = []
+
+-- the width that a sort's line gives
+abbrev pub sort_bits : Body → Option ℕ
+sort_bits (body.Sort n) = Some n
+sort_bits _ = None
+
+-- the sort of a node with a value: of a leaf or an operator
+abbrev pub node_sort : Body → Option ℕ
+node_sort (body.Input s) = Some s
+node_sort (body.State s) = Some s
+node_sort (body.Zero s) = Some s
+node_sort (body.Unary op s a) = Some s
+node_sort (body.Binary op s a b) = Some s
+node_sort _ = None
+
+abbrev pub is_input : Body → Bool
+is_input (body.Input s) = true
+is_input _ = false
+
+abbrev pub is_state : Body → Bool
+is_state (body.State s) = true
+is_state _ = false
+
+abbrev pub is_bad : Body → Bool
+is_bad (body.Bad a) = true
+is_bad _ = false
+
+abbrev pub is_constraint : Body → Bool
+is_constraint (body.Constraint a) = true
+is_constraint _ = false
+
+-- the word of a constant node of a width
+abbrev pub constant_word : ℕ → Body → Option ℕ
+constant_word w (body.Zero s) = Some 0
+constant_word w _ = None
+
+-- the value that a body gives a state where it is an init line of that state, and where it is a next line of it
+abbrev pub init_for : ℕ → Body → Option ℕ
+init_for id (body.Init s t v) = if id == t then Some v else None
+init_for id _ = None
+
+abbrev pub next_for : ℕ → Body → Option ℕ
+next_for id (body.Next s t v) = if id == t then Some v else None
+next_for id _ = None
+
+-- the first item with an id
+abbrev pub find_item : List Item → ℕ → Option Item
+find_item [] id = None
+find_item (x ∷ xs) id = if id == x.id then Some x else find_item xs id
+
+-- the place of the first item with an id
+abbrev pub position_of : List Item → ℕ → Option ℕ
+position_of items id = position_from (λ x. id == x.id) 0 items
+
+-- the width of a sort, and of a node with a value, by their ids
+abbrev pub sort_width : List Item → ℕ → Option ℕ
+sort_width items id = option_and_then (λ x. sort_bits x.body) (find_item items id)
+
+abbrev pub width_of_body : List Item → Body → Option ℕ
+width_of_body items b = option_and_then (sort_width items) (node_sort b)
+
+abbrev pub node_width : List Item → ℕ → Option ℕ
+node_width items id = option_and_then (λ x. width_of_body items x.body) (find_item items id)
+
+-- the word of a constant node, by its id
+abbrev pub constant_of_body : List Item → Body → Option ℕ
+constant_of_body items b = option_and_then (λ w. constant_word w b) (width_of_body items b)
+
+abbrev pub constant_of : List Item → ℕ → Option ℕ
+constant_of items id = option_and_then (λ x. constant_of_body items x.body) (find_item items id)
+
+-- whether an id is that of a state
+abbrev pub names_state : List Item → ℕ → Bool
+names_state items id = is_some (option_and_then (λ x. if is_state x.body then Some x else None) (find_item items id))
+
+-- the value of a state's init line, and of its next line, where it has one
+abbrev pub init_value : List Item → ℕ → Option ℕ
+init_value [] id = None
+init_value (x ∷ xs) id = option_or (init_for id x.body) (init_value xs id)
+
+abbrev pub next_value : List Item → ℕ → Option ℕ
+next_value [] id = None
+next_value (x ∷ xs) id = option_or (next_for id x.body) (next_value xs id)

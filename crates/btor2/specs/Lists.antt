@@ -1,0 +1,32 @@
+-- The lists of a model: its inputs, states, bad properties and constraints in file order.
+use Rattle.std.specs.Prelude.{ℕ, suc, ◌+◌, Bool, true, false, List, [], ◌∷◌, ◌++◌, Option, Some, None, if◌then◌else◌, option_and_then, slice_get}
+use Rattle.btor2.specs.declared.item.Item.{Item}
+use Rattle.btor2.specs.declared.item.Body.{Body}
+use Rattle.btor2.specs.Items.{position_of, init_value, next_value, width_of_body, constant_of_body}
+
+-- the places of the items whose bodies pass a test, the first item at a given place
+abbrev pub places : (Body → Bool) → ℕ → List Item → List ℕ
+places test at [] = []
+places test at (x ∷ xs) = if test x.body then at ∷ places test (suc at) xs else places test (suc at) xs
+
+-- a list of places, with one more where a test is passed
+abbrev pub with_place : Bool → ℕ → List ℕ → List ℕ
+with_place passed place list = if passed then list ++ place ∷ [] else list
+
+-- the id of the item at a place
+abbrev pub id_at : List Item → ℕ → Option ℕ
+id_at items place = option_and_then (λ (x : Item). Some x.id) (slice_get items place)
+
+-- the place of the value that the init line gives the state at a place, and of the one that its next line gives it
+abbrev pub init_place : List Item → ℕ → Option ℕ
+init_place items place = option_and_then (position_of items) (option_and_then (init_value items) (id_at items place))
+
+abbrev pub next_place : List Item → ℕ → Option ℕ
+next_place items place = option_and_then (position_of items) (option_and_then (next_value items) (id_at items place))
+
+-- the width of the node at a place, and its word where it is a constant
+abbrev pub width_at : List Item → ℕ → Option ℕ
+width_at items place = option_and_then (λ x. width_of_body items x.body) (slice_get items place)
+
+abbrev pub constant_at : List Item → ℕ → Option ℕ
+constant_at items place = option_and_then (λ x. constant_of_body items x.body) (slice_get items place)

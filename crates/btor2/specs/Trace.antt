@@ -1,0 +1,97 @@
+-- Frames and traces of a model ("Btor2, BtorMC and Boolector 3.0", semantics of sequential models).
+-- A frame is a function from ids to words, and means something at nodes with a value.
+use Rattle.std.specs.Prelude.{◌≡◌, ℕ, ◌<◌, ◌^◌, true, List, [], ◌∷◌, Option, Some, None, ◌==◌, option_map, unwrap_or, is_some}
+use Rattle.base.specs.Operator.{unary_value, binary_value}
+use Rattle.btor2.specs.declared.item.Item.{Item}
+use Rattle.btor2.specs.declared.item.Body.{Body}
+use Rattle.btor2.specs.declared.item.Body.TheVariants as body
+use Rattle.btor2.specs.Items.{node_width, width_of_body, constant_of, next_value}
+
+abbrev pub Frame : Type 0
+Frame = ℕ → ℕ
+
+-- the width of a node
+abbrev pub bits_of : List Item → ℕ → ℕ
+bits_of items id = unwrap_or (node_width items id) 0
+
+-- What a line says of a frame, where `state` has the words of the states and `input` those of the inputs:
+-- a leaf has its given word, a constant its value, an operator what it gives for its operands' words.
+abbrev pub LineHolds : List Item → Frame → Frame → Frame → ℕ → Body → Type 0
+LineHolds items state input f id (body.Input s) = f id ≡ input id
+LineHolds items state input f id (body.State s) = f id ≡ state id
+LineHolds items state input f id (body.Zero s) = f id ≡ 0
+LineHolds items state input f id (body.Unary op s a) = f id ≡ unary_value op (bits_of items a) (f a)
+LineHolds items state input f id (body.Binary op s a b) = f id ≡ binary_value op (bits_of items a) (f a) (f b)
+LineHolds items state input f id _ = Unit {0}
+
+-- each of some lines holds
+abbrev pub LinesHold : List Item → Frame → Frame → Frame → List Item → Type 0
+LinesHold items state input f [] = Unit {0}
+LinesHold items state input f (x ∷ xs) = LineHolds items state input f x.id x.body × LinesHold items state input f xs
+
+-- a frame of a model from given state words and input words
+abbrev pub IsFrame : List Item → Frame → Frame → Frame → Type 0
+IsFrame items state input f = LinesHold items state input f items
+
+-- the states' words in the frame after f: each has the word of its next node
+abbrev pub next_state : List Item → Frame → Frame
+next_state items f id = unwrap_or (option_map f (next_value items id)) 0
+
+-- a trace: as many frames as input frames, each from the state that the one before leaves
+abbrev pub IsTrace : List Item → Frame → List Frame → List Frame → Type 0
+IsTrace items state [] [] = Unit {0}
+IsTrace items state [] (f ∷ fs) = ⊥
+IsTrace items state (input ∷ inputs) [] = ⊥
+IsTrace items state (input ∷ inputs) (f ∷ fs) = IsFrame items state input f × IsTrace items (next_state items f) inputs fs
+
+-- a given word of a leaf is below 2 to its width
+abbrev pub InputFits : List Item → Frame → ℕ → Body → Type 0
+InputFits items input id (body.Input s) = input id < 2 ^ bits_of items id
+InputFits items input id _ = Unit {0}
+
+abbrev pub StateFits : List Item → Frame → ℕ → Body → Type 0
+StateFits items state id (body.State s) = state id < 2 ^ bits_of items id
+StateFits items state id _ = Unit {0}
+
+-- what an init line asks of the initial words: the state has the word of the constant
+abbrev pub InitHolds : List Item → Frame → Body → Type 0
+InitHolds items state (body.Init s t v) = constant_of items v ≡ Some (state t)
+InitHolds items state _ = Unit {0}
+
+abbrev pub InputsFit : List Item → Frame → List Item → Type 0
+InputsFit items input [] = Unit {0}
+InputsFit items input (x ∷ xs) = InputFits items input x.id x.body × InputsFit items input xs
+
+abbrev pub StatesFit : List Item → Frame → List Item → Type 0
+StatesFit items state [] = Unit {0}
+StatesFit items state (x ∷ xs) = StateFits items state x.id x.body × StatesFit items state xs
+
+abbrev pub InitsHold : List Item → Frame → List Item → Type 0
+InitsHold items state [] = Unit {0}
+InitsHold items state (x ∷ xs) = InitHolds items state x.body × InitsHold items state xs
+
+-- words for the inputs of one frame, and for those of each of some frames
+abbrev pub IsInput : List Item → Frame → Type 0
+IsInput items input = InputsFit items input items
+
+abbrev pub AreInputs : List Item → List Frame → Type 0
+AreInputs items [] = Unit {0}
+AreInputs items (input ∷ inputs) = IsInput items input × AreInputs items inputs
+
+-- words for the states, and those of them that agree with the init lines
+abbrev pub IsState : List Item → Frame → Type 0
+IsState items state = StatesFit items state items
+
+pub record IsInitial (items : List Item) (state : Frame) : Type 0 where
+  pub fits : IsState items state
+  pub inits : InitsHold items state items
+
+-- two frames have the same word at each node with a value, and two traces the same frames
+abbrev pub SameFrame : List Item → Frame → Frame → Type 0
+SameFrame items f g = (id : ℕ) → is_some (node_width items id) ≡ true → f id ≡ g id
+
+abbrev pub SameTrace : List Item → List Frame → List Frame → Type 0
+SameTrace items [] [] = Unit {0}
+SameTrace items [] (g ∷ gs) = ⊥
+SameTrace items (f ∷ fs) [] = ⊥
+SameTrace items (f ∷ fs) (g ∷ gs) = SameFrame items f g × SameTrace items fs gs

@@ -1,0 +1,17 @@
+//! Word-level models as checked lists of items, and their traces, after "Btor2, BtorMC and Boolector 3.0".
+#![tactic(auto)]
+
+mod fault;
+mod item;
+mod laws;
+mod model;
+mod symbol;
+
+pub use fault::PushFault;
+pub use item::{Body, Item};
+pub use laws::{exactly_one_trace, words_fit, worked_refusals, worked_traces};
+pub use model::Model;
+pub use symbol::{Symbol, SymbolFault};
+
+#[cfg(test)]
+mod tests;

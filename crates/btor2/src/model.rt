@@ -1,0 +1,296 @@
+ghost use Rattle.std.specs.Prelude.{◌≡◌, ◌<◌, ◌≤◌, IfSome, map, [], length, option_copied, slice_get, slice_index};
+ghost use Rattle.btor2.specs.Items.{find_item, position_of, sort_width, node_width, width_of_body, constant_of, constant_of_body, names_state, init_value, next_value, is_input, is_state, is_bad, is_constraint};
+ghost use Rattle.btor2.specs.Check.{IsWellFormed};
+ghost use Rattle.btor2.specs.Lists.{places, id_at, init_place, next_place, width_at, constant_at};
+
+mod check;
+mod push;
+
+use crate::item::{Body, Item};
+use base::Width;
+use indexmap::{IndexMap, IndexSet};
+use std::alloc::Global;
+
+/// A word-level model: a list of items, each accepted after those before it.
+#[derive(Drop)]
+pub struct Model {
+    items: Vec<Item>,
+    // the items' ids: an id's index is its item's position
+    ids: IndexSet<u64>,
+    // positions in `items`, in file order
+    inputs: Vec<usize>,
+    states: Vec<usize>,
+    bads: Vec<usize>,
+    constraints: Vec<usize>,
+    // from the id of a state to that of the value of its init line, and of its next line
+    inits: IndexMap<u64, u64>,
+    nexts: IndexMap<u64, u64>,
+}
+
+impl std::marker::Model for Model {
+    ghost use Rattle.std.specs.Prelude.{List};
+    ghost use Rattle.btor2.specs.declared.item.Item.{Item};
+
+    ghost Value = { List Item };
+
+    ghost use Rattle.btor2.specs.Index.{IsIndexed};
+
+    ghost view = { λ m. m.items.items };
+
+    ghost invariant = { IsIndexed };
+}
+
+/// The item at a position.
+fn item_at(items: &[Item], place: usize) -> Option<&Item>
+    ensures { option_copied result ≡ slice_get items.now place }
+{
+    items.get(place)
+}
+
+/// The item with an id, by one look-up.
+fn look_up<'a>(ids: &IndexSet<u64>, items: &'a [Item], id: u64) -> Option<&'a Item>
+    requires { ids.now.keys ≡ map (λ x. x.id) items.now }
+    ensures { option_copied result ≡ find_item items.now id }
+{
+    match ids.get_index_of(&id) {
+        Some(place) => item_at(items, place),
+        None => None,
+    }
+}
+
+impl Model {
+    /// A model of no items.
+    pub fn new(alloc: Global) -> Model
+        ensures { result ≡ [] }
+    {
+        Model {
+            items: Vec::new(alloc),
+            ids: IndexSet::new(alloc),
+            inputs: Vec::new(alloc),
+            states: Vec::new(alloc),
+            bads: Vec::new(alloc),
+            constraints: Vec::new(alloc),
+            inits: IndexMap::new(alloc),
+            nexts: IndexMap::new(alloc),
+        }
+    }
+
+    /// The items, in file order.
+    pub fn items(&self) -> &[Item]
+        ensures items { result.now ≡ self.now }
+        ensures well_formed { IsWellFormed self.now }
+    {
+        self.items.as_slice()
+    }
+
+    /// The positions of the inputs in `items`, in file order.
+    pub fn inputs(&self) -> &[usize]
+        ensures { result.now ≡ places is_input 0 self.now }
+    {
+        self.inputs.as_slice()
+    }
+
+    /// The positions of the states in `items`, in file order.
+    pub fn states(&self) -> &[usize]
+        ensures { result.now ≡ places is_state 0 self.now }
+    {
+        self.states.as_slice()
+    }
+
+    /// The positions of the bad properties in `items`, in file order.
+    pub fn bads(&self) -> &[usize]
+        ensures { result.now ≡ places is_bad 0 self.now }
+    {
+        self.bads.as_slice()
+    }
+
+    /// The positions of the constraints in `items`, in file order.
+    pub fn constraints(&self) -> &[usize]
+        ensures { result.now ≡ places is_constraint 0 self.now }
+    {
+        self.constraints.as_slice()
+    }
+
+    /// The position in `items` of the item with an id.
+    pub fn position(&self, id: u64) -> Option<usize>
+        ensures { result ≡ position_of self.now id }
+    {
+        self.ids.get_index_of(&id)
+    }
+
+    /// The item with an id.
+    fn item(&self, id: u64) -> Option<&Item>
+        ensures { option_copied result ≡ find_item self.now id }
+    {
+        look_up(&self.ids, self.items.as_slice(), id)
+    }
+
+    /// The width of the sort with an id.
+    fn sort_width(&self, id: u64) -> Option<u64>
+        ensures { result ≡ sort_width self.now id }
+    {
+        match self.item(id) {
+            Some(item) => item.body.sort_bits(),
+            None => None,
+        }
+    }
+
+    /// The width of what a body says the value of, if it has one.
+    fn body_width(&self, body: &Body) -> Option<u64>
+        ensures { result ≡ width_of_body self.now body.now }
+    {
+        match body.node_sort() {
+            Some(sort) => self.sort_width(sort),
+            None => None,
+        }
+    }
+
+    /// The width of the node with an id.
+    fn node_width(&self, id: u64) -> Option<u64>
+        ensures { result ≡ node_width self.now id }
+    {
+        match self.item(id) {
+            Some(item) => self.body_width(&item.body),
+            None => None,
+        }
+    }
+
+    /// The word of a constant's body.
+    fn body_constant(&self, body: &Body) -> Option<u64>
+        ensures { result ≡ constant_of_body self.now body.now }
+    {
+        match self.body_width(body) {
+            Some(width) => body.constant_word(width),
+            None => None,
+        }
+    }
+
+    /// The word of the constant node with an id.
+    fn constant_word(&self, id: u64) -> Option<u64>
+        ensures { result ≡ constant_of self.now id }
+    {
+        match self.item(id) {
+            Some(item) => self.body_constant(&item.body),
+            None => None,
+        }
+    }
+
+    /// Whether an id is that of a state.
+    fn names_state(&self, id: u64) -> bool
+        ensures { result ≡ names_state self.now id }
+    {
+        match self.item(id) {
+            Some(item) => item.body.is_state(),
+            None => false,
+        }
+    }
+
+    /// The id of the item at a position.
+    fn id_at(&self, place: usize) -> Option<u64>
+        ensures { result ≡ id_at self.now place }
+    {
+        match item_at(self.items.as_slice(), place) {
+            Some(item) => Some(item.id),
+            None => None,
+        }
+    }
+
+    /// The width of the node at a position.
+    fn width_at(&self, place: usize) -> Option<u64>
+        ensures value { result ≡ width_at self.now place }
+        ensures range { IfSome result (λ n. (1 ≤ n) × (n ≤ 64)) }
+    {
+        match item_at(self.items.as_slice(), place) {
+            Some(item) => self.body_width(&item.body),
+            None => None,
+        }
+    }
+
+    /// The id of the value that an init line gives the state with an id.
+    fn init_value(&self, id: u64) -> Option<u64>
+        ensures { result ≡ init_value self.now id }
+    {
+        self.inits.get(&id).copied()
+    }
+
+    /// The id of the value that a next line gives the state with an id.
+    fn next_value(&self, id: u64) -> Option<u64>
+        ensures { result ≡ next_value self.now id }
+    {
+        self.nexts.get(&id).copied()
+    }
+
+    /// The position of the value of the init line of the state at a position.
+    fn init_place(&self, place: usize) -> Option<usize>
+        ensures { result ≡ init_place self.now place }
+    {
+        match self.id_at(place) {
+            Some(id) => match self.init_value(id) {
+                Some(value) => self.position(value),
+                None => None,
+            },
+            None => None,
+        }
+    }
+
+    /// The position of the value of the next line of the state at a position.
+    fn next_place(&self, place: usize) -> Option<usize>
+        ensures { result ≡ next_place self.now place }
+    {
+        match self.id_at(place) {
+            Some(id) => match self.next_value(id) {
+                Some(value) => self.position(value),
+                None => None,
+            },
+            None => None,
+        }
+    }
+
+    /// The position in `items` of the value of a state's init line, if the state has one.
+    /// `k` counts the states in file order.
+    ///
+    /// Condition: `k` is below the number of states.
+    pub fn init_of(&self, k: usize) -> Option<usize>
+        requires { k < length (places is_state 0 self.now) }
+        ensures { result ≡ init_place self.now (slice_index (places is_state 0 self.now) k) }
+    {
+        self.init_place(self.states[k])
+    }
+
+    /// The position in `items` of the value of a state's next line, if the state has one.
+    /// `k` counts the states in file order.
+    ///
+    /// Condition: `k` is below the number of states.
+    pub fn next_of(&self, k: usize) -> Option<usize>
+        requires { k < length (places is_state 0 self.now) }
+        ensures { result ≡ next_place self.now (slice_index (places is_state 0 self.now) k) }
+    {
+        self.next_place(self.states[k])
+    }
+
+    /// The width of a node with a value, by its position in `items`; none for other items.
+    ///
+    /// Condition: `node` is below the number of items.
+    pub fn width_of(&self, node: usize) -> Option<Width>
+        requires { node < length self.now }
+        ensures { result ≡ width_at self.now node }
+    {
+        match self.width_at(node) {
+            Some(width) => Width::new(width),
+            None => None,
+        }
+    }
+
+    /// The word of a constant node, by its position in `items`; none for other items.
+    ///
+    /// Condition: `node` is below the number of items.
+    pub fn constant(&self, node: usize) -> Option<u64>
+        requires { node < length self.now }
+        ensures { result ≡ constant_at self.now node }
+    {
+        match item_at(self.items.as_slice(), node) {
+            Some(item) => self.body_constant(&item.body),
+            None => None,
+        }
+    }
+}

@@ -1,0 +1,142 @@
+//! How an item is added: the lists and maps beside the items get their entries first.
+ghost use Rattle.std.specs.Prelude.{◌≡◌, ℕ, ◌<◌, ◌==◌, ◌&&◌, [], ◌∷◌, ◌++◌, None, Some, OnOk, OnErr, IfErr, is_ok, MatchResult, nat_eq, if◌then◌else◌, vec_len, vec_capacity};
+ghost use Rattle.std.specs.HashMap.{get};
+ghost use Rattle.std.specs.Option.{option_or};
+ghost use Rattle.indexmap.specs.IndexSet.{insert_key, spare};
+ghost use Rattle.btor2.specs.Items.{is_input, is_state, is_bad, is_constraint, init_for, next_for};
+ghost use Rattle.btor2.specs.Check.{refusal, AnswersRefusal};
+ghost use Rattle.btor2.specs.Lists.{with_place};
+
+use crate::fault::PushFault;
+use crate::item::{Body, Item};
+use crate::model::Model;
+use indexmap::{IndexMap, IndexSet};
+
+/// Adds a place at the end of a list.
+fn add_place(list: &mut Vec<usize>, place: usize) -> Result<(), PushFault>
+    ensures { MatchResult result
+        (λ u. list.new.items ≡ list.old.items ++ place ∷ [])
+        (λ fault. (fault ≡ PushFault.NoMemory) × (list.new.items ≡ list.old.items)) }
+{
+    match list.push(place) {
+        Ok(()) => Ok(()),
+        Err(_) => Err(PushFault::NoMemory),
+    }
+}
+
+/// Gives a state's id the id of a value.
+fn add_value(map: &mut IndexMap<u64, u64>, state: u64, value: u64) -> Result<(), PushFault>
+    ensures { MatchResult result
+        (λ u. (id : ℕ) → get nat_eq map.new id ≡ (if id == state then Some value else get nat_eq map.old id))
+        (λ fault. (fault ≡ PushFault.NoMemory) × ((id : ℕ) → get nat_eq map.new id ≡ get nat_eq map.old id)) }
+{
+    match map.insert(state, value) {
+        Ok(_) => Ok(()),
+        Err(_) => Err(PushFault::NoMemory),
+    }
+}
+
+/// Adds an id where there is room.
+fn add_id(ids: &mut IndexSet<u64>, id: u64)
+    requires { 0 < spare ids.old }
+    ensures { ids.new.keys ≡ insert_key nat_eq ids.old.keys id }
+{
+    match ids.insert(id) {
+        Ok(_) => {}
+        Err(_) => unreachable!(),
+    }
+}
+
+/// Adds an item where there is room.
+fn add_item(items: &mut Vec<Item>, item: Item)
+    requires { vec_len items.old < vec_capacity items.old }
+    ensures { items.new.items ≡ items.old.items ++ item ∷ [] }
+{
+    match items.push(item) {
+        Ok(()) => {}
+        Err(_) => unreachable!(),
+    }
+}
+
+/// Adds what an item says to the list or the map of its form, where there is one.
+fn note(
+    body: &Body,
+    place: usize,
+    inputs: &mut Vec<usize>,
+    states: &mut Vec<usize>,
+    bads: &mut Vec<usize>,
+    constraints: &mut Vec<usize>,
+    inits: &mut IndexMap<u64, u64>,
+    nexts: &mut IndexMap<u64, u64>,
+) -> Result<(), PushFault>
+    ensures fault { IfErr result (λ fault. fault ≡ PushFault.NoMemory) }
+    ensures inputs { inputs.new.items ≡ with_place (is_ok result && is_input body.now) place inputs.old.items }
+    ensures states { states.new.items ≡ with_place (is_ok result && is_state body.now) place states.old.items }
+    ensures bads { bads.new.items ≡ with_place (is_ok result && is_bad body.now) place bads.old.items }
+    ensures constraints { constraints.new.items ≡ with_place (is_ok result && is_constraint body.now) place constraints.old.items }
+    ensures inits { OnOk result ((id : ℕ) → get nat_eq inits.new id ≡ option_or (init_for id body.now) (get nat_eq inits.old id)) }
+    ensures nexts { OnOk result ((id : ℕ) → get nat_eq nexts.new id ≡ option_or (next_for id body.now) (get nat_eq nexts.old id)) }
+    ensures inits_kept { OnErr result ((id : ℕ) → get nat_eq inits.new id ≡ get nat_eq inits.old id) }
+    ensures nexts_kept { OnErr result ((id : ℕ) → get nat_eq nexts.new id ≡ get nat_eq nexts.old id) }
+{
+    match body {
+        Body::Input { .. } => add_place(inputs, place),
+        Body::State { .. } => add_place(states, place),
+        Body::Bad { .. } => add_place(bads, place),
+        Body::Constraint { .. } => add_place(constraints, place),
+        Body::Init { state, value, .. } => add_value(inits, *state, *value),
+        Body::Next { state, value, .. } => add_value(nexts, *state, *value),
+        Body::Sort { .. } | Body::Zero { .. } | Body::Unary { .. } | Body::Binary { .. } => Ok(()),
+    }
+}
+
+impl Model {
+    /// Adds an item that no row refuses.
+    fn add(&mut self, item: Item) -> Result<(), PushFault>
+        requires { refusal self.old item ≡ None }
+        ensures { MatchResult result
+            (λ u. self.new ≡ self.old ++ item ∷ [])
+            (λ fault. (fault ≡ PushFault.NoMemory) × (self.new ≡ self.old)) }
+    {
+        if self.items.reserve(1).is_err() {
+            return Err(PushFault::NoMemory);
+        }
+        if self.ids.reserve(1).is_err() {
+            return Err(PushFault::NoMemory);
+        }
+        let place = self.items.len();
+        match note(
+            &item.body,
+            place,
+            &mut self.inputs,
+            &mut self.states,
+            &mut self.bads,
+            &mut self.constraints,
+            &mut self.inits,
+            &mut self.nexts,
+        ) {
+            Ok(()) => {
+                add_id(&mut self.ids, item.id);
+                add_item(&mut self.items, item);
+                Ok(())
+            }
+            Err(fault) => Err(fault),
+        }
+    }
+
+    /// Adds an item at the end.
+    ///
+    /// Errors: the first that applies of `TooManyItems`, `IdOutOfRange`, `IdTaken`, `NoSuchSort`, `NoSuchNode`,
+    /// `NotAState`, `WidthOutOfRange`, `SortMismatch`, `InitNotConstant`, `SecondInit` and `SecondNext`, as said at
+    /// each; else `NoMemory` where a growth was refused. The model is unchanged then.
+    pub fn push(&mut self, item: Item) -> Result<(), PushFault>
+        ensures answer { AnswersRefusal result (refusal self.old item) }
+        ensures ok { OnOk result (self.new ≡ self.old ++ item ∷ []) }
+        ensures err { OnErr result (self.new ≡ self.old) }
+    {
+        match self.refusal(&item) {
+            Some(fault) => Err(fault),
+            None => self.add(item),
+        }
+    }
+}

@@ -1,0 +1,201 @@
+-- What is read stands for the text, and a text that stands for a model is read as it.
+use Rattle.std.proofs.Common.{◌≡◌, ℕ, ◌+◌, Bool, true, false, ◌||◌, ◌==◌, cond, List, [], ◌∷◌, ◌++◌, map, Option, Some, None, Result, Ok, Err, All, refl, sym, ap, subst, ◌∙◌, inl, inr, ◌⊎◌, append_assoc}
+use Rattle.std.specs.List.{list_any, AllByRecursion}
+use Rattle.std.proofs.lemmas.Bool.{cases_Bool, eqb-true, or_parts, or_left, or_right, or_from, both_ways}
+use Rattle.std.proofs.lemmas.List.{append-nil}
+use Rattle.std.proofs.lemmas.List.Elements.{All-from_recursion, recursion_from_All}
+use Rattle.btor2.specs.declared.item.Item.{Item}
+use Rattle.btor2.specs.declared.fault.PushFault.{PushFault}
+use Rattle.btor2.specs.Check.{refusal, IsWellFormedAfter}
+use Rattle.btor2text.specs.declared.fault.Why.{Why}
+use Rattle.btor2text.specs.declared.fault.ReadFault.{ReadFault}
+use Rattle.btor2text.specs.Lines.{IsLine, tokens, text_of_lines, onto_first, whole_lines, unfinished}
+use Rattle.btor2text.specs.Spelling.{Spells, SpellsAll, StandsFor}
+use Rattle.btor2text.specs.Reading.{◌>>=◌, Tokens, item_at, accepted, line_after, then_lines, line_on, lines_on, text_on}
+use Rattle.btor2text.proofs.BoundLemmas.{IdsFit, accepted_fits, accepted_id, fits_more}
+use Rattle.btor2text.proofs.ItemLemmas.{bind_ok, item_takes, item_again}
+use Rattle.btor2text.proofs.TextLemmas.{whole_lines-line, unfinished-line, whole_lines-last}
+
+-- ---- one line
+
+-- what a line that was read adds
+abbrev pub AddsLine : List Item → Tokens → List Item → Type 0
+AddsLine before line items = ((line ≡ []) × (items ≡ before)) ⊎ ((x : Item) × ((Spells line x × (refusal before x ≡ None)) × (items ≡ before ++ x ∷ [])))
+
+accepted_is : (before : List Item) (x : Item) (r : Option PushFault) (items : List Item) → accepted before x r ≡ Ok items → (r ≡ None) × (items ≡ before ++ x ∷ [])
+accepted_is before x None items e = (refl, cc)
+accepted_is before x (Some f) items e = absurd cc
+
+pub line_takes : (before : List Item) (line : Tokens) (items : List Item) → IdsFit before → line_on before line ≡ Ok items → AddsLine before line items
+unfolding line_on
+line_takes before [] items fit e = inl (refl, cc)
+line_takes before (first ∷ rest) items fit e =
+    let x = bind_ok (item_at first rest) (λ x. accepted before x (refusal before x)) items e in
+    let is = accepted_is before x.0 (refusal before x.0) items x.2 in
+    inr (x.0, ((item_takes first rest x.0 x.1 (accepted_fits before x.0 fit is.0), is.0), is.1))
+
+line_again : (before : List Item) (first : List ℕ) (rest : Tokens) (x : Item) → IdsFit before → Spells (first ∷ rest) x → refusal before x ≡ None → line_on before (first ∷ rest) ≡ Ok (before ++ x ∷ [])
+unfolding line_on
+line_again before first rest x fit spelled none =
+    rw (item_again first rest x spelled (fits_more x (accepted_fits before x fit none)), none) refl
+
+-- ---- lines
+
+no_tokens : (t : List ℕ) (ts : Tokens) → [] ≡ t ∷ ts → ⊥
+no_tokens t ts e = cc
+
+pub spells_line : (line : Tokens) (lines : List Tokens) (x : Item) (xs : List Item) → Spells line x → SpellsAll lines xs → SpellsAll (line ∷ lines) (x ∷ xs)
+spells_line [] lines x xs one others = absurd (no_tokens _ _ one.tokens)
+spells_line (token ∷ line) lines x xs one others = (one, others)
+
+-- what lines that were read add
+record Adds (before : List Item) (lines : List Tokens) (last : List ℕ) (items : List Item) : Type 0 where
+  added : List Item
+  whole : items ≡ before ++ added
+  spelled : SpellsAll lines added
+  well_formed : IsWellFormedAfter before added
+  ended : last ≡ []
+
+adds_line : (before mid items : List Item) (line : Tokens) (lines : List Tokens) (last : List ℕ) → AddsLine before line mid → Adds mid lines last items → Adds before (line ∷ lines) last items
+adds_line before mid items line lines last (inl h) others =
+    let whole : items ≡ before ++ others.added = others.whole ∙ ap (λ (m : List Item). m ++ others.added) h.1 in
+    let well : IsWellFormedAfter before others.added = rw h.1 at others.well_formed in
+    rw h.0 (record { added = others.added; whole = whole; spelled = others.spelled; well_formed = well; ended = others.ended })
+adds_line before mid items line lines last (inr h) others =
+    let well : IsWellFormedAfter (before ++ h.0 ∷ []) others.added = rw h.1.1 at others.well_formed in
+    record {
+      added = h.0 ∷ others.added;
+      whole = others.whole ∙ (ap (λ (m : List Item). m ++ others.added) h.1.1 ∙ append_assoc before (h.0 ∷ []) others.added);
+      spelled = spells_line line lines h.0 others.added h.1.0.0 others.spelled;
+      well_formed = (h.1.0.1, well);
+      ended = others.ended;
+    }
+
+pub fit_after : (before mid : List Item) (line : Tokens) → IdsFit before → AddsLine before line mid → IdsFit mid
+fit_after before mid line fit (inl h) = rw h.1 fit
+fit_after before mid line fit (inr h) = rw h.1.1 (accepted_id before h.0 fit h.1.0.1)
+
+then_adds : (n : ℕ) (before items : List Item) (line : Tokens) (lines : List Tokens) (last : List ℕ) (others : List Item → Result (List Item) ReadFault) (r : Result (List Item) Why)
+    → IdsFit before → ((mid : List Item) → IdsFit mid → others mid ≡ Ok items → Adds mid lines last items)
+    → line_on before line ≡ r → then_lines n r others ≡ Ok items → Adds before (line ∷ lines) last items
+then_adds n before items line lines last others (Ok mid) fit rest is e =
+    let adds = line_takes before line mid fit is in
+    adds_line before mid items line lines last adds (rest mid (fit_after before mid line fit adds) e)
+then_adds n before items line lines last others (Err w) fit rest is e = absurd cc
+
+abbrev done : List Item → Result (List Item) ReadFault
+done items = Ok items
+
+ok_items : (a b : List Item) → done a ≡ done b → a ≡ b
+ok_items a b e = cc
+
+lines_take : (n : ℕ) (before : List Item) (lines : List (List ℕ)) (last : List ℕ) (items : List Item) → IdsFit before → lines_on n before lines last ≡ Ok items → Adds before (map tokens lines) last items
+unfolding lines_on
+lines_take n before [] [] items fit e = record { added = []; whole = ok_items items before (sym e) ∙ sym (append-nil before); spelled = tt; well_formed = tt; ended = refl }
+lines_take n before [] (b ∷ bs) items fit e = absurd cc
+lines_take n before (line ∷ lines) last items fit e =
+    then_adds (line_after n) before items (tokens line) (map tokens lines) last (λ mid. lines_on (line_after n) mid lines last) (line_on before (tokens line)) fit (λ mid fits read. lines_take (line_after n) mid lines last items fits read) refl e
+
+-- a line that spells an item, or has no token, and the lines behind it
+empty_again : (n : ℕ) (before items : List Item) (others : List Item → Result (List Item) ReadFault) → others before ≡ Ok (before ++ items) → then_lines n (line_on before []) others ≡ Ok (before ++ items)
+unfolding line_on
+empty_again n before items others e = e
+
+then_again : (n : ℕ) (before items : List Item) (line : Tokens) (lines : List Tokens) (others : List Item → Result (List Item) ReadFault)
+    → IdsFit before → SpellsAll (line ∷ lines) items → IsWellFormedAfter before items
+    → ((mid xs : List Item) → IdsFit mid → SpellsAll lines xs → IsWellFormedAfter mid xs → others mid ≡ Ok (mid ++ xs))
+    → then_lines n (line_on before line) others ≡ Ok (before ++ items)
+then_again n before items [] lines others fit spelled well rest = empty_again n before items others (rest before items fit spelled well)
+then_again n before [] (token ∷ line) lines others fit spelled well rest = absurd spelled
+then_again n before (x ∷ xs) (token ∷ line) lines others fit spelled well rest =
+    let one = line_again before token line x fit spelled.0 well.0 in
+    let more = rest (before ++ x ∷ []) xs (accepted_id before x fit well.0) spelled.1 well.1 in
+    ap (λ r. then_lines n r others) one ∙ (more ∙ ap (λ (all : List Item). Ok all) (append_assoc before (x ∷ []) xs))
+
+lines_again : (n : ℕ) (before : List Item) (lines : List (List ℕ)) (items : List Item) → IdsFit before → SpellsAll (map tokens lines) items → IsWellFormedAfter before items → lines_on n before lines [] ≡ Ok (before ++ items)
+unfolding lines_on
+lines_again n before [] [] fit spelled well = ap (λ (all : List Item). Ok all) (sym (append-nil before))
+lines_again n before [] (x ∷ xs) fit spelled well = absurd spelled
+lines_again n before (line ∷ lines) items fit spelled well =
+    then_again (line_after n) before items (tokens line) (map tokens lines) (λ mid. lines_on (line_after n) mid lines []) fit spelled well (λ mid xs fits others wells. lines_again (line_after n) mid lines xs fits others wells)
+
+-- ---- a text and its lines
+
+-- no line has a byte 10
+abbrev pub EachLine : List (List ℕ) → Type 0
+EachLine lines = AllByRecursion IsLine lines
+
+each_onto_first : (b : ℕ) (lines : List (List ℕ)) → (b == 10) ≡ false → EachLine lines → EachLine (onto_first b lines)
+each_onto_first b [] not each = tt
+each_onto_first b (line ∷ lines) not each = (or_from (b == 10) (list_any (λ c. c == 10) line) not each.0, each.1)
+
+pub lines_are_lines : (text : List ℕ) → EachLine (whole_lines text)
+lines_are_lines [] = tt
+lines_are_lines (b ∷ bs) =
+    elim (cases_Bool (b == 10)) [
+      | inl h ↦ rw h (refl, lines_are_lines bs)
+      | inr h ↦ rw h (each_onto_first b (whole_lines bs) h (lines_are_lines bs))
+    ]
+
+-- a text is its whole lines and what follows them
+front_line : (b : ℕ) (lines : List (List ℕ)) (rest bs : List ℕ) → (some : (line : List ℕ) × ((others : List (List ℕ)) × (lines ≡ line ∷ others))) → text_of_lines lines ++ rest ≡ bs → text_of_lines (onto_first b lines) ++ rest ≡ b ∷ bs
+front_line b [] rest bs some e = absurd cc
+front_line b (line ∷ lines) rest bs some e = ap (λ (t : List ℕ). b ∷ t) e
+
+some_line : (bs : List ℕ) → list_any (λ c. c == 10) bs ≡ true → (line : List ℕ) × ((others : List (List ℕ)) × (whole_lines bs ≡ line ∷ others))
+some_line [] h = absurd cc
+some_line (b ∷ bs) h =
+    elim (cases_Bool (b == 10)) [
+      | inl ten ↦ rw ten ([], (whole_lines bs, refl))
+      | inr not ↦
+          let rest : list_any (λ c. c == 10) bs ≡ true = rw not at h in
+          let found = some_line bs rest in
+          rw (not, found.1.1) (b ∷ found.0, (found.1.0, refl))
+    ]
+
+pub parts_of_text : (text : List ℕ) → text_of_lines (whole_lines text) ++ unfinished text ≡ text
+parts_of_text [] = refl
+parts_of_text (b ∷ bs) =
+    elim (cases_Bool (b == 10)) [
+      | inl ten ↦
+          let is : b ≡ 10 = eqb-true b 10 ten in
+          rw ten (ap (λ (t : List ℕ). 10 ∷ t) (parts_of_text bs) ∙ ap (λ (c : ℕ). c ∷ bs) (sym is))
+      | inr not ↦
+          elim (cases_Bool (list_any (λ c. c == 10) bs)) [
+            | inl more ↦ rw (not, more) (front_line b (whole_lines bs) (unfinished bs) bs (some_line bs more) (parts_of_text bs))
+            | inr none ↦ rw (not, none, whole_lines-last bs none) refl
+          ]
+    ]
+
+-- lines that a text is made of are its whole lines
+module _ where
+  lines_of_text : (lines : List (List ℕ)) → EachLine lines → whole_lines (text_of_lines lines) ≡ lines
+  lines_of_text [] each = refl
+  lines_of_text (line ∷ lines) each =
+      ap whole_lines (append_assoc line (10 ∷ []) (text_of_lines lines)) ∙ (whole_lines-line line (text_of_lines lines) each.0 ∙ ap (λ (others : List (List ℕ)). line ∷ others) (lines_of_text lines each.1))
+
+  unfinished_of_text : (lines : List (List ℕ)) → unfinished (text_of_lines lines) ≡ []
+  unfinished_of_text [] = refl
+  unfinished_of_text (line ∷ lines) =
+      ap unfinished (append_assoc line (10 ∷ []) (text_of_lines lines)) ∙ (unfinished-line line (text_of_lines lines) ∙ unfinished_of_text lines)
+
+-- what is read stands for the text
+pub read_stands : (text : List ℕ) (items : List Item) → text_on text ≡ Ok items → StandsFor text items
+unfolding text_on
+read_stands text items e =
+    let adds = lines_take 0 [] (whole_lines text) (unfinished text) items tt e in
+    let parts : text_of_lines (whole_lines text) ≡ text = sym (append-nil (text_of_lines (whole_lines text))) ∙ (ap (λ (last : List ℕ). text_of_lines (whole_lines text) ++ last) (sym adds.ended) ∙ parts_of_text text) in
+    rw adds.whole (record {
+      lines = whole_lines text;
+      whole = sym parts;
+      each = All-from_recursion IsLine (whole_lines text) (lines_are_lines text);
+      spelled = adds.spelled;
+      well_formed = adds.well_formed;
+    })
+
+-- a text that stands for a model is read as it
+pub stands_read : (text : List ℕ) (items : List Item) → StandsFor text items → text_on text ≡ Ok items
+unfolding text_on
+stands_read text items s =
+    let each = recursion_from_All IsLine s.lines s.each in
+    rw (s.whole, lines_of_text s.lines each, unfinished_of_text s.lines) (lines_again 0 [] s.lines items tt s.spelled s.well_formed)

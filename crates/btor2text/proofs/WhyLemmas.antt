@@ -1,0 +1,164 @@
+-- What is wrong with a text is never the device or memory.
+use Rattle.std.proofs.Common.{◌≡◌, ℕ, Bool, true, false, cond, List, [], ◌∷◌, Option, Some, None, Result, Ok, Err}
+use Rattle.std.specs.Str.{bytes_eq}
+use Rattle.std.specs.Prelude.{codes, ◌||◌}
+use Rattle.base.specs.declared.operators.Unary.{Unary}
+use Rattle.base.specs.declared.operators.Binary.{Binary}
+use Rattle.btor2.specs.declared.item.Item.{Item}
+use Rattle.btor2.specs.declared.fault.PushFault.{PushFault}
+use Rattle.btor2.specs.Symbols.{is_symbol}
+use Rattle.btor2.specs.Check.{refusal}
+use Rattle.btor2text.specs.declared.fault.Why.{Why}
+use Rattle.btor2text.specs.declared.fault.Why.TheVariants as why
+use Rattle.btor2text.specs.declared.fault.ReadFault.{ReadFault}
+use Rattle.btor2text.specs.declared.forms.Form.{Form}
+use Rattle.btor2text.specs.declared.forms.Form.TheVariants as form
+use Rattle.btor2text.specs.Lines.{tokens, whole_lines, unfinished}
+use Rattle.btor2text.specs.Reading.{◌>>=◌, Tokens, number_of, is_negative, plain_of, operand_of, plain, operand, plain_at, operand_at, width_at, pair_at, triple_at, unary_of, binary_of, other_form_of, no_form, any_form, unary_form, binary_form, form_of, form_at, body_at, symbol_end, symbol_at, item_at, accepted, line_after, then_lines, line_on, lines_on, text_on}
+
+-- a why of a text
+abbrev pub IsOfText : Why → Type 0
+IsOfText why.Device = ⊥
+IsOfText why.NoMemory = ⊥
+IsOfText w = Unit {0}
+
+-- a step that answers only such whys
+abbrev Told : {A : Type 0} → Result A Why → Type 0
+Told (Ok x) = Unit {0}
+Told (Err w) = IsOfText w
+
+told_bind : {A B : Type 0} (r : Result A Why) (f : A → Result B Why) → Told r → ((x : A) → Told (f x)) → Told (r >>= f)
+told_bind (Ok x) f h k = k x
+told_bind (Err w) f h k = h
+
+told_if : {A : Type 0} (b : Bool) (r s : Result A Why) → Told r → Told s → Told (cond b r s)
+told_if true r s h k = h
+told_if false r s h k = k
+
+plain_of_told : (o : Option ℕ) → Told (plain_of o)
+plain_of_told (Some n) = tt
+plain_of_told None = tt
+
+operand_of_told : (negative : Bool) (o : Option ℕ) → Told (operand_of negative o)
+operand_of_told negative (Some n) = tt
+operand_of_told true None = tt
+operand_of_told false None = tt
+
+plain_told : (token : List ℕ) → Told (plain token)
+unfolding plain
+plain_told token = plain_of_told (number_of token)
+
+operand_told : (token : List ℕ) → Told (operand token)
+unfolding operand
+operand_told token = operand_of_told (is_negative token) (number_of token)
+
+plain_at_told : (tokens : Tokens) → Told (plain_at tokens)
+unfolding plain_at
+plain_at_told [] = tt
+plain_at_told (token ∷ rest) = told_bind (plain token) (λ n. Ok (n, rest)) (plain_told token) (λ _. tt)
+
+operand_at_told : (tokens : Tokens) → Told (operand_at tokens)
+unfolding operand_at
+operand_at_told [] = tt
+operand_at_told (token ∷ rest) = told_bind (operand token) (λ n. Ok (n, rest)) (operand_told token) (λ _. tt)
+
+width_at_told : (tokens : Tokens) → Told (width_at tokens)
+unfolding width_at
+width_at_told [] = tt
+width_at_told (token ∷ rest) = told_if (bytes_eq token (codes "bitvec")) (plain_at rest) (cond (bytes_eq token (codes "array")) (Err why.ArraySort) (Err why.BadToken)) (plain_at_told rest) (told_if (bytes_eq token (codes "array")) (Err why.ArraySort) (Err why.BadToken) tt tt)
+
+pair_at_told : (tokens : Tokens) → Told (pair_at tokens)
+unfolding pair_at
+pair_at_told tokens = told_bind (plain_at tokens) _ (plain_at_told tokens) (λ s. told_bind (operand_at s.1) (λ a. Ok (s.0, a.0, a.1)) (operand_at_told s.1) (λ _. tt))
+
+triple_at_told : (tokens : Tokens) → Told (triple_at tokens)
+unfolding triple_at
+triple_at_told tokens =
+    told_bind (plain_at tokens) (λ s. operand_at s.1 >>= λ a. operand_at a.1 >>= λ b. Ok (s.0, a.0, b.0, b.1)) (plain_at_told tokens) (λ s.
+    told_bind (operand_at s.1) (λ a. operand_at a.1 >>= λ b. Ok (s.0, a.0, b.0, b.1)) (operand_at_told s.1) (λ a.
+    told_bind (operand_at a.1) (λ b. Ok (s.0, a.0, b.0, b.1)) (operand_at_told a.1) (λ _. tt)))
+
+no_form_told : (word : List ℕ) → IsOfText (no_form word)
+unfolding no_form
+no_form_told word = elim (bytes_eq word (codes "read") || bytes_eq word (codes "write")) as (λ b. IsOfText (cond b why.ArrayOperator why.UnknownOperator)) [ true ↦ tt | false ↦ tt ]
+
+binary_form_told : (word : List ℕ) (o : Option Binary) → Told (binary_form word o)
+binary_form_told word (Some op) = tt
+binary_form_told word None = no_form_told word
+
+unary_form_told : (word : List ℕ) (o : Option Unary) → Told (unary_form word o)
+unary_form_told word (Some op) = tt
+unary_form_told word None = binary_form_told word (binary_of word)
+
+any_form_told : (word : List ℕ) (o : Option Form) → Told (any_form word o)
+any_form_told word (Some f) = tt
+any_form_told word None = unary_form_told word (unary_of word)
+
+form_told : (word : List ℕ) → Told (form_of word)
+unfolding form_of
+form_told word = any_form_told word (other_form_of word)
+
+form_at_told : (tokens : Tokens) → Told (form_at tokens)
+unfolding form_at
+form_at_told [] = tt
+form_at_told (word ∷ rest) = told_bind (form_of word) (λ f. Ok (f, rest)) (form_told word) (λ _. tt)
+
+body_at_told : (f : Form) (tokens : Tokens) → Told (body_at f tokens)
+unfolding body_at
+body_at_told form.Sort tokens = told_bind (width_at tokens) _ (width_at_told tokens) (λ _. tt)
+body_at_told form.Input tokens = told_bind (plain_at tokens) _ (plain_at_told tokens) (λ _. tt)
+body_at_told form.State tokens = told_bind (plain_at tokens) _ (plain_at_told tokens) (λ _. tt)
+body_at_told form.Zero tokens = told_bind (plain_at tokens) _ (plain_at_told tokens) (λ _. tt)
+body_at_told (form.Unary op) tokens = told_bind (pair_at tokens) _ (pair_at_told tokens) (λ _. tt)
+body_at_told (form.Binary op) tokens = told_bind (triple_at tokens) _ (triple_at_told tokens) (λ _. tt)
+body_at_told form.Init tokens = told_bind (triple_at tokens) _ (triple_at_told tokens) (λ _. tt)
+body_at_told form.Next tokens = told_bind (triple_at tokens) _ (triple_at_told tokens) (λ _. tt)
+body_at_told form.Bad tokens = told_bind (operand_at tokens) _ (operand_at_told tokens) (λ _. tt)
+body_at_told form.Constraint tokens = told_bind (operand_at tokens) _ (operand_at_told tokens) (λ _. tt)
+
+symbol_end_told : (symbol : List ℕ) (rest : Tokens) → Told (symbol_end symbol rest)
+symbol_end_told symbol [] = tt
+symbol_end_told symbol (token ∷ rest) = tt
+
+symbol_at_told : (tokens : Tokens) → Told (symbol_at tokens)
+unfolding symbol_at
+symbol_at_told [] = tt
+symbol_at_told (token ∷ rest) = told_if (is_symbol token) (symbol_end token rest) (Err why.BadSymbol) (symbol_end_told token rest) tt
+
+item_at_told : (first : List ℕ) (rest : Tokens) → Told (item_at first rest)
+unfolding item_at
+item_at_told first rest =
+    told_bind (plain first) _ (plain_told first) (λ id.
+    told_bind (form_at rest) _ (form_at_told rest) (λ f.
+    told_bind (body_at f.0 f.1) _ (body_at_told f.0 f.1) (λ b.
+    told_bind (symbol_at b.1) _ (symbol_at_told b.1) (λ _. tt))))
+
+accepted_told : (before : List Item) (x : Item) (r : Option PushFault) → Told (accepted before x r)
+accepted_told before x None = tt
+accepted_told before x (Some f) = tt
+
+line_on_told : (before : List Item) (line : Tokens) → Told (line_on before line)
+unfolding line_on
+line_on_told before [] = tt
+line_on_told before (first ∷ rest) = told_bind (item_at first rest) _ (item_at_told first rest) (λ x. accepted_told before x (refusal before x))
+
+-- ---- texts
+
+abbrev pub TextTold : Result (List Item) ReadFault → Type 0
+TextTold (Ok items) = Unit {0}
+TextTold (Err e) = IsOfText e.why
+
+then_told : (n : ℕ) (r : Result (List Item) Why) (others : List Item → Result (List Item) ReadFault) → Told r → ((mid : List Item) → TextTold (others mid)) → TextTold (then_lines n r others)
+then_told n (Ok mid) others h k = k mid
+then_told n (Err w) others h k = h
+
+lines_told : (n : ℕ) (before : List Item) (lines : List (List ℕ)) (last : List ℕ) → TextTold (lines_on n before lines last)
+unfolding lines_on
+lines_told n before [] [] = tt
+lines_told n before [] (b ∷ bs) = tt
+lines_told n before (line ∷ lines) last =
+    then_told (line_after n) (line_on before (tokens line)) _ (line_on_told before (tokens line)) (λ mid. lines_told (line_after n) mid lines last)
+
+pub text_told : (text : List ℕ) → TextTold (text_on text)
+unfolding text_on
+text_told text = lines_told 0 [] (whole_lines text) (unfinished text)

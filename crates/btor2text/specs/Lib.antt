@@ -1,0 +1,5 @@
+pub mod FirstFault
+pub mod Lines
+pub mod Reading
+pub mod Spelling
+pub mod Whys

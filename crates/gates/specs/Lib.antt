@@ -1,0 +1,3 @@
+pub mod Bound
+pub mod Made
+pub mod Faults

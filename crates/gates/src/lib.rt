@@ -1,0 +1,17 @@
+//! Gate makers, and the circuits of the word operators over any of them.
+#![tactic(auto)]
+
+mod bound;
+mod builders;
+mod fault;
+mod maker;
+mod plain;
+
+pub use bound::{Op, gate_bound};
+pub use builders::{binary_bits, unary_bits};
+pub use fault::GateFault;
+pub use maker::{Bits, Gates};
+pub use plain::PlainGates;
+
+#[cfg(test)]
+mod tests;

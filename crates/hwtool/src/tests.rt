@@ -1,0 +1,286 @@
+//! The rows of the first path, through the two public calls.
+
+use crate::files::NoFile;
+use crate::orders::Stop;
+use crate::running::run;
+use crate::words::order;
+use aiger::{Circuit, Lit, Reset};
+use base::{DeviceFault, Sink, Source, VecSink};
+use std::alloc::Global;
+use std::process::Abort;
+use std::test::Fail;
+
+const TOGGLER: &str =
+    "1 sort bitvec 1\n2 zero 1\n3 state 1 t\n4 init 1 3 2\n5 not 1 3\n6 next 1 3 5\n7 bad 3\n";
+
+const FREE: &str = "1 sort bitvec 1\n2 state 1 t\n3 next 1 2 2\n4 bad 2\n";
+
+/// What `lower` of a text answers and writes: status, standard output, standard error.
+fn lowered(alloc: Global, text: &str) -> Result<(u8, Vec<u8>, Vec<u8>), Fail> {
+    let words = ["lower", "model"];
+    match order(alloc, words.as_slice()) {
+        Ok(order) => {
+            let mut first = text.as_bytes();
+            let mut out = VecSink::new(alloc);
+            let mut err = VecSink::new(alloc);
+            let status = run(
+                alloc,
+                &order,
+                &mut first,
+                &mut NoFile::new(),
+                &mut out,
+                &mut err,
+            );
+            let written = Vec::from_slice(alloc, out.bytes())?;
+            let told = Vec::from_slice(alloc, err.bytes())?;
+            Ok((status, written, told))
+        }
+        Err(_) => Err("refused words")?,
+    }
+}
+
+#[test]
+fn circuits(rt: HostRuntime) -> Result<(), Fail> {
+    let rows = [
+        (TOGGLER, "aag 1 0 1 0 0 1\n2 3\n2\nl0 t[0]\n"),
+        (FREE, "aag 1 0 1 0 0 1\n2 2 2\n2\nl0 t[0]\n"),
+        ("", "aag 0 0 0 0 0\n"),
+        ("; nothing\n\n", "aag 0 0 0 0 0\n"),
+        (
+            "1 sort bitvec 2\n2 input 1 x\n3 not 1 2\n4 state 1 s\n5 next 1 4 3\n",
+            "aag 4 2 2 0 0\n2\n4\n6 3 6\n8 5 8\ni0 x[0]\ni1 x[1]\nl0 s[0]\nl1 s[1]\n",
+        ),
+        (
+            "1 sort bitvec 1\n2 input 1\n3 bad 2 p\n4 constraint 2 c\n",
+            "aag 1 1 0 0 0 1 1\n2\n2\n2\nb0 p\nc0 c\n",
+        ),
+    ];
+    for (text, wanted) in rows {
+        let (status, written, told) = lowered(rt.alloc(), text)?;
+        assert_eq!(rt; status, 0, "{text}");
+        assert_eq!(rt; written.as_slice(), wanted.as_bytes(), "{text}");
+        assert_eq!(rt; told.len(), 0, "{text}");
+    }
+    Ok(())
+}
+
+#[test]
+fn refusals(rt: HostRuntime) -> Result<(), Fail> {
+    let rows = [
+        ("1 sort bitvec 1\n2 state 1\n", "model: item 2: 92 NoNext\n"),
+        (
+            "1 sort bitvec 1\n2 state 1\n3 state 1\n4 next 1 2 2\n",
+            "model: item 3: 92 NoNext\n",
+        ),
+        (
+            "1 sort bitvec 1\n2 add 1 1 1\n",
+            "model: line 2: 23 UnknownOperator\n",
+        ),
+        (
+            "1 sort bitvec 1\n2 sort array 1 1\n",
+            "model: line 2: 21 ArraySort\n",
+        ),
+        (
+            "1 sort bitvec 1\n2 read 1 1 1\n",
+            "model: line 2: 22 ArrayOperator\n",
+        ),
+        (
+            "1 sort bitvec 1\n2 input 1\n3 not 1 -2\n",
+            "model: line 3: 24 NegativeOperand\n",
+        ),
+        ("1 sort bitvec 65\n", "model: line 1: 5 WidthOutOfRange\n"),
+        (
+            "1 sort bitvec 1\n2 input 1",
+            "model: line 2: 28 Unfinished\n",
+        ),
+        (
+            "1 sort bitvec 1\n2 input 1 a b\n",
+            "model: line 2: 20 BadToken\n",
+        ),
+        (
+            "1 sort bitvec 1\n2 input 1 \u{e9}\n",
+            "model: line 2: 26 BadSymbol\n",
+        ),
+        (
+            "1 sort bitvec 1\n0 input 1\n",
+            "model: line 2: 2 IdOutOfRange\n",
+        ),
+        ("1 sort bitvec 1\n1 input 1\n", "model: line 2: 1 IdTaken\n"),
+        (
+            "1 sort bitvec 1\n2 input 9\n",
+            "model: line 2: 3 NoSuchSort\n",
+        ),
+        (
+            "1 sort bitvec 1\n2 not 1 1\n",
+            "model: line 2: 4 NoSuchNode\n",
+        ),
+        (
+            "1 sort bitvec 4\n2 input 1\n3 bad 2\n",
+            "model: line 3: 6 SortMismatch\n",
+        ),
+    ];
+    for (text, wanted) in rows {
+        let (status, written, told) = lowered(rt.alloc(), text)?;
+        assert_eq!(rt; status, 2, "{text}");
+        assert_eq!(rt; told.as_slice(), wanted.as_bytes(), "{text}");
+        assert_eq!(rt; written.len(), 0, "{text}");
+    }
+    Ok(())
+}
+
+/// Whether a literal is true where these variables are, in the order of their numbers from 1.
+fn is_true(lit: Lit, values: &[bool]) -> Option<bool> {
+    let number = lit.number();
+    if number < 2 {
+        return Some(number == 1);
+    }
+    let value = values.get((number / 2 - 1) as usize)?;
+    Some(*value != (number % 2 == 1))
+}
+
+/// The bits that the latches of a circuit have next, from bits of its inputs and latches.
+fn next_bits(alloc: Global, circuit: &Circuit, leaves: &[bool]) -> Result<Vec<bool>, Fail> {
+    let mut values = Vec::from_slice(alloc, leaves)?;
+    for gate in circuit.gates() {
+        let left = is_true(gate.rhs0, values.as_slice()).ok_or("an operand")?;
+        let right = is_true(gate.rhs1, values.as_slice()).ok_or("an operand")?;
+        values.push(left && right)?;
+    }
+    let mut next = Vec::new(alloc);
+    for latch in circuit.latches() {
+        next.push(is_true(latch.next, values.as_slice()).ok_or("a next literal")?)?;
+    }
+    Ok(next)
+}
+
+#[test]
+fn and_of_an_input_and_a_state(rt: HostRuntime) -> Result<(), Fail> {
+    let text = "1 sort bitvec 2\n2 input 1 x\n3 state 1 s\n4 and 1 2 3\n5 next 1 3 4\n";
+    let mut source = text.as_bytes();
+    let model = btor2text::read(rt.alloc(), &mut source).map_err(|_| "a model")?;
+    let circuit = blast::lower(rt.alloc(), &model).map_err(|_| "a circuit")?;
+    assert_eq!(rt; circuit.inputs(), 2);
+    assert_eq!(rt; circuit.latches().len(), 2);
+    assert!(rt; circuit.gates().len() <= 2);
+    for latch in circuit.latches() {
+        assert_eq!(rt; latch.reset, Reset::Free);
+    }
+    for x in 0..4u8 {
+        for s in 0..4u8 {
+            let leaves = [x & 1 == 1, x & 2 == 2, s & 1 == 1, s & 2 == 2];
+            let next = next_bits(rt.alloc(), &circuit, leaves.as_slice())?;
+            let wanted = [x & s & 1 == 1, x & s & 2 == 2];
+            assert_eq!(rt; next.as_slice(), wanted.as_slice(), "{x} {s}");
+        }
+    }
+    Ok(())
+}
+
+/// The status and the text that stand in place of an order.
+fn stopped(alloc: Global, words: &[&str]) -> Option<Stop> {
+    match order(alloc, words) {
+        Ok(_) => None,
+        Err(stop) => Some(stop),
+    }
+}
+
+#[test]
+fn words(rt: HostRuntime) -> Result<(), Fail> {
+    let none: [&str; 0] = [];
+    match order(rt.alloc(), none.as_slice()) {
+        Ok(order) => assert_eq!(rt; order.first, "-"),
+        Err(_) => assert!(rt; false),
+    }
+    match order(rt.alloc(), ["lower", "--ascii", "a.btor2"].as_slice()) {
+        Ok(order) => assert_eq!(rt; order.first, "a.btor2"),
+        Err(_) => assert!(rt; false),
+    }
+    let help = stopped(rt.alloc(), ["--help"].as_slice()).ok_or("help")?;
+    assert_eq!(rt; help.status, 0);
+    assert!(rt; help.text.as_str().contains("lower"));
+    let refused: [&[&str]; 4] = [
+        &["frobnicate"],
+        &["lower"],
+        &["lower", "a", "b"],
+        &["lower", "--binary", "a"],
+    ];
+    for words in refused {
+        let stop = stopped(rt.alloc(), words).ok_or("refused words")?;
+        assert_eq!(rt; stop.status, 4);
+        assert!(rt; !stop.text.as_str().is_empty());
+    }
+    Ok(())
+}
+
+/// A sink that takes so many bytes, and then fails.
+struct Full {
+    room: usize,
+    failures: u128,
+}
+
+impl Sink for Full {
+    ghost failures = { λ s. s.failures };
+
+    fn write(&mut self, bytes: &[u8]) -> Result<usize, DeviceFault> {
+        let count = bytes.len().min(self.room);
+        if count == 0 && !bytes.is_empty() {
+            self.failures = self.failures.saturating_add(1);
+            return Err(DeviceFault::Failed);
+        }
+        self.room -= count;
+        Ok(count)
+    }
+}
+
+#[test]
+fn devices(rt: HostRuntime) -> Result<(), Fail> {
+    let words = ["lower", "model"];
+    let order = order(rt.alloc(), words.as_slice()).map_err(|_| "an order")?;
+    // a file that can't be opened
+    let mut out = VecSink::new(rt.alloc());
+    let mut err = VecSink::new(rt.alloc());
+    let status = run(
+        rt.alloc(),
+        &order,
+        &mut NoFile::new(),
+        &mut NoFile::new(),
+        &mut out,
+        &mut err,
+    );
+    assert_eq!(rt; status, 3);
+    assert_eq!(rt; err.bytes(), b"model: device\n".as_slice());
+    assert_eq!(rt; out.bytes().len(), 0);
+    // standard output fails, at once and after some bytes
+    for room in [0, 7] {
+        let mut out = Full { room, failures: 0 };
+        let mut err = VecSink::new(rt.alloc());
+        let mut first = TOGGLER.as_bytes();
+        let status = run(
+            rt.alloc(),
+            &order,
+            &mut first,
+            &mut NoFile::new(),
+            &mut out,
+            &mut err,
+        );
+        assert_eq!(rt; status, 3);
+        assert_eq!(rt; err.bytes(), b"output: device\n".as_slice());
+    }
+    // standard error fails
+    let mut out = VecSink::new(rt.alloc());
+    let mut err = Full {
+        room: 0,
+        failures: 0,
+    };
+    let mut first = "1 sort bitvec 65\n".as_bytes();
+    let status = run(
+        rt.alloc(),
+        &order,
+        &mut first,
+        &mut NoFile::new(),
+        &mut out,
+        &mut err,
+    );
+    assert_eq!(rt; status, 3);
+    Ok(())
+}

@@ -1,0 +1,84 @@
+//! What the words of the command line ask for.
+
+use crate::orders::{Order, STANDARD_INPUT, Stop, Task};
+use aigertext::Form;
+use clap::error::ErrorKind;
+use clap::{Arg, ArgAction, ArgMatches, Command, Error};
+use std::alloc::{AllocError, Global};
+
+/// The commands and their words.
+fn commands<'a>(alloc: Global) -> Result<Command<'a>, AllocError> {
+    let ascii = Arg::new(alloc, "ascii")
+        .long("ascii")
+        .action(ArgAction::SetTrue)
+        .help("Write the ascii form (the default)");
+    let model = Arg::new(alloc, "MODEL")
+        .required(true)
+        .action(ArgAction::Set)
+        .help("The file of a BTOR2 model");
+    let lower = Command::new(alloc, "lower")
+        .about("Lower a BTOR2 model to an AIGER circuit on standard output")
+        .arg(ascii)?
+        .arg(model)?;
+    Command::new(alloc, "hwtool")
+        .about("Word-level BTOR2 models to AIGER circuits. Without any word: lower standard input.")
+        .subcommand_required(true)
+        .subcommand(lower)
+}
+
+/// The order that matches name.
+fn order_of<'a>(matches: &ArgMatches<'a>) -> Option<Order<'a>> {
+    let (_, words) = matches.subcommand()?;
+    Some(Order {
+        task: Task::Lower,
+        form: Form::Ascii,
+        first: words.get_str("MODEL")?,
+    })
+}
+
+/// What is printed for words that are no order.
+fn stop_of(alloc: Global, error: &Error) -> Stop {
+    let status = if error.kind() == ErrorKind::OutOfMemory {
+        3
+    } else if error.use_stderr() {
+        4
+    } else {
+        0
+    };
+    match format!(in alloc; "{error}") {
+        Ok(text) => Stop { status, text },
+        Err(_) => no_memory(alloc),
+    }
+}
+
+/// What is printed where there is no memory: nothing more may be asked for.
+fn no_memory(alloc: Global) -> Stop {
+    Stop {
+        status: 3,
+        text: String::new(alloc),
+    }
+}
+
+/// Reads the words after the program's name. Without any it is `lower` on standard input.
+///
+/// Errors: a `Stop`, with the text of help or of the refused words.
+pub fn order<'a>(alloc: Global, words: &'a [&'a str]) -> Result<Order<'a>, Stop> {
+    if words.is_empty() {
+        return Ok(Order {
+            task: Task::Lower,
+            form: Form::Ascii,
+            first: STANDARD_INPUT,
+        });
+    }
+    let command = match commands(alloc) {
+        Ok(command) => command.no_binary_name(true),
+        Err(_) => return Err(no_memory(alloc)),
+    };
+    match command.try_get_matches_from(words) {
+        Ok(matches) => match order_of(&matches) {
+            Some(order) => Ok(order),
+            None => Err(no_memory(alloc)),
+        },
+        Err(error) => Err(stop_of(alloc, &error)),
+    }
+}
