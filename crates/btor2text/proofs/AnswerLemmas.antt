@@ -6,7 +6,7 @@ use Rattle.btor2text.specs.declared.fault.Why.{Why}
 use Rattle.btor2text.specs.declared.fault.Why.TheVariants as why
 use Rattle.btor2text.specs.declared.fault.ReadFault.{ReadFault}
 use Rattle.btor2text.specs.Spelling.{StandsFor}
-use Rattle.btor2text.specs.Reading.{text_on, fault_at, ReadsText, ReadsAs}
+use Rattle.btor2text.specs.Reading.{text_on, ReadsText, ReadsAs}
 use Rattle.btor2text.specs.FirstFault.{IsFaultOf}
 use Rattle.btor2text.proofs.FaultLemmas.{text_fails}
 use Rattle.btor2text.proofs.StandsLemmas.{read_stands, stands_read}

@@ -1,11 +1,7 @@
 -- Decimals as tokens: what a token that is read as a number is, and that the decimal of a number is read as it.
-use Rattle.std.proofs.Common.{nat_le, ◌==◌, ◌⊎◌, ◌≡◌, ℕ, ◌+◌, ◌-◌, ◌*◌, ◌^◌, ◌<◌, ◌≤◌, min, Bool, true, false, cond, ◌&&◌, List, [], ◌∷◌, Option, Some, None, length, get_or, take, inl, inr, refl, sym, ap, ◌∙◌, arith, rules, decimal}
-use Rattle.std.specs.Int.{IsInRange}
-use Rattle.std.specs.Char.{digit_value}
-use Rattle.std.specs.List.{list_all}
+use Rattle.std.proofs.Common.{nat_le, ◌==◌, ◌⊎◌, ◌≡◌, ℕ, ◌+◌, ◌-◌, ◌*◌, ◌^◌, ◌<◌, ◌≤◌, min, Bool, true, false, cond, ◌&&◌, List, [], ◌∷◌, Some, None, length, get_or, take, inl, inr, refl, sym, arith, decimal}
 use Rattle.std.specs.Str.Parse.{digits_value}
 use Rattle.std.proofs.lemmas.Bool.{cases_Bool, both_ways, leb-true, and_parts, eqb-true, eqb-false, ne_eqb, cases_lt, cases_eq, eq-eqb, le-leb, and_from}
-use Rattle.std.proofs.lemmas.Bool.Decides.{nat_tests}
 use Rattle.std.proofs.lemmas.Str.{digit_value_digit}
 use Rattle.std.proofs.lemmas.Int.Digits.{digits_value_more}
 use Rattle.std.proofs.lemmas.List.{nil_from_length}

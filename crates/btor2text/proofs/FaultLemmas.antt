@@ -1,12 +1,12 @@
 -- A text that gives a fault has it at the first line that has one.
 use Rattle.std.proofs.Common.{◌==◌, ◌≡◌, ◌≢◌, ℕ, ◌+◌, ◌-◌, ◌^◌, min, List, [], ◌∷◌, ◌++◌, length, map, Result, Ok, Err, refl, sym, ap, subst, ◌∙◌, inl, inr, ◌⊎◌, append_assoc, arith}
-use Rattle.std.specs.List.{flat_map, list_any}
+use Rattle.std.specs.List.{list_any}
 use Rattle.std.proofs.lemmas.Bool.{cases_Bool}
 use Rattle.std.proofs.lemmas.List.{append-nil}
 use Rattle.std.proofs.lemmas.List.Concat.{flat_map-append}
 use Rattle.std.proofs.lemmas.List.Elements.{All-from_recursion}
 use Rattle.btor2.specs.declared.item.Item.{Item}
-use Rattle.btor2.specs.Check.{refusal, IsWellFormedAfter}
+use Rattle.btor2.specs.Check.{IsWellFormedAfter}
 use Rattle.btor2text.specs.declared.fault.Why.{Why}
 use Rattle.btor2text.specs.declared.fault.Why.TheVariants as why
 use Rattle.btor2text.specs.declared.fault.ReadFault.{ReadFault}
@@ -14,7 +14,7 @@ use Rattle.btor2text.specs.Lines.{IsLine, tokens, text_of_lines, whole_lines, un
 use Rattle.btor2text.specs.Spelling.{SpellsAll}
 use Rattle.btor2text.specs.Reading.{line_after, fault_at, then_lines, line_on, lines_on, text_on}
 use Rattle.btor2text.specs.FirstFault.{IsUnfinished, BeginsFaulty, IsFaultOf}
-use Rattle.btor2text.proofs.BoundLemmas.{IdsFit, accepted_id}
+use Rattle.btor2text.proofs.BoundLemmas.{IdsFit}
 use Rattle.btor2text.proofs.StandsLemmas.{EachLine, lines_are_lines, parts_of_text, AddsLine, line_takes, fit_after, spells_line}
 
 -- what the first of some lines has

@@ -1,5 +1,5 @@
 -- What a line's tokens are read as is what they spell, and what they spell is read.
-use Rattle.std.proofs.Common.{◌≡◌, ℕ, ◌+◌, ◌-◌, ◌^◌, ◌<◌, Bool, true, false, cond, List, [], ◌∷◌, ◌++◌, Option, Some, None, Result, Ok, Err, codes, decimal, refl, sym, ap, subst, ◌∙◌, inl, inr, ◌⊎◌, arith}
+use Rattle.std.proofs.Common.{◌≡◌, ℕ, ◌-◌, ◌^◌, ◌<◌, Bool, true, false, cond, List, [], ◌∷◌, ◌++◌, Option, Some, None, Result, Ok, Err, codes, decimal, refl, sym, ap, subst, ◌∙◌, inl, inr, ◌⊎◌}
 use Rattle.std.specs.Prelude.{IfSome}
 use Rattle.std.specs.Str.{bytes_eq}
 use Rattle.std.proofs.lemmas.Slice.Eq.{bytes_eq-Decides}
@@ -16,7 +16,7 @@ use Rattle.btor2text.specs.declared.fault.Why.TheVariants as why
 use Rattle.btor2text.specs.declared.forms.Form.{Form}
 use Rattle.btor2text.specs.declared.forms.Form.TheVariants as form
 use Rattle.btor2text.specs.Spelling.{unary_name, binary_name, form_tokens, symbol_tokens, Spells}
-use Rattle.btor2text.specs.Reading.{◌>>=◌, Tokens, number_of, plain_of, operand_of, plain, operand, is_negative, plain_at, operand_at, width_at, pair_at, triple_at, unary_of, binary_of, other_form_of, no_form, any_form, unary_form, binary_form, form_of, form_at, body_at, symbol_end, symbol_at, item_at}
+use Rattle.btor2text.specs.Reading.{◌>>=◌, Tokens, number_of, plain_of, operand_of, plain, operand, is_negative, plain_at, operand_at, width_at, pair_at, triple_at, unary_of, binary_of, other_form_of, any_form, unary_form, binary_form, form_of, form_at, body_at, symbol_end, symbol_at, item_at}
 use Rattle.btor2text.proofs.DecimalLemmas.{number_is_decimal, number_of-decimal}
 
 -- the numbers of an item are below a limit

@@ -1,9 +1,9 @@
 -- The first byte that passes a test cuts a list; which tokens a line's parts have.
-use Rattle.std.proofs.Common.{◌≡◌, ℕ, zero, suc, ◌+◌, ◌<◌, ◌≤◌, Bool, true, false, not, ◌||◌, ◌&&◌, ◌==◌, cond, List, [], ◌∷◌, ◌++◌, Option, Some, None, length, get_or, take, drop, filter, refl, sym, ap, ◌∙◌, inl, inr, ◌⊎◌, arith}
+use Rattle.std.proofs.Common.{◌≡◌, ℕ, zero, suc, ◌+◌, ◌<◌, ◌≤◌, Bool, true, false, List, [], ◌∷◌, ◌++◌, Some, None, length, get_or, take, drop, refl, sym, ap, ◌∙◌, arith}
 use Rattle.std.specs.List.{list_any}
-use Rattle.std.proofs.lemmas.Bool.{false_from_ne_true, true_from_ne_false, or_from, or_parts, and_from, not-true, not_from_false, not_from_true}
+use Rattle.std.proofs.lemmas.Bool.{false_from_ne_true, or_from}
 use Rattle.std.proofs.lemmas.List.{take-append-drop, drop_more, drop-drop}
-use Rattle.bstr.specs.Find.{IsFirstByte, Passes, Nowhere}
+use Rattle.bstr.specs.Find.{IsFirstByte}
 
 -- no byte of a list passes a test that passes nowhere in it
 pub none_passes : (test : ℕ → Bool) (bytes : List ℕ) → ((k : ℕ) → k < length bytes → test (get_or bytes k 0) ≡ true → ⊥) → list_any test bytes ≡ false

@@ -1,7 +1,7 @@
 -- What is read stands for the text, and a text that stands for a model is read as it.
-use Rattle.std.proofs.Common.{◌≡◌, ℕ, ◌+◌, Bool, true, false, ◌||◌, ◌==◌, cond, List, [], ◌∷◌, ◌++◌, map, Option, Some, None, Result, Ok, Err, All, refl, sym, ap, subst, ◌∙◌, inl, inr, ◌⊎◌, append_assoc}
+use Rattle.std.proofs.Common.{◌≡◌, ℕ, true, false, ◌==◌, List, [], ◌∷◌, ◌++◌, map, Option, Some, None, Result, Ok, Err, refl, sym, ap, ◌∙◌, inl, inr, ◌⊎◌, append_assoc}
 use Rattle.std.specs.List.{list_any, AllByRecursion}
-use Rattle.std.proofs.lemmas.Bool.{cases_Bool, eqb-true, or_parts, or_left, or_right, or_from, both_ways}
+use Rattle.std.proofs.lemmas.Bool.{cases_Bool, eqb-true, or_from}
 use Rattle.std.proofs.lemmas.List.{append-nil}
 use Rattle.std.proofs.lemmas.List.Elements.{All-from_recursion, recursion_from_All}
 use Rattle.btor2.specs.declared.item.Item.{Item}
@@ -11,7 +11,7 @@ use Rattle.btor2text.specs.declared.fault.Why.{Why}
 use Rattle.btor2text.specs.declared.fault.ReadFault.{ReadFault}
 use Rattle.btor2text.specs.Lines.{IsLine, tokens, text_of_lines, onto_first, whole_lines, unfinished}
 use Rattle.btor2text.specs.Spelling.{Spells, SpellsAll, StandsFor}
-use Rattle.btor2text.specs.Reading.{◌>>=◌, Tokens, item_at, accepted, line_after, then_lines, line_on, lines_on, text_on}
+use Rattle.btor2text.specs.Reading.{Tokens, item_at, accepted, line_after, then_lines, line_on, lines_on, text_on}
 use Rattle.btor2text.proofs.BoundLemmas.{IdsFit, accepted_fits, accepted_id, fits_more}
 use Rattle.btor2text.proofs.ItemLemmas.{bind_ok, item_takes, item_again}
 use Rattle.btor2text.proofs.TextLemmas.{whole_lines-line, unfinished-line, whole_lines-last}

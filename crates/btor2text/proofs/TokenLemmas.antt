@@ -1,11 +1,11 @@
 -- Which tokens a line has, from its front.
-use Rattle.std.proofs.Common.{◌≡◌, ℕ, zero, suc, ◌+◌, ◌<◌, ◌≤◌, Bool, true, false, not, ◌||◌, ◌&&◌, ◌==◌, cond, List, [], ◌∷◌, ◌++◌, Option, Some, None, length, get_or, take, drop, filter, refl, sym, ap, ◌∙◌, arith}
+use Rattle.std.proofs.Common.{◌≡◌, ℕ, zero, suc, ◌<◌, Bool, true, false, not, ◌||◌, ◌==◌, cond, List, [], ◌∷◌, ◌++◌, length, get_or, take, drop, filter, refl, sym, ap, ◌∙◌, arith}
 use Rattle.std.specs.List.{list_any}
-use Rattle.std.proofs.lemmas.Bool.{or_parts, or_from, not-true, not-false, not_from_true, both_ways, or_left}
+use Rattle.std.proofs.lemmas.Bool.{or_parts, not-true, not-false, both_ways, or_left}
 use Rattle.std.proofs.lemmas.Bool.Decides.{nat_tests}
 use Rattle.std.proofs.lemmas.List.{drop_more, take_all, drop_all}
 use Rattle.bstr.specs.Bytes.{is_in, not_in}
-use Rattle.btor2text.specs.Lines.{is_blank, to_first, pieces, is_some_bytes, opens_comment, before_comment, tokens, begins_blank, begins_token}
+use Rattle.btor2text.specs.Lines.{is_blank, to_first, pieces, is_some_bytes, before_comment, tokens, begins_blank, begins_token}
 
 -- the blanks as a set of bytes
 abbrev pub blanks : List ℕ

@@ -1,5 +1,5 @@
 -- Lines and tokens of a model's text ("Btor2, BtorMC and Boolector 3.0", syntax; which bytes separate tokens and where a comment begins is this project's profile).
-use Rattle.std.specs.Prelude.{◌≡◌, ℕ, Bool, true, false, not, ◌||◌, List, [], ◌∷◌, ◌++◌, ◌==◌, if◌then◌else◌, filter, map, flat_map, All}
+use Rattle.std.specs.Prelude.{◌≡◌, ℕ, Bool, true, false, not, ◌||◌, List, [], ◌∷◌, ◌++◌, ◌==◌, if◌then◌else◌, filter, flat_map}
 use Rattle.std.specs.List.{list_any}
 
 -- the text of lines: behind each a byte 10

@@ -153,12 +153,19 @@ fn next_bits(alloc: Global, circuit: &Circuit, leaves: &[bool]) -> Result<Vec<bo
     Ok(next)
 }
 
+/// The circuit of a text.
+fn circuit_of(alloc: Global, text: &str) -> Option<Circuit> {
+    let mut source = text.as_bytes();
+    match btor2text::read(alloc, &mut source) {
+        Ok(model) => blast::lower(alloc, &model).ok(),
+        Err(_) => None,
+    }
+}
+
 #[test]
 fn and_of_an_input_and_a_state(rt: HostRuntime) -> Result<(), Fail> {
     let text = "1 sort bitvec 2\n2 input 1 x\n3 state 1 s\n4 and 1 2 3\n5 next 1 3 4\n";
-    let mut source = text.as_bytes();
-    let model = btor2text::read(rt.alloc(), &mut source).map_err(|_| "a model")?;
-    let circuit = blast::lower(rt.alloc(), &model).map_err(|_| "a circuit")?;
+    let circuit = circuit_of(rt.alloc(), text).ok_or("a circuit")?;
     assert_eq!(rt; circuit.inputs(), 2);
     assert_eq!(rt; circuit.latches().len(), 2);
     assert!(rt; circuit.gates().len() <= 2);
@@ -213,6 +220,7 @@ fn words(rt: HostRuntime) -> Result<(), Fail> {
 }
 
 /// A sink that takes so many bytes, and then fails.
+#[derive(Drop)]
 struct Full {
     room: usize,
     failures: u128,

@@ -1,6 +1,6 @@
-use Rattle.std.proofs.Common.{◌≡◌, ◌+◌, ◌-◌, ◌≤◌, drop}
+use Rattle.std.proofs.Common.{◌≤◌, drop}
 use Rattle.aiger.specs.Circuit.{names_of}
-use Rattle.aigertext.specs.Ascii.{input_lines, latch_lines, literal_lines, gate_lines, name_lines}
+use Rattle.aigertext.specs.Ascii.{name_lines}
 use Rattle.aigertext.proofs.PieceLemmas.{Put}
 use Rattle.aigertext.proofs.names.put_names.Given as goal
 

@@ -1,6 +1,5 @@
-use Rattle.std.proofs.Common.{◌≡◌, ◌+◌, ◌-◌, ◌≤◌, drop}
-use Rattle.aiger.specs.Circuit.{names_of}
-use Rattle.aigertext.specs.Ascii.{input_lines, latch_lines, literal_lines, gate_lines, name_lines}
+use Rattle.std.proofs.Common.{◌+◌, ◌-◌, ◌≤◌}
+use Rattle.aigertext.specs.Ascii.{input_lines}
 use Rattle.aigertext.proofs.PieceLemmas.{Put}
 use Rattle.aigertext.proofs.sections.put_inputs.Given as goal
 

@@ -1,4 +1,4 @@
-use Rattle.std.proofs.Common.{◌≡◌, ◌++◌, ◌∷◌, get_or}
+use Rattle.std.proofs.Common.{◌≡◌, get_or}
 use Rattle.std.proofs.lemmas.Bool.{eqb-true}
 use Rattle.bstr.specs.Find.{is_byte}
 use Rattle.btor2text.proofs.LineLemmas.{cut_behind, cut_at_first, none_at_all}

@@ -1,4 +1,3 @@
-use Rattle.std.proofs.Common.{sym, ◌∙◌}
 use Rattle.btor2text.proofs.AnswerLemmas.{found, only, fault, device, place}
 use Rattle.btor2text.proofs.reading.read.Goals as goal
 

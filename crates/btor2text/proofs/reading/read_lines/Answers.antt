@@ -1,4 +1,4 @@
-use Rattle.std.proofs.Common.{◌≡◌, true, length, inl, inr, ◌∙◌, sym}
+use Rattle.std.proofs.Common.{◌≡◌, length, inl, inr, ◌∙◌, sym}
 use Rattle.std.proofs.lemmas.Bool.{eqb-true, eqb-false}
 use Rattle.btor2text.proofs.TextLemmas.{fault_of-full, fault_of_cases, goes_on, ends_at, is_done, is_unfinished}
 use Rattle.btor2text.proofs.reading.read_lines.Goals as goal

@@ -1,4 +1,3 @@
-use Rattle.std.proofs.Common.{◌≡◌, ◌++◌, ◌∷◌, sym, ap, ◌∙◌, arith}
 use Rattle.bstr.specs.Bytes.{not_in}
 use Rattle.btor2text.proofs.LineLemmas.{cut_at_first, none_at_all}
 use Rattle.btor2text.proofs.TokenLemmas.{blanks, tokens-drop, all_blanks, begins_blank-drop, is_blank_not}

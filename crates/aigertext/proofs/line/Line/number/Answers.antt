@@ -1,4 +1,4 @@
-use Rattle.std.proofs.Common.{◌<◌, ◌≤◌, ◌^◌, ◌++◌, ℕ, ap, length, decimal, drop, arith, length-append, length-drop}
+use Rattle.std.proofs.Common.{◌<◌, ◌^◌, ℕ, ap, length, arith, length-drop}
 use Rattle.aigertext.proofs.LineLemmas.{decimal_short}
 use Rattle.aigertext.proofs.line.Line.number.Goals as goal
 
