@@ -56,11 +56,12 @@ abbrev pub gate_lines : ℕ → List Gate → List ℕ
 gate_lines first [] = []
 gate_lines first (g ∷ gs) = numbers_line (2 * first ∷ g.rhs0 ∷ g.rhs1 ∷ []) ++ gate_lines (suc first) gs
 
--- a line for each name of a section: the section's letter with the position, a space and the name
+-- the line of a name: the section's letter with the position, a space and the name; nothing where there is no name
 abbrev pub name_line : ℕ → ℕ → Option (List ℕ) → List ℕ
 name_line letter position None = []
 name_line letter position (Some name) = letter ∷ decimal position ++ 32 ∷ name ++ 10 ∷ []
 
+-- a line for each name of a section, the first of which has the given position
 abbrev pub name_lines : ℕ → ℕ → Names → List ℕ
 name_lines letter position [] = []
 name_lines letter position (n ∷ ns) = name_line letter position n ++ name_lines letter (suc position) ns

@@ -15,7 +15,7 @@ half_below : (n x : ℕ) → x < 2 ^ suc n → x / 2 < 2 ^ n
 half_below n x h = omega (arith, two_more n)
 
 -- the number of a bit is at most one
-bit_number_small : (b : Bool) → bit_number b < 2
+pub bit_number_small : (b : Bool) → bit_number b < 2
 bit_number_small true = lit< tt
 bit_number_small false = lit< tt
 

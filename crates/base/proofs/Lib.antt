@@ -1,2 +1,13 @@
 pub mod BitLemmas
 pub mod DeviceLemmas
+pub mod DivisionLemmas
+pub mod ShiftLemmas
+pub mod SignedLemmas
+pub mod WrapLemmas
+pub mod SignedLaws
+pub mod RotationLaws
+pub mod BitwiseLaws
+pub mod ValueLaws
+pub mod DivisionLaws
+pub mod ShiftLaws
+pub mod OverflowLaws

@@ -1,4 +1,6 @@
 pub mod Word
+pub mod Signed
 pub mod Operator
+pub mod Widths
 pub mod Steps
 pub mod Device

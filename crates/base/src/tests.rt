@@ -1,4 +1,5 @@
 use super::*;
+use crate::signed::wrap;
 use std::collections::VecDeque;
 use std::test::Fail;
 
@@ -58,8 +59,6 @@ fn widths_are_1_to_64(rt: HostRuntime) {
 
 #[test]
 fn each_operator_is_a_step(rt: HostRuntime) -> Result<(), Fail> {
-    bits_stand_for_words();
-    worked_words();
     let mut tally = Tally::new();
     let width = Width::new(8).ok_or("8 is a width")?;
     assert_eq!(rt; unary(Unary::Not, width, 200, &mut tally), 55);
@@ -69,6 +68,131 @@ fn each_operator_is_a_step(rt: HostRuntime) -> Result<(), Fail> {
     assert!(rt; gate(true, true, &mut tally) && !gate(true, false, &mut tally));
     assert_eq!(rt; take('x', &mut tally), 'x');
     assert_eq!(rt; tally.steps(), 5);
+    Ok(())
+}
+
+#[test]
+fn words_of_two_operands(rt: HostRuntime) -> Result<(), Fail> {
+    const ONES: u64 = u64::MAX;
+    const TOP: u64 = 1 << 63;
+    let mut tally = Tally::new();
+    for (op, bits, a, b, want) in [
+        (Binary::Udiv, 8, 200, 0, 255),
+        (Binary::Udiv, 8, 200, 7, 28),
+        (Binary::Urem, 8, 200, 0, 200),
+        (Binary::Urem, 8, 200, 7, 4),
+        (Binary::Sdiv, 8, 200, 0, 1),
+        (Binary::Sdiv, 8, 100, 0, 255),
+        (Binary::Srem, 8, 200, 0, 200),
+        (Binary::Smod, 8, 200, 0, 200),
+        (Binary::Sdiv, 8, 128, 255, 128),
+        (Binary::Sdivo, 8, 128, 255, 1),
+        (Binary::Sdivo, 8, 128, 254, 0),
+        (Binary::Sdiv, 1, 1, 1, 1),
+        (Binary::Sdivo, 1, 1, 1, 1),
+        (Binary::Smulo, 1, 1, 1, 1),
+        (Binary::Sdiv, 8, 249, 3, 254),
+        (Binary::Srem, 8, 249, 3, 255),
+        (Binary::Smod, 8, 249, 3, 2),
+        (Binary::Sdiv, 8, 7, 253, 254),
+        (Binary::Srem, 8, 7, 253, 1),
+        (Binary::Smod, 8, 7, 253, 254),
+        (Binary::Srem, 8, 128, 255, 0),
+        (Binary::Ror, 8, 1, 1, 128),
+        (Binary::Ror, 8, 1, 8, 1),
+        (Binary::Rol, 3, 6, 5, 3),
+        (Binary::Sll, 8, 1, 8, 0),
+        (Binary::Sll, 8, 200, 1, 144),
+        (Binary::Srl, 8, 200, 3, 25),
+        (Binary::Srl, 8, 200, 8, 0),
+        (Binary::Sra, 8, 128, 200, 255),
+        (Binary::Sra, 8, 200, 1, 228),
+        (Binary::Sra, 8, 100, 2, 25),
+        (Binary::Uaddo, 8, 255, 1, 1),
+        (Binary::Uaddo, 8, 254, 1, 0),
+        (Binary::Saddo, 8, 127, 1, 1),
+        (Binary::Saddo, 8, 128, 127, 0),
+        (Binary::Usubo, 8, 0, 1, 1),
+        (Binary::Usubo, 8, 1, 1, 0),
+        (Binary::Ssubo, 8, 128, 1, 1),
+        (Binary::Ssubo, 8, 128, 128, 0),
+        (Binary::Umulo, 8, 15, 17, 0),
+        (Binary::Umulo, 8, 16, 16, 1),
+        (Binary::Smulo, 8, 16, 8, 1),
+        (Binary::Smulo, 8, 240, 8, 0),
+        (Binary::Mul, 64, ONES, ONES, 1),
+        (Binary::Umulo, 64, ONES, ONES, 1),
+        (Binary::Smulo, 64, ONES, ONES, 0),
+        (Binary::Sdivo, 64, TOP, ONES, 1),
+        (Binary::Iff, 1, 0, 0, 1),
+        (Binary::Iff, 1, 1, 0, 0),
+        (Binary::Implies, 1, 1, 0, 0),
+        (Binary::Implies, 1, 0, 1, 1),
+        (Binary::Eq, 8, 7, 7, 1),
+        (Binary::Eq, 8, 7, 8, 0),
+        (Binary::Neq, 8, 7, 8, 1),
+        (Binary::Ugt, 8, 200, 100, 1),
+        (Binary::Ugte, 8, 100, 100, 1),
+        (Binary::Ult, 8, 200, 100, 0),
+        (Binary::Ulte, 8, 100, 100, 1),
+        (Binary::Sgt, 8, 200, 100, 0),
+        (Binary::Sgte, 8, 200, 200, 1),
+        (Binary::Slt, 8, 200, 100, 1),
+        (Binary::Slte, 8, 100, 200, 0),
+        (Binary::And, 8, 12, 10, 8),
+        (Binary::Nand, 8, 12, 10, 247),
+        (Binary::Or, 8, 12, 10, 14),
+        (Binary::Nor, 8, 12, 10, 241),
+        (Binary::Xor, 8, 12, 10, 6),
+        (Binary::Xnor, 8, 12, 10, 249),
+        (Binary::Add, 8, 200, 100, 44),
+        (Binary::Sub, 8, 100, 200, 156),
+        (Binary::Mul, 8, 200, 3, 88),
+    ] {
+        let w = Width::new(bits).ok_or("no width")?;
+        assert_eq!(rt;
+            binary(op, w, wrap(w, a), wrap(w, b), &mut tally),
+            want,
+            "{op:?} of {a} and {b} at width {bits}"
+        );
+    }
+    Ok(())
+}
+
+#[test]
+fn words_of_one_operand_and_parts(rt: HostRuntime) -> Result<(), Fail> {
+    let mut tally = Tally::new();
+    let [w3, w4, w8] = [
+        Width::new(3).ok_or("3")?,
+        Width::new(4).ok_or("4")?,
+        Width::new(8).ok_or("8")?,
+    ];
+    for (op, a, want) in [
+        (Unary::Not, 200, 55),
+        (Unary::Inc, 255, 0),
+        (Unary::Dec, 0, 255),
+        (Unary::Neg, 3, 253),
+        (Unary::Neg, 0, 0),
+        (Unary::Redand, 255, 1),
+        (Unary::Redand, 127, 0),
+        (Unary::Redor, 16, 1),
+        (Unary::Redor, 0, 0),
+        (Unary::Redxor, 7, 1),
+        (Unary::Redxor, 5, 0),
+    ] {
+        assert_eq!(rt;
+            unary(op, w8, wrap(w8, a), &mut tally),
+            want,
+            "{op:?} of {a}"
+        );
+    }
+    assert_eq!(rt; ite(w8, 1, 200, 100, &mut tally), 200);
+    assert_eq!(rt; ite(w8, 0, 200, 100, &mut tally), 100);
+    assert_eq!(rt; slice(w8, 180, 5, 2, &mut tally), 13);
+    assert_eq!(rt; uext(w4, 9, 4, &mut tally), 9);
+    assert_eq!(rt; sext(w4, 9, 4, &mut tally), 249);
+    assert_eq!(rt; sext(w4, 7, 60, &mut tally), 7);
+    assert_eq!(rt; concat(w4, 10, w3, 5, &mut tally), 85);
     Ok(())
 }
 
@@ -164,4 +288,23 @@ fn faults_print_their_names(rt: HostRuntime) -> Result<(), Fail> {
         "device device no memory"
     );
     Ok(())
+}
+
+#[test]
+fn laws_are_called(_rt: HostRuntime) {
+    bits_of_bitwise_words();
+    bits_stand_for_words();
+    joined_words_come_apart();
+    negation();
+    overflow_tests();
+    quotients_and_remainders();
+    rotations_move_bits();
+    rotations_return();
+    shifts_agree();
+    signs_of_remainders();
+    tests_decide();
+    values_fit();
+    wider_words_keep_numbers();
+    words_stand_for_numbers();
+    worked_words();
 }

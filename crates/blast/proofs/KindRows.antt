@@ -8,7 +8,8 @@ use Rattle.btor2.specs.Items.{find_item, position_of, width_of_body, node_width,
 use Rattle.btor2.specs.Check.{IsWellFormed}
 use Rattle.btor2.specs.Lists.{places, init_place, next_place, constant_at}
 use Rattle.btor2.proofs.LookUps.{found}
-use Rattle.btor2.proofs.ModelLemmas.{IsIn-from_find, then_parts, some_of, IsNextOf-from_value}
+use Rattle.btor2.proofs.AppendLemmas.{then_parts, some_of}
+use Rattle.btor2.proofs.ModelLemmas.{IsIn-from_find, IsNextOf-from_value}
 use Rattle.aiger.specs.Net.{Net}
 use Rattle.blast.specs.Reads.{ReadsWord, RowReads, RowsRead}
 use Rattle.blast.specs.Refusal.{first_without_next}

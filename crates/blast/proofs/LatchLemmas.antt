@@ -11,7 +11,8 @@ use Rattle.btor2.specs.Items.{node_width, is_state, next_value}
 use Rattle.btor2.specs.Check.{IsWellFormed}
 use Rattle.btor2.specs.Lists.{places}
 use Rattle.btor2.specs.Trace.{bits_of, next_state}
-use Rattle.btor2.proofs.ModelLemmas.{some_of, IsNextOf-from_value, node_width-range}
+use Rattle.btor2.proofs.AppendLemmas.{some_of}
+use Rattle.btor2.proofs.ModelLemmas.{IsNextOf-from_value, node_width-range}
 use Rattle.aiger.specs.declared.circuit.Latch.{Latch}
 use Rattle.aiger.specs.declared.circuit.Reset.{Reset}
 use Rattle.aiger.specs.declared.circuit.Reset.TheVariants as reset

@@ -2,12 +2,10 @@ pub mod TableLemmas
 pub mod WidthLemmas
 pub mod KindBlocks
 pub mod KindRows
-pub mod NodeFits
 pub mod NodeLemmas
 pub mod NodeRows
 pub mod NameLemmas
 pub mod LatchLemmas
-pub mod PropertyFit
 pub mod PropertyLemmas
 pub mod LowerLemmas
 pub mod LowerAssembly

@@ -1,5 +1,5 @@
 -- The parts of a lowering, put together.
-use Rattle.std.proofs.Common.{◌≡◌, ℕ, ◌+◌, ◌<◌, ◌≤◌, Bool, true, false, ◌&&◌, List, [], ◌∷◌, ◌++◌, length, map, replicate, nat_lt, Option, Some, None, cond, is_none, is_some, if◌then◌else◌, option_and_then, refl, sym, ap, ◌∙◌, subst, arith, length-append}
+use Rattle.std.proofs.Common.{◌≡◌, ℕ, ◌+◌, ◌≤◌, Bool, true, false, ◌&&◌, List, [], ◌∷◌, ◌++◌, length, nat_lt, Option, Some, None, is_none, is_some, if◌then◌else◌, option_and_then, refl, sym, ap, ◌∙◌, subst, arith, length-append}
 use Rattle.std.proofs.lemmas.List.{length-map, length-replicate}
 use Rattle.std.specs.Prelude.{sum_by}
 use Rattle.std.proofs.lemmas.List.Sums.{sum_by-cons}
@@ -8,18 +8,16 @@ use Rattle.base.proofs.BitLemmas.{length-bits}
 use Rattle.btor2.specs.declared.item.Item.{Item}
 use Rattle.btor2.specs.Items.{is_state, find_item, names_state, next_value, constant_of, init_value}
 use Rattle.btor2.specs.Check.{IsWellFormed}
-use Rattle.btor2.specs.Trace.{Frame, bits_of, IsFrame, IsState, IsInput, next_state}
-use Rattle.btor2.proofs.ModelLemmas.{IsIn, IsIn-from_find}
+use Rattle.btor2.specs.Trace.{bits_of}
+use Rattle.btor2.proofs.ModelLemmas.{IsIn-from_find}
 use Rattle.btor2.proofs.TraceLemmas.{next_state_fits}
-use Rattle.aiger.specs.declared.circuit.Reset.{Reset}
 use Rattle.aiger.specs.Limits.{greatest_count}
 use Rattle.aiger.specs.Net.{Net}
 use Rattle.aiger.specs.declared.circuit.Gate.{Gate}
 use Rattle.aiger.specs.Circuit.{Circuit, Names, net, fresh_latch}
 use Rattle.gates.specs.Made.{gates_only}
-use Rattle.blast.specs.declared.fault.LowerFault.{LowerFault}
 use Rattle.blast.specs.declared.fault.LowerFault.TheVariants as fault
-use Rattle.blast.specs.Cost.{cost, bound, input_width, state_width}
+use Rattle.blast.specs.Cost.{bound, state_width}
 use Rattle.blast.specs.Leaves.{of_kind, leaf_resets, resets_of_word, reset_of_bit, input_names, state_names, bad_names, constraint_names}
 use Rattle.blast.specs.Lowering.{Lowers}
 use Rattle.blast.specs.Reads.{leaves_only, LowersNodes, RowsRead, LatchesRead, BadsRead, ConstraintsRead}

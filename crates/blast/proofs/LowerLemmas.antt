@@ -1,5 +1,5 @@
 -- From what the latches and the properties of a circuit read as to whole traces.
-use Rattle.std.proofs.Common.{◌≡◌, ℕ, suc, ◌+◌, ◌<◌, Bool, true, false, ◌&&◌, List, [], ◌∷◌, ◌++◌, length, map, slice_get, get_or, drop, ◌≤◌, Option, Some, None, MatchOption, is_none, is_some, option_and_then, if◌then◌else◌, refl, sym, ap, ◌∙◌, subst, arith, length-append, append_assoc}
+use Rattle.std.proofs.Common.{◌≡◌, ℕ, suc, ◌<◌, Bool, true, false, ◌&&◌, List, [], ◌∷◌, ◌++◌, length, map, slice_get, get_or, drop, ◌≤◌, Option, Some, None, MatchOption, is_none, is_some, option_and_then, if◌then◌else◌, refl, sym, ap, ◌∙◌, subst, arith, length-append, append_assoc}
 use Rattle.std.proofs.Math.Seq.{drop-cons}
 use Rattle.std.proofs.lemmas.List.{drop_all}
 use Rattle.btor2.specs.Items.{find_item, position_of, node_width, width_of_body, is_state}
@@ -8,14 +8,14 @@ use Rattle.btor2.specs.Check.{IsWellFormed}
 use Rattle.btor2.proofs.LookUps.{found}
 use Rattle.btor2.proofs.ModelLemmas.{IsNextOf, IsNextOf-from_value}
 use Rattle.btor2.specs.declared.item.Item.{Item}
-use Rattle.btor2.specs.Items.{names_state, next_value}
+use Rattle.btor2.specs.Items.{next_value}
 use Rattle.btor2.specs.Trace.{Frame, IsFrame, IsState, IsInput, AreInputs, IsTrace, next_state}
-use Rattle.aiger.specs.Literal.{Valuation, literal_value}
+use Rattle.aiger.specs.Literal.{Valuation}
 use Rattle.aiger.specs.Circuit.{Circuit, net}
 use Rattle.aiger.specs.Trace.{IsFrame as IsCircuitFrame, IsTrace as IsCircuitTrace, next_state as next_bits}
 use Rattle.blast.specs.Leaves.{input_bits, state_bits}
 use Rattle.blast.specs.Refusal.{first_without_next}
-use Rattle.blast.specs.Lowering.{ShowsSame, ShowSame}
+use Rattle.blast.specs.Lowering.{ShowSame}
 use Rattle.blast.specs.Reads.{Together, LatchesRead, BadsRead, ConstraintsRead}
 
 -- all that is observed of a circuit reads as the model's words

@@ -6,7 +6,8 @@ use Rattle.std.proofs.lemmas.List.{take_at, drop_at, length-map, length-replicat
 use Rattle.std.proofs.lemmas.List.Elements.{All-nil, All-cons, All-replicate, All-map}
 use Rattle.std.proofs.lemmas.List.Sums.{sum_by-append, sum_by-cons}
 use Rattle.base.specs.Word.{word, bits}
-use Rattle.base.specs.Operator.{unary_value, unary_width, binary_value, binary_width}
+use Rattle.base.specs.Operator.{unary_value, binary_value}
+use Rattle.base.specs.Widths.{unary_width, binary_width}
 use Rattle.base.specs.declared.operators.Unary.{Unary}
 use Rattle.base.specs.declared.operators.Binary.{Binary}
 use Rattle.base.proofs.BitLemmas.{length-bits, word-bits, bits-word_of_length}
@@ -15,7 +16,8 @@ use Rattle.btor2.specs.declared.item.Body.{Body}
 use Rattle.btor2.specs.Items.{find_item, position_of, width_of_body, node_width}
 use Rattle.btor2.specs.Check.{IsWellFormed}
 use Rattle.btor2.specs.Trace.{Frame, bits_of, LineHolds, LinesHold, IsFrame}
-use Rattle.btor2.proofs.ModelLemmas.{is_some_from, then_parts, IsIn-from_find, node_width-append, node_width-at, node_width-range, position_of-at}
+use Rattle.btor2.proofs.AppendLemmas.{is_some_from, then_parts, node_width-append}
+use Rattle.btor2.proofs.ModelLemmas.{IsIn-from_find, node_width-at, node_width-range, position_of-at}
 use Rattle.aiger.specs.Literal.{Valuation, literal_value}
 use Rattle.aiger.specs.Net.{Net, variables, IsDefined, bits_from}
 use Rattle.aiger.proofs.NetLemmas.{length-bits_from, bits_from-append, bits_from-literals}
@@ -26,7 +28,7 @@ use Rattle.blast.specs.Leaves.{of_kind, leaf_bits}
 use Rattle.blast.specs.Cost.{line_cost}
 use Rattle.blast.specs.Reads.{Together, ReadsWord, RowsRead}
 use Rattle.blast.specs.Table.{MakesNode, MakesRow, IsOperand}
-use Rattle.blast.proofs.NodeFits.{words_fit_frame}
+use Rattle.btor2.proofs.TraceLemmas.{words_fit_frame}
 
 -- What stays as gates are added.
 

@@ -12,7 +12,9 @@ use Rattle.btor2.specs.declared.item.Body.TheVariants as body
 use Rattle.btor2.specs.Items.{node_width, is_bad, is_constraint}
 use Rattle.btor2.specs.Check.{IsWellFormed}
 use Rattle.btor2.specs.Trace.{Frame, bits_of}
-use Rattle.btor2.proofs.ModelLemmas.{node_width-append, is_some_from, BodyIsAccepted, IsAccepted-at, IsIn, IsIn-from_place}
+use Rattle.btor2.proofs.AppendLemmas.{node_width-append, is_some_from}
+use Rattle.btor2.proofs.AcceptedLemmas.{BodyIsAccepted}
+use Rattle.btor2.proofs.ModelLemmas.{IsAccepted-at, IsIn, IsIn-from_place}
 use Rattle.aiger.specs.Literal.{Valuation, literal_value}
 use Rattle.aiger.specs.Net.{Net, IsDefined}
 use Rattle.aiger.specs.Names.{Names}
@@ -21,7 +23,7 @@ use Rattle.blast.specs.Leaves.{of_kind, observed, own_name}
 use Rattle.blast.specs.Reads.{Together, RowsRead, BadsRead, ConstraintsRead}
 use Rattle.blast.specs.Rows.{row_at, literal_at, bad_literals, constraint_literals, with_literals}
 use Rattle.blast.proofs.KindRows.{row_at-reads}
-use Rattle.blast.proofs.PropertyFit.{words_fit_frame}
+use Rattle.btor2.proofs.TraceLemmas.{words_fit_frame}
 
 -- What an item of a well-formed list says.
 

@@ -1,15 +1,16 @@
 -- Widths and gate bounds of well-formed lists.
-use Rattle.std.proofs.Common.{◌≡◌, ℕ, zero, suc, ◌+◌, ◌^◌, ◌<◌, ◌≤◌, Bool, true, false, cond, nat_eq, List, [], ◌∷◌, ◌++◌, length, Option, Some, None, is_some, unwrap_or, option_and_then, slice_get, take, get_or, All, sum_by, refl, sym, ap, subst, ◌∙◌, arith, length-append}
+use Rattle.std.proofs.Common.{◌≡◌, ℕ, zero, suc, ◌+◌, ◌*◌, ◌^◌, ◌<◌, ◌≤◌, nat_lt, Bool, true, false, cond, nat_eq, List, [], ◌∷◌, ◌++◌, length, Option, Some, None, is_some, unwrap_or, option_and_then, slice_get, take, get_or, All, sum_by, refl, sym, ap, subst, ◌∙◌, arith, length-append}
+use Rattle.std.proofs.Math.Nat.{mul-le-mul_left}
 use Rattle.std.specs.List.{position_from}
 use Rattle.std.proofs.lemmas.Option.{none-some, same_Some, slice_get_within, slice_get_read}
 use Rattle.std.proofs.lemmas.List.{take_all}
-use Rattle.std.proofs.lemmas.List.Sums.{sum_by-le, sum_by_more, sum_by_more_le}
+use Rattle.std.proofs.lemmas.List.Sums.{count_by-le-length, sum_by-le, sum_by_more, sum_by_more_le}
 use Rattle.std.proofs.lemmas.List.Elements.{All-nil, All-cons}
 use Rattle.base.specs.declared.operators.Unary.{Unary}
-use Rattle.base.specs.declared.operators.Unary.TheVariants.{Not}
+use Rattle.base.specs.declared.operators.Unary.TheVariants as unary
 use Rattle.base.specs.declared.operators.Binary.{Binary}
-use Rattle.base.specs.declared.operators.Binary.TheVariants.{And}
-use Rattle.gates.specs.Bound.{unary_bound, binary_bound}
+use Rattle.base.specs.declared.operators.Binary.TheVariants as binary
+use Rattle.gates.specs.Bound.{log_up, unary_bound, binary_bound}
 use Rattle.btor2.specs.declared.item.Item.{Item}
 use Rattle.btor2.specs.declared.item.Body.{Body}
 use Rattle.btor2.specs.declared.item.Body.TheVariants as body
@@ -17,7 +18,9 @@ use Rattle.btor2.specs.Items.{find_item, position_of, width_of_body, node_width,
 use Rattle.btor2.specs.Lists.{width_at}
 use Rattle.btor2.specs.Check.{IsWellFormed, IsWellFormedAfter}
 use Rattle.btor2.specs.Trace.{bits_of}
-use Rattle.btor2.proofs.ModelLemmas.{is_some_from, IsIn-from_place, IsAccepted-at, IsAccepted-from_refusal, BodyIsAccepted, node_width-append, node_width-at, node_width-range}
+use Rattle.btor2.proofs.AppendLemmas.{is_some_from, node_width-append}
+use Rattle.btor2.proofs.AcceptedLemmas.{Each, HasWidth, IsAccepted-from_refusal}
+use Rattle.btor2.proofs.ModelLemmas.{IsIn-from_place, IsAccepted-at, node_width-at, node_width-range}
 use Rattle.blast.specs.Cost.{line_cost, cost, input_width, state_width}
 
 -- a test of an id, and what it finds
@@ -84,15 +87,26 @@ pub bits_of-most : (items : List Item) (id : ℕ) → IsWellFormed items → bit
 bits_of-most items id w = most_of items id (node_width items id) w refl
 
 -- no operator takes more gates than this, and no list has more items than that
-unary_most : (op : Unary) (n : ℕ) → n ≤ 64 → unary_bound op n ≤ 65536
-unary_most Not n h = omega arith
+square_most : (n : ℕ) → n ≤ 64 → n * n ≤ 4096
+square_most n h = omega (arith, mul-le-mul_left n h)
 
-binary_most : (op : Binary) (n : ℕ) → n ≤ 64 → binary_bound op n ≤ 65536
-binary_most And n h = omega arith
+logged_most : (n : ℕ) → n ≤ 64 → n * log_up n ≤ 384
+logged_most n h = omega (arith, mul-le-mul_left n (count_by-le-length (λ k. nat_lt (2 ^ k) n) (0 ∷ 1 ∷ 2 ∷ 3 ∷ 4 ∷ 5 ∷ [])))
 
-pub line_cost-most : (items : List Item) (b : Body) → IsWellFormed items → line_cost items b ≤ 65536
+unary_most : (op : Unary) (n : ℕ) → n ≤ 64 → unary_bound op n ≤ 262144
+unary_most unary.Not n h = omega arith
+unary_most _ n h = omega arith
+
+binary_most : (op : Binary) (n : ℕ) → n ≤ 64 → binary_bound op n ≤ 262144
+binary_most binary.Sll n h = omega (arith, logged_most n h)
+binary_most binary.Srl n h = omega (arith, logged_most n h)
+binary_most binary.Sra n h = omega (arith, logged_most n h)
+binary_most _ n h = omega (arith, square_most n h)
+
+pub line_cost-most : (items : List Item) (b : Body) → IsWellFormed items → line_cost items b ≤ 262144
 line_cost-most items (body.Unary op s a) w = unary_most op (bits_of items a) (bits_of-most items a w)
 line_cost-most items (body.Binary op s a b) w = binary_most op (bits_of items a) (bits_of-most items a w)
+line_cost-most items (body.Ite s c t e) w = omega (arith, bits_of-most items t w)
 line_cost-most items _ w = omega arith
 
 few_after : (before xs : List Item) → IsWellFormedAfter before xs → length before ≤ 1048576 → length before + length xs ≤ 1048576
@@ -106,52 +120,36 @@ pub few_items : (items : List Item) → IsWellFormed items → length items ≤ 
 few_items items w = omega (arith, few_after [] items w (omega arith))
 
 -- a sum of small parts is small
-small_sum : (f : Item → ℕ) (xs : List Item) → ((x : Item) → f x ≤ 65536) → length xs ≤ 1048576 → sum_by f xs < 2 ^ 37
-small_sum f xs h few = omega (arith, sum_by-le f 65536 xs (λ k d below. h (get_or xs k d)))
+small_sum : (f : Item → ℕ) (xs : List Item) → ((x : Item) → f x ≤ 262144) → length xs ≤ 1048576 → sum_by f xs < 2 ^ 39
+small_sum f xs h few = omega (arith, sum_by-le f 262144 xs (λ k d below. h (get_or xs k d)))
 
-choice_most : (b : Bool) (n : ℕ) → n ≤ 64 → cond b n 0 ≤ 65536
+choice_most : (b : Bool) (n : ℕ) → n ≤ 64 → cond b n 0 ≤ 262144
 choice_most true n h = omega arith
 choice_most false n h = omega arith
 
-pub input_width-small : (items : List Item) → IsWellFormed items → input_width items < 2 ^ 37
+pub input_width-small : (items : List Item) → IsWellFormed items → input_width items < 2 ^ 39
 input_width-small items w = small_sum _ items (λ x. choice_most (is_input x.body) (bits_of items x.id) (bits_of-most items x.id w)) (few_items items w)
 
-pub state_width-small : (items : List Item) → IsWellFormed items → state_width items < 2 ^ 37
+pub state_width-small : (items : List Item) → IsWellFormed items → state_width items < 2 ^ 39
 state_width-small items w = small_sum _ items (λ x. choice_most (is_state x.body) (bits_of items x.id) (bits_of-most items x.id w)) (few_items items w)
 
-pub cost-small : (items : List Item) → IsWellFormed items → cost items < 2 ^ 37
+pub cost-small : (items : List Item) → IsWellFormed items → cost items < 2 ^ 39
 cost-small items w = small_sum _ items (λ x. line_cost-most items x.body w) (few_items items w)
 
 -- the operands of an item that stands in a well-formed list are nodes of it
 later : (before more : List Item) (a n : ℕ) → node_width before a ≡ Some n → is_some (node_width (before ++ more) a) ≡ true
 later before more a n h = is_some_from (node_width (before ++ more) a) n (node_width-append before more a n h)
 
-abbrev IsNode : List Item → ℕ → Type 0
-IsNode items a = is_some (node_width items a) ≡ true
-
-one : (items : List Item) (a : ℕ) → IsNode items a → All (λ b. is_some (node_width items b) ≡ true) (a ∷ [])
-one items a h = All-cons (λ b. is_some (node_width items b) ≡ true) a [] h (All-nil (λ b. is_some (node_width items b) ≡ true))
-
-two : (items : List Item) (a b : ℕ) → IsNode items a → IsNode items b → All (λ k. is_some (node_width items k) ≡ true) (a ∷ b ∷ [])
-two items a b h k = All-cons (λ i. is_some (node_width items i) ≡ true) a (b ∷ []) h (one items b k)
-
-accepted_operands : (before more : List Item) (b : Body) → BodyIsAccepted before b → All (λ a. is_some (node_width (before ++ more) a) ≡ true) (operands b)
-accepted_operands before more (body.Sort n) says = All-nil (λ b. is_some (node_width (before ++ more) b) ≡ true)
-accepted_operands before more (body.Input s) says = All-nil (λ b. is_some (node_width (before ++ more) b) ≡ true)
-accepted_operands before more (body.State s) says = All-nil (λ b. is_some (node_width (before ++ more) b) ≡ true)
-accepted_operands before more (body.Zero s) says = All-nil (λ b. is_some (node_width (before ++ more) b) ≡ true)
-accepted_operands before more (body.Unary op s a) says = one (before ++ more) a (later before more a says.0 says.1)
-accepted_operands before more (body.Binary op s a b) says = two (before ++ more) a b (later before more a says.0 says.1) (later before more b says.0 says.2)
-accepted_operands before more (body.Init s t v) says = two (before ++ more) t v (later before more t says.0 says.3) (later before more v says.0 says.4)
-accepted_operands before more (body.Next s t v) says = two (before ++ more) t v (later before more t says.0 says.2) (later before more v says.0 says.3)
-accepted_operands before more (body.Bad a) says = one (before ++ more) a (later before more a 1 says)
-accepted_operands before more (body.Constraint a) says = one (before ++ more) a (later before more a 1 says)
+accepted_operands : (before more : List Item) (nodes : List ℕ) → Each (HasWidth before) nodes → All (λ a. is_some (node_width (before ++ more) a) ≡ true) nodes
+accepted_operands before more [] there = All-nil (λ b. is_some (node_width (before ++ more) b) ≡ true)
+accepted_operands before more (a ∷ rest) there =
+    All-cons (λ b. is_some (node_width (before ++ more) b) ≡ true) a rest (later before more a there.0.0 there.0.1) (accepted_operands before more rest there.1)
 
 pub operands_there : (items : List Item) (k : ℕ) (x : Item) → IsWellFormed items → slice_get items k ≡ Some x → All (λ a. is_some (node_width items a) ≡ true) (operands x.body)
 operands_there items k x w at =
     let there = (IsIn-from_place items k x at).0 in
     subst (λ (l : List Item). All (λ a. is_some (node_width l a) ≡ true) (operands x.body)) (sym there.splits)
-    (accepted_operands there.before (x ∷ there.after) x.body (IsAccepted-at items x w there).says)
+    (accepted_operands there.before (x ∷ there.after) (operands x.body) (IsAccepted-at items x w there).nodes)
 
 -- a sum so far, with the next item's part
 pub sum_step : (f : Item → ℕ) (xs : List Item) (i total n : ℕ) (x : Item) → i < length xs → x ≡ get_or xs i x → total ≡ sum_by f (take i xs) → n ≡ f x

@@ -5,6 +5,7 @@ use Rattle.base.specs.Device.{AppendsBeginning, HasRisen}
 use Rattle.btor2.specs.declared.item.Item.{Item}
 use Rattle.btor2text.specs.declared.fault.ReadFault.{ReadFault}
 use Rattle.btor2text.specs.declared.fault.Why.TheVariants as why
+use Rattle.btor2text.specs.FirstFault.{IsFaultOf}
 use Rattle.btor2text.specs.Spelling.{StandsFor}
 use Rattle.aiger.specs.Circuit.{Circuit}
 use Rattle.aigertext.specs.declared.ascii.Form.{Form}
@@ -32,7 +33,7 @@ pub record Converts (known written now : Option (List ℕ)) (form : Form) : Type
   pub lowers : Lowers items circuit
   pub appends : Appends written now (circuit_text form circuit)
 
--- the same, where only a beginning was written
+-- all that was to come is a text of some model, and only a beginning of the text of a circuit that lowers it was written
 pub record BeginsToConvert (known written now : Option (List ℕ)) (form : Form) : Type 0 where
   pub items : List Item
   pub circuit : Circuit
@@ -50,12 +51,22 @@ pub record RefusesModel (known : Option (List ℕ)) (e : LowerFault) : Type 0 wh
 abbrev pub RefusesText : Option (List ℕ) → ReadFault → Type 0
 RefusesText known e = (text : List ℕ) (items : List Item) → known ≡ Some text → StandsFor text items → (e.why ≡ why.Device) ⊎ (e.why ≡ why.NoMemory)
 
--- `known`: the bytes to come; `written` and `now`: what the sink held before and holds after
+-- what a conversion's answer says: done, the text refused, the model refused, or the write failed. `known` is the bytes to come; `written` and `now` are what the sink held before and holds after
 abbrev pub AnswersConversion : Option (List ℕ) → Option (List ℕ) → Option (List ℕ) → Form → Result (Unit {0}) ConvertFault → Type 0
 AnswersConversion known written now form (Ok u) = Converts known written now form
 AnswersConversion known written now form (Err (fault.Read e)) = RefusesText known e
 AnswersConversion known written now form (Err (fault.Lower e)) = RefusesModel known e
 AnswersConversion known written now form (Err (fault.Write e)) = BeginsToConvert known written now form
+
+-- a fault of reading is that of the first faulty line, by its first why, unless the device failed or memory was wanting
+abbrev pub TellsFirstFault : Option (List ℕ) → ConvertFault → Type 0
+TellsFirstFault known (fault.Read e) = IfSome known (λ text. (e.why ≡ why.Device) ⊎ ((e.why ≡ why.NoMemory) ⊎ IsFaultOf text e))
+TellsFirstFault known _ = Unit {0}
+
+-- a fault of reading has line 0 where the device failed or memory was wanting
+abbrev pub HasNoLine : ConvertFault → Type 0
+HasNoLine (fault.Read e) = (e.why ≡ why.Device) ⊎ (e.why ≡ why.NoMemory) → e.line ≡ 0
+HasNoLine _ = Unit {0}
 
 -- nothing was written: the fault is one of reading or lowering
 abbrev pub IsBeforeWriting : ConvertFault → Type 0

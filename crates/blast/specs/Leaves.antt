@@ -19,10 +19,11 @@ of_kind kind give (x ∷ xs) = (if kind x.body then give x else []) ++ of_kind k
 abbrev pub leaf_bits : List Item → Frame → Item → List Bool
 leaf_bits items f x = bits (bits_of items x.id) (f x.id)
 
--- the bits of the inputs, and of the states
+-- the bits of all inputs in a frame, input after input
 abbrev pub input_bits : List Item → Frame → List Bool
 input_bits items f = of_kind is_input (leaf_bits items f) items
 
+-- the bits of all states in a frame, state after state
 abbrev pub state_bits : List Item → Frame → List Bool
 state_bits items f = of_kind is_state (leaf_bits items f) items
 
@@ -36,12 +37,15 @@ bit_names symbol first zero = []
 bit_names None first (suc count) = None ∷ bit_names None (suc first) count
 bit_names (Some symbol) first (suc count) = Some (bit_name symbol first) ∷ bit_names (Some symbol) (suc first) count
 
+-- the names of a leaf's bits, from bit 0 on
 abbrev pub leaf_names : List Item → Item → Names
 leaf_names items x = bit_names x.symbol 0 (bits_of items x.id)
 
+-- the names of the bits of all inputs
 abbrev pub input_names : List Item → Names
 input_names items = of_kind is_input (leaf_names items) items
 
+-- the names of the bits of all states
 abbrev pub state_names : List Item → Names
 state_names items = of_kind is_state (leaf_names items) items
 
@@ -49,9 +53,11 @@ state_names items = of_kind is_state (leaf_names items) items
 abbrev pub own_name : Item → Names
 own_name x = x.symbol ∷ []
 
+-- the names of the bad properties
 abbrev pub bad_names : List Item → Names
 bad_names items = of_kind is_bad own_name items
 
+-- the names of the constraints
 abbrev pub constraint_names : List Item → Names
 constraint_names items = of_kind is_constraint own_name items
 
@@ -60,14 +66,16 @@ abbrev pub reset_of_bit : Bool → Reset
 reset_of_bit true = reset.One
 reset_of_bit false = reset.Zero
 
--- how the latches of a state begin: with the bits of the word of its init line, and freely without one
+-- how the latches of so many bits begin: with the bits of a word, and freely without one
 abbrev pub resets_of_word : ℕ → Option ℕ → List Reset
 resets_of_word width None = replicate width reset.Free
 resets_of_word width (Some x) = map reset_of_bit (bits width x)
 
+-- how the latches of one state of a model begin: its init line names a constant, whose word they take
 abbrev pub leaf_resets : List Item → Item → List Reset
 leaf_resets items x = resets_of_word (bits_of items x.id) (option_and_then (constant_of items) (init_value items x.id))
 
+-- how the latches of all states begin
 abbrev pub state_resets : List Item → List Reset
 state_resets items = of_kind is_state (leaf_resets items) items
 
@@ -77,8 +85,10 @@ observed f (body.Bad a) = (f a == 1) ∷ []
 observed f (body.Constraint a) = (f a == 1) ∷ []
 observed f _ = []
 
+-- which bad properties rise in a frame
 abbrev pub bad_values : List Item → Frame → List Bool
 bad_values items f = of_kind is_bad (λ x. observed f x.body) items
 
+-- which constraints hold in a frame
 abbrev pub constraint_values : List Item → Frame → List Bool
 constraint_values items f = of_kind is_constraint (λ x. observed f x.body) items

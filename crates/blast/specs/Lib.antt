@@ -9,3 +9,4 @@ pub mod Blocks
 pub mod Sections
 pub mod Rows
 pub mod Table
+pub mod Worked

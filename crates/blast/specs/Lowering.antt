@@ -20,6 +20,7 @@ ShowSame items c [] (v ∷ vs) = ⊥
 ShowSame items c (f ∷ fs) [] = ⊥
 ShowSame items c (f ∷ fs) (v ∷ vs) = ShowsSame items c f v × ShowSame items c fs vs
 
+-- a circuit lowers a model: its inputs and latches are the model's bits, and under the same words both show the same bad properties and constraints in every frame
 pub record Lowers (items : List Item) (c : Circuit) : Type 0 where
   -- inputs and latches are the bits of the inputs and the states, in file order, the lowest first; names and resets are theirs
   pub inputs : c.inputs ≡ input_width items

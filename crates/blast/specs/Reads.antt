@@ -50,9 +50,10 @@ pub record LatchesRead (items : List Item) (n : Net) (some : List Item) (latches
   pub resets : map (λ latch. latch.reset) latches ≡ of_kind is_state (leaf_resets items) some
   pub nexts : (state input f : Frame) (v : Valuation) → Together items n state input f v → map (λ latch. literal_value v latch.next) latches ≡ of_kind is_state (leaf_bits items (next_state items f)) some
 
--- literals are those of the bad properties, and of the constraints, among some items
+-- in every frame, literals have the values of the bad properties among some items
 pub record BadsRead (items : List Item) (n : Net) (some : List Item) (bads : List ℕ) : Type 0 where
   pub values : (state input f : Frame) (v : Valuation) → Together items n state input f v → map (literal_value v) bads ≡ of_kind is_bad (λ x. observed f x.body) some
 
+-- in every frame, literals have the values of the constraints among some items
 pub record ConstraintsRead (items : List Item) (n : Net) (some : List Item) (constraints : List ℕ) : Type 0 where
   pub values : (state input f : Frame) (v : Valuation) → Together items n state input f v → map (literal_value v) constraints ≡ of_kind is_constraint (λ x. observed f x.body) some

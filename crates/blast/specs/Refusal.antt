@@ -7,19 +7,21 @@ use Rattle.blast.specs.Cost.{bound}
 use Rattle.blast.specs.declared.fault.LowerFault.{LowerFault}
 use Rattle.blast.specs.declared.fault.LowerFault.TheVariants as fault
 
--- the id of the first state, from some items on, that has no next
+-- the id of the first state among some items of a model, the second list, that has no next line in the model
 abbrev pub first_without_next : List Item → List Item → Option ℕ
 first_without_next items [] = None
 first_without_next items (x ∷ xs) = if is_state x.body && is_none (next_value items x.id) then Some x.id else first_without_next items xs
 
--- a state without a next, and else too many variables
+-- a model is too big where it may take more variables than a circuit may have
 abbrev pub too_big : List Item → Option LowerFault
 too_big items = if nat_lt greatest_count (bound items) then Some fault.TooBig else None
 
+-- the refusal of a model, given the id of its first state without a next: that state, and else the size
 abbrev pub refusal_for : List Item → Option ℕ → Option LowerFault
 refusal_for items None = too_big items
 refusal_for items (Some id) = Some (fault.NoNext id)
 
+-- the first refusal that applies to a model, if any: a state without a next, and else too many variables
 abbrev pub lowering_refusal : List Item → Option LowerFault
 lowering_refusal items = refusal_for items (first_without_next items items)
 

@@ -37,11 +37,12 @@ state_latches items rows x = row_latches (init_word items x.id) 0 (row_at items 
 abbrev pub literal_at : List Item → List (List ℕ) → ℕ → ℕ
 literal_at items rows id = slice_index (row_at items rows (Some id)) 0
 
--- the literals that a line adds to the bad properties, and to the constraints
+-- the literals that a line adds to the bad properties: that of its operand, and none for any other line
 abbrev pub bad_literals : List Item → List (List ℕ) → Body → List ℕ
 bad_literals items rows (body.Bad a) = literal_at items rows a ∷ []
 bad_literals items rows _ = []
 
+-- the literals that a line adds to the constraints: that of its operand, and none for any other line
 abbrev pub constraint_literals : List Item → List (List ℕ) → Body → List ℕ
 constraint_literals items rows (body.Constraint a) = literal_at items rows a ∷ []
 constraint_literals items rows _ = []

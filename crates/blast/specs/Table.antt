@@ -49,13 +49,15 @@ pub record IsOperand (items : List Item) (n : Net) (rows : List (List ℕ)) (id 
   pub most : bits_of items id ≤ 64
   pub reads : ReadsWord items n id (bits_of items id) row
 
--- the gate bounds, the bits of the inputs and the bits of the states of some items
+-- the sum of the gate bounds of some items of a model
 abbrev pub cost_among : List Item → List Item → ℕ
 cost_among items some = sum_by (λ x. line_cost items x.body) some
 
+-- how many bits the inputs among some items of a model have together
 abbrev pub inputs_among : List Item → List Item → ℕ
 inputs_among items some = sum_by (λ x. if is_input x.body then bits_of items x.id else 0) some
 
+-- how many bits the states among some items of a model have together
 abbrev pub states_among : List Item → List Item → ℕ
 states_among items some = sum_by (λ x. if is_state x.body then bits_of items x.id else 0) some
 

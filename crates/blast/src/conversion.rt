@@ -3,7 +3,7 @@ ghost use Rattle.std.specs.Io.KnownBytes.{Appends, IsAtEnd};
 ghost use Rattle.base.specs.Device.{HasRisen, CountsFaults, AppendsBeginning};
 ghost use Rattle.btor2text.specs.declared.fault.Why.TheVariants as why;
 ghost use Rattle.blast.specs.declared.fault.ConvertFault.TheVariants as fault;
-ghost use Rattle.blast.specs.Conversion.{AnswersConversion, IsBeforeWriting, circuit_text, RaisesFailures};
+ghost use Rattle.blast.specs.Conversion.{AnswersConversion, TellsFirstFault, HasNoLine, IsBeforeWriting, circuit_text, RaisesFailures};
 
 use crate::fault::ConvertFault;
 use crate::lowering::lower;
@@ -35,6 +35,8 @@ pub fn convert<S: Source, K: Sink>(
     form: Form,
 ) -> Result<(), ConvertFault>
     ensures answer { AnswersConversion (S.to_come source.old) (K.written sink.old) (K.written sink.new) form result }
+    ensures fault { IfErr result (TellsFirstFault (S.to_come source.old)) }
+    ensures place { IfErr result HasNoLine }
     ensures end { OnOk result (IsAtEnd (S.to_come source.new)) }
     ensures unwritten { IfErr result (λ e. IsBeforeWriting e → sink.new ≡ sink.old) }
     ensures device { RaisesFailures result (S.failures source.old) (S.failures source.new) (K.failures sink.old) (K.failures sink.new) }

@@ -4,6 +4,7 @@
 mod conversion;
 mod fault;
 mod latches;
+mod laws;
 mod lowering;
 mod names;
 mod nodes;
@@ -13,5 +14,6 @@ mod widths;
 
 pub use conversion::convert;
 pub use fault::{ConvertFault, LowerFault};
+pub use laws::{worked_costs, worked_leaves, worked_names, worked_refusals};
 pub use lowering::lower;
 pub use widths::{bound, cost};

@@ -1,6 +1,7 @@
-ghost use Rattle.std.specs.Prelude.{◌≡◌, ℕ, ◌≤◌, None, Some, IfOk, IfErr, option_copied};
+ghost use Rattle.std.specs.Prelude.{◌≡◌, ℕ, ◌≤◌, None, Some, true, IfOk, IfErr, option_copied};
 ghost use Rattle.btor2.specs.Check.{IsWellFormed};
 ghost use Rattle.btor2.specs.Lists.{id_at};
+ghost use Rattle.btor2text.specs.Basic.{are_basic};
 ghost use Rattle.blast.specs.Lowering.{Lowers};
 ghost use Rattle.blast.specs.Refusal.{AnswersLowering, lowering_refusal, first_without_next};
 
@@ -61,6 +62,7 @@ fn refusal(model: &Model) -> Option<LowerFault>
 
 /// The circuit of a model that nothing speaks against.
 fn lower_accepted(alloc: Global, model: &Model) -> Result<Circuit, LowerFault>
+    requires basic { are_basic model.now ≡ true }
     requires accepted { lowering_refusal model.now ≡ None }
     requires well_formed { IsWellFormed model.now }
     ensures ok { IfOk result (λ circuit. Lowers model.now circuit) }
@@ -92,9 +94,11 @@ fn lower_accepted(alloc: Global, model: &Model) -> Result<Circuit, LowerFault>
 
 /// The circuit that lowers a model: the bits of its inputs are the inputs, those of its states the latches.
 ///
-/// Errors: `NoNext` with the first state in file order that has no next; else `TooBig` where the bound
+/// Condition: the model is of the basic forms, which are those that are lowered so far; `btor2text::are_basic` is the
+/// test. Errors: `NoNext` with the first state in file order that has no next; else `TooBig` where the bound
 /// on the variables is above 2^30; else `NoMemory`. Nothing is given then.
 pub fn lower(alloc: Global, model: &Model) -> Result<Circuit, LowerFault>
+    requires basic { are_basic model.now ≡ true }
     ensures ok { IfOk result (λ circuit. Lowers model.now circuit) }
     ensures answer { AnswersLowering result (lowering_refusal model.now) }
 {

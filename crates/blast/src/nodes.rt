@@ -1,13 +1,16 @@
 //! The rows of literals of all nodes, in file order.
 ghost use Rattle.std.specs.Prelude.{◌≡◌, ℕ, ◌+◌, ◌*◌, ◌^◌, ◌<◌, ◌≤◌, List, true, is_some, map, replicate, length, Some, slice_get, IfOk, OnOk, IfErr, if◌then◌else◌, IfSome};
 ghost use Rattle.std.specs.List.{range_with_len};
-ghost use Rattle.base.specs.Operator.{unary_value, unary_width, binary_value, binary_width};
+ghost use Rattle.base.specs.Operator.{unary_value, binary_value};
+ghost use Rattle.base.specs.Widths.{unary_width, binary_width};
 ghost use Rattle.btor2.specs.Items.{is_input, is_state, node_width};
 ghost use Rattle.btor2.specs.Check.{IsWellFormed};
 ghost use Rattle.btor2.specs.Trace.{bits_of};
 ghost use Rattle.aiger.specs.Limits.{greatest_count};
 ghost use Rattle.aiger.specs.Net.{variables};
+ghost use Rattle.btor2text.specs.Basic.{is_basic, are_basic};
 ghost use Rattle.gates.specs.Bound.{unary_bound, binary_bound};
+ghost use Rattle.gates.specs.Built.{is_built_unary, is_built_binary};
 ghost use Rattle.blast.specs.Cost.{bound, line_cost};
 ghost use Rattle.blast.specs.Reads.{LowersNodes, leaves_only};
 ghost use Rattle.blast.specs.Table.{MakesNode, MakesRow, row_of, IsOperand, LowersFront};
@@ -89,6 +92,7 @@ fn unary_row<G: Gates>(
     operator: Unary,
     operand: u64,
 ) -> Result<Bits, GateFault>
+    requires built { is_built_unary operator ≡ true }
     requires well_formed { IsWellFormed model.now }
     requires operand { IsOperand model.now (G.made gates.old) table.now operand }
     requires fits { variables (G.made gates.old) + unary_bound operator (bits_of model.now operand) ≤ greatest_count }
@@ -108,6 +112,7 @@ fn binary_row<G: Gates>(
     left: u64,
     right: u64,
 ) -> Result<Bits, GateFault>
+    requires built { is_built_binary operator ≡ true }
     requires well_formed { IsWellFormed model.now }
     requires left { IsOperand model.now (G.made gates.old) table.now left }
     requires right { IsOperand model.now (G.made gates.old) table.now right }
@@ -133,6 +138,7 @@ fn line_row<G: Gates>(
 ) -> Result<Bits, GateFault>
     requires well_formed { IsWellFormed model.now }
     requires at { slice_get model.now place ≡ Some item.now }
+    requires basic { is_basic item.now.body ≡ true }
     requires front { LowersFront model.now place (G.made gates.old) table.now input.old latch.old }
     requires fits { bound model.now ≤ greatest_count }
     ensures ok { IfOk result (λ bits. MakesRow model.now (G.made gates.old) (G.made gates.new) item.now bits.items) }
@@ -140,7 +146,7 @@ fn line_row<G: Gates>(
     ensures latch { OnOk result (latch.new ≡ latch.old + (if is_state item.now.body then bits_of model.now item.now.id else 0)) }
     ensures memory { IfErr result (λ e. e ≡ GateFault.NoMemory) }
 {
-    match item.body {
+    match &item.body {
         Body::Input { .. } => Ok(next_bits(input, width_at(model, place))),
         Body::State { .. } => Ok(next_bits(latch, width_at(model, place))),
         Body::Zero { .. } => Ok(false_bits(width_at(model, place))),
@@ -148,18 +154,19 @@ fn line_row<G: Gates>(
             operator,
             operand,
             ..
-        } => unary_row(model, gates, table, operator, operand),
+        } => unary_row(model, gates, table, *operator, *operand),
         Body::Binary {
             operator,
             left,
             right,
             ..
-        } => binary_row(model, gates, table, operator, left, right),
+        } => binary_row(model, gates, table, *operator, *left, *right),
         Body::Sort { .. }
         | Body::Init { .. }
         | Body::Next { .. }
         | Body::Bad { .. }
         | Body::Constraint { .. } => Ok(Bits::new()),
+        _ => unreachable!(),
     }
 }
 
@@ -175,6 +182,7 @@ fn lower_item<G: Gates>(
 ) -> Result<(), GateFault>
     requires well_formed { IsWellFormed model.now }
     requires at { slice_get model.now place ≡ Some item.now }
+    requires basic { is_basic item.now.body ≡ true }
     requires front { LowersFront model.now place (G.made gates.old) table.old input.old latch.old }
     requires fits { bound model.now ≤ greatest_count }
     ensures ok { OnOk result (LowersFront model.now (place + 1) (G.made gates.new) table.new input.new latch.new) }
@@ -192,13 +200,14 @@ fn lower_item<G: Gates>(
 /// The rows of literals of all items, in file order: those of an input and a state are their variables, those of an
 /// operator are made of its operands' rows, and a line without a value has an empty row.
 ///
-/// Conditions: the maker stands on the bits of the inputs and the states, and has made no gate; at most 2^30
+/// Conditions: the model is of the basic forms; the maker stands on the bits of the inputs and the states, and has made no gate; at most 2^30
 /// variables. Errors: `NoMemory`.
 pub(crate) fn lower_nodes<G: Gates>(
     alloc: Global,
     model: &Model,
     gates: &mut G,
 ) -> Result<Table, GateFault>
+    requires basic { are_basic model.now ≡ true }
     requires leaves { G.made gates.old ≡ leaves_only model.now }
     requires fits { bound model.now ≤ greatest_count }
     ensures ok { IfOk result (λ rows. LowersNodes model.now (G.made gates.old) (G.made gates.new) rows) }

@@ -42,7 +42,7 @@ fn input_bits(model: &Model, place: usize, item: &Item) -> u64
     requires at { slice_get model.now place ≡ Some item.now }
     ensures { result ≡ (if is_input item.now.body then bits_of model.now item.now.id else 0) }
 {
-    match item.body {
+    match &item.body {
         Body::Input { .. } => width_at(model, place),
         _ => 0,
     }
@@ -54,7 +54,7 @@ fn state_bits(model: &Model, place: usize, item: &Item) -> u64
     requires at { slice_get model.now place ≡ Some item.now }
     ensures { result ≡ (if is_state item.now.body then bits_of model.now item.now.id else 0) }
 {
-    match item.body {
+    match &item.body {
         Body::State { .. } => width_at(model, place),
         _ => 0,
     }
@@ -74,6 +74,7 @@ fn line_cost(model: &Model, body: &Body) -> u64
         Body::Binary { operator, left, .. } => {
             gate_bound(Op::Binary(*operator), node_bits(model, *left))
         }
+        Body::Ite { first, .. } => gate_bound(Op::Ite, node_bits(model, *first)),
         _ => 0,
     }
 }

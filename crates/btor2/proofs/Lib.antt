@@ -1,4 +1,6 @@
 pub mod LookUps
+pub mod AppendLemmas
+pub mod AcceptedLemmas
 pub mod ModelLemmas
 pub mod PushLemmas
 pub mod TraceLemmas

@@ -1,5 +1,5 @@
 -- Where an item is found by its id.
-use Rattle.std.proofs.Common.{◌≡◌, ℕ, suc, ◌+◌, ◌-◌, ◌≤◌, Bool, true, false, cond, nat_eq, List, [], ◌∷◌, length, map, Option, Some, None, MatchOption, slice_get, refl, sym, ap, ◌∙◌, arith, zero, subst}
+use Rattle.std.proofs.Common.{◌≡◌, ℕ, suc, ◌+◌, ◌-◌, ◌≤◌, true, false, cond, nat_eq, List, [], ◌∷◌, map, Option, Some, None, MatchOption, slice_get, refl, sym, ap, ◌∙◌, arith, zero}
 use Rattle.std.specs.List.{position, position_from}
 use Rattle.std.proofs.lemmas.Iterator.Adapters.{position_from-zero}
 use Rattle.btor2.specs.declared.item.Item.{Item}

@@ -1,9 +1,8 @@
 -- What stands beside the items once one more is added.
-use Rattle.std.proofs.Common.{◌≡◌, ℕ, suc, ◌+◌, Bool, true, false, ◌||◌, cond, nat_eq, eqb-true, eq-eqb, List, [], ◌∷◌, ◌++◌, length, map, Option, Some, None, is_some, refl, sym, ap, subst, ◌∙◌, ⊎_elim, inl, inr, arith}
+use Rattle.std.proofs.Common.{◌≡◌, ℕ, suc, ◌+◌, Bool, true, false, ◌||◌, cond, nat_eq, List, [], ◌∷◌, ◌++◌, length, map, Option, Some, None, is_some, refl, sym, ap, subst, ◌∙◌, ⊎_elim, arith}
 use Rattle.std.specs.List.{list_any}
 use Rattle.std.specs.Option.{option_or}
 use Rattle.std.proofs.lemmas.List.{map-append}
-use Rattle.std.proofs.lemmas.Option.{none-some}
 use Rattle.std.proofs.lemmas.Bool.{ne_eqb, cases_eq}
 use Rattle.btor2.specs.declared.item.Item.{Item}
 use Rattle.btor2.specs.declared.item.Body.{Body}
@@ -12,7 +11,8 @@ use Rattle.btor2.specs.Items.{find_item, init_for, next_for, init_value, next_va
 use Rattle.indexmap.specs.IndexSet.{insert_key}
 use Rattle.btor2.specs.Check.{refusal, IsWellFormed}
 use Rattle.btor2.specs.Lists.{places, with_place}
-use Rattle.btor2.proofs.ModelLemmas.{IsAccepted-from_refusal, BodyIsAccepted, IsWellFormed-push}
+use Rattle.btor2.proofs.AcceptedLemmas.{BodyIsAccepted, IsAccepted-from_refusal}
+use Rattle.btor2.proofs.ModelLemmas.{IsWellFormed-push}
 
 with_place-cons : (b : Bool) (place at : ℕ) (list : List ℕ) → with_place b place (at ∷ list) ≡ at ∷ with_place b place list
 with_place-cons true place at list = refl

@@ -1,20 +1,21 @@
 -- Frames and traces of well-formed lists: there is one, and its words fit.
-use Rattle.std.proofs.Common.{◌≡◌, ℕ, zero, suc, ◌+◌, ◌-◌, ◌^◌, ◌<◌, ◌≤◌, Bool, true, false, cond, nat_eq, eq-eqb, eqb-true, bit_and, List, [], ◌∷◌, ◌++◌, Option, Some, None, is_some, unwrap_or, option_and_then, option_map, ◌⊎◌, inl, inr, ⊎_elim, refl, sym, ap, ap₂, subst, ◌∙◌, append_assoc, append-nil, pow_pos, arith}
-use Rattle.std.proofs.lemmas.Option.{none-some, same_Some, cond_some}
-use Rattle.std.proofs.lemmas.Bool.{cases_Bool, cases_eq, ne_eqb, true≢false}
-use Rattle.std.proofs.lemmas.Nat.{and_le_l}
-use Rattle.base.specs.declared.operators.Unary.{Unary}
-use Rattle.base.specs.declared.operators.Unary.TheVariants.{Not}
-use Rattle.base.specs.declared.operators.Binary.{Binary}
-use Rattle.base.specs.declared.operators.Binary.TheVariants.{And}
-use Rattle.base.specs.Operator.{unary_value, binary_value, unary_width, binary_width}
+use Rattle.std.proofs.Common.{◌≡◌, ℕ, zero, suc, ◌+◌, ◌-◌, ◌^◌, ◌<◌, ◌≤◌, Bool, true, false, cond, ◌==◌, nat_lt, nat_le, ◌&&◌, nat_eq, eq-eqb, eqb-true, List, [], ◌∷◌, ◌++◌, Option, Some, None, is_some, IfSome, unwrap_or, option_and_then, option_map, ◌⊎◌, inl, inr, ⊎_elim, refl, sym, ap, ap₂, subst, ◌∙◌, append_assoc, append-nil, pow_pos, arith}
+use Rattle.std.proofs.lemmas.Option.{none-some, cond_some}
+use Rattle.std.proofs.lemmas.Bool.{cases_eq, ne_eqb, true≢false, and_parts, ltb-true}
+use Rattle.std.proofs.Math.Nat.{pow-suc}
+use Rattle.base.specs.Operator.{unary_value, binary_value, ite_value, slice_value, uext_value, sext_value, concat_value}
+use Rattle.base.specs.Widths.{unary_width, binary_width}
+use Rattle.base.proofs.SignedLaws.{wrapped_below}
+use Rattle.base.proofs.ValueLaws.{unary_below, binary_below, ite_below, slice_below, wider_below, concat_below}
 use Rattle.btor2.specs.declared.item.Item.{Item}
 use Rattle.btor2.specs.declared.item.Body.{Body}
 use Rattle.btor2.specs.declared.item.Body.TheVariants as body
-use Rattle.btor2.specs.Items.{find_item, node_sort, sort_width, width_of_body, node_width, is_state, names_state, next_value}
-use Rattle.btor2.specs.Check.{refusal, IsWellFormed, IsWellFormedAfter}
-use Rattle.btor2.specs.Trace.{Frame, bits_of, LineHolds, LinesHold, IsFrame, next_state, IsTrace, InputFits, StateFits, InputsFit, StatesFit, IsInput, IsState, SameFrame, SameTrace}
-use Rattle.btor2.proofs.ModelLemmas.{find_item-append, find_item-after, find_item-in, find_item-own, sort_width-append, node_width-append, some_of, is_some_from, then_parts, BodyIsAccepted, IsAccepted, IsAccepted-from_refusal, IsIn, IsNextOf, IsNextOf-from_value, IsWellFormed-push}
+use Rattle.btor2.specs.Items.{find_item, node_sort, operands, sort_width, width_of_body, node_width, is_state, names_state, next_value}
+use Rattle.btor2.specs.Check.{IsWellFormed, IsWellFormedAfter}
+use Rattle.btor2.specs.Trace.{Frame, bits_of, line_word, LineHolds, LinesHold, IsFrame, next_state, IsTrace, InputFits, StateFits, InputsFit, StatesFit, IsInput, IsState, SameFrame, SameTrace}
+use Rattle.btor2.proofs.AppendLemmas.{find_item-append, find_item-after, sort_width-append, node_width-append, some_of, is_some_from, then_parts}
+use Rattle.btor2.proofs.AcceptedLemmas.{Each, HasWidth, BodyIsAccepted, IsAccepted, IsAccepted-from_refusal}
+use Rattle.btor2.proofs.ModelLemmas.{find_item-in, find_item-own, IsIn, IsNextOf-from_value, IsWellFormed-front, IsWellFormed-push, sort_width-range, node_width-range}
 
 -- a node with a value is found, and has a sort
 node_found : (items : List Item) (a n : ℕ) → node_width items a ≡ Some n → (y : Item) × (find_item items a ≡ Some y) × (is_some (node_sort y.body) ≡ true)
@@ -34,21 +35,37 @@ operand_agrees items f g a n agree h =
     let there = node_found items a n h in
     agree a (is_some_from (find_item items a) there.0 there.1)
 
+-- what each of some nodes that are there has, by what each item of a list has
+each_node : (items : List Item) (P : ℕ → Type 0) (nodes : List ℕ) → ((a n : ℕ) → node_width items a ≡ Some n → P a) → Each (HasWidth items) nodes → Each P nodes
+each_node items P [] h there = tt
+each_node items P (a ∷ more) h there = (h a there.0.0 there.0.1, each_node items P more h there.1)
+
+-- what two frames have at the operands of a line, they have in the word that it gives
+line_word-same : (items : List Item) (state state' input f g : Frame) (id : ℕ) (b : Body) → ((k : ℕ) → state k ≡ state' k) → Each (λ a. f a ≡ g a) (operands b)
+    → line_word items state input f id b ≡ line_word items state' input g id b
+line_word-same items state state' input f g id (body.State s) states h = ap (λ (w : ℕ). Some w) (states id)
+line_word-same items state state' input f g id (body.Uext s a by) states h = ap (λ (w : ℕ). Some (uext_value w)) h.0
+line_word-same items state state' input f g id (body.Sext s a by) states h = ap (λ (w : ℕ). Some (sext_value (bits_of items a) w by)) h.0
+line_word-same items state state' input f g id (body.Slice s a u l) states h = ap (λ (w : ℕ). Some (slice_value w u l)) h.0
+line_word-same items state state' input f g id (body.Unary op s a) states h = ap (λ (w : ℕ). Some (unary_value op (bits_of items a) w)) h.0
+line_word-same items state state' input f g id (body.Binary op s a b) states h =
+    ap₂ (λ (v w : ℕ). Some (binary_value op (bits_of items a) v w)) h.0 h.1.0
+line_word-same items state state' input f g id (body.Concat s a b) states h = ap₂ (λ (v w : ℕ). Some (concat_value v (bits_of items b) w)) h.0 h.1.0
+line_word-same items state state' input f g id (body.Ite s c t e) states h =
+    ap (λ (v : ℕ). Some (ite_value v (f t) (f e))) h.0 ∙ ap₂ (λ (v w : ℕ). Some (ite_value (g c) v w)) h.1.0 h.1.1.0
+line_word-same items state state' input f g id _ states h = refl
+
+-- a word that a line gives, in another frame with the same word at its node
+word_kept : (o p : Option ℕ) (x y : ℕ) → o ≡ p → x ≡ y → IfSome o (λ w. x ≡ w) → IfSome p (λ w. y ≡ w)
+word_kept o p x y e d h = subst (λ (q : Option ℕ). IfSome q (λ w. y ≡ w)) e (subst (λ (z : ℕ). IfSome o (λ w. z ≡ w)) d h)
+
 -- a line says the same of two frames that agree at its id and its operands
-line_kept : (items before : List Item) (state input f g : Frame) (id : ℕ) (b : Body) → BodyIsAccepted before b → f id ≡ g id → Agrees before f g
-    → LineHolds items state input f id b → LineHolds items state input g id b
-line_kept items before state input f g id (body.Sort n) says same agree h = tt
-line_kept items before state input f g id (body.Input s) says same agree h = sym same ∙ h
-line_kept items before state input f g id (body.State s) says same agree h = sym same ∙ h
-line_kept items before state input f g id (body.Zero s) says same agree h = sym same ∙ h
-line_kept items before state input f g id (body.Unary op s a) says same agree h =
-    sym same ∙ h ∙ ap (unary_value op (bits_of items a)) (operand_agrees before f g a says.0 agree says.1)
-line_kept items before state input f g id (body.Binary op s a b) says same agree h =
-    sym same ∙ h ∙ ap₂ (binary_value op (bits_of items a)) (operand_agrees before f g a says.0 agree says.1) (operand_agrees before f g b says.0 agree says.2)
-line_kept items before state input f g id (body.Init s t v) says same agree h = tt
-line_kept items before state input f g id (body.Next s t v) says same agree h = tt
-line_kept items before state input f g id (body.Bad a) says same agree h = tt
-line_kept items before state input f g id (body.Constraint a) says same agree h = tt
+line_kept : (items before : List Item) (state input f g : Frame) (x : Item) → IsAccepted before x → f x.id ≡ g x.id → Agrees before f g
+    → LineHolds items state input f x.id x.body → LineHolds items state input g x.id x.body
+line_kept items before state input f g x accepted same agree h =
+    let nodes = each_node before (λ a. f a ≡ g a) (operands x.body) (λ a n e. operand_agrees before f g a n agree e) accepted.nodes in
+    let words = line_word-same items state state input f g x.id x.body (λ k. refl) nodes in
+    word_kept _ _ (f x.id) (g x.id) words same h
 
 -- what is found in a front is found
 found_in_front : (front more : List Item) (id : ℕ) → is_some (find_item front id) ≡ true → is_some (find_item (front ++ more) id) ≡ true
@@ -69,31 +86,19 @@ lines_kept items state input f g front (x ∷ xs) w agree h =
     let until : Agrees (front ++ x ∷ []) f g = λ id there. whole id (found_in_front (front ++ x ∷ []) xs id there) in
     let before : Agrees front f g = λ id there. until id (found_in_front front (x ∷ []) id there) in
     let same = until x.id (is_some_from (find_item (front ++ x ∷ []) x.id) x (found_last front x accepted.fresh)) in
-    (line_kept items front state input f g x.id x.body accepted.says same before h.0, lines_kept items state input f g (front ++ x ∷ []) xs w.1 whole h.1)
+    (line_kept items front state input f g x accepted same before h.0, lines_kept items state input f g (front ++ x ∷ []) xs w.1 whole h.1)
 
--- the word that a line gives its node
-abbrev line_value : List Item → Frame → Frame → Frame → Body → ℕ → ℕ
-line_value items state input f (body.Input s) id = input id
-line_value items state input f (body.State s) id = state id
-line_value items state input f (body.Zero s) id = 0
-line_value items state input f (body.Unary op s a) id = unary_value op (bits_of items a) (f a)
-line_value items state input f (body.Binary op s a b) id = binary_value op (bits_of items a) (f a) (f b)
-line_value items state input f _ id = 0
+-- a node has the word that a line gives it, where that was put there
+word_put : (o : Option ℕ) (x : ℕ) → x ≡ unwrap_or o 0 → IfSome o (λ w. x ≡ w)
+word_put None x h = tt
+word_put (Some w) x h = h
 
-line_from_value : (items before : List Item) (state input f g : Frame) (id : ℕ) (b : Body) → BodyIsAccepted before b → Agrees before f g
-    → g id ≡ line_value items state input f b id → LineHolds items state input g id b
-line_from_value items before state input f g id (body.Sort n) says agree h = tt
-line_from_value items before state input f g id (body.Input s) says agree h = h
-line_from_value items before state input f g id (body.State s) says agree h = h
-line_from_value items before state input f g id (body.Zero s) says agree h = h
-line_from_value items before state input f g id (body.Unary op s a) says agree h =
-    h ∙ ap (unary_value op (bits_of items a)) (operand_agrees before f g a says.0 agree says.1)
-line_from_value items before state input f g id (body.Binary op s a b) says agree h =
-    h ∙ ap₂ (binary_value op (bits_of items a)) (operand_agrees before f g a says.0 agree says.1) (operand_agrees before f g b says.0 agree says.2)
-line_from_value items before state input f g id (body.Init s t v) says agree h = tt
-line_from_value items before state input f g id (body.Next s t v) says agree h = tt
-line_from_value items before state input f g id (body.Bad a) says agree h = tt
-line_from_value items before state input f g id (body.Constraint a) says agree h = tt
+line_from_word : (items before : List Item) (state input f g : Frame) (x : Item) → IsAccepted before x → Agrees before f g
+    → g x.id ≡ unwrap_or (line_word items state input f x.id x.body) 0 → LineHolds items state input g x.id x.body
+line_from_word items before state input f g x accepted agree h =
+    let nodes = each_node before (λ a. f a ≡ g a) (operands x.body) (λ a n e. operand_agrees before f g a n agree e) accepted.nodes in
+    let words = line_word-same items state state input f g x.id x.body (λ k. refl) nodes in
+    word_kept _ _ (g x.id) (g x.id) words refl (word_put (line_word items state input f x.id x.body) (g x.id) h)
 
 -- a frame with a word put at an id
 abbrev put_word : Frame → ℕ → ℕ → Frame
@@ -120,10 +125,10 @@ frame_from : (items : List Item) (state input f : Frame) (before rest : List Ite
 frame_from items state input f before [] w r h = (f, rw append-nil h)
 frame_from items state input f before (x ∷ xs) w r h =
     let accepted = IsAccepted-from_refusal before x r.0 in
-    let word = line_value items state input f x.body x.id in
+    let word = unwrap_or (line_word items state input f x.id x.body) 0 in
     let g = put_word f x.id word in
     let agree = put_word-kept before f x.id word accepted.fresh in
-    let line = line_from_value items before state input f g x.id x.body accepted.says agree (put_word-own f x.id word) in
+    let line = line_from_word items before state input f g x accepted agree (put_word-own f x.id word) in
     let lines = lines_join items state input g before (x ∷ []) (lines_kept items state input f g [] before w agree h) (line, tt) in
     let found = frame_from items state input g (before ++ x ∷ []) xs (IsWellFormed-push before x w r.0) r.1 lines in
     (found.0, rw append_assoc at found.1)
@@ -149,20 +154,30 @@ operand_same items f g a n same h =
     let there = node_found items a n h in
     same a there.0 there.1 there.2
 
-line_same : (items before : List Item) (state state' input f g : Frame) (id : ℕ) (b : Body) → ((k : ℕ) → state k ≡ state' k) → BodyIsAccepted before b → SameNodes before f g
-    → LineHolds items state input f id b → LineHolds items state' input g id b → is_some (node_sort b) ≡ true → f id ≡ g id
-line_same items before state state' input f g id (body.Sort n) states says same h k node = absurd (true≢false (sym node))
-line_same items before state state' input f g id (body.Input s) states says same h k node = h ∙ sym k
-line_same items before state state' input f g id (body.State s) states says same h k node = h ∙ states id ∙ sym k
-line_same items before state state' input f g id (body.Zero s) states says same h k node = h ∙ sym k
-line_same items before state state' input f g id (body.Unary op s a) states says same h k node =
-    h ∙ ap (unary_value op (bits_of items a)) (operand_same before f g a says.0 same says.1) ∙ sym k
-line_same items before state state' input f g id (body.Binary op s a b) states says same h k node =
-    h ∙ ap₂ (binary_value op (bits_of items a)) (operand_same before f g a says.0 same says.1) (operand_same before f g b says.0 same says.2) ∙ sym k
-line_same items before state state' input f g id (body.Init s t v) states says same h k node = absurd (true≢false (sym node))
-line_same items before state state' input f g id (body.Next s t v) states says same h k node = absurd (true≢false (sym node))
-line_same items before state state' input f g id (body.Bad a) states says same h k node = absurd (true≢false (sym node))
-line_same items before state state' input f g id (body.Constraint a) states says same h k node = absurd (true≢false (sym node))
+-- a node's line gives it a word
+line_word-there : (items : List Item) (state input f : Frame) (id : ℕ) (b : Body) → is_some (node_sort b) ≡ true → is_some (line_word items state input f id b) ≡ true
+line_word-there items state input f id (body.Sort n) h = h
+line_word-there items state input f id (body.Init s t v) h = h
+line_word-there items state input f id (body.Next s t v) h = h
+line_word-there items state input f id (body.Bad a) h = h
+line_word-there items state input f id (body.Constraint a) h = h
+line_word-there items state input f id (body.Fair a) h = h
+line_word-there items state input f id (body.Output a) h = h
+line_word-there items state input f id (body.Justice nodes) h = h
+line_word-there items state input f id _ h = refl
+
+-- two nodes with one word that is there
+word_same : (o : Option ℕ) (x y : ℕ) → is_some o ≡ true → IfSome o (λ w. x ≡ w) → IfSome o (λ w. y ≡ w) → x ≡ y
+word_same None x y there h k = absurd (cc)
+word_same (Some w) x y there h k = h ∙ sym k
+
+line_same : (items before : List Item) (state state' input f g : Frame) (x : Item) → ((k : ℕ) → state k ≡ state' k) → IsAccepted before x → SameNodes before f g
+    → LineHolds items state input f x.id x.body → LineHolds items state' input g x.id x.body → is_some (node_sort x.body) ≡ true → f x.id ≡ g x.id
+line_same items before state state' input f g x states accepted same h k node =
+    let nodes = each_node before (λ a. f a ≡ g a) (operands x.body) (λ a n e. operand_same before f g a n same e) accepted.nodes in
+    let words = line_word-same items state state' input f g x.id x.body states nodes in
+    let there = line_word-there items state' input g x.id x.body node in
+    word_same (line_word items state' input g x.id x.body) (f x.id) (g x.id) there (word_kept _ _ (f x.id) (f x.id) words refl h) k
 
 -- what an id finds in a list with one item more: what it found, or that item
 found_cases : (before : List Item) (x : Item) (id : ℕ) (y : Item) → find_item (before ++ x ∷ []) id ≡ Some y → (find_item before id ≡ Some y) ⊎ ((id ≡ x.id) × (x ≡ y))
@@ -179,7 +194,7 @@ same_from : (items : List Item) (state state' input f g : Frame) (before rest : 
 same_from items state state' input f g before [] states w h k same = rw append-nil same
 same_from items state state' input f g before (x ∷ xs) states w h k same =
     let accepted = IsAccepted-from_refusal before x w.0 in
-    let own = line_same items before state state' input f g x.id x.body states accepted.says same h.0 k.0 in
+    let own = line_same items before state state' input f g x states accepted same h.0 k.0 in
     let more : SameNodes (before ++ x ∷ []) f g =
     λ id y found node. ⊎_elim (λ e. same id y e node) (λ e. ap f e.0 ∙ own (ap (λ (z : Item). is_some (node_sort z.body)) e.1 ∙ node) ∙ ap g (sym e.0)) (found_cases before x id y found) in
     rw append_assoc at (same_from items state state' input f g (before ++ x ∷ []) xs states w.1 h.1 k.1 more)
@@ -216,21 +231,9 @@ trace_unique items state inputs fs gs w h k = trace_same items state state input
 
 -- Words fit.
 
-unary_below : (op : Unary) (n a : ℕ) → a < 2 ^ n → unary_value op n a < 2 ^ unary_width op n
-unary_below Not n a h = omega arith
-
-binary_below : (op : Binary) (n a b : ℕ) → a < 2 ^ n → b < 2 ^ n → binary_value op n a b < 2 ^ binary_width op n
-binary_below And n a b h k = omega (arith, and_le_l a b)
-
 -- a word by another that is its equal, at a width by another
 below_by : (word other n m : ℕ) → word ≡ other → n ≡ m → other < 2 ^ m → word < 2 ^ n
 below_by word other n m e d h = rw (e, d) h
-
-unary_fits : (op : Unary) (m n a : ℕ) → m ≡ n → a < 2 ^ m → unary_value op m a < 2 ^ unary_width op n
-unary_fits op m n a e h = rw e (unary_below op n a (rw e at h))
-
-binary_fits : (op : Binary) (m k n a b : ℕ) → m ≡ n → k ≡ n → a < 2 ^ m → b < 2 ^ k → binary_value op m a b < 2 ^ binary_width op n
-binary_fits op m k n a b e d h j = rw e (binary_below op n a b (rw e at h) (rw d at j))
 
 -- the width of a node that a front has
 bits_in : (items before more : List Item) (a n : ℕ) → items ≡ before ++ more → node_width before a ≡ Some n → bits_of items a ≡ n
@@ -251,24 +254,82 @@ operand_fits items before f a n fits h =
     let there = node_found before a n h in
     fits a there.0 there.1 there.2
 
-line_fits : (items before more : List Item) (state input f : Frame) (id : ℕ) (b : Body) → items ≡ before ++ more → bits_of items id ≡ unwrap_or (width_of_body items b) 0
-    → BodyIsAccepted before b → WordsFit items before f → StateFits items state id b → InputFits items input id b → LineHolds items state input f id b
-    → is_some (node_sort b) ≡ true → f id < 2 ^ bits_of items id
-line_fits items before more state input f id (body.Sort n) e bits says fits given in_word h node = absurd (true≢false (sym node))
-line_fits items before more state input f id (body.Input s) e bits says fits given in_word h node = below_by (f id) (input id) (bits_of items id) (bits_of items id) h refl in_word
-line_fits items before more state input f id (body.State s) e bits says fits given in_word h node = below_by (f id) (state id) (bits_of items id) (bits_of items id) h refl given
-line_fits items before more state input f id (body.Zero s) e bits says fits given in_word h node = below_by (f id) 0 (bits_of items id) (bits_of items id) h refl (pow_pos (bits_of items id))
-line_fits items before more state input f id (body.Unary op s a) e bits says fits given in_word h node =
-    below_by (f id) (unary_value op (bits_of items a) (f a)) (bits_of items id) (unary_width op says.0) h (bits ∙ sort_in items before more s (unary_width op says.0) e says.2)
-    (unary_fits op (bits_of items a) says.0 (f a) (bits_in items before more a says.0 e says.1) (operand_fits items before f a says.0 fits says.1))
-line_fits items before more state input f id (body.Binary op s a b) e bits says fits given in_word h node =
-    below_by (f id) (binary_value op (bits_of items a) (f a) (f b)) (bits_of items id) (binary_width op says.0) h (bits ∙ sort_in items before more s (binary_width op says.0) e says.3)
-    (binary_fits op (bits_of items a) (bits_of items b) says.0 (f a) (f b) (bits_in items before more a says.0 e says.1) (bits_in items before more b says.0 e says.2)
-    (operand_fits items before f a says.0 fits says.1) (operand_fits items before f b says.0 fits says.2))
-line_fits items before more state input f id (body.Init s t v) e bits says fits given in_word h node = absurd (true≢false (sym node))
-line_fits items before more state input f id (body.Next s t v) e bits says fits given in_word h node = absurd (true≢false (sym node))
-line_fits items before more state input f id (body.Bad a) e bits says fits given in_word h node = absurd (true≢false (sym node))
-line_fits items before more state input f id (body.Constraint a) e bits says fits given in_word h node = absurd (true≢false (sym node))
+-- an operand's word at the width that it is known to have
+operand_below : (items before more : List Item) (f : Frame) (a n : ℕ) → items ≡ before ++ more → WordsFit items before f → node_width before a ≡ Some n → f a < 2 ^ n
+operand_below items before more f a n e fits h =
+    subst (λ (k : ℕ). f a < 2 ^ k) (bits_in items before more a n e h) (operand_fits items before f a n fits h)
+
+-- a binary constant that fits is a word
+digits_below : (n d v : ℕ) → ((d == n) && nat_lt v (2 ^ d)) ≡ true → v < 2 ^ n
+digits_below n d v h =
+    let both = and_parts (d == n) (nat_lt v (2 ^ d)) h in
+    subst (λ (k : ℕ). v < 2 ^ k) (eqb-true d n both.0) (ltb-true v (2 ^ d) both.1)
+
+-- a hexadecimal constant that fits is a word
+hex_below : (n d v : ℕ) → (nat_le 1 d && (nat_le d 16 && (nat_lt v (2 ^ n) && nat_lt v (16 ^ d)))) ≡ true → v < 2 ^ n
+hex_below n d v h =
+    let most = and_parts (nat_le 1 d) _ h in
+    let value = and_parts (nat_le d 16) _ most.1 in
+    ltb-true v (2 ^ n) (and_parts (nat_lt v (2 ^ n)) _ value.1).0
+
+-- one is a word of each width
+one_below : (n : ℕ) → 1 ≤ n → 1 < 2 ^ n
+one_below zero h = absurd (omega arith)
+one_below (suc n) h = omega (arith, pow-suc 2 n, pow_pos n)
+
+-- the word that an accepted line gives its node is one of the width of its sort
+line_word-fits : (items before more : List Item) (state input f : Frame) (id : ℕ) (b : Body) → items ≡ before ++ more → IsWellFormed before
+    → bits_of items id ≡ unwrap_or (width_of_body items b) 0 → BodyIsAccepted before b → WordsFit items before f → StateFits items state id b → InputFits items input id b
+    → IfSome (line_word items state input f id b) (λ w. w < 2 ^ bits_of items id)
+line_word-fits items before more state input f id (body.Input s) e wf bits says fits given in_word = in_word
+line_word-fits items before more state input f id (body.State s) e wf bits says fits given in_word = given
+line_word-fits items before more state input f id (body.Zero s) e wf bits says fits given in_word = pow_pos (bits_of items id)
+line_word-fits items before more state input f id (body.One s) e wf bits says fits given in_word =
+    below_by 1 1 (bits_of items id) says.0 refl (bits ∙ sort_in items before more s says.0 e says.1) (one_below says.0 (sort_width-range before s says.0 wf says.1).0)
+line_word-fits items before more state input f id (body.Ones s) e wf bits says fits given in_word = omega (arith, pow_pos (bits_of items id))
+line_word-fits items before more state input f id (body.Const s d v) e wf bits says fits given in_word =
+    below_by v v (bits_of items id) says.0 refl (bits ∙ sort_in items before more s says.0 e says.1) (digits_below says.0 d v says.2)
+line_word-fits items before more state input f id (body.Constd s v) e wf bits says fits given in_word = wrapped_below (bits_of items id) v
+line_word-fits items before more state input f id (body.Consth s d v) e wf bits says fits given in_word =
+    below_by v v (bits_of items id) says.0 refl (bits ∙ sort_in items before more s says.0 e says.1) (hex_below says.0 d v says.2)
+line_word-fits items before more state input f id (body.Uext s a by) e wf bits says fits given in_word =
+    below_by _ _ (bits_of items id) (says.0 + by) refl (bits ∙ sort_in items before more s (says.0 + by) e says.2)
+    (wider_below says.0 (f a) by (operand_below items before more f a says.0 e fits says.1))
+line_word-fits items before more state input f id (body.Sext s a by) e wf bits says fits given in_word =
+    below_by _ _ (bits_of items id) (bits_of items a + by) refl
+    (bits ∙ sort_in items before more s (says.0 + by) e says.2 ∙ ap (λ (n : ℕ). n + by) (sym (bits_in items before more a says.0 e says.1)))
+    (wrapped_below (bits_of items a + by) _)
+line_word-fits items before more state input f id (body.Slice s a u l) e wf bits says fits given in_word =
+    below_by _ _ (bits_of items id) (u - l + 1) refl (bits ∙ sort_in items before more s (u - l + 1) e says.2) (slice_below (f a) u l)
+line_word-fits items before more state input f id (body.Unary op s a) e wf bits says fits given in_word =
+    below_by _ (unary_value op says.0 (f a)) (bits_of items id) (unary_width op says.0)
+    (ap (λ (n : ℕ). unary_value op n (f a)) (bits_in items before more a says.0 e says.1)) (bits ∙ sort_in items before more s (unary_width op says.0) e says.2)
+    (unary_below op says.0 (f a) (node_width-range before a says.0 wf says.1).0 (operand_below items before more f a says.0 e fits says.1))
+line_word-fits items before more state input f id (body.Binary op s a b) e wf bits says fits given in_word =
+    below_by _ (binary_value op says.0 (f a) (f b)) (bits_of items id) (binary_width op says.0)
+    (ap (λ (n : ℕ). binary_value op n (f a) (f b)) (bits_in items before more a says.0 e says.1)) (bits ∙ sort_in items before more s (binary_width op says.0) e says.3)
+    (binary_below op says.0 (f a) (f b) (node_width-range before a says.0 wf says.1).0
+    (operand_below items before more f a says.0 e fits says.1) (operand_below items before more f b says.0 e fits says.2))
+line_word-fits items before more state input f id (body.Concat s a b) e wf bits says fits given in_word =
+    below_by _ (concat_value (f a) says.1 (f b)) (bits_of items id) (says.0 + says.1)
+    (ap (λ (n : ℕ). concat_value (f a) n (f b)) (bits_in items before more b says.1 e says.3)) (bits ∙ sort_in items before more s (says.0 + says.1) e says.4)
+    (concat_below says.0 says.1 (f a) (f b) (operand_below items before more f a says.0 e fits says.2) (operand_below items before more f b says.1 e fits says.3))
+line_word-fits items before more state input f id (body.Ite s c t e) whole wf bits says fits given in_word =
+    below_by _ _ (bits_of items id) says.0 refl (bits ∙ sort_in items before more s says.0 whole says.4)
+    (ite_below says.0 (f c) (f t) (f e) (operand_below items before more f t says.0 whole fits says.2) (operand_below items before more f e says.0 whole fits says.3))
+line_word-fits items before more state input f id _ e wf bits says fits given in_word = tt
+
+-- a node that has a word has one that fits where the word does
+fits_by : (o : Option ℕ) (x n : ℕ) → is_some o ≡ true → IfSome o (λ w. w < 2 ^ n) → IfSome o (λ w. x ≡ w) → x < 2 ^ n
+fits_by None x n there h k = absurd (cc)
+fits_by (Some w) x n there h k = below_by x w n n k refl h
+
+line_fits : (items before more : List Item) (state input f : Frame) (id : ℕ) (b : Body) → items ≡ before ++ more → IsWellFormed before
+    → bits_of items id ≡ unwrap_or (width_of_body items b) 0 → BodyIsAccepted before b → WordsFit items before f → StateFits items state id b → InputFits items input id b
+    → LineHolds items state input f id b → is_some (node_sort b) ≡ true → f id < 2 ^ bits_of items id
+line_fits items before more state input f id b e wf bits says fits given in_word h node =
+    fits_by (line_word items state input f id b) (f id) (bits_of items id) (line_word-there items state input f id b node)
+    (line_word-fits items before more state input f id b e wf bits says fits given in_word) h
 
 -- the width of a node that stands in the list
 bits_own : (items : List Item) (x : Item) → IsWellFormed items → IsIn items x → bits_of items x.id ≡ unwrap_or (width_of_body items x.body) 0
@@ -280,7 +341,7 @@ fits_from items state input f before [] whole e w states inputs h fits = rw appe
 fits_from items state input f before (x ∷ xs) whole e w states inputs h fits =
     let accepted = IsAccepted-from_refusal before x w.0 in
     let at : IsIn items x = record { before = before; after = xs; splits = e } in
-    let own = line_fits items before (x ∷ xs) state input f x.id x.body e (bits_own items x whole at) accepted.says fits states.0 inputs.0 h.0 in
+    let own = line_fits items before (x ∷ xs) state input f x.id x.body e (IsWellFormed-front before (x ∷ xs) (subst IsWellFormed e whole)) (bits_own items x whole at) accepted.says fits states.0 inputs.0 h.0 in
     let more : WordsFit items (before ++ x ∷ []) f =
     λ id y found node. ⊎_elim
     (λ old. fits id y old node)

@@ -1,7 +1,7 @@
 -- Which items a model refuses, and why: the rows of one table, of which the first that applies is answered.
-use Rattle.std.specs.Prelude.{◌≡◌, ℕ, Bool, true, false, not, ◌&&◌, ◌||◌, List, [], ◌∷◌, ◌++◌, length, Option, Some, None, Result, Ok, Err, ◌==◌, nat_le, nat_lt, if◌then◌else◌, is_some, is_none, unwrap_or, ◌⊎◌}
+use Rattle.std.specs.Prelude.{◌≡◌, ℕ, Bool, true, false, not, ◌&&◌, ◌||◌, List, [], ◌∷◌, ◌++◌, ◌+◌, ◌-◌, ◌^◌, length, pos, neg_ℤ, int_le, int_lt, option_and_then, Option, Some, None, Result, Ok, Err, ◌==◌, nat_le, nat_lt, if◌then◌else◌, is_some, is_none, unwrap_or, ◌⊎◌}
 use Rattle.std.specs.List.{list_all}
-use Rattle.base.specs.Operator.{unary_width, binary_width}
+use Rattle.base.specs.Widths.{unary_width, binary_width, is_of_bits}
 use Rattle.btor2.specs.declared.item.Item.{Item}
 use Rattle.btor2.specs.declared.item.Body.{Body}
 use Rattle.btor2.specs.declared.item.Body.TheVariants as body
@@ -47,18 +47,46 @@ unfoldable pub width_is_out_of_range : Body → Bool
 width_is_out_of_range (body.Sort n) = not (nat_le 1 n && nat_le n 64)
 width_is_out_of_range _ = false
 
--- The widths that a form asks for, given the width of its sort and those of its operands by their ids.
+-- the bits of a slice are not those of a node of this width: not l ≤ u < width
+abbrev pub is_no_slice : ℕ → ℕ → ℕ → Bool
+is_no_slice n u l = not (nat_le l u && nat_lt u n)
+
+unfoldable pub slice_is_out_of_range : List Item → Body → Bool
+slice_is_out_of_range items (body.Slice s a u l) = is_no_slice (unwrap_or (node_width items a) 0) u l
+slice_is_out_of_range items _ = false
+
+-- The widths that a form asks for, given the width of its sort and those of its operands by their ids: one line for each form,
+-- and for the operators of one and of two operands by the widths of what they give.
 abbrev pub widths_agree : (ℕ → ℕ) → (ℕ → ℕ) → Body → Bool
+widths_agree sort node (body.Uext s a by) = sort s == node a + by
+widths_agree sort node (body.Sext s a by) = sort s == node a + by
+widths_agree sort node (body.Slice s a u l) = sort s == u - l + 1
 widths_agree sort node (body.Unary op s a) = sort s == unary_width op (node a)
-widths_agree sort node (body.Binary op s a b) = (node a == node b) && (sort s == binary_width op (node a))
+widths_agree sort node (body.Binary op s a b) =
+    (node a == node b) && ((not (is_of_bits op) || (node a == 1)) && (sort s == binary_width op (node a)))
+widths_agree sort node (body.Concat s a b) = sort s == node a + node b
+widths_agree sort node (body.Ite s c t e) = (node c == 1) && ((sort s == node t) && (sort s == node e))
 widths_agree sort node (body.Init s t v) = (sort s == node t) && (sort s == node v)
 widths_agree sort node (body.Next s t v) = (sort s == node t) && (sort s == node v)
 widths_agree sort node (body.Bad a) = node a == 1
 widths_agree sort node (body.Constraint a) = node a == 1
+widths_agree sort node (body.Fair a) = node a == 1
+widths_agree sort node (body.Justice nodes) = list_all (λ a. node a == 1) nodes
 widths_agree sort node _ = true
 
 unfoldable pub widths_differ : List Item → Body → Bool
 widths_differ items b = not (widths_agree (λ s. unwrap_or (sort_width items s) 0) (λ a. unwrap_or (node_width items a) 0) b)
+
+-- A constant fits a sort of n bits: as many binary digits as n; a decimal from -2 ^ (n - 1) to 2 ^ n - 1; 1 to 16 hexadecimal
+-- digits. Its value is a word of n bits, and none above what its digits can say.
+abbrev pub constant_fits : ℕ → Body → Bool
+constant_fits n (body.Const s d v) = (d == n) && nat_lt v (2 ^ d)
+constant_fits n (body.Constd s v) = int_le (neg_ℤ (pos (2 ^ (n - 1)))) v && int_lt v (pos (2 ^ n))
+constant_fits n (body.Consth s d v) = nat_le 1 d && (nat_le d 16 && (nat_lt v (2 ^ n) && nat_lt v (16 ^ d)))
+constant_fits n _ = true
+
+unfoldable pub constant_does_not_fit : List Item → Body → Bool
+constant_does_not_fit items b = not (constant_fits (unwrap_or (option_and_then (sort_width items) (named_sort b)) 0) b)
 
 -- the value of an init is no constant node
 unfoldable pub init_is_not_constant : List Item → Body → Bool
@@ -73,6 +101,11 @@ is_second_init items _ = false
 unfoldable pub is_second_next : List Item → Body → Bool
 is_second_next items (body.Next s t v) = is_some (next_value items t)
 is_second_next items _ = false
+
+-- a justice line names no node
+unfoldable pub justice_is_empty : Body → Bool
+justice_is_empty (body.Justice []) = true
+justice_is_empty _ = false
 
 -- the first row whose test is true
 abbrev pub first_row : List (Bool × PushFault) → Option PushFault
@@ -89,10 +122,13 @@ table items x =
     ∷ (operand_is_missing items x.body, fault.NoSuchNode)
     ∷ (state_is_none items x.body, fault.NotAState)
     ∷ (width_is_out_of_range x.body, fault.WidthOutOfRange)
+    ∷ (slice_is_out_of_range items x.body, fault.SliceOutOfRange)
     ∷ (widths_differ items x.body, fault.SortMismatch)
+    ∷ (constant_does_not_fit items x.body, fault.ConstantDoesNotFit)
     ∷ (init_is_not_constant items x.body, fault.InitNotConstant)
     ∷ (is_second_init items x.body, fault.SecondInit)
     ∷ (is_second_next items x.body, fault.SecondNext)
+    ∷ (justice_is_empty x.body, fault.JusticeEmpty)
     ∷ []
 
 -- the refusal of an item after the items before it, if there is one

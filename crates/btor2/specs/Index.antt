@@ -1,5 +1,5 @@
 -- What a model keeps beside its items, so that no call walks them.
-use Rattle.std.specs.Prelude.{◌≡◌, ℕ, List, map, nat_eq}
+use Rattle.std.specs.Prelude.{◌≡◌, ℕ, map, nat_eq}
 use Rattle.std.specs.HashMap.{get}
 use Rattle.btor2.specs.declared.model.Model.TheInside.{Inside}
 use Rattle.btor2.specs.Items.{init_value, next_value, is_input, is_state, is_bad, is_constraint}

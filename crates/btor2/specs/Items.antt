@@ -1,45 +1,60 @@
 -- What a list of items says of ids ("Btor2, BtorMC and Boolector 3.0", syntax: a line names sorts and nodes by the ids of earlier lines).
-use Rattle.std.specs.Prelude.{ℕ, Bool, true, false, List, [], ◌∷◌, Option, Some, None, ◌==◌, if◌then◌else◌, option_and_then, unwrap_or, is_some}
+use Rattle.std.specs.Prelude.{ℕ, Bool, true, false, List, [], ◌∷◌, Option, Some, None, ◌==◌, if◌then◌else◌, option_and_then, is_some}
 use Rattle.std.specs.List.{position_from}
 use Rattle.std.specs.Option.{option_or}
+use Rattle.base.specs.Signed.{wrapped}
+use Rattle.base.specs.Operator.{ones}
 use Rattle.btor2.specs.declared.item.Item.{Item}
 use Rattle.btor2.specs.declared.item.Body.{Body}
 use Rattle.btor2.specs.declared.item.Body.TheVariants as body
 
+-- the sort of a node with a value: of a leaf, a constant or an operator
+abbrev pub node_sort : Body → Option ℕ
+node_sort (body.Input s) = Some s
+node_sort (body.State s) = Some s
+node_sort (body.Zero s) = Some s
+node_sort (body.One s) = Some s
+node_sort (body.Ones s) = Some s
+node_sort (body.Const s d v) = Some s
+node_sort (body.Constd s v) = Some s
+node_sort (body.Consth s d v) = Some s
+node_sort (body.Uext s a by) = Some s
+node_sort (body.Sext s a by) = Some s
+node_sort (body.Slice s a u l) = Some s
+node_sort (body.Unary op s a) = Some s
+node_sort (body.Binary op s a b) = Some s
+node_sort (body.Concat s a b) = Some s
+node_sort (body.Ite s c t e) = Some s
+node_sort _ = None
+
 -- the sort that an item names
 abbrev pub named_sort : Body → Option ℕ
-named_sort (body.Input s) = Some s
-named_sort (body.State s) = Some s
-named_sort (body.Zero s) = Some s
-named_sort (body.Unary op s a) = Some s
-named_sort (body.Binary op s a b) = Some s
 named_sort (body.Init s t v) = Some s
 named_sort (body.Next s t v) = Some s
-named_sort _ = None
+named_sort b = node_sort b
 
 -- the nodes that an item names, from left to right
 abbrev pub operands : Body → List ℕ
+operands (body.Uext s a by) = a ∷ []
+operands (body.Sext s a by) = a ∷ []
+operands (body.Slice s a u l) = a ∷ []
 operands (body.Unary op s a) = a ∷ []
 operands (body.Binary op s a b) = a ∷ b ∷ []
+operands (body.Concat s a b) = a ∷ b ∷ []
+operands (body.Ite s c t e) = c ∷ t ∷ e ∷ []
 operands (body.Init s t v) = t ∷ v ∷ []
 operands (body.Next s t v) = t ∷ v ∷ []
 operands (body.Bad a) = a ∷ []
 operands (body.Constraint a) = a ∷ []
+operands (body.Fair a) = a ∷ []
+operands (body.Output a) = a ∷ []
+operands (body.Justice nodes) = nodes
 operands _ = []
 
 -- the width that a sort's line gives
 abbrev pub sort_bits : Body → Option ℕ
 sort_bits (body.Sort n) = Some n
 sort_bits _ = None
-
--- the sort of a node with a value: of a leaf or an operator
-abbrev pub node_sort : Body → Option ℕ
-node_sort (body.Input s) = Some s
-node_sort (body.State s) = Some s
-node_sort (body.Zero s) = Some s
-node_sort (body.Unary op s a) = Some s
-node_sort (body.Binary op s a b) = Some s
-node_sort _ = None
 
 abbrev pub is_input : Body → Bool
 is_input (body.Input s) = true
@@ -60,6 +75,11 @@ is_constraint _ = false
 -- the word of a constant node of a width
 abbrev pub constant_word : ℕ → Body → Option ℕ
 constant_word w (body.Zero s) = Some 0
+constant_word w (body.One s) = Some 1
+constant_word w (body.Ones s) = Some (ones w)
+constant_word w (body.Const s d v) = Some v
+constant_word w (body.Constd s v) = Some (wrapped w v)
+constant_word w (body.Consth s d v) = Some v
 constant_word w _ = None
 
 -- the value that a body gives a state where it is an init line of that state, and where it is a next line of it

@@ -1,11 +1,11 @@
 -- Frames and traces of a model ("Btor2, BtorMC and Boolector 3.0", semantics of sequential models).
 -- A frame is a function from ids to words, and means something at nodes with a value.
-use Rattle.std.specs.Prelude.{◌≡◌, ℕ, ◌<◌, ◌^◌, true, List, [], ◌∷◌, Option, Some, None, ◌==◌, option_map, unwrap_or, is_some}
-use Rattle.base.specs.Operator.{unary_value, binary_value}
+use Rattle.std.specs.Prelude.{◌≡◌, ℕ, ◌<◌, ◌^◌, true, List, [], ◌∷◌, Option, Some, IfSome, option_map, unwrap_or, is_some}
+use Rattle.base.specs.Operator.{unary_value, binary_value, ite_value, slice_value, uext_value, sext_value, concat_value}
 use Rattle.btor2.specs.declared.item.Item.{Item}
 use Rattle.btor2.specs.declared.item.Body.{Body}
 use Rattle.btor2.specs.declared.item.Body.TheVariants as body
-use Rattle.btor2.specs.Items.{node_width, width_of_body, constant_of, next_value}
+use Rattle.btor2.specs.Items.{node_width, constant_word, constant_of, next_value}
 
 abbrev pub Frame : Type 0
 Frame = ℕ → ℕ
@@ -14,15 +14,23 @@ Frame = ℕ → ℕ
 abbrev pub bits_of : List Item → ℕ → ℕ
 bits_of items id = unwrap_or (node_width items id) 0
 
--- What a line says of a frame, where `state` has the words of the states and `input` those of the inputs:
+-- The word that a line gives its node in a frame, where `state` has the words of the states and `input` those of the inputs:
 -- a leaf has its given word, a constant its value, an operator what it gives for its operands' words.
+abbrev pub line_word : List Item → Frame → Frame → Frame → ℕ → Body → Option ℕ
+line_word items state input f id (body.Input s) = Some (input id)
+line_word items state input f id (body.State s) = Some (state id)
+line_word items state input f id (body.Uext s a by) = Some (uext_value (f a))
+line_word items state input f id (body.Sext s a by) = Some (sext_value (bits_of items a) (f a) by)
+line_word items state input f id (body.Slice s a u l) = Some (slice_value (f a) u l)
+line_word items state input f id (body.Unary op s a) = Some (unary_value op (bits_of items a) (f a))
+line_word items state input f id (body.Binary op s a b) = Some (binary_value op (bits_of items a) (f a) (f b))
+line_word items state input f id (body.Concat s a b) = Some (concat_value (f a) (bits_of items b) (f b))
+line_word items state input f id (body.Ite s c t e) = Some (ite_value (f c) (f t) (f e))
+line_word items state input f id b = constant_word (bits_of items id) b
+
+-- what a line says of a frame: its node has the word that the line gives it
 abbrev pub LineHolds : List Item → Frame → Frame → Frame → ℕ → Body → Type 0
-LineHolds items state input f id (body.Input s) = f id ≡ input id
-LineHolds items state input f id (body.State s) = f id ≡ state id
-LineHolds items state input f id (body.Zero s) = f id ≡ 0
-LineHolds items state input f id (body.Unary op s a) = f id ≡ unary_value op (bits_of items a) (f a)
-LineHolds items state input f id (body.Binary op s a b) = f id ≡ binary_value op (bits_of items a) (f a) (f b)
-LineHolds items state input f id _ = Unit {0}
+LineHolds items state input f id b = IfSome (line_word items state input f id b) (λ w. f id ≡ w)
 
 -- each of some lines holds
 abbrev pub LinesHold : List Item → Frame → Frame → Frame → List Item → Type 0

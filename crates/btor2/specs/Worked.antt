@@ -1,6 +1,7 @@
--- Worked rows: a model that toggles one bit, and the first lines of another.
-use Rattle.std.specs.Prelude.{ℕ, List, [], ◌∷◌, Option, None}
+-- Worked rows: a model that toggles one bit, one that counts, one that has a node of each shape, and the first lines of another.
+use Rattle.std.specs.Prelude.{ℕ, List, [], ◌∷◌, None, negsuc}
 use Rattle.base.specs.declared.operators.Unary.TheVariants as unary
+use Rattle.base.specs.declared.operators.Binary.TheVariants as binary
 use Rattle.btor2.specs.declared.item.Item.{Item}
 use Rattle.btor2.specs.declared.item.Body.{Body}
 use Rattle.btor2.specs.declared.item.Body.TheVariants as body
@@ -19,6 +20,41 @@ toggler =
     ∷ line 5 (body.Unary unary.Not 1 3)
     ∷ line 6 (body.Next 1 3 5)
     ∷ line 7 (body.Bad 3)
+    ∷ []
+
+-- a counter of two bits from 0, bad where it is 3
+abbrev pub counter : List Item
+counter =
+    line 1 (body.Sort 1)
+    ∷ line 2 (body.Sort 2)
+    ∷ line 3 (body.Zero 2)
+    ∷ line 4 (body.State 2)
+    ∷ line 5 (body.Init 2 4 3)
+    ∷ line 6 (body.Unary unary.Inc 2 4)
+    ∷ line 7 (body.Next 2 4 6)
+    ∷ line 8 (body.Const 2 2 3)
+    ∷ line 9 (body.Binary binary.Eq 1 4 8)
+    ∷ line 10 (body.Bad 9)
+    ∷ []
+
+-- an input of four bits, constants, and what widens, cuts, joins and chooses
+abbrev pub shapes : List Item
+shapes =
+    line 1 (body.Sort 4)
+    ∷ line 2 (body.Input 1)
+    ∷ line 3 (body.Sort 8)
+    ∷ line 4 (body.Sort 1)
+    ∷ line 5 (body.Sext 3 2 4)
+    ∷ line 6 (body.Uext 3 2 4)
+    ∷ line 7 (body.Slice 4 2 3 3)
+    ∷ line 8 (body.Concat 3 2 2)
+    ∷ line 9 (body.Ite 3 7 5 6)
+    ∷ line 10 (body.Constd 1 (negsuc 7))
+    ∷ line 11 (body.Consth 1 2 15)
+    ∷ line 12 (body.Ones 1)
+    ∷ line 13 (body.One 1)
+    ∷ line 14 (body.Output 9)
+    ∷ line 15 (body.Justice (7 ∷ 7 ∷ []))
     ∷ []
 
 -- a sort of four bits and an input of it

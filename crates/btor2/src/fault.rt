@@ -27,9 +27,16 @@ pub enum PushFault {
     /// A sort's width is not 1 to 64.
     #[error("5 WidthOutOfRange")]
     WidthOutOfRange,
+    /// The bits of a slice are not those of its operand: not `l <= u < width`.
+    #[error("7 SliceOutOfRange")]
+    SliceOutOfRange,
     /// The widths are not those of the item's form.
     #[error("6 SortMismatch")]
     SortMismatch,
+    /// A constant does not fit its sort: not as many binary digits as the width, a decimal that is not from
+    /// -2^(width - 1) to 2^width - 1, not 1 to 16 hexadecimal digits, or a value too great.
+    #[error("15 ConstantDoesNotFit")]
+    ConstantDoesNotFit,
     /// The value of an init is no constant node.
     #[error("11 InitNotConstant")]
     InitNotConstant,
@@ -39,6 +46,9 @@ pub enum PushFault {
     /// The state has a next already.
     #[error("10 SecondNext")]
     SecondNext,
+    /// A justice line has no operands.
+    #[error("13 JusticeEmpty")]
+    JusticeEmpty,
     /// A growth was refused.
     #[error("14 NoMemory")]
     NoMemory,
@@ -56,12 +66,15 @@ impl PushFault {
             PushFault::NoSuchNode => 4,
             PushFault::WidthOutOfRange => 5,
             PushFault::SortMismatch => 6,
+            PushFault::SliceOutOfRange => 7,
             PushFault::NotAState => 8,
             PushFault::SecondInit => 9,
             PushFault::SecondNext => 10,
             PushFault::InitNotConstant => 11,
             PushFault::TooManyItems => 12,
+            PushFault::JusticeEmpty => 13,
             PushFault::NoMemory => 14,
+            PushFault::ConstantDoesNotFit => 15,
         }
     }
 }

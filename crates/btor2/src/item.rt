@@ -1,8 +1,10 @@
-ghost use Rattle.std.specs.Prelude.{◌≡◌};
+ghost use Rattle.std.specs.Prelude.{◌≡◌, ◌≤◌, ◌-◌, ◌^◌};
+ghost use Rattle.base.specs.Signed.{wrapped};
 ghost use Rattle.btor2.specs.Items.{named_sort, node_sort, sort_bits, constant_word, is_state};
 
+use crate::operands::Operands;
 use crate::symbol::Symbol;
-use base::{Binary, Unary};
+use base::{Binary, Unary, Width, ones};
 
 /// A line of a model: its id, what it says, and its name, if it has one.
 #[derive(Debug, Drop)]
@@ -15,8 +17,9 @@ pub struct Item {
     pub body: Body,
 }
 
-/// What an item says. Sorts and operands are ids of earlier items.
-#[derive(Clone, Copy, Debug, PartialEq, Eq)]
+/// What an item says ("Btor2, BtorMC and Boolector 3.0", syntax). Sorts and operands are ids of earlier items.
+/// A constant keeps its spelling, so that a model is written as it was read.
+#[derive(Debug, Drop)]
 pub enum Body {
     /// `sort bitvec n`: words of `width` bits.
     Sort {
@@ -34,6 +37,53 @@ pub enum Body {
     Zero {
         sort: u64,
     },
+    /// `one S`: the word 1.
+    One {
+        sort: u64,
+    },
+    /// `ones S`: the word of all ones.
+    Ones {
+        sort: u64,
+    },
+    /// `const S` and binary digits: how many they are, and their value. More than 64 digits count as 65 with
+    /// value 0, which is refused.
+    Const {
+        sort: u64,
+        digits: u32,
+        value: u64,
+    },
+    /// `constd S` and a decimal, which may be negative and then stands for its word modulo 2 to the width.
+    /// A number beyond 2^64 on either side counts as 2^64 on that side, which is refused.
+    Constd {
+        sort: u64,
+        value: i128,
+    },
+    /// `consth S` and hexadecimal digits: how many they are, and their value. More than 16 digits count as 17
+    /// with value 0, which is refused.
+    Consth {
+        sort: u64,
+        digits: u32,
+        value: u64,
+    },
+    /// `uext S a w`: a before which stand `by` zeros.
+    Uext {
+        sort: u64,
+        operand: u64,
+        by: u64,
+    },
+    /// `sext S a w`: a before which its sign stands `by` times.
+    Sext {
+        sort: u64,
+        operand: u64,
+        by: u64,
+    },
+    /// `slice S a u l`: the bits `upper` down to `lower` of a, both included.
+    Slice {
+        sort: u64,
+        operand: u64,
+        upper: u64,
+        lower: u64,
+    },
     /// `op S a`.
     Unary {
         operator: Unary,
@@ -46,6 +96,19 @@ pub enum Body {
         sort: u64,
         left: u64,
         right: u64,
+    },
+    /// `concat S a b`: `high` before `low`.
+    Concat {
+        sort: u64,
+        high: u64,
+        low: u64,
+    },
+    /// `ite S c t e`: `first` where the condition is 1, else `second`.
+    Ite {
+        sort: u64,
+        condition: u64,
+        first: u64,
+        second: u64,
     },
     /// `init S s v`: in the first frame state s has the word of v.
     Init {
@@ -67,45 +130,86 @@ pub enum Body {
     Constraint {
         operand: u64,
     },
+    /// `fair a`: kept and written, without a meaning here.
+    Fair {
+        operand: u64,
+    },
+    /// `output a`: a node that is shown.
+    Output {
+        operand: u64,
+    },
+    /// `justice k a1 .. ak`: kept and written, without a meaning here.
+    Justice {
+        operands: Operands,
+    },
+}
+
+/// The greatest number of `width` bits.
+///
+/// Condition: `width` is at most 64.
+pub(crate) fn all_ones(width: u64) -> u64
+    requires { width ≤ 64 }
+    ensures { result ≡ 2 ^ width - 1 }
+{
+    match Width::new(width) {
+        Some(width) => ones(width),
+        None => 0,
+    }
+}
+
+/// The word of a number modulo 2 to the width.
+fn wrapped(width: u64, value: i128) -> u64
+    requires { width ≤ 64 }
+    ensures { result ≡ wrapped width value }
+{
+    let modulus = i128::from(all_ones(width)) + 1;
+    value.rem_euclid(modulus) as u64
 }
 
 impl Body {
-    /// The sort that it names.
-    pub fn sort(&self) -> Option<u64>
-        ensures { result ≡ named_sort self.now }
-    {
-        match self {
-            Body::Input { sort }
-            | Body::State { sort }
-            | Body::Zero { sort }
-            | Body::Unary { sort, .. }
-            | Body::Binary { sort, .. }
-            | Body::Init { sort, .. }
-            | Body::Next { sort, .. } => Some(*sort),
-            Body::Sort { .. } | Body::Bad { .. } | Body::Constraint { .. } => None,
-        }
-    }
-
-    /// The sort of a node with a value: of a leaf or an operator.
-    pub fn node_sort(&self) -> Option<u64>
+    /// The sort of a node with a value: of a leaf, a constant or an operator.
+    pub(crate) fn node_sort(&self) -> Option<u64>
         ensures { result ≡ node_sort self.now }
     {
         match self {
             Body::Input { sort }
             | Body::State { sort }
             | Body::Zero { sort }
+            | Body::One { sort }
+            | Body::Ones { sort }
+            | Body::Const { sort, .. }
+            | Body::Constd { sort, .. }
+            | Body::Consth { sort, .. }
+            | Body::Uext { sort, .. }
+            | Body::Sext { sort, .. }
+            | Body::Slice { sort, .. }
             | Body::Unary { sort, .. }
-            | Body::Binary { sort, .. } => Some(*sort),
+            | Body::Binary { sort, .. }
+            | Body::Concat { sort, .. }
+            | Body::Ite { sort, .. } => Some(*sort),
             Body::Sort { .. }
             | Body::Init { .. }
             | Body::Next { .. }
             | Body::Bad { .. }
-            | Body::Constraint { .. } => None,
+            | Body::Constraint { .. }
+            | Body::Fair { .. }
+            | Body::Output { .. }
+            | Body::Justice { .. } => None,
+        }
+    }
+
+    /// The sort that it names.
+    pub(crate) fn sort(&self) -> Option<u64>
+        ensures { result ≡ named_sort self.now }
+    {
+        match self {
+            Body::Init { sort, .. } | Body::Next { sort, .. } => Some(*sort),
+            _ => self.node_sort(),
         }
     }
 
     /// The width that a sort's line gives.
-    pub fn sort_bits(&self) -> Option<u64>
+    pub(crate) fn sort_bits(&self) -> Option<u64>
         ensures { result ≡ sort_bits self.now }
     {
         match self {
@@ -115,17 +219,24 @@ impl Body {
     }
 
     /// The word of a constant node of `width` bits.
-    pub fn constant_word(&self, width: u64) -> Option<u64>
+    ///
+    /// Condition: `width` is at most 64.
+    pub(crate) fn constant_word(&self, width: u64) -> Option<u64>
+        requires { width ≤ 64 }
         ensures { result ≡ constant_word width self.now }
     {
         match self {
             Body::Zero { .. } => Some(0),
+            Body::One { .. } => Some(1),
+            Body::Ones { .. } => Some(all_ones(width)),
+            Body::Const { value, .. } | Body::Consth { value, .. } => Some(*value),
+            Body::Constd { value, .. } => Some(wrapped(width, *value)),
             _ => None,
         }
     }
 
     /// Whether it is a state.
-    pub fn is_state(&self) -> bool
+    pub(crate) fn is_state(&self) -> bool
         ensures { result ≡ is_state self.now }
     {
         matches!(self, Body::State { .. })

@@ -1,13 +1,14 @@
 //! Theorems on the definitions of models and traces, as functions with no code.
-ghost use Rattle.std.specs.Prelude.{◌≡◌, ℕ, ◌<◌, ◌≤◌, ◌^◌, true, List, [], ◌∷◌, ◌++◌, length, None, Some, is_some};
+ghost use Rattle.std.specs.Prelude.{◌≡◌, ℕ, ◌<◌, ◌≤◌, ◌^◌, true, List, [], ◌∷◌, ◌++◌, length, None, Some, is_some, pos, negsuc};
 ghost use Rattle.base.specs.declared.operators.Unary.TheVariants as unary;
+ghost use Rattle.base.specs.declared.operators.Binary.TheVariants as binary;
 ghost use Rattle.btor2.specs.declared.item.Item.{Item};
 ghost use Rattle.btor2.specs.declared.item.Body.TheVariants as body;
 ghost use Rattle.btor2.specs.declared.fault.PushFault.TheVariants as fault;
 ghost use Rattle.btor2.specs.Items.{node_width, names_state, next_value};
 ghost use Rattle.btor2.specs.Check.{IsWellFormed, refusal};
 ghost use Rattle.btor2.specs.Trace.{Frame, bits_of, IsFrame, IsInput, IsState, IsTrace, SameTrace, next_state};
-ghost use Rattle.btor2.specs.Worked.{line, toggler, nibble};
+ghost use Rattle.btor2.specs.Worked.{line, toggler, counter, shapes, nibble};
 
 /// A law: from state words and a list of input frames a model has exactly one trace.
 pub fn exactly_one_trace()
@@ -38,6 +39,23 @@ pub fn worked_traces()
         → (g 3 ≡ 1) × (g 5 ≡ 0) × (next_state toggler g 3 ≡ 0) }
 {}
 
+/// Worked rows: the last frame of a counter of two bits, and the words of nodes of each shape where the input is 9 and where
+/// it is 5.
+pub fn worked_words()
+    ensures counter_is_model { IsWellFormed counter }
+    ensures counts { (f : Frame) → IsFrame counter (λ id. 2) (λ id. 0) f
+        → (f 6 ≡ 3) × (f 9 ≡ 0) × (next_state counter f 4 ≡ 3) }
+    ensures ends { (f : Frame) → IsFrame counter (λ id. 3) (λ id. 0) f
+        → (f 6 ≡ 0) × (f 9 ≡ 1) × (next_state counter f 4 ≡ 0) }
+    ensures shapes_is_model { IsWellFormed shapes }
+    ensures of_9 { (f : Frame) → IsFrame shapes (λ id. 0) (λ id. 9) f
+        → (f 5 ≡ 249) × (f 6 ≡ 9) × (f 7 ≡ 1) × (f 8 ≡ 153) × (f 9 ≡ 249) }
+    ensures of_5 { (f : Frame) → IsFrame shapes (λ id. 0) (λ id. 5) f
+        → (f 5 ≡ 5) × (f 7 ≡ 0) × (f 8 ≡ 85) × (f 9 ≡ 5) }
+    ensures constants { (f : Frame) → IsFrame shapes (λ id. 0) (λ id. 5) f
+        → (f 10 ≡ 8) × (f 11 ≡ 15) × (f 12 ≡ 15) × (f 13 ≡ 1) }
+{}
+
 /// Worked rows: an item for each row of the table of refusals.
 pub fn worked_refusals()
     ensures too_many_items { (items : List Item) (x : Item) → 1048576 ≤ length items
@@ -51,9 +69,23 @@ pub fn worked_refusals()
     ensures width_out_of_range { refusal nibble (line 3 (body.Sort 0)) ≡ Some fault.WidthOutOfRange }
     ensures width_above_range { refusal nibble (line 3 (body.Sort 65)) ≡ Some fault.WidthOutOfRange }
     ensures sort_mismatch { refusal nibble (line 3 (body.Bad 2)) ≡ Some fault.SortMismatch }
+    ensures slice_out_of_range { refusal nibble (line 3 (body.Slice 1 2 4 0)) ≡ Some fault.SliceOutOfRange }
+    ensures slice_turned_round { refusal nibble (line 3 (body.Slice 1 2 0 1)) ≡ Some fault.SliceOutOfRange }
+    ensures far_too_wide { refusal nibble (line 3 (body.Uext 1 2 18446744073709551615)) ≡ Some fault.SortMismatch }
+    ensures choice_by_a_word { refusal nibble (line 3 (body.Ite 1 2 2 2)) ≡ Some fault.SortMismatch }
+    ensures single_bits_alone { refusal nibble (line 3 (body.Binary binary.Iff 1 2 2)) ≡ Some fault.SortMismatch }
+    ensures five_digits { refusal nibble (line 3 (body.Const 1 5 0)) ≡ Some fault.ConstantDoesNotFit }
+    ensures digits_too_few { refusal nibble (line 3 (body.Const 1 4 16)) ≡ Some fault.ConstantDoesNotFit }
+    ensures decimal_above { refusal nibble (line 3 (body.Constd 1 (pos 16))) ≡ Some fault.ConstantDoesNotFit }
+    ensures decimal_greatest { refusal nibble (line 3 (body.Constd 1 (pos 15))) ≡ None }
+    ensures decimal_below { refusal nibble (line 3 (body.Constd 1 (negsuc 8))) ≡ Some fault.ConstantDoesNotFit }
+    ensures decimal_least { refusal nibble (line 3 (body.Constd 1 (negsuc 7))) ≡ None }
+    ensures hex_too_long { refusal nibble (line 3 (body.Consth 1 17 0)) ≡ Some fault.ConstantDoesNotFit }
+    ensures hex_too_great { refusal nibble (line 3 (body.Consth 1 2 16)) ≡ Some fault.ConstantDoesNotFit }
     ensures init_not_constant { refusal (nibble ++ line 3 (body.State 1) ∷ []) (line 4 (body.Init 1 3 2))
         ≡ Some fault.InitNotConstant }
     ensures second_init { refusal toggler (line 8 (body.Init 1 3 2)) ≡ Some fault.SecondInit }
     ensures second_next { refusal toggler (line 8 (body.Next 1 3 3)) ≡ Some fault.SecondNext }
+    ensures justice_empty { refusal nibble (line 3 (body.Justice [])) ≡ Some fault.JusticeEmpty }
     ensures accepted { refusal nibble (line 3 (body.Unary unary.Not 1 2)) ≡ None }
 {}

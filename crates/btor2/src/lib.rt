@@ -5,12 +5,14 @@ mod fault;
 mod item;
 mod laws;
 mod model;
+mod operands;
 mod symbol;
 
 pub use fault::PushFault;
 pub use item::{Body, Item};
-pub use laws::{exactly_one_trace, words_fit, worked_refusals, worked_traces};
+pub use laws::{exactly_one_trace, words_fit, worked_refusals, worked_traces, worked_words};
 pub use model::Model;
+pub use operands::Operands;
 pub use symbol::{Symbol, SymbolFault};
 
 #[cfg(test)]

@@ -127,9 +127,10 @@ impl Model {
 
     /// The width of the sort with an id.
     fn sort_width(&self, id: u64) -> Option<u64>
-        ensures { result ≡ sort_width self.now id }
+        ensures value { result ≡ sort_width self.now id }
+        ensures range { IfSome result (λ n. (1 ≤ n) × (n ≤ 64)) }
     {
-        match self.item(id) {
+        match look_up(&self.ids, self.items.as_slice(), id) {
             Some(item) => item.body.sort_bits(),
             None => None,
         }
@@ -137,7 +138,8 @@ impl Model {
 
     /// The width of what a body says the value of, if it has one.
     fn body_width(&self, body: &Body) -> Option<u64>
-        ensures { result ≡ width_of_body self.now body.now }
+        ensures value { result ≡ width_of_body self.now body.now }
+        ensures range { IfSome result (λ n. (1 ≤ n) × (n ≤ 64)) }
     {
         match body.node_sort() {
             Some(sort) => self.sort_width(sort),

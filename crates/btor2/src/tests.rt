@@ -3,146 +3,298 @@ use base::{Binary, Unary};
 use std::alloc::Global;
 use std::test::Fail;
 
-/// A bit that toggles, and a constraint on it and an input.
-const TOGGLER: [(u64, Body); 10] = [
-    (10, Body::Sort { width: 1 }),
-    (20, Body::Zero { sort: 10 }),
-    (5, Body::State { sort: 10 }),
-    (
-        40,
-        Body::Init {
-            sort: 10,
-            state: 5,
-            value: 20,
-        },
-    ),
-    (
-        50,
-        Body::Unary {
-            operator: Unary::Not,
-            sort: 10,
-            operand: 5,
-        },
-    ),
-    (
-        60,
-        Body::Next {
-            sort: 10,
-            state: 5,
-            value: 50,
-        },
-    ),
-    (70, Body::Bad { operand: 5 }),
-    (80, Body::Input { sort: 10 }),
-    (
-        90,
-        Body::Binary {
-            operator: Binary::And,
-            sort: 10,
-            left: 80,
-            right: 5,
-        },
-    ),
-    (100, Body::Constraint { operand: 90 }),
-];
+/// How many lines the toggler has.
+const TOGGLER: usize = 10;
 
-/// Lines that are refused after it, with their faults' numbers.
-const AFTER_TOGGLER: [(u64, Body, u32); 3] = [
-    (
-        110,
-        Body::Init {
-            sort: 10,
-            state: 5,
-            value: 20,
-        },
-        9,
-    ),
-    (
-        110,
-        Body::Next {
-            sort: 10,
-            state: 5,
-            value: 5,
-        },
-        10,
-    ),
-    (
-        110,
-        Body::Init {
-            sort: 10,
-            state: 5,
-            value: 80,
-        },
-        11,
-    ),
-];
+/// A line of a model in which a bit toggles, and a constraint on it and an input.
+fn toggler_line(k: usize) -> (u64, Body) {
+    match k {
+        0 => (10, Body::Sort { width: 1 }),
+        1 => (20, Body::Zero { sort: 10 }),
+        2 => (5, Body::State { sort: 10 }),
+        3 => (
+            40,
+            Body::Init {
+                sort: 10,
+                state: 5,
+                value: 20,
+            },
+        ),
+        4 => (
+            50,
+            Body::Unary {
+                operator: Unary::Not,
+                sort: 10,
+                operand: 5,
+            },
+        ),
+        5 => (
+            60,
+            Body::Next {
+                sort: 10,
+                state: 5,
+                value: 50,
+            },
+        ),
+        6 => (70, Body::Bad { operand: 5 }),
+        7 => (80, Body::Input { sort: 10 }),
+        8 => (
+            90,
+            Body::Binary {
+                operator: Binary::And,
+                sort: 10,
+                left: 80,
+                right: 5,
+            },
+        ),
+        _ => (100, Body::Constraint { operand: 90 }),
+    }
+}
 
-/// A sort of four bits and an input of it.
-const NIBBLE: [(u64, Body); 2] = [(1, Body::Sort { width: 4 }), (2, Body::Input { sort: 1 })];
+/// How many lines are refused after the toggler.
+const AFTER_TOGGLER: usize = 3;
 
-/// Lines that are refused after them, with their faults' numbers.
-const AFTER_NIBBLE: [(u64, Body, u32); 9] = [
-    (
-        3,
-        Body::Unary {
-            operator: Unary::Not,
-            sort: 1,
-            operand: 1,
-        },
-        4,
-    ),
-    (
-        3,
-        Body::Init {
-            sort: 1,
-            state: 2,
-            value: 2,
-        },
-        8,
-    ),
-    (3, Body::Bad { operand: 2 }, 6),
-    (0, Body::Zero { sort: 1 }, 2),
-    (4_294_967_296, Body::Zero { sort: 1 }, 2),
-    (2, Body::Zero { sort: 9 }, 1),
-    (
-        3,
-        Body::Unary {
-            operator: Unary::Not,
-            sort: 9,
-            operand: 2,
-        },
-        3,
-    ),
-    (3, Body::Sort { width: 0 }, 5),
-    (3, Body::Sort { width: 65 }, 5),
-];
+/// A line that is refused after the toggler, with its fault's number.
+fn line_after_toggler(k: usize) -> (u64, Body, u32) {
+    match k {
+        0 => (
+            110,
+            Body::Init {
+                sort: 10,
+                state: 5,
+                value: 20,
+            },
+            9,
+        ),
+        1 => (
+            110,
+            Body::Next {
+                sort: 10,
+                state: 5,
+                value: 5,
+            },
+            10,
+        ),
+        _ => (
+            110,
+            Body::Init {
+                sort: 10,
+                state: 5,
+                value: 80,
+            },
+            11,
+        ),
+    }
+}
+
+/// How many lines have each form once, after a sort of four bits and one of a bit.
+const FORMS: usize = 25;
+
+/// A line of a model that has each form.
+fn line_of_each_form(k: usize) -> (u64, Body) {
+    match k {
+        0 => (1, Body::Sort { width: 4 }),
+        1 => (2, Body::Input { sort: 1 }),
+        2 => (3, Body::Sort { width: 1 }),
+        3 => (4, Body::State { sort: 1 }),
+        4 => (5, Body::Zero { sort: 1 }),
+        5 => (6, Body::One { sort: 1 }),
+        6 => (7, Body::Ones { sort: 1 }),
+        7 => (
+            8,
+            Body::Const {
+                sort: 1,
+                digits: 4,
+                value: 10,
+            },
+        ),
+        8 => (9, Body::Constd { sort: 1, value: -8 }),
+        9 => (10, Body::Constd { sort: 1, value: 15 }),
+        10 => (
+            11,
+            Body::Consth {
+                sort: 1,
+                digits: 2,
+                value: 15,
+            },
+        ),
+        11 => (12, Body::Sort { width: 6 }),
+        12 => (
+            13,
+            Body::Uext {
+                sort: 12,
+                operand: 2,
+                by: 2,
+            },
+        ),
+        13 => (
+            14,
+            Body::Sext {
+                sort: 1,
+                operand: 2,
+                by: 0,
+            },
+        ),
+        14 => (
+            15,
+            Body::Slice {
+                sort: 3,
+                operand: 2,
+                upper: 3,
+                lower: 3,
+            },
+        ),
+        15 => (
+            16,
+            Body::Unary {
+                operator: Unary::Redxor,
+                sort: 3,
+                operand: 2,
+            },
+        ),
+        _ => later_line(k),
+    }
+}
+
+/// A later line of that model.
+fn later_line(k: usize) -> (u64, Body) {
+    match k {
+        16 => (
+            17,
+            Body::Binary {
+                operator: Binary::Slt,
+                sort: 3,
+                left: 2,
+                right: 4,
+            },
+        ),
+        17 => (18, Body::Sort { width: 5 }),
+        18 => (
+            19,
+            Body::Concat {
+                sort: 18,
+                high: 15,
+                low: 2,
+            },
+        ),
+        19 => (
+            20,
+            Body::Ite {
+                sort: 1,
+                condition: 16,
+                first: 2,
+                second: 4,
+            },
+        ),
+        20 => (
+            21,
+            Body::Init {
+                sort: 1,
+                state: 4,
+                value: 9,
+            },
+        ),
+        21 => (
+            22,
+            Body::Next {
+                sort: 1,
+                state: 4,
+                value: 20,
+            },
+        ),
+        22 => (23, Body::Bad { operand: 16 }),
+        23 => (24, Body::Fair { operand: 17 }),
+        _ => (25, Body::Output { operand: 19 }),
+    }
+}
+
+/// How many lines are refused after a sort of four bits and an input of it.
+const AFTER_NIBBLE: usize = 12;
+
+/// A line that is refused after a sort of four bits and an input of it, with its fault's number.
+fn line_after_nibble(k: usize) -> (u64, Body, u32) {
+    match k {
+        0 => (0, Body::Zero { sort: 1 }, 2),
+        1 => (2, Body::Zero { sort: 9 }, 1),
+        2 => (3, not_line(9, 2), 3),
+        3 => (3, not_line(1, 1), 4),
+        4 => (
+            3,
+            Body::Init {
+                sort: 1,
+                state: 2,
+                value: 2,
+            },
+            8,
+        ),
+        5 => (3, Body::Sort { width: 0 }, 5),
+        6 => (3, Body::Sort { width: 65 }, 5),
+        7 => (
+            3,
+            Body::Slice {
+                sort: 1,
+                operand: 2,
+                upper: 4,
+                lower: 0,
+            },
+            7,
+        ),
+        8 => (3, Body::Bad { operand: 2 }, 6),
+        9 => (
+            3,
+            Body::Const {
+                sort: 1,
+                digits: 5,
+                value: 0,
+            },
+            15,
+        ),
+        10 => (3, Body::Constd { sort: 1, value: 16 }, 15),
+        _ => (4_294_967_296, Body::Zero { sort: 1 }, 2),
+    }
+}
+
+/// A negated node.
+fn not_line(sort: u64, operand: u64) -> Body {
+    Body::Unary {
+        operator: Unary::Not,
+        sort,
+        operand,
+    }
+}
 
 /// Faults with their numbers and printed texts.
-const FAULTS: [(PushFault, u32, &str); 12] = [
+const FAULTS: [(PushFault, u32, &str); 15] = [
     (PushFault::IdTaken, 1, "1 IdTaken"),
     (PushFault::IdOutOfRange, 2, "2 IdOutOfRange"),
     (PushFault::NoSuchSort, 3, "3 NoSuchSort"),
     (PushFault::NoSuchNode, 4, "4 NoSuchNode"),
     (PushFault::WidthOutOfRange, 5, "5 WidthOutOfRange"),
     (PushFault::SortMismatch, 6, "6 SortMismatch"),
+    (PushFault::SliceOutOfRange, 7, "7 SliceOutOfRange"),
     (PushFault::NotAState, 8, "8 NotAState"),
     (PushFault::SecondInit, 9, "9 SecondInit"),
     (PushFault::SecondNext, 10, "10 SecondNext"),
     (PushFault::InitNotConstant, 11, "11 InitNotConstant"),
     (PushFault::TooManyItems, 12, "12 TooManyItems"),
+    (PushFault::JusticeEmpty, 13, "13 JusticeEmpty"),
     (PushFault::NoMemory, 14, "14 NoMemory"),
+    (PushFault::ConstantDoesNotFit, 15, "15 ConstantDoesNotFit"),
 ];
 
-/// A model of lines with no names.
-fn model_of(alloc: Global, lines: &[(u64, Body)]) -> Result<Model, PushFault> {
+/// A model of the first lines of a list, with no names.
+fn model_of<F: Fn(usize) -> (u64, Body)>(
+    alloc: Global,
+    count: usize,
+    line: F,
+) -> Result<Model, PushFault>
+    requires { F.IsAlwaysCallable line }
+{
     let mut model = Model::new(alloc);
-    for (id, body) in lines {
+    for k in 0..count {
+        let (id, body) = line(k);
         let symbol = None;
-        model.push(Item {
-            id: *id,
-            symbol,
-            body: *body,
-        })?;
+        model.push(Item { id, symbol, body })?;
     }
     Ok(model)
 }
@@ -157,10 +309,13 @@ fn fault_of(model: &mut Model, id: u64, body: Body) -> u32 {
 }
 
 /// Whether each line is refused for its fault, and leaves the items.
-fn all_refused(model: &mut Model, lines: &[(u64, Body, u32)]) -> bool {
+fn all_refused<F: Fn(usize) -> (u64, Body, u32)>(model: &mut Model, lines: usize, line: F) -> bool
+    requires { F.IsAlwaysCallable line }
+{
     let count = model.items().len();
-    for (id, body, number) in lines {
-        if fault_of(model, *id, *body) != *number || model.items().len() != count {
+    for k in 0..lines {
+        let (id, body, number) = line(k);
+        if fault_of(model, id, body) != number || model.items().len() != count {
             return false;
         }
     }
@@ -215,7 +370,7 @@ fn word_at(model: &Model, node: usize) -> u64 {
 
 #[test]
 fn a_model_is_read_as_it_was_pushed(rt: HostRuntime) -> Result<(), Fail> {
-    let model = model_of(rt.alloc(), &TOGGLER)?;
+    let model = model_of(rt.alloc(), TOGGLER, toggler_line)?;
     assert!(rt; lists_are(&model, 7, 2, 6, 9));
     assert!(rt; model.position(50) == Some(4) && model.position(4).is_none());
     assert!(rt; values_of_first_state(&model) == (1, 4));
@@ -226,15 +381,41 @@ fn a_model_is_read_as_it_was_pushed(rt: HostRuntime) -> Result<(), Fail> {
 
 #[test]
 fn a_second_line_of_a_state_is_refused(rt: HostRuntime) -> Result<(), Fail> {
-    let mut toggler = model_of(rt.alloc(), &TOGGLER)?;
-    assert!(rt; all_refused(&mut toggler, &AFTER_TOGGLER));
+    let mut toggler = model_of(rt.alloc(), TOGGLER, toggler_line)?;
+    assert!(rt; all_refused(&mut toggler, AFTER_TOGGLER, line_after_toggler));
     Ok(())
 }
 
 #[test]
 fn a_refused_item_leaves_the_others(rt: HostRuntime) -> Result<(), Fail> {
-    let mut nibble = model_of(rt.alloc(), &NIBBLE)?;
-    assert!(rt; all_refused(&mut nibble, &AFTER_NIBBLE));
+    let mut nibble = model_of(rt.alloc(), 2, line_of_each_form)?;
+    assert!(rt; all_refused(&mut nibble, AFTER_NIBBLE, line_after_nibble));
+    Ok(())
+}
+
+/// The number of the fault of pushing a justice line of these operands, or 0, or 100 where there is no memory.
+fn fault_of_justice(alloc: Global, model: &mut Model, ids: &[u64]) -> u32 {
+    match Operands::new(alloc, ids) {
+        Ok(operands) => fault_of(model, 90, Body::Justice { operands }),
+        Err(_) => 100,
+    }
+}
+
+#[test]
+fn each_form_is_accepted(rt: HostRuntime) -> Result<(), Fail> {
+    let mut model = model_of(rt.alloc(), FORMS, line_of_each_form)?;
+    assert!(rt; word_at(&model, 6) == 15 && word_at(&model, 7) == 10 && word_at(&model, 8) == 8);
+    assert!(rt; bits_at(&model, 12) == 6 && bits_at(&model, 15) == 1 && bits_at(&model, 18) == 5);
+    assert!(rt; values_of_first_state(&model) == (8, 19));
+    assert_eq!(rt; fault_of_justice(rt.alloc(), &mut model, &[]), 13);
+    assert_eq!(rt; fault_of_justice(rt.alloc(), &mut model, &[16, 15]), 0);
+    Ok(())
+}
+
+#[test]
+fn operands_are_kept(rt: HostRuntime) -> Result<(), Fail> {
+    let operands = Operands::new(rt.alloc(), &[3, 1])?;
+    assert!(rt; operands.ids() == [3, 1].as_slice());
     Ok(())
 }
 
@@ -274,5 +455,6 @@ fn laws_are_called() {
     exactly_one_trace();
     words_fit();
     worked_traces();
+    worked_words();
     worked_refusals();
 }

@@ -1,15 +1,17 @@
 -- From what a text gives to what is promised of reading a source.
-use Rattle.std.proofs.Common.{◌≡◌, ℕ, List, Option, Some, None, Result, Ok, Err, sym, ap, subst, ◌∙◌, inl, inr, ◌⊎◌}
+use Rattle.std.proofs.Common.{◌≡◌, ℕ, true, List, [], ◌∷◌, map, refl, Option, Some, None, Result, Ok, Err, sym, ap, subst, ◌∙◌, inl, inr, ◌⊎◌}
 use Rattle.std.specs.Prelude.{IfOk, IfErr, IfSome}
 use Rattle.btor2.specs.declared.item.Item.{Item}
 use Rattle.btor2text.specs.declared.fault.Why.{Why}
 use Rattle.btor2text.specs.declared.fault.Why.TheVariants as why
 use Rattle.btor2text.specs.declared.fault.ReadFault.{ReadFault}
-use Rattle.btor2text.specs.Spelling.{StandsFor}
-use Rattle.btor2text.specs.Reading.{text_on, ReadsText, ReadsAs}
+use Rattle.btor2text.specs.Lines.{tokens}
+use Rattle.btor2text.specs.Basic.{are_basic}
+use Rattle.btor2text.specs.Spelling.{SpellsAll, StandsFor}
+use Rattle.btor2text.specs.Reading.{Tokens, text_on, ReadsText, ReadsAs}
 use Rattle.btor2text.specs.FirstFault.{IsFaultOf}
-use Rattle.btor2text.proofs.FaultLemmas.{text_fails}
-use Rattle.btor2text.proofs.StandsLemmas.{read_stands, stands_read}
+use Rattle.btor2text.proofs.FaultLemmas.{not_failed, text_fails}
+use Rattle.btor2text.proofs.StandsLemmas.{ok_items, read_stands, stands_read}
 use Rattle.btor2text.proofs.WhyLemmas.{IsOfText, TextTold, text_told}
 
 -- a model that was read stands for the known bytes
@@ -21,24 +23,27 @@ pub found : (known : Option (List ℕ)) (text : List ℕ) (r : Result (List Item
 found known text (Ok items) same gives = stands_known known text items same (read_stands text items gives)
 found known text (Err e) same gives = tt
 
+-- what is read is of the forms that are read so far
+all_basic : (lines : List Tokens) (items : List Item) → SpellsAll lines items → are_basic items ≡ true
+all_basic [] [] spelled = refl
+all_basic [] (x ∷ xs) spelled = absurd spelled
+all_basic ([] ∷ lines) items spelled = all_basic lines items spelled
+all_basic ((token ∷ line) ∷ lines) [] spelled = absurd spelled
+all_basic ((token ∷ line) ∷ lines) (x ∷ xs) spelled = rw (spelled.0.basic, all_basic lines xs spelled.1) refl
+
+pub basic : (text : List ℕ) (r : Result (List Item) ReadFault) → ReadsText r (text_on text) → IfOk r (λ items. are_basic items ≡ true)
+basic text (Ok items) gives = let stands = read_stands text items gives in all_basic (map tokens stands.lines) items stands.spelled
+basic text (Err e) gives = tt
+
 -- known bytes that stand for items are read as them
-abbrev done : List Item → Result (List Item) ReadFault
-done items = Ok items
-
-same_items : (a b : List Item) → done a ≡ done b → a ≡ b
-same_items a b e = cc
-
-no_fault : (e : ReadFault) (items : List Item) → Err e ≡ done items → ⊥
-no_fault e items h = cc
-
 known_is : (text all : List ℕ) (known : Option (List ℕ)) → known ≡ Some all → IfSome known (λ other. text ≡ other) → text ≡ all
 known_is text all None is same = absurd cc
 known_is text all (Some other) is same = same ∙ cc
 
 reads : (text : List ℕ) (r : Result (List Item) ReadFault) (items : List Item) → text_on text ≡ Ok items → ReadsText r (text_on text) → ReadsAs r items
-reads text (Ok model) items is gives = same_items model items (sym gives ∙ is)
+reads text (Ok model) items is gives = ok_items model items (sym gives ∙ is)
 reads text (Err e) items is (inl full) = inr (ap (λ (f : ReadFault). f.why) full)
-reads text (Err e) items is (inr gives) = absurd (no_fault e items (sym gives ∙ is))
+reads text (Err e) items is (inr gives) = absurd (not_failed items e (sym is ∙ gives))
 
 pub only : (known : Option (List ℕ)) (text : List ℕ) (r : Result (List Item) ReadFault) → IfSome known (λ all. text ≡ all) → ReadsText r (text_on text) → (all : List ℕ) (items : List Item) → known ≡ Some all → StandsFor all items → ReadsAs r items
 only known text r same gives all items is stands =

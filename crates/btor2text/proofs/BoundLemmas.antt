@@ -1,6 +1,6 @@
 -- The numbers of an item that a model accepts are small: its id is at most the greatest id, sorts and operands
 -- are ids of earlier items, and a width is at most 64.
-use Rattle.std.proofs.Common.{◌≡◌, ℕ, ◌^◌, ◌≤◌, Bool, true, false, cond, ◌==◌, List, [], ◌∷◌, ◌++◌, Option, Some, None, refl, inl, inr, ◌⊎◌, arith}
+use Rattle.std.proofs.Common.{◌≡◌, ℕ, ◌^◌, ◌≤◌, Bool, true, false, ◌==◌, List, [], ◌∷◌, ◌++◌, Option, Some, None, refl, inl, inr, arith}
 use Rattle.std.specs.Prelude.{is_some, is_none, option_and_then}
 use Rattle.std.specs.List.{list_all}
 use Rattle.std.proofs.lemmas.Bool.{and_parts, eqb-true, leb-true, not-false}
@@ -10,16 +10,13 @@ use Rattle.btor2.specs.declared.item.Body.TheVariants as body
 use Rattle.btor2.specs.declared.fault.PushFault.{PushFault}
 use Rattle.btor2.specs.Items.{find_item, sort_width, node_width, sort_bits, width_of_body, named_sort, operands}
 use Rattle.btor2.specs.Check.{greatest_id, id_is_out_of_range, is_no_sort, sort_is_missing, operand_is_missing, width_is_out_of_range, first_row, table, refusal}
+use Rattle.btor2text.proofs.DecimalLemmas.{chosen}
 use Rattle.btor2text.proofs.ItemLemmas.{BodyFits, Fits, most}
 
 -- no id of some items is above the greatest
 abbrev pub IdsFit : List Item → Type 0
 IdsFit [] = Unit {0}
 IdsFit (x ∷ xs) = (x.id ≤ greatest_id) × IdsFit xs
-
-chosen : {A : Type 0} (b : Bool) (x y z : A) → cond b x y ≡ z → ((b ≡ true) × (x ≡ z)) ⊎ ((b ≡ false) × (y ≡ z))
-chosen true x y z e = inl (refl, e)
-chosen false x y z e = inr (refl, e)
 
 -- the id of an item that is found is one of theirs
 found_id : (items : List Item) (id : ℕ) (y : Item) → IdsFit items → find_item items id ≡ Some y → id ≤ greatest_id
@@ -108,6 +105,7 @@ body_fits before (body.Init s t v) fit hs ho hw = (omega (arith, sort_fits befor
 body_fits before (body.Next s t v) fit hs ho hw = (omega (arith, sort_fits before s fit hs), omega (arith, first_fits before t (v ∷ []) fit ho), omega (arith, second_fits before t v [] fit ho))
 body_fits before (body.Bad a) fit hs ho hw = omega (arith, first_fits before a [] fit ho)
 body_fits before (body.Constraint a) fit hs ho hw = omega (arith, first_fits before a [] fit ho)
+body_fits before _ fit hs ho hw = tt
 
 -- the numbers of an accepted item stand for themselves alone
 pub accepted_fits : (before : List Item) (x : Item) → IdsFit before → refusal before x ≡ None → Fits most x
@@ -138,6 +136,7 @@ body_fits_more (body.Init s t v) h = (omega (arith, h.0), omega (arith, h.1), om
 body_fits_more (body.Next s t v) h = (omega (arith, h.0), omega (arith, h.1), omega (arith, h.2))
 body_fits_more (body.Bad a) h = omega arith
 body_fits_more (body.Constraint a) h = omega arith
+body_fits_more _ h = tt
 
 pub fits_more : (x : Item) → Fits most x → Fits (2 ^ 64) x
 fits_more x h = record { id = omega (arith, h.id); body = body_fits_more x.body h.body }

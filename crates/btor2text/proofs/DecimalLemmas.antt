@@ -61,7 +61,8 @@ nothing (b ∷ bs) h = absurd cc
 one_zero : (b : ℕ) (bs : List ℕ) → b ≡ 48 → bs ≡ [] → IsPlain (b ∷ bs)
 one_zero b bs is none = rw (is, none) (record { digits = refl; some = omega arith; zero = λ _. refl })
 
-chosen : {A : Type 0} (b : Bool) (x y z : A) → cond b x y ≡ z → ((b ≡ true) × (x ≡ z)) ⊎ ((b ≡ false) × (y ≡ z))
+-- which branch gave the value, and that its test says so
+pub chosen : {A : Type 0} (b : Bool) (x y z : A) → cond b x y ≡ z → ((b ≡ true) × (x ≡ z)) ⊎ ((b ≡ false) × (y ≡ z))
 chosen true x y z e = inl (refl, e)
 chosen false x y z e = inr (refl, e)
 

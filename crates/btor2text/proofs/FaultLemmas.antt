@@ -32,16 +32,17 @@ record FaultIn (n : ℕ) (before : List Item) (lines : List (List ℕ)) (last : 
   place : e.line ≡ min (n + (length front + 1)) (2 ^ 64 - 1)
   here : FaultHere (before ++ added) back last e.why
 
-abbrev failed : ReadFault → Result (List Item) ReadFault
+-- a fault that was told; it is one fault, and no items
+abbrev pub failed : ReadFault → Result (List Item) ReadFault
 failed e = Err e
 
 faults : (a b : ReadFault) → failed a ≡ failed b → a ≡ b
 faults a b e = cc
 
-not_failed : (items : List Item) (e : ReadFault) → Ok items ≡ failed e → ⊥
+pub not_failed : (items : List Item) (e : ReadFault) → Ok items ≡ failed e → ⊥
 not_failed items e h = cc
 
-some_bytes : (b : ℕ) (bs : List ℕ) → b ∷ bs ≢ []
+pub some_bytes : (b : ℕ) (bs : List ℕ) → b ∷ bs ≢ []
 some_bytes b bs e = cc
 
 -- the fault is at this line

@@ -2,6 +2,7 @@
 use Rattle.std.proofs.Common.{◌≡◌, ℕ, ◌-◌, ◌^◌, ◌<◌, Bool, true, false, cond, List, [], ◌∷◌, ◌++◌, Option, Some, None, Result, Ok, Err, codes, decimal, refl, sym, ap, subst, ◌∙◌, inl, inr, ◌⊎◌}
 use Rattle.std.specs.Prelude.{IfSome}
 use Rattle.std.specs.Str.{bytes_eq}
+use Rattle.std.proofs.lemmas.Bool.{false≢true}
 use Rattle.std.proofs.lemmas.Slice.Eq.{bytes_eq-Decides}
 use Rattle.base.specs.declared.operators.Unary.{Unary}
 use Rattle.base.specs.declared.operators.Unary.TheVariants.{Not}
@@ -15,9 +16,10 @@ use Rattle.btor2text.specs.declared.fault.Why.{Why}
 use Rattle.btor2text.specs.declared.fault.Why.TheVariants as why
 use Rattle.btor2text.specs.declared.forms.Form.{Form}
 use Rattle.btor2text.specs.declared.forms.Form.TheVariants as form
+use Rattle.btor2text.specs.Basic.{is_basic_unary, is_basic_binary, is_basic}
 use Rattle.btor2text.specs.Spelling.{unary_name, binary_name, form_tokens, symbol_tokens, Spells}
 use Rattle.btor2text.specs.Reading.{◌>>=◌, Tokens, number_of, plain_of, operand_of, plain, operand, is_negative, plain_at, operand_at, width_at, pair_at, triple_at, unary_of, binary_of, other_form_of, any_form, unary_form, binary_form, form_of, form_at, body_at, symbol_end, symbol_at, item_at}
-use Rattle.btor2text.proofs.DecimalLemmas.{number_is_decimal, number_of-decimal}
+use Rattle.btor2text.proofs.DecimalLemmas.{chosen, number_is_decimal, number_of-decimal}
 
 -- the numbers of an item are below a limit
 abbrev pub BodyFits : ℕ → Body → Type 0
@@ -31,6 +33,7 @@ BodyFits m (body.Init s t v) = (s < m) × (t < m) × (v < m)
 BodyFits m (body.Next s t v) = (s < m) × (t < m) × (v < m)
 BodyFits m (body.Bad a) = a < m
 BodyFits m (body.Constraint a) = a < m
+BodyFits m _ = Unit {0}
 
 -- the greatest number that stands for itself alone is below this
 abbrev pub most : ℕ
@@ -50,10 +53,6 @@ ok_is x y e = cc
 
 some_is : {A : Type 0} (x y : A) → Some x ≡ Some y → x ≡ y
 some_is x y e = cc
-
-chosen : {A : Type 0} (b : Bool) (x y z : A) → cond b x y ≡ z → ((b ≡ true) × (x ≡ z)) ⊎ ((b ≡ false) × (y ≡ z))
-chosen true x y z e = inl (refl, e)
-chosen false x y z e = inr (refl, e)
 
 is_word : (token word : List ℕ) → bytes_eq token word ≡ true → token ≡ word
 is_word token word e = (bytes_eq-Decides token word).0 e
@@ -172,55 +171,65 @@ form_name form.Next = codes "next"
 form_name form.Bad = codes "bad"
 form_name form.Constraint = codes "constraint"
 
-unary_takes : (word : List ℕ) (op : Unary) → unary_of word ≡ Some op → word ≡ unary_name op
+-- a form that is read so far
+abbrev is_basic_form : Form → Bool
+is_basic_form (form.Unary op) = is_basic_unary op
+is_basic_form (form.Binary op) = is_basic_binary op
+is_basic_form _ = true
+
+-- a word names a form
+abbrev Names : List ℕ → Form → Type 0
+Names word f = (word ≡ form_name f) × (is_basic_form f ≡ true)
+
+unary_takes : (word : List ℕ) (op : Unary) → unary_of word ≡ Some op → Names word (form.Unary op)
 unfolding unary_of
 unary_takes word op e =
     elim (chosen (bytes_eq word (codes "not")) (Some Not) None (Some op) e) [
-      | inl h ↦ is_word word (codes "not") h.0 ∙ ap unary_name (some_is Not op h.1)
+      | inl h ↦ subst (λ (o : Unary). Names word (form.Unary o)) (some_is Not op h.1) (is_word word (codes "not") h.0, refl)
       | inr h ↦ absurd cc
     ]
 
-binary_takes : (word : List ℕ) (op : Binary) → binary_of word ≡ Some op → word ≡ binary_name op
+binary_takes : (word : List ℕ) (op : Binary) → binary_of word ≡ Some op → Names word (form.Binary op)
 unfolding binary_of
 binary_takes word op e =
     elim (chosen (bytes_eq word (codes "and")) (Some And) None (Some op) e) [
-      | inl h ↦ is_word word (codes "and") h.0 ∙ ap binary_name (some_is And op h.1)
+      | inl h ↦ subst (λ (o : Binary). Names word (form.Binary o)) (some_is And op h.1) (is_word word (codes "and") h.0, refl)
       | inr h ↦ absurd cc
     ]
 
 -- one test of a chain over words
-one_form : (word name : List ℕ) (f g : Form) (others : Option Form) → form_name g ≡ name → cond (bytes_eq word name) (Some g) others ≡ Some f → (word ≡ form_name f) ⊎ (others ≡ Some f)
-one_form word name f g others named e =
+one_form : (word name : List ℕ) (f g : Form) (others : Option Form) → form_name g ≡ name → is_basic_form g ≡ true → cond (bytes_eq word name) (Some g) others ≡ Some f → Names word f ⊎ (others ≡ Some f)
+one_form word name f g others named basic e =
     elim (chosen (bytes_eq word name) (Some g) others (Some f) e) [
-      | inl h ↦ inl (is_word word name h.0 ∙ sym named ∙ ap form_name (some_is g f h.1))
+      | inl h ↦ inl (subst (Names word) (some_is g f h.1) (is_word word name h.0 ∙ sym named, basic))
       | inr h ↦ inr h.1
     ]
 
-other_takes : (word : List ℕ) (f : Form) → other_form_of word ≡ Some f → word ≡ form_name f
+other_takes : (word : List ℕ) (f : Form) → other_form_of word ≡ Some f → Names word f
 unfolding other_form_of
 other_takes word f e0 =
-    elim (one_form word (codes "sort") f form.Sort _ refl e0) [
+    elim (one_form word (codes "sort") f form.Sort _ refl refl e0) [
       | inl is ↦ is
       | inr e1 ↦
-          elim (one_form word (codes "input") f form.Input _ refl e1) [
+          elim (one_form word (codes "input") f form.Input _ refl refl e1) [
             | inl is ↦ is
             | inr e2 ↦
-                elim (one_form word (codes "state") f form.State _ refl e2) [
+                elim (one_form word (codes "state") f form.State _ refl refl e2) [
                   | inl is ↦ is
                   | inr e3 ↦
-                      elim (one_form word (codes "zero") f form.Zero _ refl e3) [
+                      elim (one_form word (codes "zero") f form.Zero _ refl refl e3) [
                         | inl is ↦ is
                         | inr e4 ↦
-                            elim (one_form word (codes "init") f form.Init _ refl e4) [
+                            elim (one_form word (codes "init") f form.Init _ refl refl e4) [
                               | inl is ↦ is
                               | inr e5 ↦
-                                  elim (one_form word (codes "next") f form.Next _ refl e5) [
+                                  elim (one_form word (codes "next") f form.Next _ refl refl e5) [
                                     | inl is ↦ is
                                     | inr e6 ↦
-                                        elim (one_form word (codes "bad") f form.Bad _ refl e6) [
+                                        elim (one_form word (codes "bad") f form.Bad _ refl refl e6) [
                                           | inl is ↦ is
                                           | inr e7 ↦
-                                              elim (one_form word (codes "constraint") f form.Constraint _ refl e7) [
+                                              elim (one_form word (codes "constraint") f form.Constraint _ refl refl e7) [
                                                 | inl is ↦ is
                                                 | inr e8 ↦
                                                     absurd cc
@@ -233,28 +242,29 @@ other_takes word f e0 =
           ]
     ]
 
-binary_form_takes : (word : List ℕ) (f : Form) (b : Option Binary) → binary_of word ≡ b → binary_form word b ≡ Ok f → word ≡ form_name f
-binary_form_takes word f (Some op) hb e = binary_takes word op hb ∙ ap form_name (ok_is (form.Binary op) f e)
+binary_form_takes : (word : List ℕ) (f : Form) (b : Option Binary) → binary_of word ≡ b → binary_form word b ≡ Ok f → Names word f
+binary_form_takes word f (Some op) hb e = subst (Names word) (ok_is (form.Binary op) f e) (binary_takes word op hb)
 binary_form_takes word f None hb e = absurd cc
 
-unary_form_takes : (word : List ℕ) (f : Form) (u : Option Unary) (b : Option Binary) → unary_of word ≡ u → binary_of word ≡ b → unary_form word u ≡ Ok f → word ≡ form_name f
-unary_form_takes word f (Some op) b hu hb e = unary_takes word op hu ∙ ap form_name (ok_is (form.Unary op) f e)
+unary_form_takes : (word : List ℕ) (f : Form) (u : Option Unary) (b : Option Binary) → unary_of word ≡ u → binary_of word ≡ b → unary_form word u ≡ Ok f → Names word f
+unary_form_takes word f (Some op) b hu hb e = subst (Names word) (ok_is (form.Unary op) f e) (unary_takes word op hu)
 unary_form_takes word f None b hu hb e = binary_form_takes word f b hb (sym (ap (binary_form word) hb) ∙ e)
 
-any_takes : (word : List ℕ) (f : Form) (u : Option Unary) (b : Option Binary) (o : Option Form) → unary_of word ≡ u → binary_of word ≡ b → other_form_of word ≡ o → any_form word o ≡ Ok f → word ≡ form_name f
+any_takes : (word : List ℕ) (f : Form) (u : Option Unary) (b : Option Binary) (o : Option Form) → unary_of word ≡ u → binary_of word ≡ b → other_form_of word ≡ o → any_form word o ≡ Ok f → Names word f
 any_takes word f u b (Some g) hu hb ho e = other_takes word f (ho ∙ ap (λ x. Some x) (ok_is g f e))
 any_takes word f u b None hu hb ho e = unary_form_takes word f u b hu hb (sym (ap (unary_form word) hu) ∙ e)
 
-form_takes : (word : List ℕ) (f : Form) → form_of word ≡ Ok f → word ≡ form_name f
+form_takes : (word : List ℕ) (f : Form) → form_of word ≡ Ok f → Names word f
 unfolding form_of
 form_takes word f e = any_takes word f (unary_of word) (binary_of word) (other_form_of word) refl refl refl e
 
-form_at_takes : (tokens : Tokens) (x : Form × Tokens) → form_at tokens ≡ Ok x → tokens ≡ form_name x.0 ∷ x.1
+form_at_takes : (tokens : Tokens) (x : Form × Tokens) → form_at tokens ≡ Ok x → (tokens ≡ form_name x.0 ∷ x.1) × (is_basic_form x.0 ≡ true)
 unfolding form_at
 form_at_takes [] x e = absurd cc
 form_at_takes (word ∷ rest) x e =
     let f = bind_ok (form_of word) (λ f. Ok (f, rest)) x e in
-    subst (λ (p : Form × Tokens). word ∷ rest ≡ form_name p.0 ∷ p.1) (ok_is (f.0, rest) x f.2) (ap (λ w. w ∷ rest) (form_takes word f.0 f.1))
+    let names = form_takes word f.0 f.1 in
+    subst (λ (p : Form × Tokens). (word ∷ rest ≡ form_name p.0 ∷ p.1) × (is_basic_form p.0 ≡ true)) (ok_is (f.0, rest) x f.2) (ap (λ w. w ∷ rest) names.0, names.1)
 
 -- ---- bodies
 
@@ -269,6 +279,7 @@ named_form (body.Init s t v) = form.Init
 named_form (body.Next s t v) = form.Next
 named_form (body.Bad a) = form.Bad
 named_form (body.Constraint a) = form.Constraint
+named_form _ = form.Sort
 
 -- the tokens behind a form's word
 abbrev arguments : Body → Tokens
@@ -282,68 +293,71 @@ arguments (body.Init s t v) = decimal s ∷ decimal t ∷ decimal v ∷ []
 arguments (body.Next s t v) = decimal s ∷ decimal t ∷ decimal v ∷ []
 arguments (body.Bad a) = decimal a ∷ []
 arguments (body.Constraint a) = decimal a ∷ []
+arguments _ = []
 
 abbrev Taken : Form → Tokens → (Body × Tokens) → Type 0
-Taken f tokens x = BodyFits most x.0 → form_name f ∷ tokens ≡ form_tokens x.0 ++ x.1
+Taken f tokens x = is_basic_form f ≡ true → BodyFits most x.0 → (form_name f ∷ tokens ≡ form_tokens x.0 ++ x.1) × (is_basic x.0 ≡ true)
 
 body_at_takes : (f : Form) (tokens : Tokens) (x : Body × Tokens) → body_at f tokens ≡ Ok x → Taken f tokens x
 unfolding body_at
 body_at_takes form.Sort tokens y e =
     let b = bind_ok (width_at tokens) (λ x. Ok (body.Sort x.0, x.1)) y e in
-    subst (Taken form.Sort tokens) (ok_is (body.Sort b.0.0, b.0.1) y b.2) (λ fits. ap (λ t. form_name form.Sort ∷ t) (width_at_takes tokens b.0 b.1 fits))
+    subst (Taken form.Sort tokens) (ok_is (body.Sort b.0.0, b.0.1) y b.2) (λ basic fits. (ap (λ t. form_name form.Sort ∷ t) (width_at_takes tokens b.0 b.1 fits), basic))
 body_at_takes form.Input tokens y e =
     let b = bind_ok (plain_at tokens) (λ x. Ok (body.Input x.0, x.1)) y e in
-    subst (Taken form.Input tokens) (ok_is (body.Input b.0.0, b.0.1) y b.2) (λ fits. ap (λ t. form_name form.Input ∷ t) (plain_at_takes tokens b.0 b.1 fits))
+    subst (Taken form.Input tokens) (ok_is (body.Input b.0.0, b.0.1) y b.2) (λ basic fits. (ap (λ t. form_name form.Input ∷ t) (plain_at_takes tokens b.0 b.1 fits), basic))
 body_at_takes form.State tokens y e =
     let b = bind_ok (plain_at tokens) (λ x. Ok (body.State x.0, x.1)) y e in
-    subst (Taken form.State tokens) (ok_is (body.State b.0.0, b.0.1) y b.2) (λ fits. ap (λ t. form_name form.State ∷ t) (plain_at_takes tokens b.0 b.1 fits))
+    subst (Taken form.State tokens) (ok_is (body.State b.0.0, b.0.1) y b.2) (λ basic fits. (ap (λ t. form_name form.State ∷ t) (plain_at_takes tokens b.0 b.1 fits), basic))
 body_at_takes form.Zero tokens y e =
     let b = bind_ok (plain_at tokens) (λ x. Ok (body.Zero x.0, x.1)) y e in
-    subst (Taken form.Zero tokens) (ok_is (body.Zero b.0.0, b.0.1) y b.2) (λ fits. ap (λ t. form_name form.Zero ∷ t) (plain_at_takes tokens b.0 b.1 fits))
+    subst (Taken form.Zero tokens) (ok_is (body.Zero b.0.0, b.0.1) y b.2) (λ basic fits. (ap (λ t. form_name form.Zero ∷ t) (plain_at_takes tokens b.0 b.1 fits), basic))
 body_at_takes (form.Unary op) tokens y e =
     let b = bind_ok (pair_at tokens) (λ x. Ok (body.Unary op x.0 x.1, x.2)) y e in
-    subst (Taken (form.Unary op) tokens) (ok_is (body.Unary op b.0.0 b.0.1, b.0.2) y b.2) (λ fits. ap (λ t. form_name (form.Unary op) ∷ t) (pair_at_takes tokens b.0 b.1 fits.0 fits.1))
+    subst (Taken (form.Unary op) tokens) (ok_is (body.Unary op b.0.0 b.0.1, b.0.2) y b.2) (λ basic fits. (ap (λ t. form_name (form.Unary op) ∷ t) (pair_at_takes tokens b.0 b.1 fits.0 fits.1), basic))
 body_at_takes (form.Binary op) tokens y e =
     let b = bind_ok (triple_at tokens) (λ x. Ok (body.Binary op x.0 x.1 x.2, x.3)) y e in
-    subst (Taken (form.Binary op) tokens) (ok_is (body.Binary op b.0.0 b.0.1 b.0.2, b.0.3) y b.2) (λ fits. ap (λ t. form_name (form.Binary op) ∷ t) (triple_at_takes tokens b.0 b.1 fits.0 fits.1 fits.2))
+    subst (Taken (form.Binary op) tokens) (ok_is (body.Binary op b.0.0 b.0.1 b.0.2, b.0.3) y b.2) (λ basic fits. (ap (λ t. form_name (form.Binary op) ∷ t) (triple_at_takes tokens b.0 b.1 fits.0 fits.1 fits.2), basic))
 body_at_takes form.Init tokens y e =
     let b = bind_ok (triple_at tokens) (λ x. Ok (body.Init x.0 x.1 x.2, x.3)) y e in
-    subst (Taken form.Init tokens) (ok_is (body.Init b.0.0 b.0.1 b.0.2, b.0.3) y b.2) (λ fits. ap (λ t. form_name form.Init ∷ t) (triple_at_takes tokens b.0 b.1 fits.0 fits.1 fits.2))
+    subst (Taken form.Init tokens) (ok_is (body.Init b.0.0 b.0.1 b.0.2, b.0.3) y b.2) (λ basic fits. (ap (λ t. form_name form.Init ∷ t) (triple_at_takes tokens b.0 b.1 fits.0 fits.1 fits.2), basic))
 body_at_takes form.Next tokens y e =
     let b = bind_ok (triple_at tokens) (λ x. Ok (body.Next x.0 x.1 x.2, x.3)) y e in
-    subst (Taken form.Next tokens) (ok_is (body.Next b.0.0 b.0.1 b.0.2, b.0.3) y b.2) (λ fits. ap (λ t. form_name form.Next ∷ t) (triple_at_takes tokens b.0 b.1 fits.0 fits.1 fits.2))
+    subst (Taken form.Next tokens) (ok_is (body.Next b.0.0 b.0.1 b.0.2, b.0.3) y b.2) (λ basic fits. (ap (λ t. form_name form.Next ∷ t) (triple_at_takes tokens b.0 b.1 fits.0 fits.1 fits.2), basic))
 body_at_takes form.Bad tokens y e =
     let b = bind_ok (operand_at tokens) (λ x. Ok (body.Bad x.0, x.1)) y e in
-    subst (Taken form.Bad tokens) (ok_is (body.Bad b.0.0, b.0.1) y b.2) (λ fits. ap (λ t. form_name form.Bad ∷ t) (operand_at_takes tokens b.0 b.1 fits))
+    subst (Taken form.Bad tokens) (ok_is (body.Bad b.0.0, b.0.1) y b.2) (λ basic fits. (ap (λ t. form_name form.Bad ∷ t) (operand_at_takes tokens b.0 b.1 fits), basic))
 body_at_takes form.Constraint tokens y e =
     let b = bind_ok (operand_at tokens) (λ x. Ok (body.Constraint x.0, x.1)) y e in
-    subst (Taken form.Constraint tokens) (ok_is (body.Constraint b.0.0, b.0.1) y b.2) (λ fits. ap (λ t. form_name form.Constraint ∷ t) (operand_at_takes tokens b.0 b.1 fits))
+    subst (Taken form.Constraint tokens) (ok_is (body.Constraint b.0.0, b.0.1) y b.2) (λ basic fits. (ap (λ t. form_name form.Constraint ∷ t) (operand_at_takes tokens b.0 b.1 fits), basic))
 
-body_at-again : (b : Body) (rest : Tokens) → BodyFits (2 ^ 64) b → body_at (named_form b) (arguments b ++ rest) ≡ Ok (b, rest)
+body_at-again : (b : Body) (rest : Tokens) → is_basic b ≡ true → BodyFits (2 ^ 64) b → body_at (named_form b) (arguments b ++ rest) ≡ Ok (b, rest)
 unfolding body_at
-body_at-again (body.Sort n) rest fits = rw (width_at-again n rest fits) refl
-body_at-again (body.Input s) rest fits = rw (plain_at-decimal s rest fits) refl
-body_at-again (body.State s) rest fits = rw (plain_at-decimal s rest fits) refl
-body_at-again (body.Zero s) rest fits = rw (plain_at-decimal s rest fits) refl
-body_at-again (body.Unary op s a) rest fits = rw (pair_at-again s a rest fits.0 fits.1) refl
-body_at-again (body.Binary op s a b) rest fits = rw (triple_at-again s a b rest fits.0 fits.1 fits.2) refl
-body_at-again (body.Init s t v) rest fits = rw (triple_at-again s t v rest fits.0 fits.1 fits.2) refl
-body_at-again (body.Next s t v) rest fits = rw (triple_at-again s t v rest fits.0 fits.1 fits.2) refl
-body_at-again (body.Bad a) rest fits = rw (operand_at-decimal a rest fits) refl
-body_at-again (body.Constraint a) rest fits = rw (operand_at-decimal a rest fits) refl
+body_at-again (body.Sort n) rest basic fits = rw (width_at-again n rest fits) refl
+body_at-again (body.Input s) rest basic fits = rw (plain_at-decimal s rest fits) refl
+body_at-again (body.State s) rest basic fits = rw (plain_at-decimal s rest fits) refl
+body_at-again (body.Zero s) rest basic fits = rw (plain_at-decimal s rest fits) refl
+body_at-again (body.Unary op s a) rest basic fits = rw (pair_at-again s a rest fits.0 fits.1) refl
+body_at-again (body.Binary op s a b) rest basic fits = rw (triple_at-again s a b rest fits.0 fits.1 fits.2) refl
+body_at-again (body.Init s t v) rest basic fits = rw (triple_at-again s t v rest fits.0 fits.1 fits.2) refl
+body_at-again (body.Next s t v) rest basic fits = rw (triple_at-again s t v rest fits.0 fits.1 fits.2) refl
+body_at-again (body.Bad a) rest basic fits = rw (operand_at-decimal a rest fits) refl
+body_at-again (body.Constraint a) rest basic fits = rw (operand_at-decimal a rest fits) refl
+body_at-again _ rest basic fits = absurd (false≢true basic)
 
-form_at-again : (b : Body) (rest : Tokens) → form_at (form_tokens b ++ rest) ≡ Ok (named_form b, arguments b ++ rest)
+form_at-again : (b : Body) (rest : Tokens) → is_basic b ≡ true → form_at (form_tokens b ++ rest) ≡ Ok (named_form b, arguments b ++ rest)
 unfolding form_at form_of other_form_of unary_of binary_of
-form_at-again (body.Sort n) rest = refl
-form_at-again (body.Input s) rest = refl
-form_at-again (body.State s) rest = refl
-form_at-again (body.Zero s) rest = refl
-form_at-again (body.Unary Not s a) rest = refl
-form_at-again (body.Binary And s a b) rest = refl
-form_at-again (body.Init s t v) rest = refl
-form_at-again (body.Next s t v) rest = refl
-form_at-again (body.Bad a) rest = refl
-form_at-again (body.Constraint a) rest = refl
+form_at-again (body.Sort n) rest basic = refl
+form_at-again (body.Input s) rest basic = refl
+form_at-again (body.State s) rest basic = refl
+form_at-again (body.Zero s) rest basic = refl
+form_at-again (body.Unary Not s a) rest basic = refl
+form_at-again (body.Binary And s a b) rest basic = refl
+form_at-again (body.Init s t v) rest basic = refl
+form_at-again (body.Next s t v) rest basic = refl
+form_at-again (body.Bad a) rest basic = refl
+form_at-again (body.Constraint a) rest basic = refl
+form_at-again _ rest basic = absurd (false≢true basic)
 
 -- ---- symbols
 
@@ -380,8 +394,11 @@ spelled : (first : List ℕ) (rest : Tokens) (id : ℕ) (f : Form × Tokens) (b 
     → Fits most (record { id = id; symbol = s; body = b.0 }) → Spells (first ∷ rest) (record { id = id; symbol = s; body = b.0 })
 spelled first rest id f b s ri rf rb rs fits =
     let symbol = symbol_at_takes b.1 s rs in
+    let form = form_at_takes rest f rf in
+    let body = body_at_takes f.0 f.1 b rb form.1 fits.body in
     record {
-      tokens = ap (λ t. t ∷ rest) (plain_takes first id ri fits.id) ∙ ap (λ t. decimal id ∷ t) (form_at_takes rest f rf ∙ (body_at_takes f.0 f.1 b rb fits.body ∙ ap (λ t. form_tokens b.0 ++ t) symbol.0));
+      tokens = ap (λ t. t ∷ rest) (plain_takes first id ri fits.id) ∙ ap (λ t. decimal id ∷ t) (form.0 ∙ (body.0 ∙ ap (λ t. form_tokens b.0 ++ t) symbol.0));
+      basic = body.1;
       symbol = symbol.1;
     }
 
@@ -394,10 +411,10 @@ item_takes first rest x e =
     let s = bind_ok (symbol_at b.0.1) (λ s. Ok (record { id = i.0; symbol = s; body = b.0.0 })) x b.2 in
     subst (λ (y : Item). Fits most y → Spells (first ∷ rest) y) {x = record { id = i.0; symbol = s.0; body = b.0.0 }} (ok_is (record { id = i.0; symbol = s.0; body = b.0.0 }) x s.2) (spelled first rest i.0 f.0 b.0 s.0 i.1 f.1 b.1 s.1)
 
-read_again : (x : Item) → Fits (2 ^ 64) x → IsSymbolOption x.symbol → item_at (decimal x.id) (form_tokens x.body ++ symbol_tokens x.symbol) ≡ Ok x
+read_again : (x : Item) → is_basic x.body ≡ true → Fits (2 ^ 64) x → IsSymbolOption x.symbol → item_at (decimal x.id) (form_tokens x.body ++ symbol_tokens x.symbol) ≡ Ok x
 unfolding item_at
-read_again x fits symbol =
-    rw (plain-decimal x.id fits.id, form_at-again x.body (symbol_tokens x.symbol), body_at-again x.body (symbol_tokens x.symbol) fits.body, symbol_at-again x.symbol symbol) refl
+read_again x basic fits symbol =
+    rw (plain-decimal x.id fits.id, form_at-again x.body (symbol_tokens x.symbol) basic, body_at-again x.body (symbol_tokens x.symbol) basic fits.body, symbol_at-again x.symbol symbol) refl
 
 heads : (a b : List ℕ) (xs ys : Tokens) → a ∷ xs ≡ b ∷ ys → (a ≡ b) × (xs ≡ ys)
 heads a b xs ys e = (cc, cc)
@@ -405,4 +422,4 @@ heads a b xs ys e = (cc, cc)
 pub item_again : (first : List ℕ) (rest : Tokens) (x : Item) → Spells (first ∷ rest) x → Fits (2 ^ 64) x → item_at first rest ≡ Ok x
 item_again first rest x spelled fits =
     let parts = heads first (decimal x.id) rest (form_tokens x.body ++ symbol_tokens x.symbol) spelled.tokens in
-    rw (parts.0, parts.1) (read_again x fits spelled.symbol)
+    rw (parts.0, parts.1) (read_again x spelled.basic fits spelled.symbol)

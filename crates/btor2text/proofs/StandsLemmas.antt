@@ -83,10 +83,11 @@ then_adds n before items line lines last others (Ok mid) fit rest is e =
     adds_line before mid items line lines last adds (rest mid (fit_after before mid line fit adds) e)
 then_adds n before items line lines last others (Err w) fit rest is e = absurd cc
 
-abbrev done : List Item → Result (List Item) ReadFault
+-- items that were read; two of them that are the same answer are the same
+abbrev pub done : List Item → Result (List Item) ReadFault
 done items = Ok items
 
-ok_items : (a b : List Item) → done a ≡ done b → a ≡ b
+pub ok_items : (a b : List Item) → done a ≡ done b → a ≡ b
 ok_items a b e = cc
 
 lines_take : (n : ℕ) (before : List Item) (lines : List (List ℕ)) (last : List ℕ) (items : List Item) → IdsFit before → lines_on n before lines last ≡ Ok items → Adds before (map tokens lines) last items

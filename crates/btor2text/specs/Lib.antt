@@ -1,3 +1,4 @@
+pub mod Basic
 pub mod FirstFault
 pub mod Lines
 pub mod Reading

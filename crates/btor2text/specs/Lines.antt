@@ -14,6 +14,7 @@ IsLine line = list_any (λ b. b == 10) line ≡ false
 abbrev pub is_blank : ℕ → Bool
 is_blank b = (b == 32) || (b == 9)
 
+-- a byte more at the front of the first piece
 abbrev pub to_first : ℕ → List (List ℕ) → List (List ℕ)
 to_first b [] = (b ∷ []) ∷ []
 to_first b (p ∷ ps) = (b ∷ p) ∷ ps
@@ -23,6 +24,7 @@ abbrev pub pieces : List ℕ → List (List ℕ)
 pieces [] = [] ∷ []
 pieces (b ∷ bs) = if is_blank b then [] ∷ pieces bs else to_first b (pieces bs)
 
+-- a piece has a byte
 abbrev pub is_some_bytes : List ℕ → Bool
 is_some_bytes [] = false
 is_some_bytes (b ∷ bs) = true
@@ -32,11 +34,12 @@ abbrev pub opens_comment : List ℕ → Bool
 opens_comment [] = false
 opens_comment (b ∷ bs) = b == 59
 
+-- the pieces before the one that opens a comment
 abbrev pub before_comment : List (List ℕ) → List (List ℕ)
 before_comment [] = []
 before_comment (p ∷ ps) = if opens_comment p then [] else p ∷ before_comment ps
 
--- the tokens of a line
+-- the tokens of a line: what stands between blanks, up to a comment
 abbrev pub tokens : List ℕ → List (List ℕ)
 tokens line = before_comment (filter is_some_bytes (pieces line))
 
@@ -50,11 +53,12 @@ abbrev pub begins_token : List ℕ → Bool
 begins_token [] = false
 begins_token (b ∷ bs) = not (is_blank b || (b == 59))
 
--- the whole lines of a text
+-- a byte more at the front of the first line; where no line is left, it is of the unfinished rest
 abbrev pub onto_first : ℕ → List (List ℕ) → List (List ℕ)
 onto_first b [] = []
 onto_first b (line ∷ lines) = (b ∷ line) ∷ lines
 
+-- the whole lines of a text: those that a byte 10 ends
 abbrev pub whole_lines : List ℕ → List (List ℕ)
 whole_lines [] = []
 whole_lines (b ∷ bs) = if b == 10 then [] ∷ whole_lines bs else onto_first b (whole_lines bs)

@@ -20,17 +20,20 @@ use Rattle.btor2text.specs.declared.forms.Form.{Form}
 use Rattle.btor2text.specs.declared.forms.Form.TheVariants as form
 use Rattle.btor2text.specs.Lines.{tokens, whole_lines, unfinished}
 
+-- a byte is a digit from 0 to 9
 abbrev pub is_digit : ℕ → Bool
 is_digit b = nat_le 48 b && nat_le b 57
 
+-- each byte is a digit
 abbrev pub are_digits : List ℕ → Bool
 are_digits bytes = list_all is_digit bytes
 
--- `0`, or a digit from 1 to 9 followed by digits
+-- there is no byte
 abbrev pub is_nothing : List ℕ → Bool
 is_nothing [] = true
 is_nothing (b ∷ bs) = false
 
+-- a decimal: `0`, or a digit from 1 to 9 followed by digits
 unfoldable pub is_decimal : List ℕ → Bool
 is_decimal [] = false
 is_decimal (b ∷ bs) = if b == 48 then is_nothing bs else (nat_le 49 b && nat_le b 57 && are_digits (b ∷ bs))
@@ -39,6 +42,7 @@ is_decimal (b ∷ bs) = if b == 48 then is_nothing bs else (nat_le 49 b && nat_l
 unfoldable pub capped_value : List ℕ → ℕ
 capped_value digits = min (digits_value 10 digits) (2 ^ 64 - 1)
 
+-- the number that a token writes, where it is a decimal
 unfoldable pub number_of : List ℕ → Option ℕ
 number_of token = if is_decimal token then Some (capped_value token) else None
 
@@ -49,6 +53,7 @@ is_negative (b ∷ bs) = if b == 45 then is_decimal bs else false
 
 -- ---- whys
 
+-- what a value gives to the next step; the first why ends all steps
 infixl 10 ◌>>=◌
 abbrev pub ◌>>=◌ : {A B : Type 0} → Result A Why → (A → Result B Why) → Result B Why
 (Ok x) >>= f = f x
@@ -66,49 +71,55 @@ GivesUnlessFull view (Err e) read = (e ≡ why.NoMemory) ⊎ (read ≡ Err e)
 
 -- ---- tokens in their places: each answers a value and the tokens that follow
 
+-- tokens, each a list of bytes
 abbrev pub Tokens : Type 0
 Tokens = List (List ℕ)
 
--- the number of a token in a plain place
+-- the number of a plain place, or its why where there is none
 abbrev pub plain_of : Option ℕ → Result ℕ Why
 plain_of (Some n) = Ok n
 plain_of None = Err why.BadToken
 
+-- the number of a token in a plain place: the line's own id, a sort or a width
 unfoldable pub plain : List ℕ → Result ℕ Why
 plain token = plain_of (number_of token)
 
--- the number of a token in an operand's place, where `-` and a decimal are told apart
+-- the number of an operand's place, or its why where there is none: `-` and a decimal has a why of its own
 abbrev pub operand_of : Bool → Option ℕ → Result ℕ Why
 operand_of negative (Some n) = Ok n
 operand_of negative None = if negative then Err why.NegativeOperand else Err why.BadToken
 
+-- the number of a token in an operand's place
 unfoldable pub operand : List ℕ → Result ℕ Why
 operand token = operand_of (is_negative token) (number_of token)
 
+-- a plain number, and the tokens behind it
 unfoldable pub plain_at : Tokens → Result (ℕ × Tokens) Why
 plain_at [] = Err why.BadToken
 plain_at (token ∷ rest) = do
   n ← plain token
   Ok (n, rest)
 
+-- an operand, and the tokens behind it
 unfoldable pub operand_at : Tokens → Result (ℕ × Tokens) Why
 operand_at [] = Err why.BadToken
 operand_at (token ∷ rest) = do
   n ← operand token
   Ok (n, rest)
 
--- the tokens behind `sort`
+-- the width that the tokens behind `sort` say, and the tokens behind it
 unfoldable pub width_at : Tokens → Result (ℕ × Tokens) Why
 width_at [] = Err why.BadToken
 width_at (token ∷ rest) = if bytes_eq token (codes "bitvec") then plain_at rest else (if bytes_eq token (codes "array") then Err why.ArraySort else Err why.BadToken)
 
--- a sort and an operand, and a sort and two operands
+-- a sort and an operand, and the tokens behind them
 unfoldable pub pair_at : Tokens → Result (ℕ × ℕ × Tokens) Why
 pair_at tokens = do
   s ← plain_at tokens
   a ← operand_at s.1
   Ok (s.0, a.0, a.1)
 
+-- a sort and two operands, and the tokens behind them
 unfoldable pub triple_at : Tokens → Result (ℕ × ℕ × ℕ × Tokens) Why
 triple_at tokens = do
   s ← plain_at tokens
@@ -116,13 +127,15 @@ triple_at tokens = do
   b ← operand_at a.1
   Ok (s.0, a.0, b.0, b.1)
 
--- the operator of one operand that a word names, that of two, and the form that is no operator
+-- the operator of one operand that a word names
 unfoldable pub unary_of : List ℕ → Option Unary
 unary_of word = if bytes_eq word (codes "not") then Some Not else None
 
+-- the operator of two operands that a word names
 unfoldable pub binary_of : List ℕ → Option Binary
 binary_of word = if bytes_eq word (codes "and") then Some And else None
 
+-- the form that a word names and that is no operator
 unfoldable pub other_form_of : List ℕ → Option Form
 other_form_of word =
     if bytes_eq word (codes "sort") then Some form.Sort
@@ -135,33 +148,37 @@ other_form_of word =
     else (if bytes_eq word (codes "constraint") then Some form.Constraint
     else None)))))))
 
--- why a word names no form
+-- why a word names no form: it is of arrays, or unknown
 unfoldable pub no_form : List ℕ → Why
 no_form word = if bytes_eq word (codes "read") || bytes_eq word (codes "write") then why.ArrayOperator else why.UnknownOperator
 
--- the form that a word names
+-- the form of a word, given its operator of two operands where it names one
 abbrev pub binary_form : List ℕ → Option Binary → Result Form Why
 binary_form word (Some op) = Ok (form.Binary op)
 binary_form word None = Err (no_form word)
 
+-- the form of a word, given its operator of one operand where it names one
 abbrev pub unary_form : List ℕ → Option Unary → Result Form Why
 unary_form word (Some op) = Ok (form.Unary op)
 unary_form word None = binary_form word (binary_of word)
 
+-- the form of a word, given its form that is no operator where it names one
 abbrev pub any_form : List ℕ → Option Form → Result Form Why
 any_form word (Some f) = Ok f
 any_form word None = unary_form word (unary_of word)
 
+-- the form that a word names
 unfoldable pub form_of : List ℕ → Result Form Why
 form_of word = any_form word (other_form_of word)
 
+-- a form, and the tokens behind its word
 unfoldable pub form_at : Tokens → Result (Form × Tokens) Why
 form_at [] = Err why.BadToken
 form_at (word ∷ rest) = do
   f ← form_of word
   Ok (f, rest)
 
--- what a form's tokens say
+-- what the tokens behind a form's word say, and the tokens behind them
 unfoldable pub body_at : Form → Tokens → Result (Body × Tokens) Why
 body_at form.Sort tokens = do
   x ← width_at tokens
@@ -199,6 +216,7 @@ abbrev pub symbol_end : List ℕ → Tokens → Result (Option (List ℕ)) Why
 symbol_end symbol [] = Ok (Some symbol)
 symbol_end symbol (token ∷ rest) = Err why.BadToken
 
+-- the symbol at a line's end, where there is one
 unfoldable pub symbol_at : Tokens → Result (Option (List ℕ)) Why
 symbol_at [] = Ok None
 symbol_at (token ∷ rest) = if is_symbol token then symbol_end token rest else Err why.BadSymbol
@@ -232,14 +250,16 @@ line_on before (first ∷ rest) = do
 abbrev pub line_after : ℕ → ℕ
 line_after n = min (n + 1) (2 ^ 64 - 1)
 
+-- a why at a line
 abbrev pub fault_at : ℕ → Why → ReadFault
 fault_at n e = record { line = n; why = e }
 
--- the same, where want of memory is told without a line
+-- a why at a line, where want of memory is told without a line
 abbrev pub fault_of : ℕ → Why → ReadFault
 fault_of n why.NoMemory = fault_at 0 why.NoMemory
 fault_of n e = fault_at n e
 
+-- what a line gave, and then the lines behind it; its fault is told with its number
 abbrev pub then_lines : ℕ → Result (List Item) Why → (List Item → Result (List Item) ReadFault) → Result (List Item) ReadFault
 then_lines n (Ok items) others = others items
 then_lines n (Err e) others = Err (fault_at n e)
@@ -259,11 +279,12 @@ abbrev pub ReadsLine : Result (Unit {0}) Why → List Item → Result (List Item
 ReadsLine (Ok u) items read = read ≡ Ok items
 ReadsLine (Err e) items read = (e ≡ why.NoMemory) ⊎ (read ≡ Err e)
 
--- lines were read onto a model, and a text was read, unless memory ran out
+-- lines were read onto a model, unless memory ran out
 abbrev pub ReadsLines : Result (Unit {0}) ReadFault → List Item → Result (List Item) ReadFault → Type 0
 ReadsLines (Ok u) items read = read ≡ Ok items
 ReadsLines (Err e) items read = (e ≡ fault_at 0 why.NoMemory) ⊎ (read ≡ Err e)
 
+-- a text was read as a model, unless memory ran out
 abbrev pub ReadsText : Result (List Item) ReadFault → Result (List Item) ReadFault → Type 0
 ReadsText (Ok items) read = read ≡ Ok items
 ReadsText (Err e) read = (e ≡ fault_at 0 why.NoMemory) ⊎ (read ≡ Err e)

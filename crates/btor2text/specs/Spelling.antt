@@ -9,13 +9,18 @@ use Rattle.btor2.specs.declared.item.Body.{Body}
 use Rattle.btor2.specs.declared.item.Body.TheVariants as body
 use Rattle.btor2.specs.Symbols.{is_symbol}
 use Rattle.btor2.specs.Check.{IsWellFormed}
+use Rattle.btor2text.specs.Basic.{is_basic}
 use Rattle.btor2text.specs.Lines.{text_of_lines, IsLine, tokens}
 
+-- the word of an operator of one operand
 abbrev pub unary_name : Unary → List ℕ
 unary_name Not = codes "not"
+unary_name _ = []
 
+-- the word of an operator of two operands
 abbrev pub binary_name : Binary → List ℕ
 binary_name And = codes "and"
+binary_name _ = []
 
 -- the tokens of a form, behind the id
 abbrev pub form_tokens : Body → List (List ℕ)
@@ -29,14 +34,17 @@ form_tokens (body.Init s t v) = codes "init" ∷ decimal s ∷ decimal t ∷ dec
 form_tokens (body.Next s t v) = codes "next" ∷ decimal s ∷ decimal t ∷ decimal v ∷ []
 form_tokens (body.Bad a) = codes "bad" ∷ decimal a ∷ []
 form_tokens (body.Constraint a) = codes "constraint" ∷ decimal a ∷ []
+form_tokens _ = []
 
+-- the tokens of a symbol: itself, or none
 abbrev pub symbol_tokens : Option (List ℕ) → List (List ℕ)
 symbol_tokens None = []
 symbol_tokens (Some symbol) = symbol ∷ []
 
--- the tokens of a line spell an item: its id, its form and its symbol, which is a symbol's bytes
+-- the tokens of a line spell an item: its id, its form, which is one that is read so far, and its symbol, which is a symbol's bytes
 pub record Spells (line : List (List ℕ)) (x : Item) : Type 0 where
   pub tokens : line ≡ decimal x.id ∷ form_tokens x.body ++ symbol_tokens x.symbol
+  pub basic : is_basic x.body ≡ true
   pub symbol : IfSome x.symbol (λ bytes. is_symbol bytes ≡ true)
 
 -- lines stand for items in order; a line without tokens stands for nothing

@@ -3,6 +3,7 @@ use Rattle.std.specs.Prelude.{ℕ}
 use Rattle.btor2text.specs.declared.fault.Why.{Why}
 use Rattle.btor2text.specs.declared.fault.Why.TheVariants.{BadToken, ArraySort, ArrayOperator, UnknownOperator, NegativeOperand, BadSymbol, Refused, Unfinished, Device, NoMemory}
 
+-- the number of a why; for a refusal of the model it is 27, whatever the refusal's own number
 abbrev pub number_of : Why → ℕ
 number_of BadToken = 20
 number_of ArraySort = 21

@@ -1,15 +1,19 @@
 //! Word-level models as text, after "Btor2, BtorMC and Boolector 3.0".
 #![tactic(auto)]
 
+mod basic;
 mod decimals;
 mod fault;
 mod forms;
 mod items;
+mod laws;
 mod lines;
 mod reading;
 mod tokens;
 
+pub use basic::are_basic;
 pub use fault::{ReadFault, Why};
+pub use laws::{worked_faults, worked_items, worked_tokens, worked_whys};
 pub use reading::read;
 
 #[cfg(test)]

@@ -1,10 +1,11 @@
-ghost use Rattle.std.specs.Prelude.{◌≡◌, ◌⊎◌, ◌≤◌, ℕ, List, Some, IfOk, IfErr, IfSome, OnOk};
+ghost use Rattle.std.specs.Prelude.{◌≡◌, ◌⊎◌, ◌≤◌, ℕ, List, Some, true, IfOk, IfErr, IfSome, OnOk};
 ghost use Rattle.std.specs.Io.KnownBytes.{IsAtEnd};
 ghost use Rattle.base.specs.Device.{HasRisen};
 ghost use Rattle.btor2.specs.declared.item.Item.{Item};
 ghost use Rattle.btor2.specs.Check.{refusal};
 ghost use Rattle.btor2text.specs.Lines.{tokens, whole_lines, unfinished};
 ghost use Rattle.btor2text.specs.FirstFault.{IsFaultOf};
+ghost use Rattle.btor2text.specs.Basic.{are_basic};
 ghost use Rattle.btor2text.specs.Spelling.{StandsFor};
 ghost use Rattle.btor2text.specs.Reading.{accepted, fault_of, line_on, lines_on, text_on, ReadsLine, ReadsLines, ReadsText, ReadsAs};
 
@@ -91,6 +92,8 @@ fn read_text(alloc: Global, text: &[u8]) -> Result<Model, ReadFault>
 pub fn read<S: Source>(alloc: Global, source: &mut S) -> Result<Model, ReadFault>
     // what is read stands for the text
     ensures found { IfOk result (λ model. IfSome (S.to_come source.old) (λ text. StandsFor text model)) }
+    // it is of the forms that are read so far
+    ensures basic { IfOk result (λ model. are_basic model ≡ true) }
     // every text that stands for a model is read as it, want of memory and device faults apart
     ensures only { (text : List ℕ) (items : List Item) → S.to_come source.old ≡ Some text → StandsFor text items → ReadsAs result items }
     // a fault that is neither is that of the first line that has one, by its first why

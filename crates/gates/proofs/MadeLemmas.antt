@@ -1,7 +1,7 @@
 -- How nets grow, and what stays true of literals.
-use Rattle.std.proofs.Common.{◌≡◌, ℕ, suc, ◌+◌, ◌*◌, ◌≤◌, ◌<◌, Bool, true, false, ◌&&◌, List, [], ◌∷◌, ◌++◌, length, map, take, get_or, not, bit_and, ◌-◌, ◌^◌, All, refl, sym, ap, ◌∙◌, arith, append_assoc, append-nil, length-append, length-take, subst, inl, inr}
+use Rattle.std.proofs.Common.{◌≡◌, ℕ, suc, ◌+◌, ◌*◌, ◌≤◌, ◌<◌, Bool, true, false, ◌&&◌, List, [], ◌∷◌, ◌++◌, length, map, take, get_or, not, ◌-◌, ◌^◌, All, refl, sym, ap, ◌∙◌, arith, append_assoc, append-nil, length-append, length-take, inl, inr}
 use Rattle.std.proofs.lemmas.List.{length-map, take_all, take_more, map-append}
-use Rattle.std.proofs.lemmas.List.Elements.{All-push, All-weaker, All-map}
+use Rattle.std.proofs.lemmas.List.Elements.{All-weaker, All-map}
 use Rattle.base.proofs.BitLemmas.{word-map_not, word-both}
 use Rattle.base.specs.Operator.{binary_value}
 use Rattle.base.specs.declared.operators.Binary.TheVariants.{And}
@@ -9,7 +9,6 @@ use Rattle.aiger.specs.Literal.{negation}
 use Rattle.aiger.proofs.NetLemmas.{IsDefined-negation, literal_value-negation}
 use Rattle.gates.specs.Made.{MakesWord, word_value}
 use Rattle.base.specs.Word.{word, both}
-use Rattle.aiger.specs.declared.circuit.Gate.{Gate}
 use Rattle.aiger.specs.Literal.{Valuation, literal_value}
 use Rattle.aiger.specs.Net.{Net, variables, IsDefined, Satisfies, SatisfiesFrom}
 use Rattle.aiger.specs.Literal.{variable}

@@ -1,3 +1,5 @@
 pub mod Bound
+pub mod Built
 pub mod Made
 pub mod Faults
+pub mod Worked

@@ -1,5 +1,5 @@
 -- What a gate maker does to the gates that it has made, and what literals mean in every valuation that satisfies them ("AIGER 1.9 and Beyond", and-inverter graphs).
-use Rattle.std.specs.Prelude.{◌≡◌, ℕ, ◌+◌, ◌<◌, ◌≤◌, Bool, ◌&&◌, List, ◌++◌, length, map, All, ◌⊎◌}
+use Rattle.std.specs.Prelude.{◌≡◌, ℕ, ◌+◌, ◌<◌, ◌≤◌, ◌&&◌, List, ◌++◌, length, map, All, ◌⊎◌}
 use Rattle.base.specs.Word.{word}
 use Rattle.aiger.specs.declared.circuit.Gate.{Gate}
 use Rattle.aiger.specs.Literal.{Valuation, literal_value}

@@ -1,9 +1,11 @@
-ghost use Rattle.std.specs.Prelude.{◌≡◌, ◌≤◌, length, All, map, IfOk, IfErr};
-ghost use Rattle.base.specs.Operator.{unary_value, unary_width, binary_value, binary_width};
+ghost use Rattle.std.specs.Prelude.{◌≡◌, ◌≤◌, length, All, map, IfOk, IfErr, true};
+ghost use Rattle.base.specs.Operator.{unary_value, binary_value};
+ghost use Rattle.base.specs.Widths.{unary_width, binary_width};
 ghost use Rattle.aiger.specs.Net.{IsDefined};
 ghost use Rattle.aiger.specs.Literal.{negation};
 ghost use Rattle.gates.specs.Made.{MakesAnd, MakesWord, Refuses, word_value};
 ghost use Rattle.gates.specs.Bound.{unary_bound, binary_bound};
+ghost use Rattle.gates.specs.Built.{is_built_unary, is_built_binary};
 
 use crate::fault::GateFault;
 use crate::maker::{Bits, Gates};
@@ -12,9 +14,10 @@ use base::{Binary, Unary};
 
 /// The bits of what an operator gives for an operand.
 ///
-/// Conditions: 1 to 64 literals, all defined. Errors: `TooBig` only where the variables so far and the
+/// Conditions: the operator is `Not`, the one that is built so far; 1 to 64 literals, all defined. Errors: `TooBig` only where the variables so far and the
 /// operator's bound sum to more than 2^30, `NoMemory`; the gates made so far stay.
 pub fn unary_bits<G: Gates>(g: &mut G, op: Unary, a: &Bits) -> Result<Bits, GateFault>
+    requires built { is_built_unary op ≡ true }
     requires some { 1 ≤ length a.now.items }
     requires most { length a.now.items ≤ 64 }
     requires defined { All (IsDefined (G.made g.old)) a.now.items }
@@ -23,14 +26,17 @@ pub fn unary_bits<G: Gates>(g: &mut G, op: Unary, a: &Bits) -> Result<Bits, Gate
 {
     match op {
         Unary::Not => Ok(negation(a)),
+        _ => unreachable!(),
     }
 }
 
 /// The bits of what an operator gives for two operands.
 ///
-/// Conditions: operands of equal length from 1 to 64, all literals defined. Errors: `TooBig` only where
+/// Conditions: the operator is `And`, the one that is built so far; operands of equal length from 1 to 64, all
+/// literals defined. Errors: `TooBig` only where
 /// the variables so far and the operator's bound sum to more than 2^30, `NoMemory`; the gates made so far stay.
 pub fn binary_bits<G: Gates>(g: &mut G, op: Binary, a: &Bits, b: &Bits) -> Result<Bits, GateFault>
+    requires built { is_built_binary op ≡ true }
     requires some { 1 ≤ length a.now.items }
     requires most { length a.now.items ≤ 64 }
     requires equal { length b.now.items ≡ length a.now.items }
@@ -41,6 +47,7 @@ pub fn binary_bits<G: Gates>(g: &mut G, op: Binary, a: &Bits, b: &Bits) -> Resul
 {
     match op {
         Binary::And => both(g, a, b),
+        _ => unreachable!(),
     }
 }
 

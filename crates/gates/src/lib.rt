@@ -4,12 +4,14 @@
 mod bound;
 mod builders;
 mod fault;
+mod laws;
 mod maker;
 mod plain;
 
 pub use bound::{Op, gate_bound};
 pub use builders::{binary_bits, unary_bits};
 pub use fault::GateFault;
+pub use laws::{worked_bounds, worked_nets};
 pub use maker::{Bits, Gates};
 pub use plain::PlainGates;
 

@@ -90,6 +90,7 @@ impl Gates for PlainGates {
         ensures ok { IfOk result (MakesAnd self.old self.new a b) }
         ensures err { OnErr result (self.new ≡ self.old) }
         ensures refused { IfErr result (Refuses self.old self.new 1) }
+        ensures own { IfOk result (λ l. l ≡ 2 * (variables self.old + 1)) }
         ensures too_big { IsErrOf result GateFault.TooBig ↔ (greatest_count < variables self.old + 1) }
     {
         let (greater, smaller) = in_order(a, b);

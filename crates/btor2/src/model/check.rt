@@ -1,11 +1,12 @@
 //! The tests by which a model refuses an item, one for each row of the table, and the first that applies.
-ghost use Rattle.std.specs.Prelude.{◌≡◌, ◌&&◌, length, nat_le, is_some, unwrap_or};
-ghost use Rattle.base.specs.Operator.{unary_width, binary_width};
-ghost use Rattle.btor2.specs.Items.{node_width, sort_width};
-ghost use Rattle.btor2.specs.Check.{most_items, refusal, id_is_out_of_range, id_is_taken, sort_is_missing, operand_is_missing, state_is_none, width_is_out_of_range, widths_differ, init_is_not_constant, is_second_init, is_second_next};
+ghost use Rattle.std.specs.Prelude.{◌≡◌, ◌≤◌, ◌+◌, ◌-◌, ◌^◌, ◌==◌, not, ◌&&◌, ◌||◌, length, nat_le, nat_lt, pos, neg_ℤ, int_le, int_lt, is_some, unwrap_or, option_and_then};
+ghost use Rattle.std.specs.List.{list_all};
+ghost use Rattle.base.specs.Widths.{unary_width, binary_width, is_reduction, is_of_bits, is_test};
+ghost use Rattle.btor2.specs.Items.{named_sort, node_width, sort_width};
+ghost use Rattle.btor2.specs.Check.{most_items, refusal, id_is_out_of_range, id_is_taken, sort_is_missing, operand_is_missing, state_is_none, width_is_out_of_range, slice_is_out_of_range, widths_differ, constant_fits, constant_does_not_fit, init_is_not_constant, is_second_init, is_second_next, justice_is_empty};
 
 use crate::fault::PushFault;
-use crate::item::{Body, Item};
+use crate::item::{Body, Item, all_ones};
 use crate::model::Model;
 use base::{Binary, Unary, Width};
 
@@ -15,21 +16,144 @@ const MOST_ITEMS: usize = 1_048_576;
 /// The greatest id.
 const GREATEST_ID: u64 = 4_294_967_295;
 
+/// Whether an operator is a reduction, which gives one bit.
+fn is_reduction(operator: Unary) -> bool
+    ensures { result ≡ is_reduction operator }
+{
+    matches!(operator, Unary::Redand | Unary::Redor | Unary::Redxor)
+}
+
+/// Whether an operator only takes single bits.
+fn is_of_bits(operator: Binary) -> bool
+    ensures { result ≡ is_of_bits operator }
+{
+    matches!(operator, Binary::Iff | Binary::Implies)
+}
+
+/// Whether an operator is a test, which gives one bit.
+fn is_test(operator: Binary) -> bool
+    ensures { result ≡ is_test operator }
+{
+    match operator {
+        Binary::Iff
+        | Binary::Implies
+        | Binary::Eq
+        | Binary::Neq
+        | Binary::Ugt
+        | Binary::Ugte
+        | Binary::Ult
+        | Binary::Ulte
+        | Binary::Sgt
+        | Binary::Sgte
+        | Binary::Slt
+        | Binary::Slte
+        | Binary::Uaddo
+        | Binary::Saddo
+        | Binary::Usubo
+        | Binary::Ssubo
+        | Binary::Umulo
+        | Binary::Smulo
+        | Binary::Sdivo => true,
+        Binary::And
+        | Binary::Nand
+        | Binary::Or
+        | Binary::Nor
+        | Binary::Xor
+        | Binary::Xnor
+        | Binary::Rol
+        | Binary::Ror
+        | Binary::Sll
+        | Binary::Srl
+        | Binary::Sra
+        | Binary::Add
+        | Binary::Sub
+        | Binary::Mul
+        | Binary::Udiv
+        | Binary::Sdiv
+        | Binary::Urem
+        | Binary::Srem
+        | Binary::Smod => false,
+    }
+}
+
 /// The width of what an operator of one operand gives.
 fn unary_bits(operator: Unary, width: u64) -> u64
     ensures { result ≡ unary_width operator width }
 {
-    match operator {
-        Unary::Not => width,
-    }
+    if is_reduction(operator) { 1 } else { width }
 }
 
 /// The width of what an operator of two operands gives.
 fn binary_bits(operator: Binary, width: u64) -> u64
     ensures { result ≡ binary_width operator width }
 {
-    match operator {
-        Binary::And => width,
+    if is_test(operator) { 1 } else { width }
+}
+
+/// Whether the widths of an operator's operands are not those that it takes, or that of its sort not that of what it gives.
+fn binary_differs(operator: Binary, sort: u64, left: u64, right: u64) -> bool
+    ensures { result ≡ not ((left == right) && ((not (is_of_bits operator) || (left == 1)) && (sort == binary_width operator left))) }
+{
+    !(left == right && (!is_of_bits(operator) || left == 1) && sort == binary_bits(operator, left))
+}
+
+/// Whether a width is not the sum of two.
+fn is_no_sum(width: u64, first: u64, second: u64) -> bool
+    ensures { result ≡ not (width == first + second) }
+{
+    u128::from(width) != u128::from(first) + u128::from(second)
+}
+
+/// Whether a width is not that of the bits `upper` down to `lower`.
+fn is_no_slice_width(width: u64, upper: u64, lower: u64) -> bool
+    ensures { result ≡ not (width == upper - lower + 1) }
+{
+    u128::from(width) != u128::from(upper.saturating_sub(lower)) + 1
+}
+
+/// Whether a decimal constant fits a sort of so many bits.
+fn decimal_fits(width: u64, value: i128) -> bool
+    requires { width ≤ 64 }
+    ensures { result ≡ (int_le (neg_ℤ (pos (2 ^ (width - 1)))) value && int_lt value (pos (2 ^ width))) }
+{
+    let least = i128::from(all_ones(width.saturating_sub(1))) + 1;
+    -least <= value && value <= i128::from(all_ones(width))
+}
+
+/// Whether a binary constant fits a sort of so many bits.
+fn binary_digits_fit(width: u64, digits: u32, value: u64) -> bool
+    requires { width ≤ 64 }
+    ensures { result ≡ ((digits == width) && nat_lt value (2 ^ digits)) }
+{
+    u64::from(digits) == width && value <= all_ones(width)
+}
+
+/// Whether a value is one of so many hexadecimal digits.
+fn is_of_hex_digits(digits: u32, value: u64) -> bool
+    requires { digits ≤ 16 }
+    ensures { result ≡ nat_lt value (16 ^ digits) }
+{
+    value <= all_ones(4 * u64::from(digits))
+}
+
+/// Whether a hexadecimal constant fits a sort of so many bits.
+fn hex_digits_fit(width: u64, digits: u32, value: u64) -> bool
+    requires { width ≤ 64 }
+    ensures { result ≡ (nat_le 1 digits && (nat_le digits 16 && (nat_lt value (2 ^ width) && nat_lt value (16 ^ digits)))) }
+{
+    1 <= digits && digits <= 16 && value <= all_ones(width) && is_of_hex_digits(digits, value)
+}
+
+/// Whether a constant fits a sort of so many bits.
+fn constant_fits(width: u64, body: &Body) -> bool
+    requires { width ≤ 64 }
+    ensures { result ≡ constant_fits width body.now }
+{
+    match body {
+        Body::Const { digits, value, .. } => binary_digits_fit(width, *digits, *value),
+        Body::Constd { value, .. } => decimal_fits(width, *value),
+        Body::Consth { digits, value, .. } => hex_digits_fit(width, *digits, *value),
+        _ => true,
     }
 }
 
@@ -82,21 +206,48 @@ impl Model {
         self.has_value(left) && self.has_value(right)
     }
 
+    /// Whether each of some ids is that of a node with a value.
+    fn all_have_values(&self, ids: &[u64]) -> bool
+        ensures { result ≡ list_all (λ a. is_some (node_width self.now a)) ids.now }
+    {
+        ids.iter().all(|id| self.has_value(*id))
+    }
+
     /// Whether an operand of a body is no node with a value here.
     #[tactic(auto, unfolding(crate::specs::Check::operand_is_missing))]
     fn operand_is_missing(&self, body: &Body) -> bool
         ensures { result ≡ operand_is_missing self.now body.now }
     {
         match body {
-            Body::Sort { .. } | Body::Input { .. } | Body::State { .. } | Body::Zero { .. } =>
-                false,
-            Body::Unary { operand, .. } | Body::Bad { operand } | Body::Constraint { operand } => {
-                !self.has_value(*operand)
-            }
+            Body::Sort { .. }
+            | Body::Input { .. }
+            | Body::State { .. }
+            | Body::Zero { .. }
+            | Body::One { .. }
+            | Body::Ones { .. }
+            | Body::Const { .. }
+            | Body::Constd { .. }
+            | Body::Consth { .. } => false,
+            Body::Uext { operand, .. }
+            | Body::Sext { operand, .. }
+            | Body::Slice { operand, .. }
+            | Body::Unary { operand, .. }
+            | Body::Bad { operand }
+            | Body::Constraint { operand }
+            | Body::Fair { operand }
+            | Body::Output { operand } => !self.has_value(*operand),
             Body::Binary { left, right, .. } => !self.have_values(*left, *right),
+            Body::Concat { high, low, .. } => !self.have_values(*high, *low),
+            Body::Ite {
+                condition,
+                first,
+                second,
+                ..
+            } => !(self.has_value(*condition) && self.have_values(*first, *second)),
             Body::Init { state, value, .. } | Body::Next { state, value, .. } => {
                 !self.have_values(*state, *value)
             }
+            Body::Justice { operands } => !self.all_have_values(operands.ids()),
         }
     }
 
@@ -124,7 +275,8 @@ impl Model {
 
     /// The width of the sort with an id, or 0.
     fn sort_bits(&self, id: u64) -> u64
-        ensures { result ≡ unwrap_or (sort_width self.now id) 0 }
+        ensures value { result ≡ unwrap_or (sort_width self.now id) 0 }
+        ensures range { result ≤ 64 }
     {
         match self.sort_width(id) {
             Some(width) => width,
@@ -142,14 +294,63 @@ impl Model {
         }
     }
 
+    /// Whether the bits of a slice are not those of its operand.
+    #[tactic(auto, unfolding(crate::specs::Check::slice_is_out_of_range))]
+    fn slice_is_out_of_range(&self, body: &Body) -> bool
+        ensures { result ≡ slice_is_out_of_range self.now body.now }
+    {
+        match body {
+            Body::Slice {
+                operand,
+                upper,
+                lower,
+                ..
+            } => !(*lower <= *upper && *upper < self.node_bits(*operand)),
+            _ => false,
+        }
+    }
+
+    /// Whether each of some nodes is a single bit.
+    fn are_bits(&self, ids: &[u64]) -> bool
+        ensures { result ≡ list_all (λ a. unwrap_or (node_width self.now a) 0 == 1) ids.now }
+    {
+        ids.iter().all(|id| self.node_bits(*id) == 1)
+    }
+
+    /// Whether a sort differs in width from one of two nodes.
+    fn sort_differs(&self, sort: u64, first: u64, second: u64) -> bool
+        ensures { result ≡ not ((unwrap_or (sort_width self.now sort) 0 == unwrap_or (node_width self.now first) 0)
+            && (unwrap_or (sort_width self.now sort) 0 == unwrap_or (node_width self.now second) 0)) }
+    {
+        let width = self.sort_bits(sort);
+        !(width == self.node_bits(first) && width == self.node_bits(second))
+    }
+
     /// Whether the widths are not those of the form.
     #[tactic(auto, unfolding(crate::specs::Check::widths_differ))]
     fn widths_differ(&self, body: &Body) -> bool
         ensures { result ≡ widths_differ self.now body.now }
     {
         match body {
-            Body::Sort { .. } | Body::Input { .. } | Body::State { .. } | Body::Zero { .. } =>
-                false,
+            Body::Sort { .. }
+            | Body::Input { .. }
+            | Body::State { .. }
+            | Body::Zero { .. }
+            | Body::One { .. }
+            | Body::Ones { .. }
+            | Body::Const { .. }
+            | Body::Constd { .. }
+            | Body::Consth { .. }
+            | Body::Output { .. } => false,
+            Body::Uext { sort, operand, by } | Body::Sext { sort, operand, by } => {
+                is_no_sum(self.sort_bits(*sort), self.node_bits(*operand), *by)
+            }
+            Body::Slice {
+                sort,
+                upper,
+                lower,
+                ..
+            } => is_no_slice_width(self.sort_bits(*sort), *upper, *lower),
             Body::Unary {
                 operator,
                 sort,
@@ -160,16 +361,60 @@ impl Model {
                 sort,
                 left,
                 right,
-            } => {
-                let width = self.node_bits(*left);
-                !(width == self.node_bits(*right)
-                    && self.sort_bits(*sort) == binary_bits(*operator, width))
-            }
+            } => binary_differs(
+                *operator,
+                self.sort_bits(*sort),
+                self.node_bits(*left),
+                self.node_bits(*right),
+            ),
+            Body::Concat { sort, high, low } => is_no_sum(
+                self.sort_bits(*sort),
+                self.node_bits(*high),
+                self.node_bits(*low),
+            ),
+            Body::Ite {
+                sort,
+                condition,
+                first,
+                second,
+            } => self.node_bits(*condition) != 1 || self.sort_differs(*sort, *first, *second),
             Body::Init { sort, state, value } | Body::Next { sort, state, value } => {
-                let width = self.sort_bits(*sort);
-                !(width == self.node_bits(*state) && width == self.node_bits(*value))
+                self.sort_differs(*sort, *state, *value)
             }
-            Body::Bad { operand } | Body::Constraint { operand } => self.node_bits(*operand) != 1,
+            Body::Bad { operand } | Body::Constraint { operand } | Body::Fair { operand } => {
+                self.node_bits(*operand) != 1
+            }
+            Body::Justice { operands } => !self.are_bits(operands.ids()),
+        }
+    }
+
+    /// The width of the sort that a body names, or 0.
+    fn named_bits(&self, body: &Body) -> u64
+        ensures value { result ≡ unwrap_or (option_and_then (sort_width self.now) (named_sort body.now)) 0 }
+        ensures range { result ≤ 64 }
+    {
+        match body.sort() {
+            Some(sort) => self.sort_bits(sort),
+            None => 0,
+        }
+    }
+
+    /// Whether a constant does not fit its sort.
+    #[tactic(auto, unfolding(crate::specs::Check::constant_does_not_fit))]
+    fn constant_does_not_fit(&self, body: &Body) -> bool
+        ensures { result ≡ constant_does_not_fit self.now body.now }
+    {
+        !constant_fits(self.named_bits(body), body)
+    }
+
+    /// Whether a justice line names no node.
+    #[tactic(auto, unfolding(crate::specs::Check::justice_is_empty))]
+    fn justice_is_empty(&self, body: &Body) -> bool
+        ensures { result ≡ justice_is_empty body.now }
+    {
+        match body {
+            Body::Justice { operands } => operands.ids().is_empty(),
+            _ => false,
         }
     }
 
@@ -232,8 +477,14 @@ impl Model {
         if self.width_is_out_of_range(&item.body) {
             return Some(PushFault::WidthOutOfRange);
         }
+        if self.slice_is_out_of_range(&item.body) {
+            return Some(PushFault::SliceOutOfRange);
+        }
         if self.widths_differ(&item.body) {
             return Some(PushFault::SortMismatch);
+        }
+        if self.constant_does_not_fit(&item.body) {
+            return Some(PushFault::ConstantDoesNotFit);
         }
         if self.init_is_not_constant(&item.body) {
             return Some(PushFault::InitNotConstant);
@@ -243,6 +494,9 @@ impl Model {
         }
         if self.is_second_next(&item.body) {
             return Some(PushFault::SecondNext);
+        }
+        if self.justice_is_empty(&item.body) {
+            return Some(PushFault::JusticeEmpty);
         }
         None
     }

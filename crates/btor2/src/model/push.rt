@@ -86,7 +86,7 @@ fn note(
         Body::Constraint { .. } => add_place(constraints, place),
         Body::Init { state, value, .. } => add_value(inits, *state, *value),
         Body::Next { state, value, .. } => add_value(nexts, *state, *value),
-        Body::Sort { .. } | Body::Zero { .. } | Body::Unary { .. } | Body::Binary { .. } => Ok(()),
+        _ => Ok(()),
     }
 }
 
@@ -127,8 +127,8 @@ impl Model {
     /// Adds an item at the end.
     ///
     /// Errors: the first that applies of `TooManyItems`, `IdOutOfRange`, `IdTaken`, `NoSuchSort`, `NoSuchNode`,
-    /// `NotAState`, `WidthOutOfRange`, `SortMismatch`, `InitNotConstant`, `SecondInit` and `SecondNext`, as said at
-    /// each; else `NoMemory` where a growth was refused. The model is unchanged then.
+    /// `NotAState`, `WidthOutOfRange`, `SliceOutOfRange`, `SortMismatch`, `ConstantDoesNotFit`, `InitNotConstant`,
+    /// `SecondInit`, `SecondNext` and `JusticeEmpty`, as said at each; else `NoMemory` where a growth was refused. The model is unchanged then.
     pub fn push(&mut self, item: Item) -> Result<(), PushFault>
         ensures answer { AnswersRefusal result (refusal self.old item) }
         ensures ok { OnOk result (self.new ≡ self.old ++ item ∷ []) }

@@ -1,6 +1,6 @@
-use Rattle.std.proofs.Common.{[], sym, ◌∙◌, ap, refl, is_some, false, ◌≡◌}
+use Rattle.std.proofs.Common.{[], sym, ◌∙◌, refl, is_some, false, ◌≡◌}
 use Rattle.btor2.specs.Items.{is_state}
-use Rattle.btor2.specs.Lists.{places, next_place}
+use Rattle.btor2.specs.Lists.{places}
 use Rattle.blast.proofs.LowerLemmas.{first_by_places, first_lacking-here, first_lacking-none}
 use Rattle.blast.proofs.lowering.state_without_next.Goals as goal
 

@@ -1,5 +1,5 @@
 use Rattle.std.proofs.Common.{length, refl, le-leb}
-use Rattle.btor2.specs.Check.{most_items, refusal, id_is_out_of_range, id_is_taken, sort_is_missing, operand_is_missing, state_is_none, width_is_out_of_range, widths_differ, init_is_not_constant, is_second_init, is_second_next}
+use Rattle.btor2.specs.Check.{most_items, refusal, id_is_out_of_range, id_is_taken, sort_is_missing, operand_is_missing, state_is_none, width_is_out_of_range, widths_differ, init_is_not_constant, is_second_init, is_second_next, slice_is_out_of_range, constant_does_not_fit, justice_is_empty}
 use Rattle.btor2.proofs.laws.worked_refusals.Goals as goal
 
 pub returns-clause-too_many_items : goal.returns-clause-too_many_items
@@ -7,53 +7,109 @@ unfolding refusal
 returns-clause-too_many_items c = λ items x h. rw (le-leb most_items (length items) h) refl
 
 pub returns-clause-id_out_of_range : goal.returns-clause-id_out_of_range
-unfolding refusal id_is_out_of_range id_is_taken sort_is_missing operand_is_missing state_is_none width_is_out_of_range widths_differ init_is_not_constant is_second_init is_second_next
+unfolding refusal id_is_out_of_range id_is_taken sort_is_missing operand_is_missing state_is_none width_is_out_of_range slice_is_out_of_range widths_differ constant_does_not_fit init_is_not_constant is_second_init is_second_next justice_is_empty
 returns-clause-id_out_of_range c = refl
 
 pub returns-clause-id_above_range : goal.returns-clause-id_above_range
-unfolding refusal id_is_out_of_range id_is_taken sort_is_missing operand_is_missing state_is_none width_is_out_of_range widths_differ init_is_not_constant is_second_init is_second_next
+unfolding refusal id_is_out_of_range id_is_taken sort_is_missing operand_is_missing state_is_none width_is_out_of_range slice_is_out_of_range widths_differ constant_does_not_fit init_is_not_constant is_second_init is_second_next justice_is_empty
 returns-clause-id_above_range c = refl
 
 pub returns-clause-id_taken : goal.returns-clause-id_taken
-unfolding refusal id_is_out_of_range id_is_taken sort_is_missing operand_is_missing state_is_none width_is_out_of_range widths_differ init_is_not_constant is_second_init is_second_next
+unfolding refusal id_is_out_of_range id_is_taken sort_is_missing operand_is_missing state_is_none width_is_out_of_range slice_is_out_of_range widths_differ constant_does_not_fit init_is_not_constant is_second_init is_second_next justice_is_empty
 returns-clause-id_taken c = refl
 
 pub returns-clause-no_such_sort : goal.returns-clause-no_such_sort
-unfolding refusal id_is_out_of_range id_is_taken sort_is_missing operand_is_missing state_is_none width_is_out_of_range widths_differ init_is_not_constant is_second_init is_second_next
+unfolding refusal id_is_out_of_range id_is_taken sort_is_missing operand_is_missing state_is_none width_is_out_of_range slice_is_out_of_range widths_differ constant_does_not_fit init_is_not_constant is_second_init is_second_next justice_is_empty
 returns-clause-no_such_sort c = refl
 
 pub returns-clause-no_such_node : goal.returns-clause-no_such_node
-unfolding refusal id_is_out_of_range id_is_taken sort_is_missing operand_is_missing state_is_none width_is_out_of_range widths_differ init_is_not_constant is_second_init is_second_next
+unfolding refusal id_is_out_of_range id_is_taken sort_is_missing operand_is_missing state_is_none width_is_out_of_range slice_is_out_of_range widths_differ constant_does_not_fit init_is_not_constant is_second_init is_second_next justice_is_empty
 returns-clause-no_such_node c = refl
 
 pub returns-clause-not_a_state : goal.returns-clause-not_a_state
-unfolding refusal id_is_out_of_range id_is_taken sort_is_missing operand_is_missing state_is_none width_is_out_of_range widths_differ init_is_not_constant is_second_init is_second_next
+unfolding refusal id_is_out_of_range id_is_taken sort_is_missing operand_is_missing state_is_none width_is_out_of_range slice_is_out_of_range widths_differ constant_does_not_fit init_is_not_constant is_second_init is_second_next justice_is_empty
 returns-clause-not_a_state c = refl
 
 pub returns-clause-width_out_of_range : goal.returns-clause-width_out_of_range
-unfolding refusal id_is_out_of_range id_is_taken sort_is_missing operand_is_missing state_is_none width_is_out_of_range widths_differ init_is_not_constant is_second_init is_second_next
+unfolding refusal id_is_out_of_range id_is_taken sort_is_missing operand_is_missing state_is_none width_is_out_of_range slice_is_out_of_range widths_differ constant_does_not_fit init_is_not_constant is_second_init is_second_next justice_is_empty
 returns-clause-width_out_of_range c = refl
 
 pub returns-clause-width_above_range : goal.returns-clause-width_above_range
-unfolding refusal id_is_out_of_range id_is_taken sort_is_missing operand_is_missing state_is_none width_is_out_of_range widths_differ init_is_not_constant is_second_init is_second_next
+unfolding refusal id_is_out_of_range id_is_taken sort_is_missing operand_is_missing state_is_none width_is_out_of_range slice_is_out_of_range widths_differ constant_does_not_fit init_is_not_constant is_second_init is_second_next justice_is_empty
 returns-clause-width_above_range c = refl
 
 pub returns-clause-sort_mismatch : goal.returns-clause-sort_mismatch
-unfolding refusal id_is_out_of_range id_is_taken sort_is_missing operand_is_missing state_is_none width_is_out_of_range widths_differ init_is_not_constant is_second_init is_second_next
+unfolding refusal id_is_out_of_range id_is_taken sort_is_missing operand_is_missing state_is_none width_is_out_of_range slice_is_out_of_range widths_differ constant_does_not_fit init_is_not_constant is_second_init is_second_next justice_is_empty
 returns-clause-sort_mismatch c = refl
 
+pub returns-clause-slice_out_of_range : goal.returns-clause-slice_out_of_range
+unfolding refusal id_is_out_of_range id_is_taken sort_is_missing operand_is_missing state_is_none width_is_out_of_range slice_is_out_of_range widths_differ constant_does_not_fit init_is_not_constant is_second_init is_second_next justice_is_empty
+returns-clause-slice_out_of_range c = refl
+
+pub returns-clause-slice_turned_round : goal.returns-clause-slice_turned_round
+unfolding refusal id_is_out_of_range id_is_taken sort_is_missing operand_is_missing state_is_none width_is_out_of_range slice_is_out_of_range widths_differ constant_does_not_fit init_is_not_constant is_second_init is_second_next justice_is_empty
+returns-clause-slice_turned_round c = refl
+
+pub returns-clause-far_too_wide : goal.returns-clause-far_too_wide
+unfolding refusal id_is_out_of_range id_is_taken sort_is_missing operand_is_missing state_is_none width_is_out_of_range slice_is_out_of_range widths_differ constant_does_not_fit init_is_not_constant is_second_init is_second_next justice_is_empty
+returns-clause-far_too_wide c = refl
+
+pub returns-clause-choice_by_a_word : goal.returns-clause-choice_by_a_word
+unfolding refusal id_is_out_of_range id_is_taken sort_is_missing operand_is_missing state_is_none width_is_out_of_range slice_is_out_of_range widths_differ constant_does_not_fit init_is_not_constant is_second_init is_second_next justice_is_empty
+returns-clause-choice_by_a_word c = refl
+
+pub returns-clause-single_bits_alone : goal.returns-clause-single_bits_alone
+unfolding refusal id_is_out_of_range id_is_taken sort_is_missing operand_is_missing state_is_none width_is_out_of_range slice_is_out_of_range widths_differ constant_does_not_fit init_is_not_constant is_second_init is_second_next justice_is_empty
+returns-clause-single_bits_alone c = refl
+
+pub returns-clause-five_digits : goal.returns-clause-five_digits
+unfolding refusal id_is_out_of_range id_is_taken sort_is_missing operand_is_missing state_is_none width_is_out_of_range slice_is_out_of_range widths_differ constant_does_not_fit init_is_not_constant is_second_init is_second_next justice_is_empty
+returns-clause-five_digits c = refl
+
+pub returns-clause-digits_too_few : goal.returns-clause-digits_too_few
+unfolding refusal id_is_out_of_range id_is_taken sort_is_missing operand_is_missing state_is_none width_is_out_of_range slice_is_out_of_range widths_differ constant_does_not_fit init_is_not_constant is_second_init is_second_next justice_is_empty
+returns-clause-digits_too_few c = refl
+
+pub returns-clause-decimal_above : goal.returns-clause-decimal_above
+unfolding refusal id_is_out_of_range id_is_taken sort_is_missing operand_is_missing state_is_none width_is_out_of_range slice_is_out_of_range widths_differ constant_does_not_fit init_is_not_constant is_second_init is_second_next justice_is_empty
+returns-clause-decimal_above c = refl
+
+pub returns-clause-decimal_greatest : goal.returns-clause-decimal_greatest
+unfolding refusal id_is_out_of_range id_is_taken sort_is_missing operand_is_missing state_is_none width_is_out_of_range slice_is_out_of_range widths_differ constant_does_not_fit init_is_not_constant is_second_init is_second_next justice_is_empty
+returns-clause-decimal_greatest c = refl
+
+pub returns-clause-decimal_below : goal.returns-clause-decimal_below
+unfolding refusal id_is_out_of_range id_is_taken sort_is_missing operand_is_missing state_is_none width_is_out_of_range slice_is_out_of_range widths_differ constant_does_not_fit init_is_not_constant is_second_init is_second_next justice_is_empty
+returns-clause-decimal_below c = refl
+
+pub returns-clause-decimal_least : goal.returns-clause-decimal_least
+unfolding refusal id_is_out_of_range id_is_taken sort_is_missing operand_is_missing state_is_none width_is_out_of_range slice_is_out_of_range widths_differ constant_does_not_fit init_is_not_constant is_second_init is_second_next justice_is_empty
+returns-clause-decimal_least c = refl
+
+pub returns-clause-hex_too_long : goal.returns-clause-hex_too_long
+unfolding refusal id_is_out_of_range id_is_taken sort_is_missing operand_is_missing state_is_none width_is_out_of_range slice_is_out_of_range widths_differ constant_does_not_fit init_is_not_constant is_second_init is_second_next justice_is_empty
+returns-clause-hex_too_long c = refl
+
+pub returns-clause-hex_too_great : goal.returns-clause-hex_too_great
+unfolding refusal id_is_out_of_range id_is_taken sort_is_missing operand_is_missing state_is_none width_is_out_of_range slice_is_out_of_range widths_differ constant_does_not_fit init_is_not_constant is_second_init is_second_next justice_is_empty
+returns-clause-hex_too_great c = refl
+
 pub returns-clause-init_not_constant : goal.returns-clause-init_not_constant
-unfolding refusal id_is_out_of_range id_is_taken sort_is_missing operand_is_missing state_is_none width_is_out_of_range widths_differ init_is_not_constant is_second_init is_second_next
+unfolding refusal id_is_out_of_range id_is_taken sort_is_missing operand_is_missing state_is_none width_is_out_of_range slice_is_out_of_range widths_differ constant_does_not_fit init_is_not_constant is_second_init is_second_next justice_is_empty
 returns-clause-init_not_constant c = refl
 
 pub returns-clause-second_init : goal.returns-clause-second_init
-unfolding refusal id_is_out_of_range id_is_taken sort_is_missing operand_is_missing state_is_none width_is_out_of_range widths_differ init_is_not_constant is_second_init is_second_next
+unfolding refusal id_is_out_of_range id_is_taken sort_is_missing operand_is_missing state_is_none width_is_out_of_range slice_is_out_of_range widths_differ constant_does_not_fit init_is_not_constant is_second_init is_second_next justice_is_empty
 returns-clause-second_init c = refl
 
 pub returns-clause-second_next : goal.returns-clause-second_next
-unfolding refusal id_is_out_of_range id_is_taken sort_is_missing operand_is_missing state_is_none width_is_out_of_range widths_differ init_is_not_constant is_second_init is_second_next
+unfolding refusal id_is_out_of_range id_is_taken sort_is_missing operand_is_missing state_is_none width_is_out_of_range slice_is_out_of_range widths_differ constant_does_not_fit init_is_not_constant is_second_init is_second_next justice_is_empty
 returns-clause-second_next c = refl
 
+pub returns-clause-justice_empty : goal.returns-clause-justice_empty
+unfolding refusal id_is_out_of_range id_is_taken sort_is_missing operand_is_missing state_is_none width_is_out_of_range slice_is_out_of_range widths_differ constant_does_not_fit init_is_not_constant is_second_init is_second_next justice_is_empty
+returns-clause-justice_empty c = refl
+
 pub returns-clause-accepted : goal.returns-clause-accepted
-unfolding refusal id_is_out_of_range id_is_taken sort_is_missing operand_is_missing state_is_none width_is_out_of_range widths_differ init_is_not_constant is_second_init is_second_next
+unfolding refusal id_is_out_of_range id_is_taken sort_is_missing operand_is_missing state_is_none width_is_out_of_range slice_is_out_of_range widths_differ constant_does_not_fit init_is_not_constant is_second_init is_second_next justice_is_empty
 returns-clause-accepted c = refl

@@ -1,4 +1,4 @@
-use Rattle.btor2text.proofs.AnswerLemmas.{found, only, fault, device, place}
+use Rattle.btor2text.proofs.AnswerLemmas.{found, basic, only, fault, device, place}
 use Rattle.btor2text.proofs.reading.read.Goals as goal
 
 pub returns-in-Ok-clause-found : goal.returns-in-Ok-clause-found
@@ -15,3 +15,6 @@ returns-in-Ok-clause-place g c = place c.as_slice.result.now c.read_text.result 
 
 pub returns-in-Ok-clause-fault : goal.returns-in-Ok-clause-fault
 returns-in-Ok-clause-fault g c = fault (g.S.Source.to_come c.args.source.now) c.in-Ok.text.items c.read_text.result c.in-Ok.ensures.bytes (rw c.as_slice.ensures.value at c.read_text.ensures.gives)
+
+pub returns-in-Ok-clause-basic : goal.returns-in-Ok-clause-basic
+returns-in-Ok-clause-basic g c = basic c.as_slice.result.now c.read_text.result c.read_text.ensures.gives

@@ -1,10 +1,9 @@
-use Rattle.std.proofs.Common.{◌≡◌, ◌≤◌, ◌<◌, ◌&&◌, ◌++◌, [], ◌∷◌, length, length-append, map, take, get_or, arith, ap, sym, ◌∙◌, refl}
+use Rattle.std.proofs.Common.{[], ◌∷◌, length, map, arith, ap, sym, ◌∙◌, refl}
 use Rattle.std.proofs.lemmas.List.{map-append}
 use Rattle.std.proofs.lemmas.List.Elements.{All-push}
 use Rattle.aiger.specs.Literal.{literal_value}
-use Rattle.aiger.specs.Net.{IsDefined, Satisfies}
-use Rattle.base.specs.Word.{both}
-use Rattle.gates.specs.Made.{Grows, MakesAnd}
+use Rattle.aiger.specs.Net.{IsDefined}
+use Rattle.gates.specs.Made.{MakesAnd}
 use Rattle.gates.proofs.MadeLemmas.{Grows-trans, All-defined-later, MakesWord-and, Satisfies-earlier, both-more}
 use Rattle.gates.proofs.builders.both.Goals as goal
 

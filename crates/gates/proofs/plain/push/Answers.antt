@@ -1,4 +1,4 @@
-use Rattle.std.proofs.Common.{◌≡◌, ◌+◌, ◌<◌, inl, inr, refl}
+use Rattle.std.proofs.Common.{◌+◌, ◌<◌, inl, inr, refl}
 use Rattle.aiger.specs.Limits.{greatest_count}
 use Rattle.aiger.specs.Net.{variables}
 use Rattle.aiger.specs.Circuit.{net}

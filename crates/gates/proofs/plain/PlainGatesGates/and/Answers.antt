@@ -1,6 +1,4 @@
 use Rattle.std.proofs.lemmas.Result.{IfOk-weaker}
-use Rattle.gates.specs.Made.{MakesAnd}
-use Rattle.aiger.specs.Circuit.{net}
 use Rattle.gates.proofs.MadeLemmas.{MakesAnd-push}
 use Rattle.gates.proofs.plain.PlainGatesGates.and.Goals as goal
 

@@ -1,0 +1,19 @@
+use Rattle.std.proofs.Common.{refl}
+use Rattle.std.specs.Fmt.{digits}
+use Rattle.blast.proofs.laws.worked_names.Goals as goal
+
+pub returns-clause-first_bit : goal.returns-clause-first_bit
+unfolding digits
+returns-clause-first_bit c = refl
+
+pub returns-clause-eleventh_bit : goal.returns-clause-eleventh_bit
+unfolding digits
+returns-clause-eleventh_bit c = refl
+
+pub returns-clause-latch : goal.returns-clause-latch
+unfolding digits
+returns-clause-latch c = refl
+
+pub returns-clause-input : goal.returns-clause-input
+unfolding digits
+returns-clause-input c = refl

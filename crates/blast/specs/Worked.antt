@@ -1,0 +1,45 @@
+-- Worked rows: small models whose lowering can be worked out by hand. The model of one bit that toggles is `toggler` of the models' crate.
+use Rattle.std.specs.Prelude.{ℕ, List, [], ◌∷◌, Some, codes}
+use Rattle.base.specs.declared.operators.Unary.TheVariants as unary
+use Rattle.base.specs.declared.operators.Binary.TheVariants as binary
+use Rattle.btor2.specs.declared.item.Item.{Item}
+use Rattle.btor2.specs.declared.item.Body.{Body}
+use Rattle.btor2.specs.declared.item.Body.TheVariants as body
+use Rattle.btor2.specs.Worked.{line}
+
+-- an item with a name
+abbrev pub named : ℕ → List ℕ → Body → Item
+named id name says = record { id = id; symbol = Some name; body = says }
+
+-- a state of two bits, without an init line, whose next word is its and with an input
+abbrev pub masked : List Item
+masked =
+    line 1 (body.Sort 2)
+    ∷ line 2 (body.Input 1)
+    ∷ line 3 (body.State 1)
+    ∷ line 4 (body.Binary binary.And 1 2 3)
+    ∷ line 5 (body.Next 1 3 4)
+    ∷ []
+
+-- the toggling bit with the name t, bad where it is 1; a bit of input, x, is asked to be 1
+abbrev pub named_toggler : List Item
+named_toggler =
+    line 1 (body.Sort 1)
+    ∷ line 2 (body.Zero 1)
+    ∷ named 3 (codes "t") (body.State 1)
+    ∷ line 4 (body.Init 1 3 2)
+    ∷ line 5 (body.Unary unary.Not 1 3)
+    ∷ line 6 (body.Next 1 3 5)
+    ∷ named 7 (codes "p") (body.Bad 3)
+    ∷ named 8 (codes "x") (body.Input 1)
+    ∷ line 9 (body.Constraint 8)
+    ∷ []
+
+-- two states, of which the second has no next line
+abbrev pub nextless : List Item
+nextless =
+    line 1 (body.Sort 1)
+    ∷ line 2 (body.State 1)
+    ∷ line 3 (body.State 1)
+    ∷ line 4 (body.Next 1 2 2)
+    ∷ []

@@ -1,0 +1,64 @@
+//! Theorems on the definitions of costs, leaves and refusals, as functions with no code.
+ghost use Rattle.std.specs.Prelude.{◌≡◌, [], ◌∷◌, true, false, None, Some, codes};
+ghost use Rattle.aiger.specs.declared.circuit.Reset.TheVariants as reset;
+ghost use Rattle.base.specs.declared.operators.Unary.TheVariants as unary;
+ghost use Rattle.base.specs.declared.operators.Binary.TheVariants as binary;
+ghost use Rattle.btor2.specs.declared.item.Body.TheVariants as body;
+ghost use Rattle.btor2.specs.Worked.{toggler};
+ghost use Rattle.blast.specs.declared.fault.LowerFault.TheVariants as fault;
+ghost use Rattle.blast.specs.Cost.{line_cost, cost, input_width, state_width, bound};
+ghost use Rattle.blast.specs.Leaves.{bit_name, input_bits, state_bits, input_names, state_names, bad_names, constraint_names, resets_of_word, state_resets, bad_values, constraint_values};
+ghost use Rattle.blast.specs.Refusal.{first_without_next, lowering_refusal};
+ghost use Rattle.blast.specs.Worked.{masked, named_toggler, nextless};
+
+/// Worked rows: the gates and the variables at most of a bit that toggles, and of two bits that are masked.
+pub fn worked_costs()
+    ensures not { line_cost toggler (body.Unary unary.Not 1 3) ≡ 0 }
+    ensures and { line_cost masked (body.Binary binary.And 1 2 3) ≡ 2 }
+    ensures toggler_cost { cost toggler ≡ 0 }
+    ensures toggler_inputs { input_width toggler ≡ 0 }
+    ensures toggler_states { state_width toggler ≡ 1 }
+    ensures toggler_bound { bound toggler ≡ 1 }
+    ensures masked_cost { cost masked ≡ 2 }
+    ensures masked_inputs { input_width masked ≡ 2 }
+    ensures masked_states { state_width masked ≡ 2 }
+    ensures masked_bound { bound masked ≡ 6 }
+{}
+
+/// Worked rows: the bits of inputs and states, how latches begin, and what bad properties and constraints show.
+pub fn worked_leaves()
+    ensures no_input_bits { input_bits toggler (λ id. 1) ≡ [] }
+    ensures input_bits { input_bits masked (λ id. 2) ≡ false ∷ true ∷ [] }
+    ensures state_bit { state_bits toggler (λ id. 1) ≡ true ∷ [] }
+    ensures state_bits { state_bits masked (λ id. 1) ≡ true ∷ false ∷ [] }
+    ensures free_word { resets_of_word 2 None ≡ reset.Free ∷ reset.Free ∷ [] }
+    ensures given_word { resets_of_word 2 (Some 1) ≡ reset.One ∷ reset.Zero ∷ [] }
+    ensures begins_with_0 { state_resets toggler ≡ reset.Zero ∷ [] }
+    ensures begins_freely { state_resets masked ≡ reset.Free ∷ reset.Free ∷ [] }
+    ensures is_bad { bad_values named_toggler (λ id. 1) ≡ true ∷ [] }
+    ensures is_not_bad { bad_values named_toggler (λ id. 0) ≡ false ∷ [] }
+    ensures is_met { constraint_values named_toggler (λ id. 1) ≡ true ∷ [] }
+    ensures is_not_met { constraint_values named_toggler (λ id. 0) ≡ false ∷ [] }
+{}
+
+/// Worked rows: the names of a circuit's inputs, latches, bad properties and constraints.
+pub fn worked_names()
+    ensures first_bit { bit_name (codes "t") 0 ≡ codes "t[0]" }
+    ensures eleventh_bit { bit_name (codes "x") 10 ≡ codes "x[10]" }
+    ensures latch { state_names named_toggler ≡ Some (codes "t[0]") ∷ [] }
+    ensures input { input_names named_toggler ≡ Some (codes "x[0]") ∷ [] }
+    ensures bad { bad_names named_toggler ≡ Some (codes "p") ∷ [] }
+    ensures constraint { constraint_names named_toggler ≡ None ∷ [] }
+    ensures no_constraint { constraint_names toggler ≡ [] }
+    ensures latch_without { state_names toggler ≡ None ∷ [] }
+    ensures inputs_without { input_names masked ≡ None ∷ None ∷ [] }
+    ensures bad_without { bad_names toggler ≡ None ∷ [] }
+{}
+
+/// Worked rows: a model whose states each have a next line is not refused; else the first without one is told.
+pub fn worked_refusals()
+    ensures each_has_next { first_without_next toggler toggler ≡ None }
+    ensures second_has_none { first_without_next nextless nextless ≡ Some 3 }
+    ensures accepted { lowering_refusal masked ≡ None }
+    ensures no_next { lowering_refusal nextless ≡ Some (fault.NoNext 3) }
+{}

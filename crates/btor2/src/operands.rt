@@ -1,0 +1,37 @@
+ghost use Rattle.std.specs.Prelude.{◌≡◌, List, ℕ, IfOk};
+
+use std::alloc::{AllocError, Global};
+use std::marker::Model;
+
+/// The ids of the nodes that a `justice` line names.
+#[derive(Debug, Drop)]
+pub struct Operands {
+    ids: Vec<u64>,
+}
+
+impl Model for Operands {
+    ghost Value = { List ℕ };
+
+    ghost view = { λ o. o.ids.items };
+}
+
+impl Operands {
+    /// The operands with these ids, in this order.
+    ///
+    /// Errors: where a growth was refused.
+    pub fn new(alloc: Global, ids: &[u64]) -> Result<Operands, AllocError>
+        ensures { IfOk result (λ o. o ≡ ids.now) }
+    {
+        match Vec::from_slice(alloc, ids) {
+            Ok(ids) => Ok(Operands { ids }),
+            Err(fault) => Err(fault),
+        }
+    }
+
+    /// Their ids, in order.
+    pub fn ids(&self) -> &[u64]
+        ensures { result.now ≡ self.now }
+    {
+        self.ids.as_slice()
+    }
+}

@@ -1,0 +1,32 @@
+ghost use Rattle.std.specs.Prelude.{◌≡◌};
+ghost use Rattle.btor2text.specs.Basic.{is_basic, are_basic};
+
+use base::{Binary, Unary};
+use btor2::{Body, Model};
+
+/// Whether a line is of a form that is read so far.
+fn is_basic(body: &Body) -> bool
+    ensures { result ≡ is_basic body.now }
+{
+    match body {
+        Body::Sort { .. }
+        | Body::Input { .. }
+        | Body::State { .. }
+        | Body::Zero { .. }
+        | Body::Init { .. }
+        | Body::Next { .. }
+        | Body::Bad { .. }
+        | Body::Constraint { .. } => true,
+        Body::Unary { operator, .. } => matches!(operator, Unary::Not),
+        Body::Binary { operator, .. } => matches!(operator, Binary::And),
+        _ => false,
+    }
+}
+
+/// Whether a model is of the forms alone that are read so far: `sort bitvec`, `input`, `state`, `zero`, `not`, `and`,
+/// `init`, `next`, `bad` and `constraint`.
+pub fn are_basic(model: &Model) -> bool
+    ensures { result ≡ are_basic model.now }
+{
+    model.items().iter().all(|item| is_basic(&item.body))
+}

@@ -1,0 +1,55 @@
+//! Worked rows of lines, items and faults, as functions with no code.
+ghost use Rattle.std.specs.Prelude.{◌≡◌, List, [], ◌∷◌, ◌++◌, codes};
+ghost use Rattle.base.specs.declared.operators.Unary.TheVariants as unary;
+ghost use Rattle.btor2.specs.declared.item.Body.TheVariants as body;
+ghost use Rattle.btor2.specs.declared.fault.PushFault.TheVariants as push;
+ghost use Rattle.btor2.specs.Worked.{line};
+ghost use Rattle.btor2text.specs.declared.fault.Why.TheVariants as why;
+ghost use Rattle.btor2text.specs.Lines.{tokens, whole_lines, unfinished};
+ghost use Rattle.btor2text.specs.Whys.{number_of};
+ghost use Rattle.btor2text.specs.Spelling.{Spells, StandsFor};
+ghost use Rattle.btor2text.specs.FirstFault.{IsFaultOf};
+ghost use Rattle.btor2text.specs.Reading.{line_on};
+
+/// Worked rows: the tokens of lines, and the lines of a text.
+pub fn worked_tokens()
+    ensures spaces { tokens (codes "  5 not  1 3 ") ≡ codes "5" ∷ codes "not" ∷ codes "1" ∷ codes "3" ∷ [] }
+    ensures tab_and_comment { tokens (codes "1 sort\tbitvec 1 ; a bit")
+        ≡ codes "1" ∷ codes "sort" ∷ codes "bitvec" ∷ codes "1" ∷ [] }
+    ensures only_comment { tokens (codes " ; t") ≡ [] }
+    ensures no_comment { tokens (codes "a;b") ≡ codes "a;b" ∷ [] }
+    ensures whole { whole_lines (codes "a\n\nbc") ≡ codes "a" ∷ [] ∷ [] }
+    ensures rest { unfinished (codes "a\n\nbc") ≡ codes "bc" }
+{}
+
+/// Worked rows: lines that spell items, and a text that stands for one: without its last byte 10 it stands for none.
+pub fn worked_items()
+    ensures negated { Spells (tokens (codes "5 not 1 3")) (line 5 (body.Unary unary.Not 1 3)) }
+    ensures named { Spells (tokens (codes "3 state 1 t ; named")) (record { id = 3; symbol = Some (codes "t"); body = body.State 1 }) }
+    ensures leading_zero { ¬ Spells (tokens (codes "05 not 1 3")) (line 5 (body.Unary unary.Not 1 3)) }
+    ensures text { StandsFor (codes "1 sort bitvec 1\n") (line 1 (body.Sort 1) ∷ []) }
+    ensures unended { ¬ StandsFor (codes "1 sort bitvec 1") (line 1 (body.Sort 1) ∷ []) }
+    ensures empty { StandsFor [] [] }
+{}
+
+/// Worked rows: what is wrong with lines that are read behind no item.
+pub fn worked_whys()
+    ensures bad_token { line_on [] (tokens (codes "1 sort foo")) ≡ Err why.BadToken }
+    ensures leading_zero { line_on [] (tokens (codes "01 sort bitvec 1")) ≡ Err why.BadToken }
+    ensures negative_sort { line_on [] (tokens (codes "3 not -1 2")) ≡ Err why.BadToken }
+    ensures two_symbols { line_on [] (tokens (codes "2 input 1 a b")) ≡ Err why.BadToken }
+    ensures array_sort { line_on [] (tokens (codes "2 sort array 1 1")) ≡ Err why.ArraySort }
+    ensures array_operator { line_on [] (tokens (codes "4 read 1 2 3")) ≡ Err why.ArrayOperator }
+    ensures unknown_operator { line_on [] (tokens (codes "2 bitvec 1")) ≡ Err why.UnknownOperator }
+    ensures negative_operand { line_on [] (tokens (codes "3 not 1 -2")) ≡ Err why.NegativeOperand }
+    ensures bad_symbol { line_on [] (tokens (codes "2 input 1 a" ++ 200 ∷ [])) ≡ Err why.BadSymbol }
+    ensures refused { line_on [] (tokens (codes "2 input 1")) ≡ Err (why.Refused push.NoSuchSort) }
+    ensures nothing { line_on [] (tokens (codes "; t")) ≡ Ok [] }
+{}
+
+/// Worked rows: the first faults of texts, and the numbers of some whys.
+pub fn worked_faults()
+    ensures second_line { IsFaultOf (codes "1 sort bitvec 1\n3 not 1 -2\n") (record { line = 2; why = why.NegativeOperand }) }
+    ensures unfinished { IsFaultOf (codes "1 sort bitvec 1") (record { line = 1; why = why.Unfinished }) }
+    ensures numbers { (number_of why.ArraySort ≡ 21) × (number_of why.NegativeOperand ≡ 24) × (number_of why.UnknownOperator ≡ 23) }
+{}

@@ -1,0 +1,47 @@
+//! Worked rows of the gate bounds and of nets that grow, as functions with no code.
+ghost use Rattle.std.specs.Prelude.{◌≡◌, [], ◌∷◌};
+ghost use Rattle.base.specs.Operator.{unary_value};
+ghost use Rattle.base.specs.declared.operators.Unary.TheVariants as unary;
+ghost use Rattle.base.specs.declared.operators.Binary.TheVariants as binary;
+ghost use Rattle.aiger.specs.Worked.{one_gate};
+ghost use Rattle.gates.specs.declared.bound.Op.TheVariants as op;
+ghost use Rattle.gates.specs.declared.fault.GateFault.TheVariants as fault;
+ghost use Rattle.gates.specs.Bound.{operator_bound};
+ghost use Rattle.gates.specs.Made.{Grows, MakesAnd, MakesWord, Refuses, word_value};
+ghost use Rattle.gates.specs.Worked.{no_gate};
+
+/// Worked rows: the gates that an operator takes at most.
+pub fn worked_bounds()
+    ensures not_64 { operator_bound (op.Unary unary.Not) 64 ≡ 0 }
+    ensures not_1 { operator_bound (op.Unary unary.Not) 1 ≡ 0 }
+    ensures and_64 { operator_bound (op.Binary binary.And) 64 ≡ 64 }
+    ensures and_1 { operator_bound (op.Binary binary.And) 1 ≡ 1 }
+    ensures sll_64 { operator_bound (op.Binary binary.Sll) 64 ≡ 1408 }
+    ensures sra_1 { operator_bound (op.Binary binary.Sra) 1 ≡ 4 }
+    ensures rol_64 { operator_bound (op.Binary binary.Rol) 64 ≡ 12288 }
+    ensures ror_3 { operator_bound (op.Binary binary.Ror) 3 ≡ 27 }
+    ensures eq_8 { operator_bound (op.Binary binary.Eq) 8 ≡ 32 }
+    ensures saddo_8 { operator_bound (op.Binary binary.Saddo) 8 ≡ 96 }
+    ensures mul_64 { operator_bound (op.Binary binary.Mul) 64 ≡ 40960 }
+    ensures udiv_1 { operator_bound (op.Binary binary.Udiv) 1 ≡ 24 }
+    ensures sdiv_8 { operator_bound (op.Binary binary.Sdiv) 8 ≡ 1176 }
+    ensures srem_8 { operator_bound (op.Binary binary.Srem) 8 ≡ 1152 }
+    ensures smod_8 { operator_bound (op.Binary binary.Smod) 8 ≡ 1272 }
+    ensures umulo_8 { operator_bound (op.Binary binary.Umulo) 8 ≡ 2568 }
+    ensures smulo_64 { operator_bound (op.Binary binary.Smulo) 64 ≡ 164096 }
+    ensures ite_64 { operator_bound op.Ite 64 ≡ 192 }
+{}
+
+/// Worked rows: a net grows by its gates and loses none, the gate of two inputs is their and, negated literals are
+/// the bits of the negated word, and a small net is never refused as too big.
+pub fn worked_nets()
+    ensures grows { Grows no_gate (one_gate 4 2) 1 }
+    ensures one_too_many { ¬ Grows no_gate (one_gate 4 2) 0 }
+    ensures gate_lost { ¬ Grows (one_gate 4 2) no_gate 1 }
+    ensures is_and { MakesAnd no_gate (one_gate 4 2) 2 4 6 }
+    ensures is_no_and { ¬ MakesAnd no_gate (one_gate 4 2) 2 4 2 }
+    ensures constant { MakesAnd no_gate no_gate 2 0 0 }
+    ensures is_not { MakesWord no_gate no_gate 0 2 (λ v. unary_value unary.Not 2 (word_value v (2 ∷ 4 ∷ []))) (3 ∷ 5 ∷ []) }
+    ensures no_memory { Refuses no_gate no_gate 1 fault.NoMemory }
+    ensures too_big { ¬ Refuses no_gate no_gate 1 fault.TooBig }
+{}
