@@ -11,3 +11,6 @@ pub mod ValueLaws
 pub mod DivisionLaws
 pub mod ShiftLaws
 pub mod OverflowLaws
+pub mod CutLemmas
+pub mod LineLemmas
+pub mod DecimalLemmas

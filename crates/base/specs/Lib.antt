@@ -4,3 +4,5 @@ pub mod Operator
 pub mod Widths
 pub mod Steps
 pub mod Device
+pub mod Lines
+pub mod Decimals

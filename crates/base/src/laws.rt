@@ -1,8 +1,10 @@
-ghost use Rattle.std.specs.Prelude.{◌≡◌, ◌≢◌, ◌↔◌, ℕ, ◌+◌, ◌-◌, ◌*◌, ◌%◌, ◌^◌, ◌<◌, ◌≤◌, min, max, ◌==◌, Bool, true, false, List, [], ◌∷◌, length, slice_get, ℤ, pos, nat_abs, ◌+ℤ◌, ◌-ℤ◌, ◌*ℤ◌, ◌≤ℤ◌, ◌<ℤ◌};
+ghost use Rattle.std.specs.Prelude.{◌≡◌, ◌≢◌, ◌↔◌, ℕ, ◌+◌, ◌-◌, ◌*◌, ◌%◌, ◌^◌, ◌<◌, ◌≤◌, min, max, ◌==◌, Bool, true, false, List, [], ◌∷◌, length, slice_get, ℤ, pos, nat_abs, ◌+ℤ◌, ◌-ℤ◌, ◌*ℤ◌, ◌≤ℤ◌, ◌<ℤ◌, ◌++◌, All, codes, decimal};
 ghost use Rattle.base.specs.Operator.{ones, unary_value, binary_value, ite_value, slice_value, uext_value, sext_value, concat_value, udiv, urem, sdiv, srem, smod, sdiv_overflows};
 ghost use Rattle.base.specs.Signed.{signed, wrapped, truncated, floored, overflows};
 ghost use Rattle.base.specs.Widths.{unary_width, binary_width};
 ghost use Rattle.base.specs.Word.{bit, bits, word};
+ghost use Rattle.base.specs.Lines.{text_of_lines, IsLine, whole_lines, unfinished};
+ghost use Rattle.base.specs.Decimals.{number_of};
 
 use crate::operators::{Binary, Unary};
 
@@ -139,6 +141,47 @@ pub fn overflow_tests()
     ensures smulo { (n a b : ℕ) → 1 ≤ n → (binary_value Binary.Smulo n a b ≡ 0) ↔ (signed n (binary_value Binary.Mul n a b) ≡ signed n a *ℤ signed n b) }
     ensures sdivo { (n a b : ℕ) → 1 ≤ n → a < 2 ^ n → b < 2 ^ n → b ≢ 0 → (binary_value Binary.Sdivo n a b ≡ 0) ↔ (signed n (binary_value Binary.Sdiv n a b) ≡ truncated (signed n a) (signed n b)) }
     ensures sdivo_by_0 { (n a : ℕ) → 1 ≤ n → binary_value Binary.Sdivo n a 0 ≡ 0 }
+{}
+
+/// A law, with no code: a text is its whole lines and its unfinished rest, none of which has a byte 10. The whole lines of a
+/// text of lines, with whatever rest behind them, are those lines and the rest's, and what is unfinished is the rest's;
+/// so nothing is unfinished in a text of lines alone.
+pub fn lines_and_texts()
+    ensures parts { (text : List ℕ) → text_of_lines (whole_lines text) ++ unfinished text ≡ text }
+    ensures each { (text : List ℕ) → All IsLine (whole_lines text) }
+    ensures last { (text : List ℕ) → IsLine (unfinished text) }
+    ensures whole { (lines : List (List ℕ)) → All IsLine lines → whole_lines (text_of_lines lines) ≡ lines }
+    ensures ended { (lines : List (List ℕ)) → unfinished (text_of_lines lines) ≡ [] }
+    ensures whole_front { (lines : List (List ℕ)) (rest : List ℕ) → All IsLine lines → whole_lines (text_of_lines lines ++ rest) ≡ lines ++ whole_lines rest }
+    ensures ended_front { (lines : List (List ℕ)) (rest : List ℕ) → unfinished (text_of_lines lines ++ rest) ≡ unfinished rest }
+{}
+
+/// A law, with no code: a number below 2 to the 64 is read from its decimal, and a decimal that is read as a number below
+/// 2 to the 64 less 1 is its one spelling.
+pub fn decimals_are_numbers()
+    ensures read { (n : ℕ) → n < 2 ^ 64 → number_of (decimal n) ≡ Some n }
+    ensures spelled { (token : List ℕ) (n : ℕ) → number_of token ≡ Some n → n < 2 ^ 64 - 1 → token ≡ decimal n }
+{}
+
+/// Worked rows, with no code: the lines of a text, and what follows them.
+pub fn worked_lines()
+    ensures whole { whole_lines (codes "a\n\nbc") ≡ codes "a" ∷ [] ∷ [] }
+    ensures rest { unfinished (codes "a\n\nbc") ≡ codes "bc" }
+    ensures ended { unfinished (codes "a\n") ≡ [] }
+    ensures no_line { whole_lines (codes "bc") ≡ [] }
+    ensures text { text_of_lines (codes "a" ∷ [] ∷ []) ≡ codes "a\n\n" }
+{}
+
+/// Worked rows, with no code: decimals, and what is none.
+pub fn worked_decimals()
+    ensures zero { number_of (codes "0") ≡ Some 0 }
+    ensures forty_two { number_of (codes "42") ≡ Some 42 }
+    ensures leading_zero { number_of (codes "042") ≡ None }
+    ensures signed { number_of (codes "-1") ≡ None }
+    ensures letter { number_of (codes "4a") ≡ None }
+    ensures empty { number_of [] ≡ None }
+    ensures greatest { number_of (codes "18446744073709551615") ≡ Some 18446744073709551615 }
+    ensures above { number_of (codes "18446744073709551616") ≡ Some 18446744073709551615 }
 {}
 
 /// Worked rows, with no code: words of width 8 where no other stands, and the bits of a word.

@@ -1,9 +1,11 @@
-//! Words and their operators, steps, and the devices that bytes come from and go to.
+//! Words and their operators, steps, the devices that bytes come from and go to, and lines and decimals of a text.
 #![tactic(auto)]
 
+mod decimals;
 mod device;
 mod divisions;
 mod laws;
+mod lines;
 mod operators;
 mod outbox;
 mod overflows;
@@ -15,13 +17,15 @@ mod tally;
 mod width;
 mod words;
 
+pub use decimals::decimal;
 pub use device::DeviceFault;
 pub use laws::{
-    bits_of_bitwise_words, bits_stand_for_words, joined_words_come_apart, negation, overflow_tests,
-    quotients_and_remainders, rotations_move_bits, rotations_return, shifts_agree,
-    signs_of_remainders, tests_decide, values_fit, wider_words_keep_numbers,
-    words_stand_for_numbers, worked_words,
+    bits_of_bitwise_words, bits_stand_for_words, decimals_are_numbers, joined_words_come_apart,
+    lines_and_texts, negation, overflow_tests, quotients_and_remainders, rotations_move_bits,
+    rotations_return, shifts_agree, signs_of_remainders, tests_decide, values_fit,
+    wider_words_keep_numbers, words_stand_for_numbers, worked_decimals, worked_lines, worked_words,
 };
+pub use lines::next_line;
 pub use operators::{Binary, Unary};
 pub use outbox::Outbox;
 pub use signed::ones;

@@ -291,10 +291,23 @@ fn faults_print_their_names(rt: HostRuntime) -> Result<(), Fail> {
 }
 
 #[test]
+fn lines_and_decimals(rt: HostRuntime) {
+    assert_eq!(rt;
+        next_line(b"a b\n\nc"),
+        Some((b"a b".as_slice(), b"\nc".as_slice()))
+    );
+    assert_eq!(rt; next_line(b"c"), None);
+    assert_eq!(rt; decimal(b"18446744073709551616"), Some(u64::MAX));
+    assert_eq!(rt; decimal(b"042"), None);
+}
+
+#[test]
 fn laws_are_called(_rt: HostRuntime) {
     bits_of_bitwise_words();
     bits_stand_for_words();
+    decimals_are_numbers();
     joined_words_come_apart();
+    lines_and_texts();
     negation();
     overflow_tests();
     quotients_and_remainders();
@@ -306,5 +319,7 @@ fn laws_are_called(_rt: HostRuntime) {
     values_fit();
     wider_words_keep_numbers();
     words_stand_for_numbers();
+    worked_decimals();
+    worked_lines();
     worked_words();
 }

@@ -1,5 +1,5 @@
 -- Widths and gate bounds of well-formed lists.
-use Rattle.std.proofs.Common.{◌≡◌, ℕ, zero, suc, ◌+◌, ◌*◌, ◌^◌, ◌<◌, ◌≤◌, nat_lt, Bool, true, false, cond, nat_eq, List, [], ◌∷◌, ◌++◌, length, Option, Some, None, is_some, unwrap_or, option_and_then, slice_get, take, get_or, All, sum_by, refl, sym, ap, subst, ◌∙◌, arith, length-append}
+use Rattle.std.proofs.Common.{◌≡◌, ℕ, zero, suc, ◌+◌, ◌*◌, ◌^◌, ◌<◌, ◌≤◌, nat_lt, Bool, true, false, cond, nat_eq, List, [], ◌∷◌, ◌++◌, length, Option, Some, None, is_some, unwrap_or, option_and_then, slice_get, take, get_or, All, sum_by, refl, sym, ap, subst, ◌∙◌, arith}
 use Rattle.std.proofs.Math.Nat.{mul-le-mul_left}
 use Rattle.std.specs.List.{position_from}
 use Rattle.std.proofs.lemmas.Option.{none-some, same_Some, slice_get_within, slice_get_read}
@@ -16,11 +16,11 @@ use Rattle.btor2.specs.declared.item.Body.{Body}
 use Rattle.btor2.specs.declared.item.Body.TheVariants as body
 use Rattle.btor2.specs.Items.{find_item, position_of, width_of_body, node_width, operands, is_input, is_state}
 use Rattle.btor2.specs.Lists.{width_at}
-use Rattle.btor2.specs.Check.{IsWellFormed, IsWellFormedAfter}
+use Rattle.btor2.specs.Check.{IsWellFormed}
 use Rattle.btor2.specs.Trace.{bits_of}
 use Rattle.btor2.proofs.AppendLemmas.{is_some_from, node_width-append}
-use Rattle.btor2.proofs.AcceptedLemmas.{Each, HasWidth, IsAccepted-from_refusal}
-use Rattle.btor2.proofs.ModelLemmas.{IsIn-from_place, IsAccepted-at, node_width-at, node_width-range}
+use Rattle.btor2.proofs.AcceptedLemmas.{Each, HasWidth}
+use Rattle.btor2.proofs.ModelLemmas.{IsIn-from_place, IsAccepted-at, node_width-at, node_width-range, few_items}
 use Rattle.blast.specs.Cost.{line_cost, cost, input_width, state_width}
 
 -- a test of an id, and what it finds
@@ -86,7 +86,7 @@ most_of items id (Some n) w e = (node_width-range items id n w e).1
 pub bits_of-most : (items : List Item) (id : ℕ) → IsWellFormed items → bits_of items id ≤ 64
 bits_of-most items id w = most_of items id (node_width items id) w refl
 
--- no operator takes more gates than this, and no list has more items than that
+-- no operator takes more gates than this
 square_most : (n : ℕ) → n ≤ 64 → n * n ≤ 4096
 square_most n h = omega (arith, mul-le-mul_left n h)
 
@@ -108,16 +108,6 @@ line_cost-most items (body.Unary op s a) w = unary_most op (bits_of items a) (bi
 line_cost-most items (body.Binary op s a b) w = binary_most op (bits_of items a) (bits_of-most items a w)
 line_cost-most items (body.Ite s c t e) w = omega (arith, bits_of-most items t w)
 line_cost-most items _ w = omega arith
-
-few_after : (before xs : List Item) → IsWellFormedAfter before xs → length before ≤ 1048576 → length before + length xs ≤ 1048576
-few_after before [] w h = omega arith
-few_after before (x ∷ xs) w h =
-    let accepted = IsAccepted-from_refusal before x w.0 in
-    let longer = length-append before (x ∷ []) in
-    omega (arith, accepted.few, few_after (before ++ x ∷ []) xs w.1 (omega (arith, accepted.few)))
-
-pub few_items : (items : List Item) → IsWellFormed items → length items ≤ 1048576
-few_items items w = omega (arith, few_after [] items w (omega arith))
 
 -- a sum of small parts is small
 small_sum : (f : Item → ℕ) (xs : List Item) → ((x : Item) → f x ≤ 262144) → length xs ≤ 1048576 → sum_by f xs < 2 ^ 39

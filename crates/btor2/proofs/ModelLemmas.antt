@@ -1,5 +1,5 @@
 -- What well-formed lists of items say, for this crate and those above.
-use Rattle.std.proofs.Common.{◌≡◌, ℕ, zero, suc, ◌+◌, ◌≤◌, true, false, Bool, cond, nat_eq, eq-eqb, eqb-true, List, [], ◌∷◌, ◌++◌, length, Option, Some, None, IfSome, option_and_then, slice_get, ◌⊎◌, inl, inr, ⊎_elim, refl, sym, ap, ap₂, subst, ◌∙◌, append_assoc, append-nil, arith}
+use Rattle.std.proofs.Common.{◌≡◌, ℕ, zero, suc, ◌+◌, ◌≤◌, true, false, Bool, cond, nat_eq, eq-eqb, eqb-true, List, [], ◌∷◌, ◌++◌, length, length-append, Option, Some, None, IfSome, option_and_then, slice_get, ◌⊎◌, inl, inr, ⊎_elim, refl, sym, ap, ap₂, subst, ◌∙◌, append_assoc, append-nil, arith}
 use Rattle.std.specs.List.{position_from}
 use Rattle.std.specs.Option.{option_or}
 use Rattle.std.proofs.lemmas.Option.{none-some, same_Some, cond_some}
@@ -39,6 +39,17 @@ IsWellFormed-front xs ys h = IsWellFormedAfter-front [] xs ys h
 IsWellFormedAfter-push : (front xs : List Item) (x : Item) → IsWellFormedAfter front xs → refusal (front ++ xs) x ≡ None → IsWellFormedAfter front (xs ++ x ∷ [])
 IsWellFormedAfter-push front [] x h r = (rw append-nil at r, tt)
 IsWellFormedAfter-push front (y ∷ ys) x h r = (h.0, IsWellFormedAfter-push (front ++ y ∷ []) ys x h.1 (rw append_assoc r))
+
+-- a well-formed list is no longer than a model may be
+few_after : (before xs : List Item) → IsWellFormedAfter before xs → length before ≤ 1048576 → length before + length xs ≤ 1048576
+few_after before [] w h = omega arith
+few_after before (x ∷ xs) w h =
+    let accepted = IsAccepted-from_refusal before x w.0 in
+    let longer = length-append before (x ∷ []) in
+    omega (arith, accepted.few, few_after (before ++ x ∷ []) xs w.1 (omega (arith, accepted.few)))
+
+pub few_items : (items : List Item) → IsWellFormed items → length items ≤ 1048576
+few_items items w = omega (arith, few_after [] items w (omega arith))
 
 -- an item that is not refused may follow
 pub IsWellFormed-push : (xs : List Item) (x : Item) → IsWellFormed xs → refusal xs x ≡ None → IsWellFormed (xs ++ x ∷ [])

@@ -390,6 +390,7 @@ fn a_second_line_of_a_state_is_refused(rt: HostRuntime) -> Result<(), Fail> {
 fn a_refused_item_leaves_the_others(rt: HostRuntime) -> Result<(), Fail> {
     let mut nibble = model_of(rt.alloc(), 2, line_of_each_form)?;
     assert!(rt; all_refused(&mut nibble, AFTER_NIBBLE, line_after_nibble));
+    assert_eq!(rt; fault_of_justice(rt.alloc(), &mut nibble, &[]), 13);
     Ok(())
 }
 

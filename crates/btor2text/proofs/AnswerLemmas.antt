@@ -5,7 +5,7 @@ use Rattle.btor2.specs.declared.item.Item.{Item}
 use Rattle.btor2text.specs.declared.fault.Why.{Why}
 use Rattle.btor2text.specs.declared.fault.Why.TheVariants as why
 use Rattle.btor2text.specs.declared.fault.ReadFault.{ReadFault}
-use Rattle.btor2text.specs.Lines.{tokens}
+use Rattle.btor2text.specs.Tokens.{tokens}
 use Rattle.btor2text.specs.Basic.{are_basic}
 use Rattle.btor2text.specs.Spelling.{SpellsAll, StandsFor}
 use Rattle.btor2text.specs.Reading.{Tokens, text_on, ReadsText, ReadsAs}

@@ -10,7 +10,7 @@ use Rattle.btor2.specs.declared.item.Body.TheVariants as body
 use Rattle.btor2.specs.declared.fault.PushFault.{PushFault}
 use Rattle.btor2.specs.Items.{find_item, sort_width, node_width, sort_bits, width_of_body, named_sort, operands}
 use Rattle.btor2.specs.Check.{greatest_id, id_is_out_of_range, is_no_sort, sort_is_missing, operand_is_missing, width_is_out_of_range, first_row, table, refusal}
-use Rattle.btor2text.proofs.DecimalLemmas.{chosen}
+use Rattle.base.proofs.DecimalLemmas.{chosen}
 use Rattle.btor2text.proofs.ItemLemmas.{BodyFits, Fits, most}
 
 -- no id of some items is above the greatest

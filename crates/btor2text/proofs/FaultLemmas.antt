@@ -1,21 +1,21 @@
 -- A text that gives a fault has it at the first line that has one.
-use Rattle.std.proofs.Common.{◌==◌, ◌≡◌, ◌≢◌, ℕ, ◌+◌, ◌-◌, ◌^◌, min, List, [], ◌∷◌, ◌++◌, length, map, Result, Ok, Err, refl, sym, ap, subst, ◌∙◌, inl, inr, ◌⊎◌, append_assoc, arith}
-use Rattle.std.specs.List.{list_any}
-use Rattle.std.proofs.lemmas.Bool.{cases_Bool}
+use Rattle.std.proofs.Common.{◌≡◌, ◌≢◌, ℕ, ◌+◌, ◌-◌, ◌^◌, min, List, [], ◌∷◌, ◌++◌, length, map, Result, Ok, Err, refl, sym, ap, subst, ◌∙◌, inl, inr, ◌⊎◌, append_assoc, arith}
 use Rattle.std.proofs.lemmas.List.{append-nil}
 use Rattle.std.proofs.lemmas.List.Concat.{flat_map-append}
 use Rattle.std.proofs.lemmas.List.Elements.{All-from_recursion}
+use Rattle.base.specs.Lines.{IsLine, text_of_lines, whole_lines, unfinished}
+use Rattle.base.proofs.LineLemmas.{EachLine, each_front, each_back, lines_are_lines, unfinished_is_line, parts_of_text}
 use Rattle.btor2.specs.declared.item.Item.{Item}
 use Rattle.btor2.specs.Check.{IsWellFormedAfter}
 use Rattle.btor2text.specs.declared.fault.Why.{Why}
 use Rattle.btor2text.specs.declared.fault.Why.TheVariants as why
 use Rattle.btor2text.specs.declared.fault.ReadFault.{ReadFault}
-use Rattle.btor2text.specs.Lines.{IsLine, tokens, text_of_lines, whole_lines, unfinished}
+use Rattle.btor2text.specs.Tokens.{tokens}
 use Rattle.btor2text.specs.Spelling.{SpellsAll}
 use Rattle.btor2text.specs.Reading.{line_after, fault_at, then_lines, line_on, lines_on, text_on}
 use Rattle.btor2text.specs.FirstFault.{IsUnfinished, BeginsFaulty, IsFaultOf}
 use Rattle.btor2text.proofs.BoundLemmas.{IdsFit}
-use Rattle.btor2text.proofs.StandsLemmas.{EachLine, lines_are_lines, parts_of_text, AddsLine, line_takes, fit_after, spells_line}
+use Rattle.btor2text.proofs.StandsLemmas.{AddsLine, line_takes, fit_after, spells_line}
 
 -- what the first of some lines has
 abbrev FaultHere : List Item → List (List ℕ) → List ℕ → Why → Type 0
@@ -96,22 +96,6 @@ lines_fail n before (line ∷ lines) last e fit h =
     then_fails n before line lines last e (λ mid. lines_on (line_after n) mid lines last) (line_on before (tokens line)) fit (λ mid fits read. lines_fail (line_after n) mid lines last e fits read) refl h
 
 -- ---- from lines to bytes
-
-each_front : (front back : List (List ℕ)) → EachLine (front ++ back) → EachLine front
-each_front [] back each = tt
-each_front (line ∷ front) back each = (each.0, each_front front back each.1)
-
-each_back : (front back : List (List ℕ)) → EachLine (front ++ back) → EachLine back
-each_back [] back each = each
-each_back (line ∷ front) back each = each_back front back each.1
-
-unfinished_is_line : (text : List ℕ) → IsLine (unfinished text)
-unfinished_is_line [] = refl
-unfinished_is_line (b ∷ bs) =
-    elim (cases_Bool (list_any (λ c. c == 10) (b ∷ bs))) [
-      | inl more ↦ rw more (unfinished_is_line bs)
-      | inr none ↦ rw none none
-    ]
 
 faulty_line : (items : List Item) (back : List (List ℕ)) (last : List ℕ) (w : Why) → EachLine back → IsLine last → FaultHere items back last w → IsUnfinished (text_of_lines back ++ last) w ⊎ BeginsFaulty items (text_of_lines back ++ last) w
 faulty_line items [] last w each line here = inl (record { line = line; some = here.0; is = here.1 })

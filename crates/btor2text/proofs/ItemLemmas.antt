@@ -4,6 +4,7 @@ use Rattle.std.specs.Prelude.{IfSome}
 use Rattle.std.specs.Str.{bytes_eq}
 use Rattle.std.proofs.lemmas.Bool.{false≢true}
 use Rattle.std.proofs.lemmas.Slice.Eq.{bytes_eq-Decides}
+use Rattle.base.specs.Decimals.{number_of}
 use Rattle.base.specs.declared.operators.Unary.{Unary}
 use Rattle.base.specs.declared.operators.Unary.TheVariants.{Not}
 use Rattle.base.specs.declared.operators.Binary.{Binary}
@@ -18,8 +19,8 @@ use Rattle.btor2text.specs.declared.forms.Form.{Form}
 use Rattle.btor2text.specs.declared.forms.Form.TheVariants as form
 use Rattle.btor2text.specs.Basic.{is_basic_unary, is_basic_binary, is_basic}
 use Rattle.btor2text.specs.Spelling.{unary_name, binary_name, form_tokens, symbol_tokens, Spells}
-use Rattle.btor2text.specs.Reading.{◌>>=◌, Tokens, number_of, plain_of, operand_of, plain, operand, is_negative, plain_at, operand_at, width_at, pair_at, triple_at, unary_of, binary_of, other_form_of, any_form, unary_form, binary_form, form_of, form_at, body_at, symbol_end, symbol_at, item_at}
-use Rattle.btor2text.proofs.DecimalLemmas.{chosen, number_is_decimal, number_of-decimal}
+use Rattle.btor2text.specs.Reading.{◌>>=◌, Tokens, plain_of, operand_of, plain, operand, is_negative, plain_at, operand_at, width_at, pair_at, triple_at, unary_of, binary_of, other_form_of, any_form, unary_form, binary_form, form_of, form_at, body_at, symbol_end, symbol_at, item_at}
+use Rattle.base.proofs.DecimalLemmas.{chosen, number_is_decimal, number_of-decimal}
 
 -- the numbers of an item are below a limit
 abbrev pub BodyFits : ℕ → Body → Type 0

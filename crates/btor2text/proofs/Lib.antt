@@ -1,9 +1,7 @@
 pub mod AnswerLemmas
 pub mod BoundLemmas
-pub mod DecimalLemmas
 pub mod FaultLemmas
 pub mod ItemLemmas
-pub mod LineLemmas
 pub mod StandsLemmas
 pub mod TextLemmas
 pub mod TokenLemmas

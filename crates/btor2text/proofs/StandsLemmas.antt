@@ -1,20 +1,19 @@
 -- What is read stands for the text, and a text that stands for a model is read as it.
-use Rattle.std.proofs.Common.{◌≡◌, ℕ, true, false, ◌==◌, List, [], ◌∷◌, ◌++◌, map, Option, Some, None, Result, Ok, Err, refl, sym, ap, ◌∙◌, inl, inr, ◌⊎◌, append_assoc}
-use Rattle.std.specs.List.{list_any, AllByRecursion}
-use Rattle.std.proofs.lemmas.Bool.{cases_Bool, eqb-true, or_from}
+use Rattle.std.proofs.Common.{◌≡◌, ℕ, List, [], ◌∷◌, ◌++◌, map, Option, Some, None, Result, Ok, Err, refl, sym, ap, ◌∙◌, inl, inr, ◌⊎◌, append_assoc}
 use Rattle.std.proofs.lemmas.List.{append-nil}
 use Rattle.std.proofs.lemmas.List.Elements.{All-from_recursion, recursion_from_All}
+use Rattle.base.specs.Lines.{IsLine, text_of_lines, whole_lines, unfinished}
+use Rattle.base.proofs.LineLemmas.{lines_are_lines, parts_of_text, lines_of_text, unfinished_of_text}
 use Rattle.btor2.specs.declared.item.Item.{Item}
 use Rattle.btor2.specs.declared.fault.PushFault.{PushFault}
 use Rattle.btor2.specs.Check.{refusal, IsWellFormedAfter}
 use Rattle.btor2text.specs.declared.fault.Why.{Why}
 use Rattle.btor2text.specs.declared.fault.ReadFault.{ReadFault}
-use Rattle.btor2text.specs.Lines.{IsLine, tokens, text_of_lines, onto_first, whole_lines, unfinished}
+use Rattle.btor2text.specs.Tokens.{tokens}
 use Rattle.btor2text.specs.Spelling.{Spells, SpellsAll, StandsFor}
 use Rattle.btor2text.specs.Reading.{Tokens, item_at, accepted, line_after, then_lines, line_on, lines_on, text_on}
 use Rattle.btor2text.proofs.BoundLemmas.{IdsFit, accepted_fits, accepted_id, fits_more}
 use Rattle.btor2text.proofs.ItemLemmas.{bind_ok, item_takes, item_again}
-use Rattle.btor2text.proofs.TextLemmas.{whole_lines-line, unfinished-line, whole_lines-last}
 
 -- ---- one line
 
@@ -120,65 +119,7 @@ lines_again n before [] (x ∷ xs) fit spelled well = absurd spelled
 lines_again n before (line ∷ lines) items fit spelled well =
     then_again (line_after n) before items (tokens line) (map tokens lines) (λ mid. lines_on (line_after n) mid lines []) fit spelled well (λ mid xs fits others wells. lines_again (line_after n) mid lines xs fits others wells)
 
--- ---- a text and its lines
-
--- no line has a byte 10
-abbrev pub EachLine : List (List ℕ) → Type 0
-EachLine lines = AllByRecursion IsLine lines
-
-each_onto_first : (b : ℕ) (lines : List (List ℕ)) → (b == 10) ≡ false → EachLine lines → EachLine (onto_first b lines)
-each_onto_first b [] not each = tt
-each_onto_first b (line ∷ lines) not each = (or_from (b == 10) (list_any (λ c. c == 10) line) not each.0, each.1)
-
-pub lines_are_lines : (text : List ℕ) → EachLine (whole_lines text)
-lines_are_lines [] = tt
-lines_are_lines (b ∷ bs) =
-    elim (cases_Bool (b == 10)) [
-      | inl h ↦ rw h (refl, lines_are_lines bs)
-      | inr h ↦ rw h (each_onto_first b (whole_lines bs) h (lines_are_lines bs))
-    ]
-
--- a text is its whole lines and what follows them
-front_line : (b : ℕ) (lines : List (List ℕ)) (rest bs : List ℕ) → (some : (line : List ℕ) × ((others : List (List ℕ)) × (lines ≡ line ∷ others))) → text_of_lines lines ++ rest ≡ bs → text_of_lines (onto_first b lines) ++ rest ≡ b ∷ bs
-front_line b [] rest bs some e = absurd cc
-front_line b (line ∷ lines) rest bs some e = ap (λ (t : List ℕ). b ∷ t) e
-
-some_line : (bs : List ℕ) → list_any (λ c. c == 10) bs ≡ true → (line : List ℕ) × ((others : List (List ℕ)) × (whole_lines bs ≡ line ∷ others))
-some_line [] h = absurd cc
-some_line (b ∷ bs) h =
-    elim (cases_Bool (b == 10)) [
-      | inl ten ↦ rw ten ([], (whole_lines bs, refl))
-      | inr not ↦
-          let rest : list_any (λ c. c == 10) bs ≡ true = rw not at h in
-          let found = some_line bs rest in
-          rw (not, found.1.1) (b ∷ found.0, (found.1.0, refl))
-    ]
-
-pub parts_of_text : (text : List ℕ) → text_of_lines (whole_lines text) ++ unfinished text ≡ text
-parts_of_text [] = refl
-parts_of_text (b ∷ bs) =
-    elim (cases_Bool (b == 10)) [
-      | inl ten ↦
-          let is : b ≡ 10 = eqb-true b 10 ten in
-          rw ten (ap (λ (t : List ℕ). 10 ∷ t) (parts_of_text bs) ∙ ap (λ (c : ℕ). c ∷ bs) (sym is))
-      | inr not ↦
-          elim (cases_Bool (list_any (λ c. c == 10) bs)) [
-            | inl more ↦ rw (not, more) (front_line b (whole_lines bs) (unfinished bs) bs (some_line bs more) (parts_of_text bs))
-            | inr none ↦ rw (not, none, whole_lines-last bs none) refl
-          ]
-    ]
-
--- lines that a text is made of are its whole lines
-module _ where
-  lines_of_text : (lines : List (List ℕ)) → EachLine lines → whole_lines (text_of_lines lines) ≡ lines
-  lines_of_text [] each = refl
-  lines_of_text (line ∷ lines) each =
-      ap whole_lines (append_assoc line (10 ∷ []) (text_of_lines lines)) ∙ (whole_lines-line line (text_of_lines lines) each.0 ∙ ap (λ (others : List (List ℕ)). line ∷ others) (lines_of_text lines each.1))
-
-  unfinished_of_text : (lines : List (List ℕ)) → unfinished (text_of_lines lines) ≡ []
-  unfinished_of_text [] = refl
-  unfinished_of_text (line ∷ lines) =
-      ap unfinished (append_assoc line (10 ∷ []) (text_of_lines lines)) ∙ (unfinished-line line (text_of_lines lines) ∙ unfinished_of_text lines)
+-- ---- a text
 
 -- what is read stands for the text
 pub read_stands : (text : List ℕ) (items : List Item) → text_on text ≡ Ok items → StandsFor text items

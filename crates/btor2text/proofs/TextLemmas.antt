@@ -1,38 +1,13 @@
 -- Reading a text line by line.
-use Rattle.std.proofs.Common.{◌≡◌, ℕ, true, ◌==◌, List, [], ◌∷◌, ◌++◌, Result, Ok, Err, length, inl, inr, ◌⊎◌, refl, sym, ap, ◌∙◌, arith}
-use Rattle.std.specs.List.{list_any}
-use Rattle.std.proofs.lemmas.Bool.{or_parts, or_right}
-use Rattle.std.proofs.lemmas.List.Folds.{list_any-append}
+use Rattle.std.proofs.Common.{◌≡◌, ℕ, List, [], ◌∷◌, ◌++◌, Result, Ok, Err, length, inl, inr, ◌⊎◌, refl, sym, ap, ◌∙◌, arith}
+use Rattle.base.specs.Lines.{IsLine, whole_lines, unfinished}
+use Rattle.base.proofs.LineLemmas.{whole_lines-line, unfinished-line, whole_lines-last, unfinished-last}
 use Rattle.btor2.specs.declared.item.Item.{Item}
 use Rattle.btor2text.specs.declared.fault.Why.{Why}
 use Rattle.btor2text.specs.declared.fault.Why.TheVariants as why
 use Rattle.btor2text.specs.declared.fault.ReadFault.{ReadFault}
-use Rattle.btor2text.specs.Lines.{IsLine, tokens, whole_lines, unfinished}
+use Rattle.btor2text.specs.Tokens.{tokens}
 use Rattle.btor2text.specs.Reading.{line_after, fault_at, fault_of, then_lines, line_on, lines_on}
-
--- a line with its byte 10 is the first whole line
-pub whole_lines-line : (line rest : List ℕ) → IsLine line → whole_lines (line ++ 10 ∷ rest) ≡ line ∷ whole_lines rest
-whole_lines-line [] rest h = refl
-whole_lines-line (b ∷ bs) rest h =
-    let parts = or_parts (b == 10) (list_any (λ c. c == 10) bs) h in
-    rw (parts.0, whole_lines-line bs rest parts.1) refl
-
-pub unfinished-line : (line rest : List ℕ) → unfinished (line ++ 10 ∷ rest) ≡ unfinished rest
-unfinished-line [] rest = refl
-unfinished-line (b ∷ bs) rest =
-    let has : list_any (λ c. c == 10) (bs ++ 10 ∷ rest) ≡ true = list_any-append (λ c. c == 10) bs (10 ∷ rest) ∙ or_right _ _ refl in
-    rw (or_right (b == 10) _ has) (unfinished-line bs rest)
-
--- a text with no byte 10 has no whole line
-pub whole_lines-last : (text : List ℕ) → IsLine text → whole_lines text ≡ []
-whole_lines-last [] h = refl
-whole_lines-last (b ∷ bs) h =
-    let parts = or_parts (b == 10) (list_any (λ c. c == 10) bs) h in
-    rw (parts.0, whole_lines-last bs parts.1) refl
-
-pub unfinished-last : (text : List ℕ) → IsLine text → unfinished text ≡ text
-unfinished-last [] h = refl
-unfinished-last (b ∷ bs) h = rw h refl
 
 -- one line more
 pub lines_on-line : (n : ℕ) (before : List Item) (text line rest : List ℕ) → text ≡ line ++ 10 ∷ rest → IsLine line

@@ -2,6 +2,8 @@
 use Rattle.std.proofs.Common.{ℕ, Bool, true, false, cond, List, [], ◌∷◌, Option, Some, None, Result, Ok, Err}
 use Rattle.std.specs.Str.{bytes_eq}
 use Rattle.std.specs.Prelude.{codes, ◌||◌}
+use Rattle.base.specs.Lines.{whole_lines, unfinished}
+use Rattle.base.specs.Decimals.{number_of}
 use Rattle.base.specs.declared.operators.Unary.{Unary}
 use Rattle.base.specs.declared.operators.Binary.{Binary}
 use Rattle.btor2.specs.declared.item.Item.{Item}
@@ -13,8 +15,8 @@ use Rattle.btor2text.specs.declared.fault.Why.TheVariants as why
 use Rattle.btor2text.specs.declared.fault.ReadFault.{ReadFault}
 use Rattle.btor2text.specs.declared.forms.Form.{Form}
 use Rattle.btor2text.specs.declared.forms.Form.TheVariants as form
-use Rattle.btor2text.specs.Lines.{tokens, whole_lines, unfinished}
-use Rattle.btor2text.specs.Reading.{◌>>=◌, Tokens, number_of, is_negative, plain_of, operand_of, plain, operand, plain_at, operand_at, width_at, pair_at, triple_at, unary_of, binary_of, other_form_of, no_form, any_form, unary_form, binary_form, form_of, form_at, body_at, symbol_end, symbol_at, item_at, accepted, line_after, then_lines, line_on, lines_on, text_on}
+use Rattle.btor2text.specs.Tokens.{tokens}
+use Rattle.btor2text.specs.Reading.{◌>>=◌, Tokens, is_negative, plain_of, operand_of, plain, operand, plain_at, operand_at, width_at, pair_at, triple_at, unary_of, binary_of, other_form_of, no_form, any_form, unary_form, binary_form, form_of, form_at, body_at, symbol_end, symbol_at, item_at, accepted, line_after, then_lines, line_on, lines_on, text_on}
 
 -- a why of a text
 abbrev pub IsOfText : Why → Type 0

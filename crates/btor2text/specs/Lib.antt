@@ -1,6 +1,6 @@
 pub mod Basic
 pub mod FirstFault
-pub mod Lines
+pub mod Tokens
 pub mod Reading
 pub mod Spelling
 pub mod Whys

@@ -1,8 +1,8 @@
 -- Reading a model's text from left to right, with the first fault that is met.
-use Rattle.std.specs.Prelude.{◌≡◌, ℕ, ◌+◌, ◌-◌, ◌^◌, min, Bool, true, false, ◌&&◌, ◌||◌, List, [], ◌∷◌, ◌++◌, Option, Some, None, Result, Ok, Err, ◌==◌, nat_le, if◌then◌else◌, codes, ◌⊎◌}
-use Rattle.std.specs.List.{list_all}
+use Rattle.std.specs.Prelude.{◌≡◌, ℕ, ◌+◌, ◌-◌, ◌^◌, min, Bool, false, ◌||◌, List, [], ◌∷◌, ◌++◌, Option, Some, None, Result, Ok, Err, ◌==◌, if◌then◌else◌, codes, ◌⊎◌}
 use Rattle.std.specs.Str.{bytes_eq}
-use Rattle.std.specs.Str.Parse.{digits_value}
+use Rattle.base.specs.Lines.{whole_lines, unfinished}
+use Rattle.base.specs.Decimals.{is_decimal, number_of}
 use Rattle.base.specs.declared.operators.Unary.{Unary}
 use Rattle.base.specs.declared.operators.Binary.{Binary}
 use Rattle.base.specs.declared.operators.Unary.TheVariants.{Not}
@@ -18,33 +18,7 @@ use Rattle.btor2text.specs.declared.fault.Why.{Why}
 use Rattle.btor2text.specs.declared.fault.Why.TheVariants as why
 use Rattle.btor2text.specs.declared.forms.Form.{Form}
 use Rattle.btor2text.specs.declared.forms.Form.TheVariants as form
-use Rattle.btor2text.specs.Lines.{tokens, whole_lines, unfinished}
-
--- a byte is a digit from 0 to 9
-abbrev pub is_digit : ℕ → Bool
-is_digit b = nat_le 48 b && nat_le b 57
-
--- each byte is a digit
-abbrev pub are_digits : List ℕ → Bool
-are_digits bytes = list_all is_digit bytes
-
--- there is no byte
-abbrev pub is_nothing : List ℕ → Bool
-is_nothing [] = true
-is_nothing (b ∷ bs) = false
-
--- a decimal: `0`, or a digit from 1 to 9 followed by digits
-unfoldable pub is_decimal : List ℕ → Bool
-is_decimal [] = false
-is_decimal (b ∷ bs) = if b == 48 then is_nothing bs else (nat_le 49 b && nat_le b 57 && are_digits (b ∷ bs))
-
--- the number that digits write; one above 2 ^ 64 - 1 is read as 2 ^ 64 - 1
-unfoldable pub capped_value : List ℕ → ℕ
-capped_value digits = min (digits_value 10 digits) (2 ^ 64 - 1)
-
--- the number that a token writes, where it is a decimal
-unfoldable pub number_of : List ℕ → Option ℕ
-number_of token = if is_decimal token then Some (capped_value token) else None
+use Rattle.btor2text.specs.Tokens.{tokens}
 
 -- `-` and a decimal
 unfoldable pub is_negative : List ℕ → Bool

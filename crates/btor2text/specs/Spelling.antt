@@ -1,5 +1,6 @@
 -- Which texts stand for which models ("Btor2, BtorMC and Boolector 3.0", syntax).
 use Rattle.std.specs.Prelude.{◌≡◌, ℕ, true, List, [], ◌∷◌, ◌++◌, Option, Some, None, IfSome, codes, decimal, map, All}
+use Rattle.base.specs.Lines.{text_of_lines, IsLine}
 use Rattle.base.specs.declared.operators.Unary.{Unary}
 use Rattle.base.specs.declared.operators.Unary.TheVariants.{Not}
 use Rattle.base.specs.declared.operators.Binary.{Binary}
@@ -10,7 +11,7 @@ use Rattle.btor2.specs.declared.item.Body.TheVariants as body
 use Rattle.btor2.specs.Symbols.{is_symbol}
 use Rattle.btor2.specs.Check.{IsWellFormed}
 use Rattle.btor2text.specs.Basic.{is_basic}
-use Rattle.btor2text.specs.Lines.{text_of_lines, IsLine, tokens}
+use Rattle.btor2text.specs.Tokens.{tokens}
 
 -- the word of an operator of one operand
 abbrev pub unary_name : Unary → List ℕ

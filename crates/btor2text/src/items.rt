@@ -1,11 +1,11 @@
 ghost use Rattle.std.specs.Prelude.{◌≡◌};
-ghost use Rattle.btor2text.specs.Lines.{tokens};
-ghost use Rattle.btor2text.specs.Reading.{Gives, GivesUnlessFull, plain, operand, plain_at, operand_at, width_at, pair_at, triple_at, form_at, body_at, symbol_at, item_at};
+ghost use Rattle.btor2text.specs.Tokens.{tokens};
+ghost use Rattle.btor2text.specs.Reading.{Gives, GivesUnlessFull, is_negative, plain, operand, plain_at, operand_at, width_at, pair_at, triple_at, form_at, body_at, symbol_at, item_at};
 
-use crate::decimals::{decimal, is_negative};
 use crate::fault::Why;
 use crate::forms::{Form, form_of, is_word};
 use crate::tokens::next_token;
+use base::decimal;
 use btor2::{Body, Item, Symbol, SymbolFault};
 use std::alloc::Global;
 
@@ -17,6 +17,17 @@ fn plain(token: &[u8]) -> Result<u64, Why>
     match decimal(token) {
         Some(number) => Ok(number),
         None => Err(Why::BadToken),
+    }
+}
+
+/// Whether a token is `-` and a decimal.
+#[tactic(auto, unfolding(crate::specs::Reading::is_negative, base::specs::Decimals::number_of))]
+fn is_negative(token: &[u8]) -> bool
+    ensures { result ≡ is_negative token.now }
+{
+    match token {
+        [b'-', rest @ ..] => decimal(rest).is_some(),
+        _ => false,
     }
 }
 

@@ -5,21 +5,19 @@ ghost use Rattle.btor2.specs.declared.item.Body.TheVariants as body;
 ghost use Rattle.btor2.specs.declared.fault.PushFault.TheVariants as push;
 ghost use Rattle.btor2.specs.Worked.{line};
 ghost use Rattle.btor2text.specs.declared.fault.Why.TheVariants as why;
-ghost use Rattle.btor2text.specs.Lines.{tokens, whole_lines, unfinished};
+ghost use Rattle.btor2text.specs.Tokens.{tokens};
 ghost use Rattle.btor2text.specs.Whys.{number_of};
 ghost use Rattle.btor2text.specs.Spelling.{Spells, StandsFor};
 ghost use Rattle.btor2text.specs.FirstFault.{IsFaultOf};
 ghost use Rattle.btor2text.specs.Reading.{line_on};
 
-/// Worked rows: the tokens of lines, and the lines of a text.
+/// Worked rows: the tokens of lines.
 pub fn worked_tokens()
     ensures spaces { tokens (codes "  5 not  1 3 ") ≡ codes "5" ∷ codes "not" ∷ codes "1" ∷ codes "3" ∷ [] }
     ensures tab_and_comment { tokens (codes "1 sort\tbitvec 1 ; a bit")
         ≡ codes "1" ∷ codes "sort" ∷ codes "bitvec" ∷ codes "1" ∷ [] }
     ensures only_comment { tokens (codes " ; t") ≡ [] }
     ensures no_comment { tokens (codes "a;b") ≡ codes "a;b" ∷ [] }
-    ensures whole { whole_lines (codes "a\n\nbc") ≡ codes "a" ∷ [] ∷ [] }
-    ensures rest { unfinished (codes "a\n\nbc") ≡ codes "bc" }
 {}
 
 /// Worked rows: lines that spell items, and a text that stands for one: without its last byte 10 it stands for none.

@@ -2,12 +2,10 @@
 #![tactic(auto)]
 
 mod basic;
-mod decimals;
 mod fault;
 mod forms;
 mod items;
 mod laws;
-mod lines;
 mod reading;
 mod tokens;
 

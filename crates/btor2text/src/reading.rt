@@ -1,9 +1,10 @@
 ghost use Rattle.std.specs.Prelude.{◌≡◌, ◌⊎◌, ◌≤◌, ℕ, List, Some, true, IfOk, IfErr, IfSome, OnOk};
 ghost use Rattle.std.specs.Io.KnownBytes.{IsAtEnd};
 ghost use Rattle.base.specs.Device.{HasRisen};
+ghost use Rattle.base.specs.Lines.{whole_lines, unfinished};
 ghost use Rattle.btor2.specs.declared.item.Item.{Item};
 ghost use Rattle.btor2.specs.Check.{refusal};
-ghost use Rattle.btor2text.specs.Lines.{tokens, whole_lines, unfinished};
+ghost use Rattle.btor2text.specs.Tokens.{tokens};
 ghost use Rattle.btor2text.specs.FirstFault.{IsFaultOf};
 ghost use Rattle.btor2text.specs.Basic.{are_basic};
 ghost use Rattle.btor2text.specs.Spelling.{StandsFor};
@@ -11,9 +12,8 @@ ghost use Rattle.btor2text.specs.Reading.{accepted, fault_of, line_on, lines_on,
 
 use crate::fault::{ReadFault, Why};
 use crate::items::item;
-use crate::lines::next_line;
 use crate::tokens::next_token;
-use base::{ReadAllFault, Source, read_all};
+use base::{ReadAllFault, Source, next_line, read_all};
 use btor2::{Item, Model, PushFault};
 use std::alloc::Global;
 

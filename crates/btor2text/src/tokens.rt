@@ -1,5 +1,5 @@
 ghost use Rattle.std.specs.Prelude.{◌≡◌, true, false, [], ◌∷◌, MatchOption};
-ghost use Rattle.btor2text.specs.Lines.{is_blank, tokens, begins_token, begins_blank};
+ghost use Rattle.btor2text.specs.Tokens.{is_blank, tokens, begins_token, begins_blank};
 
 use bstr::ByteSlice;
 

@@ -1,4 +1,4 @@
-//! `hwtool`: word-level BTOR2 models to AIGER circuits.
+//! `hwtool`: word-level BTOR2 models to AIGER circuits, and judgements of their witnesses.
 #![tactic(auto)]
 
 pub mod files;
@@ -6,7 +6,7 @@ pub mod orders;
 pub mod running;
 pub mod words;
 
-use base::{FromReader, ToWriter};
+use base::{FromReader, Source, ToWriter};
 use files::NoFile;
 use orders::{Order, STANDARD_INPUT, Stop};
 use running::run;
@@ -31,44 +31,41 @@ fn main(rt: HostRuntime) -> io::Result<ExitCode> {
 
 /// Does a command on files and the standard streams, and answers the status.
 fn obey(rt: &HostRuntime, order: &Order<'_>) -> u8 {
-    let mut out = ToWriter::new(rt.stdout());
-    let mut err = ToWriter::new(rt.stderr());
     if order.first == STANDARD_INPUT {
-        let mut first = FromReader::new(rt.stdin());
-        run(
-            rt.alloc(),
-            order,
-            &mut first,
-            &mut NoFile::new(),
-            &mut out,
-            &mut err,
-        )
-    } else {
-        match fs::open(rt, order.first) {
-            Ok(file) => {
-                let mut first = FromReader::new(file);
-                run(
-                    rt.alloc(),
-                    order,
-                    &mut first,
-                    &mut NoFile::new(),
-                    &mut out,
-                    &mut err,
-                )
+        return obey_of(rt, order, &mut FromReader::new(rt.stdin()));
+    }
+    match fs::open(rt, order.first) {
+        Ok(file) => obey_of(rt, order, &mut FromReader::new(file)),
+        Err(_) => obey_of(rt, order, &mut NoFile::new()),
+    }
+}
+
+/// The same, where the first source is open.
+fn obey_of<A: Source>(rt: &HostRuntime, order: &Order<'_>, first: &mut A) -> u8 {
+    match order.second {
+        None => obey_on(rt, order, first, &mut NoFile::new()),
+        Some(name) => {
+            if name == STANDARD_INPUT {
+                return obey_on(rt, order, first, &mut FromReader::new(rt.stdin()));
             }
-            Err(_) => {
-                let mut first = NoFile::new();
-                run(
-                    rt.alloc(),
-                    order,
-                    &mut first,
-                    &mut NoFile::new(),
-                    &mut out,
-                    &mut err,
-                )
+            match fs::open(rt, name) {
+                Ok(file) => obey_on(rt, order, first, &mut FromReader::new(file)),
+                Err(_) => obey_on(rt, order, first, &mut NoFile::new()),
             }
         }
     }
+}
+
+/// The same, where both sources are open.
+fn obey_on<A: Source, B: Source>(
+    rt: &HostRuntime,
+    order: &Order<'_>,
+    first: &mut A,
+    second: &mut B,
+) -> u8 {
+    let mut out = ToWriter::new(rt.stdout());
+    let mut err = ToWriter::new(rt.stderr());
+    run(rt.alloc(), order, first, second, &mut out, &mut err)
 }
 
 /// Prints what stands in place of a command: help on standard output, refused words on standard error.

@@ -10,9 +10,11 @@ pub const STANDARD_INPUT: &str = "-";
 pub enum Task {
     /// Lowers a model to a circuit.
     Lower,
+    /// Judges a witness over a model.
+    CheckBtor,
 }
 
-/// A command, the form of the circuits that it writes, and the name of its file.
+/// A command, the form of the circuits that it writes, and the names of its files.
 #[derive(Clone, Copy, Debug)]
 pub struct Order<'a> {
     /// The command.
@@ -21,6 +23,8 @@ pub struct Order<'a> {
     pub form: Form,
     /// The name of the first file; `-` is standard input.
     pub first: &'a str,
+    /// The name of the second file, for a command that has one; `-` is standard input.
+    pub second: Option<&'a str>,
 }
 
 /// What is printed in place of a command, and the exit status: 0 for help, 4 for refused words, 3

@@ -1,16 +1,20 @@
 //! Doing a command.
 
 ghost use Rattle.std.specs.Prelude.{◌≡◌, ◌<◌, IfOk};
-ghost use Rattle.blast.specs.Conversion.{Converts};
+ghost use Rattle.hwtool.specs.Done.{IsDone, Accepts, IsAccepted};
 
-use crate::orders::{Order, Task};
+use crate::orders::{Order, STANDARD_INPUT, Task};
 use base::{Sink, Source, write_all};
 use blast::{ConvertFault, LowerFault, convert};
-use btor2text::Why;
+use btor2text::{Why, read};
 use std::alloc::{AllocError, Global};
+use witness::{JudgeFault, Judgement, judge_words};
 
 /// The exit status of a command that is done.
 pub const DONE: u8 = 0;
+
+/// The exit status where a witness is not accepted.
+pub const NOT_ACCEPTED: u8 = 1;
 
 /// The exit status where the input is refused.
 pub const REFUSED: u8 = 2;
@@ -18,25 +22,86 @@ pub const REFUSED: u8 = 2;
 /// The exit status where a device failed or memory was wanting.
 pub const DEVICE: u8 = 3;
 
-/// Does a command, and answers the exit status: 0 done, 2 input refused, 3 device or memory.
+/// Does a command, and answers the exit status: 0 done or accepted, 1 not accepted, 2 input refused, 3 device or
+/// memory.
 ///
-/// Results go to `out`, refusals to `err`, a line each; where `err` fails the status is 3. `lower` does
-/// not read the second source. The status is 0 only where all of the circuit's text was written.
+/// Results go to `out`, refusals to `err`, a line each; where `err` fails the status is 3. `lower` does not read the
+/// second source. The status is 0 only where all of the circuit's text was written, or the witness is accepted.
 pub fn run<A: Source, B: Source, O: Sink, E: Sink>(
     alloc: Global,
     order: &Order<'_>,
     first: &mut A,
-    _second: &mut B,
+    second: &mut B,
     out: &mut O,
     err: &mut E,
 ) -> u8
-    ensures done { result ≡ 0 → Converts (A.to_come first.old) (O.written out.old) (O.written out.new) order.now.form }
+    ensures done { result ≡ 0 → IsDone order.now.task order.now.form (A.to_come first.old) (B.to_come second.old) (O.written out.old) (O.written out.new) }
 {
     match order.task {
         Task::Lower => match convert(alloc, first, out, order.form) {
             Ok(()) => DONE,
             Err(fault) => refuse(alloc, order.first, &fault, err),
         },
+        Task::CheckBtor => check(alloc, order, first, second, out, err),
+    }
+}
+
+/// Judges a witness over a model, and answers the exit status.
+fn check<A: Source, B: Source, O: Sink, E: Sink>(
+    alloc: Global,
+    order: &Order<'_>,
+    first: &mut A,
+    second: &mut B,
+    out: &mut O,
+    err: &mut E,
+) -> u8
+    ensures accepted { result ≡ 0 → Accepts (A.to_come first.old) (B.to_come second.old) }
+{
+    let model = match read(alloc, first) {
+        Ok(model) => model,
+        Err(fault) => return refuse(alloc, order.first, &ConvertFault::Read(fault), err),
+    };
+    match judge_words(alloc, &model, second) {
+        Ok(judgement) => tell(alloc, &judgement, out, err),
+        Err(fault) => refuse_witness(alloc, order, &fault, err),
+    }
+}
+
+/// Writes the line of a judgement, and answers the exit status: 0 accepted, 1 not accepted.
+fn tell<O: Sink, E: Sink>(alloc: Global, judgement: &Judgement, out: &mut O, err: &mut E) -> u8
+    ensures { result ≡ 0 → IsAccepted judgement.now }
+{
+    let status = match judgement {
+        Judgement::Accepted { .. } => DONE,
+        _ => NOT_ACCEPTED,
+    };
+    match format!(in alloc; "{judgement}\n") {
+        Ok(line) => match write_all(out, line.as_bytes()) {
+            Ok(()) => status,
+            Err(_) => say(err, DEVICE, b"output: device\n"),
+        },
+        Err(_) => say(err, DEVICE, b"no memory\n"),
+    }
+}
+
+/// Writes the line of a witness that is not judged, and answers the exit status, which is not 0.
+fn refuse_witness<E: Sink>(alloc: Global, order: &Order<'_>, fault: &JudgeFault, err: &mut E) -> u8
+    ensures { 0 < result }
+{
+    let file = order.first;
+    let witness = order.second.unwrap_or(STANDARD_INPUT);
+    let line = match fault {
+        JudgeFault::NoNext(_) => format!(in alloc; "{file}: {fault}\n"),
+        JudgeFault::Device => format!(in alloc; "{witness}: device\n"),
+        JudgeFault::NoMemory => Err(AllocError),
+    };
+    let status = match fault {
+        JudgeFault::NoNext(_) => REFUSED,
+        _ => DEVICE,
+    };
+    match line {
+        Ok(line) => say(err, status, line.as_bytes()),
+        Err(_) => say(err, DEVICE, b"no memory\n"),
     }
 }
 

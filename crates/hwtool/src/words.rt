@@ -6,34 +6,67 @@ use clap::error::ErrorKind;
 use clap::{Arg, ArgAction, ArgMatches, Command, Error};
 use std::alloc::{AllocError, Global};
 
-/// The commands and their words.
-fn commands<'a>(alloc: Global) -> Result<Command<'a>, AllocError> {
+/// The word of the command that judges a witness.
+const CHECK_BTOR: &str = "check-btor";
+
+/// A word that names a file.
+fn file_name<'a>(alloc: Global, name: &'a str, help: &'a str) -> Arg<'a> {
+    Arg::new(alloc, name)
+        .required(true)
+        .action(ArgAction::Set)
+        .help(help)
+}
+
+/// The words of `lower`.
+fn lower<'a>(alloc: Global) -> Result<Command<'a>, AllocError> {
     let ascii = Arg::new(alloc, "ascii")
         .long("ascii")
         .action(ArgAction::SetTrue)
         .help("Write the ascii form (the default)");
-    let model = Arg::new(alloc, "MODEL")
-        .required(true)
-        .action(ArgAction::Set)
-        .help("The file of a BTOR2 model");
-    let lower = Command::new(alloc, "lower")
+    Command::new(alloc, "lower")
         .about("Lower a BTOR2 model to an AIGER circuit on standard output")
         .arg(ascii)?
-        .arg(model)?;
+        .arg(file_name(alloc, "MODEL", "The file of a BTOR2 model"))
+}
+
+/// The words of `check-btor`.
+fn check_btor<'a>(alloc: Global) -> Result<Command<'a>, AllocError> {
+    Command::new(alloc, CHECK_BTOR)
+        .about("Judge a BTOR2 witness over a model")
+        .arg(file_name(alloc, "MODEL", "The file of a BTOR2 model"))?
+        .arg(file_name(alloc, "WITNESS", "The file of a BTOR2 witness"))
+}
+
+/// The commands and their words.
+fn commands<'a>(alloc: Global) -> Result<Command<'a>, AllocError> {
     Command::new(alloc, "hwtool")
-        .about("Word-level BTOR2 models to AIGER circuits. Without any word: lower standard input.")
+        .about(
+            "Word-level BTOR2 models to AIGER circuits, and their witnesses. Without any word: lower standard input.",
+        )
         .subcommand_required(true)
-        .subcommand(lower)
+        .subcommand(lower(alloc)?)?
+        .subcommand(check_btor(alloc)?)
 }
 
 /// The order that matches name.
 fn order_of<'a>(matches: &ArgMatches<'a>) -> Option<Order<'a>> {
-    let (_, words) = matches.subcommand()?;
-    Some(Order {
-        task: Task::Lower,
-        form: Form::Ascii,
-        first: words.get_str("MODEL")?,
-    })
+    let (command, words) = matches.subcommand()?;
+    let first = words.get_str("MODEL")?;
+    if command == CHECK_BTOR {
+        Some(Order {
+            task: Task::CheckBtor,
+            form: Form::Ascii,
+            first,
+            second: Some(words.get_str("WITNESS")?),
+        })
+    } else {
+        Some(Order {
+            task: Task::Lower,
+            form: Form::Ascii,
+            first,
+            second: None,
+        })
+    }
 }
 
 /// What is printed for words that are no order.
@@ -68,6 +101,7 @@ pub fn order<'a>(alloc: Global, words: &'a [&'a str]) -> Result<Order<'a>, Stop>
             task: Task::Lower,
             form: Form::Ascii,
             first: STANDARD_INPUT,
+            second: None,
         });
     }
     let command = match commands(alloc) {

@@ -4,7 +4,7 @@ use Rattle.std.proofs.lemmas.List.Elements.{All-from_recursion, All-nil}
 use Rattle.btor2.specs.declared.item.Body.TheVariants as body
 use Rattle.btor2.specs.Worked.{line}
 use Rattle.btor2.specs.Check.{refusal, id_is_out_of_range, id_is_taken, sort_is_missing, operand_is_missing, state_is_none, width_is_out_of_range, widths_differ, init_is_not_constant, is_second_init, is_second_next, slice_is_out_of_range, constant_does_not_fit, justice_is_empty}
-use Rattle.btor2text.specs.Lines.{IsLine}
+use Rattle.base.specs.Lines.{IsLine}
 use Rattle.btor2text.specs.declared.fault.Why.TheVariants as why
 use Rattle.btor2text.specs.Reading.{fault_at, lines_on, text_on}
 use Rattle.btor2text.proofs.FaultLemmas.{not_failed}

@@ -1,5 +1,5 @@
 use Rattle.std.proofs.Common.{◌≡◌, length}
-use Rattle.btor2text.specs.Lines.{whole_lines, unfinished}
+use Rattle.base.specs.Lines.{whole_lines, unfinished}
 use Rattle.btor2text.specs.Reading.{lines_on}
 use Rattle.btor2text.proofs.reading.read_lines.Given as goal
 

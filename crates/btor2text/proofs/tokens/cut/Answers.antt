@@ -1,7 +1,7 @@
 use Rattle.std.proofs.Common.{◌≡◌, ◌++◌, ◌∷◌, true, take, drop, get_or, ap, ◌∙◌}
-use Rattle.btor2text.specs.Lines.{tokens, begins_token}
+use Rattle.btor2text.specs.Tokens.{tokens, begins_token}
 use Rattle.bstr.specs.Bytes.{is_in}
-use Rattle.btor2text.proofs.LineLemmas.{cut_behind, cut_at_first, none_at_all}
+use Rattle.base.proofs.CutLemmas.{cut_behind, cut_at_first, none_at_all}
 use Rattle.btor2text.proofs.TokenLemmas.{blanks, no_blank, tokens-whole, tokens-word_blank, is_blank_in}
 use Rattle.btor2text.proofs.tokens.cut.Goals as goal
 

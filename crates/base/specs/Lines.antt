@@ -1,0 +1,26 @@
+-- Lines of a text: a byte 10 ends each, and what follows the last byte 10 is unfinished.
+use Rattle.std.specs.Prelude.{◌≡◌, ℕ, false, List, [], ◌∷◌, ◌++◌, ◌==◌, if◌then◌else◌, flat_map}
+use Rattle.std.specs.List.{list_any}
+
+-- the text of lines: behind each a byte 10
+abbrev pub text_of_lines : List (List ℕ) → List ℕ
+text_of_lines lines = flat_map (λ line. line ++ 10 ∷ []) lines
+
+-- no byte of a line is a byte 10
+abbrev pub IsLine : List ℕ → Type 0
+IsLine line = list_any (λ b. b == 10) line ≡ false
+
+-- a byte more at the front of the first line; where no line is left, it is of the unfinished rest
+abbrev pub onto_first : ℕ → List (List ℕ) → List (List ℕ)
+onto_first b [] = []
+onto_first b (line ∷ lines) = (b ∷ line) ∷ lines
+
+-- the whole lines of a text: those that a byte 10 ends
+abbrev pub whole_lines : List ℕ → List (List ℕ)
+whole_lines [] = []
+whole_lines (b ∷ bs) = if b == 10 then [] ∷ whole_lines bs else onto_first b (whole_lines bs)
+
+-- the bytes after the last byte 10 of a text, or all of them
+abbrev pub unfinished : List ℕ → List ℕ
+unfinished [] = []
+unfinished (b ∷ bs) = if list_any (λ c. c == 10) (b ∷ bs) then unfinished bs else b ∷ bs

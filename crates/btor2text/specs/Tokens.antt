@@ -1,0 +1,45 @@
+-- Tokens of a line of a model's text ("Btor2, BtorMC and Boolector 3.0", syntax; which bytes separate tokens and where a comment begins is this project's profile).
+use Rattle.std.specs.Prelude.{ℕ, Bool, true, false, not, ◌||◌, List, [], ◌∷◌, ◌==◌, if◌then◌else◌, filter}
+
+-- a space or a tab
+abbrev pub is_blank : ℕ → Bool
+is_blank b = (b == 32) || (b == 9)
+
+-- a byte more at the front of the first piece
+abbrev pub to_first : ℕ → List (List ℕ) → List (List ℕ)
+to_first b [] = (b ∷ []) ∷ []
+to_first b (p ∷ ps) = (b ∷ p) ∷ ps
+
+-- what stands between blanks, empty pieces too
+abbrev pub pieces : List ℕ → List (List ℕ)
+pieces [] = [] ∷ []
+pieces (b ∷ bs) = if is_blank b then [] ∷ pieces bs else to_first b (pieces bs)
+
+-- a piece has a byte
+abbrev pub is_some_bytes : List ℕ → Bool
+is_some_bytes [] = false
+is_some_bytes (b ∷ bs) = true
+
+-- a piece that begins with `;` opens a comment to the line's end
+abbrev pub opens_comment : List ℕ → Bool
+opens_comment [] = false
+opens_comment (b ∷ bs) = b == 59
+
+-- the pieces before the one that opens a comment
+abbrev pub before_comment : List (List ℕ) → List (List ℕ)
+before_comment [] = []
+before_comment (p ∷ ps) = if opens_comment p then [] else p ∷ before_comment ps
+
+-- the tokens of a line: what stands between blanks, up to a comment
+abbrev pub tokens : List ℕ → List (List ℕ)
+tokens line = before_comment (filter is_some_bytes (pieces line))
+
+-- a line begins with a blank
+abbrev pub begins_blank : List ℕ → Bool
+begins_blank [] = false
+begins_blank (b ∷ bs) = is_blank b
+
+-- a line begins with a token
+abbrev pub begins_token : List ℕ → Bool
+begins_token [] = false
+begins_token (b ∷ bs) = not (is_blank b || (b == 59))

@@ -1,0 +1,78 @@
+-- Frames of the words that a frame gives.
+use Rattle.std.proofs.Common.{◌≡◌, ℕ, zero, suc, ◌+◌, ◌-◌, ◌^◌, ◌<◌, Bool, true, false, cond, nat_eq, eq-eqb, min, List, [], ◌∷◌, ◌++◌, length, map, get_or, set, Some, ⊎_elim, refl, sym, ap, ◌∙◌, append_assoc, arith}
+use Rattle.std.proofs.lemmas.Bool.{cases_eq, ne_eqb}
+use Rattle.std.proofs.lemmas.List.{length-map, length-set, get_or-map, get_or-set_same, get_or-set_other, ext_get_or}
+use Rattle.btor2.specs.declared.item.Item.{Item}
+use Rattle.btor2.specs.declared.item.Body.{Body}
+use Rattle.btor2.specs.declared.item.Body.TheVariants as body
+use Rattle.btor2.specs.Items.{find_item, is_state, is_input}
+use Rattle.btor2.specs.Check.{IsWellFormed}
+use Rattle.btor2.specs.Trace.{Frame, LineHolds, LinesHold, IsFrame}
+use Rattle.btor2.proofs.ModelLemmas.{IsIn, find_item-in}
+use Rattle.runs.specs.Frames.{is_leaf, ids_of, rank, given}
+use Rattle.runs.specs.Run.{more_steps}
+use Rattle.runs.proofs.RankLemmas.{rank-below, ids-rank, length-ids}
+use Rattle.runs.proofs.KeepLemmas.{leaf-nth}
+
+pub given-map : (test : Body → Bool) (items : List Item) (g : Frame) (id : ℕ) (x : Item) → find_item items id ≡ Some x → test x.body ≡ true → given test items (map g (ids_of test items)) id ≡ g id
+given-map test items g id x found is =
+    let inside : rank test items id < length (ids_of test items) = omega (arith, rank-below test items id x found is, length-ids test items) in
+    get_or-map g (ids_of test items) (rank test items id) 0 0 inside ∙ ap g (ids-rank test items id x found is)
+
+-- a line says the same from other words that it has in common
+line_given : (items : List Item) (state state' input input' f : Frame) (id : ℕ) (b : Body) → (is_state b ≡ true → state id ≡ state' id) → (is_input b ≡ true → input id ≡ input' id)
+    → LineHolds items state input f id b → LineHolds items state' input' f id b
+line_given items state state' input input' f id (body.State s) of_state of_input h = h ∙ of_state refl
+line_given items state state' input input' f id (body.Input s) of_state of_input h = h ∙ of_input refl
+line_given items state state' input input' f id _ of_state of_input h = h
+
+lines_given : (items : List Item) (state state' input input' f : Frame) (before rest : List Item) → items ≡ before ++ rest → ((x : Item) → IsIn items x → is_state x.body ≡ true → state x.id ≡ state' x.id)
+    → ((x : Item) → IsIn items x → is_input x.body ≡ true → input x.id ≡ input' x.id) → LinesHold items state input f rest → LinesHold items state' input' f rest
+lines_given items state state' input input' f before [] e of_states of_inputs h = tt
+lines_given items state state' input input' f before (x ∷ xs) e of_states of_inputs h =
+    let at : IsIn items x = record { before = before; after = xs; splits = e } in (
+      line_given items state state' input input' f x.id x.body (of_states x at) (of_inputs x at) h.0,
+      lines_given items state state' input input' f (before ++ x ∷ []) xs (e ∙ sym (append_assoc before (x ∷ []) xs)) of_states of_inputs h.1,
+    )
+
+module _ (items : List Item) (state input f : Frame) (w : IsWellFormed items) where
+  abbrev pub states_given : Frame
+  states_given = given is_state items (map state (ids_of is_state items))
+
+  abbrev pub inputs_given : Frame
+  inputs_given = given is_input items (map input (ids_of is_input items))
+
+  pub frame_given : IsFrame items state input f → IsFrame items states_given inputs_given f
+  frame_given h =
+      lines_given items state states_given input inputs_given f [] items refl (λ x at is. sym (given-map is_state items state x.id x (find_item-in items x w at) is)) (λ x at is. sym (given-map is_input items input x.id x (find_item-in items x w at) is)) h
+
+  pub frame_taken : IsFrame items states_given inputs_given f → IsFrame items state input f
+  frame_taken h =
+      lines_given items states_given state inputs_given input f [] items refl (λ x at is. given-map is_state items state x.id x (find_item-in items x w at) is) (λ x at is. given-map is_input items input x.id x (find_item-in items x w at) is) h
+
+pub more_steps-min : (n count : ℕ) → count < 2 ^ 128 → more_steps n count ≡ min (count + n) (2 ^ 128 - 1)
+more_steps-min zero count h = omega arith
+more_steps-min (suc n) count h = omega (arith, more_steps-min n count h)
+
+-- a word that is set for the k-th of a kind
+pub set-map : (test : Body → Bool) (items : List Item) (g : Frame) (k word : ℕ) → ((b : Body) → test b ≡ true → is_leaf b ≡ true) → IsWellFormed items → k < length (ids_of test items)
+    → set (map g (ids_of test items)) k word ≡ map (λ id. cond (nat_eq id (get_or (ids_of test items) k 0)) word (g id)) (ids_of test items)
+set-map test items g k word leaf w h =
+    ext_get_or 0 (set (map g (ids_of test items)) k word) (map (λ id. cond (nat_eq id (get_or (ids_of test items) k 0)) word (g id)) (ids_of test items))
+    (length-set (map g (ids_of test items)) k word ∙ length-map (ids_of test items) g ∙ sym (length-map (ids_of test items) (λ id. cond (nat_eq id (get_or (ids_of test items) k 0)) word (g id))))
+    (λ j within.
+    let inside : j < length (ids_of test items) = omega (arith, length-set (map g (ids_of test items)) k word, length-map (ids_of test items) g) in
+    let read = get_or-map (λ id. cond (nat_eq id (get_or (ids_of test items) k 0)) word (g id)) (ids_of test items) j 0 0 inside in
+    ⊎_elim
+    (λ e.
+    let range : k < length (map g (ids_of test items)) = omega (arith, length-map (ids_of test items) g) in
+    let own : nat_eq (get_or (ids_of test items) j 0) (get_or (ids_of test items) k 0) ≡ true = eq-eqb (get_or (ids_of test items) j 0) (get_or (ids_of test items) k 0) (ap (λ (i : ℕ). get_or (ids_of test items) i 0) e) in
+    ap (λ (i : ℕ). get_or (set (map g (ids_of test items)) k word) i 0) e ∙ get_or-set_same (map g (ids_of test items)) k word 0 range
+    ∙ sym (read ∙ ap (λ (b : Bool). cond b word (g (get_or (ids_of test items) j 0))) own))
+    (λ ne.
+    let a = leaf-nth test items j w leaf inside in
+    let b = leaf-nth test items k w leaf h in
+    let other : nat_eq (get_or (ids_of test items) j 0) (get_or (ids_of test items) k 0) ≡ false =
+    ne_eqb (get_or (ids_of test items) j 0) (get_or (ids_of test items) k 0) (λ same. ne (sym a.own_rank ∙ ap (rank test items) same ∙ b.own_rank)) in
+    get_or-set_other (map g (ids_of test items)) k j word 0 ne ∙ get_or-map g (ids_of test items) j 0 0 inside ∙ sym (read ∙ ap (λ (b : Bool). cond b word (g (get_or (ids_of test items) j 0))) other))
+    (cases_eq j k))

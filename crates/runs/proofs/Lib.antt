@@ -1,0 +1,13 @@
+pub mod RankLemmas
+pub mod PlaceLemmas
+pub mod PassLemmas
+pub mod RefusalLemmas
+pub mod StateLemmas
+pub mod NodeLemmas
+pub mod SettleLemmas
+pub mod WordLemmas
+pub mod KeepLemmas
+pub mod ReadLemmas
+pub mod AdvanceLemmas
+pub mod StartLemmas
+pub mod GivenLemmas

@@ -1,0 +1,206 @@
+-- What a new run keeps.
+use Rattle.std.proofs.Common.{◌≡◌, ◌≢◌, ℕ, ◌^◌, ◌<◌, Bool, true, false, ◌&&◌, cond, List, [], ◌∷◌, ◌++◌, length, map, get_or, replicate, All, Option, Some, None, IfSome, is_some, is_none, option_and_then, unwrap_or, refl, sym, ap, subst, ◌∙◌, pow_pos, arith}
+use Rattle.std.proofs.lemmas.Option.{none-some}
+use Rattle.std.proofs.lemmas.Bool.{true≢false}
+use Rattle.std.proofs.lemmas.List.{length-map, length-replicate, get_or-map, get_or-replicate, ext_get_or}
+use Rattle.btor2.specs.declared.item.Item.{Item}
+use Rattle.btor2.specs.declared.item.Body.{Body}
+use Rattle.btor2.specs.declared.item.Body.TheVariants as body
+use Rattle.btor2.specs.Items.{find_item, node_width, width_of_body, constant_word, constant_of_body, constant_of, is_input, is_state, is_bad, is_constraint, init_value, next_value}
+use Rattle.btor2.specs.Check.{IsWellFormed}
+use Rattle.btor2.specs.Lists.{places}
+use Rattle.btor2.specs.Trace.{Frame, bits_of, LineHolds, LinesHold}
+use Rattle.btor2.proofs.AppendLemmas.{then_parts, is_some_from}
+use Rattle.btor2.proofs.ModelLemmas.{IsIn-from_find, find_item-in, IsInitOf, IsInitOf-from_value}
+use Rattle.btor2.proofs.TraceLemmas.{frame_exists}
+use Rattle.runs.specs.declared.nodes.Node.{Node}
+use Rattle.runs.specs.Frames.{has_value, of_kind, ids_of, rank, given}
+use Rattle.runs.specs.Run.{property_id, first_word, zeros}
+use Rattle.runs.specs.Nodes.{slot, node_of, words_at}
+use Rattle.runs.specs.Holds.{next_id, LeavesFit, Keeps}
+use Rattle.runs.specs.Refusal.{first_without_next}
+use Rattle.runs.proofs.RankLemmas.{state_is_leaf, input_is_leaf, leaf_has_value, rank-below, ids-rank, nth, nth-found, length-ids, length-places}
+use Rattle.runs.proofs.PlaceLemmas.{place_inside, map_read}
+use Rattle.runs.proofs.StateLemmas.{nth-get}
+use Rattle.runs.proofs.NodeLemmas.{constant_read}
+use Rattle.runs.proofs.SettleLemmas.{line_at}
+use Rattle.runs.proofs.WordLemmas.{slots_of, words_same, frame_fits}
+use Rattle.runs.proofs.KeepLemmas.{slots-apart, length-slots_of}
+use Rattle.runs.proofs.AdvanceLemmas.{slot-own, slots-inside, slots-differ, leaf_cases}
+
+-- Each state has a next where none lacks one.
+
+lacks_here : (o : Option ℕ) (id : ℕ) (rest : Option ℕ) → cond (is_none o) (Some id) rest ≡ None → is_some o ≡ true
+lacks_here None id rest h = absurd (none-some id (sym h))
+lacks_here (Some v) id rest h = refl
+
+lacks_later : (b : Bool) (id : ℕ) (rest : Option ℕ) → cond b (Some id) rest ≡ None → rest ≡ None
+lacks_later true id rest h = absurd (none-some id (sym h))
+lacks_later false id rest h = h
+
+has_next : (items before after : List Item) (y : Item) → first_without_next items (before ++ y ∷ after) ≡ None → is_state y.body ≡ true → is_some (next_value items y.id) ≡ true
+has_next items [] after y h is =
+    lacks_here (next_value items y.id) y.id (first_without_next items after)
+    (subst (λ (b : Bool). cond (b && is_none (next_value items y.id)) (Some y.id) (first_without_next items after) ≡ None) is h)
+has_next items (x ∷ xs) after y h is =
+    has_next items xs after y (lacks_later (is_state x.body && is_none (next_value items x.id)) x.id (first_without_next items (xs ++ y ∷ after)) h) is
+
+pub nexts_there : (items : List Item) → first_without_next items items ≡ None → (id : ℕ) (y : Item) → find_item items id ≡ Some y → is_state y.body ≡ true → is_some (next_value items id) ≡ true
+nexts_there items h id y found is =
+    let at = IsIn-from_find items id y found in
+    subst (λ (i : ℕ). is_some (next_value items i) ≡ true) (sym at.1)
+    (has_next items at.0.before at.0.after y (subst (λ (l : List Item). first_without_next items l ≡ None) at.0.splits h) is)
+
+pub nexts_listed : (items : List Item) → IsWellFormed items → first_without_next items items ≡ None → (k : ℕ) → k < length (ids_of is_state items) → is_some (next_value items (get_or (ids_of is_state items) k 0)) ≡ true
+nexts_listed items w h k inside =
+    let there = nth is_state items k (omega (arith, length-ids is_state items)) in
+    subst (λ (i : ℕ). is_some (next_value items i) ≡ true) (sym there.1.id) (nexts_there items h there.0.id there.0 (nth-found is_state items k there.0 w there.1) there.1.is)
+
+-- The slots of a kind.
+
+pub picked_inside : (test : Body → Bool) (items : List Item) (slots list : List ℕ) → slots ≡ map (λ (x : Item). slot items x.id) items → list ≡ places test 0 items → (k : ℕ) → k < length list → get_or list k 0 < length slots
+picked_inside test items slots list own e k h =
+    let there = nth test items k (omega (arith, ap length e, length-places test 0 items)) in
+    omega (arith, ap (λ (l : List ℕ). get_or l k 0) e, place_inside items (get_or (places test 0 items) k 0) there.0 (nth-get test items k there.0 there.1), ap length own, length-map items (λ (x : Item). slot items x.id))
+
+pub picked_slots : (test : Body → Bool) (items : List Item) (slots list : List ℕ) → slots ≡ map (λ (x : Item). slot items x.id) items → list ≡ places test 0 items → map (λ (p : ℕ). get_or slots p 0) list ≡ slots_of test items
+picked_slots test items slots list own e =
+    rw e (ext_get_or 0 (map (λ (p : ℕ). get_or slots p 0) (places test 0 items)) (slots_of test items)
+    (length-map (places test 0 items) (λ (p : ℕ). get_or slots p 0) ∙ length-places test 0 items ∙ sym (length-slots_of test items ∙ length-ids test items))
+    (λ k h.
+    let inside : k < length (places test 0 items) = omega (arith, length-map (places test 0 items) (λ (p : ℕ). get_or slots p 0)) in
+    let there = nth test items k (omega (arith, length-places test 0 items)) in
+    let ids : k < length (ids_of test items) = omega (arith, length-places test 0 items, length-ids test items) in
+    get_or-map (λ (p : ℕ). get_or slots p 0) (places test 0 items) k 0 0 inside ∙ ap (λ (l : List ℕ). get_or l (get_or (places test 0 items) k 0) 0) own
+    ∙ map_read (λ (x : Item). slot items x.id) items (get_or (places test 0 items) k 0) there.0 (nth-get test items k there.0 there.1)
+    ∙ ap (slot items) (sym there.1.id) ∙ sym (get_or-map (slot items) (ids_of test items) k 0 0 ids)))
+
+-- The first words fit.
+
+line_constant : (items : List Item) (state input f : Frame) (id n : ℕ) (b : Body) → is_some (constant_word n b) ≡ true → LineHolds items state input f id b → IfSome (constant_word (bits_of items id) b) (λ w. f id ≡ w)
+line_constant items state input f id n (body.Zero s) there h = h
+line_constant items state input f id n (body.One s) there h = h
+line_constant items state input f id n (body.Ones s) there h = h
+line_constant items state input f id n (body.Const s d v) there h = h
+line_constant items state input f id n (body.Constd s v) there h = h
+line_constant items state input f id n (body.Consth s d v) there h = h
+line_constant items state input f id n _ there h = absurd (cc)
+
+no_words_fit : (items : List Item) (n : ℕ) → n ≡ length (of_kind has_value items) → LeavesFit items (replicate n 0)
+no_words_fit items n e id y found leaf =
+    let inside : slot items id < n = omega (arith, rank-below has_value items id y found (leaf_has_value y.body leaf)) in
+    subst (λ (w : ℕ). w < 2 ^ bits_of items id) (sym (get_or-replicate n (slot items id) 0 0 inside)) (pow_pos (bits_of items id))
+
+constant_below : (items : List Item) (id word : ℕ) → IsWellFormed items → constant_of items id ≡ Some word → is_some (node_width items id) ≡ true → word < 2 ^ bits_of items id
+constant_below items id word w e there =
+    let parts = then_parts (λ (x : Item). constant_of_body items x.body) (find_item items id) word e in
+    let y = parts.0 in
+    let width = then_parts (λ (n : ℕ). constant_word n y.body) (width_of_body items y.body) word parts.2 in
+    let at = IsIn-from_find items id y parts.1 in
+    let values = replicate (length (of_kind has_value items)) 0 in
+    let many : length values ≡ length (of_kind has_value items) = length-replicate (length (of_kind has_value items)) 0 in
+    let leaves = no_words_fit items (length (of_kind has_value items)) refl in
+    let state : Frame = given is_state items (words_at values (slots_of is_state items)) in
+    let input : Frame = given is_input items (words_at values (slots_of is_input items)) in
+    let some = frame_exists items state input w in
+    let line = line_at items state input some.0 at.0.before at.0.after y (subst (LinesHold items state input some.0) at.0.splits some.1) in
+    let own : bits_of items y.id ≡ unwrap_or (width_of_body items y.body) 0 =
+    ap (λ (o : Option Item). unwrap_or (option_and_then (λ (x : Item). width_of_body items x.body) o) 0) (find_item-in items y w at.0) in
+    let read = constant_read items width.0 (bits_of items y.id) (some.0 y.id) y.body width.1 own (is_some_from (constant_word width.0 y.body) word width.2)
+    (line_constant items state input some.0 y.id width.0 y.body (is_some_from (constant_word width.0 y.body) word width.2) line) in
+    let same : word ≡ some.0 id = ap (λ (o : Option ℕ). unwrap_or o 0) (sym parts.2) ∙ read ∙ ap some.0 (sym at.1) in
+    subst (λ (n : ℕ). n < 2 ^ bits_of items id) (sym same) (frame_fits items w values many leaves some.0 some.1 id there)
+
+first_fits : (items : List Item) (id : ℕ) → IsWellFormed items → first_word items id < 2 ^ bits_of items id
+first_fits items id w = by (init_value items id) (λ v e. IsInitOf-from_value items id v w e)
+  where
+    by : (o : Option ℕ) → ((v : ℕ) → o ≡ Some v → IsInitOf items id v) → unwrap_or (option_and_then (constant_of items) o) 0 < 2 ^ bits_of items id
+    by None line = pow_pos (bits_of items id)
+    by (Some v) line =
+        let of = line v refl in
+        let word : unwrap_or (constant_of items v) 0 ≡ of.constant = ap (λ (o : Option ℕ). unwrap_or o 0) of.word in
+        let bits : bits_of items v ≡ bits_of items id = ap (λ (o : Option ℕ). unwrap_or o 0) (of.of_value ∙ sym of.of_state) in
+        let below = constant_below items v of.constant w of.word (is_some_from (node_width items v) of.width of.of_value) in
+        subst (λ (n : ℕ). n < 2 ^ bits_of items id) (sym word) (subst (λ (n : ℕ). of.constant < 2 ^ n) bits below)
+
+-- The run.
+
+pub record Starts (items : List Item) (nodes : List Node) (slots states inputs nexts bads constraints values next_values : List ℕ) : Type 0 where
+  pub keeps : Keeps items nodes slots states inputs nexts bads constraints values next_values false
+  pub first_words : words_at values states ≡ map (first_word items) (ids_of is_state items)
+  pub no_inputs : words_at values inputs ≡ zeros items
+
+-- the lists that a run is made of
+pub record Made (items : List Item) (nodes : List Node) (slots states inputs nexts bads constraints zero_values next_values : List ℕ) : Type 0 where
+  pub well_formed : IsWellFormed items
+  pub has_nexts : first_without_next items items ≡ None
+  pub are_nodes : nodes ≡ map (λ x. node_of items x.body) (of_kind has_value items)
+  pub are_slots : slots ≡ map (λ x. slot items x.id) items
+  pub are_states : states ≡ slots_of is_state items
+  pub are_inputs : inputs ≡ slots_of is_input items
+  pub are_nexts : nexts ≡ map (λ id. slot items (next_id items id)) (ids_of is_state items)
+  pub are_bads : bads ≡ map (λ x. slot items (property_id x.body)) (of_kind is_bad items)
+  pub are_constraints : constraints ≡ map (λ x. slot items (property_id x.body)) (of_kind is_constraint items)
+  pub are_zero : zero_values ≡ replicate (length nodes) 0
+  pub are_first : next_values ≡ map (first_word items) (ids_of is_state items)
+
+module _ (items : List Item) (nodes : List Node) (slots states inputs nexts bads constraints zero_values next_values : List ℕ) (m : Made items nodes slots states inputs nexts bads constraints zero_values next_values) where
+  zero_many : length zero_values ≡ length (of_kind has_value items)
+  zero_many = ap length m.are_zero ∙ length-replicate (length nodes) 0 ∙ ap length m.are_nodes ∙ length-map (of_kind has_value items) (λ (x : Item). node_of items x.body)
+
+  pub start_inside : All (λ p. p < length zero_values) states
+  start_inside = rw m.are_states (slots-inside is_state items (length zero_values) m.well_formed state_is_leaf zero_many)
+
+  pub start_many : length next_values ≡ length states
+  start_many = ap length m.are_first ∙ length-map (ids_of is_state items) (first_word items) ∙ sym (ap length m.are_states ∙ length-slots_of is_state items)
+
+  pub start_once : (i j : ℕ) → i < j → j < length states → get_or states i 0 ≢ get_or states j 0
+  start_once = rw m.are_states (slots-differ is_state items m.well_formed state_is_leaf)
+
+  module _ (values : List ℕ) (put : words_at values states ≡ next_values) (others : (p : ℕ) → ((j : ℕ) → j < length states → get_or states j 0 ≢ p) → get_or values p 0 ≡ get_or zero_values p 0) (many : length values ≡ length zero_values) where
+    state_word : (id : ℕ) (y : Item) → find_item items id ≡ Some y → is_state y.body ≡ true → get_or values (slot items id) 0 ≡ first_word items id
+    state_word id y found is =
+        let at = slot-own is_state items id y found is in
+        let r = rank is_state items id in
+        let there : r < length (ids_of is_state items) = omega (arith, at.0, length-slots_of is_state items) in
+        let inside : r < length states = omega (arith, at.0, ap length m.are_states) in
+        ap (λ (p : ℕ). get_or values p 0) (sym (ap (λ (l : List ℕ). get_or l r 0) m.are_states ∙ at.1)) ∙ sym (get_or-map (λ (p : ℕ). get_or values p 0) states r 0 0 inside)
+        ∙ ap (λ (l : List ℕ). get_or l r 0) (put ∙ m.are_first) ∙ get_or-map (first_word items) (ids_of is_state items) r 0 0 there ∙ ap (first_word items) (ids-rank is_state items id y found is)
+
+    input_word : (id : ℕ) (y : Item) → find_item items id ≡ Some y → is_input y.body ≡ true → get_or values (slot items id) 0 ≡ 0
+    input_word id y found is =
+        let at = slot-own is_input items id y found is in
+        let r = rank is_input items id in
+        let there : r < length (ids_of is_input items) = omega (arith, at.0, length-slots_of is_input items) in
+        let apart : (j : ℕ) → j < length states → get_or states j 0 ≢ slot items id = λ j l e.
+        slots-apart items j r m.well_formed (omega (arith, ap length m.are_states, length-slots_of is_state items)) there (ap (λ (list : List ℕ). get_or list j 0) (sym m.are_states) ∙ e ∙ sym at.1) in
+        let inside : slot items id < length nodes = omega (arith, rank-below has_value items id y found (leaf_has_value y.body (input_is_leaf y.body is)), ap length m.are_nodes, length-map (of_kind has_value items) (λ (x : Item). node_of items x.body)) in
+        others (slot items id) apart ∙ ap (λ (l : List ℕ). get_or l (slot items id) 0) m.are_zero ∙ get_or-replicate (length nodes) (slot items id) 0 0 inside
+
+    leaves_fit : LeavesFit items values
+    leaves_fit id y found leaf =
+        leaf_cases (get_or values (slot items id) 0 < 2 ^ bits_of items id) y.body leaf
+        (λ is. subst (λ (n : ℕ). n < 2 ^ bits_of items id) (sym (state_word id y found is)) (first_fits items id m.well_formed))
+        (λ is. subst (λ (n : ℕ). n < 2 ^ bits_of items id) (sym (input_word id y found is)) (pow_pos (bits_of items id)))
+
+    pub starts : Starts items nodes slots states inputs nexts bads constraints values next_values
+    starts =
+        record {
+          keeps = record {
+            well_formed = m.well_formed;
+            has_nexts = nexts_there items m.has_nexts;
+            are_nodes = m.are_nodes;
+            are_slots = m.are_slots;
+            are_states = m.are_states;
+            are_inputs = m.are_inputs;
+            are_nexts = m.are_nexts;
+            are_bads = m.are_bads;
+            are_constraints = m.are_constraints;
+            many_nodes = many ∙ zero_many;
+            many_states = ap length m.are_first ∙ length-map (ids_of is_state items) (first_word items) ∙ length-ids is_state items;
+            leaves = leaves_fit;
+            frame = λ e. absurd (true≢false (sym e));
+          };
+          first_words = put ∙ m.are_first;
+          no_inputs = ap (words_at values) m.are_inputs ∙ words_same is_input items values (λ id. 0) m.well_formed input_word;
+        }

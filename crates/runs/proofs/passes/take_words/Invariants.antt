@@ -1,0 +1,10 @@
+use Rattle.std.proofs.Common.{◌≡◌, ℕ, ◌<◌, get_or}
+use Rattle.runs.specs.Run.{more_steps}
+use Rattle.runs.proofs.passes.take_words.Given as goal
+
+abbrev pub invariant-loop-k : goal.invariant-loop-k
+invariant-loop-k l =
+    record {
+      taken : (j : ℕ) → j < l.k → get_or l.taken j 0 ≡ get_or l.values (get_or l.places j 0) 0;
+      steps : l.tally ≡ more_steps l.k l.fn.tally;
+    }

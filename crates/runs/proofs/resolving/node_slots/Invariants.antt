@@ -1,0 +1,11 @@
+use Rattle.std.proofs.Common.{◌≡◌, length, map, take}
+use Rattle.runs.specs.Frames.{has_value, of_kind}
+use Rattle.runs.specs.Nodes.{slot}
+use Rattle.runs.proofs.resolving.node_slots.Given as goal
+
+abbrev pub invariant-loop-item : goal.invariant-loop-item
+invariant-loop-item l =
+    record {
+      slots : l.slots.items ≡ map (λ x. slot l.model x.id) (take l.item-index l.items);
+      count : l.count ≡ length (of_kind has_value (take l.item-index l.items));
+    }

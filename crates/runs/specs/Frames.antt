@@ -1,0 +1,34 @@
+-- Frames of given words: the k-th state, and the k-th input, in file order has the k-th word of a list.
+use Rattle.std.specs.Prelude.{ℕ, suc, Bool, true, false, List, [], ◌∷◌, map, ◌==◌, if◌then◌else◌, is_some, slice_index}
+use Rattle.std.specs.List.{filter}
+use Rattle.btor2.specs.declared.item.Item.{Item}
+use Rattle.btor2.specs.declared.item.Body.{Body}
+use Rattle.btor2.specs.declared.item.Body.TheVariants as body
+use Rattle.btor2.specs.Items.{node_sort}
+use Rattle.btor2.specs.Trace.{Frame}
+
+-- whether a line has a value: a leaf, a constant or an operator
+abbrev pub has_value : Body → Bool
+has_value b = is_some (node_sort b)
+
+-- the leaves, whose words are given
+abbrev pub is_leaf : Body → Bool
+is_leaf (body.Input s) = true
+is_leaf (body.State s) = true
+is_leaf _ = false
+
+-- the items whose bodies pass a test, in file order, and their ids
+abbrev pub of_kind : (Body → Bool) → List Item → List Item
+of_kind test items = filter (λ x. test x.body) items
+
+abbrev pub ids_of : (Body → Bool) → List Item → List ℕ
+ids_of test items = map (λ x. x.id) (of_kind test items)
+
+-- how many items that pass a test stand before the one with an id
+abbrev pub rank : (Body → Bool) → List Item → ℕ → ℕ
+rank test [] id = 0
+rank test (x ∷ xs) id = if id == x.id then 0 else (if test x.body then suc (rank test xs id) else rank test xs id)
+
+-- the frame of given words for the items of a kind: the k-th of them has the k-th word
+abbrev pub given : (Body → Bool) → List Item → List ℕ → Frame
+given test items words id = slice_index words (rank test items id)

@@ -1,0 +1,6 @@
+pub mod Faults
+pub mod Refusal
+pub mod Frames
+pub mod Run
+pub mod Nodes
+pub mod Holds

@@ -1,0 +1,76 @@
+-- A run of a model ("Btor2, BtorMC and Boolector 3.0", semantics of sequential models): the words that its states and inputs have now, and what
+-- is told of them. The counting of steps is this project's own.
+use Rattle.std.specs.Prelude.{ℕ, zero, suc, Bool, true, false, List, length, map, option_and_then, unwrap_or, ◌==◌}
+use Rattle.base.specs.Steps.{one_more}
+use Rattle.btor2.specs.declared.item.Item.{Item}
+use Rattle.btor2.specs.declared.item.Body.{Body}
+use Rattle.btor2.specs.declared.item.Body.TheVariants as body
+use Rattle.btor2.specs.Items.{is_input, is_state, init_value, constant_of}
+use Rattle.btor2.specs.Trace.{Frame, IsFrame}
+use Rattle.runs.specs.Frames.{has_value, of_kind, ids_of, given}
+
+-- The words of the states and of the inputs are in file order. It is settled where no word was set since the last settling and
+-- the run has not advanced since. The steps are all that it has taken.
+pub record Run : Type 0 where
+  pub items : List Item
+  pub states : List ℕ
+  pub inputs : List ℕ
+  pub settled : Bool
+  pub steps : ℕ
+
+-- the words of its states, and of its inputs, by their ids
+abbrev pub state_words : Run → Frame
+state_words r = given is_state r.items r.states
+
+abbrev pub input_words : Run → Frame
+input_words r = given is_input r.items r.inputs
+
+-- the frame that the run is in
+abbrev pub IsNow : Run → Frame → Type 0
+IsNow r f = IsFrame r.items (state_words r) (input_words r) f
+
+-- how many nodes of a model have a value, and how many states it has
+abbrev pub node_count : List Item → ℕ
+node_count items = length (of_kind has_value items)
+
+abbrev pub state_count : List Item → ℕ
+state_count items = length (of_kind is_state items)
+
+-- a count after so many steps more
+abbrev pub more_steps : ℕ → ℕ → ℕ
+more_steps zero count = count
+more_steps (suc n) count = one_more (more_steps n count)
+
+-- the word that a state begins with: that of its init line, or 0
+abbrev pub first_word : List Item → ℕ → ℕ
+first_word items id = unwrap_or (option_and_then (constant_of items) (init_value items id)) 0
+
+-- the words of inputs that were not set: 0 each
+abbrev pub zeros : List Item → List ℕ
+zeros items = map (λ id. 0) (ids_of is_input items)
+
+-- the run that a model begins with
+abbrev pub start : List Item → Run
+start items =
+    record {
+      items = items;
+      states = map (first_word items) (ids_of is_state items);
+      inputs = zeros items;
+      settled = false;
+      steps = 0;
+    }
+
+-- whether a line is a bad property or a constraint, and the node that it names then
+abbrev pub is_property : Body → Bool
+is_property (body.Bad a) = true
+is_property (body.Constraint a) = true
+is_property _ = false
+
+abbrev pub property_id : Body → ℕ
+property_id (body.Bad a) = a
+property_id (body.Constraint a) = a
+property_id _ = 0
+
+-- whether the node that a property names is 1
+abbrev pub is_one : Frame → Body → Bool
+is_one f b = f (property_id b) == 1

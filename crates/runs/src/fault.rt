@@ -1,0 +1,27 @@
+ghost use Rattle.std.specs.Prelude.{◌≡◌};
+ghost use Rattle.runs.specs.Faults.{new_number};
+
+use thiserror::Error;
+
+/// Why a model has no run.
+#[derive(Clone, Copy, Debug, PartialEq, Eq, Error)]
+pub enum NewFault {
+    /// The first state in file order without a next; it has the id of the state's line.
+    #[error("item {0}: 70 NoNext")]
+    NoNext(u64),
+    /// A growth was refused.
+    #[error("71 NoMemory")]
+    NoMemory,
+}
+
+impl NewFault {
+    /// The number that is printed for the fault.
+    pub fn number(self) -> u32
+        ensures { result ≡ new_number self }
+    {
+        match self {
+            NewFault::NoNext(_) => 70,
+            NewFault::NoMemory => 71,
+        }
+    }
+}

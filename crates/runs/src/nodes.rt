@@ -1,0 +1,237 @@
+//! The nodes of a run.
+ghost use Rattle.std.specs.Prelude.{◌≡◌, ℕ, ◌<◌, true, Some, map, length, is_some, slice_get};
+ghost use Rattle.base.specs.Steps.{one_more};
+ghost use Rattle.btor2.specs.Items.{node_width};
+ghost use Rattle.btor2.specs.Check.{IsWellFormed};
+ghost use Rattle.btor2.specs.Trace.{bits_of};
+ghost use Rattle.runs.specs.Frames.{has_value};
+ghost use Rattle.runs.specs.Nodes.{slot, node_of, node_value, NodeFits};
+
+use base::{Binary, Tally, Unary, Width};
+use btor2::{Body, Item, Model};
+
+/// A node with a value: its operands are places in the list of now-values, `width` is that of its operands.
+#[derive(Clone, Copy, Debug, Drop)]
+pub(crate) enum Node {
+    /// An input or a state: its word is given.
+    Leaf,
+    /// A constant, with its word.
+    Constant(u64),
+    /// An operand before which stand `by` zeros.
+    Uext {
+        width: Width,
+        operand: usize,
+        by: u64,
+    },
+    /// An operand before which its sign stands `by` times.
+    Sext {
+        width: Width,
+        operand: usize,
+        by: u64,
+    },
+    /// The bits `upper` down to `lower` of an operand.
+    Slice {
+        width: Width,
+        operand: usize,
+        upper: u64,
+        lower: u64,
+    },
+    /// An operator of one operand.
+    Unary {
+        operator: Unary,
+        width: Width,
+        operand: usize,
+    },
+    /// An operator of two operands.
+    Binary {
+        operator: Binary,
+        width: Width,
+        left: usize,
+        right: usize,
+    },
+    /// `high` before `low`.
+    Concat {
+        high_width: Width,
+        high: usize,
+        low_width: Width,
+        low: usize,
+    },
+    /// `first` where the condition is 1, else `second`.
+    Ite {
+        width: Width,
+        condition: usize,
+        first: usize,
+        second: usize,
+    },
+}
+
+/// The word that the node at a place gives from the now-values. One step.
+pub(crate) fn node_word(node: &Node, values: &[u64], at: usize, tally: &mut Tally) -> u64
+    requires { NodeFits node.now values.now at }
+    ensures value { result ≡ node_value node.now values.now at }
+    ensures step { tally.new ≡ one_more tally.old }
+{
+    match *node {
+        Node::Leaf => base::take(values[at], tally),
+        Node::Constant(word) => base::take(word, tally),
+        Node::Uext { width, operand, by } => base::uext(width, values[operand], by, tally),
+        Node::Sext { width, operand, by } => base::sext(width, values[operand], by, tally),
+        Node::Slice {
+            width,
+            operand,
+            upper,
+            lower,
+        } => base::slice(width, values[operand], upper, lower, tally),
+        Node::Unary {
+            operator,
+            width,
+            operand,
+        } => base::unary(operator, width, values[operand], tally),
+        Node::Binary {
+            operator,
+            width,
+            left,
+            right,
+        } => base::binary(operator, width, values[left], values[right], tally),
+        Node::Concat {
+            high_width,
+            high,
+            low_width,
+            low,
+        } => base::concat(high_width, values[high], low_width, values[low], tally),
+        Node::Ite {
+            width,
+            condition,
+            first,
+            second,
+        } => base::ite(
+            width,
+            values[condition],
+            values[first],
+            values[second],
+            tally,
+        ),
+    }
+}
+
+/// The width of the node with an id, and its place among the now-values.
+///
+/// `slots` has for each item how many nodes with a value stand before it.
+pub(crate) fn operand(model: &Model, slots: &[usize], id: u64) -> (Width, usize)
+    requires there { is_some (node_width model.now id) ≡ true }
+    requires slots { slots.now ≡ map (λ x. slot model.now x.id) model.now }
+    ensures width { result.0 ≡ bits_of model.now id }
+    ensures place { result.1 ≡ slot model.now id }
+{
+    match model.position(id) {
+        Some(place) => match model.width_of(place) {
+            Some(width) => (width, slots[place]),
+            None => unreachable!(),
+        },
+        None => unreachable!(),
+    }
+}
+
+/// The node of the line at a place, with its operands resolved. A line without a value is one of the constant 0.
+pub(crate) fn node_of(model: &Model, slots: &[usize], place: usize, item: &Item) -> Node
+    requires well_formed { IsWellFormed model.now }
+    requires at { slice_get model.now place ≡ Some item.now }
+    requires slots { slots.now ≡ map (λ x. slot model.now x.id) model.now }
+    ensures { result ≡ node_of model.now item.now.body }
+{
+    match &item.body {
+        Body::Input { .. } | Body::State { .. } => Node::Leaf,
+        Body::Uext {
+            operand: id,
+            by,
+            ..
+        } => {
+            let (width, operand) = operand(model, slots, *id);
+            Node::Uext {
+                width,
+                operand,
+                by: *by,
+            }
+        }
+        Body::Sext {
+            operand: id,
+            by,
+            ..
+        } => {
+            let (width, operand) = operand(model, slots, *id);
+            Node::Sext {
+                width,
+                operand,
+                by: *by,
+            }
+        }
+        Body::Slice {
+            operand: id,
+            upper,
+            lower,
+            ..
+        } => {
+            let (width, operand) = operand(model, slots, *id);
+            Node::Slice {
+                width,
+                operand,
+                upper: *upper,
+                lower: *lower,
+            }
+        }
+        Body::Unary {
+            operator,
+            operand: id,
+            ..
+        } => {
+            let (width, operand) = operand(model, slots, *id);
+            Node::Unary {
+                operator: *operator,
+                width,
+                operand,
+            }
+        }
+        Body::Binary {
+            operator,
+            left,
+            right,
+            ..
+        } => {
+            let (width, left) = operand(model, slots, *left);
+            let (_, right) = operand(model, slots, *right);
+            Node::Binary {
+                operator: *operator,
+                width,
+                left,
+                right,
+            }
+        }
+        Body::Concat { high, low, .. } => {
+            let (high_width, high) = operand(model, slots, *high);
+            let (low_width, low) = operand(model, slots, *low);
+            Node::Concat {
+                high_width,
+                high,
+                low_width,
+                low,
+            }
+        }
+        Body::Ite {
+            condition,
+            first,
+            second,
+            ..
+        } => {
+            let (_, condition) = operand(model, slots, *condition);
+            let (width, first) = operand(model, slots, *first);
+            let (_, second) = operand(model, slots, *second);
+            Node::Ite {
+                width,
+                condition,
+                first,
+                second,
+            }
+        }
+        _ => Node::Constant(model.constant(place).unwrap_or(0)),
+    }
+}

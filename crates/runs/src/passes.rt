@@ -1,0 +1,57 @@
+//! The passes over the lists of words of a run.
+ghost use Rattle.std.specs.Prelude.{◌≡◌, ◌≢◌, ℕ, ◌<◌, ◌≤◌, length, All, slice_index};
+ghost use Rattle.runs.specs.Nodes.{settled_values, NodesFit, words_at};
+ghost use Rattle.runs.specs.Run.{more_steps};
+
+use crate::nodes::{Node, node_word};
+use base::Tally;
+
+/// Gives each node its word, from those before it. One step for each.
+pub(crate) fn settle_nodes(nodes: &[Node], values: &mut [u64], tally: &mut Tally)
+    requires fit { NodesFit nodes.now 0 values.old }
+    requires as_many { length nodes.now ≡ length values.old }
+    ensures values { values.new ≡ settled_values nodes.now 0 values.old }
+    ensures steps { tally.new ≡ more_steps (length nodes.now) tally.old }
+{
+    for at in 0..nodes.len() {
+        values[at] = node_word(&nodes[at], values, at, tally);
+    }
+}
+
+/// Takes the words at some places. One step for each.
+pub(crate) fn take_words(values: &[u64], places: &[usize], taken: &mut [u64], tally: &mut Tally)
+    requires inside { All (λ p. p < length values.now) places.now }
+    requires as_many { length taken.old ≡ length places.now }
+    ensures taken { taken.new ≡ words_at values.now places.now }
+    ensures steps { tally.new ≡ more_steps (length places.now) tally.old }
+{
+    for k in 0..places.len() {
+        taken[k] = base::take(values[places[k]], tally);
+    }
+}
+
+/// Puts words at some places, each of which stands there once.
+pub(crate) fn put_words(words: &[u64], places: &[usize], values: &mut [u64])
+    requires inside { All (λ p. p < length values.old) places.now }
+    requires as_many { length words.now ≡ length places.now }
+    requires once { (j k : ℕ) → j < k → k < length places.now → slice_index places.now j ≢ slice_index places.now k }
+    ensures put { words_at values.new places.now ≡ words.now }
+    ensures others { (p : ℕ) → ((k : ℕ) → k < length places.now → slice_index places.now k ≢ p) → slice_index values.new p ≡ slice_index values.old p }
+    ensures as_many { length values.new ≡ length values.old }
+{
+    for k in 0..places.len() {
+        values[places[k]] = words[k];
+    }
+}
+
+/// Puts 0 at some places.
+pub(crate) fn clear_words(places: &[usize], values: &mut [u64])
+    requires inside { All (λ p. p < length values.old) places.now }
+    ensures cleared { (k : ℕ) → k < length places.now → slice_index values.new (slice_index places.now k) ≡ 0 }
+    ensures others { (p : ℕ) → ((k : ℕ) → k < length places.now → slice_index places.now k ≢ p) → slice_index values.new p ≡ slice_index values.old p }
+    ensures as_many { length values.new ≡ length values.old }
+{
+    for k in 0..places.len() {
+        values[places[k]] = 0;
+    }
+}

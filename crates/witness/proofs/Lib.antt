@@ -1,0 +1,17 @@
+pub mod ShapeLemmas
+pub mod WorkedLemmas
+pub mod PieceLemmas
+pub mod ClaimLemmas
+pub mod AssignmentLemmas
+pub mod ReadLemmas
+pub mod WholeLemmas
+pub mod SaidLemmas
+pub mod ToldLemmas
+pub mod ClaimLineLemmas
+pub mod LineLemmas
+pub mod PlainLemmas
+pub mod TextLemmas
+pub mod GivenLemmas
+pub mod FrameLemmas
+pub mod VerdictLemmas
+pub mod FitLemmas

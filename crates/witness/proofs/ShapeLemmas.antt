@@ -1,0 +1,92 @@
+-- The widths of a model's states and inputs, by their places and by their ids.
+use Rattle.std.proofs.Common.{◌≡◌, ℕ, zero, suc, Bool, true, false, cond, List, [], ◌∷◌, ◌++◌, length, map, filter, Option, Some, is_some, unwrap_or, option_and_then, slice_get, All, refl, sym, ap, ap₂, subst, ◌∙◌, append_assoc, length-append, arith}
+use Rattle.std.proofs.lemmas.List.Elements.{All-nil, All-cons}
+use Rattle.btor2.specs.declared.item.Item.{Item}
+use Rattle.btor2.specs.declared.item.Body.{Body}
+use Rattle.btor2.specs.declared.item.Body.TheVariants as body
+use Rattle.btor2.specs.Items.{width_of_body, is_state, is_input}
+use Rattle.btor2.specs.Lists.{places, width_at}
+use Rattle.btor2.specs.Check.{IsWellFormed}
+use Rattle.btor2.specs.Trace.{bits_of}
+use Rattle.btor2.proofs.AppendLemmas.{is_some_from, width_of_body-append}
+use Rattle.btor2.proofs.AcceptedLemmas.{BodyIsAccepted}
+use Rattle.btor2.proofs.ModelLemmas.{IsIn-from_place, IsAccepted-at, node_width-at}
+use Rattle.witness.specs.Texts.{widths_of}
+
+-- an item of a kind has a width
+abbrev pub HasBits : (Body → Bool) → Type 0
+HasBits kind = (items : List Item) (b : Body) → kind b ≡ true → BodyIsAccepted items b → (n : ℕ) × (width_of_body items b ≡ Some n)
+
+pub states_have_bits : HasBits is_state
+states_have_bits items (body.State s) h says = says
+states_have_bits items _ h says = absurd cc
+
+pub inputs_have_bits : HasBits is_input
+inputs_have_bits items (body.Input s) h says = says
+inputs_have_bits items _ h says = absurd cc
+
+-- the item behind some others
+item_behind : (before xs : List Item) (x : Item) (n : ℕ) → length before ≡ n → slice_get (before ++ x ∷ xs) n ≡ Some x
+item_behind [] xs x zero e = refl
+item_behind [] xs x (suc n) e = absurd (omega arith)
+item_behind (y ∷ ys) xs x zero e = absurd (omega arith)
+item_behind (y ∷ ys) xs x (suc n) e = item_behind ys xs x n (omega arith)
+
+-- the node at the place of such an item has a width
+some_width : (kind : Body → Bool) → HasBits kind → (items : List Item) (k : ℕ) (x : Item) → IsWellFormed items → slice_get items k ≡ Some x → kind x.body ≡ true → is_some (width_at items k) ≡ true
+some_width kind has items k x w at is =
+    let there = (IsIn-from_place items k x at).0 in
+    let found = has there.before x.body is (IsAccepted-at items x w there).says in
+    let whole : width_of_body items x.body ≡ Some found.0 =
+    subst (λ (l : List Item). width_of_body l x.body ≡ Some found.0) (sym there.splits) (width_of_body-append there.before (x ∷ there.after) x.body found.0 found.1) in
+    is_some_from (width_at items k) found.0 (ap (option_and_then (λ (y : Item). width_of_body items y.body)) at ∙ whole)
+
+abbrev Each : List Item → List ℕ → Type 0
+Each items list = All (λ k. is_some (width_at items k) ≡ true) list
+
+each_from : (kind : Body → Bool) → HasBits kind → (items before xs : List Item) (n : ℕ) → items ≡ before ++ xs → length before ≡ n → IsWellFormed items → Each items (places kind n xs)
+each_from kind has items before [] n is e w = All-nil (λ k. is_some (width_at items k) ≡ true)
+each_from kind has items before (x ∷ xs) n is e w =
+    let at : slice_get items n ≡ Some x = ap (λ (l : List Item). slice_get l n) is ∙ item_behind before xs x n e in
+    let rest : Each items (places kind (suc n) xs) = each_from kind has items (before ++ x ∷ []) xs (suc n) (is ∙ sym (append_assoc before (x ∷ []) xs)) (omega (arith, length-append before (x ∷ []))) w in
+    let cases = elim (kind x.body) as (λ b. (kind x.body ≡ b) → Each items (cond b (n ∷ places kind (suc n) xs) (places kind (suc n) xs))) [
+      | true ↦ λ h. All-cons (λ k. is_some (width_at items k) ≡ true) n (places kind (suc n) xs) (some_width kind has items n x w at h) rest
+      | false ↦ λ h. rest
+    ] in
+    cases refl
+
+pub each_has_width : (kind : Body → Bool) → HasBits kind → (items : List Item) → IsWellFormed items → All (λ k. is_some (width_at items k) ≡ true) (places kind 0 items)
+each_has_width kind has items w = each_from kind has items [] items 0 refl refl w
+
+-- the width at a place is that of the id there
+width_of_id : (items : List Item) (k : ℕ) (x : Item) → IsWellFormed items → slice_get items k ≡ Some x → unwrap_or (width_at items k) 0 ≡ bits_of items x.id
+width_of_id items k x w at =
+    ap (λ (o : Option ℕ). unwrap_or o 0) (ap (option_and_then (λ (y : Item). width_of_body items y.body)) at ∙ sym (node_width-at items k x w at))
+
+abbrev by_place : List Item → List ℕ → List ℕ
+by_place items list = map (λ k. unwrap_or (width_at items k) 0) list
+
+abbrev by_id : List Item → (Body → Bool) → List Item → List ℕ
+by_id items kind xs = map (λ (x : Item). bits_of items x.id) (filter (λ (x : Item). kind x.body) xs)
+
+widths_from : (kind : Body → Bool) (items before xs : List Item) (n : ℕ) → items ≡ before ++ xs → length before ≡ n → IsWellFormed items → by_place items (places kind n xs) ≡ by_id items kind xs
+widths_from kind items before [] n is e w = refl
+widths_from kind items before (x ∷ xs) n is e w =
+    let at : slice_get items n ≡ Some x = ap (λ (l : List Item). slice_get l n) is ∙ item_behind before xs x n e in
+    let rest : by_place items (places kind (suc n) xs) ≡ by_id items kind xs = widths_from kind items (before ++ x ∷ []) xs (suc n) (is ∙ sym (append_assoc before (x ∷ []) xs)) (omega (arith, length-append before (x ∷ []))) w in
+    elim (kind x.body) as (λ b. by_place items (cond b (n ∷ places kind (suc n) xs) (places kind (suc n) xs)) ≡ map (λ (y : Item). bits_of items y.id) (cond b (x ∷ filter (λ (y : Item). kind y.body) xs) (filter (λ (y : Item). kind y.body) xs))) [
+      | true ↦ ap₂ (λ (a : ℕ) (l : List ℕ). a ∷ l) (width_of_id items n x w at) rest
+      | false ↦ rest
+    ]
+
+pub widths_at_places : (kind : Body → Bool) (items : List Item) → IsWellFormed items → map (λ k. unwrap_or (width_at items k) 0) (places kind 0 items) ≡ widths_of kind items
+widths_at_places kind items w = widths_from kind items [] items 0 refl refl w
+
+-- as many places as items of a kind
+pub length-places : (kind : Body → Bool) (n : ℕ) (xs : List Item) → length (places kind n xs) ≡ length (filter (λ (x : Item). kind x.body) xs)
+length-places kind n [] = refl
+length-places kind n (x ∷ xs) =
+    elim (kind x.body) as (λ b. length (cond b (n ∷ places kind (suc n) xs) (places kind (suc n) xs)) ≡ length (cond b (x ∷ filter (λ (y : Item). kind y.body) xs) (filter (λ (y : Item). kind y.body) xs))) [
+      | true ↦ ap suc (length-places kind (suc n) xs)
+      | false ↦ length-places kind (suc n) xs
+    ]

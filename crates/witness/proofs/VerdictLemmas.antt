@@ -1,0 +1,266 @@
+-- What one frame of a run says, in the words of judgements.
+use Rattle.std.proofs.Common.{◌≡◌, ◌≢◌, ◌&&◌, ◌||◌, set, ⊎_elim, ℕ, suc, ◌+◌, ◌<◌, ◌≤◌, Bool, true, false, List, [], ◌∷◌, length, map, get_or, drop, nat_eq, not, cond, slice_get, Option, Some, None, IfSome, option_and_then, refl, sym, ap, ap₂, subst, ◌∙◌, arith}
+use Rattle.std.proofs.Math.Seq.{drop-cons}
+use Rattle.std.proofs.lemmas.List.{drop_all, length-map, get_or-set_same, get_or-set_other}
+use Rattle.std.proofs.lemmas.Bool.{cases_eq}
+use Rattle.std.proofs.lemmas.Option.{none-some, get_or_from_slice_get}
+use Rattle.std.specs.List.{position_from, list_any}
+use Rattle.btor2.specs.declared.item.Item.{Item}
+use Rattle.btor2.specs.Items.{position_of, constant_of, constant_of_body, init_value, is_input, is_state, is_bad, is_constraint}
+use Rattle.btor2.specs.Lists.{places, init_place, constant_at}
+use Rattle.btor2.proofs.LookUps.{found}
+use Rattle.btor2.specs.Check.{IsWellFormed}
+use Rattle.btor2.specs.Trace.{Frame, IsFrame, IsTrace, next_state}
+use Rattle.btor2.proofs.TraceLemmas.{frame_exists}
+use Rattle.runs.specs.Frames.{ids_of}
+use Rattle.runs.specs.Frames.{given as given_words}
+use Rattle.runs.specs.Run.{Run, IsNow, state_words, zeros, is_one, start, first_word}
+use Rattle.runs.specs.Run.{input_words as run_inputs}
+use Rattle.runs.proofs.RankLemmas.{IsNth, nth, length-ids, length-places}
+use Rattle.runs.proofs.PlaceLemmas.{position_found, no_item}
+use Rattle.runs.proofs.StateLemmas.{nth-get, init_at}
+use Rattle.witness.specs.Texts.{are_distinct, widths_of}
+use Rattle.witness.specs.Reading.{is_set}
+use Rattle.witness.specs.declared.judgement.Judgement.TheVariants as judgement
+use Rattle.witness.specs.Judgements.{of_kind, nodes_of, init_constant, differs, input_words, initial_words, input_frames, first_different, Words, Violation, violation_from, never_rises, unreached_from, when_reached, when_kept, when_begun, verdict}
+use Rattle.witness.specs.Fits.{PartFits, RisesAmong, NoneIsSet, words_put}
+use Rattle.witness.proofs.GivenLemmas.{SameAt, words_of_kind, states_given, inputs_given}
+use Rattle.witness.proofs.FrameLemmas.{frame_agrees, trace_agrees, different_of, trace_length, first_step, constraint_names, length-nodes, property_at}
+
+-- a run by its parts
+run_now : (r : Run) (items : List Item) (states inputs : List ℕ) (f : Frame) → r.items ≡ items → r.states ≡ states → r.inputs ≡ inputs
+    → IsFrame items (given_words is_state items states) (given_words is_input items inputs) f → IsNow r f
+run_now r items states inputs f e d g h =
+    subst (λ (l : List Item). IsFrame l (given_words is_state l r.states) (given_words is_input l r.inputs) f) (sym e)
+    (subst (λ (l : List ℕ). IsFrame items (given_words is_state items l) (given_words is_input items r.inputs) f) (sym d)
+    (subst (λ (l : List ℕ). IsFrame items (given_words is_state items states) (given_words is_input items l) f) (sym g) h))
+
+-- A run whose inputs were given the words of a part, and that was settled then, is in the frame of those words.
+module _ (items : List Item) (r r' settled : Run) (list : List (ℕ × ℕ)) (w : IsWellFormed items) (same : r.items ≡ items) (none : r.inputs ≡ zeros items) (distinct : are_distinct (map (λ (p : ℕ × ℕ). p.0) list) ≡ true)
+    (put : r' ≡ record r { inputs = words_put r.inputs list; settled = r'.settled }) (steps : ℕ) (done : settled ≡ record r' { settled = true; steps = steps }) where
+  pub settled_items : settled.items ≡ items
+  settled_items = ap (λ (x : Run). x.items) done ∙ ap (λ (x : Run). x.items) put ∙ same
+
+  pub settled_now : (f : Frame) → IsFrame items (state_words r) (input_words items list) f → IsNow settled f
+  settled_now f h =
+      let inputs : settled.inputs ≡ words_put (zeros items) list = ap (λ (x : Run). x.inputs) done ∙ ap (λ (x : Run). x.inputs) put ∙ ap (λ (l : List ℕ). words_put l list) none in
+      run_now settled items r.states (words_put (zeros items) list) f settled_items (ap (λ (x : Run). x.states) done ∙ ap (λ (x : Run). x.states) put) inputs
+      (frame_agrees items (state_words r) (given_words is_state items r.states) (input_words items list) (given_words is_input items (words_put (zeros items) list)) f w
+      (λ id y found is. ap (λ (l : List Item). given_words is_state l r.states id) same)
+      (λ id y found is. sym (inputs_given items list distinct id y found is)) h)
+
+-- the states of the next frame
+pub next_agrees : (items : List Item) (r : Run) (f : Frame) → r.items ≡ items → r.states ≡ map (next_state items f) (ids_of is_state items) → SameAt is_state items (next_state items f) (state_words r)
+next_agrees items r f e d id y found is =
+    sym (ap (λ (l : List Item). given_words is_state l r.states id) e ∙ ap (λ (l : List ℕ). given_words is_state items l id) d ∙ words_of_kind is_state items (next_state items f) id y found is)
+
+-- the words of the inputs from a frame on
+pub inputs_step : (items : List Item) (frames : List (List (ℕ × ℕ))) (k : ℕ) (part x : List (ℕ × ℕ)) → k < length frames → part ≡ x → x ≡ get_or frames k x
+    → map (input_words items) (drop k frames) ≡ input_words items part ∷ map (input_words items) (drop (k + 1) frames)
+inputs_step items frames k part x h e d =
+    let one : suc k ≡ k + 1 = omega arith in
+    ap (map (input_words items)) (drop-cons frames k x h)
+    ∙ ap₂ (λ (l : List (ℕ × ℕ)) (j : ℕ). input_words items l ∷ map (input_words items) (drop j frames)) (sym d ∙ sym e) one
+
+pub inputs_end : (items : List Item) (frames : List (List (ℕ × ℕ))) (k : ℕ) → length frames ≤ k → map (input_words items) (drop k frames) ≡ []
+inputs_end items frames k h = ap (map (input_words items)) (drop_all k frames h)
+
+-- ---- the first of a list
+
+pub first_here : {A : Type 0} (test : A → Bool) (list : List A) (i : ℕ) (d : A) (whole : Option ℕ) → i < length list → test (get_or list i d) ≡ true → position_from test i (drop i list) ≡ whole → Some i ≡ whole
+first_here test list i d whole h is e =
+    sym (first_step test list i d h ∙ ap (λ (b : Bool). cond b (Some i) (position_from test (i + 1) (drop (i + 1) list))) is) ∙ e
+
+pub first_later : {A : Type 0} (test : A → Bool) (list : List A) (i : ℕ) (d : A) (whole : Option ℕ) → i < length list → test (get_or list i d) ≡ false → position_from test i (drop i list) ≡ whole
+    → position_from test (i + 1) (drop (i + 1) list) ≡ whole
+first_later test list i d whole h is e =
+    sym (first_step test list i d h ∙ ap (λ (b : Bool). cond b (Some i) (position_from test (i + 1) (drop (i + 1) list))) is) ∙ e
+
+-- the test of a constraint
+pub constraint_test : (items : List Item) (i : ℕ) (f : Frame) (b b' : Bool) → i < length (places is_constraint 0 items) → IfSome (slice_get items (get_or (places is_constraint 0 items) i 0)) (λ x. b ≡ is_one f x.body) → b ≡ b'
+    → not (nat_eq (f (get_or (nodes_of is_constraint items) i 0)) 1) ≡ not b'
+constraint_test items i f b b' h says e = ap not (sym (property_at is_constraint items i f b constraint_names h says) ∙ e)
+
+pub constraint_inside : (items : List Item) (i : ℕ) → i < length (places is_constraint 0 items) → i < length (nodes_of is_constraint items)
+constraint_inside items i h = omega (arith, length-nodes is_constraint items constraint_names)
+
+-- the test of a state
+pub record StateTest (items : List Item) (k : ℕ) (f : Frame) (b : Bool) : Type 0 where
+  pub item : Item
+  pub inside : k < length (of_kind is_state items)
+  pub test : differs (init_constant items (get_or (of_kind is_state items) k item).id) (f (get_or (of_kind is_state items) k item).id) ≡ b
+
+pub state_test : (items : List Item) (k : ℕ) (f : Frame) (b b' : Bool) → k < length (places is_state 0 items) → IfSome (slice_get (of_kind is_state items) k) (λ x. b ≡ differs (init_constant items x.id) (f x.id)) → b ≡ b' → StateTest items k f b'
+state_test items k f b b' h says e =
+    let inside : k < length (of_kind is_state items) = omega (arith, length-places is_state 0 items) in
+    let there = nth is_state items k inside in
+    let x = there.0 in
+    let own : b ≡ differs (init_constant items x.id) (f x.id) = subst (λ (o : Option Item). IfSome o (λ y. b ≡ differs (init_constant items y.id) (f y.id))) there.1.stands says in
+    record {
+      item = x;
+      inside = inside;
+      test = ap (λ (y : Item). differs (init_constant items y.id) (f y.id)) (get_or_from_slice_get (of_kind is_state items) k x x there.1.stands) ∙ sym own ∙ e;
+    }
+
+-- ---- the init line of a state
+
+init_some : (items : List Item) (o : Option ℕ) (place : ℕ) → option_and_then (position_of items) o ≡ Some place → constant_at items place ≡ option_and_then (constant_of items) o
+init_some items None place e = absurd (none-some place e)
+init_some items (Some v) place e = ap (option_and_then (λ (x : Item). constant_of_body items x.body)) (position_found items v place e)
+
+init_none : (items : List Item) (o : Option ℕ) → option_and_then (position_of items) o ≡ None → option_and_then (constant_of items) o ≡ None
+init_none items None e = refl
+init_none items (Some v) e = ap (option_and_then (λ (x : Item). constant_of_body items x.body)) (no_item items v (position_of items v) (found v items) e)
+
+-- what is known of the k-th state, by its init line's place and constant
+module _ (items : List Item) (k : ℕ) (f : Frame) (h : k < length (places is_state 0 items)) where
+  abbrev pub Differs : Bool → Type 0
+  Differs b = IfSome (slice_get (of_kind is_state items) k) (λ x. b ≡ differs (init_constant items x.id) (f x.id))
+
+  by_item : (b : Bool) → ((x : Item) → IsNth is_state items k x → b ≡ differs (init_constant items x.id) (f x.id)) → Differs b
+  by_item b says =
+      let there = nth is_state items k (omega (arith, length-places is_state 0 items)) in
+      subst (λ (o : Option Item). IfSome o (λ x. b ≡ differs (init_constant items x.id) (f x.id))) (sym there.1.stands) (says there.0 there.1)
+
+  own_place : (x : Item) → IsNth is_state items k x → init_place items (get_or (places is_state 0 items) k 0) ≡ option_and_then (position_of items) (init_value items x.id)
+  own_place x n =
+      init_at items k (omega (arith, length-ids is_state items, length-places is_state 0 items)) ∙ ap (λ (i : ℕ). option_and_then (position_of items) (init_value items i)) n.id
+
+  pub differs-none : None ≡ init_place items (get_or (places is_state 0 items) k 0) → Differs false
+  differs-none e = by_item false (λ x n. ap (λ (o : Option ℕ). differs o (f x.id)) (sym (init_none items (init_value items x.id) (sym (own_place x n) ∙ sym e))))
+
+  own_constant : (place : ℕ) (x : Item) → IsNth is_state items k x → Some place ≡ init_place items (get_or (places is_state 0 items) k 0) → constant_at items place ≡ init_constant items x.id
+  own_constant place x n e = init_some items (init_value items x.id) place (sym (own_place x n) ∙ sym e)
+
+  pub differs-no_constant : (place : ℕ) → Some place ≡ init_place items (get_or (places is_state 0 items) k 0) → None ≡ constant_at items place → Differs false
+  differs-no_constant place e d = by_item false (λ x n. ap (λ (o : Option ℕ). differs o (f x.id)) (d ∙ own_constant place x n e))
+
+  pub differs-some : (place word value : ℕ) → Some place ≡ init_place items (get_or (places is_state 0 items) k 0) → Some word ≡ constant_at items place
+      → IfSome (slice_get items (get_or (places is_state 0 items) k 0)) (λ x. value ≡ f x.id) → Differs (not (nat_eq word value))
+  differs-some place word value e d says =
+      by_item (not (nat_eq word value))
+      (λ x n.
+      let own : value ≡ f x.id = subst (λ (o : Option Item). IfSome o (λ y. value ≡ f y.id)) (nth-get is_state items k x n) says in
+      ap (λ (v : ℕ). not (nat_eq word v)) own ∙ ap (λ (o : Option ℕ). differs o (f x.id)) (d ∙ own_constant place x n e))
+
+-- ---- flags
+
+or_true : (b : Bool) → true ≡ (b || true)
+or_true true = refl
+or_true false = refl
+
+or_false : (b : Bool) → b ≡ (b || false)
+or_false true = refl
+or_false false = refl
+
+abbrev pub set_if : Bool → List Bool → ℕ → List Bool
+set_if b rose i = cond b (set rose i true) rose
+
+set_if-own : (b v : Bool) (rose rose0 : List Bool) (i : ℕ) → i < length rose → b ≡ v → is_set rose i ≡ is_set rose0 i → is_set (set_if b rose i) i ≡ (is_set rose0 i || v)
+set_if-own true v rose rose0 i h e same = get_or-set_same rose i true false h ∙ or_true (is_set rose0 i) ∙ ap (λ (c : Bool). is_set rose0 i || c) e
+set_if-own false v rose rose0 i h e same = same ∙ or_false (is_set rose0 i) ∙ ap (λ (c : Bool). is_set rose0 i || c) e
+
+set_if-other : (b : Bool) (rose : List Bool) (i j : ℕ) → j ≢ i → is_set (set_if b rose i) j ≡ is_set rose j
+set_if-other true rose i j h = get_or-set_other rose i j true false h
+set_if-other false rose i j h = refl
+
+pub note_below : (b : Bool) (v : ℕ → Bool) (rose rose0 rose' : List Bool) (i j : ℕ) → rose' ≡ set_if b rose i → i < length rose → b ≡ v i
+    → ((k : ℕ) → k < i → is_set rose k ≡ (is_set rose0 k || v k)) → ((k : ℕ) → i ≤ k → is_set rose k ≡ is_set rose0 k) → j < i + 1 → is_set rose' j ≡ (is_set rose0 j || v j)
+note_below b v rose rose0 rose' i j r h e below above l =
+    ap (λ (x : List Bool). is_set x j) r
+    ∙ ⊎_elim
+    (λ (same : j ≡ i). ap (λ (k : ℕ). is_set (set_if b rose i) k) same ∙ set_if-own b (v i) rose rose0 i h e (above i (omega arith)) ∙ ap (λ (k : ℕ). is_set rose0 k || v k) (sym same))
+    (λ (apart : j ≢ i). set_if-other b rose i j apart ∙ below j (omega arith))
+    (cases_eq j i)
+
+pub note_above : (b : Bool) (rose rose0 rose' : List Bool) (i j : ℕ) → rose' ≡ set_if b rose i → ((k : ℕ) → i ≤ k → is_set rose k ≡ is_set rose0 k) → i + 1 ≤ j → is_set rose' j ≡ is_set rose0 j
+note_above b rose rose0 rose' i j r above l =
+    let apart : j ≢ i = λ e. absurd (omega arith) in
+    ap (λ (x : List Bool). is_set x j) r ∙ set_if-other b rose i j apart ∙ above j (omega arith)
+
+-- ---- claims
+
+twice_not : (b c : Bool) → b ≡ (false || not c) → not b ≡ c
+twice_not b true e = ap not e
+twice_not b false e = ap not e
+
+and_false : (b c : Bool) → c ≡ false → (b && c) ≡ false
+and_false true c e = e
+and_false false c e = refl
+
+module _ (claims : List ℕ) (nodes : List ℕ) (fs : List Frame) (none rose : List Bool) (i : ℕ) (whole : Option ℕ) (h : i < length nodes) (clear : NoneIsSet none) (rises : RisesAmong nodes fs none rose)
+    (e : unreached_from claims fs i (drop i nodes) ≡ whole) where
+  unreached_step : cond (list_any (λ c. nat_eq c i) claims && not (is_set rose i)) (Some i) (unreached_from claims fs (i + 1) (drop (i + 1) nodes)) ≡ whole
+  unreached_step =
+      let one : i + 1 ≡ suc i = omega arith in
+      let own : is_set rose i ≡ (false || not (never_rises fs (get_or nodes i 0))) = rises i h ∙ ap (λ (b : Bool). b || not (never_rises fs (get_or nodes i 0))) (clear i) in
+      ap (λ (b : Bool). cond (list_any (λ c. nat_eq c i) claims && b) (Some i) (unreached_from claims fs (i + 1) (drop (i + 1) nodes))) (twice_not (is_set rose i) (never_rises fs (get_or nodes i 0)) own)
+      ∙ ap (λ (k : ℕ). cond (list_any (λ c. nat_eq c i) claims && never_rises fs (get_or nodes i 0)) (Some i) (unreached_from claims fs k (drop k nodes))) one
+      ∙ sym (ap (unreached_from claims fs i) (drop-cons nodes i 0 h)) ∙ e
+
+  pub unreached_here : list_any (λ c. nat_eq c i) claims ≡ true → is_set rose i ≡ false → Some i ≡ whole
+  unreached_here claimed none_set =
+      sym (ap (λ (b : Bool). cond (b && not (is_set rose i)) (Some i) (unreached_from claims fs (i + 1) (drop (i + 1) nodes))) claimed
+      ∙ ap (λ (b : Bool). cond (not b) (Some i) (unreached_from claims fs (i + 1) (drop (i + 1) nodes))) none_set) ∙ unreached_step
+
+  later : (list_any (λ c. nat_eq c i) claims && not (is_set rose i)) ≡ false → unreached_from claims fs (i + 1) (drop (i + 1) nodes) ≡ whole
+  later off = sym (ap (λ (b : Bool). cond b (Some i) (unreached_from claims fs (i + 1) (drop (i + 1) nodes))) off) ∙ unreached_step
+
+  pub unreached_unclaimed : list_any (λ c. nat_eq c i) claims ≡ false → unreached_from claims fs (i + 1) (drop (i + 1) nodes) ≡ whole
+  unreached_unclaimed off = later (ap (λ (b : Bool). b && not (is_set rose i)) off)
+
+  pub unreached_risen : is_set rose i ≡ true → unreached_from claims fs (i + 1) (drop (i + 1) nodes) ≡ whole
+  unreached_risen on = later (and_false (list_any (λ c. nat_eq c i) claims) (not (is_set rose i)) (ap not on))
+
+pub unreached_end : (claims nodes : List ℕ) (fs : List Frame) (i : ℕ) (whole : Option ℕ) → length nodes ≤ i → unreached_from claims fs i (drop i nodes) ≡ whole → None ≡ whole
+unreached_end claims nodes fs i whole h e = sym (ap (unreached_from claims fs i) (drop_all i nodes h)) ∙ e
+
+-- ---- the judgement
+
+-- A run that begins with the words that a witness gives to the states.
+pub record Begun (items : List Item) (w : Words) (s : Run) : Type 0 where
+  pub items_same : s.items ≡ items
+  pub none : s.inputs ≡ zeros items
+  pub states : SameAt is_state items (state_words s) (initial_words items w)
+
+pub begun : (items : List Item) (w : Words) (r r' s : Run) (list : List (ℕ × ℕ)) (steps : ℕ) → PartFits (widths_of is_state items) w.initial → r ≡ start items → list ≡ w.initial
+    → r' ≡ record r { states = words_put r.states list; settled = r'.settled } → s ≡ record r' { settled = true; steps = steps } → Begun items w s
+begun items w r r' s list steps fits starts own put done =
+    let same : s.items ≡ items = ap (λ (x : Run). x.items) done ∙ ap (λ (x : Run). x.items) put ∙ ap (λ (x : Run). x.items) starts in
+    let words : s.states ≡ words_put (map (first_word items) (ids_of is_state items)) w.initial =
+    ap (λ (x : Run). x.states) done ∙ ap (λ (x : Run). x.states) put ∙ ap₂ words_put (ap (λ (x : Run). x.states) starts) own in
+    record {
+      items_same = same;
+      none = ap (λ (x : Run). x.inputs) done ∙ ap (λ (x : Run). x.inputs) put ∙ ap (λ (x : Run). x.inputs) starts;
+      states = λ id y found is. ap (λ (l : List Item). given_words is_state l s.states id) same ∙ ap (λ (l : List ℕ). given_words is_state items l id) words ∙ states_given items w fits.distinct id y found is;
+    }
+
+pub begun_different : (items : List Item) (w : Words) (s : Run) (o : Option ℕ) → IsWellFormed items → Begun items w s → ((f : Frame) → IsNow s f → o ≡ first_different items f)
+    → o ≡ first_different items (initial_words items w)
+begun_different items w s o wf b says =
+    let some = frame_exists s.items (state_words s) (run_inputs s) (subst IsWellFormed (sym b.items_same) wf) in
+    let frame : IsFrame items (state_words s) (run_inputs s) some.0 = subst (λ (l : List Item). IsFrame l (state_words s) (run_inputs s) some.0) b.items_same some.1 in
+    says some.0 some.1
+    ∙ different_of items (initial_words items w) (run_inputs s) some.0
+    (frame_agrees items (state_words s) (initial_words items w) (run_inputs s) (run_inputs s) some.0 wf b.states (λ id y found is. refl) frame)
+
+pub begun_trace : (items : List Item) (w : Words) (s : Run) (fs : List Frame) (frames : List (List (ℕ × ℕ))) → IsWellFormed items → Begun items w s → frames ≡ w.frames
+    → IsTrace items (initial_words items w) (input_frames items w) fs → IsTrace items (state_words s) (map (input_words items) frames) fs
+begun_trace items w s fs frames wf b e h =
+    subst (λ (l : List (List (ℕ × ℕ))). IsTrace items (state_words s) (map (input_words items) l) fs) (sym e)
+    (trace_agrees items (initial_words items w) (state_words s) (input_frames items w) fs wf (λ id y found is. sym (b.states id y found is)) h)
+
+pub verdict_init : (items : List Item) (w : Words) (fs : List Frame) (o : Option ℕ) (i : ℕ) → o ≡ first_different items (initial_words items w) → o ≡ Some i → judgement.InitDiffers i ≡ verdict items w fs
+verdict_init items w fs o i e is = ap (when_begun items w fs) (sym is ∙ e)
+
+pub verdict_violated : (items : List Item) (w : Words) (fs : List Frame) (o : Option ℕ) (p : Option Violation) (v : Violation) → o ≡ first_different items (initial_words items w) → o ≡ None
+    → p ≡ violation_from items 0 fs → p ≡ Some v → judgement.Violated v.frame v.constraint ≡ verdict items w fs
+verdict_violated items w fs o p v e is d at = ap (when_kept items w fs) (sym at ∙ d) ∙ ap (when_begun items w fs) (sym is ∙ e)
+
+pub verdict_reached : (items : List Item) (w : Words) (fs : List Frame) (o n : Option ℕ) (p : Option Violation) → o ≡ first_different items (initial_words items w) → o ≡ None
+    → p ≡ violation_from items 0 fs → p ≡ None → n ≡ unreached_from w.claims fs 0 (nodes_of is_bad items) → when_reached (length fs) n ≡ verdict items w fs
+verdict_reached items w fs o n p e is d at u =
+    ap (when_reached (length fs)) u ∙ ap (when_kept items w fs) (sym at ∙ d) ∙ ap (when_begun items w fs) (sym is ∙ e)
+
+pub as_many_frames : (items : List Item) (w : Words) (fs : List Frame) → IsTrace items (initial_words items w) (input_frames items w) fs → length w.frames ≡ length fs
+as_many_frames items w fs h = sym (trace_length items (initial_words items w) (input_frames items w) fs h ∙ length-map w.frames (input_words items))

@@ -1,0 +1,54 @@
+-- Worked traces: the words of the toggling model's frames, and what is judged of them.
+use Rattle.std.proofs.Common.{◌≡◌, ℕ, List, [], ◌∷◌, refl, ap, ◌∙◌}
+use Rattle.base.specs.Operator.{unary_value}
+use Rattle.base.specs.declared.operators.Unary.TheVariants as unary
+use Rattle.btor2.specs.Trace.{Frame, IsTrace}
+use Rattle.btor2.specs.Worked.{toggler}
+use Rattle.witness.specs.declared.judgement.Judgement.TheVariants as judgement
+use Rattle.witness.specs.Judgements.{Words, initial_words, input_frames, verdict}
+use Rattle.witness.specs.Worked.{constrained}
+
+-- the bit is given 0, for two frames
+abbrev pub two_frames : Words
+two_frames = record { claims = 0 ∷ []; initial = (0, 0) ∷ []; frames = [] ∷ [] ∷ [] }
+
+-- nothing is given, for one frame
+abbrev pub one_frame : Words
+one_frame = record { claims = 0 ∷ []; initial = []; frames = [] ∷ [] }
+
+-- the bit negated
+not_word : (f : Frame) (x : ℕ) → f 3 ≡ x → f 5 ≡ unary_value unary.Not 1 (f 3) → f 5 ≡ unary_value unary.Not 1 x
+not_word f x bit is = is ∙ ap (λ (y : ℕ). unary_value unary.Not 1 y) bit
+
+-- the bit is 0 in the first frame and 1 in the second
+pub two_frames_judged : (fs : List Frame) → IsTrace toggler (initial_words toggler two_frames) (input_frames toggler two_frames) fs
+    → judgement.Accepted 2 ≡ verdict toggler two_frames fs
+two_frames_judged [] t = absurd t
+two_frames_judged (f ∷ []) t = absurd t.1
+two_frames_judged (f ∷ g ∷ []) t =
+    let first : f 3 ≡ 0 = t.0.1.1.0 in
+    let negated : f 5 ≡ 1 = not_word f 0 first t.0.1.1.1.1.0 in
+    let second : g 3 ≡ 1 = t.1.0.1.1.0 ∙ negated in
+    rw (first, second) refl
+two_frames_judged (f ∷ g ∷ h ∷ fs) t = absurd t.1.1
+
+pub one_frame_judged : (fs : List Frame) → IsTrace toggler (initial_words toggler one_frame) (input_frames toggler one_frame) fs
+    → judgement.NotReached 0 ≡ verdict toggler one_frame fs
+one_frame_judged [] t = absurd t
+one_frame_judged (f ∷ []) t =
+    let first : f 3 ≡ 0 = t.0.1.1.0 in
+    rw first refl
+one_frame_judged (f ∷ g ∷ fs) t = absurd t.1
+
+-- the negated bit is 1 in the first frame and 0 in the second
+pub constraint_judged : (fs : List Frame) → IsTrace constrained (initial_words constrained two_frames) (input_frames constrained two_frames) fs
+    → judgement.Violated 1 0 ≡ verdict constrained two_frames fs
+constraint_judged [] t = absurd t
+constraint_judged (f ∷ []) t = absurd t.1
+constraint_judged (f ∷ g ∷ []) t =
+    let first : f 3 ≡ 0 = t.0.1.1.0 in
+    let negated : f 5 ≡ 1 = not_word f 0 first t.0.1.1.1.1.0 in
+    let second : g 3 ≡ 1 = t.1.0.1.1.0 ∙ negated in
+    let negated_again : g 5 ≡ 0 = not_word g 1 second t.1.0.1.1.1.1.0 in
+    rw (negated, negated_again) refl
+constraint_judged (f ∷ g ∷ h ∷ fs) t = absurd t.1.1

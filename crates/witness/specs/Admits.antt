@@ -1,0 +1,201 @@
+-- Lines of a witness, admitted one by one after the lines before them, and the first why of a line that is not ("Btor2, BtorMC and Boolector 3.0", witness
+-- format; the whys and their order are this project's).
+use Rattle.std.specs.Prelude.{ℕ, suc, ◌+◌, Bool, true, false, not, ◌&&◌, ◌||◌, ◌==◌, nat_lt, nat_le, List, [], ◌∷◌, ◌++◌, Option, Some, None, Result, Ok, Err, codes, decimal, map, length, reverse, slice_index, if◌then◌else◌}
+use Rattle.std.specs.List.{list_any, list_all}
+use Rattle.std.specs.Str.{bytes_eq}
+use Rattle.base.specs.Word.{word}
+use Rattle.base.specs.Decimals.{number_of}
+use Rattle.base.specs.Lines.{whole_lines, unfinished}
+use Rattle.btor2.specs.Symbols.{is_symbol}
+use Rattle.witness.specs.declared.why.Why.{Why}
+use Rattle.witness.specs.declared.why.Why.TheVariants as why
+use Rattle.witness.specs.Texts.{Shape, Assignment, Witness, is_comment, are_distinct, most_lines}
+
+-- ---- a line's pieces
+
+-- the bytes before the first space, and those behind it where there is one
+abbrev pub Cut : Type 0
+Cut = List ℕ × Option (List ℕ)
+
+abbrev pub to_front : ℕ → Cut → Cut
+to_front b cut = (b ∷ cut.0, cut.1)
+
+abbrev pub cut_at_space : List ℕ → Cut
+cut_at_space [] = ([], None)
+cut_at_space (b ∷ bs) = if b == 32 then ([], Some bs) else to_front b (cut_at_space bs)
+
+-- what stands between single spaces
+abbrev pub to_first : ℕ → List (List ℕ) → List (List ℕ)
+to_first b [] = (b ∷ []) ∷ []
+to_first b (p ∷ ps) = (b ∷ p) ∷ ps
+
+abbrev pub between_spaces : List ℕ → List (List ℕ)
+between_spaces [] = [] ∷ []
+between_spaces (b ∷ bs) = if b == 32 then [] ∷ between_spaces bs else to_first b (between_spaces bs)
+
+-- ---- the claims line
+
+-- a claim of a bad property, or of a justice property
+pub record Claim : Type 0 where
+  pub justice : Bool
+  pub index : ℕ
+
+abbrev pub claim_with : Bool → Option ℕ → Option Claim
+claim_with justice None = None
+claim_with justice (Some i) = Some (record { justice = justice; index = i })
+
+-- `b<i>` or `j<i>`
+abbrev pub claim_of : List ℕ → Option Claim
+claim_of [] = None
+claim_of (b ∷ bs) = if b == 98 then claim_with false (number_of bs) else (if b == 106 then claim_with true (number_of bs) else None)
+
+abbrev pub with_claim : Option Claim → Option (List Claim) → Option (List Claim)
+with_claim None more = None
+with_claim (Some c) None = None
+with_claim (Some c) (Some more) = Some (c ∷ more)
+
+-- the claims of all pieces, where each is one
+abbrev pub claims_of : List (List ℕ) → Option (List Claim)
+claims_of [] = Some []
+claims_of (piece ∷ pieces) = with_claim (claim_of piece) (claims_of pieces)
+
+abbrev pub judged_claims : ℕ → Option (List Claim) → Result (List ℕ) Why
+judged_claims bads None = Err why.BadClaim
+judged_claims bads (Some list) =
+    if list_any (λ c. c.justice) list then Err why.JusticeClaim
+    else (if list_all (λ c. nat_lt c.index bads) list && are_distinct (map (λ c. c.index) list) then Ok (map (λ c. c.index) list) else Err why.BadClaim)
+
+-- the claims of a line: 111 where it is no list of claims, 112 where there is one of a justice property, 111 where one is out of range or twice
+unfoldable pub claims_at : ℕ → List ℕ → Result (List ℕ) Why
+claims_at bads line = judged_claims bads (claims_of (between_spaces line))
+
+-- ---- an assignment
+
+abbrev pub is_value_byte : ℕ → Bool
+is_value_byte b = (b == 48) || ((b == 49) || (b == 120))
+
+-- the word of binary digits, the highest first: 116 where they are not as many as the width, or are none; 117 where one is `x`
+unfoldable pub value_of : ℕ → List ℕ → Result ℕ Why
+value_of width bytes =
+    if (length bytes == width) && list_all is_value_byte bytes
+    then (if list_any (λ b. b == 120) bytes then Err why.Undetermined else Ok (word (reverse (map (λ b. b == 49) bytes))))
+    else Err why.BadValue
+
+-- an assignment behind those of its part
+abbrev pub with_symbol : List Assignment → ℕ → Option (List ℕ) → Result ℕ Why → Result (List Assignment) Why
+with_symbol before i name (Err w) = Err w
+with_symbol before i None (Ok x) = Ok (before ++ record { index = i; word = x; symbol = None } ∷ [])
+with_symbol before i (Some bytes) (Ok x) =
+    if is_symbol bytes then Ok (before ++ record { index = i; word = x; symbol = Some bytes } ∷ []) else Err why.BadSymbol
+
+abbrev pub with_value : List ℕ → List Assignment → ℕ → Option (List ℕ) → Result (List Assignment) Why
+with_value widths before i None = Err why.BadValue
+with_value widths before i (Some rest) = with_symbol before i (cut_at_space rest).1 (value_of (slice_index widths i) (cut_at_space rest).0)
+
+abbrev pub with_index : List ℕ → List Assignment → Option (List ℕ) → Option ℕ → Result (List Assignment) Why
+with_index widths before rest None = Err why.BadIndex
+with_index widths before rest (Some i) =
+    if nat_lt i (length widths)
+    then (if list_any (λ a. a.index == i) before then Err why.IndexTwice else with_value widths before i rest)
+    else Err why.BadIndex
+
+-- the assignments of a part with that of a line: 114, 115, 116, 117 and 121 in this order
+unfoldable pub assignment_at : List ℕ → List Assignment → List ℕ → Result (List Assignment) Why
+assignment_at widths before line = with_index widths before (cut_at_space line).1 (number_of (cut_at_space line).0)
+
+-- ---- the lines in their order
+
+-- where the next line stands
+pub data Place : Type 0 where
+  AtStatus : Place
+  AtClaims : Place
+  AtParts : Place
+  InStates : Place
+  InFrame : Place
+  AtEnd : Place
+
+-- what the admitted lines say: the claims, the initial part where it is closed, the closed frames, and the assignments of the part that is open
+pub record Read : Type 0 where
+  pub place : Place
+  pub claims : List ℕ
+  pub initial : Option (List Assignment)
+  pub closed : List (List Assignment)
+  pub open_part : List Assignment
+
+abbrev pub nothing_read : Read
+nothing_read = record { place = AtStatus; claims = []; initial = None; closed = []; open_part = [] }
+
+-- a line that begins as those do that open or end a part
+abbrev pub begins_part : List ℕ → Bool
+begins_part [] = false
+begins_part (b ∷ bs) = (b == 35) || ((b == 64) || (b == 46))
+
+abbrev pub after_claims : Read → Result (List ℕ) Why → Result Read Why
+after_claims r (Ok claims) = Ok (record r { place = AtParts; claims = claims })
+after_claims r (Err w) = Err w
+
+abbrev pub after_assignment : Read → Result (List Assignment) Why → Result Read Why
+after_assignment r (Ok list) = Ok (record r { open_part = list })
+after_assignment r (Err w) = Err w
+
+-- a whole line after the admitted lines
+abbrev pub admit_at : Shape → Read → List ℕ → Place → Result Read Why
+admit_at shape r line AtStatus = if is_comment line then Ok r else (if bytes_eq line (codes "sat") then Ok (record r { place = AtClaims }) else Err why.BadHeader)
+admit_at shape r line AtClaims = after_claims r (claims_at shape.bads line)
+admit_at shape r line AtParts =
+    if bytes_eq line (codes "#0") then Ok (record r { place = InStates })
+    else (if bytes_eq line (codes "@0") then Ok (record r { place = InFrame }) else Err why.FrameOrder)
+admit_at shape r line InStates =
+    if bytes_eq line (codes "@0") then Ok (record r { place = InFrame; initial = Some r.open_part; open_part = [] })
+    else (if begins_part line then Err why.FrameOrder else after_assignment r (assignment_at shape.states r.open_part line))
+admit_at shape r line InFrame =
+    if bytes_eq line (64 ∷ decimal (suc (length r.closed))) then Ok (record r { closed = r.closed ++ r.open_part ∷ []; open_part = [] })
+    else (if bytes_eq line (codes ".") then Ok (record r { place = AtEnd; closed = r.closed ++ r.open_part ∷ []; open_part = [] })
+    else (if begins_part line then Err why.FrameOrder else after_assignment r (assignment_at shape.inputs r.open_part line)))
+admit_at shape r line AtEnd = Err why.Trailing
+
+unfoldable pub admit : Shape → Read → List ℕ → Result Read Why
+admit shape r line = admit_at shape r line r.place
+
+-- ---- a whole text
+
+abbrev pub is_at_end : Place → Bool
+is_at_end AtEnd = true
+is_at_end _ = false
+
+abbrev pub is_nothing : List ℕ → Bool
+is_nothing [] = true
+is_nothing (b ∷ bs) = false
+
+-- the why of the line after the last whole line, of which there are n and which has these bytes
+abbrev pub end_why : ℕ → Read → List ℕ → Why
+end_why n r last =
+    if nat_le most_lines n && not (is_nothing last) then why.TooLong
+    else (if is_at_end r.place && not (is_nothing last) then why.Trailing else why.Truncated)
+
+-- the faulty line, counted from 1, and its why
+pub record Fault : Type 0 where
+  pub line : ℕ
+  pub why : Why
+
+abbrev pub fault_at : ℕ → Why → Fault
+fault_at n w = record { line = n + 1; why = w }
+
+abbrev pub then_lines : ℕ → Result Read Why → (Read → Result Read Fault) → Result Read Fault
+then_lines n (Ok r) others = others r
+then_lines n (Err w) others = Err (fault_at n w)
+
+-- what the lines behind n admitted ones give, with the bytes behind the last of them; no line is admitted behind 2 ^ 62
+unfoldable pub read_lines : Shape → ℕ → Read → List (List ℕ) → List ℕ → Result Read Fault
+read_lines shape n r [] last = if is_at_end r.place && is_nothing last then Ok r else Err (fault_at n (end_why n r last))
+read_lines shape n r (line ∷ lines) last =
+    if nat_le most_lines n then Err (fault_at n why.TooLong)
+    else then_lines n (admit shape r line) (λ next. read_lines shape (n + 1) next lines last)
+
+-- what a text reads as, or its fault
+unfoldable pub read_text : Shape → List ℕ → Result Read Fault
+read_text shape text = read_lines shape 0 nothing_read (whole_lines text) (unfinished text)
+
+-- what the admitted lines of a whole text say
+abbrev pub witness_of : Read → Witness
+witness_of r = record { claims = r.claims; initial = r.initial; frames = r.closed }

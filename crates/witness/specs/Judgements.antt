@@ -1,0 +1,138 @@
+-- The judgement of a text over a model ("Btor2, BtorMC and Boolector 3.0", semantics of witnesses; the order of the six answers is this project's).
+use Rattle.std.specs.Prelude.{◌≡◌, ℕ, suc, ◌+◌, Bool, true, false, not, ◌&&◌, ◌||◌, ◌==◌, nat_le, List, [], ◌∷◌, Option, Some, None, Result, Ok, Err, codes, map, length, filter, flat_map, find, option_map, option_and_then, unwrap_or, if◌then◌else◌}
+use Rattle.std.specs.List.{list_any, list_all, position_from}
+use Rattle.std.specs.Option.{option_or}
+use Rattle.std.specs.Str.{bytes_eq}
+use Rattle.base.specs.Lines.{whole_lines}
+use Rattle.btor2.specs.declared.item.Item.{Item}
+use Rattle.btor2.specs.declared.item.Body.{Body}
+use Rattle.btor2.specs.Items.{is_input, is_state, is_bad, is_constraint, operands, constant_of, init_value}
+use Rattle.btor2.specs.Trace.{Frame, IsTrace}
+use Rattle.witness.specs.declared.judgement.Judgement.{Judgement}
+use Rattle.witness.specs.declared.judgement.Judgement.TheVariants as judgement
+use Rattle.witness.specs.Texts.{Assignment, Witness, shape_of, is_comment, most_lines}
+use Rattle.witness.specs.Admits.{Read, Fault, read_text, witness_of}
+
+-- ---- the words that a witness gives
+
+-- the items of a kind, in file order, and which of them an id names
+abbrev pub of_kind : (Body → Bool) → List Item → List Item
+of_kind kind items = filter (λ x. kind x.body) items
+
+abbrev pub index_of : (Body → Bool) → List Item → ℕ → Option ℕ
+index_of kind items id = position_from (λ x. id == x.id) 0 (of_kind kind items)
+
+-- what a witness says without the names: claims, and words by their indices
+pub record Words : Type 0 where
+  pub claims : List ℕ
+  pub initial : List (ℕ × ℕ)
+  pub frames : List (List (ℕ × ℕ))
+
+abbrev pub pairs_of : List Assignment → List (ℕ × ℕ)
+pairs_of list = map (λ a. (a.index, a.word)) list
+
+abbrev pub words_of : Witness → Words
+words_of w = record { claims = w.claims; initial = pairs_of (unwrap_or w.initial []); frames = map pairs_of w.frames }
+
+-- the word that a part gives to an index
+abbrev pub given : List (ℕ × ℕ) → ℕ → Option ℕ
+given list k = option_map (λ p. p.1) (find (λ p. p.0 == k) list)
+
+-- the constant of a state's init line
+abbrev pub init_constant : List Item → ℕ → Option ℕ
+init_constant items id = option_and_then (constant_of items) (init_value items id)
+
+-- a state has the word that it is given, else that of its init line, else 0
+abbrev pub initial_words : List Item → Words → Frame
+initial_words items w id =
+    unwrap_or (option_or (option_and_then (given w.initial) (index_of is_state items id)) (init_constant items id)) 0
+
+-- an input has the word that it is given in a frame, else 0
+abbrev pub input_words : List Item → List (ℕ × ℕ) → Frame
+input_words items list id = unwrap_or (option_and_then (given list) (index_of is_input items id)) 0
+
+abbrev pub input_frames : List Item → Words → List Frame
+input_frames items w = map (input_words items) w.frames
+
+-- ---- what is looked for in a trace
+
+-- a constant that is there and differs
+abbrev pub differs : Option ℕ → ℕ → Bool
+differs None x = false
+differs (Some c) x = not (c == x)
+
+-- the first state whose word is not that of its init line
+abbrev pub first_different : List Item → Frame → Option ℕ
+first_different items state = position_from (λ x. differs (init_constant items x.id) (state x.id)) 0 (of_kind is_state items)
+
+-- the nodes of the bad properties, or of the constraints
+abbrev pub nodes_of : (Body → Bool) → List Item → List ℕ
+nodes_of kind items = flat_map (λ x. operands x.body) (of_kind kind items)
+
+-- the first constraint that does not hold in a frame
+abbrev pub first_violated : List Item → Frame → Option ℕ
+first_violated items f = position_from (λ a. not (f a == 1)) 0 (nodes_of is_constraint items)
+
+-- the first frame in which a constraint does not hold, and the first such constraint; frames are counted from k on
+pub record Violation : Type 0 where
+  pub frame : ℕ
+  pub constraint : ℕ
+
+abbrev pub violated_at : ℕ → Option ℕ → Option Violation → Option Violation
+violated_at k None later = later
+violated_at k (Some i) later = Some (record { frame = k; constraint = i })
+
+abbrev pub violation_from : List Item → ℕ → List Frame → Option Violation
+violation_from items k [] = None
+violation_from items k (f ∷ fs) = violated_at k (first_violated items f) (violation_from items (suc k) fs)
+
+-- a node is 1 in no frame
+abbrev pub never_rises : List Frame → ℕ → Bool
+never_rises fs a = list_all (λ f. not (f a == 1)) fs
+
+-- the first claimed bad property that rises in no frame; their nodes are counted from i on
+abbrev pub unreached_from : List ℕ → List Frame → ℕ → List ℕ → Option ℕ
+unreached_from claims fs i [] = None
+unreached_from claims fs i (a ∷ more) =
+    if list_any (λ c. c == i) claims && never_rises fs a then Some i else unreached_from claims fs (suc i) more
+
+-- ---- the judgement
+
+abbrev pub when_reached : ℕ → Option ℕ → Judgement
+when_reached frames None = judgement.Accepted frames
+when_reached frames (Some i) = judgement.NotReached i
+
+abbrev pub when_kept : List Item → Words → List Frame → Option Violation → Judgement
+when_kept items w fs None = when_reached (length fs) (unreached_from w.claims fs 0 (nodes_of is_bad items))
+when_kept items w fs (Some v) = judgement.Violated v.frame v.constraint
+
+abbrev pub when_begun : List Item → Words → List Frame → Option ℕ → Judgement
+when_begun items w fs None = when_kept items w fs (violation_from items 0 fs)
+when_begun items w fs (Some i) = judgement.InitDiffers i
+
+-- of a witness with its trace: initial words first, then constraints in all frames, then claims
+abbrev pub verdict : List Item → Words → List Frame → Judgement
+verdict items w fs = when_begun items w fs (first_different items (initial_words items w))
+
+-- the first line that is no comment is whole, among the lines that may be there, and says that there is no counterexample, or that none is known
+abbrev pub makes_no_claim : ℕ → List (List ℕ) → Bool
+makes_no_claim n [] = false
+makes_no_claim n (line ∷ lines) =
+    if nat_le most_lines n then false
+    else (if is_comment line then makes_no_claim (n + 1) lines else (bytes_eq line (codes "unsat") || bytes_eq line (codes "unknown")))
+
+-- what is judged of what was read, by the model's one trace from its words
+abbrev pub JudgesWords : List Item → Words → Judgement → Type 0
+JudgesWords items w j = (fs : List Frame) → IsTrace items (initial_words items w) (input_frames items w) fs → j ≡ verdict items w fs
+
+abbrev pub JudgesRead : List Item → Result Read Fault → Judgement → Type 0
+JudgesRead items (Err e) j = j ≡ judgement.Malformed e.line e.why
+JudgesRead items (Ok r) j = JudgesWords items (words_of (witness_of r)) j
+
+abbrev pub JudgesText : List Item → List ℕ → Bool → Judgement → Type 0
+JudgesText items text true j = j ≡ judgement.NoClaim
+JudgesText items text false j = JudgesRead items (read_text (shape_of items) text) j
+
+-- the judgement of a text over a model
+abbrev pub Judges : List Item → List ℕ → Judgement → Type 0
+Judges items text j = JudgesText items text (makes_no_claim 0 (whole_lines text)) j

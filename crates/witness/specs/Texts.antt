@@ -1,0 +1,127 @@
+-- Which texts are witnesses over a model, and what they say ("Btor2, BtorMC and Boolector 3.0", witness format). This project's own: one claims line, no
+-- bit left undetermined, which assignments may be missing, and the two defaults.
+use Rattle.std.specs.Prelude.{◌≡◌, ◌≢◌, ℕ, suc, ◌<◌, ◌≤◌, ◌^◌, Bool, true, false, not, ◌&&◌, ◌==◌, List, [], ◌∷◌, ◌++◌, Option, Some, None, IfSome, codes, decimal, map, reverse, length, filter, All, slice_index, if◌then◌else◌}
+use Rattle.std.specs.List.{list_any}
+use Rattle.base.specs.Word.{bits}
+use Rattle.base.specs.Lines.{text_of_lines, IsLine}
+use Rattle.btor2.specs.declared.item.Item.{Item}
+use Rattle.btor2.specs.declared.item.Body.{Body}
+use Rattle.btor2.specs.Items.{is_input, is_state, is_bad}
+use Rattle.btor2.specs.Trace.{bits_of}
+use Rattle.btor2.specs.Symbols.{is_symbol}
+
+-- What a witness needs to know of a model: how many bad properties it has, and the widths of its states and of its inputs, in file order.
+pub record Shape : Type 0 where
+  pub bads : ℕ
+  pub states : List ℕ
+  pub inputs : List ℕ
+
+-- the widths of the nodes of a kind
+abbrev pub widths_of : (Body → Bool) → List Item → List ℕ
+widths_of kind items = map (λ x. bits_of items x.id) (filter (λ x. kind x.body) items)
+
+abbrev pub shape_of : List Item → Shape
+shape_of items =
+    record { bads = length (filter (λ x. is_bad x.body) items); states = widths_of is_state items; inputs = widths_of is_input items }
+
+-- A word given to a state or an input, by its index; the name has no meaning.
+pub record Assignment : Type 0 where
+  pub index : ℕ
+  pub word : ℕ
+  pub symbol : Option (List ℕ)
+
+-- What a witness says: the bad properties that it claims, the words that it gives to states in the first frame (where it has a part for them), and
+-- the words that it gives to inputs in each frame.
+pub record Witness : Type 0 where
+  pub claims : List ℕ
+  pub initial : Option (List Assignment)
+  pub frames : List (List Assignment)
+
+-- ---- how each part is written, byte by byte
+
+-- the binary digits of a word, the highest first
+abbrev pub digit : Bool → ℕ
+digit b = if b then 49 else 48
+
+abbrev pub binary : ℕ → ℕ → List ℕ
+binary width word = map digit (reverse (bits width word))
+
+abbrev pub symbol_part : Option (List ℕ) → List ℕ
+symbol_part None = []
+symbol_part (Some symbol) = 32 ∷ symbol
+
+-- `<index> <value>` and, with a space between, a symbol
+abbrev pub assignment_line : List ℕ → Assignment → List ℕ
+assignment_line widths a = decimal a.index ++ 32 ∷ binary (slice_index widths a.index) a.word ++ symbol_part a.symbol
+
+abbrev pub assignment_lines : List ℕ → List Assignment → List (List ℕ)
+assignment_lines widths list = map (assignment_line widths) list
+
+-- `b<i>`, with one space between
+abbrev pub claim : ℕ → List ℕ
+claim i = 98 ∷ decimal i
+
+abbrev pub claims_line : List ℕ → List ℕ
+claims_line [] = []
+claims_line (i ∷ []) = claim i
+claims_line (i ∷ j ∷ more) = claim i ++ 32 ∷ claims_line (j ∷ more)
+
+-- the line `#0` and the states' words
+abbrev pub initial_lines : List ℕ → Option (List Assignment) → List (List ℕ)
+initial_lines widths None = []
+initial_lines widths (Some list) = codes "#0" ∷ assignment_lines widths list
+
+-- the line `@<k>` and the inputs' words, for frames from k on
+abbrev pub frame_lines : List ℕ → ℕ → List (List Assignment) → List (List ℕ)
+frame_lines widths k [] = []
+frame_lines widths k (list ∷ more) = (64 ∷ decimal k) ∷ assignment_lines widths list ++ frame_lines widths (suc k) more
+
+-- all lines: comments, the status, the claims, the initial part, the frames and the end
+abbrev pub witness_lines : Shape → List (List ℕ) → Witness → List (List ℕ)
+witness_lines shape comments w =
+    comments ++ codes "sat" ∷ claims_line w.claims ∷ initial_lines shape.states w.initial ++ frame_lines shape.inputs 0 w.frames ++ codes "." ∷ []
+
+-- ---- what may be written
+
+-- a line that begins with `;`
+abbrev pub is_comment : List ℕ → Bool
+is_comment [] = false
+is_comment (b ∷ bs) = b == 59
+
+-- no number stands twice
+abbrev pub are_distinct : List ℕ → Bool
+are_distinct [] = true
+are_distinct (x ∷ xs) = not (list_any (λ y. y == x) xs) && are_distinct xs
+
+-- an assignment of a node that is there, by a word of its width
+pub record IsAssignment (widths : List ℕ) (a : Assignment) : Type 0 where
+  pub index : a.index < length widths
+  pub word : a.word < 2 ^ slice_index widths a.index
+  pub symbol : IfSome a.symbol (λ bytes. is_symbol bytes ≡ true)
+
+-- the assignments of one part: no node has two
+pub record IsPart (widths : List ℕ) (list : List Assignment) : Type 0 where
+  pub each : All (IsAssignment widths) list
+  pub distinct : are_distinct (map (λ a. a.index) list) ≡ true
+
+-- what a witness may say over a model of this shape
+pub record IsWitness (shape : Shape) (w : Witness) : Type 0 where
+  pub some_claim : w.claims ≢ []
+  pub claims : All (λ i. i < shape.bads) w.claims
+  pub distinct : are_distinct w.claims ≡ true
+  pub initial : IfSome w.initial (IsPart shape.states)
+  pub some_frame : w.frames ≢ []
+  pub frames : All (IsPart shape.inputs) w.frames
+
+-- The most lines of a witness.
+abbrev pub most_lines : ℕ
+most_lines = 2 ^ 62
+
+-- a text says this: it is the lines of the witness, behind any comments
+pub record Says (shape : Shape) (text : List ℕ) (w : Witness) : Type 0 where
+  pub comments : List (List ℕ)
+  pub lines : All IsLine comments
+  pub marked : All (λ line. is_comment line ≡ true) comments
+  pub whole : text ≡ text_of_lines (witness_lines shape comments w)
+  pub valid : IsWitness shape w
+  pub few : length (witness_lines shape comments w) ≤ most_lines

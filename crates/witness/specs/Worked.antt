@@ -1,0 +1,26 @@
+-- Worked rows: the toggling model with a constraint, one with an input of three bits, and a witness.
+use Rattle.std.specs.Prelude.{List, [], ◌∷◌, ◌++◌, Some, codes}
+use Rattle.base.specs.declared.operators.Unary.TheVariants as unary
+use Rattle.btor2.specs.declared.item.Item.{Item}
+use Rattle.btor2.specs.declared.item.Body.TheVariants as body
+use Rattle.btor2.specs.Worked.{line, toggler}
+use Rattle.witness.specs.Texts.{Witness}
+
+-- the toggling model, under the constraint that the bit is 0
+abbrev pub constrained : List Item
+constrained = toggler ++ line 8 (body.Constraint 5) ∷ []
+
+-- an input of three bits, bad where it is not 0
+abbrev pub wide : List Item
+wide =
+    line 1 (body.Sort 3)
+    ∷ line 2 (body.Input 1)
+    ∷ line 3 (body.Sort 1)
+    ∷ line 4 (body.Unary unary.Redor 3 2)
+    ∷ line 5 (body.Bad 4)
+    ∷ []
+
+-- the toggling bit is given 0, under a name, and rises in the second frame
+abbrev pub rises : Witness
+rises =
+    record { claims = 0 ∷ []; initial = Some (record { index = 0; word = 0; symbol = Some (codes "t") } ∷ []); frames = [] ∷ [] ∷ [] }

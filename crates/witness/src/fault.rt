@@ -1,0 +1,52 @@
+ghost use Rattle.std.specs.Prelude.{◌≡◌};
+ghost use Rattle.witness.specs.Answers.{judge_number};
+
+use crate::why::Why;
+use thiserror::Error;
+
+/// Why a line was not taken.
+#[derive(Clone, Copy)]
+pub(crate) enum Stop {
+    /// It is refused.
+    Refused(Why),
+    /// A growth was refused.
+    NoMemory,
+}
+
+/// Why no witness was read.
+#[derive(Clone, Copy, Debug, PartialEq, Eq, Error)]
+pub enum WitnessFault {
+    /// The text is no witness: this line, counted from 1, is the first that is refused, for this.
+    #[error("line {line}: {why}")]
+    Malformed { line: u64, why: Why },
+    /// A growth was refused.
+    #[error("no memory")]
+    NoMemory,
+}
+
+/// Why a text is not judged.
+#[derive(Clone, Copy, Debug, PartialEq, Eq, Error)]
+pub enum JudgeFault {
+    /// The source failed.
+    #[error("100 Device")]
+    Device,
+    /// A growth was refused.
+    #[error("101 NoMemory")]
+    NoMemory,
+    /// The first state in file order without a next; it has the id of the state's line. Nothing was read then.
+    #[error("item {0}: 70 NoNext")]
+    NoNext(u64),
+}
+
+impl JudgeFault {
+    /// The number that is printed for the fault.
+    pub fn number(self) -> u32
+        ensures { result ≡ judge_number self }
+    {
+        match self {
+            JudgeFault::Device => 100,
+            JudgeFault::NoMemory => 101,
+            JudgeFault::NoNext(_) => 70,
+        }
+    }
+}

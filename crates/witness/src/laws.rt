@@ -1,0 +1,68 @@
+//! Laws of witnesses, and worked rows, as functions with no code.
+ghost use Rattle.std.specs.Prelude.{◌≡◌, ℕ, ◌<◌, ◌^◌, List, [], ◌∷◌, ◌++◌, Ok, Err, codes, length, map};
+ghost use Rattle.btor2.specs.Check.{IsWellFormed};
+ghost use Rattle.btor2.specs.Worked.{toggler};
+ghost use Rattle.witness.specs.declared.why.Why.TheVariants as why;
+ghost use Rattle.witness.specs.declared.judgement.Judgement.TheVariants as judgement;
+ghost use Rattle.witness.specs.Texts.{Shape, shape_of, Witness, Says};
+ghost use Rattle.witness.specs.Admits.{Read, read_text, witness_of};
+ghost use Rattle.witness.specs.Judgements.{words_of, input_frames, Judges};
+ghost use Rattle.witness.specs.Worked.{constrained, wide, rises};
+
+/// A law: a text that says a witness is read as it, and a text that is read says what it is read as.
+pub fn texts_read()
+    ensures read { (shape : Shape) (text : List ℕ) (w : Witness) → shape.bads < 2 ^ 64 → length shape.states < 2 ^ 64 → length shape.inputs < 2 ^ 64
+        → Says shape text w → (r : Read) × ((read_text shape text ≡ Ok r) × (witness_of r ≡ w)) }
+    ensures said { (shape : Shape) (text : List ℕ) (r : Read) → shape.bads < 2 ^ 64 → length shape.states < 2 ^ 64 → length shape.inputs < 2 ^ 64
+        → read_text shape text ≡ Ok r → Says shape text (witness_of r) }
+{}
+
+/// A law: a text says at most one witness.
+pub fn one_reading()
+    ensures { (shape : Shape) (text : List ℕ) (w v : Witness) → shape.bads < 2 ^ 64 → length shape.states < 2 ^ 64 → length shape.inputs < 2 ^ 64
+        → Says shape text w → Says shape text v → w ≡ v }
+{}
+
+/// Worked rows: the faults of texts over a model of one bit that toggles.
+pub fn worked_faults()
+    ensures shape { shape_of toggler ≡ record { bads = 1; states = 1 ∷ []; inputs = [] } }
+    ensures nothing { read_text (shape_of toggler) [] ≡ Err (record { line = 1; why = why.Truncated }) }
+    ensures state_twice { read_text (shape_of toggler) (codes "sat\nb0\n#0\n0 0\n0 0\n@0\n.\n") ≡ Err (record { line = 5; why = why.IndexTwice }) }
+    ensures later_states { read_text (shape_of toggler) (codes "sat\nb0\n@0\n#1\n@1\n.\n") ≡ Err (record { line = 4; why = why.FrameOrder }) }
+    ensures no_frame { read_text (shape_of toggler) (codes "sat\nb0\n.\n") ≡ Err (record { line = 3; why = why.FrameOrder }) }
+    ensures no_such_bad { read_text (shape_of toggler) (codes "sat\nb1\n@0\n.\n") ≡ Err (record { line = 2; why = why.BadClaim }) }
+    ensures comment_behind_status { read_text (shape_of toggler) (codes "sat\n; x\n") ≡ Err (record { line = 2; why = why.BadClaim }) }
+    ensures claim_twice { read_text (shape_of toggler) (codes "sat\nb0 b0\n") ≡ Err (record { line = 2; why = why.BadClaim }) }
+    ensures justice { read_text (shape_of toggler) (codes "sat\nj0\n") ≡ Err (record { line = 2; why = why.JusticeClaim }) }
+    ensures too_many_digits { read_text (shape_of toggler) (codes "sat\nb0\n#0\n0 01\n") ≡ Err (record { line = 4; why = why.BadValue }) }
+    ensures no_value { read_text (shape_of toggler) (codes "sat\nb0\n#0\n0\n") ≡ Err (record { line = 4; why = why.BadValue }) }
+    ensures undetermined { read_text (shape_of toggler) (codes "sat\nb0\n#0\n0 x\n") ≡ Err (record { line = 4; why = why.Undetermined }) }
+    ensures no_symbol { read_text (shape_of toggler) (codes "sat\nb0\n#0\n0 1 ;\n") ≡ Err (record { line = 4; why = why.BadSymbol }) }
+    ensures first_of_three { read_text (shape_of toggler) (codes "sat\nb0\n#0\n1 x ;\n") ≡ Err (record { line = 4; why = why.BadIndex }) }
+    ensures no_input { read_text (shape_of toggler) (codes "sat\nb0\n@0\n0 1\n") ≡ Err (record { line = 4; why = why.BadIndex }) }
+    ensures space_behind { read_text (shape_of toggler) (codes "sat\nb0\n@0 \n") ≡ Err (record { line = 3; why = why.FrameOrder }) }
+    ensures unended { read_text (shape_of toggler) (codes "sat\nb0\n@0\n.") ≡ Err (record { line = 4; why = why.Truncated }) }
+    ensures byte_behind { read_text (shape_of toggler) (codes "sat\nb0\n@0\n.\nx") ≡ Err (record { line = 5; why = why.Trailing }) }
+    ensures line_behind { read_text (shape_of toggler) (codes "sat\nb0\n@0\n.\n\n") ≡ Err (record { line = 5; why = why.Trailing }) }
+    ensures other_status { read_text (shape_of toggler) (codes "satt\n") ≡ Err (record { line = 1; why = why.BadHeader }) }
+{}
+
+/// Worked rows: what two texts say, a comment, a name and an initial part among it, and the words of an input that is given one in the first of two frames.
+pub fn worked_witnesses()
+    ensures read { (r : Read) × ((read_text (shape_of toggler) (codes "; note\nsat\nb0\n#0\n0 0 t\n@0\n@1\n.\n") ≡ Ok r) × (witness_of r ≡ rises)) }
+    ensures said { Says (shape_of toggler) (codes "; note\nsat\nb0\n#0\n0 0 t\n@0\n@1\n.\n") rises }
+    ensures wide_is_model { IsWellFormed wide }
+    ensures words { (r : Read) × ((read_text (shape_of wide) (codes "sat\nb0\n@0\n0 100\n@1\n.\n") ≡ Ok r) × (map (λ f. f 2) (input_frames wide (words_of (witness_of r))) ≡ 4 ∷ 0 ∷ [])) }
+{}
+
+/// Worked rows: judgements of texts over the model of one bit that toggles, and over it with a constraint.
+pub fn worked_judgements()
+    ensures accepted { Judges toggler (codes "sat\nb0\n#0\n0 0\n@0\n@1\n.\n") (judgement.Accepted 2) }
+    ensures other_init { Judges toggler (codes "sat\nb0\n#0\n0 1\n@0\n.\n") (judgement.InitDiffers 0) }
+    ensures not_reached { Judges toggler (codes "sat\nb0\n@0\n.\n") (judgement.NotReached 0) }
+    ensures unsat { Judges toggler (codes "; x\nunsat\n") judgement.NoClaim }
+    ensures unknown { Judges toggler (codes "unknown\nx") judgement.NoClaim }
+    ensures malformed { Judges toggler (codes "sat\nb0\n.\n") (judgement.Malformed 3 why.FrameOrder) }
+    ensures constrained_is_model { IsWellFormed constrained }
+    ensures violated { Judges constrained (codes "sat\nb0\n#0\n0 0\n@0\n@1\n.\n") (judgement.Violated 1 0) }
+{}

@@ -1,0 +1,30 @@
+//! Judges of witnesses: texts that claim that bad properties rise.
+#![tactic(auto)]
+
+mod assignment;
+mod claims;
+mod fault;
+mod flags;
+mod judgement;
+mod judging;
+mod laws;
+mod line;
+mod open_part;
+mod place;
+mod reading;
+mod shape;
+mod verdicts;
+mod why;
+mod words;
+
+pub use fault::{JudgeFault, WitnessFault};
+pub use judgement::Judgement;
+pub use judging::judge_words;
+pub use laws::{one_reading, texts_read, worked_faults, worked_judgements, worked_witnesses};
+pub use reading::{claims_nothing, read_words};
+pub use shape::Shape;
+pub use why::Why;
+pub use words::{Given, Part, Words};
+
+#[cfg(test)]
+mod tests;
