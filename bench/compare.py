@@ -15,14 +15,29 @@ ROUNDS = 5
 OURS = os.path.join(os.path.dirname(os.path.abspath(__file__)), "..", "crates", "hwtool", "out", "hwtool")
 
 
-def measure(program, model):
+def measure(command):
     """Processor seconds and peak memory in MB of one run."""
     with open(os.devnull, "wb") as nothing:
-        child = subprocess.Popen([program, "lower", "--ascii", model], stdout=nothing)
+        child = subprocess.Popen(command, stdout=nothing)
         _, status, used = os.wait4(child.pid, 0)
     if status != 0:
-        sys.exit(f"{program} {model}: status {status}")
+        sys.exit(f"{' '.join(command)}: status {status}")
     return used.ru_utime + used.ru_stime, used.ru_maxrss / 1024
+
+
+def row(name, count, other, words):
+    """The row of a table: the least time and the greatest memory of both programs, in turns, with these words."""
+    best = {}
+    for _ in range(ROUNDS):
+        for program in (OURS, other):
+            seconds, memory = measure([program, *words])
+            least, most = best.get(program, (seconds, memory))
+            best[program] = (min(least, seconds), max(most, memory))
+    (ours, ours_memory), (theirs, theirs_memory) = best[OURS], best[other]
+    return (
+        f"| {name} | {count:,} | {ours:.2f} s | {theirs:.2f} s | {ours / theirs:.2f} "
+        f"| {ours_memory:.0f} MB | {theirs_memory:.0f} MB | {ours_memory / theirs_memory:.2f} |"
+    )
 
 
 def main():
@@ -32,17 +47,7 @@ def main():
     for model in models:
         with open(model, "rb") as text:
             lines = sum(1 for _ in text)
-        best = {}
-        for _ in range(ROUNDS):
-            for program in (OURS, other):
-                seconds, memory = measure(program, model)
-                least, most = best.get(program, (seconds, memory))
-                best[program] = (min(least, seconds), max(most, memory))
-        (ours, ours_memory), (theirs, theirs_memory) = best[OURS], best[other]
-        print(
-            f"| {os.path.basename(model)} | {lines:,} | {ours:.2f} s | {theirs:.2f} s | {ours / theirs:.2f} "
-            f"| {ours_memory:.0f} MB | {theirs_memory:.0f} MB | {ours_memory / theirs_memory:.2f} |"
-        )
+        print(row(os.path.basename(model), lines, other, ["lower", "--ascii", model]))
 
 
 if __name__ == "__main__":
