@@ -73,12 +73,12 @@ fn copy_bits(row: &[Lit]) -> Bits
 }
 
 /// The row of the node with an id, copied.
-fn operand_bits(model: &Model, table: &Table, id: u64) -> Bits
+fn operand_bits(model: &Model, table: &Table, id: u32) -> Bits
     requires there { is_some (row_of model.now table.now id) ≡ true }
     requires few { IfSome (row_of model.now table.now id) (λ row. length row ≤ 64) }
     ensures { row_of model.now table.now id ≡ Some result.items }
 {
-    match model.position(id) {
+    match model.position(u64::from(id)) {
         Some(place) => copy_bits(table.row(place)),
         None => unreachable!(),
     }
@@ -90,7 +90,7 @@ fn unary_row<G: Gates>(
     gates: &mut G,
     table: &Table,
     operator: Unary,
-    operand: u64,
+    operand: u32,
 ) -> Result<Bits, GateFault>
     requires built { is_built_unary operator ≡ true }
     requires well_formed { IsWellFormed model.now }
@@ -109,8 +109,8 @@ fn binary_row<G: Gates>(
     gates: &mut G,
     table: &Table,
     operator: Binary,
-    left: u64,
-    right: u64,
+    left: u32,
+    right: u32,
 ) -> Result<Bits, GateFault>
     requires built { is_built_binary operator ≡ true }
     requires well_formed { IsWellFormed model.now }

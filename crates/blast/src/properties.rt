@@ -16,13 +16,13 @@ use aiger::{Circuit, CircuitFault, Lit};
 use btor2::{Body, Item, Model};
 
 /// The literal of a node of one bit.
-fn literal(model: &Model, table: &Table, id: u64) -> Lit
+fn literal(model: &Model, table: &Table, id: u32) -> Lit
     requires all { length table.now ≡ length model.now }
     requires one { node_width model.now id ≡ Some 1 }
     requires row { length (row_at model.now table.now (Some id)) ≡ 1 }
     ensures { result ≡ literal_at model.now table.now id }
 {
-    match model.position(id) {
+    match model.position(u64::from(id)) {
         Some(place) => table.row(place)[0],
         None => unreachable!(),
     }

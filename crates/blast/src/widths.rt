@@ -21,13 +21,13 @@ pub(crate) fn width_at(model: &Model, place: usize) -> u64
 }
 
 /// The width of the node with an id.
-fn node_bits(model: &Model, id: u64) -> u64
+fn node_bits(model: &Model, id: u32) -> u64
     requires { is_some (node_width model.now id) ≡ true }
     ensures value { result ≡ bits_of model.now id }
     ensures some { 1 ≤ result }
     ensures most { result ≤ 64 }
 {
-    match model.position(id) {
+    match model.position(u64::from(id)) {
         Some(place) => match model.width_of(place) {
             Some(width) => width.bits(),
             None => unreachable!(),

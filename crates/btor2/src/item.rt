@@ -17,8 +17,8 @@ pub struct Item {
     pub body: Body,
 }
 
-/// What an item says ("Btor2, BtorMC and Boolector 3.0", syntax). Sorts and operands are ids of earlier items.
-/// A constant keeps its spelling, so that a model is written as it was read.
+/// What an item says ("Btor2, BtorMC and Boolector 3.0", syntax). Sorts and operands are ids of earlier items, and so
+/// of 32 bits. A constant keeps its spelling, so that a model is written as it was read.
 #[derive(Debug, Drop)]
 pub enum Body {
     /// `sort bitvec n`: words of `width` bits.
@@ -27,116 +27,116 @@ pub enum Body {
     },
     /// `input S`: given anew in each frame.
     Input {
-        sort: u64,
+        sort: u32,
     },
     /// `state S`: carried from frame to frame.
     State {
-        sort: u64,
+        sort: u32,
     },
     /// `zero S`: the word 0.
     Zero {
-        sort: u64,
+        sort: u32,
     },
     /// `one S`: the word 1.
     One {
-        sort: u64,
+        sort: u32,
     },
     /// `ones S`: the word of all ones.
     Ones {
-        sort: u64,
+        sort: u32,
     },
     /// `const S` and binary digits: how many they are, and their value. More than 64 digits count as 65 with
     /// value 0, which is refused.
     Const {
-        sort: u64,
+        sort: u32,
         digits: u32,
         value: u64,
     },
     /// `constd S` and a decimal, which may be negative and then stands for its word modulo 2 to the width.
     /// A number beyond 2^64 on either side counts as 2^64 on that side, which is refused.
     Constd {
-        sort: u64,
+        sort: u32,
         value: i128,
     },
     /// `consth S` and hexadecimal digits: how many they are, and their value. More than 16 digits count as 17
     /// with value 0, which is refused.
     Consth {
-        sort: u64,
+        sort: u32,
         digits: u32,
         value: u64,
     },
     /// `uext S a w`: a before which stand `by` zeros.
     Uext {
-        sort: u64,
-        operand: u64,
+        sort: u32,
+        operand: u32,
         by: u64,
     },
     /// `sext S a w`: a before which its sign stands `by` times.
     Sext {
-        sort: u64,
-        operand: u64,
+        sort: u32,
+        operand: u32,
         by: u64,
     },
     /// `slice S a u l`: the bits `upper` down to `lower` of a, both included.
     Slice {
-        sort: u64,
-        operand: u64,
+        sort: u32,
+        operand: u32,
         upper: u64,
         lower: u64,
     },
     /// `op S a`.
     Unary {
         operator: Unary,
-        sort: u64,
-        operand: u64,
+        sort: u32,
+        operand: u32,
     },
     /// `op S a b`.
     Binary {
         operator: Binary,
-        sort: u64,
-        left: u64,
-        right: u64,
+        sort: u32,
+        left: u32,
+        right: u32,
     },
     /// `concat S a b`: `high` before `low`.
     Concat {
-        sort: u64,
-        high: u64,
-        low: u64,
+        sort: u32,
+        high: u32,
+        low: u32,
     },
     /// `ite S c t e`: `first` where the condition is 1, else `second`.
     Ite {
-        sort: u64,
-        condition: u64,
-        first: u64,
-        second: u64,
+        sort: u32,
+        condition: u32,
+        first: u32,
+        second: u32,
     },
     /// `init S s v`: in the first frame state s has the word of v.
     Init {
-        sort: u64,
-        state: u64,
-        value: u64,
+        sort: u32,
+        state: u32,
+        value: u32,
     },
     /// `next S s v`: in the next frame state s has the word that v has in this one.
     Next {
-        sort: u64,
-        state: u64,
-        value: u64,
+        sort: u32,
+        state: u32,
+        value: u32,
     },
     /// `bad a`: a bad property, which rises where a is 1.
     Bad {
-        operand: u64,
+        operand: u32,
     },
     /// `constraint a`: a constraint, which holds where a is 1.
     Constraint {
-        operand: u64,
+        operand: u32,
     },
     /// `fair a`: kept and written, without a meaning here.
     Fair {
-        operand: u64,
+        operand: u32,
     },
     /// `output a`: a node that is shown.
     Output {
-        operand: u64,
+        operand: u32,
     },
     /// `justice k a1 .. ak`: kept and written, without a meaning here.
     Justice {
@@ -168,7 +168,7 @@ fn wrapped(width: u64, value: i128) -> u64
 
 impl Body {
     /// The sort of a node with a value: of a leaf, a constant or an operator.
-    pub(crate) fn node_sort(&self) -> Option<u64>
+    pub(crate) fn node_sort(&self) -> Option<u32>
         ensures { result ≡ node_sort self.now }
     {
         match self {
@@ -199,7 +199,7 @@ impl Body {
     }
 
     /// The sort that it names.
-    pub(crate) fn sort(&self) -> Option<u64>
+    pub(crate) fn sort(&self) -> Option<u32>
         ensures { result ≡ named_sort self.now }
     {
         match self {

@@ -126,11 +126,11 @@ impl Model {
     }
 
     /// The width of the sort with an id.
-    fn sort_width(&self, id: u64) -> Option<u64>
+    fn sort_width(&self, id: u32) -> Option<u64>
         ensures value { result ≡ sort_width self.now id }
         ensures range { IfSome result (λ n. (1 ≤ n) × (n ≤ 64)) }
     {
-        match look_up(&self.ids, self.items.as_slice(), id) {
+        match look_up(&self.ids, self.items.as_slice(), u64::from(id)) {
             Some(item) => item.body.sort_bits(),
             None => None,
         }
@@ -148,10 +148,10 @@ impl Model {
     }
 
     /// The width of the node with an id.
-    fn node_width(&self, id: u64) -> Option<u64>
+    fn node_width(&self, id: u32) -> Option<u64>
         ensures { result ≡ node_width self.now id }
     {
-        match self.item(id) {
+        match self.item(u64::from(id)) {
             Some(item) => self.body_width(&item.body),
             None => None,
         }
@@ -168,20 +168,20 @@ impl Model {
     }
 
     /// The word of the constant node with an id.
-    fn constant_word(&self, id: u64) -> Option<u64>
+    fn constant_word(&self, id: u32) -> Option<u64>
         ensures { result ≡ constant_of self.now id }
     {
-        match self.item(id) {
+        match self.item(u64::from(id)) {
             Some(item) => self.body_constant(&item.body),
             None => None,
         }
     }
 
     /// Whether an id is that of a state.
-    fn names_state(&self, id: u64) -> bool
+    fn names_state(&self, id: u32) -> bool
         ensures { result ≡ names_state self.now id }
     {
-        match self.item(id) {
+        match self.item(u64::from(id)) {
             Some(item) => item.body.is_state(),
             None => false,
         }

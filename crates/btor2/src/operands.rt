@@ -6,7 +6,7 @@ use std::marker::Model;
 /// The ids of the nodes that a `justice` line names.
 #[derive(Debug, Drop)]
 pub struct Operands {
-    ids: Vec<u64>,
+    ids: Vec<u32>,
 }
 
 impl Model for Operands {
@@ -19,7 +19,7 @@ impl Operands {
     /// The operands with these ids, in this order.
     ///
     /// Errors: where a growth was refused.
-    pub fn new(alloc: Global, ids: &[u64]) -> Result<Operands, AllocError>
+    pub fn new(alloc: Global, ids: &[u32]) -> Result<Operands, AllocError>
         ensures { IfOk result (λ o. o ≡ ids.now) }
     {
         match Vec::from_slice(alloc, ids) {
@@ -29,7 +29,7 @@ impl Operands {
     }
 
     /// Their ids, in order.
-    pub fn ids(&self) -> &[u64]
+    pub fn ids(&self) -> &[u32]
         ensures { result.now ≡ self.now }
     {
         self.ids.as_slice()

@@ -255,7 +255,7 @@ fn line_after_nibble(k: usize) -> (u64, Body, u32) {
 }
 
 /// A negated node.
-fn not_line(sort: u64, operand: u64) -> Body {
+fn not_line(sort: u32, operand: u32) -> Body {
     Body::Unary {
         operator: Unary::Not,
         sort,
@@ -395,7 +395,7 @@ fn a_refused_item_leaves_the_others(rt: HostRuntime) -> Result<(), Fail> {
 }
 
 /// The number of the fault of pushing a justice line of these operands, or 0, or 100 where there is no memory.
-fn fault_of_justice(alloc: Global, model: &mut Model, ids: &[u64]) -> u32 {
+fn fault_of_justice(alloc: Global, model: &mut Model, ids: &[u32]) -> u32 {
     match Operands::new(alloc, ids) {
         Ok(operands) => fault_of(model, 90, Body::Justice { operands }),
         Err(_) => 100,

@@ -117,13 +117,13 @@ pub(crate) fn node_word(node: &Node, values: &[u64], at: usize, tally: &mut Tall
 /// The width of the node with an id, and its place among the now-values.
 ///
 /// `slots` has for each item how many nodes with a value stand before it.
-pub(crate) fn operand(model: &Model, slots: &[usize], id: u64) -> (Width, usize)
+pub(crate) fn operand(model: &Model, slots: &[usize], id: u32) -> (Width, usize)
     requires there { is_some (node_width model.now id) ≡ true }
     requires slots { slots.now ≡ map (λ x. slot model.now x.id) model.now }
     ensures width { result.0 ≡ bits_of model.now id }
     ensures place { result.1 ≡ slot model.now id }
 {
-    match model.position(id) {
+    match model.position(u64::from(id)) {
         Some(place) => match model.width_of(place) {
             Some(width) => (width, slots[place]),
             None => unreachable!(),

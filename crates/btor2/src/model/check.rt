@@ -193,21 +193,21 @@ impl Model {
     }
 
     /// Whether an id is that of a node with a value.
-    fn has_value(&self, id: u64) -> bool
+    fn has_value(&self, id: u32) -> bool
         ensures { result ≡ is_some (node_width self.now id) }
     {
         self.node_width(id).is_some()
     }
 
     /// Whether both ids are those of nodes with a value.
-    fn have_values(&self, left: u64, right: u64) -> bool
+    fn have_values(&self, left: u32, right: u32) -> bool
         ensures { result ≡ (is_some (node_width self.now left) && is_some (node_width self.now right)) }
     {
         self.has_value(left) && self.has_value(right)
     }
 
     /// Whether each of some ids is that of a node with a value.
-    fn all_have_values(&self, ids: &[u64]) -> bool
+    fn all_have_values(&self, ids: &[u32]) -> bool
         ensures { result ≡ list_all (λ a. is_some (node_width self.now a)) ids.now }
     {
         ids.iter().all(|id| self.has_value(*id))
@@ -274,7 +274,7 @@ impl Model {
     }
 
     /// The width of the sort with an id, or 0.
-    fn sort_bits(&self, id: u64) -> u64
+    fn sort_bits(&self, id: u32) -> u64
         ensures value { result ≡ unwrap_or (sort_width self.now id) 0 }
         ensures range { result ≤ 64 }
     {
@@ -285,7 +285,7 @@ impl Model {
     }
 
     /// The width of the node with an id, or 0.
-    fn node_bits(&self, id: u64) -> u64
+    fn node_bits(&self, id: u32) -> u64
         ensures { result ≡ unwrap_or (node_width self.now id) 0 }
     {
         match self.node_width(id) {
@@ -311,14 +311,14 @@ impl Model {
     }
 
     /// Whether each of some nodes is a single bit.
-    fn are_bits(&self, ids: &[u64]) -> bool
+    fn are_bits(&self, ids: &[u32]) -> bool
         ensures { result ≡ list_all (λ a. unwrap_or (node_width self.now a) 0 == 1) ids.now }
     {
         ids.iter().all(|id| self.node_bits(*id) == 1)
     }
 
     /// Whether a sort differs in width from one of two nodes.
-    fn sort_differs(&self, sort: u64, first: u64, second: u64) -> bool
+    fn sort_differs(&self, sort: u32, first: u32, second: u32) -> bool
         ensures { result ≡ not ((unwrap_or (sort_width self.now sort) 0 == unwrap_or (node_width self.now first) 0)
             && (unwrap_or (sort_width self.now sort) 0 == unwrap_or (node_width self.now second) 0)) }
     {
@@ -435,7 +435,7 @@ impl Model {
         ensures { result ≡ is_second_init self.now body.now }
     {
         match body {
-            Body::Init { state, .. } => self.init_value(*state).is_some(),
+            Body::Init { state, .. } => self.init_value(u64::from(*state)).is_some(),
             _ => false,
         }
     }
@@ -446,7 +446,7 @@ impl Model {
         ensures { result ≡ is_second_next self.now body.now }
     {
         match body {
-            Body::Next { state, .. } => self.next_value(*state).is_some(),
+            Body::Next { state, .. } => self.next_value(u64::from(*state)).is_some(),
             _ => false,
         }
     }

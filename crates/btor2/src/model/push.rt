@@ -25,12 +25,12 @@ fn add_place(list: &mut Vec<usize>, place: usize) -> Result<(), PushFault>
 }
 
 /// Gives a state's id the id of a value.
-fn add_value(map: &mut IndexMap<u64, u64>, state: u64, value: u64) -> Result<(), PushFault>
+fn add_value(map: &mut IndexMap<u64, u64>, state: u32, value: u32) -> Result<(), PushFault>
     ensures { MatchResult result
         (λ u. (id : ℕ) → get nat_eq map.new id ≡ (if id == state then Some value else get nat_eq map.old id))
         (λ fault. (fault ≡ PushFault.NoMemory) × ((id : ℕ) → get nat_eq map.new id ≡ get nat_eq map.old id)) }
 {
-    match map.insert(state, value) {
+    match map.insert(u64::from(state), u64::from(value)) {
         Ok(_) => Ok(()),
         Err(_) => Err(PushFault::NoMemory),
     }
