@@ -1,14 +1,12 @@
 -- Where an item is found by its id.
-use Rattle.std.proofs.Common.{◌≡◌, ℕ, suc, ◌+◌, ◌-◌, ◌≤◌, true, false, cond, nat_eq, List, [], ◌∷◌, map, Option, Some, None, MatchOption, slice_get, refl, sym, ap, ◌∙◌, arith, zero}
-use Rattle.std.specs.List.{position, position_from}
-use Rattle.std.proofs.lemmas.Iterator.Adapters.{position_from-zero}
+use Rattle.std.proofs.Common.{◌≡◌, ℕ, suc, ◌+◌, ◌-◌, ◌≤◌, true, false, cond, nat_eq, eqb-true, List, [], ◌∷◌, Option, Some, None, MatchOption, slice_get, refl, ap, ◌∙◌, arith, zero}
+use Rattle.std.specs.List.{position_from}
+use Rattle.std.specs.Option.{option_map_or}
 use Rattle.btor2.specs.declared.item.Item.{Item}
 use Rattle.btor2.specs.Items.{find_item, position_of}
-
--- an id stands in the list of ids where its item stands
-pub position_from-ids : (id n : ℕ) (items : List Item) → position_from (λ k. nat_eq id k) n (map (λ (x : Item). x.id) items) ≡ position_from (λ (x : Item). nat_eq id x.id) n items
-position_from-ids id n [] = refl
-position_from-ids id n (x ∷ xs) = ap (cond (nat_eq id x.id) (Some n)) (position_from-ids id (n + 1) xs)
+use Rattle.btor2.specs.Check.{IsWellFormed}
+use Rattle.btor2.specs.Index.{is_in_place}
+use Rattle.btor2.proofs.ModelLemmas.{position_of-at}
 
 -- an answer that begins one place later
 later : (x : Item) (xs : List Item) (id n : ℕ) (o : Option ℕ) → MatchOption o (find_item xs id ≡ None) (λ k. (n + 1 ≤ k) × (slice_get xs (k - (n + 1)) ≡ find_item xs id)) → MatchOption o (find_item xs id ≡ None) (λ k. (n ≤ k) × (slice_get (x ∷ xs) (k - n) ≡ find_item xs id))
@@ -34,18 +32,18 @@ at_zero items f (Some k) h = let e : k - 0 ≡ k = omega arith in rw e at h.1
 pub found : (id : ℕ) (items : List Item) → MatchOption (position_of items id) (find_item items id ≡ None) (λ k. slice_get items k ≡ find_item items id)
 found id items = at_zero items (find_item items id) (position_of items id) (found_from id 0 items)
 
--- the place of an id in the list of ids is that of its item
-pub position-ids : (id : ℕ) (ids : List ℕ) (items : List Item) → ids ≡ map (λ (x : Item). x.id) items → position (λ k. nat_eq id k) ids ≡ position_of items id
-position-ids id ids items same = position_from-zero (λ k. nat_eq id k) ids ∙ rw same (position_from-ids id 0 items)
+-- the item at the position of an id is the one that it finds
+pub item_at : (items : List Item) (id k : ℕ) → Some k ≡ position_of items id → slice_get items k ≡ find_item items id
+item_at items id k at = rw (← at) at (found id items)
 
--- the item at the index that the list of ids gives an id
-pub item_at : (id : ℕ) (ids : List ℕ) (items : List Item) (k : ℕ) → ids ≡ map (λ (x : Item). x.id) items → Some k ≡ position (λ k. nat_eq id k) ids → slice_get items k ≡ find_item items id
-item_at id ids items k same at =
-    let e : position_of items id ≡ Some k = sym (at ∙ position-ids id ids items same) in
-    rw e at (found id items)
+-- there is none where the id has no position
+pub no_item : (items : List Item) (id : ℕ) → position_of items id ≡ None → find_item items id ≡ None
+no_item items id at = rw at at (found id items)
 
--- there is none where the list of ids lacks it
-pub no_item : (id : ℕ) (ids : List ℕ) (items : List Item) → ids ≡ map (λ (x : Item). x.id) items → position (λ k. nat_eq id k) ids ≡ None → find_item items id ≡ None
-no_item id ids items same at =
-    let e : position_of items id ≡ None = sym (position-ids id ids items same) ∙ at in
-    rw e at (found id items)
+in_place_at : (items : List Item) (id : ℕ) (o : Option Item) → IsWellFormed items → slice_get items (id - 1) ≡ o → option_map_or (λ (x : Item). nat_eq id x.id) o false ≡ true → position_of items id ≡ Some (id - 1)
+in_place_at items id None h at test = absurd (cc)
+in_place_at items id (Some x) h at test = ap (position_of items) (eqb-true id x.id test) ∙ position_of-at items (id - 1) x h at
+
+-- an item in place is the one with its id
+pub position-in_place : (items : List Item) (id : ℕ) → IsWellFormed items → is_in_place items id ≡ true → position_of items id ≡ Some (id - 1)
+position-in_place items id h test = in_place_at items id (slice_get items (id - 1)) h refl test

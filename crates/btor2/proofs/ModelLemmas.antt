@@ -87,7 +87,8 @@ find_item-in items x h w =
 pub find_item-at : (items : List Item) (k : ℕ) (x : Item) → IsWellFormed items → slice_get items k ≡ Some x → find_item items x.id ≡ Some x
 find_item-at items k x h at = find_item-in items x h (IsIn-from_place items k x at).0
 
-position-after : (id n : ℕ) (before more : List Item) → find_item before id ≡ None → position_from (λ (x : Item). nat_eq id x.id) n (before ++ more) ≡ position_from (λ (x : Item). nat_eq id x.id) (n + length before) more
+-- an id that is not found is placed in the rest
+pub position-after : (id n : ℕ) (before more : List Item) → find_item before id ≡ None → position_from (λ (x : Item). nat_eq id x.id) n (before ++ more) ≡ position_from (λ (x : Item). nat_eq id x.id) (n + length before) more
 position-after id n [] more h = ap (λ (k : ℕ). position_from (λ (x : Item). nat_eq id x.id) k more) (omega arith)
 position-after id n (y ∷ ys) more h =
     elim (nat_eq id y.id) as (λ b. cond b (Some y) (find_item ys id) ≡ None → cond b (Some n) (position_from (λ (x : Item). nat_eq id x.id) (n + 1) (ys ++ more)) ≡ position_from (λ (x : Item). nat_eq id x.id) (n + suc (length ys)) more) [

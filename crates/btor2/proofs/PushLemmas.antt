@@ -1,17 +1,16 @@
 -- What stands beside the items once one more is added.
-use Rattle.std.proofs.Common.{◌≡◌, ℕ, suc, ◌+◌, Bool, true, false, ◌||◌, cond, nat_eq, List, [], ◌∷◌, ◌++◌, length, map, Option, Some, None, is_some, refl, sym, ap, subst, ◌∙◌, ⊎_elim, arith}
-use Rattle.std.specs.List.{list_any}
+use Rattle.std.proofs.Common.{◌≡◌, ℕ, suc, ◌+◌, ◌-◌, Bool, true, false, not, ◌&&◌, cond, nat_eq, List, [], ◌∷◌, ◌++◌, length, Option, Some, None, refl, sym, ap, subst, ◌∙◌, ⊎_elim, arith}
 use Rattle.std.specs.Option.{option_or}
-use Rattle.std.proofs.lemmas.List.{map-append}
 use Rattle.std.proofs.lemmas.Bool.{ne_eqb, cases_eq}
 use Rattle.btor2.specs.declared.item.Item.{Item}
 use Rattle.btor2.specs.declared.item.Body.{Body}
 use Rattle.btor2.specs.declared.item.Body.TheVariants as body
-use Rattle.btor2.specs.Items.{find_item, init_for, next_for, init_value, next_value}
-use Rattle.indexmap.specs.IndexSet.{insert_key}
+use Rattle.btor2.specs.Items.{init_for, next_for, init_value, next_value}
 use Rattle.btor2.specs.Check.{refusal, IsWellFormed}
+use Rattle.btor2.specs.Index.{position_elsewhere}
 use Rattle.btor2.specs.Lists.{places, with_place}
 use Rattle.btor2.proofs.AcceptedLemmas.{BodyIsAccepted, IsAccepted-from_refusal}
+use Rattle.btor2.proofs.ElsewhereLemmas.{elsewhere-push}
 use Rattle.btor2.proofs.ModelLemmas.{IsWellFormed-push}
 
 with_place-cons : (b : Bool) (place at : ℕ) (list : List ℕ) → with_place b place (at ∷ list) ≡ at ∷ with_place b place list
@@ -35,19 +34,6 @@ pub places-push : (test : Body → Bool) (xs : List Item) (x : Item) → places 
 places-push test xs x =
     let e : 0 + length xs ≡ length xs = omega arith in
     places-append test 0 xs x ∙ ap (λ (k : ℕ). with_place (test x.body) k (places test 0 xs)) e
-
--- the ids with one more
-pub ids-push : (xs : List Item) (x : Item) → map (λ (y : Item). y.id) (xs ++ x ∷ []) ≡ map (λ (y : Item). y.id) xs ++ x.id ∷ []
-ids-push xs x = map-append (λ (y : Item). y.id) xs (x ∷ [])
-
--- an id is among the ids where its item is found
-pub list_any-ids : (xs : List Item) (id : ℕ) → list_any (nat_eq id) (map (λ (y : Item). y.id) xs) ≡ is_some (find_item xs id)
-list_any-ids [] id = refl
-list_any-ids (y ∷ ys) id =
-    elim (nat_eq id y.id) as (λ b. (b || list_any (nat_eq id) (map (λ (z : Item). z.id) ys)) ≡ is_some (cond b (Some y) (find_item ys id))) [
-      | true ↦ refl
-      | false ↦ list_any-ids ys id
-    ]
 
 option_or-none : {A : Type 0} (o : Option A) → option_or o None ≡ o
 option_or-none None = refl
@@ -96,12 +82,13 @@ next_value-push xs x id h = next_first xs x.body id (IsAccepted-from_refusal xs 
 pub items-added : (xs ys : List Item) (x : Item) → IsWellFormed xs → refusal xs x ≡ None → ys ≡ xs ++ x ∷ [] → IsWellFormed ys
 items-added xs ys x h r e = subst IsWellFormed (sym e) (IsWellFormed-push xs x h r)
 
-pub keys-added : (xs ys : List Item) (x : Item) (old new : List ℕ) → refusal xs x ≡ None → ys ≡ xs ++ x ∷ [] → old ≡ map (λ (y : Item). y.id) xs
-    → new ≡ insert_key nat_eq old x.id → new ≡ map (λ (y : Item). y.id) ys
-keys-added xs ys x old new r e before after =
-    let absent : list_any (nat_eq x.id) old ≡ false = ap (list_any (nat_eq x.id)) before ∙ list_any-ids xs x.id ∙ ap is_some (IsAccepted-from_refusal xs x r).fresh in
-    let added : insert_key nat_eq old x.id ≡ old ++ x.id ∷ [] = rw absent refl in
-    after ∙ added ∙ ap (λ (l : List ℕ). l ++ x.id ∷ []) before ∙ sym (ids-push xs x) ∙ ap (map (λ (y : Item). y.id)) (sym e)
+pub elsewhere-added : (xs ys : List Item) (x : Item) (place : ℕ) (old new : ℕ → Option ℕ) → IsWellFormed xs → refusal xs x ≡ None → ys ≡ xs ++ x ∷ [] → place ≡ length xs
+    → ((id : ℕ) → old id ≡ position_elsewhere xs id) → ((id : ℕ) → new id ≡ cond (not (nat_eq (x.id - 1) place) && nat_eq id x.id) (Some place) (old id))
+    → (id : ℕ) → new id ≡ position_elsewhere ys id
+elsewhere-added xs ys x place old new h r e at before after id =
+    after id ∙ ap (cond (not (nat_eq (x.id - 1) place) && nat_eq id x.id) (Some place)) (before id)
+    ∙ ap (λ (k : ℕ). cond (not (nat_eq (x.id - 1) k) && nat_eq id x.id) (Some k) (position_elsewhere xs id)) at
+    ∙ elsewhere-push xs x id h r ∙ ap (λ (l : List Item). position_elsewhere l id) (sym e)
 
 pub places-added : (test : Body → Bool) (xs ys : List Item) (x : Item) (place : ℕ) (old new : List ℕ) → ys ≡ xs ++ x ∷ [] → place ≡ length xs → old ≡ places test 0 xs
     → new ≡ with_place (test x.body) place old → new ≡ places test 0 ys

@@ -1,6 +1,7 @@
-ghost use Rattle.std.specs.Prelude.{◌≡◌, ◌<◌, ◌≤◌, IfSome, map, [], length, option_copied, slice_get, slice_index};
+ghost use Rattle.std.specs.Prelude.{◌≡◌, ◌<◌, ◌≤◌, ◌-◌, IfSome, [], length, option_copied, slice_get, slice_index};
 ghost use Rattle.btor2.specs.Items.{find_item, position_of, sort_width, node_width, width_of_body, constant_of, constant_of_body, names_state, init_value, next_value, is_input, is_state, is_bad, is_constraint};
 ghost use Rattle.btor2.specs.Check.{IsWellFormed};
+ghost use Rattle.btor2.specs.Index.{is_in_place};
 ghost use Rattle.btor2.specs.Lists.{places, id_at, init_place, next_place, width_at, constant_at};
 
 mod check;
@@ -8,15 +9,16 @@ mod push;
 
 use crate::item::{Body, Item};
 use base::Width;
-use indexmap::{IndexMap, IndexSet};
+use indexmap::IndexMap;
 use std::alloc::Global;
 
 /// A word-level model: a list of items, each accepted after those before it.
 #[derive(Drop)]
 pub struct Model {
     items: Vec<Item>,
-    // the items' ids: an id's index is its item's position
-    ids: IndexSet<u64>,
+    // by their ids the positions of those items alone whose id is not their position plus 1:
+    // nearly all files number their lines 1, 2, 3 and so on, and take no map
+    elsewhere: IndexMap<u64, usize>,
     // positions in `items`, in file order
     inputs: Vec<usize>,
     states: Vec<usize>,
@@ -47,15 +49,11 @@ fn item_at(items: &[Item], place: usize) -> Option<&Item>
     items.get(place)
 }
 
-/// The item with an id, by one look-up.
-fn look_up<'a>(ids: &IndexSet<u64>, items: &'a [Item], id: u64) -> Option<&'a Item>
-    requires { ids.now.keys ≡ map (λ x. x.id) items.now }
-    ensures { option_copied result ≡ find_item items.now id }
+/// The position that an id has in a file whose lines are numbered 1, 2, 3 and so on. No item has the id 0.
+fn place_by_number(id: u64) -> usize
+    ensures { result ≡ id - 1 }
 {
-    match ids.get_index_of(&id) {
-        Some(place) => item_at(items, place),
-        None => None,
-    }
+    id.saturating_sub(1) as usize
 }
 
 impl Model {
@@ -65,7 +63,7 @@ impl Model {
     {
         Model {
             items: Vec::new(alloc),
-            ids: IndexSet::new(alloc),
+            elsewhere: IndexMap::new(alloc),
             inputs: Vec::new(alloc),
             states: Vec::new(alloc),
             bads: Vec::new(alloc),
@@ -111,18 +109,37 @@ impl Model {
         self.constraints.as_slice()
     }
 
+    /// Whether an id is in place: the item at the position `id - 1` has it.
+    fn is_in_place(&self, id: u64) -> bool
+        ensures { result ≡ is_in_place self.now id }
+    {
+        match item_at(self.items.as_slice(), place_by_number(id)) {
+            Some(item) => item.id == id,
+            None => false,
+        }
+    }
+
     /// The position in `items` of the item with an id.
     pub fn position(&self, id: u64) -> Option<usize>
         ensures { result ≡ position_of self.now id }
     {
-        self.ids.get_index_of(&id)
+        // The item in place is asked first, since that takes no hash. If it has the id it is the one: ids are distinct.
+        if self.is_in_place(id) {
+            Some(place_by_number(id))
+        } else {
+            self.elsewhere.get(&id).copied()
+        }
     }
 
     /// The item with an id.
     fn item(&self, id: u64) -> Option<&Item>
-        ensures { option_copied result ≡ find_item self.now id }
+        ensures value { option_copied result ≡ find_item self.now id }
+        ensures well_formed { IsWellFormed self.now }
     {
-        look_up(&self.ids, self.items.as_slice(), id)
+        match self.position(id) {
+            Some(place) => item_at(self.items.as_slice(), place),
+            None => None,
+        }
     }
 
     /// The width of the sort with an id.
@@ -130,7 +147,7 @@ impl Model {
         ensures value { result ≡ sort_width self.now id }
         ensures range { IfSome result (λ n. (1 ≤ n) × (n ≤ 64)) }
     {
-        match look_up(&self.ids, self.items.as_slice(), u64::from(id)) {
+        match self.item(u64::from(id)) {
             Some(item) => item.body.sort_bits(),
             None => None,
         }

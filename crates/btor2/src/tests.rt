@@ -87,6 +87,29 @@ fn line_after_toggler(k: usize) -> (u64, Body, u32) {
     }
 }
 
+/// How many lines have ids of which two are in place and two are not.
+const MIXED: usize = 4;
+
+/// A line of a model in which the ids of the second line and of the third are exchanged.
+fn line_of_mixed_ids(k: usize) -> (u64, Body) {
+    match k {
+        0 => (1, Body::Sort { width: 1 }),
+        1 => (3, Body::Input { sort: 1 }),
+        2 => (2, not_line(1, 3)),
+        _ => (4, Body::Bad { operand: 2 }),
+    }
+}
+
+/// Ids with their positions in that model.
+const MIXED_POSITIONS: [(u64, Option<usize>); 6] = [
+    (0, None),
+    (1, Some(0)),
+    (2, Some(2)),
+    (3, Some(1)),
+    (4, Some(3)),
+    (5, None),
+];
+
 /// How many lines have each form once, after a sort of four bits and one of a bit.
 const FORMS: usize = 25;
 
@@ -376,6 +399,11 @@ fn a_model_is_read_as_it_was_pushed(rt: HostRuntime) -> Result<(), Fail> {
     assert!(rt; values_of_first_state(&model) == (1, 4));
     assert!(rt; bits_at(&model, 8) == 1 && bits_at(&model, 9) == 0);
     assert!(rt; word_at(&model, 1) == 0 && word_at(&model, 2) == 100);
+    let mixed = model_of(rt.alloc(), MIXED, line_of_mixed_ids)?;
+    for (id, position) in MIXED_POSITIONS {
+        assert!(rt; mixed.position(id) == position);
+    }
+    assert!(rt; bits_at(&mixed, 1) == 1 && bits_at(&mixed, 2) == 1);
     Ok(())
 }
 

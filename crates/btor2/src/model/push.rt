@@ -1,16 +1,16 @@
 //! How an item is added: the lists and maps beside the items get their entries first.
-ghost use Rattle.std.specs.Prelude.{◌≡◌, ℕ, ◌<◌, ◌==◌, ◌&&◌, [], ◌∷◌, ◌++◌, None, Some, OnOk, OnErr, IfErr, is_ok, MatchResult, nat_eq, if◌then◌else◌, vec_len, vec_capacity};
+ghost use Rattle.std.specs.Prelude.{◌≡◌, ℕ, ◌<◌, ◌-◌, ◌==◌, ◌&&◌, not, false, [], ◌∷◌, ◌++◌, None, Some, OnOk, OnErr, IfErr, is_ok, MatchResult, nat_eq, if◌then◌else◌, vec_len, vec_capacity};
 ghost use Rattle.std.specs.HashMap.{get};
 ghost use Rattle.std.specs.Option.{option_or};
-ghost use Rattle.indexmap.specs.IndexSet.{insert_key, spare};
+ghost use Rattle.indexmap.specs.IndexMap.{spare};
 ghost use Rattle.btor2.specs.Items.{is_input, is_state, is_bad, is_constraint, init_for, next_for};
 ghost use Rattle.btor2.specs.Check.{refusal, AnswersRefusal};
 ghost use Rattle.btor2.specs.Lists.{with_place};
 
 use crate::fault::PushFault;
 use crate::item::{Body, Item};
-use crate::model::Model;
-use indexmap::{IndexMap, IndexSet};
+use crate::model::{Model, place_by_number};
+use indexmap::IndexMap;
 
 /// Adds a place at the end of a list.
 fn add_place(list: &mut Vec<usize>, place: usize) -> Result<(), PushFault>
@@ -36,14 +36,35 @@ fn add_value(map: &mut IndexMap<u64, u64>, state: u32, value: u32) -> Result<(),
     }
 }
 
-/// Adds an id where there is room.
-fn add_id(ids: &mut IndexSet<u64>, id: u64)
-    requires { 0 < spare ids.old }
-    ensures { ids.new.keys ≡ insert_key nat_eq ids.old.keys id }
+/// Makes room for the place of an item by its id, where the id is not in place.
+fn reserve_elsewhere(
+    elsewhere: &mut IndexMap<u64, usize>,
+    id: u64,
+    place: usize,
+) -> Result<(), PushFault>
+    ensures fault { IfErr result (λ fault. fault ≡ PushFault.NoMemory) }
+    ensures room { OnOk result ((id - 1 == place) ≡ false → 0 < spare elsewhere.new) }
+    ensures kept { (k : ℕ) → get nat_eq elsewhere.new k ≡ get nat_eq elsewhere.old k }
 {
-    match ids.insert(id) {
-        Ok(_) => {}
-        Err(_) => unreachable!(),
+    if place_by_number(id) == place {
+        return Ok(());
+    }
+    match elsewhere.reserve(1) {
+        Ok(()) => Ok(()),
+        Err(_) => Err(PushFault::NoMemory),
+    }
+}
+
+/// Adds the place of an item by its id, where the id is not in place and there is room.
+fn add_elsewhere(elsewhere: &mut IndexMap<u64, usize>, id: u64, place: usize)
+    requires { (id - 1 == place) ≡ false → 0 < spare elsewhere.old }
+    ensures { (k : ℕ) → get nat_eq elsewhere.new k ≡ (if not (id - 1 == place) && (k == id) then Some place else get nat_eq elsewhere.old k) }
+{
+    if place_by_number(id) != place {
+        match elsewhere.insert(id, place) {
+            Ok(_) => {}
+            Err(_) => unreachable!(),
+        }
     }
 }
 
@@ -101,11 +122,9 @@ impl Model {
         if self.items.reserve(1).is_err() {
             return Err(PushFault::NoMemory);
         }
-        if self.ids.reserve(1).is_err() {
-            return Err(PushFault::NoMemory);
-        }
         let place = self.items.len();
-        match note(
+        reserve_elsewhere(&mut self.elsewhere, item.id, place)?;
+        note(
             &item.body,
             place,
             &mut self.inputs,
@@ -114,14 +133,10 @@ impl Model {
             &mut self.constraints,
             &mut self.inits,
             &mut self.nexts,
-        ) {
-            Ok(()) => {
-                add_id(&mut self.ids, item.id);
-                add_item(&mut self.items, item);
-                Ok(())
-            }
-            Err(fault) => Err(fault),
-        }
+        )?;
+        add_elsewhere(&mut self.elsewhere, item.id, place);
+        add_item(&mut self.items, item);
+        Ok(())
     }
 
     /// Adds an item at the end.

@@ -1,6 +1,8 @@
-use Rattle.std.proofs.Common.{◌∙◌}
-use Rattle.btor2.proofs.LookUps.{position-ids}
+use Rattle.std.proofs.Common.{ℕ, Some, sym, ap, ◌∙◌}
+use Rattle.btor2.proofs.LookUps.{position-in_place}
 use Rattle.btor2.proofs.model.Model.position.Goals as goal
 
-pub returns : goal.returns
-returns c = c.get_index_of.ensures.index ∙ (rw (← c.self.view_is) (position-ids c.args.id c.self.inside.ids.keys c.self.inside.items.items c.self.invariant.ids))
+pub returns-then-is_in_place : goal.returns-then-is_in_place
+returns-then-is_in_place c =
+    let placed = position-in_place c.self.inside.items.items c.args.id c.self.invariant.well_formed (rw c.self.view_is (sym c.is_in_place.ensures ∙ c.if-is_in_place.true)) in
+    ap (λ (k : ℕ). Some k) c.place_by_number.ensures ∙ rw (← c.self.view_is) (sym placed)
