@@ -429,6 +429,8 @@ fn symbols_are_1_to_255_printed_bytes(rt: HostRuntime) -> Result<(), Fail> {
         (b"a;b".as_slice(), true),
         (b"a b".as_slice(), false),
         (b"!~".as_slice(), true),
+        (&long[..14], true),
+        (&long[..15], true),
         (&long[..255], true),
         (long.as_slice(), false),
     ] {
