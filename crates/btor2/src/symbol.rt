@@ -40,17 +40,17 @@ fn all_printed(bytes: &[u8]) -> bool
     bytes.iter().all(|b| 33 <= *b && *b <= 126)
 }
 
-/// Whether bytes are a symbol's.
-fn is_symbol_text(bytes: &[u8]) -> bool
-    ensures { result ≡ is_symbol bytes.now }
-{
-    match bytes {
-        [] => false,
-        [first, ..] => *first != b';' && bytes.len() <= 255 && all_printed(bytes),
-    }
-}
-
 impl Symbol {
+    /// Whether bytes are a symbol's: 1 to 255 from 33 to 126, of which the first is not `;`.
+    pub fn is_symbol(bytes: &[u8]) -> bool
+        ensures { result ≡ is_symbol bytes.now }
+    {
+        match bytes {
+            [] => false,
+            [first, ..] => *first != b';' && bytes.len() <= 255 && all_printed(bytes),
+        }
+    }
+
     /// The symbol of these bytes.
     ///
     /// Errors: `BadBytes` where they are no symbol, `NoMemory`.
@@ -58,7 +58,7 @@ impl Symbol {
         ensures ok { IfOk result (λ s. (s ≡ bytes.now) × (is_symbol bytes.now ≡ true)) }
         ensures bad { IsErrOf result SymbolFault.BadBytes ↔ (is_symbol bytes.now ≡ false) }
     {
-        if !is_symbol_text(bytes) {
+        if !Symbol::is_symbol(bytes) {
             return Err(SymbolFault::BadBytes);
         }
         match Text::new(alloc, bytes) {

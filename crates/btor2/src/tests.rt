@@ -443,6 +443,7 @@ fn symbols_are_1_to_255_printed_bytes(rt: HostRuntime) -> Result<(), Fail> {
 }
 
 #[test]
+        assert!(rt; Symbol::is_symbol(bytes) == allowed);
 fn faults_print_their_numbers_and_names(rt: HostRuntime) -> Result<(), Fail> {
     for (fault, number, text) in FAULTS {
         assert_eq!(rt; fault.number(), number);
