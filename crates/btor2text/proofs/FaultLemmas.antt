@@ -6,7 +6,7 @@ use Rattle.std.proofs.lemmas.List.Elements.{All-from_recursion}
 use Rattle.base.specs.Lines.{IsLine, text_of_lines, whole_lines, unfinished}
 use Rattle.base.proofs.LineLemmas.{EachLine, each_front, each_back, lines_are_lines, unfinished_is_line, parts_of_text}
 use Rattle.btor2.specs.declared.item.Item.{Item}
-use Rattle.btor2.specs.Check.{IsWellFormedAfter}
+use Rattle.btor2.specs.Check.{IsWellFormed, IsWellFormedAfter}
 use Rattle.btor2text.specs.declared.fault.Why.{Why}
 use Rattle.btor2text.specs.declared.fault.Why.TheVariants as why
 use Rattle.btor2text.specs.declared.fault.ReadFault.{ReadFault}
@@ -14,8 +14,7 @@ use Rattle.btor2text.specs.Tokens.{tokens}
 use Rattle.btor2text.specs.Spelling.{SpellsAll}
 use Rattle.btor2text.specs.Reading.{line_after, fault_at, then_lines, line_on, lines_on, text_on}
 use Rattle.btor2text.specs.FirstFault.{IsUnfinished, BeginsFaulty, IsFaultOf}
-use Rattle.btor2text.proofs.BoundLemmas.{IdsFit}
-use Rattle.btor2text.proofs.StandsLemmas.{AddsLine, line_takes, fit_after, spells_line}
+use Rattle.btor2text.proofs.StandsLemmas.{AddsLine, line_takes, well_after, spells_line}
 
 -- what the first of some lines has
 abbrev FaultHere : List Item → List (List ℕ) → List ℕ → Why → Type 0
@@ -81,19 +80,19 @@ later n before mid line lines last e (inr h) f =
     }
 
 then_fails : (n : ℕ) (before : List Item) (line : List ℕ) (lines : List (List ℕ)) (last : List ℕ) (e : ReadFault) (others : List Item → Result (List Item) ReadFault) (r : Result (List Item) Why)
-    → IdsFit before → ((mid : List Item) → IdsFit mid → others mid ≡ Err e → FaultIn (line_after n) mid lines last e)
+    → IsWellFormed before → ((mid : List Item) → IsWellFormed mid → others mid ≡ Err e → FaultIn (line_after n) mid lines last e)
     → line_on before (tokens line) ≡ r → then_lines (line_after n) r others ≡ Err e → FaultIn n before (line ∷ lines) last e
-then_fails n before line lines last e others (Ok mid) fit rest is h =
-    let adds = line_takes before (tokens line) mid fit is in
-    later n before mid line lines last e adds (rest mid (fit_after before mid (tokens line) fit adds) h)
-then_fails n before line lines last e others (Err w) fit rest is h = at_once n before (line ∷ lines) last w e (faults (fault_at (line_after n) w) e h) is
+then_fails n before line lines last e others (Ok mid) formed rest is h =
+    let adds = line_takes before (tokens line) mid formed is in
+    later n before mid line lines last e adds (rest mid (well_after before mid (tokens line) formed adds) h)
+then_fails n before line lines last e others (Err w) formed rest is h = at_once n before (line ∷ lines) last w e (faults (fault_at (line_after n) w) e h) is
 
-lines_fail : (n : ℕ) (before : List Item) (lines : List (List ℕ)) (last : List ℕ) (e : ReadFault) → IdsFit before → lines_on n before lines last ≡ Err e → FaultIn n before lines last e
+lines_fail : (n : ℕ) (before : List Item) (lines : List (List ℕ)) (last : List ℕ) (e : ReadFault) → IsWellFormed before → lines_on n before lines last ≡ Err e → FaultIn n before lines last e
 unfolding lines_on
-lines_fail n before [] [] e fit h = absurd (not_failed before e h)
-lines_fail n before [] (b ∷ bs) e fit h = at_once n before [] (b ∷ bs) why.Unfinished e (faults (fault_at (line_after n) why.Unfinished) e h) (some_bytes b bs, refl)
-lines_fail n before (line ∷ lines) last e fit h =
-    then_fails n before line lines last e (λ mid. lines_on (line_after n) mid lines last) (line_on before (tokens line)) fit (λ mid fits read. lines_fail (line_after n) mid lines last e fits read) refl h
+lines_fail n before [] [] e formed h = absurd (not_failed before e h)
+lines_fail n before [] (b ∷ bs) e formed h = at_once n before [] (b ∷ bs) why.Unfinished e (faults (fault_at (line_after n) why.Unfinished) e h) (some_bytes b bs, refl)
+lines_fail n before (line ∷ lines) last e formed h =
+    then_fails n before line lines last e (λ mid. lines_on (line_after n) mid lines last) (line_on before (tokens line)) formed (λ mid formed read. lines_fail (line_after n) mid lines last e formed read) refl h
 
 -- ---- from lines to bytes
 

@@ -1,8 +1,8 @@
 -- What a line's tokens are read as is what they spell, and what they spell is read.
-use Rattle.std.proofs.Common.{◌≡◌, ℕ, ◌-◌, ◌^◌, ◌<◌, Bool, true, false, cond, List, [], ◌∷◌, ◌++◌, Option, Some, None, Result, Ok, Err, codes, decimal, refl, sym, ap, subst, ◌∙◌, inl, inr, ◌⊎◌}
+use Rattle.std.proofs.Common.{◌≡◌, ℕ, ◌-◌, ◌^◌, ◌<◌, nat_le, Bool, true, false, cond, List, [], ◌∷◌, ◌++◌, Option, Some, None, Result, Ok, Err, codes, decimal, refl, sym, ap, subst, ◌∙◌, inl, inr, ◌⊎◌, arith}
 use Rattle.std.specs.Prelude.{IfSome}
 use Rattle.std.specs.Str.{bytes_eq}
-use Rattle.std.proofs.lemmas.Bool.{false≢true}
+use Rattle.std.proofs.lemmas.Bool.{false≢true, le-leb}
 use Rattle.std.proofs.lemmas.Slice.Eq.{bytes_eq-Decides}
 use Rattle.base.specs.Decimals.{number_of}
 use Rattle.base.specs.declared.operators.Unary.{Unary}
@@ -19,25 +19,12 @@ use Rattle.btor2text.specs.declared.forms.Form.{Form}
 use Rattle.btor2text.specs.declared.forms.Form.TheVariants as form
 use Rattle.btor2text.specs.Basic.{is_basic_unary, is_basic_binary, is_basic}
 use Rattle.btor2text.specs.Spelling.{unary_name, binary_name, form_tokens, symbol_tokens, Spells}
-use Rattle.btor2text.specs.Reading.{◌>>=◌, Tokens, plain_of, operand_of, plain, operand, is_negative, plain_at, operand_at, width_at, pair_at, triple_at, unary_of, binary_of, other_form_of, any_form, unary_form, binary_form, form_of, form_at, body_at, symbol_end, symbol_at, item_at}
+use Rattle.btor2text.specs.Reading.{◌>>=◌, Tokens, plain_of, operand_of, plain, operand, is_negative, plain_at, kept_id, sort_at, operand_at, width_at, pair_at, triple_at, unary_of, binary_of, other_form_of, any_form, unary_form, binary_form, form_of, form_at, body_at, symbol_end, symbol_at, item_at}
+use Rattle.btor2text.proofs.BoundLemmas.{IsId, BodyFits, Fits}
 use Rattle.base.proofs.DecimalLemmas.{chosen, number_is_decimal, number_of-decimal}
 
--- the numbers of an item are below a limit
-abbrev pub BodyFits : ℕ → Body → Type 0
-BodyFits m (body.Sort n) = n < m
-BodyFits m (body.Input s) = s < m
-BodyFits m (body.State s) = s < m
-BodyFits m (body.Zero s) = s < m
-BodyFits m (body.Unary op s a) = (s < m) × (a < m)
-BodyFits m (body.Binary op s a b) = (s < m) × (a < m) × (b < m)
-BodyFits m (body.Init s t v) = (s < m) × (t < m) × (v < m)
-BodyFits m (body.Next s t v) = (s < m) × (t < m) × (v < m)
-BodyFits m (body.Bad a) = a < m
-BodyFits m (body.Constraint a) = a < m
-BodyFits m _ = Unit {0}
-
 -- the greatest number that stands for itself alone is below this
-abbrev pub most : ℕ
+abbrev most : ℕ
 most = 2 ^ 64 - 1
 
 -- ---- steps that did not fail
@@ -94,20 +81,53 @@ plain_at_takes (token ∷ rest) x e =
     let b = bind_ok (plain token) (λ n. Ok (n, rest)) x e in
     subst (λ (p : ℕ × Tokens). p.0 < most → token ∷ rest ≡ decimal p.0 ∷ p.1) (ok_is (b.0, rest) x b.2) (λ lt. ap (λ t. t ∷ rest) (plain_takes token b.0 b.1 lt))
 
-operand_at_takes : (tokens : Tokens) (x : ℕ × Tokens) → operand_at tokens ≡ Ok x → x.0 < most → tokens ≡ decimal x.0 ∷ x.1
+-- a number that is kept as an id is that id
+kept_is : (n m : ℕ) → kept_id n ≡ m → IsId m → (n ≡ m) × (m < most)
+unfolding kept_id
+kept_is n m e h =
+    elim (chosen (nat_le n 4294967295) n 0 m e) [
+      | inl is ↦ (is.1, omega (arith, h.1))
+      | inr none ↦ absurd (omega (arith, none.1, h.0))
+    ]
+
+kept-id : (n : ℕ) → IsId n → kept_id n ≡ n
+unfolding kept_id
+kept-id n h = rw (le-leb n 4294967295 h.1) refl
+
+sort_is : (tokens : Tokens) (n : ℕ) (rest : Tokens) → plain_at tokens ≡ Ok (n, rest) → IsId (kept_id n) → tokens ≡ decimal (kept_id n) ∷ rest
+sort_is tokens n rest e h =
+    let is = kept_is n (kept_id n) refl h in
+    plain_at_takes tokens (kept_id n, rest) (e ∙ ap (λ (m : ℕ). Ok (m, rest)) is.0) is.1
+
+sort_at_takes : (tokens : Tokens) (x : ℕ × Tokens) → sort_at tokens ≡ Ok x → IsId x.0 → tokens ≡ decimal x.0 ∷ x.1
+unfolding sort_at
+sort_at_takes tokens x e =
+    let y = bind_ok (plain_at tokens) (λ y. Ok (kept_id y.0, y.1)) x e in
+    subst (λ (p : ℕ × Tokens). IsId p.0 → tokens ≡ decimal p.0 ∷ p.1) {x = (kept_id y.0.0, y.0.1)} (ok_is (kept_id y.0.0, y.0.1) x y.2) (sort_is tokens y.0.0 y.0.1 y.1)
+
+operand_is : (token : List ℕ) (n : ℕ) → operand token ≡ Ok n → IsId (kept_id n) → token ≡ decimal (kept_id n)
+operand_is token n e h =
+    let is = kept_is n (kept_id n) refl h in
+    operand_takes token (kept_id n) (e ∙ ap (λ (m : ℕ). Ok m) is.0) is.1
+
+operand_at_takes : (tokens : Tokens) (x : ℕ × Tokens) → operand_at tokens ≡ Ok x → IsId x.0 → tokens ≡ decimal x.0 ∷ x.1
 unfolding operand_at
 operand_at_takes [] x e = absurd cc
 operand_at_takes (token ∷ rest) x e =
-    let b = bind_ok (operand token) (λ n. Ok (n, rest)) x e in
-    subst (λ (p : ℕ × Tokens). p.0 < most → token ∷ rest ≡ decimal p.0 ∷ p.1) (ok_is (b.0, rest) x b.2) (λ lt. ap (λ t. t ∷ rest) (operand_takes token b.0 b.1 lt))
+    let b = bind_ok (operand token) (λ n. Ok (kept_id n, rest)) x e in
+    subst (λ (p : ℕ × Tokens). IsId p.0 → token ∷ rest ≡ decimal p.0 ∷ p.1) {x = (kept_id b.0, rest)} (ok_is (kept_id b.0, rest) x b.2) (λ h. ap (λ t. t ∷ rest) (operand_is token b.0 b.1 h))
 
 plain_at-decimal : (n : ℕ) (rest : Tokens) → n < 2 ^ 64 → plain_at (decimal n ∷ rest) ≡ Ok (n, rest)
 unfolding plain_at
 plain_at-decimal n rest lt = rw (plain-decimal n lt) refl
 
-operand_at-decimal : (n : ℕ) (rest : Tokens) → n < 2 ^ 64 → operand_at (decimal n ∷ rest) ≡ Ok (n, rest)
+sort_at-decimal : (n : ℕ) (rest : Tokens) → IsId n → sort_at (decimal n ∷ rest) ≡ Ok (n, rest)
+unfolding sort_at
+sort_at-decimal n rest h = rw (plain_at-decimal n rest (omega (arith, h.1)), kept-id n h) refl
+
+operand_at-decimal : (n : ℕ) (rest : Tokens) → IsId n → operand_at (decimal n ∷ rest) ≡ Ok (n, rest)
 unfolding operand_at
-operand_at-decimal n rest lt = rw (operand-decimal n lt) refl
+operand_at-decimal n rest h = rw (operand-decimal n (omega (arith, h.1)), kept-id n h) refl
 
 width_at_takes : (tokens : Tokens) (x : ℕ × Tokens) → width_at tokens ≡ Ok x → x.0 < most → tokens ≡ codes "bitvec" ∷ decimal x.0 ∷ x.1
 unfolding width_at
@@ -126,36 +146,36 @@ width_at-again : (n : ℕ) (rest : Tokens) → n < 2 ^ 64 → width_at (codes "b
 unfolding width_at
 width_at-again n rest lt = plain_at-decimal n rest lt
 
-pair_joined : (tokens : Tokens) (s a : ℕ × Tokens) → plain_at tokens ≡ Ok s → operand_at s.1 ≡ Ok a → s.0 < most → a.0 < most → tokens ≡ decimal s.0 ∷ decimal a.0 ∷ a.1
-pair_joined tokens s a rs ra first second = plain_at_takes tokens s rs first ∙ ap (λ rest. decimal s.0 ∷ rest) (operand_at_takes s.1 a ra second)
+pair_joined : (tokens : Tokens) (s a : ℕ × Tokens) → sort_at tokens ≡ Ok s → operand_at s.1 ≡ Ok a → IsId s.0 → IsId a.0 → tokens ≡ decimal s.0 ∷ decimal a.0 ∷ a.1
+pair_joined tokens s a rs ra first second = sort_at_takes tokens s rs first ∙ ap (λ rest. decimal s.0 ∷ rest) (operand_at_takes s.1 a ra second)
 
-pair_at_takes : (tokens : Tokens) (x : ℕ × ℕ × Tokens) → pair_at tokens ≡ Ok x → x.0 < most → x.1 < most → tokens ≡ decimal x.0 ∷ decimal x.1 ∷ x.2
+pair_at_takes : (tokens : Tokens) (x : ℕ × ℕ × Tokens) → pair_at tokens ≡ Ok x → IsId x.0 → IsId x.1 → tokens ≡ decimal x.0 ∷ decimal x.1 ∷ x.2
 unfolding pair_at
 pair_at_takes tokens x e =
-    let s = bind_ok (plain_at tokens) (λ s. operand_at s.1 >>= λ a. Ok (s.0, a.0, a.1)) x e in
+    let s = bind_ok (sort_at tokens) (λ s. operand_at s.1 >>= λ a. Ok (s.0, a.0, a.1)) x e in
     let a = bind_ok (operand_at s.0.1) (λ a. Ok (s.0.0, a.0, a.1)) x s.2 in
-    subst (λ (p : ℕ × ℕ × Tokens). p.0 < most → p.1 < most → tokens ≡ decimal p.0 ∷ decimal p.1 ∷ p.2) {x = (s.0.0, a.0.0, a.0.1)} (ok_is (s.0.0, a.0.0, a.0.1) x a.2) (pair_joined tokens s.0 a.0 s.1 a.1)
+    subst (λ (p : ℕ × ℕ × Tokens). IsId p.0 → IsId p.1 → tokens ≡ decimal p.0 ∷ decimal p.1 ∷ p.2) {x = (s.0.0, a.0.0, a.0.1)} (ok_is (s.0.0, a.0.0, a.0.1) x a.2) (pair_joined tokens s.0 a.0 s.1 a.1)
 
-pair_at-again : (s a : ℕ) (rest : Tokens) → s < 2 ^ 64 → a < 2 ^ 64 → pair_at (decimal s ∷ decimal a ∷ rest) ≡ Ok (s, a, rest)
+pair_at-again : (s a : ℕ) (rest : Tokens) → IsId s → IsId a → pair_at (decimal s ∷ decimal a ∷ rest) ≡ Ok (s, a, rest)
 unfolding pair_at
-pair_at-again s a rest first second = rw (plain_at-decimal s (decimal a ∷ rest) first, operand_at-decimal a rest second) refl
+pair_at-again s a rest first second = rw (sort_at-decimal s (decimal a ∷ rest) first, operand_at-decimal a rest second) refl
 
-triple_joined : (tokens : Tokens) (s a b : ℕ × Tokens) → plain_at tokens ≡ Ok s → operand_at s.1 ≡ Ok a → operand_at a.1 ≡ Ok b → s.0 < most → a.0 < most → b.0 < most → tokens ≡ decimal s.0 ∷ decimal a.0 ∷ decimal b.0 ∷ b.1
+triple_joined : (tokens : Tokens) (s a b : ℕ × Tokens) → sort_at tokens ≡ Ok s → operand_at s.1 ≡ Ok a → operand_at a.1 ≡ Ok b → IsId s.0 → IsId a.0 → IsId b.0 → tokens ≡ decimal s.0 ∷ decimal a.0 ∷ decimal b.0 ∷ b.1
 triple_joined tokens s a b rs ra rb first second third =
     pair_joined tokens s a rs ra first second ∙ ap (λ rest. decimal s.0 ∷ decimal a.0 ∷ rest) (operand_at_takes a.1 b rb third)
 
-triple_at_takes : (tokens : Tokens) (x : ℕ × ℕ × ℕ × Tokens) → triple_at tokens ≡ Ok x → x.0 < most → x.1 < most → x.2 < most → tokens ≡ decimal x.0 ∷ decimal x.1 ∷ decimal x.2 ∷ x.3
+triple_at_takes : (tokens : Tokens) (x : ℕ × ℕ × ℕ × Tokens) → triple_at tokens ≡ Ok x → IsId x.0 → IsId x.1 → IsId x.2 → tokens ≡ decimal x.0 ∷ decimal x.1 ∷ decimal x.2 ∷ x.3
 unfolding triple_at
 triple_at_takes tokens x e =
-    let s = bind_ok (plain_at tokens) (λ s. operand_at s.1 >>= λ a. operand_at a.1 >>= λ b. Ok (s.0, a.0, b.0, b.1)) x e in
+    let s = bind_ok (sort_at tokens) (λ s. operand_at s.1 >>= λ a. operand_at a.1 >>= λ b. Ok (s.0, a.0, b.0, b.1)) x e in
     let a = bind_ok (operand_at s.0.1) (λ a. operand_at a.1 >>= λ b. Ok (s.0.0, a.0, b.0, b.1)) x s.2 in
     let b = bind_ok (operand_at a.0.1) (λ b. Ok (s.0.0, a.0.0, b.0, b.1)) x a.2 in
-    subst (λ (p : ℕ × ℕ × ℕ × Tokens). p.0 < most → p.1 < most → p.2 < most → tokens ≡ decimal p.0 ∷ decimal p.1 ∷ decimal p.2 ∷ p.3) {x = (s.0.0, a.0.0, b.0.0, b.0.1)} (ok_is (s.0.0, a.0.0, b.0.0, b.0.1) x b.2) (triple_joined tokens s.0 a.0 b.0 s.1 a.1 b.1)
+    subst (λ (p : ℕ × ℕ × ℕ × Tokens). IsId p.0 → IsId p.1 → IsId p.2 → tokens ≡ decimal p.0 ∷ decimal p.1 ∷ decimal p.2 ∷ p.3) {x = (s.0.0, a.0.0, b.0.0, b.0.1)} (ok_is (s.0.0, a.0.0, b.0.0, b.0.1) x b.2) (triple_joined tokens s.0 a.0 b.0 s.1 a.1 b.1)
 
-triple_at-again : (s a b : ℕ) (rest : Tokens) → s < 2 ^ 64 → a < 2 ^ 64 → b < 2 ^ 64 → triple_at (decimal s ∷ decimal a ∷ decimal b ∷ rest) ≡ Ok (s, a, b, rest)
+triple_at-again : (s a b : ℕ) (rest : Tokens) → IsId s → IsId a → IsId b → triple_at (decimal s ∷ decimal a ∷ decimal b ∷ rest) ≡ Ok (s, a, b, rest)
 unfolding triple_at
 triple_at-again s a b rest first second third =
-    rw (plain_at-decimal s (decimal a ∷ decimal b ∷ rest) first, operand_at-decimal a (decimal b ∷ rest) second, operand_at-decimal b rest third) refl
+    rw (sort_at-decimal s (decimal a ∷ decimal b ∷ rest) first, operand_at-decimal a (decimal b ∷ rest) second, operand_at-decimal b rest third) refl
 
 -- ---- forms
 
@@ -297,22 +317,22 @@ arguments (body.Constraint a) = decimal a ∷ []
 arguments _ = []
 
 abbrev Taken : Form → Tokens → (Body × Tokens) → Type 0
-Taken f tokens x = is_basic_form f ≡ true → BodyFits most x.0 → (form_name f ∷ tokens ≡ form_tokens x.0 ++ x.1) × (is_basic x.0 ≡ true)
+Taken f tokens x = is_basic_form f ≡ true → BodyFits x.0 → (form_name f ∷ tokens ≡ form_tokens x.0 ++ x.1) × (is_basic x.0 ≡ true)
 
 body_at_takes : (f : Form) (tokens : Tokens) (x : Body × Tokens) → body_at f tokens ≡ Ok x → Taken f tokens x
 unfolding body_at
 body_at_takes form.Sort tokens y e =
     let b = bind_ok (width_at tokens) (λ x. Ok (body.Sort x.0, x.1)) y e in
-    subst (Taken form.Sort tokens) (ok_is (body.Sort b.0.0, b.0.1) y b.2) (λ basic fits. (ap (λ t. form_name form.Sort ∷ t) (width_at_takes tokens b.0 b.1 fits), basic))
+    subst (Taken form.Sort tokens) (ok_is (body.Sort b.0.0, b.0.1) y b.2) (λ basic fits. (ap (λ t. form_name form.Sort ∷ t) (width_at_takes tokens b.0 b.1 (omega (arith, fits))), basic))
 body_at_takes form.Input tokens y e =
-    let b = bind_ok (plain_at tokens) (λ x. Ok (body.Input x.0, x.1)) y e in
-    subst (Taken form.Input tokens) (ok_is (body.Input b.0.0, b.0.1) y b.2) (λ basic fits. (ap (λ t. form_name form.Input ∷ t) (plain_at_takes tokens b.0 b.1 fits), basic))
+    let b = bind_ok (sort_at tokens) (λ x. Ok (body.Input x.0, x.1)) y e in
+    subst (Taken form.Input tokens) (ok_is (body.Input b.0.0, b.0.1) y b.2) (λ basic fits. (ap (λ t. form_name form.Input ∷ t) (sort_at_takes tokens b.0 b.1 fits), basic))
 body_at_takes form.State tokens y e =
-    let b = bind_ok (plain_at tokens) (λ x. Ok (body.State x.0, x.1)) y e in
-    subst (Taken form.State tokens) (ok_is (body.State b.0.0, b.0.1) y b.2) (λ basic fits. (ap (λ t. form_name form.State ∷ t) (plain_at_takes tokens b.0 b.1 fits), basic))
+    let b = bind_ok (sort_at tokens) (λ x. Ok (body.State x.0, x.1)) y e in
+    subst (Taken form.State tokens) (ok_is (body.State b.0.0, b.0.1) y b.2) (λ basic fits. (ap (λ t. form_name form.State ∷ t) (sort_at_takes tokens b.0 b.1 fits), basic))
 body_at_takes form.Zero tokens y e =
-    let b = bind_ok (plain_at tokens) (λ x. Ok (body.Zero x.0, x.1)) y e in
-    subst (Taken form.Zero tokens) (ok_is (body.Zero b.0.0, b.0.1) y b.2) (λ basic fits. (ap (λ t. form_name form.Zero ∷ t) (plain_at_takes tokens b.0 b.1 fits), basic))
+    let b = bind_ok (sort_at tokens) (λ x. Ok (body.Zero x.0, x.1)) y e in
+    subst (Taken form.Zero tokens) (ok_is (body.Zero b.0.0, b.0.1) y b.2) (λ basic fits. (ap (λ t. form_name form.Zero ∷ t) (sort_at_takes tokens b.0 b.1 fits), basic))
 body_at_takes (form.Unary op) tokens y e =
     let b = bind_ok (pair_at tokens) (λ x. Ok (body.Unary op x.0 x.1, x.2)) y e in
     subst (Taken (form.Unary op) tokens) (ok_is (body.Unary op b.0.0 b.0.1, b.0.2) y b.2) (λ basic fits. (ap (λ t. form_name (form.Unary op) ∷ t) (pair_at_takes tokens b.0 b.1 fits.0 fits.1), basic))
@@ -332,12 +352,12 @@ body_at_takes form.Constraint tokens y e =
     let b = bind_ok (operand_at tokens) (λ x. Ok (body.Constraint x.0, x.1)) y e in
     subst (Taken form.Constraint tokens) (ok_is (body.Constraint b.0.0, b.0.1) y b.2) (λ basic fits. (ap (λ t. form_name form.Constraint ∷ t) (operand_at_takes tokens b.0 b.1 fits), basic))
 
-body_at-again : (b : Body) (rest : Tokens) → is_basic b ≡ true → BodyFits (2 ^ 64) b → body_at (named_form b) (arguments b ++ rest) ≡ Ok (b, rest)
+body_at-again : (b : Body) (rest : Tokens) → is_basic b ≡ true → BodyFits b → body_at (named_form b) (arguments b ++ rest) ≡ Ok (b, rest)
 unfolding body_at
-body_at-again (body.Sort n) rest basic fits = rw (width_at-again n rest fits) refl
-body_at-again (body.Input s) rest basic fits = rw (plain_at-decimal s rest fits) refl
-body_at-again (body.State s) rest basic fits = rw (plain_at-decimal s rest fits) refl
-body_at-again (body.Zero s) rest basic fits = rw (plain_at-decimal s rest fits) refl
+body_at-again (body.Sort n) rest basic fits = rw (width_at-again n rest (omega (arith, fits))) refl
+body_at-again (body.Input s) rest basic fits = rw (sort_at-decimal s rest fits) refl
+body_at-again (body.State s) rest basic fits = rw (sort_at-decimal s rest fits) refl
+body_at-again (body.Zero s) rest basic fits = rw (sort_at-decimal s rest fits) refl
 body_at-again (body.Unary op s a) rest basic fits = rw (pair_at-again s a rest fits.0 fits.1) refl
 body_at-again (body.Binary op s a b) rest basic fits = rw (triple_at-again s a b rest fits.0 fits.1 fits.2) refl
 body_at-again (body.Init s t v) rest basic fits = rw (triple_at-again s t v rest fits.0 fits.1 fits.2) refl
@@ -385,42 +405,38 @@ symbol_at-again (Some token) h = rw h refl
 
 -- ---- items
 
-pub record Fits (m : ℕ) (x : Item) : Type 0 where
-  pub id : x.id < m
-  pub body : BodyFits m x.body
-
 -- the parts of a line, joined
 spelled : (first : List ℕ) (rest : Tokens) (id : ℕ) (f : Form × Tokens) (b : Body × Tokens) (s : Option (List ℕ))
     → plain first ≡ Ok id → form_at rest ≡ Ok f → body_at f.0 f.1 ≡ Ok b → symbol_at b.1 ≡ Ok s
-    → Fits most (record { id = id; symbol = s; body = b.0 }) → Spells (first ∷ rest) (record { id = id; symbol = s; body = b.0 })
+    → Fits (record { id = id; symbol = s; body = b.0 }) → Spells (first ∷ rest) (record { id = id; symbol = s; body = b.0 })
 spelled first rest id f b s ri rf rb rs fits =
     let symbol = symbol_at_takes b.1 s rs in
     let form = form_at_takes rest f rf in
     let body = body_at_takes f.0 f.1 b rb form.1 fits.body in
     record {
-      tokens = ap (λ t. t ∷ rest) (plain_takes first id ri fits.id) ∙ ap (λ t. decimal id ∷ t) (form.0 ∙ (body.0 ∙ ap (λ t. form_tokens b.0 ++ t) symbol.0));
+      tokens = ap (λ t. t ∷ rest) (plain_takes first id ri (omega (arith, fits.id.1))) ∙ ap (λ t. decimal id ∷ t) (form.0 ∙ (body.0 ∙ ap (λ t. form_tokens b.0 ++ t) symbol.0));
       basic = body.1;
       symbol = symbol.1;
     }
 
-pub item_takes : (first : List ℕ) (rest : Tokens) (x : Item) → item_at first rest ≡ Ok x → Fits most x → Spells (first ∷ rest) x
+pub item_takes : (first : List ℕ) (rest : Tokens) (x : Item) → item_at first rest ≡ Ok x → Fits x → Spells (first ∷ rest) x
 unfolding item_at
 item_takes first rest x e =
     let i = bind_ok (plain first) (λ id. form_at rest >>= λ f. body_at f.0 f.1 >>= λ b. symbol_at b.1 >>= λ s. Ok (record { id = id; symbol = s; body = b.0 })) x e in
     let f = bind_ok (form_at rest) (λ f. body_at f.0 f.1 >>= λ b. symbol_at b.1 >>= λ s. Ok (record { id = i.0; symbol = s; body = b.0 })) x i.2 in
     let b = bind_ok (body_at f.0.0 f.0.1) (λ b. symbol_at b.1 >>= λ s. Ok (record { id = i.0; symbol = s; body = b.0 })) x f.2 in
     let s = bind_ok (symbol_at b.0.1) (λ s. Ok (record { id = i.0; symbol = s; body = b.0.0 })) x b.2 in
-    subst (λ (y : Item). Fits most y → Spells (first ∷ rest) y) {x = record { id = i.0; symbol = s.0; body = b.0.0 }} (ok_is (record { id = i.0; symbol = s.0; body = b.0.0 }) x s.2) (spelled first rest i.0 f.0 b.0 s.0 i.1 f.1 b.1 s.1)
+    subst (λ (y : Item). Fits y → Spells (first ∷ rest) y) {x = record { id = i.0; symbol = s.0; body = b.0.0 }} (ok_is (record { id = i.0; symbol = s.0; body = b.0.0 }) x s.2) (spelled first rest i.0 f.0 b.0 s.0 i.1 f.1 b.1 s.1)
 
-read_again : (x : Item) → is_basic x.body ≡ true → Fits (2 ^ 64) x → IsSymbolOption x.symbol → item_at (decimal x.id) (form_tokens x.body ++ symbol_tokens x.symbol) ≡ Ok x
+read_again : (x : Item) → is_basic x.body ≡ true → Fits x → IsSymbolOption x.symbol → item_at (decimal x.id) (form_tokens x.body ++ symbol_tokens x.symbol) ≡ Ok x
 unfolding item_at
 read_again x basic fits symbol =
-    rw (plain-decimal x.id fits.id, form_at-again x.body (symbol_tokens x.symbol) basic, body_at-again x.body (symbol_tokens x.symbol) basic fits.body, symbol_at-again x.symbol symbol) refl
+    rw (plain-decimal x.id (omega (arith, fits.id.1)), form_at-again x.body (symbol_tokens x.symbol) basic, body_at-again x.body (symbol_tokens x.symbol) basic fits.body, symbol_at-again x.symbol symbol) refl
 
 heads : (a b : List ℕ) (xs ys : Tokens) → a ∷ xs ≡ b ∷ ys → (a ≡ b) × (xs ≡ ys)
 heads a b xs ys e = (cc, cc)
 
-pub item_again : (first : List ℕ) (rest : Tokens) (x : Item) → Spells (first ∷ rest) x → Fits (2 ^ 64) x → item_at first rest ≡ Ok x
+pub item_again : (first : List ℕ) (rest : Tokens) (x : Item) → Spells (first ∷ rest) x → Fits x → item_at first rest ≡ Ok x
 item_again first rest x spelled fits =
     let parts = heads first (decimal x.id) rest (form_tokens x.body ++ symbol_tokens x.symbol) spelled.tokens in
     rw (parts.0, parts.1) (read_again x spelled.basic fits spelled.symbol)

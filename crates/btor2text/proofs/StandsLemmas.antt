@@ -6,13 +6,14 @@ use Rattle.base.specs.Lines.{IsLine, text_of_lines, whole_lines, unfinished}
 use Rattle.base.proofs.LineLemmas.{lines_are_lines, parts_of_text, lines_of_text, unfinished_of_text}
 use Rattle.btor2.specs.declared.item.Item.{Item}
 use Rattle.btor2.specs.declared.fault.PushFault.{PushFault}
-use Rattle.btor2.specs.Check.{refusal, IsWellFormedAfter}
+use Rattle.btor2.specs.Check.{refusal, IsWellFormed, IsWellFormedAfter}
+use Rattle.btor2.proofs.ModelLemmas.{IsWellFormed-push}
 use Rattle.btor2text.specs.declared.fault.Why.{Why}
 use Rattle.btor2text.specs.declared.fault.ReadFault.{ReadFault}
 use Rattle.btor2text.specs.Tokens.{tokens}
 use Rattle.btor2text.specs.Spelling.{Spells, SpellsAll, StandsFor}
 use Rattle.btor2text.specs.Reading.{Tokens, item_at, accepted, line_after, then_lines, line_on, lines_on, text_on}
-use Rattle.btor2text.proofs.BoundLemmas.{IdsFit, accepted_fits, accepted_id, fits_more}
+use Rattle.btor2text.proofs.BoundLemmas.{accepted_fits}
 use Rattle.btor2text.proofs.ItemLemmas.{bind_ok, item_takes, item_again}
 
 -- ---- one line
@@ -25,18 +26,18 @@ accepted_is : (before : List Item) (x : Item) (r : Option PushFault) (items : Li
 accepted_is before x None items e = (refl, cc)
 accepted_is before x (Some f) items e = absurd cc
 
-pub line_takes : (before : List Item) (line : Tokens) (items : List Item) → IdsFit before → line_on before line ≡ Ok items → AddsLine before line items
+pub line_takes : (before : List Item) (line : Tokens) (items : List Item) → IsWellFormed before → line_on before line ≡ Ok items → AddsLine before line items
 unfolding line_on
-line_takes before [] items fit e = inl (refl, cc)
-line_takes before (first ∷ rest) items fit e =
+line_takes before [] items formed e = inl (refl, cc)
+line_takes before (first ∷ rest) items formed e =
     let x = bind_ok (item_at first rest) (λ x. accepted before x (refusal before x)) items e in
     let is = accepted_is before x.0 (refusal before x.0) items x.2 in
-    inr (x.0, ((item_takes first rest x.0 x.1 (accepted_fits before x.0 fit is.0), is.0), is.1))
+    inr (x.0, ((item_takes first rest x.0 x.1 (accepted_fits before x.0 formed is.0), is.0), is.1))
 
-line_again : (before : List Item) (first : List ℕ) (rest : Tokens) (x : Item) → IdsFit before → Spells (first ∷ rest) x → refusal before x ≡ None → line_on before (first ∷ rest) ≡ Ok (before ++ x ∷ [])
+line_again : (before : List Item) (first : List ℕ) (rest : Tokens) (x : Item) → IsWellFormed before → Spells (first ∷ rest) x → refusal before x ≡ None → line_on before (first ∷ rest) ≡ Ok (before ++ x ∷ [])
 unfolding line_on
-line_again before first rest x fit spelled none =
-    rw (item_again first rest x spelled (fits_more x (accepted_fits before x fit none)), none) refl
+line_again before first rest x formed spelled none =
+    rw (item_again first rest x spelled (accepted_fits before x formed none), none) refl
 
 -- ---- lines
 
@@ -70,17 +71,17 @@ adds_line before mid items line lines last (inr h) others =
       ended = others.ended;
     }
 
-pub fit_after : (before mid : List Item) (line : Tokens) → IdsFit before → AddsLine before line mid → IdsFit mid
-fit_after before mid line fit (inl h) = rw h.1 fit
-fit_after before mid line fit (inr h) = rw h.1.1 (accepted_id before h.0 fit h.1.0.1)
+pub well_after : (before mid : List Item) (line : Tokens) → IsWellFormed before → AddsLine before line mid → IsWellFormed mid
+well_after before mid line formed (inl h) = rw h.1 formed
+well_after before mid line formed (inr h) = rw h.1.1 (IsWellFormed-push before h.0 formed h.1.0.1)
 
 then_adds : (n : ℕ) (before items : List Item) (line : Tokens) (lines : List Tokens) (last : List ℕ) (others : List Item → Result (List Item) ReadFault) (r : Result (List Item) Why)
-    → IdsFit before → ((mid : List Item) → IdsFit mid → others mid ≡ Ok items → Adds mid lines last items)
+    → IsWellFormed before → ((mid : List Item) → IsWellFormed mid → others mid ≡ Ok items → Adds mid lines last items)
     → line_on before line ≡ r → then_lines n r others ≡ Ok items → Adds before (line ∷ lines) last items
-then_adds n before items line lines last others (Ok mid) fit rest is e =
-    let adds = line_takes before line mid fit is in
-    adds_line before mid items line lines last adds (rest mid (fit_after before mid line fit adds) e)
-then_adds n before items line lines last others (Err w) fit rest is e = absurd cc
+then_adds n before items line lines last others (Ok mid) formed rest is e =
+    let adds = line_takes before line mid formed is in
+    adds_line before mid items line lines last adds (rest mid (well_after before mid line formed adds) e)
+then_adds n before items line lines last others (Err w) formed rest is e = absurd cc
 
 -- items that were read; two of them that are the same answer are the same
 abbrev pub done : List Item → Result (List Item) ReadFault
@@ -89,12 +90,12 @@ done items = Ok items
 pub ok_items : (a b : List Item) → done a ≡ done b → a ≡ b
 ok_items a b e = cc
 
-lines_take : (n : ℕ) (before : List Item) (lines : List (List ℕ)) (last : List ℕ) (items : List Item) → IdsFit before → lines_on n before lines last ≡ Ok items → Adds before (map tokens lines) last items
+lines_take : (n : ℕ) (before : List Item) (lines : List (List ℕ)) (last : List ℕ) (items : List Item) → IsWellFormed before → lines_on n before lines last ≡ Ok items → Adds before (map tokens lines) last items
 unfolding lines_on
-lines_take n before [] [] items fit e = record { added = []; whole = ok_items items before (sym e) ∙ sym (append-nil before); spelled = tt; well_formed = tt; ended = refl }
-lines_take n before [] (b ∷ bs) items fit e = absurd cc
-lines_take n before (line ∷ lines) last items fit e =
-    then_adds (line_after n) before items (tokens line) (map tokens lines) last (λ mid. lines_on (line_after n) mid lines last) (line_on before (tokens line)) fit (λ mid fits read. lines_take (line_after n) mid lines last items fits read) refl e
+lines_take n before [] [] items formed e = record { added = []; whole = ok_items items before (sym e) ∙ sym (append-nil before); spelled = tt; well_formed = tt; ended = refl }
+lines_take n before [] (b ∷ bs) items formed e = absurd cc
+lines_take n before (line ∷ lines) last items formed e =
+    then_adds (line_after n) before items (tokens line) (map tokens lines) last (λ mid. lines_on (line_after n) mid lines last) (line_on before (tokens line)) formed (λ mid formed read. lines_take (line_after n) mid lines last items formed read) refl e
 
 -- a line that spells an item, or has no token, and the lines behind it
 empty_again : (n : ℕ) (before items : List Item) (others : List Item → Result (List Item) ReadFault) → others before ≡ Ok (before ++ items) → then_lines n (line_on before []) others ≡ Ok (before ++ items)
@@ -102,22 +103,22 @@ unfolding line_on
 empty_again n before items others e = e
 
 then_again : (n : ℕ) (before items : List Item) (line : Tokens) (lines : List Tokens) (others : List Item → Result (List Item) ReadFault)
-    → IdsFit before → SpellsAll (line ∷ lines) items → IsWellFormedAfter before items
-    → ((mid xs : List Item) → IdsFit mid → SpellsAll lines xs → IsWellFormedAfter mid xs → others mid ≡ Ok (mid ++ xs))
+    → IsWellFormed before → SpellsAll (line ∷ lines) items → IsWellFormedAfter before items
+    → ((mid xs : List Item) → IsWellFormed mid → SpellsAll lines xs → IsWellFormedAfter mid xs → others mid ≡ Ok (mid ++ xs))
     → then_lines n (line_on before line) others ≡ Ok (before ++ items)
-then_again n before items [] lines others fit spelled well rest = empty_again n before items others (rest before items fit spelled well)
-then_again n before [] (token ∷ line) lines others fit spelled well rest = absurd spelled
-then_again n before (x ∷ xs) (token ∷ line) lines others fit spelled well rest =
-    let one = line_again before token line x fit spelled.0 well.0 in
-    let more = rest (before ++ x ∷ []) xs (accepted_id before x fit well.0) spelled.1 well.1 in
+then_again n before items [] lines others formed spelled well rest = empty_again n before items others (rest before items formed spelled well)
+then_again n before [] (token ∷ line) lines others formed spelled well rest = absurd spelled
+then_again n before (x ∷ xs) (token ∷ line) lines others formed spelled well rest =
+    let one = line_again before token line x formed spelled.0 well.0 in
+    let more = rest (before ++ x ∷ []) xs (IsWellFormed-push before x formed well.0) spelled.1 well.1 in
     ap (λ r. then_lines n r others) one ∙ (more ∙ ap (λ (all : List Item). Ok all) (append_assoc before (x ∷ []) xs))
 
-lines_again : (n : ℕ) (before : List Item) (lines : List (List ℕ)) (items : List Item) → IdsFit before → SpellsAll (map tokens lines) items → IsWellFormedAfter before items → lines_on n before lines [] ≡ Ok (before ++ items)
+lines_again : (n : ℕ) (before : List Item) (lines : List (List ℕ)) (items : List Item) → IsWellFormed before → SpellsAll (map tokens lines) items → IsWellFormedAfter before items → lines_on n before lines [] ≡ Ok (before ++ items)
 unfolding lines_on
-lines_again n before [] [] fit spelled well = ap (λ (all : List Item). Ok all) (sym (append-nil before))
-lines_again n before [] (x ∷ xs) fit spelled well = absurd spelled
-lines_again n before (line ∷ lines) items fit spelled well =
-    then_again (line_after n) before items (tokens line) (map tokens lines) (λ mid. lines_on (line_after n) mid lines []) fit spelled well (λ mid xs fits others wells. lines_again (line_after n) mid lines xs fits others wells)
+lines_again n before [] [] formed spelled well = ap (λ (all : List Item). Ok all) (sym (append-nil before))
+lines_again n before [] (x ∷ xs) formed spelled well = absurd spelled
+lines_again n before (line ∷ lines) items formed spelled well =
+    then_again (line_after n) before items (tokens line) (map tokens lines) (λ mid. lines_on (line_after n) mid lines []) formed spelled well (λ mid xs formed others wells. lines_again (line_after n) mid lines xs formed others wells)
 
 -- ---- a text
 

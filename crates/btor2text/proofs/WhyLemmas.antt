@@ -16,7 +16,7 @@ use Rattle.btor2text.specs.declared.fault.ReadFault.{ReadFault}
 use Rattle.btor2text.specs.declared.forms.Form.{Form}
 use Rattle.btor2text.specs.declared.forms.Form.TheVariants as form
 use Rattle.btor2text.specs.Tokens.{tokens}
-use Rattle.btor2text.specs.Reading.{◌>>=◌, Tokens, is_negative, plain_of, operand_of, plain, operand, plain_at, operand_at, width_at, pair_at, triple_at, unary_of, binary_of, other_form_of, no_form, any_form, unary_form, binary_form, form_of, form_at, body_at, symbol_end, symbol_at, item_at, accepted, line_after, then_lines, line_on, lines_on, text_on}
+use Rattle.btor2text.specs.Reading.{◌>>=◌, Tokens, is_negative, plain_of, operand_of, plain, operand, plain_at, kept_id, sort_at, operand_at, width_at, pair_at, triple_at, unary_of, binary_of, other_form_of, no_form, any_form, unary_form, binary_form, form_of, form_at, body_at, symbol_end, symbol_at, item_at, accepted, line_after, then_lines, line_on, lines_on, text_on}
 
 -- a why of a text
 abbrev pub IsOfText : Why → Type 0
@@ -59,10 +59,14 @@ unfolding plain_at
 plain_at_told [] = tt
 plain_at_told (token ∷ rest) = told_bind (plain token) (λ n. Ok (n, rest)) (plain_told token) (λ _. tt)
 
+sort_at_told : (tokens : Tokens) → Told (sort_at tokens)
+unfolding sort_at
+sort_at_told tokens = told_bind (plain_at tokens) (λ x. Ok (kept_id x.0, x.1)) (plain_at_told tokens) (λ _. tt)
+
 operand_at_told : (tokens : Tokens) → Told (operand_at tokens)
 unfolding operand_at
 operand_at_told [] = tt
-operand_at_told (token ∷ rest) = told_bind (operand token) (λ n. Ok (n, rest)) (operand_told token) (λ _. tt)
+operand_at_told (token ∷ rest) = told_bind (operand token) (λ n. Ok (kept_id n, rest)) (operand_told token) (λ _. tt)
 
 width_at_told : (tokens : Tokens) → Told (width_at tokens)
 unfolding width_at
@@ -71,12 +75,12 @@ width_at_told (token ∷ rest) = told_if (bytes_eq token (codes "bitvec")) (plai
 
 pair_at_told : (tokens : Tokens) → Told (pair_at tokens)
 unfolding pair_at
-pair_at_told tokens = told_bind (plain_at tokens) _ (plain_at_told tokens) (λ s. told_bind (operand_at s.1) (λ a. Ok (s.0, a.0, a.1)) (operand_at_told s.1) (λ _. tt))
+pair_at_told tokens = told_bind (sort_at tokens) _ (sort_at_told tokens) (λ s. told_bind (operand_at s.1) (λ a. Ok (s.0, a.0, a.1)) (operand_at_told s.1) (λ _. tt))
 
 triple_at_told : (tokens : Tokens) → Told (triple_at tokens)
 unfolding triple_at
 triple_at_told tokens =
-    told_bind (plain_at tokens) (λ s. operand_at s.1 >>= λ a. operand_at a.1 >>= λ b. Ok (s.0, a.0, b.0, b.1)) (plain_at_told tokens) (λ s.
+    told_bind (sort_at tokens) (λ s. operand_at s.1 >>= λ a. operand_at a.1 >>= λ b. Ok (s.0, a.0, b.0, b.1)) (sort_at_told tokens) (λ s.
     told_bind (operand_at s.1) (λ a. operand_at a.1 >>= λ b. Ok (s.0, a.0, b.0, b.1)) (operand_at_told s.1) (λ a.
     told_bind (operand_at a.1) (λ b. Ok (s.0, a.0, b.0, b.1)) (operand_at_told a.1) (λ _. tt)))
 
@@ -108,9 +112,9 @@ form_at_told (word ∷ rest) = told_bind (form_of word) (λ f. Ok (f, rest)) (fo
 body_at_told : (f : Form) (tokens : Tokens) → Told (body_at f tokens)
 unfolding body_at
 body_at_told form.Sort tokens = told_bind (width_at tokens) _ (width_at_told tokens) (λ _. tt)
-body_at_told form.Input tokens = told_bind (plain_at tokens) _ (plain_at_told tokens) (λ _. tt)
-body_at_told form.State tokens = told_bind (plain_at tokens) _ (plain_at_told tokens) (λ _. tt)
-body_at_told form.Zero tokens = told_bind (plain_at tokens) _ (plain_at_told tokens) (λ _. tt)
+body_at_told form.Input tokens = told_bind (sort_at tokens) _ (sort_at_told tokens) (λ _. tt)
+body_at_told form.State tokens = told_bind (sort_at tokens) _ (sort_at_told tokens) (λ _. tt)
+body_at_told form.Zero tokens = told_bind (sort_at tokens) _ (sort_at_told tokens) (λ _. tt)
 body_at_told (form.Unary op) tokens = told_bind (pair_at tokens) _ (pair_at_told tokens) (λ _. tt)
 body_at_told (form.Binary op) tokens = told_bind (triple_at tokens) _ (triple_at_told tokens) (λ _. tt)
 body_at_told form.Init tokens = told_bind (triple_at tokens) _ (triple_at_told tokens) (λ _. tt)

@@ -1,5 +1,5 @@
 -- Reading a model's text from left to right, with the first fault that is met.
-use Rattle.std.specs.Prelude.{◌≡◌, ℕ, ◌+◌, ◌-◌, ◌^◌, min, Bool, false, ◌||◌, List, [], ◌∷◌, ◌++◌, Option, Some, None, Result, Ok, Err, ◌==◌, if◌then◌else◌, codes, ◌⊎◌}
+use Rattle.std.specs.Prelude.{◌≡◌, ℕ, ◌+◌, ◌-◌, ◌^◌, min, Bool, false, ◌||◌, List, [], ◌∷◌, ◌++◌, Option, Some, None, Result, Ok, Err, ◌==◌, nat_le, if◌then◌else◌, codes, ◌⊎◌}
 use Rattle.std.specs.Str.{bytes_eq}
 use Rattle.base.specs.Lines.{whole_lines, unfinished}
 use Rattle.base.specs.Decimals.{is_decimal, number_of}
@@ -74,12 +74,23 @@ plain_at (token ∷ rest) = do
   n ← plain token
   Ok (n, rest)
 
--- an operand, and the tokens behind it
+-- The id that an item keeps of a number: ids have 32 bits, and a number above the greatest id is kept as 0. No item
+-- has the id 0, since a push refuses it, so 0 names no earlier sort and no earlier node, as the number itself does.
+unfoldable pub kept_id : ℕ → ℕ
+kept_id n = if nat_le n 4294967295 then n else 0
+
+-- the id of a sort, and the tokens behind it
+unfoldable pub sort_at : Tokens → Result (ℕ × Tokens) Why
+sort_at tokens = do
+  x ← plain_at tokens
+  Ok (kept_id x.0, x.1)
+
+-- the id of an operand, and the tokens behind it
 unfoldable pub operand_at : Tokens → Result (ℕ × Tokens) Why
 operand_at [] = Err why.BadToken
 operand_at (token ∷ rest) = do
   n ← operand token
-  Ok (n, rest)
+  Ok (kept_id n, rest)
 
 -- the width that the tokens behind `sort` say, and the tokens behind it
 unfoldable pub width_at : Tokens → Result (ℕ × Tokens) Why
@@ -89,14 +100,14 @@ width_at (token ∷ rest) = if bytes_eq token (codes "bitvec") then plain_at res
 -- a sort and an operand, and the tokens behind them
 unfoldable pub pair_at : Tokens → Result (ℕ × ℕ × Tokens) Why
 pair_at tokens = do
-  s ← plain_at tokens
+  s ← sort_at tokens
   a ← operand_at s.1
   Ok (s.0, a.0, a.1)
 
 -- a sort and two operands, and the tokens behind them
 unfoldable pub triple_at : Tokens → Result (ℕ × ℕ × ℕ × Tokens) Why
 triple_at tokens = do
-  s ← plain_at tokens
+  s ← sort_at tokens
   a ← operand_at s.1
   b ← operand_at a.1
   Ok (s.0, a.0, b.0, b.1)
@@ -158,13 +169,13 @@ body_at form.Sort tokens = do
   x ← width_at tokens
   Ok (body.Sort x.0, x.1)
 body_at form.Input tokens = do
-  x ← plain_at tokens
+  x ← sort_at tokens
   Ok (body.Input x.0, x.1)
 body_at form.State tokens = do
-  x ← plain_at tokens
+  x ← sort_at tokens
   Ok (body.State x.0, x.1)
 body_at form.Zero tokens = do
-  x ← plain_at tokens
+  x ← sort_at tokens
   Ok (body.Zero x.0, x.1)
 body_at (form.Unary op) tokens = do
   x ← pair_at tokens

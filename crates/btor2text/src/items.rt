@@ -1,6 +1,6 @@
 ghost use Rattle.std.specs.Prelude.{◌≡◌};
 ghost use Rattle.btor2text.specs.Tokens.{tokens};
-ghost use Rattle.btor2text.specs.Reading.{Gives, GivesUnlessFull, is_negative, plain, operand, plain_at, operand_at, width_at, pair_at, triple_at, form_at, body_at, symbol_at, item_at};
+ghost use Rattle.btor2text.specs.Reading.{Gives, GivesUnlessFull, is_negative, plain, operand, plain_at, kept_id, sort_at, operand_at, width_at, pair_at, triple_at, form_at, body_at, symbol_at, item_at};
 
 use crate::fault::Why;
 use crate::forms::{Form, form_of, is_word};
@@ -57,15 +57,32 @@ fn plain_at(line: &[u8]) -> Result<(u64, &[u8]), Why>
     }
 }
 
-/// A number in an operand's place, and the line behind it.
+/// The id that an item keeps of a number: ids have 32 bits, and what is above is kept as 0, which no item has.
+#[tactic(auto, unfolding(crate::specs::Reading::kept_id))]
+fn kept_id(number: u64) -> u32
+    ensures { result ≡ kept_id number }
+{
+    u32::try_from(number).unwrap_or(0)
+}
+
+/// The id of a sort, and the line behind it.
+#[tactic(auto, unfolding(crate::specs::Reading::sort_at))]
+fn sort_at(line: &[u8]) -> Result<(u32, &[u8]), Why>
+    ensures { Gives (λ x. (x.0, tokens x.1.now)) result (sort_at (tokens line.now)) }
+{
+    let (number, rest) = plain_at(line)?;
+    Ok((kept_id(number), rest))
+}
+
+/// The id of an operand, and the line behind it.
 #[tactic(auto, unfolding(crate::specs::Reading::operand_at))]
-fn operand_at(line: &[u8]) -> Result<(u64, &[u8]), Why>
+fn operand_at(line: &[u8]) -> Result<(u32, &[u8]), Why>
     ensures { Gives (λ x. (x.0, tokens x.1.now)) result (operand_at (tokens line.now)) }
 {
     match next_token(line) {
         None => Err(Why::BadToken),
         Some((token, rest)) => match operand(token) {
-            Ok(number) => Ok((number, rest)),
+            Ok(number) => Ok((kept_id(number), rest)),
             Err(why) => Err(why),
         },
     }
@@ -92,20 +109,20 @@ fn width_at(line: &[u8]) -> Result<(u64, &[u8]), Why>
 
 /// A sort and an operand, and the line behind them.
 #[tactic(auto, unfolding(crate::specs::Reading::pair_at))]
-fn pair_at(line: &[u8]) -> Result<(u64, u64, &[u8]), Why>
+fn pair_at(line: &[u8]) -> Result<(u32, u32, &[u8]), Why>
     ensures { Gives (λ x. (x.0, x.1, tokens x.2.now)) result (pair_at (tokens line.now)) }
 {
-    let (sort, rest) = plain_at(line)?;
+    let (sort, rest) = sort_at(line)?;
     let (first, rest) = operand_at(rest)?;
     Ok((sort, first, rest))
 }
 
 /// A sort and two operands, and the line behind them.
 #[tactic(auto, unfolding(crate::specs::Reading::triple_at))]
-fn triple_at(line: &[u8]) -> Result<(u64, u64, u64, &[u8]), Why>
+fn triple_at(line: &[u8]) -> Result<(u32, u32, u32, &[u8]), Why>
     ensures { Gives (λ x. (x.0, x.1, x.2, tokens x.3.now)) result (triple_at (tokens line.now)) }
 {
-    let (sort, rest) = plain_at(line)?;
+    let (sort, rest) = sort_at(line)?;
     let (first, rest) = operand_at(rest)?;
     let (second, rest) = operand_at(rest)?;
     Ok((sort, first, second, rest))
@@ -136,15 +153,15 @@ fn body_at(form: Form, line: &[u8]) -> Result<(Body, &[u8]), Why>
             Ok((Body::Sort { width }, rest))
         }
         Form::Input => {
-            let (sort, rest) = plain_at(line)?;
+            let (sort, rest) = sort_at(line)?;
             Ok((Body::Input { sort }, rest))
         }
         Form::State => {
-            let (sort, rest) = plain_at(line)?;
+            let (sort, rest) = sort_at(line)?;
             Ok((Body::State { sort }, rest))
         }
         Form::Zero => {
-            let (sort, rest) = plain_at(line)?;
+            let (sort, rest) = sort_at(line)?;
             Ok((Body::Zero { sort }, rest))
         }
         Form::Unary(operator) => {
