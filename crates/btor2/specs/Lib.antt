@@ -1,5 +1,6 @@
 pub mod Faults
 pub mod Symbols
+pub mod Texts
 pub mod Items
 pub mod Check
 pub mod Lists

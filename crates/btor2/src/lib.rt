@@ -7,6 +7,7 @@ mod laws;
 mod model;
 mod operands;
 mod symbol;
+mod text;
 
 pub use fault::PushFault;
 pub use item::{Body, Item};

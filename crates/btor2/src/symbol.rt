@@ -3,6 +3,7 @@ ghost use Rattle.std.specs.List.{list_all};
 ghost use Rattle.btor2.specs.Symbols.{is_symbol, is_printed};
 ghost use Rattle.btor2.specs.Faults.{symbol_fault_number};
 
+use crate::text::Text;
 use std::alloc::Global;
 use std::marker::Model;
 use thiserror::Error;
@@ -10,15 +11,15 @@ use thiserror::Error;
 /// The name of an item: 1 to 255 bytes from 33 to 126, of which the first is not `;`.
 #[derive(Debug, Drop)]
 pub struct Symbol {
-    text: Vec<u8>,
+    text: Text,
 }
 
 impl Model for Symbol {
     ghost Value = { List ℕ };
 
-    ghost view = { λ s. s.text.items };
+    ghost view = { λ s. s.text };
 
-    ghost invariant = { λ s. is_symbol s.text.items ≡ true };
+    ghost invariant = { λ s. is_symbol s.text ≡ true };
 }
 
 /// Why bytes are no symbol.
@@ -39,17 +40,17 @@ fn all_printed(bytes: &[u8]) -> bool
     bytes.iter().all(|b| 33 <= *b && *b <= 126)
 }
 
-/// Whether bytes are a symbol's.
-fn is_symbol_text(bytes: &[u8]) -> bool
-    ensures { result ≡ is_symbol bytes.now }
-{
-    match bytes {
-        [] => false,
-        [first, ..] => *first != b';' && bytes.len() <= 255 && all_printed(bytes),
-    }
-}
-
 impl Symbol {
+    /// Whether bytes are a symbol's: 1 to 255 from 33 to 126, of which the first is not `;`.
+    pub fn is_symbol(bytes: &[u8]) -> bool
+        ensures { result ≡ is_symbol bytes.now }
+    {
+        match bytes {
+            [] => false,
+            [first, ..] => *first != b';' && bytes.len() <= 255 && all_printed(bytes),
+        }
+    }
+
     /// The symbol of these bytes.
     ///
     /// Errors: `BadBytes` where they are no symbol, `NoMemory`.
@@ -57,10 +58,10 @@ impl Symbol {
         ensures ok { IfOk result (λ s. (s ≡ bytes.now) × (is_symbol bytes.now ≡ true)) }
         ensures bad { IsErrOf result SymbolFault.BadBytes ↔ (is_symbol bytes.now ≡ false) }
     {
-        if !is_symbol_text(bytes) {
+        if !Symbol::is_symbol(bytes) {
             return Err(SymbolFault::BadBytes);
         }
-        match Vec::from_slice(alloc, bytes) {
+        match Text::new(alloc, bytes) {
             Ok(text) => Ok(Symbol { text }),
             Err(_) => Err(SymbolFault::NoMemory),
         }
@@ -71,7 +72,7 @@ impl Symbol {
         ensures bytes { result.now ≡ self.now }
         ensures valid { is_symbol self.now ≡ true }
     {
-        self.text.as_slice()
+        self.text.bytes()
     }
 }
 

@@ -457,6 +457,8 @@ fn symbols_are_1_to_255_printed_bytes(rt: HostRuntime) -> Result<(), Fail> {
         (b"a;b".as_slice(), true),
         (b"a b".as_slice(), false),
         (b"!~".as_slice(), true),
+        (&long[..14], true),
+        (&long[..15], true),
         (&long[..255], true),
         (long.as_slice(), false),
     ] {
@@ -469,6 +471,7 @@ fn symbols_are_1_to_255_printed_bytes(rt: HostRuntime) -> Result<(), Fail> {
 }
 
 #[test]
+        assert!(rt; Symbol::is_symbol(bytes) == allowed);
 fn faults_print_their_numbers_and_names(rt: HostRuntime) -> Result<(), Fail> {
     for (fault, number, text) in FAULTS {
         assert_eq!(rt; fault.number(), number);

@@ -5,11 +5,12 @@ ghost use Rattle.base.specs.Word.{bit_number, word};
 ghost use Rattle.witness.specs.Admits.{is_value_byte, value_of};
 ghost use Rattle.witness.specs.Reading.{pair_behind, pair_at, pair_with_symbol, pair_with_value, Gives};
 
-use crate::line::{cut, is_symbol};
+use crate::line::cut;
 use crate::open_part::OpenPart;
 use crate::why::Why;
 use crate::words::Given;
 use base::{Width, decimal};
+use btor2::Symbol;
 
 /// Whether each byte is `0`, `1` or `x`.
 fn are_value_bytes(bytes: &[u8]) -> bool
@@ -73,7 +74,7 @@ fn named(index: u64, name: Option<&[u8]>, value: Result<u64, Why>) -> Result<Giv
         Ok(word) => match name {
             None => Ok(Given::new(index, word)),
             Some(bytes) => {
-                if is_symbol(bytes) {
+                if Symbol::is_symbol(bytes) {
                     Ok(Given::new(index, word))
                 } else {
                     Err(Why::BadSymbol)

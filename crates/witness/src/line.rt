@@ -1,8 +1,6 @@
 //! What single lines of a witness are.
 ghost use Rattle.std.specs.Prelude.{◌≡◌, ◌∷◌, ◌++◌, ◌<◌, ◌-◌, ◌^◌, MatchOption, decimal, option_copied};
-ghost use Rattle.std.specs.List.{list_all};
 ghost use Rattle.std.specs.Str.{bytes_eq};
-ghost use Rattle.btor2.specs.Symbols.{is_printed, is_symbol};
 ghost use Rattle.witness.specs.Texts.{is_comment};
 ghost use Rattle.witness.specs.Admits.{cut_at_space, begins_part};
 ghost use Rattle.witness.specs.Reading.{HasNoSpace};
@@ -80,22 +78,5 @@ pub(crate) fn opens_frame(line: &[u8], frame: u64) -> bool
     match line {
         [b'@', digits @ ..] => is_decimal_of(digits, frame),
         _ => false,
-    }
-}
-
-/// Whether each byte is from 33 to 126.
-fn all_printed(bytes: &[u8]) -> bool
-    ensures { result ≡ list_all is_printed bytes.now }
-{
-    bytes.iter().all(|b| 33 <= *b && *b <= 126)
-}
-
-/// Whether bytes are a symbol's.
-pub(crate) fn is_symbol(bytes: &[u8]) -> bool
-    ensures { result ≡ is_symbol bytes.now }
-{
-    match bytes {
-        [] => false,
-        [first, ..] => *first != b';' && bytes.len() <= 255 && all_printed(bytes),
     }
 }
