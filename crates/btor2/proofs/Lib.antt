@@ -2,5 +2,6 @@ pub mod LookUps
 pub mod AppendLemmas
 pub mod AcceptedLemmas
 pub mod ModelLemmas
+pub mod NextLemmas
 pub mod PushLemmas
 pub mod TraceLemmas
