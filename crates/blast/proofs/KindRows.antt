@@ -6,13 +6,12 @@ use Rattle.btor2.specs.declared.item.Item.{Item}
 use Rattle.btor2.specs.declared.item.Body.{Body}
 use Rattle.btor2.specs.Items.{find_item, position_of, width_of_body, node_width, is_state, constant_of_body, constant_of, init_value, next_value}
 use Rattle.btor2.specs.Check.{IsWellFormed}
-use Rattle.btor2.specs.Lists.{places, init_place, next_place, constant_at}
+use Rattle.btor2.specs.Lists.{places, init_place, next_place, first_without_next, constant_at}
 use Rattle.btor2.proofs.LookUps.{found}
 use Rattle.btor2.proofs.AppendLemmas.{then_parts, some_of}
 use Rattle.btor2.proofs.ModelLemmas.{IsIn-from_find, IsNextOf-from_value}
 use Rattle.aiger.specs.Net.{Net}
 use Rattle.blast.specs.Reads.{ReadsWord, RowReads, RowsRead}
-use Rattle.blast.specs.Refusal.{first_without_next}
 use Rattle.blast.specs.Rows.{row_at, init_word}
 use Rattle.blast.proofs.KindBlocks.{slice_get-behind}
 

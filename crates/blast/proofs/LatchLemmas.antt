@@ -9,7 +9,7 @@ use Rattle.base.specs.Word.{bit, bits}
 use Rattle.btor2.specs.declared.item.Item.{Item}
 use Rattle.btor2.specs.Items.{node_width, is_state, next_value}
 use Rattle.btor2.specs.Check.{IsWellFormed}
-use Rattle.btor2.specs.Lists.{places}
+use Rattle.btor2.specs.Lists.{places, first_without_next}
 use Rattle.btor2.specs.Trace.{bits_of, next_state}
 use Rattle.btor2.proofs.AppendLemmas.{some_of}
 use Rattle.btor2.proofs.ModelLemmas.{IsNextOf-from_value, node_width-range}
@@ -23,7 +23,6 @@ use Rattle.blast.specs.Blocks.{block, blocks, written}
 use Rattle.blast.specs.Cost.{state_width}
 use Rattle.blast.specs.Leaves.{of_kind, reset_of_bit, resets_of_word, leaf_resets, leaf_bits}
 use Rattle.blast.specs.Reads.{ReadsWord, RowsRead, LatchesRead}
-use Rattle.blast.specs.Refusal.{first_without_next}
 use Rattle.blast.specs.Rows.{row_at, init_word, reset_at, row_latches, state_latches}
 use Rattle.blast.proofs.KindBlocks.{written-nil, written-more, length-written, blocks-of_kind, so_far, reached, so_far-none, so_far-all, so_far-room, so_far-more, reached-more}
 use Rattle.blast.proofs.KindRows.{row_at-reads, head_next, tail_next}

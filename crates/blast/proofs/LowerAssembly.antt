@@ -21,7 +21,8 @@ use Rattle.blast.specs.Cost.{bound, state_width}
 use Rattle.blast.specs.Leaves.{of_kind, leaf_resets, resets_of_word, reset_of_bit, input_names, state_names, bad_names, constraint_names}
 use Rattle.blast.specs.Lowering.{Lowers}
 use Rattle.blast.specs.Reads.{leaves_only, LowersNodes, RowsRead, LatchesRead, BadsRead, ConstraintsRead}
-use Rattle.blast.specs.Refusal.{first_without_next, lowering_refusal, refusal_for, too_big}
+use Rattle.btor2.specs.Lists.{first_without_next}
+use Rattle.blast.specs.Refusal.{lowering_refusal, refusal_for, too_big}
 use Rattle.blast.proofs.LowerLemmas.{Observes, show_same}
 
 no_first : (items : List Item) (o : Option ℕ) → refusal_for items o ≡ None → o ≡ None

@@ -1,16 +1,11 @@
 -- Which models are not lowered, and why.
-use Rattle.std.specs.Prelude.{◌≡◌, ℕ, ◌&&◌, List, [], ◌∷◌, Option, Some, None, Result, Ok, Err, if◌then◌else◌, is_none, nat_lt, ◌⊎◌}
+use Rattle.std.specs.Prelude.{◌≡◌, ℕ, List, Option, Some, None, Result, Ok, Err, if◌then◌else◌, nat_lt, ◌⊎◌}
 use Rattle.btor2.specs.declared.item.Item.{Item}
-use Rattle.btor2.specs.Items.{is_state, next_value}
+use Rattle.btor2.specs.Lists.{first_without_next}
 use Rattle.aiger.specs.Limits.{greatest_count}
 use Rattle.blast.specs.Cost.{bound}
 use Rattle.blast.specs.declared.fault.LowerFault.{LowerFault}
 use Rattle.blast.specs.declared.fault.LowerFault.TheVariants as fault
-
--- the id of the first state among some items of a model, the second list, that has no next line in the model
-abbrev pub first_without_next : List Item → List Item → Option ℕ
-first_without_next items [] = None
-first_without_next items (x ∷ xs) = if is_state x.body && is_none (next_value items x.id) then Some x.id else first_without_next items xs
 
 -- a model is too big where it may take more variables than a circuit may have
 abbrev pub too_big : List Item → Option LowerFault

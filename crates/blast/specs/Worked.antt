@@ -34,12 +34,3 @@ named_toggler =
     ∷ named 8 (codes "x") (body.Input 1)
     ∷ line 9 (body.Constraint 8)
     ∷ []
-
--- two states, of which the second has no next line
-abbrev pub nextless : List Item
-nextless =
-    line 1 (body.Sort 1)
-    ∷ line 2 (body.State 1)
-    ∷ line 3 (body.State 1)
-    ∷ line 4 (body.Next 1 2 2)
-    ∷ []

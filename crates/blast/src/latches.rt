@@ -1,14 +1,13 @@
 ghost use Rattle.std.specs.Prelude.{◌≡◌, ℕ, ◌+◌, ◌<◌, ◌≤◌, true, length, replicate, Some, None, All, is_some, slice_get, slice_index};
 ghost use Rattle.btor2.specs.Check.{IsWellFormed};
 ghost use Rattle.btor2.specs.Items.{is_state, init_value, next_value};
-ghost use Rattle.btor2.specs.Lists.{places};
+ghost use Rattle.btor2.specs.Lists.{places, first_without_next};
 ghost use Rattle.aiger.specs.Net.{IsDefined};
 ghost use Rattle.aiger.specs.Limits.{greatest_count};
 ghost use Rattle.aiger.specs.Circuit.{net, with_latch, fresh_latch};
 ghost use Rattle.blast.specs.Blocks.{written};
 ghost use Rattle.blast.specs.Cost.{state_width};
 ghost use Rattle.blast.specs.Reads.{RowsRead, LatchesRead};
-ghost use Rattle.blast.specs.Refusal.{first_without_next};
 ghost use Rattle.blast.specs.Rows.{row_at, init_word, reset_at, row_latches, state_latches};
 
 use crate::names::item_at;

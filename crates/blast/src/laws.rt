@@ -4,12 +4,12 @@ ghost use Rattle.aiger.specs.declared.circuit.Reset.TheVariants as reset;
 ghost use Rattle.base.specs.declared.operators.Unary.TheVariants as unary;
 ghost use Rattle.base.specs.declared.operators.Binary.TheVariants as binary;
 ghost use Rattle.btor2.specs.declared.item.Body.TheVariants as body;
-ghost use Rattle.btor2.specs.Worked.{toggler};
+ghost use Rattle.btor2.specs.Worked.{toggler, nextless};
 ghost use Rattle.blast.specs.declared.fault.LowerFault.TheVariants as fault;
 ghost use Rattle.blast.specs.Cost.{line_cost, cost, input_width, state_width, bound};
 ghost use Rattle.blast.specs.Leaves.{bit_name, input_bits, state_bits, input_names, state_names, bad_names, constraint_names, resets_of_word, state_resets, bad_values, constraint_values};
-ghost use Rattle.blast.specs.Refusal.{first_without_next, lowering_refusal};
-ghost use Rattle.blast.specs.Worked.{masked, named_toggler, nextless};
+ghost use Rattle.blast.specs.Refusal.{lowering_refusal};
+ghost use Rattle.blast.specs.Worked.{masked, named_toggler};
 
 /// Worked rows: the gates and the variables at most of a bit that toggles, and of two bits that are masked.
 pub fn worked_costs()
@@ -57,8 +57,6 @@ pub fn worked_names()
 
 /// Worked rows: a model whose states each have a next line is not refused; else the first without one is told.
 pub fn worked_refusals()
-    ensures each_has_next { first_without_next toggler toggler ≡ None }
-    ensures second_has_none { first_without_next nextless nextless ≡ Some 3 }
     ensures accepted { lowering_refusal masked ≡ None }
     ensures no_next { lowering_refusal nextless ≡ Some (fault.NoNext 3) }
 {}

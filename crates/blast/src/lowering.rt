@@ -1,9 +1,8 @@
-ghost use Rattle.std.specs.Prelude.{◌≡◌, ℕ, ◌≤◌, None, Some, true, IfOk, IfErr, option_copied};
+ghost use Rattle.std.specs.Prelude.{◌≡◌, ℕ, ◌≤◌, None, Some, true, IfOk, IfErr};
 ghost use Rattle.btor2.specs.Check.{IsWellFormed};
-ghost use Rattle.btor2.specs.Lists.{id_at};
 ghost use Rattle.btor2text.specs.Basic.{are_basic};
 ghost use Rattle.blast.specs.Lowering.{Lowers};
-ghost use Rattle.blast.specs.Refusal.{AnswersLowering, lowering_refusal, first_without_next};
+ghost use Rattle.blast.specs.Refusal.{AnswersLowering, lowering_refusal};
 
 use crate::fault::LowerFault;
 use crate::latches::set_latches;
@@ -12,43 +11,21 @@ use crate::nodes::lower_nodes;
 use crate::properties::push_properties;
 use crate::widths::{bound, input_width, state_width};
 use aiger::Circuit;
-use btor2::{Item, Model};
+use btor2::Model;
 use gates::{GateFault, PlainGates};
 use std::alloc::Global;
 
 /// The greatest number of variables that a circuit may have, 2^30.
 const GREATEST_COUNT: u64 = 1073741824;
 
-/// The id of the item at a place.
-fn id_at(items: &[Item], place: usize) -> Option<u64>
-    ensures { result ≡ id_at items.now place }
-{
-    match items.get(place) {
-        Some(item) => Some(item.id),
-        None => None,
-    }
-}
-
-/// The id of the first state in file order that has no next.
-fn state_without_next(model: &Model) -> Option<u64>
-    ensures first { result ≡ first_without_next model.now model.now }
-    ensures well_formed { IsWellFormed model.now }
-{
-    let items = model.items();
-    for (k, place) in model.states().iter().enumerate() {
-        if model.next_of(k).is_none() {
-            return id_at(items, *place);
-        }
-    }
-    None
-}
-
 /// Why a model is not lowered, want of memory apart.
 fn refusal(model: &Model) -> Option<LowerFault>
     ensures first { result ≡ lowering_refusal model.now }
     ensures well_formed { IsWellFormed model.now }
 {
-    match state_without_next(model) {
+    // a model's items are well-formed
+    let _ = model.items();
+    match model.first_without_next() {
         Some(id) => Some(LowerFault::NoNext(id)),
         None => {
             if bound(model) > GREATEST_COUNT {

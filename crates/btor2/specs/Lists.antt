@@ -1,8 +1,8 @@
 -- The lists of a model: its inputs, states, bad properties and constraints in file order.
-use Rattle.std.specs.Prelude.{ℕ, suc, Bool, List, [], ◌∷◌, ◌++◌, Option, Some, if◌then◌else◌, option_and_then, slice_get}
+use Rattle.std.specs.Prelude.{ℕ, suc, Bool, ◌&&◌, List, [], ◌∷◌, ◌++◌, Option, Some, None, if◌then◌else◌, is_none, option_and_then, slice_get}
 use Rattle.btor2.specs.declared.item.Item.{Item}
 use Rattle.btor2.specs.declared.item.Body.{Body}
-use Rattle.btor2.specs.Items.{position_of, init_value, next_value, width_of_body, constant_of_body}
+use Rattle.btor2.specs.Items.{position_of, is_state, init_value, next_value, width_of_body, constant_of_body}
 
 -- the places of the items whose bodies pass a test, the first item at a given place
 abbrev pub places : (Body → Bool) → ℕ → List Item → List ℕ
@@ -30,3 +30,8 @@ width_at items place = option_and_then (λ x. width_of_body items x.body) (slice
 
 abbrev pub constant_at : List Item → ℕ → Option ℕ
 constant_at items place = option_and_then (λ x. constant_of_body items x.body) (slice_get items place)
+
+-- the id of the first state among some items of a model, the second list, that has no next line in the model
+abbrev pub first_without_next : List Item → List Item → Option ℕ
+first_without_next items [] = None
+first_without_next items (x ∷ xs) = if is_state x.body && is_none (next_value items x.id) then Some x.id else first_without_next items xs

@@ -1,4 +1,4 @@
--- Worked rows: a model that toggles one bit, one that counts, one that has a node of each shape, and the first lines of another.
+-- Worked rows: a model that toggles one bit, one that counts, one of whose states has no next line, one that has a node of each shape, and the first lines of another.
 use Rattle.std.specs.Prelude.{ℕ, List, [], ◌∷◌, None, negsuc}
 use Rattle.base.specs.declared.operators.Unary.TheVariants as unary
 use Rattle.base.specs.declared.operators.Binary.TheVariants as binary
@@ -35,6 +35,15 @@ counter =
     ∷ line 8 (body.Const 2 2 3)
     ∷ line 9 (body.Binary binary.Eq 1 4 8)
     ∷ line 10 (body.Bad 9)
+    ∷ []
+
+-- two states, of which the second has no next line
+abbrev pub nextless : List Item
+nextless =
+    line 1 (body.Sort 1)
+    ∷ line 2 (body.State 1)
+    ∷ line 3 (body.State 1)
+    ∷ line 4 (body.Next 1 2 2)
     ∷ []
 
 -- an input of four bits, constants, and what widens, cuts, joins and chooses

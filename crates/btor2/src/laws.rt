@@ -7,8 +7,9 @@ ghost use Rattle.btor2.specs.declared.item.Body.TheVariants as body;
 ghost use Rattle.btor2.specs.declared.fault.PushFault.TheVariants as fault;
 ghost use Rattle.btor2.specs.Items.{node_width, names_state, next_value};
 ghost use Rattle.btor2.specs.Check.{IsWellFormed, refusal};
+ghost use Rattle.btor2.specs.Lists.{first_without_next};
 ghost use Rattle.btor2.specs.Trace.{Frame, bits_of, IsFrame, IsInput, IsState, IsTrace, SameTrace, next_state};
-ghost use Rattle.btor2.specs.Worked.{line, toggler, counter, shapes, nibble};
+ghost use Rattle.btor2.specs.Worked.{line, toggler, counter, nextless, shapes, nibble};
 
 /// A law: from state words and a list of input frames a model has exactly one trace.
 pub fn exactly_one_trace()
@@ -54,6 +55,12 @@ pub fn worked_words()
         → (f 5 ≡ 5) × (f 7 ≡ 0) × (f 8 ≡ 85) × (f 9 ≡ 5) }
     ensures constants { (f : Frame) → IsFrame shapes (λ id. 0) (λ id. 5) f
         → (f 10 ≡ 8) × (f 11 ≡ 15) × (f 12 ≡ 15) × (f 13 ≡ 1) }
+{}
+
+/// Worked rows: a model whose state has a next line, and one whose second state has none.
+pub fn worked_nexts()
+    ensures each_has_next { first_without_next toggler toggler ≡ None }
+    ensures second_has_none { first_without_next nextless nextless ≡ Some 3 }
 {}
 
 /// Worked rows: an item for each row of the table of refusals.

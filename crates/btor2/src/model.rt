@@ -1,8 +1,8 @@
-ghost use Rattle.std.specs.Prelude.{◌≡◌, ◌<◌, ◌≤◌, ◌-◌, IfSome, [], length, option_copied, slice_get, slice_index};
+ghost use Rattle.std.specs.Prelude.{◌≡◌, ◌<◌, ◌≤◌, ◌-◌, IfSome, [], length, is_none, option_and_then, option_copied, slice_get, slice_index};
 ghost use Rattle.btor2.specs.Items.{find_item, position_of, sort_width, node_width, width_of_body, constant_of, constant_of_body, names_state, init_value, next_value, is_input, is_state, is_bad, is_constraint};
 ghost use Rattle.btor2.specs.Check.{IsWellFormed};
 ghost use Rattle.btor2.specs.Index.{is_in_place};
-ghost use Rattle.btor2.specs.Lists.{places, id_at, init_place, next_place, width_at, constant_at};
+ghost use Rattle.btor2.specs.Lists.{places, id_at, init_place, next_place, first_without_next, width_at, constant_at};
 
 mod check;
 mod push;
@@ -285,6 +285,28 @@ impl Model {
         ensures { result ≡ next_place self.now (slice_index (places is_state 0 self.now) k) }
     {
         self.next_place(self.states[k])
+    }
+
+    /// Whether the state at a position has no next line.
+    fn lacks_next(&self, place: usize) -> bool
+        ensures { result ≡ is_none (option_and_then (next_value self.now) (id_at self.now place)) }
+    {
+        match self.id_at(place) {
+            Some(id) => self.next_value(id).is_none(),
+            None => true,
+        }
+    }
+
+    /// The id of the first state in file order that has no next line, if there is one. No memory.
+    pub fn first_without_next(&self) -> Option<u64>
+        ensures { result ≡ first_without_next self.now self.now }
+    {
+        for place in self.states() {
+            if self.lacks_next(*place) {
+                return self.id_at(*place);
+            }
+        }
+        None
     }
 
     /// The width of a node with a value, by its position in `items`; none for other items.

@@ -408,6 +408,15 @@ fn a_model_is_read_as_it_was_pushed(rt: HostRuntime) -> Result<(), Fail> {
 }
 
 #[test]
+fn the_first_state_without_a_next_is_told(rt: HostRuntime) -> Result<(), Fail> {
+    let front = model_of(rt.alloc(), 5, toggler_line)?;
+    assert!(rt; front.first_without_next() == Some(5));
+    let toggler = model_of(rt.alloc(), TOGGLER, toggler_line)?;
+    assert!(rt; toggler.first_without_next().is_none());
+    Ok(())
+}
+
+#[test]
 fn a_second_line_of_a_state_is_refused(rt: HostRuntime) -> Result<(), Fail> {
     let mut toggler = model_of(rt.alloc(), TOGGLER, toggler_line)?;
     assert!(rt; all_refused(&mut toggler, AFTER_TOGGLER, line_after_toggler));
@@ -462,6 +471,7 @@ fn symbols_are_1_to_255_printed_bytes(rt: HostRuntime) -> Result<(), Fail> {
         (&long[..255], true),
         (long.as_slice(), false),
     ] {
+        assert!(rt; Symbol::is_symbol(bytes) == allowed);
         match Symbol::new(rt.alloc(), bytes) {
             Ok(symbol) => assert!(rt; allowed && symbol.bytes() == bytes),
             Err(fault) => assert!(rt; !allowed && fault.number() == 16),
@@ -471,7 +481,6 @@ fn symbols_are_1_to_255_printed_bytes(rt: HostRuntime) -> Result<(), Fail> {
 }
 
 #[test]
-        assert!(rt; Symbol::is_symbol(bytes) == allowed);
 fn faults_print_their_numbers_and_names(rt: HostRuntime) -> Result<(), Fail> {
     for (fault, number, text) in FAULTS {
         assert_eq!(rt; fault.number(), number);
@@ -488,5 +497,6 @@ fn laws_are_called() {
     words_fit();
     worked_traces();
     worked_words();
+    worked_nexts();
     worked_refusals();
 }

@@ -1,7 +1,6 @@
 pub mod RankLemmas
 pub mod PlaceLemmas
 pub mod PassLemmas
-pub mod RefusalLemmas
 pub mod StateLemmas
 pub mod NodeLemmas
 pub mod SettleLemmas

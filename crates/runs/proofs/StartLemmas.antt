@@ -8,7 +8,7 @@ use Rattle.btor2.specs.declared.item.Body.{Body}
 use Rattle.btor2.specs.declared.item.Body.TheVariants as body
 use Rattle.btor2.specs.Items.{find_item, node_width, width_of_body, constant_word, constant_of_body, constant_of, is_input, is_state, is_bad, is_constraint, init_value, next_value}
 use Rattle.btor2.specs.Check.{IsWellFormed}
-use Rattle.btor2.specs.Lists.{places}
+use Rattle.btor2.specs.Lists.{places, first_without_next}
 use Rattle.btor2.specs.Trace.{Frame, bits_of, LineHolds, LinesHold}
 use Rattle.btor2.proofs.AppendLemmas.{then_parts, is_some_from}
 use Rattle.btor2.proofs.ModelLemmas.{IsIn-from_find, find_item-in, IsInitOf, IsInitOf-from_value}
@@ -18,7 +18,6 @@ use Rattle.runs.specs.Frames.{has_value, of_kind, ids_of, rank, given}
 use Rattle.runs.specs.Run.{property_id, first_word, zeros}
 use Rattle.runs.specs.Nodes.{slot, node_of, words_at}
 use Rattle.runs.specs.Holds.{next_id, LeavesFit, Keeps}
-use Rattle.runs.specs.Refusal.{first_without_next}
 use Rattle.runs.proofs.RankLemmas.{state_is_leaf, input_is_leaf, leaf_has_value, rank-below, ids-rank, nth, nth-found, length-ids, length-places}
 use Rattle.runs.proofs.PlaceLemmas.{place_inside, map_read}
 use Rattle.runs.proofs.StateLemmas.{nth-get}

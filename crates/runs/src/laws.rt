@@ -1,14 +1,12 @@
 //! Theorems on the definitions of runs, as functions with no code.
-ghost use Rattle.std.specs.Prelude.{◌≡◌, ℕ, ◌+◌, ◌-◌, ◌<◌, ◌^◌, ◌==◌, true, false, min, List, [], ◌∷◌, map, length, slice_index, slice_set, Some, None, if◌then◌else◌};
+ghost use Rattle.std.specs.Prelude.{◌≡◌, ℕ, ◌+◌, ◌-◌, ◌<◌, ◌^◌, ◌==◌, true, false, min, List, [], ◌∷◌, map, length, slice_index, slice_set, if◌then◌else◌};
 ghost use Rattle.btor2.specs.declared.item.Item.{Item};
-ghost use Rattle.btor2.specs.declared.item.Body.TheVariants as body;
 ghost use Rattle.btor2.specs.Items.{find_item, is_state, is_input};
 ghost use Rattle.btor2.specs.Check.{IsWellFormed};
 ghost use Rattle.btor2.specs.Trace.{Frame, IsFrame};
-ghost use Rattle.btor2.specs.Worked.{line, counter};
+ghost use Rattle.btor2.specs.Worked.{counter};
 ghost use Rattle.runs.specs.Frames.{ids_of, given};
 ghost use Rattle.runs.specs.Run.{IsNow, node_count, state_count, more_steps, start};
-ghost use Rattle.runs.specs.Refusal.{first_without_next};
 
 /// A law: steps are counted one by one, up to the greatest number of 128 bits.
 pub fn steps_count()
@@ -41,6 +39,4 @@ pub fn worked_starts()
     ensures steps { more_steps 5 (more_steps 1 (more_steps 5 0)) ≡ 11 }
     ensures counts { (f : Frame) → IsNow (start counter) f → (f 4 ≡ 0) × (f 6 ≡ 1) × (f 9 ≡ 0) }
     ensures ends { (f : Frame) → IsNow (record (start counter) { states = 3 ∷ [] }) f → (f 4 ≡ 3) × (f 6 ≡ 0) × (f 9 ≡ 1) }
-    ensures lacking { let stuck = line 1 (body.Sort 1) ∷ line 2 (body.State 1) ∷ [] in first_without_next stuck stuck ≡ Some 2 }
-    ensures none_lacking { first_without_next counter counter ≡ None }
 {}

@@ -2,41 +2,16 @@
 ghost use Rattle.std.specs.Prelude.{◌≡◌, ℕ, ◌<◌, ◌≤◌, true, Some, map, length, is_some, slice_get, slice_index, option_copied, IfOk};
 ghost use Rattle.btor2.specs.Items.{is_state, is_bad, is_constraint, next_value};
 ghost use Rattle.btor2.specs.Check.{IsWellFormed};
-ghost use Rattle.btor2.specs.Lists.{places, id_at};
+ghost use Rattle.btor2.specs.Lists.{places};
 ghost use Rattle.runs.specs.Frames.{has_value, of_kind, ids_of};
 ghost use Rattle.runs.specs.Nodes.{slot, node_of};
 ghost use Rattle.runs.specs.Holds.{next_id};
 ghost use Rattle.runs.specs.Run.{first_word, is_property, property_id};
-ghost use Rattle.runs.specs.Refusal.{first_without_next};
 
 use crate::kinds::{has_value, is_bad, is_constraint};
 use crate::nodes::{Node, node_of, operand};
 use btor2::{Body, Item, Model};
 use std::alloc::{AllocError, Global};
-
-/// The id of the item at a place.
-fn id_at(items: &[Item], place: usize) -> Option<u64>
-    ensures { result ≡ id_at items.now place }
-{
-    match items.get(place) {
-        Some(item) => Some(item.id),
-        None => None,
-    }
-}
-
-/// The id of the first state in file order that has no next.
-pub(crate) fn state_without_next(model: &Model) -> Option<u64>
-    ensures first { result ≡ first_without_next model.now model.now }
-    ensures well_formed { IsWellFormed model.now }
-{
-    let items = model.items();
-    for (k, place) in model.states().iter().enumerate() {
-        if model.next_of(k).is_none() {
-            return id_at(items, *place);
-        }
-    }
-    None
-}
 
 /// For each item how many nodes with a value stand before it.
 pub(crate) fn node_slots(alloc: Global, model: &Model) -> Result<Vec<usize>, AllocError>

@@ -1,18 +1,17 @@
 ghost use Rattle.std.specs.Prelude.{◌≡◌, ℕ, ◌+◌, ◌^◌, ◌<◌, true, false, None, length, map, is_some, IfOk, IfSome, slice_get, slice_index, slice_set};
 ghost use Rattle.btor2.specs.Items.{is_input, is_state, is_bad, is_constraint};
 ghost use Rattle.btor2.specs.Check.{IsWellFormed};
-ghost use Rattle.btor2.specs.Lists.{places, width_at};
+ghost use Rattle.btor2.specs.Lists.{places, first_without_next, width_at};
 ghost use Rattle.btor2.specs.Trace.{Frame, next_state};
 ghost use Rattle.runs.specs.Frames.{ids_of};
 ghost use Rattle.runs.specs.Run.{IsNow, node_count, state_count, more_steps, zeros, start, is_one};
-ghost use Rattle.runs.specs.Refusal.{AnswersNew, first_without_next};
+ghost use Rattle.runs.specs.Refusal.{AnswersNew};
 
 use crate::fault::NewFault;
 use crate::nodes::Node;
 use crate::passes::{clear_words, put_words, settle_nodes, take_words};
 use crate::resolving::{
     bad_slots, constraint_slots, first_words, next_slots, node_slots, picked, resolved_nodes,
-    state_without_next,
 };
 use base::Tally;
 use btor2::Model;
@@ -93,7 +92,9 @@ impl<'a> WordRun<'a> {
         ensures ok { IfOk result (λ run. run ≡ start model.now) }
         ensures answer { AnswersNew result (first_without_next model.now model.now) }
     {
-        match state_without_next(model) {
+        // a model's items are well-formed
+        let _ = model.items();
+        match model.first_without_next() {
             Some(id) => Err(NewFault::NoNext(id)),
             None => match WordRun::of_nexts(alloc, model) {
                 Ok(run) => Ok(run),

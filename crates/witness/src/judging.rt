@@ -3,7 +3,7 @@ ghost use Rattle.std.specs.Io.KnownBytes.{IsAtEnd};
 ghost use Rattle.base.specs.Device.{HasRisen};
 ghost use Rattle.btor2.specs.Items.{is_bad};
 ghost use Rattle.btor2.specs.Lists.{places};
-ghost use Rattle.runs.specs.Refusal.{first_without_next};
+ghost use Rattle.btor2.specs.Lists.{first_without_next};
 ghost use Rattle.runs.specs.Run.{start};
 ghost use Rattle.witness.specs.Answers.{AnswersJudge, NamesState};
 ghost use Rattle.witness.specs.Fits.{NoneIsSet};
