@@ -10,6 +10,8 @@ use std::alloc::Global;
 use std::process::Abort;
 use std::test::Fail;
 
+mod witnesses;
+
 const TOGGLER: &str =
     "1 sort bitvec 1\n2 zero 1\n3 state 1 t\n4 init 1 3 2\n5 not 1 3\n6 next 1 3 5\n7 bad 3\n";
 
@@ -290,87 +292,5 @@ fn devices(rt: HostRuntime) -> Result<(), Fail> {
         &mut err,
     );
     assert_eq!(rt; status, 3);
-    Ok(())
-}
-
-/// What `check-btor` of two texts answers and writes: status, standard output, standard error.
-fn judged(alloc: Global, model: &str, witness: &str) -> Result<(u8, Vec<u8>, Vec<u8>), Fail> {
-    let words = ["check-btor", "model", "witness"];
-    match order(alloc, words.as_slice()) {
-        Ok(order) => {
-            let mut first = model.as_bytes();
-            let mut second = witness.as_bytes();
-            let mut out = VecSink::new(alloc);
-            let mut err = VecSink::new(alloc);
-            let status = run(alloc, &order, &mut first, &mut second, &mut out, &mut err);
-            let written = Vec::from_slice(alloc, out.bytes())?;
-            let told = Vec::from_slice(alloc, err.bytes())?;
-            Ok((status, written, told))
-        }
-        Err(_) => Err("refused words")?,
-    }
-}
-
-const RISES: &str = "sat\nb0\n#0\n0 0\n@0\n@1\n.\n";
-
-const KEPT: &str =
-    "1 sort bitvec 1\n2 zero 1\n3 state 1 t\n4 init 1 3 2\n5 not 1 3\n6 next 1 3 5\n7 bad 3\n8 constraint 5\n";
-
-#[test]
-fn judgements(rt: HostRuntime) -> Result<(), Fail> {
-    let rows = [
-        (TOGGLER, RISES, 0, "accepted 2 frames\n"),
-        (
-            TOGGLER,
-            "; note\nsat\nb0\n#0\n0 0 t\n@0\n@1\n.\n",
-            0,
-            "accepted 2 frames\n",
-        ),
-        (FREE, "sat\nb0\n#0\n0 1\n@0\n.\n", 0, "accepted 1 frames\n"),
-        (
-            TOGGLER,
-            "sat\nb0\n#0\n0 1\n@0\n.\n",
-            1,
-            "initial value differs at 0\n",
-        ),
-        (FREE, "sat\nb0\n@0\n.\n", 1, "not reached: b0\n"),
-        (KEPT, RISES, 1, "violated: frame 1, constraint 0\n"),
-        (TOGGLER, "; x\nunsat\n", 1, "no claim\n"),
-        (
-            TOGGLER,
-            "sat\nb0\n#0\n0 0\n0 0\n@0\n.\n",
-            1,
-            "malformed line 5: 115 IndexTwice\n",
-        ),
-        (
-            TOGGLER,
-            "sat\nb0\n@0\n#1\n@1\n.\n",
-            1,
-            "malformed line 4: 113 FrameOrder\n",
-        ),
-        (
-            TOGGLER,
-            "sat\nb0\n.\n",
-            1,
-            "malformed line 3: 113 FrameOrder\n",
-        ),
-        (
-            TOGGLER,
-            "sat\nb1\n@0\n.\n",
-            1,
-            "malformed line 2: 111 BadClaim\n",
-        ),
-        (TOGGLER, "sat\n; x\n", 1, "malformed line 2: 111 BadClaim\n"),
-        (TOGGLER, "", 1, "malformed line 1: 118 Truncated\n"),
-    ];
-    for (model, witness, wanted, line) in rows {
-        let (status, written, told) = judged(rt.alloc(), model, witness)?;
-        assert_eq!(rt; status, wanted, "{witness}");
-        assert_eq!(rt; written.as_slice(), line.as_bytes(), "{witness}");
-        assert_eq!(rt; told.len(), 0, "{witness}");
-    }
-    let (status, _, told) = judged(rt.alloc(), "1 sort bitvec 1\n2 state 1\n", RISES)?;
-    assert_eq!(rt; status, 2);
-    assert_eq!(rt; told.as_slice(), b"model: item 2: 70 NoNext\n".as_slice());
     Ok(())
 }

@@ -1,5 +1,6 @@
 -- Words that fit a model, and what a run makes of them.
 use Rattle.std.specs.Prelude.{◌≡◌, ◌≢◌, ℕ, ◌<◌, ◌^◌, Bool, true, false, not, ◌||◌, ◌==◌, List, [], ◌∷◌, map, length, All, slice_index, slice_set}
+use Rattle.std.specs.List.{list_any}
 use Rattle.btor2.specs.declared.item.Item.{Item}
 use Rattle.btor2.specs.Items.{is_input, is_state, is_bad}
 use Rattle.btor2.specs.Trace.{Frame}
@@ -44,3 +45,7 @@ RisesAmong nodes fs before after = (i : ℕ) → i < length nodes → is_set aft
 -- no flag is set
 abbrev pub NoneIsSet : List Bool → Type 0
 NoneIsSet flags = (i : ℕ) → is_set flags i ≡ false
+
+-- flags are set at the numbers that are claimed, and at no others
+abbrev pub AreClaimed : List Bool → List ℕ → Type 0
+AreClaimed flags claims = (i : ℕ) → is_set flags i ≡ list_any (λ c. c == i) claims

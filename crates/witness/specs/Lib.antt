@@ -6,3 +6,4 @@ pub mod Reading
 pub mod Worked
 pub mod Fits
 pub mod Answers
+pub mod Printed

@@ -19,6 +19,11 @@ pub enum Judgement {
 }
 
 impl fmt::Display for Judgement {
+    ghost use Rattle.std.specs.Prelude.{Some};
+    ghost use Rattle.witness.specs.Printed.{judgement_text};
+
+    ghost output = { λ j. Some (judgement_text j) };
+
     /// The line that is printed for it.
     fn fmt<W: fmt::Write>(&self, f: &mut fmt::Formatter<W>) -> fmt::Result {
         match self {

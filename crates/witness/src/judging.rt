@@ -6,14 +6,15 @@ ghost use Rattle.btor2.specs.Lists.{places};
 ghost use Rattle.btor2.specs.Lists.{first_without_next};
 ghost use Rattle.runs.specs.Run.{start};
 ghost use Rattle.witness.specs.Answers.{AnswersJudge, NamesState};
-ghost use Rattle.witness.specs.Fits.{NoneIsSet};
-ghost use Rattle.witness.specs.Judgements.{Judges};
+ghost use Rattle.witness.specs.Fits.{WordsFit, NoneIsSet};
+ghost use Rattle.witness.specs.Judgements.{Judges, JudgesWords};
 
 use crate::fault::{JudgeFault, WitnessFault};
 use crate::judgement::Judgement;
 use crate::reading::{claims_nothing, read_words};
 use crate::shape::Shape;
 use crate::verdicts::judge_run;
+use crate::words::Words;
 use base::{ReadAllFault, Source, read_all};
 use btor2::Model;
 use runs::{NewFault, WordRun};
@@ -25,6 +26,29 @@ fn no_flags(alloc: Global, count: usize) -> Result<Vec<bool>, AllocError>
     ensures none { IfOk result (λ flags. NoneIsSet flags.items) }
 {
     vec![in alloc; false; count]
+}
+
+/// Judges the words that a witness gives by a run of the model that is at its start.
+fn judge_read(
+    alloc: Global,
+    model: &Model,
+    run: &mut WordRun<'_>,
+    words: &Words,
+) -> Result<Judgement, AllocError>
+    requires begins { run.old ≡ start model.now }
+    requires fit { WordsFit model.now words.now }
+    ensures { IfOk result (λ judgement. JudgesWords model.now words.now judgement) }
+{
+    let count = model.bads().len();
+    let mut claimed = no_flags(alloc, count)?;
+    let mut rose = no_flags(alloc, count)?;
+    Ok(judge_run(
+        model,
+        run,
+        words,
+        claimed.as_mut_slice(),
+        rose.as_mut_slice(),
+    ))
 }
 
 /// Judges a whole text by a run of the model that is at its start.
@@ -50,8 +74,8 @@ fn judge_text(
         Err(WitnessFault::Malformed { line, why }) => return Ok(Judgement::Malformed { line, why }),
         Err(WitnessFault::NoMemory) => return Err(JudgeFault::NoMemory),
     };
-    match no_flags(alloc, model.bads().len()) {
-        Ok(mut rose) => Ok(judge_run(model, run, &words, rose.as_mut_slice())),
+    match judge_read(alloc, model, run, &words) {
+        Ok(judgement) => Ok(judgement),
         Err(_) => Err(JudgeFault::NoMemory),
     }
 }

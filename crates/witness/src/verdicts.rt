@@ -1,5 +1,4 @@
-ghost use Rattle.std.specs.Prelude.{◌≡◌, ℕ, ◌<◌, ◌==◌, Bool, List, IfSome, All, length, map, false, true, slice_get};
-ghost use Rattle.std.specs.List.{list_any};
+ghost use Rattle.std.specs.Prelude.{◌≡◌, ℕ, ◌<◌, Bool, List, IfSome, All, length, map, false, true, slice_get};
 ghost use Rattle.std.specs.Option.{option_or};
 ghost use Rattle.btor2.specs.Items.{is_input, is_state, is_bad, is_constraint};
 ghost use Rattle.btor2.specs.Check.{IsWellFormed};
@@ -9,7 +8,7 @@ ghost use Rattle.runs.specs.Frames.{ids_of};
 ghost use Rattle.runs.specs.Run.{IsNow, state_words, zeros, start};
 ghost use Rattle.witness.specs.Texts.{widths_of};
 ghost use Rattle.witness.specs.Judgements.{of_kind, nodes_of, init_constant, input_words, differs, first_different, first_violated, violated_at, violation_from, unreached_from, JudgesWords};
-ghost use Rattle.witness.specs.Fits.{PairFits, PartFits, WordsFit, words_put, RisesIn, RisesAmong, NoneIsSet};
+ghost use Rattle.witness.specs.Fits.{PairFits, PartFits, WordsFit, words_put, RisesIn, RisesAmong, NoneIsSet, AreClaimed};
 
 use crate::judgement::Judgement;
 use crate::words::{Given, Part, Words};
@@ -178,39 +177,47 @@ fn judge_frames(
     found
 }
 
-/// Whether a bad property is claimed.
-fn is_claimed(claims: &[u64], bad: u64) -> bool
-    ensures { result ≡ list_any (λ c. c == bad) claims.now }
+/// Sets the flags of the bad properties that are claimed.
+fn note_claims(claims: &[u64], claimed: &mut [bool])
+    requires fit { All (λ i. i < length claimed.old) claims.now }
+    requires none { NoneIsSet claimed.old }
+    ensures { AreClaimed claimed.new claims.now }
 {
-    claims.iter().any(|claim| *claim == bad)
+    for claim in claims {
+        claimed[*claim as usize] = true;
+    }
 }
 
-/// The first bad property that is claimed and whose flag is not set.
-fn unreached(claims: &[u64], rose: &[bool]) -> Option<u64>
-    ensures { (nodes : List ℕ) (fs : List Frame) (none : List Bool) → length nodes ≡ length rose.now → NoneIsSet none → RisesAmong nodes fs none rose.now → result ≡ unreached_from claims.now fs 0 nodes }
+/// The first bad property that is claimed and does not rise, by two flags for each.
+fn first_unreached(claimed: &[bool], rose: &[bool]) -> Option<u64>
+    requires many { length claimed.now ≡ length rose.now }
+    ensures { (claims nodes : List ℕ) (fs : List Frame) (none : List Bool) → AreClaimed claimed.now claims → length nodes ≡ length rose.now → NoneIsSet none → RisesAmong nodes fs none rose.now → result ≡ unreached_from claims fs 0 nodes }
 {
     for i in 0..rose.len() {
-        if !rose[i] && is_claimed(claims, i as u64) {
+        if claimed[i] && !rose[i] {
             return Some(i as u64);
         }
     }
     None
 }
 
-/// The judgement of the words that a witness gives, by one run of the model. `rose` has a flag for each bad property;
-/// in the end those that rise in a frame are set.
+/// The judgement of the words that a witness gives, by one run of the model. `claimed` and `rose` have a flag for each
+/// bad property, for those that are claimed and those that rise in a frame.
 ///
 /// It is the plain judge that others are compared with: it runs all frames, whatever it finds in them.
 pub(crate) fn judge_run(
     model: &Model,
     run: &mut WordRun<'_>,
     words: &Words,
+    claimed: &mut [bool],
     rose: &mut [bool],
 ) -> Judgement
     requires begins { run.old ≡ start model.now }
     requires fit { WordsFit model.now words.now }
-    requires many { length rose.old ≡ length (places is_bad 0 model.now) }
-    requires none { NoneIsSet rose.old }
+    requires many_claimed { length claimed.old ≡ length (places is_bad 0 model.now) }
+    requires none_claimed { NoneIsSet claimed.old }
+    requires many_rose { length rose.old ≡ length (places is_bad 0 model.now) }
+    requires none_rose { NoneIsSet rose.old }
     ensures { JudgesWords model.now words.now result }
 {
     let _items = model.items();
@@ -225,7 +232,8 @@ pub(crate) fn judge_run(
             constraint: breach.constraint,
         };
     }
-    match unreached(words.claims(), rose) {
+    note_claims(words.claims(), claimed);
+    match first_unreached(claimed, rose) {
         Some(claim) => Judgement::NotReached { claim },
         None => Judgement::Accepted {
             frames: words.frames().len() as u64,

@@ -1,46 +1,36 @@
 ghost use Rattle.std.specs.Prelude.{◌≡◌};
 ghost use Rattle.witness.specs.Numbers.{why_number};
+ghost use Rattle.witness.specs.Printed.{why_name};
 
-use thiserror::Error;
+use std::error::Error;
+use std::fmt;
 
 /// Why a line of a witness is refused.
-#[derive(Clone, Copy, Debug, PartialEq, Eq, Error)]
+#[derive(Clone, Copy, Debug, PartialEq, Eq)]
 pub enum Why {
     /// The first line that is no comment is no status.
-    #[error("110 BadHeader")]
     BadHeader,
     /// The claims line is no list of claims, or one is out of range, or stands twice.
-    #[error("111 BadClaim")]
     BadClaim,
     /// A justice property is claimed.
-    #[error("112 JusticeClaim")]
     JusticeClaim,
     /// A line that opens or ends a part stands where it may not.
-    #[error("113 FrameOrder")]
     FrameOrder,
     /// An assignment's index is no decimal, or names no state or input.
-    #[error("114 BadIndex")]
     BadIndex,
     /// The index stands earlier in this part.
-    #[error("115 IndexTwice")]
     IndexTwice,
     /// The value has not as many digits as the width, or another byte than `0`, `1` and `x`.
-    #[error("116 BadValue")]
     BadValue,
     /// The value has an `x`.
-    #[error("117 Undetermined")]
     Undetermined,
     /// The text ends before the witness does.
-    #[error("118 Truncated")]
     Truncated,
     /// Something follows the end of the witness.
-    #[error("119 Trailing")]
     Trailing,
     /// There are more than 2^62 lines.
-    #[error("120 TooLong")]
     TooLong,
     /// What follows the value is no symbol.
-    #[error("121 BadSymbol")]
     BadSymbol,
 }
 
@@ -64,4 +54,40 @@ impl Why {
             Why::BadSymbol => 121,
         }
     }
+
+    /// The name that is printed for the why.
+    fn name(self) -> &'static str
+        ensures { result.now ≡ why_name self }
+    {
+        match self {
+            Why::BadHeader => "BadHeader",
+            Why::BadClaim => "BadClaim",
+            Why::JusticeClaim => "JusticeClaim",
+            Why::FrameOrder => "FrameOrder",
+            Why::BadIndex => "BadIndex",
+            Why::IndexTwice => "IndexTwice",
+            Why::BadValue => "BadValue",
+            Why::Undetermined => "Undetermined",
+            Why::Truncated => "Truncated",
+            Why::Trailing => "Trailing",
+            Why::TooLong => "TooLong",
+            Why::BadSymbol => "BadSymbol",
+        }
+    }
 }
+
+impl fmt::Display for Why {
+    ghost use Rattle.std.specs.Prelude.{Some};
+    ghost use Rattle.witness.specs.Printed.{why_text};
+
+    ghost output = { λ w. Some (why_text w) };
+
+    /// The number and the name.
+    fn fmt<W: fmt::Write>(&self, f: &mut fmt::Formatter<W>) -> fmt::Result {
+        let number = self.number();
+        let name = self.name();
+        write!(f, "{number} {name}")
+    }
+}
+
+impl Error for Why {}

@@ -4,8 +4,8 @@ use Rattle.witness.specs.Admits.{read_text}
 use Rattle.witness.proofs.FitLemmas.{read_fits}
 use Rattle.witness.proofs.judging.judge_text.Goals as goal
 
-pub judge_run-requires-clause-fit : goal.judge_run-requires-clause-fit
-judge_run-requires-clause-fit c =
+pub judge_read-requires-clause-fit : goal.judge_read-requires-clause-fit
+judge_read-requires-clause-fit c =
     let items = c.args.model.now in
     let text = c.args.text.now in
     let read = c.in-Ok-read_words.ensures.words in

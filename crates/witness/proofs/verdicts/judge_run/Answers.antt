@@ -1,4 +1,4 @@
-use Rattle.std.proofs.Common.{◌≡◌, ℕ, List, length, ap, sym, ◌∙◌, arith}
+use Rattle.std.proofs.Common.{◌≡◌, ℕ, ◌<◌, All, List, length, ap, sym, subst, ◌∙◌, arith}
 use Rattle.btor2.specs.Items.{is_bad}
 use Rattle.witness.specs.declared.judgement.Judgement.TheVariants as judgement
 use Rattle.witness.specs.Judgements.{Violation, nodes_of, unreached_from, when_reached}
@@ -20,21 +20,27 @@ returns-in-Some-judge_frames c fs h =
     ap (λ (v : Violation). judgement.Violated v.frame v.constraint) c.breach.view_is
     ∙ verdict_violated c.args.model.now c.args.words.now fs c.first_different.result c.judge_frames.result c.in-Some-judge_frames.breach different c.in_default.is (c.judge_frames.ensures.violated fs trace) c.in-Some-judge_frames.is
 
-pub returns-in-Some-unreached : goal.returns-in-Some-unreached
-returns-in-Some-unreached c fs h =
+-- each claim has its flag
+pub note_claims-requires-clause-fit : goal.note_claims-requires-clause-fit
+note_claims-requires-clause-fit c =
+    let many : length (nodes_of is_bad c.args.model.now) ≡ length c.args.claimed.now = omega (arith, length-nodes is_bad c.args.model.now bad_names, c.requires.many_claimed) in
+    rw c.claims.ensures (subst (λ (n : ℕ). All (λ i. i < n) c.args.words.now.claims) many c.requires.fit.claims)
+
+pub returns-in-Some-first_unreached : goal.returns-in-Some-first_unreached
+returns-in-Some-first_unreached c fs h =
     let b = begun c.args.model.now c.args.words.now c.args.run.now c.give_states.new.run c.settle.new.self c.given.result.now _ c.requires.fit.initial c.requires.begins (c.given.ensures ∙ c.initial.ensures) c.give_states.ensures c.settle.ensures in
     let different = begun_different c.args.model.now c.args.words.now c.settle.new.self c.first_different.result c.items-items.ensures.well_formed b c.first_different.ensures in
     let trace = begun_trace c.args.model.now c.args.words.now c.settle.new.self fs c.frames.result.now c.items-items.ensures.well_formed b c.frames.ensures h in
-    let last = c.unreached.ensures (nodes_of is_bad c.args.model.now) fs c.args.rose.now (omega (arith, length-nodes is_bad c.args.model.now bad_names)) c.requires.none (c.judge_frames.ensures.rises fs trace) ∙ ap (λ (l : List ℕ). unreached_from l fs 0 (nodes_of is_bad c.args.model.now)) c.claims.ensures in
-    sym (ap (when_reached (length fs)) c.in-Some-unreached.is)
-    ∙ verdict_reached c.args.model.now c.args.words.now fs c.first_different.result c.unreached.result c.judge_frames.result different c.in_default.is (c.judge_frames.ensures.violated fs trace) c.in_default-judge_frames.is last
+    let last = c.first_unreached.ensures c.claims.result.now (nodes_of is_bad c.args.model.now) fs c.args.rose.now c.note_claims.ensures (omega (arith, length-nodes is_bad c.args.model.now bad_names)) c.requires.none_rose (c.judge_frames.ensures.rises fs trace) ∙ ap (λ (l : List ℕ). unreached_from l fs 0 (nodes_of is_bad c.args.model.now)) c.claims.ensures in
+    sym (ap (when_reached (length fs)) c.in-Some-first_unreached.is)
+    ∙ verdict_reached c.args.model.now c.args.words.now fs c.first_different.result c.first_unreached.result c.judge_frames.result different c.in_default.is (c.judge_frames.ensures.violated fs trace) c.in_default-judge_frames.is last
 
 pub returns-in-None : goal.returns-in-None
 returns-in-None c fs h =
     let b = begun c.args.model.now c.args.words.now c.args.run.now c.give_states.new.run c.settle.new.self c.given.result.now _ c.requires.fit.initial c.requires.begins (c.given.ensures ∙ c.initial.ensures) c.give_states.ensures c.settle.ensures in
     let different = begun_different c.args.model.now c.args.words.now c.settle.new.self c.first_different.result c.items-items.ensures.well_formed b c.first_different.ensures in
     let trace = begun_trace c.args.model.now c.args.words.now c.settle.new.self fs c.frames.result.now c.items-items.ensures.well_formed b c.frames.ensures h in
-    let last = c.unreached.ensures (nodes_of is_bad c.args.model.now) fs c.args.rose.now (omega (arith, length-nodes is_bad c.args.model.now bad_names)) c.requires.none (c.judge_frames.ensures.rises fs trace) ∙ ap (λ (l : List ℕ). unreached_from l fs 0 (nodes_of is_bad c.args.model.now)) c.claims.ensures in
+    let last = c.first_unreached.ensures c.claims.result.now (nodes_of is_bad c.args.model.now) fs c.args.rose.now c.note_claims.ensures (omega (arith, length-nodes is_bad c.args.model.now bad_names)) c.requires.none_rose (c.judge_frames.ensures.rises fs trace) ∙ ap (λ (l : List ℕ). unreached_from l fs 0 (nodes_of is_bad c.args.model.now)) c.claims.ensures in
     let many : length c.frames-in-None.result.now ≡ length fs = ap length c.frames-in-None.ensures ∙ as_many_frames c.args.model.now c.args.words.now fs h in
     ap (λ (n : ℕ). judgement.Accepted n) many ∙ sym (ap (when_reached (length fs)) c.in-None.is)
-    ∙ verdict_reached c.args.model.now c.args.words.now fs c.first_different.result c.unreached.result c.judge_frames.result different c.in_default.is (c.judge_frames.ensures.violated fs trace) c.in_default-judge_frames.is last
+    ∙ verdict_reached c.args.model.now c.args.words.now fs c.first_different.result c.first_unreached.result c.judge_frames.result different c.in_default.is (c.judge_frames.ensures.violated fs trace) c.in_default-judge_frames.is last
