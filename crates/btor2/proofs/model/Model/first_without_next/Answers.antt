@@ -1,6 +1,6 @@
-use Rattle.std.proofs.Common.{[], refl, sym, ◌∙◌}
+use Rattle.std.proofs.Common.{ℕ, List, get_or, [], refl, sym, ap, ◌∙◌}
 use Rattle.btor2.specs.Items.{is_state}
-use Rattle.btor2.specs.Lists.{places}
+use Rattle.btor2.specs.Lists.{places, id_at}
 use Rattle.btor2.proofs.NextLemmas.{first_by_places, first_lacking-here, first_lacking-passed, first_lacking-none}
 use Rattle.btor2.proofs.model.Model.first_without_next.Goals as goal
 
@@ -13,7 +13,8 @@ returns-then-lacks_next c =
     let ps = places is_state 0 items in
     let lacks = c.if-lacks_next.ensures in
     let here = first_lacking-here items ps c.loop-place.place-index (rw (← c.states-place-items.ensures) c.loop-place-test.true) (rw (c.states-place-items.ensures) at lacks) in
-    c.id_at.ensures ∙ rw (c.states-place-items.ensures) (sym here) ∙ c.loop-place.invariant
+    let at = ap (λ (l : List ℕ). id_at items (get_or l c.loop-place.place-index 0)) c.states-place-items.ensures in
+    c.id_at.ensures ∙ at ∙ sym here ∙ c.loop-place.invariant
 
 pub loop-place-preserved : goal.loop-place-preserved
 loop-place-preserved c =
