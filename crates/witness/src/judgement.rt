@@ -33,7 +33,11 @@ impl fmt::Display for Judgement {
                 write!(f, "violated: frame {frame}, constraint {constraint}")
             }
             Judgement::InitDiffers { index } => write!(f, "initial value differs at {index}"),
-            Judgement::Malformed { line, why } => write!(f, "malformed line {line}: {why}"),
+            Judgement::Malformed { line, why } => {
+                let number = why.number();
+                let name = why.name();
+                write!(f, "malformed line {line}: {number} {name}")
+            }
             Judgement::NoClaim => write!(f, "no claim"),
         }
     }

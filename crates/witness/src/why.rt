@@ -2,11 +2,11 @@ ghost use Rattle.std.specs.Prelude.{◌≡◌};
 ghost use Rattle.witness.specs.Numbers.{why_number};
 ghost use Rattle.witness.specs.Printed.{why_name};
 
-use std::error::Error;
-use std::fmt;
+use thiserror::Error;
 
 /// Why a line of a witness is refused.
-#[derive(Clone, Copy, Debug, PartialEq, Eq)]
+#[derive(Clone, Copy, Debug, PartialEq, Eq, Error)]
+#[error("{number} {name}", number = self.number(), name = self.name())]
 pub enum Why {
     /// The first line that is no comment is no status.
     BadHeader,
@@ -56,7 +56,7 @@ impl Why {
     }
 
     /// The name that is printed for the why.
-    fn name(self) -> &'static str
+    pub fn name(self) -> &'static str
         ensures { result.now ≡ why_name self }
     {
         match self {
@@ -75,19 +75,3 @@ impl Why {
         }
     }
 }
-
-impl fmt::Display for Why {
-    ghost use Rattle.std.specs.Prelude.{Some};
-    ghost use Rattle.witness.specs.Printed.{why_text};
-
-    ghost output = { λ w. Some (why_text w) };
-
-    /// The number and the name.
-    fn fmt<W: fmt::Write>(&self, f: &mut fmt::Formatter<W>) -> fmt::Result {
-        let number = self.number();
-        let name = self.name();
-        write!(f, "{number} {name}")
-    }
-}
-
-impl Error for Why {}

@@ -134,6 +134,25 @@ fn violations(rt: HostRuntime) -> Result<(), Fail> {
 }
 
 #[test]
+fn refused_models(rt: HostRuntime) -> Result<(), Fail> {
+    let rows = [
+        ("1 sort bitvec 1\n2 state 1\n", "model: item 2: 70 NoNext\n"),
+        (
+            "1 sort bitvec 65\n2 state 1\n",
+            "model: line 1: 5 WidthOutOfRange\n",
+        ),
+        ("1 sort bitvec 1", "model: line 1: 28 Unfinished\n"),
+    ];
+    for (model, line) in rows {
+        let (status, written, told) = judged(rt.alloc(), model, RISES)?;
+        assert_eq!(rt; status, 2, "{model}");
+        assert!(rt; written.is_empty(), "{model}");
+        assert_eq!(rt; told.as_slice(), line.as_bytes(), "{model}");
+    }
+    Ok(())
+}
+
+#[test]
 fn other_statuses(rt: HostRuntime) -> Result<(), Fail> {
     let rows = [
         "unsat\n",
