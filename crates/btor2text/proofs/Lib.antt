@@ -1,7 +1,13 @@
 pub mod AnswerLemmas
+pub mod BodyLemmas
 pub mod BoundLemmas
+pub mod ConstantLemmas
+pub mod DigitLemmas
 pub mod FaultLemmas
+pub mod FormLemmas
 pub mod ItemLemmas
+pub mod OperandLemmas
+pub mod PlaceLemmas
 pub mod StandsLemmas
 pub mod TextLemmas
 pub mod TokenLemmas

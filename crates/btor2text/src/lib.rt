@@ -2,17 +2,21 @@
 #![tactic(auto)]
 
 mod basic;
+mod constants;
 mod fault;
 mod forms;
 mod items;
 mod laws;
+mod operators;
+mod places;
 mod reading;
 mod tokens;
 
 pub use basic::are_basic;
 pub use fault::{ReadFault, Why};
+pub use forms::Forms;
 pub use laws::{worked_faults, worked_items, worked_tokens, worked_whys};
-pub use reading::read;
+pub use reading::{read, read_basic};
 
 #[cfg(test)]
 mod tests;
