@@ -12,3 +12,5 @@ pub mod StandsLemmas
 pub mod TextLemmas
 pub mod TokenLemmas
 pub mod WhyLemmas
+pub mod PieceLemmas
+pub mod WritingLemmas

@@ -7,3 +7,4 @@ pub mod Spelling
 pub mod Whys
 pub mod Words
 pub mod Writing
+pub mod Pieces

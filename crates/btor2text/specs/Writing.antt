@@ -1,6 +1,8 @@
 -- The writer's text of a model: the one spelling that it gives.
-use Rattle.std.specs.Prelude.{ℕ, List, [], ◌∷◌, ◌++◌, decimal, flat_map}
+use Rattle.std.specs.Prelude.{ℕ, ◌≤◌, List, [], ◌∷◌, ◌++◌, decimal, flat_map}
 use Rattle.btor2.specs.declared.item.Item.{Item}
+use Rattle.btor2.specs.declared.item.Body.{Body}
+use Rattle.btor2.specs.declared.item.Body.TheVariants as body
 use Rattle.btor2text.specs.Spelling.{form_tokens, symbol_tokens}
 
 -- each of some tokens behind a space
@@ -14,3 +16,9 @@ written_line x = decimal x.id ++ (behind_spaces (form_tokens x.body ++ symbol_to
 -- the text of a model: a line for each item
 abbrev pub written : List Item → List ℕ
 written items = flat_map written_line items
+
+-- a constant that is spelled with digits has no more than the widest word
+abbrev pub HasFewDigits : Body → Type 0
+HasFewDigits (body.Const s d v) = d ≤ 64
+HasFewDigits (body.Consth s d v) = d ≤ 64
+HasFewDigits _ = Unit {0}
