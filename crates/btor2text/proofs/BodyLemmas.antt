@@ -126,7 +126,7 @@ constant_at_takes constant.Const tokens y e =
     let s = bind_ok (sort_at tokens) (λ s. digits_at 2 64 s.1 >>= λ x. Ok (body.Const s.0 x.0 x.1, x.2)) y e in
     let x = bind_ok (digits_at 2 64 s.0.1) (λ x. Ok (body.Const s.0.0 x.0 x.1, x.2)) y s.2 in
     subst (Taken (form.Constant constant.Const) tokens) {x = (body.Const s.0.0 x.0.0 x.0.1, x.0.2)} (ok_is (body.Const s.0.0 x.0.0 x.0.1, x.0.2) y x.2)
-    (record { form = refl; says = λ fits. let d = numeral_joined 2 64 tokens s.0 x.0 (omega arith) refl s.1 x.1 fits.0 fits.1 in (decimal s.0.0 ∷ d.0 ∷ [], d.1, (d.0, refl, d.2)) })
+    (record { form = refl; says = λ fits. let d = numeral_joined 2 64 tokens s.0 x.0 (omega arith) refl s.1 x.1 fits.0 fits.2 in (decimal s.0.0 ∷ d.0 ∷ [], d.1, (d.0, refl, d.2)) })
 constant_at_takes constant.Constd tokens y e =
     let s = bind_ok (sort_at tokens) (λ s. signed_at s.1 >>= λ x. Ok (body.Constd s.0 x.0, x.1)) y e in
     let x = bind_ok (signed_at s.0.1) (λ x. Ok (body.Constd s.0.0 x.0, x.1)) y s.2 in
@@ -136,7 +136,7 @@ constant_at_takes constant.Consth tokens y e =
     let s = bind_ok (sort_at tokens) (λ s. digits_at 16 16 s.1 >>= λ x. Ok (body.Consth s.0 x.0 x.1, x.2)) y e in
     let x = bind_ok (digits_at 16 16 s.0.1) (λ x. Ok (body.Consth s.0.0 x.0 x.1, x.2)) y s.2 in
     subst (Taken (form.Constant constant.Consth) tokens) {x = (body.Consth s.0.0 x.0.0 x.0.1, x.0.2)} (ok_is (body.Consth s.0.0 x.0.0 x.0.1, x.0.2) y x.2)
-    (record { form = refl; says = λ fits. let d = numeral_joined 16 16 tokens s.0 x.0 (omega arith) refl s.1 x.1 fits.0 fits.1 in (decimal s.0.0 ∷ d.0 ∷ [], d.1, (d.0, refl, d.2)) })
+    (record { form = refl; says = λ fits. let d = numeral_joined 16 16 tokens s.0 x.0 (omega arith) refl s.1 x.1 fits.0 fits.2 in (decimal s.0.0 ∷ d.0 ∷ [], d.1, (d.0, refl, d.2)) })
 
 -- numbers behind a sort and an operand
 extension_joined : (tokens : Tokens) (x : ℕ × ℕ × Tokens) (w : ℕ × Tokens) → pair_at tokens ≡ Ok x → plain_at x.2 ≡ Ok w → IsId x.0 → IsId x.1 → w.0 ≤ 64 → tokens ≡ decimal x.0 ∷ decimal x.1 ∷ decimal w.0 ∷ w.1
@@ -213,9 +213,9 @@ says_again (body.State s) tokens says fits = record { behind = decimal s ∷ [];
 says_again (body.Zero s) tokens says fits = record { behind = decimal s ∷ []; parts = says; again = λ rest. rw (sort_at-decimal s rest fits) refl }
 says_again (body.One s) tokens says fits = record { behind = decimal s ∷ []; parts = says; again = λ rest. rw (sort_at-decimal s rest fits) refl }
 says_again (body.Ones s) tokens says fits = record { behind = decimal s ∷ []; parts = says; again = λ rest. rw (sort_at-decimal s rest fits) refl }
-says_again (body.Const s d v) tokens says fits = record { behind = decimal s ∷ says.0 ∷ []; parts = says.1; again = λ rest. rw (sort_at-decimal s (says.0 ∷ rest) fits.0, digits_at-again 2 64 d v says.0 rest (omega arith) refl fits.1 says.2) refl }
+says_again (body.Const s d v) tokens says fits = record { behind = decimal s ∷ says.0 ∷ []; parts = says.1; again = λ rest. rw (sort_at-decimal s (says.0 ∷ rest) fits.0, digits_at-again 2 64 d v says.0 rest (omega arith) refl fits.2 says.2) refl }
 says_again (body.Constd s v) tokens says fits = record { behind = decimal s ∷ signed_decimal v ∷ []; parts = says; again = λ rest. rw (sort_at-decimal s (signed_decimal v ∷ rest) fits.0, signed_at-again v rest fits.1) refl }
-says_again (body.Consth s d v) tokens says fits = record { behind = decimal s ∷ says.0 ∷ []; parts = says.1; again = λ rest. rw (sort_at-decimal s (says.0 ∷ rest) fits.0, digits_at-again 16 16 d v says.0 rest (omega arith) refl fits.1 says.2) refl }
+says_again (body.Consth s d v) tokens says fits = record { behind = decimal s ∷ says.0 ∷ []; parts = says.1; again = λ rest. rw (sort_at-decimal s (says.0 ∷ rest) fits.0, digits_at-again 16 16 d v says.0 rest (omega arith) refl fits.2 says.2) refl }
 says_again (body.Uext s a w) tokens says fits = record { behind = decimal s ∷ decimal a ∷ decimal w ∷ []; parts = says; again = λ rest. rw (pair_at-again s a (decimal w ∷ rest) fits.0 fits.1, plain_at-decimal w rest (omega (arith, fits.2))) refl }
 says_again (body.Sext s a w) tokens says fits = record { behind = decimal s ∷ decimal a ∷ decimal w ∷ []; parts = says; again = λ rest. rw (pair_at-again s a (decimal w ∷ rest) fits.0 fits.1, plain_at-decimal w rest (omega (arith, fits.2))) refl }
 says_again (body.Slice s a u l) tokens says fits = record { behind = decimal s ∷ decimal a ∷ decimal u ∷ decimal l ∷ []; parts = says; again = λ rest. rw (pair_at-again s a (decimal u ∷ decimal l ∷ rest) fits.0 fits.1, plain_at-decimal u (decimal l ∷ rest) (omega (arith, fits.2)), plain_at-decimal l rest (omega (arith, fits.3))) refl }

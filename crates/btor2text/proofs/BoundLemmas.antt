@@ -31,9 +31,9 @@ BodyFits (body.State s) = IsId s
 BodyFits (body.Zero s) = IsId s
 BodyFits (body.One s) = IsId s
 BodyFits (body.Ones s) = IsId s
-BodyFits (body.Const s d v) = IsId s × (d ≤ 64) × (v < 2 ^ d)
+BodyFits (body.Const s d v) = IsId s × (1 ≤ d) × (d ≤ 64) × (v < 2 ^ d)
 BodyFits (body.Constd s v) = IsId s × SignedFits v
-BodyFits (body.Consth s d v) = IsId s × (d ≤ 16) × (v < 16 ^ d)
+BodyFits (body.Consth s d v) = IsId s × (1 ≤ d) × (d ≤ 16) × (v < 16 ^ d)
 BodyFits (body.Uext s a w) = IsId s × IsId a × (w ≤ 64)
 BodyFits (body.Sext s a w) = IsId s × IsId a × (w ≤ 64)
 BodyFits (body.Slice s a u l) = IsId s × IsId a × (u ≤ 64) × (l ≤ 64)
@@ -91,17 +91,17 @@ signed_fits n (negsuc k) least most h =
     negative_fits (2 ^ (n - 1)) k (power_least (n - 1)) half parts.0
 
 -- digits that fit a sort
-binary_fits : (n d v : ℕ) → n ≤ 64 → ((d == n) && nat_lt v (2 ^ d)) ≡ true → (d ≤ 64) × (v < 2 ^ d)
-binary_fits n d v most h =
+binary_fits : (n d v : ℕ) → 1 ≤ n → n ≤ 64 → ((d == n) && nat_lt v (2 ^ d)) ≡ true → (1 ≤ d) × (d ≤ 64) × (v < 2 ^ d)
+binary_fits n d v least most h =
     let parts = and_parts (d == n) (nat_lt v (2 ^ d)) h in
-    (omega (arith, eqb-true d n parts.0, most), ltb-true v (2 ^ d) parts.1)
+    (omega (arith, eqb-true d n parts.0, least), omega (arith, eqb-true d n parts.0, most), ltb-true v (2 ^ d) parts.1)
 
-hexadecimal_fits : (n d v : ℕ) → (nat_le 1 d && (nat_le d 16 && (nat_lt v (2 ^ n) && nat_lt v (16 ^ d)))) ≡ true → (d ≤ 16) × (v < 16 ^ d)
+hexadecimal_fits : (n d v : ℕ) → (nat_le 1 d && (nat_le d 16 && (nat_lt v (2 ^ n) && nat_lt v (16 ^ d)))) ≡ true → (1 ≤ d) × (d ≤ 16) × (v < 16 ^ d)
 hexadecimal_fits n d v h =
     let a = and_parts (nat_le 1 d) (nat_le d 16 && (nat_lt v (2 ^ n) && nat_lt v (16 ^ d))) h in
     let b = and_parts (nat_le d 16) (nat_lt v (2 ^ n) && nat_lt v (16 ^ d)) a.1 in
     let c = and_parts (nat_lt v (2 ^ n)) (nat_lt v (16 ^ d)) b.1 in
-    (leb-true d 16 b.0, ltb-true v (16 ^ d) c.1)
+    (leb-true 1 d a.0, leb-true d 16 b.0, ltb-true v (16 ^ d) c.1)
 
 body_fits : (before : List Item) (b : Body) → IsWellFormed before → BodyIsAccepted before b → Each (HasWidth before) (operands b) → BodyFits b
 body_fits before (body.Sort n) h says nodes = says.1
@@ -111,14 +111,15 @@ body_fits before (body.Zero s) h says nodes = sort_is_id before s h says
 body_fits before (body.One s) h says nodes = sort_is_id before s h says
 body_fits before (body.Ones s) h says nodes = sort_is_id before s h says
 body_fits before (body.Const s d v) h says nodes =
-    let digits = binary_fits says.0 d v (sort_width-range before s says.0 h says.1).1 says.2 in
-    (sort_is_id before s h (says.0, says.1), digits.0, digits.1)
+    let range = sort_width-range before s says.0 h says.1 in
+    let digits = binary_fits says.0 d v range.0 range.1 says.2 in
+    (sort_is_id before s h (says.0, says.1), digits.0, digits.1, digits.2)
 body_fits before (body.Constd s v) h says nodes =
     let range = sort_width-range before s says.0 h says.1 in
     (sort_is_id before s h (says.0, says.1), signed_fits says.0 v range.0 range.1 says.2)
 body_fits before (body.Consth s d v) h says nodes =
     let digits = hexadecimal_fits says.0 d v says.2 in
-    (sort_is_id before s h (says.0, says.1), digits.0, digits.1)
+    (sort_is_id before s h (says.0, says.1), digits.0, digits.1, digits.2)
 body_fits before (body.Uext s a w) h says nodes = (sort_is_id before s h (_, says.2), node_is_id before a h nodes.0, omega (arith, (sort_width-range before s (says.0 + w) h says.2).1))
 body_fits before (body.Sext s a w) h says nodes = (sort_is_id before s h (_, says.2), node_is_id before a h nodes.0, omega (arith, (sort_width-range before s (says.0 + w) h says.2).1))
 body_fits before (body.Slice s a u l) h says nodes =

@@ -7,10 +7,11 @@ pub mod FaultLemmas
 pub mod FormLemmas
 pub mod ItemLemmas
 pub mod OperandLemmas
+pub mod PieceLemmas
 pub mod PlaceLemmas
 pub mod StandsLemmas
 pub mod TextLemmas
 pub mod TokenLemmas
 pub mod WhyLemmas
-pub mod PieceLemmas
 pub mod WritingLemmas
+pub mod WrittenLemmas

@@ -40,8 +40,8 @@ justice_pieces nodes = flat_map-append (λ token. 32 ∷ token) (codes "justice"
 -- ---- digits of a model's constants
 
 few_digits : (b : Body) → BodyFits b → HasFewDigits b
-few_digits (body.Const s d v) fits = fits.1
-few_digits (body.Consth s d v) fits = omega (arith, fits.1)
+few_digits (body.Const s d v) fits = fits.2
+few_digits (body.Consth s d v) fits = omega (arith, fits.2)
 few_digits _ fits = tt
 
 is_in_at : (items : List Item) (i : ℕ) (d : Item) → i < length items → IsIn items (get_or items i d)

@@ -17,7 +17,7 @@ mod writing;
 pub use basic::are_basic;
 pub use fault::{ReadFault, Why};
 pub use forms::Forms;
-pub use laws::{worked_faults, worked_items, worked_texts, worked_tokens, worked_whys};
+pub use laws::{read_back, worked_faults, worked_items, worked_texts, worked_tokens, worked_whys};
 pub use reading::{read, read_basic};
 pub use writing::write;
 
