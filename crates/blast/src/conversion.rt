@@ -10,7 +10,7 @@ use crate::lowering::lower;
 use aiger::Circuit;
 use aigertext::{Form, write_ascii};
 use base::{DeviceFault, Sink, Source};
-use btor2text::read;
+use btor2text::read_basic;
 use std::alloc::Global;
 
 /// Writes the text of a circuit in a form.
@@ -41,7 +41,7 @@ pub fn convert<S: Source, K: Sink>(
     ensures unwritten { IfErr result (λ e. IsBeforeWriting e → sink.new ≡ sink.old) }
     ensures device { RaisesFailures result (S.failures source.old) (S.failures source.new) (K.failures sink.old) (K.failures sink.new) }
 {
-    let model = match read(alloc, source) {
+    let model = match read_basic(alloc, source) {
         Ok(model) => model,
         Err(fault) => return Err(ConvertFault::Read(fault)),
     };

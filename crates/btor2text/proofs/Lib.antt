@@ -1,8 +1,17 @@
 pub mod AnswerLemmas
+pub mod BodyLemmas
 pub mod BoundLemmas
+pub mod ConstantLemmas
+pub mod DigitLemmas
 pub mod FaultLemmas
+pub mod FormLemmas
 pub mod ItemLemmas
+pub mod OperandLemmas
+pub mod PieceLemmas
+pub mod PlaceLemmas
 pub mod StandsLemmas
 pub mod TextLemmas
 pub mod TokenLemmas
 pub mod WhyLemmas
+pub mod WritingLemmas
+pub mod WrittenLemmas

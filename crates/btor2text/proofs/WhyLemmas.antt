@@ -1,22 +1,27 @@
 -- What is wrong with a text is never the device or memory.
-use Rattle.std.proofs.Common.{ℕ, Bool, true, false, cond, List, [], ◌∷◌, Option, Some, None, Result, Ok, Err}
+use Rattle.std.proofs.Common.{ℕ, zero, suc, ◌-◌, ◌^◌, ◌==◌, Bool, true, false, cond, List, [], ◌∷◌, Option, Some, None, Result, Ok, Err}
 use Rattle.std.specs.Str.{bytes_eq}
 use Rattle.std.specs.Prelude.{codes, ◌||◌}
 use Rattle.base.specs.Lines.{whole_lines, unfinished}
 use Rattle.base.specs.Decimals.{number_of}
-use Rattle.base.specs.declared.operators.Unary.{Unary}
-use Rattle.base.specs.declared.operators.Binary.{Binary}
 use Rattle.btor2.specs.declared.item.Item.{Item}
+use Rattle.btor2.specs.declared.item.Body.TheVariants as body
 use Rattle.btor2.specs.declared.fault.PushFault.{PushFault}
+use Rattle.btor2.specs.declared.fault.PushFault.TheVariants as push
 use Rattle.btor2.specs.Symbols.{is_symbol}
 use Rattle.btor2.specs.Check.{refusal}
 use Rattle.btor2text.specs.declared.fault.Why.{Why}
 use Rattle.btor2text.specs.declared.fault.Why.TheVariants as why
 use Rattle.btor2text.specs.declared.fault.ReadFault.{ReadFault}
+use Rattle.btor2text.specs.declared.forms.Forms.{Forms}
 use Rattle.btor2text.specs.declared.forms.Form.{Form}
 use Rattle.btor2text.specs.declared.forms.Form.TheVariants as form
+use Rattle.btor2text.specs.declared.forms.Constant.{Constant}
+use Rattle.btor2text.specs.declared.forms.Constant.TheVariants as constant
 use Rattle.btor2text.specs.Tokens.{tokens}
-use Rattle.btor2text.specs.Reading.{◌>>=◌, Tokens, is_negative, plain_of, operand_of, plain, operand, plain_at, kept_id, sort_at, operand_at, width_at, pair_at, triple_at, unary_of, binary_of, other_form_of, no_form, any_form, unary_form, binary_form, form_of, form_at, body_at, symbol_end, symbol_at, item_at, accepted, line_after, then_lines, line_on, lines_on, text_on}
+use Rattle.btor2text.specs.Words.{form_named, knows, no_form, known_form, form_of}
+use Rattle.btor2text.specs.Digits.{number_in, signed_number}
+use Rattle.btor2text.specs.Reading.{◌>>=◌, Tokens, is_negative, some_of, operand_of, plain, operand, plain_at, kept_id, sort_at, operand_at, width_at, pair_at, triple_at, digits_at, signed_at, operands_at, counted_at, constant_at, extension_body, form_at, body_at, symbol_end, symbol_at, item_at, refused, accepted, line_after, then_lines, line_on, lines_on, text_on}
 
 -- a why of a text
 abbrev pub IsOfText : Why → Type 0
@@ -37,9 +42,9 @@ told_if : {A : Type 0} (b : Bool) (r s : Result A Why) → Told r → Told s →
 told_if true r s h k = h
 told_if false r s h k = k
 
-plain_of_told : (o : Option ℕ) → Told (plain_of o)
-plain_of_told (Some n) = tt
-plain_of_told None = tt
+some_told : {A : Type 0} (o : Option A) → Told (some_of o)
+some_told (Some x) = tt
+some_told None = tt
 
 operand_of_told : (negative : Bool) (o : Option ℕ) → Told (operand_of negative o)
 operand_of_told negative (Some n) = tt
@@ -48,7 +53,7 @@ operand_of_told false None = tt
 
 plain_told : (token : List ℕ) → Told (plain token)
 unfolding plain
-plain_told token = plain_of_told (number_of token)
+plain_told token = some_told (number_of token)
 
 operand_told : (token : List ℕ) → Told (operand token)
 unfolding operand
@@ -88,39 +93,71 @@ no_form_told : (word : List ℕ) → IsOfText (no_form word)
 unfolding no_form
 no_form_told word = elim (bytes_eq word (codes "read") || bytes_eq word (codes "write")) as (λ b. IsOfText (cond b why.ArrayOperator why.UnknownOperator)) [ true ↦ tt | false ↦ tt ]
 
-binary_form_told : (word : List ℕ) (o : Option Binary) → Told (binary_form word o)
-binary_form_told word (Some op) = tt
-binary_form_told word None = no_form_told word
+known_form_told : (forms : Forms) (word : List ℕ) (o : Option Form) → Told (known_form forms word o)
+known_form_told forms word None = no_form_told word
+known_form_told forms word (Some f) = told_if (knows forms f) (Ok f) (Err why.UnknownOperator) tt tt
 
-unary_form_told : (word : List ℕ) (o : Option Unary) → Told (unary_form word o)
-unary_form_told word (Some op) = tt
-unary_form_told word None = binary_form_told word (binary_of word)
-
-any_form_told : (word : List ℕ) (o : Option Form) → Told (any_form word o)
-any_form_told word (Some f) = tt
-any_form_told word None = unary_form_told word (unary_of word)
-
-form_told : (word : List ℕ) → Told (form_of word)
+form_told : (forms : Forms) (word : List ℕ) → Told (form_of forms word)
 unfolding form_of
-form_told word = any_form_told word (other_form_of word)
+form_told forms word = known_form_told forms word (form_named word)
 
-form_at_told : (tokens : Tokens) → Told (form_at tokens)
+form_at_told : (forms : Forms) (tokens : Tokens) → Told (form_at forms tokens)
 unfolding form_at
-form_at_told [] = tt
-form_at_told (word ∷ rest) = told_bind (form_of word) (λ f. Ok (f, rest)) (form_told word) (λ _. tt)
+form_at_told forms [] = tt
+form_at_told forms (word ∷ rest) = told_bind (form_of forms word) (λ f. Ok (f, rest)) (form_told forms word) (λ _. tt)
+
+digits_at_told : (radix most : ℕ) (tokens : Tokens) → Told (digits_at radix most tokens)
+unfolding digits_at
+digits_at_told radix most [] = tt
+digits_at_told radix most (token ∷ rest) = told_bind (some_of (number_in radix token)) _ (some_told (number_in radix token)) (λ _. tt)
+
+signed_at_told : (tokens : Tokens) → Told (signed_at tokens)
+unfolding signed_at
+signed_at_told [] = tt
+signed_at_told (token ∷ rest) = told_bind (some_of (signed_number token)) _ (some_told (signed_number token)) (λ _. tt)
+
+operands_at_told : (n : ℕ) (tokens : Tokens) → Told (operands_at n tokens)
+unfolding operands_at
+operands_at_told zero tokens = tt
+operands_at_told (suc n) tokens =
+    told_bind (operand_at tokens) _ (operand_at_told tokens) (λ a.
+    told_bind (operands_at n a.1) (λ more. Ok (a.0 ∷ more.0, more.1)) (operands_at_told n a.1) (λ _. tt))
+
+counted_at_told : (tokens : Tokens) → Told (counted_at tokens)
+unfolding counted_at
+counted_at_told tokens =
+    told_bind (plain_at tokens) _ (plain_at_told tokens) (λ k.
+    told_bind (operands_at k.0 k.1) (λ a. cond (k.0 == 2 ^ 64 - 1) (Err why.BadToken) (Ok a)) (operands_at_told k.0 k.1) (λ a.
+    told_if (k.0 == 2 ^ 64 - 1) (Err why.BadToken) (Ok a) tt tt))
+
+constant_at_told : (c : Constant) (tokens : Tokens) → Told (constant_at c tokens)
+unfolding constant_at
+constant_at_told constant.Const tokens =
+    told_bind (sort_at tokens) _ (sort_at_told tokens) (λ s. told_bind (digits_at 2 64 s.1) (λ x. Ok (body.Const s.0 x.0 x.1, x.2)) (digits_at_told 2 64 s.1) (λ _. tt))
+constant_at_told constant.Constd tokens =
+    told_bind (sort_at tokens) _ (sort_at_told tokens) (λ s. told_bind (signed_at s.1) (λ x. Ok (body.Constd s.0 x.0, x.1)) (signed_at_told s.1) (λ _. tt))
+constant_at_told constant.Consth tokens =
+    told_bind (sort_at tokens) _ (sort_at_told tokens) (λ s. told_bind (digits_at 16 16 s.1) (λ x. Ok (body.Consth s.0 x.0 x.1, x.2)) (digits_at_told 16 16 s.1) (λ _. tt))
 
 body_at_told : (f : Form) (tokens : Tokens) → Told (body_at f tokens)
 unfolding body_at
 body_at_told form.Sort tokens = told_bind (width_at tokens) _ (width_at_told tokens) (λ _. tt)
-body_at_told form.Input tokens = told_bind (sort_at tokens) _ (sort_at_told tokens) (λ _. tt)
-body_at_told form.State tokens = told_bind (sort_at tokens) _ (sort_at_told tokens) (λ _. tt)
-body_at_told form.Zero tokens = told_bind (sort_at tokens) _ (sort_at_told tokens) (λ _. tt)
+body_at_told (form.Leaf l) tokens = told_bind (sort_at tokens) _ (sort_at_told tokens) (λ _. tt)
+body_at_told (form.Constant c) tokens = constant_at_told c tokens
+body_at_told (form.Extension e) tokens =
+    told_bind (pair_at tokens) _ (pair_at_told tokens) (λ x. told_bind (plain_at x.2) (λ w. Ok (extension_body e x.0 x.1 w.0, w.1)) (plain_at_told x.2) (λ _. tt))
+body_at_told form.Slice tokens =
+    told_bind (pair_at tokens) _ (pair_at_told tokens) (λ x.
+    told_bind (plain_at x.2) (λ u. plain_at u.1 >>= λ l. Ok (body.Slice x.0 x.1 u.0 l.0, l.1)) (plain_at_told x.2) (λ u.
+    told_bind (plain_at u.1) (λ l. Ok (body.Slice x.0 x.1 u.0 l.0, l.1)) (plain_at_told u.1) (λ _. tt)))
 body_at_told (form.Unary op) tokens = told_bind (pair_at tokens) _ (pair_at_told tokens) (λ _. tt)
 body_at_told (form.Binary op) tokens = told_bind (triple_at tokens) _ (triple_at_told tokens) (λ _. tt)
-body_at_told form.Init tokens = told_bind (triple_at tokens) _ (triple_at_told tokens) (λ _. tt)
-body_at_told form.Next tokens = told_bind (triple_at tokens) _ (triple_at_told tokens) (λ _. tt)
-body_at_told form.Bad tokens = told_bind (operand_at tokens) _ (operand_at_told tokens) (λ _. tt)
-body_at_told form.Constraint tokens = told_bind (operand_at tokens) _ (operand_at_told tokens) (λ _. tt)
+body_at_told form.Concat tokens = told_bind (triple_at tokens) _ (triple_at_told tokens) (λ _. tt)
+body_at_told form.Ite tokens =
+    told_bind (triple_at tokens) _ (triple_at_told tokens) (λ x. told_bind (operand_at x.3) (λ e. Ok (body.Ite x.0 x.1 x.2 e.0, e.1)) (operand_at_told x.3) (λ _. tt))
+body_at_told (form.Link l) tokens = told_bind (triple_at tokens) _ (triple_at_told tokens) (λ _. tt)
+body_at_told (form.Property p) tokens = told_bind (operand_at tokens) _ (operand_at_told tokens) (λ _. tt)
+body_at_told form.Justice tokens = told_bind (counted_at tokens) _ (counted_at_told tokens) (λ _. tt)
 
 symbol_end_told : (symbol : List ℕ) (rest : Tokens) → Told (symbol_end symbol rest)
 symbol_end_told symbol [] = tt
@@ -131,22 +168,26 @@ unfolding symbol_at
 symbol_at_told [] = tt
 symbol_at_told (token ∷ rest) = told_if (is_symbol token) (symbol_end token rest) (Err why.BadSymbol) (symbol_end_told token rest) tt
 
-item_at_told : (first : List ℕ) (rest : Tokens) → Told (item_at first rest)
+item_at_told : (forms : Forms) (first : List ℕ) (rest : Tokens) → Told (item_at forms first rest)
 unfolding item_at
-item_at_told first rest =
+item_at_told forms first rest =
     told_bind (plain first) _ (plain_told first) (λ id.
-    told_bind (form_at rest) _ (form_at_told rest) (λ f.
+    told_bind (form_at forms rest) _ (form_at_told forms rest) (λ f.
     told_bind (body_at f.0 f.1) _ (body_at_told f.0 f.1) (λ b.
     told_bind (symbol_at b.1) _ (symbol_at_told b.1) (λ _. tt))))
 
+refused_told : (f : PushFault) → IsOfText (refused f)
+refused_told push.ConstantDoesNotFit = tt
+refused_told _ = tt
+
 accepted_told : (before : List Item) (x : Item) (r : Option PushFault) → Told (accepted before x r)
 accepted_told before x None = tt
-accepted_told before x (Some f) = tt
+accepted_told before x (Some f) = refused_told f
 
-line_on_told : (before : List Item) (line : Tokens) → Told (line_on before line)
+line_on_told : (forms : Forms) (before : List Item) (line : Tokens) → Told (line_on forms before line)
 unfolding line_on
-line_on_told before [] = tt
-line_on_told before (first ∷ rest) = told_bind (item_at first rest) _ (item_at_told first rest) (λ x. accepted_told before x (refusal before x))
+line_on_told forms before [] = tt
+line_on_told forms before (first ∷ rest) = told_bind (item_at forms first rest) _ (item_at_told forms first rest) (λ x. accepted_told before x (refusal before x))
 
 -- ---- texts
 
@@ -158,13 +199,13 @@ then_told : (n : ℕ) (r : Result (List Item) Why) (others : List Item → Resul
 then_told n (Ok mid) others h k = k mid
 then_told n (Err w) others h k = h
 
-lines_told : (n : ℕ) (before : List Item) (lines : List (List ℕ)) (last : List ℕ) → TextTold (lines_on n before lines last)
+lines_told : (forms : Forms) (n : ℕ) (before : List Item) (lines : List (List ℕ)) (last : List ℕ) → TextTold (lines_on forms n before lines last)
 unfolding lines_on
-lines_told n before [] [] = tt
-lines_told n before [] (b ∷ bs) = tt
-lines_told n before (line ∷ lines) last =
-    then_told (line_after n) (line_on before (tokens line)) _ (line_on_told before (tokens line)) (λ mid. lines_told (line_after n) mid lines last)
+lines_told forms n before [] [] = tt
+lines_told forms n before [] (b ∷ bs) = tt
+lines_told forms n before (line ∷ lines) last =
+    then_told (line_after n) (line_on forms before (tokens line)) _ (line_on_told forms before (tokens line)) (λ mid. lines_told forms (line_after n) mid lines last)
 
-pub text_told : (text : List ℕ) → TextTold (text_on text)
+pub text_told : (forms : Forms) (text : List ℕ) → TextTold (text_on forms text)
 unfolding text_on
-text_told text = lines_told 0 [] (whole_lines text) (unfinished text)
+text_told forms text = lines_told forms 0 [] (whole_lines text) (unfinished text)

@@ -8,6 +8,8 @@ use Rattle.base.specs.declared.operators.Binary.TheVariants as binary
 use Rattle.btor2.specs.declared.item.Item.{Item}
 use Rattle.btor2.specs.declared.item.Body.{Body}
 use Rattle.btor2.specs.declared.item.Body.TheVariants as body
+use Rattle.btor2text.specs.declared.forms.Forms.{Forms}
+use Rattle.btor2text.specs.declared.forms.Forms.TheVariants as forms
 
 -- the operators among them
 abbrev pub is_basic_unary : Unary → Bool
@@ -32,6 +34,15 @@ is_basic (body.Bad a) = true
 is_basic (body.Constraint a) = true
 is_basic _ = false
 
--- a model of these forms alone
+-- a line of a form that a reader knows
+abbrev pub is_known : Forms → Body → Bool
+is_known forms.Basic b = is_basic b
+is_known forms.All b = true
+
+-- a model of the basic forms alone
 abbrev pub are_basic : List Item → Bool
 are_basic items = list_all (λ x. is_basic x.body) items
+
+-- a model of forms that a reader knows
+abbrev pub are_known : Forms → List Item → Bool
+are_known forms items = list_all (λ x. is_known forms x.body) items

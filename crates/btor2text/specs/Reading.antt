@@ -1,24 +1,34 @@
 -- Reading a model's text from left to right, with the first fault that is met.
-use Rattle.std.specs.Prelude.{◌≡◌, ℕ, ◌+◌, ◌-◌, ◌^◌, min, Bool, false, ◌||◌, List, [], ◌∷◌, ◌++◌, Option, Some, None, Result, Ok, Err, ◌==◌, nat_le, if◌then◌else◌, codes, ◌⊎◌}
+use Rattle.std.specs.Prelude.{◌≡◌, ℕ, zero, suc, ℤ, ◌+◌, ◌-◌, ◌^◌, min, Bool, false, List, [], ◌∷◌, ◌++◌, length, Option, Some, None, Result, Ok, Err, ◌==◌, nat_le, if◌then◌else◌, codes, ◌⊎◌}
 use Rattle.std.specs.Str.{bytes_eq}
 use Rattle.base.specs.Lines.{whole_lines, unfinished}
 use Rattle.base.specs.Decimals.{is_decimal, number_of}
-use Rattle.base.specs.declared.operators.Unary.{Unary}
-use Rattle.base.specs.declared.operators.Binary.{Binary}
-use Rattle.base.specs.declared.operators.Unary.TheVariants.{Not}
-use Rattle.base.specs.declared.operators.Binary.TheVariants.{And}
 use Rattle.btor2.specs.declared.item.Item.{Item}
 use Rattle.btor2.specs.declared.item.Body.{Body}
 use Rattle.btor2.specs.declared.item.Body.TheVariants as body
 use Rattle.btor2.specs.declared.fault.PushFault.{PushFault}
+use Rattle.btor2.specs.declared.fault.PushFault.TheVariants as push
 use Rattle.btor2.specs.Check.{refusal}
 use Rattle.btor2.specs.Symbols.{is_symbol}
 use Rattle.btor2text.specs.declared.fault.ReadFault.{ReadFault}
 use Rattle.btor2text.specs.declared.fault.Why.{Why}
 use Rattle.btor2text.specs.declared.fault.Why.TheVariants as why
+use Rattle.btor2text.specs.declared.forms.Forms.{Forms}
 use Rattle.btor2text.specs.declared.forms.Form.{Form}
 use Rattle.btor2text.specs.declared.forms.Form.TheVariants as form
+use Rattle.btor2text.specs.declared.forms.Leaf.{Leaf}
+use Rattle.btor2text.specs.declared.forms.Leaf.TheVariants as leaf
+use Rattle.btor2text.specs.declared.forms.Constant.{Constant}
+use Rattle.btor2text.specs.declared.forms.Constant.TheVariants as constant
+use Rattle.btor2text.specs.declared.forms.Extension.{Extension}
+use Rattle.btor2text.specs.declared.forms.Extension.TheVariants as extension
+use Rattle.btor2text.specs.declared.forms.Link.{Link}
+use Rattle.btor2text.specs.declared.forms.Link.TheVariants as link
+use Rattle.btor2text.specs.declared.forms.Property.{Property}
+use Rattle.btor2text.specs.declared.forms.Property.TheVariants as property
 use Rattle.btor2text.specs.Tokens.{tokens}
+use Rattle.btor2text.specs.Words.{form_of}
+use Rattle.btor2text.specs.Digits.{number_in, signed_number, kept_count, kept_value}
 
 -- `-` and a decimal
 unfoldable pub is_negative : List ℕ → Bool
@@ -49,14 +59,14 @@ GivesUnlessFull view (Err e) read = (e ≡ why.NoMemory) ⊎ (read ≡ Err e)
 abbrev pub Tokens : Type 0
 Tokens = List (List ℕ)
 
--- the number of a plain place, or its why where there is none
-abbrev pub plain_of : Option ℕ → Result ℕ Why
-plain_of (Some n) = Ok n
-plain_of None = Err why.BadToken
+-- what a token of its place's form says, or the why where it is none
+abbrev pub some_of : {A : Type 0} → Option A → Result A Why
+some_of (Some x) = Ok x
+some_of None = Err why.BadToken
 
 -- the number of a token in a plain place: the line's own id, a sort or a width
 unfoldable pub plain : List ℕ → Result ℕ Why
-plain token = plain_of (number_of token)
+plain token = some_of (number_of token)
 
 -- the number of an operand's place, or its why where there is none: `-` and a decimal has a why of its own
 abbrev pub operand_of : Bool → Option ℕ → Result ℕ Why
@@ -112,89 +122,123 @@ triple_at tokens = do
   b ← operand_at a.1
   Ok (s.0, a.0, b.0, b.1)
 
--- the operator of one operand that a word names
-unfoldable pub unary_of : List ℕ → Option Unary
-unary_of word = if bytes_eq word (codes "not") then Some Not else None
+-- the digits of a constant, of which a word takes so many at most: how many are kept, their number, and the tokens behind them
+unfoldable pub digits_at : ℕ → ℕ → Tokens → Result (ℕ × ℕ × Tokens) Why
+digits_at radix most [] = Err why.BadToken
+digits_at radix most (token ∷ rest) = do
+  v ← some_of (number_in radix token)
+  Ok (kept_count most (length token), kept_value most (length token) v, rest)
 
--- the operator of two operands that a word names
-unfoldable pub binary_of : List ℕ → Option Binary
-binary_of word = if bytes_eq word (codes "and") then Some And else None
+-- a decimal that may be negative, and the tokens behind it
+unfoldable pub signed_at : Tokens → Result (ℤ × Tokens) Why
+signed_at [] = Err why.BadToken
+signed_at (token ∷ rest) = do
+  v ← some_of (signed_number token)
+  Ok (v, rest)
 
--- the form that a word names and that is no operator
-unfoldable pub other_form_of : List ℕ → Option Form
-other_form_of word =
-    if bytes_eq word (codes "sort") then Some form.Sort
-    else (if bytes_eq word (codes "input") then Some form.Input
-    else (if bytes_eq word (codes "state") then Some form.State
-    else (if bytes_eq word (codes "zero") then Some form.Zero
-    else (if bytes_eq word (codes "init") then Some form.Init
-    else (if bytes_eq word (codes "next") then Some form.Next
-    else (if bytes_eq word (codes "bad") then Some form.Bad
-    else (if bytes_eq word (codes "constraint") then Some form.Constraint
-    else None)))))))
+-- so many operands, and the tokens behind them
+unfoldable pub operands_at : ℕ → Tokens → Result (List ℕ × Tokens) Why
+operands_at zero tokens = Ok ([], tokens)
+operands_at (suc n) tokens = do
+  a ← operand_at tokens
+  more ← operands_at n a.1
+  Ok (a.0 ∷ more.0, more.1)
 
--- why a word names no form: it is of arrays, or unknown
-unfoldable pub no_form : List ℕ → Why
-no_form word = if bytes_eq word (codes "read") || bytes_eq word (codes "write") then why.ArrayOperator else why.UnknownOperator
-
--- the form of a word, given its operator of two operands where it names one
-abbrev pub binary_form : List ℕ → Option Binary → Result Form Why
-binary_form word (Some op) = Ok (form.Binary op)
-binary_form word None = Err (no_form word)
-
--- the form of a word, given its operator of one operand where it names one
-abbrev pub unary_form : List ℕ → Option Unary → Result Form Why
-unary_form word (Some op) = Ok (form.Unary op)
-unary_form word None = binary_form word (binary_of word)
-
--- the form of a word, given its form that is no operator where it names one
-abbrev pub any_form : List ℕ → Option Form → Result Form Why
-any_form word (Some f) = Ok f
-any_form word None = unary_form word (unary_of word)
-
--- the form that a word names
-unfoldable pub form_of : List ℕ → Result Form Why
-form_of word = any_form word (other_form_of word)
+-- how many operands there are, they themselves, and the tokens behind them; 2 ^ 64 - 1 stands for all greater numbers too, and no line has so many
+unfoldable pub counted_at : Tokens → Result (List ℕ × Tokens) Why
+counted_at tokens = do
+  k ← plain_at tokens
+  a ← operands_at k.0 k.1
+  if k.0 == 2 ^ 64 - 1 then Err why.BadToken else Ok a
 
 -- a form, and the tokens behind its word
-unfoldable pub form_at : Tokens → Result (Form × Tokens) Why
-form_at [] = Err why.BadToken
-form_at (word ∷ rest) = do
-  f ← form_of word
+unfoldable pub form_at : Forms → Tokens → Result (Form × Tokens) Why
+form_at forms [] = Err why.BadToken
+form_at forms (word ∷ rest) = do
+  f ← form_of forms word
   Ok (f, rest)
+
+-- the bodies of the forms of a group
+abbrev pub leaf_body : Leaf → ℕ → Body
+leaf_body leaf.Input s = body.Input s
+leaf_body leaf.State s = body.State s
+leaf_body leaf.Zero s = body.Zero s
+leaf_body leaf.One s = body.One s
+leaf_body leaf.Ones s = body.Ones s
+
+abbrev pub extension_body : Extension → ℕ → ℕ → ℕ → Body
+extension_body extension.Uext s a by = body.Uext s a by
+extension_body extension.Sext s a by = body.Sext s a by
+
+abbrev pub link_body : Link → ℕ → ℕ → ℕ → Body
+link_body link.Init s t v = body.Init s t v
+link_body link.Next s t v = body.Next s t v
+
+abbrev pub property_body : Property → ℕ → Body
+property_body property.Bad a = body.Bad a
+property_body property.Constraint a = body.Constraint a
+property_body property.Fair a = body.Fair a
+property_body property.Output a = body.Output a
+
+-- what the tokens behind a constant's word say, and the tokens behind them
+unfoldable pub constant_at : Constant → Tokens → Result (Body × Tokens) Why
+constant_at constant.Const tokens = do
+  s ← sort_at tokens
+  x ← digits_at 2 64 s.1
+  Ok (body.Const s.0 x.0 x.1, x.2)
+constant_at constant.Constd tokens = do
+  s ← sort_at tokens
+  x ← signed_at s.1
+  Ok (body.Constd s.0 x.0, x.1)
+constant_at constant.Consth tokens = do
+  s ← sort_at tokens
+  x ← digits_at 16 16 s.1
+  Ok (body.Consth s.0 x.0 x.1, x.2)
+
+-- what the tokens behind `justice` say, and the tokens behind them
+abbrev pub justice_at : Tokens → Result (Body × Tokens) Why
+justice_at tokens = do
+  x ← counted_at tokens
+  Ok (body.Justice x.0, x.1)
 
 -- what the tokens behind a form's word say, and the tokens behind them
 unfoldable pub body_at : Form → Tokens → Result (Body × Tokens) Why
 body_at form.Sort tokens = do
   x ← width_at tokens
   Ok (body.Sort x.0, x.1)
-body_at form.Input tokens = do
+body_at (form.Leaf l) tokens = do
   x ← sort_at tokens
-  Ok (body.Input x.0, x.1)
-body_at form.State tokens = do
-  x ← sort_at tokens
-  Ok (body.State x.0, x.1)
-body_at form.Zero tokens = do
-  x ← sort_at tokens
-  Ok (body.Zero x.0, x.1)
+  Ok (leaf_body l x.0, x.1)
+body_at (form.Constant c) tokens = constant_at c tokens
+body_at (form.Extension e) tokens = do
+  x ← pair_at tokens
+  w ← plain_at x.2
+  Ok (extension_body e x.0 x.1 w.0, w.1)
+body_at form.Slice tokens = do
+  x ← pair_at tokens
+  u ← plain_at x.2
+  l ← plain_at u.1
+  Ok (body.Slice x.0 x.1 u.0 l.0, l.1)
 body_at (form.Unary op) tokens = do
   x ← pair_at tokens
   Ok (body.Unary op x.0 x.1, x.2)
 body_at (form.Binary op) tokens = do
   x ← triple_at tokens
   Ok (body.Binary op x.0 x.1 x.2, x.3)
-body_at form.Init tokens = do
+body_at form.Concat tokens = do
   x ← triple_at tokens
-  Ok (body.Init x.0 x.1 x.2, x.3)
-body_at form.Next tokens = do
+  Ok (body.Concat x.0 x.1 x.2, x.3)
+body_at form.Ite tokens = do
   x ← triple_at tokens
-  Ok (body.Next x.0 x.1 x.2, x.3)
-body_at form.Bad tokens = do
+  e ← operand_at x.3
+  Ok (body.Ite x.0 x.1 x.2 e.0, e.1)
+body_at (form.Link l) tokens = do
+  x ← triple_at tokens
+  Ok (link_body l x.0 x.1 x.2, x.3)
+body_at (form.Property p) tokens = do
   x ← operand_at tokens
-  Ok (body.Bad x.0, x.1)
-body_at form.Constraint tokens = do
-  x ← operand_at tokens
-  Ok (body.Constraint x.0, x.1)
+  Ok (property_body p x.0, x.1)
+body_at form.Justice tokens = justice_at tokens
 
 -- the symbol, which no token follows
 abbrev pub symbol_end : List ℕ → Tokens → Result (Option (List ℕ)) Why
@@ -209,24 +253,29 @@ symbol_at (token ∷ rest) = if is_symbol token then symbol_end token rest else 
 -- ---- lines
 
 -- the item that a line's tokens spell, of which `first` is the first
-unfoldable pub item_at : List ℕ → Tokens → Result Item Why
-item_at first rest = do
+unfoldable pub item_at : Forms → List ℕ → Tokens → Result Item Why
+item_at forms first rest = do
   id ← plain first
-  f ← form_at rest
+  f ← form_at forms rest
   b ← body_at f.0 f.1
   symbol ← symbol_at b.1
   Ok (record { id = id; symbol = symbol; body = b.0 })
 
+-- the why of a refusal; a constant that does not fit has one of its own
+abbrev pub refused : PushFault → Why
+refused push.ConstantDoesNotFit = why.ConstantDoesNotFit
+refused f = why.Refused f
+
 -- the items with one more, where it is not refused
 abbrev pub accepted : List Item → Item → Option PushFault → Result (List Item) Why
 accepted before x None = Ok (before ++ x ∷ [])
-accepted before x (Some f) = Err (why.Refused f)
+accepted before x (Some f) = Err (refused f)
 
 -- the items after one more line
-unfoldable pub line_on : List Item → Tokens → Result (List Item) Why
-line_on before [] = Ok before
-line_on before (first ∷ rest) = do
-  x ← item_at first rest
+unfoldable pub line_on : Forms → List Item → Tokens → Result (List Item) Why
+line_on forms before [] = Ok before
+line_on forms before (first ∷ rest) = do
+  x ← item_at forms first rest
   accepted before x (refusal before x)
 
 -- ---- texts
@@ -250,14 +299,14 @@ then_lines n (Ok items) others = others items
 then_lines n (Err e) others = Err (fault_at n e)
 
 -- what line n + 1 and those after it give behind some items; the last has no byte 10
-unfoldable pub lines_on : ℕ → List Item → List (List ℕ) → List ℕ → Result (List Item) ReadFault
-lines_on n before [] [] = Ok before
-lines_on n before [] (b ∷ bs) = Err (fault_at (line_after n) why.Unfinished)
-lines_on n before (line ∷ lines) last = then_lines (line_after n) (line_on before (tokens line)) (λ items. lines_on (line_after n) items lines last)
+unfoldable pub lines_on : Forms → ℕ → List Item → List (List ℕ) → List ℕ → Result (List Item) ReadFault
+lines_on forms n before [] [] = Ok before
+lines_on forms n before [] (b ∷ bs) = Err (fault_at (line_after n) why.Unfinished)
+lines_on forms n before (line ∷ lines) last = then_lines (line_after n) (line_on forms before (tokens line)) (λ items. lines_on forms (line_after n) items lines last)
 
 -- the items that a text spells, or its fault
-unfoldable pub text_on : List ℕ → Result (List Item) ReadFault
-text_on text = lines_on 0 [] (whole_lines text) (unfinished text)
+unfoldable pub text_on : Forms → List ℕ → Result (List Item) ReadFault
+text_on forms text = lines_on forms 0 [] (whole_lines text) (unfinished text)
 
 -- a line was read onto a model, unless memory ran out
 abbrev pub ReadsLine : Result (Unit {0}) Why → List Item → Result (List Item) Why → Type 0

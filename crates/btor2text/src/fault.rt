@@ -22,10 +22,13 @@ pub enum Why {
     /// `-` and a decimal in an operand's place.
     #[error("24 NegativeOperand")]
     NegativeOperand,
+    /// A constant that does not fit its sort.
+    #[error("25 ConstantDoesNotFit")]
+    ConstantDoesNotFit,
     /// A symbol of more than 255 bytes, or with a byte outside 33 to 126.
     #[error("26 BadSymbol")]
     BadSymbol,
-    /// The model refuses the item.
+    /// The model refuses the item for another reason.
     #[error("{0}")]
     Refused(PushFault),
     /// The last line has bytes and no byte 10.
@@ -40,7 +43,7 @@ pub enum Why {
 }
 
 impl Why {
-    /// The number of the fault; for a refusal of the model it is 27, whatever the refusal's own number.
+    /// The number of the fault; for a refusal of the model that has no number here it is 27.
     pub fn number(self) -> u32
         ensures { result ≡ number_of self }
     {
@@ -50,6 +53,7 @@ impl Why {
             Why::ArrayOperator => 22,
             Why::UnknownOperator => 23,
             Why::NegativeOperand => 24,
+            Why::ConstantDoesNotFit => 25,
             Why::BadSymbol => 26,
             Why::Refused(_) => 27,
             Why::Unfinished => 28,

@@ -1,84 +1,228 @@
 ghost use Rattle.std.specs.Prelude.{◌≡◌};
-ghost use Rattle.std.specs.Str.{bytes_eq};
-ghost use Rattle.btor2text.specs.Reading.{unary_of, binary_of, other_form_of, no_form, form_of};
+ghost use Rattle.btor2text.specs.Words.{named, form_name, leaves, constants, links, properties, others, plain_form_of, form_named, is_basic_form, knows, no_form, form_of};
 
 use crate::fault::Why;
+use crate::operators::{binary_of, is_word, unary_of};
 use base::{Binary, Unary};
+
+/// The line forms that a reader knows.
+#[derive(Clone, Copy, Debug, PartialEq, Eq)]
+pub enum Forms {
+    /// Those that are lowered so far: `sort`, `input`, `state`, `zero`, `not`, `and`, `init`, `next`, `bad` and
+    /// `constraint`.
+    Basic,
+    /// All of them.
+    All,
+}
+
+/// A node that has a sort alone.
+#[derive(Clone, Copy)]
+pub(crate) enum Leaf {
+    Input,
+    State,
+    Zero,
+    One,
+    Ones,
+}
+
+/// A constant that is spelled with digits: binary ones, a decimal or hexadecimal ones.
+#[derive(Clone, Copy)]
+pub(crate) enum Constant {
+    Const,
+    Constd,
+    Consth,
+}
+
+/// What widens a node.
+#[derive(Clone, Copy)]
+pub(crate) enum Extension {
+    Uext,
+    Sext,
+}
+
+/// What gives a state a value.
+#[derive(Clone, Copy)]
+pub(crate) enum Link {
+    Init,
+    Next,
+}
+
+/// What marks a node.
+#[derive(Clone, Copy)]
+pub(crate) enum Property {
+    Bad,
+    Constraint,
+    Fair,
+    Output,
+}
 
 /// What the second token of an item names.
 #[derive(Clone, Copy)]
 pub(crate) enum Form {
     Sort,
-    Input,
-    State,
-    Zero,
+    Leaf(Leaf),
+    Constant(Constant),
+    Extension(Extension),
+    Slice,
     Unary(Unary),
     Binary(Binary),
-    Init,
-    Next,
-    Bad,
-    Constraint,
+    Concat,
+    Ite,
+    Link(Link),
+    Property(Property),
+    Justice,
 }
 
-/// Whether a token is a word.
-pub(crate) fn is_word(token: &[u8], word: &[u8]) -> bool
-    ensures { result ≡ bytes_eq token.now word.now }
+/// The form that a word names, where it is a node that has a sort alone.
+fn leaf_of(word: &[u8]) -> Option<Form>
+    ensures { result ≡ named form_name word.now leaves }
 {
-    token == word
-}
-
-/// The operator of one operand that a word names.
-#[tactic(auto, unfolding(crate::specs::Reading::unary_of))]
-fn unary_of(word: &[u8]) -> Option<Unary>
-    ensures { result ≡ unary_of word.now }
-{
-    if is_word(word, b"not") {
-        Some(Unary::Not)
+    if is_word(word, b"input") {
+        Some(Form::Leaf(Leaf::Input))
+    } else if is_word(word, b"state") {
+        Some(Form::Leaf(Leaf::State))
+    } else if is_word(word, b"zero") {
+        Some(Form::Leaf(Leaf::Zero))
+    } else if is_word(word, b"one") {
+        Some(Form::Leaf(Leaf::One))
+    } else if is_word(word, b"ones") {
+        Some(Form::Leaf(Leaf::Ones))
     } else {
         None
     }
 }
 
-/// The operator of two operands that a word names.
-#[tactic(auto, unfolding(crate::specs::Reading::binary_of))]
-fn binary_of(word: &[u8]) -> Option<Binary>
-    ensures { result ≡ binary_of word.now }
+/// The form that a word names, where it is a constant that is spelled with digits.
+fn constant_of(word: &[u8]) -> Option<Form>
+    ensures { result ≡ named form_name word.now constants }
 {
-    if is_word(word, b"and") {
-        Some(Binary::And)
+    if is_word(word, b"const") {
+        Some(Form::Constant(Constant::Const))
+    } else if is_word(word, b"constd") {
+        Some(Form::Constant(Constant::Constd))
+    } else if is_word(word, b"consth") {
+        Some(Form::Constant(Constant::Consth))
     } else {
         None
     }
 }
 
-/// The form that a word names and that is no operator.
-#[tactic(auto, unfolding(crate::specs::Reading::other_form_of))]
-fn other_form_of(word: &[u8]) -> Option<Form>
-    ensures { result ≡ other_form_of word.now }
+/// The form that a word names, where it is what gives a state a value.
+fn link_of(word: &[u8]) -> Option<Form>
+    ensures { result ≡ named form_name word.now links }
+{
+    if is_word(word, b"init") {
+        Some(Form::Link(Link::Init))
+    } else if is_word(word, b"next") {
+        Some(Form::Link(Link::Next))
+    } else {
+        None
+    }
+}
+
+/// The form that a word names, where it is what marks a node.
+fn property_of(word: &[u8]) -> Option<Form>
+    ensures { result ≡ named form_name word.now properties }
+{
+    if is_word(word, b"bad") {
+        Some(Form::Property(Property::Bad))
+    } else if is_word(word, b"constraint") {
+        Some(Form::Property(Property::Constraint))
+    } else if is_word(word, b"fair") {
+        Some(Form::Property(Property::Fair))
+    } else if is_word(word, b"output") {
+        Some(Form::Property(Property::Output))
+    } else {
+        None
+    }
+}
+
+/// The form that a word names, where it is none of a group.
+fn other_of(word: &[u8]) -> Option<Form>
+    ensures { result ≡ named form_name word.now others }
 {
     if is_word(word, b"sort") {
         Some(Form::Sort)
-    } else if is_word(word, b"input") {
-        Some(Form::Input)
-    } else if is_word(word, b"state") {
-        Some(Form::State)
-    } else if is_word(word, b"zero") {
-        Some(Form::Zero)
-    } else if is_word(word, b"init") {
-        Some(Form::Init)
-    } else if is_word(word, b"next") {
-        Some(Form::Next)
-    } else if is_word(word, b"bad") {
-        Some(Form::Bad)
-    } else if is_word(word, b"constraint") {
-        Some(Form::Constraint)
+    } else if is_word(word, b"uext") {
+        Some(Form::Extension(Extension::Uext))
+    } else if is_word(word, b"sext") {
+        Some(Form::Extension(Extension::Sext))
+    } else if is_word(word, b"slice") {
+        Some(Form::Slice)
+    } else if is_word(word, b"concat") {
+        Some(Form::Concat)
+    } else if is_word(word, b"ite") {
+        Some(Form::Ite)
+    } else if is_word(word, b"justice") {
+        Some(Form::Justice)
     } else {
         None
+    }
+}
+
+/// The form that a word names and that is no operator of one or of two operands alike.
+#[tactic(auto, unfolding(crate::specs::Words::plain_form_of))]
+fn plain_form_of(word: &[u8]) -> Option<Form>
+    ensures { result ≡ plain_form_of word.now }
+{
+    if let Some(form) = leaf_of(word) {
+        return Some(form);
+    }
+    if let Some(form) = constant_of(word) {
+        return Some(form);
+    }
+    if let Some(form) = link_of(word) {
+        return Some(form);
+    }
+    if let Some(form) = property_of(word) {
+        return Some(form);
+    }
+    other_of(word)
+}
+
+/// The form that a word names.
+#[tactic(auto, unfolding(crate::specs::Words::form_named))]
+fn form_named(word: &[u8]) -> Option<Form>
+    ensures { result ≡ form_named word.now }
+{
+    if let Some(form) = plain_form_of(word) {
+        return Some(form);
+    }
+    if let Some(operator) = unary_of(word) {
+        return Some(Form::Unary(operator));
+    }
+    match binary_of(word) {
+        Some(operator) => Some(Form::Binary(operator)),
+        None => None,
+    }
+}
+
+/// Whether a form is a basic one.
+fn is_basic_form(form: Form) -> bool
+    ensures { result ≡ is_basic_form form }
+{
+    match form {
+        Form::Sort | Form::Link(_) => true,
+        Form::Leaf(leaf) => matches!(leaf, Leaf::Input | Leaf::State | Leaf::Zero),
+        Form::Unary(operator) => matches!(operator, Unary::Not),
+        Form::Binary(operator) => matches!(operator, Binary::And),
+        Form::Property(property) => matches!(property, Property::Bad | Property::Constraint),
+        _ => false,
+    }
+}
+
+/// Whether a form is one of those that a reader knows.
+fn knows(forms: Forms, form: Form) -> bool
+    ensures { result ≡ knows forms form }
+{
+    match forms {
+        Forms::Basic => is_basic_form(form),
+        Forms::All => true,
     }
 }
 
 /// Why a word names no form.
-#[tactic(auto, unfolding(crate::specs::Reading::no_form))]
+#[tactic(auto, unfolding(crate::specs::Words::no_form))]
 fn no_form(word: &[u8]) -> Why
     ensures { result ≡ no_form word.now }
 {
@@ -89,19 +233,14 @@ fn no_form(word: &[u8]) -> Why
     }
 }
 
-/// The form that a word names.
-#[tactic(auto, unfolding(crate::specs::Reading::form_of))]
-pub(crate) fn form_of(word: &[u8]) -> Result<Form, Why>
-    ensures { result ≡ form_of word.now }
+/// The form that a word names, where it is known.
+#[tactic(auto, unfolding(crate::specs::Words::form_of))]
+pub(crate) fn form_of(forms: Forms, word: &[u8]) -> Result<Form, Why>
+    ensures { result ≡ form_of forms word.now }
 {
-    if let Some(form) = other_form_of(word) {
-        return Ok(form);
-    }
-    if let Some(operator) = unary_of(word) {
-        return Ok(Form::Unary(operator));
-    }
-    match binary_of(word) {
-        Some(operator) => Ok(Form::Binary(operator)),
+    match form_named(word) {
         None => Err(no_form(word)),
+        Some(form) if knows(forms, form) => Ok(form),
+        Some(_) => Err(Why::UnknownOperator),
     }
 }

@@ -1,208 +1,164 @@
+//! What a line says.
+
 ghost use Rattle.std.specs.Prelude.{◌≡◌};
 ghost use Rattle.btor2text.specs.Tokens.{tokens};
-ghost use Rattle.btor2text.specs.Reading.{Gives, GivesUnlessFull, is_negative, plain, operand, plain_at, kept_id, sort_at, operand_at, width_at, pair_at, triple_at, form_at, body_at, symbol_at, item_at};
+ghost use Rattle.btor2text.specs.Reading.{Gives, GivesUnlessFull, form_at, leaf_body, extension_body, link_body, property_body, justice_at, body_at, symbol_at, item_at};
 
+use crate::constants::constant_at;
 use crate::fault::Why;
-use crate::forms::{Form, form_of, is_word};
+use crate::forms::{Extension, Form, Forms, Leaf, Link, Property, form_of};
+use crate::places::{
+    counted_at, operand_at, pair_at, plain, plain_at, sort_at, triple_at, width_at,
+};
 use crate::tokens::next_token;
-use base::decimal;
-use btor2::{Body, Item, Symbol, SymbolFault};
+use btor2::{Body, Item, Operands, Symbol, SymbolFault};
 use std::alloc::Global;
 
-/// The number of a token in a plain place.
-#[tactic(auto, unfolding(crate::specs::Reading::plain))]
-fn plain(token: &[u8]) -> Result<u64, Why>
-    ensures { Gives (λ n. n) result (plain token.now) }
-{
-    match decimal(token) {
-        Some(number) => Ok(number),
-        None => Err(Why::BadToken),
-    }
-}
-
-/// Whether a token is `-` and a decimal.
-#[tactic(auto, unfolding(crate::specs::Reading::is_negative, base::specs::Decimals::number_of))]
-fn is_negative(token: &[u8]) -> bool
-    ensures { result ≡ is_negative token.now }
-{
-    match token {
-        [b'-', rest @ ..] => decimal(rest).is_some(),
-        _ => false,
-    }
-}
-
-/// The number of a token in an operand's place.
-#[tactic(auto, unfolding(crate::specs::Reading::operand))]
-fn operand(token: &[u8]) -> Result<u64, Why>
-    ensures { Gives (λ n. n) result (operand token.now) }
-{
-    match decimal(token) {
-        Some(number) => Ok(number),
-        None if is_negative(token) => Err(Why::NegativeOperand),
-        None => Err(Why::BadToken),
-    }
-}
-
-/// A number in a plain place, and the line behind it.
-#[tactic(auto, unfolding(crate::specs::Reading::plain_at))]
-fn plain_at(line: &[u8]) -> Result<(u64, &[u8]), Why>
-    ensures { Gives (λ x. (x.0, tokens x.1.now)) result (plain_at (tokens line.now)) }
-{
-    match next_token(line) {
-        None => Err(Why::BadToken),
-        Some((token, rest)) => match plain(token) {
-            Ok(number) => Ok((number, rest)),
-            Err(why) => Err(why),
-        },
-    }
-}
-
-/// The id that an item keeps of a number: ids have 32 bits, and what is above is kept as 0, which no item has.
-#[tactic(auto, unfolding(crate::specs::Reading::kept_id))]
-fn kept_id(number: u64) -> u32
-    ensures { result ≡ kept_id number }
-{
-    u32::try_from(number).unwrap_or(0)
-}
-
-/// The id of a sort, and the line behind it.
-#[tactic(auto, unfolding(crate::specs::Reading::sort_at))]
-fn sort_at(line: &[u8]) -> Result<(u32, &[u8]), Why>
-    ensures { Gives (λ x. (x.0, tokens x.1.now)) result (sort_at (tokens line.now)) }
-{
-    let (number, rest) = plain_at(line)?;
-    Ok((kept_id(number), rest))
-}
-
-/// The id of an operand, and the line behind it.
-#[tactic(auto, unfolding(crate::specs::Reading::operand_at))]
-fn operand_at(line: &[u8]) -> Result<(u32, &[u8]), Why>
-    ensures { Gives (λ x. (x.0, tokens x.1.now)) result (operand_at (tokens line.now)) }
-{
-    match next_token(line) {
-        None => Err(Why::BadToken),
-        Some((token, rest)) => match operand(token) {
-            Ok(number) => Ok((kept_id(number), rest)),
-            Err(why) => Err(why),
-        },
-    }
-}
-
-/// The width behind `sort`, and the line behind it.
-#[tactic(auto, unfolding(crate::specs::Reading::width_at))]
-fn width_at(line: &[u8]) -> Result<(u64, &[u8]), Why>
-    ensures { Gives (λ x. (x.0, tokens x.1.now)) result (width_at (tokens line.now)) }
-{
-    match next_token(line) {
-        None => Err(Why::BadToken),
-        Some((token, rest)) => {
-            if is_word(token, b"bitvec") {
-                plain_at(rest)
-            } else if is_word(token, b"array") {
-                Err(Why::ArraySort)
-            } else {
-                Err(Why::BadToken)
-            }
-        }
-    }
-}
-
-/// A sort and an operand, and the line behind them.
-#[tactic(auto, unfolding(crate::specs::Reading::pair_at))]
-fn pair_at(line: &[u8]) -> Result<(u32, u32, &[u8]), Why>
-    ensures { Gives (λ x. (x.0, x.1, tokens x.2.now)) result (pair_at (tokens line.now)) }
-{
-    let (sort, rest) = sort_at(line)?;
-    let (first, rest) = operand_at(rest)?;
-    Ok((sort, first, rest))
-}
-
-/// A sort and two operands, and the line behind them.
-#[tactic(auto, unfolding(crate::specs::Reading::triple_at))]
-fn triple_at(line: &[u8]) -> Result<(u32, u32, u32, &[u8]), Why>
-    ensures { Gives (λ x. (x.0, x.1, x.2, tokens x.3.now)) result (triple_at (tokens line.now)) }
-{
-    let (sort, rest) = sort_at(line)?;
-    let (first, rest) = operand_at(rest)?;
-    let (second, rest) = operand_at(rest)?;
-    Ok((sort, first, second, rest))
-}
-
-/// A form, and the line behind it.
+/// A form, and the line behind its word.
 #[tactic(auto, unfolding(crate::specs::Reading::form_at))]
-fn form_at(line: &[u8]) -> Result<(Form, &[u8]), Why>
-    ensures { Gives (λ x. (x.0, tokens x.1.now)) result (form_at (tokens line.now)) }
+fn form_at(forms: Forms, line: &[u8]) -> Result<(Form, &[u8]), Why>
+    ensures { Gives (λ x. (x.0, tokens x.1.now)) result (form_at forms (tokens line.now)) }
 {
     match next_token(line) {
         None => Err(Why::BadToken),
-        Some((word, rest)) => match form_of(word) {
+        Some((word, rest)) => match form_of(forms, word) {
             Ok(form) => Ok((form, rest)),
             Err(why) => Err(why),
         },
     }
 }
 
-/// What a form's tokens say, and the line behind them.
+/// The body of a node that has a sort alone.
+fn leaf_body(leaf: Leaf, sort: u32) -> Body
+    ensures { result ≡ leaf_body leaf sort }
+{
+    match leaf {
+        Leaf::Input => Body::Input { sort },
+        Leaf::State => Body::State { sort },
+        Leaf::Zero => Body::Zero { sort },
+        Leaf::One => Body::One { sort },
+        Leaf::Ones => Body::Ones { sort },
+    }
+}
+
+/// The body of what widens a node by so many bits.
+fn extension_body(extension: Extension, sort: u32, operand: u32, by: u64) -> Body
+    ensures { result ≡ extension_body extension sort operand by }
+{
+    match extension {
+        Extension::Uext => Body::Uext { sort, operand, by },
+        Extension::Sext => Body::Sext { sort, operand, by },
+    }
+}
+
+/// The body of what gives a state a value.
+fn link_body(link: Link, sort: u32, state: u32, value: u32) -> Body
+    ensures { result ≡ link_body link sort state value }
+{
+    match link {
+        Link::Init => Body::Init { sort, state, value },
+        Link::Next => Body::Next { sort, state, value },
+    }
+}
+
+/// The body of what marks a node.
+fn property_body(property: Property, operand: u32) -> Body
+    ensures { result ≡ property_body property operand }
+{
+    match property {
+        Property::Bad => Body::Bad { operand },
+        Property::Constraint => Body::Constraint { operand },
+        Property::Fair => Body::Fair { operand },
+        Property::Output => Body::Output { operand },
+    }
+}
+
+/// What the tokens behind a form's word say, and the line behind them.
 #[tactic(auto, unfolding(crate::specs::Reading::body_at))]
-fn body_at(form: Form, line: &[u8]) -> Result<(Body, &[u8]), Why>
-    ensures { Gives (λ x. (x.0, tokens x.1.now)) result (body_at form (tokens line.now)) }
+fn body_at(alloc: Global, form: Form, line: &[u8]) -> Result<(Body, &[u8]), Why>
+    ensures { GivesUnlessFull (λ x. (x.0, tokens x.1.now)) result (body_at form (tokens line.now)) }
 {
     match form {
         Form::Sort => {
             let (width, rest) = width_at(line)?;
             Ok((Body::Sort { width }, rest))
         }
-        Form::Input => {
+        Form::Leaf(leaf) => {
             let (sort, rest) = sort_at(line)?;
-            Ok((Body::Input { sort }, rest))
+            Ok((leaf_body(leaf, sort), rest))
         }
-        Form::State => {
-            let (sort, rest) = sort_at(line)?;
-            Ok((Body::State { sort }, rest))
+        Form::Constant(constant) => constant_at(constant, line),
+        Form::Extension(extension) => {
+            let (sort, operand, rest) = pair_at(line)?;
+            let (by, rest) = plain_at(rest)?;
+            Ok((extension_body(extension, sort, operand, by), rest))
         }
-        Form::Zero => {
-            let (sort, rest) = sort_at(line)?;
-            Ok((Body::Zero { sort }, rest))
+        Form::Slice => {
+            let (sort, operand, rest) = pair_at(line)?;
+            let (upper, rest) = plain_at(rest)?;
+            let (lower, rest) = plain_at(rest)?;
+            let body = Body::Slice {
+                sort,
+                operand,
+                upper,
+                lower,
+            };
+            Ok((body, rest))
         }
         Form::Unary(operator) => {
             let (sort, operand, rest) = pair_at(line)?;
-            Ok((
-                Body::Unary {
-                    operator,
-                    sort,
-                    operand,
-                },
-                rest,
-            ))
+            let body = Body::Unary {
+                operator,
+                sort,
+                operand,
+            };
+            Ok((body, rest))
         }
         Form::Binary(operator) => {
             let (sort, left, right, rest) = triple_at(line)?;
-            Ok((
-                Body::Binary {
-                    operator,
-                    sort,
-                    left,
-                    right,
-                },
-                rest,
-            ))
+            let body = Body::Binary {
+                operator,
+                sort,
+                left,
+                right,
+            };
+            Ok((body, rest))
         }
-        Form::Init => {
+        Form::Concat => {
+            let (sort, high, low, rest) = triple_at(line)?;
+            Ok((Body::Concat { sort, high, low }, rest))
+        }
+        Form::Ite => {
+            let (sort, condition, first, rest) = triple_at(line)?;
+            let (second, rest) = operand_at(rest)?;
+            let body = Body::Ite {
+                sort,
+                condition,
+                first,
+                second,
+            };
+            Ok((body, rest))
+        }
+        Form::Link(link) => {
             let (sort, state, value, rest) = triple_at(line)?;
-            Ok((Body::Init { sort, state, value }, rest))
+            Ok((link_body(link, sort, state, value), rest))
         }
-        Form::Next => {
-            let (sort, state, value, rest) = triple_at(line)?;
-            Ok((Body::Next { sort, state, value }, rest))
-        }
-        Form::Bad => {
+        Form::Property(property) => {
             let (operand, rest) = operand_at(line)?;
-            Ok((Body::Bad { operand }, rest))
+            Ok((property_body(property, operand), rest))
         }
-        Form::Constraint => {
-            let (operand, rest) = operand_at(line)?;
-            Ok((Body::Constraint { operand }, rest))
-        }
+        Form::Justice => justice_at(alloc, line),
+    }
+}
+
+/// What the tokens behind `justice` say, and the line behind them.
+fn justice_at(alloc: Global, line: &[u8]) -> Result<(Body, &[u8]), Why>
+    ensures { GivesUnlessFull (λ x. (x.0, tokens x.1.now)) result (justice_at (tokens line.now)) }
+{
+    let (ids, rest) = counted_at(alloc, line)?;
+    match Operands::new(alloc, ids.as_slice()) {
+        Ok(operands) => Ok((Body::Justice { operands }, rest)),
+        Err(_) => Err(Why::NoMemory),
     }
 }
 
@@ -226,12 +182,12 @@ fn symbol_at(alloc: Global, line: &[u8]) -> Result<Option<Symbol>, Why>
 
 /// The item that a line spells, of which the first token is cut off already.
 #[tactic(auto, unfolding(crate::specs::Reading::item_at))]
-pub(crate) fn item(alloc: Global, first: &[u8], line: &[u8]) -> Result<Item, Why>
-    ensures { GivesUnlessFull (λ x. x) result (item_at first.now (tokens line.now)) }
+pub(crate) fn item(forms: Forms, alloc: Global, first: &[u8], line: &[u8]) -> Result<Item, Why>
+    ensures { GivesUnlessFull (λ x. x) result (item_at forms first.now (tokens line.now)) }
 {
     let id = plain(first)?;
-    let (form, rest) = form_at(line)?;
-    let (body, rest) = body_at(form, rest)?;
+    let (form, rest) = form_at(forms, line)?;
+    let (body, rest) = body_at(alloc, form, rest)?;
     let symbol = symbol_at(alloc, rest)?;
     Ok(Item { id, symbol, body })
 }

@@ -2,17 +2,24 @@
 #![tactic(auto)]
 
 mod basic;
+mod constants;
+mod digits;
 mod fault;
 mod forms;
 mod items;
 mod laws;
+mod operators;
+mod places;
 mod reading;
 mod tokens;
+mod writing;
 
 pub use basic::are_basic;
 pub use fault::{ReadFault, Why};
-pub use laws::{worked_faults, worked_items, worked_tokens, worked_whys};
-pub use reading::read;
+pub use forms::Forms;
+pub use laws::{read_back, worked_faults, worked_items, worked_texts, worked_tokens, worked_whys};
+pub use reading::{read, read_basic};
+pub use writing::write;
 
 #[cfg(test)]
 mod tests;

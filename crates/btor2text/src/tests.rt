@@ -1,10 +1,10 @@
 use super::*;
 use std::alloc::Global;
 
-/// How many items a text has, all of basic forms, or the line and the number of its fault.
+/// How many items a text of the basic forms has, or the line and the number of its fault.
 fn answer(alloc: Global, text: &str) -> Result<usize, (u64, u32)> {
     let mut source = text.as_bytes();
-    match read(alloc, &mut source) {
+    match read_basic(alloc, &mut source) {
         Ok(model) if are_basic(&model) => Ok(model.items().len()),
         Ok(_) => Err((0, 0)),
         Err(fault) => Err((fault.line, fault.why.number())),

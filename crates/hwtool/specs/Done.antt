@@ -1,13 +1,23 @@
 -- What exit status 0 of a command says.
-use Rattle.std.specs.Prelude.{◌≡◌, ℕ, List, Option, IfSome}
+use Rattle.std.specs.Prelude.{◌≡◌, ℕ, List, ◌++◌, length, Option, IfSome, codes, decimal}
+use Rattle.std.specs.Io.KnownBytes.{Appends}
 use Rattle.btor2.specs.declared.item.Item.{Item}
+use Rattle.btor2.specs.Items.{is_input, is_state, is_bad, is_constraint}
+use Rattle.btor2.specs.Lists.{places}
+use Rattle.btor2text.specs.declared.forms.Forms.TheVariants as forms
+use Rattle.btor2text.specs.Spelling.{StandsFor}
+use Rattle.btor2text.specs.Writing.{written}
 use Rattle.aigertext.specs.declared.ascii.Form.{Form}
-use Rattle.blast.specs.Conversion.{IsTextOf, Converts}
+use Rattle.blast.specs.Conversion.{Converts}
 use Rattle.witness.specs.declared.judgement.Judgement.{Judgement}
 use Rattle.witness.specs.declared.judgement.Judgement.TheVariants as judgement
 use Rattle.witness.specs.Judgements.{Judges}
 use Rattle.hwtool.specs.declared.orders.Task.{Task}
 use Rattle.hwtool.specs.declared.orders.Task.TheVariants as task
+
+-- the bytes of a source, where it knows them, are a text of some items
+abbrev pub IsModelOf : Option (List ℕ) → List Item → Type 0
+IsModelOf known items = IfSome known (λ text. StandsFor forms.All text items)
 
 -- a judgement is that the witness is accepted
 abbrev pub IsAccepted : Judgement → Type 0
@@ -18,11 +28,28 @@ IsAccepted _ = ⊥
 pub record Accepts (model witness : Option (List ℕ)) : Type 0 where
   pub items : List Item
   pub verdict : Judgement
-  pub text : IsTextOf model items
+  pub text : IsModelOf model items
   pub judged : IfSome witness (λ text. Judges items text verdict)
   pub accepted : IsAccepted verdict
 
--- the conversion is done, or the witness is accepted
+-- the line that tells how many items, inputs, states, bad properties and constraints a model has
+abbrev pub counts_line : List Item → List ℕ
+counts_line items =
+    codes "; " ++ (decimal (length items)
+    ++ (codes " items, " ++ (decimal (length (places is_input 0 items))
+    ++ (codes " inputs, " ++ (decimal (length (places is_state 0 items))
+    ++ (codes " states, " ++ (decimal (length (places is_bad 0 items))
+    ++ (codes " bad, " ++ (decimal (length (places is_constraint 0 items))
+    ++ codes " constraints\n")))))))))
+
+-- all that was to come is a text of some model, and what was written is the writer's text of it and the line of its counts
+pub record Shows (known before now : Option (List ℕ)) : Type 0 where
+  pub items : List Item
+  pub text : IsModelOf known items
+  pub appends : Appends before now (written items ++ counts_line items)
+
+-- the conversion is done, or the witness is accepted, or the model is shown
 abbrev pub IsDone : Task → Form → Option (List ℕ) → Option (List ℕ) → Option (List ℕ) → Option (List ℕ) → Type 0
-IsDone task.Lower form first second written now = Converts first written now form
-IsDone task.CheckBtor form first second written now = Accepts first second
+IsDone task.Lower form first second before now = Converts first before now form
+IsDone task.CheckBtor form first second before now = Accepts first second
+IsDone task.Show form first second before now = Shows first before now

@@ -12,6 +12,8 @@ pub enum Task {
     Lower,
     /// Judges a witness over a model.
     CheckBtor,
+    /// Writes a model's text in the writer's form.
+    Show,
 }
 
 /// A command, the form of the circuits that it writes, and the names of its files.

@@ -1,12 +1,16 @@
 //! Doing a command.
 
-ghost use Rattle.std.specs.Prelude.{◌≡◌, ◌<◌, IfOk};
-ghost use Rattle.hwtool.specs.Done.{IsDone, Accepts, IsAccepted};
+ghost use Rattle.std.specs.Prelude.{◌≡◌, ◌<◌, ◌++◌, IfOk};
+ghost use Rattle.std.specs.Io.KnownBytes.{Appends};
+ghost use Rattle.btor2text.specs.Writing.{written};
+ghost use Rattle.std.specs.String.{string_bytes};
+ghost use Rattle.hwtool.specs.Done.{IsDone, Accepts, IsAccepted, Shows, counts_line};
 
 use crate::orders::{Order, STANDARD_INPUT, Task};
 use base::{Sink, Source, write_all};
 use blast::{ConvertFault, LowerFault, convert};
-use btor2text::{Why, read};
+use btor2::Model;
+use btor2text::{Why, read, write};
 use std::alloc::{AllocError, Global};
 use witness::{JudgeFault, Judgement, judge_words};
 
@@ -25,8 +29,9 @@ pub const DEVICE: u8 = 3;
 /// Does a command, and answers the exit status: 0 done or accepted, 1 not accepted, 2 input refused, 3 device or
 /// memory.
 ///
-/// Results go to `out`, refusals to `err`, a line each; where `err` fails the status is 3. `lower` does not read the
-/// second source. The status is 0 only where all of the circuit's text was written, or the witness is accepted.
+/// Results go to `out`, refusals to `err`, a line each; where `err` fails the status is 3. `lower` and `show` do not
+/// read the second source. The status is 0 only where all of the circuit's text was written, the witness is accepted,
+/// or all of the model's text and the line of its counts were written.
 pub fn run<A: Source, B: Source, O: Sink, E: Sink>(
     alloc: Global,
     order: &Order<'_>,
@@ -43,6 +48,7 @@ pub fn run<A: Source, B: Source, O: Sink, E: Sink>(
             Err(fault) => refuse(alloc, order.first, &fault, err),
         },
         Task::CheckBtor => check(alloc, order, first, second, out, err),
+        Task::Show => show(alloc, order, first, out, err),
     }
 }
 
@@ -65,6 +71,55 @@ fn check<A: Source, B: Source, O: Sink, E: Sink>(
         Ok(judgement) => tell(alloc, &judgement, out, err),
         Err(fault) => refuse_witness(alloc, order, &fault, err),
     }
+}
+
+/// Writes a model in the writer's form and the line of its counts, and answers the exit status.
+fn show<A: Source, O: Sink, E: Sink>(
+    alloc: Global,
+    order: &Order<'_>,
+    first: &mut A,
+    out: &mut O,
+    err: &mut E,
+) -> u8
+    ensures shown { result ≡ 0 → Shows (A.to_come first.old) (O.written out.old) (O.written out.new) }
+{
+    let model = match read(alloc, first) {
+        Ok(model) => model,
+        Err(fault) => return refuse(alloc, order.first, &ConvertFault::Read(fault), err),
+    };
+    tell_model(alloc, &model, out, err)
+}
+
+/// Writes the writer's text of a model and the line of its counts, and answers the exit status.
+fn tell_model<O: Sink, E: Sink>(alloc: Global, model: &Model, out: &mut O, err: &mut E) -> u8
+    ensures { result ≡ 0 → Appends (O.written out.old) (O.written out.new) (written model.now ++ counts_line model.now) }
+{
+    let line = match counts_line(alloc, model) {
+        Ok(line) => line,
+        Err(_) => return say(err, DEVICE, b"no memory\n"),
+    };
+    match write(model, out) {
+        Ok(()) => {}
+        Err(_) => return say(err, DEVICE, b"output: device\n"),
+    }
+    match write_all(out, line.as_bytes()) {
+        Ok(()) => DONE,
+        Err(_) => say(err, DEVICE, b"output: device\n"),
+    }
+}
+
+/// The line that tells how many items, inputs, states, bad properties and constraints a model has.
+fn counts_line(alloc: Global, model: &Model) -> Result<String, AllocError>
+    ensures { IfOk result (λ line. string_bytes line ≡ counts_line model.now) }
+{
+    let items = model.items().len();
+    let inputs = model.inputs().len();
+    let states = model.states().len();
+    let bads = model.bads().len();
+    let constraints = model.constraints().len();
+    format!(in alloc;
+        "; {items} items, {inputs} inputs, {states} states, {bads} bad, {constraints} constraints\n"
+    )
 }
 
 /// Writes the line of a judgement, and answers the exit status: 0 accepted, 1 not accepted.

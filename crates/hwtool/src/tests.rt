@@ -1,5 +1,7 @@
 //! The rows of the first path, through the two public calls.
 
+mod texts;
+
 use crate::files::NoFile;
 use crate::orders::Stop;
 use crate::running::run;

@@ -9,6 +9,9 @@ use std::alloc::{AllocError, Global};
 /// The word of the command that judges a witness.
 const CHECK_BTOR: &str = "check-btor";
 
+/// The word of the command that writes a model.
+const SHOW: &str = "show";
+
 /// A word that names a file.
 fn file_name<'a>(alloc: Global, name: &'a str, help: &'a str) -> Arg<'a> {
     Arg::new(alloc, name)
@@ -37,6 +40,13 @@ fn check_btor<'a>(alloc: Global) -> Result<Command<'a>, AllocError> {
         .arg(file_name(alloc, "WITNESS", "The file of a BTOR2 witness"))
 }
 
+/// The words of `show`.
+fn show<'a>(alloc: Global) -> Result<Command<'a>, AllocError> {
+    Command::new(alloc, SHOW)
+        .about("Write a BTOR2 model in the one spelling that this program gives")
+        .arg(file_name(alloc, "MODEL", "The file of a BTOR2 model"))
+}
+
 /// The commands and their words.
 fn commands<'a>(alloc: Global) -> Result<Command<'a>, AllocError> {
     Command::new(alloc, "hwtool")
@@ -45,7 +55,8 @@ fn commands<'a>(alloc: Global) -> Result<Command<'a>, AllocError> {
         )
         .subcommand_required(true)
         .subcommand(lower(alloc)?)?
-        .subcommand(check_btor(alloc)?)
+        .subcommand(check_btor(alloc)?)?
+        .subcommand(show(alloc)?)
 }
 
 /// The order that matches name.
@@ -61,7 +72,11 @@ fn order_of<'a>(matches: &ArgMatches<'a>) -> Option<Order<'a>> {
         })
     } else {
         Some(Order {
-            task: Task::Lower,
+            task: if command == SHOW {
+                Task::Show
+            } else {
+                Task::Lower
+            },
             form: Form::Ascii,
             first,
             second: None,

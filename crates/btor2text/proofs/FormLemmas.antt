@@ -1,0 +1,180 @@
+-- A word that is read as a form is the form's word, and the form's word is read as it.
+use Rattle.std.proofs.Common.{◌≡◌, ℕ, Bool, true, false, cond, List, [], ◌∷◌, Option, Some, None, Result, Ok, Err, option_map, refl, sym, ap, subst, ◌∙◌, inl, inr, ◌⊎◌}
+use Rattle.std.specs.Option.{option_or}
+use Rattle.std.specs.Str.{bytes_eq}
+use Rattle.base.specs.declared.operators.Unary.{Unary}
+use Rattle.base.specs.declared.operators.Unary.TheVariants as unary
+use Rattle.base.specs.declared.operators.Binary.{Binary}
+use Rattle.base.specs.declared.operators.Binary.TheVariants as binary
+use Rattle.base.proofs.DecimalLemmas.{chosen}
+use Rattle.btor2text.specs.declared.fault.Why.{Why}
+use Rattle.btor2text.specs.declared.fault.Why.TheVariants as why
+use Rattle.btor2text.specs.declared.forms.Forms.{Forms}
+use Rattle.btor2text.specs.declared.forms.Forms.TheVariants as forms
+use Rattle.btor2text.specs.declared.forms.Form.{Form}
+use Rattle.btor2text.specs.declared.forms.Form.TheVariants as form
+use Rattle.btor2text.specs.declared.forms.Leaf.{Leaf}
+use Rattle.btor2text.specs.declared.forms.Leaf.TheVariants as leaf
+use Rattle.btor2text.specs.declared.forms.Constant.{Constant}
+use Rattle.btor2text.specs.declared.forms.Constant.TheVariants as constant
+use Rattle.btor2text.specs.declared.forms.Extension.{Extension}
+use Rattle.btor2text.specs.declared.forms.Extension.TheVariants as extension
+use Rattle.btor2text.specs.declared.forms.Link.{Link}
+use Rattle.btor2text.specs.declared.forms.Link.TheVariants as link
+use Rattle.btor2text.specs.declared.forms.Property.{Property}
+use Rattle.btor2text.specs.declared.forms.Property.TheVariants as property
+use Rattle.btor2text.specs.Words.{unary_name, binary_name, form_name, named, unaries, tests, bitwise, moves, arithmetic, overflows, leaves, constants, links, properties, others, unary_of, binary_of, plain_form_of, form_named, knows, no_form, known_form, form_of}
+use Rattle.btor2text.specs.Reading.{◌>>=◌, Tokens, form_at}
+use Rattle.btor2text.proofs.PlaceLemmas.{bind_ok, done, ok_is, some_is, is_word}
+
+-- a word that names something is its name
+named_is : {A : Type 0} (name : A → List ℕ) (word : List ℕ) (xs : List A) (x : A) → named name word xs ≡ Some x → word ≡ name x
+named_is name word [] x e = absurd cc
+named_is name word (y ∷ ys) x e =
+    elim (chosen (bytes_eq word (name y)) (Some y) (named name word ys) (Some x) e) [
+      | inl h ↦ is_word word (name y) h.0 ∙ ap name (some_is y x h.1)
+      | inr h ↦ named_is name word ys x h.1
+    ]
+
+either : {A : Type 0} (o p : Option A) (x : A) → option_or o p ≡ Some x → (o ≡ Some x) ⊎ (p ≡ Some x)
+either (Some y) p x e = inl e
+either None p x e = inr e
+
+-- something else that is a name of what a word names
+either_is : {A : Type 0} (o p : Option A) (x : A) (word named : List ℕ) → option_or o p ≡ Some x → (o ≡ Some x → word ≡ named) → (p ≡ Some x → word ≡ named) → word ≡ named
+either_is o p x word name e f g =
+    elim (either o p x e) [
+      | inl h ↦ f h
+      | inr h ↦ g h
+    ]
+
+mapped_is : {A : Type 0} (f : A → Form) (o : Option A) (x : Form) → option_map f o ≡ Some x → (a : A) × (o ≡ Some a) × (f a ≡ x)
+mapped_is f None x e = absurd cc
+mapped_is f (Some a) x e = (a, refl, some_is (f a) x e)
+
+unary_is : (word : List ℕ) (op : Unary) → unary_of word ≡ Some op → word ≡ unary_name op
+unfolding unary_of
+unary_is word op e = named_is unary_name word unaries op e
+
+binary_is : (word : List ℕ) (op : Binary) → binary_of word ≡ Some op → word ≡ binary_name op
+unfolding binary_of
+binary_is word op e0 =
+    either_is _ _ op word (binary_name op) e0 (named_is binary_name word tests op) (λ e1.
+    either_is _ _ op word (binary_name op) e1 (named_is binary_name word bitwise op) (λ e2.
+    either_is _ _ op word (binary_name op) e2 (named_is binary_name word moves op) (λ e3.
+    either_is _ _ op word (binary_name op) e3 (named_is binary_name word arithmetic op) (named_is binary_name word overflows op))))
+
+plain_is : (word : List ℕ) (f : Form) → plain_form_of word ≡ Some f → word ≡ form_name f
+unfolding plain_form_of
+plain_is word f e0 =
+    either_is _ _ f word (form_name f) e0 (named_is form_name word leaves f) (λ e1.
+    either_is _ _ f word (form_name f) e1 (named_is form_name word constants f) (λ e2.
+    either_is _ _ f word (form_name f) e2 (named_is form_name word links f) (λ e3.
+    either_is _ _ f word (form_name f) e3 (named_is form_name word properties f) (named_is form_name word others f))))
+
+operator_is : {A : Type 0} (make : A → Form) (name : A → List ℕ) (o : Option A) (word : List ℕ) (f : Form) → ((a : A) → form_name (make a) ≡ name a) → ((a : A) → o ≡ Some a → word ≡ name a) → option_map make o ≡ Some f → word ≡ form_name f
+operator_is make name o word f same is e =
+    let a = mapped_is make o f e in
+    is a.0 a.1 ∙ (sym (same a.0) ∙ ap form_name a.2)
+
+form_named_is : (word : List ℕ) (f : Form) → form_named word ≡ Some f → word ≡ form_name f
+unfolding form_named
+form_named_is word f e0 =
+    either_is _ _ f word (form_name f) e0 (plain_is word f) (λ e1.
+    either_is _ _ f word (form_name f) e1
+    (operator_is (λ op. form.Unary op) unary_name (unary_of word) word f (λ op. refl) (unary_is word))
+    (operator_is (λ op. form.Binary op) binary_name (binary_of word) word f (λ op. refl) (binary_is word)))
+
+known_is : (forms : Forms) (word : List ℕ) (o : Option Form) (f : Form) → known_form forms word o ≡ Ok f → (o ≡ Some f) × (knows forms f ≡ true)
+known_is forms word None f e = absurd cc
+known_is forms word (Some g) f e =
+    elim (chosen (knows forms g) (done g) (Err why.UnknownOperator) (Ok f) e) [
+      | inl h ↦ let same = ok_is g f h.1 in (ap (λ x. Some x) same, subst (λ (x : Form). knows forms x ≡ true) same h.0)
+      | inr h ↦ absurd cc
+    ]
+
+form_takes : (forms : Forms) (word : List ℕ) (f : Form) → form_of forms word ≡ Ok f → (word ≡ form_name f) × (knows forms f ≡ true)
+unfolding form_of
+form_takes forms word f e = let known = known_is forms word (form_named word) f e in (form_named_is word f known.0, known.1)
+
+pub form_at_takes : (forms : Forms) (tokens : Tokens) (x : Form × Tokens) → form_at forms tokens ≡ Ok x → (tokens ≡ form_name x.0 ∷ x.1) × (knows forms x.0 ≡ true)
+unfolding form_at
+form_at_takes forms [] x e = absurd cc
+form_at_takes forms (word ∷ rest) x e =
+    let f = bind_ok (form_of forms word) (λ f. Ok (f, rest)) x e in
+    let is = form_takes forms word f.0 f.1 in
+    subst (λ (p : Form × Tokens). (word ∷ rest ≡ form_name p.0 ∷ p.1) × (knows forms p.0 ≡ true)) {x = (f.0, rest)} (ok_is (f.0, rest) x f.2) (ap (λ w. w ∷ rest) is.0, is.1)
+
+-- each form's word is read as it
+form_named-again : (f : Form) → form_named (form_name f) ≡ Some f
+unfolding form_named plain_form_of unary_of binary_of
+form_named-again form.Sort = refl
+form_named-again (form.Leaf leaf.Input) = refl
+form_named-again (form.Leaf leaf.State) = refl
+form_named-again (form.Leaf leaf.Zero) = refl
+form_named-again (form.Leaf leaf.One) = refl
+form_named-again (form.Leaf leaf.Ones) = refl
+form_named-again (form.Constant constant.Const) = refl
+form_named-again (form.Constant constant.Constd) = refl
+form_named-again (form.Constant constant.Consth) = refl
+form_named-again (form.Extension extension.Uext) = refl
+form_named-again (form.Extension extension.Sext) = refl
+form_named-again form.Slice = refl
+form_named-again form.Concat = refl
+form_named-again form.Ite = refl
+form_named-again (form.Link link.Init) = refl
+form_named-again (form.Link link.Next) = refl
+form_named-again (form.Property property.Bad) = refl
+form_named-again (form.Property property.Constraint) = refl
+form_named-again (form.Property property.Fair) = refl
+form_named-again (form.Property property.Output) = refl
+form_named-again form.Justice = refl
+form_named-again (form.Unary unary.Not) = refl
+form_named-again (form.Unary unary.Inc) = refl
+form_named-again (form.Unary unary.Dec) = refl
+form_named-again (form.Unary unary.Neg) = refl
+form_named-again (form.Unary unary.Redand) = refl
+form_named-again (form.Unary unary.Redor) = refl
+form_named-again (form.Unary unary.Redxor) = refl
+form_named-again (form.Binary binary.Iff) = refl
+form_named-again (form.Binary binary.Implies) = refl
+form_named-again (form.Binary binary.Eq) = refl
+form_named-again (form.Binary binary.Neq) = refl
+form_named-again (form.Binary binary.Ugt) = refl
+form_named-again (form.Binary binary.Ugte) = refl
+form_named-again (form.Binary binary.Ult) = refl
+form_named-again (form.Binary binary.Ulte) = refl
+form_named-again (form.Binary binary.Sgt) = refl
+form_named-again (form.Binary binary.Sgte) = refl
+form_named-again (form.Binary binary.Slt) = refl
+form_named-again (form.Binary binary.Slte) = refl
+form_named-again (form.Binary binary.And) = refl
+form_named-again (form.Binary binary.Nand) = refl
+form_named-again (form.Binary binary.Or) = refl
+form_named-again (form.Binary binary.Nor) = refl
+form_named-again (form.Binary binary.Xor) = refl
+form_named-again (form.Binary binary.Xnor) = refl
+form_named-again (form.Binary binary.Rol) = refl
+form_named-again (form.Binary binary.Ror) = refl
+form_named-again (form.Binary binary.Sll) = refl
+form_named-again (form.Binary binary.Srl) = refl
+form_named-again (form.Binary binary.Sra) = refl
+form_named-again (form.Binary binary.Add) = refl
+form_named-again (form.Binary binary.Sub) = refl
+form_named-again (form.Binary binary.Mul) = refl
+form_named-again (form.Binary binary.Udiv) = refl
+form_named-again (form.Binary binary.Sdiv) = refl
+form_named-again (form.Binary binary.Urem) = refl
+form_named-again (form.Binary binary.Srem) = refl
+form_named-again (form.Binary binary.Smod) = refl
+form_named-again (form.Binary binary.Uaddo) = refl
+form_named-again (form.Binary binary.Saddo) = refl
+form_named-again (form.Binary binary.Usubo) = refl
+form_named-again (form.Binary binary.Ssubo) = refl
+form_named-again (form.Binary binary.Umulo) = refl
+form_named-again (form.Binary binary.Smulo) = refl
+form_named-again (form.Binary binary.Sdivo) = refl
+
+pub form_at-again : (forms : Forms) (f : Form) (rest : Tokens) → knows forms f ≡ true → form_at forms (form_name f ∷ rest) ≡ Ok (f, rest)
+unfolding form_at form_of
+form_at-again forms f rest known = rw (form_named-again f, known) refl

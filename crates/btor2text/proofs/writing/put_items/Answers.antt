@@ -1,0 +1,20 @@
+use Rattle.std.proofs.Common.{arith}
+use Rattle.btor2text.proofs.PieceLemmas.{put_more, put_fails}
+use Rattle.btor2text.proofs.WritingLemmas.{items_at, few_digits_at}
+use Rattle.btor2text.proofs.writing.put_items.Goals as goal
+
+pub put_item-requires : goal.put_item-requires
+put_item-requires g c = few_digits_at c.args.items.now c.loop-item.item-index _ _ c.requires (omega arith) c.item-item.is
+
+pub returns-in-Err-clause-puts : goal.returns-in-Err-clause-puts
+returns-in-Err-clause-puts g c =
+    put_fails _ _ _ _ _ _ _ _ _ c.loop-item.invariant.put c.in-Err.ensures.puts
+    (items_at c.loop-item.item-index c.args.items.now _ _ (omega arith) c.item-item.is)
+
+pub loop-item-preserved : goal.loop-item-preserved
+loop-item-preserved g c = record {
+  put =
+      put_more _ _ _ _ _ _ _ _ _ _ c.loop-item.invariant.put c.in-Ok.ensures.puts
+      (items_at c.loop-item.item-index c.args.items.now _ _ (omega arith) c.item-item.is);
+  counted = omega (arith, c.in-Ok.ensures.failures.0);
+}

@@ -1,0 +1,164 @@
+//! Numbers and ids in their places on a line.
+
+ghost use Rattle.std.specs.Prelude.{◌≡◌};
+ghost use Rattle.btor2text.specs.Tokens.{tokens};
+ghost use Rattle.btor2text.specs.Reading.{Gives, GivesUnlessFull, is_negative, plain, operand, plain_at, kept_id, sort_at, operand_at, width_at, pair_at, triple_at, operands_at, counted_at};
+
+use crate::fault::Why;
+use crate::operators::is_word;
+use crate::tokens::next_token;
+use base::decimal;
+use std::alloc::Global;
+
+/// The number of a token in a plain place.
+#[tactic(auto, unfolding(crate::specs::Reading::plain))]
+pub(crate) fn plain(token: &[u8]) -> Result<u64, Why>
+    ensures { Gives (λ n. n) result (plain token.now) }
+{
+    match decimal(token) {
+        Some(number) => Ok(number),
+        None => Err(Why::BadToken),
+    }
+}
+
+/// Whether a token is `-` and a decimal.
+#[tactic(auto, unfolding(crate::specs::Reading::is_negative, base::specs::Decimals::number_of))]
+fn is_negative(token: &[u8]) -> bool
+    ensures { result ≡ is_negative token.now }
+{
+    match token {
+        [b'-', rest @ ..] => decimal(rest).is_some(),
+        _ => false,
+    }
+}
+
+/// The number of a token in an operand's place.
+#[tactic(auto, unfolding(crate::specs::Reading::operand))]
+fn operand(token: &[u8]) -> Result<u64, Why>
+    ensures { Gives (λ n. n) result (operand token.now) }
+{
+    match decimal(token) {
+        Some(number) => Ok(number),
+        None if is_negative(token) => Err(Why::NegativeOperand),
+        None => Err(Why::BadToken),
+    }
+}
+
+/// A number in a plain place, and the line behind it.
+#[tactic(auto, unfolding(crate::specs::Reading::plain_at))]
+pub(crate) fn plain_at(line: &[u8]) -> Result<(u64, &[u8]), Why>
+    ensures { Gives (λ x. (x.0, tokens x.1.now)) result (plain_at (tokens line.now)) }
+{
+    match next_token(line) {
+        None => Err(Why::BadToken),
+        Some((token, rest)) => match plain(token) {
+            Ok(number) => Ok((number, rest)),
+            Err(why) => Err(why),
+        },
+    }
+}
+
+/// The id that an item keeps of a number: ids have 32 bits, and what is above is kept as 0, which no item has.
+#[tactic(auto, unfolding(crate::specs::Reading::kept_id))]
+fn kept_id(number: u64) -> u32
+    ensures { result ≡ kept_id number }
+{
+    u32::try_from(number).unwrap_or(0)
+}
+
+/// The id of a sort, and the line behind it.
+#[tactic(auto, unfolding(crate::specs::Reading::sort_at))]
+pub(crate) fn sort_at(line: &[u8]) -> Result<(u32, &[u8]), Why>
+    ensures { Gives (λ x. (x.0, tokens x.1.now)) result (sort_at (tokens line.now)) }
+{
+    let (number, rest) = plain_at(line)?;
+    Ok((kept_id(number), rest))
+}
+
+/// The id of an operand, and the line behind it.
+#[tactic(auto, unfolding(crate::specs::Reading::operand_at))]
+pub(crate) fn operand_at(line: &[u8]) -> Result<(u32, &[u8]), Why>
+    ensures { Gives (λ x. (x.0, tokens x.1.now)) result (operand_at (tokens line.now)) }
+{
+    match next_token(line) {
+        None => Err(Why::BadToken),
+        Some((token, rest)) => match operand(token) {
+            Ok(number) => Ok((kept_id(number), rest)),
+            Err(why) => Err(why),
+        },
+    }
+}
+
+/// The width behind `sort`, and the line behind it.
+#[tactic(auto, unfolding(crate::specs::Reading::width_at))]
+pub(crate) fn width_at(line: &[u8]) -> Result<(u64, &[u8]), Why>
+    ensures { Gives (λ x. (x.0, tokens x.1.now)) result (width_at (tokens line.now)) }
+{
+    match next_token(line) {
+        None => Err(Why::BadToken),
+        Some((token, rest)) => {
+            if is_word(token, b"bitvec") {
+                plain_at(rest)
+            } else if is_word(token, b"array") {
+                Err(Why::ArraySort)
+            } else {
+                Err(Why::BadToken)
+            }
+        }
+    }
+}
+
+/// A sort and an operand, and the line behind them.
+#[tactic(auto, unfolding(crate::specs::Reading::pair_at))]
+pub(crate) fn pair_at(line: &[u8]) -> Result<(u32, u32, &[u8]), Why>
+    ensures { Gives (λ x. (x.0, x.1, tokens x.2.now)) result (pair_at (tokens line.now)) }
+{
+    let (sort, rest) = sort_at(line)?;
+    let (first, rest) = operand_at(rest)?;
+    Ok((sort, first, rest))
+}
+
+/// A sort and two operands, and the line behind them.
+#[tactic(auto, unfolding(crate::specs::Reading::triple_at))]
+pub(crate) fn triple_at(line: &[u8]) -> Result<(u32, u32, u32, &[u8]), Why>
+    ensures { Gives (λ x. (x.0, x.1, x.2, tokens x.3.now)) result (triple_at (tokens line.now)) }
+{
+    let (sort, rest) = sort_at(line)?;
+    let (first, rest) = operand_at(rest)?;
+    let (second, rest) = operand_at(rest)?;
+    Ok((sort, first, second, rest))
+}
+
+/// So many operands, and the line behind them.
+fn operands_at(alloc: Global, count: u64, line: &[u8]) -> Result<(Vec<u32>, &[u8]), Why>
+    ensures { GivesUnlessFull (λ x. (x.0.items, tokens x.1.now)) result (operands_at count (tokens line.now)) }
+{
+    let mut ids = Vec::new(alloc);
+    let mut rest = line;
+    for _ in 0..count {
+        let (id, after) = match operand_at(rest) {
+            Ok(found) => found,
+            Err(why) => return Err(why),
+        };
+        match ids.push(id) {
+            Ok(()) => {}
+            Err(_) => return Err(Why::NoMemory),
+        }
+        rest = after;
+    }
+    Ok((ids, rest))
+}
+
+/// How many operands there are, they themselves, and the line behind them.
+#[tactic(auto, unfolding(crate::specs::Reading::counted_at))]
+pub(crate) fn counted_at(alloc: Global, line: &[u8]) -> Result<(Vec<u32>, &[u8]), Why>
+    ensures { GivesUnlessFull (λ x. (x.0.items, tokens x.1.now)) result (counted_at (tokens line.now)) }
+{
+    let (count, rest) = plain_at(line)?;
+    let found = operands_at(alloc, count, rest)?;
+    // this number stands for all greater ones too
+    if count == u64::MAX {
+        return Err(Why::BadToken);
+    }
+    Ok(found)
+}

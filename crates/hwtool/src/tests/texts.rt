@@ -1,0 +1,154 @@
+//! Models that are shown, through the two public calls.
+
+use crate::files::NoFile;
+use crate::running::run;
+use crate::words::order;
+use base::VecSink;
+use std::alloc::Global;
+use std::process::Abort;
+use std::test::Fail;
+
+/// What `show` of a text answers and writes: status, standard output, standard error.
+fn shown(alloc: Global, text: &str) -> Result<(u8, Vec<u8>, Vec<u8>), Fail> {
+    let words = ["show", "model"];
+    match order(alloc, words.as_slice()) {
+        Ok(order) => {
+            let mut first = text.as_bytes();
+            let mut out = VecSink::new(alloc);
+            let mut err = VecSink::new(alloc);
+            let status = run(
+                alloc,
+                &order,
+                &mut first,
+                &mut NoFile::new(),
+                &mut out,
+                &mut err,
+            );
+            let written = Vec::from_slice(alloc, out.bytes())?;
+            let told = Vec::from_slice(alloc, err.bytes())?;
+            Ok((status, written, told))
+        }
+        Err(_) => Err("refused words")?,
+    }
+}
+
+#[test]
+fn shown_models(rt: HostRuntime) -> Result<(), Fail> {
+    let rows = [
+        ("", "; 0 items, 0 inputs, 0 states, 0 bad, 0 constraints\n"),
+        (
+            "; t\n1 sort  bitvec 1 ; bit\n\n2 input 1 a\n3 not 1 2\n4 output 3\n",
+            "1 sort bitvec 1\n2 input 1 a\n3 not 1 2\n4 output 3\n; 4 items, 1 inputs, 0 states, 0 bad, 0 constraints\n",
+        ),
+        (
+            "1 sort bitvec 8\n2 consth 1 00FF\n",
+            "1 sort bitvec 8\n2 consth 1 00ff\n; 2 items, 0 inputs, 0 states, 0 bad, 0 constraints\n",
+        ),
+        (
+            "1 sort bitvec 8\n2 input 1 a;b\n",
+            "1 sort bitvec 8\n2 input 1 a;b\n; 2 items, 1 inputs, 0 states, 0 bad, 0 constraints\n",
+        ),
+        (
+            "1 sort bitvec 4\n2 constd 1 -8\n3 constd 1 15\n",
+            "1 sort bitvec 4\n2 constd 1 -8\n3 constd 1 15\n; 3 items, 0 inputs, 0 states, 0 bad, 0 constraints\n",
+        ),
+    ];
+    for (text, wanted) in rows {
+        let (status, written, told) = shown(rt.alloc(), text)?;
+        assert_eq!(rt; status, 0, "{text}");
+        assert_eq!(rt; written.as_slice(), wanted.as_bytes(), "{text}");
+        assert_eq!(rt; told.len(), 0, "{text}");
+    }
+    Ok(())
+}
+
+#[test]
+fn refused_models(rt: HostRuntime) -> Result<(), Fail> {
+    let rows = [
+        (
+            "1 sort bitvec 8\n2 constd 1 -0\n",
+            "model: line 2: 20 BadToken\n",
+        ),
+        (
+            "1 sort bitvec 8\n2 constd 1 07\n",
+            "model: line 2: 20 BadToken\n",
+        ),
+        (
+            "1 sort bitvec 8\n2 input 1;b\n",
+            "model: line 2: 20 BadToken\n",
+        ),
+        (
+            "1 sort bitvec 8\n2 input 1\r\n",
+            "model: line 2: 20 BadToken\n",
+        ),
+        (
+            "1 sort bitvec 8\n2 input 1 a b\n",
+            "model: line 2: 20 BadToken\n",
+        ),
+        (
+            "1 sort bitvec 8\n2 udivo 1 1 1\n",
+            "model: line 2: 23 UnknownOperator\n",
+        ),
+        (
+            "1 sort bitvec 8\n2 read 1 1 1\n",
+            "model: line 2: 22 ArrayOperator\n",
+        ),
+        (
+            "1 sort bitvec 1\n2 sort array 1 1\n",
+            "model: line 2: 21 ArraySort\n",
+        ),
+        (
+            "1 sort bitvec 1\n2 input 1\n3 not 1 -2\n",
+            "model: line 3: 24 NegativeOperand\n",
+        ),
+        ("1 sort bitvec 65\n", "model: line 1: 5 WidthOutOfRange\n"),
+        (
+            "1 sort bitvec 4\n2 const 1 101\n",
+            "model: line 2: 25 ConstantDoesNotFit\n",
+        ),
+        (
+            "1 sort bitvec 4\n2 constd 1 -9\n",
+            "model: line 2: 25 ConstantDoesNotFit\n",
+        ),
+        (
+            "1 sort bitvec 4\n2 constd 1 16\n",
+            "model: line 2: 25 ConstantDoesNotFit\n",
+        ),
+        (
+            "1 sort bitvec 64\n2 constd 1 18446744073709551616\n",
+            "model: line 2: 25 ConstantDoesNotFit\n",
+        ),
+        (
+            "1 sort bitvec 1\n2 input 1\n3 justice\n",
+            "model: line 3: 20 BadToken\n",
+        ),
+        (
+            "1 sort bitvec 1\n2 input 1\n3 justice 0\n",
+            "model: line 3: 13 JusticeEmpty\n",
+        ),
+        (
+            "1 sort bitvec 1\n2 input 1\n3 justice 18446744073709551615 2\n",
+            "model: line 3: 20 BadToken\n",
+        ),
+    ];
+    for (text, wanted) in rows {
+        let (status, written, told) = shown(rt.alloc(), text)?;
+        assert_eq!(rt; status, 2, "{text}");
+        assert_eq!(rt; told.as_slice(), wanted.as_bytes(), "{text}");
+        assert_eq!(rt; written.len(), 0, "{text}");
+    }
+    Ok(())
+}
+
+#[test]
+fn every_form(rt: HostRuntime) -> Result<(), Fail> {
+    let text =
+        "1 sort bitvec 1\n2 sort bitvec 4\n3 sort bitvec 8\n4 input 2 i\n5 state 2 s\n6 zero 2\n7 one 2\n8 ones 2\n9 const 2 0101\n10 constd 2 -3\n11 consth 2 0a\n12 uext 3 4 4\n13 sext 3 4 4\n14 slice 1 4 3 3\n15 inc 2 4\n16 redxor 1 4\n17 ult 1 4 5\n18 rol 2 4 5\n19 smod 2 4 5\n20 sdivo 1 4 5\n21 concat 3 4 5\n22 ite 2 14 4 5\n23 init 2 5 9\n24 next 2 5 22\n25 bad 17\n26 constraint 16 c\n27 fair 16\n28 output 21 o\n29 justice 2 16 17\n30 iff 1 16 17\n";
+    let (status, written, _) = shown(rt.alloc(), text)?;
+    assert_eq!(rt; status, 0);
+    let wanted = format!(in rt.alloc();
+        "{text}; 30 items, 1 inputs, 1 states, 1 bad, 1 constraints\n"
+    )?;
+    assert_eq!(rt; written.as_slice(), wanted.as_bytes());
+    Ok(())
+}
