@@ -21,6 +21,14 @@ const GUARDED: &str =
 const DELAYED: &str =
     "1 sort bitvec 1\n2 sort bitvec 3\n3 zero 1\n4 state 1 t\n5 init 1 4 3\n6 state 2 w\n7 input 1 i\n8 input 2 x\n9 next 1 4 7\n10 next 2 6 8\n11 bad 4\n12 bad 7\n";
 
+/// A counter of two bits from 0 on: it is bad that it is 3.
+const COUNTER: &str =
+    "1 sort bitvec 1\n2 sort bitvec 2\n3 zero 2\n4 state 2 c\n5 init 2 4 3\n6 inc 2 4\n7 next 2 4 6\n8 const 2 11\n9 eq 1 4 8\n10 bad 9\n";
+
+/// The same counter: it is bad that it is 1, under the constraint that it is not 2.
+const BOUNDED: &str =
+    "1 sort bitvec 1\n2 sort bitvec 2\n3 zero 2\n4 state 2 c\n5 init 2 4 3\n6 inc 2 4\n7 next 2 4 6\n8 const 2 01\n9 eq 1 4 8\n10 bad 9\n11 const 2 10\n12 neq 1 4 11\n13 constraint 12\n";
+
 /// The toggling bit rises in the second frame.
 const RISES: &str = "sat\nb0\n#0\n0 0\n@0\n@1\n.\n";
 
@@ -88,6 +96,13 @@ fn judgements(rt: HostRuntime) -> Result<(), Fail> {
         (DELAYED, "sat\nb1 b0\n@0\n0 1\n.\n", 1, "not reached: b0"),
         (DELAYED, "sat\nb0 b1\n@0\n@1\n.\n", 1, "not reached: b0"),
         (DELAYED, "sat\nb1\n@0\n@1\n.\n", 1, "not reached: b1"),
+        (
+            COUNTER,
+            "sat\nb0\n#0\n@0\n@1\n@2\n@3\n.\n",
+            0,
+            "accepted 4 frames",
+        ),
+        (COUNTER, "sat\nb0\n@0\n@1\n@2\n.\n", 1, "not reached: b0"),
     ];
     for (model, witness, status, line) in rows {
         let printed = prints(rt.alloc(), model, witness, status, line)?;
@@ -100,6 +115,13 @@ fn judgements(rt: HostRuntime) -> Result<(), Fail> {
 fn violations(rt: HostRuntime) -> Result<(), Fail> {
     let rows = [
         (KEPT, RISES, 1, "violated: frame 1, constraint 0"),
+        (
+            BOUNDED,
+            "sat\nb0\n@0\n@1\n@2\n.\n",
+            1,
+            "violated: frame 2, constraint 0",
+        ),
+        (BOUNDED, "sat\nb0\n@0\n@1\n.\n", 0, "accepted 2 frames"),
         (
             KEPT,
             "sat\nb0\n#0\n0 1\n@0\n.\n",
