@@ -1,9 +1,6 @@
 -- What the tokens behind a form's word are read as is what they say, and what they say is read.
-use Rattle.std.proofs.Common.{◌≡◌, ℕ, ◌^◌, ◌<◌, ◌≤◌, Bool, true, false, List, [], ◌∷◌, ◌++◌, length, map, Result, Ok, Err, codes, decimal, refl, sym, ap, subst, ◌∙◌, arith}
+use Rattle.std.proofs.Common.{◌≡◌, ℕ, ◌^◌, ◌≤◌, List, [], ◌∷◌, ◌++◌, length, map, Ok, codes, decimal, refl, ap, subst, ◌∙◌, arith}
 use Rattle.std.specs.Fmt.{signed_decimal}
-use Rattle.std.proofs.lemmas.Bool.{false≢true}
-use Rattle.base.specs.declared.operators.Unary.{Unary}
-use Rattle.base.specs.declared.operators.Binary.{Binary}
 use Rattle.btor2.specs.declared.item.Body.{Body}
 use Rattle.btor2.specs.declared.item.Body.TheVariants as body
 use Rattle.btor2text.specs.declared.forms.Forms.{Forms}
@@ -23,9 +20,9 @@ use Rattle.btor2text.specs.declared.forms.Property.TheVariants as property
 use Rattle.btor2text.specs.Basic.{is_basic, is_known}
 use Rattle.btor2text.specs.Words.{is_basic_form, knows, form_name}
 use Rattle.btor2text.specs.Digits.{IsNumber}
-use Rattle.btor2text.specs.Spelling.{form_tokens, Says}
+use Rattle.btor2text.specs.Spelling.{Says}
 use Rattle.btor2text.specs.Reading.{◌>>=◌, Tokens, sort_at, width_at, pair_at, triple_at, operand_at, plain_at, digits_at, signed_at, counted_at, constant_at, leaf_body, extension_body, link_body, property_body, body_at}
-use Rattle.btor2text.proofs.BoundLemmas.{IsId, SignedFits, BodyFits}
+use Rattle.btor2text.proofs.BoundLemmas.{IsId, BodyFits}
 use Rattle.btor2text.proofs.PlaceLemmas.{bind_ok, ok_is, plain_at_takes, plain_at-decimal, sort_at_takes, sort_at-decimal, operand_at_takes, operand_at-decimal, width_at_takes, width_at-again, pair_at_takes, pair_at-again, triple_at_takes, triple_at-again}
 use Rattle.btor2text.proofs.OperandLemmas.{counted_at_takes, counted_at-again}
 use Rattle.btor2text.proofs.ConstantLemmas.{digits_at_takes, digits_at-again, signed_at_takes, signed_at-again}

@@ -8,7 +8,7 @@ use Rattle.std.proofs.lemmas.Bool.{and_parts, eqb-true, leb-true, ltb-true}
 use Rattle.btor2.specs.declared.item.Item.{Item}
 use Rattle.btor2.specs.declared.item.Body.{Body}
 use Rattle.btor2.specs.declared.item.Body.TheVariants as body
-use Rattle.btor2.specs.Items.{find_item, sort_bits, sort_width, width_of_body, node_width, operands}
+use Rattle.btor2.specs.Items.{find_item, sort_bits, width_of_body, operands}
 use Rattle.btor2.specs.Check.{refusal, IsWellFormed}
 use Rattle.btor2.proofs.AppendLemmas.{then_parts}
 use Rattle.btor2.proofs.AcceptedLemmas.{Each, HasSort, HasWidth, BodyIsAccepted, IsAccepted-from_refusal}

@@ -1,18 +1,17 @@
 -- Constants that are read are what the digits spell, and what they spell is read.
-use Rattle.std.proofs.Common.{◌≡◌, ℕ, zero, suc, ◌-◌, ◌^◌, ◌<◌, ◌≤◌, min, nat_le, Bool, true, false, ◌==◌, ◌&&◌, List, [], ◌∷◌, length, get_or, ℤ, pos, negsuc, Option, Some, None, Result, Ok, Err, decimal, refl, sym, ap, subst, ◌∙◌, inl, inr, arith}
+use Rattle.std.proofs.Common.{◌≡◌, ℕ, zero, suc, ◌^◌, ◌<◌, ◌≤◌, min, nat_le, true, false, ◌==◌, ◌&&◌, List, [], ◌∷◌, length, get_or, ℤ, pos, negsuc, Option, Some, None, Ok, decimal, refl, sym, ap, subst, ◌∙◌, inl, inr, arith}
 use Rattle.std.specs.Fmt.{signed_decimal}
-use Rattle.std.specs.Char.{is_digit, digit_value}
+use Rattle.std.specs.Char.{digit_value}
 use Rattle.std.specs.Str.Parse.{AllDigits, digits_value}
-use Rattle.std.proofs.lemmas.Bool.{cases_lt, and_parts, and_from, le-leb, lt-ltb, ltb-true, eqb-true, eqb-false, ne_eqb, false_from_ne_true, leb-true}
+use Rattle.std.proofs.lemmas.Bool.{cases_lt, and_from, le-leb, lt-ltb, eqb-true, eqb-false, ne_eqb, false_from_ne_true, leb-true}
 use Rattle.std.proofs.lemmas.Fmt.{decimal_is_IsNumeral, decimal-digits_value}
 use Rattle.std.proofs.lemmas.Str.Parse.{numerals_by_value, tells_digits}
 use Rattle.base.specs.Decimals.{is_nothing, are_digits, is_decimal, number_of, capped_value}
 use Rattle.base.proofs.DecimalLemmas.{chosen, number_of-decimal}
-use Rattle.btor2text.specs.declared.fault.Why.TheVariants as why
 use Rattle.btor2text.specs.Digits.{are_digits_of, IsNumber, number_in, decimal_number, negated, unsigned, signed_number, kept_count, kept_value}
 use Rattle.btor2text.specs.Reading.{Tokens, some_of, digits_at, signed_at}
 use Rattle.btor2text.proofs.BoundLemmas.{SignedFits}
-use Rattle.btor2text.proofs.DigitLemmas.{number_parts, number_from, word_of_digits}
+use Rattle.btor2text.proofs.DigitLemmas.{number_parts, number_from, all_digits, word_of_digits}
 use Rattle.btor2text.proofs.PlaceLemmas.{bind_ok, ok_is, some_is, some_read}
 
 -- ---- digits of a radix
@@ -73,10 +72,6 @@ decimal_parts bytes n e =
       | inr h ↦ absurd cc
     ]
 
-all_below : (bytes : List ℕ) → are_digits_of 10 bytes ≡ true → AllDigits 10 bytes
-all_below [] h = tt
-all_below (b ∷ bs) h = let parts = and_parts (is_digit b 10) (are_digits_of 10 bs) h in (ltb-true (digit_value b) 10 parts.0, all_below bs parts.1)
-
 below_all : (bytes : List ℕ) → AllDigits 10 bytes → are_digits_of 10 bytes ≡ true
 below_all [] h = refl
 below_all (b ∷ bs) h = and_from _ _ (lt-ltb (digit_value b) 10 h.0) (below_all bs h.1)
@@ -87,7 +82,7 @@ decimal_takes bytes n e lt =
     let number = number_parts 10 bytes n parts.1 in
     let shape = decimal_shape bytes parts.0 in
     let value : digits_value 10 bytes ≡ n = omega (arith, number.1, lt) in
-    rw (← value) (sym (decimal-digits_value (numerals_by_value (AllDigits 10) tells_digits) bytes (all_below bytes number.0) shape.0 shape.1 (omega (arith, value, lt))))
+    rw (← value) (sym (decimal-digits_value (numerals_by_value (AllDigits 10) tells_digits) bytes (all_digits 10 bytes number.0) shape.0 shape.1 (omega (arith, value, lt))))
 
 is_decimal-decimal : (n : ℕ) → n < 2 ^ 64 → is_decimal (decimal n) ≡ true
 unfolding number_of
@@ -131,7 +126,7 @@ signed_takes (b ∷ bs) v e =
     ]
 
 no_minus : (b : ℕ) (bs : List ℕ) → are_digits_of 10 (b ∷ bs) ≡ true → b ≡ 45 → ⊥
-no_minus b bs h is = absurd (omega (arith, (all_below (45 ∷ bs) (rw is at h)).0))
+no_minus b bs h is = absurd (omega (arith, (all_digits 10 (45 ∷ bs) (rw is at h)).0))
 
 positive_again : (token : List ℕ) (n : ℕ) → decimal_number token ≡ Some n → signed_number token ≡ Some (pos n)
 unfolding signed_number

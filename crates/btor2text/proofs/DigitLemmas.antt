@@ -1,11 +1,10 @@
 -- Numbers that digits of a radix write, read from the left.
-use Rattle.std.proofs.Common.{◌≡◌, ℕ, zero, suc, ◌+◌, ◌*◌, ◌^◌, ◌<◌, ◌≤◌, min, Bool, true, false, ◌&&◌, List, [], ◌∷◌, length, get_or, take, ℤ, pos, neg_ℤ, to_z, of_z, FitsSigned, ◌-ℤ◌, Option, Some, None, inl, inr, refl, sym, ap, ◌∙◌, lit<, arith}
+use Rattle.std.proofs.Common.{◌≡◌, ℕ, zero, suc, ◌+◌, ◌*◌, ◌^◌, ◌<◌, ◌≤◌, min, true, false, List, [], ◌∷◌, length, get_or, take, ℤ, pos, neg_ℤ, to_z, of_z, FitsSigned, ◌-ℤ◌, Option, Some, None, inl, inr, refl, sym, ap, ◌∙◌, arith}
 use Rattle.std.specs.Int.{w128}
 use Rattle.std.specs.Prelude.{IfSome}
-use Rattle.std.specs.List.{list_all}
 use Rattle.std.specs.Char.{is_digit, digit_value}
 use Rattle.std.specs.Str.Parse.{AllDigits, digits_value}
-use Rattle.std.proofs.Math.Nat.{mul-le-mul_right, le-mul_of_pos_right, pow-le-pow_right}
+use Rattle.std.proofs.Math.Nat.{le-mul_of_pos_right, pow-le-pow_right}
 use Rattle.std.proofs.Math.Facts.{to_z_pos, to_z-of_z}
 use Rattle.std.proofs.Math.IntN.{+ℤ_idl}
 use Rattle.std.proofs.lemmas.Bool.{cases_lt, and_parts, and_from, ltb-true, lt-ltb, false_from_ne_true, ne_eqb}
@@ -13,6 +12,7 @@ use Rattle.std.proofs.lemmas.List.{take_all}
 use Rattle.std.proofs.lemmas.List.Folds.{list_all_at, list_all_more}
 use Rattle.std.proofs.lemmas.Int.Digits.{digits_value_more, digits_value-lt}
 use Rattle.base.proofs.DecimalLemmas.{chosen}
+use Rattle.btor2text.proofs.PlaceLemmas.{some_is}
 use Rattle.btor2text.specs.Digits.{are_digits_of, number_in, negated, unsigned}
 
 -- one more digit of a number that is told up to 2 ^ 64
@@ -26,15 +26,12 @@ capped_more v n radix d least is =
           omega (arith, is, whole, capped)
     ]
 
-some_same : {A : Type 0} (x y : A) → Some x ≡ Some y → x ≡ y
-some_same x y e = cc
-
 -- what a number that was read says
 pub number_parts : (radix : ℕ) (bytes : List ℕ) (n : ℕ) → number_in radix bytes ≡ Some n → (are_digits_of radix bytes ≡ true) × (min (digits_value radix bytes) (2 ^ 64) ≡ n)
 unfolding number_in
 number_parts radix bytes n e =
     elim (chosen (are_digits_of radix bytes) (Some (min (digits_value radix bytes) (2 ^ 64))) None (Some n) e) [
-      | inl h ↦ (h.0, some_same _ _ h.1)
+      | inl h ↦ (h.0, some_is _ _ h.1)
       | inr h ↦ absurd cc
     ]
 
@@ -103,11 +100,11 @@ cast_negated n le =
 
 pub unsigned_some : (o : Option ℕ) (n : ℕ) → o ≡ Some n → IfSome o (λ m. m ≤ 2 ^ 64) → Some (to_z w128 n) ≡ unsigned o
 unsigned_some None n e le = absurd cc
-unsigned_some (Some m) n e le = let same : m ≡ n = some_same m n e in rw (← same) (ap (λ (z : ℤ). Some z) (cast_up m le))
+unsigned_some (Some m) n e le = let same : m ≡ n = some_is m n e in rw (← same) (ap (λ (z : ℤ). Some z) (cast_up m le))
 
 pub negated_some : (o : Option ℕ) (n : ℕ) → o ≡ Some n → (n ≡ 0 → ⊥) → IfSome o (λ m. m ≤ 2 ^ 64) → Some (to_z w128 (of_z w128 (pos 0 -ℤ to_z w128 n))) ≡ negated o
 negated_some None n e not le = absurd cc
 negated_some (Some m) n e not le =
-    let same : m ≡ n = some_same m n e in
+    let same : m ≡ n = some_is m n e in
     let other : m ≡ 0 → ⊥ = λ is. not (sym same ∙ is) in
     rw (← same, ne_eqb m 0 other) (ap (λ (z : ℤ). Some z) (cast_negated m le))

@@ -1,5 +1,5 @@
 -- A word that is read as a form is the form's word, and the form's word is read as it.
-use Rattle.std.proofs.Common.{◌≡◌, ℕ, Bool, true, false, cond, List, [], ◌∷◌, Option, Some, None, Result, Ok, Err, option_map, refl, sym, ap, subst, ◌∙◌, inl, inr, ◌⊎◌}
+use Rattle.std.proofs.Common.{◌≡◌, ℕ, true, List, [], ◌∷◌, Option, Some, None, Ok, Err, option_map, refl, sym, ap, subst, ◌∙◌, inl, inr, ◌⊎◌}
 use Rattle.std.specs.Option.{option_or}
 use Rattle.std.specs.Str.{bytes_eq}
 use Rattle.base.specs.declared.operators.Unary.{Unary}
@@ -7,24 +7,17 @@ use Rattle.base.specs.declared.operators.Unary.TheVariants as unary
 use Rattle.base.specs.declared.operators.Binary.{Binary}
 use Rattle.base.specs.declared.operators.Binary.TheVariants as binary
 use Rattle.base.proofs.DecimalLemmas.{chosen}
-use Rattle.btor2text.specs.declared.fault.Why.{Why}
 use Rattle.btor2text.specs.declared.fault.Why.TheVariants as why
 use Rattle.btor2text.specs.declared.forms.Forms.{Forms}
-use Rattle.btor2text.specs.declared.forms.Forms.TheVariants as forms
 use Rattle.btor2text.specs.declared.forms.Form.{Form}
 use Rattle.btor2text.specs.declared.forms.Form.TheVariants as form
-use Rattle.btor2text.specs.declared.forms.Leaf.{Leaf}
 use Rattle.btor2text.specs.declared.forms.Leaf.TheVariants as leaf
-use Rattle.btor2text.specs.declared.forms.Constant.{Constant}
 use Rattle.btor2text.specs.declared.forms.Constant.TheVariants as constant
-use Rattle.btor2text.specs.declared.forms.Extension.{Extension}
 use Rattle.btor2text.specs.declared.forms.Extension.TheVariants as extension
-use Rattle.btor2text.specs.declared.forms.Link.{Link}
 use Rattle.btor2text.specs.declared.forms.Link.TheVariants as link
-use Rattle.btor2text.specs.declared.forms.Property.{Property}
 use Rattle.btor2text.specs.declared.forms.Property.TheVariants as property
-use Rattle.btor2text.specs.Words.{unary_name, binary_name, form_name, named, unaries, tests, bitwise, moves, arithmetic, overflows, leaves, constants, links, properties, others, unary_of, binary_of, plain_form_of, form_named, knows, no_form, known_form, form_of}
-use Rattle.btor2text.specs.Reading.{◌>>=◌, Tokens, form_at}
+use Rattle.btor2text.specs.Words.{unary_name, binary_name, form_name, named, unaries, tests, bitwise, moves, arithmetic, overflows, leaves, constants, links, properties, others, unary_of, binary_of, plain_form_of, form_named, knows, known_form, form_of}
+use Rattle.btor2text.specs.Reading.{Tokens, form_at}
 use Rattle.btor2text.proofs.PlaceLemmas.{bind_ok, done, ok_is, some_is, is_word}
 
 -- a word that names something is its name

@@ -1,6 +1,5 @@
 -- Texts of items and of digits, piece by piece.
-use Rattle.std.proofs.Common.{◌≡◌, ℕ, zero, suc, ◌+◌, ◌-◌, ◌<◌, ◌≤◌, ◌/◌, ◌%◌, List, [], ◌∷◌, ◌++◌, length, get_or, take, drop, map, codes, decimal, drop-cons, add-one, refl, sym, ap, subst, ◌∙◌, append_assoc, append-nil, arith}
-use Rattle.std.specs.Prelude.{flat_map}
+use Rattle.std.proofs.Common.{◌≡◌, ℕ, suc, ◌+◌, ◌-◌, ◌<◌, ◌≤◌, ◌/◌, ◌%◌, List, [], ◌∷◌, ◌++◌, length, get_or, take, drop, map, codes, decimal, drop-cons, add-one, sym, ap, subst, ◌∙◌, append_assoc, append-nil, arith}
 use Rattle.std.specs.Char.{digit_char}
 use Rattle.std.proofs.lemmas.List.{take-append-drop}
 use Rattle.std.proofs.lemmas.List.Concat.{flat_map-append}
@@ -12,7 +11,7 @@ use Rattle.btor2.proofs.ModelLemmas.{IsIn, refusal-at, IsWellFormed-front}
 use Rattle.btor2text.specs.Digits.{last_digits}
 use Rattle.btor2text.specs.Spelling.{form_tokens, symbol_tokens}
 use Rattle.btor2text.specs.Writing.{behind_spaces, HasFewDigits, written_line, written}
-use Rattle.btor2text.proofs.BoundLemmas.{BodyFits, Fits, accepted_fits}
+use Rattle.btor2text.proofs.BoundLemmas.{BodyFits, accepted_fits}
 
 -- ---- lists
 

@@ -1,9 +1,9 @@
 -- What is written stands for the items that are written.
-use Rattle.std.proofs.Common.{◌≡◌, ℕ, zero, suc, ◌+◌, ◌-◌, ◌*◌, ◌/◌, ◌%◌, ◌^◌, ◌<◌, ◌≤◌, Bool, true, false, not, ◌&&◌, ◌||◌, ◌==◌, nat_le, nat_lt, ap₂, List, [], ◌∷◌, ◌++◌, length, length-append, map, codes, decimal, ℤ, pos, negsuc, Option, Some, None, Result, Ok, refl, sym, ap, subst, ◌∙◌, append_assoc, append-nil, inl, inr, arith}
-use Rattle.std.specs.Prelude.{IfSome, flat_map}
+use Rattle.std.proofs.Common.{◌≡◌, ℕ, zero, suc, ◌+◌, ◌*◌, ◌/◌, ◌%◌, ◌^◌, ◌<◌, ◌≤◌, Bool, true, false, not, ◌&&◌, ◌==◌, nat_le, nat_lt, ap₂, List, [], ◌∷◌, ◌++◌, length, length-append, map, codes, decimal, ℤ, pos, negsuc, Option, Some, None, refl, sym, ap, subst, ◌∙◌, append_assoc, append-nil, inl, inr, arith}
+use Rattle.std.specs.Prelude.{IfSome}
 use Rattle.std.specs.List.{list_any, list_all}
 use Rattle.std.specs.Fmt.{signed_decimal}
-use Rattle.std.specs.Char.{is_digit, digit_value, digit_char}
+use Rattle.std.specs.Char.{is_digit, digit_char}
 use Rattle.std.specs.Str.Parse.{AllDigits, digits_value}
 use Rattle.std.proofs.Math.Nat.{mod-lt, div-add-mod, div-lt_iff_lt-mul, mul_comm, pow-zero, pow-succ'}
 use Rattle.std.proofs.lemmas.Bool.{and_parts, and_from, le-leb, leb-true, lt-ltb, ltb-true, ne_eqb, not-true, or_parts, or_from, false_from_ne_true, cases_lt}
@@ -31,7 +31,7 @@ use Rattle.btor2text.specs.Tokens.{is_blank, tokens, begins_token}
 use Rattle.btor2text.specs.Words.{unary_name, binary_name}
 use Rattle.btor2text.specs.Digits.{are_digits_of, IsNumber, last_digits}
 use Rattle.btor2text.specs.Spelling.{form_tokens, symbol_tokens, Says, Spells, SpellsAll, StandsFor}
-use Rattle.btor2text.specs.Writing.{behind_spaces, written_line, written, HasFewOperands, IsWritable, AreWritable}
+use Rattle.btor2text.specs.Writing.{behind_spaces, written, HasFewOperands, IsWritable, AreWritable}
 use Rattle.btor2text.proofs.BoundLemmas.{IsId, SignedFits, BodyFits, Fits, accepted_fits}
 use Rattle.btor2text.proofs.StandsLemmas.{spells_line}
 use Rattle.btor2text.proofs.TokenLemmas.{tokens-word, tokens-word_blank}

@@ -1,4 +1,4 @@
--- The line forms that are read and lowered so far.
+-- The basic line forms, which are those that are lowered so far.
 use Rattle.std.specs.Prelude.{Bool, true, false, List}
 use Rattle.std.specs.List.{list_all}
 use Rattle.base.specs.declared.operators.Unary.{Unary}

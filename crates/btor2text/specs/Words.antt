@@ -183,7 +183,7 @@ form_named word =
     option_or (plain_form_of word)
     (option_or (option_map (λ op. form.Unary op) (unary_of word)) (option_map (λ op. form.Binary op) (binary_of word)))
 
--- a form of a line that is read and lowered so far
+-- a basic form
 abbrev pub is_basic_leaf : Leaf → Bool
 is_basic_leaf leaf.Input = true
 is_basic_leaf leaf.State = true

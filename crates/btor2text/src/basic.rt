@@ -4,7 +4,7 @@ ghost use Rattle.btor2text.specs.Basic.{is_basic, are_basic};
 use base::{Binary, Unary};
 use btor2::{Body, Model};
 
-/// Whether a line is of a form that is read so far.
+/// Whether a line is of a basic form.
 fn is_basic(body: &Body) -> bool
     ensures { result ≡ is_basic body.now }
 {
@@ -23,7 +23,7 @@ fn is_basic(body: &Body) -> bool
     }
 }
 
-/// Whether a model is of the forms alone that are read so far: `sort bitvec`, `input`, `state`, `zero`, `not`, `and`,
+/// Whether a model is of the basic forms alone, which are those that are lowered so far: `sort bitvec`, `input`, `state`, `zero`, `not`, `and`,
 /// `init`, `next`, `bad` and `constraint`.
 pub fn are_basic(model: &Model) -> bool
     ensures { result ≡ are_basic model.now }

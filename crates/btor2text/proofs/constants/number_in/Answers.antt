@@ -1,4 +1,4 @@
-use Rattle.std.proofs.Common.{min, ap₂, ◌+◌, ◌≡◌, ◌≤◌, ◌*◌, ◌^◌, ◌<◌, ℕ, Some, get_or, true, false, sym, ap, ◌∙◌, arith}
+use Rattle.std.proofs.Common.{min, ap₂, ◌+◌, ◌≡◌, ◌≤◌, ◌*◌, ◌^◌, ℕ, Some, get_or, sym, ap, ◌∙◌, arith}
 use Rattle.std.specs.Char.{digit_value}
 use Rattle.std.proofs.Math.Nat.{mul-le-mul_right}
 use Rattle.btor2text.proofs.DigitLemmas.{number_none, number_small, number_more, number_stops, number_all, digit_is, not_digit}

@@ -1,4 +1,4 @@
-use Rattle.std.proofs.Common.{◌∷◌, [], ◌++◌, decimal, refl}
+use Rattle.std.proofs.Common.{◌∷◌, [], decimal, refl}
 use Rattle.btor2text.specs.Spelling.{form_tokens, symbol_tokens}
 use Rattle.btor2text.specs.Writing.{behind_spaces, written_line}
 use Rattle.btor2text.proofs.PieceLemmas.{put_none, put_more, put_fails, puts_last}
