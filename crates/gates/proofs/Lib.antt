@@ -1,1 +1,4 @@
 pub mod MadeLemmas
+pub mod LiteralLemmas
+pub mod WordLemmas
+pub mod RowLemmas
