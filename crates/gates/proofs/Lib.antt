@@ -2,3 +2,5 @@ pub mod MadeLemmas
 pub mod LiteralLemmas
 pub mod WordLemmas
 pub mod RowLemmas
+pub mod MoveLemmas
+pub mod WindowLemmas

@@ -1,10 +1,11 @@
 -- Literals that are made one after the other.
-use Rattle.std.proofs.Common.{◌≡◌, ℕ, ◌+◌, ◌≤◌, Bool, not, ◌&&◌, ◌∙◌, ap, ap₂}
+use Rattle.std.proofs.Common.{◌≡◌, ℕ, ◌+◌, ◌≤◌, Bool, not, ◌&&◌, ◌∙◌, ap, ap₂, arith}
 use Rattle.aiger.specs.Literal.{Valuation, negation, literal_value}
 use Rattle.aiger.specs.Net.{Net, IsDefined}
 use Rattle.aiger.proofs.NetLemmas.{IsDefined-negation, literal_value-negation}
-use Rattle.gates.specs.Made.{Grows, MakesAnd, MakesLiteral}
-use Rattle.gates.proofs.MadeLemmas.{Grows-refl, Grows-weaker, Grows-trans, Satisfies-earlier, IsDefined-later}
+use Rattle.gates.specs.declared.fault.GateFault.{GateFault}
+use Rattle.gates.specs.Made.{Grows, MakesAnd, MakesLiteral, Refuses}
+use Rattle.gates.proofs.MadeLemmas.{Grows-refl, Grows-weaker, Grows-trans, Satisfies-earlier, variables-later, IsDefined-later}
 
 -- a literal that stands, made with no gate
 pub MakesLiteral-standing : (n : Net) (most l : ℕ) (f : Valuation → Bool) → IsDefined n l → ((v : Valuation) → literal_value v l ≡ f v) → MakesLiteral n n most f l
@@ -65,3 +66,10 @@ MakesLiteral-join a b c d m n k x y l f g h first second third =
           let before = Satisfies-earlier c d k third.grows v s in
           third.means v s ∙ ap₂ h (kept.means v before) (second.means v before);
     }
+
+-- a refusal behind gates that were made before
+pub Refuses-behind : (old mid new : Net) (m n most : ℕ) (e : GateFault) → m + n ≤ most → Grows old mid m → Refuses mid new n e → Refuses old new most e
+Refuses-behind old mid new m n most e le before r = record {
+  grows = Grows-weaker old new (m + n) most le (Grows-trans old mid new m n before r.grows);
+  too_big = λ is. let more = variables-later old mid m before in let full = r.too_big is in omega arith;
+}

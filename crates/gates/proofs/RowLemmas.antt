@@ -1,5 +1,5 @@
 -- Rows of literals that are made one after the other, place by place.
-use Rattle.std.proofs.Common.{◌≡◌, ℕ, ◌+◌, ◌*◌, ◌^◌, ◌<◌, Bool, List, [], ◌∷◌, ◌++◌, length, map, take, get_or, All, refl, sym, ap, ◌∙◌, subst, arith, length-take}
+use Rattle.std.proofs.Common.{◌≡◌, ℕ, ◌+◌, ◌*◌, ◌^◌, ◌<◌, ◌≤◌, Bool, if◌then◌else◌, List, [], ◌∷◌, ◌++◌, length, map, take, get_or, All, refl, sym, ap, ap₂, ◌∙◌, subst, arith, length-take}
 use Rattle.std.proofs.lemmas.List.{length-map, length_push, take_all, take_more, map-append}
 use Rattle.std.proofs.lemmas.List.Elements.{All-nil, All-cons, All-push}
 use Rattle.base.specs.Word.{word, bit_number}
@@ -92,3 +92,28 @@ pub word_value-bit : (v : Valuation) (a : List ℕ) (x : ℕ) → length a ≡ 1
 word_value-bit v [] x one is = absurd (omega arith)
 word_value-bit v (l ∷ []) x one is = rw is (omega arith)
 word_value-bit v (l ∷ m ∷ rest) x one is = absurd (omega arith)
+
+-- a word of a word that was made before, what is known of that one put in
+pub MakesWord-of_word : (old mid new : Net) (m n wide width : ℕ) (f : Valuation → ℕ) (g : Valuation → ℕ → ℕ) (xs ys : List ℕ) → MakesWord old mid m wide f xs → MakesWord mid new n width (λ v. g v (word_value v xs)) ys → MakesWord old new (m + n) width (λ v. g v (f v)) ys
+MakesWord-of_word old mid new m n wide width f g xs ys first second = record {
+  grows = Grows-trans old mid new m n first.grows second.grows;
+  wide = second.wide;
+  defined = second.defined;
+  means = λ v s. second.means v s ∙ ap (g v) (first.means v (Satisfies-earlier mid new n second.grows v s));
+}
+
+-- within a greater bound
+pub MakesWord-weaker : (old new : Net) (few most wide : ℕ) (f : Valuation → ℕ) (bits : List ℕ) → few ≤ most → MakesWord old new few wide f bits → MakesWord old new most wide f bits
+MakesWord-weaker old new few most wide f bits le m = record { grows = Grows-weaker old new few most le m.grows; wide = m.wide; defined = m.defined; means = m.means }
+
+-- a word chosen by a literal, behind the word and the literal that were made before
+pub MakesWord-choice : (a b c d : Net) (m n k wide x : ℕ) (f far : Valuation → ℕ) (h : Valuation → Bool) (bits row : List ℕ) → MakesWord a b m wide f bits → MakesLiteral b c n h x → MakesWord c d k wide (λ v. if literal_value v x then far v else word_value v bits) row
+    → MakesWord a d (m + n + k) wide (λ v. if h v then far v else f v) row
+MakesWord-choice a b c d m n k wide x f far h bits row word test choice = record {
+  grows = Grows-trans a c d (m + n) k (Grows-trans a b c m n word.grows test.grows) choice.grows;
+  wide = choice.wide;
+  defined = choice.defined;
+  means = λ v s.
+      let tested = Satisfies-earlier c d k choice.grows v s in
+      choice.means v s ∙ ap₂ (λ t w. if t then far v else w) (test.means v tested) (word.means v (Satisfies-earlier b c n test.grows v tested));
+}

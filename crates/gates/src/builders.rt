@@ -12,6 +12,7 @@ use crate::bitwise::{
 };
 use crate::fault::GateFault;
 use crate::maker::{Bits, Gates};
+use crate::shifts::{rotate, shift};
 use aiger::Lit;
 use base::{Binary, Unary};
 
@@ -39,9 +40,10 @@ pub fn unary_bits<G: Gates>(g: &mut G, op: Unary, a: &Bits) -> Result<Bits, Gate
 
 /// The bits of what an operator gives for two operands.
 ///
-/// Conditions: the operator is bitwise or a test of bits or for equality, those that are built so far; operands of equal
-/// length from 1 to 64, for `Iff` and `Implies` of length 1, all literals defined. Errors: `TooBig` only where the
-/// variables so far and the operator's bound sum to more than 2^30, `NoMemory`; the gates made so far stay.
+/// Conditions: the operator is bitwise, a shift, a rotation, or a test of bits or for equality, those that are built so
+/// far; operands of equal length from 1 to 64, for `Iff` and `Implies` of length 1, all literals defined. Errors:
+/// `TooBig` only where the variables so far and the operator's bound sum to more than 2^30, `NoMemory`; the gates made
+/// so far stay.
 pub fn binary_bits<G: Gates>(g: &mut G, op: Binary, a: &Bits, b: &Bits) -> Result<Bits, GateFault>
     requires built { is_built_binary op ≡ true }
     requires of_bits { is_of_bits op ≡ true → length a.now.items ≡ 1 }
@@ -64,6 +66,8 @@ pub fn binary_bits<G: Gates>(g: &mut G, op: Binary, a: &Bits, b: &Bits) -> Resul
         Binary::Nor => connect_negated(g, Connective::Or, a, b),
         Binary::Xor => connect_words(g, Connective::Xor, a, b),
         Binary::Xnor => connect_negated(g, Connective::Xor, a, b),
+        Binary::Rol | Binary::Ror => rotate(g, op, a, b),
+        Binary::Sll | Binary::Srl | Binary::Sra => shift(g, op, a, b),
         _ => unreachable!(),
     }
 }

@@ -10,6 +10,7 @@ mod laws;
 mod literals;
 mod maker;
 mod plain;
+mod shifts;
 
 pub use bitwise::equal;
 pub use bound::{Op, gate_bound};
@@ -20,6 +21,7 @@ pub use laws::{worked_bounds, worked_nets};
 pub use literals::{mux, xor};
 pub use maker::{Bits, Gates};
 pub use plain::PlainGates;
+pub use shifts::{rotate, shift};
 
 #[cfg(test)]
 mod tests;
