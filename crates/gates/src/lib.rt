@@ -25,3 +25,5 @@ pub use shifts::{rotate, shift};
 
 #[cfg(test)]
 mod tests;
+#[cfg(test)]
+mod tests_table;
