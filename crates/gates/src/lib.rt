@@ -17,7 +17,7 @@ pub use bound::{Op, gate_bound};
 pub use builders::{binary_bits, unary_bits};
 pub use choices::ite_bits;
 pub use fault::GateFault;
-pub use laws::{worked_bounds, worked_nets};
+pub use laws::{worked_bounds, worked_connections, worked_nets};
 pub use literals::{mux, xor};
 pub use maker::{Bits, Gates};
 pub use plain::PlainGates;
