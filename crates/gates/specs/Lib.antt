@@ -1,5 +1,7 @@
 pub mod Bound
 pub mod Built
+pub mod Connect
 pub mod Made
+pub mod Moves
 pub mod Faults
 pub mod Worked
