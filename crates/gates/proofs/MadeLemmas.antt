@@ -93,6 +93,14 @@ both-more f a b i x y in_a in_b x_is y_is =
     let front_b : map f (take (i + 1) b) ≡ map f (take i b) ++ f y ∷ [] = rw (take_more b i y in_b, ← y_is) (map-append f (take i b) (y ∷ [])) in
     rw (front_a, front_b) (both-push (map f (take i a)) (map f (take i b)) (f x) (f y) (omega (arith, length-map (take i a) f, length-map (take i b) f, length-take i a, length-take i b)))
 
+-- negated literals read as the negated word
+pub word_value-negation : (v : Valuation) (ls : List ℕ) → word_value v (map negation ls) ≡ 2 ^ length ls - 1 - word_value v ls
+word_value-negation v ls = ap word (negated ls) ∙ word-map_not (map (literal_value v) ls) ∙ ap (λ k. 2 ^ k - 1 - word_value v ls) (length-map ls (literal_value v))
+  where
+    negated : (ls : List ℕ) → map (literal_value v) (map negation ls) ≡ map not (map (literal_value v) ls)
+    negated [] = refl
+    negated (l ∷ ls) = rw (literal_value-negation v l, negated ls) refl
+
 -- negated literals are those of the negated word
 pub MakesWord-not : (n : Net) (a bits : List ℕ) → All (IsDefined n) a → bits ≡ map negation a → MakesWord n n 0 (length a) (λ v. 2 ^ length a - 1 - word_value v a) bits
 MakesWord-not n a bits defined is =
@@ -100,12 +108,8 @@ MakesWord-not n a bits defined is =
       grows = Grows-refl n 0;
       wide = length-map a negation;
       defined = All-map (IsDefined n) negation a (All-weaker (IsDefined n) (λ l. IsDefined n (negation l)) (IsDefined-negation n) a defined);
-      means = λ v s. ap word (negated v a) ∙ word-map_not (map (literal_value v) a) ∙ ap (λ k. 2 ^ k - 1 - word_value v a) (length-map a (literal_value v));
+      means = λ v s. word_value-negation v a;
     })
-  where
-    negated : (v : Valuation) (ls : List ℕ) → map (literal_value v) (map negation ls) ≡ map not (map (literal_value v) ls)
-    negated v [] = refl
-    negated v (l ∷ ls) = rw (literal_value-negation v l, negated v ls) refl
 
 -- the bits that both operands have are those of the and of their words
 pub MakesWord-and : (old new : Net) (a b bits : List ℕ) (n i : ℕ) → length a ≡ n → length b ≡ n → i ≡ n → Grows old new i → length bits ≡ i → All (IsDefined new) bits

@@ -1,5 +1,6 @@
 pub mod Bound
 pub mod Built
 pub mod Made
+pub mod Sums
 pub mod Faults
 pub mod Worked

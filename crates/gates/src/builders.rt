@@ -52,7 +52,7 @@ pub fn binary_bits<G: Gates>(g: &mut G, op: Binary, a: &Bits, b: &Bits) -> Resul
 }
 
 /// The negated literals.
-fn negation(a: &Bits) -> Bits
+pub(crate) fn negation(a: &Bits) -> Bits
     requires { length a.now.items ≤ 128 }
     ensures { result.items ≡ map negation a.now.items }
 {
@@ -64,7 +64,7 @@ fn negation(a: &Bits) -> Bits
 }
 
 /// A literal that is true where both operands are: one of the operands or a constant where that is known, else a gate.
-fn conjunction<G: Gates>(g: &mut G, a: Lit, b: Lit) -> Result<Lit, GateFault>
+pub(crate) fn conjunction<G: Gates>(g: &mut G, a: Lit, b: Lit) -> Result<Lit, GateFault>
     requires left { IsDefined (G.made g.old) a }
     requires right { IsDefined (G.made g.old) b }
     ensures ok { IfOk result (MakesAnd (G.made g.old) (G.made g.new) a b) }

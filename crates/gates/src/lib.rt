@@ -1,6 +1,7 @@
 //! Gate makers, and the circuits of the word operators over any of them.
 #![tactic(auto)]
 
+mod adders;
 mod bound;
 mod builders;
 mod fault;
@@ -8,6 +9,7 @@ mod laws;
 mod maker;
 mod plain;
 
+pub use adders::{Added, add};
 pub use bound::{Op, gate_bound};
 pub use builders::{binary_bits, unary_bits};
 pub use fault::GateFault;
