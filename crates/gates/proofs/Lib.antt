@@ -1,2 +1,3 @@
 pub mod MadeLemmas
 pub mod SumLemmas
+pub mod OrderLemmas

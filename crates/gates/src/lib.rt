@@ -4,6 +4,7 @@
 mod adders;
 mod bound;
 mod builders;
+mod comparisons;
 mod fault;
 mod laws;
 mod maker;
@@ -12,6 +13,7 @@ mod plain;
 pub use adders::{Added, add};
 pub use bound::{Op, gate_bound};
 pub use builders::{binary_bits, unary_bits};
+pub use comparisons::less;
 pub use fault::GateFault;
 pub use laws::{worked_bounds, worked_nets};
 pub use maker::{Bits, Gates};
