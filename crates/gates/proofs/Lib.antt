@@ -1,3 +1,4 @@
 pub mod MadeLemmas
 pub mod SumLemmas
 pub mod OrderLemmas
+pub mod OverflowLemmas

@@ -1,5 +1,5 @@
 -- Sums of bits and of words, and the gates that make them.
-use Rattle.std.proofs.Common.{◌≡◌, ℕ, zero, suc, ◌+◌, ◌-◌, ◌*◌, ◌/◌, ◌%◌, ◌^◌, ◌<◌, ◌≤◌, Bool, true, false, not, ◌&&◌, List, [], ◌∷◌, ◌++◌, length, map, take, get_or, replicate, pos, ◌-ℤ◌, All, refl, sym, ap, subst, ◌∙◌, arith, length-append}
+use Rattle.std.proofs.Common.{◌≡◌, ℕ, zero, suc, ◌+◌, ◌-◌, ◌*◌, ◌/◌, ◌%◌, ◌^◌, ◌<◌, ◌≤◌, Bool, true, false, not, ◌&&◌, ◌==◌, List, [], ◌∷◌, ◌++◌, length, map, take, get_or, replicate, pos, ◌-ℤ◌, All, refl, sym, ap, subst, ◌∙◌, arith, length-append}
 use Rattle.std.proofs.Math.Nat.{pow-suc, add-mul-mod_self_left, mod-eq_of_lt}
 use Rattle.std.proofs.lemmas.Nat.{div-mul-add, pow_pos}
 use Rattle.std.proofs.lemmas.Int.{ints}
@@ -15,7 +15,7 @@ use Rattle.base.specs.Word.{bit_number, word}
 use Rattle.aiger.specs.Literal.{Valuation, literal_value, negation}
 use Rattle.aiger.specs.Net.{Net, IsDefined}
 use Rattle.aiger.proofs.NetLemmas.{IsDefined-negation, literal_value-negation}
-use Rattle.gates.specs.Made.{MakesAnd, MakesWord, word_value}
+use Rattle.gates.specs.Made.{MakesAnd, MakesLiteral, MakesWord, word_value}
 use Rattle.gates.specs.Sums.{literal_number, MakesColumn, MakesSum}
 use Rattle.gates.proofs.MadeLemmas.{Grows-refl, Grows-weaker, Grows-trans, Satisfies-earlier, IsDefined-later, All-defined-later, word_value-negation}
 
@@ -55,6 +55,26 @@ MakesColumn-half n0 n1 n2 n3 a b both neither sum first second third =
           (half_sum (literal_value v a) (literal_value v b));
     }
 
+-- two bits are different where their sum is odd
+odd_differ : (x y sum carry : Bool) → bit_number sum + 2 * bit_number carry ≡ bit_number x + bit_number y → sum ≡ not (bit_number x == bit_number y)
+odd_differ true true true carry e = absurd (omega arith)
+odd_differ true true false carry e = refl
+odd_differ true false true carry e = refl
+odd_differ true false false carry e = absurd (omega arith)
+odd_differ false true true carry e = refl
+odd_differ false true false carry e = absurd (omega arith)
+odd_differ false false true carry e = absurd (omega arith)
+odd_differ false false false carry e = refl
+
+pub MakesLiteral-differ : (old new : Net) (a b sum carry : ℕ) → MakesColumn old new 3 (λ v. literal_number v a + literal_number v b) sum carry
+    → MakesLiteral old new 3 (λ v. not (literal_number v a == literal_number v b)) sum
+MakesLiteral-differ old new a b sum carry made =
+    record {
+      grows = made.grows;
+      defined = made.sum_defined;
+      means = λ v s. odd_differ (literal_value v a) (literal_value v b) (literal_value v sum) (literal_value v carry) (made.means v s);
+    }
+
 -- two half adders, and a carry from either
 pub MakesColumn-full : (n0 n1 n2 n3 : Net) (a b c low first second sum none : ℕ)
     → MakesColumn n0 n1 3 (λ v. literal_number v a + literal_number v b) low first
@@ -89,7 +109,7 @@ pub front_with : (ls read : List ℕ) (i l : ℕ) → read ≡ ls → i < length
 front_with ls read i l same inside is = let at : get_or ls i l ≡ l = rw (← same) (sym is) in take_more ls i l inside ∙ ap (λ x. take i ls ++ x ∷ []) at
 
 -- one place more doubles the number of words
-two_more : (n : ℕ) → 2 ^ suc n ≡ 2 * 2 ^ n
+pub two_more : (n : ℕ) → 2 ^ suc n ≡ 2 * 2 ^ n
 two_more n = omega (arith, pow-suc 2 n)
 
 -- a bit more at the high end of a word

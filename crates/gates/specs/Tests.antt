@@ -16,6 +16,15 @@ is_comparison binary.Slt = true
 is_comparison binary.Slte = true
 is_comparison _ = false
 
+-- the overflow tests
+abbrev pub is_overflow : Binary → Bool
+is_overflow binary.Uaddo = true
+is_overflow binary.Saddo = true
+is_overflow binary.Usubo = true
+is_overflow binary.Ssubo = true
+is_overflow binary.Sdivo = true
+is_overflow _ = false
+
 -- literals with the highest one negated, where there is one
 abbrev pub with_top_negated : List ℕ → List ℕ
 with_top_negated ls = take (length ls - 1) ls ++ negation (slice_index ls (length ls - 1)) ∷ []

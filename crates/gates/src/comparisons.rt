@@ -50,7 +50,7 @@ pub fn less<G: Gates>(g: &mut G, a: &Bits, b: &Bits) -> Result<Lit, GateFault>
 }
 
 /// The literals with the highest one negated.
-fn top_negated(a: &Bits) -> Bits
+pub(crate) fn top_negated(a: &Bits) -> Bits
     requires { 1 ≤ length a.now.items }
     ensures { result.items ≡ with_top_negated a.now.items }
 {

@@ -8,6 +8,7 @@ mod comparisons;
 mod fault;
 mod laws;
 mod maker;
+mod overflows;
 mod plain;
 
 pub use adders::{Added, add};
@@ -17,6 +18,7 @@ pub use comparisons::less;
 pub use fault::GateFault;
 pub use laws::{worked_bounds, worked_nets};
 pub use maker::{Bits, Gates};
+pub use overflows::overflow;
 pub use plain::PlainGates;
 
 #[cfg(test)]
