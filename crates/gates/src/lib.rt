@@ -23,3 +23,5 @@ pub use plain::PlainGates;
 
 #[cfg(test)]
 mod tests;
+#[cfg(test)]
+mod tests_sums;
