@@ -83,10 +83,15 @@ MakesLiteral-less_step old mid new most all a b x y below l same all_is so_far c
           (order_more (2 ^ length a) (word_value v a) (word_value v b) (literal_value v x) (literal_value v y) (word_value_below v a) b_below);
     }
 
--- a number that differs by half of the words from the signed number of a word
-signed_parts : (n low : ℕ) (x : Bool) → 1 ≤ n → low < 2 ^ (n - 1) → signed n (low + 2 ^ (n - 1) * bit_number x) ≡ pos (low + 2 ^ (n - 1) * bit_number (not x)) -ℤ pos (2 ^ (n - 1))
-signed_parts n low true h below = signed_high n (low + 2 ^ (n - 1) * 1) (omega arith) ∙ omega (arith, ints, half n h)
-signed_parts n low false h below = signed_low n (low + 2 ^ (n - 1) * 0) (omega arith) ∙ omega (arith, ints)
+-- a word's signed number is what is below its highest bit, less half of the words where that is 1
+pub signed_top : (n low : ℕ) (x : Bool) → 1 ≤ n → low < 2 ^ (n - 1) → signed n (low + 2 ^ (n - 1) * bit_number x) ≡ pos low -ℤ pos (2 ^ (n - 1) * bit_number x)
+signed_top n low true h below = signed_high n (low + 2 ^ (n - 1) * 1) (omega arith) ∙ omega (arith, ints, half n h)
+signed_top n low false h below = signed_low n (low + 2 ^ (n - 1) * 0) (omega arith) ∙ omega (arith, ints)
+
+-- and half of the words more is the word with that bit negated
+half_up : (p low : ℕ) (x : Bool) → pos low -ℤ pos (p * bit_number x) ≡ pos (low + p * bit_number (not x)) -ℤ pos p
+half_up p low true = omega (arith, ints)
+half_up p low false = omega (arith, ints)
 
 -- so signed numbers are in the order of their words with the highest bits negated
 order_by_half : (a b p : ℕ) → nat_lt a b ≡ int_lt (pos a -ℤ pos p) (pos b -ℤ pos p)
@@ -119,15 +124,19 @@ All-top_negated n ls bits are some defined =
     let top = All-get_or (IsDefined n) ls k 0 (omega arith) defined in
     rw are (All-push (IsDefined n) (take k ls) (negation (get_or ls k 0)) (All-take (IsDefined n) k ls defined) (IsDefined-negation n (get_or ls k 0) top))
 
+-- the literals below a place read as a word of so many bits
+pub front_below : (v : Valuation) (ls : List ℕ) (k : ℕ) → k ≤ length ls → word_value v (take k ls) < 2 ^ k
+front_below v ls k inside = let front : length (take k ls) ≡ k = omega (arith, length-take k ls) in subst (λ (n : ℕ). word_value v (take k ls) < 2 ^ n) front (word_value_below v (take k ls))
+
 -- the signed number of a word, by the word with its highest bit negated
 pub signed_by_top : (v : Valuation) (ls : List ℕ) → 1 ≤ length ls
     → signed (length ls) (word_value v ls) ≡ pos (word_value v (with_top_negated ls)) -ℤ pos (2 ^ (length ls - 1))
 signed_by_top v ls some =
     let k = length ls - 1 in
     let is : suc k ≡ length ls = omega arith in
-    let front : length (take k ls) ≡ k = omega (arith, length-take k ls) in
-    let low : word_value v (take k ls) < 2 ^ k = subst (λ (n : ℕ). word_value v (take k ls) < 2 ^ n) front (word_value_below v (take k ls)) in
-    ap (signed (length ls)) (word_value-top v ls k is) ∙ signed_parts (length ls) (word_value v (take k ls)) (literal_value v (get_or ls k 0)) some low
+    let low = word_value v (take k ls) in
+    let top = literal_value v (get_or ls k 0) in
+    ap (signed (length ls)) (word_value-top v ls k is) ∙ signed_top (length ls) low top some (front_below v ls k (omega arith)) ∙ half_up (2 ^ k) low top
     ∙ ap (λ w. pos w -ℤ pos (2 ^ k)) (sym (word_value-top_negated v ls k is))
 
 -- the order of words with their highest bits negated is that of the signed numbers

@@ -1,5 +1,5 @@
 -- The overflow tests, and the gates that tell them.
-use Rattle.std.proofs.Common.{◌≡◌, ℕ, suc, ◌+◌, ◌-◌, ◌*◌, ◌/◌, ◌%◌, ◌^◌, ◌<◌, ◌≤◌, ◌⊎◌, inl, inr, Bool, true, false, not, ◌&&◌, ◌==◌, nat_lt, nat_le, List, [], ◌∷◌, ◌++◌, length, map, take, get_or, ℤ, pos, ◌+ℤ◌, ◌-ℤ◌, refl, sym, ap, ap₂, subst, ◌∙◌, arith, length-take}
+use Rattle.std.proofs.Common.{◌≡◌, ℕ, suc, ◌+◌, ◌-◌, ◌*◌, ◌/◌, ◌%◌, ◌^◌, ◌<◌, ◌≤◌, ◌⊎◌, inl, inr, Bool, true, false, not, ◌&&◌, ◌==◌, nat_lt, nat_le, List, [], ◌∷◌, ◌++◌, length, map, take, get_or, ℤ, pos, ◌+ℤ◌, ◌-ℤ◌, refl, sym, ap, ap₂, ◌∙◌, arith}
 use Rattle.std.proofs.Math.Nat.{add-mul-mod_self_left, mod-eq_of_lt, div-mul-le_self, lt-div-mul-add}
 use Rattle.std.proofs.lemmas.Nat.{pow_pos}
 use Rattle.std.proofs.lemmas.Bool.Decides.{nat_tests}
@@ -10,7 +10,7 @@ use Rattle.base.specs.declared.operators.Binary.TheVariants as binary
 use Rattle.base.specs.Word.{bit_number}
 use Rattle.base.specs.Operator.{ones, binary_value}
 use Rattle.base.specs.Signed.{signed, overflows}
-use Rattle.base.proofs.SignedLaws.{half, signed_is, signed_low, signed_high, overflows_in, overflows_out}
+use Rattle.base.proofs.SignedLaws.{half, signed_is, overflows_in, overflows_out}
 use Rattle.aiger.specs.Literal.{Valuation, literal_value, negation}
 use Rattle.aiger.specs.Net.{Net, Satisfies}
 use Rattle.aiger.proofs.NetLemmas.{IsDefined-negation, IsDefined-true, literal_value-negation}
@@ -19,7 +19,7 @@ use Rattle.gates.specs.Sums.{literal_number, MakesSum}
 use Rattle.gates.specs.Tests.{with_top_negated}
 use Rattle.gates.proofs.MadeLemmas.{Grows-refl, Grows-trans, Satisfies-earlier, word_value-negation}
 use Rattle.gates.proofs.SumLemmas.{word_value-push, word_value_below, two_more}
-use Rattle.gates.proofs.OrderLemmas.{word_value-top, word_value-top_negated, length-top_negated, MakesWord-test}
+use Rattle.gates.proofs.OrderLemmas.{signed_top, front_below, word_value-top, word_value-top_negated, length-top_negated, MakesWord-test}
 
 -- the carry out tells whether a sum is no word, and whether a difference is none
 carry_out : (p s a b : ℕ) (o : Bool) → s < p → s + p * bit_number o ≡ a + b + 0 → o ≡ nat_le p (a + b)
@@ -51,11 +51,6 @@ taken_off p true false = inr (inl (omega arith))
 taken_off p false true = inr (inl (omega arith))
 taken_off p false false = inl (omega arith)
 
--- a word's signed number is what is below its highest bit, less half of the words where that is 1
-signed_top : (n low : ℕ) (x : Bool) → 1 ≤ n → low < 2 ^ (n - 1) → signed n (low + 2 ^ (n - 1) * bit_number x) ≡ pos low -ℤ pos (2 ^ (n - 1) * bit_number x)
-signed_top n low true h below = signed_high n (low + 2 ^ (n - 1) * 1) (omega arith) ∙ omega (arith, ints, half n h)
-signed_top n low false h below = signed_low n (low + 2 ^ (n - 1) * 0) (omega arith) ∙ omega (arith, ints)
-
 -- so the sum of two signed numbers and a carry
 signed_sum : (n a b c : ℕ) (x y : Bool) → 1 ≤ n → a < 2 ^ (n - 1) → b < 2 ^ (n - 1)
     → signed n (a + 2 ^ (n - 1) * bit_number x) +ℤ signed n (b + 2 ^ (n - 1) * bit_number y) +ℤ pos c ≡ pos (a + b + c) -ℤ pos (2 ^ (n - 1) * (bit_number x + bit_number y))
@@ -80,10 +75,6 @@ sum_overflows n a b c s x y t o h a_below b_below s_below whole top =
     let sum : s + 2 * 2 ^ (n - 1) * bit_number o ≡ a + b + c + 2 ^ (n - 1) * (bit_number x + bit_number y) = rw (← all) (omega (arith, whole)) in
     ap (overflows n) (signed_sum n a b c x y h a_below b_below)
     ∙ carries_differ n (a + b + c) (2 ^ (n - 1) * (bit_number x + bit_number y)) s t o (taken_off (2 ^ (n - 1)) x y) below sum least.0 least.1
-
--- the literals below a place read as a word of so many bits
-front_below : (v : Valuation) (ls : List ℕ) (k : ℕ) → k ≤ length ls → word_value v (take k ls) < 2 ^ k
-front_below v ls k inside = let front : length (take k ls) ≡ k = omega (arith, length-take k ls) in subst (λ (n : ℕ). word_value v (take k ls) < 2 ^ n) front (word_value_below v (take k ls))
 
 -- the same of an adder's answer
 adder_overflows : (old new : Net) (most : ℕ) (a b : List ℕ) (carry : ℕ) (sum : List ℕ) (into_top out : ℕ) → 1 ≤ length a → length b ≡ length a → MakesSum old new most a b carry sum into_top out

@@ -9,7 +9,7 @@ use Rattle.base.specs.declared.operators.Unary.TheVariants as unary
 use Rattle.base.specs.declared.operators.Binary.TheVariants as binary
 use Rattle.base.specs.Operator.{unary_value, binary_value}
 use Rattle.base.specs.Signed.{wrapped}
-use Rattle.base.proofs.BitLemmas.{word_below}
+use Rattle.base.proofs.BitLemmas.{bit_number_small, word_below}
 use Rattle.base.proofs.WrapLemmas.{wrapped_is}
 use Rattle.base.specs.Word.{bit_number, word}
 use Rattle.aiger.specs.Literal.{Valuation, literal_value, negation}
@@ -32,11 +32,6 @@ one_of_two true true h = absurd (omega arith)
 one_of_two true false h = refl
 one_of_two false true h = refl
 one_of_two false false h = refl
-
--- the number of a bit is at most one
-bit_at_most : (x : Bool) → bit_number x ≤ 1
-bit_at_most true = omega arith
-bit_at_most false = omega arith
 
 -- the and of two literals and the exclusive or by it
 pub MakesColumn-half : (n0 n1 n2 n3 : Net) (a b both neither sum : ℕ)
@@ -91,9 +86,9 @@ MakesColumn-full n0 n1 n2 n3 a b c low first second sum none one two three =
           let at_one = Satisfies-earlier n1 n2 3 two.grows v at_two in
           let carry : literal_value v (negation none) ≡ not (not (literal_value v first) && not (literal_value v second)) =
           literal_value-negation v none ∙ ap not (three.means v s ∙ rw (literal_value-negation v first, literal_value-negation v second) refl) in
-          let x = bit_at_most (literal_value v a) in
-          let y = bit_at_most (literal_value v b) in
-          let z = bit_at_most (literal_value v c) in
+          let x = bit_number_small (literal_value v a) in
+          let y = bit_number_small (literal_value v b) in
+          let z = bit_number_small (literal_value v c) in
           let low_is = one.means v at_one in
           let sum_is = two.means v at_two in
           let either = one_of_two (literal_value v first) (literal_value v second) (omega (arith, low_is, sum_is, x, y, z)) in
