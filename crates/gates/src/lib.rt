@@ -10,6 +10,7 @@ mod laws;
 mod maker;
 mod overflows;
 mod plain;
+mod sum_laws;
 
 pub use adders::{Added, add};
 pub use bound::{Op, gate_bound};
@@ -20,6 +21,7 @@ pub use laws::{worked_bounds, worked_nets};
 pub use maker::{Bits, Gates};
 pub use overflows::overflow;
 pub use plain::PlainGates;
+pub use sum_laws::worked_sums;
 
 #[cfg(test)]
 mod tests;
