@@ -1,5 +1,5 @@
 //! Words compared by order, as whole numbers and as signed numbers.
-ghost use Rattle.std.specs.Prelude.{◌≡◌, ◌+◌, ◌-◌, ◌*◌, ◌≤◌, true, nat_lt, int_lt, [], ◌∷◌, ◌++◌, length, take, slice_index, All, IfOk, IfErr};
+ghost use Rattle.std.specs.Prelude.{◌≡◌, ◌+◌, ◌*◌, ◌≤◌, true, nat_lt, int_lt, [], ◌∷◌, length, All, IfOk, IfErr};
 ghost use Rattle.base.specs.Operator.{binary_value};
 ghost use Rattle.base.specs.Signed.{signed};
 ghost use Rattle.aiger.specs.Net.{IsDefined};

@@ -1,5 +1,5 @@
 //! Whether the result of an operation in whole numbers is one of the width.
-ghost use Rattle.std.specs.Prelude.{◌≡◌, ◌+◌, ◌*◌, ◌≤◌, ◌==◌, true, [], ◌∷◌, length, All, IfOk, IfErr};
+ghost use Rattle.std.specs.Prelude.{◌≡◌, ◌*◌, ◌≤◌, ◌==◌, true, [], ◌∷◌, length, All, IfOk, IfErr};
 ghost use Rattle.base.specs.Operator.{ones, binary_value};
 ghost use Rattle.aiger.specs.Net.{IsDefined};
 ghost use Rattle.gates.specs.Bound.{binary_bound};

@@ -1,7 +1,6 @@
 //! Worked rows of sums and of the tests that stand on them, as a function with no code.
-ghost use Rattle.std.specs.Prelude.{◌≡◌, ℕ, [], ◌∷◌, true, false, not};
+ghost use Rattle.std.specs.Prelude.{◌≡◌, [], ◌∷◌, true, false, not};
 ghost use Rattle.base.specs.declared.operators.Binary.TheVariants as binary;
-ghost use Rattle.aiger.specs.Worked.{one_gate};
 ghost use Rattle.gates.specs.Made.{MakesLiteral};
 ghost use Rattle.gates.specs.Sums.{literal_number, MakesColumn, MakesSum};
 ghost use Rattle.gates.specs.Tests.{is_comparison, is_overflow, with_top_negated};
