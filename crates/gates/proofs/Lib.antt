@@ -4,3 +4,6 @@ pub mod WordLemmas
 pub mod RowLemmas
 pub mod MoveLemmas
 pub mod WindowLemmas
+pub mod SumLemmas
+pub mod OrderLemmas
+pub mod OverflowLemmas
