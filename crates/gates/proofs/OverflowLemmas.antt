@@ -1,5 +1,5 @@
 -- The overflow tests, and the gates that tell them.
-use Rattle.std.proofs.Common.{◌≡◌, ℕ, suc, ◌+◌, ◌-◌, ◌*◌, ◌/◌, ◌%◌, ◌^◌, ◌<◌, ◌≤◌, ◌⊎◌, inl, inr, Bool, true, false, not, ◌&&◌, ◌==◌, nat_lt, nat_le, List, [], ◌∷◌, ◌++◌, length, map, take, get_or, ℤ, pos, ◌+ℤ◌, ◌-ℤ◌, refl, sym, ap, ap₂, ◌∙◌, arith}
+use Rattle.std.proofs.Common.{◌≡◌, ℕ, suc, ◌+◌, ◌-◌, ◌*◌, ◌/◌, ◌%◌, ◌^◌, ◌<◌, ◌≤◌, ◌⊎◌, inl, inr, Bool, true, false, not, ◌&&◌, ◌==◌, nat_lt, nat_le, List, [], ◌∷◌, length, map, take, get_or, ℤ, pos, ◌+ℤ◌, ◌-ℤ◌, refl, sym, ap, ap₂, ◌∙◌, arith}
 use Rattle.std.proofs.Math.Nat.{add-mul-mod_self_left, mod-eq_of_lt, div-mul-le_self, lt-div-mul-add}
 use Rattle.std.proofs.lemmas.Nat.{pow_pos}
 use Rattle.std.proofs.lemmas.Bool.Decides.{nat_tests}
@@ -13,12 +13,13 @@ use Rattle.base.specs.Signed.{signed, overflows}
 use Rattle.base.proofs.SignedLaws.{half, signed_is, overflows_in, overflows_out}
 use Rattle.aiger.specs.Literal.{Valuation, literal_value, negation}
 use Rattle.aiger.specs.Net.{Net, Satisfies}
-use Rattle.aiger.proofs.NetLemmas.{IsDefined-negation, IsDefined-true, literal_value-negation}
+use Rattle.aiger.proofs.NetLemmas.{IsDefined-negation, literal_value-negation}
+use Rattle.gates.specs.Connect.{differ}
 use Rattle.gates.specs.Made.{MakesAnd, MakesLiteral, MakesWord, word_value}
 use Rattle.gates.specs.Sums.{literal_number, MakesSum}
 use Rattle.gates.specs.Tests.{with_top_negated}
-use Rattle.gates.proofs.MadeLemmas.{Grows-refl, Grows-trans, Satisfies-earlier, word_value-negation}
-use Rattle.gates.proofs.SumLemmas.{word_value-push, word_value_below, two_more}
+use Rattle.gates.proofs.MadeLemmas.{Grows-trans, Satisfies-earlier, word_value-negation}
+use Rattle.gates.proofs.SumLemmas.{word_value_below}
 use Rattle.gates.proofs.OrderLemmas.{signed_top, front_below, word_value-top, word_value-top_negated, length-top_negated, MakesWord-test}
 
 -- the carry out tells whether a sum is no word, and whether a difference is none
@@ -38,7 +39,7 @@ overflows_far n z false e far = let near = overflows_out n z e in absurd (omega 
 -- a sum of signed numbers by the sum m of the words without their highest bits, q being what these bits take off: it overflows where the carries differ
 carries_differ : (n m q s : ℕ) (t o : Bool) → (q ≡ 0) ⊎ ((q ≡ 2 ^ (n - 1)) ⊎ (q ≡ 2 * 2 ^ (n - 1)))
     → s < 2 * 2 ^ (n - 1) → s + 2 * 2 ^ (n - 1) * bit_number o ≡ m + q → bit_number t * 2 ^ (n - 1) ≤ m → m < bit_number t * 2 ^ (n - 1) + 2 ^ (n - 1)
-    → overflows n (pos m -ℤ pos q) ≡ not (bit_number t == bit_number o)
+    → overflows n (pos m -ℤ pos q) ≡ differ t o
 carries_differ n m q s true true taken below whole least most = overflows_in n (pos m -ℤ pos q) (omega (arith, ints, taken)) (omega (arith, ints, taken))
 carries_differ n m q s false false taken below whole least most = overflows_in n (pos m -ℤ pos q) (omega (arith, ints, taken)) (omega (arith, ints, taken))
 carries_differ n m q s true false taken below whole least most = overflows_far n (pos m -ℤ pos q) _ refl (inr (omega (arith, ints, taken)))
@@ -64,7 +65,7 @@ carry_in p m t h is = rw is (div-mul-le_self m p, lt-div-mul-add h)
 sum_overflows : (n a b c s : ℕ) (x y t o : Bool) → 1 ≤ n → a < 2 ^ (n - 1) → b < 2 ^ (n - 1) → s < 2 ^ n
     → s + 2 ^ n * bit_number o ≡ a + 2 ^ (n - 1) * bit_number x + (b + 2 ^ (n - 1) * bit_number y) + c
     → bit_number t ≡ ((a + 2 ^ (n - 1) * bit_number x) % 2 ^ (n - 1) + (b + 2 ^ (n - 1) * bit_number y) % 2 ^ (n - 1) + c) / 2 ^ (n - 1)
-    → overflows n (signed n (a + 2 ^ (n - 1) * bit_number x) +ℤ signed n (b + 2 ^ (n - 1) * bit_number y) +ℤ pos c) ≡ not (bit_number t == bit_number o)
+    → overflows n (signed n (a + 2 ^ (n - 1) * bit_number x) +ℤ signed n (b + 2 ^ (n - 1) * bit_number y) +ℤ pos c) ≡ differ t o
 sum_overflows n a b c s x y t o h a_below b_below s_below whole top =
     let low_a : (a + 2 ^ (n - 1) * bit_number x) % 2 ^ (n - 1) ≡ a = add-mul-mod_self_left a (2 ^ (n - 1)) (bit_number x) ∙ mod-eq_of_lt a_below in
     let low_b : (b + 2 ^ (n - 1) * bit_number y) % 2 ^ (n - 1) ≡ b = add-mul-mod_self_left b (2 ^ (n - 1)) (bit_number y) ∙ mod-eq_of_lt b_below in
@@ -79,7 +80,7 @@ sum_overflows n a b c s x y t o h a_below b_below s_below whole top =
 -- the same of an adder's answer
 adder_overflows : (old new : Net) (most : ℕ) (a b : List ℕ) (carry : ℕ) (sum : List ℕ) (into_top out : ℕ) → 1 ≤ length a → length b ≡ length a → MakesSum old new most a b carry sum into_top out
     → (v : Valuation) → Satisfies new v
-    → overflows (length a) (signed (length a) (word_value v a) +ℤ signed (length a) (word_value v b) +ℤ pos (literal_number v carry)) ≡ not (literal_number v into_top == literal_number v out)
+    → overflows (length a) (signed (length a) (word_value v a) +ℤ signed (length a) (word_value v b) +ℤ pos (literal_number v carry)) ≡ differ (literal_value v into_top) (literal_value v out)
 adder_overflows old new most a b carry sum into_top out some same made v s =
     let k = length a - 1 in
     let of_a : word_value v a ≡ word_value v (take k a) + 2 ^ k * literal_number v (get_or a k 0) = word_value-top v a k (omega arith) in
@@ -94,7 +95,7 @@ adder_overflows old new most a b carry sum into_top out some same made v s =
 -- a literal that is true where the carries differ
 MakesWord-carries_differ : (old mid new : Net) (a b : List ℕ) (carry : ℕ) (sum : List ℕ) (into_top out l : ℕ) (z : Valuation → ℤ) → 1 ≤ length a → length b ≡ length a
     → ((v : Valuation) → signed (length a) (word_value v a) +ℤ signed (length a) (word_value v b) +ℤ pos (literal_number v carry) ≡ z v)
-    → MakesSum old mid (9 * length a) a b carry sum into_top out → MakesLiteral mid new 3 (λ v. not (literal_number v into_top == literal_number v out)) l
+    → MakesSum old mid (9 * length a) a b carry sum into_top out → MakesLiteral mid new 3 (λ v. differ (literal_value v into_top) (literal_value v out)) l
     → MakesWord old new (12 * length a) 1 (λ v. bit_number (overflows (length a) (z v))) (l ∷ [])
 MakesWord-carries_differ old mid new a b carry sum into_top out l z some same is made test =
     MakesWord-test old new (9 * length a + 3) (12 * length a) (λ v. overflows (length a) (z v)) (λ v. bit_number (overflows (length a) (z v))) l (omega arith)
@@ -106,7 +107,7 @@ MakesWord-carries_differ old mid new a b carry sum into_top out l z some same is
     (λ v. refl)
 
 pub MakesWord-saddo : (old mid new : Net) (a b sum : List ℕ) (into_top out l : ℕ) → 1 ≤ length a → length b ≡ length a
-    → MakesSum old mid (9 * length a) a b 0 sum into_top out → MakesLiteral mid new 3 (λ v. not (literal_number v into_top == literal_number v out)) l
+    → MakesSum old mid (9 * length a) a b 0 sum into_top out → MakesLiteral mid new 3 (λ v. differ (literal_value v into_top) (literal_value v out)) l
     → MakesWord old new (12 * length a) 1 (λ v. binary_value binary.Saddo (length a) (word_value v a) (word_value v b)) (l ∷ [])
 MakesWord-saddo old mid new a b sum into_top out l some same made test =
     MakesWord-carries_differ old mid new a b 0 sum into_top out l (λ v. signed (length a) (word_value v a) +ℤ signed (length a) (word_value v b)) some same (λ v. omega (arith, ints)) made test
@@ -116,7 +117,7 @@ signed_not : (n x : ℕ) → 1 ≤ n → x < 2 ^ n → signed n (2 ^ n - 1 - x) 
 signed_not n x h below = omega (arith, ints, half n h, signed_is n x h below, signed_is n (2 ^ n - 1 - x) h (omega arith))
 
 pub MakesWord-ssubo : (old mid new : Net) (a b sum : List ℕ) (into_top out l : ℕ) → 1 ≤ length a → length b ≡ length a
-    → MakesSum old mid (9 * length a) a (map negation b) 1 sum into_top out → MakesLiteral mid new 3 (λ v. not (literal_number v into_top == literal_number v out)) l
+    → MakesSum old mid (9 * length a) a (map negation b) 1 sum into_top out → MakesLiteral mid new 3 (λ v. differ (literal_value v into_top) (literal_value v out)) l
     → MakesWord old new (12 * length a) 1 (λ v. binary_value binary.Ssubo (length a) (word_value v a) (word_value v b)) (l ∷ [])
 MakesWord-ssubo old mid new a b sum into_top out l some same made test =
     MakesWord-carries_differ old mid new a (map negation b) 1 sum into_top out l (λ v. signed (length a) (word_value v a) -ℤ signed (length a) (word_value v b)) some (length-map b negation ∙ same)
@@ -153,32 +154,6 @@ MakesWord-usubo old new a b sum into_top out not_out same not_is made =
           rw not_is (literal_value-negation v out ∙ no_carry_out (2 ^ length a) (word_value v sum) (word_value v a) (word_value v b) (literal_value v out) below (word_value_below v a) b_below whole);
     })
     (λ v. refl)
-
--- one bit more of a word of all ones
-ones_more : (p w : ℕ) (x : Bool) → w < p → ((w == p - 1) && x) ≡ (w + p * bit_number x == 2 * p - 1)
-ones_more p w true below = grind (arith, nat_tests)
-ones_more p w false below = grind (arith, nat_tests)
-
--- all of no literals are true
-pub MakesLiteral-no_ones : (n : Net) → MakesLiteral n n 0 (λ v. word_value v [] == ones 0) 1
-MakesLiteral-no_ones n = record { grows = Grows-refl n 0; defined = IsDefined-true n; means = λ v s. refl }
-
--- one literal more
-pub MakesLiteral-ones_step : (old mid new : Net) (i : ℕ) (ls : List ℕ) (x all l : ℕ) → length ls ≡ i
-    → MakesLiteral old mid i (λ v. word_value v ls == ones i) all → MakesAnd mid new all x l
-    → MakesLiteral old new (i + 1) (λ v. word_value v (ls ++ x ∷ []) == ones (i + 1)) l
-MakesLiteral-ones_step old mid new i ls x all l wide so_far gate =
-    record {
-      grows = Grows-trans old mid new i 1 so_far.grows gate.grows;
-      defined = gate.defined;
-      means = λ v s.
-          let before = so_far.means v (Satisfies-earlier mid new 1 gate.grows v s) in
-          let below : word_value v ls < 2 ^ i = rw (← wide) (word_value_below v ls) in
-          let more : word_value v (ls ++ x ∷ []) ≡ word_value v ls + 2 ^ i * literal_number v x = word_value-push v ls x ∙ ap (λ n. word_value v ls + 2 ^ n * literal_number v x) wide in
-          let next : i + 1 ≡ suc i = omega arith in
-          let double : 2 ^ (i + 1) ≡ 2 * 2 ^ i = rw next (two_more i) in
-          rw (gate.means v s, before, more, double) (ones_more (2 ^ i) (word_value v ls) (literal_value v x) below);
-    }
 
 -- a word is the least signed number where its bits negated, but for the highest one, are all ones
 least_is : (p low x : ℕ) (top : Bool) → low < p → x < 2 * p → low + p * bit_number top ≡ 2 * p - 1 - x → (low + p * bit_number (not top) == 2 * p - 1) ≡ (x == p)

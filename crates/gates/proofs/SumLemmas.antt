@@ -1,6 +1,6 @@
 -- Sums of bits and of words, and the gates that make them.
-use Rattle.std.proofs.Common.{◌≡◌, ℕ, zero, suc, ◌+◌, ◌-◌, ◌*◌, ◌/◌, ◌%◌, ◌^◌, ◌<◌, ◌≤◌, Bool, true, false, not, ◌&&◌, ◌==◌, List, [], ◌∷◌, ◌++◌, length, map, take, get_or, replicate, pos, ◌-ℤ◌, All, refl, sym, ap, subst, ◌∙◌, arith, length-append}
-use Rattle.std.proofs.Math.Nat.{pow-suc, add-mul-mod_self_left, mod-eq_of_lt}
+use Rattle.std.proofs.Common.{◌≡◌, ℕ, zero, suc, ◌+◌, ◌-◌, ◌*◌, ◌/◌, ◌%◌, ◌^◌, ◌<◌, ◌≤◌, Bool, true, false, not, ◌&&◌, List, [], ◌∷◌, ◌++◌, length, map, take, get_or, replicate, pos, ◌-ℤ◌, All, refl, sym, ap, subst, ◌∙◌, arith, length-append}
+use Rattle.std.proofs.Math.Nat.{add-mul-mod_self_left, mod-eq_of_lt}
 use Rattle.std.proofs.lemmas.Nat.{div-mul-add, pow_pos}
 use Rattle.std.proofs.lemmas.Int.{ints}
 use Rattle.std.proofs.lemmas.List.{length-map, length-replicate, take_all, take_more, map-append}
@@ -9,15 +9,16 @@ use Rattle.base.specs.declared.operators.Unary.TheVariants as unary
 use Rattle.base.specs.declared.operators.Binary.TheVariants as binary
 use Rattle.base.specs.Operator.{unary_value, binary_value}
 use Rattle.base.specs.Signed.{wrapped}
-use Rattle.base.proofs.BitLemmas.{bit_number_small, word_below}
+use Rattle.base.proofs.BitLemmas.{two_more, bit_number_small, word_below}
 use Rattle.base.proofs.WrapLemmas.{wrapped_is}
 use Rattle.base.specs.Word.{bit_number, word}
 use Rattle.aiger.specs.Literal.{Valuation, literal_value, negation}
 use Rattle.aiger.specs.Net.{Net, IsDefined}
 use Rattle.aiger.proofs.NetLemmas.{IsDefined-negation, literal_value-negation}
-use Rattle.gates.specs.Made.{MakesAnd, MakesLiteral, MakesWord, word_value}
+use Rattle.gates.specs.Made.{MakesAnd, MakesWord, word_value}
 use Rattle.gates.specs.Sums.{literal_number, MakesColumn, MakesSum}
 use Rattle.gates.proofs.MadeLemmas.{Grows-refl, Grows-weaker, Grows-trans, Satisfies-earlier, IsDefined-later, All-defined-later, word_value-negation}
+use Rattle.gates.proofs.WordLemmas.{word-push}
 
 -- the two bits of the sum of two bits
 half_sum : (x y : Bool) → bit_number (not (x && y) && not (not x && not y)) + 2 * bit_number (x && y) ≡ bit_number x + bit_number y
@@ -48,26 +49,6 @@ MakesColumn-half n0 n1 n2 n3 a b both neither sum first second third =
           let at_one = Satisfies-earlier n1 n2 1 second.grows v at_two in
           rw (third.means v s, literal_value-negation v both, literal_value-negation v neither, second.means v at_two, literal_value-negation v a, literal_value-negation v b, first.means v at_one)
           (half_sum (literal_value v a) (literal_value v b));
-    }
-
--- two bits are different where their sum is odd
-odd_differ : (x y sum carry : Bool) → bit_number sum + 2 * bit_number carry ≡ bit_number x + bit_number y → sum ≡ not (bit_number x == bit_number y)
-odd_differ true true true carry e = absurd (omega arith)
-odd_differ true true false carry e = refl
-odd_differ true false true carry e = refl
-odd_differ true false false carry e = absurd (omega arith)
-odd_differ false true true carry e = refl
-odd_differ false true false carry e = absurd (omega arith)
-odd_differ false false true carry e = absurd (omega arith)
-odd_differ false false false carry e = refl
-
-pub MakesLiteral-differ : (old new : Net) (a b sum carry : ℕ) → MakesColumn old new 3 (λ v. literal_number v a + literal_number v b) sum carry
-    → MakesLiteral old new 3 (λ v. not (literal_number v a == literal_number v b)) sum
-MakesLiteral-differ old new a b sum carry made =
-    record {
-      grows = made.grows;
-      defined = made.sum_defined;
-      means = λ v s. odd_differ (literal_value v a) (literal_value v b) (literal_value v sum) (literal_value v carry) (made.means v s);
     }
 
 -- two half adders, and a carry from either
@@ -103,15 +84,7 @@ literal_at n ls read i l same inside is defined = rw (is, same) (All-get_or (IsD
 pub front_with : (ls read : List ℕ) (i l : ℕ) → read ≡ ls → i < length ls → l ≡ get_or read i l → take (i + 1) ls ≡ take i ls ++ l ∷ []
 front_with ls read i l same inside is = let at : get_or ls i l ≡ l = rw (← same) (sym is) in take_more ls i l inside ∙ ap (λ x. take i ls ++ x ∷ []) at
 
--- one place more doubles the number of words
-pub two_more : (n : ℕ) → 2 ^ suc n ≡ 2 * 2 ^ n
-two_more n = omega (arith, pow-suc 2 n)
-
--- a bit more at the high end of a word
-pub word-push : (bs : List Bool) (x : Bool) → word (bs ++ x ∷ []) ≡ word bs + 2 ^ length bs * bit_number x
-word-push [] x = omega arith
-word-push (b ∷ bs) x = omega (arith, word-push bs x, ap (λ k. k * bit_number x) (two_more (length bs)))
-
+-- a literal more at the high end of a word
 pub word_value-push : (v : Valuation) (ls : List ℕ) (l : ℕ) → word_value v (ls ++ l ∷ []) ≡ word_value v ls + 2 ^ length ls * literal_number v l
 word_value-push v ls l =
     ap word (map-append (literal_value v) ls (l ∷ [])) ∙ word-push (map (literal_value v) ls) (literal_value v l)

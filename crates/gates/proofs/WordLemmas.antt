@@ -1,31 +1,25 @@
 -- Words and their bits: words connected bit by bit, and the bits of a word connected.
-use Rattle.std.proofs.Common.{◌≡◌, ℕ, suc, ◌+◌, ◌-◌, ◌*◌, ◌%◌, ◌^◌, ◌<◌, Bool, true, false, not, ◌&&◌, ◌||◌, ◌==◌, List, [], ◌∷◌, ◌++◌, length, bit_xor, count_ones, inl, inr, refl, sym, ap, ap₂, ◌∙◌, arith, lit<}
+use Rattle.std.proofs.Common.{◌≡◌, ℕ, suc, ◌+◌, ◌-◌, ◌*◌, ◌%◌, ◌^◌, ◌<◌, Bool, true, false, not, ◌&&◌, ◌||◌, ◌==◌, List, [], ◌∷◌, ◌++◌, length, bit_xor, count_ones, inl, inr, refl, sym, ap, ap₂, ◌∙◌, arith}
 use Rattle.std.specs.Int.Count.{ones}
-use Rattle.std.proofs.Math.Nat.{pow-suc}
 use Rattle.std.proofs.lemmas.Nat.{pow_pos, and_block, or_block, xor_block, ones_cat}
 use Rattle.std.proofs.lemmas.Nat.Bits.{bit_at_xor, bit_at-zero, bit_at-lt, same_from_bits}
 use Rattle.std.proofs.lemmas.Bool.{cases_eq}
 use Rattle.std.proofs.lemmas.Bool.Decides.{nat_tests}
 use Rattle.std.specs.Int.{bit_at}
 use Rattle.base.specs.Word.{word, bit_number}
-use Rattle.base.proofs.BitLemmas.{bit_number_small}
+use Rattle.base.proofs.BitLemmas.{two_more, bit_number_small}
 use Rattle.gates.specs.Connect.{differ, connected, connected_words, connected_bits, connective_bound, words_bound}
 use Rattle.gates.specs.declared.bitwise.Connective.{Connective}
 use Rattle.gates.specs.declared.bitwise.Connective.TheVariants.{And, Or, Xor}
 
--- one place more doubles the number of words
-two_more : (n : ℕ) → 2 ^ (n + 1) ≡ 2 * 2 ^ n
-two_more n = let e : n + 1 ≡ suc n = omega arith in rw e (omega (arith, pow-suc 2 n))
-
--- a list of n bits reads as a word of width n
-pub word_below : (bs : List Bool) → word bs < 2 ^ length bs
-word_below [] = lit< tt
-word_below (b ∷ bs) = omega (arith, pow-suc 2 (length bs), word_below bs, bit_number_small b)
+-- one place more doubles the number of words, said with a sum
+two_more_at : (n : ℕ) → 2 ^ (n + 1) ≡ 2 * 2 ^ n
+two_more_at n = let e : n + 1 ≡ suc n = omega arith in rw e (two_more n)
 
 -- a list's word with a bit more at the high end
 pub word-push : (bs : List Bool) (b : Bool) → word (bs ++ b ∷ []) ≡ word bs + 2 ^ length bs * bit_number b
 word-push [] b = omega arith
-word-push (x ∷ bs) b = omega (arith, pow-suc 2 (length bs), word-push bs b, ap (λ k. k * bit_number b) (pow-suc 2 (length bs)))
+word-push (x ∷ bs) b = omega (arith, two_more (length bs), word-push bs b, ap (λ k. k * bit_number b) (two_more (length bs)))
 
 -- two lists connected, place by place
 abbrev pub zip_with : (Bool → Bool → Bool) → List Bool → List Bool → List Bool
@@ -107,8 +101,8 @@ odd_more k = let e : ((1 + k) % 2 == 1) ≡ not (k % 2 == 1) = grind (arith, nat
 
 -- all bits of a word connected, with a bit more at the high end
 pub connected_bits-push : (by : Connective) (w i : ℕ) (b : Bool) → w < 2 ^ i → connected_bits by (i + 1) (w + 2 ^ i * bit_number b) ≡ connected by (connected_bits by i w) b
-connected_bits-push And w i true h = let e : (w + 2 ^ i * 1 == 2 ^ (i + 1) - 1) ≡ (w == 2 ^ i - 1) = grind (arith, nat_tests, two_more i) in e ∙ sym (and_true (w == 2 ^ i - 1))
-connected_bits-push And w i false h = let e : (w + 2 ^ i * 0 == 2 ^ (i + 1) - 1) ≡ false = grind (arith, nat_tests, two_more i) in e ∙ sym (and_false (w == 2 ^ i - 1))
+connected_bits-push And w i true h = let e : (w + 2 ^ i * 1 == 2 ^ (i + 1) - 1) ≡ (w == 2 ^ i - 1) = grind (arith, nat_tests, two_more_at i) in e ∙ sym (and_true (w == 2 ^ i - 1))
+connected_bits-push And w i false h = let e : (w + 2 ^ i * 0 == 2 ^ (i + 1) - 1) ≡ false = grind (arith, nat_tests, two_more_at i) in e ∙ sym (and_false (w == 2 ^ i - 1))
 connected_bits-push Or w i true h = let e : (w + 2 ^ i * 1 == 0) ≡ false = grind (arith, nat_tests, pow_pos i) in ap not e ∙ sym (or_true (not (w == 0)))
 connected_bits-push Or w i false h = let e : w + 2 ^ i * 0 ≡ w = omega arith in rw e (sym (or_false (not (w == 0))))
 connected_bits-push Xor w i true h =

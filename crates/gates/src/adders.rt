@@ -1,14 +1,15 @@
 //! Sums of words, a column of bits at a time, and the operators that are sums.
-ghost use Rattle.std.specs.Prelude.{◌≡◌, ◌+◌, ◌*◌, ◌≤◌, not, ◌==◌, length, map, replicate, All, IfOk, IfErr};
+ghost use Rattle.std.specs.Prelude.{◌≡◌, ◌+◌, ◌*◌, ◌≤◌, length, map, All, IfOk, IfErr};
 ghost use Rattle.base.specs.Operator.{unary_value, binary_value};
 ghost use Rattle.aiger.specs.Net.{IsDefined};
 ghost use Rattle.aiger.specs.Literal.{negation};
-ghost use Rattle.gates.specs.Made.{MakesLiteral, MakesWord, Refuses, word_value};
+ghost use Rattle.gates.specs.Made.{MakesWord, Refuses, word_value};
 ghost use Rattle.gates.specs.Sums.{literal_number, MakesColumn, MakesSum};
 
-use crate::builders::{conjunction, negation};
+use crate::builders::conjunction;
 use crate::fault::GateFault;
 use crate::maker::{Bits, Gates};
+use crate::rows::{negation, repeated};
 use aiger::Lit;
 use base::{Binary, Unary};
 
@@ -41,17 +42,6 @@ fn half_adder<G: Gates>(g: &mut G, a: Lit, b: Lit) -> Result<Column, GateFault>
     let neither = conjunction(g, a.not(), b.not())?;
     let sum = conjunction(g, both.not(), neither.not())?;
     Ok(Column { sum, carry: both })
-}
-
-/// A literal that is true where exactly one of two is: their exclusive or.
-pub(crate) fn differ<G: Gates>(g: &mut G, a: Lit, b: Lit) -> Result<Lit, GateFault>
-    requires left { IsDefined (G.made g.old) a }
-    requires right { IsDefined (G.made g.old) b }
-    ensures ok { IfOk result (MakesLiteral (G.made g.old) (G.made g.new) 3 (λ v. not (literal_number v a == literal_number v b))) }
-    ensures refused { IfErr result (Refuses (G.made g.old) (G.made g.new) 3) }
-{
-    let column = half_adder(g, a, b)?;
-    Ok(column.sum)
 }
 
 /// The sum of three bits.
@@ -172,16 +162,4 @@ pub(crate) fn dec_bits<G: Gates>(g: &mut G, a: &Bits) -> Result<Bits, GateFault>
 {
     let sum = add(g, a, &repeated(Lit::TRUE, a.len()), Lit::FALSE)?;
     Ok(sum.sum)
-}
-
-/// So many times one literal.
-fn repeated(lit: Lit, count: usize) -> Bits
-    requires { count ≤ 128 }
-    ensures { result.items ≡ replicate count lit }
-{
-    let mut bits = Bits::new();
-    for _ in 0..count {
-        bits.push(lit);
-    }
-    bits
 }

@@ -1,5 +1,5 @@
 //! The bitwise operators, the reductions of a word to one bit, and the tests for equality.
-ghost use Rattle.std.specs.Prelude.{◌≡◌, ◌≤◌, ◌-◌, [], ◌∷◌, length, All, IfOk, IfErr, ◌==◌};
+ghost use Rattle.std.specs.Prelude.{◌≡◌, ◌≤◌, ◌-◌, length, All, IfOk, IfErr, ◌==◌};
 ghost use Rattle.base.specs.declared.operators.Binary.TheVariants as binary;
 ghost use Rattle.base.specs.Operator.{ones, unary_value, binary_value};
 ghost use Rattle.aiger.specs.Net.{IsDefined};
@@ -8,10 +8,11 @@ ghost use Rattle.gates.specs.Made.{MakesLiteral, MakesWord, Refuses, word_value}
 ghost use Rattle.gates.specs.Bound.{unary_bound, binary_bound};
 ghost use Rattle.gates.specs.Connect.{connected, connected_words, connected_bits, connective_bound, words_bound, reduction_by};
 
-use crate::builders::{conjunction, negation};
+use crate::builders::conjunction;
 use crate::fault::GateFault;
 use crate::literals::{disjunction, xor};
 use crate::maker::{Bits, Gates};
+use crate::rows::{negation, one_bit};
 use aiger::Lit;
 
 /// What connects two bits, and so two words or all bits of a word.
@@ -104,15 +105,6 @@ pub(crate) fn reduction<G: Gates>(g: &mut G, by: Connective, a: &Bits) -> Result
 {
     let lit = connect_bits(g, by, a.as_slice())?;
     Ok(one_bit(lit))
-}
-
-/// The bits of a word of width 1.
-fn one_bit(lit: Lit) -> Bits
-    ensures { result.items ≡ lit ∷ [] }
-{
-    let mut bits = Bits::new();
-    bits.push(lit);
-    bits
 }
 
 /// A literal that is true where two words are equal, with at most 4 gates a bit.

@@ -1,4 +1,4 @@
-//! Worked rows of the gate bounds and of nets that grow, as functions with no code.
+//! Worked rows of the definitions of this crate, as functions with no code.
 ghost use Rattle.std.specs.Prelude.{◌≡◌, [], ◌∷◌, not, true, false};
 ghost use Rattle.base.specs.Operator.{unary_value};
 ghost use Rattle.base.specs.declared.operators.Unary.TheVariants as unary;
@@ -12,6 +12,8 @@ ghost use Rattle.gates.specs.Bound.{operator_bound};
 ghost use Rattle.gates.specs.Connect.{connected, connected_words, connected_bits, words_bound};
 ghost use Rattle.gates.specs.Moves.{is_shift, is_rotation, is_move};
 ghost use Rattle.gates.specs.Made.{Grows, MakesAnd, MakesLiteral, MakesWord, Refuses, word_value};
+ghost use Rattle.gates.specs.Sums.{literal_number, MakesColumn, MakesSum};
+ghost use Rattle.gates.specs.Tests.{is_comparison, is_overflow, with_top_negated};
 ghost use Rattle.gates.specs.Worked.{no_gate};
 
 /// Worked rows: the gates that an operator takes at most.
@@ -70,4 +72,24 @@ pub fn worked_connections()
     ensures ror { is_rotation binary.Ror ≡ true }
     ensures ror_no_shift { is_shift binary.Ror ≡ false }
     ensures add_no_move { is_move binary.Add ≡ false }
+{}
+
+/// Worked rows: what literals count, the sums of two bits and of two words of one bit, a literal's negation, the
+/// comparisons and the overflow tests, and literals with the highest one negated.
+pub fn worked_sums()
+    ensures number { literal_number (λ k. true) 4 ≡ 1 }
+    ensures negated_number { literal_number (λ k. true) 5 ≡ 0 }
+    ensures column { MakesColumn no_gate no_gate 0 (λ v. 3) 1 1 }
+    ensures no_column { ¬ MakesColumn no_gate no_gate 0 (λ v. 2) 1 1 }
+    ensures sum { MakesSum no_gate no_gate 0 (1 ∷ []) (1 ∷ []) 1 (1 ∷ []) 1 1 }
+    ensures carry_lost { ¬ MakesSum no_gate no_gate 0 (1 ∷ []) (1 ∷ []) 1 (0 ∷ []) 1 1 }
+    ensures no_carry_into { ¬ MakesSum no_gate no_gate 0 (1 ∷ []) (1 ∷ []) 1 (1 ∷ []) 0 1 }
+    ensures is_literal { MakesLiteral no_gate no_gate 0 (λ v. not (v 1)) 3 }
+    ensures is_no_literal { ¬ MakesLiteral no_gate no_gate 0 (λ v. v 1) 3 }
+    ensures ult { is_comparison binary.Ult ≡ true }
+    ensures eq { is_comparison binary.Eq ≡ false }
+    ensures sdivo { is_overflow binary.Sdivo ≡ true }
+    ensures sub { is_overflow binary.Sub ≡ false }
+    ensures top { with_top_negated (2 ∷ 4 ∷ []) ≡ 2 ∷ 5 ∷ [] }
+    ensures only { with_top_negated (7 ∷ []) ≡ 6 ∷ [] }
 {}

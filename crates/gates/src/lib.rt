@@ -13,8 +13,8 @@ mod literals;
 mod maker;
 mod overflows;
 mod plain;
+mod rows;
 mod shifts;
-mod sum_laws;
 
 pub use adders::{Added, add};
 pub use bitwise::equal;
@@ -23,17 +23,14 @@ pub use builders::{binary_bits, unary_bits};
 pub use choices::ite_bits;
 pub use comparisons::less;
 pub use fault::GateFault;
-pub use laws::{worked_bounds, worked_connections, worked_nets};
+pub use laws::{worked_bounds, worked_connections, worked_nets, worked_sums};
 pub use literals::{mux, xor};
 pub use maker::{Bits, Gates};
 pub use overflows::overflow;
 pub use plain::PlainGates;
 pub use shifts::{rotate, shift};
-pub use sum_laws::worked_sums;
 
 #[cfg(test)]
 mod tests;
-#[cfg(test)]
-mod tests_sums;
 #[cfg(test)]
 mod tests_table;

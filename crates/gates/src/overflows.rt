@@ -1,16 +1,19 @@
 //! Whether the result of an operation in whole numbers is one of the width.
-ghost use Rattle.std.specs.Prelude.{◌≡◌, ◌*◌, ◌≤◌, ◌==◌, true, [], ◌∷◌, length, All, IfOk, IfErr};
-ghost use Rattle.base.specs.Operator.{ones, binary_value};
+ghost use Rattle.std.specs.Prelude.{◌≡◌, ◌*◌, ◌≤◌, true, [], ◌∷◌, length, All, IfOk, IfErr};
+ghost use Rattle.base.specs.Operator.{binary_value};
 ghost use Rattle.aiger.specs.Net.{IsDefined};
 ghost use Rattle.gates.specs.Bound.{binary_bound};
-ghost use Rattle.gates.specs.Made.{MakesLiteral, MakesWord, Refuses, word_value};
+ghost use Rattle.gates.specs.Made.{MakesWord, Refuses, word_value};
 ghost use Rattle.gates.specs.Tests.{is_overflow};
 
-use crate::adders::{add, differ, difference};
-use crate::builders::{conjunction, negation};
+use crate::adders::{add, difference};
+use crate::bitwise::{Connective, connect_bits};
+use crate::builders::conjunction;
 use crate::comparisons::top_negated;
 use crate::fault::GateFault;
+use crate::literals::xor;
 use crate::maker::{Bits, Gates};
+use crate::rows::negation;
 use aiger::Lit;
 use base::Binary;
 
@@ -79,7 +82,7 @@ fn saddo<G: Gates>(g: &mut G, a: &Bits, b: &Bits) -> Result<Lit, GateFault>
     ensures refused { IfErr result (Refuses (G.made g.old) (G.made g.new) (12 * length a.now.items)) }
 {
     let sum = add(g, a, b, Lit::FALSE)?;
-    differ(g, sum.into_top, sum.out)
+    xor(g, sum.into_top, sum.out)
 }
 
 /// Whether the difference of signed numbers is none of the width: the carries into and out of its highest bit differ.
@@ -93,20 +96,7 @@ fn ssubo<G: Gates>(g: &mut G, a: &Bits, b: &Bits) -> Result<Lit, GateFault>
     ensures refused { IfErr result (Refuses (G.made g.old) (G.made g.new) (12 * length a.now.items)) }
 {
     let sum = difference(g, a, b)?;
-    differ(g, sum.into_top, sum.out)
-}
-
-/// A literal that is true where all bits of a word are 1.
-fn all_ones<G: Gates>(g: &mut G, a: &Bits) -> Result<Lit, GateFault>
-    requires defined { All (IsDefined (G.made g.old)) a.now.items }
-    ensures ok { IfOk result (MakesLiteral (G.made g.old) (G.made g.new) (length a.now.items) (λ v. word_value v a.now.items == ones (length a.now.items))) }
-    ensures refused { IfErr result (Refuses (G.made g.old) (G.made g.new) (length a.now.items)) }
-{
-    let mut all = Lit::TRUE;
-    for i in 0..a.len() {
-        all = conjunction(g, all, a[i])?;
-    }
-    Ok(all)
+    xor(g, sum.into_top, sum.out)
 }
 
 /// Whether the quotient of signed numbers is none of the width: the least number, whose highest bit alone is 1, by the
@@ -120,7 +110,8 @@ fn sdivo<G: Gates>(g: &mut G, a: &Bits, b: &Bits) -> Result<Lit, GateFault>
     ensures ok { IfOk result (λ l. let n = length a.now.items in MakesWord (G.made g.old) (G.made g.new) (3 * n) 1 (λ v. binary_value Binary.Sdivo n (word_value v a.now.items) (word_value v b.now.items)) (l ∷ [])) }
     ensures refused { IfErr result (Refuses (G.made g.old) (G.made g.new) (3 * length a.now.items)) }
 {
-    let is_least = all_ones(g, &top_negated(&negation(a)))?;
-    let is_minus_one = all_ones(g, b)?;
+    let turned = top_negated(&negation(a));
+    let is_least = connect_bits(g, Connective::And, turned.as_slice())?;
+    let is_minus_one = connect_bits(g, Connective::And, b.as_slice())?;
     conjunction(g, is_least, is_minus_one)
 }

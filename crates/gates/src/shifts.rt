@@ -1,5 +1,5 @@
 //! Shifts and rotations: a row of choices for each bit of the amount.
-ghost use Rattle.std.specs.Prelude.{◌≡◌, ℕ, ◌+◌, ◌*◌, ◌^◌, ◌<◌, ◌≤◌, ◌++◌, length, take, drop, replicate, All, IfOk, IfErr, true, false};
+ghost use Rattle.std.specs.Prelude.{◌≡◌, ℕ, ◌+◌, ◌*◌, ◌^◌, ◌<◌, ◌≤◌, ◌++◌, length, take, drop, All, IfOk, IfErr, true, false};
 ghost use Rattle.base.specs.Operator.{binary_value};
 ghost use Rattle.aiger.specs.Literal.{Valuation};
 ghost use Rattle.aiger.specs.Net.{Net, IsDefined};
@@ -12,20 +12,9 @@ use crate::bound::log_up;
 use crate::choices::choose;
 use crate::fault::GateFault;
 use crate::maker::{Bits, Gates};
+use crate::rows::repeated;
 use aiger::Lit;
 use base::Binary;
-
-/// One literal so many times.
-fn repeated(lit: Lit, times: usize) -> Bits
-    requires { times ≤ 64 }
-    ensures { result.items ≡ replicate times lit }
-{
-    let mut bits = Bits::new();
-    while bits.len() < times {
-        bits.push(lit);
-    }
-    bits
-}
 
 /// Literals put behind a word's.
 fn append(bits: &mut Bits, more: &[Lit])

@@ -1,6 +1,6 @@
 //! Every operator that is built, at all its operands of 1 to 5 bits, against the operators on words.
 ghost use Rattle.std.specs.Prelude.{◌≡◌, ◌+◌, ◌*◌, ◌<◌, ◌≤◌, ◌^◌, [], length, All};
-ghost use Rattle.gates.specs.Built.{is_built_unary, is_built_binary};
+ghost use Rattle.gates.specs.Built.{is_built_binary};
 
 use super::*;
 use aiger::{Circuit, Lit};
@@ -60,26 +60,21 @@ const OPERATORS: [Op; 46] = [
 /// The greatest width of the table.
 const WIDEST: u32 = 5;
 
-/// Whether an operator of one operand is built.
-fn is_unary_built(op: Unary) -> bool
-    ensures { result ≡ is_built_unary op }
-{
-    matches!(
-        op,
-        Unary::Not | Unary::Redand | Unary::Redor | Unary::Redxor
-    )
-}
-
 /// Whether an operator of two operands is built.
 fn is_binary_built(op: Binary) -> bool
     ensures { result ≡ is_built_binary op }
 {
-    match op {
-        Binary::Iff | Binary::Implies | Binary::Eq | Binary::Neq => true,
-        Binary::And | Binary::Nand | Binary::Or | Binary::Nor | Binary::Xor | Binary::Xnor => true,
-        Binary::Rol | Binary::Ror | Binary::Sll | Binary::Srl | Binary::Sra => true,
-        _ => false,
-    }
+    !matches!(
+        op,
+        Binary::Mul
+            | Binary::Udiv
+            | Binary::Sdiv
+            | Binary::Urem
+            | Binary::Srem
+            | Binary::Smod
+            | Binary::Umulo
+            | Binary::Smulo
+    )
 }
 
 /// The literals of so many inputs behind the first ones.
@@ -105,7 +100,7 @@ fn built(g: &mut PlainGates, op: Op, width: u32) -> Result<Option<Bits>, GateFau
     let a = inputs(0, width);
     let b = inputs(WIDEST, width);
     match op {
-        Op::Unary(op) if is_unary_built(op) => Ok(Some(unary_bits(g, op, &a)?)),
+        Op::Unary(op) => Ok(Some(unary_bits(g, op, &a)?)),
         Op::Binary(Binary::Iff) if width > 1 => Ok(None),
         Op::Binary(Binary::Implies) if width > 1 => Ok(None),
         Op::Binary(op) if is_binary_built(op) => Ok(Some(binary_bits(g, op, &a, &b)?)),

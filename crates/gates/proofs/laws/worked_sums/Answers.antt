@@ -1,5 +1,5 @@
 use Rattle.std.proofs.Common.{true}
-use Rattle.gates.proofs.sum_laws.worked_sums.Goals as goal
+use Rattle.gates.proofs.laws.worked_sums.Goals as goal
 
 pub returns-clause-no_column : goal.returns-clause-no_column
 returns-clause-no_column c = λ m. absurd (cc (m.means (λ k. true) tt))
