@@ -1,9 +1,9 @@
 -- The order of words, and the gates that tell it.
-use Rattle.std.proofs.Common.{◌≡◌, ℕ, suc, ◌+◌, ◌-◌, ◌*◌, ◌^◌, ◌<◌, ◌≤◌, Bool, true, false, not, ◌&&◌, nat_lt, nat_le, List, [], ◌∷◌, ◌++◌, length, take, get_or, ℤ, pos, ◌-ℤ◌, int_lt, int_le, All, refl, sym, ap, subst, ◌∙◌, arith, length-append, length-take}
+use Rattle.std.proofs.Common.{◌≡◌, ℕ, suc, ◌+◌, ◌-◌, ◌*◌, ◌^◌, ◌<◌, ◌≤◌, Bool, true, false, not, ◌&&◌, nat_lt, nat_le, List, [], ◌∷◌, ◌++◌, length, take, get_or, ℤ, pos, ◌-ℤ◌, int_lt, int_le, All, refl, sym, ap, ◌∙◌, arith, length-append, length-take}
 use Rattle.std.proofs.lemmas.Bool.Decides.{nat_tests}
 use Rattle.std.proofs.lemmas.Int.{ints}
 use Rattle.std.proofs.lemmas.List.{take_all, take_more}
-use Rattle.std.proofs.lemmas.List.Elements.{All-nil, All-push, All-take, All-get_or}
+use Rattle.std.proofs.lemmas.List.Elements.{All-push, All-take, All-get_or}
 use Rattle.base.specs.Word.{bit_number}
 use Rattle.base.specs.Signed.{signed}
 use Rattle.base.proofs.SignedLaws.{half, signed_low, signed_high}
@@ -14,7 +14,9 @@ use Rattle.gates.specs.Made.{MakesAnd, MakesLiteral, MakesWord, word_value}
 use Rattle.gates.specs.Sums.{literal_number}
 use Rattle.gates.specs.Tests.{with_top_negated}
 use Rattle.gates.proofs.MadeLemmas.{Grows-refl, Grows-weaker, Grows-trans, Satisfies-earlier}
-use Rattle.gates.proofs.SumLemmas.{word_value-push, word_value_below}
+use Rattle.gates.proofs.LiteralLemmas.{MakesLiteral-not, MakesLiteral-same}
+use Rattle.gates.proofs.RowLemmas.{MakesWord-bit, MakesWord-same, word_value-below}
+use Rattle.gates.proofs.SumLemmas.{word_value-push}
 
 -- less in a column, or not greater in it and less below
 column_order : (x y below : Bool) → not (not (not x && y) && not (below && not (x && not y))) ≡ nat_lt (bit_number x) (bit_number y + bit_number below)
@@ -78,9 +80,9 @@ MakesLiteral-less_step old mid new most all a b x y below l same all_is so_far c
       means = λ v s.
           let before = so_far.means v (Satisfies-earlier mid new 4 column.grows v s) in
           let in_b : word_value v (b ++ y ∷ []) ≡ word_value v b + 2 ^ length a * literal_number v y = word_value-push v b y ∙ ap (λ n. word_value v b + 2 ^ n * literal_number v y) same in
-          let b_below : word_value v b < 2 ^ length a = rw (← same) (word_value_below v b) in
+          let b_below : word_value v b < 2 ^ length a = word_value-below v b (length a) same in
           rw (column.means v s, before, word_value-push v a x, in_b)
-          (order_more (2 ^ length a) (word_value v a) (word_value v b) (literal_value v x) (literal_value v y) (word_value_below v a) b_below);
+          (order_more (2 ^ length a) (word_value v a) (word_value v b) (literal_value v x) (literal_value v y) (word_value-below v a (length a) refl) b_below);
     }
 
 -- a word's signed number is what is below its highest bit, less half of the words where that is 1
@@ -126,7 +128,7 @@ All-top_negated n ls bits are some defined =
 
 -- the literals below a place read as a word of so many bits
 pub front_below : (v : Valuation) (ls : List ℕ) (k : ℕ) → k ≤ length ls → word_value v (take k ls) < 2 ^ k
-front_below v ls k inside = let front : length (take k ls) ≡ k = omega (arith, length-take k ls) in subst (λ (n : ℕ). word_value v (take k ls) < 2 ^ n) front (word_value_below v (take k ls))
+front_below v ls k inside = word_value-below v (take k ls) k (omega (arith, length-take k ls))
 
 -- the signed number of a word, by the word with its highest bit negated
 pub signed_by_top : (v : Valuation) (ls : List ℕ) → 1 ≤ length ls
@@ -157,24 +159,13 @@ MakesLiteral-signed old new a b turned_a turned_b l some same a_is b_is made =
 pub MakesWord-test : (old new : Net) (few most : ℕ) (holds : Valuation → Bool) (meaning : Valuation → ℕ) (l : ℕ)
     → few ≤ most → MakesLiteral old new few holds l → ((v : Valuation) → bit_number (holds v) ≡ meaning v) → MakesWord old new most 1 meaning (l ∷ [])
 MakesWord-test old new few most holds meaning l le made is =
-    record {
-      grows = Grows-weaker old new few most le made.grows;
-      wide = refl;
-      defined = All-push (IsDefined new) [] l (All-nil (IsDefined new)) made.defined;
-      means = λ v s. omega (arith, ap bit_number (made.means v s), is v);
-    }
+    MakesWord-same old new most 1 (λ v. bit_number (holds v)) meaning (l ∷ []) is (MakesWord-bit old new most l holds (l ∷ []) refl (MakesLiteral-same old new few most l holds holds le (λ v. refl) made))
 
 -- a literal's negation as a word of one bit
 pub MakesWord-test_not : (old new : Net) (few most : ℕ) (holds : Valuation → Bool) (meaning : Valuation → ℕ) (l not_l : ℕ)
     → not_l ≡ negation l → few ≤ most → MakesLiteral old new few holds l → ((v : Valuation) → bit_number (not (holds v)) ≡ meaning v) → MakesWord old new most 1 meaning (not_l ∷ [])
 MakesWord-test_not old new few most holds meaning l not_l not_is le made is =
-    MakesWord-test old new few most (λ v. not (holds v)) meaning not_l le
-    (record {
-      grows = made.grows;
-      defined = rw not_is (IsDefined-negation new l made.defined);
-      means = λ v s. rw not_is (literal_value-negation v l ∙ ap not (made.means v s));
-    })
-    is
+    rw not_is (MakesWord-test old new few most (λ v. not (holds v)) meaning (negation l) le (MakesLiteral-not old new few l holds made) is)
 
 -- what is not less is greater or equal
 pub not_less : (a b : ℕ) → not (nat_lt a b) ≡ nat_le b a

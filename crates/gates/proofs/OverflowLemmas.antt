@@ -19,7 +19,7 @@ use Rattle.gates.specs.Made.{MakesAnd, MakesLiteral, MakesWord, word_value}
 use Rattle.gates.specs.Sums.{literal_number, MakesSum}
 use Rattle.gates.specs.Tests.{with_top_negated}
 use Rattle.gates.proofs.MadeLemmas.{Grows-trans, Satisfies-earlier, word_value-negation}
-use Rattle.gates.proofs.SumLemmas.{word_value_below}
+use Rattle.gates.proofs.RowLemmas.{word_value-below}
 use Rattle.gates.proofs.OrderLemmas.{signed_top, front_below, word_value-top, word_value-top_negated, length-top_negated, MakesWord-test}
 
 -- the carry out tells whether a sum is no word, and whether a difference is none
@@ -87,7 +87,7 @@ adder_overflows old new most a b carry sum into_top out some same made v s =
     let of_b : word_value v b ≡ word_value v (take k b) + 2 ^ k * literal_number v (get_or b k 0) = word_value-top v b k (omega arith) in
     let a_below : word_value v (take k a) < 2 ^ k = front_below v a k (omega arith) in
     let b_below : word_value v (take k b) < 2 ^ k = front_below v b k (omega arith) in
-    let sum_below : word_value v sum < 2 ^ length a = rw (← made.wide) (word_value_below v sum) in
+    let sum_below : word_value v sum < 2 ^ length a = word_value-below v sum (length a) made.wide in
     rw (of_a, of_b)
     (sum_overflows (length a) (word_value v (take k a)) (word_value v (take k b)) (literal_number v carry) (word_value v sum) (literal_value v (get_or a k 0)) (literal_value v (get_or b k 0))
     (literal_value v into_top) (literal_value v out) some a_below b_below sum_below (rw (of_a, of_b) at (made.whole v s)) (rw (of_a, of_b) at (made.top v s)))
@@ -122,7 +122,7 @@ pub MakesWord-ssubo : (old mid new : Net) (a b sum : List ℕ) (into_top out l :
 MakesWord-ssubo old mid new a b sum into_top out l some same made test =
     MakesWord-carries_differ old mid new a (map negation b) 1 sum into_top out l (λ v. signed (length a) (word_value v a) -ℤ signed (length a) (word_value v b)) some (length-map b negation ∙ same)
     (λ v.
-    let below : word_value v b < 2 ^ length a = rw (← same) (word_value_below v b) in
+    let below : word_value v b < 2 ^ length a = word_value-below v b (length a) same in
     let turned : signed (length a) (word_value v (map negation b)) +ℤ pos 1 ≡ pos 0 -ℤ signed (length a) (word_value v b) = rw (word_value-negation v b, same) (signed_not (length a) (word_value v b) some below) in
     omega (arith, ints, turned))
     made test
@@ -135,7 +135,7 @@ MakesWord-uaddo old new a b sum into_top out made =
       grows = made.grows;
       defined = made.out_defined;
       means = λ v s.
-          let below : word_value v sum < 2 ^ length a = rw (← made.wide) (word_value_below v sum) in
+          let below : word_value v sum < 2 ^ length a = word_value-below v sum (length a) made.wide in
           carry_out (2 ^ length a) (word_value v sum) (word_value v a) (word_value v b) (literal_value v out) below (made.whole v s);
     })
     (λ v. refl)
@@ -148,10 +148,10 @@ MakesWord-usubo old new a b sum into_top out not_out same not_is made =
       grows = made.grows;
       defined = rw not_is (IsDefined-negation new out made.out_defined);
       means = λ v s.
-          let below : word_value v sum < 2 ^ length a = rw (← made.wide) (word_value_below v sum) in
-          let b_below : word_value v b < 2 ^ length a = rw (← same) (word_value_below v b) in
+          let below : word_value v sum < 2 ^ length a = word_value-below v sum (length a) made.wide in
+          let b_below : word_value v b < 2 ^ length a = word_value-below v b (length a) same in
           let whole = rw (word_value-negation v b, same) at (made.whole v s) in
-          rw not_is (literal_value-negation v out ∙ no_carry_out (2 ^ length a) (word_value v sum) (word_value v a) (word_value v b) (literal_value v out) below (word_value_below v a) b_below whole);
+          rw not_is (literal_value-negation v out ∙ no_carry_out (2 ^ length a) (word_value v sum) (word_value v a) (word_value v b) (literal_value v out) below (word_value-below v a (length a) refl) b_below whole);
     })
     (λ v. refl)
 
@@ -165,7 +165,7 @@ is_least v a some =
     let k = length a - 1 in
     let wide : suc k ≡ length (map negation a) = omega (arith, length-map a negation) in
     let all = half (length a) some in
-    let below : word_value v a < 2 * 2 ^ k = rw (← all) (word_value_below v a) in
+    let below : word_value v a < 2 * 2 ^ k = rw (← all) (word_value-below v a (length a) refl) in
     let turned : word_value v (take k (map negation a)) + 2 ^ k * literal_number v (get_or (map negation a) k 0) ≡ 2 * 2 ^ k - 1 - word_value v a =
     sym (word_value-top v (map negation a) k wide) ∙ word_value-negation v a ∙ ap (λ n. n - 1 - word_value v a) all in
     rw (word_value-top_negated v (map negation a) k wide, all)

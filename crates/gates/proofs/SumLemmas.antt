@@ -1,5 +1,5 @@
 -- Sums of bits and of words, and the gates that make them.
-use Rattle.std.proofs.Common.{◌≡◌, ℕ, zero, suc, ◌+◌, ◌-◌, ◌*◌, ◌/◌, ◌%◌, ◌^◌, ◌<◌, ◌≤◌, Bool, true, false, not, ◌&&◌, List, [], ◌∷◌, ◌++◌, length, map, take, get_or, replicate, pos, ◌-ℤ◌, All, refl, sym, ap, subst, ◌∙◌, arith, length-append}
+use Rattle.std.proofs.Common.{◌≡◌, ℕ, zero, suc, ◌+◌, ◌-◌, ◌*◌, ◌/◌, ◌%◌, ◌^◌, ◌<◌, ◌≤◌, Bool, true, false, not, ◌&&◌, List, [], ◌∷◌, ◌++◌, length, map, take, get_or, replicate, pos, ◌-ℤ◌, All, refl, sym, ap, ◌∙◌, arith, length-append}
 use Rattle.std.proofs.Math.Nat.{add-mul-mod_self_left, mod-eq_of_lt}
 use Rattle.std.proofs.lemmas.Nat.{div-mul-add, pow_pos}
 use Rattle.std.proofs.lemmas.Int.{ints}
@@ -9,7 +9,7 @@ use Rattle.base.specs.declared.operators.Unary.TheVariants as unary
 use Rattle.base.specs.declared.operators.Binary.TheVariants as binary
 use Rattle.base.specs.Operator.{unary_value, binary_value}
 use Rattle.base.specs.Signed.{wrapped}
-use Rattle.base.proofs.BitLemmas.{two_more, bit_number_small, word_below}
+use Rattle.base.proofs.BitLemmas.{two_more, bit_number_small}
 use Rattle.base.proofs.WrapLemmas.{wrapped_is}
 use Rattle.base.specs.Word.{bit_number, word}
 use Rattle.aiger.specs.Literal.{Valuation, literal_value, negation}
@@ -18,6 +18,7 @@ use Rattle.aiger.proofs.NetLemmas.{IsDefined-negation, literal_value-negation}
 use Rattle.gates.specs.Made.{MakesAnd, MakesWord, word_value}
 use Rattle.gates.specs.Sums.{literal_number, MakesColumn, MakesSum}
 use Rattle.gates.proofs.MadeLemmas.{Grows-refl, Grows-weaker, Grows-trans, Satisfies-earlier, IsDefined-later, All-defined-later, word_value-negation}
+use Rattle.gates.proofs.RowLemmas.{word_value-below}
 use Rattle.gates.proofs.WordLemmas.{word-push}
 
 -- the two bits of the sum of two bits
@@ -90,10 +91,6 @@ word_value-push v ls l =
     ap word (map-append (literal_value v) ls (l ∷ [])) ∙ word-push (map (literal_value v) ls) (literal_value v l)
     ∙ ap (λ n. word_value v ls + 2 ^ n * literal_number v l) (length-map ls (literal_value v))
 
--- so many literals read as a word of that width
-pub word_value_below : (v : Valuation) (ls : List ℕ) → word_value v ls < 2 ^ length ls
-word_value_below v ls = subst (λ (n : ℕ). word_value v ls < 2 ^ n) (length-map ls (literal_value v)) (word_below (map (literal_value v) ls))
-
 -- a column more at the high end of a sum
 column_more : (p s o a b c low high x y : ℕ) → s + p * o ≡ a + b + c → low + 2 * high ≡ x + y + o → s + p * low + 2 * p * high ≡ a + p * x + (b + p * y) + c
 column_more p s o a b c low high x y whole column = omega (arith, whole, ap (λ k. p * k) column)
@@ -142,10 +139,10 @@ MakesSum-step old mid new most all a b carry sum into_top out x y low high same 
           (column_more (2 ^ length a) (word_value v sum) (literal_number v out) (word_value v a) (word_value v b) (literal_number v carry) (literal_number v low) (literal_number v high) (literal_number v x) (literal_number v y) before (column.means v s));
       top = λ v s.
           let before = so_far.whole v (Satisfies-earlier mid new 7 column.grows v s) in
-          let sum_below : word_value v sum < 2 ^ length a = rw (← so_far.wide) (word_value_below v sum) in
-          let b_below : word_value v b < 2 ^ length a = rw (← same) (word_value_below v b) in
+          let sum_below : word_value v sum < 2 ^ length a = word_value-below v sum (length a) so_far.wide in
+          let b_below : word_value v b < 2 ^ length a = word_value-below v b (length a) same in
           rw (below, word_value-push v a x, in_b v)
-          (carry_is (2 ^ length a) (word_value v sum) (literal_number v out) (word_value v a) (word_value v b) (literal_number v carry) (literal_number v x) (literal_number v y) sum_below (word_value_below v a) b_below before);
+          (carry_is (2 ^ length a) (word_value v sum) (literal_number v out) (word_value v a) (word_value v b) (literal_number v carry) (literal_number v x) (literal_number v y) sum_below (word_value-below v a (length a) refl) b_below before);
     }
 
 -- all columns are added
@@ -180,7 +177,7 @@ MakesWord-sum old new most a b carry sum into_top out meaning made is =
       wide = made.wide;
       defined = made.sum_defined;
       means = λ v s.
-          let below : word_value v sum < 2 ^ length a = rw (← made.wide) (word_value_below v sum) in
+          let below : word_value v sum < 2 ^ length a = word_value-below v sum (length a) made.wide in
           sym (low_part (2 ^ length a) (word_value v sum) (literal_number v out) _ below (made.whole v s)) ∙ is v;
     }
 
@@ -209,17 +206,17 @@ pub MakesWord-subtracted : (old new : Net) (a b sum : List ℕ) (into_top out : 
 MakesWord-subtracted old new a b sum into_top out same made =
     MakesWord-sum old new (9 * length a) a (map negation b) 1 sum into_top out _ made
     (λ v.
-    let below : word_value v b < 2 ^ length a = rw (← same) (word_value_below v b) in
+    let below : word_value v b < 2 ^ length a = word_value-below v b (length a) same in
     rw (word_value-negation v b, same) (difference_is (length a) (word_value v a) (word_value v b) below))
 
-pub MakesWord-negated : (old new : Net) (a zeros sum : List ℕ) (into_top out : ℕ) → zeros ≡ replicate (length a) 0
+pub MakesWord-negative : (old new : Net) (a zeros sum : List ℕ) (into_top out : ℕ) → zeros ≡ replicate (length a) 0
     → MakesSum old new (9 * length zeros) zeros (map negation a) 1 sum into_top out
     → MakesWord old new (9 * length a) (length a) (λ v. unary_value unary.Neg (length a) (word_value v a)) sum
-MakesWord-negated old new a zeros sum into_top out are made =
+MakesWord-negative old new a zeros sum into_top out are made =
     let same : length zeros ≡ length a = rw are (length-replicate {A = ℕ} (length a) 0) in
     rw (← same)
     (MakesWord-sum old new (9 * length zeros) zeros (map negation a) 1 sum into_top out (λ v. unary_value unary.Neg (length zeros) (word_value v a)) made
-    (λ v. rw (same, are, word_value-zeros v (length a), word_value-negation v a) (difference_is (length a) 0 (word_value v a) (word_value_below v a))))
+    (λ v. rw (same, are, word_value-zeros v (length a), word_value-negation v a) (difference_is (length a) 0 (word_value v a) (word_value-below v a (length a) refl))))
 
 pub MakesWord-incremented : (old new : Net) (a zeros sum : List ℕ) (into_top out : ℕ) → zeros ≡ replicate (length a) 0
     → MakesSum old new (9 * length a) a zeros 1 sum into_top out
