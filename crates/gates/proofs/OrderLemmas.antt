@@ -1,5 +1,5 @@
 -- The order of words, and the gates that tell it.
-use Rattle.std.proofs.Common.{◌≡◌, ℕ, suc, ◌+◌, ◌-◌, ◌*◌, ◌^◌, ◌<◌, ◌≤◌, Bool, true, false, not, ◌&&◌, nat_lt, nat_le, List, [], ◌∷◌, ◌++◌, length, take, get_or, ℤ, pos, ◌-ℤ◌, int_lt, int_le, All, refl, sym, ap, ◌∙◌, arith, length-append, length-take}
+use Rattle.std.proofs.Common.{◌≡◌, ℕ, suc, ◌+◌, ◌-◌, ◌*◌, ◌^◌, ◌<◌, ◌≤◌, Bool, true, false, not, ◌&&◌, ◌||◌, nat_lt, nat_le, List, [], ◌∷◌, ◌++◌, length, take, get_or, ℤ, pos, ◌-ℤ◌, int_lt, int_le, All, refl, sym, ap, ◌∙◌, arith, length-append, length-take}
 use Rattle.std.proofs.lemmas.Bool.Decides.{nat_tests}
 use Rattle.std.proofs.lemmas.Int.{ints}
 use Rattle.std.proofs.lemmas.List.{take_all, take_more}
@@ -19,7 +19,7 @@ use Rattle.gates.proofs.RowLemmas.{MakesWord-bit, MakesWord-same, word_value-bel
 use Rattle.gates.proofs.SumLemmas.{word_value-push}
 
 -- less in a column, or not greater in it and less below
-column_order : (x y below : Bool) → not (not (not x && y) && not (below && not (x && not y))) ≡ nat_lt (bit_number x) (bit_number y + bit_number below)
+column_order : (x y below : Bool) → ((not x && y) || (below && not (x && not y))) ≡ nat_lt (bit_number x) (bit_number y + bit_number below)
 column_order true true true = refl
 column_order true true false = refl
 column_order true false true = refl
@@ -38,22 +38,19 @@ order_more p a b false true ha hb = grind (arith, nat_tests)
 order_more p a b false false ha hb = grind (arith, nat_tests)
 
 -- the gates of a column
-pub MakesLiteral-column : (n0 n1 n2 n3 n4 : Net) (a b below less greater rest neither : ℕ)
-    → MakesAnd n0 n1 (negation a) b less → MakesAnd n1 n2 a (negation b) greater → MakesAnd n2 n3 below (negation greater) rest → MakesAnd n3 n4 (negation less) (negation rest) neither
-    → MakesLiteral n0 n4 4 (λ v. nat_lt (literal_number v a) (literal_number v b + literal_number v below)) (negation neither)
-MakesLiteral-column n0 n1 n2 n3 n4 a b below less greater rest neither first second third fourth =
+pub MakesLiteral-column : (n0 n1 n2 n3 n4 : Net) (a b below less greater rest l : ℕ)
+    → MakesAnd n0 n1 (negation a) b less → MakesAnd n1 n2 a (negation b) greater → MakesAnd n2 n3 below (negation greater) rest → MakesLiteral n3 n4 1 (λ v. literal_value v less || literal_value v rest) l
+    → MakesLiteral n0 n4 4 (λ v. nat_lt (literal_number v a) (literal_number v b + literal_number v below)) l
+MakesLiteral-column n0 n1 n2 n3 n4 a b below less greater rest l first second third fourth =
     record {
       grows = Grows-trans n0 n1 n4 1 3 first.grows (Grows-trans n1 n2 n4 1 2 second.grows (Grows-trans n2 n3 n4 1 1 third.grows fourth.grows));
-      defined = IsDefined-negation n4 neither fourth.defined;
+      defined = fourth.defined;
       means = λ v s.
           let at_three = Satisfies-earlier n3 n4 1 fourth.grows v s in
           let at_two = Satisfies-earlier n2 n3 1 third.grows v at_three in
           let at_one = Satisfies-earlier n1 n2 1 second.grows v at_two in
           rw (
-            literal_value-negation v neither,
             fourth.means v s,
-            literal_value-negation v less,
-            literal_value-negation v rest,
             third.means v at_three,
             literal_value-negation v greater,
             second.means v at_two,

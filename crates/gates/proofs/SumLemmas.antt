@@ -1,5 +1,5 @@
 -- Sums of bits and of words, and the gates that make them.
-use Rattle.std.proofs.Common.{◌≡◌, ℕ, zero, suc, ◌+◌, ◌-◌, ◌*◌, ◌/◌, ◌%◌, ◌^◌, ◌<◌, ◌≤◌, Bool, true, false, not, ◌&&◌, List, [], ◌∷◌, ◌++◌, length, map, take, get_or, replicate, pos, ◌-ℤ◌, All, refl, sym, ap, ◌∙◌, arith, length-append}
+use Rattle.std.proofs.Common.{◌≡◌, ℕ, zero, suc, ◌+◌, ◌-◌, ◌*◌, ◌/◌, ◌%◌, ◌^◌, ◌<◌, ◌≤◌, Bool, true, false, not, ◌&&◌, ◌||◌, List, [], ◌∷◌, ◌++◌, length, map, take, get_or, replicate, pos, ◌-ℤ◌, All, refl, sym, ap, ◌∙◌, arith, length-append}
 use Rattle.std.proofs.Math.Nat.{add-mul-mod_self_left, mod-eq_of_lt}
 use Rattle.std.proofs.lemmas.Nat.{div-mul-add, pow_pos}
 use Rattle.std.proofs.lemmas.Int.{ints}
@@ -14,8 +14,8 @@ use Rattle.base.proofs.WrapLemmas.{wrapped_is}
 use Rattle.base.specs.Word.{bit_number, word}
 use Rattle.aiger.specs.Literal.{Valuation, literal_value, negation}
 use Rattle.aiger.specs.Net.{Net, IsDefined}
-use Rattle.aiger.proofs.NetLemmas.{IsDefined-negation, literal_value-negation}
-use Rattle.gates.specs.Made.{MakesAnd, MakesWord, word_value}
+use Rattle.aiger.proofs.NetLemmas.{literal_value-negation}
+use Rattle.gates.specs.Made.{MakesAnd, MakesLiteral, MakesWord, word_value}
 use Rattle.gates.specs.Sums.{literal_number, MakesColumn, MakesSum}
 use Rattle.gates.proofs.MadeLemmas.{Grows-refl, Grows-weaker, Grows-trans, Satisfies-earlier, IsDefined-later, All-defined-later, word_value-negation}
 use Rattle.gates.proofs.RowLemmas.{word_value-below}
@@ -29,7 +29,7 @@ half_sum false true = refl
 half_sum false false = refl
 
 -- at most one of two bits is one: their or is their sum
-one_of_two : (x y : Bool) → bit_number x + bit_number y ≤ 1 → bit_number (not (not x && not y)) ≡ bit_number x + bit_number y
+one_of_two : (x y : Bool) → bit_number x + bit_number y ≤ 1 → bit_number (x || y) ≡ bit_number x + bit_number y
 one_of_two true true h = absurd (omega arith)
 one_of_two true false h = refl
 one_of_two false true h = refl
@@ -53,28 +53,26 @@ MakesColumn-half n0 n1 n2 n3 a b both neither sum first second third =
     }
 
 -- two half adders, and a carry from either
-pub MakesColumn-full : (n0 n1 n2 n3 : Net) (a b c low first second sum none : ℕ)
+pub MakesColumn-full : (n0 n1 n2 n3 : Net) (a b c low first second sum carry : ℕ)
     → MakesColumn n0 n1 3 (λ v. literal_number v a + literal_number v b) low first
     → MakesColumn n1 n2 3 (λ v. literal_number v low + literal_number v c) sum second
-    → MakesAnd n2 n3 (negation first) (negation second) none
-    → MakesColumn n0 n3 7 (λ v. literal_number v a + literal_number v b + literal_number v c) sum (negation none)
-MakesColumn-full n0 n1 n2 n3 a b c low first second sum none one two three =
+    → MakesLiteral n2 n3 1 (λ v. literal_value v first || literal_value v second) carry
+    → MakesColumn n0 n3 7 (λ v. literal_number v a + literal_number v b + literal_number v c) sum carry
+MakesColumn-full n0 n1 n2 n3 a b c low first second sum carry one two three =
     record {
       grows = Grows-trans n0 n1 n3 3 4 one.grows (Grows-trans n1 n2 n3 3 1 two.grows three.grows);
       sum_defined = IsDefined-later n2 n3 1 three.grows sum two.sum_defined;
-      carry_defined = IsDefined-negation n3 none three.defined;
+      carry_defined = three.defined;
       means = λ v s.
           let at_two = Satisfies-earlier n2 n3 1 three.grows v s in
           let at_one = Satisfies-earlier n1 n2 3 two.grows v at_two in
-          let carry : literal_value v (negation none) ≡ not (not (literal_value v first) && not (literal_value v second)) =
-          literal_value-negation v none ∙ ap not (three.means v s ∙ rw (literal_value-negation v first, literal_value-negation v second) refl) in
           let x = bit_number_small (literal_value v a) in
           let y = bit_number_small (literal_value v b) in
           let z = bit_number_small (literal_value v c) in
           let low_is = one.means v at_one in
           let sum_is = two.means v at_two in
           let either = one_of_two (literal_value v first) (literal_value v second) (omega (arith, low_is, sum_is, x, y, z)) in
-          omega (arith, ap bit_number carry, either, low_is, sum_is);
+          omega (arith, ap bit_number (three.means v s), either, low_is, sum_is);
     }
 
 -- a literal read at a place of a list is one of its literals

@@ -8,6 +8,7 @@ ghost use Rattle.gates.specs.Sums.{literal_number, MakesColumn, MakesSum};
 
 use crate::builders::conjunction;
 use crate::fault::GateFault;
+use crate::literals::disjunction;
 use crate::maker::{Bits, Gates};
 use crate::rows::{negation, repeated};
 use aiger::Lit;
@@ -54,10 +55,10 @@ fn full_adder<G: Gates>(g: &mut G, a: Lit, b: Lit, c: Lit) -> Result<Column, Gat
 {
     let first = half_adder(g, a, b)?;
     let second = half_adder(g, first.sum, c)?;
-    let no_carry = conjunction(g, first.carry.not(), second.carry.not())?;
+    let carry = disjunction(g, first.carry, second.carry)?;
     Ok(Column {
         sum: second.sum,
-        carry: no_carry.not(),
+        carry,
     })
 }
 

@@ -9,6 +9,7 @@ ghost use Rattle.gates.specs.Tests.{is_comparison, with_top_negated};
 
 use crate::builders::conjunction;
 use crate::fault::GateFault;
+use crate::literals::disjunction;
 use crate::maker::{Bits, Gates};
 use aiger::Lit;
 use base::Binary;
@@ -25,8 +26,7 @@ fn less_column<G: Gates>(g: &mut G, a: Lit, b: Lit, below: Lit) -> Result<Lit, G
     let less = conjunction(g, a.not(), b)?;
     let greater = conjunction(g, a, b.not())?;
     let rest = conjunction(g, below, greater.not())?;
-    let neither = conjunction(g, less.not(), rest.not())?;
-    Ok(neither.not())
+    disjunction(g, less, rest)
 }
 
 /// A literal that is true where the first word is less than the second, as whole numbers.
