@@ -7,7 +7,7 @@ use Rattle.std.proofs.lemmas.Bool.Decides.{nat_tests}
 use Rattle.base.specs.Word.{bit, bit_number, word, bits, both}
 
 -- one place more doubles the number of words
-two_more : (n : ℕ) → 2 ^ suc n ≡ 2 * 2 ^ n
+pub two_more : (n : ℕ) → 2 ^ suc n ≡ 2 * 2 ^ n
 two_more n = omega (arith, pow-suc 2 n)
 
 -- half of a word is below half of the bound

@@ -1,15 +1,15 @@
 -- The rows of a model so far, and one row more: one lemma for each form.
-use Rattle.std.proofs.Common.{◌≡◌, ℕ, zero, suc, ◌+◌, ◌*◌, ◌≤◌, Bool, true, cond, List, [], ◌∷◌, ◌++◌, length, Option, Some, unwrap_or, option_and_then, slice_get, get_or, take, map, replicate, sum_by, ◌⊎◌, inl, inr, refl, sym, ap, ap₂, subst, ◌∙◌, arith, length-append, add-one, ⊎_elim}
+use Rattle.std.proofs.Common.{◌≡◌, ℕ, zero, suc, ◌+◌, ◌*◌, ◌≤◌, Bool, true, not, ◌||◌, ◌==◌, cond, List, [], ◌∷◌, ◌++◌, length, Option, Some, unwrap_or, option_and_then, slice_get, get_or, take, map, replicate, sum_by, ◌⊎◌, inl, inr, refl, sym, ap, ap₂, subst, ◌∙◌, arith, length-append, add-one, ⊎_elim}
 use Rattle.std.specs.List.{range_with_len}
 use Rattle.std.proofs.lemmas.Option.{none-some, same_Some, slice_get_within, get_or_from_slice_get}
 use Rattle.std.proofs.lemmas.Bool.{false≢true, and_parts}
+use Rattle.std.proofs.lemmas.Bool.Decides.{nat_tests}
 use Rattle.std.proofs.lemmas.List.{take_at, take_all, map_push, length-map}
 use Rattle.std.proofs.lemmas.List.Sums.{sum_by_more, sum_by_more_le}
 use Rattle.base.specs.Word.{bits}
 use Rattle.base.specs.Operator.{unary_value, binary_value}
-use Rattle.base.specs.Widths.{unary_width, binary_width}
+use Rattle.base.specs.Widths.{is_of_bits, unary_width, binary_width}
 use Rattle.base.specs.declared.operators.Unary.{Unary}
-use Rattle.base.specs.declared.operators.Unary.TheVariants as unary
 use Rattle.base.specs.declared.operators.Binary.{Binary}
 use Rattle.base.specs.declared.operators.Binary.TheVariants as binary
 use Rattle.btor2.specs.declared.item.Item.{Item}
@@ -22,10 +22,10 @@ use Rattle.btor2.specs.Trace.{bits_of, LineHolds}
 use Rattle.btor2.proofs.AppendLemmas.{sort_width-append, node_width-append}
 use Rattle.btor2.proofs.AcceptedLemmas.{BodyIsAccepted}
 use Rattle.btor2.proofs.ModelLemmas.{IsIn-from_place, IsAccepted-at}
-use Rattle.btor2text.specs.Basic.{is_basic_unary, is_basic_binary, is_basic, are_basic}
+use Rattle.btor2text.specs.Basic.{is_basic_binary, is_basic, are_basic}
 use Rattle.aiger.specs.Net.{Net, variables, bits_from}
 use Rattle.gates.specs.Bound.{unary_bound, binary_bound}
-use Rattle.gates.specs.Built.{is_built_unary, is_built_binary}
+use Rattle.gates.specs.Built.{is_built_binary}
 use Rattle.gates.specs.Made.{Grows}
 use Rattle.gates.proofs.MadeLemmas.{Grows-refl, Grows-trans, variables-later}
 use Rattle.blast.specs.Leaves.{input_bits, state_bits}
@@ -135,14 +135,7 @@ MakesRow-zero items place n x s width row at is wide row_is =
     (λ state input f h. subst (LineHolds items state input f x.id) is (LineHolds-at items state input f items place x h at))
     (MakesNode-zero items n width row row_is)
 
--- the operators of the basic forms are built of gates
-pub unary_built : (b : Body) (op : Unary) (s a : ℕ) → is_basic b ≡ true → b ≡ body.Unary op s a → is_built_unary op ≡ true
-unary_built b op s a basic is = basic_built op (ap is_basic (sym is) ∙ basic)
-  where
-    basic_built : (op : Unary) → is_basic_unary op ≡ true → is_built_unary op ≡ true
-    basic_built unary.Not h = refl
-    basic_built _ h = absurd (false≢true h)
-
+-- the operators of two operands among the basic forms are built of gates
 pub binary_built : (b : Body) (op : Binary) (s a c : ℕ) → is_basic b ≡ true → b ≡ body.Binary op s a c → is_built_binary op ≡ true
 binary_built b op s a c basic is = basic_built op (ap is_basic (sym is) ∙ basic)
   where
@@ -183,11 +176,16 @@ MakesRow-unary items place old new rows input latch x op s a row w front at is m
     (ap (λ (b : Body). unwrap_or (width_of_body items b) 0) is ∙ there.wide)
     (λ state input f h. subst (LineHolds items state input f x.id) is (LineHolds-at items state input f items place x h at)) m
 
+-- a number that is tested to be one
+is_one : (n : ℕ) → (n == 1) ≡ true → n ≡ 1
+is_one n h = grind (arith, nat_tests)
+
 -- what a line of two operands is in a well-formed list
 pub record BinaryStands (items : List Item) (n : Net) (rows : List (List ℕ)) (op : Binary) (s a b : ℕ) : Type 0 where
   pub left : IsOperand items n rows a
   pub right : IsOperand items n rows b
   pub equal : bits_of items b ≡ bits_of items a
+  pub of_bits : is_of_bits op ≡ true → bits_of items a ≡ 1
   pub wide : unwrap_or (sort_width items s) 0 ≡ binary_width op (bits_of items a)
 
 pub BinaryStands-at : (items : List Item) (place : ℕ) (n : Net) (rows : List (List ℕ)) (input latch : ℕ) (x : Item) (op : Binary) (s a b : ℕ) → IsWellFormed items → LowersFront items place n rows input latch → slice_get items place ≡ Some x
@@ -203,6 +201,7 @@ BinaryStands-at items place n rows input latch x op s a b w front at is =
       left = IsOperand-from_front items i.before (x ∷ i.after) n rows a says.0 w i.splits says.1 (front.all ∙ sym there.1) front.reads;
       right = IsOperand-from_front items i.before (x ∷ i.after) n rows b says.0 w i.splits says.2 (front.all ∙ sym there.1) front.reads;
       equal = of_b ∙ sym of_a;
+      of_bits = λ single. let one : (not true || (says.0 == 1)) ≡ true = rw single at says.4 in of_a ∙ is_one says.0 one;
       wide = sort ∙ ap (binary_width op) (sym of_a);
     }
 

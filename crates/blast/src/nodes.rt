@@ -2,7 +2,7 @@
 ghost use Rattle.std.specs.Prelude.{◌≡◌, ℕ, ◌+◌, ◌*◌, ◌^◌, ◌<◌, ◌≤◌, List, true, is_some, map, replicate, length, Some, slice_get, IfOk, OnOk, IfErr, if◌then◌else◌, IfSome};
 ghost use Rattle.std.specs.List.{range_with_len};
 ghost use Rattle.base.specs.Operator.{unary_value, binary_value};
-ghost use Rattle.base.specs.Widths.{unary_width, binary_width};
+ghost use Rattle.base.specs.Widths.{is_of_bits, unary_width, binary_width};
 ghost use Rattle.btor2.specs.Items.{is_input, is_state, node_width};
 ghost use Rattle.btor2.specs.Check.{IsWellFormed};
 ghost use Rattle.btor2.specs.Trace.{bits_of};
@@ -10,7 +10,7 @@ ghost use Rattle.aiger.specs.Limits.{greatest_count};
 ghost use Rattle.aiger.specs.Net.{variables};
 ghost use Rattle.btor2text.specs.Basic.{is_basic, are_basic};
 ghost use Rattle.gates.specs.Bound.{unary_bound, binary_bound};
-ghost use Rattle.gates.specs.Built.{is_built_unary, is_built_binary};
+ghost use Rattle.gates.specs.Built.{is_built_binary};
 ghost use Rattle.blast.specs.Cost.{bound, line_cost};
 ghost use Rattle.blast.specs.Reads.{LowersNodes, leaves_only};
 ghost use Rattle.blast.specs.Table.{MakesNode, MakesRow, row_of, IsOperand, LowersFront};
@@ -92,7 +92,6 @@ fn unary_row<G: Gates>(
     operator: Unary,
     operand: u32,
 ) -> Result<Bits, GateFault>
-    requires built { is_built_unary operator ≡ true }
     requires well_formed { IsWellFormed model.now }
     requires operand { IsOperand model.now (G.made gates.old) table.now operand }
     requires fits { variables (G.made gates.old) + unary_bound operator (bits_of model.now operand) ≤ greatest_count }
@@ -117,6 +116,7 @@ fn binary_row<G: Gates>(
     requires left { IsOperand model.now (G.made gates.old) table.now left }
     requires right { IsOperand model.now (G.made gates.old) table.now right }
     requires equal { bits_of model.now right ≡ bits_of model.now left }
+    requires of_bits { is_of_bits operator ≡ true → bits_of model.now left ≡ 1 }
     requires fits { variables (G.made gates.old) + binary_bound operator (bits_of model.now left) ≤ greatest_count }
     ensures ok { IfOk result (λ bits. let n = bits_of model.now left in MakesNode model.now (G.made gates.old) (G.made gates.new) (binary_bound operator n) (binary_width operator n) (λ f. binary_value operator n (f left) (f right)) bits.items) }
     ensures memory { IfErr result (λ e. e ≡ GateFault.NoMemory) }

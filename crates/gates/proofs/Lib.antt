@@ -1,1 +1,9 @@
 pub mod MadeLemmas
+pub mod LiteralLemmas
+pub mod WordLemmas
+pub mod RowLemmas
+pub mod MoveLemmas
+pub mod WindowLemmas
+pub mod SumLemmas
+pub mod OrderLemmas
+pub mod OverflowLemmas

@@ -1,14 +1,12 @@
 -- How nets grow, and what stays true of literals.
-use Rattle.std.proofs.Common.{◌≡◌, ℕ, suc, ◌+◌, ◌*◌, ◌≤◌, ◌<◌, Bool, true, false, ◌&&◌, List, [], ◌∷◌, ◌++◌, length, map, take, get_or, not, ◌-◌, ◌^◌, All, refl, sym, ap, ◌∙◌, arith, append_assoc, append-nil, length-append, length-take, inl, inr}
-use Rattle.std.proofs.lemmas.List.{length-map, take_all, take_more, map-append}
+use Rattle.std.proofs.Common.{◌≡◌, ℕ, suc, ◌+◌, ◌*◌, ◌≤◌, ◌<◌, Bool, true, false, ◌&&◌, List, [], ◌∷◌, ◌++◌, length, map, not, ◌-◌, ◌^◌, All, refl, sym, ap, ◌∙◌, arith, append_assoc, append-nil, length-append, inl, inr}
+use Rattle.std.proofs.lemmas.List.{length-map}
 use Rattle.std.proofs.lemmas.List.Elements.{All-weaker, All-map}
-use Rattle.base.proofs.BitLemmas.{word-map_not, word-both}
-use Rattle.base.specs.Operator.{binary_value}
-use Rattle.base.specs.declared.operators.Binary.TheVariants.{And}
+use Rattle.base.proofs.BitLemmas.{word-map_not}
 use Rattle.aiger.specs.Literal.{negation}
 use Rattle.aiger.proofs.NetLemmas.{IsDefined-negation, literal_value-negation}
 use Rattle.gates.specs.Made.{MakesWord, word_value}
-use Rattle.base.specs.Word.{word, both}
+use Rattle.base.specs.Word.{word}
 use Rattle.aiger.specs.Literal.{Valuation, literal_value}
 use Rattle.aiger.specs.Net.{Net, variables, IsDefined, Satisfies, SatisfiesFrom}
 use Rattle.aiger.specs.Literal.{variable}
@@ -80,48 +78,31 @@ MakesAnd-push c a b high low l either is =
     in_order v (inl e) = rw (e.0, e.1) refl
     in_order v (inr e) = rw (e.0, e.1) (swapped (literal_value v b) (literal_value v a))
 
-both-push : (xs ys : List Bool) (x y : Bool) → length xs ≡ length ys → both (xs ++ x ∷ []) (ys ++ y ∷ []) ≡ both xs ys ++ (x && y) ∷ []
-both-push [] [] x y same = refl
-both-push [] (b ∷ bs) x y same = absurd (omega arith)
-both-push (a ∷ rest) [] x y same = absurd (omega arith)
-both-push (a ∷ rest) (b ∷ bs) x y same = ap (λ zs. (a && b) ∷ zs) (both-push rest bs x y (omega arith))
+-- literals that stand, made with no gate
+pub MakesWord-standing : (n : Net) (a : List ℕ) → All (IsDefined n) a → MakesWord n n 0 (length a) (λ v. word_value v a) a
+MakesWord-standing n a defined = record { grows = Grows-refl n 0; wide = refl; defined = defined; means = λ v s. refl }
 
--- both lists up to one place more
-pub both-more : (f : ℕ → Bool) (a b : List ℕ) (i x y : ℕ) → i < length a → i < length b → x ≡ get_or a i x → y ≡ get_or b i y → both (map f (take (i + 1) a)) (map f (take (i + 1) b)) ≡ both (map f (take i a)) (map f (take i b)) ++ (f x && f y) ∷ []
-both-more f a b i x y in_a in_b x_is y_is =
-    let front_a : map f (take (i + 1) a) ≡ map f (take i a) ++ f x ∷ [] = rw (take_more a i x in_a, ← x_is) (map-append f (take i a) (x ∷ [])) in
-    let front_b : map f (take (i + 1) b) ≡ map f (take i b) ++ f y ∷ [] = rw (take_more b i y in_b, ← y_is) (map-append f (take i b) (y ∷ [])) in
-    rw (front_a, front_b) (both-push (map f (take i a)) (map f (take i b)) (f x) (f y) (omega (arith, length-map (take i a) f, length-map (take i b) f, length-take i a, length-take i b)))
+-- negated literals read as the negated word
+pub word_value-negation : (v : Valuation) (ls : List ℕ) → word_value v (map negation ls) ≡ 2 ^ length ls - 1 - word_value v ls
+word_value-negation v ls = ap word (negated ls) ∙ word-map_not (map (literal_value v) ls) ∙ ap (λ k. 2 ^ k - 1 - word_value v ls) (length-map ls (literal_value v))
+  where
+    negated : (ls : List ℕ) → map (literal_value v) (map negation ls) ≡ map not (map (literal_value v) ls)
+    negated [] = refl
+    negated (l ∷ ls) = rw (literal_value-negation v l, negated ls) refl
+
+-- the literals of a word negated are those of the negated word
+pub MakesWord-negated : (old new : Net) (most wide : ℕ) (f : Valuation → ℕ) (a bits : List ℕ) → bits ≡ map negation a → MakesWord old new most wide f a → MakesWord old new most wide (λ v. 2 ^ wide - 1 - f v) bits
+MakesWord-negated old new most wide f a bits is m =
+    rw is (record {
+      grows = m.grows;
+      wide = length-map a negation ∙ m.wide;
+      defined = All-map (IsDefined new) negation a (All-weaker (IsDefined new) (λ l. IsDefined new (negation l)) (IsDefined-negation new) a m.defined);
+      means = λ v s. word_value-negation v a ∙ ap (λ k. 2 ^ k - 1 - word_value v a) m.wide ∙ ap (λ w. 2 ^ wide - 1 - w) (m.means v s);
+    })
 
 -- negated literals are those of the negated word
 pub MakesWord-not : (n : Net) (a bits : List ℕ) → All (IsDefined n) a → bits ≡ map negation a → MakesWord n n 0 (length a) (λ v. 2 ^ length a - 1 - word_value v a) bits
-MakesWord-not n a bits defined is =
-    rw is (record {
-      grows = Grows-refl n 0;
-      wide = length-map a negation;
-      defined = All-map (IsDefined n) negation a (All-weaker (IsDefined n) (λ l. IsDefined n (negation l)) (IsDefined-negation n) a defined);
-      means = λ v s. ap word (negated v a) ∙ word-map_not (map (literal_value v) a) ∙ ap (λ k. 2 ^ k - 1 - word_value v a) (length-map a (literal_value v));
-    })
-  where
-    negated : (v : Valuation) (ls : List ℕ) → map (literal_value v) (map negation ls) ≡ map not (map (literal_value v) ls)
-    negated v [] = refl
-    negated v (l ∷ ls) = rw (literal_value-negation v l, negated v ls) refl
-
--- the bits that both operands have are those of the and of their words
-pub MakesWord-and : (old new : Net) (a b bits : List ℕ) (n i : ℕ) → length a ≡ n → length b ≡ n → i ≡ n → Grows old new i → length bits ≡ i → All (IsDefined new) bits
-    → ((v : Valuation) → Satisfies new v → map (literal_value v) bits ≡ both (map (literal_value v) (take i a)) (map (literal_value v) (take i b)))
-    → MakesWord old new n n (λ v. binary_value And n (word_value v a) (word_value v b)) bits
-MakesWord-and old new a b bits n i in_a in_b all grows wide defined means =
-    record {
-      grows = Grows-weaker old new i n (omega arith) grows;
-      wide = wide ∙ all;
-      defined = defined;
-      means = λ v s.
-          let whole_a : take i a ≡ a = take_all i a (omega arith) in
-          let whole_b : take i b ≡ b = take_all i b (omega arith) in
-          let m : map (literal_value v) bits ≡ both (map (literal_value v) a) (map (literal_value v) b) = rw (whole_a, whole_b) at (means v s) in
-          ap word m ∙ word-both (map (literal_value v) a) (map (literal_value v) b) (length-map a (literal_value v) ∙ in_a ∙ sym in_b ∙ sym (length-map b (literal_value v)));
-    }
+MakesWord-not n a bits defined is = MakesWord-negated n n 0 (length a) (λ v. word_value v a) a bits is (MakesWord-standing n a defined)
 
 too_many : (n : ℕ) → cond (nat_le greatest_count n) (Some TooBig) None ≡ Some TooBig → greatest_count < n + 1
 too_many n e = grind (arith, nat_tests)

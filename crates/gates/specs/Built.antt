@@ -1,14 +1,15 @@
--- The operators that are built of gates so far.
+-- The operators of two operands that are built of gates so far: all but products and quotients.
 use Rattle.std.specs.Prelude.{Bool, true, false}
-use Rattle.base.specs.declared.operators.Unary.{Unary}
-use Rattle.base.specs.declared.operators.Unary.TheVariants as unary
 use Rattle.base.specs.declared.operators.Binary.{Binary}
 use Rattle.base.specs.declared.operators.Binary.TheVariants as binary
 
-abbrev pub is_built_unary : Unary → Bool
-is_built_unary unary.Not = true
-is_built_unary _ = false
-
 abbrev pub is_built_binary : Binary → Bool
-is_built_binary binary.And = true
-is_built_binary _ = false
+is_built_binary binary.Mul = false
+is_built_binary binary.Udiv = false
+is_built_binary binary.Sdiv = false
+is_built_binary binary.Urem = false
+is_built_binary binary.Srem = false
+is_built_binary binary.Smod = false
+is_built_binary binary.Umulo = false
+is_built_binary binary.Smulo = false
+is_built_binary _ = true

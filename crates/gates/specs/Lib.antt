@@ -1,5 +1,9 @@
 pub mod Bound
 pub mod Built
+pub mod Connect
 pub mod Made
+pub mod Moves
+pub mod Sums
+pub mod Tests
 pub mod Faults
 pub mod Worked

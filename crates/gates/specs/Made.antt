@@ -1,5 +1,5 @@
 -- What a gate maker does to the gates that it has made, and what literals mean in every valuation that satisfies them ("AIGER 1.9 and Beyond", and-inverter graphs).
-use Rattle.std.specs.Prelude.{◌≡◌, ℕ, ◌+◌, ◌<◌, ◌≤◌, ◌&&◌, List, ◌++◌, length, map, All, ◌⊎◌}
+use Rattle.std.specs.Prelude.{◌≡◌, ℕ, ◌+◌, ◌<◌, ◌≤◌, Bool, ◌&&◌, List, ◌++◌, length, map, All, ◌⊎◌}
 use Rattle.base.specs.Word.{word}
 use Rattle.aiger.specs.declared.circuit.Gate.{Gate}
 use Rattle.aiger.specs.Literal.{Valuation, literal_value}
@@ -20,6 +20,12 @@ pub record MakesAnd (old new : Net) (a b l : ℕ) : Type 0 where
   pub grows : Grows old new 1
   pub defined : IsDefined new l
   pub means : (v : Valuation) → Satisfies new v → literal_value v l ≡ (literal_value v a && literal_value v b)
+
+-- a literal that is true where `meaning` says, made with at most so many gates more
+pub record MakesLiteral (old new : Net) (most : ℕ) (meaning : Valuation → Bool) (l : ℕ) : Type 0 where
+  pub grows : Grows old new most
+  pub defined : IsDefined new l
+  pub means : (v : Valuation) → Satisfies new v → literal_value v l ≡ meaning v
 
 -- the word that literals read as in a valuation, the lowest bit first
 abbrev pub word_value : Valuation → List ℕ → ℕ

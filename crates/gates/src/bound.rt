@@ -15,7 +15,7 @@ pub enum Op {
 }
 
 /// The least k with 2^k at least `width`.
-fn log_up(width: u64) -> u64
+pub(crate) fn log_up(width: u64) -> u64
     requires { width ≤ 64 }
     ensures value { result ≡ log_up width }
     ensures most { result ≤ 6 }

@@ -1,23 +1,29 @@
-ghost use Rattle.std.specs.Prelude.{◌≡◌, ◌≤◌, length, All, map, IfOk, IfErr, true};
+ghost use Rattle.std.specs.Prelude.{◌≡◌, ◌≤◌, length, All, IfOk, IfErr, true};
 ghost use Rattle.base.specs.Operator.{unary_value, binary_value};
-ghost use Rattle.base.specs.Widths.{unary_width, binary_width};
+ghost use Rattle.base.specs.Widths.{is_of_bits, unary_width, binary_width};
 ghost use Rattle.aiger.specs.Net.{IsDefined};
-ghost use Rattle.aiger.specs.Literal.{negation};
 ghost use Rattle.gates.specs.Made.{MakesAnd, MakesWord, Refuses, word_value};
 ghost use Rattle.gates.specs.Bound.{unary_bound, binary_bound};
-ghost use Rattle.gates.specs.Built.{is_built_unary, is_built_binary};
+ghost use Rattle.gates.specs.Built.{is_built_binary};
 
+use crate::adders::{add_bits, dec_bits, inc_bits, neg_bits, sub_bits};
+use crate::bitwise::{
+    Connective, connect_negated, connect_words, eq, iff, implies, neq, reduction,
+};
+use crate::comparisons::comparison;
 use crate::fault::GateFault;
 use crate::maker::{Bits, Gates};
+use crate::overflows::overflow;
+use crate::rows::{negation, one_bit};
+use crate::shifts::{rotate, shift};
 use aiger::Lit;
 use base::{Binary, Unary};
 
 /// The bits of what an operator gives for an operand.
 ///
-/// Conditions: the operator is `Not`, the one that is built so far; 1 to 64 literals, all defined. Errors: `TooBig` only where the variables so far and the
-/// operator's bound sum to more than 2^30, `NoMemory`; the gates made so far stay.
+/// Conditions: 1 to 64 literals, all defined. Errors: `TooBig` only where the variables so far and the operator's bound
+/// sum to more than 2^30, `NoMemory`; the gates made so far stay.
 pub fn unary_bits<G: Gates>(g: &mut G, op: Unary, a: &Bits) -> Result<Bits, GateFault>
-    requires built { is_built_unary op ≡ true }
     requires some { 1 ≤ length a.now.items }
     requires most { length a.now.items ≤ 64 }
     requires defined { All (IsDefined (G.made g.old)) a.now.items }
@@ -26,17 +32,24 @@ pub fn unary_bits<G: Gates>(g: &mut G, op: Unary, a: &Bits) -> Result<Bits, Gate
 {
     match op {
         Unary::Not => Ok(negation(a)),
-        _ => unreachable!(),
+        Unary::Inc => inc_bits(g, a),
+        Unary::Dec => dec_bits(g, a),
+        Unary::Neg => neg_bits(g, a),
+        Unary::Redand => reduction(g, Connective::And, a),
+        Unary::Redor => reduction(g, Connective::Or, a),
+        Unary::Redxor => reduction(g, Connective::Xor, a),
     }
 }
 
 /// The bits of what an operator gives for two operands.
 ///
-/// Conditions: the operator is `And`, the one that is built so far; operands of equal length from 1 to 64, all
-/// literals defined. Errors: `TooBig` only where
-/// the variables so far and the operator's bound sum to more than 2^30, `NoMemory`; the gates made so far stay.
+/// Conditions: the operator is none of those that are not built yet, `Mul`, `Udiv`, `Sdiv`, `Urem`, `Srem`, `Smod`,
+/// `Umulo` and `Smulo`; operands of equal length from 1 to 64, for `Iff` and `Implies` of length 1, all literals
+/// defined. Errors: `TooBig` only where the variables so far and the operator's bound sum to more than 2^30, `NoMemory`;
+/// the gates made so far stay.
 pub fn binary_bits<G: Gates>(g: &mut G, op: Binary, a: &Bits, b: &Bits) -> Result<Bits, GateFault>
     requires built { is_built_binary op ≡ true }
+    requires of_bits { is_of_bits op ≡ true → length a.now.items ≡ 1 }
     requires some { 1 ≤ length a.now.items }
     requires most { length a.now.items ≤ 64 }
     requires equal { length b.now.items ≡ length a.now.items }
@@ -46,25 +59,37 @@ pub fn binary_bits<G: Gates>(g: &mut G, op: Binary, a: &Bits, b: &Bits) -> Resul
     ensures refused { IfErr result (Refuses (G.made g.old) (G.made g.new) (binary_bound op (length a.now.items))) }
 {
     match op {
-        Binary::And => both(g, a, b),
+        Binary::Iff => iff(g, a, b),
+        Binary::Implies => implies(g, a, b),
+        Binary::Eq => eq(g, a, b),
+        Binary::Neq => neq(g, a, b),
+        Binary::Ugt
+        | Binary::Ugte
+        | Binary::Ult
+        | Binary::Ulte
+        | Binary::Sgt
+        | Binary::Sgte
+        | Binary::Slt
+        | Binary::Slte => Ok(one_bit(comparison(g, op, a, b)?)),
+        Binary::And => connect_words(g, Connective::And, a, b),
+        Binary::Nand => connect_negated(g, Connective::And, a, b),
+        Binary::Or => connect_words(g, Connective::Or, a, b),
+        Binary::Nor => connect_negated(g, Connective::Or, a, b),
+        Binary::Xor => connect_words(g, Connective::Xor, a, b),
+        Binary::Xnor => connect_negated(g, Connective::Xor, a, b),
+        Binary::Rol | Binary::Ror => rotate(g, op, a, b),
+        Binary::Sll | Binary::Srl | Binary::Sra => shift(g, op, a, b),
+        Binary::Add => add_bits(g, a, b),
+        Binary::Sub => sub_bits(g, a, b),
+        Binary::Uaddo | Binary::Saddo | Binary::Usubo | Binary::Ssubo | Binary::Sdivo => {
+            Ok(one_bit(overflow(g, op, a, b)?))
+        }
         _ => unreachable!(),
     }
 }
 
-/// The negated literals.
-fn negation(a: &Bits) -> Bits
-    requires { length a.now.items ≤ 128 }
-    ensures { result.items ≡ map negation a.now.items }
-{
-    let mut bits = Bits::new();
-    for lit in a.as_slice() {
-        bits.push(lit.not());
-    }
-    bits
-}
-
 /// A literal that is true where both operands are: one of the operands or a constant where that is known, else a gate.
-fn conjunction<G: Gates>(g: &mut G, a: Lit, b: Lit) -> Result<Lit, GateFault>
+pub(crate) fn conjunction<G: Gates>(g: &mut G, a: Lit, b: Lit) -> Result<Lit, GateFault>
     requires left { IsDefined (G.made g.old) a }
     requires right { IsDefined (G.made g.old) b }
     ensures ok { IfOk result (MakesAnd (G.made g.old) (G.made g.new) a b) }
@@ -79,23 +104,4 @@ fn conjunction<G: Gates>(g: &mut G, a: Lit, b: Lit) -> Result<Lit, GateFault>
     } else {
         g.and(a, b)
     }
-}
-
-/// The bits that are true where those of both operands are.
-fn both<G: Gates>(g: &mut G, a: &Bits, b: &Bits) -> Result<Bits, GateFault>
-    requires most { length a.now.items ≤ 64 }
-    requires equal { length b.now.items ≡ length a.now.items }
-    requires left { All (IsDefined (G.made g.old)) a.now.items }
-    requires right { All (IsDefined (G.made g.old)) b.now.items }
-    ensures ok { IfOk result (λ bits. let n = length a.now.items in MakesWord (G.made g.old) (G.made g.new) n n (λ v. binary_value Binary.And n (word_value v a.now.items) (word_value v b.now.items)) bits.items) }
-    ensures refused { IfErr result (Refuses (G.made g.old) (G.made g.new) (length a.now.items)) }
-{
-    let mut bits = Bits::new();
-    for i in 0..a.len() {
-        match conjunction(g, a[i], b[i]) {
-            Ok(lit) => bits.push(lit),
-            Err(fault) => return Err(fault),
-        }
-    }
-    Ok(bits)
 }

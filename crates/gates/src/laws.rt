@@ -1,13 +1,19 @@
-//! Worked rows of the gate bounds and of nets that grow, as functions with no code.
-ghost use Rattle.std.specs.Prelude.{◌≡◌, [], ◌∷◌};
+//! Worked rows of the definitions of this crate, as functions with no code.
+ghost use Rattle.std.specs.Prelude.{◌≡◌, [], ◌∷◌, not, true, false};
 ghost use Rattle.base.specs.Operator.{unary_value};
 ghost use Rattle.base.specs.declared.operators.Unary.TheVariants as unary;
 ghost use Rattle.base.specs.declared.operators.Binary.TheVariants as binary;
+ghost use Rattle.aiger.specs.Literal.{literal_value};
 ghost use Rattle.aiger.specs.Worked.{one_gate};
+ghost use Rattle.gates.specs.declared.bitwise.Connective.TheVariants as by;
 ghost use Rattle.gates.specs.declared.bound.Op.TheVariants as op;
 ghost use Rattle.gates.specs.declared.fault.GateFault.TheVariants as fault;
 ghost use Rattle.gates.specs.Bound.{operator_bound};
-ghost use Rattle.gates.specs.Made.{Grows, MakesAnd, MakesWord, Refuses, word_value};
+ghost use Rattle.gates.specs.Connect.{connected, connected_words, connected_bits, words_bound};
+ghost use Rattle.gates.specs.Moves.{is_shift, is_rotation, is_move};
+ghost use Rattle.gates.specs.Made.{Grows, MakesAnd, MakesLiteral, MakesWord, Refuses, word_value};
+ghost use Rattle.gates.specs.Sums.{literal_number, MakesColumn, MakesSum};
+ghost use Rattle.gates.specs.Tests.{is_comparison, is_overflow, with_top_negated};
 ghost use Rattle.gates.specs.Worked.{no_gate};
 
 /// Worked rows: the gates that an operator takes at most.
@@ -41,7 +47,49 @@ pub fn worked_nets()
     ensures is_and { MakesAnd no_gate (one_gate 4 2) 2 4 6 }
     ensures is_no_and { ¬ MakesAnd no_gate (one_gate 4 2) 2 4 2 }
     ensures constant { MakesAnd no_gate no_gate 2 0 0 }
+    ensures is_literal { MakesLiteral no_gate no_gate 0 (λ v. not (literal_value v 2)) 3 }
+    ensures is_no_literal { ¬ MakesLiteral no_gate no_gate 0 (λ v. literal_value v 2) 4 }
     ensures is_not { MakesWord no_gate no_gate 0 2 (λ v. unary_value unary.Not 2 (word_value v (2 ∷ 4 ∷ []))) (3 ∷ 5 ∷ []) }
     ensures no_memory { Refuses no_gate no_gate 1 fault.NoMemory }
     ensures too_big { ¬ Refuses no_gate no_gate 1 fault.TooBig }
+{}
+
+/// Worked rows: bits and words connected, and the operators that move bits.
+pub fn worked_connections()
+    ensures differ_1_1 { connected by.Xor true true ≡ false }
+    ensures differ_1_0 { connected by.Xor true false ≡ true }
+    ensures or_1_1 { connected by.Or true true ≡ true }
+    ensures and_12_10 { connected_words by.And 12 10 ≡ 8 }
+    ensures or_12_10 { connected_words by.Or 12 10 ≡ 14 }
+    ensures xor_12_10 { connected_words by.Xor 12 10 ≡ 6 }
+    ensures all_of_3 { connected_bits by.And 2 3 ≡ true }
+    ensures all_of_2 { connected_bits by.And 2 2 ≡ false }
+    ensures some_of_0 { connected_bits by.Or 2 0 ≡ false }
+    ensures odd_of_7 { connected_bits by.Xor 3 7 ≡ true }
+    ensures and_8 { words_bound by.And 8 ≡ 8 }
+    ensures xor_8 { words_bound by.Xor 8 ≡ 24 }
+    ensures sra { is_shift binary.Sra ≡ true }
+    ensures ror { is_rotation binary.Ror ≡ true }
+    ensures ror_no_shift { is_shift binary.Ror ≡ false }
+    ensures add_no_move { is_move binary.Add ≡ false }
+{}
+
+/// Worked rows: what literals count, the sums of two bits and of two words of one bit, a literal's negation, the
+/// comparisons and the overflow tests, and literals with the highest one negated.
+pub fn worked_sums()
+    ensures number { literal_number (λ k. true) 4 ≡ 1 }
+    ensures negated_number { literal_number (λ k. true) 5 ≡ 0 }
+    ensures column { MakesColumn no_gate no_gate 0 (λ v. 3) 1 1 }
+    ensures no_column { ¬ MakesColumn no_gate no_gate 0 (λ v. 2) 1 1 }
+    ensures sum { MakesSum no_gate no_gate 0 (1 ∷ []) (1 ∷ []) 1 (1 ∷ []) 1 1 }
+    ensures carry_lost { ¬ MakesSum no_gate no_gate 0 (1 ∷ []) (1 ∷ []) 1 (0 ∷ []) 1 1 }
+    ensures no_carry_into { ¬ MakesSum no_gate no_gate 0 (1 ∷ []) (1 ∷ []) 1 (1 ∷ []) 0 1 }
+    ensures is_literal { MakesLiteral no_gate no_gate 0 (λ v. not (v 1)) 3 }
+    ensures is_no_literal { ¬ MakesLiteral no_gate no_gate 0 (λ v. v 1) 3 }
+    ensures ult { is_comparison binary.Ult ≡ true }
+    ensures eq { is_comparison binary.Eq ≡ false }
+    ensures sdivo { is_overflow binary.Sdivo ≡ true }
+    ensures sub { is_overflow binary.Sub ≡ false }
+    ensures top { with_top_negated (2 ∷ 4 ∷ []) ≡ 2 ∷ 5 ∷ [] }
+    ensures only { with_top_negated (7 ∷ []) ≡ 6 ∷ [] }
 {}

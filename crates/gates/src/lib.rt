@@ -1,19 +1,36 @@
 //! Gate makers, and the circuits of the word operators over any of them.
 #![tactic(auto)]
 
+mod adders;
+mod bitwise;
 mod bound;
 mod builders;
+mod choices;
+mod comparisons;
 mod fault;
 mod laws;
+mod literals;
 mod maker;
+mod overflows;
 mod plain;
+mod rows;
+mod shifts;
 
+pub use adders::{Added, add};
+pub use bitwise::equal;
 pub use bound::{Op, gate_bound};
 pub use builders::{binary_bits, unary_bits};
+pub use choices::ite_bits;
+pub use comparisons::less;
 pub use fault::GateFault;
-pub use laws::{worked_bounds, worked_nets};
+pub use laws::{worked_bounds, worked_connections, worked_nets, worked_sums};
+pub use literals::{mux, xor};
 pub use maker::{Bits, Gates};
+pub use overflows::overflow;
 pub use plain::PlainGates;
+pub use shifts::{rotate, shift};
 
 #[cfg(test)]
 mod tests;
+#[cfg(test)]
+mod tests_table;

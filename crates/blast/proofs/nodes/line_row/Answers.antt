@@ -1,11 +1,7 @@
 use Rattle.std.proofs.Common.{◌∙◌}
 use Rattle.std.proofs.lemmas.Result.{IfOk-weaker}
-use Rattle.blast.proofs.NodeRows.{UnaryStands-at, BinaryStands-at, MakesRow-input, MakesRow-state, MakesRow-zero, MakesRow-unary, MakesRow-binary, unary_fits, binary_fits, unary_built, binary_built, next-input, next-latch}
+use Rattle.blast.proofs.NodeRows.{UnaryStands-at, BinaryStands-at, MakesRow-input, MakesRow-state, MakesRow-zero, MakesRow-unary, MakesRow-binary, unary_fits, binary_fits, binary_built, next-input, next-latch}
 use Rattle.blast.proofs.nodes.line_row.Goals as goal
-
-pub unary_row-requires-clause-built : goal.unary_row-requires-clause-built
-unary_row-requires-clause-built g c =
-    unary_built c.args.item.now.body c.in-Unary.operator c.in-Unary.sort c.in-Unary.operand c.requires.basic c.in-Unary.is
 
 pub binary_row-requires-clause-built : goal.binary_row-requires-clause-built
 binary_row-requires-clause-built g c =
@@ -30,6 +26,10 @@ binary_row-requires-clause-right g c =
 pub binary_row-requires-clause-equal : goal.binary_row-requires-clause-equal
 binary_row-requires-clause-equal g c =
     (BinaryStands-at c.args.model.now c.args.place (g.G.Gates.made c.args.gates.now) c.args.table.now c.args.input.now c.args.latch.now c.args.item.now c.in-Binary.operator c.in-Binary.sort c.in-Binary.left c.in-Binary.right c.requires.well_formed c.requires.front c.requires.at c.in-Binary.is).equal
+
+pub binary_row-requires-clause-of_bits : goal.binary_row-requires-clause-of_bits
+binary_row-requires-clause-of_bits g c =
+    (BinaryStands-at c.args.model.now c.args.place (g.G.Gates.made c.args.gates.now) c.args.table.now c.args.input.now c.args.latch.now c.args.item.now c.in-Binary.operator c.in-Binary.sort c.in-Binary.left c.in-Binary.right c.requires.well_formed c.requires.front c.requires.at c.in-Binary.is).of_bits
 
 pub binary_row-requires-clause-fits : goal.binary_row-requires-clause-fits
 binary_row-requires-clause-fits g c =

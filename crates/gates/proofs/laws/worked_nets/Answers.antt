@@ -10,3 +10,6 @@ returns-clause-is_no_and c = λ m. absurd (cc (m.means (λ k. k == 1) (refl, tt)
 
 pub returns-clause-is_not : goal.returns-clause-is_not
 returns-clause-is_not c = MakesWord-not no_gate (2 ∷ 4 ∷ []) (3 ∷ 5 ∷ []) (All-from_recursion (IsDefined no_gate) (2 ∷ 4 ∷ []) (omega arith, (omega arith, tt))) refl
+
+pub returns-clause-is_no_literal : goal.returns-clause-is_no_literal
+returns-clause-is_no_literal c = λ m. absurd (cc (m.means (λ k. k == 1) tt))

@@ -1,0 +1,234 @@
+-- Sums of bits and of words, and the gates that make them.
+use Rattle.std.proofs.Common.{◌≡◌, ℕ, zero, suc, ◌+◌, ◌-◌, ◌*◌, ◌/◌, ◌%◌, ◌^◌, ◌<◌, ◌≤◌, Bool, true, false, not, ◌&&◌, ◌||◌, List, [], ◌∷◌, ◌++◌, length, map, take, get_or, replicate, pos, ◌-ℤ◌, All, refl, sym, ap, ◌∙◌, arith, length-append}
+use Rattle.std.proofs.Math.Nat.{add-mul-mod_self_left, mod-eq_of_lt}
+use Rattle.std.proofs.lemmas.Nat.{div-mul-add, pow_pos}
+use Rattle.std.proofs.lemmas.Int.{ints}
+use Rattle.std.proofs.lemmas.List.{length-map, length-replicate, take_all, take_more, map-append}
+use Rattle.std.proofs.lemmas.List.Elements.{All-nil, All-push, All-get_or}
+use Rattle.base.specs.declared.operators.Unary.TheVariants as unary
+use Rattle.base.specs.declared.operators.Binary.TheVariants as binary
+use Rattle.base.specs.Operator.{unary_value, binary_value}
+use Rattle.base.specs.Signed.{wrapped}
+use Rattle.base.proofs.BitLemmas.{two_more, bit_number_small}
+use Rattle.base.proofs.WrapLemmas.{wrapped_is}
+use Rattle.base.specs.Word.{bit_number, word}
+use Rattle.aiger.specs.Literal.{Valuation, literal_value, negation}
+use Rattle.aiger.specs.Net.{Net, IsDefined}
+use Rattle.aiger.proofs.NetLemmas.{literal_value-negation}
+use Rattle.gates.specs.Made.{MakesAnd, MakesLiteral, MakesWord, word_value}
+use Rattle.gates.specs.Sums.{literal_number, MakesColumn, MakesSum}
+use Rattle.gates.proofs.MadeLemmas.{Grows-refl, Grows-weaker, Grows-trans, Satisfies-earlier, IsDefined-later, All-defined-later, word_value-negation}
+use Rattle.gates.proofs.RowLemmas.{word_value-below}
+use Rattle.gates.proofs.WordLemmas.{word-push}
+
+-- the two bits of the sum of two bits
+half_sum : (x y : Bool) → bit_number (not (x && y) && not (not x && not y)) + 2 * bit_number (x && y) ≡ bit_number x + bit_number y
+half_sum true true = refl
+half_sum true false = refl
+half_sum false true = refl
+half_sum false false = refl
+
+-- at most one of two bits is one: their or is their sum
+one_of_two : (x y : Bool) → bit_number x + bit_number y ≤ 1 → bit_number (x || y) ≡ bit_number x + bit_number y
+one_of_two true true h = absurd (omega arith)
+one_of_two true false h = refl
+one_of_two false true h = refl
+one_of_two false false h = refl
+
+-- the and of two literals and the exclusive or by it
+pub MakesColumn-half : (n0 n1 n2 n3 : Net) (a b both neither sum : ℕ)
+    → MakesAnd n0 n1 a b both → MakesAnd n1 n2 (negation a) (negation b) neither → MakesAnd n2 n3 (negation both) (negation neither) sum
+    → MakesColumn n0 n3 3 (λ v. literal_number v a + literal_number v b) sum both
+MakesColumn-half n0 n1 n2 n3 a b both neither sum first second third =
+    let later = Grows-trans n1 n2 n3 1 1 second.grows third.grows in
+    record {
+      grows = Grows-trans n0 n1 n3 1 2 first.grows later;
+      sum_defined = third.defined;
+      carry_defined = IsDefined-later n1 n3 2 later both first.defined;
+      means = λ v s.
+          let at_two = Satisfies-earlier n2 n3 1 third.grows v s in
+          let at_one = Satisfies-earlier n1 n2 1 second.grows v at_two in
+          rw (third.means v s, literal_value-negation v both, literal_value-negation v neither, second.means v at_two, literal_value-negation v a, literal_value-negation v b, first.means v at_one)
+          (half_sum (literal_value v a) (literal_value v b));
+    }
+
+-- two half adders, and a carry from either
+pub MakesColumn-full : (n0 n1 n2 n3 : Net) (a b c low first second sum carry : ℕ)
+    → MakesColumn n0 n1 3 (λ v. literal_number v a + literal_number v b) low first
+    → MakesColumn n1 n2 3 (λ v. literal_number v low + literal_number v c) sum second
+    → MakesLiteral n2 n3 1 (λ v. literal_value v first || literal_value v second) carry
+    → MakesColumn n0 n3 7 (λ v. literal_number v a + literal_number v b + literal_number v c) sum carry
+MakesColumn-full n0 n1 n2 n3 a b c low first second sum carry one two three =
+    record {
+      grows = Grows-trans n0 n1 n3 3 4 one.grows (Grows-trans n1 n2 n3 3 1 two.grows three.grows);
+      sum_defined = IsDefined-later n2 n3 1 three.grows sum two.sum_defined;
+      carry_defined = three.defined;
+      means = λ v s.
+          let at_two = Satisfies-earlier n2 n3 1 three.grows v s in
+          let at_one = Satisfies-earlier n1 n2 3 two.grows v at_two in
+          let x = bit_number_small (literal_value v a) in
+          let y = bit_number_small (literal_value v b) in
+          let z = bit_number_small (literal_value v c) in
+          let low_is = one.means v at_one in
+          let sum_is = two.means v at_two in
+          let either = one_of_two (literal_value v first) (literal_value v second) (omega (arith, low_is, sum_is, x, y, z)) in
+          omega (arith, ap bit_number (three.means v s), either, low_is, sum_is);
+    }
+
+-- a literal read at a place of a list is one of its literals
+pub literal_at : (n : Net) (ls read : List ℕ) (i l : ℕ) → read ≡ ls → i < length ls → l ≡ get_or read i l → All (IsDefined n) ls → IsDefined n l
+literal_at n ls read i l same inside is defined = rw (is, same) (All-get_or (IsDefined n) ls i l inside defined)
+
+-- and the front of the list up to it is one literal longer
+pub front_with : (ls read : List ℕ) (i l : ℕ) → read ≡ ls → i < length ls → l ≡ get_or read i l → take (i + 1) ls ≡ take i ls ++ l ∷ []
+front_with ls read i l same inside is = let at : get_or ls i l ≡ l = rw (← same) (sym is) in take_more ls i l inside ∙ ap (λ x. take i ls ++ x ∷ []) at
+
+-- a literal more at the high end of a word
+pub word_value-push : (v : Valuation) (ls : List ℕ) (l : ℕ) → word_value v (ls ++ l ∷ []) ≡ word_value v ls + 2 ^ length ls * literal_number v l
+word_value-push v ls l =
+    ap word (map-append (literal_value v) ls (l ∷ [])) ∙ word-push (map (literal_value v) ls) (literal_value v l)
+    ∙ ap (λ n. word_value v ls + 2 ^ n * literal_number v l) (length-map ls (literal_value v))
+
+-- a column more at the high end of a sum
+column_more : (p s o a b c low high x y : ℕ) → s + p * o ≡ a + b + c → low + 2 * high ≡ x + y + o → s + p * low + 2 * p * high ≡ a + p * x + (b + p * y) + c
+column_more p s o a b c low high x y whole column = omega (arith, whole, ap (λ k. p * k) column)
+
+-- the carry is what is above the words' lower bits
+carry_is : (p s o a b c x y : ℕ) → s < p → a < p → b < p → s + p * o ≡ a + b + c → o ≡ ((a + p * x) % p + (b + p * y) % p + c) / p
+carry_is p s o a b c x y s_below a_below b_below whole =
+    let low_a : (a + p * x) % p ≡ a = add-mul-mod_self_left a p x ∙ mod-eq_of_lt a_below in
+    let low_b : (b + p * y) % p ≡ b = add-mul-mod_self_left b p y ∙ mod-eq_of_lt b_below in
+    let turned : o * p + s ≡ a + b + c = omega (arith, whole) in
+    sym (div-mul-add o p s s_below) ∙ ap (λ k. k / p) turned ∙ rw (low_a, low_b) refl
+
+-- nothing is added yet
+pub MakesSum-start : (n : Net) (carry : ℕ) → IsDefined n carry → MakesSum n n 0 [] [] carry [] carry carry
+MakesSum-start n carry defined =
+    record {
+      grows = Grows-refl n 0;
+      wide = refl;
+      sum_defined = All-nil (IsDefined n);
+      top_defined = defined;
+      out_defined = defined;
+      whole = λ v s. omega arith;
+      top = λ v s. omega arith;
+    }
+
+-- a column is added at the high end
+pub MakesSum-step : (old mid new : Net) (most all : ℕ) (a b : List ℕ) (carry : ℕ) (sum : List ℕ) (into_top out x y low high : ℕ)
+    → length b ≡ length a → most + 7 ≡ all → MakesSum old mid most a b carry sum into_top out
+    → MakesColumn mid new 7 (λ v. literal_number v x + literal_number v y + literal_number v out) low high
+    → MakesSum old new all (a ++ x ∷ []) (b ++ y ∷ []) carry (sum ++ low ∷ []) out high
+MakesSum-step old mid new most all a b carry sum into_top out x y low high same all_is so_far column =
+    let one_more = length-append a (x ∷ []) in
+    let width : length (a ++ x ∷ []) ≡ suc (length a) = omega (arith, one_more) in
+    let below : length (a ++ x ∷ []) - 1 ≡ length a = omega (arith, one_more) in
+    let in_b : (v : Valuation) → word_value v (b ++ y ∷ []) ≡ word_value v b + 2 ^ length a * literal_number v y = λ v. word_value-push v b y ∙ ap (λ n. word_value v b + 2 ^ n * literal_number v y) same in
+    let in_sum : (v : Valuation) → word_value v (sum ++ low ∷ []) ≡ word_value v sum + 2 ^ length a * literal_number v low = λ v. word_value-push v sum low ∙ ap (λ n. word_value v sum + 2 ^ n * literal_number v low) so_far.wide in
+    record {
+      grows = Grows-weaker old new (most + 7) all (omega arith) (Grows-trans old mid new most 7 so_far.grows column.grows);
+      wide = omega (arith, length-append sum (low ∷ []), so_far.wide, one_more);
+      sum_defined = All-push (IsDefined new) sum low (All-defined-later mid new 7 column.grows sum so_far.sum_defined) column.sum_defined;
+      top_defined = IsDefined-later mid new 7 column.grows out so_far.out_defined;
+      out_defined = column.carry_defined;
+      whole = λ v s.
+          let before = so_far.whole v (Satisfies-earlier mid new 7 column.grows v s) in
+          rw (in_sum v, word_value-push v a x, in_b v, width, two_more (length a))
+          (column_more (2 ^ length a) (word_value v sum) (literal_number v out) (word_value v a) (word_value v b) (literal_number v carry) (literal_number v low) (literal_number v high) (literal_number v x) (literal_number v y) before (column.means v s));
+      top = λ v s.
+          let before = so_far.whole v (Satisfies-earlier mid new 7 column.grows v s) in
+          let sum_below : word_value v sum < 2 ^ length a = word_value-below v sum (length a) so_far.wide in
+          let b_below : word_value v b < 2 ^ length a = word_value-below v b (length a) same in
+          rw (below, word_value-push v a x, in_b v)
+          (carry_is (2 ^ length a) (word_value v sum) (literal_number v out) (word_value v a) (word_value v b) (literal_number v carry) (literal_number v x) (literal_number v y) sum_below (word_value-below v a (length a) refl) b_below before);
+    }
+
+-- all columns are added
+pub MakesSum-whole : (old new : Net) (few most i : ℕ) (a b : List ℕ) (carry : ℕ) (sum : List ℕ) (into_top out : ℕ)
+    → length a ≤ i → length b ≤ i → few ≤ most → MakesSum old new few (take i a) (take i b) carry sum into_top out → MakesSum old new most a b carry sum into_top out
+MakesSum-whole old new few most i a b carry sum into_top out in_a in_b le made =
+    let whole_a : take i a ≡ a = take_all i a in_a in
+    let whole_b : take i b ≡ b = take_all i b in_b in
+    let all : MakesSum old new few a b carry sum into_top out = rw (whole_a, whole_b) at made in
+    record {
+      grows = Grows-weaker old new few most le all.grows;
+      wide = all.wide;
+      sum_defined = all.sum_defined;
+      top_defined = all.top_defined;
+      out_defined = all.out_defined;
+      whole = all.whole;
+      top = all.top;
+    }
+
+-- the low part of a sum is the sum modulo the words
+low_part : (p s o t : ℕ) → s < p → s + p * o ≡ t → t % p ≡ s
+low_part p s o t below whole = ap (λ k. k % p) (sym whole) ∙ add-mul-mod_self_left s p o ∙ mod-eq_of_lt below
+
+-- the sum's bits read as what the whole sum is modulo the words
+pub MakesWord-sum : (old new : Net) (most : ℕ) (a b : List ℕ) (carry : ℕ) (sum : List ℕ) (into_top out : ℕ) (meaning : Valuation → ℕ)
+    → MakesSum old new most a b carry sum into_top out
+    → ((v : Valuation) → (word_value v a + word_value v b + literal_number v carry) % 2 ^ length a ≡ meaning v)
+    → MakesWord old new most (length a) meaning sum
+MakesWord-sum old new most a b carry sum into_top out meaning made is =
+    record {
+      grows = made.grows;
+      wide = made.wide;
+      defined = made.sum_defined;
+      means = λ v s.
+          let below : word_value v sum < 2 ^ length a = word_value-below v sum (length a) made.wide in
+          sym (low_part (2 ^ length a) (word_value v sum) (literal_number v out) _ below (made.whole v s)) ∙ is v;
+    }
+
+-- a difference is the sum with the negated word and one more
+pub difference_is : (n a b : ℕ) → b < 2 ^ n → (a + (2 ^ n - 1 - b) + 1) % 2 ^ n ≡ wrapped n (pos a -ℤ pos b)
+difference_is n a b below =
+    let whole : a + (2 ^ n - 1 - b) + 1 ≡ a + (2 ^ n - b) = omega arith in
+    ap (λ k. k % 2 ^ n) whole ∙ sym (wrapped_is n (pos a -ℤ pos b) 1 (a + (2 ^ n - b)) (omega (arith, ints)))
+
+-- a literal again and again, and the words that false and true read as so
+pub word_value-zeros : (v : Valuation) (n : ℕ) → word_value v (replicate n 0) ≡ 0
+word_value-zeros v zero = refl
+word_value-zeros v (suc n) = omega (arith, word_value-zeros v n)
+
+pub word_value-ones : (v : Valuation) (n : ℕ) → word_value v (replicate n 1) ≡ 2 ^ n - 1
+word_value-ones v zero = refl
+word_value-ones v (suc n) = omega (arith, word_value-ones v n, two_more n, pow_pos n)
+
+pub MakesWord-added : (old new : Net) (a b sum : List ℕ) (into_top out : ℕ) → MakesSum old new (9 * length a) a b 0 sum into_top out
+    → MakesWord old new (9 * length a) (length a) (λ v. binary_value binary.Add (length a) (word_value v a) (word_value v b)) sum
+MakesWord-added old new a b sum into_top out made =
+    MakesWord-sum old new (9 * length a) a b 0 sum into_top out _ made (λ v. ap (λ k. k % 2 ^ length a) (omega arith))
+
+pub MakesWord-subtracted : (old new : Net) (a b sum : List ℕ) (into_top out : ℕ) → length b ≡ length a → MakesSum old new (9 * length a) a (map negation b) 1 sum into_top out
+    → MakesWord old new (9 * length a) (length a) (λ v. binary_value binary.Sub (length a) (word_value v a) (word_value v b)) sum
+MakesWord-subtracted old new a b sum into_top out same made =
+    MakesWord-sum old new (9 * length a) a (map negation b) 1 sum into_top out _ made
+    (λ v.
+    let below : word_value v b < 2 ^ length a = word_value-below v b (length a) same in
+    rw (word_value-negation v b, same) (difference_is (length a) (word_value v a) (word_value v b) below))
+
+pub MakesWord-negative : (old new : Net) (a zeros sum : List ℕ) (into_top out : ℕ) → zeros ≡ replicate (length a) 0
+    → MakesSum old new (9 * length zeros) zeros (map negation a) 1 sum into_top out
+    → MakesWord old new (9 * length a) (length a) (λ v. unary_value unary.Neg (length a) (word_value v a)) sum
+MakesWord-negative old new a zeros sum into_top out are made =
+    let same : length zeros ≡ length a = rw are (length-replicate {A = ℕ} (length a) 0) in
+    rw (← same)
+    (MakesWord-sum old new (9 * length zeros) zeros (map negation a) 1 sum into_top out (λ v. unary_value unary.Neg (length zeros) (word_value v a)) made
+    (λ v. rw (same, are, word_value-zeros v (length a), word_value-negation v a) (difference_is (length a) 0 (word_value v a) (word_value-below v a (length a) refl))))
+
+pub MakesWord-incremented : (old new : Net) (a zeros sum : List ℕ) (into_top out : ℕ) → zeros ≡ replicate (length a) 0
+    → MakesSum old new (9 * length a) a zeros 1 sum into_top out
+    → MakesWord old new (9 * length a) (length a) (λ v. unary_value unary.Inc (length a) (word_value v a)) sum
+MakesWord-incremented old new a zeros sum into_top out are made =
+    MakesWord-sum old new (9 * length a) a zeros 1 sum into_top out _ made
+    (λ v. rw (are, word_value-zeros v (length a)) (ap (λ k. k % 2 ^ length a) (omega arith)))
+
+pub MakesWord-decremented : (old new : Net) (a all_ones sum : List ℕ) (into_top out : ℕ) → all_ones ≡ replicate (length a) 1
+    → MakesSum old new (9 * length a) a all_ones 0 sum into_top out
+    → MakesWord old new (9 * length a) (length a) (λ v. unary_value unary.Dec (length a) (word_value v a)) sum
+MakesWord-decremented old new a all_ones sum into_top out are made =
+    MakesWord-sum old new (9 * length a) a all_ones 0 sum into_top out _ made
+    (λ v.
+    let p = pow_pos (length a) in
+    rw (are, word_value-ones v (length a))
+    (sym (wrapped_is (length a) (pos (word_value v a) -ℤ pos 1) 1 (word_value v a + (2 ^ length a - 1) + 0) (omega (arith, ints, p)))))

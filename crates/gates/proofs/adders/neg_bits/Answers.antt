@@ -1,0 +1,8 @@
+use Rattle.std.proofs.Common.{◌≡◌, length, replicate}
+use Rattle.gates.proofs.SumLemmas.{MakesWord-negative}
+use Rattle.gates.proofs.adders.neg_bits.Goals as goal
+
+pub returns-clause-ok : goal.returns-clause-ok
+returns-clause-ok g c =
+    let zeros : c.repeated.result.items ≡ replicate (length c.args.a.now.items) 0 = rw (← c.len.ensures.value) c.repeated.ensures in
+    MakesWord-negative _ _ c.args.a.now.items c.repeated.result.items c.in_ok-sum.sum.sum.items c.in_ok-sum.sum.into_top c.in_ok-sum.sum.out zeros c.in_ok-sum.ensures.ok

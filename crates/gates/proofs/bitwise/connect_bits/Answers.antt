@@ -1,0 +1,21 @@
+use Rattle.std.proofs.Common.{◌+◌, ◌*◌, take, sym, ap, ◌∙◌, arith, length-take}
+use Rattle.aiger.specs.Literal.{literal_value}
+use Rattle.gates.specs.Connect.{connected, connected_bits, connective_bound}
+use Rattle.gates.specs.Made.{word_value}
+use Rattle.gates.proofs.WordLemmas.{connected_bits-push}
+use Rattle.gates.proofs.LiteralLemmas.{MakesLiteral-then, MakesLiteral-same}
+use Rattle.gates.proofs.RowLemmas.{word_value-more, word_value-below}
+use Rattle.gates.proofs.bitwise.connect_bits.Goals as goal
+
+pub loop-lit-preserved : goal.loop-lit-preserved
+loop-lit-preserved g c =
+    let by = c.args.by in
+    let a = c.args.a.now in
+    let i = c.loop-lit.lit-index in
+    let lit = c.lit-item.result in
+    let cost = connective_bound by in
+    MakesLiteral-same _ _ (cost * i + cost) (cost * (i + 1)) c.in_ok-all.all _ (λ v. connected_bits by (i + 1) (word_value v (take (i + 1) a))) (omega arith)
+    (λ v.
+    sym (ap (connected_bits by (i + 1)) (word_value-more v a i lit (omega arith) (cc))
+    ∙ connected_bits-push by (word_value v (take i a)) i (literal_value v lit) (word_value-below v (take i a) i (omega (arith, length-take i a)))))
+    (MakesLiteral-then _ _ _ (cost * i) cost c.loop-lit.all c.in_ok-all.all (λ v. connected_bits by i (word_value v (take i a))) (λ v x. connected by x (literal_value v lit)) c.loop-lit.invariant c.in_ok-all.ensures.ok)

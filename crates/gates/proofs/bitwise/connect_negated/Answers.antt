@@ -1,0 +1,9 @@
+use Rattle.std.proofs.Common.{length}
+use Rattle.gates.specs.Connect.{connected_words}
+use Rattle.gates.specs.Made.{word_value}
+use Rattle.gates.proofs.MadeLemmas.{MakesWord-negated}
+use Rattle.gates.proofs.bitwise.connect_negated.Goals as goal
+
+pub returns-clause-ok : goal.returns-clause-ok
+returns-clause-ok g c =
+    MakesWord-negated _ _ _ (length c.args.a.now.items) (λ v. connected_words c.args.by (word_value v c.args.a.now.items) (word_value v c.args.b.now.items)) c.in_ok-bits.bits.items c.negation.result.items c.negation.ensures c.in_ok-bits.ensures.ok

@@ -1,0 +1,21 @@
+use Rattle.std.proofs.Common.{length, map, refl, arith}
+use Rattle.std.proofs.lemmas.List.{length-map}
+use Rattle.aiger.specs.Literal.{literal_value}
+use Rattle.gates.specs.Connect.{connected, connective_bound}
+use Rattle.gates.proofs.WordLemmas.{word-connected, words_bound-is}
+use Rattle.gates.proofs.RowLemmas.{IsRow-push, MakesWord-row}
+use Rattle.gates.proofs.bitwise.connect_words.Goals as goal
+
+pub loop-i-preserved : goal.loop-i-preserved
+loop-i-preserved g c =
+    let by = c.args.by in
+    rw c.push.ensures.items (IsRow-push _ _ _ (connective_bound by) c.loop-i.i (λ v. connected by) c.args.a.now.items c.args.b.now.items c.loop-i.bits.items c.index-deref-i.result c.index-deref-i-in-loop-i.result c.in_ok-connect.field-0 (omega arith) (omega arith) (cc) (cc) c.loop-i.invariant c.in_ok-connect.ensures.ok)
+
+pub returns-clause-ok : goal.returns-clause-ok
+returns-clause-ok g c =
+    let by = c.args.by in
+    let a = c.args.a.now.items in
+    let b = c.args.b.now.items in
+    rw (← words_bound-is by (length a)) (MakesWord-row _ _ (connective_bound by) (length a) c.loop-i.i (λ v. connected by) _ a b c.loop-i.bits.items refl c.requires.equal (omega arith)
+    (λ v. word-connected by (map (literal_value v) a) (map (literal_value v) b) (omega (arith, length-map a (literal_value v), length-map b (literal_value v))))
+    c.loop-i.invariant)

@@ -1,0 +1,28 @@
+use Rattle.std.proofs.Common.{◌≡◌, ◌+◌, ◌*◌, Bool, true, false, not, ◌==◌, bit_xor, length, refl, ap, ◌∙◌, arith}
+use Rattle.aiger.specs.Literal.{negation}
+use Rattle.gates.specs.Made.{MakesLiteral, word_value}
+use Rattle.gates.proofs.LiteralLemmas.{MakesLiteral-not, MakesLiteral-same}
+use Rattle.gates.proofs.RowLemmas.{MakesLiteral-of_word}
+use Rattle.gates.proofs.WordLemmas.{xor-zero}
+use Rattle.gates.proofs.bitwise.equal.Goals as goal
+
+not_twice : (x : Bool) → not (not x) ≡ x
+not_twice true = refl
+not_twice false = refl
+
+pub returns-clause-ok : goal.returns-clause-ok
+returns-clause-ok g c =
+    let old = g.G.Gates.made c.args.g.now in
+    let mid = g.G.Gates.made c.connect_words.new.g in
+    let new = g.G.Gates.made c.connect_bits.new.g in
+    let a = c.args.a.now.items in
+    let b = c.args.b.now.items in
+    let n = length a in
+    let lit = c.in_ok-differ.differ in
+    let differing = c.in_ok-differing.differing.items in
+    let first = c.in_ok-differing.ensures.ok in
+    let count : length c.as_slice.result.now ≡ n = ap length c.as_slice.ensures.value ∙ first.wide in
+    let second : MakesLiteral mid new n (λ v. not (word_value v differing == 0)) lit = rw (← count, ← c.as_slice.ensures.value) c.in_ok-differ.ensures.ok in
+    let both = MakesLiteral-of_word old mid new (3 * n) n n lit (λ v. bit_xor (word_value v a) (word_value v b)) (λ v w. not (w == 0)) differing first second in
+    let opposite = MakesLiteral-not old new (3 * n + n) lit (λ v. not (bit_xor (word_value v a) (word_value v b) == 0)) both in
+    rw c.not.ensures (MakesLiteral-same old new (3 * n + n) (4 * n) (negation lit) _ (λ v. word_value v a == word_value v b) (omega arith) (λ v. not_twice (bit_xor (word_value v a) (word_value v b) == 0) ∙ xor-zero (word_value v a) (word_value v b)) opposite)

@@ -1,0 +1,37 @@
+use Rattle.std.proofs.Common.{◌≡◌, Bool, true, false, List, [], ◌∷◌, length, map, if◌then◌else◌, refl, ap, arith}
+use Rattle.std.proofs.lemmas.List.{length-map}
+use Rattle.base.specs.Word.{word}
+use Rattle.aiger.specs.Literal.{literal_value}
+use Rattle.gates.proofs.WordLemmas.{zip_with}
+use Rattle.gates.proofs.RowLemmas.{IsRow-push, MakesWord-row}
+use Rattle.gates.proofs.choices.choose.Goals as goal
+
+pub loop-i-preserved : goal.loop-i-preserved
+loop-i-preserved g c =
+    let condition = c.args.c in
+    rw c.push.ensures.items (IsRow-push _ _ _ 3 c.loop-i.i (λ v x y. if literal_value v condition then x else y) c.args.t.now.items c.args.e.now.items c.loop-i.bits.items c.index-deref-i.result c.index-deref-i-in-loop-i.result c.in_ok-mux.field-0 (omega arith) (omega arith) (cc) (cc) c.loop-i.invariant c.in_ok-mux.ensures.ok)
+
+-- one of two words, chosen place by place
+chosen_word : (c : Bool) (xs ys : List Bool) → length xs ≡ length ys → word (zip_with (λ x y. if c then x else y) xs ys) ≡ (if c then word xs else word ys)
+chosen_word true xs ys same = ap word (first xs ys same)
+  where
+    first : (xs ys : List Bool) → length xs ≡ length ys → zip_with (λ x y. x) xs ys ≡ xs
+    first [] ys same = refl
+    first (x ∷ xs) [] same = absurd (omega arith)
+    first (x ∷ xs) (y ∷ ys) same = ap (λ zs. x ∷ zs) (first xs ys (omega arith))
+chosen_word false xs ys same = ap word (second xs ys same)
+  where
+    second : (xs ys : List Bool) → length xs ≡ length ys → zip_with (λ x y. y) xs ys ≡ ys
+    second [] [] same = refl
+    second [] (y ∷ ys) same = absurd (omega arith)
+    second (x ∷ xs) [] same = absurd (omega arith)
+    second (x ∷ xs) (y ∷ ys) same = ap (λ zs. y ∷ zs) (second xs ys (omega arith))
+
+pub returns-clause-ok : goal.returns-clause-ok
+returns-clause-ok g c =
+    let condition = c.args.c in
+    let t = c.args.t.now.items in
+    let e = c.args.e.now.items in
+    MakesWord-row _ _ 3 (length t) c.loop-i.i (λ v x y. if literal_value v condition then x else y) _ t e c.loop-i.bits.items refl c.requires.equal (omega arith)
+    (λ v. chosen_word (literal_value v condition) (map (literal_value v) t) (map (literal_value v) e) (omega (arith, length-map t (literal_value v), length-map e (literal_value v))))
+    c.loop-i.invariant

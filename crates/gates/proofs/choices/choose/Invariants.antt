@@ -1,0 +1,7 @@
+use Rattle.std.proofs.Common.{if◌then◌else◌}
+use Rattle.aiger.specs.Literal.{literal_value}
+use Rattle.gates.proofs.RowLemmas.{IsRow}
+use Rattle.gates.proofs.choices.choose.Given as goal
+
+abbrev pub invariant-loop-i : goal.invariant-loop-i
+invariant-loop-i g l = IsRow (g.G.Gates.made l.fn.g) (g.G.Gates.made l.g) 3 l.i (λ v x y. if literal_value v l.c then x else y) l.t.items l.e.items l.bits.items

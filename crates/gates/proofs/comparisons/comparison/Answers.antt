@@ -1,0 +1,39 @@
+use Rattle.std.proofs.Common.{length, ap, refl, arith}
+use Rattle.std.proofs.lemmas.Result.{IfOk-weaker}
+use Rattle.base.specs.Word.{bit_number}
+use Rattle.base.specs.Signed.{signed}
+use Rattle.gates.specs.Made.{word_value}
+use Rattle.gates.proofs.OrderLemmas.{MakesWord-test, MakesWord-test_not, not_less, not_less_signed}
+use Rattle.gates.proofs.comparisons.comparison.Goals as goal
+
+pub returns-in-Ult-clause-ok : goal.returns-in-Ult-clause-ok
+returns-in-Ult-clause-ok g c =
+    IfOk-weaker c.less.result _ _ (λ l made. MakesWord-test _ _ _ _ _ _ l (omega arith) made (λ v. rw c.in-Ult.is refl)) c.less.ensures.ok
+
+pub returns-in-Ugt-clause-ok : goal.returns-in-Ugt-clause-ok
+returns-in-Ugt-clause-ok g c =
+    IfOk-weaker c.less-in-Ugt.result _ _ (λ l made. MakesWord-test _ _ _ _ _ _ l (omega arith) made (λ v. rw c.in-Ugt.is refl)) c.less-in-Ugt.ensures.ok
+
+pub returns-in-Slt-clause-ok : goal.returns-in-Slt-clause-ok
+returns-in-Slt-clause-ok g c =
+    IfOk-weaker c.signed_less.result _ _ (λ l made. MakesWord-test _ _ _ _ _ _ l (omega arith) made (λ v. rw c.in-Slt.is refl)) c.signed_less.ensures.ok
+
+pub returns-in-Sgt-clause-ok : goal.returns-in-Sgt-clause-ok
+returns-in-Sgt-clause-ok g c =
+    IfOk-weaker c.signed_less-in-Sgt.result _ _ (λ l made. MakesWord-test _ _ _ _ _ _ l (omega arith) made (λ v. rw (c.in-Sgt.is, c.requires.equal) refl)) c.signed_less-in-Sgt.ensures.ok
+
+pub returns-in_ok-less-in-Ulte-clause-ok : goal.returns-in_ok-less-in-Ulte-clause-ok
+returns-in_ok-less-in-Ulte-clause-ok g c =
+    MakesWord-test_not _ _ _ _ _ _ c.in_ok-less-in-Ulte.field-0 c.not.result c.not.ensures (omega arith) c.in_ok-less-in-Ulte.ensures.ok (λ v. rw c.in-Ulte.is (ap bit_number (not_less _ _)))
+
+pub returns-in_ok-less-in-Ugte-clause-ok : goal.returns-in_ok-less-in-Ugte-clause-ok
+returns-in_ok-less-in-Ugte-clause-ok g c =
+    MakesWord-test_not _ _ _ _ _ _ c.in_ok-less-in-Ugte.field-0 c.not-in-Ugte.result c.not-in-Ugte.ensures (omega arith) c.in_ok-less-in-Ugte.ensures.ok (λ v. rw c.in-Ugte.is (ap bit_number (not_less _ _)))
+
+pub returns-in_ok-signed_less-in-Slte-clause-ok : goal.returns-in_ok-signed_less-in-Slte-clause-ok
+returns-in_ok-signed_less-in-Slte-clause-ok g c =
+    MakesWord-test_not _ _ _ _ _ _ c.in_ok-signed_less-in-Slte.field-0 c.not-in-Slte.result c.not-in-Slte.ensures (omega arith) c.in_ok-signed_less-in-Slte.ensures.ok (λ v. rw (c.in-Slte.is, c.requires.equal) (ap bit_number (not_less_signed (signed (length c.args.a.now.items) (word_value v c.args.b.now.items)) (signed (length c.args.a.now.items) (word_value v c.args.a.now.items)))))
+
+pub returns-in_ok-signed_less-in-Sgte-clause-ok : goal.returns-in_ok-signed_less-in-Sgte-clause-ok
+returns-in_ok-signed_less-in-Sgte-clause-ok g c =
+    MakesWord-test_not _ _ _ _ _ _ c.in_ok-signed_less-in-Sgte.field-0 c.not-in-Sgte.result c.not-in-Sgte.ensures (omega arith) c.in_ok-signed_less-in-Sgte.ensures.ok (λ v. rw c.in-Sgte.is (ap bit_number (not_less_signed (signed (length c.args.a.now.items) (word_value v c.args.a.now.items)) (signed (length c.args.a.now.items) (word_value v c.args.b.now.items)))))

@@ -1,0 +1,27 @@
+use Rattle.std.proofs.Common.{◌≡◌, Bool, true, false, not, ◌&&◌, refl, arith}
+use Rattle.std.proofs.lemmas.Result.{IfOk-weaker}
+use Rattle.aiger.specs.Literal.{literal_value}
+use Rattle.aiger.proofs.NetLemmas.{literal_value-negation}
+use Rattle.gates.specs.Connect.{differ}
+use Rattle.gates.proofs.LiteralLemmas.{MakesLiteral-and, MakesLiteral-join, MakesLiteral-same}
+use Rattle.gates.proofs.literals.xor.Goals as goal
+
+-- neither both nor neither
+either : (x y : Bool) → (not (x && y) && not (not x && not y)) ≡ differ x y
+either true true = refl
+either true false = refl
+either false true = refl
+either false false = refl
+
+pub returns-clause-ok : goal.returns-clause-ok
+returns-clause-ok g c =
+    let a = c.args.a in
+    let b = c.args.b in
+    IfOk-weaker c.conjunction-3.result _ _
+    (λ l m.
+    let first = MakesLiteral-and _ _ a b c.in_ok-both.both c.in_ok-both.ensures.ok in
+    let second = MakesLiteral-same _ _ 1 1 c.in_ok-neither.neither _ (λ v. not (literal_value v a) && not (literal_value v b)) (omega arith) (λ v. rw (c.not.ensures, c.not-2.ensures, literal_value-negation v a, literal_value-negation v b) refl) (MakesLiteral-and _ _ _ _ _ c.in_ok-neither.ensures.ok) in
+    let third = MakesLiteral-same _ _ 1 1 l _ (λ v. not (literal_value v c.in_ok-both.both) && not (literal_value v c.in_ok-neither.neither)) (omega arith) (λ v. rw (c.not-3.ensures, c.not-4.ensures, literal_value-negation v c.in_ok-both.both, literal_value-negation v c.in_ok-neither.neither) refl) (MakesLiteral-and _ _ _ _ l m) in
+    let joined = MakesLiteral-join _ _ _ _ 1 1 1 _ _ l _ _ (λ x y. not x && not y) first second third in
+    MakesLiteral-same _ _ 3 3 l _ (λ v. differ (literal_value v a) (literal_value v b)) (omega arith) (λ v. either (literal_value v a) (literal_value v b)) joined)
+    c.conjunction-3.ensures.ok

@@ -1,0 +1,85 @@
+use Rattle.std.proofs.Common.{◌≡◌, ℕ, ◌+◌, ◌*◌, ◌^◌, ◌≤◌, true, not, ◌==◌, nat_le, if◌then◌else◌, length, take, drop, replicate, List, refl, sym, ap, ap₂, subst, ◌∙◌, arith}
+use Rattle.std.proofs.lemmas.Bool.{agree_below_at, leb-true, false≢true}
+use Rattle.std.proofs.lemmas.List.{length-replicate}
+use Rattle.std.proofs.lemmas.Result.{IfOk-weaker, IfErr-weaker}
+use Rattle.base.specs.Operator.{ones, binary_value}
+use Rattle.base.specs.declared.operators.Binary.{Binary}
+use Rattle.base.specs.declared.operators.Binary.TheVariants.{Sll, Srl, Sra}
+use Rattle.aiger.specs.Literal.{literal_value}
+use Rattle.gates.specs.Bound.{log_up, binary_bound}
+use Rattle.gates.specs.Made.{MakesWord, MakesLiteral, word_value}
+use Rattle.gates.specs.Moves.{is_shift}
+use Rattle.gates.proofs.RowLemmas.{MakesWord-same, MakesWord-weaker, MakesWord-choice}
+use Rattle.gates.proofs.LiteralLemmas.{Refuses-behind}
+use Rattle.gates.proofs.MadeLemmas.{Grows-trans}
+use Rattle.gates.proofs.WindowLemmas.{IsFill, IsFill-false, shifted, word_value-replicate}
+use Rattle.gates.proofs.shifts.shift.Goals as goal
+use Rattle.gates.proofs.shifts.shift.Goals.{in-Sra, in_default}
+
+shift_bound : (op : Binary) (n : ℕ) → is_shift op ≡ true → binary_bound op n ≡ 3 * (n * log_up n) + 4 * n
+shift_bound Sll n is = refl
+shift_bound Srl n is = refl
+shift_bound Sra n is = refl
+shift_bound _ n is = absurd (false≢true is)
+
+-- a width is not above the power of two that counts its places
+log_up_enough : (n : ℕ) → n ≤ 64 → n ≤ 2 ^ log_up n
+log_up_enough n most = leb-true n (2 ^ log_up n) (agree_below_at (λ k. nat_le k (2 ^ log_up k)) (λ k. true) 65 n refl (omega arith))
+
+pub returns-clause-ok : goal.returns-clause-ok
+returns-clause-ok g c =
+    let old = g.G.Gates.made c.args.g.now in
+    let first = g.G.Gates.made c.moved_in_turn.new.g in
+    let second = g.G.Gates.made c.connect_bits.new.g in
+    let new = g.G.Gates.made c.choose.new.g in
+    let op = c.args.op in
+    let a = c.args.a.now.items in
+    let b = c.args.b.now.items in
+    let n = length a in
+    let places = log_up n in
+    let fill = c.match-op.fill in
+    let near = c.in_ok-near.near.items in
+    let is_far = c.in_ok-is_far.is_far in
+    let count : c.log_up.result ≡ places = c.log_up.ensures.value ∙ ap log_up c.len-width.ensures.value in
+    let low : c.split_at.result.0.now ≡ take places b = c.split_at.ensures.front ∙ ap₂ (λ k (ls : List ℕ). take k ls) count c.as_slice.ensures.value in
+    let high : c.split_at.result.1.now ≡ drop places b = c.split_at.ensures.back ∙ ap₂ (λ k (ls : List ℕ). drop k ls) count c.as_slice.ensures.value in
+    let low_count : length c.split_at.result.0.now ≡ places = c.split_at.ensures.front_len ∙ count in
+    let is_fill : IsFill op a fill = elim c.match-op.branch [
+      | in-Sra w ↦ subst (λ o. IsFill o a fill) (sym w.in-Sra.is) (rw w.fill-is (rw (← c.len-width.ensures.value, ← w.deref.ensures.0) w.index-deref-width.is))
+      | in_default w ↦ IsFill-false op a fill c.requires.shifts w.in_default.not-Sra w.fill-is
+    ] in
+    let rest : length c.split_at.result.1.now + places ≡ n = ap (λ k. length c.split_at.result.1.now + k) (sym count) ∙ c.split_at.ensures.back_len ∙ ap length c.as_slice.ensures.value ∙ c.requires.equal in
+    let word : MakesWord old first (3 * (n * places)) n (λ v. binary_value op n (word_value v a) (word_value v (take places b))) near = rw (← low, ← low_count) c.in_ok-near.ensures.ok in
+    let test : MakesLiteral first second (length c.split_at.result.1.now) (λ v. not (word_value v (drop places b) == 0)) is_far = rw (← high) c.in_ok-is_far.ensures.ok in
+    let filling : c.repeated.result.items ≡ replicate n fill = c.repeated.ensures ∙ ap (λ k. replicate k fill) c.len-width.ensures.value in
+    let filled_count : length c.repeated.result.items ≡ n = ap length filling ∙ length-replicate n fill in
+    IfOk-weaker c.choose.result _ _
+    (λ row m.
+    let choice : MakesWord second new (3 * n) n (λ v. if literal_value v is_far then word_value v c.repeated.result.items else word_value v near) row.items =
+    subst (λ (k : ℕ). MakesWord second new (3 * k) k (λ v. if literal_value v is_far then word_value v c.repeated.result.items else word_value v near) row.items) filled_count m
+    in
+    let fills : MakesWord second new (3 * n) n (λ v. if literal_value v is_far then (if literal_value v fill then ones n else 0) else word_value v near) row.items =
+    MakesWord-same second new (3 * n) n _ _ row.items (λ v. ap (λ w. if literal_value v is_far then w else word_value v near) (ap (word_value v) filling ∙ word_value-replicate v n fill)) choice
+    in
+    let whole = MakesWord-choice old first second new (3 * (n * places)) (length c.split_at.result.1.now) (3 * n) n is_far (λ v. binary_value op n (word_value v a) (word_value v (take places b))) (λ v. if literal_value v fill then ones n else 0) (λ v. not (word_value v (drop places b) == 0)) near row.items word test fills in
+    rw (shift_bound op n c.requires.shifts) (MakesWord-weaker old new (3 * (n * places) + length c.split_at.result.1.now + 3 * n) (3 * (n * places) + 4 * n) n _ row.items (omega arith)
+    (MakesWord-same old new _ n _ (λ v. binary_value op n (word_value v a) (word_value v b)) row.items (λ v. shifted op v a b n fill places c.requires.shifts c.requires.some refl is_fill (omega arith) (log_up_enough n c.requires.most)) whole)))
+    c.choose.ensures.ok
+
+pub returns-clause-refused : goal.returns-clause-refused
+returns-clause-refused g c =
+    let old = g.G.Gates.made c.args.g.now in
+    let first = g.G.Gates.made c.moved_in_turn.new.g in
+    let second = g.G.Gates.made c.connect_bits.new.g in
+    let new = g.G.Gates.made c.choose.new.g in
+    let op = c.args.op in
+    let n = length c.args.a.now.items in
+    let count : c.log_up.result ≡ log_up n = c.log_up.ensures.value ∙ ap log_up c.len-width.ensures.value in
+    let low_count : length c.split_at.result.0.now ≡ log_up n = c.split_at.ensures.front_len ∙ count in
+    let rest : length c.split_at.result.1.now + log_up n ≡ n = ap (λ k. length c.split_at.result.1.now + k) (sym count) ∙ c.split_at.ensures.back_len ∙ ap length c.as_slice.ensures.value ∙ c.requires.equal in
+    let filled_count : length c.repeated.result.items ≡ n = ap length c.repeated.ensures ∙ length-replicate c.len-width.result c.match-op.fill ∙ c.len-width.ensures.value in
+    let stages : 3 * (n * length c.split_at.result.0.now) ≡ 3 * (n * log_up n) = ap (λ k. 3 * (n * k)) low_count in
+    let before = Grows-trans old first second (3 * (n * length c.split_at.result.0.now)) (length c.split_at.result.1.now) c.in_ok-near.ensures.ok.grows c.in_ok-is_far.ensures.ok.grows in
+    IfErr-weaker c.choose.result _ _
+    (λ e r. rw (shift_bound op n c.requires.shifts) (Refuses-behind old second new (3 * (n * length c.split_at.result.0.now) + length c.split_at.result.1.now) (3 * length c.repeated.result.items) (3 * (n * log_up n) + 4 * n) e (omega arith) before r))
+    c.choose.ensures.refused

@@ -1,0 +1,166 @@
+//! Sums of words, a column of bits at a time, and the operators that are sums.
+ghost use Rattle.std.specs.Prelude.{◌≡◌, ◌+◌, ◌*◌, ◌≤◌, length, map, All, IfOk, IfErr};
+ghost use Rattle.base.specs.Operator.{unary_value, binary_value};
+ghost use Rattle.aiger.specs.Net.{IsDefined};
+ghost use Rattle.aiger.specs.Literal.{negation};
+ghost use Rattle.gates.specs.Made.{MakesWord, Refuses, word_value};
+ghost use Rattle.gates.specs.Sums.{literal_number, MakesColumn, MakesSum};
+
+use crate::builders::conjunction;
+use crate::fault::GateFault;
+use crate::literals::disjunction;
+use crate::maker::{Bits, Gates};
+use crate::rows::{negation, repeated};
+use aiger::Lit;
+use base::{Binary, Unary};
+
+/// The sum of two words and a carry.
+#[derive(Drop)]
+pub struct Added {
+    /// The sum modulo 2 to the width.
+    pub sum: Bits,
+    /// The carry into the highest bit.
+    pub into_top: Lit,
+    /// The carry out of the highest bit.
+    pub out: Lit,
+}
+
+/// The bits that add up in one column: the low bit and the high bit of their number.
+#[derive(Clone, Copy)]
+struct Column {
+    sum: Lit,
+    carry: Lit,
+}
+
+/// The sum of two bits: their exclusive or, which shares their and.
+fn half_adder<G: Gates>(g: &mut G, a: Lit, b: Lit) -> Result<Column, GateFault>
+    requires left { IsDefined (G.made g.old) a }
+    requires right { IsDefined (G.made g.old) b }
+    ensures ok { IfOk result (λ c. MakesColumn (G.made g.old) (G.made g.new) 3 (λ v. literal_number v a + literal_number v b) c.sum c.carry) }
+    ensures refused { IfErr result (Refuses (G.made g.old) (G.made g.new) 3) }
+{
+    let both = conjunction(g, a, b)?;
+    let neither = conjunction(g, a.not(), b.not())?;
+    let sum = conjunction(g, both.not(), neither.not())?;
+    Ok(Column { sum, carry: both })
+}
+
+/// The sum of three bits.
+fn full_adder<G: Gates>(g: &mut G, a: Lit, b: Lit, c: Lit) -> Result<Column, GateFault>
+    requires left { IsDefined (G.made g.old) a }
+    requires right { IsDefined (G.made g.old) b }
+    requires carry { IsDefined (G.made g.old) c }
+    ensures ok { IfOk result (λ column. MakesColumn (G.made g.old) (G.made g.new) 7 (λ v. literal_number v a + literal_number v b + literal_number v c) column.sum column.carry) }
+    ensures refused { IfErr result (Refuses (G.made g.old) (G.made g.new) 7) }
+{
+    let first = half_adder(g, a, b)?;
+    let second = half_adder(g, first.sum, c)?;
+    let carry = disjunction(g, first.carry, second.carry)?;
+    Ok(Column {
+        sum: second.sum,
+        carry,
+    })
+}
+
+/// The sum of two words and a carry, with the carries into and out of its highest bit.
+///
+/// Conditions: operands of equal length from 1 to 128, all literals defined. Errors: `TooBig` only where the
+/// variables so far and 9 times the length sum to more than 2^30, `NoMemory`; the gates made so far stay.
+pub fn add<G: Gates>(g: &mut G, a: &Bits, b: &Bits, carry: Lit) -> Result<Added, GateFault>
+    requires some { 1 ≤ length a.now.items }
+    requires most { length a.now.items ≤ 128 }
+    requires equal { length b.now.items ≡ length a.now.items }
+    requires left { All (IsDefined (G.made g.old)) a.now.items }
+    requires right { All (IsDefined (G.made g.old)) b.now.items }
+    requires carry { IsDefined (G.made g.old) carry }
+    ensures ok { IfOk result (λ added. MakesSum (G.made g.old) (G.made g.new) (9 * length a.now.items) a.now.items b.now.items carry added.sum.items added.into_top added.out) }
+    ensures refused { IfErr result (Refuses (G.made g.old) (G.made g.new) (9 * length a.now.items)) }
+{
+    let mut sum = Bits::new();
+    let mut into_top = carry;
+    let mut out = carry;
+    for i in 0..a.len() {
+        into_top = out;
+        let column = full_adder(g, a[i], b[i], out)?;
+        sum.push(column.sum);
+        out = column.carry;
+    }
+    Ok(Added { sum, into_top, out })
+}
+
+/// The difference of two words as a sum: the second word negated, and one more. The carries are those of the sum.
+pub(crate) fn difference<G: Gates>(g: &mut G, a: &Bits, b: &Bits) -> Result<Added, GateFault>
+    requires some { 1 ≤ length a.now.items }
+    requires most { length a.now.items ≤ 128 }
+    requires equal { length b.now.items ≡ length a.now.items }
+    requires left { All (IsDefined (G.made g.old)) a.now.items }
+    requires right { All (IsDefined (G.made g.old)) b.now.items }
+    ensures ok { IfOk result (λ added. MakesSum (G.made g.old) (G.made g.new) (9 * length a.now.items) a.now.items (map negation b.now.items) 1 added.sum.items added.into_top added.out) }
+    ensures refused { IfErr result (Refuses (G.made g.old) (G.made g.new) (9 * length a.now.items)) }
+{
+    add(g, a, &negation(b), Lit::TRUE)
+}
+
+/// The bits of the sum of two words.
+pub(crate) fn add_bits<G: Gates>(g: &mut G, a: &Bits, b: &Bits) -> Result<Bits, GateFault>
+    requires some { 1 ≤ length a.now.items }
+    requires most { length a.now.items ≤ 64 }
+    requires equal { length b.now.items ≡ length a.now.items }
+    requires left { All (IsDefined (G.made g.old)) a.now.items }
+    requires right { All (IsDefined (G.made g.old)) b.now.items }
+    ensures ok { IfOk result (λ bits. let n = length a.now.items in MakesWord (G.made g.old) (G.made g.new) (9 * n) n (λ v. binary_value Binary.Add n (word_value v a.now.items) (word_value v b.now.items)) bits.items) }
+    ensures refused { IfErr result (Refuses (G.made g.old) (G.made g.new) (9 * length a.now.items)) }
+{
+    let sum = add(g, a, b, Lit::FALSE)?;
+    Ok(sum.sum)
+}
+
+/// The bits of the difference of two words.
+pub(crate) fn sub_bits<G: Gates>(g: &mut G, a: &Bits, b: &Bits) -> Result<Bits, GateFault>
+    requires some { 1 ≤ length a.now.items }
+    requires most { length a.now.items ≤ 64 }
+    requires equal { length b.now.items ≡ length a.now.items }
+    requires left { All (IsDefined (G.made g.old)) a.now.items }
+    requires right { All (IsDefined (G.made g.old)) b.now.items }
+    ensures ok { IfOk result (λ bits. let n = length a.now.items in MakesWord (G.made g.old) (G.made g.new) (9 * n) n (λ v. binary_value Binary.Sub n (word_value v a.now.items) (word_value v b.now.items)) bits.items) }
+    ensures refused { IfErr result (Refuses (G.made g.old) (G.made g.new) (9 * length a.now.items)) }
+{
+    let sum = difference(g, a, b)?;
+    Ok(sum.sum)
+}
+
+/// The bits of the word of a word's negated number: none less the word.
+pub(crate) fn neg_bits<G: Gates>(g: &mut G, a: &Bits) -> Result<Bits, GateFault>
+    requires some { 1 ≤ length a.now.items }
+    requires most { length a.now.items ≤ 64 }
+    requires defined { All (IsDefined (G.made g.old)) a.now.items }
+    ensures ok { IfOk result (λ bits. let n = length a.now.items in MakesWord (G.made g.old) (G.made g.new) (9 * n) n (λ v. unary_value Unary.Neg n (word_value v a.now.items)) bits.items) }
+    ensures refused { IfErr result (Refuses (G.made g.old) (G.made g.new) (9 * length a.now.items)) }
+{
+    let sum = difference(g, &repeated(Lit::FALSE, a.len()), a)?;
+    Ok(sum.sum)
+}
+
+/// The bits of a word and one more.
+pub(crate) fn inc_bits<G: Gates>(g: &mut G, a: &Bits) -> Result<Bits, GateFault>
+    requires some { 1 ≤ length a.now.items }
+    requires most { length a.now.items ≤ 64 }
+    requires defined { All (IsDefined (G.made g.old)) a.now.items }
+    ensures ok { IfOk result (λ bits. let n = length a.now.items in MakesWord (G.made g.old) (G.made g.new) (9 * n) n (λ v. unary_value Unary.Inc n (word_value v a.now.items)) bits.items) }
+    ensures refused { IfErr result (Refuses (G.made g.old) (G.made g.new) (9 * length a.now.items)) }
+{
+    let sum = add(g, a, &repeated(Lit::FALSE, a.len()), Lit::TRUE)?;
+    Ok(sum.sum)
+}
+
+/// The bits of a word and one less, which is the sum with the word of all ones.
+pub(crate) fn dec_bits<G: Gates>(g: &mut G, a: &Bits) -> Result<Bits, GateFault>
+    requires some { 1 ≤ length a.now.items }
+    requires most { length a.now.items ≤ 64 }
+    requires defined { All (IsDefined (G.made g.old)) a.now.items }
+    ensures ok { IfOk result (λ bits. let n = length a.now.items in MakesWord (G.made g.old) (G.made g.new) (9 * n) n (λ v. unary_value Unary.Dec n (word_value v a.now.items)) bits.items) }
+    ensures refused { IfErr result (Refuses (G.made g.old) (G.made g.new) (9 * length a.now.items)) }
+{
+    let sum = add(g, a, &repeated(Lit::TRUE, a.len()), Lit::FALSE)?;
+    Ok(sum.sum)
+}

@@ -1,0 +1,107 @@
+//! Words compared by order, as whole numbers and as signed numbers.
+ghost use Rattle.std.specs.Prelude.{◌≡◌, ◌+◌, ◌*◌, ◌≤◌, true, nat_lt, int_lt, [], ◌∷◌, length, All, IfOk, IfErr};
+ghost use Rattle.base.specs.Operator.{binary_value};
+ghost use Rattle.base.specs.Signed.{signed};
+ghost use Rattle.aiger.specs.Net.{IsDefined};
+ghost use Rattle.gates.specs.Made.{MakesLiteral, MakesWord, Refuses, word_value};
+ghost use Rattle.gates.specs.Sums.{literal_number};
+ghost use Rattle.gates.specs.Tests.{is_comparison, with_top_negated};
+
+use crate::builders::conjunction;
+use crate::fault::GateFault;
+use crate::literals::disjunction;
+use crate::maker::{Bits, Gates};
+use aiger::Lit;
+use base::Binary;
+
+/// Whether a word is less than another, by its highest column and whether it is less in the columns below: where the
+/// bits of the column are equal, the columns below decide.
+fn less_column<G: Gates>(g: &mut G, a: Lit, b: Lit, below: Lit) -> Result<Lit, GateFault>
+    requires left { IsDefined (G.made g.old) a }
+    requires right { IsDefined (G.made g.old) b }
+    requires below { IsDefined (G.made g.old) below }
+    ensures ok { IfOk result (MakesLiteral (G.made g.old) (G.made g.new) 4 (λ v. nat_lt (literal_number v a) (literal_number v b + literal_number v below))) }
+    ensures refused { IfErr result (Refuses (G.made g.old) (G.made g.new) 4) }
+{
+    let less = conjunction(g, a.not(), b)?;
+    let greater = conjunction(g, a, b.not())?;
+    let rest = conjunction(g, below, greater.not())?;
+    disjunction(g, less, rest)
+}
+
+/// A literal that is true where the first word is less than the second, as whole numbers.
+///
+/// Conditions: operands of equal length from 1 to 64, all literals defined. Errors: `TooBig` only where the
+/// variables so far and 6 times the length sum to more than 2^30, `NoMemory`; the gates made so far stay.
+pub fn less<G: Gates>(g: &mut G, a: &Bits, b: &Bits) -> Result<Lit, GateFault>
+    requires some { 1 ≤ length a.now.items }
+    requires most { length a.now.items ≤ 64 }
+    requires equal { length b.now.items ≡ length a.now.items }
+    requires left { All (IsDefined (G.made g.old)) a.now.items }
+    requires right { All (IsDefined (G.made g.old)) b.now.items }
+    ensures ok { IfOk result (MakesLiteral (G.made g.old) (G.made g.new) (6 * length a.now.items) (λ v. nat_lt (word_value v a.now.items) (word_value v b.now.items))) }
+    ensures refused { IfErr result (Refuses (G.made g.old) (G.made g.new) (6 * length a.now.items)) }
+{
+    let mut below = Lit::FALSE;
+    for i in 0..a.len() {
+        below = less_column(g, a[i], b[i], below)?;
+    }
+    Ok(below)
+}
+
+/// The literals with the highest one negated.
+pub(crate) fn top_negated(a: &Bits) -> Bits
+    requires { 1 ≤ length a.now.items }
+    ensures { result.items ≡ with_top_negated a.now.items }
+{
+    let top = a.len() - 1;
+    let mut bits = Bits::new();
+    for i in 0..top {
+        bits.push(a[i]);
+    }
+    bits.push(a[top].not());
+    bits
+}
+
+/// A literal that is true where the first word is less than the second, as signed numbers: they are in the order of the
+/// words with their highest bits negated.
+fn signed_less<G: Gates>(g: &mut G, a: &Bits, b: &Bits) -> Result<Lit, GateFault>
+    requires some { 1 ≤ length a.now.items }
+    requires most { length a.now.items ≤ 64 }
+    requires equal { length b.now.items ≡ length a.now.items }
+    requires left { All (IsDefined (G.made g.old)) a.now.items }
+    requires right { All (IsDefined (G.made g.old)) b.now.items }
+    ensures ok { IfOk result (let n = length a.now.items in MakesLiteral (G.made g.old) (G.made g.new) (6 * n) (λ v. int_lt (signed n (word_value v a.now.items)) (signed n (word_value v b.now.items)))) }
+    ensures refused { IfErr result (Refuses (G.made g.old) (G.made g.new) (6 * length a.now.items)) }
+{
+    less(g, &top_negated(a), &top_negated(b))
+}
+
+/// A literal that is true where a comparison holds.
+pub(crate) fn comparison<G: Gates>(
+    g: &mut G,
+    op: Binary,
+    a: &Bits,
+    b: &Bits,
+) -> Result<Lit, GateFault>
+    requires comparison { is_comparison op ≡ true }
+    requires some { 1 ≤ length a.now.items }
+    requires most { length a.now.items ≤ 64 }
+    requires equal { length b.now.items ≡ length a.now.items }
+    requires left { All (IsDefined (G.made g.old)) a.now.items }
+    requires right { All (IsDefined (G.made g.old)) b.now.items }
+    ensures ok { IfOk result (λ l. let n = length a.now.items in MakesWord (G.made g.old) (G.made g.new) (6 * n) 1 (λ v. binary_value op n (word_value v a.now.items) (word_value v b.now.items)) (l ∷ [])) }
+    ensures refused { IfErr result (Refuses (G.made g.old) (G.made g.new) (6 * length a.now.items)) }
+{
+    match op {
+        Binary::Ult => less(g, a, b),
+        Binary::Ugt => less(g, b, a),
+        Binary::Ulte => Ok(less(g, b, a)?.not()),
+        Binary::Ugte => Ok(less(g, a, b)?.not()),
+        Binary::Slt => signed_less(g, a, b),
+        Binary::Sgt => signed_less(g, b, a),
+        Binary::Slte => Ok(signed_less(g, b, a)?.not()),
+        Binary::Sgte => Ok(signed_less(g, a, b)?.not()),
+        _ => unreachable!(),
+    }
+}

@@ -1,0 +1,117 @@
+//! Whether the result of an operation in whole numbers is one of the width.
+ghost use Rattle.std.specs.Prelude.{◌≡◌, ◌*◌, ◌≤◌, true, [], ◌∷◌, length, All, IfOk, IfErr};
+ghost use Rattle.base.specs.Operator.{binary_value};
+ghost use Rattle.aiger.specs.Net.{IsDefined};
+ghost use Rattle.gates.specs.Bound.{binary_bound};
+ghost use Rattle.gates.specs.Made.{MakesWord, Refuses, word_value};
+ghost use Rattle.gates.specs.Tests.{is_overflow};
+
+use crate::adders::{add, difference};
+use crate::bitwise::{Connective, connect_bits};
+use crate::builders::conjunction;
+use crate::comparisons::top_negated;
+use crate::fault::GateFault;
+use crate::literals::xor;
+use crate::maker::{Bits, Gates};
+use crate::rows::negation;
+use aiger::Lit;
+use base::Binary;
+
+/// A literal that is true where the result of an operation in whole numbers, signed or not as its name says, is none
+/// of the width.
+///
+/// Conditions: the operator is one of the overflow tests `Uaddo`, `Saddo`, `Usubo`, `Ssubo` and `Sdivo`; operands of
+/// equal length from 1 to 64, all literals defined. Errors: `TooBig` only where the variables so far and the
+/// operator's bound sum to more than 2^30, `NoMemory`; the gates made so far stay.
+pub fn overflow<G: Gates>(g: &mut G, op: Binary, a: &Bits, b: &Bits) -> Result<Lit, GateFault>
+    requires overflow { is_overflow op ≡ true }
+    requires some { 1 ≤ length a.now.items }
+    requires most { length a.now.items ≤ 64 }
+    requires equal { length b.now.items ≡ length a.now.items }
+    requires left { All (IsDefined (G.made g.old)) a.now.items }
+    requires right { All (IsDefined (G.made g.old)) b.now.items }
+    ensures ok { IfOk result (λ l. let n = length a.now.items in MakesWord (G.made g.old) (G.made g.new) (binary_bound op n) 1 (λ v. binary_value op n (word_value v a.now.items) (word_value v b.now.items)) (l ∷ [])) }
+    ensures refused { IfErr result (Refuses (G.made g.old) (G.made g.new) (binary_bound op (length a.now.items))) }
+{
+    match op {
+        Binary::Uaddo => uaddo(g, a, b),
+        Binary::Saddo => saddo(g, a, b),
+        Binary::Usubo => usubo(g, a, b),
+        Binary::Ssubo => ssubo(g, a, b),
+        Binary::Sdivo => sdivo(g, a, b),
+        _ => unreachable!(),
+    }
+}
+
+/// Whether the sum of words as whole numbers is no word: the carry out of it.
+fn uaddo<G: Gates>(g: &mut G, a: &Bits, b: &Bits) -> Result<Lit, GateFault>
+    requires some { 1 ≤ length a.now.items }
+    requires most { length a.now.items ≤ 64 }
+    requires equal { length b.now.items ≡ length a.now.items }
+    requires left { All (IsDefined (G.made g.old)) a.now.items }
+    requires right { All (IsDefined (G.made g.old)) b.now.items }
+    ensures ok { IfOk result (λ l. let n = length a.now.items in MakesWord (G.made g.old) (G.made g.new) (9 * n) 1 (λ v. binary_value Binary.Uaddo n (word_value v a.now.items) (word_value v b.now.items)) (l ∷ [])) }
+    ensures refused { IfErr result (Refuses (G.made g.old) (G.made g.new) (9 * length a.now.items)) }
+{
+    let sum = add(g, a, b, Lit::FALSE)?;
+    Ok(sum.out)
+}
+
+/// Whether the difference of words as whole numbers is below 0: there is no carry out of it.
+fn usubo<G: Gates>(g: &mut G, a: &Bits, b: &Bits) -> Result<Lit, GateFault>
+    requires some { 1 ≤ length a.now.items }
+    requires most { length a.now.items ≤ 64 }
+    requires equal { length b.now.items ≡ length a.now.items }
+    requires left { All (IsDefined (G.made g.old)) a.now.items }
+    requires right { All (IsDefined (G.made g.old)) b.now.items }
+    ensures ok { IfOk result (λ l. let n = length a.now.items in MakesWord (G.made g.old) (G.made g.new) (9 * n) 1 (λ v. binary_value Binary.Usubo n (word_value v a.now.items) (word_value v b.now.items)) (l ∷ [])) }
+    ensures refused { IfErr result (Refuses (G.made g.old) (G.made g.new) (9 * length a.now.items)) }
+{
+    let sum = difference(g, a, b)?;
+    Ok(sum.out.not())
+}
+
+/// Whether the sum of signed numbers is none of the width: the carries into and out of its highest bit differ.
+fn saddo<G: Gates>(g: &mut G, a: &Bits, b: &Bits) -> Result<Lit, GateFault>
+    requires some { 1 ≤ length a.now.items }
+    requires most { length a.now.items ≤ 64 }
+    requires equal { length b.now.items ≡ length a.now.items }
+    requires left { All (IsDefined (G.made g.old)) a.now.items }
+    requires right { All (IsDefined (G.made g.old)) b.now.items }
+    ensures ok { IfOk result (λ l. let n = length a.now.items in MakesWord (G.made g.old) (G.made g.new) (12 * n) 1 (λ v. binary_value Binary.Saddo n (word_value v a.now.items) (word_value v b.now.items)) (l ∷ [])) }
+    ensures refused { IfErr result (Refuses (G.made g.old) (G.made g.new) (12 * length a.now.items)) }
+{
+    let sum = add(g, a, b, Lit::FALSE)?;
+    xor(g, sum.into_top, sum.out)
+}
+
+/// Whether the difference of signed numbers is none of the width: the carries into and out of its highest bit differ.
+fn ssubo<G: Gates>(g: &mut G, a: &Bits, b: &Bits) -> Result<Lit, GateFault>
+    requires some { 1 ≤ length a.now.items }
+    requires most { length a.now.items ≤ 64 }
+    requires equal { length b.now.items ≡ length a.now.items }
+    requires left { All (IsDefined (G.made g.old)) a.now.items }
+    requires right { All (IsDefined (G.made g.old)) b.now.items }
+    ensures ok { IfOk result (λ l. let n = length a.now.items in MakesWord (G.made g.old) (G.made g.new) (12 * n) 1 (λ v. binary_value Binary.Ssubo n (word_value v a.now.items) (word_value v b.now.items)) (l ∷ [])) }
+    ensures refused { IfErr result (Refuses (G.made g.old) (G.made g.new) (12 * length a.now.items)) }
+{
+    let sum = difference(g, a, b)?;
+    xor(g, sum.into_top, sum.out)
+}
+
+/// Whether the quotient of signed numbers is none of the width: the least number, whose highest bit alone is 1, by the
+/// word of all ones, which is -1.
+fn sdivo<G: Gates>(g: &mut G, a: &Bits, b: &Bits) -> Result<Lit, GateFault>
+    requires some { 1 ≤ length a.now.items }
+    requires most { length a.now.items ≤ 64 }
+    requires equal { length b.now.items ≡ length a.now.items }
+    requires left { All (IsDefined (G.made g.old)) a.now.items }
+    requires right { All (IsDefined (G.made g.old)) b.now.items }
+    ensures ok { IfOk result (λ l. let n = length a.now.items in MakesWord (G.made g.old) (G.made g.new) (3 * n) 1 (λ v. binary_value Binary.Sdivo n (word_value v a.now.items) (word_value v b.now.items)) (l ∷ [])) }
+    ensures refused { IfErr result (Refuses (G.made g.old) (G.made g.new) (3 * length a.now.items)) }
+{
+    let turned = top_negated(&negation(a));
+    let is_least = connect_bits(g, Connective::And, turned.as_slice())?;
+    let is_minus_one = connect_bits(g, Connective::And, b.as_slice())?;
+    conjunction(g, is_least, is_minus_one)
+}

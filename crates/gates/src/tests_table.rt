@@ -1,0 +1,210 @@
+//! Every operator that is built, at all its operands of 1 to 5 bits, against the operators on words.
+ghost use Rattle.std.specs.Prelude.{◌≡◌, ◌+◌, ◌*◌, ◌<◌, ◌≤◌, ◌^◌, [], length, All};
+ghost use Rattle.gates.specs.Built.{is_built_binary};
+
+use super::*;
+use aiger::{Circuit, Lit};
+use base::{Binary, Tally, Unary, Width, binary, ite, ones, unary};
+use std::alloc::{AllocError, Global};
+
+/// The operators of the table.
+const OPERATORS: [Op; 46] = [
+    Op::Unary(Unary::Not),
+    Op::Unary(Unary::Inc),
+    Op::Unary(Unary::Dec),
+    Op::Unary(Unary::Neg),
+    Op::Unary(Unary::Redand),
+    Op::Unary(Unary::Redor),
+    Op::Unary(Unary::Redxor),
+    Op::Binary(Binary::Iff),
+    Op::Binary(Binary::Implies),
+    Op::Binary(Binary::Eq),
+    Op::Binary(Binary::Neq),
+    Op::Binary(Binary::Ugt),
+    Op::Binary(Binary::Ugte),
+    Op::Binary(Binary::Ult),
+    Op::Binary(Binary::Ulte),
+    Op::Binary(Binary::Sgt),
+    Op::Binary(Binary::Sgte),
+    Op::Binary(Binary::Slt),
+    Op::Binary(Binary::Slte),
+    Op::Binary(Binary::And),
+    Op::Binary(Binary::Nand),
+    Op::Binary(Binary::Or),
+    Op::Binary(Binary::Nor),
+    Op::Binary(Binary::Xor),
+    Op::Binary(Binary::Xnor),
+    Op::Binary(Binary::Rol),
+    Op::Binary(Binary::Ror),
+    Op::Binary(Binary::Sll),
+    Op::Binary(Binary::Srl),
+    Op::Binary(Binary::Sra),
+    Op::Binary(Binary::Add),
+    Op::Binary(Binary::Sub),
+    Op::Binary(Binary::Mul),
+    Op::Binary(Binary::Udiv),
+    Op::Binary(Binary::Sdiv),
+    Op::Binary(Binary::Urem),
+    Op::Binary(Binary::Srem),
+    Op::Binary(Binary::Smod),
+    Op::Binary(Binary::Uaddo),
+    Op::Binary(Binary::Saddo),
+    Op::Binary(Binary::Usubo),
+    Op::Binary(Binary::Ssubo),
+    Op::Binary(Binary::Umulo),
+    Op::Binary(Binary::Smulo),
+    Op::Binary(Binary::Sdivo),
+    Op::Ite,
+];
+
+/// The greatest width of the table.
+const WIDEST: u32 = 5;
+
+/// Whether an operator of two operands is built.
+fn is_binary_built(op: Binary) -> bool
+    ensures { result ≡ is_built_binary op }
+{
+    !matches!(
+        op,
+        Binary::Mul
+            | Binary::Udiv
+            | Binary::Sdiv
+            | Binary::Urem
+            | Binary::Srem
+            | Binary::Smod
+            | Binary::Umulo
+            | Binary::Smulo
+    )
+}
+
+/// The literals of so many inputs behind the first ones.
+fn inputs(before: u32, width: u32) -> Bits
+    requires before { before ≤ 10 }
+    requires width { width ≤ 5 }
+    ensures wide { length result.items ≡ width }
+    ensures defined { All (λ l. l < 2 * (before + width + 1)) result.items }
+{
+    let mut bits = Bits::new();
+    for i in 0..width {
+        bits.push(Lit::new(2 * (before + i + 1)));
+    }
+    bits
+}
+
+/// The bits that an operator's builder makes of inputs; none where the operator is not built, or not at this width.
+fn built(g: &mut PlainGates, op: Op, width: u32) -> Result<Option<Bits>, GateFault>
+    requires some { 1 ≤ width }
+    requires most { width ≤ 5 }
+    requires fresh { g.old ≡ record { inputs = 11; latches = 0; gates = [] } }
+{
+    let a = inputs(0, width);
+    let b = inputs(WIDEST, width);
+    match op {
+        Op::Unary(op) => Ok(Some(unary_bits(g, op, &a)?)),
+        Op::Binary(Binary::Iff) if width > 1 => Ok(None),
+        Op::Binary(Binary::Implies) if width > 1 => Ok(None),
+        Op::Binary(op) if is_binary_built(op) => Ok(Some(binary_bits(g, op, &a, &b)?)),
+        Op::Ite => Ok(Some(ite_bits(g, &inputs(2 * WIDEST, 1), &a, &b)?)),
+        _ => Ok(None),
+    }
+}
+
+/// Whether a literal is true, by the values of the variables.
+fn is_true(values: &[bool], lit: Lit) -> bool {
+    let positive = values.get(lit.var() as usize).copied().unwrap_or(false);
+    positive != (lit.number() % 2 == 1)
+}
+
+/// The values of the constant and of the inputs, which have the bits of a number.
+fn input_values(alloc: Global, inputs: u64) -> Result<Vec<bool>, AllocError> {
+    let mut values = Vec::new(alloc);
+    values.push(false)?;
+    for i in 0..2 * WIDEST + 1 {
+        values.push((inputs >> i) % 2 == 1)?;
+    }
+    Ok(values)
+}
+
+/// The values of all variables, where the inputs have the bits of a number.
+fn values(alloc: Global, circuit: &Circuit, inputs: u64) -> Result<Vec<bool>, AllocError> {
+    let mut values = input_values(alloc, inputs)?;
+    for gate in circuit.gates() {
+        let value = is_true(&values, gate.rhs0) && is_true(&values, gate.rhs1);
+        values.push(value)?;
+    }
+    Ok(values)
+}
+
+/// The word that literals read as.
+fn word(values: &[bool], bits: &Bits) -> u64 {
+    let mut word: u64 = 0;
+    for lit in bits.as_slice().iter().rev() {
+        word = (word << 1) | u64::from(is_true(values, *lit));
+    }
+    word
+}
+
+/// The word that an operator gives for two words, a choice by the bit `c`.
+fn expected(op: Op, w: Width, a: u64, b: u64, c: u64) -> u64
+    requires left { a < 2 ^ w }
+    requires right { b < 2 ^ w }
+    requires condition { c < 2 }
+{
+    let mut tally = Tally::new();
+    match op {
+        Op::Unary(op) => unary(op, w, a, &mut tally),
+        Op::Binary(op) => binary(op, w, a, b, &mut tally),
+        Op::Ite => ite(w, c, a, b, &mut tally),
+    }
+}
+
+/// Whether a circuit's literals read as what an operator gives, for all operands.
+fn agrees(
+    alloc: Global,
+    circuit: &Circuit,
+    bits: &Bits,
+    op: Op,
+    w: Width,
+) -> Result<bool, AllocError>
+    requires { w ≤ 5 }
+{
+    for operands in 0..1_u64 << (2 * w.bits() + 1) {
+        let a = operands & ones(w);
+        let b = (operands >> w.bits()) & ones(w);
+        let c = (operands >> (2 * w.bits())) & 1;
+        let values = values(alloc, circuit, a | b << 5 | c << 10)?;
+        if word(&values, bits) != expected(op, w, a, b, c) {
+            return Ok(false);
+        }
+    }
+    Ok(true)
+}
+
+/// Whether an operator's circuit agrees with the operator and has few enough gates, or is not built; none where it could
+/// not be made.
+fn is_right(alloc: Global, op: Op, width: u32) -> Option<bool>
+    requires some { 1 ≤ width }
+    requires most { width ≤ 5 }
+{
+    let mut g = PlainGates::new(alloc, 11, 0).ok()?;
+    let Some(bits) = built(&mut g, op, width).ok()? else {
+        return Some(true);
+    };
+    let circuit = g.finish();
+    let is_small = circuit.gates().len() as u64 <= gate_bound(op, u64::from(width));
+    let w = Width::new(u64::from(width))?;
+    Some(is_small && agrees(alloc, &circuit, &bits, op, w).ok()?)
+}
+
+#[test]
+fn every_operand_of_every_operator(rt: HostRuntime) {
+    for op in OPERATORS {
+        for width in 1..WIDEST + 1 {
+            assert_eq!(rt;
+                is_right(rt.alloc(), op, width),
+                Some(true),
+                "{op:?} at {width}"
+            );
+        }
+    }
+}
