@@ -1,5 +1,5 @@
 -- How nets grow, and what stays true of literals.
-use Rattle.std.proofs.Common.{◌≡◌, ℕ, suc, ◌+◌, ◌*◌, ◌≤◌, ◌<◌, Bool, true, false, ◌&&◌, List, [], ◌∷◌, ◌++◌, length, map, not, ◌-◌, ◌^◌, All, refl, sym, ap, ◌∙◌, arith, append_assoc, append-nil, length-append, inl, inr}
+use Rattle.std.proofs.Common.{◌≡◌, ℕ, suc, ◌+◌, ◌*◌, ◌≤◌, ◌<◌, Bool, true, false, ◌&&◌, List, [], ◌∷◌, ◌++◌, length, map, not, ◌-◌, ◌^◌, All, refl, sym, ap, ap₂, ◌∙◌, arith, append_assoc, append-nil, length-append, inl, inr}
 use Rattle.std.proofs.lemmas.List.{length-map}
 use Rattle.std.proofs.lemmas.List.Elements.{All-weaker, All-map}
 use Rattle.base.proofs.BitLemmas.{word-map_not}
@@ -82,6 +82,14 @@ MakesAnd-push c a b high low l either is =
 pub MakesWord-standing : (n : Net) (a : List ℕ) → All (IsDefined n) a → MakesWord n n 0 (length a) (λ v. word_value v a) a
 MakesWord-standing n a defined = record { grows = Grows-refl n 0; wide = refl; defined = defined; means = λ v s. refl }
 
+-- negated literals read as the negated word
+pub word_value-negation : (v : Valuation) (ls : List ℕ) → word_value v (map negation ls) ≡ 2 ^ length ls - 1 - word_value v ls
+word_value-negation v ls = ap word (negated ls) ∙ word-map_not (map (literal_value v) ls) ∙ ap (λ k. 2 ^ k - 1 - word_value v ls) (length-map ls (literal_value v))
+  where
+    negated : (ls : List ℕ) → map (literal_value v) (map negation ls) ≡ map not (map (literal_value v) ls)
+    negated [] = refl
+    negated (l ∷ ls) = rw (literal_value-negation v l, negated ls) refl
+
 -- the literals of a word negated are those of the negated word
 pub MakesWord-negated : (old new : Net) (most wide : ℕ) (f : Valuation → ℕ) (a bits : List ℕ) → bits ≡ map negation a → MakesWord old new most wide f a → MakesWord old new most wide (λ v. 2 ^ wide - 1 - f v) bits
 MakesWord-negated old new most wide f a bits is m =
@@ -89,14 +97,8 @@ MakesWord-negated old new most wide f a bits is m =
       grows = m.grows;
       wide = length-map a negation ∙ m.wide;
       defined = All-map (IsDefined new) negation a (All-weaker (IsDefined new) (λ l. IsDefined new (negation l)) (IsDefined-negation new) a m.defined);
-      means = λ v s.
-          let count : length (map (literal_value v) a) ≡ wide = length-map a (literal_value v) ∙ m.wide in
-          ap word (negated v a) ∙ word-map_not (map (literal_value v) a) ∙ ap (λ k. 2 ^ k - 1 - word_value v a) count ∙ ap (λ w. 2 ^ wide - 1 - w) (m.means v s);
+      means = λ v s. word_value-negation v a ∙ ap₂ (λ k w. 2 ^ k - 1 - w) m.wide (m.means v s);
     })
-  where
-    negated : (v : Valuation) (ls : List ℕ) → map (literal_value v) (map negation ls) ≡ map not (map (literal_value v) ls)
-    negated v [] = refl
-    negated v (l ∷ ls) = rw (literal_value-negation v l, negated v ls) refl
 
 -- negated literals are those of the negated word
 pub MakesWord-not : (n : Net) (a bits : List ℕ) → All (IsDefined n) a → bits ≡ map negation a → MakesWord n n 0 (length a) (λ v. 2 ^ length a - 1 - word_value v a) bits
