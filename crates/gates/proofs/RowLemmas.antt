@@ -5,9 +5,10 @@ use Rattle.std.proofs.lemmas.List.Elements.{All-nil, All-cons, All-push}
 use Rattle.base.specs.Word.{word, bit_number}
 use Rattle.aiger.specs.Literal.{Valuation, literal_value}
 use Rattle.aiger.specs.Net.{Net, IsDefined, Satisfies}
+use Rattle.base.proofs.BitLemmas.{word_below}
 use Rattle.gates.specs.Made.{Grows, MakesLiteral, MakesWord, word_value}
 use Rattle.gates.proofs.MadeLemmas.{Grows-weaker, Grows-trans, Satisfies-earlier, All-defined-later}
-use Rattle.gates.proofs.WordLemmas.{zip_with, zip_with-push, word-push, word_below}
+use Rattle.gates.proofs.WordLemmas.{zip_with, zip_with-push, word-push}
 
 -- a row of literals for the first places of two lists, each made with at most so many gates and with one meaning
 pub record IsRow (old new : Net) (cost i : ℕ) (f : Valuation → Bool → Bool → Bool) (a b bits : List ℕ) : Type 0 where

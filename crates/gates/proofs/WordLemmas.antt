@@ -1,5 +1,5 @@
 -- Words and their bits: words connected bit by bit, and the bits of a word connected.
-use Rattle.std.proofs.Common.{◌≡◌, ℕ, suc, ◌+◌, ◌-◌, ◌*◌, ◌%◌, ◌^◌, ◌<◌, Bool, true, false, not, ◌&&◌, ◌||◌, ◌==◌, List, [], ◌∷◌, ◌++◌, length, bit_xor, count_ones, inl, inr, refl, sym, ap, ap₂, ◌∙◌, arith, lit<}
+use Rattle.std.proofs.Common.{◌≡◌, ℕ, suc, ◌+◌, ◌-◌, ◌*◌, ◌%◌, ◌^◌, ◌<◌, Bool, true, false, not, ◌&&◌, ◌||◌, ◌==◌, List, [], ◌∷◌, ◌++◌, length, bit_xor, count_ones, inl, inr, refl, sym, ap, ap₂, ◌∙◌, arith}
 use Rattle.std.specs.Int.Count.{ones}
 use Rattle.std.proofs.Math.Nat.{pow-suc}
 use Rattle.std.proofs.lemmas.Nat.{pow_pos, and_block, or_block, xor_block, ones_cat}
@@ -16,11 +16,6 @@ use Rattle.gates.specs.declared.bitwise.Connective.TheVariants.{And, Or, Xor}
 -- one place more doubles the number of words
 two_more : (n : ℕ) → 2 ^ (n + 1) ≡ 2 * 2 ^ n
 two_more n = let e : n + 1 ≡ suc n = omega arith in rw e (omega (arith, pow-suc 2 n))
-
--- a list of n bits reads as a word of width n
-pub word_below : (bs : List Bool) → word bs < 2 ^ length bs
-word_below [] = lit< tt
-word_below (b ∷ bs) = omega (arith, pow-suc 2 (length bs), word_below bs, bit_number_small b)
 
 -- a list's word with a bit more at the high end
 pub word-push : (bs : List Bool) (b : Bool) → word (bs ++ b ∷ []) ≡ word bs + 2 ^ length bs * bit_number b
