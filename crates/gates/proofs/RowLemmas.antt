@@ -6,6 +6,7 @@ use Rattle.base.specs.Word.{word, bit_number}
 use Rattle.base.proofs.BitLemmas.{word_below}
 use Rattle.aiger.specs.Literal.{Valuation, literal_value}
 use Rattle.aiger.specs.Net.{Net, IsDefined, Satisfies}
+use Rattle.base.proofs.BitLemmas.{word_below}
 use Rattle.gates.specs.Made.{Grows, MakesLiteral, MakesWord, word_value}
 use Rattle.gates.proofs.MadeLemmas.{Grows-weaker, Grows-trans, Satisfies-earlier, All-defined-later}
 use Rattle.gates.proofs.WordLemmas.{zip_with, zip_with-push, word-push}

@@ -208,3 +208,68 @@ fn every_operand_of_every_operator(rt: HostRuntime) {
         }
     }
 }
+
+/// How many gates the exclusive or of two literals takes.
+fn xor_gates(alloc: Global, a: Lit, b: Lit) -> Option<usize>
+    requires left { a < 24 }
+    requires right { b < 24 }
+{
+    let mut g = PlainGates::new(alloc, 11, 0).ok()?;
+    xor(&mut g, a, b).ok()?;
+    Some(g.finish().gates().len())
+}
+
+/// How many gates a choice between two literals takes.
+fn mux_gates(alloc: Global, c: Lit, t: Lit, e: Lit) -> Option<usize>
+    requires condition { c < 24 }
+    requires then { t < 24 }
+    requires otherwise { e < 24 }
+{
+    let mut g = PlainGates::new(alloc, 11, 0).ok()?;
+    mux(&mut g, c, t, e).ok()?;
+    Some(g.finish().gates().len())
+}
+
+/// How many gates the test for equality of two words of two bits takes.
+fn equal_gates(alloc: Global) -> Option<usize> {
+    let mut g = PlainGates::new(alloc, 11, 0).ok()?;
+    equal(&mut g, &inputs(0, 2), &inputs(WIDEST, 2)).ok()?;
+    Some(g.finish().gates().len())
+}
+
+/// How many gates a shift of a word of two bits takes.
+fn shift_gates(alloc: Global) -> Option<usize> {
+    let mut g = PlainGates::new(alloc, 11, 0).ok()?;
+    shift(&mut g, Binary::Sll, &inputs(0, 2), &inputs(WIDEST, 2)).ok()?;
+    Some(g.finish().gates().len())
+}
+
+/// How many gates a rotation of a word of two bits takes.
+fn rotation_gates(alloc: Global) -> Option<usize> {
+    let mut g = PlainGates::new(alloc, 11, 0).ok()?;
+    rotate(&mut g, Binary::Rol, &inputs(0, 2), &inputs(WIDEST, 2)).ok()?;
+    Some(g.finish().gates().len())
+}
+
+#[test]
+fn constants_and_equal_operands_take_no_gate(rt: HostRuntime) {
+    let (x, y, z) = (Lit::new(2), Lit::new(4), Lit::new(6));
+    for (a, b, want) in [(x, y, 3), (x, x, 0), (x, x.not(), 0), (x, Lit::TRUE, 0)] {
+        assert_eq!(rt; xor_gates(rt.alloc(), a, b), Some(want), "{a:?} and {b:?}");
+    }
+    for (c, t, e, want) in [
+        (x, y, z, 3),
+        (x, y, y, 0),
+        (Lit::TRUE, y, z, 0),
+        (x, y, Lit::FALSE, 1),
+    ] {
+        assert_eq!(rt;
+            mux_gates(rt.alloc(), c, t, e),
+            Some(want),
+            "{c:?}, {t:?} and {e:?}"
+        );
+    }
+    assert_eq!(rt; equal_gates(rt.alloc()), Some(7));
+    assert_eq!(rt; shift_gates(rt.alloc()), Some(6));
+    assert_eq!(rt; rotation_gates(rt.alloc()), Some(6));
+}
