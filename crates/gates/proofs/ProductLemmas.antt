@@ -1,13 +1,11 @@
 -- Products of words, row by row.
-use Rattle.std.proofs.Common.{◌≡◌, ℕ, zero, suc, ◌+◌, ◌-◌, ◌*◌, ◌%◌, ◌^◌, ◌<◌, ◌≤◌, Bool, true, false, ◌&&◌, List, [], ◌∷◌, ◌++◌, length, map, take, get_or, replicate, All, refl, sym, ap, subst, ◌∙◌, arith, length-append, length-take}
+use Rattle.std.proofs.Common.{◌≡◌, ℕ, zero, suc, ◌+◌, ◌-◌, ◌*◌, ◌%◌, ◌^◌, ◌<◌, ◌≤◌, Bool, true, false, ◌&&◌, List, [], ◌∷◌, ◌++◌, length, map, take, get_or, replicate, refl, sym, ap, subst, ◌∙◌, arith}
 use Rattle.std.proofs.Math.Nat.{pow-suc, mul_assoc, mod-add-mod, add-mod-mod, mod-eq_of_lt}
 use Rattle.std.proofs.lemmas.Nat.{pow_pos, pow-add, mul-le, mul-mod_first, mod-mul-add}
-use Rattle.std.proofs.lemmas.List.{length-replicate, length-take-le, take_all}
-use Rattle.std.proofs.lemmas.List.Elements.{All-append, All-take, All-replicate}
+use Rattle.std.proofs.lemmas.List.{length-take-le, take_all}
 use Rattle.base.specs.Word.{word, bit_number}
-use Rattle.base.proofs.BitLemmas.{bit_number_small}
 use Rattle.aiger.specs.Literal.{Valuation, literal_value}
-use Rattle.aiger.specs.Net.{Net, IsDefined}
+use Rattle.aiger.specs.Net.{Net}
 use Rattle.gates.specs.Made.{MakesWord, word_value}
 use Rattle.gates.specs.Sums.{literal_number, MakesSum}
 use Rattle.gates.proofs.WordLemmas.{zip_with}
@@ -60,9 +58,6 @@ word_value-raised v a n k wide inside =
     let below : word_value v low < 2 ^ (n - k) = word_value-below v low (n - k) (length-take-le (n - k) a (omega arith)) in
     word_value-above v k low
     ∙ sym (ap (λ w. w * 2 ^ k % 2 ^ n) (word_value-split v a (n - k) (omega arith)) ∙ low_moved _ (2 ^ (n - k)) (2 ^ k) (word_value v low) (2 ^ n) parts below (pow_pos k))
-
-pub length-raised : (a : List ℕ) (n k : ℕ) → length a ≡ n → k ≤ n → length (replicate k 0 ++ take (n - k) a) ≡ n
-length-raised a n k wide inside = omega (arith, length-append (replicate k 0) (take (n - k) a), length-replicate {A = ℕ} k 0, length-take-le (n - k) a (omega arith))
 
 -- a product modulo p, before it is added
 added_row : (s a k t p : ℕ) → (s + a * k % p * t) % p ≡ (s + a * (k * t)) % p

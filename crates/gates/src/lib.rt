@@ -36,6 +36,8 @@ pub use sum_laws::worked_sums;
 #[cfg(test)]
 mod tests;
 #[cfg(test)]
+mod tests_multiplication;
+#[cfg(test)]
 mod tests_sums;
 #[cfg(test)]
 mod tests_table;

@@ -1,5 +1,4 @@
-use Rattle.std.proofs.Common.{◌≡◌, ℕ, List, ◌++◌, ◌-◌, length, take, replicate, ap, ap₂, ◌∙◌, refl, arith, rules}
-use Rattle.gates.specs.Made.{word_value}
+use Rattle.std.proofs.Common.{◌≡◌, ◌++◌, ◌-◌, length, take, replicate, refl, rules}
 use Rattle.gates.proofs.ProductLemmas.{word_value-raised}
 use Rattle.gates.proofs.multiplication.raised.Goals as goal
 

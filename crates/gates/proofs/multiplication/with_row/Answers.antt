@@ -1,4 +1,3 @@
-use Rattle.std.proofs.Common.{arith}
 use Rattle.gates.proofs.ProductLemmas.{MakesWord-with_row}
 use Rattle.gates.proofs.multiplication.with_row.Goals as goal
 
