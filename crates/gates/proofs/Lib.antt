@@ -5,5 +5,6 @@ pub mod RowLemmas
 pub mod MoveLemmas
 pub mod WindowLemmas
 pub mod SumLemmas
+pub mod ProductLemmas
 pub mod OrderLemmas
 pub mod OverflowLemmas

@@ -1,10 +1,9 @@
--- The operators of two operands that are built of gates so far: all but products and quotients.
+-- The operators of two operands that are built of gates so far: all but quotients, remainders and the overflow of products.
 use Rattle.std.specs.Prelude.{Bool, true, false}
 use Rattle.base.specs.declared.operators.Binary.{Binary}
 use Rattle.base.specs.declared.operators.Binary.TheVariants as binary
 
 abbrev pub is_built_binary : Binary → Bool
-is_built_binary binary.Mul = false
 is_built_binary binary.Udiv = false
 is_built_binary binary.Sdiv = false
 is_built_binary binary.Urem = false

@@ -13,6 +13,7 @@ use crate::bitwise::{
 use crate::comparisons::comparison;
 use crate::fault::GateFault;
 use crate::maker::{Bits, Gates};
+use crate::multiplication::mul;
 use crate::overflows::overflow;
 use crate::rows::{negation, one_bit};
 use crate::shifts::{rotate, shift};
@@ -43,8 +44,8 @@ pub fn unary_bits<G: Gates>(g: &mut G, op: Unary, a: &Bits) -> Result<Bits, Gate
 
 /// The bits of what an operator gives for two operands.
 ///
-/// Conditions: the operator is none of those that are not built yet, `Mul`, `Udiv`, `Sdiv`, `Urem`, `Srem`, `Smod`,
-/// `Umulo` and `Smulo`; operands of equal length from 1 to 64, for `Iff` and `Implies` of length 1, all literals
+/// Conditions: the operator is none of those that are not built yet, `Udiv`, `Sdiv`, `Urem`, `Srem`, `Smod`, `Umulo`
+/// and `Smulo`; operands of equal length from 1 to 64, for `Iff` and `Implies` of length 1, all literals
 /// defined. Errors: `TooBig` only where the variables so far and the operator's bound sum to more than 2^30, `NoMemory`;
 /// the gates made so far stay.
 pub fn binary_bits<G: Gates>(g: &mut G, op: Binary, a: &Bits, b: &Bits) -> Result<Bits, GateFault>
@@ -81,6 +82,7 @@ pub fn binary_bits<G: Gates>(g: &mut G, op: Binary, a: &Bits, b: &Bits) -> Resul
         Binary::Sll | Binary::Srl | Binary::Sra => shift(g, op, a, b),
         Binary::Add => add_bits(g, a, b),
         Binary::Sub => sub_bits(g, a, b),
+        Binary::Mul => mul(g, a, b),
         Binary::Uaddo | Binary::Saddo | Binary::Usubo | Binary::Ssubo | Binary::Sdivo => {
             Ok(one_bit(overflow(g, op, a, b)?))
         }

@@ -66,8 +66,7 @@ fn is_binary_built(op: Binary) -> bool
 {
     !matches!(
         op,
-        Binary::Mul
-            | Binary::Udiv
+        Binary::Udiv
             | Binary::Sdiv
             | Binary::Urem
             | Binary::Srem

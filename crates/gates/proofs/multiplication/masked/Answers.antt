@@ -1,0 +1,17 @@
+use Rattle.std.proofs.Common.{◌&&◌, arith}
+use Rattle.aiger.specs.Literal.{literal_value}
+use Rattle.gates.proofs.LiteralLemmas.{MakesLiteral-and}
+use Rattle.gates.proofs.RowLemmas.{IsRow-push}
+use Rattle.gates.proofs.ProductLemmas.{MakesWord-masked}
+use Rattle.gates.proofs.multiplication.masked.Goals as goal
+
+pub loop-i-preserved : goal.loop-i-preserved
+loop-i-preserved g c =
+    let lit = c.args.lit in
+    let a = c.args.a.now.items in
+    let x = c.index-deref-i.result in
+    let both = c.in_ok-conjunction.field-0 in
+    rw c.push.ensures.items (IsRow-push _ _ _ 1 c.loop-i.i (λ v x y. x && literal_value v lit) a a c.loop-i.bits.items x x both (omega arith) (omega arith) (cc) (cc) c.loop-i.invariant (MakesLiteral-and _ _ x lit both c.in_ok-conjunction.ensures.ok))
+
+pub returns-clause-ok : goal.returns-clause-ok
+returns-clause-ok g c = MakesWord-masked _ _ c.loop-i.i c.args.lit c.args.a.now.items c.loop-i.bits.items (omega arith) c.loop-i.invariant

@@ -1,0 +1,89 @@
+//! Products of words: a row for each bit of the second operand, added up.
+ghost use Rattle.std.specs.Prelude.{◌≡◌, ◌+◌, ◌*◌, ◌%◌, ◌^◌, ◌≤◌, length, All, IfOk, IfErr};
+ghost use Rattle.aiger.specs.Literal.{Valuation};
+ghost use Rattle.aiger.specs.Net.{Net, IsDefined};
+ghost use Rattle.gates.specs.Made.{MakesWord, Refuses, word_value};
+ghost use Rattle.gates.specs.Sums.{literal_number};
+
+use crate::adders::add;
+use crate::builders::conjunction;
+use crate::fault::GateFault;
+use crate::maker::{Bits, Gates};
+use aiger::Lit;
+
+/// A word where a literal is true, and else none of its bits: its product with the literal.
+fn masked<G: Gates>(g: &mut G, a: &Bits, lit: Lit) -> Result<Bits, GateFault>
+    requires most { length a.now.items ≤ 128 }
+    requires word { All (IsDefined (G.made g.old)) a.now.items }
+    requires literal { IsDefined (G.made g.old) lit }
+    ensures ok { IfOk result (λ bits. let n = length a.now.items in MakesWord (G.made g.old) (G.made g.new) n n (λ v. word_value v a.now.items * literal_number v lit) bits.items) }
+    ensures refused { IfErr result (Refuses (G.made g.old) (G.made g.new) (length a.now.items)) }
+{
+    let mut bits = Bits::new();
+    for i in 0..a.len() {
+        bits.push(conjunction(g, a[i], lit)?);
+    }
+    Ok(bits)
+}
+
+/// A word moved up by so many places within its width, which takes no gate.
+fn raised(a: &Bits, by: usize) -> Bits
+    requires most { length a.now.items ≤ 128 }
+    requires inside { by ≤ length a.now.items }
+    ensures wide { length result.items ≡ length a.now.items }
+    ensures defined { (n : Net) → All (IsDefined n) a.now.items → All (IsDefined n) result.items }
+    ensures means { (v : Valuation) → word_value v result.items ≡ word_value v a.now.items * 2 ^ by % 2 ^ length a.now.items }
+{
+    let mut bits = Bits::new();
+    for _ in 0..by {
+        bits.push(Lit::FALSE);
+    }
+    let added = bits.try_extend_from_slice(&a.as_slice()[..a.len() - by]);
+    prove!(added.is_ok());
+    bits
+}
+
+/// A sum so far and the row of one bit: a word moved up by the bit's place, where the bit's literal is true.
+///
+/// The places below the row are constants, and take no gate.
+fn with_row<G: Gates>(
+    g: &mut G,
+    sum: &Bits,
+    a: &Bits,
+    place: usize,
+    lit: Lit,
+) -> Result<Bits, GateFault>
+    requires some { 1 ≤ length a.now.items }
+    requires most { length a.now.items ≤ 128 }
+    requires equal { length sum.now.items ≡ length a.now.items }
+    requires inside { place ≤ length a.now.items }
+    requires sum { All (IsDefined (G.made g.old)) sum.now.items }
+    requires word { All (IsDefined (G.made g.old)) a.now.items }
+    requires literal { IsDefined (G.made g.old) lit }
+    ensures ok { IfOk result (λ bits. let n = length a.now.items in MakesWord (G.made g.old) (G.made g.new) (10 * n) n (λ v. (word_value v sum.now.items + word_value v a.now.items * (2 ^ place * literal_number v lit)) % 2 ^ n) bits.items) }
+    ensures refused { IfErr result (Refuses (G.made g.old) (G.made g.new) (10 * length a.now.items)) }
+{
+    let row = masked(g, &raised(a, place), lit)?;
+    let added = add(g, sum, &row, Lit::FALSE)?;
+    Ok(added.sum)
+}
+
+/// The bits of the product of two words modulo 2 to the width.
+///
+/// Conditions: operands of equal length from 1 to 128, all literals defined. Errors: `TooBig` only where the
+/// variables so far and 10 times the length's square sum to more than 2^30, `NoMemory`; the gates made so far stay.
+pub fn mul<G: Gates>(g: &mut G, a: &Bits, b: &Bits) -> Result<Bits, GateFault>
+    requires some { 1 ≤ length a.now.items }
+    requires most { length a.now.items ≤ 128 }
+    requires equal { length b.now.items ≡ length a.now.items }
+    requires left { All (IsDefined (G.made g.old)) a.now.items }
+    requires right { All (IsDefined (G.made g.old)) b.now.items }
+    ensures ok { IfOk result (λ bits. let n = length a.now.items in MakesWord (G.made g.old) (G.made g.new) (10 * (n * n)) n (λ v. word_value v a.now.items * word_value v b.now.items % 2 ^ n) bits.items) }
+    ensures refused { IfErr result (let n = length a.now.items in Refuses (G.made g.old) (G.made g.new) (10 * (n * n))) }
+{
+    let mut product = masked(g, a, b[0])?;
+    for place in 1..b.len() {
+        product = with_row(g, &product, a, place, b[place])?;
+    }
+    Ok(product)
+}
