@@ -7,3 +7,4 @@ pub mod WindowLemmas
 pub mod SumLemmas
 pub mod OrderLemmas
 pub mod OverflowLemmas
+pub mod QuotientLemmas

@@ -7,6 +7,8 @@ mod bound;
 mod builders;
 mod choices;
 mod comparisons;
+mod division;
+mod division_laws;
 mod fault;
 mod laws;
 mod literals;
@@ -22,6 +24,8 @@ pub use bound::{Op, gate_bound};
 pub use builders::{binary_bits, unary_bits};
 pub use choices::ite_bits;
 pub use comparisons::less;
+pub use division::{Divided, divide};
+pub use division_laws::worked_divisions;
 pub use fault::GateFault;
 pub use laws::{worked_bounds, worked_connections, worked_nets};
 pub use literals::{mux, xor};
@@ -33,6 +37,8 @@ pub use sum_laws::worked_sums;
 
 #[cfg(test)]
 mod tests;
+#[cfg(test)]
+mod tests_division;
 #[cfg(test)]
 mod tests_sums;
 #[cfg(test)]
