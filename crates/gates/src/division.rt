@@ -90,11 +90,12 @@ pub fn divide<G: Gates>(g: &mut G, a: &Bits, b: &Bits) -> Result<Divided, GateFa
     ensures ok { IfOk result (λ divided. let n = length a.now.items in MakesDivision (G.made g.old) (G.made g.new) (12 * (n * n) + 12 * n) a.now.items b.now.items divided.quotient.items divided.remainder.items) }
     ensures refused { IfErr result (let n = length a.now.items in Refuses (G.made g.old) (G.made g.new) (12 * (n * n) + 12 * n)) }
 {
+    let width = a.len();
     let mut quotient = Bits::new();
-    let mut remainder = zeros(b.len());
-    for done in 0..a.len() {
-        let next = a[a.len() - 1 - done];
-        let row = next_row(g, next, remainder, b)?;
+    let mut remainder = zeros(width);
+    for done in 0..width {
+        let place = width - 1 - done;
+        let row = next_row(g, a[place], remainder, b)?;
         quotient.insert(0, row.bit);
         remainder = row.remainder;
     }
