@@ -8,3 +8,4 @@ pub mod SumLemmas
 pub mod ProductLemmas
 pub mod OrderLemmas
 pub mod OverflowLemmas
+pub mod QuotientLemmas

@@ -1,6 +1,7 @@
 pub mod Bound
 pub mod Built
 pub mod Connect
+pub mod Division
 pub mod Made
 pub mod Moves
 pub mod Sums

@@ -1,0 +1,14 @@
+use Rattle.std.proofs.Common.{true}
+use Rattle.gates.proofs.division_laws.worked_divisions.Goals as goal
+
+pub returns-clause-row_that_takes_nothing : goal.returns-clause-row_that_takes_nothing
+returns-clause-row_that_takes_nothing c = λ m. absurd (cc (m.goes (λ k. true) tt))
+
+pub returns-clause-row_not_reduced : goal.returns-clause-row_not_reduced
+returns-clause-row_not_reduced c = λ m. absurd (cc (m.left (λ k. true) tt))
+
+pub returns-clause-no_quotient_by_zero : goal.returns-clause-no_quotient_by_zero
+returns-clause-no_quotient_by_zero c = λ m. absurd (cc (m.quotient_means (λ k. true) tt))
+
+pub returns-clause-no_remainder_by_zero : goal.returns-clause-no_remainder_by_zero
+returns-clause-no_remainder_by_zero c = λ m. absurd (cc (m.remainder_means (λ k. true) tt))
