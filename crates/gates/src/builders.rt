@@ -11,6 +11,7 @@ use crate::bitwise::{
     Connective, connect_negated, connect_words, eq, iff, implies, neq, reduction,
 };
 use crate::comparisons::comparison;
+use crate::division::divide;
 use crate::fault::GateFault;
 use crate::maker::{Bits, Gates};
 use crate::multiplication::mul;
@@ -44,8 +45,8 @@ pub fn unary_bits<G: Gates>(g: &mut G, op: Unary, a: &Bits) -> Result<Bits, Gate
 
 /// The bits of what an operator gives for two operands.
 ///
-/// Conditions: the operator is none of those that are not built yet, `Udiv`, `Sdiv`, `Urem`, `Srem`, `Smod`, `Umulo`
-/// and `Smulo`; operands of equal length from 1 to 64, for `Iff` and `Implies` of length 1, all literals
+/// Conditions: the operator is none of those that are not built yet, `Sdiv`, `Srem`, `Smod`, `Umulo` and `Smulo`;
+/// operands of equal length from 1 to 64, for `Iff` and `Implies` of length 1, all literals
 /// defined. Errors: `TooBig` only where the variables so far and the operator's bound sum to more than 2^30, `NoMemory`;
 /// the gates made so far stay.
 pub fn binary_bits<G: Gates>(g: &mut G, op: Binary, a: &Bits, b: &Bits) -> Result<Bits, GateFault>
@@ -83,6 +84,8 @@ pub fn binary_bits<G: Gates>(g: &mut G, op: Binary, a: &Bits, b: &Bits) -> Resul
         Binary::Add => add_bits(g, a, b),
         Binary::Sub => sub_bits(g, a, b),
         Binary::Mul => mul(g, a, b),
+        Binary::Udiv => Ok(divide(g, a, b)?.quotient),
+        Binary::Urem => Ok(divide(g, a, b)?.remainder),
         Binary::Uaddo | Binary::Saddo | Binary::Usubo | Binary::Ssubo | Binary::Sdivo => {
             Ok(one_bit(overflow(g, op, a, b)?))
         }

@@ -8,6 +8,7 @@ use crate::adders::difference;
 use crate::choices::choose;
 use crate::fault::GateFault;
 use crate::maker::{Bits, Gates};
+use crate::rows::repeated;
 use aiger::Lit;
 
 /// A quotient and a remainder.
@@ -26,18 +27,6 @@ struct Row {
     bit: Lit,
     /// What is left of the dividend down to this bit.
     remainder: Bits,
-}
-
-/// A word of zeros.
-fn zeros(width: usize) -> Bits
-    requires { width ≤ 64 }
-    ensures { result.items ≡ replicate width 0 }
-{
-    let mut bits = Bits::new();
-    for _ in 0..width {
-        bits.push(Lit::FALSE);
-    }
-    bits
 }
 
 /// A word with a bit at its high end that is 0.
@@ -92,7 +81,7 @@ pub fn divide<G: Gates>(g: &mut G, a: &Bits, b: &Bits) -> Result<Divided, GateFa
 {
     let width = a.len();
     let mut quotient = Bits::new();
-    let mut remainder = zeros(width);
+    let mut remainder = repeated(Lit::FALSE, width);
     for done in 0..width {
         let place = width - 1 - done;
         let row = next_row(g, a[place], remainder, b)?;

@@ -66,13 +66,7 @@ fn is_binary_built(op: Binary) -> bool
 {
     !matches!(
         op,
-        Binary::Udiv
-            | Binary::Sdiv
-            | Binary::Urem
-            | Binary::Srem
-            | Binary::Smod
-            | Binary::Umulo
-            | Binary::Smulo
+        Binary::Sdiv | Binary::Srem | Binary::Smod | Binary::Umulo | Binary::Smulo
     )
 }
 

@@ -10,7 +10,7 @@ loop-done-init g c =
     let b = c.args.b.now.items in
     let none : drop (length a - 0) a ≡ [] = drop_all (length a - 0) a (omega arith) in
     let cost : (12 * length b + 9) * 0 ≡ 0 = omega arith in
-    rw (none, cost, c.new-quotient.ensures) (MakesDivision-start old b c.zeros-remainder.result.items (c.zeros-remainder.ensures ∙ ap (λ k. replicate k 0) (c.len-width.ensures.value ∙ sym c.requires.equal)))
+    rw (none, cost, c.new-quotient.ensures) (MakesDivision-start old b c.repeated-remainder.result.items (c.repeated-remainder.ensures ∙ ap (λ k. replicate k 0) (c.len-width.ensures.value ∙ sym c.requires.equal)))
 
 pub loop-done-preserved : goal.loop-done-preserved
 loop-done-preserved g c =

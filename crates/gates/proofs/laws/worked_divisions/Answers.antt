@@ -1,5 +1,5 @@
 use Rattle.std.proofs.Common.{true}
-use Rattle.gates.proofs.division_laws.worked_divisions.Goals as goal
+use Rattle.gates.proofs.laws.worked_divisions.Goals as goal
 
 pub returns-clause-row_that_takes_nothing : goal.returns-clause-row_that_takes_nothing
 returns-clause-row_that_takes_nothing c = λ m. absurd (cc (m.goes (λ k. true) tt))
