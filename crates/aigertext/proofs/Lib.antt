@@ -1,3 +1,2 @@
 mod LineLemmas
-mod PieceLemmas
 mod SectionLemmas

@@ -1,3 +1,2 @@
 pub mod Ascii
-pub mod Pieces
 pub mod Worked

@@ -2,7 +2,7 @@ ghost use Rattle.std.specs.Prelude.{◌≡◌, ◌+◌, ◌≤◌, ◌∷◌, []
 ghost use Rattle.std.specs.Io.KnownBytes.{Appends};
 ghost use Rattle.base.specs.Device.{CountsFaults, AppendsBeginning};
 ghost use Rattle.aigertext.specs.Ascii.{numbers_line, without_zero_tail, header, ascii_text};
-ghost use Rattle.aigertext.specs.Pieces.{Puts};
+ghost use Rattle.base.specs.Pieces.{Puts};
 
 use crate::line::Line;
 use crate::names::put_all_names;

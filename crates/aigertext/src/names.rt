@@ -2,7 +2,7 @@ ghost use Rattle.std.specs.Prelude.{◌≡◌, ◌≤◌, ◌<◌, ◌∷◌, �
 ghost use Rattle.base.specs.Device.{CountsFaults};
 ghost use Rattle.aiger.specs.Circuit.{names_of, name_at};
 ghost use Rattle.aigertext.specs.Ascii.{name_line, name_lines, all_names};
-ghost use Rattle.aigertext.specs.Pieces.{Puts};
+ghost use Rattle.base.specs.Pieces.{Puts};
 
 use crate::line::Line;
 use crate::sections::put_line;

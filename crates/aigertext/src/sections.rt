@@ -1,7 +1,7 @@
 ghost use Rattle.std.specs.Prelude.{◌+◌, ◌*◌, ◌≤◌, ◌≡◌, ◌∷◌, [], length};
 ghost use Rattle.base.specs.Device.{CountsFaults};
 ghost use Rattle.aigertext.specs.Ascii.{numbers_line, input_lines, reset_numbers, latch_lines, literal_lines, gate_lines};
-ghost use Rattle.aigertext.specs.Pieces.{Puts};
+ghost use Rattle.base.specs.Pieces.{Puts};
 
 use crate::line::Line;
 use aiger::{Gate, Latch, Lit, Reset};

@@ -1,5 +1,6 @@
 pub mod BitLemmas
 pub mod DeviceLemmas
+pub mod PieceLemmas
 pub mod DivisionLemmas
 pub mod ShiftLemmas
 pub mod SignedLemmas

@@ -6,3 +6,4 @@ pub mod Steps
 pub mod Device
 pub mod Lines
 pub mod Decimals
+pub mod Pieces

@@ -7,7 +7,6 @@ pub mod FaultLemmas
 pub mod FormLemmas
 pub mod ItemLemmas
 pub mod OperandLemmas
-pub mod PieceLemmas
 pub mod PlaceLemmas
 pub mod StandsLemmas
 pub mod TextLemmas

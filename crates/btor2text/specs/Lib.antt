@@ -7,4 +7,3 @@ pub mod Spelling
 pub mod Whys
 pub mod Words
 pub mod Writing
-pub mod Pieces

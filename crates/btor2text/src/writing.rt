@@ -5,7 +5,7 @@ ghost use Rattle.std.specs.Io.KnownBytes.{Appends};
 ghost use Rattle.base.specs.Device.{CountsFaults, AppendsBeginning};
 ghost use Rattle.btor2.specs.declared.item.Body.TheVariants as body;
 ghost use Rattle.btor2.specs.Check.{IsWellFormed};
-ghost use Rattle.btor2text.specs.Pieces.{Puts};
+ghost use Rattle.base.specs.Pieces.{Puts};
 ghost use Rattle.btor2text.specs.Spelling.{form_tokens, symbol_tokens};
 ghost use Rattle.btor2text.specs.Writing.{behind_spaces, HasFewDigits, written_line, written};
 

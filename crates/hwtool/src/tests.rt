@@ -1,7 +1,5 @@
 //! The rows of the first path, through the two public calls.
 
-mod texts;
-
 use crate::files::NoFile;
 use crate::orders::Stop;
 use crate::running::run;
@@ -12,6 +10,7 @@ use std::alloc::Global;
 use std::process::Abort;
 use std::test::Fail;
 
+mod texts;
 mod witnesses;
 
 const TOGGLER: &str =
@@ -19,28 +18,31 @@ const TOGGLER: &str =
 
 const FREE: &str = "1 sort bitvec 1\n2 state 1 t\n3 next 1 2 2\n4 bad 2\n";
 
-/// What `lower` of a text answers and writes: status, standard output, standard error.
-fn lowered(alloc: Global, text: &str) -> Result<(u8, Vec<u8>, Vec<u8>), Fail> {
-    let words = ["lower", "model"];
-    match order(alloc, words.as_slice()) {
+/// What the program answers and writes for its words and the texts of its files: status, standard output, standard error.
+fn ran<B: Source>(
+    alloc: Global,
+    words: &[&str],
+    first: &str,
+    second: &mut B,
+) -> Result<(u8, Vec<u8>, Vec<u8>), Fail> {
+    match order(alloc, words) {
         Ok(order) => {
-            let mut first = text.as_bytes();
+            let mut first = first.as_bytes();
             let mut out = VecSink::new(alloc);
             let mut err = VecSink::new(alloc);
-            let status = run(
-                alloc,
-                &order,
-                &mut first,
-                &mut NoFile::new(),
-                &mut out,
-                &mut err,
-            );
+            let status = run(alloc, &order, &mut first, second, &mut out, &mut err);
             let written = Vec::from_slice(alloc, out.bytes())?;
             let told = Vec::from_slice(alloc, err.bytes())?;
             Ok((status, written, told))
         }
         Err(_) => Err("refused words")?,
     }
+}
+
+/// What `lower` of a text answers and writes.
+fn lowered(alloc: Global, text: &str) -> Result<(u8, Vec<u8>, Vec<u8>), Fail> {
+    let words = ["lower", "model"];
+    ran(alloc, words.as_slice(), text, &mut NoFile::new())
 }
 
 #[test]

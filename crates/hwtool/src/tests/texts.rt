@@ -1,9 +1,7 @@
 //! Models that are shown, through the two public calls.
 
+use super::ran;
 use crate::files::NoFile;
-use crate::running::run;
-use crate::words::order;
-use base::VecSink;
 use std::alloc::Global;
 use std::process::Abort;
 use std::test::Fail;
@@ -11,25 +9,7 @@ use std::test::Fail;
 /// What `show` of a text answers and writes: status, standard output, standard error.
 fn shown(alloc: Global, text: &str) -> Result<(u8, Vec<u8>, Vec<u8>), Fail> {
     let words = ["show", "model"];
-    match order(alloc, words.as_slice()) {
-        Ok(order) => {
-            let mut first = text.as_bytes();
-            let mut out = VecSink::new(alloc);
-            let mut err = VecSink::new(alloc);
-            let status = run(
-                alloc,
-                &order,
-                &mut first,
-                &mut NoFile::new(),
-                &mut out,
-                &mut err,
-            );
-            let written = Vec::from_slice(alloc, out.bytes())?;
-            let told = Vec::from_slice(alloc, err.bytes())?;
-            Ok((status, written, told))
-        }
-        Err(_) => Err("refused words")?,
-    }
+    ran(alloc, words.as_slice(), text, &mut NoFile::new())
 }
 
 #[test]

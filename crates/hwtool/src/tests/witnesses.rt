@@ -1,10 +1,6 @@
 //! Witnesses judged through the program, with the line that is printed for each.
 
-use super::{FREE, TOGGLER};
-use crate::files::NoFile;
-use crate::running::run;
-use crate::words::order;
-use base::VecSink;
+use super::{FREE, TOGGLER, ran};
 use std::alloc::Global;
 use std::test::Fail;
 
@@ -35,19 +31,7 @@ const RISES: &str = "sat\nb0\n#0\n0 0\n@0\n@1\n.\n";
 /// What `check-btor` of two texts answers and writes: status, standard output, standard error.
 fn judged(alloc: Global, model: &str, witness: &str) -> Result<(u8, Vec<u8>, Vec<u8>), Fail> {
     let words = ["check-btor", "model", "witness"];
-    match order(alloc, words.as_slice()) {
-        Ok(order) => {
-            let mut first = model.as_bytes();
-            let mut second = witness.as_bytes();
-            let mut out = VecSink::new(alloc);
-            let mut err = VecSink::new(alloc);
-            let status = run(alloc, &order, &mut first, &mut second, &mut out, &mut err);
-            let written = Vec::from_slice(alloc, out.bytes())?;
-            let told = Vec::from_slice(alloc, err.bytes())?;
-            Ok((status, written, told))
-        }
-        Err(_) => Err("refused words")?,
-    }
+    ran(alloc, words.as_slice(), model, &mut witness.as_bytes())
 }
 
 /// Whether judging a witness ends with this status and prints this line, and nothing else.

@@ -1,6 +1,6 @@
 use Rattle.std.proofs.Common.{refl, suc, ◌+◌, length, add-one}
 use Rattle.aigertext.specs.Ascii.{header, input_lines, latch_lines, literal_lines, gate_lines, ascii_text}
-use Rattle.aigertext.proofs.PieceLemmas.{put_none, put_more, put_fails, puts_last}
+use Rattle.base.proofs.PieceLemmas.{put_none, put_more, put_fails, puts_last}
 use Rattle.aigertext.proofs.ascii.put_text.Goals as goal
 
 pub returns-in-Err-clause-puts : goal.returns-in-Err-clause-puts

@@ -1,6 +1,6 @@
 use Rattle.std.proofs.lemmas.Result.{on_err_weaker}
 use Rattle.aigertext.specs.Ascii.{ascii_text}
-use Rattle.aigertext.proofs.PieceLemmas.{rest_fails}
+use Rattle.base.proofs.PieceLemmas.{rest_fails}
 use Rattle.aigertext.proofs.ascii.write_ascii.Goals as goal
 
 pub returns-in-Ok-clause-err : goal.returns-in-Ok-clause-err

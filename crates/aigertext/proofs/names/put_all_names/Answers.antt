@@ -1,6 +1,6 @@
 use Rattle.std.proofs.Common.{refl}
 use Rattle.aigertext.specs.Ascii.{all_names, name_lines}
-use Rattle.aigertext.proofs.PieceLemmas.{put_none, put_more, put_fails, puts_last}
+use Rattle.base.proofs.PieceLemmas.{put_none, put_more, put_fails, puts_last}
 use Rattle.aigertext.proofs.names.put_all_names.Goals as goal
 
 pub returns-in-Err-clause-puts : goal.returns-in-Err-clause-puts

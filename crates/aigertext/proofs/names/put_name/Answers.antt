@@ -1,5 +1,5 @@
 use Rattle.std.proofs.Common.{◌∷◌, [], decimal, refl}
-use Rattle.aigertext.proofs.PieceLemmas.{put_none, put_more, put_fails, puts_last}
+use Rattle.base.proofs.PieceLemmas.{put_none, put_more, put_fails, puts_last}
 use Rattle.aigertext.proofs.SectionLemmas.{name_parts}
 use Rattle.aigertext.proofs.names.put_name.Goals as goal
 

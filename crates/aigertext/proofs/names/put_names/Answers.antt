@@ -1,5 +1,5 @@
 use Rattle.std.proofs.Common.{arith}
-use Rattle.aigertext.proofs.PieceLemmas.{put_more, put_fails}
+use Rattle.base.proofs.PieceLemmas.{put_more, put_fails}
 use Rattle.aigertext.proofs.SectionLemmas.{name_lines_at}
 use Rattle.aigertext.proofs.names.put_names.Goals as goal
 

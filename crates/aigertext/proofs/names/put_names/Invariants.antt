@@ -1,7 +1,7 @@
 use Rattle.std.proofs.Common.{◌≤◌, drop}
 use Rattle.aiger.specs.Circuit.{names_of}
 use Rattle.aigertext.specs.Ascii.{name_lines}
-use Rattle.aigertext.proofs.PieceLemmas.{Put}
+use Rattle.base.proofs.PieceLemmas.{Put}
 use Rattle.aigertext.proofs.names.put_names.Given as goal
 
 abbrev pub invariant-loop-position : goal.invariant-loop-position

@@ -1,5 +1,5 @@
 use Rattle.std.proofs.Common.{arith}
-use Rattle.aigertext.proofs.PieceLemmas.{put_more, put_fails}
+use Rattle.base.proofs.PieceLemmas.{put_more, put_fails}
 use Rattle.aigertext.proofs.SectionLemmas.{gate_lines_at}
 use Rattle.aigertext.proofs.sections.put_gates.Goals as goal
 

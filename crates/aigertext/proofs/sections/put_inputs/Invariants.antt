@@ -1,6 +1,6 @@
 use Rattle.std.proofs.Common.{◌+◌, ◌-◌, ◌≤◌}
 use Rattle.aigertext.specs.Ascii.{input_lines}
-use Rattle.aigertext.proofs.PieceLemmas.{Put}
+use Rattle.base.proofs.PieceLemmas.{Put}
 use Rattle.aigertext.proofs.sections.put_inputs.Given as goal
 
 abbrev pub invariant-loop-index : goal.invariant-loop-index

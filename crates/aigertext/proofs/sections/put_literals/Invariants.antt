@@ -1,6 +1,6 @@
 use Rattle.std.proofs.Common.{◌≤◌, drop}
 use Rattle.aigertext.specs.Ascii.{literal_lines}
-use Rattle.aigertext.proofs.PieceLemmas.{Put}
+use Rattle.base.proofs.PieceLemmas.{Put}
 use Rattle.aigertext.proofs.sections.put_literals.Given as goal
 
 abbrev pub invariant-loop-literal : goal.invariant-loop-literal

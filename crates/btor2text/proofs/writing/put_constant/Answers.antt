@@ -1,6 +1,6 @@
 use Rattle.std.proofs.Common.{◌∷◌, [], ◌++◌, decimal, refl}
 use Rattle.btor2text.specs.Writing.{behind_spaces}
-use Rattle.btor2text.proofs.PieceLemmas.{put_none, put_more, put_fails, puts_last}
+use Rattle.base.proofs.PieceLemmas.{put_none, put_more, put_fails, puts_last}
 use Rattle.btor2text.proofs.writing.put_constant.Goals as goal
 
 pub returns-in-Ok-clause-puts : goal.returns-in-Ok-clause-puts

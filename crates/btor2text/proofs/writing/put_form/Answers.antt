@@ -1,5 +1,5 @@
 use Rattle.std.proofs.Common.{◌∷◌, map, decimal, refl}
-use Rattle.btor2text.proofs.PieceLemmas.{put_none, put_more, put_fails, puts_last}
+use Rattle.base.proofs.PieceLemmas.{put_none, put_more, put_fails, puts_last}
 use Rattle.btor2text.specs.Writing.{behind_spaces}
 use Rattle.btor2text.proofs.writing.put_form.Goals as goal
 

@@ -1,6 +1,6 @@
 use Rattle.std.proofs.Common.{◌≤◌, drop, map, decimal}
 use Rattle.btor2text.specs.Writing.{behind_spaces}
-use Rattle.btor2text.proofs.PieceLemmas.{Put}
+use Rattle.base.proofs.PieceLemmas.{Put}
 use Rattle.btor2text.proofs.writing.put_ids.Given as goal
 
 abbrev pub invariant-loop-id : goal.invariant-loop-id

@@ -1,7 +1,7 @@
 use Rattle.std.proofs.Common.{◌∷◌, [], decimal, refl}
 use Rattle.btor2text.specs.Spelling.{form_tokens, symbol_tokens}
 use Rattle.btor2text.specs.Writing.{behind_spaces, written_line}
-use Rattle.btor2text.proofs.PieceLemmas.{put_none, put_more, put_fails, puts_last}
+use Rattle.base.proofs.PieceLemmas.{put_none, put_more, put_fails, puts_last}
 use Rattle.btor2text.proofs.WritingLemmas.{line_pieces}
 use Rattle.btor2text.proofs.writing.put_item.Goals as goal
 

@@ -1,5 +1,5 @@
 use Rattle.std.proofs.Common.{arith}
-use Rattle.btor2text.proofs.PieceLemmas.{put_more, put_fails}
+use Rattle.base.proofs.PieceLemmas.{put_more, put_fails}
 use Rattle.btor2text.proofs.WritingLemmas.{items_at, few_digits_at}
 use Rattle.btor2text.proofs.writing.put_items.Goals as goal
 

@@ -1,6 +1,6 @@
 use Rattle.std.proofs.Common.{◌≤◌, drop}
 use Rattle.btor2text.specs.Writing.{written}
-use Rattle.btor2text.proofs.PieceLemmas.{Put}
+use Rattle.base.proofs.PieceLemmas.{Put}
 use Rattle.btor2text.proofs.writing.put_items.Given as goal
 
 abbrev pub invariant-loop-item : goal.invariant-loop-item

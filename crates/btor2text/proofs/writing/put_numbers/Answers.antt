@@ -1,5 +1,5 @@
 use Rattle.std.proofs.Common.{refl, arith}
-use Rattle.btor2text.proofs.PieceLemmas.{put_more, put_fails}
+use Rattle.base.proofs.PieceLemmas.{put_more, put_fails}
 use Rattle.btor2text.proofs.WritingLemmas.{numbers_at}
 use Rattle.btor2text.proofs.writing.put_numbers.Goals as goal
 

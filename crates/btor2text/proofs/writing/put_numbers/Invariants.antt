@@ -1,6 +1,6 @@
 use Rattle.std.proofs.Common.{◌≤◌, drop, map, decimal}
 use Rattle.btor2text.specs.Writing.{behind_spaces}
-use Rattle.btor2text.proofs.PieceLemmas.{Put}
+use Rattle.base.proofs.PieceLemmas.{Put}
 use Rattle.btor2text.proofs.writing.put_numbers.Given as goal
 
 abbrev pub invariant-loop-number : goal.invariant-loop-number

@@ -1,5 +1,5 @@
 use Rattle.std.proofs.Common.{◌∷◌, [], refl}
-use Rattle.btor2text.proofs.PieceLemmas.{put_none, put_more, put_fails, puts_last}
+use Rattle.base.proofs.PieceLemmas.{put_none, put_more, put_fails, puts_last}
 use Rattle.btor2text.proofs.writing.put_token.Goals as goal
 
 pub returns-in-Ok-clause-puts : goal.returns-in-Ok-clause-puts

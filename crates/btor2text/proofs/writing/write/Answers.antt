@@ -1,6 +1,6 @@
 use Rattle.std.proofs.lemmas.Result.{on_err_weaker}
 use Rattle.btor2text.specs.Writing.{written}
-use Rattle.btor2text.proofs.PieceLemmas.{rest_fails}
+use Rattle.base.proofs.PieceLemmas.{rest_fails}
 use Rattle.btor2text.proofs.writing.write.Goals as goal
 
 pub returns-in-Ok-clause-err : goal.returns-in-Ok-clause-err

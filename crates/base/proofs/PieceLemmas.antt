@@ -3,7 +3,7 @@ use Rattle.std.proofs.Common.{◌≡◌, ℕ, List, [], ◌++◌, Option, Result
 use Rattle.std.proofs.KnownBytes.{Appends-nil, Appends-trans}
 use Rattle.base.specs.Device.{AppendsBeginning, Sent}
 use Rattle.base.proofs.DeviceLemmas.{sent_on, sent_then_beginning, beginning_longer}
-use Rattle.btor2text.specs.Pieces.{Puts}
+use Rattle.base.specs.Pieces.{Puts}
 
 -- of a whole text a front was put behind what was kept, and this rest of it is still to be put
 pub record Put (old new : Option (List ℕ)) (kept left whole rest : List ℕ) : Type 0 where
