@@ -162,7 +162,7 @@ fn next_bits(alloc: Global, circuit: &Circuit, leaves: &[bool]) -> Result<Vec<bo
 /// The circuit of a text.
 fn circuit_of(alloc: Global, text: &str) -> Option<Circuit> {
     let mut source = text.as_bytes();
-    match btor2text::read(alloc, &mut source) {
+    match btor2text::read_basic(alloc, &mut source) {
         Ok(model) => blast::lower(alloc, &model).ok(),
         Err(_) => None,
     }
