@@ -1,14 +1,15 @@
 -- What calls of a source or a sink do to its bytes and to its count of failures. `Rattle.std.specs.Io.KnownBytes` has the words for one read and one write.
-use Rattle.std.specs.Prelude.{◌≡◌, ℕ, ◌+◌, ◌-◌, ◌^◌, ◌≤◌, min, List, ◌++◌, Option, Result, MatchResult}
+use Rattle.std.specs.Prelude.{◌≡◌, ℕ, List, ◌++◌, Option, Result, MatchResult}
 use Rattle.std.specs.Io.KnownBytes.{Appends}
+use Rattle.base.specs.Steps.{one_more}
 
--- a count of failures has risen; a count at its greatest value of 128 bits counts as risen
+-- a count of failures has risen: there is one failure more; a count at its greatest value of 128 bits counts as risen
 abbrev pub HasRisen : ℕ → ℕ → Type 0
-HasRisen old new = min (old + 1) (2 ^ 128 - 1) ≤ new
+HasRisen old new = new ≡ one_more old
 
--- a count of failures never falls, and it has risen where a call answers a fault
+-- a count of failures is as before where a call succeeds, and has risen where it answers a fault
 abbrev pub CountsFaults : {T E : Type 0} → Result T E → ℕ → ℕ → Type 0
-CountsFaults r old new = (old ≤ new) × MatchResult r (λ _. Unit {0}) (λ _. HasRisen old new)
+CountsFaults r old new = MatchResult r (λ _. new ≡ old) (λ _. HasRisen old new)
 
 -- a list begins with another
 abbrev pub BeginsWith : List ℕ → List ℕ → Type 0
