@@ -13,5 +13,5 @@ loop-position-preserved g c = record {
   put =
       put_more _ _ _ _ _ _ _ _ _ _ c.loop-position.invariant.put c.in-Ok.ensures.puts
       (name_lines_at c.args.letter c.loop-position.position _ (omega arith));
-  counted = omega (arith, c.in-Ok.ensures.failures.0);
+  counted = omega (arith, c.in-Ok.ensures.failures);
 }

@@ -13,6 +13,6 @@ loop-gate-preserved g c = record {
   put =
       put_more _ _ _ _ _ _ _ _ _ _ c.loop-gate.invariant.put c.in-Ok.ensures.puts
       (gate_lines_at c.loop-gate.variable c.loop-gate.gate-index c.args.gates.now c.gate-item.result (omega arith) c.gate-item.is);
-  counted = omega (arith, c.in-Ok.ensures.failures.0);
+  counted = omega (arith, c.in-Ok.ensures.failures);
   in_order = omega arith;
 }

@@ -13,5 +13,5 @@ loop-index-preserved g c = record {
   put =
       put_more _ _ _ _ _ _ _ _ _ _ c.loop-index.invariant.put c.in-Ok.ensures.puts
       (input_lines_at (c.loop-index.index + 1) (c.args.count - c.loop-index.index) (c.args.count - (c.loop-index.index + 1)) (omega arith));
-  counted = omega (arith, c.in-Ok.ensures.failures.0);
+  counted = omega (arith, c.in-Ok.ensures.failures);
 }

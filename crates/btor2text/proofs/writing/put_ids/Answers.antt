@@ -13,5 +13,5 @@ loop-id-preserved g c = record {
   put =
       put_more _ _ _ _ _ _ _ _ _ _ c.loop-id.invariant.put c.in-Ok.ensures.puts
       (numbers_at c.loop-id.id-index c.args.ids.now _ _ (omega arith) c.from.ensures);
-  counted = omega (arith, c.in-Ok.ensures.failures.0);
+  counted = omega (arith, c.in-Ok.ensures.failures);
 }

@@ -16,5 +16,5 @@ loop-item-preserved g c = record {
   put =
       put_more _ _ _ _ _ _ _ _ _ _ c.loop-item.invariant.put c.in-Ok.ensures.puts
       (items_at c.loop-item.item-index c.args.items.now _ _ (omega arith) c.item-item.is);
-  counted = omega (arith, c.in-Ok.ensures.failures.0);
+  counted = omega (arith, c.in-Ok.ensures.failures);
 }
