@@ -9,3 +9,5 @@ pub mod LatchLemmas
 pub mod PropertyLemmas
 pub mod LowerLemmas
 pub mod LowerAssembly
+pub mod ReachLemmas
+pub mod WorkedLowering

@@ -1,7 +1,8 @@
 -- The parts of a lowering, put together.
-use Rattle.std.proofs.Common.{◌≡◌, ℕ, ◌+◌, ◌≤◌, Bool, true, false, ◌&&◌, List, [], ◌∷◌, ◌++◌, length, nat_lt, Option, Some, None, is_none, is_some, if◌then◌else◌, option_and_then, refl, sym, ap, ◌∙◌, subst, arith, length-append}
+use Rattle.std.proofs.Common.{◌≡◌, ℕ, ◌+◌, ◌≤◌, Bool, true, false, ◌&&◌, List, [], ◌∷◌, ◌++◌, length, nat_lt, Option, Some, None, is_none, is_some, if◌then◌else◌, option_and_then, option_map, refl, sym, ap, ◌∙◌, subst, arith, length-append}
 use Rattle.std.proofs.lemmas.List.{length-map, length-replicate}
 use Rattle.std.specs.Prelude.{sum_by}
+use Rattle.std.specs.Option.{option_or}
 use Rattle.std.proofs.lemmas.List.Sums.{sum_by-cons}
 use Rattle.std.proofs.lemmas.Bool.Decides.{nat_tests}
 use Rattle.base.proofs.BitLemmas.{length-bits}
@@ -14,7 +15,7 @@ use Rattle.btor2.proofs.TraceLemmas.{next_state_fits}
 use Rattle.aiger.specs.Limits.{greatest_count}
 use Rattle.aiger.specs.Net.{Net}
 use Rattle.aiger.specs.declared.circuit.Gate.{Gate}
-use Rattle.aiger.specs.Circuit.{Circuit, Names, net, fresh_latch}
+use Rattle.aiger.specs.Circuit.{Circuit, IsCircuit, Names, net, fresh_latch}
 use Rattle.gates.specs.Made.{gates_only}
 use Rattle.blast.specs.declared.fault.LowerFault.TheVariants as fault
 use Rattle.blast.specs.Cost.{bound, state_width}
@@ -22,21 +23,30 @@ use Rattle.blast.specs.Leaves.{of_kind, leaf_resets, resets_of_word, reset_of_bi
 use Rattle.blast.specs.Lowering.{Lowers}
 use Rattle.blast.specs.Reads.{leaves_only, LowersNodes, RowsRead, LatchesRead, BadsRead, ConstraintsRead}
 use Rattle.btor2.specs.Lists.{first_without_next}
-use Rattle.blast.specs.Refusal.{lowering_refusal, refusal_for, too_big}
+use Rattle.blast.specs.declared.fault.LowerFault.{LowerFault}
+use Rattle.blast.specs.Refusal.{IsOfProfile, form_refusal, lowering_refusal, too_big}
 use Rattle.blast.proofs.LowerLemmas.{Observes, show_same}
 
-no_first : (items : List Item) (o : Option ℕ) → refusal_for items o ≡ None → o ≡ None
-no_first items None e = refl
-no_first items (Some id) e = absurd (cc)
+no_first : (o : Option ℕ) → option_map fault.NoNext o ≡ None → o ≡ None
+no_first None e = refl
+no_first (Some id) e = absurd (cc)
 
--- in a model that is not refused each state has a next
-pub nexts_given : (items : List Item) → lowering_refusal items ≡ None → first_without_next items items ≡ None
-nexts_given items e = no_first items (first_without_next items items) e
+-- in a model of the profile each state has a next
+pub nexts_given : (items : List Item) → IsOfProfile items → first_without_next items items ≡ None
+nexts_given items e = no_first (first_without_next items items) e
+
+-- a model that is not refused is of the profile
+pub profile_given : (items : List Item) → lowering_refusal items ≡ None → IsOfProfile items
+profile_given items e = by (form_refusal items) e
+  where
+    by : (o : Option LowerFault) → option_or o (too_big items) ≡ None → o ≡ None
+    by None e = refl
+    by (Some f) e = absurd (cc)
 
 -- and its bound is small enough
 pub bound_given : (items : List Item) → lowering_refusal items ≡ None → bound items ≤ greatest_count
 bound_given items e =
-    let small : too_big items ≡ None = rw (nexts_given items e) at e in
+    let small : too_big items ≡ None = rw (profile_given items e) at e in
     by_test (nat_lt greatest_count (bound items)) refl small
   where
     by_test : (b : Bool) → nat_lt greatest_count (bound items) ≡ b → (if b then Some fault.TooBig else None) ≡ None → bound items ≤ greatest_count
@@ -58,7 +68,7 @@ has_next items (y ∷ front) back x state none = later (has_next items front bac
     later rest false none = rest none
 
 -- by ids
-nexts_by_id : (items : List Item) → first_without_next items items ≡ None → (id : ℕ) → names_state items id ≡ true → is_some (next_value items id) ≡ true
+pub nexts_by_id : (items : List Item) → first_without_next items items ≡ None → (id : ℕ) → names_state items id ≡ true → is_some (next_value items id) ≡ true
 nexts_by_id items none id names = by_item (find_item items id) refl names
   where
     state_of : (x : Item) (b : Bool) → is_state x.body ≡ b → is_some (if b then Some x else None) ≡ true → is_state x.body ≡ true
@@ -74,7 +84,7 @@ nexts_by_id items none id names = by_item (find_item items id) refl names
         rw known.1 (has_next items known.0.before known.0.after x (state_of x (is_state x.body) refl some) whole)
 
 -- as many resets as bits
-length-resets : (w : ℕ) (o : Option ℕ) → length (resets_of_word w o) ≡ w
+pub length-resets : (w : ℕ) (o : Option ℕ) → length (resets_of_word w o) ≡ w
 length-resets w None = length-replicate w _
 length-resets w (Some x) = length-map _ reset_of_bit ∙ length-bits w x
 
@@ -83,7 +93,7 @@ abbrev state_sum : List Item → List Item → ℕ
 state_sum items xs = sum_by (λ (x : Item). if is_state x.body then bits_of items x.id else 0) xs
 
 -- the states' resets are as many as their bits
-length-state_resets : (items xs : List Item) → length (of_kind is_state (leaf_resets items) xs) ≡ state_sum items xs
+pub length-state_resets : (items xs : List Item) → length (of_kind is_state (leaf_resets items) xs) ≡ state_sum items xs
 length-state_resets items [] = refl
 length-state_resets items (x ∷ xs) = by_kind (is_state x.body) (length-state_resets items xs) ∙ sym (sum_by-cons (λ (y : Item). if is_state y.body then bits_of items y.id else 0) x xs)
   where
@@ -102,14 +112,14 @@ net_same i j k l g h p q r = rw (p, q, r) refl
 
 -- the parts of a lowering make one
 pub assemble : (items : List Item) (n : Net) (rows : List (List ℕ)) (c1 c2 c3 c4 : Circuit) (unnamed_bads unnamed_constraints : Names)
-    → IsWellFormed items → lowering_refusal items ≡ None
+    → IsWellFormed items → IsOfProfile items → IsCircuit c4
     → LowersNodes items (leaves_only items) n rows → c1 ≡ gates_only n
     → LatchesRead items (net c1) items c2.latches → c2 ≡ record c1 { latches = c2.latches }
     → BadsRead items (net c2) items c3.bads → ConstraintsRead items (net c2) items c3.constraints
     → c3 ≡ record c2 { bads = c3.bads; constraints = c3.constraints; bad_names = unnamed_bads; constraint_names = unnamed_constraints }
     → c4 ≡ record c3 { input_names = input_names items; latch_names = state_names items; bad_names = bad_names items; constraint_names = constraint_names items }
     → Lowers items c4
-assemble items n rows c1 c2 c3 c4 unnamed_bads unnamed_constraints well accepted nodes is1 latches is2 bads constraints is3 is4 =
+assemble items n rows c1 c2 c3 c4 unnamed_bads unnamed_constraints well profile circuit nodes is1 latches is2 bads constraints is3 is4 =
     let inputs1 : c1.inputs ≡ n.inputs = ap (λ (c : Circuit). c.inputs) is1 in
     let inputs2 : c2.inputs ≡ c1.inputs = ap (λ (c : Circuit). c.inputs) is2 in
     let inputs4 : c4.inputs ≡ c2.inputs = ap (λ (c : Circuit). c.inputs) is4 ∙ ap (λ (c : Circuit). c.inputs) is3 in
@@ -127,10 +137,13 @@ assemble items n rows c1 c2 c3 c4 unnamed_bads unnamed_constraints well accepted
       latches = subst (λ (m : Net). LatchesRead items m items c4.latches) (sym (net4 ∙ net2)) (rw latches4 latches);
       bads = subst (λ (m : Net). BadsRead items m items c4.bads) (sym net4) (rw bads4 bads);
       constraints = subst (λ (m : Net). ConstraintsRead items m items c4.constraints) (sym net4) (rw constraints4 constraints);
-      stays = λ state input f fits in_fits frame. next_state_fits items state input f well fits in_fits frame (nexts_by_id items (nexts_given items accepted));
+      stays = λ state input f fits in_fits frame. next_state_fits items state input f well fits in_fits frame (nexts_by_id items (nexts_given items profile));
     } in
     let more = nodes.grows.gates in
     record {
+      well_formed = well;
+      of_profile = profile;
+      circuit = circuit;
       inputs = inputs4 ∙ inputs2 ∙ inputs1 ∙ nodes.grows.inputs;
       input_names = ap (λ (c : Circuit). c.input_names) is4;
       latch_names = ap (λ (c : Circuit). c.latch_names) is4;

@@ -4,6 +4,7 @@ use Rattle.std.specs.Io.KnownBytes.{Appends}
 use Rattle.base.specs.Device.{AppendsBeginning, HasRisen}
 use Rattle.btor2.specs.declared.item.Item.{Item}
 use Rattle.btor2text.specs.declared.fault.ReadFault.{ReadFault}
+use Rattle.btor2text.specs.declared.fault.Why.{Why}
 use Rattle.btor2text.specs.declared.fault.Why.TheVariants as why
 use Rattle.btor2text.specs.declared.forms.Forms.TheVariants as forms
 use Rattle.btor2text.specs.FirstFault.{IsFaultOf}
@@ -74,9 +75,13 @@ abbrev pub IsBeforeWriting : ConvertFault → Type 0
 IsBeforeWriting (fault.Write e) = ⊥
 IsBeforeWriting _ = Unit {0}
 
--- a fault of a device comes only with a risen count of that device
+-- a count of failures has risen exactly where the device failed: that of the source where reading failed for it, that of the sink where writing failed; else both are as before
+abbrev pub ReadFailures : Why → ℕ → ℕ → Type 0
+ReadFailures why.Device old new = HasRisen old new
+ReadFailures _ old new = new ≡ old
+
 abbrev pub RaisesFailures : Result (Unit {0}) ConvertFault → ℕ → ℕ → ℕ → ℕ → Type 0
-RaisesFailures (Ok u) source source' sink sink' = Unit {0}
-RaisesFailures (Err (fault.Read e)) source source' sink sink' = e.why ≡ why.Device → HasRisen source source'
-RaisesFailures (Err (fault.Lower e)) source source' sink sink' = Unit {0}
-RaisesFailures (Err (fault.Write e)) source source' sink sink' = HasRisen sink sink'
+RaisesFailures (Ok u) source source' sink sink' = (source' ≡ source) × (sink' ≡ sink)
+RaisesFailures (Err (fault.Read e)) source source' sink sink' = ReadFailures e.why source source' × (sink' ≡ sink)
+RaisesFailures (Err (fault.Lower e)) source source' sink sink' = (source' ≡ source) × (sink' ≡ sink)
+RaisesFailures (Err (fault.Write e)) source source' sink sink' = (source' ≡ source) × HasRisen sink sink'

@@ -1,12 +1,14 @@
 -- A circuit lowers a model (the profile of this project, over the traces of both formats).
 use Rattle.std.specs.Prelude.{◌≡◌, ◌≤◌, List, [], ◌∷◌, length, map}
 use Rattle.btor2.specs.declared.item.Item.{Item}
+use Rattle.btor2.specs.Check.{IsWellFormed}
 use Rattle.btor2.specs.Trace.{Frame, IsInitial, AreInputs, IsTrace}
 use Rattle.aiger.specs.Literal.{Valuation, literal_value}
-use Rattle.aiger.specs.Circuit.{Circuit}
+use Rattle.aiger.specs.Circuit.{Circuit, IsCircuit}
 use Rattle.aiger.specs.Trace.{IsTrace as IsCircuitTrace}
 use Rattle.blast.specs.Leaves.{input_bits, state_bits, input_names, state_names, bad_names, constraint_names, state_resets, bad_values, constraint_values}
 use Rattle.blast.specs.Cost.{cost, input_width}
+use Rattle.blast.specs.Refusal.{IsOfProfile}
 
 -- a frame of the model and a valuation of the circuit show the same bad properties and constraints
 pub record ShowsSame (items : List Item) (c : Circuit) (f : Frame) (v : Valuation) : Type 0 where
@@ -22,6 +24,10 @@ ShowSame items c (f ∷ fs) (v ∷ vs) = ShowsSame items c f v × ShowSame items
 
 -- a circuit lowers a model: its inputs and latches are the model's bits, and under the same words both show the same bad properties and constraints in every frame
 pub record Lowers (items : List Item) (c : Circuit) : Type 0 where
+  -- the model is one of the profile, and the circuit is one: its gates are in order, and every literal is of a variable that is there
+  pub well_formed : IsWellFormed items
+  pub of_profile : IsOfProfile items
+  pub circuit : IsCircuit c
   -- inputs and latches are the bits of the inputs and the states, in file order, the lowest first; names and resets are theirs
   pub inputs : c.inputs ≡ input_width items
   pub input_names : c.input_names ≡ input_names items

@@ -1,11 +1,12 @@
 -- Worked rows: small models whose lowering can be worked out by hand. The model of one bit that toggles is `toggler` of the models' crate.
-use Rattle.std.specs.Prelude.{ℕ, List, [], ◌∷◌, Some, codes}
+use Rattle.std.specs.Prelude.{ℕ, List, [], ◌∷◌, None, Some, codes}
 use Rattle.base.specs.declared.operators.Unary.TheVariants as unary
 use Rattle.base.specs.declared.operators.Binary.TheVariants as binary
 use Rattle.btor2.specs.declared.item.Item.{Item}
 use Rattle.btor2.specs.declared.item.Body.{Body}
 use Rattle.btor2.specs.declared.item.Body.TheVariants as body
 use Rattle.btor2.specs.Worked.{line}
+use Rattle.aiger.specs.Circuit.{Circuit}
 
 -- an item with a name
 abbrev pub named : ℕ → List ℕ → Body → Item
@@ -34,3 +35,28 @@ named_toggler =
     ∷ named 8 (codes "x") (body.Input 1)
     ∷ line 9 (body.Constraint 8)
     ∷ []
+
+-- two bits of input, bad where both are 1
+abbrev pub gated : List Item
+gated =
+    line 1 (body.Sort 1)
+    ∷ line 2 (body.Input 1)
+    ∷ line 3 (body.Input 1)
+    ∷ line 4 (body.Binary binary.And 1 2 3)
+    ∷ line 5 (body.Bad 4)
+    ∷ []
+
+-- two inputs, a bad property that is false, and a gate that would be its own negation, which no valuation satisfies
+abbrev pub unsatisfied : Circuit
+unsatisfied =
+    record {
+      inputs = 2;
+      latches = [];
+      gates = record { rhs0 = 7; rhs1 = 1 } ∷ [];
+      bads = 0 ∷ [];
+      constraints = [];
+      input_names = None ∷ None ∷ [];
+      latch_names = [];
+      bad_names = None ∷ [];
+      constraint_names = [];
+    }

@@ -1,15 +1,55 @@
-//! Theorems on the definitions of costs, leaves and refusals, as functions with no code.
-ghost use Rattle.std.specs.Prelude.{◌≡◌, [], ◌∷◌, true, false, None, Some, codes};
+//! Theorems on the definitions of lowerings, costs, leaves and refusals, as functions with no code.
+ghost use Rattle.std.specs.Prelude.{◌≡◌, ◌↔◌, ℕ, List, [], ◌∷◌, true, false, map, None, Some, codes};
+ghost use Rattle.aiger.specs.Literal.{Valuation};
+ghost use Rattle.aiger.specs.Circuit.{Circuit};
+ghost use Rattle.aiger.specs.Trace.{AreInitial, IsTrace as IsCircuitTrace};
+ghost use Rattle.aiger.specs.Worked.{toggler as toggler_circuit};
 ghost use Rattle.aiger.specs.declared.circuit.Reset.TheVariants as reset;
 ghost use Rattle.base.specs.declared.operators.Unary.TheVariants as unary;
 ghost use Rattle.base.specs.declared.operators.Binary.TheVariants as binary;
+ghost use Rattle.btor2.specs.declared.item.Item.{Item};
 ghost use Rattle.btor2.specs.declared.item.Body.TheVariants as body;
+ghost use Rattle.btor2.specs.Trace.{Frame, IsInitial, AreInputs};
 ghost use Rattle.btor2.specs.Worked.{toggler, nextless};
 ghost use Rattle.blast.specs.declared.fault.LowerFault.TheVariants as fault;
 ghost use Rattle.blast.specs.Cost.{line_cost, cost, input_width, state_width, bound};
 ghost use Rattle.blast.specs.Leaves.{bit_name, input_bits, state_bits, input_names, state_names, bad_names, constraint_names, resets_of_word, state_resets, bad_values, constraint_values};
-ghost use Rattle.blast.specs.Refusal.{lowering_refusal};
-ghost use Rattle.blast.specs.Worked.{masked, named_toggler};
+ghost use Rattle.blast.specs.Lowering.{Lowers};
+ghost use Rattle.blast.specs.Reachability.{CanRise, CanRiseInCircuit};
+ghost use Rattle.blast.specs.Refusal.{form_refusal, lowering_refusal};
+ghost use Rattle.blast.specs.Worked.{masked, named_toggler, gated, unsatisfied};
+
+/// A law: from the bits of all initial words that agree with a model's init lines, and under the bits of all words of its
+/// inputs, a circuit that lowers the model has a trace, and these are initial bits of the circuit.
+pub fn a_lowered_circuit_runs()
+    ensures initial { (items : List Item) (c : Circuit) → Lowers items c
+        → (state : Frame) → IsInitial items state → AreInitial c.latches (state_bits items state) }
+    ensures exists { (items : List Item) (c : Circuit) → Lowers items c
+        → (state : Frame) (inputs : List Frame) → IsInitial items state → AreInputs items inputs
+        → (vs : List Valuation) × IsCircuitTrace c (state_bits items state) (map (input_bits items) inputs) vs }
+{
+    aiger::exactly_one_trace();
+}
+
+/// A law: a bad property can rise in a circuit that lowers a model, while all constraints hold so far, exactly where it can
+/// in the model; from the initial words that the init lines allow, and the initial bits that the resets allow.
+pub fn bad_properties_rise_alike()
+    ensures { (items : List Item) (c : Circuit) (b : ℕ) → Lowers items c → CanRise items b ↔ CanRiseInCircuit c b }
+{
+    aiger::exactly_one_trace();
+    btor2::exactly_one_trace();
+}
+
+/// Worked rows: a circuit that lowers a model; a circuit that lowers none, since a gate has an operand above it and no
+/// valuation satisfies it; and a model that no circuit lowers, since a state has no next line.
+pub fn worked_lowerings()
+    ensures lowers { Lowers toggler toggler_circuit }
+    ensures is_no_circuit { ¬ Lowers gated unsatisfied }
+    ensures is_not_of_profile { (c : Circuit) → ¬ Lowers nextless c }
+{
+    aiger::worked_traces();
+    btor2::worked_traces();
+}
 
 /// Worked rows: the gates and the variables at most of a bit that toggles, and of two bits that are masked.
 pub fn worked_costs()
@@ -59,4 +99,5 @@ pub fn worked_names()
 pub fn worked_refusals()
     ensures accepted { lowering_refusal masked ≡ None }
     ensures no_next { lowering_refusal nextless ≡ Some (fault.NoNext 3) }
+    ensures by_form { form_refusal nextless ≡ Some (fault.NoNext 3) }
 {}

@@ -64,7 +64,11 @@ fn lower_accepted(alloc: Global, model: &Model) -> Result<Circuit, LowerFault>
         Err(fault) => return Err(fault),
     }
     match set_names(model, &mut circuit) {
-        Ok(()) => Ok(circuit),
+        Ok(()) => {
+            // what a circuit keeps
+            let _ = circuit.gates();
+            Ok(circuit)
+        }
         Err(fault) => Err(fault),
     }
 }

@@ -6,3 +6,4 @@ pub mod ElsewhereLemmas
 pub mod NextLemmas
 pub mod PushLemmas
 pub mod TraceLemmas
+pub mod ConstantLemmas

@@ -1,7 +1,7 @@
-use Rattle.std.proofs.Common.{◌≡◌, subst, refl, ◌∙◌}
+use Rattle.std.proofs.Common.{◌≡◌, subst, refl, ◌∙◌, rules}
 use Rattle.aiger.specs.Net.{Net}
 use Rattle.blast.specs.Reads.{leaves_only, LowersNodes}
-use Rattle.blast.proofs.LowerAssembly.{assemble, rows_still}
+use Rattle.blast.proofs.LowerAssembly.{assemble, profile_given, rows_still}
 use Rattle.blast.proofs.lowering.lower_accepted.Goals as goal
 
 pub push_properties-requires-clause-reads : goal.push_properties-requires-clause-reads
@@ -17,5 +17,5 @@ returns-in-Ok-set_names-clause-ok c =
     let leaves : c.in-Ok.gates ≡ leaves_only items = c.in-Ok.ensures.ok ∙ rw (c.input_width-inputs.ensures, c.state_width-latches.ensures) refl in
     let nodes : LowersNodes items (leaves_only items) c.lower_nodes.new.gates c.in-Ok-lower_nodes.table = subst (λ (n : Net). LowersNodes items n c.lower_nodes.new.gates c.in-Ok-lower_nodes.table) leaves c.in-Ok-lower_nodes.ensures.ok in
     assemble items c.lower_nodes.new.gates c.in-Ok-lower_nodes.table c.finish-circuit.result c.set_latches.new.circuit c.push_properties.new.circuit c.set_names.new.circuit _ _
-    c.requires.well_formed c.requires.accepted nodes c.finish-circuit.ensures c.set_latches.ensures.latches c.set_latches.ensures.others c.in-Ok-push_properties.ensures.bads c.in-Ok-push_properties.ensures.constraints
+    c.requires.well_formed (profile_given items c.requires.accepted) (search rules) nodes c.finish-circuit.ensures c.set_latches.ensures.latches c.set_latches.ensures.others c.in-Ok-push_properties.ensures.bads c.in-Ok-push_properties.ensures.constraints
     c.in-Ok-push_properties.ensures.others c.in-Ok-set_names.ensures.ok

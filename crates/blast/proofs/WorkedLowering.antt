@@ -1,0 +1,62 @@
+-- The circuit of the model that toggles a bit, worked out by hand.
+use Rattle.std.proofs.Common.{◌≡◌, ℕ, ◌-◌, ◌%◌, ◌<◌, rules, Bool, not, ◌==◌, List, [], ◌∷◌, refl, sym, ap, ◌∙◌, arith}
+use Rattle.std.proofs.lemmas.Bool.Decides.{nat_tests}
+use Rattle.btor2.specs.Check.{IsWellFormed}
+use Rattle.btor2.specs.Trace.{Frame}
+use Rattle.btor2.specs.Worked.{toggler}
+use Rattle.btor2.proofs.TraceLemmas.{next_state_fits}
+use Rattle.aiger.specs.Literal.{Valuation}
+use Rattle.aiger.specs.Circuit.{IsCircuit, net}
+use Rattle.aiger.specs.Worked.{toggler as toggler_circuit}
+use Rattle.blast.specs.Lowering.{Lowers}
+use Rattle.blast.specs.Reads.{Together}
+use Rattle.blast.proofs.LowerAssembly.{nexts_by_id}
+use Rattle.blast.proofs.LowerLemmas.{Observes, show_same}
+
+-- a bit and its negation, as words and as bits
+bit_is : (x : ℕ) → x < 2 → (x % 2 == 1) ≡ (x == 1)
+bit_is x h = grind (arith, nat_tests)
+
+bit_negated : (x : ℕ) → x < 2 → not (x % 2 == 1) ≡ ((1 - x) % 2 == 1)
+bit_negated x h = grind (arith, nat_tests)
+
+head_same : {A : Type 0} (x y : A) → (let l : List A = x ∷ [] in l) ≡ y ∷ [] → x ≡ y
+head_same x y e = cc
+
+module _ (state input f : Frame) (v : Valuation) (t : Together toggler (net toggler_circuit) state input f v) where
+  latch : v 1 ≡ (state 3 % 2 == 1)
+  latch = head_same (v 1) (state 3 % 2 == 1) t.latches
+
+  small : state 3 < 2
+  small = t.state_fits.1.1.0
+
+  next : not (v 1) ≡ (f 5 % 2 == 1)
+  next = ap not latch ∙ bit_negated (state 3) small ∙ ap (λ (n : ℕ). n % 2 == 1) (sym (t.frame.1.1.1.1.0 ∙ ap (λ (n : ℕ). 1 - n) t.frame.1.1.0))
+
+  bad : v 1 ≡ (f 3 == 1)
+  bad = latch ∙ bit_is (state 3) small ∙ ap (λ (n : ℕ). n == 1) (sym t.frame.1.1.0)
+
+observes : IsWellFormed toggler → Observes toggler toggler_circuit
+observes well =
+    record {
+      latches = record { defined = search rules; resets = refl; nexts = λ state input f v t. ap (λ (b : Bool). b ∷ []) (next state input f v t) };
+      bads = record { values = λ state input f v t. ap (λ (b : Bool). b ∷ []) (bad state input f v t) };
+      constraints = record { values = λ state input f v t. refl };
+      stays = λ state input f fits in_fits frame. next_state_fits toggler state input f well fits in_fits frame (nexts_by_id toggler refl);
+    }
+
+pub toggler_lowered : IsWellFormed toggler → IsCircuit toggler_circuit → Lowers toggler toggler_circuit
+toggler_lowered well circuit =
+    record {
+      well_formed = well;
+      of_profile = refl;
+      circuit = circuit;
+      inputs = refl;
+      input_names = refl;
+      latch_names = refl;
+      resets = refl;
+      bad_names = refl;
+      constraint_names = refl;
+      few_gates = omega arith;
+      frames = λ state inputs initial in_fit fs t vs u. show_same toggler toggler_circuit (observes well) state inputs fs vs initial.fits in_fit t u;
+    }
