@@ -1,4 +1,4 @@
-ghost use Rattle.std.specs.Prelude.{◌≡◌, ◌⊎◌, ◌≤◌, ℕ, List, Some, true, IfOk, IfErr, IfSome, OnOk};
+ghost use Rattle.std.specs.Prelude.{◌≡◌, ◌⊎◌, ℕ, List, Some, true, IfOk, IfErr, IfSome, OnOk};
 ghost use Rattle.std.specs.Io.KnownBytes.{IsAtEnd};
 ghost use Rattle.base.specs.Device.{HasRisen};
 ghost use Rattle.base.specs.Lines.{whole_lines, unfinished};
@@ -95,8 +95,9 @@ fn read_forms<S: Source>(forms: Forms, alloc: Global, source: &mut S) -> Result<
     ensures only { (text : List ℕ) (items : List Item) → S.to_come source.old ≡ Some text → StandsFor forms text items → ReadsAs result items }
     ensures fault { IfErr result (λ e. IfSome (S.to_come source.old) (λ text. (e.why ≡ Why.Device) ⊎ ((e.why ≡ Why.NoMemory) ⊎ IsFaultOf forms text e))) }
     ensures end { OnOk result (IsAtEnd (S.to_come source.new)) }
-    ensures counted { S.failures source.old ≤ S.failures source.new }
+    ensures counted { OnOk result (S.failures source.new ≡ S.failures source.old) }
     ensures device { IfErr result (λ e. e.why ≡ Why.Device → HasRisen (S.failures source.old) (S.failures source.new)) }
+    ensures unfailed { IfErr result (λ e. ¬ (e.why ≡ Why.Device) → S.failures source.new ≡ S.failures source.old) }
     ensures place { IfErr result (λ e. (e.why ≡ Why.Device) ⊎ (e.why ≡ Why.NoMemory) → e.line ≡ 0) }
 {
     match read_all(alloc, source) {
@@ -118,8 +119,9 @@ pub fn read<S: Source>(alloc: Global, source: &mut S) -> Result<Model, ReadFault
     // a fault that is neither is that of the first line that has one, by its first why
     ensures fault { IfErr result (λ e. IfSome (S.to_come source.old) (λ text. (e.why ≡ Why.Device) ⊎ ((e.why ≡ Why.NoMemory) ⊎ IsFaultOf forms.All text e))) }
     ensures end { OnOk result (IsAtEnd (S.to_come source.new)) }
-    ensures counted { S.failures source.old ≤ S.failures source.new }
+    ensures counted { OnOk result (S.failures source.new ≡ S.failures source.old) }
     ensures device { IfErr result (λ e. e.why ≡ Why.Device → HasRisen (S.failures source.old) (S.failures source.new)) }
+    ensures unfailed { IfErr result (λ e. ¬ (e.why ≡ Why.Device) → S.failures source.new ≡ S.failures source.old) }
     ensures place { IfErr result (λ e. (e.why ≡ Why.Device) ⊎ (e.why ≡ Why.NoMemory) → e.line ≡ 0) }
 {
     read_forms(Forms::All, alloc, source)
@@ -139,8 +141,9 @@ pub fn read_basic<S: Source>(alloc: Global, source: &mut S) -> Result<Model, Rea
     // a fault that is neither is that of the first line that has one, by its first why
     ensures fault { IfErr result (λ e. IfSome (S.to_come source.old) (λ text. (e.why ≡ Why.Device) ⊎ ((e.why ≡ Why.NoMemory) ⊎ IsFaultOf forms.Basic text e))) }
     ensures end { OnOk result (IsAtEnd (S.to_come source.new)) }
-    ensures counted { S.failures source.old ≤ S.failures source.new }
+    ensures counted { OnOk result (S.failures source.new ≡ S.failures source.old) }
     ensures device { IfErr result (λ e. e.why ≡ Why.Device → HasRisen (S.failures source.old) (S.failures source.new)) }
+    ensures unfailed { IfErr result (λ e. ¬ (e.why ≡ Why.Device) → S.failures source.new ≡ S.failures source.old) }
     ensures place { IfErr result (λ e. (e.why ≡ Why.Device) ⊎ (e.why ≡ Why.NoMemory) → e.line ≡ 0) }
 {
     read_forms(Forms::Basic, alloc, source)
