@@ -6,9 +6,13 @@ use Rattle.std.specs.List.{list_any}
 abbrev pub text_of_lines : List (List ℕ) → List ℕ
 text_of_lines lines = flat_map (λ line. line ++ 10 ∷ []) lines
 
+-- none of some bytes is this byte
+abbrev pub HasNone : ℕ → List ℕ → Type 0
+HasNone byte bytes = list_any (λ b. b == byte) bytes ≡ false
+
 -- no byte of a line is a byte 10
 abbrev pub IsLine : List ℕ → Type 0
-IsLine line = list_any (λ b. b == 10) line ≡ false
+IsLine line = HasNone 10 line
 
 -- a byte more at the front of the first line; where no line is left, it is of the unfinished rest
 abbrev pub onto_first : ℕ → List (List ℕ) → List (List ℕ)

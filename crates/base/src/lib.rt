@@ -25,7 +25,7 @@ pub use laws::{
     rotations_return, shifts_agree, signs_of_remainders, tests_decide, values_fit,
     wider_words_keep_numbers, words_stand_for_numbers, worked_decimals, worked_lines, worked_words,
 };
-pub use lines::next_line;
+pub use lines::{cut_at, next_line};
 pub use operators::{Binary, Unary};
 pub use outbox::Outbox;
 pub use signed::ones;

@@ -1,3 +1,7 @@
+//! The operators that BTOR2 names, and the widths of what they give.
+ghost use Rattle.std.specs.Prelude.{◌≡◌};
+ghost use Rattle.base.specs.Widths.{is_reduction, is_of_bits, is_test, unary_width, binary_width};
+
 /// The operators of one operand that BTOR2 names.
 #[derive(Clone, Copy, Debug, PartialEq, Eq)]
 pub enum Unary {
@@ -15,6 +19,22 @@ pub enum Unary {
     Redor,
     /// `redxor`: whether an odd number of bits is 1.
     Redxor,
+}
+
+impl Unary {
+    /// Whether it is a reduction, which gives one bit.
+    pub fn is_reduction(self) -> bool
+        ensures { result ≡ is_reduction self }
+    {
+        matches!(self, Unary::Redand | Unary::Redor | Unary::Redxor)
+    }
+
+    /// The width in bits of what it gives for an operand of a width.
+    pub fn width(self, operand: u64) -> u64
+        ensures { result ≡ unary_width self operand }
+    {
+        if self.is_reduction() { 1 } else { operand }
+    }
 }
 
 /// The operators of two operands that BTOR2 names.
@@ -96,4 +116,66 @@ pub enum Binary {
     Smulo,
     /// `sdivo`: whether the quotient of signed numbers is none of the width: the least number by -1.
     Sdivo,
+}
+
+impl Binary {
+    /// Whether it only takes single bits.
+    pub fn is_of_bits(self) -> bool
+        ensures { result ≡ is_of_bits self }
+    {
+        matches!(self, Binary::Iff | Binary::Implies)
+    }
+
+    /// Whether it is a test, which gives one bit.
+    pub fn is_test(self) -> bool
+        ensures { result ≡ is_test self }
+    {
+        match self {
+            Binary::Iff
+            | Binary::Implies
+            | Binary::Eq
+            | Binary::Neq
+            | Binary::Ugt
+            | Binary::Ugte
+            | Binary::Ult
+            | Binary::Ulte
+            | Binary::Sgt
+            | Binary::Sgte
+            | Binary::Slt
+            | Binary::Slte
+            | Binary::Uaddo
+            | Binary::Saddo
+            | Binary::Usubo
+            | Binary::Ssubo
+            | Binary::Umulo
+            | Binary::Smulo
+            | Binary::Sdivo => true,
+            Binary::And
+            | Binary::Nand
+            | Binary::Or
+            | Binary::Nor
+            | Binary::Xor
+            | Binary::Xnor
+            | Binary::Rol
+            | Binary::Ror
+            | Binary::Sll
+            | Binary::Srl
+            | Binary::Sra
+            | Binary::Add
+            | Binary::Sub
+            | Binary::Mul
+            | Binary::Udiv
+            | Binary::Sdiv
+            | Binary::Urem
+            | Binary::Srem
+            | Binary::Smod => false,
+        }
+    }
+
+    /// The width in bits of what it gives for two operands of a width.
+    pub fn width(self, operands: u64) -> u64
+        ensures { result ≡ binary_width self operands }
+    {
+        if self.is_test() { 1 } else { operands }
+    }
 }

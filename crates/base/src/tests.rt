@@ -1,7 +1,48 @@
+//! What no clause says: that calls succeed, what is printed, and that nothing is tried again.
 use super::*;
 use crate::signed::wrap;
 use std::collections::VecDeque;
+use std::io::{self, ErrorKind, Read, Write};
 use std::test::Fail;
+
+/// A device of std that fails at its second call alone. It gives or takes one byte a call, and gives three.
+#[derive(Drop)]
+struct FailsOnce {
+    calls: u8,
+    kind: ErrorKind,
+}
+
+impl FailsOnce {
+    /// One call: a byte, nothing behind the third, or the one failure.
+    fn call(&mut self) -> io::Result<usize> {
+        self.calls = self.calls.saturating_add(1);
+        match self.calls {
+            2 => Err(io::Error::from(self.kind)),
+            1 | 3 | 4 => Ok(1),
+            _ => Ok(0),
+        }
+    }
+}
+
+impl Read for FailsOnce {
+    fn read(&mut self, buf: &mut [u8]) -> io::Result<usize> {
+        let count = self.call()?.min(buf.len());
+        for byte in &mut buf[..count] {
+            *byte = 7;
+        }
+        Ok(count)
+    }
+}
+
+impl Write for FailsOnce {
+    fn write(&mut self, bytes: &[u8]) -> io::Result<usize> {
+        Ok(self.call()?.min(bytes.len()))
+    }
+
+    fn flush(&mut self) -> io::Result<()> {
+        Ok(())
+    }
+}
 
 /// A source that gives one byte and then fails.
 #[derive(Drop)]
@@ -241,6 +282,42 @@ fn a_source_is_read_to_its_end(rt: HostRuntime) -> Result<(), Fail> {
 }
 
 #[test]
+fn a_call_that_failed_is_not_tried_again(rt: HostRuntime) -> Result<(), Fail> {
+    for kind in [
+        ErrorKind::Interrupted,
+        ErrorKind::WouldBlock,
+        ErrorKind::BrokenPipe,
+    ] {
+        // A second try would find the two bytes behind the failure.
+        let mut source = FromReader::new(FailsOnce { calls: 0, kind });
+        assert_eq!(rt;
+            read_all(rt.alloc(), &mut source).err(),
+            Some(ReadAllFault::Device)
+        );
+        assert_eq!(rt;
+            read_all(rt.alloc(), &mut source)?.as_slice(),
+            b"\x07\x07".as_slice()
+        );
+        // A second try would take the second byte and the third.
+        let mut sink = ToWriter::new(FailsOnce { calls: 0, kind });
+        assert_eq!(rt; write_all(&mut sink, b"abc"), Err(DeviceFault::Failed));
+        assert_eq!(rt; write_all(&mut sink, b"bc"), Ok(()));
+        // It takes nothing more, which is a fault too.
+        assert_eq!(rt; write_all(&mut sink, b"d"), Err(DeviceFault::Failed));
+    }
+    Ok(())
+}
+
+#[test]
+fn operators_give_widths(rt: HostRuntime) {
+    assert_eq!(rt; (Unary::Not.width(8), Unary::Redor.width(8)), (8, 1));
+    assert_eq!(rt; (Binary::Add.width(8), Binary::Ult.width(8)), (8, 1));
+    assert!(rt; Unary::Redxor.is_reduction() && !Unary::Neg.is_reduction());
+    assert!(rt; Binary::Iff.is_of_bits() && !Binary::Xnor.is_of_bits());
+    assert!(rt; Binary::Sdivo.is_test() && !Binary::Sdiv.is_test());
+}
+
+#[test]
 fn an_outbox_writes_what_it_was_given(rt: HostRuntime) -> Result<(), Fail> {
     let mut whole = VecSink::new(rt.alloc());
     let mut outbox = Outbox::new();
@@ -297,6 +374,10 @@ fn lines_and_decimals(rt: HostRuntime) {
         Some((b"a b".as_slice(), b"\nc".as_slice()))
     );
     assert_eq!(rt; next_line(b"c"), None);
+    assert_eq!(rt;
+        cut_at(b"b0 j1", b' '),
+        Some((b"b0".as_slice(), b"j1".as_slice()))
+    );
     assert_eq!(rt; decimal(b"18446744073709551616"), Some(u64::MAX));
     assert_eq!(rt; decimal(b"042"), None);
 }

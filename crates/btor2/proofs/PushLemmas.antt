@@ -8,6 +8,7 @@ use Rattle.btor2.specs.declared.item.Body.TheVariants as body
 use Rattle.btor2.specs.Items.{init_for, next_for, init_value, next_value}
 use Rattle.btor2.specs.Check.{refusal, IsWellFormed}
 use Rattle.btor2.specs.Index.{position_elsewhere}
+use Rattle.btor2.specs.Parts.{HasSoundParts, HaveSoundParts}
 use Rattle.btor2.specs.Lists.{places, with_place}
 use Rattle.btor2.proofs.AcceptedLemmas.{BodyIsAccepted, IsAccepted-from_refusal}
 use Rattle.btor2.proofs.ElsewhereLemmas.{elsewhere-push}
@@ -81,6 +82,13 @@ next_value-push xs x id h = next_first xs x.body id (IsAccepted-from_refusal xs 
 
 pub items-added : (xs ys : List Item) (x : Item) → IsWellFormed xs → refusal xs x ≡ None → ys ≡ xs ++ x ∷ [] → IsWellFormed ys
 items-added xs ys x h r e = subst IsWellFormed (sym e) (IsWellFormed-push xs x h r)
+
+HaveSoundParts-push : (xs : List Item) (x : Item) → HaveSoundParts xs → HasSoundParts x → HaveSoundParts (xs ++ x ∷ [])
+HaveSoundParts-push [] x each own = (own, tt)
+HaveSoundParts-push (y ∷ ys) x each own = (each.0, HaveSoundParts-push ys x each.1 own)
+
+pub parts-added : (xs ys : List Item) (x : Item) → HaveSoundParts xs → HasSoundParts x → ys ≡ xs ++ x ∷ [] → HaveSoundParts ys
+parts-added xs ys x each own e = subst HaveSoundParts (sym e) (HaveSoundParts-push xs x each own)
 
 pub elsewhere-added : (xs ys : List Item) (x : Item) (place : ℕ) (old new : ℕ → Option ℕ) → IsWellFormed xs → refusal xs x ≡ None → ys ≡ xs ++ x ∷ [] → place ≡ length xs
     → ((id : ℕ) → old id ≡ position_elsewhere xs id) → ((id : ℕ) → new id ≡ cond (not (nat_eq (x.id - 1) place) && nat_eq id x.id) (Some place) (old id))

@@ -1,4 +1,4 @@
--- What a model keeps beside its items, so that no call walks them.
+-- What a model keeps of its items and beside them, so that no call walks them.
 use Rattle.std.specs.Prelude.{◌≡◌, ℕ, ◌-◌, ◌==◌, nat_eq, Bool, false, List, Option, None, slice_get, if◌then◌else◌}
 use Rattle.std.specs.Option.{option_map_or}
 use Rattle.std.specs.HashMap.{get}
@@ -6,6 +6,7 @@ use Rattle.btor2.specs.declared.model.Model.TheInside.{Inside}
 use Rattle.btor2.specs.declared.item.Item.{Item}
 use Rattle.btor2.specs.Items.{position_of, init_value, next_value, is_input, is_state, is_bad, is_constraint}
 use Rattle.btor2.specs.Check.{IsWellFormed}
+use Rattle.btor2.specs.Parts.{HaveSoundParts}
 use Rattle.btor2.specs.Lists.{places}
 
 -- whether an id is in place: the item at the place id - 1 has it, as in a file whose lines are numbered 1, 2, 3 and so on
@@ -18,6 +19,7 @@ position_elsewhere items id = if is_in_place items id then None else position_of
 
 pub record IsIndexed (m : Inside) : Type 0 where
   pub well_formed : IsWellFormed m.items.items
+  pub parts : HaveSoundParts m.items.items
   -- An item in place is the one with its id, since the ids of well-formed items are distinct; the map has the others alone.
   pub elsewhere : (id : ℕ) → get nat_eq m.elsewhere id ≡ position_elsewhere m.items.items id
   pub inputs : m.inputs.items ≡ places is_input 0 m.items.items

@@ -1,56 +1,43 @@
+//! Why a model refuses an item.
 ghost use Rattle.std.specs.Prelude.{◌≡◌};
-ghost use Rattle.btor2.specs.Faults.{number_of};
+ghost use Rattle.btor2.specs.Faults.{number_of, name_of};
 
 use thiserror::Error;
 
 /// Why a model refuses an item. It is unchanged then.
 #[derive(Clone, Copy, Debug, PartialEq, Eq, Error)]
+#[error("{number} {name}", number = self.number(), name = self.name())]
 pub enum PushFault {
     /// The model has 1,048,576 items already.
-    #[error("12 TooManyItems")]
     TooManyItems,
     /// The id is not 1 to 4,294,967,295.
-    #[error("2 IdOutOfRange")]
     IdOutOfRange,
     /// An earlier item has the id.
-    #[error("1 IdTaken")]
     IdTaken,
     /// The sort is no earlier sort.
-    #[error("3 NoSuchSort")]
     NoSuchSort,
     /// An operand is no earlier node with a value.
-    #[error("4 NoSuchNode")]
     NoSuchNode,
     /// The first operand of an init or a next is no state.
-    #[error("8 NotAState")]
     NotAState,
     /// A sort's width is not 1 to 64.
-    #[error("5 WidthOutOfRange")]
     WidthOutOfRange,
     /// The bits of a slice are not those of its operand: not `l <= u < width`.
-    #[error("7 SliceOutOfRange")]
     SliceOutOfRange,
     /// The widths are not those of the item's form.
-    #[error("6 SortMismatch")]
     SortMismatch,
     /// A constant does not fit its sort: not as many binary digits as the width, a decimal that is not from
     /// -2^(width - 1) to 2^width - 1, not 1 to 16 hexadecimal digits, or a value too great.
-    #[error("15 ConstantDoesNotFit")]
     ConstantDoesNotFit,
     /// The value of an init is no constant node.
-    #[error("11 InitNotConstant")]
     InitNotConstant,
     /// The state has an init already.
-    #[error("9 SecondInit")]
     SecondInit,
     /// The state has a next already.
-    #[error("10 SecondNext")]
     SecondNext,
     /// A justice line has no operands.
-    #[error("13 JusticeEmpty")]
     JusticeEmpty,
     /// A growth was refused.
-    #[error("14 NoMemory")]
     NoMemory,
 }
 
@@ -75,6 +62,29 @@ impl PushFault {
             PushFault::JusticeEmpty => 13,
             PushFault::NoMemory => 14,
             PushFault::ConstantDoesNotFit => 15,
+        }
+    }
+
+    /// The name that is printed for the fault.
+    pub fn name(self) -> &'static str
+        ensures { result.now ≡ name_of self }
+    {
+        match self {
+            PushFault::IdTaken => "IdTaken",
+            PushFault::IdOutOfRange => "IdOutOfRange",
+            PushFault::NoSuchSort => "NoSuchSort",
+            PushFault::NoSuchNode => "NoSuchNode",
+            PushFault::WidthOutOfRange => "WidthOutOfRange",
+            PushFault::SortMismatch => "SortMismatch",
+            PushFault::SliceOutOfRange => "SliceOutOfRange",
+            PushFault::NotAState => "NotAState",
+            PushFault::SecondInit => "SecondInit",
+            PushFault::SecondNext => "SecondNext",
+            PushFault::InitNotConstant => "InitNotConstant",
+            PushFault::TooManyItems => "TooManyItems",
+            PushFault::JusticeEmpty => "JusticeEmpty",
+            PushFault::NoMemory => "NoMemory",
+            PushFault::ConstantDoesNotFit => "ConstantDoesNotFit",
         }
     }
 }

@@ -1,5 +1,8 @@
-ghost use Rattle.std.specs.Prelude.{◌≡◌, ◌≤◌, ◌-◌, ◌^◌};
+//! The items of a model: their ids, names and bodies.
+ghost use Rattle.std.specs.Prelude.{◌≡◌, ◌≤◌, ◌-◌, ◌^◌, true, IfSome};
 ghost use Rattle.base.specs.Signed.{wrapped};
+ghost use Rattle.btor2.specs.Symbols.{is_symbol};
+ghost use Rattle.btor2.specs.Parts.{HasFewOperands, HasSoundParts};
 ghost use Rattle.btor2.specs.Items.{named_sort, node_sort, sort_bits, constant_word, is_state};
 
 use crate::operands::Operands;
@@ -166,7 +169,41 @@ fn wrapped(width: u64, value: i128) -> u64
     value.rem_euclid(modulus) as u64
 }
 
+/// What a name keeps is known of it.
+fn know_name(symbol: &Option<Symbol>)
+    ensures { IfSome symbol.now (λ bytes. is_symbol bytes ≡ true) }
+{
+    match symbol {
+        None => {}
+        Some(symbol) => {
+            let _bytes = symbol.bytes();
+        }
+    }
+}
+
+impl Item {
+    /// What the types of its parts keep is known of it.
+    pub(crate) fn know_parts(&self)
+        ensures { HasSoundParts self.now }
+    {
+        know_name(&self.symbol);
+        self.body.know_operands();
+    }
+}
+
 impl Body {
+    /// What the operands of a justice line keep is known of them.
+    fn know_operands(&self)
+        ensures { HasFewOperands self.now }
+    {
+        match self {
+            Body::Justice { operands } => {
+                let _count = operands.count();
+            }
+            _ => {}
+        }
+    }
+
     /// The sort of a node with a value: of a leaf, a constant or an operator.
     pub(crate) fn node_sort(&self) -> Option<u32>
         ensures { result ≡ node_sort self.now }

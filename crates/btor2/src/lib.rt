@@ -3,17 +3,14 @@
 
 mod fault;
 mod item;
-mod laws;
+pub mod laws;
 mod model;
+mod name_bytes;
 mod operands;
 mod symbol;
-mod text;
 
 pub use fault::PushFault;
 pub use item::{Body, Item};
-pub use laws::{
-    exactly_one_trace, words_fit, worked_nexts, worked_refusals, worked_traces, worked_words,
-};
 pub use model::Model;
 pub use operands::Operands;
 pub use symbol::{Symbol, SymbolFault};

@@ -1,6 +1,8 @@
+//! Models: checked lists of items, with what is read of them.
 ghost use Rattle.std.specs.Prelude.{◌≡◌, ◌<◌, ◌≤◌, ◌-◌, IfSome, [], length, is_none, option_and_then, option_copied, slice_get, slice_index};
 ghost use Rattle.btor2.specs.Items.{find_item, position_of, sort_width, node_width, width_of_body, constant_of, constant_of_body, names_state, init_value, next_value, is_input, is_state, is_bad, is_constraint};
 ghost use Rattle.btor2.specs.Check.{IsWellFormed};
+ghost use Rattle.btor2.specs.Parts.{HaveSoundParts};
 ghost use Rattle.btor2.specs.Index.{is_in_place};
 ghost use Rattle.btor2.specs.Lists.{places, id_at, init_place, next_place, first_without_next, width_at, constant_at};
 
@@ -77,6 +79,7 @@ impl Model {
     pub fn items(&self) -> &[Item]
         ensures items { result.now ≡ self.now }
         ensures well_formed { IsWellFormed self.now }
+        ensures parts { HaveSoundParts self.now }
     {
         self.items.as_slice()
     }

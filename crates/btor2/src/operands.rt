@@ -1,4 +1,5 @@
-ghost use Rattle.std.specs.Prelude.{◌≡◌, List, ℕ, IfOk};
+//! The nodes that a justice line names.
+ghost use Rattle.std.specs.Prelude.{◌≡◌, ◌<◌, ◌-◌, ◌^◌, List, ℕ, length, IfOk};
 
 use std::alloc::{AllocError, Global};
 use std::marker::Model;
@@ -22,10 +23,8 @@ impl Operands {
     pub fn new(alloc: Global, ids: &[u32]) -> Result<Operands, AllocError>
         ensures { IfOk result (λ o. o ≡ ids.now) }
     {
-        match Vec::from_slice(alloc, ids) {
-            Ok(ids) => Ok(Operands { ids }),
-            Err(fault) => Err(fault),
-        }
+        let ids = Vec::from_slice(alloc, ids)?;
+        Ok(Operands { ids })
     }
 
     /// Their ids, in order.
@@ -33,5 +32,13 @@ impl Operands {
         ensures { result.now ≡ self.now }
     {
         self.ids.as_slice()
+    }
+
+    /// How many they are: what memory can hold, and so less than the greatest number.
+    pub(crate) fn count(&self) -> usize
+        ensures same { result ≡ length self.now }
+        ensures few { length self.now < 2 ^ 64 - 1 }
+    {
+        self.ids.len()
     }
 }

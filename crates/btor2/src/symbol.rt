@@ -1,9 +1,10 @@
+//! Names of items, and why bytes are none.
 ghost use Rattle.std.specs.Prelude.{◌≡◌, List, ℕ, true, false, IfOk, IsErrOf, ◌↔◌};
 ghost use Rattle.std.specs.List.{list_all};
 ghost use Rattle.btor2.specs.Symbols.{is_symbol, is_printed};
-ghost use Rattle.btor2.specs.Faults.{symbol_fault_number};
+ghost use Rattle.btor2.specs.Faults.{symbol_fault_number, symbol_fault_name};
 
-use crate::text::Text;
+use crate::name_bytes::NameBytes;
 use std::alloc::Global;
 use std::marker::Model;
 use thiserror::Error;
@@ -11,25 +12,24 @@ use thiserror::Error;
 /// The name of an item: 1 to 255 bytes from 33 to 126, of which the first is not `;`.
 #[derive(Debug, Drop)]
 pub struct Symbol {
-    text: Text,
+    name: NameBytes,
 }
 
 impl Model for Symbol {
     ghost Value = { List ℕ };
 
-    ghost view = { λ s. s.text };
+    ghost view = { λ s. s.name };
 
-    ghost invariant = { λ s. is_symbol s.text ≡ true };
+    ghost invariant = { λ s. is_symbol s.name ≡ true };
 }
 
 /// Why bytes are no symbol.
 #[derive(Clone, Copy, Debug, PartialEq, Eq, Error)]
+#[error("{number} {name}", number = self.number(), name = self.name())]
 pub enum SymbolFault {
     /// They are not 1 to 255 bytes from 33 to 126 of which the first is not `;`.
-    #[error("16 BadBytes")]
     BadBytes,
     /// A growth was refused.
-    #[error("17 NoMemory")]
     NoMemory,
 }
 
@@ -61,8 +61,8 @@ impl Symbol {
         if !Symbol::is_symbol(bytes) {
             return Err(SymbolFault::BadBytes);
         }
-        match Text::new(alloc, bytes) {
-            Ok(text) => Ok(Symbol { text }),
+        match NameBytes::new(alloc, bytes) {
+            Ok(name) => Ok(Symbol { name }),
             Err(_) => Err(SymbolFault::NoMemory),
         }
     }
@@ -72,7 +72,7 @@ impl Symbol {
         ensures bytes { result.now ≡ self.now }
         ensures valid { is_symbol self.now ≡ true }
     {
-        self.text.bytes()
+        self.name.bytes()
     }
 }
 
@@ -84,6 +84,16 @@ impl SymbolFault {
         match self {
             SymbolFault::BadBytes => 16,
             SymbolFault::NoMemory => 17,
+        }
+    }
+
+    /// The name that is printed for the fault.
+    pub fn name(self) -> &'static str
+        ensures { result.now ≡ symbol_fault_name self }
+    {
+        match self {
+            SymbolFault::BadBytes => "BadBytes",
+            SymbolFault::NoMemory => "NoMemory",
         }
     }
 }

@@ -1,3 +1,4 @@
+//! Tables of refusals, and calls that succeed.
 use super::*;
 use base::{Binary, Unary};
 use std::alloc::Global;
@@ -493,10 +494,10 @@ fn faults_print_their_numbers_and_names(rt: HostRuntime) -> Result<(), Fail> {
 
 #[test]
 fn laws_are_called() {
-    exactly_one_trace();
-    words_fit();
-    worked_traces();
-    worked_words();
-    worked_nexts();
-    worked_refusals();
+    laws::exactly_one_trace();
+    laws::words_fit();
+    laws::worked_traces();
+    laws::worked_words();
+    laws::worked_nexts();
+    laws::worked_refusals();
 }

@@ -24,6 +24,7 @@ use Rattle.btor2.specs.declared.item.Body.{Body}
 use Rattle.btor2.specs.declared.item.Body.TheVariants as body
 use Rattle.btor2.specs.Symbols.{is_printed, is_symbol}
 use Rattle.btor2.specs.Check.{IsWellFormed, IsWellFormedAfter}
+use Rattle.btor2.specs.Parts.{HasFewOperands, HasSoundParts, HaveSoundParts}
 use Rattle.btor2.proofs.AcceptedLemmas.{Each}
 use Rattle.btor2.proofs.ModelLemmas.{IsWellFormed-push}
 use Rattle.btor2text.specs.declared.forms.Forms.TheVariants as forms
@@ -31,7 +32,7 @@ use Rattle.btor2text.specs.Tokens.{is_blank, tokens, begins_token}
 use Rattle.btor2text.specs.Words.{unary_name, binary_name}
 use Rattle.btor2text.specs.Digits.{are_digits_of, IsNumber, last_digits}
 use Rattle.btor2text.specs.Spelling.{form_tokens, symbol_tokens, Says, Spells, SpellsAll, StandsFor}
-use Rattle.btor2text.specs.Writing.{behind_spaces, written, HasFewOperands, IsWritable, AreWritable}
+use Rattle.btor2text.specs.Writing.{behind_spaces, written}
 use Rattle.btor2text.proofs.BoundLemmas.{IsId, SignedFits, BodyFits, Fits, accepted_fits}
 use Rattle.btor2text.proofs.StandsLemmas.{spells_line}
 use Rattle.btor2text.proofs.TokenLemmas.{tokens-word, tokens-word_blank}
@@ -310,10 +311,10 @@ symbol_words (Some (b ∷ bs)) h =
 abbrev line_text : Item → List ℕ
 line_text x = decimal x.id ++ behind_spaces (form_tokens x.body ++ symbol_tokens x.symbol)
 
-line_words : (x : Item) → Fits x → IsWritable x → AreWords (form_tokens x.body ++ symbol_tokens x.symbol)
+line_words : (x : Item) → Fits x → HasSoundParts x → AreWords (form_tokens x.body ++ symbol_tokens x.symbol)
 line_words x fits writable = are_words-append (form_tokens x.body) (symbol_tokens x.symbol) (form_words x.body fits.body writable.operands) (symbol_words x.symbol writable.symbol)
 
-line_spells : (x : Item) → Fits x → IsWritable x → Spells forms.All (tokens (line_text x)) x
+line_spells : (x : Item) → Fits x → HasSoundParts x → Spells forms.All (tokens (line_text x)) x
 line_spells x fits writable = record {
   form = form_tokens x.body;
   tokens = tokens_behind (decimal x.id) (form_tokens x.body ++ symbol_tokens x.symbol) (id_word x.id fits.id) (line_words x fits writable);
@@ -322,25 +323,25 @@ line_spells x fits writable = record {
   symbol = writable.symbol;
 }
 
-line_is_line : (x : Item) → Fits x → IsWritable x → IsLine (line_text x)
+line_is_line : (x : Item) → Fits x → HasSoundParts x → IsLine (line_text x)
 line_is_line x fits writable = line_append (decimal x.id) (behind_spaces (form_tokens x.body ++ symbol_tokens x.symbol)) (no_ends (decimal x.id) (id_word x.id fits.id).printed) (words_line (form_tokens x.body ++ symbol_tokens x.symbol) (line_words x fits writable))
 
 written_text : (items : List Item) → written items ≡ text_of_lines (map line_text items)
 written_text [] = refl
 written_text (x ∷ xs) = ap₂ (λ (a b : List ℕ). a ++ b) (sym (append_assoc (decimal x.id) (behind_spaces (form_tokens x.body ++ symbol_tokens x.symbol)) (10 ∷ []))) (written_text xs)
 
-lines_spell : (before items : List Item) → IsWellFormed before → IsWellFormedAfter before items → AreWritable items → SpellsAll forms.All (map tokens (map line_text items)) items
+lines_spell : (before items : List Item) → IsWellFormed before → IsWellFormedAfter before items → HaveSoundParts items → SpellsAll forms.All (map tokens (map line_text items)) items
 lines_spell before [] h well writable = tt
 lines_spell before (x ∷ xs) h well writable =
     spells_line forms.All (tokens (line_text x)) (map tokens (map line_text xs)) x xs (line_spells x (accepted_fits before x h well.0) writable.0)
     (lines_spell (before ++ x ∷ []) xs (IsWellFormed-push before x h well.0) well.1 writable.1)
 
-lines_are_lines : (before items : List Item) → IsWellFormed before → IsWellFormedAfter before items → AreWritable items → EachLine (map line_text items)
+lines_are_lines : (before items : List Item) → IsWellFormed before → IsWellFormedAfter before items → HaveSoundParts items → EachLine (map line_text items)
 lines_are_lines before [] h well writable = tt
 lines_are_lines before (x ∷ xs) h well writable = (line_is_line x (accepted_fits before x h well.0) writable.0, lines_are_lines (before ++ x ∷ []) xs (IsWellFormed-push before x h well.0) well.1 writable.1)
 
 -- what is written stands for the items
-pub written_stands : (items : List Item) → IsWellFormed items → AreWritable items → StandsFor forms.All (written items) items
+pub written_stands : (items : List Item) → IsWellFormed items → HaveSoundParts items → StandsFor forms.All (written items) items
 written_stands items well writable = record {
   lines = map line_text items;
   whole = written_text items;

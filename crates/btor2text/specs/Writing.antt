@@ -1,9 +1,8 @@
 -- The writer's text of a model: the one spelling that it gives.
-use Rattle.std.specs.Prelude.{◌≡◌, ℕ, ◌-◌, ◌^◌, ◌<◌, ◌≤◌, true, List, [], ◌∷◌, ◌++◌, length, decimal, flat_map, IfSome}
+use Rattle.std.specs.Prelude.{ℕ, ◌≤◌, List, [], ◌∷◌, ◌++◌, decimal, flat_map}
 use Rattle.btor2.specs.declared.item.Item.{Item}
 use Rattle.btor2.specs.declared.item.Body.{Body}
 use Rattle.btor2.specs.declared.item.Body.TheVariants as body
-use Rattle.btor2.specs.Symbols.{is_symbol}
 use Rattle.btor2text.specs.Spelling.{form_tokens, symbol_tokens}
 
 -- each of some tokens behind a space
@@ -23,18 +22,3 @@ abbrev pub HasFewDigits : Body → Type 0
 HasFewDigits (body.Const s d v) = d ≤ 64
 HasFewDigits (body.Consth s d v) = d ≤ 64
 HasFewDigits _ = Unit {0}
-
--- a justice line has less operands than the number that is read for all greater ones
-abbrev pub HasFewOperands : Body → Type 0
-HasFewOperands (body.Justice nodes) = length nodes < 2 ^ 64 - 1
-HasFewOperands _ = Unit {0}
-
--- an item that can be written: its symbol, where it has one, is a symbol's bytes
-pub record IsWritable (x : Item) : Type 0 where
-  pub symbol : IfSome x.symbol (λ bytes. is_symbol bytes ≡ true)
-  pub operands : HasFewOperands x.body
-
--- each item can be written
-abbrev pub AreWritable : List Item → Type 0
-AreWritable [] = Unit {0}
-AreWritable (x ∷ xs) = IsWritable x × AreWritable xs

@@ -1,3 +1,4 @@
+//! Whether models are of the basic forms.
 ghost use Rattle.std.specs.Prelude.{◌≡◌};
 ghost use Rattle.btor2text.specs.Basic.{is_basic, are_basic};
 

@@ -1,44 +1,35 @@
+//! Why a text is no model.
 ghost use Rattle.std.specs.Prelude.{◌≡◌};
-ghost use Rattle.btor2text.specs.Whys.{number_of};
+ghost use Rattle.btor2text.specs.Whys.{number_of, printed_number, name_of};
 
 use btor2::PushFault;
 use thiserror::Error;
 
 /// What is wrong with a line of a model's text, or with the reading of it.
 #[derive(Clone, Copy, Debug, PartialEq, Eq, Error)]
+#[error("{number} {name}", number = self.printed_number(), name = self.name())]
 pub enum Why {
     /// A token is missing, is not of its place's form, or follows the symbol.
-    #[error("20 BadToken")]
     BadToken,
     /// A sort of arrays.
-    #[error("21 ArraySort")]
     ArraySort,
     /// `read` or `write`.
-    #[error("22 ArrayOperator")]
     ArrayOperator,
     /// A word that is no form.
-    #[error("23 UnknownOperator")]
     UnknownOperator,
     /// `-` and a decimal in an operand's place.
-    #[error("24 NegativeOperand")]
     NegativeOperand,
     /// A constant that does not fit its sort.
-    #[error("25 ConstantDoesNotFit")]
     ConstantDoesNotFit,
     /// A symbol of more than 255 bytes, or with a byte outside 33 to 126.
-    #[error("26 BadSymbol")]
     BadSymbol,
     /// The model refuses the item for another reason.
-    #[error("{0}")]
     Refused(PushFault),
     /// The last line has bytes and no byte 10.
-    #[error("28 Unfinished")]
     Unfinished,
     /// The source failed.
-    #[error("29 Device")]
     Device,
     /// A growth was refused.
-    #[error("30 NoMemory")]
     NoMemory,
 }
 
@@ -59,6 +50,35 @@ impl Why {
             Why::Unfinished => 28,
             Why::Device => 29,
             Why::NoMemory => 30,
+        }
+    }
+
+    /// The number that is printed: that of the push's refusal where the model refuses the item, else the fault's own.
+    pub fn printed_number(self) -> u32
+        ensures { result ≡ printed_number self }
+    {
+        match self {
+            Why::Refused(fault) => fault.number(),
+            why => why.number(),
+        }
+    }
+
+    /// The name that is printed: that of the push's refusal where the model refuses the item, else the fault's own.
+    pub fn name(self) -> &'static str
+        ensures { result.now ≡ name_of self }
+    {
+        match self {
+            Why::Refused(fault) => fault.name(),
+            Why::BadToken => "BadToken",
+            Why::ArraySort => "ArraySort",
+            Why::ArrayOperator => "ArrayOperator",
+            Why::UnknownOperator => "UnknownOperator",
+            Why::NegativeOperand => "NegativeOperand",
+            Why::ConstantDoesNotFit => "ConstantDoesNotFit",
+            Why::BadSymbol => "BadSymbol",
+            Why::Unfinished => "Unfinished",
+            Why::Device => "Device",
+            Why::NoMemory => "NoMemory",
         }
     }
 }

@@ -1,3 +1,4 @@
+//! The forms of lines and the words that name them.
 ghost use Rattle.std.specs.Prelude.{◌≡◌};
 ghost use Rattle.btor2text.specs.Words.{named, form_name, leaves, constants, links, properties, others, plain_form_of, form_named, is_basic_form, knows, no_form, form_of};
 

@@ -1,25 +1,33 @@
 //! That what is written is read again, and worked rows of lines, items and faults, as functions with no code.
-ghost use Rattle.std.specs.Prelude.{◌≡◌, List, [], ◌∷◌, ◌++◌, codes, negsuc};
+ghost use Rattle.std.specs.Prelude.{◌≡◌, ℕ, List, [], ◌∷◌, ◌++◌, codes, negsuc};
 ghost use Rattle.base.specs.declared.operators.Unary.TheVariants as unary;
 ghost use Rattle.btor2.specs.declared.item.Body.TheVariants as body;
 ghost use Rattle.btor2.specs.declared.fault.PushFault.TheVariants as push;
 ghost use Rattle.btor2.specs.declared.item.Item.{Item};
 ghost use Rattle.btor2.specs.Check.{IsWellFormed};
+ghost use Rattle.btor2.specs.Parts.{HaveSoundParts};
 ghost use Rattle.btor2.specs.Worked.{line};
 ghost use Rattle.btor2text.specs.declared.fault.Why.TheVariants as why;
+ghost use Rattle.btor2text.specs.declared.forms.Forms.{Forms};
 ghost use Rattle.btor2text.specs.declared.forms.Forms.TheVariants as forms;
 ghost use Rattle.btor2text.specs.Tokens.{tokens};
 ghost use Rattle.btor2text.specs.Whys.{number_of};
 ghost use Rattle.btor2text.specs.Spelling.{Spells, StandsFor};
-ghost use Rattle.btor2text.specs.Writing.{AreWritable, written};
+ghost use Rattle.btor2text.specs.Writing.{written};
 ghost use Rattle.btor2text.specs.FirstFault.{IsFaultOf};
 ghost use Rattle.btor2text.specs.Reading.{line_on, text_on};
 
-/// What is written stands for the items that are written, and is read again as them: for all well-formed lists of items
-/// that can be written.
+/// What is written stands for the items that are written, and is read again as them, for all well-formed lists of items
+/// whose parts are as their types keep them: `btor2::Model::items` gives both of every model, and `write` says it of them.
 pub fn read_back()
-    ensures stands { (items : List Item) → IsWellFormed items → AreWritable items → StandsFor forms.All (written items) items }
-    ensures read { (items : List Item) → IsWellFormed items → AreWritable items → text_on forms.All (written items) ≡ Ok items }
+    ensures stands { (items : List Item) → IsWellFormed items → HaveSoundParts items → StandsFor forms.All (written items) items }
+    ensures read { (items : List Item) → IsWellFormed items → HaveSoundParts items → text_on forms.All (written items) ≡ Ok items }
+{}
+
+/// A text stands for at most one list of items: each that it stands for is the one that reading it gives.
+pub fn one_model()
+    ensures read { (known : Forms) (text : List ℕ) (items : List Item) → StandsFor known text items → text_on known text ≡ Ok items }
+    ensures same { (known : Forms) (text : List ℕ) (items others : List Item) → StandsFor known text items → StandsFor known text others → items ≡ others }
 {}
 
 /// Worked rows: the tokens of lines.

@@ -7,7 +7,7 @@ mod digits;
 mod fault;
 mod forms;
 mod items;
-mod laws;
+pub mod laws;
 mod operators;
 mod places;
 mod reading;
@@ -17,7 +17,6 @@ mod writing;
 pub use basic::are_basic;
 pub use fault::{ReadFault, Why};
 pub use forms::Forms;
-pub use laws::{read_back, worked_faults, worked_items, worked_texts, worked_tokens, worked_whys};
 pub use reading::{read, read_basic};
 pub use writing::write;
 

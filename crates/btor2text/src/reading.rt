@@ -1,4 +1,5 @@
-ghost use Rattle.std.specs.Prelude.{◌≡◌, ◌≢◌, ◌⊎◌, ℕ, List, Some, true, IfOk, IfErr, IfSome, OnOk};
+//! Reading models.
+ghost use Rattle.std.specs.Prelude.{◌≡◌, ◌⊎◌, ℕ, List, Some, true, IfOk, IfErr, IfSome, OnOk};
 ghost use Rattle.std.specs.Io.KnownBytes.{IsAtEnd};
 ghost use Rattle.base.specs.Device.{HasRisen};
 ghost use Rattle.base.specs.Lines.{whole_lines, unfinished};
@@ -96,8 +97,8 @@ fn read_forms<S: Source>(forms: Forms, alloc: Global, source: &mut S) -> Result<
     ensures fault { IfErr result (λ e. IfSome (S.to_come source.old) (λ text. (e.why ≡ Why.Device) ⊎ ((e.why ≡ Why.NoMemory) ⊎ IsFaultOf forms text e))) }
     ensures end { OnOk result (IsAtEnd (S.to_come source.new)) }
     ensures counted { OnOk result (S.failures source.new ≡ S.failures source.old) }
-    ensures unfailed { IfErr result (λ e. e.why ≢ Why.Device → S.failures source.new ≡ S.failures source.old) }
     ensures device { IfErr result (λ e. e.why ≡ Why.Device → HasRisen (S.failures source.old) (S.failures source.new)) }
+    ensures unfailed { IfErr result (λ e. ¬ (e.why ≡ Why.Device) → S.failures source.new ≡ S.failures source.old) }
     ensures place { IfErr result (λ e. (e.why ≡ Why.Device) ⊎ (e.why ≡ Why.NoMemory) → e.line ≡ 0) }
 {
     match read_all(alloc, source) {
@@ -120,8 +121,8 @@ pub fn read<S: Source>(alloc: Global, source: &mut S) -> Result<Model, ReadFault
     ensures fault { IfErr result (λ e. IfSome (S.to_come source.old) (λ text. (e.why ≡ Why.Device) ⊎ ((e.why ≡ Why.NoMemory) ⊎ IsFaultOf forms.All text e))) }
     ensures end { OnOk result (IsAtEnd (S.to_come source.new)) }
     ensures counted { OnOk result (S.failures source.new ≡ S.failures source.old) }
-    ensures unfailed { IfErr result (λ e. e.why ≢ Why.Device → S.failures source.new ≡ S.failures source.old) }
     ensures device { IfErr result (λ e. e.why ≡ Why.Device → HasRisen (S.failures source.old) (S.failures source.new)) }
+    ensures unfailed { IfErr result (λ e. ¬ (e.why ≡ Why.Device) → S.failures source.new ≡ S.failures source.old) }
     ensures place { IfErr result (λ e. (e.why ≡ Why.Device) ⊎ (e.why ≡ Why.NoMemory) → e.line ≡ 0) }
 {
     read_forms(Forms::All, alloc, source)
@@ -142,8 +143,8 @@ pub fn read_basic<S: Source>(alloc: Global, source: &mut S) -> Result<Model, Rea
     ensures fault { IfErr result (λ e. IfSome (S.to_come source.old) (λ text. (e.why ≡ Why.Device) ⊎ ((e.why ≡ Why.NoMemory) ⊎ IsFaultOf forms.Basic text e))) }
     ensures end { OnOk result (IsAtEnd (S.to_come source.new)) }
     ensures counted { OnOk result (S.failures source.new ≡ S.failures source.old) }
-    ensures unfailed { IfErr result (λ e. e.why ≢ Why.Device → S.failures source.new ≡ S.failures source.old) }
     ensures device { IfErr result (λ e. e.why ≡ Why.Device → HasRisen (S.failures source.old) (S.failures source.new)) }
+    ensures unfailed { IfErr result (λ e. ¬ (e.why ≡ Why.Device) → S.failures source.new ≡ S.failures source.old) }
     ensures place { IfErr result (λ e. (e.why ≡ Why.Device) ⊎ (e.why ≡ Why.NoMemory) → e.line ≡ 0) }
 {
     read_forms(Forms::Basic, alloc, source)

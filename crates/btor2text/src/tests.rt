@@ -1,3 +1,4 @@
+//! Tables of texts and their faults.
 use super::*;
 use std::alloc::Global;
 

@@ -1,3 +1,4 @@
+//! The tokens of a line.
 ghost use Rattle.std.specs.Prelude.{◌≡◌, true, false, [], ◌∷◌, MatchOption};
 ghost use Rattle.btor2text.specs.Tokens.{is_blank, tokens, begins_token, begins_blank};
 

@@ -6,7 +6,9 @@ ghost use Rattle.base.specs.Device.{CountsFaults, AppendsBeginning};
 ghost use Rattle.btor2.specs.declared.item.Body.TheVariants as body;
 ghost use Rattle.btor2.specs.Check.{IsWellFormed};
 ghost use Rattle.base.specs.Pieces.{Puts};
-ghost use Rattle.btor2text.specs.Spelling.{form_tokens, symbol_tokens};
+ghost use Rattle.btor2text.specs.declared.forms.Forms.TheVariants as forms;
+ghost use Rattle.btor2text.specs.Spelling.{form_tokens, symbol_tokens, StandsFor};
+ghost use Rattle.btor2text.specs.Reading.{text_on};
 ghost use Rattle.btor2text.specs.Writing.{behind_spaces, HasFewDigits, written_line, written};
 
 use crate::digits::Digits;
@@ -16,12 +18,14 @@ use btor2::{Body, Item, Model, Operands, Symbol};
 use itoa::Buffer;
 
 /// Writes the text of a model: a line for each item, tokens with one space between, hexadecimal digits in lower case,
-/// and no comments. No memory is taken.
+/// and no comments. The text stands for exactly this model, and is read again as it. No memory is taken.
 ///
 /// Errors: the sink's own; a beginning of the text was written then.
 pub fn write<K: Sink>(model: &Model, sink: &mut K) -> Result<(), DeviceFault>
     ensures ok { OnOk result (Appends (K.written sink.old) (K.written sink.new) (written model.now)) }
     ensures err { OnErr result (AppendsBeginning (K.written sink.old) (K.written sink.new) (written model.now)) }
+    ensures stands { StandsFor forms.All (written model.now) model.now }
+    ensures read { text_on forms.All (written model.now) ≡ Ok model.now }
     ensures failures { CountsFaults result (K.failures sink.old) (K.failures sink.new) }
 {
     let mut outbox = Outbox::new();

@@ -1,14 +1,14 @@
 //! The tests by which a model refuses an item, one for each row of the table, and the first that applies.
 ghost use Rattle.std.specs.Prelude.{◌≡◌, ◌≤◌, ◌+◌, ◌-◌, ◌^◌, ◌==◌, not, ◌&&◌, ◌||◌, length, nat_le, nat_lt, pos, neg_ℤ, int_le, int_lt, is_some, unwrap_or, option_and_then};
 ghost use Rattle.std.specs.List.{list_all};
-ghost use Rattle.base.specs.Widths.{unary_width, binary_width, is_reduction, is_of_bits, is_test};
+ghost use Rattle.base.specs.Widths.{binary_width, is_of_bits};
 ghost use Rattle.btor2.specs.Items.{named_sort, node_width, sort_width};
 ghost use Rattle.btor2.specs.Check.{most_items, refusal, id_is_out_of_range, id_is_taken, sort_is_missing, operand_is_missing, state_is_none, width_is_out_of_range, slice_is_out_of_range, widths_differ, constant_fits, constant_does_not_fit, init_is_not_constant, is_second_init, is_second_next, justice_is_empty};
 
 use crate::fault::PushFault;
 use crate::item::{Body, Item, all_ones};
 use crate::model::Model;
-use base::{Binary, Unary, Width};
+use base::{Binary, Width};
 
 /// The greatest number of items.
 const MOST_ITEMS: usize = 1_048_576;
@@ -16,85 +16,11 @@ const MOST_ITEMS: usize = 1_048_576;
 /// The greatest id.
 const GREATEST_ID: u64 = 4_294_967_295;
 
-/// Whether an operator is a reduction, which gives one bit.
-fn is_reduction(operator: Unary) -> bool
-    ensures { result ≡ is_reduction operator }
-{
-    matches!(operator, Unary::Redand | Unary::Redor | Unary::Redxor)
-}
-
-/// Whether an operator only takes single bits.
-fn is_of_bits(operator: Binary) -> bool
-    ensures { result ≡ is_of_bits operator }
-{
-    matches!(operator, Binary::Iff | Binary::Implies)
-}
-
-/// Whether an operator is a test, which gives one bit.
-fn is_test(operator: Binary) -> bool
-    ensures { result ≡ is_test operator }
-{
-    match operator {
-        Binary::Iff
-        | Binary::Implies
-        | Binary::Eq
-        | Binary::Neq
-        | Binary::Ugt
-        | Binary::Ugte
-        | Binary::Ult
-        | Binary::Ulte
-        | Binary::Sgt
-        | Binary::Sgte
-        | Binary::Slt
-        | Binary::Slte
-        | Binary::Uaddo
-        | Binary::Saddo
-        | Binary::Usubo
-        | Binary::Ssubo
-        | Binary::Umulo
-        | Binary::Smulo
-        | Binary::Sdivo => true,
-        Binary::And
-        | Binary::Nand
-        | Binary::Or
-        | Binary::Nor
-        | Binary::Xor
-        | Binary::Xnor
-        | Binary::Rol
-        | Binary::Ror
-        | Binary::Sll
-        | Binary::Srl
-        | Binary::Sra
-        | Binary::Add
-        | Binary::Sub
-        | Binary::Mul
-        | Binary::Udiv
-        | Binary::Sdiv
-        | Binary::Urem
-        | Binary::Srem
-        | Binary::Smod => false,
-    }
-}
-
-/// The width of what an operator of one operand gives.
-fn unary_bits(operator: Unary, width: u64) -> u64
-    ensures { result ≡ unary_width operator width }
-{
-    if is_reduction(operator) { 1 } else { width }
-}
-
-/// The width of what an operator of two operands gives.
-fn binary_bits(operator: Binary, width: u64) -> u64
-    ensures { result ≡ binary_width operator width }
-{
-    if is_test(operator) { 1 } else { width }
-}
-
 /// Whether the widths of an operator's operands are not those that it takes, or that of its sort not that of what it gives.
 fn binary_differs(operator: Binary, sort: u64, left: u64, right: u64) -> bool
     ensures { result ≡ not ((left == right) && ((not (is_of_bits operator) || (left == 1)) && (sort == binary_width operator left))) }
 {
-    !(left == right && (!is_of_bits(operator) || left == 1) && sort == binary_bits(operator, left))
+    !(left == right && (!operator.is_of_bits() || left == 1) && sort == operator.width(left))
 }
 
 /// Whether a width is not the sum of two.
@@ -355,7 +281,7 @@ impl Model {
                 operator,
                 sort,
                 operand,
-            } => self.sort_bits(*sort) != unary_bits(*operator, self.node_bits(*operand)),
+            } => self.sort_bits(*sort) != operator.width(self.node_bits(*operand)),
             Body::Binary {
                 operator,
                 sort,

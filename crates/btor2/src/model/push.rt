@@ -123,6 +123,7 @@ impl Model {
             return Err(PushFault::NoMemory);
         }
         let place = self.items.len();
+        item.know_parts();
         reserve_elsewhere(&mut self.elsewhere, item.id, place)?;
         note(
             &item.body,

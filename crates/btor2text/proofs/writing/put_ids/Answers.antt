@@ -1,4 +1,4 @@
-use Rattle.std.proofs.Common.{arith}
+use Rattle.std.proofs.Common.{arith, rules}
 use Rattle.base.proofs.PieceLemmas.{put_more, put_fails}
 use Rattle.btor2text.proofs.WritingLemmas.{numbers_at}
 use Rattle.btor2text.proofs.writing.put_ids.Goals as goal
@@ -13,5 +13,5 @@ loop-id-preserved g c = record {
   put =
       put_more _ _ _ _ _ _ _ _ _ _ c.loop-id.invariant.put c.in-Ok.ensures.puts
       (numbers_at c.loop-id.id-index c.args.ids.now _ _ (omega arith) c.from.ensures);
-  counted = omega (arith, c.in-Ok.ensures.failures);
+  counted = search rules;
 }

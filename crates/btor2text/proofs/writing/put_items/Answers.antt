@@ -1,4 +1,4 @@
-use Rattle.std.proofs.Common.{arith}
+use Rattle.std.proofs.Common.{arith, rules}
 use Rattle.base.proofs.PieceLemmas.{put_more, put_fails}
 use Rattle.btor2text.proofs.WritingLemmas.{items_at, few_digits_at}
 use Rattle.btor2text.proofs.writing.put_items.Goals as goal
@@ -16,5 +16,5 @@ loop-item-preserved g c = record {
   put =
       put_more _ _ _ _ _ _ _ _ _ _ c.loop-item.invariant.put c.in-Ok.ensures.puts
       (items_at c.loop-item.item-index c.args.items.now _ _ (omega arith) c.item-item.is);
-  counted = omega (arith, c.in-Ok.ensures.failures);
+  counted = search rules;
 }

@@ -1,4 +1,4 @@
-use Rattle.std.proofs.Common.{refl, arith}
+use Rattle.std.proofs.Common.{refl, arith, rules}
 use Rattle.base.proofs.PieceLemmas.{put_more, put_fails}
 use Rattle.btor2text.proofs.WritingLemmas.{numbers_at}
 use Rattle.btor2text.proofs.writing.put_numbers.Goals as goal
@@ -13,5 +13,5 @@ loop-number-preserved g c = record {
   put =
       put_more _ _ _ _ _ _ _ _ _ _ c.loop-number.invariant.put c.in-Ok.ensures.puts
       (numbers_at c.loop-number.number-index c.args.numbers.now _ _ (omega arith) refl);
-  counted = omega (arith, c.in-Ok.ensures.failures);
+  counted = search rules;
 }

@@ -5,7 +5,7 @@ use Rattle.std.specs.HashMap.{get}
 use Rattle.btor2.specs.declared.item.Item.{Item}
 use Rattle.btor2.specs.Items.{is_input, is_state, is_bad, is_constraint}
 use Rattle.btor2.specs.Check.{refusal}
-use Rattle.btor2.proofs.PushLemmas.{items-added, elsewhere-added, places-added, inits-added, nexts-added}
+use Rattle.btor2.proofs.PushLemmas.{items-added, parts-added, elsewhere-added, places-added, inits-added, nexts-added}
 use Rattle.btor2.proofs.model.Model.add.Goals as goal
 
 pub invariant_of-self-2 : goal.invariant_of-self-2
@@ -20,6 +20,7 @@ invariant_of-self-2 c =
     let accepted : refusal xs x ≡ None = rw c.self.view_is c.requires in
     record {
       well_formed = items-added xs ys x known.well_formed accepted added;
+      parts = parts-added xs ys x known.parts c.know_parts.ensures added;
       elsewhere = elsewhere-added xs ys x place (get nat_eq c.reserve_elsewhere.new.elsewhere) (get nat_eq c.add_elsewhere.new.elsewhere) known.well_formed accepted added at (λ id. c.in_ok-reserve_elsewhere.ensures.kept id ∙ known.elsewhere id) c.add_elsewhere.ensures;
       inputs = places-added is_input xs ys x place c.self.inside.inputs.items c.note.new.inputs.items added at known.inputs c.in_ok-note.ensures.inputs;
       states = places-added is_state xs ys x place c.self.inside.states.items c.note.new.states.items added at known.states c.in_ok-note.ensures.states;

@@ -1,5 +1,6 @@
+//! The bytes of a name, held in two words.
 ghost use Rattle.std.specs.Prelude.{◌≡◌, ◌≤◌, List, ℕ, length, IfOk, IsOk};
-ghost use Rattle.btor2.specs.Texts.{bytes_at, IsPlace};
+ghost use Rattle.btor2.specs.NameBytes.{bytes_at, IsPlace};
 
 use std::alloc::{AllocError, Global};
 use std::marker::Model;
@@ -25,14 +26,14 @@ enum Place {
 /// Some bytes, held in two words. It has two forms since most names are short and a large model may have one in each
 /// item: up to 14 bytes take no memory of their own, and longer ones take none in the item beyond the two words.
 #[derive(Debug, Drop)]
-pub(crate) struct Text {
+pub(crate) struct NameBytes {
     place: Place,
 }
 
 // two words
-const _: () = prove!(size_of::<Text>() == 16);
+const _: () = prove!(size_of::<NameBytes>() == 16);
 
-impl Model for Text {
+impl Model for NameBytes {
     ghost Value = { List ℕ };
 
     ghost view = { λ t. bytes_at t.place };
@@ -43,14 +44,14 @@ impl Model for Text {
 /// These bytes, in place.
 ///
 /// Condition: there are at most 14.
-fn in_place(bytes: &[u8]) -> Text
+fn in_place(bytes: &[u8]) -> NameBytes
     requires { length bytes.now ≤ 14 }
     ensures { result ≡ bytes.now }
 {
     let mut held = [0; MOST_IN_PLACE];
     let length = bytes.len();
     held[..length].copy_from_slice(bytes);
-    Text {
+    NameBytes {
         place: Place::Short {
             length: length as u8,
             bytes: held,
@@ -58,11 +59,11 @@ fn in_place(bytes: &[u8]) -> Text
     }
 }
 
-impl Text {
+impl NameBytes {
     /// These bytes.
     ///
     /// Errors: where more than 14 bytes are given and a growth was refused.
-    pub(crate) fn new(alloc: Global, bytes: &[u8]) -> Result<Text, AllocError>
+    pub(crate) fn new(alloc: Global, bytes: &[u8]) -> Result<NameBytes, AllocError>
         ensures ok { IfOk result (λ t. t ≡ bytes.now) }
         ensures short { length bytes.now ≤ 14 → IsOk result }
     {
@@ -71,7 +72,7 @@ impl Text {
         }
         let held = Vec::from_slice(alloc, bytes)?;
         let bytes = Box::new(alloc, held)?;
-        Ok(Text {
+        Ok(NameBytes {
             place: Place::Long { bytes },
         })
     }

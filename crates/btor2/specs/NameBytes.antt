@@ -1,7 +1,7 @@
 -- How the bytes of a name are held.
 use Rattle.std.specs.Prelude.{ℕ, ◌≤◌, List, take}
-use Rattle.btor2.specs.declared.text.Place.{Place}
-use Rattle.btor2.specs.declared.text.Place.TheVariants as place
+use Rattle.btor2.specs.declared.name_bytes.Place.{Place}
+use Rattle.btor2.specs.declared.name_bytes.Place.TheVariants as place
 
 -- the bytes: in place the first of 14, or those of a vector
 abbrev pub bytes_at : Place → List ℕ
