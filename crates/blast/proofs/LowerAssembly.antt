@@ -61,11 +61,11 @@ has_next items [] back x state none = here (is_state x.body) (next_value items x
     here true None e none = absurd (cc)
     here true (Some v) e none = refl
     here false o e none = absurd (cc)
-has_next items (y ∷ front) back x state none = later (has_next items front back x state) (is_state y.body && is_none (next_value items y.id)) none
+has_next items (y ∷ front) back x state none = behind (has_next items front back x state) (is_state y.body && is_none (next_value items y.id)) none
   where
-    later : (first_without_next items (front ++ x ∷ back) ≡ None → is_some (next_value items x.id) ≡ true) → (b : Bool) → (if b then Some y.id else first_without_next items (front ++ x ∷ back)) ≡ None → is_some (next_value items x.id) ≡ true
-    later rest true none = absurd (cc)
-    later rest false none = rest none
+    behind : (first_without_next items (front ++ x ∷ back) ≡ None → is_some (next_value items x.id) ≡ true) → (b : Bool) → (if b then Some y.id else first_without_next items (front ++ x ∷ back)) ≡ None → is_some (next_value items x.id) ≡ true
+    behind rest true none = absurd (cc)
+    behind rest false none = rest none
 
 -- by ids
 pub nexts_by_id : (items : List Item) → first_without_next items items ≡ None → (id : ℕ) → names_state items id ≡ true → is_some (next_value items id) ≡ true

@@ -127,13 +127,13 @@ pub cost-small : (items : List Item) → IsWellFormed items → cost items < 2 ^
 cost-small items w = small_sum _ items (λ x. line_cost-most items x.body w) (few_items items w)
 
 -- the operands of an item that stands in a well-formed list are nodes of it
-later : (before more : List Item) (a n : ℕ) → node_width before a ≡ Some n → is_some (node_width (before ++ more) a) ≡ true
-later before more a n h = is_some_from (node_width (before ++ more) a) n (node_width-append before more a n h)
+node_stays : (before more : List Item) (a n : ℕ) → node_width before a ≡ Some n → is_some (node_width (before ++ more) a) ≡ true
+node_stays before more a n h = is_some_from (node_width (before ++ more) a) n (node_width-append before more a n h)
 
 accepted_operands : (before more : List Item) (nodes : List ℕ) → Each (HasWidth before) nodes → All (λ a. is_some (node_width (before ++ more) a) ≡ true) nodes
 accepted_operands before more [] there = All-nil (λ b. is_some (node_width (before ++ more) b) ≡ true)
 accepted_operands before more (a ∷ rest) there =
-    All-cons (λ b. is_some (node_width (before ++ more) b) ≡ true) a rest (later before more a there.0.0 there.0.1) (accepted_operands before more rest there.1)
+    All-cons (λ b. is_some (node_width (before ++ more) b) ≡ true) a rest (node_stays before more a there.0.0 there.0.1) (accepted_operands before more rest there.1)
 
 pub operands_there : (items : List Item) (k : ℕ) (x : Item) → IsWellFormed items → slice_get items k ≡ Some x → All (λ a. is_some (node_width items a) ≡ true) (operands x.body)
 operands_there items k x w at =

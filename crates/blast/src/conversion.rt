@@ -1,3 +1,4 @@
+//! From a model's text to a circuit's text.
 ghost use Rattle.std.specs.Prelude.{◌≡◌, ◌≤◌, IfErr, OnOk, OnErr};
 ghost use Rattle.std.specs.Io.KnownBytes.{Appends, IsAtEnd};
 ghost use Rattle.base.specs.Device.{HasRisen, CountsFaults, AppendsBeginning};

@@ -1,5 +1,6 @@
+//! Why a model is not lowered, and why a text is not converted.
 ghost use Rattle.std.specs.Prelude.{◌≡◌};
-ghost use Rattle.blast.specs.Faults.{lower_number, convert_number};
+ghost use Rattle.blast.specs.Faults.{lower_number, lower_name, convert_number, convert_name};
 
 use base::DeviceFault;
 use btor2text::ReadFault;
@@ -7,15 +8,14 @@ use thiserror::Error;
 
 /// Why a model is not lowered.
 #[derive(Clone, Copy, Debug, PartialEq, Eq, Error)]
+#[error("{number} {name}", number = self.number(), name = self.name())]
 pub enum LowerFault {
     /// The first state in file order without a next; it has the id of the state's line.
-    #[error("item {0}: 92 NoNext")]
+    #[error("item {0}: {number} {name}", number = self.number(), name = self.name())]
     NoNext(u64),
     /// The bound on the variables is above 2^30.
-    #[error("93 TooBig")]
     TooBig,
     /// A growth was refused.
-    #[error("94 NoMemory")]
     NoMemory,
 }
 
@@ -30,19 +30,30 @@ impl LowerFault {
             LowerFault::NoMemory => 94,
         }
     }
+
+    /// The name that is printed for the fault.
+    pub fn name(self) -> &'static str
+        ensures { result.now ≡ lower_name self }
+    {
+        match self {
+            LowerFault::NoNext(_) => "NoNext",
+            LowerFault::TooBig => "TooBig",
+            LowerFault::NoMemory => "NoMemory",
+        }
+    }
 }
 
 /// Why a conversion is not done.
 #[derive(Clone, Copy, Debug, PartialEq, Eq, Error)]
 pub enum ConvertFault {
     /// The text is no model, or could not be read. Nothing was written.
-    #[error("95 Read: {0}")]
+    #[error("{number} {name}: {0}", number = self.number(), name = self.name())]
     Read(ReadFault),
     /// The model is not lowered. Nothing was written.
-    #[error("96 Lower: {0}")]
+    #[error("{number} {name}: {0}", number = self.number(), name = self.name())]
     Lower(LowerFault),
     /// The sink failed. A beginning of the circuit's text was written.
-    #[error("97 Write: {0}")]
+    #[error("{number} {name}: {0}", number = self.number(), name = self.name())]
     Write(DeviceFault),
 }
 
@@ -55,6 +66,17 @@ impl ConvertFault {
             ConvertFault::Read(_) => 95,
             ConvertFault::Lower(_) => 96,
             ConvertFault::Write(_) => 97,
+        }
+    }
+
+    /// The name of the fault.
+    pub fn name(self) -> &'static str
+        ensures { result.now ≡ convert_name self }
+    {
+        match self {
+            ConvertFault::Read(_) => "Read",
+            ConvertFault::Lower(_) => "Lower",
+            ConvertFault::Write(_) => "Write",
         }
     }
 }

@@ -1,3 +1,4 @@
+//! The latches of a circuit: how they begin, and what they take in the next frame.
 ghost use Rattle.std.specs.Prelude.{◌≡◌, ℕ, ◌+◌, ◌<◌, ◌≤◌, true, length, replicate, Some, None, All, is_some, slice_get, slice_index};
 ghost use Rattle.btor2.specs.Check.{IsWellFormed};
 ghost use Rattle.btor2.specs.Items.{is_state, init_value, next_value};
@@ -10,7 +11,7 @@ ghost use Rattle.blast.specs.Cost.{state_width};
 ghost use Rattle.blast.specs.Reads.{RowsRead, LatchesRead};
 ghost use Rattle.blast.specs.Rows.{row_at, init_word, reset_at, row_latches, state_latches};
 
-use crate::names::item_at;
+use crate::items::item_at;
 use crate::table::Table;
 use aiger::{Circuit, Lit, Reset};
 use btor2::{Item, Model};

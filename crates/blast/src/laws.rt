@@ -37,7 +37,7 @@ pub fn bad_properties_rise_alike()
     ensures { (items : List Item) (c : Circuit) (b : ℕ) → Lowers items c → CanRise items b ↔ CanRiseInCircuit c b }
 {
     aiger::exactly_one_trace();
-    btor2::exactly_one_trace();
+    btor2::laws::exactly_one_trace();
 }
 
 /// Worked rows: a circuit that lowers a model; a circuit that lowers none, since a gate has an operand above it and no
@@ -48,7 +48,7 @@ pub fn worked_lowerings()
     ensures is_not_of_profile { (c : Circuit) → ¬ Lowers nextless c }
 {
     aiger::worked_traces();
-    btor2::worked_traces();
+    btor2::laws::worked_traces();
 }
 
 /// Worked rows: the gates and the variables at most of a bit that toggles, and of two bits that are masked.

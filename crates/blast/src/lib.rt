@@ -3,8 +3,9 @@
 
 mod conversion;
 mod fault;
+mod items;
 mod latches;
-mod laws;
+pub mod laws;
 mod lowering;
 mod names;
 mod nodes;
@@ -14,6 +15,5 @@ mod widths;
 
 pub use conversion::convert;
 pub use fault::{ConvertFault, LowerFault};
-pub use laws::{worked_costs, worked_leaves, worked_names, worked_refusals};
 pub use lowering::lower;
 pub use widths::{bound, cost};

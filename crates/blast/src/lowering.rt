@@ -1,3 +1,4 @@
+//! Lowering a model to a circuit.
 ghost use Rattle.std.specs.Prelude.{◌≡◌, ℕ, ◌≤◌, None, Some, true, IfOk, IfErr};
 ghost use Rattle.btor2.specs.Check.{IsWellFormed};
 ghost use Rattle.btor2text.specs.Basic.{are_basic};
@@ -59,18 +60,11 @@ fn lower_accepted(alloc: Global, model: &Model) -> Result<Circuit, LowerFault>
     };
     let mut circuit = gates.finish();
     set_latches(model, &table, &mut circuit);
-    match push_properties(model, &table, &mut circuit) {
-        Ok(()) => {}
-        Err(fault) => return Err(fault),
-    }
-    match set_names(model, &mut circuit) {
-        Ok(()) => {
-            // what a circuit keeps
-            let _ = circuit.gates();
-            Ok(circuit)
-        }
-        Err(fault) => Err(fault),
-    }
+    push_properties(model, &table, &mut circuit)?;
+    set_names(model, &mut circuit)?;
+    // what a circuit keeps
+    let _ = circuit.gates();
+    Ok(circuit)
 }
 
 /// The circuit that lowers a model: the bits of its inputs are the inputs, those of its states the latches.

@@ -1,3 +1,4 @@
+//! The names of a circuit's inputs, latches, bad properties and constraints.
 ghost use Rattle.std.specs.Prelude.{◌≡◌, ℕ, ◌+◌, ◌<◌, ◌≤◌, [], ◌∷◌, true, length, replicate, Some, None, IfOk, OnOk, IfErr, slice_get, slice_set};
 ghost use Rattle.btor2.specs.Symbols.{is_symbol};
 ghost use Rattle.btor2.specs.Check.{IsWellFormed};
@@ -12,6 +13,7 @@ ghost use Rattle.blast.specs.Blocks.{block, written, IsBlank};
 ghost use Rattle.blast.specs.Sections.{kind_of, item_names, section_names};
 
 use crate::fault::LowerFault;
+use crate::items::{bit_count, item_at};
 use aiger::{Circuit, CircuitFault, Section};
 use arrayvec::ArrayVec;
 use btor2::{Item, Model, Symbol};
@@ -78,10 +80,7 @@ fn name_bits(
     for bit in 0..count {
         let mut name = ArrayVec::new();
         write_bit_name(symbol.bytes(), bit, &mut name);
-        match give_name(section, first + bit as usize, name.as_slice(), circuit) {
-            Ok(()) => {}
-            Err(fault) => return Err(fault),
-        }
+        give_name(section, first + bit as usize, name.as_slice(), circuit)?;
     }
     Ok(())
 }
@@ -107,19 +106,6 @@ fn name_word(
     }
 }
 
-/// How many bits an input or a state has.
-fn bit_count(model: &Model, place: usize, item: &Item) -> u64
-    requires well_formed { IsWellFormed model.now }
-    requires place { slice_get model.now place ≡ Some item.now }
-    ensures value { result ≡ bits_of model.now item.now.id }
-    ensures range { result ≤ 64 }
-{
-    match model.width_of(place) {
-        Some(width) => width.bits(),
-        None => 0,
-    }
-}
-
 /// Names the positions of an input or a state: the bits of its word.
 fn name_leaf(
     model: &Model,
@@ -139,32 +125,12 @@ fn name_leaf(
     ensures err { IfErr result (λ e. e ≡ fault.NoMemory) }
 {
     let count = bit_count(model, place, item);
-    match name_word(section, first, &item.symbol, count, circuit) {
-        Ok(()) => Ok(count as usize),
-        Err(fault) => Err(fault),
-    }
+    name_word(section, first, &item.symbol, count, circuit)?;
+    Ok(count as usize)
 }
 
-/// Names the position of a bad property or a constraint, where it has a symbol.
+/// Names the position of a bad property or a constraint, where it has a symbol, and answers that it is one position.
 fn name_property(
-    section: Section,
-    first: usize,
-    symbol: &Option<Symbol>,
-    circuit: &mut Circuit,
-) -> Result<(), LowerFault>
-    requires free { IsBlank None first 1 (names_of section circuit.old) }
-    requires room { first + 1 ≤ length (names_of section circuit.old) }
-    ensures ok { OnOk result (circuit.new ≡ with_names section (written (names_of section circuit.old) first (symbol.now ∷ [])) circuit.old) }
-    ensures err { IfErr result (λ e. e ≡ fault.NoMemory) }
-{
-    match symbol {
-        Some(symbol) => give_name(section, first, symbol.bytes(), circuit),
-        None => Ok(()),
-    }
-}
-
-/// The same, and that it is one position.
-fn name_own(
     section: Section,
     first: usize,
     symbol: &Option<Symbol>,
@@ -176,18 +142,13 @@ fn name_own(
     ensures count { IfOk result (λ n. n ≡ 1) }
     ensures err { IfErr result (λ e. e ≡ fault.NoMemory) }
 {
-    match name_property(section, first, symbol, circuit) {
-        Ok(()) => Ok(1),
-        Err(fault) => Err(fault),
+    match symbol {
+        Some(symbol) => {
+            give_name(section, first, symbol.bytes(), circuit)?;
+            Ok(1)
+        }
+        None => Ok(1),
     }
-}
-
-/// The item at a place.
-pub(crate) fn item_at(items: &[Item], place: usize) -> &Item
-    requires { place < length items.now }
-    ensures { slice_get items.now place ≡ Some result.now }
-{
-    &items[place]
 }
 
 /// Names the positions that an item gives a section, and answers how many they are.
@@ -211,8 +172,8 @@ fn name_item(
     match section {
         Section::Input => name_leaf(model, place, Section::Input, first, item, circuit),
         Section::Latch => name_leaf(model, place, Section::Latch, first, item, circuit),
-        Section::Bad => name_own(Section::Bad, first, &item.symbol, circuit),
-        Section::Constraint => name_own(Section::Constraint, first, &item.symbol, circuit),
+        Section::Bad => name_property(Section::Bad, first, &item.symbol, circuit),
+        Section::Constraint => name_property(Section::Constraint, first, &item.symbol, circuit),
     }
 }
 
@@ -239,10 +200,8 @@ fn name_section(model: &Model, section: Section, circuit: &mut Circuit) -> Resul
     let mut first = 0;
     for place in section_places(model, section) {
         let item = item_at(items, *place);
-        match name_item(model, *place, section, first, item, circuit) {
-            Ok(count) => first += count,
-            Err(fault) => return Err(fault),
-        }
+        let count = name_item(model, *place, section, first, item, circuit)?;
+        first += count;
     }
     Ok(())
 }
@@ -263,17 +222,8 @@ pub(crate) fn set_names(model: &Model, circuit: &mut Circuit) -> Result<(), Lowe
 {
     // a circuit has at most 2^30 positions of a section, so their counts fit
     let _ = circuit.variables();
-    match name_section(model, Section::Input, circuit) {
-        Ok(()) => {}
-        Err(fault) => return Err(fault),
-    }
-    match name_section(model, Section::Latch, circuit) {
-        Ok(()) => {}
-        Err(fault) => return Err(fault),
-    }
-    match name_section(model, Section::Bad, circuit) {
-        Ok(()) => {}
-        Err(fault) => return Err(fault),
-    }
+    name_section(model, Section::Input, circuit)?;
+    name_section(model, Section::Latch, circuit)?;
+    name_section(model, Section::Bad, circuit)?;
     name_section(model, Section::Constraint, circuit)
 }

@@ -15,8 +15,9 @@ ghost use Rattle.blast.specs.Cost.{bound, line_cost};
 ghost use Rattle.blast.specs.Reads.{LowersNodes, leaves_only};
 ghost use Rattle.blast.specs.Table.{MakesNode, MakesRow, row_of, IsOperand, LowersFront};
 
+use crate::items::bit_count;
 use crate::table::Table;
-use crate::widths::{input_width, width_at};
+use crate::widths::input_width;
 use aiger::Lit;
 use base::{Binary, Unary};
 use btor2::{Body, Item, Model};
@@ -147,9 +148,9 @@ fn line_row<G: Gates>(
     ensures memory { IfErr result (λ e. e ≡ GateFault.NoMemory) }
 {
     match &item.body {
-        Body::Input { .. } => Ok(next_bits(input, width_at(model, place))),
-        Body::State { .. } => Ok(next_bits(latch, width_at(model, place))),
-        Body::Zero { .. } => Ok(false_bits(width_at(model, place))),
+        Body::Input { .. } => Ok(next_bits(input, bit_count(model, place, item))),
+        Body::State { .. } => Ok(next_bits(latch, bit_count(model, place, item))),
+        Body::Zero { .. } => Ok(false_bits(bit_count(model, place, item))),
         Body::Unary {
             operator,
             operand,
@@ -188,12 +189,10 @@ fn lower_item<G: Gates>(
     ensures ok { OnOk result (LowersFront model.now (place + 1) (G.made gates.new) table.new input.new latch.new) }
     ensures memory { IfErr result (λ e. e ≡ GateFault.NoMemory) }
 {
-    match line_row(model, gates, table, place, item, input, latch) {
-        Ok(bits) => match table.push(bits.as_slice()) {
-            Ok(()) => Ok(()),
-            Err(_) => Err(GateFault::NoMemory),
-        },
-        Err(fault) => Err(fault),
+    let bits = line_row(model, gates, table, place, item, input, latch)?;
+    match table.push(bits.as_slice()) {
+        Ok(()) => Ok(()),
+        Err(_) => Err(GateFault::NoMemory),
     }
 }
 
@@ -218,12 +217,9 @@ pub(crate) fn lower_nodes<G: Gates>(
     let mut input = 1;
     let mut latch = 1 + input_width(model);
     for (place, item) in items.iter().enumerate() {
-        match lower_item(
+        lower_item(
             model, gates, &mut table, place, item, &mut input, &mut latch,
-        ) {
-            Ok(()) => {}
-            Err(fault) => return Err(fault),
-        }
+        )?;
     }
     Ok(table)
 }

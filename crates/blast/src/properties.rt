@@ -1,3 +1,4 @@
+//! The bad properties and constraints of a circuit.
 ghost use Rattle.std.specs.Prelude.{◌≡◌, ℕ, ◌+◌, ◌<◌, ◌≤◌, [], ◌++◌, length, replicate, Some, None, IfErr, OnOk, slice_get};
 ghost use Rattle.btor2.specs.Check.{IsWellFormed};
 ghost use Rattle.btor2.specs.Items.{node_width};
@@ -10,7 +11,7 @@ ghost use Rattle.blast.specs.Reads.{RowsRead, BadsRead, ConstraintsRead};
 ghost use Rattle.blast.specs.Rows.{row_at, literal_at, with_literals, bad_literals, constraint_literals};
 
 use crate::fault::LowerFault;
-use crate::names::item_at;
+use crate::items::item_at;
 use crate::table::Table;
 use aiger::{Circuit, CircuitFault, Lit};
 use btor2::{Body, Item, Model};
@@ -104,10 +105,7 @@ pub(crate) fn push_properties(
 {
     let items = model.items();
     for place in 0..items.len() {
-        match push_item(model, table, place, item_at(items, place), circuit) {
-            Ok(()) => {}
-            Err(fault) => return Err(fault),
-        }
+        push_item(model, table, place, item_at(items, place), circuit)?;
     }
     Ok(())
 }

@@ -1,3 +1,4 @@
+//! The rows of literals of a model's items, in one flat list.
 ghost use Rattle.std.specs.Prelude.{◌≡◌, ℕ, ◌<◌, ◌≤◌, List, [], ◌∷◌, ◌++◌, length, Some, slice_get, slice_range, OnOk, OnErr};
 ghost use Rattle.blast.specs.Table.{rows_from, AreEnds, start_at};
 

@@ -1,24 +1,13 @@
-ghost use Rattle.std.specs.Prelude.{◌≡◌, ◌≤◌, ◌+◌, true, All, is_some, slice_get, unwrap_or, if◌then◌else◌, length, ◌<◌};
+//! How many gates and variables a lowering takes at most.
+ghost use Rattle.std.specs.Prelude.{◌≡◌, ◌≤◌, ◌+◌, true, All, Some, is_some, slice_get, if◌then◌else◌};
 ghost use Rattle.btor2.specs.Items.{node_width, operands, is_input, is_state};
-ghost use Rattle.btor2.specs.Lists.{width_at};
 ghost use Rattle.btor2.specs.Check.{IsWellFormed};
 ghost use Rattle.btor2.specs.Trace.{bits_of};
 ghost use Rattle.blast.specs.Cost.{line_cost, cost, input_width, state_width, bound};
 
+use crate::items::bit_count;
 use btor2::{Body, Item, Model};
 use gates::{Op, gate_bound};
-
-/// The width of the node at a place, and 0 for an item that is none.
-pub(crate) fn width_at(model: &Model, place: usize) -> u64
-    requires { place < length model.now }
-    ensures value { result ≡ unwrap_or (width_at model.now place) 0 }
-    ensures most { result ≤ 64 }
-{
-    match model.width_of(place) {
-        Some(width) => width.bits(),
-        None => 0,
-    }
-}
 
 /// The width of the node with an id.
 fn node_bits(model: &Model, id: u32) -> u64
@@ -43,7 +32,7 @@ fn input_bits(model: &Model, place: usize, item: &Item) -> u64
     ensures { result ≡ (if is_input item.now.body then bits_of model.now item.now.id else 0) }
 {
     match &item.body {
-        Body::Input { .. } => width_at(model, place),
+        Body::Input { .. } => bit_count(model, place, item),
         _ => 0,
     }
 }
@@ -55,7 +44,7 @@ fn state_bits(model: &Model, place: usize, item: &Item) -> u64
     ensures { result ≡ (if is_state item.now.body then bits_of model.now item.now.id else 0) }
 {
     match &item.body {
-        Body::State { .. } => width_at(model, place),
+        Body::State { .. } => bit_count(model, place, item),
         _ => 0,
     }
 }

@@ -11,11 +11,11 @@ push_properties-requires-clause-reads c =
     let nodes : LowersNodes items (leaves_only items) c.lower_nodes.new.gates c.in-Ok-lower_nodes.table = subst (λ (n : Net). LowersNodes items n c.lower_nodes.new.gates c.in-Ok-lower_nodes.table) leaves c.in-Ok-lower_nodes.ensures.ok in
     rows_still items c.lower_nodes.new.gates c.in-Ok-lower_nodes.table c.finish-circuit.result c.set_latches.new.circuit nodes c.finish-circuit.ensures c.set_latches.ensures.latches c.set_latches.ensures.others
 
-pub returns-in-Ok-set_names-clause-ok : goal.returns-in-Ok-set_names-clause-ok
-returns-in-Ok-set_names-clause-ok c =
+pub returns-clause-ok : goal.returns-clause-ok
+returns-clause-ok c =
     let items = c.args.model.now in
     let leaves : c.in-Ok.gates ≡ leaves_only items = c.in-Ok.ensures.ok ∙ rw (c.input_width-inputs.ensures, c.state_width-latches.ensures) refl in
     let nodes : LowersNodes items (leaves_only items) c.lower_nodes.new.gates c.in-Ok-lower_nodes.table = subst (λ (n : Net). LowersNodes items n c.lower_nodes.new.gates c.in-Ok-lower_nodes.table) leaves c.in-Ok-lower_nodes.ensures.ok in
     assemble items c.lower_nodes.new.gates c.in-Ok-lower_nodes.table c.finish-circuit.result c.set_latches.new.circuit c.push_properties.new.circuit c.set_names.new.circuit _ _
-    c.requires.well_formed (profile_given items c.requires.accepted) (search rules) nodes c.finish-circuit.ensures c.set_latches.ensures.latches c.set_latches.ensures.others c.in-Ok-push_properties.ensures.bads c.in-Ok-push_properties.ensures.constraints
-    c.in-Ok-push_properties.ensures.others c.in-Ok-set_names.ensures.ok
+    c.requires.well_formed (profile_given items c.requires.accepted) (search rules) nodes c.finish-circuit.ensures c.set_latches.ensures.latches c.set_latches.ensures.others c.in_ok-push_properties.ensures.bads c.in_ok-push_properties.ensures.constraints
+    c.in_ok-push_properties.ensures.others c.in_ok-set_names.ensures.ok

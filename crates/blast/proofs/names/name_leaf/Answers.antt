@@ -11,5 +11,5 @@ name_word-requires-clause-free c =
 pub name_word-requires-clause-room : goal.name_word-requires-clause-room
 name_word-requires-clause-room c = omega (arith, length-leaf_names c.args.model.now c.args.item.now)
 
-pub returns-in-Ok-clause-count : goal.returns-in-Ok-clause-count
-returns-in-Ok-clause-count c = c.bit_count-count.ensures.value ∙ sym (length-leaf_names c.args.model.now c.args.item.now)
+pub returns-clause-count : goal.returns-clause-count
+returns-clause-count c = c.bit_count-count.ensures.value ∙ sym (length-leaf_names c.args.model.now c.args.item.now)

@@ -1,4 +1,4 @@
-use Rattle.std.proofs.Common.{◌≡◌, ℕ, List, Some, true, set, ap, sym, subst, ◌∙◌, Result, Ok, Err, OnOk}
+use Rattle.std.proofs.Common.{◌≡◌, ℕ, List, Some, true, set, ap, sym, subst, ◌∙◌}
 use Rattle.aiger.specs.Names.{is_name}
 use Rattle.aiger.specs.Circuit.{names_of, with_names}
 use Rattle.blast.proofs.NameLemmas.{symbol_is_name, named_property, unnamed_property}
@@ -7,15 +7,10 @@ use Rattle.blast.proofs.names.name_property.Goals as goal
 pub give_name-requires-clause-name : goal.give_name-requires-clause-name
 give_name-requires-clause-name c = subst (λ (name : List ℕ). is_name name ≡ true) (sym c.bytes.ensures.bytes) (symbol_is_name c.in-Some.symbol c.bytes.ensures.valid)
 
-OnOk_then : {T E : Type 0} (r : Result T E) {P Q : Type 0} → OnOk r P → (P → Q) → OnOk r Q
-OnOk_then (Ok x) p f = f p
-OnOk_then (Err e) p f = p
-
-pub returns-in-Some-clause-ok : goal.returns-in-Some-clause-ok
-returns-in-Some-clause-ok c =
-    rw c.in-Some.is (OnOk_then c.give_name.result c.give_name.ensures.ok
-    (λ e. named_property c.args.section c.args.circuit.now c.give_name.new.circuit c.args.first c.in-Some.symbol c.requires.room
-    (e ∙ ap (λ (s : List ℕ). with_names c.args.section (set (names_of c.args.section c.args.circuit.now) c.args.first (Some s)) c.args.circuit.now) c.bytes.ensures.bytes)))
+pub returns-in_ok-give_name-in-Some-clause-ok : goal.returns-in_ok-give_name-in-Some-clause-ok
+returns-in_ok-give_name-in-Some-clause-ok c =
+    rw c.in-Some.is (named_property c.args.section c.args.circuit.now c.give_name.new.circuit c.args.first c.in-Some.symbol c.requires.room
+    (c.in_ok-give_name-in-Some.ensures.ok ∙ ap (λ (s : List ℕ). with_names c.args.section (set (names_of c.args.section c.args.circuit.now) c.args.first (Some s)) c.args.circuit.now) c.bytes.ensures.bytes))
 
 pub returns-in-None-clause-ok : goal.returns-in-None-clause-ok
 returns-in-None-clause-ok c = rw c.in-None.is (unnamed_property c.args.section c.args.circuit.now c.args.first c.requires.free c.requires.room)

@@ -37,7 +37,7 @@ pub overflow_add-first : goal.overflow_add-first
 overflow_add-first c =
     let room = WithItems-room c.args.section c.args.model.now c.section_places-place-items.result.now c.args.circuit.now c.loop-place.circuit c.loop-place.place-index c.item_at-item.result.now c.loop-place.invariant.names c.loop-place-test.true
     (rw c.items-items.ensures.items at c.item_at-item.ensures) in
-    omega (arith, room, c.in-Ok.ensures.count)
+    omega (arith, room, c.in_ok-count.ensures.count)
 
 pub loop-place-preserved : goal.loop-place-preserved
 loop-place-preserved c =
@@ -46,11 +46,11 @@ loop-place-preserved c =
     let room : c.loop-place.first + length names ≤ length (names_of c.args.section c.loop-place.circuit) =
     rw c.loop-place.invariant.first (WithItems-room c.args.section c.args.model.now c.section_places-place-items.result.now c.args.circuit.now c.loop-place.circuit c.loop-place.place-index c.item_at-item.result.now c.loop-place.invariant.names c.loop-place-test.true at) in
     record {
-      first = ap (λ (n : ℕ). n + c.in-Ok.count) c.loop-place.invariant.first ∙ ap (λ (n : ℕ). reached (item_names c.args.section c.args.model.now) c.args.model.now c.section_places-place-items.result.now c.loop-place.place-index + n) c.in-Ok.ensures.count
+      first = ap (λ (n : ℕ). n + c.in_ok-count.count) c.loop-place.invariant.first ∙ ap (λ (n : ℕ). reached (item_names c.args.section c.args.model.now) c.args.model.now c.section_places-place-items.result.now c.loop-place.place-index + n) c.in_ok-count.ensures.count
           ∙ sym (reached-item c.args.section c.args.model.now c.section_places-place-items.result.now c.loop-place.place-index c.item_at-item.result.now c.loop-place-test.true at);
       names = WithItems-more c.args.section c.args.model.now c.section_places-place-items.result.now c.args.circuit.now c.loop-place.circuit c.name_item.new.circuit c.loop-place.place-index c.item_at-item.result.now c.loop-place.invariant.names c.loop-place-test.true at
-          (c.in-Ok.ensures.ok ∙ ap (λ (n : ℕ). with_names c.args.section (written (names_of c.args.section c.loop-place.circuit) n names) c.loop-place.circuit) c.loop-place.invariant.first);
-      positions = written_positions c.args.section c.loop-place.circuit c.name_item.new.circuit c.loop-place.first names c.in-Ok.ensures.ok room ∙ c.loop-place.invariant.positions;
+          (c.in_ok-count.ensures.ok ∙ ap (λ (n : ℕ). with_names c.args.section (written (names_of c.args.section c.loop-place.circuit) n names) c.loop-place.circuit) c.loop-place.invariant.first);
+      positions = written_positions c.args.section c.loop-place.circuit c.name_item.new.circuit c.loop-place.first names c.in_ok-count.ensures.ok room ∙ c.loop-place.invariant.positions;
     }
 
 pub returns-clause-ok : goal.returns-clause-ok

@@ -9,4 +9,4 @@ name_section-requires-clause-blank c = blank_leaves is_input c.args.model.now c.
 
 pub name_section-requires-2-clause-blank : goal.name_section-requires-2-clause-blank
 name_section-requires-2-clause-blank c =
-    ap (λ (n : Circuit). n.latch_names) c.in-Ok.ensures.ok ∙ blank_leaves is_state c.args.model.now c.args.circuit.now.latch_names c.requires.latches
+    ap (λ (n : Circuit). n.latch_names) c.in_ok-name_section.ensures.ok ∙ blank_leaves is_state c.args.model.now c.args.circuit.now.latch_names c.requires.latches

@@ -37,23 +37,23 @@ binary_row-requires-clause-fits g c =
 
 pub returns-in-Input-clause-ok : goal.returns-in-Input-clause-ok
 returns-in-Input-clause-ok g c =
-    MakesRow-input c.args.model.now c.args.place (g.G.Gates.made c.args.gates.now) c.args.table.now c.args.input.now c.args.latch.now c.args.item.now c.in-Input.sort c.width_at.result c.next_bits.result.items c.requires.well_formed c.requires.front c.requires.at c.in-Input.is c.width_at.ensures.value c.next_bits.ensures.bits
+    MakesRow-input c.args.model.now c.args.place (g.G.Gates.made c.args.gates.now) c.args.table.now c.args.input.now c.args.latch.now c.args.item.now c.in-Input.sort c.bit_count.result c.next_bits.result.items c.requires.well_formed c.requires.front c.requires.at c.in-Input.is c.bit_count.ensures.at c.next_bits.ensures.bits
 
 pub returns-in-Input-clause-input : goal.returns-in-Input-clause-input
 returns-in-Input-clause-input g c =
-    c.next_bits.ensures.next ∙ next-input c.args.model.now c.args.place c.args.item.now c.in-Input.sort c.args.input.now c.width_at.result c.requires.well_formed c.requires.at c.in-Input.is c.width_at.ensures.value
+    c.next_bits.ensures.next ∙ next-input c.args.model.now c.args.place c.args.item.now c.in-Input.sort c.args.input.now c.bit_count.result c.requires.well_formed c.requires.at c.in-Input.is c.bit_count.ensures.at
 
 pub returns-in-State-clause-ok : goal.returns-in-State-clause-ok
 returns-in-State-clause-ok g c =
-    MakesRow-state c.args.model.now c.args.place (g.G.Gates.made c.args.gates.now) c.args.table.now c.args.input.now c.args.latch.now c.args.item.now c.in-State.sort c.width_at-in-State.result c.next_bits-in-State.result.items c.requires.well_formed c.requires.front c.requires.at c.in-State.is c.width_at-in-State.ensures.value c.next_bits-in-State.ensures.bits
+    MakesRow-state c.args.model.now c.args.place (g.G.Gates.made c.args.gates.now) c.args.table.now c.args.input.now c.args.latch.now c.args.item.now c.in-State.sort c.bit_count-in-State.result c.next_bits-in-State.result.items c.requires.well_formed c.requires.front c.requires.at c.in-State.is c.bit_count-in-State.ensures.at c.next_bits-in-State.ensures.bits
 
 pub returns-in-State-clause-latch : goal.returns-in-State-clause-latch
 returns-in-State-clause-latch g c =
-    c.next_bits-in-State.ensures.next ∙ next-latch c.args.model.now c.args.place c.args.item.now c.in-State.sort c.args.latch.now c.width_at-in-State.result c.requires.well_formed c.requires.at c.in-State.is c.width_at-in-State.ensures.value
+    c.next_bits-in-State.ensures.next ∙ next-latch c.args.model.now c.args.place c.args.item.now c.in-State.sort c.args.latch.now c.bit_count-in-State.result c.requires.well_formed c.requires.at c.in-State.is c.bit_count-in-State.ensures.at
 
 pub returns-in-Zero-clause-ok : goal.returns-in-Zero-clause-ok
 returns-in-Zero-clause-ok g c =
-    MakesRow-zero c.args.model.now c.args.place (g.G.Gates.made c.args.gates.now) c.args.item.now c.in-Zero.sort c.width_at-in-Zero.result c.false_bits.result.items c.requires.at c.in-Zero.is c.width_at-in-Zero.ensures.value c.false_bits.ensures
+    MakesRow-zero c.args.model.now c.args.place (g.G.Gates.made c.args.gates.now) c.args.item.now c.in-Zero.sort c.bit_count-in-Zero.result c.false_bits.result.items c.requires.at c.in-Zero.is c.bit_count-in-Zero.ensures.at c.false_bits.ensures
 
 pub returns-in-Unary-clause-ok : goal.returns-in-Unary-clause-ok
 returns-in-Unary-clause-ok g c =

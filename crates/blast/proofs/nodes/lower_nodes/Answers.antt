@@ -19,7 +19,7 @@ lower_item-requires g c =
     }
 
 pub loop-place-preserved : goal.loop-place-preserved
-loop-place-preserved g c = c.in-Ok.ensures.ok
+loop-place-preserved g c = c.in_ok-lower_item.ensures.ok
 
 pub returns-clause-ok : goal.returns-clause-ok
 returns-clause-ok g c =

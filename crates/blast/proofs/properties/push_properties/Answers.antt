@@ -18,7 +18,7 @@ push_item-requires-clause-few_constraints c =
 pub loop-place-preserved : goal.loop-place-preserved
 loop-place-preserved c =
     WithProperties-more c.args.model.now c.args.table.now c.args.circuit.now c.loop-place.circuit c.push_item.new.circuit c.loop-place.place c.item_at.result.now c.loop-place.invariant
-    (rw c.items-items.ensures.items at c.item_at.ensures) c.in-Ok.ensures.ok
+    (rw c.items-items.ensures.items at c.item_at.ensures) c.in_ok-push_item.ensures.ok
 
 pub returns-clause-bads : goal.returns-clause-bads
 returns-clause-bads c =

@@ -1,6 +1,6 @@
 use Rattle.std.proofs.Common.{ℕ, Option, unwrap_or, ap, ◌∙◌}
 use Rattle.blast.proofs.NameLemmas.{bits_of-at}
-use Rattle.blast.proofs.names.bit_count.Goals as goal
+use Rattle.blast.proofs.items.bit_count.Goals as goal
 
 pub returns-in-Some-clause-value : goal.returns-in-Some-clause-value
 returns-in-Some-clause-value c =
