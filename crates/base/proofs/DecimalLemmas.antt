@@ -54,7 +54,8 @@ record IsPlain (token : List ℕ) : Type 0 where
   some : 0 < length token
   zero : get_or token 0 0 ≡ 48 → length token ≡ 1
 
-nothing : (bytes : List ℕ) → is_nothing bytes ≡ true → bytes ≡ []
+-- bytes that are none are the empty list
+pub nothing : (bytes : List ℕ) → is_nothing bytes ≡ true → bytes ≡ []
 nothing [] h = refl
 nothing (b ∷ bs) h = absurd cc
 

@@ -1,12 +1,8 @@
 -- Lemmas on texts that go to a sink piece by piece.
-use Rattle.std.proofs.Common.{◌≡◌, ℕ, List, [], ◌++◌, Option, None, Some, take, drop, refl, sym, ap, subst, ◌∙◌, append_assoc, append-nil, take-append-drop}
-use Rattle.std.specs.Io.KnownBytes.{append_known, Appends, Keeps}
-use Rattle.std.proofs.KnownBytes.{Appends-nil, Appends-trans, Appends-kept}
+use Rattle.std.proofs.Common.{ℕ, List, ◌++◌, Option, take, drop, sym, ap, ◌∙◌, append_assoc, take-append-drop}
+use Rattle.std.specs.Io.KnownBytes.{Appends}
+use Rattle.std.proofs.KnownBytes.{Appends-trans}
 use Rattle.base.specs.Device.{AppendsBeginning, Sent}
-
--- nothing is written yet
-pub sent_none : (old : Option (List ℕ)) (text : List ℕ) → Sent old old text text
-sent_none old text = record { front = []; whole = refl; appends = Appends-nil old }
 
 -- one more write
 pub sent_more : (old mid new : Option (List ℕ)) (text rest : List ℕ) (n : ℕ) → Sent old mid text rest → Appends mid new (take n rest) → Sent old new text (drop n rest)
@@ -15,14 +11,6 @@ sent_more old mid new text rest n s more = record {
   whole = append_assoc s.front (take n rest) (drop n rest) ∙ ap (λ l. s.front ++ l) (take-append-drop n rest) ∙ s.whole;
   appends = Appends-trans old mid new s.front (take n rest) s.appends more;
 }
-
--- all is written
-pub sent_all : (old new : Option (List ℕ)) (text rest : List ℕ) → Sent old new text rest → rest ≡ [] → Appends old new text
-sent_all old new text rest s none = subst (Appends old new) (sym (append-nil s.front) ∙ ap (λ l. s.front ++ l) (sym none) ∙ s.whole) s.appends
-
--- a write failed
-pub sent_some : (old mid new : Option (List ℕ)) (text rest : List ℕ) → Sent old mid text rest → Keeps mid new → AppendsBeginning old new text
-sent_some old mid new text rest s kept = (s.front, (rest, s.whole), Appends-kept old mid new s.front s.appends kept)
 
 -- a beginning of a text is a beginning of a longer text
 pub beginning_longer : (old new : Option (List ℕ)) (text more : List ℕ) → AppendsBeginning old new text → AppendsBeginning old new (text ++ more)
@@ -52,10 +40,3 @@ pub sent_then_beginning : (old mid new : Option (List ℕ)) (text rest more : Li
 sent_then_beginning old mid new text rest more s t =
     let both = sent_on old mid new text rest more t.1.0 s (record { front = t.0; whole = t.1.1; appends = t.2 }) in
     (both.front, (t.1.0, both.whole), both.appends)
-
--- what has gone out and the rest are what was there before and the text
-pub sent_known : (old new : Option (List ℕ)) (kept text rest : List ℕ) → Sent old new (kept ++ text) rest → Appends (append_known old kept) (append_known new rest) text
-sent_known None new kept text rest s = tt
-sent_known (Some x) None kept text rest s = absurd s.appends
-sent_known (Some x) (Some y) kept text rest s =
-    ap (λ l. l ++ rest) s.appends ∙ append_assoc x s.front rest ∙ ap (λ l. x ++ l) s.whole ∙ sym (append_assoc x kept text)

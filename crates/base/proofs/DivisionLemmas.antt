@@ -57,15 +57,15 @@ floored_same (negsuc a) (pos b) h same = elim (next_rest a b (not_zero b h)) [
 ]
 
 -- one of the other sign is a divisor away
-pub floored_turned : (a b : ℤ) → b ≢ pos 0 → int_rem a b ≢ pos 0 → differ (int_rem a b) b ≡ true → int_rem a b +ℤ b ≡ a -ℤ b *ℤ floored a b
-floored_turned (pos a) (pos b) h some other = absurd (grind (arith, ints, nat_tests))
-floored_turned (negsuc a) (negsuc b) h some other = absurd (grind (arith, ints, nat_tests))
-floored_turned (pos zero) (negsuc b) h some other = absurd (some (ap pos (zero-mod (suc b))))
-floored_turned (pos (suc a)) (negsuc b) h some other = elim (next_rest a (suc b) (omega arith)) [
+pub floored_other_sign : (a b : ℤ) → b ≢ pos 0 → int_rem a b ≢ pos 0 → differ (int_rem a b) b ≡ true → int_rem a b +ℤ b ≡ a -ℤ b *ℤ floored a b
+floored_other_sign (pos a) (pos b) h some other = absurd (grind (arith, ints, nat_tests))
+floored_other_sign (negsuc a) (negsuc b) h some other = absurd (grind (arith, ints, nat_tests))
+floored_other_sign (pos zero) (negsuc b) h some other = absurd (some (ap pos (zero-mod (suc b))))
+floored_other_sign (pos (suc a)) (negsuc b) h some other = elim (next_rest a (suc b) (omega arith)) [
   | inl e ↦ omega (arith, ints)
   | inr e ↦ absurd (some (ap pos e.1))
 ]
-floored_turned (negsuc a) (pos b) h some other = elim (next_rest a b (not_zero b h)) [
+floored_other_sign (negsuc a) (pos b) h some other = elim (next_rest a b (not_zero b h)) [
   | inl e ↦ let below : 0 < b = not_zero b h in omega (arith, ints)
   | inr e ↦ absurd (some (ap (λ k. neg_ℤ (pos k)) e.1))
 ]

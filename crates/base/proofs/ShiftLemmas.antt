@@ -28,9 +28,9 @@ shifted_out_right n a b h below = div-eq_of_lt (below_more n b a h below)
 -- the two parts of a rotated word have no place in common
 pub rotated_parts : (n i j a : ℕ) → i + j ≡ n → a < 2 ^ n → bit_or (a * 2 ^ i % 2 ^ n) (a / 2 ^ j) ≡ a * 2 ^ i % 2 ^ n + a / 2 ^ j
 rotated_parts n i j a e below =
-    let turned : j + i ≡ n = omega arith in
+    let commuted : j + i ≡ n = omega arith in
     let high : a * 2 ^ i % 2 ^ n ≡ a % 2 ^ j * 2 ^ i =
-    ap (λ k. a * 2 ^ i % 2 ^ k) (sym turned) ∙ mod-pow-add (a * 2 ^ i) j i
+    ap (λ k. a * 2 ^ i % 2 ^ k) (sym commuted) ∙ mod-pow-add (a * 2 ^ i) j i
     ∙ (let low = mul-mod_left a (2 ^ i) in let back = shl-shr a i in rw (low, back) (omega arith))
     in
     let low : a / 2 ^ j < 2 ^ i = shr_below a i j (rw e below) in

@@ -45,15 +45,15 @@ low_slice m a b h q =
     rw (width, div-one) (mod_low a m b q)
 
 -- what a choice of two words gives
-either_below : (t : Bool) (x y m : ℕ) → x < m → y < m → (if t then x else y) < m
-either_below true x y m h k = h
-either_below false x y m h k = k
+choice_below : (t : Bool) (x y m : ℕ) → x < m → y < m → (if t then x else y) < m
+choice_below true x y m h k = h
+choice_below false x y m h k = k
 
 ones_below : (n : ℕ) → ones n < 2 ^ n
 ones_below n = omega (arith, pow_pos n)
 
 pub ite_below : (n c t e : ℕ) → t < 2 ^ n → e < 2 ^ n → ite_value c t e < 2 ^ n
-ite_below n c t e h k = either_below _ _ _ _ h k
+ite_below n c t e h k = choice_below _ _ _ _ h k
 
 pub unary_below : (op : Unary) (n a : ℕ) → 1 ≤ n → a < 2 ^ n → unary_value op n a < 2 ^ unary_width op n
 unary_below unary.Not n a h p = omega (arith, pow_pos n)
@@ -79,11 +79,11 @@ binary_below binary.Add n a b h p q = mod-lt (a + b) (pow_pos n)
 binary_below binary.Sub n a b h p q = wrapped_below n _
 binary_below binary.Mul n a b h p q = mod-lt (a * b) (pow_pos n)
 binary_below binary.Udiv n a b h p q =
-    let quotient : a / b < 2 ^ n = omega (arith, div-le_self a b) in either_below _ _ _ _ (ones_below n) quotient
-binary_below binary.Urem n a b h p q = let rest : a - b * (a / b) < 2 ^ n = omega arith in either_below _ _ _ _ p rest
+    let quotient : a / b < 2 ^ n = omega (arith, div-le_self a b) in choice_below _ _ _ _ (ones_below n) quotient
+binary_below binary.Urem n a b h p q = let rest : a - b * (a / b) < 2 ^ n = omega arith in choice_below _ _ _ _ p rest
 binary_below binary.Sdiv n a b h p q =
     let one : 1 < 2 ^ n = omega (arith, half n h, pow_pos (n - 1)) in
-    either_below _ _ _ _ (either_below _ _ _ _ one (ones_below n)) (wrapped_below n _)
-binary_below binary.Srem n a b h p q = either_below _ _ _ _ p (wrapped_below n _)
-binary_below binary.Smod n a b h p q = either_below _ _ _ _ p (wrapped_below n _)
+    choice_below _ _ _ _ (choice_below _ _ _ _ one (ones_below n)) (wrapped_below n _)
+binary_below binary.Srem n a b h p q = choice_below _ _ _ _ p (wrapped_below n _)
+binary_below binary.Smod n a b h p q = choice_below _ _ _ _ p (wrapped_below n _)
 binary_below _ n a b h p q = bit_number_small _

@@ -37,9 +37,9 @@ udiv n a b = if b == 0 then ones n else a / b
 abbrev pub urem : ℕ → ℕ → ℕ
 urem a b = if b == 0 then a else a - b * (a / b)
 
--- Division of words as signed numbers. By zero the quotient is 1 for a negative dividend and else all ones, and the
--- remainder is the dividend (SMT-LIB, `bvsdiv`, `bvsrem`, `bvsmod`; for `smod` by zero this project's choice). The quotient of
--- the least number by -1 is the least number again, its word modulo 2 ^ n.
+-- Division of words as signed numbers. By zero the quotient is 1 for a negative dividend and else all ones, and both
+-- remainders are the dividend; the quotient of the least number by -1 is the least number again, its word modulo 2 ^ n
+-- (SMT-LIB, `bvsdiv`, `bvsrem` and `bvsmod`, whose definitions by `bvudiv` and `bvurem` say all of this).
 abbrev pub sdiv : ℕ → ℕ → ℕ → ℕ
 sdiv n a b =
     if b == 0 then (if int_lt (signed n a) (pos 0) then 1 else ones n)
@@ -51,7 +51,7 @@ srem n a b = if b == 0 then a else wrapped n (signed n a -ℤ signed n b *ℤ tr
 abbrev pub smod : ℕ → ℕ → ℕ → ℕ
 smod n a b = if b == 0 then a else wrapped n (signed n a -ℤ signed n b *ℤ floored (signed n a) (signed n b))
 
--- the one quotient that overflows: the least number by -1
+-- the one quotient that is no signed number of the width: that of the least number by -1 (SMT-LIB, `bvsdivo`)
 abbrev pub sdiv_overflows : ℕ → ℕ → ℕ → Bool
 sdiv_overflows n a b = (a == 2 ^ (n - 1)) && (b == ones n)
 

@@ -1,3 +1,4 @@
+//! Numbers as decimals.
 ghost use Rattle.std.specs.Prelude.{◌≡◌, true};
 ghost use Rattle.base.specs.Decimals.{are_digits, is_decimal, capped_value, number_of};
 

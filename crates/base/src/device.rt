@@ -1,3 +1,4 @@
+//! What a device answers where it fails.
 use thiserror::Error;
 
 /// A source or a sink failed.

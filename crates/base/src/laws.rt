@@ -1,3 +1,4 @@
+//! Theorems on the definitions, as functions with no code.
 ghost use Rattle.std.specs.Prelude.{◌≡◌, ◌≢◌, ◌↔◌, ℕ, ◌+◌, ◌-◌, ◌*◌, ◌%◌, ◌^◌, ◌<◌, ◌≤◌, min, max, ◌==◌, Bool, true, false, List, [], ◌∷◌, length, slice_get, ℤ, pos, nat_abs, ◌+ℤ◌, ◌-ℤ◌, ◌*ℤ◌, ◌≤ℤ◌, ◌<ℤ◌, ◌++◌, All, codes, decimal};
 ghost use Rattle.base.specs.Operator.{ones, unary_value, binary_value, ite_value, slice_value, uext_value, sext_value, concat_value, udiv, urem, sdiv, srem, smod, sdiv_overflows};
 ghost use Rattle.base.specs.Signed.{signed, wrapped, truncated, floored, overflows};

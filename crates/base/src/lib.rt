@@ -4,7 +4,7 @@
 mod decimals;
 mod device;
 mod divisions;
-mod laws;
+pub mod laws;
 mod lines;
 mod operators;
 mod outbox;
@@ -19,12 +19,6 @@ mod words;
 
 pub use decimals::decimal;
 pub use device::DeviceFault;
-pub use laws::{
-    bits_of_bitwise_words, bits_stand_for_words, decimals_are_numbers, joined_words_come_apart,
-    lines_and_texts, negation, overflow_tests, quotients_and_remainders, rotations_move_bits,
-    rotations_return, shifts_agree, signs_of_remainders, tests_decide, values_fit,
-    wider_words_keep_numbers, words_stand_for_numbers, worked_decimals, worked_lines, worked_words,
-};
 pub use lines::{cut_at, next_line};
 pub use operators::{Binary, Unary};
 pub use outbox::Outbox;

@@ -1,3 +1,4 @@
+//! Bytes on their way to a sink, kept until there are many.
 ghost use Rattle.std.specs.Prelude.{◌≡◌, ℕ, ◌+◌, ◌≤◌, List, [], ◌++◌, length, take, OnOk, OnErr};
 ghost use Rattle.std.specs.Io.KnownBytes.{Appends, append_known};
 ghost use Rattle.base.specs.Device.{CountsFaults, AppendsBeginning, Sent};
@@ -52,10 +53,8 @@ impl Outbox {
             self.keep(bytes);
             return Ok(());
         }
-        match self.flush(sink) {
-            Ok(()) => self.put_first(sink, bytes),
-            Err(fault) => Err(fault),
-        }
+        self.flush(sink)?;
+        self.put_first(sink, bytes)
     }
 
     /// Writes all that is kept.

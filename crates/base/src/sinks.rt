@@ -1,3 +1,4 @@
+//! What bytes go to, and how all of some bytes are written.
 ghost use Rattle.std.specs.Prelude.{◌≡◌, ℕ, ◌<◌, ◌≤◌, [], List, Option, None, Some, length, IfOk, OnOk, OnErr};
 ghost use Rattle.std.specs.Io.{WritesAtMost};
 ghost use Rattle.std.specs.Io.KnownBytes.{WriteAppends, Appends};
@@ -116,13 +117,9 @@ pub fn write_all<K: Sink>(sink: &mut K, bytes: &[u8]) -> Result<(), DeviceFault>
 {
     let mut rest = bytes;
     while !rest.is_empty() {
-        match sink.write(rest) {
-            Ok(count) => {
-                let (_, after) = rest.split_at(count);
-                rest = after;
-            }
-            Err(fault) => return Err(fault),
-        }
+        let count = sink.write(rest)?;
+        let (_, after) = rest.split_at(count);
+        rest = after;
     }
     Ok(())
 }

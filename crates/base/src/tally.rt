@@ -1,3 +1,4 @@
+//! How many steps were taken.
 ghost use Rattle.std.specs.Prelude.{◌≡◌, ℕ, ◌&&◌};
 ghost use Rattle.base.specs.Steps.{one_more};
 

@@ -384,23 +384,23 @@ fn lines_and_decimals(rt: HostRuntime) {
 
 #[test]
 fn laws_are_called(_rt: HostRuntime) {
-    bits_of_bitwise_words();
-    bits_stand_for_words();
-    decimals_are_numbers();
-    joined_words_come_apart();
-    lines_and_texts();
-    negation();
-    overflow_tests();
-    quotients_and_remainders();
-    rotations_move_bits();
-    rotations_return();
-    shifts_agree();
-    signs_of_remainders();
-    tests_decide();
-    values_fit();
-    wider_words_keep_numbers();
-    words_stand_for_numbers();
-    worked_decimals();
-    worked_lines();
-    worked_words();
+    laws::bits_of_bitwise_words();
+    laws::bits_stand_for_words();
+    laws::decimals_are_numbers();
+    laws::joined_words_come_apart();
+    laws::lines_and_texts();
+    laws::negation();
+    laws::overflow_tests();
+    laws::quotients_and_remainders();
+    laws::rotations_move_bits();
+    laws::rotations_return();
+    laws::shifts_agree();
+    laws::signs_of_remainders();
+    laws::tests_decide();
+    laws::values_fit();
+    laws::wider_words_keep_numbers();
+    laws::words_stand_for_numbers();
+    laws::worked_decimals();
+    laws::worked_lines();
+    laws::worked_words();
 }

@@ -1,3 +1,4 @@
+//! How many bits words have.
 ghost use Rattle.std.specs.Prelude.{◌≡◌, ℕ, ◌<◌, ◌≤◌, ◌↔◌, IsSome, IfSome};
 
 use std::marker::Model;

@@ -1,3 +1,4 @@
+//! What the operators give for words.
 ghost use Rattle.std.specs.Prelude.{◌≡◌, ◌+◌, ◌<◌, ◌≤◌, ◌^◌};
 ghost use Rattle.base.specs.Operator.{unary_value, binary_value, ite_value, slice_value, uext_value, sext_value, concat_value};
 ghost use Rattle.base.specs.Steps.{one_more};

@@ -1,10 +1,9 @@
 -- Look-ups in a list of items that is followed by more.
-use Rattle.std.proofs.Common.{◌≡◌, ℕ, true, false, cond, nat_eq, List, [], ◌∷◌, ◌++◌, Option, Some, None, is_some, unwrap_or, option_and_then, refl, sym, ap, ◌∙◌}
-use Rattle.std.proofs.lemmas.Option.{none-some}
+use Rattle.std.proofs.Common.{◌≡◌, ℕ, true, false, cond, nat_eq, List, [], ◌∷◌, ◌++◌, Option, Some, None, is_some, option_and_then, eqb-true, ◌⊎◌, inl, inr, refl, sym, ◌∙◌}
+use Rattle.std.proofs.lemmas.Option.{none-some, cond_some}
 use Rattle.btor2.specs.declared.item.Item.{Item}
 use Rattle.btor2.specs.declared.item.Body.{Body}
 use Rattle.btor2.specs.Items.{find_item, sort_bits, sort_width, width_of_body, node_width, constant_of_body, constant_word, constant_of, names_state, is_state}
-use Rattle.btor2.specs.Trace.{bits_of}
 
 -- what is found stays found
 pub find_item-append : (before more : List Item) (id : ℕ) (x : Item) → find_item before id ≡ Some x → find_item (before ++ more) id ≡ Some x
@@ -23,6 +22,16 @@ find_item-after (y ∷ ys) more id h =
       | true ↦ λ e. absurd (none-some y (sym e))
       | false ↦ λ e. find_item-after ys more id e
     ] h
+
+-- what an id finds in a list with one item more: what it found, or that item
+pub found_cases : (before : List Item) (x : Item) (id : ℕ) (y : Item) → find_item (before ++ x ∷ []) id ≡ Some y → (find_item before id ≡ Some y) ⊎ ((id ≡ x.id) × (x ≡ y))
+found_cases before x id y h = found_by (find_item before id) refl
+  where
+    found_by : (o : Option Item) → find_item before id ≡ o → (find_item before id ≡ Some y) ⊎ ((id ≡ x.id) × (x ≡ y))
+    found_by None e =
+        let last = cond_some (nat_eq id x.id) x y (sym (find_item-after before (x ∷ []) id e) ∙ h) in
+        inr (eqb-true id x.id last.0, last.1)
+    found_by (Some z) e = inl (e ∙ sym (find_item-append before (x ∷ []) id z e) ∙ h)
 
 -- an answer in two steps, each of which keeps what it finds
 then_kept : {A B : Type 0} (f g : A → Option B) (o p : Option A) (v : B) → ((x : A) → o ≡ Some x → p ≡ Some x) → ((x : A) → f x ≡ Some v → g x ≡ Some v) → option_and_then f o ≡ Some v → option_and_then g p ≡ Some v
@@ -75,9 +84,3 @@ names_state-append before more id h =
     let there = some_of (option_and_then state_at (find_item before id)) h in
     is_some_from (option_and_then state_at (find_item (before ++ more) id)) there.0
     (then_kept state_at state_at (find_item before id) (find_item (before ++ more) id) there.0 (find_item-append before more id) (λ x e. e) there.1)
-
--- the width of a node, as a number
-pub bits_of-append : (before more : List Item) (id : ℕ) → is_some (node_width before id) ≡ true → bits_of (before ++ more) id ≡ bits_of before id
-bits_of-append before more id h =
-    let there = some_of (node_width before id) h in
-    ap (λ (o : Option ℕ). unwrap_or o 0) (node_width-append before more id there.0 there.1 ∙ sym there.1)

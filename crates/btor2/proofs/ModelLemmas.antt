@@ -162,8 +162,8 @@ next_for_some _ t v h = absurd (none-some v h)
 abbrev LineIn : List Item → (ℕ → Body) → Type 0
 LineIn items line = (x : Item) × (s : ℕ) × IsIn items x × (x.body ≡ line s)
 
-line_later : (y : Item) (ys : List Item) (line : ℕ → Body) → LineIn ys line → LineIn (y ∷ ys) line
-line_later y ys line h =
+line_behind : (y : Item) (ys : List Item) (line : ℕ → Body) → LineIn ys line → LineIn (y ∷ ys) line
+line_behind y ys line h =
     (h.0, h.1, record { before = y ∷ h.2.before; after = h.2.after; splits = ap (λ (l : List Item). y ∷ l) h.2.splits }, h.3)
 
 init_line : (items : List Item) (t v : ℕ) → init_value items t ≡ Some v → LineIn items (λ s. body.Init s t v)
@@ -171,7 +171,7 @@ init_line [] t v h = absurd (none-some v h)
 init_line (y ∷ ys) t v h =
     ⊎_elim
     (λ e. let line = init_for_some y.body t v e in (y, line.0, record { before = []; after = ys; splits = refl }, line.1))
-    (λ e. line_later y ys (λ s. body.Init s t v) (init_line ys t v e))
+    (λ e. line_behind y ys (λ s. body.Init s t v) (init_line ys t v e))
     (one_or_other (init_for t y.body) (init_value ys t) v h)
 
 next_line : (items : List Item) (t v : ℕ) → next_value items t ≡ Some v → LineIn items (λ s. body.Next s t v)
@@ -179,7 +179,7 @@ next_line [] t v h = absurd (none-some v h)
 next_line (y ∷ ys) t v h =
     ⊎_elim
     (λ e. let line = next_for_some y.body t v e in (y, line.0, record { before = []; after = ys; splits = refl }, line.1))
-    (λ e. line_later y ys (λ s. body.Next s t v) (next_line ys t v e))
+    (λ e. line_behind y ys (λ s. body.Next s t v) (next_line ys t v e))
     (one_or_other (next_for t y.body) (next_value ys t) v h)
 
 -- what a state's init line says in a well-formed list

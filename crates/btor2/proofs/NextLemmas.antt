@@ -1,7 +1,8 @@
 -- The first state without a next line, by the places of the states.
-use Rattle.std.proofs.Common.{◌≡◌, ℕ, suc, ◌+◌, ◌<◌, ◌≤◌, Bool, true, false, ◌&&◌, List, [], ◌∷◌, ◌++◌, length, slice_get, get_or, drop, Option, Some, None, is_none, option_and_then, if◌then◌else◌, refl, sym, ap, ◌∙◌, arith, length-append, append_assoc}
+use Rattle.std.proofs.Common.{◌≡◌, ℕ, suc, ◌+◌, ◌<◌, ◌≤◌, Bool, true, false, ◌&&◌, List, [], ◌∷◌, ◌++◌, length, slice_get, get_or, drop, Option, Some, None, is_none, option_and_then, is_some, cond, subst, if◌then◌else◌, refl, sym, ap, ◌∙◌, arith, length-append, append_assoc}
 use Rattle.std.proofs.Math.Seq.{drop-cons}
 use Rattle.std.proofs.lemmas.List.{drop_all}
+use Rattle.std.proofs.lemmas.Option.{none-some}
 use Rattle.btor2.specs.declared.item.Item.{Item}
 use Rattle.btor2.specs.Items.{is_state, next_value}
 use Rattle.btor2.specs.Lists.{places, id_at, first_without_next}
@@ -45,3 +46,20 @@ first_lacking-passed items ps k within has =
 -- no place is left
 pub first_lacking-none : (items : List Item) (ps : List ℕ) (k : ℕ) → length ps ≤ k → first_lacking items (drop k ps) ≡ None
 first_lacking-none items ps k past = ap (first_lacking items) (drop_all k ps past)
+
+-- where no state among some items lacks a next, each has one
+
+no_lack : (o : Option ℕ) (id : ℕ) (rest : Option ℕ) → cond (true && is_none o) (Some id) rest ≡ None → is_some o ≡ true
+no_lack None id rest h = absurd (none-some id (sym h))
+no_lack (Some v) id rest h = refl
+
+no_lack_behind : (b : Bool) (id : ℕ) (rest : Option ℕ) → cond b (Some id) rest ≡ None → rest ≡ None
+no_lack_behind true id rest h = absurd (none-some id (sym h))
+no_lack_behind false id rest h = h
+
+pub has_next : (items before after : List Item) (y : Item) → first_without_next items (before ++ y ∷ after) ≡ None → is_state y.body ≡ true → is_some (next_value items y.id) ≡ true
+has_next items [] after y h is =
+    no_lack (next_value items y.id) y.id (first_without_next items after)
+    (subst (λ (b : Bool). cond (b && is_none (next_value items y.id)) (Some y.id) (first_without_next items after) ≡ None) is h)
+has_next items (x ∷ xs) after y h is =
+    has_next items xs after y (no_lack_behind (is_state x.body && is_none (next_value items x.id)) x.id (first_without_next items (xs ++ y ∷ after)) h) is

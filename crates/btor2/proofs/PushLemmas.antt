@@ -55,19 +55,19 @@ next_value-append (y ∷ ys) x id =
     ap (option_or (next_for id y.body)) (next_value-append ys x id) ∙ option_or-assoc (next_for id y.body) (next_value ys id) (next_for id x.body)
 
 -- where at most one of two is there, either may come first
-either_first : (id t v : ℕ) (o : ℕ → Option ℕ) → o t ≡ None → option_or (cond (nat_eq id t) (Some v) None) (o id) ≡ option_or (o id) (cond (nat_eq id t) (Some v) None)
-either_first id t v o none =
+order_of_choice : (id t v : ℕ) (o : ℕ → Option ℕ) → o t ≡ None → option_or (cond (nat_eq id t) (Some v) None) (o id) ≡ option_or (o id) (cond (nat_eq id t) (Some v) None)
+order_of_choice id t v o none =
     ⊎_elim
     (λ same. let e : o id ≡ None = ap o same ∙ none in rw e (option_or-none (cond (nat_eq id t) (Some v) None)))
     (λ differs. rw (ne_eqb id t differs) (sym (option_or-none (o id))))
     (cases_eq id t)
 
 init_first : (xs : List Item) (b : Body) (id : ℕ) → BodyIsAccepted xs b → option_or (init_for id b) (init_value xs id) ≡ option_or (init_value xs id) (init_for id b)
-init_first xs (body.Init s t v) id h = either_first id t v (init_value xs) h.7
+init_first xs (body.Init s t v) id h = order_of_choice id t v (init_value xs) h.7
 init_first xs _ id h = sym (option_or-none (init_value xs id))
 
 next_first : (xs : List Item) (b : Body) (id : ℕ) → BodyIsAccepted xs b → option_or (next_for id b) (next_value xs id) ≡ option_or (next_value xs id) (next_for id b)
-next_first xs (body.Next s t v) id h = either_first id t v (next_value xs) h.5
+next_first xs (body.Next s t v) id h = order_of_choice id t v (next_value xs) h.5
 next_first xs _ id h = sym (option_or-none (next_value xs id))
 
 -- the init lines with one more

@@ -1,6 +1,6 @@
 -- Frames and traces of well-formed lists: there is one, and its words fit.
-use Rattle.std.proofs.Common.{◌≡◌, ℕ, zero, suc, ◌+◌, ◌-◌, ◌^◌, ◌<◌, ◌≤◌, Bool, true, false, cond, ◌==◌, nat_lt, nat_le, ◌&&◌, nat_eq, eq-eqb, eqb-true, List, [], ◌∷◌, ◌++◌, Option, Some, None, is_some, IfSome, unwrap_or, option_and_then, option_map, ◌⊎◌, inl, inr, ⊎_elim, refl, sym, ap, ap₂, subst, ◌∙◌, append_assoc, append-nil, pow_pos, arith}
-use Rattle.std.proofs.lemmas.Option.{none-some, cond_some}
+use Rattle.std.proofs.Common.{◌≡◌, ℕ, zero, suc, ◌+◌, ◌-◌, ◌^◌, ◌<◌, ◌≤◌, Bool, true, false, cond, ◌==◌, nat_lt, nat_le, ◌&&◌, nat_eq, eq-eqb, eqb-true, List, [], ◌∷◌, ◌++◌, Option, Some, None, is_some, IfSome, unwrap_or, option_and_then, option_map, ⊎_elim, refl, sym, ap, ap₂, subst, ◌∙◌, append_assoc, append-nil, pow_pos, arith}
+use Rattle.std.proofs.lemmas.Option.{none-some}
 use Rattle.std.proofs.lemmas.Bool.{cases_eq, ne_eqb, true≢false, and_parts, ltb-true}
 use Rattle.std.proofs.Math.Nat.{pow-suc}
 use Rattle.base.specs.Operator.{unary_value, binary_value, ite_value, slice_value, uext_value, sext_value, concat_value}
@@ -13,7 +13,7 @@ use Rattle.btor2.specs.declared.item.Body.TheVariants as body
 use Rattle.btor2.specs.Items.{find_item, node_sort, operands, sort_width, width_of_body, node_width, is_state, names_state, next_value}
 use Rattle.btor2.specs.Check.{IsWellFormed, IsWellFormedAfter}
 use Rattle.btor2.specs.Trace.{Frame, bits_of, line_word, LineHolds, LinesHold, IsFrame, next_state, IsTrace, InputFits, StateFits, InputsFit, StatesFit, IsInput, IsState, SameFrame, SameTrace}
-use Rattle.btor2.proofs.AppendLemmas.{find_item-append, find_item-after, sort_width-append, node_width-append, some_of, is_some_from, then_parts}
+use Rattle.btor2.proofs.AppendLemmas.{found_cases, find_item-append, find_item-after, sort_width-append, node_width-append, some_of, is_some_from, then_parts}
 use Rattle.btor2.proofs.AcceptedLemmas.{Each, HasWidth, BodyIsAccepted, IsAccepted, IsAccepted-from_refusal}
 use Rattle.btor2.proofs.ModelLemmas.{find_item-in, find_item-own, IsIn, IsNextOf-from_value, IsWellFormed-front, IsWellFormed-push, sort_width-range, node_width-range}
 
@@ -178,16 +178,6 @@ line_same items before state state' input f g x states accepted same h k node =
     let words = line_word-same items state state' input f g x.id x.body states nodes in
     let there = line_word-there items state' input g x.id x.body node in
     word_same (line_word items state' input g x.id x.body) (f x.id) (g x.id) there (word_kept _ _ (f x.id) (f x.id) words refl h) k
-
--- what an id finds in a list with one item more: what it found, or that item
-found_cases : (before : List Item) (x : Item) (id : ℕ) (y : Item) → find_item (before ++ x ∷ []) id ≡ Some y → (find_item before id ≡ Some y) ⊎ ((id ≡ x.id) × (x ≡ y))
-found_cases before x id y h = found_by (find_item before id) refl
-  where
-    found_by : (o : Option Item) → find_item before id ≡ o → (find_item before id ≡ Some y) ⊎ ((id ≡ x.id) × (x ≡ y))
-    found_by None e =
-        let last = cond_some (nat_eq id x.id) x y (sym (find_item-after before (x ∷ []) id e) ∙ h) in
-        inr (eqb-true id x.id last.0, last.1)
-    found_by (Some z) e = inl (e ∙ sym (find_item-append before (x ∷ []) id z e) ∙ h)
 
 same_from : (items : List Item) (state state' input f g : Frame) (before rest : List Item) → ((k : ℕ) → state k ≡ state' k) → IsWellFormedAfter before rest
     → LinesHold items state input f rest → LinesHold items state' input g rest → SameNodes before f g → SameNodes (before ++ rest) f g

@@ -58,9 +58,9 @@ not_device w h is = subst IsOfText is h
 not_memory : (w : Why) → IsOfText w → w ≡ why.NoMemory → ⊥
 not_memory w h is = subst IsOfText is h
 
-not_either : (w : Why) → IsOfText w → (w ≡ why.Device) ⊎ (w ≡ why.NoMemory) → ⊥
-not_either w h (inl is) = not_device w h is
-not_either w h (inr is) = not_memory w h is
+no_device_or_memory : (w : Why) → IsOfText w → (w ≡ why.Device) ⊎ (w ≡ why.NoMemory) → ⊥
+no_device_or_memory w h (inl is) = not_device w h is
+no_device_or_memory w h (inr is) = not_memory w h is
 
 told_at : (forms : Forms) (text : List ℕ) (e : ReadFault) → text_on forms text ≡ Err e → IsOfText e.why
 told_at forms text e is = subst TextTold is (text_told forms text)
@@ -76,7 +76,7 @@ no_device forms text (Err e) (inr gives) = λ is. not_device e.why (told_at form
 pub place : (forms : Forms) (text : List ℕ) (r : Result (List Item) ReadFault) → ReadsText r (text_on forms text) → IfErr r (λ e. (e.why ≡ why.Device) ⊎ (e.why ≡ why.NoMemory) → e.line ≡ 0)
 place forms text (Ok items) gives = tt
 place forms text (Err e) (inl full) = λ is. ap (λ (f : ReadFault). f.line) full
-place forms text (Err e) (inr gives) = λ is. absurd (not_either e.why (told_at forms text e gives) is)
+place forms text (Err e) (inr gives) = λ is. absurd (no_device_or_memory e.why (told_at forms text e gives) is)
 
 -- any other fault is that of the text's first faulty line
 abbrev pub Explained : Forms → Option (List ℕ) → ReadFault → Type 0

@@ -7,7 +7,7 @@ use Rattle.std.proofs.lemmas.Bool.{cases_lt, and_from, le-leb, lt-ltb, eqb-true,
 use Rattle.std.proofs.lemmas.Fmt.{decimal_is_IsNumeral, decimal-digits_value}
 use Rattle.std.proofs.lemmas.Str.Parse.{numerals_by_value, tells_digits}
 use Rattle.base.specs.Decimals.{is_nothing, are_digits, is_decimal, number_of, capped_value}
-use Rattle.base.proofs.DecimalLemmas.{chosen, number_of-decimal}
+use Rattle.base.proofs.DecimalLemmas.{chosen, nothing, number_of-decimal}
 use Rattle.btor2text.specs.Digits.{are_digits_of, IsNumber, number_in, decimal_number, negated, unsigned, signed_number, kept_count, kept_value}
 use Rattle.btor2text.specs.Reading.{Tokens, some_of, digits_at, signed_at}
 use Rattle.btor2text.proofs.BoundLemmas.{SignedFits}
@@ -51,16 +51,12 @@ digits_at-again radix most d v digits rest least word le n =
 
 -- ---- decimals
 
-nothing_more : (bytes : List ℕ) → is_nothing bytes ≡ true → length bytes ≡ 0
-nothing_more [] h = refl
-nothing_more (b ∷ bs) h = absurd cc
-
 decimal_shape : (bytes : List ℕ) → is_decimal bytes ≡ true → (0 < length bytes) × (get_or bytes 0 0 ≡ 48 → length bytes ≡ 1)
 unfolding is_decimal
 decimal_shape [] h = absurd cc
 decimal_shape (b ∷ bs) h =
     elim (chosen (b == 48) (is_nothing bs) (nat_le 49 b && nat_le b 57 && are_digits (b ∷ bs)) true h) [
-      | inl e ↦ (omega arith, λ _. omega (arith, nothing_more bs e.1))
+      | inl e ↦ (omega arith, λ _. omega (arith, ap length (nothing bs e.1)))
       | inr e ↦ (omega arith, λ is. absurd (eqb-false b 48 e.0 is))
     ]
 

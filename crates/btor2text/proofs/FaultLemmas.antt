@@ -53,9 +53,9 @@ at_once forms n before lines last w e is here =
     let moved : FaultHere forms (before ++ []) lines last e.why = subst (λ (v : Why). FaultHere forms (before ++ []) lines last v) why-is (subst (λ (items : List Item). FaultHere forms items lines last w) (sym (append-nil before)) here) in
     record { front = []; back = lines; added = []; parts = refl; spelled = tt; well_formed = tt; place = omega arith; here = moved }
 
--- the fault is at a later line
-later : (forms : Forms) (n : ℕ) (before mid : List Item) (line : List ℕ) (lines : List (List ℕ)) (last : List ℕ) (e : ReadFault) → AddsLine forms before (tokens line) mid → FaultIn forms (line_after n) mid lines last e → FaultIn forms n before (line ∷ lines) last e
-later forms n before mid line lines last e (inl h) f =
+-- the fault is that of a line behind one that adds to the items
+fault_behind : (forms : Forms) (n : ℕ) (before mid : List Item) (line : List ℕ) (lines : List (List ℕ)) (last : List ℕ) (e : ReadFault) → AddsLine forms before (tokens line) mid → FaultIn forms (line_after n) mid lines last e → FaultIn forms n before (line ∷ lines) last e
+fault_behind forms n before mid line lines last e (inl h) f =
     let same : mid ++ f.added ≡ before ++ f.added = ap (λ (m : List Item). m ++ f.added) h.1 in
     record {
       front = line ∷ f.front;
@@ -67,7 +67,7 @@ later forms n before mid line lines last e (inl h) f =
       place = omega (arith, f.place);
       here = subst (λ (items : List Item). FaultHere forms items f.back last e.why) same f.here;
     }
-later forms n before mid line lines last e (inr h) f =
+fault_behind forms n before mid line lines last e (inr h) f =
     let same : mid ++ f.added ≡ before ++ h.0 ∷ f.added = ap (λ (m : List Item). m ++ f.added) h.1.1 ∙ append_assoc before (h.0 ∷ []) f.added in
     record {
       front = line ∷ f.front;
@@ -85,7 +85,7 @@ then_fails : (forms : Forms) (n : ℕ) (before : List Item) (line : List ℕ) (l
     → line_on forms before (tokens line) ≡ r → then_lines (line_after n) r others ≡ Err e → FaultIn forms n before (line ∷ lines) last e
 then_fails forms n before line lines last e others (Ok mid) formed rest is h =
     let adds = line_takes forms before (tokens line) mid formed is in
-    later forms n before mid line lines last e adds (rest mid (well_after forms before mid (tokens line) formed adds) h)
+    fault_behind forms n before mid line lines last e adds (rest mid (well_after forms before mid (tokens line) formed adds) h)
 then_fails forms n before line lines last e others (Err w) formed rest is h = at_once forms n before (line ∷ lines) last w e (faults (fault_at (line_after n) w) e h) is
 
 lines_fail : (forms : Forms) (n : ℕ) (before : List Item) (lines : List (List ℕ)) (last : List ℕ) (e : ReadFault) → IsWellFormed before → lines_on forms n before lines last ≡ Err e → FaultIn forms n before lines last e

@@ -29,14 +29,14 @@ named_is name word (y ∷ ys) x e =
       | inr h ↦ named_is name word ys x h.1
     ]
 
-either : {A : Type 0} (o p : Option A) (x : A) → option_or o p ≡ Some x → (o ≡ Some x) ⊎ (p ≡ Some x)
-either (Some y) p x e = inl e
-either None p x e = inr e
+option_or_cases : {A : Type 0} (o p : Option A) (x : A) → option_or o p ≡ Some x → (o ≡ Some x) ⊎ (p ≡ Some x)
+option_or_cases (Some y) p x e = inl e
+option_or_cases None p x e = inr e
 
 -- something else that is a name of what a word names
-either_is : {A : Type 0} (o p : Option A) (x : A) (word named : List ℕ) → option_or o p ≡ Some x → (o ≡ Some x → word ≡ named) → (p ≡ Some x → word ≡ named) → word ≡ named
-either_is o p x word name e f g =
-    elim (either o p x e) [
+option_or_word : {A : Type 0} (o p : Option A) (x : A) (word named : List ℕ) → option_or o p ≡ Some x → (o ≡ Some x → word ≡ named) → (p ≡ Some x → word ≡ named) → word ≡ named
+option_or_word o p x word name e f g =
+    elim (option_or_cases o p x e) [
       | inl h ↦ f h
       | inr h ↦ g h
     ]
@@ -52,18 +52,18 @@ unary_is word op e = named_is unary_name word unaries op e
 binary_is : (word : List ℕ) (op : Binary) → binary_of word ≡ Some op → word ≡ binary_name op
 unfolding binary_of
 binary_is word op e0 =
-    either_is _ _ op word (binary_name op) e0 (named_is binary_name word tests op) (λ e1.
-    either_is _ _ op word (binary_name op) e1 (named_is binary_name word bitwise op) (λ e2.
-    either_is _ _ op word (binary_name op) e2 (named_is binary_name word moves op) (λ e3.
-    either_is _ _ op word (binary_name op) e3 (named_is binary_name word arithmetic op) (named_is binary_name word overflows op))))
+    option_or_word _ _ op word (binary_name op) e0 (named_is binary_name word tests op) (λ e1.
+    option_or_word _ _ op word (binary_name op) e1 (named_is binary_name word bitwise op) (λ e2.
+    option_or_word _ _ op word (binary_name op) e2 (named_is binary_name word moves op) (λ e3.
+    option_or_word _ _ op word (binary_name op) e3 (named_is binary_name word arithmetic op) (named_is binary_name word overflows op))))
 
 plain_is : (word : List ℕ) (f : Form) → plain_form_of word ≡ Some f → word ≡ form_name f
 unfolding plain_form_of
 plain_is word f e0 =
-    either_is _ _ f word (form_name f) e0 (named_is form_name word leaves f) (λ e1.
-    either_is _ _ f word (form_name f) e1 (named_is form_name word constants f) (λ e2.
-    either_is _ _ f word (form_name f) e2 (named_is form_name word links f) (λ e3.
-    either_is _ _ f word (form_name f) e3 (named_is form_name word properties f) (named_is form_name word others f))))
+    option_or_word _ _ f word (form_name f) e0 (named_is form_name word leaves f) (λ e1.
+    option_or_word _ _ f word (form_name f) e1 (named_is form_name word constants f) (λ e2.
+    option_or_word _ _ f word (form_name f) e2 (named_is form_name word links f) (λ e3.
+    option_or_word _ _ f word (form_name f) e3 (named_is form_name word properties f) (named_is form_name word others f))))
 
 operator_is : {A : Type 0} (make : A → Form) (name : A → List ℕ) (o : Option A) (word : List ℕ) (f : Form) → ((a : A) → form_name (make a) ≡ name a) → ((a : A) → o ≡ Some a → word ≡ name a) → option_map make o ≡ Some f → word ≡ form_name f
 operator_is make name o word f same is e =
@@ -73,8 +73,8 @@ operator_is make name o word f same is e =
 form_named_is : (word : List ℕ) (f : Form) → form_named word ≡ Some f → word ≡ form_name f
 unfolding form_named
 form_named_is word f e0 =
-    either_is _ _ f word (form_name f) e0 (plain_is word f) (λ e1.
-    either_is _ _ f word (form_name f) e1
+    option_or_word _ _ f word (form_name f) e0 (plain_is word f) (λ e1.
+    option_or_word _ _ f word (form_name f) e1
     (operator_is (λ op. form.Unary op) unary_name (unary_of word) word f (λ op. refl) (unary_is word))
     (operator_is (λ op. form.Binary op) binary_name (binary_of word) word f (λ op. refl) (binary_is word)))
 

@@ -21,10 +21,10 @@ fn form_at(forms: Forms, line: &[u8]) -> Result<(Form, &[u8]), Why>
 {
     match next_token(line) {
         None => Err(Why::BadToken),
-        Some((word, rest)) => match form_of(forms, word) {
-            Ok(form) => Ok((form, rest)),
-            Err(why) => Err(why),
-        },
+        Some((word, rest)) => {
+            let form = form_of(forms, word)?;
+            Ok((form, rest))
+        }
     }
 }
 

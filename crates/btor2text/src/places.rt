@@ -51,10 +51,10 @@ pub(crate) fn plain_at(line: &[u8]) -> Result<(u64, &[u8]), Why>
 {
     match next_token(line) {
         None => Err(Why::BadToken),
-        Some((token, rest)) => match plain(token) {
-            Ok(number) => Ok((number, rest)),
-            Err(why) => Err(why),
-        },
+        Some((token, rest)) => {
+            let number = plain(token)?;
+            Ok((number, rest))
+        }
     }
 }
 
@@ -82,10 +82,10 @@ pub(crate) fn operand_at(line: &[u8]) -> Result<(u32, &[u8]), Why>
 {
     match next_token(line) {
         None => Err(Why::BadToken),
-        Some((token, rest)) => match operand(token) {
-            Ok(number) => Ok((kept_id(number), rest)),
-            Err(why) => Err(why),
-        },
+        Some((token, rest)) => {
+            let number = operand(token)?;
+            Ok((kept_id(number), rest))
+        }
     }
 }
 
@@ -136,10 +136,7 @@ fn operands_at(alloc: Global, count: u64, line: &[u8]) -> Result<(Vec<u32>, &[u8
     let mut ids = Vec::new(alloc);
     let mut rest = line;
     for _ in 0..count {
-        let (id, after) = match operand_at(rest) {
-            Ok(found) => found,
-            Err(why) => return Err(why),
-        };
+        let (id, after) = operand_at(rest)?;
         match ids.push(id) {
             Ok(()) => {}
             Err(_) => return Err(Why::NoMemory),

@@ -49,10 +49,10 @@ fn read_line(forms: Forms, alloc: Global, line: &[u8], model: &mut Model) -> Res
 {
     match next_token(line) {
         None => Ok(()),
-        Some((first, rest)) => match item(forms, alloc, first, rest) {
-            Ok(item) => push(model, item),
-            Err(why) => Err(why),
-        },
+        Some((first, rest)) => {
+            let item = item(forms, alloc, first, rest)?;
+            push(model, item)
+        }
     }
 }
 
@@ -83,10 +83,8 @@ fn read_text(forms: Forms, alloc: Global, text: &[u8]) -> Result<Model, ReadFaul
     ensures gives { ReadsText result (text_on forms text.now) }
 {
     let mut model = Model::new(alloc);
-    match read_lines(forms, alloc, text, &mut model) {
-        Ok(()) => Ok(model),
-        Err(fault) => Err(fault),
-    }
+    read_lines(forms, alloc, text, &mut model)?;
+    Ok(model)
 }
 
 /// The model that a source's bytes stand for, where they are of known forms.

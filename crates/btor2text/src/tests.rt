@@ -1,6 +1,9 @@
 //! Tables of texts and their faults.
 use super::*;
+use base::VecSink;
+use btor2::PushFault;
 use std::alloc::Global;
+use std::test::Fail;
 
 /// How many items a text of the basic forms has, or the line and the number of its fault.
 fn answer(alloc: Global, text: &str) -> Result<usize, (u64, u32)> {
@@ -34,4 +37,88 @@ fn texts(rt: HostRuntime) {
         answer(rt.alloc(), "1 sort bitvec 18446744073709551617\n"),
         Err((1, 27))
     );
+}
+
+/// Texts, and what is printed of their faults. Each refusal that a text can meet stands here, since a reader that told
+/// one as want of memory would keep its contract.
+const REFUSED: [(&str, &str); 20] = [
+    ("1 sort bitvec 1\n1 sort bitvec 2\n", "line 2: 1 IdTaken"),
+    ("0 sort bitvec 1\n", "line 1: 2 IdOutOfRange"),
+    ("1 input 7\n", "line 1: 3 NoSuchSort"),
+    ("1 sort bitvec 1\n2 not 1 9\n", "line 2: 4 NoSuchNode"),
+    ("1 sort bitvec 65\n", "line 1: 5 WidthOutOfRange"),
+    (
+        "1 sort bitvec 2\n2 input 1\n3 bad 2\n",
+        "line 3: 6 SortMismatch",
+    ),
+    (
+        "1 sort bitvec 2\n2 input 1\n3 slice 1 2 2 1\n",
+        "line 3: 7 SliceOutOfRange",
+    ),
+    (
+        "1 sort bitvec 1\n2 zero 1\n3 init 1 2 2\n",
+        "line 3: 8 NotAState",
+    ),
+    (
+        "1 sort bitvec 1\n2 zero 1\n3 state 1\n4 init 1 3 2\n5 init 1 3 2\n",
+        "line 5: 9 SecondInit",
+    ),
+    (
+        "1 sort bitvec 1\n2 zero 1\n3 state 1\n4 next 1 3 2\n5 next 1 3 2\n",
+        "line 5: 10 SecondNext",
+    ),
+    (
+        "1 sort bitvec 1\n2 input 1\n3 state 1\n4 init 1 3 2\n",
+        "line 4: 11 InitNotConstant",
+    ),
+    ("1 justice 0\n", "line 1: 13 JusticeEmpty"),
+    ("1 sort foo\n", "line 1: 20 BadToken"),
+    ("1 sort array 1 1\n", "line 1: 21 ArraySort"),
+    ("1 read 1 2 3\n", "line 1: 22 ArrayOperator"),
+    ("; t\n1 foo 1\n", "line 2: 23 UnknownOperator"),
+    (
+        "1 sort bitvec 1\n2 not 1 -1\n",
+        "line 2: 24 NegativeOperand",
+    ),
+    (
+        "1 sort bitvec 2\n2 const 1 101\n",
+        "line 2: 25 ConstantDoesNotFit",
+    ),
+    (
+        "1 sort bitvec 1\n2 input 1 a\u{e9}\n",
+        "line 2: 26 BadSymbol",
+    ),
+    ("1 sort bitvec 1", "line 1: 28 Unfinished"),
+];
+
+#[test]
+fn each_refusal_is_told_by_its_own_number(rt: HostRuntime) -> Result<(), Fail> {
+    for (text, want) in REFUSED {
+        let mut source = text.as_bytes();
+        let printed = match read(rt.alloc(), &mut source) {
+            Ok(_) => format!(in rt.alloc(); "read")?,
+            Err(fault) => format!(in rt.alloc(); "{fault}")?,
+        };
+        assert_eq!(rt; printed.as_str(), want);
+    }
+    let refused = Why::Refused(PushFault::SecondInit);
+    assert_eq!(rt; (refused.number(), refused.printed_number()), (27, 9));
+    assert_eq!(rt; refused.name(), "SecondInit");
+    let devices = format!(in rt.alloc(); "{}, {}", Why::Device, Why::NoMemory)?;
+    assert_eq!(rt; devices.as_str(), "29 Device, 30 NoMemory");
+    Ok(())
+}
+
+#[test]
+fn a_model_is_written_as_it_was_read(rt: HostRuntime) -> Result<(), Fail> {
+    let text =
+        "1 sort bitvec 1\n2 zero 1\n3 state 1 t\n4 init 1 3 2\n5 justice 2 3 2\n6 sort bitvec 8\n7 consth 6 0f\n";
+    let mut source = text.as_bytes();
+    let mut sink = VecSink::new(rt.alloc());
+    match read(rt.alloc(), &mut source) {
+        Ok(model) => write(&model, &mut sink)?,
+        Err(fault) => assert!(rt; false, "{fault}"),
+    }
+    assert_eq!(rt; sink.bytes(), text.as_bytes());
+    Ok(())
 }

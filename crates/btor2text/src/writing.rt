@@ -29,10 +29,8 @@ pub fn write<K: Sink>(model: &Model, sink: &mut K) -> Result<(), DeviceFault>
     ensures failures { CountsFaults result (K.failures sink.old) (K.failures sink.new) }
 {
     let mut outbox = Outbox::new();
-    match put_items(&mut outbox, sink, model.items()) {
-        Ok(()) => outbox.flush(sink),
-        Err(fault) => Err(fault),
-    }
+    put_items(&mut outbox, sink, model.items())?;
+    outbox.flush(sink)
 }
 
 /// Puts the lines of items.
@@ -42,10 +40,7 @@ fn put_items<K: Sink>(outbox: &mut Outbox, sink: &mut K, items: &[Item]) -> Resu
     ensures failures { CountsFaults result (K.failures sink.old) (K.failures sink.new) }
 {
     for item in items {
-        match put_item(outbox, sink, item) {
-            Ok(()) => {}
-            Err(fault) => return Err(fault),
-        }
+        put_item(outbox, sink, item)?;
     }
     Ok(())
 }
@@ -56,18 +51,9 @@ fn put_item<K: Sink>(outbox: &mut Outbox, sink: &mut K, item: &Item) -> Result<(
     ensures puts { Puts result (K.written sink.old) (K.written sink.new) outbox.old outbox.new (written_line item.now) }
     ensures failures { CountsFaults result (K.failures sink.old) (K.failures sink.new) }
 {
-    match put_number(outbox, sink, item.id) {
-        Ok(()) => {}
-        Err(fault) => return Err(fault),
-    }
-    match put_body(outbox, sink, &item.body) {
-        Ok(()) => {}
-        Err(fault) => return Err(fault),
-    }
-    match put_symbol(outbox, sink, &item.symbol) {
-        Ok(()) => {}
-        Err(fault) => return Err(fault),
-    }
+    put_number(outbox, sink, item.id)?;
+    put_body(outbox, sink, &item.body)?;
+    put_symbol(outbox, sink, &item.symbol)?;
     put_bytes(outbox, sink, b"\n")
 }
 
@@ -84,10 +70,8 @@ fn put_token<K: Sink>(outbox: &mut Outbox, sink: &mut K, token: &[u8]) -> Result
     ensures puts { Puts result (K.written sink.old) (K.written sink.new) outbox.old outbox.new (32 ∷ token.now) }
     ensures failures { CountsFaults result (K.failures sink.old) (K.failures sink.new) }
 {
-    match put_bytes(outbox, sink, b" ") {
-        Ok(()) => put_bytes(outbox, sink, token),
-        Err(fault) => Err(fault),
-    }
+    put_bytes(outbox, sink, b" ")?;
+    put_bytes(outbox, sink, token)
 }
 
 /// Puts a number.
@@ -133,10 +117,7 @@ fn put_numbers<K: Sink>(
     ensures failures { CountsFaults result (K.failures sink.old) (K.failures sink.new) }
 {
     for number in numbers {
-        match put_spaced(outbox, sink, *number) {
-            Ok(()) => {}
-            Err(fault) => return Err(fault),
-        }
+        put_spaced(outbox, sink, *number)?;
     }
     Ok(())
 }
@@ -147,10 +128,7 @@ fn put_ids<K: Sink>(outbox: &mut Outbox, sink: &mut K, ids: &[u32]) -> Result<()
     ensures failures { CountsFaults result (K.failures sink.old) (K.failures sink.new) }
 {
     for id in ids {
-        match put_spaced(outbox, sink, u64::from(*id)) {
-            Ok(()) => {}
-            Err(fault) => return Err(fault),
-        }
+        put_spaced(outbox, sink, u64::from(*id))?;
     }
     Ok(())
 }
@@ -165,10 +143,8 @@ fn put_form<K: Sink>(
     ensures puts { Puts result (K.written sink.old) (K.written sink.new) outbox.old outbox.new (32 ∷ word.now ++ behind_spaces (map decimal numbers.now)) }
     ensures failures { CountsFaults result (K.failures sink.old) (K.failures sink.new) }
 {
-    match put_token(outbox, sink, word) {
-        Ok(()) => put_numbers(outbox, sink, numbers),
-        Err(fault) => Err(fault),
-    }
+    put_token(outbox, sink, word)?;
+    put_numbers(outbox, sink, numbers)
 }
 
 /// Puts a constant's word, its sort and its digits, each behind a space.
@@ -182,10 +158,8 @@ fn put_constant<K: Sink>(
     ensures puts { Puts result (K.written sink.old) (K.written sink.new) outbox.old outbox.new ((32 ∷ word.now ++ behind_spaces (decimal sort ∷ [])) ++ 32 ∷ digits.now) }
     ensures failures { CountsFaults result (K.failures sink.old) (K.failures sink.new) }
 {
-    match put_form(outbox, sink, word, &[u64::from(sort)]) {
-        Ok(()) => put_token(outbox, sink, digits),
-        Err(fault) => Err(fault),
-    }
+    put_form(outbox, sink, word, &[u64::from(sort)])?;
+    put_token(outbox, sink, digits)
 }
 
 /// Puts the operands of a justice line, behind how many they are.
@@ -198,10 +172,8 @@ fn put_justice<K: Sink>(
     ensures failures { CountsFaults result (K.failures sink.old) (K.failures sink.new) }
 {
     let ids = operands.ids();
-    match put_form(outbox, sink, b"justice", &[ids.len() as u64]) {
-        Ok(()) => put_ids(outbox, sink, ids),
-        Err(fault) => Err(fault),
-    }
+    put_form(outbox, sink, b"justice", &[ids.len() as u64])?;
+    put_ids(outbox, sink, ids)
 }
 
 /// Puts the tokens of a form, each behind a space.

@@ -1,6 +1,6 @@
 use Rattle.std.proofs.Common.{◌≡◌, ◌≢◌, true, inl, inr, sym, ap, ◌∙◌, arith, rules, FitsSigned, of_z, w64, pos, ◌+ℤ◌, int_rem}
 use Rattle.std.proofs.lemmas.Int.{ints, to_z-of_z}
-use Rattle.base.proofs.DivisionLemmas.{differ, floored_same, floored_turned}
+use Rattle.base.proofs.DivisionLemmas.{differ, floored_same, floored_other_sign}
 use Rattle.base.proofs.divisions.floor_rest.Goals as goal
 use Rattle.base.proofs.divisions.floor_rest.Goals.{else-rest-ne0-via-then-rest-ne0+else-rest-b, else-rest-ne0-via-else-rest-ne0}
 
@@ -14,7 +14,7 @@ returns-then-rest-b c =
     let tested = simp to_z-of_z at c.if-rest-b.true in
     let other : differ (int_rem c.args.a c.args.b) c.args.b ≡ true = ap (λ r. differ r c.args.b) (sym rest) ∙ tested in
     let some : int_rem c.args.a c.args.b ≢ pos 0 = λ e. c.if-rest-ne0.true (ap (of_z w64) (rest ∙ e)) in
-    simp to_z-of_z (ap (λ r. r +ℤ c.args.b) rest ∙ floored_turned c.args.a c.args.b c.requires some other)
+    simp to_z-of_z (ap (λ r. r +ℤ c.args.b) rest ∙ floored_other_sign c.args.a c.args.b c.requires some other)
 
 pub returns-else-rest-ne0 : goal.returns-else-rest-ne0
 returns-else-rest-ne0 c =

@@ -1,17 +1,21 @@
 use Rattle.std.proofs.Common.{arith, rules}
+use Rattle.std.proofs.lemmas.Result.{err_from_is_err_and}
 use Rattle.base.proofs.PieceLemmas.{put_more, put_fails}
 use Rattle.btor2text.proofs.WritingLemmas.{numbers_at}
 use Rattle.btor2text.proofs.writing.put_ids.Goals as goal
 
-pub returns-in-Err-clause-puts : goal.returns-in-Err-clause-puts
-returns-in-Err-clause-puts g c =
-    put_fails _ _ _ _ _ _ _ _ _ c.loop-id.invariant.put c.in-Err.ensures.puts
+pub returns-in_err-put_spaced-clause-puts : goal.returns-in_err-put_spaced-clause-puts
+returns-in_err-put_spaced-clause-puts g c =
+    let is = err_from_is_err_and c.from_residual.result c.from_residual.ensures.1 in
+    rw is.1 (
+    put_fails _ _ _ _ _ _ _ _ _ c.loop-id.invariant.put c.in_err-put_spaced.ensures.puts
     (numbers_at c.loop-id.id-index c.args.ids.now _ _ (omega arith) c.from.ensures)
+    )
 
 pub loop-id-preserved : goal.loop-id-preserved
 loop-id-preserved g c = record {
   put =
-      put_more _ _ _ _ _ _ _ _ _ _ c.loop-id.invariant.put c.in-Ok.ensures.puts
+      put_more _ _ _ _ _ _ _ _ _ _ c.loop-id.invariant.put c.in_ok-put_spaced.ensures.puts
       (numbers_at c.loop-id.id-index c.args.ids.now _ _ (omega arith) c.from.ensures);
   counted = search rules;
 }

@@ -2,14 +2,14 @@ use Rattle.std.proofs.Common.{◌≡◌, ℕ, ◌≤◌, ◌↔◌, Option, Some
 use Rattle.std.proofs.lemmas.Bool.{false≢true}
 use Rattle.btor2.proofs.model.Model.width_of.Goals as goal
 
--- a width in range is made
-made : (r : Option ℕ) (n : ℕ) → (IsSome r ↔ ((1 ≤ n) × (n ≤ 64))) → IfSome r (λ w. w ≡ n) → (1 ≤ n) × (n ≤ 64) → r ≡ Some n
-made None n allowed same range = absurd (false≢true (allowed.1 range))
-made (Some w) n allowed same range = ap (λ (k : ℕ). Some k) same
+-- the width of a number in range is there, and has it
+width_in_range : (r : Option ℕ) (n : ℕ) → (IsSome r ↔ ((1 ≤ n) × (n ≤ 64))) → IfSome r (λ w. w ≡ n) → (1 ≤ n) × (n ≤ 64) → r ≡ Some n
+width_in_range None n allowed same range = absurd (false≢true (allowed.1 range))
+width_in_range (Some w) n allowed same range = ap (λ (k : ℕ). Some k) same
 
 pub returns-in-Some : goal.returns-in-Some
 returns-in-Some c =
-    made c.new.result c.in-Some.width c.new.ensures.allowed c.new.ensures.same c.in-Some.ensures.range ∙ c.in-Some.ensures.value
+    width_in_range c.new.result c.in-Some.width c.new.ensures.allowed c.new.ensures.same c.in-Some.ensures.range ∙ c.in-Some.ensures.value
 
 pub returns-in-None : goal.returns-in-None
 returns-in-None c = c.in-None.ensures.value
