@@ -23,7 +23,7 @@ use Rattle.aiger.specs.Net.{Net, variables, IsDefined, bits_from}
 use Rattle.aiger.proofs.NetLemmas.{length-bits_from, bits_from-append, bits_from-literals}
 use Rattle.gates.specs.Bound.{unary_bound, binary_bound}
 use Rattle.gates.specs.Made.{Grows, MakesWord, word_value}
-use Rattle.gates.proofs.MadeLemmas.{Grows-refl, Grows-weaker, Satisfies-earlier, All-defined-later}
+use Rattle.gates.proofs.GrowthLemmas.{Grows-refl, Grows-weaker, Satisfies-earlier, All-defined-grown}
 use Rattle.blast.specs.Leaves.{of_kind, leaf_bits}
 use Rattle.blast.specs.Cost.{line_cost}
 use Rattle.blast.specs.Reads.{Together, ReadsWord, RowsRead}
@@ -48,7 +48,7 @@ pub ReadsWord-later : (items : List Item) (old new : Net) (most : ℕ) → Grows
 ReadsWord-later items old new most g id width row r =
     record {
       wide = r.wide;
-      defined = All-defined-later old new most g row r.defined;
+      defined = All-defined-grown old new most g row r.defined;
       bits = λ state input f v t. r.bits state input f v (Together-earlier items old new most g state input f v t);
     }
 

@@ -27,7 +27,7 @@ use Rattle.aiger.specs.Net.{Net, variables, bits_from}
 use Rattle.gates.specs.Bound.{unary_bound, binary_bound}
 use Rattle.gates.specs.Built.{is_built_binary}
 use Rattle.gates.specs.Made.{Grows}
-use Rattle.gates.proofs.MadeLemmas.{Grows-refl, Grows-trans, variables-later}
+use Rattle.gates.proofs.GrowthLemmas.{Grows-refl, Grows-trans, variables-grown}
 use Rattle.blast.specs.Leaves.{input_bits, state_bits}
 use Rattle.blast.specs.Cost.{line_cost, cost, input_width, state_width, bound}
 use Rattle.blast.specs.Reads.{RowReads, leaves_only, LowersNodes}
@@ -88,7 +88,7 @@ pub line_fits : (items : List Item) (place : ℕ) (n : Net) (rows : List (List �
     → variables n + line_cost items x.body ≤ 1073741824
 line_fits items place n rows input latch x front at fits =
     let more = among-more (λ (y : Item). line_cost items y.body) items place x at in
-    let made = variables-later (leaves_only items) n (cost_among items (take place items)) front.grows in
+    let made = variables-grown (leaves_only items) n (cost_among items (take place items)) front.grows in
     omega (arith, more.1, made.1)
 
 -- an input's row

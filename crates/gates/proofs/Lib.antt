@@ -1,7 +1,7 @@
-pub mod MadeLemmas
+pub mod GrowthLemmas
 pub mod LiteralLemmas
 pub mod WordLemmas
-pub mod RowLemmas
+pub mod BitListLemmas
 pub mod MoveLemmas
 pub mod WindowLemmas
 pub mod SumLemmas

@@ -1,15 +1,11 @@
 -- Literals that are made one after the other.
 use Rattle.std.proofs.Common.{◌≡◌, ℕ, ◌+◌, ◌≤◌, Bool, not, ◌&&◌, ◌∙◌, ap, ap₂, arith}
 use Rattle.aiger.specs.Literal.{Valuation, negation, literal_value}
-use Rattle.aiger.specs.Net.{Net, IsDefined}
+use Rattle.aiger.specs.Net.{Net}
 use Rattle.aiger.proofs.NetLemmas.{IsDefined-negation, literal_value-negation}
 use Rattle.gates.specs.declared.fault.GateFault.{GateFault}
 use Rattle.gates.specs.Made.{Grows, MakesAnd, MakesLiteral, Refuses}
-use Rattle.gates.proofs.MadeLemmas.{Grows-refl, Grows-weaker, Grows-trans, Satisfies-earlier, variables-later, IsDefined-later}
-
--- a literal that stands, made with no gate
-pub MakesLiteral-standing : (n : Net) (most l : ℕ) (f : Valuation → Bool) → IsDefined n l → ((v : Valuation) → literal_value v l ≡ f v) → MakesLiteral n n most f l
-MakesLiteral-standing n most l f defined means = record { grows = Grows-refl n most; defined = defined; means = λ v s. means v }
+use Rattle.gates.proofs.GrowthLemmas.{Grows-weaker, Grows-trans, Satisfies-earlier, variables-grown, IsDefined-grown}
 
 -- the and of two literals is such a literal
 pub MakesLiteral-and : (old new : Net) (a b l : ℕ) → MakesAnd old new a b l → MakesLiteral old new 1 (λ v. literal_value v a && literal_value v b) l
@@ -33,18 +29,10 @@ MakesLiteral-same old new few most l f g le same m = record {
 
 -- kept while more gates are made
 pub MakesLiteral-kept : (old mid new : Net) (m n l : ℕ) (f : Valuation → Bool) → MakesLiteral old mid m f l → Grows mid new n → MakesLiteral old new (m + n) f l
-MakesLiteral-kept old mid new m n l f made more = record {
-  grows = Grows-trans old mid new m n made.grows more;
-  defined = IsDefined-later mid new n more l made.defined;
-  means = λ v s. made.means v (Satisfies-earlier mid new n more v s);
-}
-
--- made behind gates that were made before
-pub MakesLiteral-behind : (old mid new : Net) (m n l : ℕ) (f : Valuation → Bool) → Grows old mid m → MakesLiteral mid new n f l → MakesLiteral old new (m + n) f l
-MakesLiteral-behind old mid new m n l f before made = record {
-  grows = Grows-trans old mid new m n before made.grows;
-  defined = made.defined;
-  means = made.means;
+MakesLiteral-kept old mid new m n l f makes more = record {
+  grows = Grows-trans old mid new m n makes.grows more;
+  defined = IsDefined-grown mid new n more l makes.defined;
+  means = λ v s. makes.means v (Satisfies-earlier mid new n more v s);
 }
 
 -- and of a literal that was made before, what is known of that one put in
@@ -71,5 +59,5 @@ MakesLiteral-join a b c d m n k x y l f g h first second third =
 pub Refuses-behind : (old mid new : Net) (m n most : ℕ) (e : GateFault) → m + n ≤ most → Grows old mid m → Refuses mid new n e → Refuses old new most e
 Refuses-behind old mid new m n most e le before r = record {
   grows = Grows-weaker old new (m + n) most le (Grows-trans old mid new m n before r.grows);
-  too_big = λ is. let more = variables-later old mid m before in let full = r.too_big is in omega arith;
+  too_big = λ is. let more = variables-grown old mid m before in let full = r.too_big is in omega arith;
 }

@@ -54,9 +54,9 @@ rol_again n a x y h p =
     let once : binary_value Rol n a x < 2 ^ n = rotated_left_below n a (x % n) (omega arith) p in
     let z = binary_value Rol n (binary_value Rol n a x) y in
     let twice : z < 2 ^ n = rotated_left_below n (binary_value Rol n a x) (y % n) (omega arith) once in
-    let turned : y + x ≡ x + y = omega arith in
+    let same_amount : y + x ≡ x + y = omega arith in
     let back : binary_value Ror n z (x + y) ≡ a =
-    ap (binary_value Ror n z) (sym turned) ∙ sym (ror_again n z y x h twice) ∙ ap (λ w. binary_value Ror n w x) (ror_rol n (binary_value Rol n a x) y h once) ∙ ror_rol n a x h p
+    ap (binary_value Ror n z) (sym same_amount) ∙ sym (ror_again n z y x h twice) ∙ ap (λ w. binary_value Ror n w x) (ror_rol n (binary_value Rol n a x) y h once) ∙ ror_rol n a x h p
     in
     sym (rol_ror n z (x + y) h twice) ∙ ap (λ w. binary_value Rol n w (x + y)) back
 

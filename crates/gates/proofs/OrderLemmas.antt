@@ -13,9 +13,9 @@ use Rattle.aiger.proofs.NetLemmas.{IsDefined-negation, IsDefined-false, literal_
 use Rattle.gates.specs.Made.{MakesAnd, MakesLiteral, MakesWord, word_value}
 use Rattle.gates.specs.Sums.{literal_number}
 use Rattle.gates.specs.Tests.{with_top_negated}
-use Rattle.gates.proofs.MadeLemmas.{Grows-refl, Grows-weaker, Grows-trans, Satisfies-earlier}
+use Rattle.gates.proofs.GrowthLemmas.{Grows-refl, Grows-weaker, Grows-trans, Satisfies-earlier}
 use Rattle.gates.proofs.LiteralLemmas.{MakesLiteral-not, MakesLiteral-same}
-use Rattle.gates.proofs.RowLemmas.{MakesWord-bit, MakesWord-same, word_value-below}
+use Rattle.gates.proofs.BitListLemmas.{MakesWord-bit, MakesWord-same, word_value-below}
 use Rattle.gates.proofs.SumLemmas.{word_value-push}
 
 -- less in a column, or not greater in it and less below
@@ -139,30 +139,30 @@ signed_by_top v ls some =
     ∙ ap (λ w. pos w -ℤ pos (2 ^ k)) (sym (word_value-top_negated v ls k is))
 
 -- the order of words with their highest bits negated is that of the signed numbers
-pub MakesLiteral-signed : (old new : Net) (a b turned_a turned_b : List ℕ) (l : ℕ) → 1 ≤ length a → length b ≡ length a → turned_a ≡ with_top_negated a → turned_b ≡ with_top_negated b
-    → MakesLiteral old new (6 * length turned_a) (λ v. nat_lt (word_value v turned_a) (word_value v turned_b)) l
+pub MakesLiteral-signed : (old new : Net) (a b negated_a negated_b : List ℕ) (l : ℕ) → 1 ≤ length a → length b ≡ length a → negated_a ≡ with_top_negated a → negated_b ≡ with_top_negated b
+    → MakesLiteral old new (6 * length negated_a) (λ v. nat_lt (word_value v negated_a) (word_value v negated_b)) l
     → MakesLiteral old new (6 * length a) (λ v. int_lt (signed (length a) (word_value v a)) (signed (length a) (word_value v b))) l
-MakesLiteral-signed old new a b turned_a turned_b l some same a_is b_is made =
+MakesLiteral-signed old new a b negated_a negated_b l some same a_is b_is makes =
     let as_wide = length-top_negated a some in
     record {
-      grows = Grows-weaker old new (6 * length turned_a) (6 * length a) (rw a_is (omega (arith, as_wide))) made.grows;
-      defined = made.defined;
+      grows = Grows-weaker old new (6 * length negated_a) (6 * length a) (rw a_is (omega (arith, as_wide))) makes.grows;
+      defined = makes.defined;
       means = λ v s.
           let of_b : signed (length a) (word_value v b) ≡ pos (word_value v (with_top_negated b)) -ℤ pos (2 ^ (length a - 1)) = rw (← same) (signed_by_top v b (rw same some)) in
-          made.means v s ∙ rw (a_is, b_is, signed_by_top v a some, of_b) (order_by_half (word_value v (with_top_negated a)) (word_value v (with_top_negated b)) (2 ^ (length a - 1)));
+          makes.means v s ∙ rw (a_is, b_is, signed_by_top v a some, of_b) (order_by_half (word_value v (with_top_negated a)) (word_value v (with_top_negated b)) (2 ^ (length a - 1)));
     }
 
 -- a literal as a word of one bit
 pub MakesWord-test : (old new : Net) (few most : ℕ) (holds : Valuation → Bool) (meaning : Valuation → ℕ) (l : ℕ)
     → few ≤ most → MakesLiteral old new few holds l → ((v : Valuation) → bit_number (holds v) ≡ meaning v) → MakesWord old new most 1 meaning (l ∷ [])
-MakesWord-test old new few most holds meaning l le made is =
-    MakesWord-same old new most 1 (λ v. bit_number (holds v)) meaning (l ∷ []) is (MakesWord-bit old new most l holds (l ∷ []) refl (MakesLiteral-same old new few most l holds holds le (λ v. refl) made))
+MakesWord-test old new few most holds meaning l le makes is =
+    MakesWord-same old new most 1 (λ v. bit_number (holds v)) meaning (l ∷ []) is (MakesWord-bit old new most l holds (l ∷ []) refl (MakesLiteral-same old new few most l holds holds le (λ v. refl) makes))
 
 -- a literal's negation as a word of one bit
 pub MakesWord-test_not : (old new : Net) (few most : ℕ) (holds : Valuation → Bool) (meaning : Valuation → ℕ) (l not_l : ℕ)
     → not_l ≡ negation l → few ≤ most → MakesLiteral old new few holds l → ((v : Valuation) → bit_number (not (holds v)) ≡ meaning v) → MakesWord old new most 1 meaning (not_l ∷ [])
-MakesWord-test_not old new few most holds meaning l not_l not_is le made is =
-    rw not_is (MakesWord-test old new few most (λ v. not (holds v)) meaning (negation l) le (MakesLiteral-not old new few l holds made) is)
+MakesWord-test_not old new few most holds meaning l not_l not_is le makes is =
+    rw not_is (MakesWord-test old new few most (λ v. not (holds v)) meaning (negation l) le (MakesLiteral-not old new few l holds makes) is)
 
 -- what is not less is greater or equal
 pub not_less : (a b : ℕ) → not (nat_lt a b) ≡ nat_le b a

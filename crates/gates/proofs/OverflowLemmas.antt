@@ -18,8 +18,8 @@ use Rattle.gates.specs.Connect.{differ}
 use Rattle.gates.specs.Made.{MakesAnd, MakesLiteral, MakesWord, word_value}
 use Rattle.gates.specs.Sums.{literal_number, MakesSum}
 use Rattle.gates.specs.Tests.{with_top_negated}
-use Rattle.gates.proofs.MadeLemmas.{Grows-trans, Satisfies-earlier, word_value-negation}
-use Rattle.gates.proofs.RowLemmas.{word_value-below}
+use Rattle.gates.proofs.GrowthLemmas.{Grows-trans, Satisfies-earlier, word_value-negation}
+use Rattle.gates.proofs.BitListLemmas.{word_value-below}
 use Rattle.gates.proofs.OrderLemmas.{signed_top, front_below, word_value-top, word_value-top_negated, length-top_negated, MakesWord-test}
 
 -- the carry out tells whether a sum is no word, and whether a difference is none
@@ -81,36 +81,36 @@ sum_overflows n a b c s x y t o h a_below b_below s_below whole top =
 adder_overflows : (old new : Net) (most : ℕ) (a b : List ℕ) (carry : ℕ) (sum : List ℕ) (into_top out : ℕ) → 1 ≤ length a → length b ≡ length a → MakesSum old new most a b carry sum into_top out
     → (v : Valuation) → Satisfies new v
     → overflows (length a) (signed (length a) (word_value v a) +ℤ signed (length a) (word_value v b) +ℤ pos (literal_number v carry)) ≡ differ (literal_value v into_top) (literal_value v out)
-adder_overflows old new most a b carry sum into_top out some same made v s =
+adder_overflows old new most a b carry sum into_top out some same makes v s =
     let k = length a - 1 in
     let of_a : word_value v a ≡ word_value v (take k a) + 2 ^ k * literal_number v (get_or a k 0) = word_value-top v a k (omega arith) in
     let of_b : word_value v b ≡ word_value v (take k b) + 2 ^ k * literal_number v (get_or b k 0) = word_value-top v b k (omega arith) in
     let a_below : word_value v (take k a) < 2 ^ k = front_below v a k (omega arith) in
     let b_below : word_value v (take k b) < 2 ^ k = front_below v b k (omega arith) in
-    let sum_below : word_value v sum < 2 ^ length a = word_value-below v sum (length a) made.wide in
+    let sum_below : word_value v sum < 2 ^ length a = word_value-below v sum (length a) makes.wide in
     rw (of_a, of_b)
     (sum_overflows (length a) (word_value v (take k a)) (word_value v (take k b)) (literal_number v carry) (word_value v sum) (literal_value v (get_or a k 0)) (literal_value v (get_or b k 0))
-    (literal_value v into_top) (literal_value v out) some a_below b_below sum_below (rw (of_a, of_b) at (made.whole v s)) (rw (of_a, of_b) at (made.top v s)))
+    (literal_value v into_top) (literal_value v out) some a_below b_below sum_below (rw (of_a, of_b) at (makes.whole v s)) (rw (of_a, of_b) at (makes.top v s)))
 
 -- a literal that is true where the carries differ
 MakesWord-carries_differ : (old mid new : Net) (a b : List ℕ) (carry : ℕ) (sum : List ℕ) (into_top out l : ℕ) (z : Valuation → ℤ) → 1 ≤ length a → length b ≡ length a
     → ((v : Valuation) → signed (length a) (word_value v a) +ℤ signed (length a) (word_value v b) +ℤ pos (literal_number v carry) ≡ z v)
     → MakesSum old mid (9 * length a) a b carry sum into_top out → MakesLiteral mid new 3 (λ v. differ (literal_value v into_top) (literal_value v out)) l
     → MakesWord old new (12 * length a) 1 (λ v. bit_number (overflows (length a) (z v))) (l ∷ [])
-MakesWord-carries_differ old mid new a b carry sum into_top out l z some same is made test =
+MakesWord-carries_differ old mid new a b carry sum into_top out l z some same is makes test =
     MakesWord-test old new (9 * length a + 3) (12 * length a) (λ v. overflows (length a) (z v)) (λ v. bit_number (overflows (length a) (z v))) l (omega arith)
     (record {
-      grows = Grows-trans old mid new (9 * length a) 3 made.grows test.grows;
+      grows = Grows-trans old mid new (9 * length a) 3 makes.grows test.grows;
       defined = test.defined;
-      means = λ v s. test.means v s ∙ sym (adder_overflows old mid (9 * length a) a b carry sum into_top out some same made v (Satisfies-earlier mid new 3 test.grows v s)) ∙ ap (overflows (length a)) (is v);
+      means = λ v s. test.means v s ∙ sym (adder_overflows old mid (9 * length a) a b carry sum into_top out some same makes v (Satisfies-earlier mid new 3 test.grows v s)) ∙ ap (overflows (length a)) (is v);
     })
     (λ v. refl)
 
 pub MakesWord-saddo : (old mid new : Net) (a b sum : List ℕ) (into_top out l : ℕ) → 1 ≤ length a → length b ≡ length a
     → MakesSum old mid (9 * length a) a b 0 sum into_top out → MakesLiteral mid new 3 (λ v. differ (literal_value v into_top) (literal_value v out)) l
     → MakesWord old new (12 * length a) 1 (λ v. binary_value binary.Saddo (length a) (word_value v a) (word_value v b)) (l ∷ [])
-MakesWord-saddo old mid new a b sum into_top out l some same made test =
-    MakesWord-carries_differ old mid new a b 0 sum into_top out l (λ v. signed (length a) (word_value v a) +ℤ signed (length a) (word_value v b)) some same (λ v. omega (arith, ints)) made test
+MakesWord-saddo old mid new a b sum into_top out l some same makes test =
+    MakesWord-carries_differ old mid new a b 0 sum into_top out l (λ v. signed (length a) (word_value v a) +ℤ signed (length a) (word_value v b)) some same (λ v. omega (arith, ints)) makes test
 
 -- the signed number of a negated word
 signed_not : (n x : ℕ) → 1 ≤ n → x < 2 ^ n → signed n (2 ^ n - 1 - x) +ℤ pos 1 ≡ pos 0 -ℤ signed n x
@@ -119,38 +119,38 @@ signed_not n x h below = omega (arith, ints, half n h, signed_is n x h below, si
 pub MakesWord-ssubo : (old mid new : Net) (a b sum : List ℕ) (into_top out l : ℕ) → 1 ≤ length a → length b ≡ length a
     → MakesSum old mid (9 * length a) a (map negation b) 1 sum into_top out → MakesLiteral mid new 3 (λ v. differ (literal_value v into_top) (literal_value v out)) l
     → MakesWord old new (12 * length a) 1 (λ v. binary_value binary.Ssubo (length a) (word_value v a) (word_value v b)) (l ∷ [])
-MakesWord-ssubo old mid new a b sum into_top out l some same made test =
+MakesWord-ssubo old mid new a b sum into_top out l some same makes test =
     MakesWord-carries_differ old mid new a (map negation b) 1 sum into_top out l (λ v. signed (length a) (word_value v a) -ℤ signed (length a) (word_value v b)) some (length-map b negation ∙ same)
     (λ v.
     let below : word_value v b < 2 ^ length a = word_value-below v b (length a) same in
-    let turned : signed (length a) (word_value v (map negation b)) +ℤ pos 1 ≡ pos 0 -ℤ signed (length a) (word_value v b) = rw (word_value-negation v b, same) (signed_not (length a) (word_value v b) some below) in
-    omega (arith, ints, turned))
-    made test
+    let opposite : signed (length a) (word_value v (map negation b)) +ℤ pos 1 ≡ pos 0 -ℤ signed (length a) (word_value v b) = rw (word_value-negation v b, same) (signed_not (length a) (word_value v b) some below) in
+    omega (arith, ints, opposite))
+    makes test
 
 pub MakesWord-uaddo : (old new : Net) (a b sum : List ℕ) (into_top out : ℕ) → MakesSum old new (9 * length a) a b 0 sum into_top out
     → MakesWord old new (9 * length a) 1 (λ v. binary_value binary.Uaddo (length a) (word_value v a) (word_value v b)) (out ∷ [])
-MakesWord-uaddo old new a b sum into_top out made =
+MakesWord-uaddo old new a b sum into_top out makes =
     MakesWord-test old new (9 * length a) (9 * length a) (λ v. nat_le (2 ^ length a) (word_value v a + word_value v b)) _ out (omega arith)
     (record {
-      grows = made.grows;
-      defined = made.out_defined;
+      grows = makes.grows;
+      defined = makes.out_defined;
       means = λ v s.
-          let below : word_value v sum < 2 ^ length a = word_value-below v sum (length a) made.wide in
-          carry_out (2 ^ length a) (word_value v sum) (word_value v a) (word_value v b) (literal_value v out) below (made.whole v s);
+          let below : word_value v sum < 2 ^ length a = word_value-below v sum (length a) makes.wide in
+          carry_out (2 ^ length a) (word_value v sum) (word_value v a) (word_value v b) (literal_value v out) below (makes.whole v s);
     })
     (λ v. refl)
 
 pub MakesWord-usubo : (old new : Net) (a b sum : List ℕ) (into_top out not_out : ℕ) → length b ≡ length a → not_out ≡ negation out → MakesSum old new (9 * length a) a (map negation b) 1 sum into_top out
     → MakesWord old new (9 * length a) 1 (λ v. binary_value binary.Usubo (length a) (word_value v a) (word_value v b)) (not_out ∷ [])
-MakesWord-usubo old new a b sum into_top out not_out same not_is made =
+MakesWord-usubo old new a b sum into_top out not_out same not_is makes =
     MakesWord-test old new (9 * length a) (9 * length a) (λ v. nat_lt (word_value v a) (word_value v b)) _ not_out (omega arith)
     (record {
-      grows = made.grows;
-      defined = rw not_is (IsDefined-negation new out made.out_defined);
+      grows = makes.grows;
+      defined = rw not_is (IsDefined-negation new out makes.out_defined);
       means = λ v s.
-          let below : word_value v sum < 2 ^ length a = word_value-below v sum (length a) made.wide in
+          let below : word_value v sum < 2 ^ length a = word_value-below v sum (length a) makes.wide in
           let b_below : word_value v b < 2 ^ length a = word_value-below v b (length a) same in
-          let whole = rw (word_value-negation v b, same) at (made.whole v s) in
+          let whole = rw (word_value-negation v b, same) at (makes.whole v s) in
           rw not_is (literal_value-negation v out ∙ no_carry_out (2 ^ length a) (word_value v sum) (word_value v a) (word_value v b) (literal_value v out) below (word_value-below v a (length a) refl) b_below whole);
     })
     (λ v. refl)
@@ -166,25 +166,25 @@ is_least v a some =
     let wide : suc k ≡ length (map negation a) = omega (arith, length-map a negation) in
     let all = half (length a) some in
     let below : word_value v a < 2 * 2 ^ k = rw (← all) (word_value-below v a (length a) refl) in
-    let turned : word_value v (take k (map negation a)) + 2 ^ k * literal_number v (get_or (map negation a) k 0) ≡ 2 * 2 ^ k - 1 - word_value v a =
+    let reads : word_value v (take k (map negation a)) + 2 ^ k * literal_number v (get_or (map negation a) k 0) ≡ 2 * 2 ^ k - 1 - word_value v a =
     sym (word_value-top v (map negation a) k wide) ∙ word_value-negation v a ∙ ap (λ n. n - 1 - word_value v a) all in
     rw (word_value-top_negated v (map negation a) k wide, all)
-    (least_is (2 ^ k) (word_value v (take k (map negation a))) (word_value v a) (literal_value v (get_or (map negation a) k 0)) (front_below v (map negation a) k (omega (arith, wide))) below turned)
+    (least_is (2 ^ k) (word_value v (take k (map negation a))) (word_value v a) (literal_value v (get_or (map negation a) k 0)) (front_below v (map negation a) k (omega (arith, wide))) below reads)
 
-pub MakesWord-sdivo : (n0 n1 n2 n3 : Net) (a b turned : List ℕ) (least minus_one l : ℕ) → 1 ≤ length a → length b ≡ length a → turned ≡ with_top_negated (map negation a)
-    → MakesLiteral n0 n1 (length turned) (λ v. word_value v turned == ones (length turned)) least → MakesLiteral n1 n2 (length b) (λ v. word_value v b == ones (length b)) minus_one
+pub MakesWord-sdivo : (n0 n1 n2 n3 : Net) (a b as_least : List ℕ) (least minus_one l : ℕ) → 1 ≤ length a → length b ≡ length a → as_least ≡ with_top_negated (map negation a)
+    → MakesLiteral n0 n1 (length as_least) (λ v. word_value v as_least == ones (length as_least)) least → MakesLiteral n1 n2 (length b) (λ v. word_value v b == ones (length b)) minus_one
     → MakesAnd n2 n3 least minus_one l
     → MakesWord n0 n3 (3 * length a) 1 (λ v. binary_value binary.Sdivo (length a) (word_value v a) (word_value v b)) (l ∷ [])
-MakesWord-sdivo n0 n1 n2 n3 a b turned least minus_one l some same turned_is first second third =
-    let wide : length turned ≡ length a = rw turned_is (length-top_negated (map negation a) (omega (arith, length-map a negation)) ∙ length-map a negation) in
-    MakesWord-test n0 n3 (length turned + (length b + 1)) (3 * length a) (λ v. (word_value v a == 2 ^ (length a - 1)) && (word_value v b == ones (length a))) _ l (omega (arith, wide))
+MakesWord-sdivo n0 n1 n2 n3 a b as_least least minus_one l some same as_least_is first second third =
+    let wide : length as_least ≡ length a = rw as_least_is (length-top_negated (map negation a) (omega (arith, length-map a negation)) ∙ length-map a negation) in
+    MakesWord-test n0 n3 (length as_least + (length b + 1)) (3 * length a) (λ v. (word_value v a == 2 ^ (length a - 1)) && (word_value v b == ones (length a))) _ l (omega (arith, wide))
     (record {
-      grows = Grows-trans n0 n1 n3 (length turned) (length b + 1) first.grows (Grows-trans n1 n2 n3 (length b) 1 second.grows third.grows);
+      grows = Grows-trans n0 n1 n3 (length as_least) (length b + 1) first.grows (Grows-trans n1 n2 n3 (length b) 1 second.grows third.grows);
       defined = third.defined;
       means = λ v s.
           let at_two = Satisfies-earlier n2 n3 1 third.grows v s in
           let at_one = Satisfies-earlier n1 n2 (length b) second.grows v at_two in
-          let by_least : literal_value v least ≡ (word_value v a == 2 ^ (length a - 1)) = first.means v at_one ∙ rw (wide, turned_is) (is_least v a some) in
+          let by_least : literal_value v least ≡ (word_value v a == 2 ^ (length a - 1)) = first.means v at_one ∙ rw (wide, as_least_is) (is_least v a some) in
           let by_minus_one : literal_value v minus_one ≡ (word_value v b == ones (length a)) = second.means v at_two ∙ rw same refl in
           third.means v s ∙ ap₂ ◌&&◌ by_least by_minus_one;
     })

@@ -9,7 +9,7 @@ use Rattle.aiger.specs.Net.{Net}
 use Rattle.gates.specs.Made.{MakesWord, word_value}
 use Rattle.gates.specs.Sums.{literal_number, MakesSum}
 use Rattle.gates.proofs.WordLemmas.{zip_with}
-use Rattle.gates.proofs.RowLemmas.{IsRow, MakesWord-row, MakesWord-same, MakesWord-weaker, MakesWord-of_word, word_value-below, word_value-more}
+use Rattle.gates.proofs.BitListLemmas.{IsRow, MakesWord-row, MakesWord-same, MakesWord-weaker, MakesWord-of_word, word_value-below, word_value-more}
 use Rattle.gates.proofs.SumLemmas.{MakesWord-sum}
 use Rattle.gates.proofs.WindowLemmas.{word_value-split}
 
@@ -73,9 +73,9 @@ pub MakesWord-with_row : (old mid new : Net) (n place lit : ℕ) (sum a moved ro
     → MakesWord old mid (length moved) (length moved) (λ v. word_value v moved * literal_number v lit) row
     → MakesSum mid new (9 * length sum) sum row 0 added into_top out
     → MakesWord old new (10 * n) n (λ v. (word_value v sum + word_value v a * (2 ^ place * literal_number v lit)) % 2 ^ n) added
-MakesWord-with_row old mid new n place lit sum a moved row added into_top out wide moved_wide moved_is masked made =
+MakesWord-with_row old mid new n place lit sum a moved row added into_top out wide moved_wide moved_is masked makes =
     let first : MakesWord old mid n n (λ v. word_value v moved * literal_number v lit) row = rw moved_wide at masked in
-    let all : MakesSum mid new (9 * n) sum row 0 added into_top out = rw wide at made in
+    let all : MakesSum mid new (9 * n) sum row 0 added into_top out = rw wide at makes in
     let second : MakesWord mid new (9 * n) n (λ v. (word_value v sum + word_value v row) % 2 ^ n) added =
     subst (λ (k : ℕ). MakesWord mid new (9 * n) k (λ v. (word_value v sum + word_value v row) % 2 ^ k) added) wide
     (MakesWord-sum mid new (9 * n) sum row 0 added into_top out (λ v. (word_value v sum + word_value v row) % 2 ^ length sum) all (λ v. ap (λ k. k % 2 ^ length sum) (omega arith)))
@@ -127,5 +127,5 @@ pub MakesWord-all_rows : (old new : Net) (n place : ℕ) (a b bits : List ℕ) �
     → MakesWord old new (10 * (n * n)) n (λ v. word_value v a * word_value v b % 2 ^ n) bits
 MakesWord-all_rows old new n place a b bits same all rows =
     let whole : take place b ≡ b = take_all place b (omega arith) in
-    let made : MakesWord old new (10 * (n * place)) n (λ v. word_value v a * word_value v b % 2 ^ n) bits = rw whole at rows in
-    MakesWord-weaker old new (10 * (n * place)) (10 * (n * n)) n _ bits (omega (arith, ap (λ k. n * k) all)) made
+    let makes : MakesWord old new (10 * (n * place)) n (λ v. word_value v a * word_value v b % 2 ^ n) bits = rw whole at rows in
+    MakesWord-weaker old new (10 * (n * place)) (10 * (n * n)) n _ bits (omega (arith, ap (λ k. n * k) all)) makes

@@ -15,9 +15,9 @@ use Rattle.aiger.proofs.NetLemmas.{IsDefined-false}
 use Rattle.gates.specs.Made.{MakesWord, word_value}
 use Rattle.gates.specs.Sums.{literal_number, MakesSum}
 use Rattle.gates.specs.Division.{reduced, MakesQuotientRow, MakesDivision}
-use Rattle.gates.proofs.MadeLemmas.{Grows-refl, Grows-weaker, Grows-trans, Satisfies-earlier, IsDefined-later, All-defined-later, word_value-negation}
+use Rattle.gates.proofs.GrowthLemmas.{Grows-refl, Grows-weaker, Grows-trans, Satisfies-earlier, IsDefined-grown, All-defined-grown, word_value-negation}
 use Rattle.base.proofs.BitLemmas.{two_more}
-use Rattle.gates.proofs.RowLemmas.{word_value-below}
+use Rattle.gates.proofs.BitListLemmas.{word_value-below}
 use Rattle.gates.proofs.SumLemmas.{word_value-push, word_value-zeros}
 use Rattle.gates.proofs.WindowLemmas.{word_value-split}
 
@@ -96,12 +96,12 @@ word_value-low v ls n wide =
     sym (ap (λ w. w % 2 ^ n) (word_value-split v ls n inside) ∙ mod_low _ n _ below)
 
 -- the gates of a row: the divisor with a zero at its high end taken from the row's dividend, and a choice by the carry out
-pub MakesQuotientRow-made : (old mid new : Net) (dividend b wide sum : List ℕ) (into_top out : ℕ) (low high remainder : List ℕ)
+pub MakesQuotientRow-by_carry : (old mid new : Net) (dividend b wide sum : List ℕ) (into_top out : ℕ) (low high remainder : List ℕ)
     → length dividend ≡ suc (length b) → wide ≡ b ++ 0 ∷ [] → MakesSum old mid (9 * length dividend) dividend (map negation wide) 1 sum into_top out
     → low ≡ take (length b) sum → high ≡ take (length b) dividend
     → MakesWord mid new (3 * length low) (length low) (λ v. if literal_value v out then word_value v low else word_value v high) remainder
     → MakesQuotientRow old new (12 * length b + 9) dividend b out remainder
-MakesQuotientRow-made old mid new dividend b wide sum into_top out low high remainder longer wide_is taken low_is high_is chosen =
+MakesQuotientRow-by_carry old mid new dividend b wide sum into_top out low high remainder longer wide_is taken low_is high_is chosen =
     let n = length b in
     let in_sum : length sum ≡ suc n = taken.wide ∙ longer in
     let count : length low ≡ n = ap length low_is ∙ length-take-le n sum (omega arith) in
@@ -114,7 +114,7 @@ MakesQuotientRow-made old mid new dividend b wide sum into_top out low high rema
     let b_below : (v : Valuation) → word_value v b < 2 ^ suc n = λ v. omega (arith, word_value-below v b _ refl, two_more n) in
     record {
       grows = Grows-weaker old new (9 * length dividend + 3 * length low) (12 * n + 9) (omega arith) (Grows-trans old mid new (9 * length dividend) (3 * length low) taken.grows chosen.grows);
-      bit_defined = IsDefined-later mid new (3 * length low) chosen.grows out taken.out_defined;
+      bit_defined = IsDefined-grown mid new (3 * length low) chosen.grows out taken.out_defined;
       wide = chosen.wide ∙ count;
       remainder_defined = chosen.defined;
       goes = λ v s.
@@ -157,7 +157,7 @@ MakesDivision-step old mid new most more all a b quotient remainder next bit lef
       grows = Grows-weaker old new (most + more) all le (Grows-trans old mid new most more so_far.grows row.grows);
       quotient_wide = ap suc so_far.quotient_wide;
       remainder_wide = row.wide;
-      quotient_defined = All-cons (IsDefined new) bit quotient row.bit_defined (All-defined-later mid new more row.grows quotient so_far.quotient_defined);
+      quotient_defined = All-cons (IsDefined new) bit quotient row.bit_defined (All-defined-grown mid new more row.grows quotient so_far.quotient_defined);
       remainder_defined = row.remainder_defined;
       quotient_means = λ v s.
           let before = Satisfies-earlier mid new more row.grows v s in

@@ -17,8 +17,8 @@ use Rattle.aiger.specs.Net.{Net, IsDefined}
 use Rattle.aiger.proofs.NetLemmas.{literal_value-negation}
 use Rattle.gates.specs.Made.{MakesAnd, MakesLiteral, MakesWord, word_value}
 use Rattle.gates.specs.Sums.{literal_number, MakesColumn, MakesSum}
-use Rattle.gates.proofs.MadeLemmas.{Grows-refl, Grows-weaker, Grows-trans, Satisfies-earlier, IsDefined-later, All-defined-later, word_value-negation}
-use Rattle.gates.proofs.RowLemmas.{word_value-below}
+use Rattle.gates.proofs.GrowthLemmas.{Grows-refl, Grows-weaker, Grows-trans, Satisfies-earlier, IsDefined-grown, All-defined-grown, word_value-negation}
+use Rattle.gates.proofs.BitListLemmas.{word_value-below}
 use Rattle.gates.proofs.WordLemmas.{word-push}
 
 -- the two bits of the sum of two bits
@@ -40,11 +40,11 @@ pub MakesColumn-half : (n0 n1 n2 n3 : Net) (a b both neither sum : ℕ)
     → MakesAnd n0 n1 a b both → MakesAnd n1 n2 (negation a) (negation b) neither → MakesAnd n2 n3 (negation both) (negation neither) sum
     → MakesColumn n0 n3 3 (λ v. literal_number v a + literal_number v b) sum both
 MakesColumn-half n0 n1 n2 n3 a b both neither sum first second third =
-    let later = Grows-trans n1 n2 n3 1 1 second.grows third.grows in
+    let last_two = Grows-trans n1 n2 n3 1 1 second.grows third.grows in
     record {
-      grows = Grows-trans n0 n1 n3 1 2 first.grows later;
+      grows = Grows-trans n0 n1 n3 1 2 first.grows last_two;
       sum_defined = third.defined;
-      carry_defined = IsDefined-later n1 n3 2 later both first.defined;
+      carry_defined = IsDefined-grown n1 n3 2 last_two both first.defined;
       means = λ v s.
           let at_two = Satisfies-earlier n2 n3 1 third.grows v s in
           let at_one = Satisfies-earlier n1 n2 1 second.grows v at_two in
@@ -61,7 +61,7 @@ pub MakesColumn-full : (n0 n1 n2 n3 : Net) (a b c low first second sum carry : �
 MakesColumn-full n0 n1 n2 n3 a b c low first second sum carry one two three =
     record {
       grows = Grows-trans n0 n1 n3 3 4 one.grows (Grows-trans n1 n2 n3 3 1 two.grows three.grows);
-      sum_defined = IsDefined-later n2 n3 1 three.grows sum two.sum_defined;
+      sum_defined = IsDefined-grown n2 n3 1 three.grows sum two.sum_defined;
       carry_defined = three.defined;
       means = λ v s.
           let at_two = Satisfies-earlier n2 n3 1 three.grows v s in
@@ -71,8 +71,8 @@ MakesColumn-full n0 n1 n2 n3 a b c low first second sum carry one two three =
           let z = bit_number_small (literal_value v c) in
           let low_is = one.means v at_one in
           let sum_is = two.means v at_two in
-          let either = one_of_two (literal_value v first) (literal_value v second) (omega (arith, low_is, sum_is, x, y, z)) in
-          omega (arith, ap bit_number (three.means v s), either, low_is, sum_is);
+          let carry_is = one_of_two (literal_value v first) (literal_value v second) (omega (arith, low_is, sum_is, x, y, z)) in
+          omega (arith, ap bit_number (three.means v s), carry_is, low_is, sum_is);
     }
 
 -- a literal read at a place of a list is one of its literals
@@ -98,8 +98,8 @@ carry_is : (p s o a b c x y : ℕ) → s < p → a < p → b < p → s + p * o �
 carry_is p s o a b c x y s_below a_below b_below whole =
     let low_a : (a + p * x) % p ≡ a = add-mul-mod_self_left a p x ∙ mod-eq_of_lt a_below in
     let low_b : (b + p * y) % p ≡ b = add-mul-mod_self_left b p y ∙ mod-eq_of_lt b_below in
-    let turned : o * p + s ≡ a + b + c = omega (arith, whole) in
-    sym (div-mul-add o p s s_below) ∙ ap (λ k. k / p) turned ∙ rw (low_a, low_b) refl
+    let sum_is : o * p + s ≡ a + b + c = omega (arith, whole) in
+    sym (div-mul-add o p s s_below) ∙ ap (λ k. k / p) sum_is ∙ rw (low_a, low_b) refl
 
 -- nothing is added yet
 pub MakesSum-start : (n : Net) (carry : ℕ) → IsDefined n carry → MakesSum n n 0 [] [] carry [] carry carry
@@ -128,8 +128,8 @@ MakesSum-step old mid new most all a b carry sum into_top out x y low high same 
     record {
       grows = Grows-weaker old new (most + 7) all (omega arith) (Grows-trans old mid new most 7 so_far.grows column.grows);
       wide = omega (arith, length-append sum (low ∷ []), so_far.wide, one_more);
-      sum_defined = All-push (IsDefined new) sum low (All-defined-later mid new 7 column.grows sum so_far.sum_defined) column.sum_defined;
-      top_defined = IsDefined-later mid new 7 column.grows out so_far.out_defined;
+      sum_defined = All-push (IsDefined new) sum low (All-defined-grown mid new 7 column.grows sum so_far.sum_defined) column.sum_defined;
+      top_defined = IsDefined-grown mid new 7 column.grows out so_far.out_defined;
       out_defined = column.carry_defined;
       whole = λ v s.
           let before = so_far.whole v (Satisfies-earlier mid new 7 column.grows v s) in
@@ -146,10 +146,10 @@ MakesSum-step old mid new most all a b carry sum into_top out x y low high same 
 -- all columns are added
 pub MakesSum-whole : (old new : Net) (few most i : ℕ) (a b : List ℕ) (carry : ℕ) (sum : List ℕ) (into_top out : ℕ)
     → length a ≤ i → length b ≤ i → few ≤ most → MakesSum old new few (take i a) (take i b) carry sum into_top out → MakesSum old new most a b carry sum into_top out
-MakesSum-whole old new few most i a b carry sum into_top out in_a in_b le made =
+MakesSum-whole old new few most i a b carry sum into_top out in_a in_b le makes =
     let whole_a : take i a ≡ a = take_all i a in_a in
     let whole_b : take i b ≡ b = take_all i b in_b in
-    let all : MakesSum old new few a b carry sum into_top out = rw (whole_a, whole_b) at made in
+    let all : MakesSum old new few a b carry sum into_top out = rw (whole_a, whole_b) at makes in
     record {
       grows = Grows-weaker old new few most le all.grows;
       wide = all.wide;
@@ -169,14 +169,14 @@ pub MakesWord-sum : (old new : Net) (most : ℕ) (a b : List ℕ) (carry : ℕ) 
     → MakesSum old new most a b carry sum into_top out
     → ((v : Valuation) → (word_value v a + word_value v b + literal_number v carry) % 2 ^ length a ≡ meaning v)
     → MakesWord old new most (length a) meaning sum
-MakesWord-sum old new most a b carry sum into_top out meaning made is =
+MakesWord-sum old new most a b carry sum into_top out meaning makes is =
     record {
-      grows = made.grows;
-      wide = made.wide;
-      defined = made.sum_defined;
+      grows = makes.grows;
+      wide = makes.wide;
+      defined = makes.sum_defined;
       means = λ v s.
-          let below : word_value v sum < 2 ^ length a = word_value-below v sum (length a) made.wide in
-          sym (low_part (2 ^ length a) (word_value v sum) (literal_number v out) _ below (made.whole v s)) ∙ is v;
+          let below : word_value v sum < 2 ^ length a = word_value-below v sum (length a) makes.wide in
+          sym (low_part (2 ^ length a) (word_value v sum) (literal_number v out) _ below (makes.whole v s)) ∙ is v;
     }
 
 -- a difference is the sum with the negated word and one more
@@ -196,13 +196,13 @@ word_value-ones v (suc n) = omega (arith, word_value-ones v n, two_more n, pow_p
 
 pub MakesWord-added : (old new : Net) (a b sum : List ℕ) (into_top out : ℕ) → MakesSum old new (9 * length a) a b 0 sum into_top out
     → MakesWord old new (9 * length a) (length a) (λ v. binary_value binary.Add (length a) (word_value v a) (word_value v b)) sum
-MakesWord-added old new a b sum into_top out made =
-    MakesWord-sum old new (9 * length a) a b 0 sum into_top out _ made (λ v. ap (λ k. k % 2 ^ length a) (omega arith))
+MakesWord-added old new a b sum into_top out makes =
+    MakesWord-sum old new (9 * length a) a b 0 sum into_top out _ makes (λ v. ap (λ k. k % 2 ^ length a) (omega arith))
 
 pub MakesWord-subtracted : (old new : Net) (a b sum : List ℕ) (into_top out : ℕ) → length b ≡ length a → MakesSum old new (9 * length a) a (map negation b) 1 sum into_top out
     → MakesWord old new (9 * length a) (length a) (λ v. binary_value binary.Sub (length a) (word_value v a) (word_value v b)) sum
-MakesWord-subtracted old new a b sum into_top out same made =
-    MakesWord-sum old new (9 * length a) a (map negation b) 1 sum into_top out _ made
+MakesWord-subtracted old new a b sum into_top out same makes =
+    MakesWord-sum old new (9 * length a) a (map negation b) 1 sum into_top out _ makes
     (λ v.
     let below : word_value v b < 2 ^ length a = word_value-below v b (length a) same in
     rw (word_value-negation v b, same) (difference_is (length a) (word_value v a) (word_value v b) below))
@@ -210,24 +210,24 @@ MakesWord-subtracted old new a b sum into_top out same made =
 pub MakesWord-negative : (old new : Net) (a zeros sum : List ℕ) (into_top out : ℕ) → zeros ≡ replicate (length a) 0
     → MakesSum old new (9 * length zeros) zeros (map negation a) 1 sum into_top out
     → MakesWord old new (9 * length a) (length a) (λ v. unary_value unary.Neg (length a) (word_value v a)) sum
-MakesWord-negative old new a zeros sum into_top out are made =
+MakesWord-negative old new a zeros sum into_top out are makes =
     let same : length zeros ≡ length a = rw are (length-replicate {A = ℕ} (length a) 0) in
     rw (← same)
-    (MakesWord-sum old new (9 * length zeros) zeros (map negation a) 1 sum into_top out (λ v. unary_value unary.Neg (length zeros) (word_value v a)) made
+    (MakesWord-sum old new (9 * length zeros) zeros (map negation a) 1 sum into_top out (λ v. unary_value unary.Neg (length zeros) (word_value v a)) makes
     (λ v. rw (same, are, word_value-zeros v (length a), word_value-negation v a) (difference_is (length a) 0 (word_value v a) (word_value-below v a (length a) refl))))
 
 pub MakesWord-incremented : (old new : Net) (a zeros sum : List ℕ) (into_top out : ℕ) → zeros ≡ replicate (length a) 0
     → MakesSum old new (9 * length a) a zeros 1 sum into_top out
     → MakesWord old new (9 * length a) (length a) (λ v. unary_value unary.Inc (length a) (word_value v a)) sum
-MakesWord-incremented old new a zeros sum into_top out are made =
-    MakesWord-sum old new (9 * length a) a zeros 1 sum into_top out _ made
+MakesWord-incremented old new a zeros sum into_top out are makes =
+    MakesWord-sum old new (9 * length a) a zeros 1 sum into_top out _ makes
     (λ v. rw (are, word_value-zeros v (length a)) (ap (λ k. k % 2 ^ length a) (omega arith)))
 
 pub MakesWord-decremented : (old new : Net) (a all_ones sum : List ℕ) (into_top out : ℕ) → all_ones ≡ replicate (length a) 1
     → MakesSum old new (9 * length a) a all_ones 0 sum into_top out
     → MakesWord old new (9 * length a) (length a) (λ v. unary_value unary.Dec (length a) (word_value v a)) sum
-MakesWord-decremented old new a all_ones sum into_top out are made =
-    MakesWord-sum old new (9 * length a) a all_ones 0 sum into_top out _ made
+MakesWord-decremented old new a all_ones sum into_top out are makes =
+    MakesWord-sum old new (9 * length a) a all_ones 0 sum into_top out _ makes
     (λ v.
     let p = pow_pos (length a) in
     rw (are, word_value-ones v (length a))

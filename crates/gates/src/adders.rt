@@ -3,14 +3,14 @@ ghost use Rattle.std.specs.Prelude.{◌≡◌, ◌+◌, ◌*◌, ◌≤◌, leng
 ghost use Rattle.base.specs.Operator.{unary_value, binary_value};
 ghost use Rattle.aiger.specs.Net.{IsDefined};
 ghost use Rattle.aiger.specs.Literal.{negation};
+ghost use Rattle.gates.specs.Operands.{AreOperands};
 ghost use Rattle.gates.specs.Made.{MakesWord, Refuses, word_value};
 ghost use Rattle.gates.specs.Sums.{literal_number, MakesColumn, MakesSum};
 
-use crate::builders::conjunction;
+use crate::bit_lists::{negation, repeated};
 use crate::fault::GateFault;
-use crate::literals::disjunction;
+use crate::literals::{conjunction, disjunction};
 use crate::maker::{Bits, Gates};
-use crate::rows::{negation, repeated};
 use aiger::Lit;
 use base::{Binary, Unary};
 
@@ -67,11 +67,7 @@ fn full_adder<G: Gates>(g: &mut G, a: Lit, b: Lit, c: Lit) -> Result<Column, Gat
 /// Conditions: operands of equal length from 1 to 128, all literals defined. Errors: `TooBig` only where the
 /// variables so far and 9 times the length sum to more than 2^30, `NoMemory`; the gates made so far stay.
 pub fn add<G: Gates>(g: &mut G, a: &Bits, b: &Bits, carry: Lit) -> Result<Added, GateFault>
-    requires some { 1 ≤ length a.now.items }
-    requires most { length a.now.items ≤ 128 }
-    requires equal { length b.now.items ≡ length a.now.items }
-    requires left { All (IsDefined (G.made g.old)) a.now.items }
-    requires right { All (IsDefined (G.made g.old)) b.now.items }
+    requires operands { AreOperands (G.made g.old) 128 a.now.items b.now.items }
     requires carry { IsDefined (G.made g.old) carry }
     ensures ok { IfOk result (λ added. MakesSum (G.made g.old) (G.made g.new) (9 * length a.now.items) a.now.items b.now.items carry added.sum.items added.into_top added.out) }
     ensures refused { IfErr result (Refuses (G.made g.old) (G.made g.new) (9 * length a.now.items)) }
@@ -90,11 +86,7 @@ pub fn add<G: Gates>(g: &mut G, a: &Bits, b: &Bits, carry: Lit) -> Result<Added,
 
 /// The difference of two words as a sum: the second word negated, and one more. The carries are those of the sum.
 pub(crate) fn difference<G: Gates>(g: &mut G, a: &Bits, b: &Bits) -> Result<Added, GateFault>
-    requires some { 1 ≤ length a.now.items }
-    requires most { length a.now.items ≤ 128 }
-    requires equal { length b.now.items ≡ length a.now.items }
-    requires left { All (IsDefined (G.made g.old)) a.now.items }
-    requires right { All (IsDefined (G.made g.old)) b.now.items }
+    requires { AreOperands (G.made g.old) 128 a.now.items b.now.items }
     ensures ok { IfOk result (λ added. MakesSum (G.made g.old) (G.made g.new) (9 * length a.now.items) a.now.items (map negation b.now.items) 1 added.sum.items added.into_top added.out) }
     ensures refused { IfErr result (Refuses (G.made g.old) (G.made g.new) (9 * length a.now.items)) }
 {
@@ -103,11 +95,7 @@ pub(crate) fn difference<G: Gates>(g: &mut G, a: &Bits, b: &Bits) -> Result<Adde
 
 /// The bits of the sum of two words.
 pub(crate) fn add_bits<G: Gates>(g: &mut G, a: &Bits, b: &Bits) -> Result<Bits, GateFault>
-    requires some { 1 ≤ length a.now.items }
-    requires most { length a.now.items ≤ 64 }
-    requires equal { length b.now.items ≡ length a.now.items }
-    requires left { All (IsDefined (G.made g.old)) a.now.items }
-    requires right { All (IsDefined (G.made g.old)) b.now.items }
+    requires { AreOperands (G.made g.old) 64 a.now.items b.now.items }
     ensures ok { IfOk result (λ bits. let n = length a.now.items in MakesWord (G.made g.old) (G.made g.new) (9 * n) n (λ v. binary_value Binary.Add n (word_value v a.now.items) (word_value v b.now.items)) bits.items) }
     ensures refused { IfErr result (Refuses (G.made g.old) (G.made g.new) (9 * length a.now.items)) }
 {
@@ -117,11 +105,7 @@ pub(crate) fn add_bits<G: Gates>(g: &mut G, a: &Bits, b: &Bits) -> Result<Bits, 
 
 /// The bits of the difference of two words.
 pub(crate) fn sub_bits<G: Gates>(g: &mut G, a: &Bits, b: &Bits) -> Result<Bits, GateFault>
-    requires some { 1 ≤ length a.now.items }
-    requires most { length a.now.items ≤ 64 }
-    requires equal { length b.now.items ≡ length a.now.items }
-    requires left { All (IsDefined (G.made g.old)) a.now.items }
-    requires right { All (IsDefined (G.made g.old)) b.now.items }
+    requires { AreOperands (G.made g.old) 64 a.now.items b.now.items }
     ensures ok { IfOk result (λ bits. let n = length a.now.items in MakesWord (G.made g.old) (G.made g.new) (9 * n) n (λ v. binary_value Binary.Sub n (word_value v a.now.items) (word_value v b.now.items)) bits.items) }
     ensures refused { IfErr result (Refuses (G.made g.old) (G.made g.new) (9 * length a.now.items)) }
 {

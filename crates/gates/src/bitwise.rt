@@ -4,15 +4,15 @@ ghost use Rattle.base.specs.declared.operators.Binary.TheVariants as binary;
 ghost use Rattle.base.specs.Operator.{ones, unary_value, binary_value};
 ghost use Rattle.aiger.specs.Net.{IsDefined};
 ghost use Rattle.aiger.specs.Literal.{literal_value};
+ghost use Rattle.gates.specs.Operands.{AreOperands};
 ghost use Rattle.gates.specs.Made.{MakesLiteral, MakesWord, Refuses, word_value};
 ghost use Rattle.gates.specs.Bound.{unary_bound, binary_bound};
 ghost use Rattle.gates.specs.Connect.{connected, connected_words, connected_bits, connective_bound, words_bound, reduction_by};
 
-use crate::builders::conjunction;
+use crate::bit_lists::{negation, one_bit};
 use crate::fault::GateFault;
-use crate::literals::{disjunction, xor};
+use crate::literals::{conjunction, disjunction, xor};
 use crate::maker::{Bits, Gates};
-use crate::rows::{negation, one_bit};
 use aiger::Lit;
 
 /// What connects two bits, and so two words or all bits of a word.
@@ -112,11 +112,7 @@ pub(crate) fn reduction<G: Gates>(g: &mut G, by: Connective, a: &Bits) -> Result
 /// Conditions: operands of equal length from 1 to 64, all literals defined. Errors: `TooBig` only where the variables so
 /// far and 4 times the length sum to more than 2^30, `NoMemory`; the gates made so far stay.
 pub fn equal<G: Gates>(g: &mut G, a: &Bits, b: &Bits) -> Result<Lit, GateFault>
-    requires some { 1 ≤ length a.now.items }
-    requires most { length a.now.items ≤ 64 }
-    requires equal { length b.now.items ≡ length a.now.items }
-    requires left { All (IsDefined (G.made g.old)) a.now.items }
-    requires right { All (IsDefined (G.made g.old)) b.now.items }
+    requires { AreOperands (G.made g.old) 64 a.now.items b.now.items }
     ensures ok { IfOk result (MakesLiteral (G.made g.old) (G.made g.new) (binary_bound binary.Eq (length a.now.items)) (λ v. word_value v a.now.items == word_value v b.now.items)) }
     ensures refused { IfErr result (Refuses (G.made g.old) (G.made g.new) (binary_bound binary.Eq (length a.now.items))) }
 {
@@ -127,11 +123,7 @@ pub fn equal<G: Gates>(g: &mut G, a: &Bits, b: &Bits) -> Result<Lit, GateFault>
 
 /// The bit of the test whether two words are equal.
 pub(crate) fn eq<G: Gates>(g: &mut G, a: &Bits, b: &Bits) -> Result<Bits, GateFault>
-    requires some { 1 ≤ length a.now.items }
-    requires most { length a.now.items ≤ 64 }
-    requires equal { length b.now.items ≡ length a.now.items }
-    requires left { All (IsDefined (G.made g.old)) a.now.items }
-    requires right { All (IsDefined (G.made g.old)) b.now.items }
+    requires { AreOperands (G.made g.old) 64 a.now.items b.now.items }
     ensures ok { IfOk result (λ bits. let n = length a.now.items in MakesWord (G.made g.old) (G.made g.new) (binary_bound binary.Eq n) 1 (λ v. binary_value binary.Eq n (word_value v a.now.items) (word_value v b.now.items)) bits.items) }
     ensures refused { IfErr result (Refuses (G.made g.old) (G.made g.new) (binary_bound binary.Eq (length a.now.items))) }
 {
@@ -141,11 +133,7 @@ pub(crate) fn eq<G: Gates>(g: &mut G, a: &Bits, b: &Bits) -> Result<Bits, GateFa
 
 /// The bit of the test whether two words differ.
 pub(crate) fn neq<G: Gates>(g: &mut G, a: &Bits, b: &Bits) -> Result<Bits, GateFault>
-    requires some { 1 ≤ length a.now.items }
-    requires most { length a.now.items ≤ 64 }
-    requires equal { length b.now.items ≡ length a.now.items }
-    requires left { All (IsDefined (G.made g.old)) a.now.items }
-    requires right { All (IsDefined (G.made g.old)) b.now.items }
+    requires { AreOperands (G.made g.old) 64 a.now.items b.now.items }
     ensures ok { IfOk result (λ bits. let n = length a.now.items in MakesWord (G.made g.old) (G.made g.new) (binary_bound binary.Neq n) 1 (λ v. binary_value binary.Neq n (word_value v a.now.items) (word_value v b.now.items)) bits.items) }
     ensures refused { IfErr result (Refuses (G.made g.old) (G.made g.new) (binary_bound binary.Neq (length a.now.items))) }
 {

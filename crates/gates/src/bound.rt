@@ -1,3 +1,4 @@
+//! How many gates an operator takes at most.
 ghost use Rattle.std.specs.Prelude.{◌≡◌, ◌≤◌};
 ghost use Rattle.gates.specs.Bound.{log_up, unary_bound, binary_bound, operator_bound};
 

@@ -1,12 +1,15 @@
+//! The builders of all operators: for each the bits of what it gives, by the file of its kind.
 ghost use Rattle.std.specs.Prelude.{◌≡◌, ◌≤◌, length, All, IfOk, IfErr, true};
 ghost use Rattle.base.specs.Operator.{unary_value, binary_value};
 ghost use Rattle.base.specs.Widths.{is_of_bits, unary_width, binary_width};
 ghost use Rattle.aiger.specs.Net.{IsDefined};
-ghost use Rattle.gates.specs.Made.{MakesAnd, MakesWord, Refuses, word_value};
+ghost use Rattle.gates.specs.Operands.{AreOperands};
+ghost use Rattle.gates.specs.Made.{MakesWord, Refuses, word_value};
 ghost use Rattle.gates.specs.Bound.{unary_bound, binary_bound};
 ghost use Rattle.gates.specs.Built.{is_built_binary};
 
 use crate::adders::{add_bits, dec_bits, inc_bits, neg_bits, sub_bits};
+use crate::bit_lists::{negation, one_bit};
 use crate::bitwise::{
     Connective, connect_negated, connect_words, eq, iff, implies, neq, reduction,
 };
@@ -16,7 +19,6 @@ use crate::fault::GateFault;
 use crate::maker::{Bits, Gates};
 use crate::multiplication::mul;
 use crate::overflows::overflow;
-use crate::rows::{negation, one_bit};
 use crate::shifts::{rotate, shift};
 use aiger::Lit;
 use base::{Binary, Unary};
@@ -52,11 +54,7 @@ pub fn unary_bits<G: Gates>(g: &mut G, op: Unary, a: &Bits) -> Result<Bits, Gate
 pub fn binary_bits<G: Gates>(g: &mut G, op: Binary, a: &Bits, b: &Bits) -> Result<Bits, GateFault>
     requires built { is_built_binary op ≡ true }
     requires of_bits { is_of_bits op ≡ true → length a.now.items ≡ 1 }
-    requires some { 1 ≤ length a.now.items }
-    requires most { length a.now.items ≤ 64 }
-    requires equal { length b.now.items ≡ length a.now.items }
-    requires left { All (IsDefined (G.made g.old)) a.now.items }
-    requires right { All (IsDefined (G.made g.old)) b.now.items }
+    requires operands { AreOperands (G.made g.old) 64 a.now.items b.now.items }
     ensures ok { IfOk result (λ bits. let n = length a.now.items in MakesWord (G.made g.old) (G.made g.new) (binary_bound op n) (binary_width op n) (λ v. binary_value op n (word_value v a.now.items) (word_value v b.now.items)) bits.items) }
     ensures refused { IfErr result (Refuses (G.made g.old) (G.made g.new) (binary_bound op (length a.now.items))) }
 {
@@ -90,23 +88,5 @@ pub fn binary_bits<G: Gates>(g: &mut G, op: Binary, a: &Bits, b: &Bits) -> Resul
             Ok(one_bit(overflow(g, op, a, b)?))
         }
         _ => unreachable!(),
-    }
-}
-
-/// A literal that is true where both operands are: one of the operands or a constant where that is known, else a gate.
-pub(crate) fn conjunction<G: Gates>(g: &mut G, a: Lit, b: Lit) -> Result<Lit, GateFault>
-    requires left { IsDefined (G.made g.old) a }
-    requires right { IsDefined (G.made g.old) b }
-    ensures ok { IfOk result (MakesAnd (G.made g.old) (G.made g.new) a b) }
-    ensures refused { IfErr result (Refuses (G.made g.old) (G.made g.new) 1) }
-{
-    if a == b || b == Lit::TRUE {
-        Ok(a)
-    } else if a == Lit::TRUE {
-        Ok(b)
-    } else if a == Lit::FALSE || b == Lit::FALSE || a == b.not() {
-        Ok(Lit::FALSE)
-    } else {
-        g.and(a, b)
     }
 }

@@ -3,6 +3,7 @@ ghost use Rattle.std.specs.Prelude.{◌≡◌, ◌≤◌, ◌*◌, length, All, 
 ghost use Rattle.base.specs.Operator.{ite_value};
 ghost use Rattle.aiger.specs.Net.{IsDefined};
 ghost use Rattle.aiger.specs.Literal.{literal_value};
+ghost use Rattle.gates.specs.Operands.{AreOperands};
 ghost use Rattle.gates.specs.Made.{MakesWord, Refuses, word_value};
 ghost use Rattle.gates.specs.Bound.{ite_bound};
 
@@ -34,12 +35,8 @@ pub(crate) fn choose<G: Gates>(g: &mut G, c: Lit, t: &Bits, e: &Bits) -> Result<
 /// only where the variables so far and 3 times the length sum to more than 2^30, `NoMemory`; the gates made so far stay.
 pub fn ite_bits<G: Gates>(g: &mut G, c: &Bits, t: &Bits, e: &Bits) -> Result<Bits, GateFault>
     requires one { length c.now.items ≡ 1 }
-    requires some { 1 ≤ length t.now.items }
-    requires most { length t.now.items ≤ 64 }
-    requires equal { length e.now.items ≡ length t.now.items }
+    requires operands { AreOperands (G.made g.old) 64 t.now.items e.now.items }
     requires condition { All (IsDefined (G.made g.old)) c.now.items }
-    requires then { All (IsDefined (G.made g.old)) t.now.items }
-    requires otherwise { All (IsDefined (G.made g.old)) e.now.items }
     ensures ok { IfOk result (λ bits. let n = length t.now.items in MakesWord (G.made g.old) (G.made g.new) (ite_bound n) n (λ v. ite_value (word_value v c.now.items) (word_value v t.now.items) (word_value v e.now.items)) bits.items) }
     ensures refused { IfErr result (Refuses (G.made g.old) (G.made g.new) (ite_bound (length t.now.items))) }
 {

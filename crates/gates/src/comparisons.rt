@@ -3,13 +3,13 @@ ghost use Rattle.std.specs.Prelude.{◌≡◌, ◌+◌, ◌*◌, ◌≤◌, true
 ghost use Rattle.base.specs.Operator.{binary_value};
 ghost use Rattle.base.specs.Signed.{signed};
 ghost use Rattle.aiger.specs.Net.{IsDefined};
+ghost use Rattle.gates.specs.Operands.{AreOperands};
 ghost use Rattle.gates.specs.Made.{MakesLiteral, MakesWord, Refuses, word_value};
 ghost use Rattle.gates.specs.Sums.{literal_number};
 ghost use Rattle.gates.specs.Tests.{is_comparison, with_top_negated};
 
-use crate::builders::conjunction;
 use crate::fault::GateFault;
-use crate::literals::disjunction;
+use crate::literals::{conjunction, disjunction};
 use crate::maker::{Bits, Gates};
 use aiger::Lit;
 use base::Binary;
@@ -34,11 +34,7 @@ fn less_column<G: Gates>(g: &mut G, a: Lit, b: Lit, below: Lit) -> Result<Lit, G
 /// Conditions: operands of equal length from 1 to 64, all literals defined. Errors: `TooBig` only where the
 /// variables so far and 6 times the length sum to more than 2^30, `NoMemory`; the gates made so far stay.
 pub fn less<G: Gates>(g: &mut G, a: &Bits, b: &Bits) -> Result<Lit, GateFault>
-    requires some { 1 ≤ length a.now.items }
-    requires most { length a.now.items ≤ 64 }
-    requires equal { length b.now.items ≡ length a.now.items }
-    requires left { All (IsDefined (G.made g.old)) a.now.items }
-    requires right { All (IsDefined (G.made g.old)) b.now.items }
+    requires { AreOperands (G.made g.old) 64 a.now.items b.now.items }
     ensures ok { IfOk result (MakesLiteral (G.made g.old) (G.made g.new) (6 * length a.now.items) (λ v. nat_lt (word_value v a.now.items) (word_value v b.now.items))) }
     ensures refused { IfErr result (Refuses (G.made g.old) (G.made g.new) (6 * length a.now.items)) }
 {
@@ -66,11 +62,7 @@ pub(crate) fn top_negated(a: &Bits) -> Bits
 /// A literal that is true where the first word is less than the second, as signed numbers: they are in the order of the
 /// words with their highest bits negated.
 fn signed_less<G: Gates>(g: &mut G, a: &Bits, b: &Bits) -> Result<Lit, GateFault>
-    requires some { 1 ≤ length a.now.items }
-    requires most { length a.now.items ≤ 64 }
-    requires equal { length b.now.items ≡ length a.now.items }
-    requires left { All (IsDefined (G.made g.old)) a.now.items }
-    requires right { All (IsDefined (G.made g.old)) b.now.items }
+    requires { AreOperands (G.made g.old) 64 a.now.items b.now.items }
     ensures ok { IfOk result (let n = length a.now.items in MakesLiteral (G.made g.old) (G.made g.new) (6 * n) (λ v. int_lt (signed n (word_value v a.now.items)) (signed n (word_value v b.now.items)))) }
     ensures refused { IfErr result (Refuses (G.made g.old) (G.made g.new) (6 * length a.now.items)) }
 {
@@ -85,11 +77,7 @@ pub(crate) fn comparison<G: Gates>(
     b: &Bits,
 ) -> Result<Lit, GateFault>
     requires comparison { is_comparison op ≡ true }
-    requires some { 1 ≤ length a.now.items }
-    requires most { length a.now.items ≤ 64 }
-    requires equal { length b.now.items ≡ length a.now.items }
-    requires left { All (IsDefined (G.made g.old)) a.now.items }
-    requires right { All (IsDefined (G.made g.old)) b.now.items }
+    requires operands { AreOperands (G.made g.old) 64 a.now.items b.now.items }
     ensures ok { IfOk result (λ l. let n = length a.now.items in MakesWord (G.made g.old) (G.made g.new) (6 * n) 1 (λ v. binary_value op n (word_value v a.now.items) (word_value v b.now.items)) (l ∷ [])) }
     ensures refused { IfErr result (Refuses (G.made g.old) (G.made g.new) (6 * length a.now.items)) }
 {

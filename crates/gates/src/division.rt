@@ -1,14 +1,15 @@
 //! Division of words: a row of gates for each bit of the dividend, from the highest down.
 ghost use Rattle.std.specs.Prelude.{◌≡◌, ◌+◌, ◌*◌, ◌≤◌, [], ◌∷◌, ◌++◌, length, replicate, All, IfOk, IfErr};
 ghost use Rattle.aiger.specs.Net.{IsDefined};
+ghost use Rattle.gates.specs.Operands.{AreOperands};
 ghost use Rattle.gates.specs.Made.{Refuses};
 ghost use Rattle.gates.specs.Division.{MakesQuotientRow, MakesDivision};
 
 use crate::adders::difference;
+use crate::bit_lists::repeated;
 use crate::choices::choose;
 use crate::fault::GateFault;
 use crate::maker::{Bits, Gates};
-use crate::rows::repeated;
 use aiger::Lit;
 
 /// A quotient and a remainder.
@@ -71,11 +72,7 @@ fn next_row<G: Gates>(g: &mut G, next: Lit, before: Bits, b: &Bits) -> Result<Ro
 /// Conditions: operands of equal length n from 1 to 64, all literals defined. Errors: `TooBig` only where the variables
 /// so far and 12 n^2 + 12 n sum to more than 2^30, `NoMemory`; the gates made so far stay.
 pub fn divide<G: Gates>(g: &mut G, a: &Bits, b: &Bits) -> Result<Divided, GateFault>
-    requires some { 1 ≤ length a.now.items }
-    requires most { length a.now.items ≤ 64 }
-    requires equal { length b.now.items ≡ length a.now.items }
-    requires left { All (IsDefined (G.made g.old)) a.now.items }
-    requires right { All (IsDefined (G.made g.old)) b.now.items }
+    requires { AreOperands (G.made g.old) 64 a.now.items b.now.items }
     ensures ok { IfOk result (λ divided. let n = length a.now.items in MakesDivision (G.made g.old) (G.made g.new) (12 * (n * n) + 12 * n) a.now.items b.now.items divided.quotient.items divided.remainder.items) }
     ensures refused { IfErr result (let n = length a.now.items in Refuses (G.made g.old) (G.made g.new) (12 * (n * n) + 12 * n)) }
 {

@@ -1,16 +1,16 @@
+//! The refusals of a gate maker.
 ghost use Rattle.std.specs.Prelude.{◌≡◌};
-ghost use Rattle.gates.specs.Faults.{number_of};
+ghost use Rattle.gates.specs.Faults.{number_of, name_of};
 
 use thiserror::Error;
 
 /// Why a gate maker makes no gate.
 #[derive(Clone, Copy, Debug, PartialEq, Eq, Error)]
+#[error("{number} {name}", number = self.number(), name = self.name())]
 pub enum GateFault {
     /// A variable would be above 2^30.
-    #[error("80 TooBig")]
     TooBig,
     /// A growth was refused.
-    #[error("81 NoMemory")]
     NoMemory,
 }
 
@@ -22,6 +22,16 @@ impl GateFault {
         match self {
             GateFault::TooBig => 80,
             GateFault::NoMemory => 81,
+        }
+    }
+
+    /// The name that is printed for the fault.
+    pub fn name(self) -> &'static str
+        ensures { result.now ≡ name_of self }
+    {
+        match self {
+            GateFault::TooBig => "TooBig",
+            GateFault::NoMemory => "NoMemory",
         }
     }
 }

@@ -1,7 +1,8 @@
-//! Gate makers, and the circuits of the word operators over any of them.
+//! Gate makers, and the circuits of the word operators over any of them. The laws of its definitions stand in `laws`.
 #![tactic(auto)]
 
 mod adders;
+mod bit_lists;
 mod bitwise;
 mod bound;
 mod builders;
@@ -9,13 +10,12 @@ mod choices;
 mod comparisons;
 mod division;
 mod fault;
-mod laws;
+pub mod laws;
 mod literals;
 mod maker;
 mod multiplication;
 mod overflows;
 mod plain;
-mod rows;
 mod shifts;
 
 pub use adders::{Added, add};
@@ -26,7 +26,6 @@ pub use choices::ite_bits;
 pub use comparisons::less;
 pub use division::{Divided, divide};
 pub use fault::GateFault;
-pub use laws::{worked_bounds, worked_connections, worked_divisions, worked_nets, worked_sums};
 pub use literals::{mux, xor};
 pub use maker::{Bits, Gates};
 pub use multiplication::mul;

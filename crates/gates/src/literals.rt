@@ -3,12 +3,29 @@ ghost use Rattle.std.specs.Prelude.{IfOk, IfErr, ◌||◌, if◌then◌else◌};
 ghost use Rattle.aiger.specs.Net.{IsDefined};
 ghost use Rattle.aiger.specs.Literal.{literal_value};
 ghost use Rattle.gates.specs.Connect.{differ};
-ghost use Rattle.gates.specs.Made.{MakesLiteral, Refuses};
+ghost use Rattle.gates.specs.Made.{MakesAnd, MakesLiteral, Refuses};
 
-use crate::builders::conjunction;
 use crate::fault::GateFault;
 use crate::maker::Gates;
 use aiger::Lit;
+
+/// A literal that is true where both operands are: one of the operands or a constant where that is known, else a gate.
+pub(crate) fn conjunction<G: Gates>(g: &mut G, a: Lit, b: Lit) -> Result<Lit, GateFault>
+    requires left { IsDefined (G.made g.old) a }
+    requires right { IsDefined (G.made g.old) b }
+    ensures ok { IfOk result (MakesAnd (G.made g.old) (G.made g.new) a b) }
+    ensures refused { IfErr result (Refuses (G.made g.old) (G.made g.new) 1) }
+{
+    if a == b || b == Lit::TRUE {
+        Ok(a)
+    } else if a == Lit::TRUE {
+        Ok(b)
+    } else if a == Lit::FALSE || b == Lit::FALSE || a == b.not() {
+        Ok(Lit::FALSE)
+    } else {
+        g.and(a, b)
+    }
+}
 
 /// A literal that is true where one of two others is, or both are, with at most 1 gate.
 pub(crate) fn disjunction<G: Gates>(g: &mut G, a: Lit, b: Lit) -> Result<Lit, GateFault>

@@ -1,3 +1,4 @@
+//! The trait of gate makers.
 ghost use Rattle.std.specs.Prelude.{◌≡◌, IfOk, IfErr, OnErr};
 ghost use Rattle.aiger.specs.Net.{Net, IsDefined};
 ghost use Rattle.gates.specs.Made.{MakesAnd, Refuses};

@@ -2,12 +2,13 @@
 ghost use Rattle.std.specs.Prelude.{◌≡◌, ◌+◌, ◌*◌, ◌%◌, ◌^◌, ◌≤◌, length, All, IfOk, IfErr};
 ghost use Rattle.aiger.specs.Literal.{Valuation};
 ghost use Rattle.aiger.specs.Net.{Net, IsDefined};
+ghost use Rattle.gates.specs.Operands.{AreOperands};
 ghost use Rattle.gates.specs.Made.{MakesWord, Refuses, word_value};
 ghost use Rattle.gates.specs.Sums.{literal_number};
 
 use crate::adders::add;
-use crate::builders::conjunction;
 use crate::fault::GateFault;
+use crate::literals::conjunction;
 use crate::maker::{Bits, Gates};
 use aiger::Lit;
 
@@ -53,12 +54,8 @@ fn with_row<G: Gates>(
     place: usize,
     lit: Lit,
 ) -> Result<Bits, GateFault>
-    requires some { 1 ≤ length a.now.items }
-    requires most { length a.now.items ≤ 128 }
-    requires equal { length sum.now.items ≡ length a.now.items }
+    requires operands { AreOperands (G.made g.old) 128 a.now.items sum.now.items }
     requires inside { place ≤ length a.now.items }
-    requires sum { All (IsDefined (G.made g.old)) sum.now.items }
-    requires word { All (IsDefined (G.made g.old)) a.now.items }
     requires literal { IsDefined (G.made g.old) lit }
     ensures ok { IfOk result (λ bits. let n = length a.now.items in MakesWord (G.made g.old) (G.made g.new) (10 * n) n (λ v. (word_value v sum.now.items + word_value v a.now.items * (2 ^ place * literal_number v lit)) % 2 ^ n) bits.items) }
     ensures refused { IfErr result (Refuses (G.made g.old) (G.made g.new) (10 * length a.now.items)) }
@@ -73,11 +70,7 @@ fn with_row<G: Gates>(
 /// Conditions: operands of equal length from 1 to 128, all literals defined. Errors: `TooBig` only where the
 /// variables so far and 10 times the length's square sum to more than 2^30, `NoMemory`; the gates made so far stay.
 pub fn mul<G: Gates>(g: &mut G, a: &Bits, b: &Bits) -> Result<Bits, GateFault>
-    requires some { 1 ≤ length a.now.items }
-    requires most { length a.now.items ≤ 128 }
-    requires equal { length b.now.items ≡ length a.now.items }
-    requires left { All (IsDefined (G.made g.old)) a.now.items }
-    requires right { All (IsDefined (G.made g.old)) b.now.items }
+    requires { AreOperands (G.made g.old) 128 a.now.items b.now.items }
     ensures ok { IfOk result (λ bits. let n = length a.now.items in MakesWord (G.made g.old) (G.made g.new) (10 * (n * n)) n (λ v. word_value v a.now.items * word_value v b.now.items % 2 ^ n) bits.items) }
     ensures refused { IfErr result (let n = length a.now.items in Refuses (G.made g.old) (G.made g.new) (10 * (n * n))) }
 {

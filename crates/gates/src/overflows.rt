@@ -3,17 +3,17 @@ ghost use Rattle.std.specs.Prelude.{◌≡◌, ◌*◌, ◌≤◌, true, [], ◌
 ghost use Rattle.base.specs.Operator.{binary_value};
 ghost use Rattle.aiger.specs.Net.{IsDefined};
 ghost use Rattle.gates.specs.Bound.{binary_bound};
+ghost use Rattle.gates.specs.Operands.{AreOperands};
 ghost use Rattle.gates.specs.Made.{MakesWord, Refuses, word_value};
 ghost use Rattle.gates.specs.Tests.{is_overflow};
 
 use crate::adders::{add, difference};
+use crate::bit_lists::negation;
 use crate::bitwise::{Connective, connect_bits};
-use crate::builders::conjunction;
 use crate::comparisons::top_negated;
 use crate::fault::GateFault;
-use crate::literals::xor;
+use crate::literals::{conjunction, xor};
 use crate::maker::{Bits, Gates};
-use crate::rows::negation;
 use aiger::Lit;
 use base::Binary;
 
@@ -25,11 +25,7 @@ use base::Binary;
 /// operator's bound sum to more than 2^30, `NoMemory`; the gates made so far stay.
 pub fn overflow<G: Gates>(g: &mut G, op: Binary, a: &Bits, b: &Bits) -> Result<Lit, GateFault>
     requires overflow { is_overflow op ≡ true }
-    requires some { 1 ≤ length a.now.items }
-    requires most { length a.now.items ≤ 64 }
-    requires equal { length b.now.items ≡ length a.now.items }
-    requires left { All (IsDefined (G.made g.old)) a.now.items }
-    requires right { All (IsDefined (G.made g.old)) b.now.items }
+    requires operands { AreOperands (G.made g.old) 64 a.now.items b.now.items }
     ensures ok { IfOk result (λ l. let n = length a.now.items in MakesWord (G.made g.old) (G.made g.new) (binary_bound op n) 1 (λ v. binary_value op n (word_value v a.now.items) (word_value v b.now.items)) (l ∷ [])) }
     ensures refused { IfErr result (Refuses (G.made g.old) (G.made g.new) (binary_bound op (length a.now.items))) }
 {
@@ -45,11 +41,7 @@ pub fn overflow<G: Gates>(g: &mut G, op: Binary, a: &Bits, b: &Bits) -> Result<L
 
 /// Whether the sum of words as whole numbers is no word: the carry out of it.
 fn uaddo<G: Gates>(g: &mut G, a: &Bits, b: &Bits) -> Result<Lit, GateFault>
-    requires some { 1 ≤ length a.now.items }
-    requires most { length a.now.items ≤ 64 }
-    requires equal { length b.now.items ≡ length a.now.items }
-    requires left { All (IsDefined (G.made g.old)) a.now.items }
-    requires right { All (IsDefined (G.made g.old)) b.now.items }
+    requires { AreOperands (G.made g.old) 64 a.now.items b.now.items }
     ensures ok { IfOk result (λ l. let n = length a.now.items in MakesWord (G.made g.old) (G.made g.new) (9 * n) 1 (λ v. binary_value Binary.Uaddo n (word_value v a.now.items) (word_value v b.now.items)) (l ∷ [])) }
     ensures refused { IfErr result (Refuses (G.made g.old) (G.made g.new) (9 * length a.now.items)) }
 {
@@ -59,11 +51,7 @@ fn uaddo<G: Gates>(g: &mut G, a: &Bits, b: &Bits) -> Result<Lit, GateFault>
 
 /// Whether the difference of words as whole numbers is below 0: there is no carry out of it.
 fn usubo<G: Gates>(g: &mut G, a: &Bits, b: &Bits) -> Result<Lit, GateFault>
-    requires some { 1 ≤ length a.now.items }
-    requires most { length a.now.items ≤ 64 }
-    requires equal { length b.now.items ≡ length a.now.items }
-    requires left { All (IsDefined (G.made g.old)) a.now.items }
-    requires right { All (IsDefined (G.made g.old)) b.now.items }
+    requires { AreOperands (G.made g.old) 64 a.now.items b.now.items }
     ensures ok { IfOk result (λ l. let n = length a.now.items in MakesWord (G.made g.old) (G.made g.new) (9 * n) 1 (λ v. binary_value Binary.Usubo n (word_value v a.now.items) (word_value v b.now.items)) (l ∷ [])) }
     ensures refused { IfErr result (Refuses (G.made g.old) (G.made g.new) (9 * length a.now.items)) }
 {
@@ -73,11 +61,7 @@ fn usubo<G: Gates>(g: &mut G, a: &Bits, b: &Bits) -> Result<Lit, GateFault>
 
 /// Whether the sum of signed numbers is none of the width: the carries into and out of its highest bit differ.
 fn saddo<G: Gates>(g: &mut G, a: &Bits, b: &Bits) -> Result<Lit, GateFault>
-    requires some { 1 ≤ length a.now.items }
-    requires most { length a.now.items ≤ 64 }
-    requires equal { length b.now.items ≡ length a.now.items }
-    requires left { All (IsDefined (G.made g.old)) a.now.items }
-    requires right { All (IsDefined (G.made g.old)) b.now.items }
+    requires { AreOperands (G.made g.old) 64 a.now.items b.now.items }
     ensures ok { IfOk result (λ l. let n = length a.now.items in MakesWord (G.made g.old) (G.made g.new) (12 * n) 1 (λ v. binary_value Binary.Saddo n (word_value v a.now.items) (word_value v b.now.items)) (l ∷ [])) }
     ensures refused { IfErr result (Refuses (G.made g.old) (G.made g.new) (12 * length a.now.items)) }
 {
@@ -87,11 +71,7 @@ fn saddo<G: Gates>(g: &mut G, a: &Bits, b: &Bits) -> Result<Lit, GateFault>
 
 /// Whether the difference of signed numbers is none of the width: the carries into and out of its highest bit differ.
 fn ssubo<G: Gates>(g: &mut G, a: &Bits, b: &Bits) -> Result<Lit, GateFault>
-    requires some { 1 ≤ length a.now.items }
-    requires most { length a.now.items ≤ 64 }
-    requires equal { length b.now.items ≡ length a.now.items }
-    requires left { All (IsDefined (G.made g.old)) a.now.items }
-    requires right { All (IsDefined (G.made g.old)) b.now.items }
+    requires { AreOperands (G.made g.old) 64 a.now.items b.now.items }
     ensures ok { IfOk result (λ l. let n = length a.now.items in MakesWord (G.made g.old) (G.made g.new) (12 * n) 1 (λ v. binary_value Binary.Ssubo n (word_value v a.now.items) (word_value v b.now.items)) (l ∷ [])) }
     ensures refused { IfErr result (Refuses (G.made g.old) (G.made g.new) (12 * length a.now.items)) }
 {
@@ -102,16 +82,12 @@ fn ssubo<G: Gates>(g: &mut G, a: &Bits, b: &Bits) -> Result<Lit, GateFault>
 /// Whether the quotient of signed numbers is none of the width: the least number, whose highest bit alone is 1, by the
 /// word of all ones, which is -1.
 fn sdivo<G: Gates>(g: &mut G, a: &Bits, b: &Bits) -> Result<Lit, GateFault>
-    requires some { 1 ≤ length a.now.items }
-    requires most { length a.now.items ≤ 64 }
-    requires equal { length b.now.items ≡ length a.now.items }
-    requires left { All (IsDefined (G.made g.old)) a.now.items }
-    requires right { All (IsDefined (G.made g.old)) b.now.items }
+    requires { AreOperands (G.made g.old) 64 a.now.items b.now.items }
     ensures ok { IfOk result (λ l. let n = length a.now.items in MakesWord (G.made g.old) (G.made g.new) (3 * n) 1 (λ v. binary_value Binary.Sdivo n (word_value v a.now.items) (word_value v b.now.items)) (l ∷ [])) }
     ensures refused { IfErr result (Refuses (G.made g.old) (G.made g.new) (3 * length a.now.items)) }
 {
-    let turned = top_negated(&negation(a));
-    let is_least = connect_bits(g, Connective::And, turned.as_slice())?;
+    let as_least = top_negated(&negation(a));
+    let is_least = connect_bits(g, Connective::And, as_least.as_slice())?;
     let is_minus_one = connect_bits(g, Connective::And, b.as_slice())?;
     conjunction(g, is_least, is_minus_one)
 }

@@ -1,3 +1,4 @@
+//! The gate maker that makes each gate anew.
 ghost use Rattle.std.specs.Prelude.{◌≡◌, ◌+◌, ◌*◌, ◌<◌, ◌≤◌, ◌↔◌, [], IfOk, IfErr, OnErr, IsErrOf};
 ghost use Rattle.aiger.specs.Limits.{greatest_count};
 ghost use Rattle.aiger.specs.Net.{variables, IsDefined};

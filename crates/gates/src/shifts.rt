@@ -4,15 +4,16 @@ ghost use Rattle.base.specs.Operator.{binary_value};
 ghost use Rattle.aiger.specs.Literal.{Valuation};
 ghost use Rattle.aiger.specs.Net.{Net, IsDefined};
 ghost use Rattle.gates.specs.Bound.{binary_bound};
+ghost use Rattle.gates.specs.Operands.{AreOperands};
 ghost use Rattle.gates.specs.Made.{MakesWord, Refuses, word_value};
 ghost use Rattle.gates.specs.Moves.{is_shift, is_rotation, is_move};
 
+use crate::bit_lists::repeated;
 use crate::bitwise::{Connective, connect_bits};
 use crate::bound::log_up;
 use crate::choices::choose;
 use crate::fault::GateFault;
 use crate::maker::{Bits, Gates};
-use crate::rows::repeated;
 use aiger::Lit;
 use base::Binary;
 
@@ -92,11 +93,7 @@ fn moved_in_turn<G: Gates>(
 /// made so far stay.
 pub fn shift<G: Gates>(g: &mut G, op: Binary, a: &Bits, b: &Bits) -> Result<Bits, GateFault>
     requires shifts { is_shift op ≡ true }
-    requires some { 1 ≤ length a.now.items }
-    requires most { length a.now.items ≤ 64 }
-    requires equal { length b.now.items ≡ length a.now.items }
-    requires left { All (IsDefined (G.made g.old)) a.now.items }
-    requires right { All (IsDefined (G.made g.old)) b.now.items }
+    requires operands { AreOperands (G.made g.old) 64 a.now.items b.now.items }
     ensures ok { IfOk result (λ bits. let n = length a.now.items in MakesWord (G.made g.old) (G.made g.new) (binary_bound op n) n (λ v. binary_value op n (word_value v a.now.items) (word_value v b.now.items)) bits.items) }
     ensures refused { IfErr result (Refuses (G.made g.old) (G.made g.new) (binary_bound op (length a.now.items))) }
 {
@@ -118,11 +115,7 @@ pub fn shift<G: Gates>(g: &mut G, op: Binary, a: &Bits, b: &Bits) -> Result<Bits
 /// far stay.
 pub fn rotate<G: Gates>(g: &mut G, op: Binary, a: &Bits, b: &Bits) -> Result<Bits, GateFault>
     requires rotates { is_rotation op ≡ true }
-    requires some { 1 ≤ length a.now.items }
-    requires most { length a.now.items ≤ 64 }
-    requires equal { length b.now.items ≡ length a.now.items }
-    requires left { All (IsDefined (G.made g.old)) a.now.items }
-    requires right { All (IsDefined (G.made g.old)) b.now.items }
+    requires operands { AreOperands (G.made g.old) 64 a.now.items b.now.items }
     ensures ok { IfOk result (λ bits. let n = length a.now.items in MakesWord (G.made g.old) (G.made g.new) (binary_bound op n) n (λ v. binary_value op n (word_value v a.now.items) (word_value v b.now.items)) bits.items) }
     ensures refused { IfErr result (Refuses (G.made g.old) (G.made g.new) (binary_bound op (length a.now.items))) }
 {

@@ -1,5 +1,7 @@
+//! The bounds, the limit on variables, and what is printed of the refusals.
 use super::*;
 use base::{Binary, Unary};
+use std::test::Fail;
 
 #[test]
 fn bounds_and_limits(rt: HostRuntime) {
@@ -15,6 +17,16 @@ fn bounds_and_limits(rt: HostRuntime) {
         Ok(gates) => assert_eq!(rt; gates.finish().inputs(), 2),
         Err(_) => assert!(rt; false),
     }
-    assert_eq!(rt; GateFault::TooBig.number(), 80);
-    assert_eq!(rt; GateFault::NoMemory.number(), 81);
+}
+
+#[test]
+fn refusals_are_printed(rt: HostRuntime) -> Result<(), Fail> {
+    let too_big = GateFault::TooBig;
+    let no_memory = GateFault::NoMemory;
+    assert_eq!(rt; format!(in rt.alloc(); "{too_big}")?.as_str(), "80 TooBig");
+    assert_eq!(rt;
+        format!(in rt.alloc(); "{no_memory}")?.as_str(),
+        "81 NoMemory"
+    );
+    Ok(())
 }

@@ -1,17 +1,17 @@
 use Rattle.std.proofs.Common.{take, length-take, arith}
 use Rattle.gates.proofs.SumLemmas.{MakesSum-start, MakesSum-step, MakesSum-whole, literal_at, front_with}
-use Rattle.gates.proofs.MadeLemmas.{IsDefined-later}
+use Rattle.gates.proofs.GrowthLemmas.{IsDefined-grown}
 use Rattle.gates.proofs.adders.add.Goals as goal
 
 pub full_adder-requires-clause-left : goal.full_adder-requires-clause-left
 full_adder-requires-clause-left g c =
-    let old = literal_at (g.G.Gates.made c.args.g.now) c.args.a.now.items c.deref.result.now c.loop-i.i c.index-deref-i.result c.deref.ensures.0 (omega arith) c.index-deref-i.is c.requires.left in
-    IsDefined-later _ _ _ c.loop-i.invariant.grows c.index-deref-i.result old
+    let old = literal_at (g.G.Gates.made c.args.g.now) c.args.a.now.items c.deref.result.now c.loop-i.i c.index-deref-i.result c.deref.ensures.0 (omega arith) c.index-deref-i.is c.requires.operands.left in
+    IsDefined-grown _ _ _ c.loop-i.invariant.grows c.index-deref-i.result old
 
 pub full_adder-requires-clause-right : goal.full_adder-requires-clause-right
 full_adder-requires-clause-right g c =
-    let old = literal_at (g.G.Gates.made c.args.g.now) c.args.b.now.items c.deref-in-loop-i.result.now c.loop-i.i c.index-deref-i-in-loop-i.result c.deref-in-loop-i.ensures.0 (omega arith) c.index-deref-i-in-loop-i.is c.requires.right in
-    IsDefined-later _ _ _ c.loop-i.invariant.grows c.index-deref-i-in-loop-i.result old
+    let old = literal_at (g.G.Gates.made c.args.g.now) c.args.b.now.items c.deref-in-loop-i.result.now c.loop-i.i c.index-deref-i-in-loop-i.result c.deref-in-loop-i.ensures.0 (omega arith) c.index-deref-i-in-loop-i.is c.requires.operands.right in
+    IsDefined-grown _ _ _ c.loop-i.invariant.grows c.index-deref-i-in-loop-i.result old
 
 pub full_adder-requires-clause-carry : goal.full_adder-requires-clause-carry
 full_adder-requires-clause-carry g c = c.loop-i.invariant.out_defined

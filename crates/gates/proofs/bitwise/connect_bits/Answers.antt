@@ -4,7 +4,7 @@ use Rattle.gates.specs.Connect.{connected, connected_bits, connective_bound}
 use Rattle.gates.specs.Made.{word_value}
 use Rattle.gates.proofs.WordLemmas.{connected_bits-push}
 use Rattle.gates.proofs.LiteralLemmas.{MakesLiteral-then, MakesLiteral-same}
-use Rattle.gates.proofs.RowLemmas.{word_value-more, word_value-below}
+use Rattle.gates.proofs.BitListLemmas.{word_value-more, word_value-below}
 use Rattle.gates.proofs.bitwise.connect_bits.Goals as goal
 
 pub loop-lit-preserved : goal.loop-lit-preserved

@@ -1,7 +1,7 @@
 use Rattle.std.proofs.Common.{length}
 use Rattle.gates.specs.Connect.{connected_words}
 use Rattle.gates.specs.Made.{word_value}
-use Rattle.gates.proofs.MadeLemmas.{MakesWord-negated}
+use Rattle.gates.proofs.GrowthLemmas.{MakesWord-negated}
 use Rattle.gates.proofs.bitwise.connect_negated.Goals as goal
 
 pub returns-clause-ok : goal.returns-clause-ok

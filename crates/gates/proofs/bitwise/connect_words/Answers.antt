@@ -3,7 +3,7 @@ use Rattle.std.proofs.lemmas.List.{length-map}
 use Rattle.aiger.specs.Literal.{literal_value}
 use Rattle.gates.specs.Connect.{connected, connective_bound}
 use Rattle.gates.proofs.WordLemmas.{word-connected, words_bound-is}
-use Rattle.gates.proofs.RowLemmas.{IsRow-push, MakesWord-row}
+use Rattle.gates.proofs.BitListLemmas.{IsRow-push, MakesWord-row}
 use Rattle.gates.proofs.bitwise.connect_words.Goals as goal
 
 pub loop-i-preserved : goal.loop-i-preserved

@@ -1,5 +1,5 @@
 use Rattle.gates.specs.Connect.{connected, connective_bound}
-use Rattle.gates.proofs.RowLemmas.{IsRow}
+use Rattle.gates.proofs.BitListLemmas.{IsRow}
 use Rattle.gates.proofs.bitwise.connect_words.Given as goal
 
 abbrev pub invariant-loop-i : goal.invariant-loop-i

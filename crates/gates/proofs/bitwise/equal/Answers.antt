@@ -2,7 +2,7 @@ use Rattle.std.proofs.Common.{◌≡◌, ◌+◌, ◌*◌, Bool, true, false, no
 use Rattle.aiger.specs.Literal.{negation}
 use Rattle.gates.specs.Made.{MakesLiteral, word_value}
 use Rattle.gates.proofs.LiteralLemmas.{MakesLiteral-not, MakesLiteral-same}
-use Rattle.gates.proofs.RowLemmas.{MakesLiteral-of_word}
+use Rattle.gates.proofs.BitListLemmas.{MakesLiteral-of_word}
 use Rattle.gates.proofs.WordLemmas.{xor-zero}
 use Rattle.gates.proofs.bitwise.equal.Goals as goal
 

@@ -3,7 +3,7 @@ use Rattle.base.specs.Word.{bit_number}
 use Rattle.aiger.specs.Literal.{literal_value}
 use Rattle.gates.specs.Connect.{differ}
 use Rattle.gates.proofs.LiteralLemmas.{MakesLiteral-not}
-use Rattle.gates.proofs.RowLemmas.{MakesWord-bit, MakesWord-same, word_value-bit}
+use Rattle.gates.proofs.BitListLemmas.{MakesWord-bit, MakesWord-same, word_value-bit}
 use Rattle.gates.proofs.bitwise.iff.Goals as goal
 
 -- bits are equal where they do not differ

@@ -2,7 +2,7 @@ use Rattle.std.proofs.Common.{◌≡◌, Bool, true, false, not, ◌||◌, ◌==
 use Rattle.base.specs.Word.{bit_number}
 use Rattle.aiger.specs.Literal.{literal_value}
 use Rattle.aiger.proofs.NetLemmas.{literal_value-negation}
-use Rattle.gates.proofs.RowLemmas.{MakesWord-bit, MakesWord-same, word_value-bit}
+use Rattle.gates.proofs.BitListLemmas.{MakesWord-bit, MakesWord-same, word_value-bit}
 use Rattle.gates.proofs.bitwise.implies.Goals as goal
 
 -- the first is 0 or the second 1

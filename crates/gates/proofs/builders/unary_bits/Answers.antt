@@ -1,4 +1,4 @@
-use Rattle.gates.proofs.MadeLemmas.{MakesWord-not}
+use Rattle.gates.proofs.GrowthLemmas.{MakesWord-not}
 use Rattle.gates.proofs.builders.unary_bits.Goals as goal
 
 pub returns-in-Not-clause-ok : goal.returns-in-Not-clause-ok

@@ -3,7 +3,7 @@ use Rattle.std.proofs.lemmas.List.{length-map}
 use Rattle.base.specs.Word.{word}
 use Rattle.aiger.specs.Literal.{literal_value}
 use Rattle.gates.proofs.WordLemmas.{zip_with}
-use Rattle.gates.proofs.RowLemmas.{IsRow-push, MakesWord-row}
+use Rattle.gates.proofs.BitListLemmas.{IsRow-push, MakesWord-row}
 use Rattle.gates.proofs.choices.choose.Goals as goal
 
 pub loop-i-preserved : goal.loop-i-preserved

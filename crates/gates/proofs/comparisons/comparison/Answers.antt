@@ -8,19 +8,19 @@ use Rattle.gates.proofs.comparisons.comparison.Goals as goal
 
 pub returns-in-Ult-clause-ok : goal.returns-in-Ult-clause-ok
 returns-in-Ult-clause-ok g c =
-    IfOk-weaker c.less.result _ _ (λ l made. MakesWord-test _ _ _ _ _ _ l (omega arith) made (λ v. rw c.in-Ult.is refl)) c.less.ensures.ok
+    IfOk-weaker c.less.result _ _ (λ l makes. MakesWord-test _ _ _ _ _ _ l (omega arith) makes (λ v. rw c.in-Ult.is refl)) c.less.ensures.ok
 
 pub returns-in-Ugt-clause-ok : goal.returns-in-Ugt-clause-ok
 returns-in-Ugt-clause-ok g c =
-    IfOk-weaker c.less-in-Ugt.result _ _ (λ l made. MakesWord-test _ _ _ _ _ _ l (omega arith) made (λ v. rw c.in-Ugt.is refl)) c.less-in-Ugt.ensures.ok
+    IfOk-weaker c.less-in-Ugt.result _ _ (λ l makes. MakesWord-test _ _ _ _ _ _ l (omega arith) makes (λ v. rw c.in-Ugt.is refl)) c.less-in-Ugt.ensures.ok
 
 pub returns-in-Slt-clause-ok : goal.returns-in-Slt-clause-ok
 returns-in-Slt-clause-ok g c =
-    IfOk-weaker c.signed_less.result _ _ (λ l made. MakesWord-test _ _ _ _ _ _ l (omega arith) made (λ v. rw c.in-Slt.is refl)) c.signed_less.ensures.ok
+    IfOk-weaker c.signed_less.result _ _ (λ l makes. MakesWord-test _ _ _ _ _ _ l (omega arith) makes (λ v. rw c.in-Slt.is refl)) c.signed_less.ensures.ok
 
 pub returns-in-Sgt-clause-ok : goal.returns-in-Sgt-clause-ok
 returns-in-Sgt-clause-ok g c =
-    IfOk-weaker c.signed_less-in-Sgt.result _ _ (λ l made. MakesWord-test _ _ _ _ _ _ l (omega arith) made (λ v. rw (c.in-Sgt.is, c.requires.equal) refl)) c.signed_less-in-Sgt.ensures.ok
+    IfOk-weaker c.signed_less-in-Sgt.result _ _ (λ l makes. MakesWord-test _ _ _ _ _ _ l (omega arith) makes (λ v. rw (c.in-Sgt.is, c.requires.operands.equal) refl)) c.signed_less-in-Sgt.ensures.ok
 
 pub returns-in_ok-less-in-Ulte-clause-ok : goal.returns-in_ok-less-in-Ulte-clause-ok
 returns-in_ok-less-in-Ulte-clause-ok g c =
@@ -32,7 +32,7 @@ returns-in_ok-less-in-Ugte-clause-ok g c =
 
 pub returns-in_ok-signed_less-in-Slte-clause-ok : goal.returns-in_ok-signed_less-in-Slte-clause-ok
 returns-in_ok-signed_less-in-Slte-clause-ok g c =
-    MakesWord-test_not _ _ _ _ _ _ c.in_ok-signed_less-in-Slte.field-0 c.not-in-Slte.result c.not-in-Slte.ensures (omega arith) c.in_ok-signed_less-in-Slte.ensures.ok (λ v. rw (c.in-Slte.is, c.requires.equal) (ap bit_number (not_less_signed (signed (length c.args.a.now.items) (word_value v c.args.b.now.items)) (signed (length c.args.a.now.items) (word_value v c.args.a.now.items)))))
+    MakesWord-test_not _ _ _ _ _ _ c.in_ok-signed_less-in-Slte.field-0 c.not-in-Slte.result c.not-in-Slte.ensures (omega arith) c.in_ok-signed_less-in-Slte.ensures.ok (λ v. rw (c.in-Slte.is, c.requires.operands.equal) (ap bit_number (not_less_signed (signed (length c.args.a.now.items) (word_value v c.args.b.now.items)) (signed (length c.args.a.now.items) (word_value v c.args.a.now.items)))))
 
 pub returns-in_ok-signed_less-in-Sgte-clause-ok : goal.returns-in_ok-signed_less-in-Sgte-clause-ok
 returns-in_ok-signed_less-in-Sgte-clause-ok g c =

@@ -1,18 +1,18 @@
 use Rattle.std.proofs.Common.{take, length-take, arith}
 use Rattle.gates.proofs.SumLemmas.{literal_at, front_with}
-use Rattle.gates.proofs.MadeLemmas.{IsDefined-later}
+use Rattle.gates.proofs.GrowthLemmas.{IsDefined-grown}
 use Rattle.gates.proofs.OrderLemmas.{MakesLiteral-not_less, MakesLiteral-less_step}
 use Rattle.gates.proofs.comparisons.less.Goals as goal
 
 pub less_column-requires-clause-left : goal.less_column-requires-clause-left
 less_column-requires-clause-left g c =
     let old = literal_at (g.G.Gates.made c.args.g.now) c.args.a.now.items c.deref.result.now c.loop-i.i c.index-deref-i.result c.deref.ensures.0 (omega arith) c.index-deref-i.is c.requires.left in
-    IsDefined-later _ _ _ c.loop-i.invariant.grows c.index-deref-i.result old
+    IsDefined-grown _ _ _ c.loop-i.invariant.grows c.index-deref-i.result old
 
 pub less_column-requires-clause-right : goal.less_column-requires-clause-right
 less_column-requires-clause-right g c =
     let old = literal_at (g.G.Gates.made c.args.g.now) c.args.b.now.items c.deref-in-loop-i.result.now c.loop-i.i c.index-deref-i-in-loop-i.result c.deref-in-loop-i.ensures.0 (omega arith) c.index-deref-i-in-loop-i.is c.requires.right in
-    IsDefined-later _ _ _ c.loop-i.invariant.grows c.index-deref-i-in-loop-i.result old
+    IsDefined-grown _ _ _ c.loop-i.invariant.grows c.index-deref-i-in-loop-i.result old
 
 pub loop-i-init : goal.loop-i-init
 loop-i-init g c = MakesLiteral-not_less _

@@ -2,7 +2,7 @@ use Rattle.std.proofs.Common.{[], ◌∷◌, ◌==◌, arith, refl}
 use Rattle.std.proofs.lemmas.List.Elements.{All-from_recursion}
 use Rattle.aiger.specs.Net.{IsDefined}
 use Rattle.gates.specs.Worked.{no_gate}
-use Rattle.gates.proofs.MadeLemmas.{MakesWord-not}
+use Rattle.gates.proofs.GrowthLemmas.{MakesWord-not}
 use Rattle.gates.proofs.laws.worked_nets.Goals as goal
 
 pub returns-clause-is_no_and : goal.returns-clause-is_no_and

@@ -5,13 +5,13 @@ use Rattle.gates.proofs.LiteralLemmas.{MakesLiteral-and, MakesLiteral-not, Makes
 use Rattle.gates.proofs.literals.disjunction.Goals as goal
 
 -- not both of the opposites
-turned : (x y : Bool) → not (not x && not y) ≡ (x || y)
-turned true true = refl
-turned true false = refl
-turned false true = refl
-turned false false = refl
+not_neither : (x y : Bool) → not (not x && not y) ≡ (x || y)
+not_neither true true = refl
+not_neither true false = refl
+not_neither false true = refl
+not_neither false false = refl
 
 pub returns-clause-ok : goal.returns-clause-ok
 returns-clause-ok g c =
     let both = MakesLiteral-not _ _ _ _ _ (MakesLiteral-and _ _ _ _ c.in_ok-neither.neither c.in_ok-neither.ensures.ok) in
-    rw c.not-3.ensures (MakesLiteral-same _ _ 1 1 _ _ _ (omega arith) (λ v. rw (c.not.ensures, c.not-2.ensures, literal_value-negation v c.args.a, literal_value-negation v c.args.b) (turned (literal_value v c.args.a) (literal_value v c.args.b))) both)
+    rw c.not-3.ensures (MakesLiteral-same _ _ 1 1 _ _ _ (omega arith) (λ v. rw (c.not.ensures, c.not-2.ensures, literal_value-negation v c.args.a, literal_value-negation v c.args.b) (not_neither (literal_value v c.args.a) (literal_value v c.args.b))) both)

@@ -7,11 +7,11 @@ use Rattle.gates.proofs.LiteralLemmas.{MakesLiteral-and, MakesLiteral-join, Make
 use Rattle.gates.proofs.literals.xor.Goals as goal
 
 -- neither both nor neither
-either : (x y : Bool) → (not (x && y) && not (not x && not y)) ≡ differ x y
-either true true = refl
-either true false = refl
-either false true = refl
-either false false = refl
+just_one : (x y : Bool) → (not (x && y) && not (not x && not y)) ≡ differ x y
+just_one true true = refl
+just_one true false = refl
+just_one false true = refl
+just_one false false = refl
 
 pub returns-clause-ok : goal.returns-clause-ok
 returns-clause-ok g c =
@@ -23,5 +23,5 @@ returns-clause-ok g c =
     let second = MakesLiteral-same _ _ 1 1 c.in_ok-neither.neither _ (λ v. not (literal_value v a) && not (literal_value v b)) (omega arith) (λ v. rw (c.not.ensures, c.not-2.ensures, literal_value-negation v a, literal_value-negation v b) refl) (MakesLiteral-and _ _ _ _ _ c.in_ok-neither.ensures.ok) in
     let third = MakesLiteral-same _ _ 1 1 l _ (λ v. not (literal_value v c.in_ok-both.both) && not (literal_value v c.in_ok-neither.neither)) (omega arith) (λ v. rw (c.not-3.ensures, c.not-4.ensures, literal_value-negation v c.in_ok-both.both, literal_value-negation v c.in_ok-neither.neither) refl) (MakesLiteral-and _ _ _ _ l m) in
     let joined = MakesLiteral-join _ _ _ _ 1 1 1 _ _ l _ _ (λ x y. not x && not y) first second third in
-    MakesLiteral-same _ _ 3 3 l _ (λ v. differ (literal_value v a) (literal_value v b)) (omega arith) (λ v. either (literal_value v a) (literal_value v b)) joined)
+    MakesLiteral-same _ _ 3 3 l _ (λ v. differ (literal_value v a) (literal_value v b)) (omega arith) (λ v. just_one (literal_value v a) (literal_value v b)) joined)
     c.conjunction-3.ensures.ok

@@ -1,7 +1,7 @@
 use Rattle.std.proofs.Common.{◌&&◌, arith}
 use Rattle.aiger.specs.Literal.{literal_value}
 use Rattle.gates.proofs.LiteralLemmas.{MakesLiteral-and}
-use Rattle.gates.proofs.RowLemmas.{IsRow-push}
+use Rattle.gates.proofs.BitListLemmas.{IsRow-push}
 use Rattle.gates.proofs.ProductLemmas.{MakesWord-masked}
 use Rattle.gates.proofs.multiplication.masked.Goals as goal
 

@@ -1,6 +1,6 @@
 use Rattle.std.proofs.Common.{◌&&◌}
 use Rattle.aiger.specs.Literal.{literal_value}
-use Rattle.gates.proofs.RowLemmas.{IsRow}
+use Rattle.gates.proofs.BitListLemmas.{IsRow}
 use Rattle.gates.proofs.multiplication.masked.Given as goal
 
 abbrev pub invariant-loop-i : goal.invariant-loop-i

@@ -2,7 +2,7 @@ use Rattle.std.proofs.Common.{◌+◌, ◌<◌, inl, inr, refl}
 use Rattle.aiger.specs.Limits.{greatest_count}
 use Rattle.aiger.specs.Net.{variables}
 use Rattle.aiger.specs.Circuit.{net}
-use Rattle.gates.proofs.MadeLemmas.{gate_too_big}
+use Rattle.gates.proofs.GrowthLemmas.{gate_too_big}
 use Rattle.gates.proofs.plain.push.Goals as goal
 
 pub returns-in-Err-TooBig-clause-too_big : goal.returns-in-Err-TooBig-clause-too_big

@@ -5,7 +5,7 @@ use Rattle.base.specs.Operator.{binary_value}
 use Rattle.aiger.specs.Literal.{literal_value}
 use Rattle.gates.specs.Made.{MakesWord, word_value}
 use Rattle.gates.proofs.MoveLemmas.{moved_more}
-use Rattle.gates.proofs.RowLemmas.{MakesWord-same, MakesWord-weaker, MakesWord-of_word, word_value-below, word_value-more}
+use Rattle.gates.proofs.BitListLemmas.{MakesWord-same, MakesWord-weaker, MakesWord-of_word, word_value-below, word_value-more}
 use Rattle.gates.proofs.shifts.moved_in_turn.Goals as goal
 
 -- each power of two of a near amount is below the width

@@ -9,9 +9,9 @@ use Rattle.aiger.specs.Literal.{literal_value}
 use Rattle.gates.specs.Bound.{log_up, binary_bound}
 use Rattle.gates.specs.Made.{MakesWord, MakesLiteral, word_value}
 use Rattle.gates.specs.Moves.{is_shift}
-use Rattle.gates.proofs.RowLemmas.{MakesWord-same, MakesWord-weaker, MakesWord-choice}
+use Rattle.gates.proofs.BitListLemmas.{MakesWord-same, MakesWord-weaker, MakesWord-choice}
 use Rattle.gates.proofs.LiteralLemmas.{Refuses-behind}
-use Rattle.gates.proofs.MadeLemmas.{Grows-trans}
+use Rattle.gates.proofs.GrowthLemmas.{Grows-trans}
 use Rattle.gates.proofs.WindowLemmas.{IsFill, IsFill-false, shifted, word_value-replicate}
 use Rattle.gates.proofs.shifts.shift.Goals as goal
 use Rattle.gates.proofs.shifts.shift.Goals.{in-Sra, in_default}
@@ -48,7 +48,7 @@ returns-clause-ok g c =
       | in-Sra w ↦ subst (λ o. IsFill o a fill) (sym w.in-Sra.is) (rw w.fill-is (rw (← c.len-width.ensures.value, ← w.deref.ensures.0) w.index-deref-width.is))
       | in_default w ↦ IsFill-false op a fill c.requires.shifts w.in_default.not-Sra w.fill-is
     ] in
-    let rest : length c.split_at.result.1.now + places ≡ n = ap (λ k. length c.split_at.result.1.now + k) (sym count) ∙ c.split_at.ensures.back_len ∙ ap length c.as_slice.ensures.value ∙ c.requires.equal in
+    let rest : length c.split_at.result.1.now + places ≡ n = ap (λ k. length c.split_at.result.1.now + k) (sym count) ∙ c.split_at.ensures.back_len ∙ ap length c.as_slice.ensures.value ∙ c.requires.operands.equal in
     let word : MakesWord old first (3 * (n * places)) n (λ v. binary_value op n (word_value v a) (word_value v (take places b))) near = rw (← low, ← low_count) c.in_ok-near.ensures.ok in
     let test : MakesLiteral first second (length c.split_at.result.1.now) (λ v. not (word_value v (drop places b) == 0)) is_far = rw (← high) c.in_ok-is_far.ensures.ok in
     let filling : c.repeated.result.items ≡ replicate n fill = c.repeated.ensures ∙ ap (λ k. replicate k fill) c.len-width.ensures.value in
@@ -63,7 +63,7 @@ returns-clause-ok g c =
     in
     let whole = MakesWord-choice old first second new (3 * (n * places)) (length c.split_at.result.1.now) (3 * n) n is_far (λ v. binary_value op n (word_value v a) (word_value v (take places b))) (λ v. if literal_value v fill then ones n else 0) (λ v. not (word_value v (drop places b) == 0)) near row.items word test fills in
     rw (shift_bound op n c.requires.shifts) (MakesWord-weaker old new (3 * (n * places) + length c.split_at.result.1.now + 3 * n) (3 * (n * places) + 4 * n) n _ row.items (omega arith)
-    (MakesWord-same old new _ n _ (λ v. binary_value op n (word_value v a) (word_value v b)) row.items (λ v. shifted op v a b n fill places c.requires.shifts c.requires.some refl is_fill (omega arith) (log_up_enough n c.requires.most)) whole)))
+    (MakesWord-same old new _ n _ (λ v. binary_value op n (word_value v a) (word_value v b)) row.items (λ v. shifted op v a b n fill places c.requires.shifts c.requires.operands.some refl is_fill (omega arith) (log_up_enough n c.requires.operands.most)) whole)))
     c.choose.ensures.ok
 
 pub returns-clause-refused : goal.returns-clause-refused
@@ -76,7 +76,7 @@ returns-clause-refused g c =
     let n = length c.args.a.now.items in
     let count : c.log_up.result ≡ log_up n = c.log_up.ensures.value ∙ ap log_up c.len-width.ensures.value in
     let low_count : length c.split_at.result.0.now ≡ log_up n = c.split_at.ensures.front_len ∙ count in
-    let rest : length c.split_at.result.1.now + log_up n ≡ n = ap (λ k. length c.split_at.result.1.now + k) (sym count) ∙ c.split_at.ensures.back_len ∙ ap length c.as_slice.ensures.value ∙ c.requires.equal in
+    let rest : length c.split_at.result.1.now + log_up n ≡ n = ap (λ k. length c.split_at.result.1.now + k) (sym count) ∙ c.split_at.ensures.back_len ∙ ap length c.as_slice.ensures.value ∙ c.requires.operands.equal in
     let filled_count : length c.repeated.result.items ≡ n = ap length c.repeated.ensures ∙ length-replicate c.len-width.result c.match-op.fill ∙ c.len-width.ensures.value in
     let stages : 3 * (n * length c.split_at.result.0.now) ≡ 3 * (n * log_up n) = ap (λ k. 3 * (n * k)) low_count in
     let before = Grows-trans old first second (3 * (n * length c.split_at.result.0.now)) (length c.split_at.result.1.now) c.in_ok-near.ensures.ok.grows c.in_ok-is_far.ensures.ok.grows in

@@ -1,5 +1,5 @@
 use Rattle.std.proofs.lemmas.Result.{IfOk-weaker}
-use Rattle.gates.proofs.MadeLemmas.{MakesAnd-push}
+use Rattle.gates.proofs.GrowthLemmas.{MakesAnd-push}
 use Rattle.gates.proofs.plain.PlainGatesGates.and.Goals as goal
 
 pub returns-clause-ok : goal.returns-clause-ok

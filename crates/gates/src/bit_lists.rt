@@ -1,4 +1,4 @@
-//! Rows of literals that take no gate.
+//! Lists of literals that take no gate: negated, of one literal, of one literal many times.
 ghost use Rattle.std.specs.Prelude.{◌≡◌, ◌≤◌, [], ◌∷◌, length, map, replicate};
 ghost use Rattle.aiger.specs.Literal.{negation};
 

@@ -1,6 +1,6 @@
 use Rattle.std.proofs.Common.{◌≡◌, map, take}
 use Rattle.aiger.specs.Literal.{negation}
-use Rattle.gates.proofs.rows.negation.Given as goal
+use Rattle.gates.proofs.bit_lists.negation.Given as goal
 
 abbrev pub invariant-loop-lit : goal.invariant-loop-lit
 invariant-loop-lit l = l.bits.items ≡ map negation (take l.lit-index l.lit-items)

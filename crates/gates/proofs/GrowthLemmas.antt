@@ -40,23 +40,23 @@ Satisfies-earlier old new most g v s =
     (SatisfiesFrom-split (suc (old.inputs + old.latches)) old.gates g.gates.0 v at_old).0
 
 -- variables are only added
-pub variables-later : (old new : Net) (most : ℕ) → Grows old new most → (variables old ≤ variables new) × (variables new ≤ variables old + most)
-variables-later old new most g =
+pub variables-grown : (old new : Net) (most : ℕ) → Grows old new most → (variables old ≤ variables new) × (variables new ≤ variables old + most)
+variables-grown old new most g =
     let longer = ap length g.gates.1 in
     let sum = length-append old.gates g.gates.0 in
     let i = g.inputs in
     let l = g.latches in
     (omega arith, omega arith)
 
-pub IsDefined-later : (old new : Net) (most : ℕ) → Grows old new most → (l : ℕ) → IsDefined old l → IsDefined new l
-IsDefined-later old new most g l d = let more = variables-later old new most g in omega arith
+pub IsDefined-grown : (old new : Net) (most : ℕ) → Grows old new most → (l : ℕ) → IsDefined old l → IsDefined new l
+IsDefined-grown old new most g l d = let more = variables-grown old new most g in omega arith
 
-pub All-defined-later : (old new : Net) (most : ℕ) → Grows old new most → (ls : List ℕ) → All (IsDefined old) ls → All (IsDefined new) ls
-All-defined-later old new most g ls all = All-weaker (IsDefined old) (IsDefined new) (IsDefined-later old new most g) ls all
+pub All-defined-grown : (old new : Net) (most : ℕ) → Grows old new most → (ls : List ℕ) → All (IsDefined old) ls → All (IsDefined new) ls
+All-defined-grown old new most g ls all = All-weaker (IsDefined old) (IsDefined new) (IsDefined-grown old new most g) ls all
 
 -- a gate with the operands in order is the and of both
 pub MakesAnd-push : (c : Circuit) (a b high low l : ℕ) → AreSame a b high low → l ≡ 2 * (variables (net c) + 1) → MakesAnd (net c) (net (with_gate c high low)) a b l
-MakesAnd-push c a b high low l either is =
+MakesAnd-push c a b high low l same is =
     record {
       grows = record { inputs = refl; latches = refl; gates = (record { rhs0 = high; rhs1 = low } ∷ [], refl, omega arith) };
       defined = omega (arith, length-append c.gates (record { rhs0 = high; rhs1 = low } ∷ []));
@@ -65,7 +65,7 @@ MakesAnd-push c a b high low l either is =
           let here : suc (c.inputs + length c.latches) + length c.gates ≡ variables (net c) + 1 = omega arith in
           let gate : v (variables (net c) + 1) ≡ (literal_value v high && literal_value v low) = rw here at own in
           let value : literal_value v l ≡ v (variables (net c) + 1) = rw is (literal_value-even v (variables (net c) + 1) (omega arith)) in
-          value ∙ gate ∙ in_order v either;
+          value ∙ gate ∙ in_order v same;
     }
   where
     swapped : (x y : Bool) → (x && y) ≡ (y && x)

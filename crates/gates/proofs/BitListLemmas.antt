@@ -1,4 +1,4 @@
--- Rows of literals that are made one after the other, place by place.
+-- Words whose literals are made one after the other, place by place.
 use Rattle.std.proofs.Common.{◌≡◌, ℕ, ◌+◌, ◌*◌, ◌^◌, ◌<◌, ◌≤◌, Bool, if◌then◌else◌, List, [], ◌∷◌, ◌++◌, length, map, take, get_or, All, refl, sym, ap, ap₂, ◌∙◌, subst, arith, length-take}
 use Rattle.std.proofs.lemmas.List.{length-map, length_push, take_all, take_more, map-append}
 use Rattle.std.proofs.lemmas.List.Elements.{All-nil, All-cons, All-push}
@@ -8,7 +8,7 @@ use Rattle.aiger.specs.Literal.{Valuation, literal_value}
 use Rattle.aiger.specs.Net.{Net, IsDefined, Satisfies}
 use Rattle.base.proofs.BitLemmas.{word_below}
 use Rattle.gates.specs.Made.{Grows, MakesLiteral, MakesWord, word_value}
-use Rattle.gates.proofs.MadeLemmas.{Grows-weaker, Grows-trans, Satisfies-earlier, All-defined-later}
+use Rattle.gates.proofs.GrowthLemmas.{Grows-weaker, Grows-trans, Satisfies-earlier, All-defined-grown}
 use Rattle.gates.proofs.WordLemmas.{zip_with, zip_with-push, word-push}
 
 -- a row of literals for the first places of two lists, each made with at most so many gates and with one meaning
@@ -29,14 +29,14 @@ zip_with-more h f a b i x y in_a in_b x_is y_is =
 -- one literal more
 pub IsRow-push : (old mid new : Net) (cost i : ℕ) (f : Valuation → Bool → Bool → Bool) (a b bits : List ℕ) (x y l : ℕ) → i < length a → i < length b → x ≡ get_or a i x → y ≡ get_or b i y
     → IsRow old mid cost i f a b bits → MakesLiteral mid new cost (λ v. f v (literal_value v x) (literal_value v y)) l → IsRow old new cost (i + 1) f a b (bits ++ l ∷ [])
-IsRow-push old mid new cost i f a b bits x y l in_a in_b x_is y_is row made =
+IsRow-push old mid new cost i f a b bits x y l in_a in_b x_is y_is row makes =
     record {
-      grows = Grows-weaker old new (cost * i + cost) (cost * (i + 1)) (omega arith) (Grows-trans old mid new (cost * i) cost row.grows made.grows);
+      grows = Grows-weaker old new (cost * i + cost) (cost * (i + 1)) (omega arith) (Grows-trans old mid new (cost * i) cost row.grows makes.grows);
       wide = (let w = row.wide in let e = length_push bits l in omega arith);
-      defined = All-push (IsDefined new) bits l (All-defined-later mid new cost made.grows bits row.defined) made.defined;
+      defined = All-push (IsDefined new) bits l (All-defined-grown mid new cost makes.grows bits row.defined) makes.defined;
       means = λ v s.
-          let before = row.means v (Satisfies-earlier mid new cost made.grows v s) in
-          map-append (literal_value v) bits (l ∷ []) ∙ rw (before, made.means v s) (sym (zip_with-more (literal_value v) (f v) a b i x y in_a in_b x_is y_is));
+          let before = row.means v (Satisfies-earlier mid new cost makes.grows v s) in
+          map-append (literal_value v) bits (l ∷ []) ∙ rw (before, makes.means v s) (sym (zip_with-more (literal_value v) (f v) a b i x y in_a in_b x_is y_is));
     }
 
 -- a row for all places makes a word
