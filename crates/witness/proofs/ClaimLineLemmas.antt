@@ -14,10 +14,6 @@ abbrev pub behind : List Claim → Option (List Claim) → Option (List Claim)
 behind list None = None
 behind list (Some more) = Some (list ++ more)
 
-pub behind-nil : (more : Option (List Claim)) → more ≡ behind [] more
-behind-nil None = refl
-behind-nil (Some list) = refl
-
 behind-one : (list : List Claim) (c : Claim) (more : Option (List Claim)) → behind list (with_claim (Some c) more) ≡ behind (list ++ c ∷ []) more
 behind-one list c None = refl
 behind-one list c (Some more) = ap (λ (l : List Claim). Some l) (sym (append_assoc list (c ∷ []) more))
@@ -45,8 +41,8 @@ module _ (list : List Claim) (rest : List ℕ) (total : Option (List Claim)) (so
     none_last e = last ∙ ap (λ (o : Option Claim). behind list (with_claim o (Some []))) e
 
 -- a number that is not among others, behind them
-turned : (x y : ℕ) → (x == y) ≡ false → (y == x) ≡ false
-turned x y h = false_from_ne_true (y == x) (λ e. eqb-false x y h (sym (eqb-true y x e)))
+differs-swapped : (x y : ℕ) → (x == y) ≡ false → (y == x) ≡ false
+differs-swapped x y h = false_from_ne_true (y == x) (λ e. eqb-false x y h (sym (eqb-true y x e)))
 
 pub distinct-more : (xs : List ℕ) (x : ℕ) → are_distinct xs ≡ true → list_any (λ y. y == x) xs ≡ false → are_distinct (xs ++ x ∷ []) ≡ true
 distinct-more [] x h none = refl
@@ -54,7 +50,7 @@ distinct-more (y ∷ ys) x h none =
     let parts = and_parts (not (list_any (λ z. z == y) ys)) (are_distinct ys) h in
     let others = or_parts (y == x) (list_any (λ z. z == x) ys) none in
     let fresh : list_any (λ z. z == y) ys ≡ false = not-true _ parts.0 in
-    let all : list_any (λ z. z == y) (ys ++ x ∷ []) ≡ false = list_any-append (λ z. z == y) ys (x ∷ []) ∙ or_from _ _ fresh (or_from _ _ (turned y x others.0) refl) in
+    let all : list_any (λ z. z == y) (ys ++ x ∷ []) ≡ false = list_any-append (λ z. z == y) ys (x ∷ []) ∙ or_from _ _ fresh (or_from _ _ (differs-swapped y x others.0) refl) in
     rw all (distinct-more ys x parts.1 others.1)
 
 and-false : (b : Bool) → (b && false) ≡ false
@@ -89,7 +85,7 @@ or_one : (old : Bool) (x k : ℕ) → cond (k == x) true old ≡ (old || ((x == 
 or_one old x k =
     elim (cases_Bool (k == x)) [
       | inl e ↦ rw (e, eq-eqb x k (sym (eqb-true k x e))) (sym (or_right old true refl))
-      | inr e ↦ rw (e, turned k x e) (sym (or-false old))
+      | inr e ↦ rw (e, differs-swapped k x e) (sym (or-false old))
     ]
   where
     or-false : (b : Bool) → (b || false) ≡ b

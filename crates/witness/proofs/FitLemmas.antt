@@ -23,8 +23,8 @@ few_of : (kind : Body → Bool) (items : List Item) → length (of_kind kind ite
 few_of kind items = omega (arith, length-filter (λ (x : Item). kind x.body) items, count_by-le-length (λ (x : Item). kind x.body) items)
 
 -- a model's shape is small
-small : (items : List Item) → IsWellFormed items → IsSmall (shape_of items)
-small items w =
+pub shape_is_small : (items : List Item) → IsWellFormed items → IsSmall (shape_of items)
+shape_is_small items w =
     record {
       bads = omega (arith, few_of is_bad items, few_items items w);
       states = omega (arith, few_of is_state items, few_items items w, length-map (of_kind is_state items) (λ (x : Item). bits_of items x.id));
@@ -75,4 +75,4 @@ words_fit items w h =
 
 -- what a text reads as over a model fits it
 pub read_fits : (items : List Item) (text : List ℕ) (r : Read) (w : Words) → IsWellFormed items → read_text (shape_of items) text ≡ Ok r → w ≡ words_of (witness_of r) → WordsFit items w
-read_fits items text r w well_formed read is = rw is (words_fit items (witness_of r) (read_says (shape_of items) text r (small items well_formed) read).valid)
+read_fits items text r w well_formed read is = rw is (words_fit items (witness_of r) (read_says (shape_of items) text r (shape_is_small items well_formed) read).valid)

@@ -124,9 +124,6 @@ pub record Stands (items : List Item) (inputs : List Frame) (none : List Bool) (
   pub violation : option_or found (violation_from items k rest) ≡ violation_from items 0 fs
   pub rises : (after : List Bool) → RisesAmong (nodes_of is_bad items) rest rose after → RisesAmong (nodes_of is_bad items) fs none after
 
-pub Stands-begin : (items : List Item) (inputs : List Frame) (none : List Bool) (fs : List Frame) (state : Frame) → IsTrace items state inputs fs → Stands items inputs none fs 0 state None none
-Stands-begin items inputs none fs state h = record { rest = fs; is_trace = h; violation = refl; rises = λ after r. r }
-
 or_cases : (b c d : Bool) → ((b || c) || not d) ≡ (b || not (not c && d))
 or_cases true c d = refl
 or_cases false true d = refl

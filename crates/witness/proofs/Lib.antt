@@ -1,3 +1,4 @@
+-- The lemmas of this crate.
 pub mod ShapeLemmas
 pub mod WorkedLemmas
 pub mod PieceLemmas
@@ -15,3 +16,4 @@ pub mod GivenLemmas
 pub mod FrameLemmas
 pub mod VerdictLemmas
 pub mod FitLemmas
+pub mod OneJudgement

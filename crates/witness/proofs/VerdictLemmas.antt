@@ -71,9 +71,9 @@ pub first_here : {A : Type 0} (test : A → Bool) (list : List A) (i : ℕ) (d :
 first_here test list i d whole h is e =
     sym (first_step test list i d h ∙ ap (λ (b : Bool). cond b (Some i) (position_from test (i + 1) (drop (i + 1) list))) is) ∙ e
 
-pub first_later : {A : Type 0} (test : A → Bool) (list : List A) (i : ℕ) (d : A) (whole : Option ℕ) → i < length list → test (get_or list i d) ≡ false → position_from test i (drop i list) ≡ whole
+pub first_behind : {A : Type 0} (test : A → Bool) (list : List A) (i : ℕ) (d : A) (whole : Option ℕ) → i < length list → test (get_or list i d) ≡ false → position_from test i (drop i list) ≡ whole
     → position_from test (i + 1) (drop (i + 1) list) ≡ whole
-first_later test list i d whole h is e =
+first_behind test list i d whole h is e =
     sym (first_step test list i d h ∙ ap (λ (b : Bool). cond b (Some i) (position_from test (i + 1) (drop (i + 1) list))) is) ∙ e
 
 -- the test of a constraint
@@ -203,14 +203,14 @@ module _ (claims : List ℕ) (nodes : List ℕ) (fs : List Frame) (none rose : L
       sym (ap (λ (b : Bool). cond (b && not (is_set rose i)) (Some i) (unreached_from claims fs (i + 1) (drop (i + 1) nodes))) claimed
       ∙ ap (λ (b : Bool). cond (not b) (Some i) (unreached_from claims fs (i + 1) (drop (i + 1) nodes))) none_set) ∙ unreached_step
 
-  later : (list_any (λ c. nat_eq c i) claims && not (is_set rose i)) ≡ false → unreached_from claims fs (i + 1) (drop (i + 1) nodes) ≡ whole
-  later off = sym (ap (λ (b : Bool). cond b (Some i) (unreached_from claims fs (i + 1) (drop (i + 1) nodes))) off) ∙ unreached_step
+  unreached_behind : (list_any (λ c. nat_eq c i) claims && not (is_set rose i)) ≡ false → unreached_from claims fs (i + 1) (drop (i + 1) nodes) ≡ whole
+  unreached_behind off = sym (ap (λ (b : Bool). cond b (Some i) (unreached_from claims fs (i + 1) (drop (i + 1) nodes))) off) ∙ unreached_step
 
   pub unreached_unclaimed : list_any (λ c. nat_eq c i) claims ≡ false → unreached_from claims fs (i + 1) (drop (i + 1) nodes) ≡ whole
-  unreached_unclaimed off = later (ap (λ (b : Bool). b && not (is_set rose i)) off)
+  unreached_unclaimed off = unreached_behind (ap (λ (b : Bool). b && not (is_set rose i)) off)
 
   pub unreached_risen : is_set rose i ≡ true → unreached_from claims fs (i + 1) (drop (i + 1) nodes) ≡ whole
-  unreached_risen on = later (and_false (list_any (λ c. nat_eq c i) claims) (not (is_set rose i)) (ap not on))
+  unreached_risen on = unreached_behind (and_false (list_any (λ c. nat_eq c i) claims) (not (is_set rose i)) (ap not on))
 
 pub unreached_end : (claims nodes : List ℕ) (fs : List Frame) (i : ℕ) (whole : Option ℕ) → length nodes ≤ i → unreached_from claims fs i (drop i nodes) ≡ whole → None ≡ whole
 unreached_end claims nodes fs i whole h e = sym (ap (unreached_from claims fs i) (drop_all i nodes h)) ∙ e

@@ -1,3 +1,4 @@
+-- The definitions of texts of witnesses and of their judgement.
 pub mod Numbers
 pub mod Texts
 pub mod Admits

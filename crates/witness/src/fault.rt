@@ -1,5 +1,6 @@
+//! Why a text gives no words, or is not judged.
 ghost use Rattle.std.specs.Prelude.{◌≡◌};
-ghost use Rattle.witness.specs.Answers.{judge_number};
+ghost use Rattle.witness.specs.Answers.{judge_number, judge_name};
 
 use crate::why::Why;
 use thiserror::Error;
@@ -28,13 +29,13 @@ pub enum WitnessFault {
 #[derive(Clone, Copy, Debug, PartialEq, Eq, Error)]
 pub enum JudgeFault {
     /// The source failed.
-    #[error("100 Device")]
+    #[error("{number} {name}", number = self.number(), name = self.name())]
     Device,
     /// A growth was refused.
-    #[error("101 NoMemory")]
+    #[error("{number} {name}", number = self.number(), name = self.name())]
     NoMemory,
     /// The first state in file order without a next; it has the id of the state's line. Nothing was read then.
-    #[error("item {0}: 70 NoNext")]
+    #[error("item {0}: {number} {name}", number = self.number(), name = self.name())]
     NoNext(u64),
 }
 
@@ -47,6 +48,17 @@ impl JudgeFault {
             JudgeFault::Device => 100,
             JudgeFault::NoMemory => 101,
             JudgeFault::NoNext(_) => 70,
+        }
+    }
+
+    /// The name that is printed for the fault.
+    pub fn name(self) -> &'static str
+        ensures { result.now ≡ judge_name self }
+    {
+        match self {
+            JudgeFault::Device => "Device",
+            JudgeFault::NoMemory => "NoMemory",
+            JudgeFault::NoNext(_) => "NoNext",
         }
     }
 }

@@ -1,3 +1,4 @@
+//! A set of indices, as a flag for each.
 ghost use Rattle.std.specs.Prelude.{◌≡◌, ℕ, ◌<◌, ◌==◌, true, false, OnOk, if◌then◌else◌, length};
 ghost use Rattle.witness.specs.Reading.{is_set};
 

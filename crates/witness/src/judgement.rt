@@ -1,3 +1,4 @@
+//! What is said of a text over a model, and the line that is printed for it.
 use crate::why::Why;
 use std::fmt;
 

@@ -1,11 +1,10 @@
-ghost use Rattle.std.specs.Prelude.{◌≡◌, ◌≤◌, IfErr, IfOk, IfSome, MatchResult, OnOk, length, None};
+//! Judging whole texts over a model.
+ghost use Rattle.std.specs.Prelude.{◌≡◌, IfErr, IfOk, IfSome, MatchResult, OnOk, length, None};
 ghost use Rattle.std.specs.Io.KnownBytes.{IsAtEnd};
-ghost use Rattle.base.specs.Device.{HasRisen};
-ghost use Rattle.btor2.specs.Items.{is_bad};
-ghost use Rattle.btor2.specs.Lists.{places};
+ghost use Rattle.btor2.specs.Check.{IsWellFormed};
 ghost use Rattle.btor2.specs.Lists.{first_without_next};
 ghost use Rattle.runs.specs.Run.{start};
-ghost use Rattle.witness.specs.Answers.{AnswersJudge, NamesState};
+ghost use Rattle.witness.specs.Answers.{AnswersJudge, CountsJudge, NamesState};
 ghost use Rattle.witness.specs.Fits.{WordsFit, NoneIsSet};
 ghost use Rattle.witness.specs.Judgements.{Judges, JudgesWords};
 
@@ -83,7 +82,7 @@ fn judge_text(
 /// Reads a source to its end and judges its text as a witness over a model. The whole text is held, and what it says.
 ///
 /// Errors: `NoNext` with the first state in file order that has no next, and then nothing was read; else `Device`
-/// where the source failed in this call, and `NoMemory` where a growth was refused.
+/// where the source failed in this call, once, and `NoMemory` where a growth was refused and the source did not fail.
 pub fn judge_words<S: Source>(
     alloc: Global,
     model: &Model,
@@ -95,9 +94,12 @@ pub fn judge_words<S: Source>(
     ensures answer { AnswersJudge result (first_without_next model.now model.now) }
     ensures unread { IfErr result (λ e. NamesState e → source.new ≡ source.old) }
     ensures end { OnOk result (IsAtEnd (S.to_come source.new)) }
-    ensures counted { S.failures source.old ≤ S.failures source.new }
-    ensures device { IfErr result (λ e. e ≡ JudgeFault.Device → HasRisen (S.failures source.old) (S.failures source.new)) }
+    // the source failed once where a device's fault is answered, and else not at all
+    ensures counted { CountsJudge result (S.failures source.old) (S.failures source.new) }
+    // the items of a model are one, whatever is answered
+    ensures well_formed { IsWellFormed model.now }
 {
+    let _items = model.items();
     let mut run = match WordRun::new(alloc, model) {
         Ok(run) => run,
         Err(NewFault::NoNext(id)) => return Err(JudgeFault::NoNext(id)),

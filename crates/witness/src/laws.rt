@@ -1,26 +1,36 @@
 //! Laws of witnesses, and worked rows, as functions with no code.
-ghost use Rattle.std.specs.Prelude.{◌≡◌, ℕ, ◌<◌, ◌^◌, List, [], ◌∷◌, ◌++◌, Ok, Err, codes, length, map};
+ghost use Rattle.std.specs.Prelude.{◌≡◌, ℕ, List, [], ◌∷◌, ◌++◌, Ok, Err, codes, map};
+ghost use Rattle.btor2.specs.declared.item.Item.{Item};
 ghost use Rattle.btor2.specs.Check.{IsWellFormed};
 ghost use Rattle.btor2.specs.Worked.{toggler};
 ghost use Rattle.witness.specs.declared.why.Why.TheVariants as why;
+ghost use Rattle.witness.specs.declared.judgement.Judgement.{Judgement};
 ghost use Rattle.witness.specs.declared.judgement.Judgement.TheVariants as judgement;
-ghost use Rattle.witness.specs.Texts.{Shape, shape_of, Witness, Says};
+ghost use Rattle.witness.specs.Texts.{shape_of, Witness, Says};
 ghost use Rattle.witness.specs.Admits.{Read, read_text, witness_of};
 ghost use Rattle.witness.specs.Judgements.{words_of, input_frames, Judges};
 ghost use Rattle.witness.specs.Worked.{constrained, wide, rises};
 
-/// A law: a text that says a witness is read as it, and a text that is read says what it is read as.
+/// A law: over a well-formed model, a text that says a witness is read as it, and a text that is read says what it is
+/// read as.
 pub fn texts_read()
-    ensures read { (shape : Shape) (text : List ℕ) (w : Witness) → shape.bads < 2 ^ 64 → length shape.states < 2 ^ 64 → length shape.inputs < 2 ^ 64
-        → Says shape text w → (r : Read) × ((read_text shape text ≡ Ok r) × (witness_of r ≡ w)) }
-    ensures said { (shape : Shape) (text : List ℕ) (r : Read) → shape.bads < 2 ^ 64 → length shape.states < 2 ^ 64 → length shape.inputs < 2 ^ 64
-        → read_text shape text ≡ Ok r → Says shape text (witness_of r) }
+    ensures read { (items : List Item) (text : List ℕ) (w : Witness) → IsWellFormed items → Says (shape_of items) text w
+        → (r : Read) × ((read_text (shape_of items) text ≡ Ok r) × (witness_of r ≡ w)) }
+    ensures said { (items : List Item) (text : List ℕ) (r : Read) → IsWellFormed items → read_text (shape_of items) text ≡ Ok r
+        → Says (shape_of items) text (witness_of r) }
 {}
 
-/// A law: a text says at most one witness.
+/// A law: over a well-formed model a text says at most one witness.
 pub fn one_reading()
-    ensures { (shape : Shape) (text : List ℕ) (w v : Witness) → shape.bads < 2 ^ 64 → length shape.states < 2 ^ 64 → length shape.inputs < 2 ^ 64
-        → Says shape text w → Says shape text v → w ≡ v }
+    ensures { (items : List Item) (text : List ℕ) (w v : Witness) → IsWellFormed items → Says (shape_of items) text w
+        → Says (shape_of items) text v → w ≡ v }
+{}
+
+/// A law: over a well-formed model a text has exactly one judgement.
+pub fn exactly_one_judgement()
+    ensures exists { (items : List Item) (text : List ℕ) → IsWellFormed items → (j : Judgement) × Judges items text j }
+    ensures unique { (items : List Item) (text : List ℕ) (j k : Judgement) → IsWellFormed items → Judges items text j
+        → Judges items text k → j ≡ k }
 {}
 
 /// Worked rows: the faults of texts over a model of one bit that toggles.

@@ -1,3 +1,4 @@
+//! The part of a witness that is being read.
 ghost use Rattle.std.specs.Prelude.{◌≡◌, ℕ, false, [], ◌∷◌, ◌++◌, ◌==◌, OnOk};
 ghost use Rattle.std.specs.List.{list_any};
 ghost use Rattle.witness.specs.Reading.{IsFlagged, is_set};

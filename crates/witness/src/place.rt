@@ -1,3 +1,4 @@
+//! Where a line stands among the lines of a witness.
 /// Which line of a witness comes next.
 #[derive(Clone, Copy, Debug, PartialEq, Eq)]
 pub(crate) enum Place {

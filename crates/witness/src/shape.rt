@@ -1,3 +1,4 @@
+//! What a witness needs to know of a model.
 ghost use Rattle.std.specs.Prelude.{◌≡◌, ℕ, ◌<◌, true, All, map, IfOk, is_some, length, unwrap_or};
 ghost use Rattle.btor2.specs.Lists.{width_at};
 ghost use Rattle.witness.specs.Texts.{shape_of};

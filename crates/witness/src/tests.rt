@@ -1,3 +1,4 @@
+//! What texts say, their faults, and what is printed of faults.
 use super::*;
 use btor2::{Body, Item, Model};
 use std::alloc::Global;
@@ -107,4 +108,17 @@ fn no_claims(rt: HostRuntime) {
     assert!(rt; claims_nothing(b"unknown\nx"));
     assert!(rt; !claims_nothing(b"unsat"));
     assert!(rt; !claims_nothing(b"sat\nunsat\n"));
+}
+
+#[test]
+fn printed_faults(rt: HostRuntime) {
+    let table = [
+        (JudgeFault::Device, "100 Device"),
+        (JudgeFault::NoMemory, "101 NoMemory"),
+        (JudgeFault::NoNext(3), "item 3: 70 NoNext"),
+    ];
+    for (fault, text) in table {
+        let line = format!(in rt.alloc(); "{fault}").expect(&rt, "memory");
+        assert_eq!(rt; line.as_str(), text);
+    }
 }

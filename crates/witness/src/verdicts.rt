@@ -1,3 +1,4 @@
+//! The judgement of the words of a witness, by a run of the model.
 ghost use Rattle.std.specs.Prelude.{◌≡◌, ℕ, ◌<◌, Bool, List, IfSome, All, length, map, false, true, slice_get};
 ghost use Rattle.std.specs.Option.{option_or};
 ghost use Rattle.btor2.specs.Items.{is_input, is_state, is_bad, is_constraint};

@@ -1,3 +1,4 @@
+//! Why a line is refused.
 ghost use Rattle.std.specs.Prelude.{◌≡◌};
 ghost use Rattle.witness.specs.Numbers.{why_number};
 ghost use Rattle.witness.specs.Printed.{why_name};

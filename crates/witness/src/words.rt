@@ -1,3 +1,4 @@
+//! The words that a witness gives, without the names.
 ghost use Rattle.std.specs.Prelude.{◌≡◌, ℕ, List, [], ◌∷◌, ◌++◌, OnOk, OnErr};
 ghost use Rattle.witness.specs.Judgements.{Words};
 

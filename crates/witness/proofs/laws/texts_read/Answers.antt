@@ -1,11 +1,12 @@
 use Rattle.std.proofs.Common.{refl}
+use Rattle.witness.specs.Texts.{shape_of}
+use Rattle.witness.proofs.FitLemmas.{shape_is_small}
 use Rattle.witness.proofs.WholeLemmas.{all_read, says_read}
 use Rattle.witness.proofs.ToldLemmas.{read_says}
 use Rattle.witness.proofs.laws.texts_read.Goals as goal
 
 pub returns-clause-read : goal.returns-clause-read
-returns-clause-read c shape text w bads states inputs says =
-    (all_read w, (says_read shape text w (record { bads = bads; states = states; inputs = inputs }) says, refl))
+returns-clause-read c items text w well says = (all_read w, (says_read (shape_of items) text w (shape_is_small items well) says, refl))
 
 pub returns-clause-said : goal.returns-clause-said
-returns-clause-said c shape text r bads states inputs read = read_says shape text r (record { bads = bads; states = states; inputs = inputs }) read
+returns-clause-said c items text r well read = read_says (shape_of items) text r (shape_is_small items well) read

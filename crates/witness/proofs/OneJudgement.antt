@@ -1,0 +1,139 @@
+-- A text has one judgement over a well-formed model: the model has one trace, and a judgement looks only at nodes with a value.
+use Rattle.std.proofs.Common.{◌≡◌, ℕ, suc, ◌+◌, Bool, true, false, cond, not, ◌&&◌, nat_eq, List, [], ◌∷◌, ◌++◌, length, flat_map, Option, Some, None, Result, Ok, Err, refl, sym, ap, ap₂, subst, ◌∙◌, append_assoc}
+use Rattle.std.specs.List.{list_any, position_from}
+use Rattle.btor2.specs.declared.item.Item.{Item}
+use Rattle.btor2.specs.declared.item.Body.{Body}
+use Rattle.btor2.specs.Items.{operands, node_width, is_bad, is_constraint}
+use Rattle.btor2.specs.Check.{IsWellFormed}
+use Rattle.btor2.specs.Trace.{Frame, SameFrame, SameTrace}
+use Rattle.btor2.proofs.AppendLemmas.{is_some_from, node_width-append}
+use Rattle.btor2.proofs.AcceptedLemmas.{Each, HasWidth}
+use Rattle.btor2.proofs.ModelLemmas.{IsAccepted-at}
+use Rattle.btor2.proofs.TraceLemmas.{trace_exists, trace_unique}
+use Rattle.witness.specs.declared.judgement.Judgement.{Judgement}
+use Rattle.witness.specs.declared.judgement.Judgement.TheVariants as judgement
+use Rattle.witness.specs.Texts.{shape_of}
+use Rattle.witness.specs.Admits.{Read, Fault, read_text, witness_of}
+use Rattle.witness.specs.Judgements.{Words, of_kind, initial_words, input_frames, nodes_of, first_different, violated_at, violation_from, never_rises, unreached_from, when_reached, when_kept, when_begun, verdict, words_of, makes_no_claim, JudgesWords, JudgesRead, JudgesText, Judges}
+use Rattle.base.specs.Lines.{whole_lines}
+
+-- ---- the nodes of properties have values
+
+each_append : (P : ℕ → Type 0) (xs ys : List ℕ) → Each P xs → Each P ys → Each P (xs ++ ys)
+each_append P [] ys h k = k
+each_append P (x ∷ xs) ys h k = (h.0, each_append P xs ys h.1 k)
+
+each_weaker : (P Q : ℕ → Type 0) (xs : List ℕ) → ((a : ℕ) → P a → Q a) → Each P xs → Each Q xs
+each_weaker P Q [] weaker h = tt
+each_weaker P Q (x ∷ xs) weaker h = (weaker x h.0, each_weaker P Q xs weaker h.1)
+
+operands_have_widths : (items before xs : List Item) (x : Item) → IsWellFormed items → items ≡ before ++ x ∷ xs → Each (HasWidth items) (operands x.body)
+operands_have_widths items before xs x w is =
+    let accepted = IsAccepted-at items x w (record { before = before; after = xs; splits = is }) in
+    each_weaker (HasWidth before) (HasWidth items) (operands x.body)
+    (λ a h. (h.0, subst (λ (l : List Item). node_width l a ≡ Some h.0) (sym is) (node_width-append before (x ∷ xs) a h.0 h.1)))
+    accepted.nodes
+
+nodes_from : (kind : Body → Bool) (items before xs : List Item) → IsWellFormed items → items ≡ before ++ xs → Each (HasWidth items) (nodes_of kind xs)
+nodes_from kind items before [] w is = tt
+nodes_from kind items before (x ∷ xs) w is =
+    let rest = nodes_from kind items (before ++ x ∷ []) xs w (is ∙ sym (append_assoc before (x ∷ []) xs)) in
+    elim (kind x.body) as (λ b. Each (HasWidth items) (flat_map (λ (y : Item). operands y.body) (cond b (x ∷ of_kind kind xs) (of_kind kind xs)))) [
+      | true ↦ each_append (HasWidth items) (operands x.body) (nodes_of kind xs) (operands_have_widths items before xs x w is) rest
+      | false ↦ rest
+    ]
+
+nodes_have_widths : (kind : Body → Bool) (items : List Item) → IsWellFormed items → Each (HasWidth items) (nodes_of kind items)
+nodes_have_widths kind items w = nodes_from kind items [] items w refl
+
+-- ---- traces that are the same have the same verdict
+
+same_word : (items : List Item) (f g : Frame) (a : ℕ) → SameFrame items f g → HasWidth items a → f a ≡ g a
+same_word items f g a same h = same a (is_some_from (node_width items a) h.0 h.1)
+
+first_same : (f g : Frame) (n : ℕ) (nodes : List ℕ) → Each (λ a. f a ≡ g a) nodes → position_from (λ a. not (nat_eq (f a) 1)) n nodes ≡ position_from (λ a. not (nat_eq (g a) 1)) n nodes
+first_same f g n [] h = refl
+first_same f g n (a ∷ more) h =
+    ap₂ (λ (v : ℕ) (o : Option ℕ). cond (not (nat_eq v 1)) (Some n) o) h.0 (first_same f g (n + 1) more h.1)
+
+violations_same : (items : List Item) (k : ℕ) (fs gs : List Frame) → Each (HasWidth items) (nodes_of is_constraint items) → SameTrace items fs gs → violation_from items k fs ≡ violation_from items k gs
+violations_same items k [] [] h same = refl
+violations_same items k [] (g ∷ gs) h same = absurd same
+violations_same items k (f ∷ fs) [] h same = absurd same
+violations_same items k (f ∷ fs) (g ∷ gs) h same =
+    let nodes = nodes_of is_constraint items in
+    ap₂ (violated_at k)
+    (first_same f g 0 nodes (each_weaker (HasWidth items) (λ a. f a ≡ g a) nodes (λ a there. same_word items f g a same.0 there) h))
+    (violations_same items (suc k) fs gs h same.1)
+
+never_same : (items : List Item) (fs gs : List Frame) (a : ℕ) → HasWidth items a → SameTrace items fs gs → never_rises fs a ≡ never_rises gs a
+never_same items [] [] a h same = refl
+never_same items [] (g ∷ gs) a h same = absurd same
+never_same items (f ∷ fs) [] a h same = absurd same
+never_same items (f ∷ fs) (g ∷ gs) a h same =
+    ap₂ (λ (v : ℕ) (b : Bool). not (nat_eq v 1) && b) (same_word items f g a same.0 h) (never_same items fs gs a h same.1)
+
+unreached_same : (claims : List ℕ) (fs gs : List Frame) (i : ℕ) (nodes : List ℕ) → Each (λ a. never_rises fs a ≡ never_rises gs a) nodes → unreached_from claims fs i nodes ≡ unreached_from claims gs i nodes
+unreached_same claims fs gs i [] h = refl
+unreached_same claims fs gs i (a ∷ more) h =
+    ap₂ (λ (b : Bool) (o : Option ℕ). cond (list_any (λ c. nat_eq c i) claims && b) (Some i) o) h.0 (unreached_same claims fs gs (suc i) more h.1)
+
+length_same : (items : List Item) (fs gs : List Frame) → SameTrace items fs gs → length fs ≡ length gs
+length_same items [] [] same = refl
+length_same items [] (g ∷ gs) same = absurd same
+length_same items (f ∷ fs) [] same = absurd same
+length_same items (f ∷ fs) (g ∷ gs) same = ap suc (length_same items fs gs same.1)
+
+-- a verdict goes by what traces agree on
+verdict_same : (items : List Item) (w : Words) (fs gs : List Frame) → IsWellFormed items → SameTrace items fs gs → verdict items w fs ≡ verdict items w gs
+verdict_same items w fs gs well same =
+    let bads = nodes_of is_bad items in
+    let reached : when_reached (length fs) (unreached_from w.claims fs 0 bads) ≡ when_reached (length gs) (unreached_from w.claims gs 0 bads) =
+    ap₂ when_reached (length_same items fs gs same)
+    (unreached_same w.claims fs gs 0 bads
+    (each_weaker (HasWidth items) (λ a. never_rises fs a ≡ never_rises gs a) bads (λ a there. never_same items fs gs a there same) (nodes_have_widths is_bad items well))) in
+    let violated = violations_same items 0 fs gs (nodes_have_widths is_constraint items well) same in
+    elim (first_different items (initial_words items w)) as (λ o. when_begun items w fs o ≡ when_begun items w gs o) [
+      | Some i ↦ refl
+      | None ↦
+          ap (when_kept items w fs) violated
+          ∙ elim (violation_from items 0 gs) as (λ v. when_kept items w fs v ≡ when_kept items w gs v) [ Some v ↦ refl | None ↦ reached ]
+    ]
+
+-- ---- one judgement
+
+words_judged : (items : List Item) (w : Words) → IsWellFormed items → (j : Judgement) × JudgesWords items w j
+words_judged items w well =
+    let trace = trace_exists items (initial_words items w) (input_frames items w) well in (
+      verdict items w trace.0,
+      λ fs h. verdict_same items w trace.0 fs well (trace_unique items (initial_words items w) (input_frames items w) trace.0 fs well trace.1 h),
+    )
+
+words_judged_once : (items : List Item) (w : Words) (j k : Judgement) → IsWellFormed items → JudgesWords items w j → JudgesWords items w k → j ≡ k
+words_judged_once items w j k well first second =
+    let trace = trace_exists items (initial_words items w) (input_frames items w) well in
+    first trace.0 trace.1 ∙ sym (second trace.0 trace.1)
+
+read_judged : (items : List Item) (r : Result Read Fault) → IsWellFormed items → (j : Judgement) × JudgesRead items r j
+read_judged items (Err e) well = (judgement.Malformed e.line e.why, refl)
+read_judged items (Ok r) well = words_judged items (words_of (witness_of r)) well
+
+read_judged_once : (items : List Item) (r : Result Read Fault) (j k : Judgement) → IsWellFormed items → JudgesRead items r j → JudgesRead items r k → j ≡ k
+read_judged_once items (Err e) j k well first second = first ∙ sym second
+read_judged_once items (Ok r) j k well first second = words_judged_once items (words_of (witness_of r)) j k well first second
+
+text_judged : (items : List Item) (text : List ℕ) (b : Bool) → IsWellFormed items → (j : Judgement) × JudgesText items text b j
+text_judged items text true well = (judgement.NoClaim, refl)
+text_judged items text false well = read_judged items (read_text (shape_of items) text) well
+
+text_judged_once : (items : List Item) (text : List ℕ) (b : Bool) (j k : Judgement) → IsWellFormed items → JudgesText items text b j → JudgesText items text b k → j ≡ k
+text_judged_once items text true j k well first second = first ∙ sym second
+text_judged_once items text false j k well first second = read_judged_once items (read_text (shape_of items) text) j k well first second
+
+-- a text has a judgement
+pub some_judgement : (items : List Item) (text : List ℕ) → IsWellFormed items → (j : Judgement) × Judges items text j
+some_judgement items text well = text_judged items text (makes_no_claim 0 (whole_lines text)) well
+
+-- and no other
+pub same_judgement : (items : List Item) (text : List ℕ) (j k : Judgement) → IsWellFormed items → Judges items text j → Judges items text k → j ≡ k
+same_judgement items text j k well first second = text_judged_once items text (makes_no_claim 0 (whole_lines text)) j k well first second
