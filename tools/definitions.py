@@ -18,6 +18,7 @@ between the lines `<!-- calls of NAME -->` and `<!-- end of calls -->`.
 """
 import pathlib
 import re
+import signal
 import sys
 
 TOP = pathlib.Path(__file__).resolve().parent.parent
@@ -375,4 +376,5 @@ def main():
 
 
 if __name__ == "__main__":
+    signal.signal(signal.SIGPIPE, signal.SIG_DFL)
     sys.exit(main())
