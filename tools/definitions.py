@@ -14,7 +14,8 @@ those name, and so on. How a value is kept (its view, its invariant) is nothing 
 In docs/DEFINITIONS.md the first list begins at the heading `## What the public calls rest on`, with a heading of the third
 rank for each crate. Rows of tables with five columns are those of definitions: the names in the first column, the files in
 the third. A definition has a row where a row of its crate has its name and its file. The table of calls of a crate stands
-between the lines `<!-- calls of NAME -->` and `<!-- end of calls -->`.
+between the lines `<!-- calls of NAME -->` and `<!-- end of calls -->`. The second list begins at the heading
+`## Words between the parts`; it has a row for each file, but those named `Worked`, with definitions that the first has not.
 """
 import pathlib
 import re
@@ -24,6 +25,8 @@ import sys
 TOP = pathlib.Path(__file__).resolve().parent.parent
 PAGE = TOP / "docs" / "DEFINITIONS.md"
 LIST = "## What the public calls rest on"
+BETWEEN = "## Words between the parts"
+WORKED = "Worked"
 WORD = re.compile(r"(?<![\w.'⟧])[^\W\d][\w']*")
 IMPORT = re.compile(r"^(?:pub )?use\s+([\w.]+?)(?:\.\{([^}]*)\}|\s+as\s+(\w+))?\s*$", re.M)
 GHOST_IMPORT = re.compile(r"\bghost\s+use\s+([\w.]+?)(?:\.\{([^}]*)\}|\s+as\s+(\w+))?\s*;")
@@ -299,6 +302,28 @@ def rows(text):
     return found
 
 
+def between_rows(text):
+    """The files of the second list, each with its crate."""
+    found, begun = set(), False
+    for line in text.split("\n"):
+        if line.startswith("## "):
+            begun = line.strip() == BETWEEN
+        elif begun and line.startswith("| `"):
+            cells = [c.strip().strip("`") for c in line.strip().strip("|").split("|")]
+            found.add((cells[0], cells[1]))
+    return found
+
+
+def between(modules, because):
+    """The definitions on which no public contract rests, by crate and file."""
+    left = {}
+    for (crate, name), module in sorted(modules.items()):
+        words = [w for w in module.texts if (crate, name, w) not in because]
+        if words:
+            left[crate, name] = words
+    return left
+
+
 def calls_table(modules, crate, calls):
     """The table of a crate's calls: what each names, those that name the same in one row."""
     by_names, order = {}, []
@@ -339,10 +364,8 @@ def main():
             print("%s %s.%s: named by %s" % (crate, name, word, because[crate, name, word]))
         return 0
     if asked == ["--between"]:
-        for (crate, name), module in sorted(modules.items()):
-            words = [w for w in module.texts if (crate, name, w) not in because]
-            if words:
-                print("%s %s: %s" % (crate, name, ", ".join(words)))
+        for (crate, name), words in between(modules, because).items():
+            print("%s %s: %s" % (crate, name, ", ".join(words)))
         return 0
     text = PAGE.read_text()
     wrong = []
@@ -370,6 +393,12 @@ def main():
             wrong.append("a row of %s names %s, which is not there" % (crate, word))
         elif not any((crate, name, word) in because for name in files):
             wrong.append("a row of %s names %s, on which no public contract rests" % (crate, word))
+    kept = {place for place in between(modules, because) if place[1] != WORKED}
+    second = between_rows(text)
+    for crate, name in sorted(kept - second):
+        wrong.append("no row in the second list: specs/%s.antt of %s" % (name, crate))
+    for crate, name in sorted(second - kept):
+        wrong.append("a row of the second list names %s of %s, where no such definition stands" % (name, crate))
     for line in wrong:
         print(line)
     return 1 if wrong else 0
