@@ -27,7 +27,7 @@ PAGE = TOP / "docs" / "DEFINITIONS.md"
 LIST = "## What the public calls rest on"
 BETWEEN = "## Words between the parts"
 WORKED = "Worked"
-WORD = re.compile(r"(?<![\w.'⟧])[^\W\d][\w']*")
+WORD = re.compile(r"(?<![\w.'⟧])([^\W\d][\w']*)(?:\.([^\W\d][\w']*))?")
 IMPORT = re.compile(r"^(?:pub )?use\s+([\w.]+?)(?:\.\{([^}]*)\}|\s+as\s+(\w+))?\s*$", re.M)
 GHOST_IMPORT = re.compile(r"\bghost\s+use\s+([\w.]+?)(?:\.\{([^}]*)\}|\s+as\s+(\w+))?\s*;")
 HEAD = re.compile(r"^(?:(?:abbrev|unfoldable|opaque) pub|pub (?:record|data|abbrev|enum)) ([^\s:]+)", re.M)
@@ -62,7 +62,8 @@ class Module:
 
 
 def imported(found):
-    """The names that an import brings in, each with the crate, the file and the name there; those of the toolchain with none."""
+    """The names that an import brings in, each with the crate, the file and the name there; a file as a whole is brought in
+    with the crate and the file, and what is of the toolchain, or of the code, with none."""
     path, names, alias = found.groups()
     parts = path.split(".")
     ours = len(parts) == 4 and parts[0] == "Rattle" and parts[2] == "specs"
@@ -71,8 +72,8 @@ def imported(found):
         words = item.split()
         if words:
             brought[words[-1]] = (parts[1], parts[3], words[0]) if ours else None
-    if alias:
-        brought[alias] = None
+    if names is None:
+        brought[alias or parts[-1]] = (parts[1], parts[3]) if ours else None
     return brought
 
 
@@ -100,8 +101,11 @@ def home(modules, target):
 def named_in(modules, text, scope):
     """The definitions that a text names, in order; `do` names what joins its steps."""
     seen = []
-    for word in WORD.findall(text) + [STEPS] * bool(re.search(r"\bdo\b", text)):
+    steps = [(STEPS, "")] * bool(re.search(r"\bdo\b", text))
+    for word, inside in WORD.findall(text) + steps:
         target = scope.get(word)
+        if target and len(target) == 2:
+            target = inside and target + (inside,)
         target = target and home(modules, target)
         if target and target not in seen:
             seen.append(target)
