@@ -36,3 +36,7 @@ def built(folder, name, crates):
     words = (said.stdout + said.stderr).split()
     processor = next(word[len("cpu=") :] for word in words if word.startswith("cpu="))
     return os.path.join(crate, "out", name), processor
+
+
+if __name__ == "__main__":
+    print(__doc__.strip())

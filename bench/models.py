@@ -1,16 +1,18 @@
 #!/usr/bin/env python3
-"""Large models of the forms that are lowered today, the same every time.
-
-    python3 bench/models.py DIR [LINES ..]
+"""Writes large models of the forms that are lowered today, the same every time.
 
 Each model has sorts of widths 1 to 64, inputs and states (half of them with an init), one chain of `and` and `not`
 for each width, a next for every state, and 16 bad properties and 16 constraints. An `and` takes the chain's end and
 a leaf, so that no gate has a constant operand and hardly any operand pair comes twice. Files that are there are kept.
+
+    python3 bench/models.py FOLDER
+    python3 bench/models.py FOLDER 5000 50000
 """
 
 import os
 import random
-import sys
+
+from timing import words
 
 OBSERVED = 16
 
@@ -190,13 +192,19 @@ def list_of(items):
 
 
 def main():
-    folder = sys.argv[1]
-    os.makedirs(folder, exist_ok=True)
-    for lines in [int(word) for word in sys.argv[2:]] or [10_000, 100_000, 1_000_000]:
-        path = os.path.join(folder, f"chain{lines}.btor2")
+    given = words(
+        __doc__,
+        ("folder", {"metavar": "FOLDER", "help": "where the models are written"}),
+        ("sizes", {"nargs": "*", "type": int, "metavar": "LINES", "default": [10_000, 100_000, 1_000_000],
+                   "help": "how many lines a model has; without any 10,000, 100,000 and 1,000,000"}),
+    )
+    os.makedirs(given.folder, exist_ok=True)
+    for lines in given.sizes:
+        path = os.path.join(given.folder, f"chain{lines}.btor2")
         if not os.path.exists(path):
             with open(path, "w") as out:
                 out.write(model(lines))
+        print(path)
 
 
 if __name__ == "__main__":

@@ -1,12 +1,13 @@
 #!/usr/bin/env python3
-"""Times pushes of all line forms into a model, with peak memory beside another program's.
+"""Times pushes of all line forms into a model, with peak memory, and beside another program's.
 
-    python3 bench/pushes.py OTHER
+`pushes.rt.txt` is the program that pushes: it is proved, and built by `rt run` in a copy of `base` and `btor2`. It reads
+a list of items from standard input, in batches, and times the pushes alone, by the processor's clock. Another program
+gets the same models, `mixed` of `models.py`. Of each size it prints the least time of 15 runs and how it grows, and the
+greatest peak memory of each program and of a run that pushes nothing. Needs the toolchain (`rt`) and GNU `time`.
 
-OTHER is a program that takes `show MODEL`. `pushes.rt.txt` is the program that pushes: it is proved, and built by
-`rt run`. It reads a list of items from standard input, in batches, and times the pushes alone, by the processor's
-clock. Both programs get the same models, `mixed` of `models.py`. Of each size it prints the least time of the runs and
-how it grows, and the greatest peak memory of both and of a run that pushes nothing. Needs GNU `time`.
+    python3 bench/pushes.py run
+    python3 bench/pushes.py run --other PROGRAM
 """
 
 import os
@@ -17,6 +18,7 @@ import tempfile
 
 from building import built
 from models import list_of, mixed, text_of
+from timing import RUN, ratio, words
 
 RUNS = 15
 SIZES = [10_000, 100_000, 1_000_000]
@@ -33,11 +35,11 @@ def measure(folder, command, listed):
 
 
 def main():
-    other = sys.argv[1]
+    other = words(__doc__, RUN, other="`show MODEL`").other
+    if not shutil.which("time"):
+        sys.exit("GNU time is not there")
     with tempfile.TemporaryDirectory() as folder:
         ours, _ = built(folder, "pushes", ["base", "btor2"])
-        print("| Items | Pushes | An item | Growth | Memory | Other | Ratio | Nothing pushed |")
-        print("|---|---|---|---|---|---|---|---|")
         models = {}
         for size in SIZES:
             items = mixed(size)
@@ -54,17 +56,23 @@ def main():
                     sys.exit(f"{pushed:,} of {size:,} items were pushed")
                 times[size].append(time)
                 peaks[size].append(peak)
-                other_peaks[size].append(measure(folder, [other, "show", model], listed)[1])
                 nothing[size].append(measure(folder, [ours, "nothing"], listed)[1])
-        before = None
-        for size in SIZES:
-            least, peak, other_peak = min(times[size]), max(peaks[size]), max(other_peaks[size])
-            growth = f"{least / before:.1f}" if before else ""
-            print(
-                f"| {size:,} | {least / 1e6:.1f} ms | {least / size:.0f} ns | {growth} "
-                f"| {peak:.1f} MB | {other_peak:.1f} MB | {peak / other_peak:.2f} | {max(nothing[size]):.1f} MB |"
-            )
-            before = least
+                if other:
+                    other_peaks[size].append(measure(folder, [other, "show", model], listed)[1])
+    beside = " Other | Ratio |" if other else ""
+    print(f"| Items | Pushes | An item | Growth | Memory |{beside} Nothing pushed |")
+    print("|" + "---|" * (8 if other else 6))
+    before = None
+    for size in SIZES:
+        least, peak = min(times[size]), max(peaks[size])
+        growth = f"{least / before:.1f}" if before else ""
+        if other:
+            beside = f" {max(other_peaks[size]):.1f} MB | {ratio(peak, max(other_peaks[size]))} |"
+        print(
+            f"| {size:,} | {least / 1e6:.1f} ms | {least / size:.0f} ns | {growth} | {peak:.1f} MB |{beside}"
+            f" {max(nothing[size]):.1f} MB |"
+        )
+        before = least
 
 
 if __name__ == "__main__":

@@ -1,18 +1,18 @@
 #!/usr/bin/env python3
-"""Times `check-btor` of this program beside another program with the same command, in turns.
+"""Times `check-btor` of our program, and of another beside it.
 
-    python3 bench/witnesses.py OTHER
+The model is a bit that toggles and an input; the witnesses give the input a word in each of 20,000, 200,000 and
+1,000,000 frames. Of each program it prints the least processor time (user and system) of five runs and the greatest
+peak memory; with another program its own beside ours, the two in turns, and the ratios.
 
-OTHER is a program that takes `check-btor MODEL WITNESS`. The model is a bit that toggles and an input; the witnesses give
-the input a word in each of 20,000, 200,000 and 1,000,000 frames. Of each program it prints the least processor time
-(user and system) of five runs and the greatest peak memory, and the ratios.
+    python3 bench/witnesses.py run
+    python3 bench/witnesses.py run --other PROGRAM
 """
 
 import os
-import sys
 import tempfile
 
-from compare import row
+from timing import RUN, head, row, words
 
 FRAMES = [20_000, 200_000, 1_000_000]
 
@@ -35,9 +35,8 @@ def witness(frames):
 
 
 def main():
-    other = sys.argv[1]
-    print("| Witness | Frames | Time | Other | Ratio | Memory | Other | Ratio |")
-    print("|---|---|---|---|---|---|---|---|")
+    other = words(__doc__, RUN, other="`check-btor MODEL WITNESS`").other
+    print(head("Witness", "Frames", other))
     with tempfile.TemporaryDirectory() as folder:
         model = os.path.join(folder, "model.btor2")
         with open(model, "w") as out:
@@ -46,7 +45,7 @@ def main():
             path = os.path.join(folder, f"frames{frames}.witness")
             with open(path, "w") as out:
                 out.write(witness(frames))
-            print(row(f"frames{frames}", frames, other, ["check-btor", model, path]))
+            print(row(f"frames{frames}", frames, other, ["check-btor", model, path]), flush=True)
 
 
 if __name__ == "__main__":

@@ -1,0 +1,413 @@
+#!/usr/bin/env python3
+"""Which definitions the public contracts rest on, and whether docs/DEFINITIONS.md has them all.
+
+    python3 tools/definitions.py            lists what is wrong; prints nothing and ends with 0 where nothing is
+    python3 tools/definitions.py --write    writes the tables of calls in docs/DEFINITIONS.md anew
+    python3 tools/definitions.py --list     prints each definition that is rested on, and a call that names it
+    python3 tools/definitions.py --between  prints each definition of specs/ that no public contract rests on
+
+A definition is what stands in crates/NAME/specs. A public contract is the clauses of a function that a crate offers, of
+a trait or of an impl, with the ghost members and the values that clauses see; functions whose names begin with `worked_`
+are rows beside the definitions and count for none. A contract rests on each definition that it names, and on each that
+those name, and so on. How a value is kept (its view, its invariant) is nothing that a caller rests on.
+
+In docs/DEFINITIONS.md the first list begins at the heading `## What the public calls rest on`, with a heading of the third
+rank for each crate. Rows of tables with five columns are those of definitions: the names in the first column, the files in
+the third. A definition has a row where a row of its crate has its name and its file. The table of calls of a crate stands
+between the lines `<!-- calls of NAME -->` and `<!-- end of calls -->`. The second list begins at the heading
+`## Words between the parts`; it has a row for each file, but those named `Worked`, with definitions that the first has not.
+"""
+import pathlib
+import re
+import signal
+import sys
+
+TOP = pathlib.Path(__file__).resolve().parent.parent
+PAGE = TOP / "docs" / "DEFINITIONS.md"
+LIST = "## What the public calls rest on"
+BETWEEN = "## Words between the parts"
+WORKED = "Worked"
+WORD = re.compile(r"(?<![\w.'⟧])([^\W\d][\w']*)(?:\.([^\W\d][\w']*))?")
+IMPORT = re.compile(r"^(?:pub )?use\s+([\w.]+?)(?:\.\{([^}]*)\}|\s+as\s+(\w+))?\s*$", re.M)
+GHOST_IMPORT = re.compile(r"\bghost\s+use\s+([\w.]+?)(?:\.\{([^}]*)\}|\s+as\s+(\w+))?\s*;")
+HEAD = re.compile(r"^(?:(?:abbrev|unfoldable|opaque) pub|pub (?:record|data|abbrev|enum)) ([^\s:]+)", re.M)
+STEPS = "◌>>=◌"
+
+
+def fail(text):
+    sys.exit("definitions.py: " + text)
+
+
+# ---- specs/
+
+class Module:
+    """A file of specs/: its definitions' texts, and what its imports bring in."""
+
+    def __init__(self, crate, path):
+        self.crate, self.name = crate, path.stem
+        text = re.sub(r"--[^\n]*", "", path.read_text())
+        self.scope, self.exports = {}, {}
+        for found in IMPORT.finditer(text):
+            names = imported(found)
+            self.scope.update(names)
+            if found.group(0).startswith("pub"):
+                self.exports.update(names)
+        heads = list(HEAD.finditer(text))
+        self.texts = {}
+        for place, head in enumerate(heads):
+            end = heads[place + 1].start() if place + 1 < len(heads) else len(text)
+            self.texts[head.group(1)] = text[head.start():end]
+        for name in self.texts:
+            self.scope[name] = (crate, self.name, name)
+
+
+def imported(found):
+    """The names that an import brings in, each with the crate, the file and the name there; a file as a whole is brought in
+    with the crate and the file, and what is of the toolchain, or of the code, with none."""
+    path, names, alias = found.groups()
+    parts = path.split(".")
+    ours = len(parts) == 4 and parts[0] == "Rattle" and parts[2] == "specs"
+    brought = {}
+    for item in (names or "").split(","):
+        words = item.split()
+        if words:
+            brought[words[-1]] = (parts[1], parts[3], words[0]) if ours else None
+    if names is None:
+        brought[alias or parts[-1]] = (parts[1], parts[3]) if ours else None
+    return brought
+
+
+def read_modules():
+    modules = {}
+    for path in sorted(TOP.glob("crates/*/specs/*.antt")):
+        crate = path.parent.parent.name
+        modules[crate, path.stem] = Module(crate, path)
+    return modules
+
+
+def home(modules, target):
+    """Where a name is defined, through files that only pass it on; none where it is the toolchain's."""
+    for _ in range(9):
+        crate, name, word = target
+        module = modules.get((crate, name))
+        if module is None or word in module.texts:
+            return target if module else None
+        target = module.exports.get(word)
+        if target is None:
+            return None
+    return None
+
+
+def named_in(modules, text, scope):
+    """The definitions that a text names, in order; `do` names what joins its steps."""
+    seen = []
+    steps = [(STEPS, "")] * bool(re.search(r"\bdo\b", text))
+    for word, inside in WORD.findall(text) + steps:
+        target = scope.get(word)
+        if target and len(target) == 2:
+            target = inside and target + (inside,)
+        target = target and home(modules, target)
+        if target and target not in seen:
+            seen.append(target)
+    return seen
+
+
+def closure(modules, roots):
+    """All that some definitions rest on, each with the one that names it first."""
+    because, todo = {}, []
+    for root, call in roots:
+        if root not in because:
+            because[root] = call
+            todo.append(root)
+    while todo:
+        crate, name, word = target = todo.pop()
+        module = modules[crate, name]
+        for below in named_in(modules, module.texts[word], module.scope):
+            if below not in because:
+                because[below] = "%s of %s" % (word, crate)
+                todo.append(below)
+    return because
+
+
+# ---- src/
+
+def plain(text):
+    """A source without comments, strings and attributes, of the same length."""
+    def blank(found):
+        return re.sub(r"[^\n]", " ", found.group(0))
+    text = re.sub(r'//[^\n]*|b?"(?:\\.|[^"\\])*"|b?\'(?:\\.[^\']*|[^\'\\])\'', blank, text)
+    return re.sub(r"#!?\[[^\]]*\]", blank, text)
+
+
+def closing(text, at):
+    """The place behind the brace that closes the one at `at`."""
+    depth = 0
+    for place in range(at, len(text)):
+        if text[place] == "{":
+            depth += 1
+        elif text[place] == "}":
+            depth -= 1
+            if depth == 0:
+                return place + 1
+    fail("a brace is not closed")
+
+
+class Block:
+    """An impl, a trait or a file: its name, its text without what stands deeper, and its scope."""
+
+    def __init__(self, head, text, start, end, scope):
+        self.head, self.text, self.start, self.end = head, text, start, end
+        self.scope = dict(scope)
+
+
+BLOCK = re.compile(r"^[ \t]*(?:pub )?(?:unsafe )?(impl|trait|mod)\b([^{;]*)\{", re.M)
+FUNCTION = re.compile(r"^[ \t]*((?:pub(?:\([^)]*\))? )?)(?:const )?fn (\w+)", re.M)
+CLAUSE = re.compile(r"\s*(?:requires|ensures)(?:\s+\w+)?\s*\{")
+MEMBER = re.compile(r"^[ \t]*ghost (\w+)\s*(:|=)", re.M)
+
+
+def uses(text, scope):
+    """A scope with what the imports of a text bring in."""
+    scope = dict(scope)
+    for found in GHOST_IMPORT.finditer(text):
+        scope.update(imported(found))
+    return scope
+
+
+def functions(text, start, end):
+    """Each function between two places: whether it is marked public, its name, its clauses."""
+    at = start
+    while True:
+        found = FUNCTION.search(text, at, end)
+        if not found:
+            return
+        place = found.end()
+        # the signature ends at a clause, at the body or at a semicolon
+        stop = re.compile(r"\b(?:requires|ensures)\b|[{;]").search(text, place, end)
+        place, clauses = stop.start(), []
+        while True:
+            clause = CLAUSE.match(text, place, end)
+            if not clause:
+                break
+            brace = clause.end() - 1
+            place = closing(text, brace)
+            clauses.append(text[brace:place])
+        body = re.compile(r"[{;]").search(text, place, end)
+        at = closing(text, body.start()) if body.group(0) == "{" else body.end()
+        yield found.group(1).strip() == "pub", found.group(2), " ".join(clauses)
+
+
+def members(text, start, end):
+    """Each ghost member between two places: its name and its text."""
+    for found in MEMBER.finditer(text, start, end):
+        stop = text.find(";", found.end())
+        yield found.group(1), text[found.end():stop]
+
+
+class Crate:
+    """What a crate offers: names, and modules whose every public name is offered."""
+
+    def __init__(self, name):
+        self.name, self.source = name, TOP / "crates" / name / "src"
+        root = self.source / "lib.rt"
+        if not root.exists():
+            root = self.source / "main.rt"
+        text = plain(root.read_text())
+        self.open = set(re.findall(r"^pub mod (\w+)", text, re.M))
+        self.offered = set()
+        for path, many, one in re.findall(r"^pub use ([\w:]+?)::(?:\{([^}]*)\}|(\w+));", text, re.M):
+            for item in (many or one).split(","):
+                if item.strip():
+                    self.offered.add(item.split()[-1])
+        self.files = [p for p in sorted(self.source.rglob("*.rt")) if "tests" not in p.relative_to(self.source).as_posix()]
+
+    def offers(self, path, name):
+        inside = path.relative_to(self.source).with_suffix("").parts[0]
+        return name in self.offered or inside in self.open
+
+
+def type_of(head):
+    """The trait and the type that the head of an impl names."""
+    head = head.strip()
+    if head.startswith("<"):
+        depth = 0
+        for place, sign in enumerate(head):
+            depth += (sign == "<") - (sign == ">")
+            if depth == 0:
+                head = head[place + 1:]
+                break
+    words = [re.sub(r"<.*", "", w.strip(), flags=re.S).split("::")[-1].lstrip("&") for w in re.split(r"\bfor\b", head)]
+    return (words[0], words[1]) if len(words) == 2 else (None, words[0])
+
+
+def public_clauses(crate):
+    """Each public call of a crate, with its clauses and the scope in which they stand."""
+    for path in crate.files:
+        text = plain(path.read_text())
+        blocks, at = [], 0
+        while True:
+            found = BLOCK.search(text, at)
+            if not found:
+                break
+            end = closing(text, found.end() - 1)
+            blocks.append((found.group(1), found.group(2), found.start(), found.end(), end))
+            at = end
+        outside = text
+        for kind, head, start, inner, end in blocks:
+            outside = outside[:start] + re.sub(r"[^\n]", " ", outside[start:end]) + outside[end:]
+        scope = uses(outside, {})
+        for public, name, clauses in functions(outside, 0, len(outside)):
+            if public and crate.offers(path, name) and not name.startswith("worked_"):
+                yield name, clauses, scope
+        for kind, head, start, inner, end in blocks:
+            here = uses(text[inner:end], scope)
+            if kind == "trait":
+                name = re.match(r"\s*(\w+)", head).group(1)
+                if crate.offers(path, name):
+                    for member, said in members(text, inner, end):
+                        yield name, said, here
+                    for public, function, clauses in functions(text, inner, end):
+                        yield "%s::%s" % (name, function), clauses, here
+            elif kind == "impl":
+                kept, name = type_of(head)
+                name = name if name.strip() else "[u8]"
+                if kept is None and crate.offers(path, name):
+                    for public, function, clauses in functions(text, inner, end):
+                        if public:
+                            yield "%s::%s" % (name, function), clauses, here
+                elif kept == "Model" and crate.offers(path, name):
+                    for member, said in members(text, inner, end):
+                        if member == "Value":
+                            yield name, said, here
+                elif kept is not None and kept != "Model" and (crate.offers(path, name) or name == "[u8]"):
+                    for member, said in members(text, inner, end):
+                        yield name, said, here
+                    for public, function, clauses in functions(text, inner, end):
+                        yield "%s::%s" % (name, function), clauses, here
+
+
+# ---- the page
+
+def rows(text):
+    """Each name of the first list, by crate: the files of its rows."""
+    found, crate = {}, None
+    begun = False
+    for line in text.split("\n"):
+        if line.startswith("## "):
+            begun = line.strip() == LIST
+        elif begun and line.startswith("### "):
+            crate = line[4:].strip().strip("`")
+        elif begun and line.startswith("|") and crate:
+            cells = [c.strip() for c in line.strip().strip("|").split("|")]
+            if len(cells) == 5 and not set(cells[0]) <= set("-: "):
+                files = re.findall(r"`(\w+)`", cells[2])
+                for name in re.findall(r"`([^`]+)`", cells[0]):
+                    found.setdefault((crate, name), set()).update(files)
+    return found
+
+
+def between_rows(text):
+    """The files of the second list, each with its crate."""
+    found, begun = set(), False
+    for line in text.split("\n"):
+        if line.startswith("## "):
+            begun = line.strip() == BETWEEN
+        elif begun and line.startswith("| `"):
+            cells = [c.strip().strip("`") for c in line.strip().strip("|").split("|")]
+            found.add((cells[0], cells[1]))
+    return found
+
+
+def between(modules, because):
+    """The definitions on which no public contract rests, by crate and file."""
+    left = {}
+    for (crate, name), module in sorted(modules.items()):
+        words = [w for w in module.texts if (crate, name, w) not in because]
+        if words:
+            left[crate, name] = words
+    return left
+
+
+def calls_table(modules, crate, calls):
+    """The table of a crate's calls: what each names, those that name the same in one row."""
+    by_names, order = {}, []
+    for call in calls:
+        names = tuple(calls[call])
+        if names:
+            if names not in by_names:
+                by_names[names] = []
+                order.append(names)
+            by_names[names].append(call)
+    lines = ["| Calls | Their sentences name |", "|---|---|"]
+    for names in order:
+        said = ", ".join("`%s`%s" % (word, "" if home_crate == crate else " (%s)" % home_crate) for home_crate, _, word in names)
+        lines.append("| %s | %s |" % (", ".join("`%s`" % c for c in by_names[names]), said))
+    return "\n".join(lines)
+
+
+def main():
+    asked = sys.argv[1:]
+    if any(a not in ("--write", "--list", "--between") for a in asked) or len(asked) > 1:
+        print(__doc__.strip())
+        return 0 if asked[:1] in (["--help"], ["-h"]) else 2
+    modules = read_modules()
+    crates = [line.split(":")[0].strip() for line in (TOP / "crates.txt").read_text().split("\n")
+              if line.strip() and not line.startswith("#")]
+    roots, tables = [], {}
+    for name in crates:
+        calls = {}
+        for call, clauses, scope in public_clauses(Crate(name)):
+            direct = named_in(modules, clauses, scope)
+            known = calls.setdefault(call, [])
+            known.extend(d for d in direct if d not in known)
+            roots.extend((d, "%s of %s" % (call, name)) for d in direct)
+        tables[name] = calls_table(modules, name, calls)
+    because = closure(modules, roots)
+    if asked == ["--list"]:
+        for crate, name, word in sorted(because):
+            print("%s %s.%s: named by %s" % (crate, name, word, because[crate, name, word]))
+        return 0
+    if asked == ["--between"]:
+        for (crate, name), words in between(modules, because).items():
+            print("%s %s: %s" % (crate, name, ", ".join(words)))
+        return 0
+    text = PAGE.read_text()
+    wrong = []
+    for name in crates:
+        found = re.search(r"<!-- calls of %s -->\n(.*?)<!-- end of calls -->" % name, text, re.S)
+        if not found:
+            wrong.append("no table of the calls of %s" % name)
+        elif found.group(1).strip() != tables[name]:
+            if asked == ["--write"]:
+                text = text[:found.start(1)] + "\n%s\n\n" % tables[name] + text[found.end(1):]
+            else:
+                wrong.append("the table of the calls of %s is not that of its contracts: run tools/definitions.py --write" % name)
+    if asked == ["--write"]:
+        PAGE.write_text(text)
+    listed = rows(text)
+    for crate, name, word in sorted(because):
+        if name not in listed.get((crate, word), ()):
+            wrong.append("no row: %s of %s, in specs/%s.antt, named by %s" % (word, crate, name, because[crate, name, word]))
+    for (crate, word), files in sorted(listed.items()):
+        for name in sorted(files):
+            module = modules.get((crate, name))
+            if module is None:
+                wrong.append("a row of %s names the file %s, which is not there" % (crate, name))
+        if not any(word in modules[crate, name].texts for name in files if (crate, name) in modules):
+            wrong.append("a row of %s names %s, which is not there" % (crate, word))
+        elif not any((crate, name, word) in because for name in files):
+            wrong.append("a row of %s names %s, on which no public contract rests" % (crate, word))
+    kept = {place for place in between(modules, because) if place[1] != WORKED}
+    second = between_rows(text)
+    for crate, name in sorted(kept - second):
+        wrong.append("no row in the second list: specs/%s.antt of %s" % (name, crate))
+    for crate, name in sorted(second - kept):
+        wrong.append("a row of the second list names %s of %s, where no such definition stands" % (name, crate))
+    for line in wrong:
+        print(line)
+    return 1 if wrong else 0
+
+
+if __name__ == "__main__":
+    signal.signal(signal.SIGPIPE, signal.SIG_DFL)
+    sys.exit(main())
