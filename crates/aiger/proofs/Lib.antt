@@ -1,4 +1,6 @@
 pub mod NetLemmas
+pub mod SectionNameLemmas
 mod NameLemmas
+mod JusticeLemmas
 mod CircuitLemmas
 mod TraceLemmas

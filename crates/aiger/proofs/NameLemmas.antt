@@ -1,62 +1,124 @@
--- Names: what a table's bytes and places say, and what stays of a section's names.
-use Rattle.std.proofs.Common.{◌≡◌, ℕ, zero, suc, ◌+◌, ◌<◌, ◌≤◌, Bool, true, false, ◌&&◌, List, [], ◌∷◌, ◌++◌, map, length, take, drop, set, get_or, All, Option, Some, None, Result, Ok, Err, IfSome, OnOk, OnErr, slice_get, slice_set, replicate, refl, ap, sym, ◌∙◌, subst, arith, length-set, take_at, drop_at, length-drop, inl, inr, ⊎_elim, eqb, nat_lt, nat_le, if◌then◌else◌}
+-- Names: what one name more does to the map and to each section's list, and that the names determine the map.
+use Rattle.std.proofs.Common.{◌≡◌, ◌≢◌, ℕ, zero, suc, ◌≤◌, Bool, true, false, List, [], ◌∷◌, map, All, Some, refl, ap, sym, ◌∙◌, subst, arith, cond}
 use Rattle.std.proofs.lemmas.Bool.Decides.{nat_tests}
-use Rattle.std.proofs.lemmas.Grind.{common_steps}
-use Rattle.std.proofs.lemmas.List.{take_all, drop-append-le, take-append-le, map-set}
+use Rattle.std.proofs.lemmas.List.Elements.{All-head, All-tail, All-cons, All-nil}
+use Rattle.std.proofs.lemmas.Map.Lookups.{CmpEqualImpliesEq, exact_unsigned, exact_pairs}
+use Rattle.std.proofs.lemmas.Cmp.{nat_cmp_total, on_total, then_total}
+use Rattle.std.specs.Cmp.{IsTotalOrder}
+use Rattle.std.specs.declared.cmp.Ordering.{Ordering}
+use Rattle.std.specs.declared.cmp.Ordering.TheVariants.{Less, Equal, Greater}
+use Rattle.std.specs.Ordering.{nat_cmp, is_eq, match_ordering}
+use Rattle.std.specs.BTreeMap.{insert_entry, is_at}
+use Rattle.std.specs.Map.{lookup}
 use Rattle.std.specs.List.{list_all}
-use Rattle.std.proofs.lemmas.List.Elements.{All-set, All-head, All-tail, All-cons, All-nil, All-replicate}
-use Rattle.std.proofs.lemmas.Option.{slice_get-map, slice_get_read}
-use Rattle.aiger.specs.declared.fault.CircuitFault.{CircuitFault}
-use Rattle.aiger.specs.declared.fault.CircuitFault.TheVariants.{BadName}
-use Rattle.aiger.specs.declared.names.Place.{Place}
-use Rattle.aiger.specs.Limits.{longest_name}
-use Rattle.aiger.specs.Names.{Names, IsName, is_name, is_printable, AreNames, place_refusal}
-use Rattle.aiger.specs.NameTable.{name_in, IsWithin}
-use Rattle.aiger.specs.Refusal.{RefusesBy}
+use Rattle.aiger.specs.declared.circuit.Section.{Section}
+use Rattle.aiger.specs.declared.circuit.Section.TheVariants.{Input, Latch, Output, Bad, Constraint, Justice, Fair}
+use Rattle.aiger.specs.Names.{Place, rank, place_cmp, IsName, is_name, is_printable}
 
--- bytes after the others change no name
-name_in-append : (bytes more : List ℕ) (p : Place) → IsWithin bytes p → name_in (bytes ++ more) p ≡ name_in bytes p
-name_in-append bytes more p within =
-    let start : p.start ≤ length bytes = omega arith in
-    let rest : p.count ≤ length (drop p.start bytes) = omega (arith, length-drop p.start bytes) in
-    rw (drop-append-le p.start bytes more start, take-append-le p.count (drop p.start bytes) more rest) refl
+-- places that compare as equal are the same
+pub exact_places : CmpEqualImpliesEq place_cmp
+exact_places = exact_pairs nat_cmp nat_cmp exact_unsigned exact_unsigned
 
--- so all names stay
-names-append : (bytes more : List ℕ) (places : List Place) → All (IsWithin bytes) places → map (name_in (bytes ++ more)) places ≡ map (name_in bytes) places
-names-append bytes more [] within = refl
-names-append bytes more (p ∷ places) within =
-    let h : name_in (bytes ++ more) p ≡ name_in bytes p = name_in-append bytes more p (All-head (IsWithin bytes) p places within) in
-    let t : map (name_in (bytes ++ more)) places ≡ map (name_in bytes) places = names-append bytes more places (All-tail (IsWithin bytes) p places within) in
-    cc
+pub places_total : IsTotalOrder place_cmp
+places_total = then_total (on_total (λ (p : Place). p.0) nat_cmp_total) (on_total (λ (p : Place). p.1) nat_cmp_total)
 
--- the bytes at the end are the name of a place there
-name_in-new : (bytes name : List ℕ) (start : ℕ) → start ≡ length bytes → 0 < length name → name_in (bytes ++ name) (record { start = start; count = length name }) ≡ Some name
-name_in-new bytes name start e some =
-    let d : drop start (bytes ++ name) ≡ name = drop_at bytes name start (sym e) in
-    let t : take (length name) name ≡ name = take_all (length name) name (omega arith) in
-    let z : eqb (length name) 0 ≡ false = grind (arith, nat_tests) in
-    rw (z, d, t) refl
+-- the section of a rank
+section_at : ℕ → Section
+section_at zero = Input
+section_at (suc zero) = Latch
+section_at (suc (suc zero)) = Output
+section_at (suc (suc (suc zero))) = Bad
+section_at (suc (suc (suc (suc zero)))) = Constraint
+section_at (suc (suc (suc (suc (suc zero))))) = Justice
+section_at (suc (suc (suc (suc (suc (suc n)))))) = Fair
 
--- a name given to a position
-pub names-set : (bytes name : List ℕ) (places : List Place) (i start : ℕ) → All (IsWithin bytes) places → start ≡ length bytes → 0 < length name → map (name_in (bytes ++ name)) (set places i (record { start = start; count = length name })) ≡ set (map (name_in bytes) places) i (Some name)
-names-set bytes name places i start within e some =
-    rw (map-set, name_in-new bytes name start e some, names-append bytes name places within) refl
+section_at-rank : (s : Section) → section_at (rank s) ≡ s
+unfolding section_at
+section_at-rank Input = refl
+section_at-rank Latch = refl
+section_at-rank Output = refl
+section_at-rank Bad = refl
+section_at-rank Constraint = refl
+section_at-rank Justice = refl
+section_at-rank Fair = refl
 
--- a position whose place has no bytes has no name
-pub free_place : (bytes : List ℕ) (places : List Place) (i : ℕ) (p : Place) → i < length places → p ≡ get_or places i p → p.count ≤ 0 → slice_get (map (name_in bytes) places) i ≡ Some None
-free_place bytes places i p l e z =
-    let g : slice_get places i ≡ Some p = slice_get_read places (length places) i p refl l e in
-    let c : p.count ≡ 0 = omega arith in
-    rw (slice_get-map, g, c) refl
+-- sections of one rank are the same
+pub section_from_rank : (s t : Section) → rank s ≡ rank t → s ≡ t
+section_from_rank s t e = sym (section_at-rank s) ∙ (ap section_at e ∙ section_at-rank t)
 
--- positions without a name
-pub names-replicate : (bytes : List ℕ) (n : ℕ) → map (name_in bytes) (replicate n (record { start = 0; count = 0 })) ≡ replicate n None
-names-replicate bytes zero = refl
-names-replicate bytes (suc n) = ap (λ names. None ∷ names) (names-replicate bytes n)
+-- the places of two sections compare as not equal
+pub places_apart : (s t : Section) (j k : ℕ) → s ≢ t → is_eq (place_cmp (rank t, j) (rank s, k)) ≡ false
+places_apart s t j k apart = by (place_cmp (rank t, j) (rank s, k)) refl
+  where
+    by : (r : Ordering) → place_cmp (rank t, j) (rank s, k) ≡ r → is_eq r ≡ false
+    by Less e = refl
+    by Equal e = absurd (apart (section_from_rank s t (sym (ap (λ (p : Place). p.0) (exact_places (rank t, j) (rank s, k) e)))))
+    by Greater e = refl
 
--- a free position and a name have no fault
-pub no_refusal : (place : Option (Option (List ℕ))) (name : List ℕ) → place ≡ Some None → is_name name ≡ true → place_refusal place name ≡ None
-no_refusal place name e t = rw (e, t) refl
+-- and so do two positions of one section
+pub positions_apart : (s : Section) (j k : ℕ) → j ≢ k → is_eq (place_cmp (rank s, j) (rank s, k)) ≡ false
+positions_apart s j k apart = by (place_cmp (rank s, j) (rank s, k)) refl
+  where
+    by : (r : Ordering) → place_cmp (rank s, j) (rank s, k) ≡ r → is_eq r ≡ false
+    by Less e = refl
+    by Equal e = absurd (apart (ap (λ (p : Place). p.1) (exact_places (rank s, j) (rank s, k) e)))
+    by Greater e = refl
+
+-- one entry more is found at its key, and the others are found as before
+found_by : {K X : Type 0} {R : K → K → Ordering} → CmpEqualImpliesEq R → (k : K) (v : X) (q : K) (e : K × X) (es rest : List (K × X)) (r s t : Ordering)
+    → R k e.0 ≡ r → R q k ≡ s → R q e.0 ≡ t → lookup (is_at (R q)) rest ≡ cond (is_eq s) (Some v) (lookup (is_at (R q)) es)
+    → lookup (is_at (R q)) (match_ordering r ((k, v) ∷ e ∷ es) ((e.0, v) ∷ es) (e ∷ rest))
+    ≡ cond (is_eq s) (Some v) (cond (is_eq t) (Some e.1) (lookup (is_at (R q)) es))
+found_by exact k v q e es rest Less s t ke qk qe h = rw (qk, qe) refl
+found_by {K} {X} {R} exact k v q e es rest Equal s t ke qk qe h =
+    let same : R q k ≡ R q e.0 = ap (R q) (exact k e.0 ke) in
+    let st : s ≡ t = sym qk ∙ (same ∙ qe) in
+    rw (qe, st) (by (is_eq t))
+  where
+    by : (b : Bool) → cond b (Some v) (lookup (is_at (R q)) es) ≡ cond b (Some v) (cond b (Some e.1) (lookup (is_at (R q)) es))
+    by true = refl
+    by false = refl
+found_by {K} {X} {R} exact k v q e es rest Greater Equal Equal ke qk qe h =
+    let f : R k e.0 ≡ Equal = subst (λ (x : K). R x e.0 ≡ Equal) (exact q k qk) qe in
+    absurd (cc (f, ke))
+found_by exact k v q e es rest Greater Equal Less ke qk qe h = rw qe h
+found_by exact k v q e es rest Greater Equal Greater ke qk qe h = rw qe h
+found_by exact k v q e es rest Greater Less t ke qk qe h = rw (qe, h) refl
+found_by exact k v q e es rest Greater Greater t ke qk qe h = rw (qe, h) refl
+
+pub lookup-insert_entry : {K X : Type 0} {R : K → K → Ordering} → CmpEqualImpliesEq R → (k : K) (v : X) (q : K) (es : List (K × X))
+    → lookup (is_at (R q)) (insert_entry R es k v) ≡ cond (is_eq (R q k)) (Some v) (lookup (is_at (R q)) es)
+lookup-insert_entry exact k v q [] = refl
+lookup-insert_entry {K} {X} {R} exact k v q (e ∷ es) =
+    found_by exact k v q e es (insert_entry R es k v) (R k e.0) (R q k) (R q e.0) refl refl refl (lookup-insert_entry exact k v q es)
+
+-- what holds of each entry and of the new one holds of each entry after
+holds_by : {K X : Type 0} {R : K → K → Ordering} → CmpEqualImpliesEq R → (k : K) (v : X) (P : K × X → Type 0) (e : K × X) (es rest : List (K × X)) (r : Ordering)
+    → R k e.0 ≡ r → All P (e ∷ es) → P (k, v) → All P rest → All P (match_ordering r ((k, v) ∷ e ∷ es) ((e.0, v) ∷ es) (e ∷ rest))
+holds_by exact k v P e es rest Less ke a p h = All-cons P (k, v) (e ∷ es) p a
+holds_by {K} exact k v P e es rest Equal ke a p h = All-cons P (e.0, v) es (subst (λ (x : K). P (x, v)) (exact k e.0 ke) p) (All-tail P e es a)
+holds_by exact k v P e es rest Greater ke a p h = All-cons P e rest (All-head P e es a) h
+
+pub All-insert_entry : {K X : Type 0} {R : K → K → Ordering} → CmpEqualImpliesEq R → (k : K) (v : X) (P : K × X → Type 0) (es : List (K × X))
+    → All P es → P (k, v) → All P (insert_entry R es k v)
+All-insert_entry exact k v P [] a p = All-cons P (k, v) [] p a
+All-insert_entry {K} {X} {R} exact k v P (e ∷ es) a p =
+    holds_by exact k v P e es (insert_entry R es k v) (R k e.0) refl a p (All-insert_entry exact k v P es (All-tail P e es a) p)
+
+-- entries whose values are seen through a function, one more put in before or after that
+seen_by : {K X Y : Type 0} (f : X → Y) (k : K) (v : X) (e : K × X) (es rest : List (K × X)) (more : List (K × Y)) (r : Ordering)
+    → map (λ e. (e.0, f e.1)) rest ≡ more
+    → map (λ e. (e.0, f e.1)) (match_ordering r ((k, v) ∷ e ∷ es) ((e.0, v) ∷ es) (e ∷ rest))
+    ≡ match_ordering r ((k, f v) ∷ (e.0, f e.1) ∷ map (λ e. (e.0, f e.1)) es) ((e.0, f v) ∷ map (λ e. (e.0, f e.1)) es) ((e.0, f e.1) ∷ more)
+seen_by f k v e es rest more Less h = refl
+seen_by f k v e es rest more Equal h = refl
+seen_by {K} {X} {Y} f k v e es rest more Greater h = ap (λ (ys : List (K × Y)). (e.0, f e.1) ∷ ys) h
+
+pub insert_entry-map : {K X Y : Type 0} (R : K → K → Ordering) (f : X → Y) (k : K) (v : X) (es : List (K × X))
+    → map (λ e. (e.0, f e.1)) (insert_entry R es k v) ≡ insert_entry R (map (λ e. (e.0, f e.1)) es) k (f v)
+insert_entry-map R f k v [] = refl
+insert_entry-map R f k v (e ∷ es) =
+    seen_by f k v e es (insert_entry R es k v) (insert_entry R (map (λ e. (e.0, f e.1)) es) k (f v)) (R k e.0) (insert_entry-map R f k v es)
 
 -- each byte of a name is as the test says
 printable_from_test : (bytes : List ℕ) → list_all is_printable bytes ≡ true → All (λ b. (32 ≤ b) × (b ≤ 126)) bytes
@@ -74,22 +136,3 @@ IsName-from_test name t =
       short = grind (arith, nat_tests);
       printable = printable_from_test name (grind (arith, nat_tests));
     }
-
--- a test that refuses nothing was passed
-passed : (t : Bool) → (if t then None else Some BadName) ≡ None → t ≡ true
-passed true e = refl
-passed false e = cc
-
--- where a name has no fault it is one
-name_from_no_refusal : (place : Option (Option (List ℕ))) (name : List ℕ) → place_refusal place name ≡ None → is_name name ≡ true
-name_from_no_refusal None name e = cc
-name_from_no_refusal (Some (Some taken)) name e = cc
-name_from_no_refusal (Some None) name e = passed (is_name name) e
-
--- after a name was given or refused there are as many positions, and each name is one
-pub AreNames-given : (names new : Names) (i : ℕ) (name : List ℕ) (r : Result (Unit {0}) CircuitFault) → OnOk r (new ≡ slice_set names i (Some name)) → RefusesBy r (place_refusal (slice_get names i) name) → OnErr r (new ≡ names) → AreNames names → (length new ≡ length names) × AreNames new
-AreNames-given names new i name (Ok x) ok refused err named =
-    let n : IsName name = IsName-from_test name (name_from_no_refusal (slice_get names i) name refused) in
-    (ap length ok ∙ length-set names i (Some name), subst AreNames (sym ok) (All-set (λ place. IfSome place IsName) names i (Some name) n named))
-AreNames-given names new i name (Err x) ok refused err named =
-    (ap length err, subst AreNames (sym err) named)

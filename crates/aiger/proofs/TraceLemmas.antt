@@ -1,13 +1,13 @@
 -- There is exactly one trace from initial bits under input frames.
-use Rattle.std.proofs.Common.{◌≡◌, ◌≢◌, ℕ, zero, suc, ◌+◌, ◌*◌, ◌/◌, ◌<◌, ◌≤◌, Bool, true, false, ◌&&◌, List, [], ◌∷◌, ◌++◌, map, length, All, eqb, if◌then◌else◌, ◌==◌, refl, ap, sym, ◌∙◌, subst, arith, ⊎_elim}
+use Rattle.std.proofs.Common.{◌≡◌, ℕ, zero, suc, ◌+◌, ◌*◌, ◌/◌, ◌<◌, ◌≤◌, Bool, false, ◌&&◌, List, [], ◌∷◌, map, length, All, if◌then◌else◌, ◌==◌, refl, ap, sym, ◌∙◌, subst, arith, ⊎_elim}
 use Rattle.std.proofs.lemmas.Bool.Decides.{nat_tests}
 use Rattle.std.proofs.lemmas.Bool.{cases_lt}
 use Rattle.std.proofs.lemmas.List.{length-map}
 use Rattle.std.proofs.lemmas.List.Elements.{All-head, All-tail}
 use Rattle.aiger.specs.declared.circuit.Gate.{Gate}
 use Rattle.aiger.specs.declared.circuit.Latch.{Latch}
-use Rattle.aiger.specs.Literal.{Valuation, variable, literal_value}
-use Rattle.aiger.specs.Net.{Net, variables, IsDefined, SatisfiesFrom, Satisfies, AreOrderedFrom, bits_from, input_bits, latch_bits}
+use Rattle.aiger.specs.Literal.{Valuation, literal_value}
+use Rattle.aiger.specs.Net.{variables, SatisfiesFrom, AreOrderedFrom, bits_from}
 use Rattle.aiger.specs.Circuit.{Circuit, IsCircuit, net}
 use Rattle.aiger.specs.Trace.{IsFrame, IsTrace, next_state, SameFrame, SameTrace}
 
@@ -161,7 +161,7 @@ next_bits-agree bound (l ∷ ls) v w a d =
 next_state-agree : (c : Circuit) (v w : Valuation) → IsCircuit c → SameFrame c v w → next_state c v ≡ next_state c w
 next_state-agree c v w valid same =
     let bound : ℕ = suc (variables (net c)) in
-    next_bits-agree bound c.latches v w (λ k low high. same k low (omega arith)) (λ k d h. omega (arith, valid.nexts_defined k d h))
+    next_bits-agree bound c.latches v w (λ k low high. same k low (omega arith)) (λ k d h. omega (arith, valid.defined.nexts k d h))
 
 -- and two traces are the same
 pub trace_unique : (c : Circuit) (state : List Bool) (inputs : List (List Bool)) (vs ws : List Valuation) → IsCircuit c → IsTrace c state inputs vs → IsTrace c state inputs ws → SameTrace c vs ws

@@ -1,32 +1,53 @@
 -- A circuit as contracts see it ("AIGER 1.9 and Beyond", the sections of a file).
-use Rattle.std.specs.Prelude.{◌≡◌, ℕ, ◌+◌, ◌*◌, ◌<◌, ◌≤◌, List, [], ◌∷◌, ◌++◌, length, replicate, Option, None, Some, All, slice_get, slice_set, nat_lt, nat_le, if◌then◌else◌}
+use Rattle.std.specs.Prelude.{◌≡◌, ℕ, ◌+◌, ◌<◌, ◌≤◌, Bool, List, [], ◌∷◌, ◌++◌, map, length, replicate, Option, None, Some, All, is_some, slice_set, nat_lt, nat_le, if◌then◌else◌}
+use Rattle.std.specs.List.{list_all, sum_by, range_with_len}
+use Rattle.std.specs.List.Sorted.{IsStrictlySortedBy}
+use Rattle.std.specs.Map.{keys_of}
 use Rattle.aiger.specs.declared.circuit.Gate.{Gate}
 use Rattle.aiger.specs.declared.circuit.Latch.{Latch}
 use Rattle.aiger.specs.declared.circuit.Reset.TheVariants.{Zero}
 use Rattle.aiger.specs.declared.circuit.Section.{Section}
 use Rattle.aiger.specs.declared.circuit.Section.TheVariants as section
 use Rattle.aiger.specs.declared.fault.CircuitFault.{CircuitFault}
-use Rattle.aiger.specs.declared.fault.CircuitFault.TheVariants.{LiteralOutOfRange, OrderBroken, TooBig}
+use Rattle.aiger.specs.declared.fault.CircuitFault.TheVariants.{LiteralOutOfRange, OrderBroken, TooBig, NoSuchPosition, NameTaken, BadName}
 use Rattle.aiger.specs.Limits.{greatest_count}
 use Rattle.aiger.specs.Literal.{variable}
 use Rattle.aiger.specs.Net.{Net, variables, IsDefined, AreOrdered}
-pub use Rattle.aiger.specs.Names.{Names, given_name, name_at, IsName, is_name, AreNames, place_refusal}
+pub use Rattle.aiger.specs.Names.{Place, NameMap, rank, place_cmp, name_in, with_name_in, Names, given_name, name_at, IsName, is_name}
 pub use Rattle.aiger.specs.Refusal.{RefusesBy, RefusesOnlyBy}
 
 pub record Circuit : Type 0 where
   pub inputs : ℕ
   pub latches : List Latch
   pub gates : List Gate
+  pub outputs : List ℕ
   pub bads : List ℕ
   pub constraints : List ℕ
-  pub input_names : Names
-  pub latch_names : Names
-  pub bad_names : Names
-  pub constraint_names : Names
+  pub justice : List (List ℕ)
+  pub fair : List ℕ
+  pub names : NameMap
 
 -- its gates over its inputs and latches
 abbrev pub net : Circuit → Net
 net c = record { inputs = c.inputs; latches = length c.latches; gates = c.gates }
+
+-- how many positions a section has
+abbrev pub section_count : Section → Circuit → ℕ
+section_count section.Input c = c.inputs
+section_count section.Latch c = length c.latches
+section_count section.Output c = length c.outputs
+section_count section.Bad c = length c.bads
+section_count section.Constraint c = length c.constraints
+section_count section.Justice c = length c.justice
+section_count section.Fair c = length c.fair
+
+-- the name of a position of a section, if it has one
+abbrev pub name_of : Circuit → Section → ℕ → Option (List ℕ)
+name_of c section position = name_in c.names section position
+
+-- the names of one section: for each of its positions in order its name or none
+abbrev pub section_names : Section → Circuit → Names
+section_names section c = map (name_of c section) (range_with_len 0 (section_count section c))
 
 -- a latch of which nothing was said: its next is false, and it begins with 0
 abbrev pub fresh_latch : Latch
@@ -39,12 +60,12 @@ fresh_circuit inputs latches =
       inputs = inputs;
       latches = replicate latches fresh_latch;
       gates = [];
+      outputs = [];
       bads = [];
       constraints = [];
-      input_names = replicate inputs None;
-      latch_names = replicate latches None;
-      bad_names = [];
-      constraint_names = [];
+      justice = [];
+      fair = [];
+      names = [];
     }
 
 -- the circuit with a gate more
@@ -55,46 +76,67 @@ with_gate c rhs0 rhs1 = record c { gates = c.gates ++ record { rhs0 = rhs0; rhs1
 abbrev pub with_latch : Circuit → ℕ → Latch → Circuit
 with_latch c k latch = record c { latches = slice_set c.latches k latch }
 
--- the circuit with a bad property more, which has no name
+-- the circuit with an output more
+abbrev pub with_output : Circuit → ℕ → Circuit
+with_output c l = record c { outputs = c.outputs ++ l ∷ [] }
+
+-- the circuit with a bad property more
 abbrev pub with_bad : Circuit → ℕ → Circuit
-with_bad c l = record c { bads = c.bads ++ l ∷ []; bad_names = c.bad_names ++ None ∷ [] }
+with_bad c l = record c { bads = c.bads ++ l ∷ [] }
 
--- the circuit with a constraint more, which has no name
+-- the circuit with a constraint more
 abbrev pub with_constraint : Circuit → ℕ → Circuit
-with_constraint c l =
-    record c { constraints = c.constraints ++ l ∷ []; constraint_names = c.constraint_names ++ None ∷ [] }
+with_constraint c l = record c { constraints = c.constraints ++ l ∷ [] }
 
--- the names of one section
-abbrev pub names_of : Section → Circuit → Names
-names_of section.Input c = c.input_names
-names_of section.Latch c = c.latch_names
-names_of section.Bad c = c.bad_names
-names_of section.Constraint c = c.constraint_names
+-- the circuit with a justice property more, which has these literals
+abbrev pub with_justice : Circuit → List ℕ → Circuit
+with_justice c ls = record c { justice = c.justice ++ ls ∷ [] }
 
--- the circuit with the names of one section exchanged
-abbrev pub with_names : Section → Names → Circuit → Circuit
-with_names section.Input names c = record c { input_names = names }
-with_names section.Latch names c = record c { latch_names = names }
-with_names section.Bad names c = record c { bad_names = names }
-with_names section.Constraint names c = record c { constraint_names = names }
+-- the circuit with a fairness constraint more
+abbrev pub with_fair : Circuit → ℕ → Circuit
+with_fair c l = record c { fair = c.fair ++ l ∷ [] }
+
+-- the circuit with the name of a position of a section
+abbrev pub with_name : Circuit → Section → ℕ → List ℕ → Circuit
+with_name c section position name = record c { names = with_name_in c.names section position name }
+
+-- each list has at most as many entries as the format's numbers say, and so have the justice properties together
+pub record HasFew (c : Circuit) : Type 0 where
+  pub outputs : length c.outputs ≤ greatest_count
+  pub bads : length c.bads ≤ greatest_count
+  pub constraints : length c.constraints ≤ greatest_count
+  pub justice : length c.justice ≤ greatest_count
+  pub justice_literals : sum_by length c.justice ≤ greatest_count
+  pub fair : length c.fair ≤ greatest_count
+
+-- each literal of a circuit is defined over these gates
+pub record HasDefined (n : Net) (c : Circuit) : Type 0 where
+  pub nexts : All (λ l. IsDefined n l.next) c.latches
+  pub outputs : All (IsDefined n) c.outputs
+  pub bads : All (IsDefined n) c.bads
+  pub constraints : All (IsDefined n) c.constraints
+  pub justice : All (All (IsDefined n)) c.justice
+  pub fair : All (IsDefined n) c.fair
+
+-- a name that a circuit may have at a place: its section has the position
+pub record IsNamed (c : Circuit) (entry : Place × List ℕ) : Type 0 where
+  pub section : Section
+  pub is_section : entry.0.0 ≡ rank section
+  pub position : entry.0.1 < section_count section c
+  pub name : IsName entry.1
+
+-- the names of a circuit, in order
+pub record HasNames (c : Circuit) : Type 0 where
+  pub sorted : IsStrictlySortedBy place_cmp (keys_of c.names)
+  pub named : All (IsNamed c) c.names
 
 -- what every circuit keeps
 pub record IsCircuit (c : Circuit) : Type 0 where
   pub small : variables (net c) ≤ greatest_count
-  pub few_bads : length c.bads ≤ greatest_count
-  pub few_constraints : length c.constraints ≤ greatest_count
+  pub few : HasFew c
   pub ordered : AreOrdered (net c)
-  pub nexts_defined : All (λ l. IsDefined (net c) l.next) c.latches
-  pub bads_defined : All (IsDefined (net c)) c.bads
-  pub constraints_defined : All (IsDefined (net c)) c.constraints
-  pub input_places : length c.input_names ≡ c.inputs
-  pub latch_places : length c.latch_names ≡ length c.latches
-  pub bad_places : length c.bad_names ≡ length c.bads
-  pub constraint_places : length c.constraint_names ≡ length c.constraints
-  pub inputs_named : AreNames c.input_names
-  pub latches_named : AreNames c.latch_names
-  pub bads_named : AreNames c.bad_names
-  pub constraints_named : AreNames c.constraint_names
+  pub defined : HasDefined (net c) c
+  pub names : HasNames c
 
 -- the first fault of a circuit of so many inputs and latches
 abbrev pub circuit_refusal : ℕ → ℕ → Option CircuitFault
@@ -116,12 +158,30 @@ gate_refusal c rhs0 rhs1 =
 abbrev pub count_refusal : ℕ → Option CircuitFault
 count_refusal count = if nat_le greatest_count count then Some TooBig else None
 
--- the first fault of a bad property or a constraint with this literal, where there are so many of them
+-- the first fault of a property with this literal, where there are so many of its section
 abbrev pub property_refusal : Circuit → ℕ → ℕ → Option CircuitFault
 property_refusal c count l =
     if nat_lt (variables (net c)) (variable l) then Some LiteralOutOfRange
     else count_refusal count
 
+-- the fault of a list more of so many literals, after these lists
+abbrev pub size_refusal : List (List ℕ) → ℕ → Option CircuitFault
+size_refusal lists size =
+    if nat_le greatest_count (length lists) then Some TooBig
+    else (if nat_lt greatest_count (sum_by length lists + size) then Some TooBig else None)
+
+-- whether each of these literals is defined
+abbrev pub are_defined : Net → List ℕ → Bool
+are_defined n ls = list_all (λ l. nat_le (variable l) (variables n)) ls
+
+-- the first fault of a justice property with these literals
+abbrev pub justice_refusal : Circuit → List ℕ → Option CircuitFault
+justice_refusal c ls =
+    if are_defined (net c) ls then size_refusal c.justice (length ls) else Some LiteralOutOfRange
+
 -- the first fault of a name for a position of a section
 abbrev pub name_refusal : Circuit → Section → ℕ → List ℕ → Option CircuitFault
-name_refusal c section position name = place_refusal (slice_get (names_of section c) position) name
+name_refusal c section position name =
+    if nat_le (section_count section c) position then Some NoSuchPosition
+    else (if is_some (name_of c section position) then Some NameTaken
+    else (if is_name name then None else Some BadName))

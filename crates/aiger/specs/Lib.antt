@@ -3,7 +3,7 @@ pub mod Literal
 pub mod Net
 pub mod Refusal
 pub mod Names
-pub mod NameTable
+pub mod Justice
 pub mod Circuit
 pub mod View
 pub mod Trace

@@ -1,11 +1,45 @@
--- The names of a section's positions ("AIGER 1.9 and Beyond", the symbol table).
-use Rattle.std.specs.Prelude.{◌≡◌, ℕ, ◌<◌, ◌≤◌, ◌&&◌, Bool, List, length, Option, None, Some, All, slice_get, nat_lt, nat_le, if◌then◌else◌, IfSome}
+-- The names of positions ("AIGER 1.9 and Beyond", the symbol table): a map from section and position.
+use Rattle.std.specs.Prelude.{ℕ, ◌<◌, ◌≤◌, ◌&&◌, Bool, List, length, Option, None, Some, All, slice_get, nat_lt, nat_le}
 use Rattle.std.specs.List.{list_all}
-use Rattle.aiger.specs.declared.fault.CircuitFault.{CircuitFault}
-use Rattle.aiger.specs.declared.fault.CircuitFault.TheVariants.{NoSuchPosition, NameTaken, BadName}
+use Rattle.std.specs.Map.{lookup}
+use Rattle.std.specs.BTreeMap.{insert_entry, is_at}
+use Rattle.std.specs.Ordering.{nat_cmp, ordering_then}
+use Rattle.std.specs.declared.cmp.Ordering.{Ordering}
+use Rattle.aiger.specs.declared.circuit.Section.{Section}
+use Rattle.aiger.specs.declared.circuit.Section.TheVariants.{Input, Latch, Output, Bad, Constraint, Justice, Fair}
 use Rattle.aiger.specs.Limits.{longest_name}
 
--- the names of a section: one place for each position, which has a name or none
+-- where a section stands in the order of the names in a file: i l o b c j f
+abbrev pub rank : Section → ℕ
+rank Input = 0
+rank Latch = 1
+rank Output = 2
+rank Bad = 3
+rank Constraint = 4
+rank Justice = 5
+rank Fair = 6
+
+-- a place of a name: its section's rank, and the position
+abbrev pub Place : Type 0
+Place = ℕ × ℕ
+
+-- places in order: by section, then by position
+abbrev pub place_cmp : Place → Place → Ordering
+place_cmp = λ p q. ordering_then (nat_cmp p.0 q.0) (nat_cmp p.1 q.1)
+
+-- the names that there are, in the order of their places: whatever order they were given in, the same names are the same list
+abbrev pub NameMap : Type 0
+NameMap = List (Place × List ℕ)
+
+-- the name of a position of a section, if it has one
+abbrev pub name_in : NameMap → Section → ℕ → Option (List ℕ)
+name_in names section position = lookup (is_at (place_cmp (rank section, position))) names
+
+-- the names with this one more
+abbrev pub with_name_in : NameMap → Section → ℕ → List ℕ → NameMap
+with_name_in names section position name = insert_entry place_cmp names (rank section, position) name
+
+-- the names of one section as a list: for each position its name or none
 abbrev pub Names : Type 0
 Names = List (Option (List ℕ))
 
@@ -13,7 +47,7 @@ abbrev pub given_name : Option (Option (List ℕ)) → Option (List ℕ)
 given_name None = None
 given_name (Some name) = name
 
--- the name at a position of a section, if it has one
+-- the name at a position of such a list, if there is one
 abbrev pub name_at : Names → ℕ → Option (List ℕ)
 name_at names position = given_name (slice_get names position)
 
@@ -30,13 +64,3 @@ is_printable b = nat_le 32 b && nat_le b 126
 -- the same of a name as a test
 abbrev pub is_name : List ℕ → Bool
 is_name name = nat_lt 0 (length name) && (nat_le (length name) longest_name && list_all is_printable name)
-
--- each name of a section is one
-abbrev pub AreNames : Names → Type 0
-AreNames names = All (λ place. IfSome place IsName) names
-
--- the first fault of a name at a position, of which this is known
-abbrev pub place_refusal : Option (Option (List ℕ)) → List ℕ → Option CircuitFault
-place_refusal None name = Some NoSuchPosition
-place_refusal (Some (Some taken)) name = Some NameTaken
-place_refusal (Some None) name = if is_name name then None else Some BadName

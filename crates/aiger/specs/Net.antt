@@ -1,5 +1,5 @@
 -- Gates over inputs and latches, and what satisfies them ("AIGER 1.9 and Beyond", and-inverter graphs).
-use Rattle.std.specs.Prelude.{◌≡◌, ℕ, zero, suc, ◌+◌, ◌*◌, ◌<◌, ◌≤◌, Bool, ◌&&◌, List, [], ◌∷◌, ◌++◌, length}
+use Rattle.std.specs.Prelude.{◌≡◌, ℕ, zero, suc, ◌+◌, ◌*◌, ◌<◌, ◌≤◌, Bool, ◌&&◌, List, [], ◌∷◌, length}
 use Rattle.aiger.specs.Literal.{Valuation, variable, literal_value}
 use Rattle.aiger.specs.declared.circuit.Gate.{Gate}
 

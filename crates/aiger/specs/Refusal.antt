@@ -1,5 +1,5 @@
--- Faults of a circuit: their numbers, and what an answer says of the first fault that applies.
-use Rattle.std.specs.Prelude.{◌≡◌, ℕ, ◌⊎◌, Option, None, Some, Result, Ok, Err}
+-- Faults of a circuit: their numbers and names, and what an answer says of the first fault that applies.
+use Rattle.std.specs.Prelude.{◌≡◌, ℕ, List, codes, ◌⊎◌, Option, None, Some, Result, Ok, Err}
 use Rattle.aiger.specs.declared.fault.CircuitFault.{CircuitFault}
 use Rattle.aiger.specs.declared.fault.CircuitFault.TheVariants.{LiteralOutOfRange, OrderBroken, TooBig, NoMemory, NoSuchPosition, NameTaken, BadName}
 
@@ -22,3 +22,13 @@ fault_number NoMemory = 43
 fault_number NoSuchPosition = 44
 fault_number NameTaken = 45
 fault_number BadName = 46
+
+-- the name that is printed for a fault
+abbrev pub fault_name : CircuitFault → List ℕ
+fault_name LiteralOutOfRange = codes "LiteralOutOfRange"
+fault_name OrderBroken = codes "OrderBroken"
+fault_name TooBig = codes "TooBig"
+fault_name NoMemory = codes "NoMemory"
+fault_name NoSuchPosition = codes "NoSuchPosition"
+fault_name NameTaken = codes "NameTaken"
+fault_name BadName = codes "BadName"

@@ -1,10 +1,10 @@
 -- Traces of a circuit ("AIGER 1.9 and Beyond", semantics: latches begin at their resets and take their next literals' bits).
-use Rattle.std.specs.Prelude.{◌≡◌, ℕ, ◌≤◌, Bool, true, false, List, [], ◌∷◌, map, length, All}
+use Rattle.std.specs.Prelude.{◌≡◌, ℕ, ◌≤◌, Bool, true, false, List, [], ◌∷◌, map}
 use Rattle.aiger.specs.declared.circuit.Latch.{Latch}
 use Rattle.aiger.specs.declared.circuit.Reset.{Reset}
 use Rattle.aiger.specs.declared.circuit.Reset.TheVariants.{Zero, One, Free}
 use Rattle.aiger.specs.Literal.{Valuation, literal_value}
-use Rattle.aiger.specs.Net.{Net, variables, Satisfies, input_bits, latch_bits}
+use Rattle.aiger.specs.Net.{variables, Satisfies, input_bits, latch_bits}
 use Rattle.aiger.specs.Circuit.{Circuit, net}
 
 -- a frame from these latch bits and input bits: a valuation that satisfies the gates and has them

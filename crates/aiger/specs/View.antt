@@ -8,10 +8,10 @@ circuit_of c =
       inputs = c.inputs;
       latches = c.latches.items;
       gates = c.gates.items;
+      outputs = c.outputs.items;
       bads = c.bads.items;
       constraints = c.constraints.items;
-      input_names = c.input_names;
-      latch_names = c.latch_names;
-      bad_names = c.bad_names;
-      constraint_names = c.constraint_names;
+      justice = c.justice;
+      fair = c.fair.items;
+      names = c.names;
     }

@@ -1,7 +1,5 @@
 -- Worked circuits: a latch that toggles, and one gate.
-use Rattle.std.specs.Prelude.{ℕ, List, [], ◌∷◌, Bool, false, ◌==◌, Option, None}
-use Rattle.aiger.specs.declared.circuit.Gate.{Gate}
-use Rattle.aiger.specs.declared.circuit.Latch.{Latch}
+use Rattle.std.specs.Prelude.{ℕ, [], ◌∷◌, false, ◌==◌}
 use Rattle.aiger.specs.declared.circuit.Reset.TheVariants.{Zero}
 use Rattle.aiger.specs.Literal.{Valuation}
 use Rattle.aiger.specs.Net.{Net}
@@ -14,12 +12,12 @@ toggler =
       inputs = 0;
       latches = record { next = 3; reset = Zero } ∷ [];
       gates = [];
+      outputs = [];
       bads = 2 ∷ [];
       constraints = [];
-      input_names = [];
-      latch_names = None ∷ [];
-      bad_names = None ∷ [];
-      constraint_names = [];
+      justice = [];
+      fair = [];
+      names = [];
     }
 
 -- its latch is 0, and 1

@@ -1,10 +1,12 @@
-ghost use Rattle.std.specs.Prelude.{◌≡◌, ℕ, ◌+◌, ◌*◌, ◌<◌, ◌≤◌, [], ◌∷◌, ◌++◌, length, Some, None, IfOk, OnOk, OnErr, option_copied, slice_set, nat_le};
+//! Circuits: inputs, latches, gates, properties and names, and what every circuit keeps.
+ghost use Rattle.std.specs.Prelude.{◌≡◌, ℕ, ◌+◌, ◌*◌, ◌<◌, ◌≤◌, [], ◌∷◌, ◌++◌, length, Some, IfOk, OnOk, OnErr, option_copied, slice_get, nat_le};
 ghost use Rattle.aiger.specs.Refusal.{RefusesBy};
 ghost use Rattle.aiger.specs.Circuit.{count_refusal};
 
 use crate::fault::CircuitFault;
+use crate::justice::JusticeList;
 use crate::literal::Lit;
-use crate::names::NameTable;
+use crate::names::{NameKeeper, is_good_name};
 use std::alloc::Global;
 use std::marker::Model;
 
@@ -44,32 +46,41 @@ pub enum Section {
     Input,
     /// Letter `l`.
     Latch,
+    /// Letter `o`.
+    Output,
     /// Letter `b`.
     Bad,
     /// Letter `c`.
     Constraint,
+    /// Letter `j`.
+    Justice,
+    /// Letter `f`.
+    Fair,
 }
 
-/// An and-inverter circuit: inputs, latches, gates, bad properties, constraints and names.
+/// An and-inverter circuit: inputs, latches, gates, outputs, bad properties, constraints, justice
+/// properties, fairness constraints and names.
 ///
 /// Variables are numbered inputs first, then latches, then gates. Each gate's literal is above its
 /// operands, the greater of which comes first, and every literal is of a variable that is there.
+/// Names are a map from section and position: in whatever order they were given, the circuits are
+/// the same, and a position without a name takes no memory.
 #[derive(Debug, Drop)]
 pub struct Circuit {
     inputs: u32,
     latches: Vec<Latch>,
     gates: Vec<Gate>,
+    outputs: Vec<Lit>,
     bads: Vec<Lit>,
     constraints: Vec<Lit>,
-    // the names of each section, a place for each position
-    input_names: NameTable,
-    latch_names: NameTable,
-    bad_names: NameTable,
-    constraint_names: NameTable,
+    justice: JusticeList,
+    fair: Vec<Lit>,
+    names: NameKeeper,
 }
 
-/// The greatest variable, and the greatest count of a section.
-const GREATEST_COUNT: u32 = 1 << 30;
+/// The greatest variable, the greatest count of a section, and of the literals of all justice
+/// properties.
+pub const GREATEST_COUNT: u32 = 1 << 30;
 
 impl Model for Circuit {
     ghost use Rattle.aiger.specs.Circuit.{Circuit as CircuitValue, IsCircuit};
@@ -86,7 +97,7 @@ impl Model for Circuit {
 impl Circuit {
     ghost use Rattle.aiger.specs.Literal.{variable};
     ghost use Rattle.aiger.specs.Net.{variables};
-    ghost use Rattle.aiger.specs.Circuit.{IsCircuit, net, fresh_circuit, with_gate, with_latch, with_bad, with_constraint, names_of, with_names, name_at, circuit_refusal, gate_refusal, literal_refusal, property_refusal, name_refusal, RefusesBy, RefusesOnlyBy};
+    ghost use Rattle.aiger.specs.Circuit.{IsCircuit, net, fresh_circuit, with_gate, with_latch, with_output, with_bad, with_constraint, with_justice, with_fair, with_name, name_of, section_count, are_defined, circuit_refusal, gate_refusal, literal_refusal, property_refusal, justice_refusal, name_refusal, RefusesBy, RefusesOnlyBy};
 
     /// A circuit of so many inputs and latches, which begin with next 0 and reset `Zero`.
     ///
@@ -106,18 +117,16 @@ impl Circuit {
             Ok(list) => list,
             Err(_) => return Err(CircuitFault::NoMemory),
         };
-        let input_names = NameTable::with_places(alloc, inputs as usize)?;
-        let latch_names = NameTable::with_places(alloc, latches as usize)?;
         Ok(Circuit {
             inputs,
             latches: fresh_latches,
             gates: Vec::new(alloc),
+            outputs: Vec::new(alloc),
             bads: Vec::new(alloc),
             constraints: Vec::new(alloc),
-            input_names,
-            latch_names,
-            bad_names: NameTable::new(alloc),
-            constraint_names: NameTable::new(alloc),
+            justice: JusticeList::new(alloc),
+            fair: Vec::new(alloc),
+            names: NameKeeper::new(alloc),
         })
     }
 
@@ -166,11 +175,27 @@ impl Circuit {
         Ok(())
     }
 
+    /// Adds an output.
+    ///
+    /// Errors, of which the first that applies in this order is answered: `LiteralOutOfRange` where
+    /// the literal's variable is above the greatest so far, `TooBig` where there are 2^30 outputs
+    /// already, `NoMemory`. The circuit is then unchanged.
+    pub fn push_output(&mut self, lit: Lit) -> Result<(), CircuitFault>
+        ensures ok { OnOk result (self.new ≡ with_output self.old lit) }
+        ensures refused { RefusesBy result (property_refusal self.old (length self.old.outputs) lit) }
+        ensures err { OnErr result (self.new ≡ self.old) }
+    {
+        if !self.is_defined(lit) {
+            return Err(CircuitFault::LiteralOutOfRange);
+        }
+        push_counted(&mut self.outputs, lit)
+    }
+
     /// Adds a bad property, the literal that is true where it holds.
     ///
     /// Errors, of which the first that applies in this order is answered: `LiteralOutOfRange` where
-    /// the literal's variable is above the greatest so far, `TooBig` where there are 2^30 bad
-    /// properties already, `NoMemory`. The circuit is then unchanged.
+    /// the literal's variable is above the greatest so far, `TooBig` where there are 2^30 bad properties
+    /// already, `NoMemory`. The circuit is then unchanged.
     pub fn push_bad(&mut self, lit: Lit) -> Result<(), CircuitFault>
         ensures ok { OnOk result (self.new ≡ with_bad self.old lit) }
         ensures refused { RefusesBy result (property_refusal self.old (length self.old.bads) lit) }
@@ -179,14 +204,14 @@ impl Circuit {
         if !self.is_defined(lit) {
             return Err(CircuitFault::LiteralOutOfRange);
         }
-        push_named(&mut self.bads, &mut self.bad_names, lit)
+        push_counted(&mut self.bads, lit)
     }
 
     /// Adds a constraint, a literal that is to be true in every frame.
     ///
     /// Errors, of which the first that applies in this order is answered: `LiteralOutOfRange` where
-    /// the literal's variable is above the greatest so far, `TooBig` where there are 2^30
-    /// constraints already, `NoMemory`. The circuit is then unchanged.
+    /// the literal's variable is above the greatest so far, `TooBig` where there are 2^30 constraints
+    /// already, `NoMemory`. The circuit is then unchanged.
     pub fn push_constraint(&mut self, lit: Lit) -> Result<(), CircuitFault>
         ensures ok { OnOk result (self.new ≡ with_constraint self.old lit) }
         ensures refused { RefusesBy result (property_refusal self.old (length self.old.constraints) lit) }
@@ -195,7 +220,41 @@ impl Circuit {
         if !self.is_defined(lit) {
             return Err(CircuitFault::LiteralOutOfRange);
         }
-        push_named(&mut self.constraints, &mut self.constraint_names, lit)
+        push_counted(&mut self.constraints, lit)
+    }
+
+    /// Adds a justice property: literals each of which is to be true again and again. There may be
+    /// none.
+    ///
+    /// Errors, of which the first that applies in this order is answered: `LiteralOutOfRange` where
+    /// a literal's variable is above the greatest so far, `TooBig` where there are 2^30 justice
+    /// properties already, or all together would have more than 2^30 literals, `NoMemory`. The
+    /// circuit is then unchanged.
+    pub fn push_justice(&mut self, lits: &[Lit]) -> Result<(), CircuitFault>
+        ensures ok { OnOk result (self.new ≡ with_justice self.old lits.now) }
+        ensures refused { RefusesBy result (justice_refusal self.old lits.now) }
+        ensures err { OnErr result (self.new ≡ self.old) }
+    {
+        if !self.are_defined(lits) {
+            return Err(CircuitFault::LiteralOutOfRange);
+        }
+        self.justice.push(lits)
+    }
+
+    /// Adds a fairness constraint, a literal that is to be true again and again.
+    ///
+    /// Errors, of which the first that applies in this order is answered: `LiteralOutOfRange` where
+    /// the literal's variable is above the greatest so far, `TooBig` where there are 2^30 fairness constraints
+    /// already, `NoMemory`. The circuit is then unchanged.
+    pub fn push_fair(&mut self, lit: Lit) -> Result<(), CircuitFault>
+        ensures ok { OnOk result (self.new ≡ with_fair self.old lit) }
+        ensures refused { RefusesBy result (property_refusal self.old (length self.old.fair) lit) }
+        ensures err { OnErr result (self.new ≡ self.old) }
+    {
+        if !self.is_defined(lit) {
+            return Err(CircuitFault::LiteralOutOfRange);
+        }
+        push_counted(&mut self.fair, lit)
     }
 
     /// Gives a name to a position of a section: 1 to 300 bytes, each from 32 to 126.
@@ -209,16 +268,20 @@ impl Circuit {
         position: usize,
         name: &[u8],
     ) -> Result<(), CircuitFault>
-        ensures ok { OnOk result (self.new ≡ with_names section (slice_set (names_of section self.old) position (Some name.now)) self.old) }
+        ensures ok { OnOk result (self.new ≡ with_name self.old section position name.now) }
         ensures refused { RefusesBy result (name_refusal self.old section position name.now) }
         ensures err { OnErr result (self.new ≡ self.old) }
     {
-        match section {
-            Section::Input => self.input_names.give(position, name),
-            Section::Latch => self.latch_names.give(position, name),
-            Section::Bad => self.bad_names.give(position, name),
-            Section::Constraint => self.constraint_names.give(position, name),
+        if position >= self.count(section) {
+            return Err(CircuitFault::NoSuchPosition);
         }
+        if self.names.name(section, position).is_some() {
+            return Err(CircuitFault::NameTaken);
+        }
+        if !is_good_name(name) {
+            return Err(CircuitFault::BadName);
+        }
+        self.names.give(section, position, name)
     }
 
     /// How many variables there are, and so the greatest one: inputs, latches and gates.
@@ -234,6 +297,29 @@ impl Circuit {
         ensures { result ≡ nat_le (variable lit) (variables (net self.now)) }
     {
         lit.var() <= self.variables()
+    }
+
+    /// Whether each of these literals is of a variable that is there, or false or true.
+    fn are_defined(&self, lits: &[Lit]) -> bool
+        ensures { result ≡ are_defined (net self.now) lits.now }
+    {
+        let greatest = self.variables();
+        lits.iter().all(|lit| lit.var() <= greatest)
+    }
+
+    /// How many positions a section has.
+    fn count(&self, section: Section) -> usize
+        ensures { result ≡ section_count section self.now }
+    {
+        match section {
+            Section::Input => self.inputs as usize,
+            Section::Latch => self.latches.len(),
+            Section::Output => self.outputs.len(),
+            Section::Bad => self.bads.len(),
+            Section::Constraint => self.constraints.len(),
+            Section::Justice => self.justice.count(),
+            Section::Fair => self.fair.len(),
+        }
     }
 
     /// How many inputs there are.
@@ -260,6 +346,14 @@ impl Circuit {
         &self.gates
     }
 
+    /// The outputs.
+    pub fn outputs(&self) -> &[Lit]
+        ensures items { result.now ≡ self.now.outputs }
+        ensures valid { IsCircuit self.now }
+    {
+        &self.outputs
+    }
+
     /// The bad properties.
     pub fn bads(&self) -> &[Lit]
         ensures items { result.now ≡ self.now.bads }
@@ -276,38 +370,51 @@ impl Circuit {
         &self.constraints
     }
 
-    /// The name of a position of a section, if there is such a position and it has a name.
-    pub fn name(&self, section: Section, position: usize) -> Option<&[u8]>
-        ensures name { option_copied result ≡ name_at (names_of section self.now) position }
+    /// How many justice properties there are.
+    pub fn justice_count(&self) -> usize
+        ensures count { result ≡ length self.now.justice }
         ensures valid { IsCircuit self.now }
     {
-        match section {
-            Section::Input => self.input_names.name(position),
-            Section::Latch => self.latch_names.name(position),
-            Section::Bad => self.bad_names.name(position),
-            Section::Constraint => self.constraint_names.name(position),
-        }
+        self.justice.count()
+    }
+
+    /// The literals of a justice property.
+    pub fn justice(&self, i: usize) -> &[Lit]
+        requires { i < length self.now.justice }
+        ensures items { slice_get self.now.justice i ≡ Some result.now }
+        ensures valid { IsCircuit self.now }
+    {
+        self.justice.literals(i)
+    }
+
+    /// The fairness constraints.
+    pub fn fair(&self) -> &[Lit]
+        ensures items { result.now ≡ self.now.fair }
+        ensures valid { IsCircuit self.now }
+    {
+        &self.fair
+    }
+
+    /// The name of a position of a section, if there is such a position and it has a name.
+    pub fn name(&self, section: Section, position: usize) -> Option<&[u8]>
+        ensures name { option_copied result ≡ name_of self.now section position }
+        ensures valid { IsCircuit self.now }
+    {
+        self.names.name(section, position)
     }
 }
 
-/// Adds a literal to a list and a place to its names; after an error both are unchanged.
-fn push_named(list: &mut Vec<Lit>, names: &mut NameTable, lit: Lit) -> Result<(), CircuitFault>
+/// Adds a literal to a list of at most 2^30; after an error it is unchanged.
+fn push_counted(list: &mut Vec<Lit>, lit: Lit) -> Result<(), CircuitFault>
     ensures list { OnOk result (list.new.items ≡ list.old.items ++ lit ∷ []) }
-    ensures names { OnOk result (names.new ≡ names.old ++ None ∷ []) }
     ensures refused { RefusesBy result (count_refusal (length list.old.items)) }
-    ensures err_list { OnErr result (list.new.items ≡ list.old.items) }
-    ensures err_names { OnErr result (names.new ≡ names.old) }
+    ensures err { OnErr result (list.new.items ≡ list.old.items) }
 {
     if list.len() >= GREATEST_COUNT as usize {
         return Err(CircuitFault::TooBig);
     }
-    match list.reserve(1) {
-        Ok(()) => {}
-        Err(_) => return Err(CircuitFault::NoMemory),
-    }
-    names.push_place()?;
     match list.push(lit) {
         Ok(()) => Ok(()),
-        Err(_) => unreachable!(),
+        Err(_) => Err(CircuitFault::NoMemory),
     }
 }

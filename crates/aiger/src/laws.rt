@@ -1,3 +1,4 @@
+//! Laws of circuits and their traces, and worked rows: functions that do nothing, whose contracts are the laws.
 ghost use Rattle.std.specs.Prelude.{◌≡◌, ℕ, ◌+◌, ◌*◌, ◌<◌, ◌↔◌, List, [], ◌∷◌, Bool, true, false, not, ◌&&◌, All, length};
 ghost use Rattle.aiger.specs.Literal.{Valuation, literal_value, negation};
 ghost use Rattle.aiger.specs.Net.{Satisfies, AreOrdered};

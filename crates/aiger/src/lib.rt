@@ -3,13 +3,13 @@
 
 mod circuit;
 mod fault;
-mod laws;
+mod justice;
+pub mod laws;
 mod literal;
 mod names;
 
 pub use circuit::{Circuit, Gate, Latch, Reset, Section};
 pub use fault::CircuitFault;
-pub use laws::{exactly_one_trace, worked_traces};
 pub use literal::Lit;
 
 #[cfg(test)]

@@ -1,3 +1,4 @@
+//! Literals: variables, their negations, and the two constants.
 ghost use Rattle.std.specs.Prelude.{◌≡◌, ℕ};
 ghost use Rattle.aiger.specs.Literal.{variable, negation};
 

@@ -1,123 +1,99 @@
-ghost use Rattle.std.specs.Prelude.{◌≡◌, ℕ, ◌+◌, ◌<◌, ◌≤◌, [], ◌∷◌, ◌++◌, length, Some, None, IfOk, OnOk, OnErr, option_copied, slice_get, slice_set, replicate};
+//! The names of a circuit's positions: an entry for each position that has a name, and nothing for the others.
+ghost use Rattle.std.specs.Prelude.{◌≡◌, [], None, OnOk, OnErr, option_copied};
 ghost use Rattle.std.specs.List.{list_all};
-ghost use Rattle.aiger.specs.Names.{name_at, place_refusal, is_name, is_printable};
+ghost use Rattle.std.specs.List.Sorted.{IsStrictlySortedBy};
+ghost use Rattle.std.specs.Map.{keys_of};
+ghost use Rattle.aiger.specs.Names.{rank, place_cmp, name_in, with_name_in, is_name, is_printable};
 ghost use Rattle.aiger.specs.Refusal.{RefusesBy};
 
+use crate::circuit::Section;
 use crate::fault::CircuitFault;
 use std::alloc::Global;
+use std::collections::BTreeMap;
 use std::marker::Model;
 
 /// The greatest length of a name.
 const LONGEST_NAME: usize = 300;
 
-/// Where the bytes of a position's name are; a position without a name has none.
-#[derive(Clone, Copy, Debug)]
-struct Place {
-    start: usize,
-    count: usize,
-}
-
-/// The names of one section's positions: the bytes of all names, and a place for each position.
+/// The names that there are, in the order of their sections and positions.
 #[derive(Debug, Drop)]
-pub struct NameTable {
-    bytes: Vec<u8>,
-    places: Vec<Place>,
+pub struct NameKeeper {
+    alloc: Global,
+    // by the section's rank and the position
+    entries: BTreeMap<(u8, usize), Vec<u8>>,
 }
 
-impl Model for NameTable {
-    ghost use Rattle.std.specs.Prelude.{ℕ, List, Option, map, All};
+impl Model for NameKeeper {
+    ghost use Rattle.std.specs.Prelude.{map};
+    ghost use Rattle.aiger.specs.Names.{NameMap};
 
-    ghost Value = { List (Option (List ℕ)) };
+    ghost Value = { NameMap };
 
-    ghost use Rattle.aiger.specs.NameTable.{name_in, IsWithin};
-
-    ghost view = { λ t. map (name_in t.bytes.items) t.places.items };
-
-    ghost invariant = { λ t. All (IsWithin t.bytes.items) t.places.items };
+    ghost view = { λ k. map (λ e. (e.0, e.1.items)) k.entries.entries };
 }
 
-impl NameTable {
-    /// No positions.
-    pub fn new(alloc: Global) -> NameTable
+impl NameKeeper {
+    /// No names.
+    pub fn new(alloc: Global) -> NameKeeper
         ensures { result ≡ [] }
     {
-        NameTable {
-            bytes: Vec::new(alloc),
-            places: Vec::new(alloc),
+        NameKeeper {
+            alloc,
+            entries: BTreeMap::new(alloc),
         }
     }
 
-    /// So many positions without a name. The error is want of memory.
-    pub fn with_places(alloc: Global, count: usize) -> Result<NameTable, CircuitFault>
-        ensures ok { IfOk result (λ t. t ≡ replicate count None) }
-        ensures refused { RefusesBy result None }
-    {
-        match vec![in alloc; Place { start: 0, count: 0 }; count] {
-            Ok(places) => Ok(NameTable {
-                bytes: Vec::new(alloc),
-                places,
-            }),
-            Err(_) => Err(CircuitFault::NoMemory),
-        }
-    }
-
-    /// Adds a position without a name at the end. The error is want of memory.
-    pub fn push_place(&mut self) -> Result<(), CircuitFault>
-        ensures ok { OnOk result (self.new ≡ self.old ++ None ∷ []) }
+    /// Gives a position of a section a name. The error is want of memory.
+    pub fn give(
+        &mut self,
+        section: Section,
+        position: usize,
+        name: &[u8],
+    ) -> Result<(), CircuitFault>
+        ensures ok { OnOk result (self.new ≡ with_name_in self.old section position name.now) }
         ensures refused { RefusesBy result None }
         ensures err { OnErr result (self.new ≡ self.old) }
+        ensures sorted { OnOk result (IsStrictlySortedBy place_cmp (keys_of self.new)) }
     {
-        match self.places.push(Place { start: 0, count: 0 }) {
-            Ok(()) => Ok(()),
+        let mut bytes = Vec::new(self.alloc);
+        match bytes.extend_from_slice(name) {
+            Ok(()) => {}
+            Err(_) => return Err(CircuitFault::NoMemory),
+        }
+        match self.entries.insert((rank_of(section), position), bytes) {
+            Ok(_) => Ok(()),
             Err(_) => Err(CircuitFault::NoMemory),
         }
     }
 
-    /// Gives a name to a position that has none.
-    pub fn give(&mut self, position: usize, name: &[u8]) -> Result<(), CircuitFault>
-        ensures ok { OnOk result (self.new ≡ slice_set self.old position (Some name.now)) }
-        ensures refused { RefusesBy result (place_refusal (slice_get self.old position) name.now) }
-        ensures err { OnErr result (self.new ≡ self.old) }
+    /// The name of a position of a section, if it has one.
+    pub fn name(&self, section: Section, position: usize) -> Option<&[u8]>
+        ensures { option_copied result ≡ name_in self.now section position }
     {
-        if position >= self.places.len() {
-            return Err(CircuitFault::NoSuchPosition);
-        }
-        if self.places[position].count > 0 {
-            return Err(CircuitFault::NameTaken);
-        }
-        if !is_good_name(name) {
-            return Err(CircuitFault::BadName);
-        }
-        let start = self.bytes.len();
-        match self.bytes.extend_from_slice(name) {
-            Ok(()) => {
-                self.places[position] = Place {
-                    start,
-                    count: name.len(),
-                };
-                Ok(())
-            }
-            Err(_) => Err(CircuitFault::NoMemory),
+        match self.entries.get(&(rank_of(section), position)) {
+            Some(name) => Some(name.as_slice()),
+            None => None,
         }
     }
+}
 
-    /// The name of a position, if there is such a position and it has one.
-    pub fn name(&self, position: usize) -> Option<&[u8]>
-        ensures { option_copied result ≡ name_at self.now position }
-    {
-        match self.places.get(position) {
-            Some(place) if place.count > 0 => {
-                let (_, rest) = self.bytes.as_slice().split_at(place.start);
-                let (name, _) = rest.split_at(place.count);
-                Some(name)
-            }
-            _ => None,
-        }
+/// Where a section stands in the order of the names in a file.
+fn rank_of(section: Section) -> u8
+    ensures { result ≡ rank section }
+{
+    match section {
+        Section::Input => 0,
+        Section::Latch => 1,
+        Section::Output => 2,
+        Section::Bad => 3,
+        Section::Constraint => 4,
+        Section::Justice => 5,
+        Section::Fair => 6,
     }
 }
 
 /// Whether a name has 1 to 300 bytes, each from 32 to 126.
-fn is_good_name(name: &[u8]) -> bool
+pub fn is_good_name(name: &[u8]) -> bool
     ensures { result ≡ is_name name.now }
 {
     if name.is_empty() || name.len() > LONGEST_NAME {

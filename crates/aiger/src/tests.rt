@@ -1,3 +1,4 @@
+//! Each call once with ample memory, and the first fault of each.
 use super::*;
 use std::alloc::Global;
 use std::test::Fail;
@@ -78,6 +79,31 @@ fn names_are_given(rt: HostRuntime) -> Result<(), Fail> {
     assert!(rt; takes_name(&mut circuit, Section::Input, 0, b"a"));
     assert!(rt; circuit.name(Section::Input, 1) == Some(b"b".as_slice()));
     assert!(rt; circuit.name(Section::Latch, 1).is_none());
+    circuit.push_output(Lit::new(8))?;
+    circuit.push_justice(&[])?;
+    circuit.push_fair(Lit::TRUE)?;
+    assert!(rt; takes_name(&mut circuit, Section::Output, 0, b"o"));
+    assert!(rt; takes_name(&mut circuit, Section::Justice, 0, b"j"));
+    assert!(rt; takes_name(&mut circuit, Section::Fair, 0, b"f"));
+    Ok(())
+}
+
+#[test]
+fn outputs_justice_and_fairness_are_kept(rt: HostRuntime) -> Result<(), Fail> {
+    let mut circuit = small(rt.alloc())?;
+    let listed = [Lit::new(8), Lit::new(3)];
+    circuit.push_output(Lit::new(8))?;
+    circuit.push_output(Lit::new(8))?;
+    circuit.push_justice(&listed)?;
+    circuit.push_justice(&[])?;
+    circuit.push_justice(&[Lit::TRUE])?;
+    circuit.push_fair(Lit::new(5))?;
+    assert!(rt; circuit.outputs() == [Lit::new(8), Lit::new(8)].as_slice());
+    assert!(rt; circuit.justice_count() == 3);
+    assert!(rt; circuit.justice(0) == listed.as_slice());
+    assert!(rt; circuit.justice(1).is_empty());
+    assert!(rt; circuit.justice(2) == [Lit::TRUE].as_slice());
+    assert!(rt; circuit.fair() == [Lit::new(5)].as_slice());
     Ok(())
 }
 
@@ -109,6 +135,12 @@ fn literals_out_of_range(rt: HostRuntime) -> Result<(), Fail> {
     let fault = Some(CircuitFault::LiteralOutOfRange);
     assert_eq!(rt; circuit.push_bad(Lit::new(6)).err(), fault);
     assert_eq!(rt; circuit.push_constraint(Lit::new(7)).err(), fault);
+    assert_eq!(rt; circuit.push_output(Lit::new(6)).err(), fault);
+    assert_eq!(rt; circuit.push_fair(Lit::new(6)).err(), fault);
+    assert_eq!(rt;
+        circuit.push_justice(&[Lit::new(5), Lit::new(6)]).err(),
+        fault
+    );
     assert_eq!(rt; circuit.latches().len(), 1);
     assert_eq!(rt; circuit.set_latch(0, Lit::new(6), Reset::One).err(), fault);
     Ok(())
@@ -156,17 +188,16 @@ fn names_have_300_bytes_at_most(rt: HostRuntime) -> Result<(), Fail> {
 }
 
 #[test]
-fn faults_have_numbers(rt: HostRuntime) -> Result<(), Fail> {
-    for (fault, number, text) in [
-        (CircuitFault::LiteralOutOfRange, 40, "40 LiteralOutOfRange"),
-        (CircuitFault::OrderBroken, 41, "41 OrderBroken"),
-        (CircuitFault::TooBig, 42, "42 TooBig"),
-        (CircuitFault::NoMemory, 43, "43 NoMemory"),
-        (CircuitFault::NoSuchPosition, 44, "44 NoSuchPosition"),
-        (CircuitFault::NameTaken, 45, "45 NameTaken"),
-        (CircuitFault::BadName, 46, "46 BadName"),
+fn faults_are_printed(rt: HostRuntime) -> Result<(), Fail> {
+    for (fault, text) in [
+        (CircuitFault::LiteralOutOfRange, "40 LiteralOutOfRange"),
+        (CircuitFault::OrderBroken, "41 OrderBroken"),
+        (CircuitFault::TooBig, "42 TooBig"),
+        (CircuitFault::NoMemory, "43 NoMemory"),
+        (CircuitFault::NoSuchPosition, "44 NoSuchPosition"),
+        (CircuitFault::NameTaken, "45 NameTaken"),
+        (CircuitFault::BadName, "46 BadName"),
     ] {
-        assert_eq!(rt; fault.number(), number);
         assert_eq!(rt; format!(in rt.alloc(); "{fault}")?.as_str(), text);
     }
     Ok(())

@@ -1,0 +1,11 @@
+use Rattle.std.proofs.Common.{◌≡◌, sym, subst, true}
+use Rattle.aiger.specs.Circuit.{Circuit, net, are_defined}
+use Rattle.aiger.specs.View.{circuit_of}
+use Rattle.aiger.proofs.CircuitLemmas.{IsCircuit-justice, all_defined_from_test}
+use Rattle.aiger.proofs.circuit.Circuit.push_justice.Goals as goal
+
+pub invariant_of-self : goal.invariant_of-self
+invariant_of-self c =
+    IsCircuit-justice (circuit_of c.self.inside) c.args.lits.now c.push.new.self c.push.result c.self.invariant
+    (all_defined_from_test (net (circuit_of c.self.inside)) c.args.lits.now (subst (λ (x : Circuit). are_defined (net x) c.args.lits.now ≡ true) (sym c.self.view_is) (sym c.if-not-are_defined.ensures)))
+    c.push.ensures.ok c.push.ensures.refused c.push.ensures.err
