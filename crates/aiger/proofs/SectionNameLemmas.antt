@@ -59,6 +59,9 @@ none_from_map : (s : Section) (start n : ℕ) → map (λ k. name_in [] s k) (ra
 none_from_map s start zero = refl
 none_from_map s start (suc n) = ap (λ (names : Names). None ∷ names) (none_from_map s (start + 1) n)
 
+pub section_names-unnamed : (s : Section) (c : Circuit) → c.names ≡ [] → section_names s c ≡ replicate (section_count s c) None
+section_names-unnamed s c e = ap (λ (ns : NameMap). map (λ k. name_in ns s k) (range_with_len 0 (section_count s c))) e ∙ none_from_map s 0 (section_count s c)
+
 pub section_names-fresh : (s : Section) (inputs latches : ℕ) → section_names s (fresh_circuit inputs latches) ≡ replicate (section_count s (fresh_circuit inputs latches)) None
 section_names-fresh s inputs latches = none_from_map s 0 (section_count s (fresh_circuit inputs latches))
 

@@ -1,7 +1,7 @@
 -- The literals of bad properties and of constraints.
-use Rattle.std.proofs.Common.{◌≡◌, ℕ, suc, ◌+◌, ◌%◌, ◌^◌, ◌<◌, ◌≤◌, Bool, true, cond, ◌==◌, List, [], ◌∷◌, ◌++◌, length, map, get_or, take, replicate, Option, Some, None, unwrap_or, slice_get, refl, sym, ap, ap₂, subst, ◌∙◌, append_assoc, append-nil, length-append, arith}
+use Rattle.std.proofs.Common.{◌≡◌, ℕ, suc, ◌+◌, ◌%◌, ◌^◌, ◌<◌, ◌≤◌, Bool, true, cond, ◌==◌, List, [], ◌∷◌, ◌++◌, length, map, get_or, take, Option, Some, None, unwrap_or, slice_get, refl, sym, ap, ap₂, subst, ◌∙◌, append_assoc, append-nil, length-append, arith}
 use Rattle.std.specs.List.{flat_map}
-use Rattle.std.proofs.lemmas.List.{length-take, map-append, take_all, take_more, replicate-append-replicate}
+use Rattle.std.proofs.lemmas.List.{length-take, map-append, take_all, take_more}
 use Rattle.std.proofs.lemmas.List.Concat.{flat_map-append}
 use Rattle.std.proofs.lemmas.List.Elements.{All-get_or}
 use Rattle.std.proofs.lemmas.Option.{get_or_from_slice_get, slice_get_within}
@@ -17,9 +17,8 @@ use Rattle.btor2.proofs.AcceptedLemmas.{BodyIsAccepted}
 use Rattle.btor2.proofs.ModelLemmas.{IsAccepted-at, IsIn, IsIn-from_place}
 use Rattle.aiger.specs.Literal.{Valuation, literal_value}
 use Rattle.aiger.specs.Net.{Net, IsDefined}
-use Rattle.aiger.specs.Names.{Names}
 use Rattle.aiger.specs.Circuit.{Circuit}
-use Rattle.blast.specs.Leaves.{of_kind, observed, own_name}
+use Rattle.blast.specs.Leaves.{of_kind, observed, own_name, bad_names, constraint_names}
 use Rattle.blast.specs.Reads.{Together, RowsRead, BadsRead, ConstraintsRead}
 use Rattle.blast.specs.Rows.{row_at, literal_at, bad_literals, constraint_literals, with_literals}
 use Rattle.blast.proofs.KindRows.{row_at-reads}
@@ -165,22 +164,12 @@ WithProperties items rows old cur k =
     cur ≡ with_literals old (flat_map (λ (x : Item). bad_literals items rows x.body) (take k items)) (flat_map (λ (x : Item). constraint_literals items rows x.body) (take k items))
 
 pub with_literals-none : (c : Circuit) → c ≡ with_literals c [] []
-with_literals-none c =
-    sym (ap₂ (λ (b k : List ℕ). record c { bads = b; constraints = k; bad_names = c.bad_names ++ []; constraint_names = c.constraint_names ++ [] }) (append-nil c.bads) (append-nil c.constraints)
-    ∙ ap₂ (λ (b k : Names). record c { bad_names = b; constraint_names = k }) (append-nil c.bad_names) (append-nil c.constraint_names))
-
-more_names : (names : Names) (xs ys : List ℕ) → (names ++ replicate (length xs) None) ++ replicate (length ys) None ≡ names ++ replicate (length (xs ++ ys)) None
-more_names names xs ys =
-    append_assoc names (replicate (length xs) None) (replicate (length ys) None)
-    ∙ ap (λ (l : Names). names ++ l) (replicate-append-replicate (length xs) (length ys) None ∙ ap (λ (n : ℕ). replicate n None) (sym (length-append xs ys)))
+with_literals-none c = sym (ap₂ (λ (b k : List ℕ). record c { bads = b; constraints = k }) (append-nil c.bads) (append-nil c.constraints))
 
 with_literals-twice : (c : Circuit) (bads constraints more_bads more_constraints : List ℕ)
     → with_literals (with_literals c bads constraints) more_bads more_constraints ≡ with_literals c (bads ++ more_bads) (constraints ++ more_constraints)
 with_literals-twice c bads constraints more_bads more_constraints =
-    ap₂ (λ (b k : List ℕ). record c { bads = b; constraints = k; bad_names = (c.bad_names ++ replicate (length bads) None) ++ replicate (length more_bads) None; constraint_names = (c.constraint_names ++ replicate (length constraints) None) ++ replicate (length more_constraints) None })
-    (append_assoc c.bads bads more_bads) (append_assoc c.constraints constraints more_constraints)
-    ∙ ap₂ (λ (b k : Names). record c { bads = c.bads ++ (bads ++ more_bads); constraints = c.constraints ++ (constraints ++ more_constraints); bad_names = b; constraint_names = k })
-    (more_names c.bad_names bads more_bads) (more_names c.constraint_names constraints more_constraints)
+    ap₂ (λ (b k : List ℕ). record c { bads = b; constraints = k }) (append_assoc c.bads bads more_bads) (append_assoc c.constraints constraints more_constraints)
 
 -- a front with one item more
 front_more : (give : Item → List ℕ) (items : List Item) (k : ℕ) (x : Item) → slice_get items k ≡ Some x → flat_map give (take (k + 1) items) ≡ flat_map give (take k items) ++ give x
@@ -218,24 +207,25 @@ WithProperties-all items rows old cur k h end =
     h ∙ ap (λ (l : List Item). with_literals old (flat_map (λ (x : Item). bad_literals items rows x.body) l) (flat_map (λ (x : Item). constraint_literals items rows x.body) l)) (take_all k items end)
 
 -- all of them, where there was none
+pub record AllProperties (items : List Item) (n : Net) (old cur : Circuit) : Type 0 where
+  pub bads : BadsRead items n items cur.bads
+  pub constraints : ConstraintsRead items n items cur.constraints
+  pub many_bads : length cur.bads ≡ length (bad_names items)
+  pub many_constraints : length cur.constraints ≡ length (constraint_names items)
+  pub others : cur ≡ record old { bads = cur.bads; constraints = cur.constraints }
+
 pub all_properties : (items : List Item) (n : Net) (rows : List (List ℕ)) (old cur : Circuit) (k : ℕ) → IsWellFormed items → RowsRead items n rows → length rows ≡ length items
-    → WithProperties items rows old cur k → length items ≤ k → old.bads ≡ [] → old.constraints ≡ [] → old.bad_names ≡ [] → old.constraint_names ≡ []
-    → BadsRead items n items cur.bads × ConstraintsRead items n items cur.constraints
-    × (cur ≡ record old { bads = cur.bads; constraints = cur.constraints; bad_names = replicate (length (of_kind is_bad own_name items)) None; constraint_names = replicate (length (of_kind is_constraint own_name items)) None })
-all_properties items n rows old cur k w reads all h end no_bads no_constraints no_bad_names no_constraint_names =
+    → WithProperties items rows old cur k → length items ≤ k → old.bads ≡ [] → old.constraints ≡ [] → AllProperties items n old cur
+all_properties items n rows old cur k w reads all h end no_bads no_constraints =
     let bads = flat_map (λ (x : Item). bad_literals items rows x.body) items in
     let constraints = flat_map (λ (x : Item). constraint_literals items rows x.body) items in
     let made = WithProperties-all items rows old cur k h end in
     let all_bads : cur.bads ≡ bads = ap (λ (c : Circuit). c.bads) made ∙ ap (λ (l : List ℕ). l ++ bads) no_bads in
     let all_constraints : cur.constraints ≡ constraints = ap (λ (c : Circuit). c.constraints) made ∙ ap (λ (l : List ℕ). l ++ constraints) no_constraints in
-    let bad_places : old.bad_names ++ replicate (length bads) None ≡ replicate (length (of_kind is_bad own_name items)) None =
-    ap (λ (l : Names). l ++ replicate (length bads) None) no_bad_names ∙ ap (λ (n : ℕ). replicate n None) (length-bads items rows items) in
-    let constraint_places : old.constraint_names ++ replicate (length constraints) None ≡ replicate (length (of_kind is_constraint own_name items)) None =
-    ap (λ (l : Names). l ++ replicate (length constraints) None) no_constraint_names ∙ ap (λ (n : ℕ). replicate n None) (length-constraints items rows items) in (
-      subst (BadsRead items n items) (sym all_bads) (BadsRead-made items n rows w reads all),
-      subst (ConstraintsRead items n items) (sym all_constraints) (ConstraintsRead-made items n rows w reads all),
-      made
-          ∙ ap₂ (λ (b k : List ℕ). record old { bads = b; constraints = k; bad_names = old.bad_names ++ replicate (length bads) None; constraint_names = old.constraint_names ++ replicate (length constraints) None })
-          (ap (λ (l : List ℕ). l ++ bads) no_bads ∙ sym all_bads) (ap (λ (l : List ℕ). l ++ constraints) no_constraints ∙ sym all_constraints)
-          ∙ ap₂ (λ (b k : Names). record old { bads = cur.bads; constraints = cur.constraints; bad_names = b; constraint_names = k }) bad_places constraint_places,
-    )
+    record {
+      bads = subst (BadsRead items n items) (sym all_bads) (BadsRead-made items n rows w reads all);
+      constraints = subst (ConstraintsRead items n items) (sym all_constraints) (ConstraintsRead-made items n rows w reads all);
+      many_bads = ap length all_bads ∙ length-bads items rows items;
+      many_constraints = ap length all_constraints ∙ length-constraints items rows items;
+      others = made ∙ ap₂ (λ (b k : List ℕ). record old { bads = b; constraints = k }) (ap (λ (l : List ℕ). l ++ bads) no_bads ∙ sym all_bads) (ap (λ (l : List ℕ). l ++ constraints) no_constraints ∙ sym all_constraints);
+    }

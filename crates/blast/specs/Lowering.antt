@@ -4,7 +4,8 @@ use Rattle.btor2.specs.declared.item.Item.{Item}
 use Rattle.btor2.specs.Check.{IsWellFormed}
 use Rattle.btor2.specs.Trace.{Frame, IsInitial, AreInputs, IsTrace}
 use Rattle.aiger.specs.Literal.{Valuation, literal_value}
-use Rattle.aiger.specs.Circuit.{Circuit, IsCircuit}
+use Rattle.aiger.specs.declared.circuit.Section.TheVariants as section
+use Rattle.aiger.specs.Circuit.{Circuit, IsCircuit, section_names}
 use Rattle.aiger.specs.Trace.{IsTrace as IsCircuitTrace}
 use Rattle.blast.specs.Leaves.{input_bits, state_bits, input_names, state_names, bad_names, constraint_names, state_resets, bad_values, constraint_values}
 use Rattle.blast.specs.Cost.{cost, input_width}
@@ -30,11 +31,15 @@ pub record Lowers (items : List Item) (c : Circuit) : Type 0 where
   pub circuit : IsCircuit c
   -- inputs and latches are the bits of the inputs and the states, in file order, the lowest first; names and resets are theirs
   pub inputs : c.inputs ≡ input_width items
-  pub input_names : c.input_names ≡ input_names items
-  pub latch_names : c.latch_names ≡ state_names items
+  pub input_names : section_names section.Input c ≡ input_names items
+  pub latch_names : section_names section.Latch c ≡ state_names items
   pub resets : map (λ latch. latch.reset) c.latches ≡ state_resets items
-  pub bad_names : c.bad_names ≡ bad_names items
-  pub constraint_names : c.constraint_names ≡ constraint_names items
+  pub bad_names : section_names section.Bad c ≡ bad_names items
+  pub constraint_names : section_names section.Constraint c ≡ constraint_names items
+  -- there are no outputs, since no line that gives one is lowered yet, and no justice and no fairness
+  pub no_outputs : c.outputs ≡ []
+  pub no_justice : c.justice ≡ []
+  pub no_fair : c.fair ≡ []
   -- there are at most the stated number of gates
   pub few_gates : length c.gates ≤ cost items
   -- from all initial words and under all input frames, the two traces from the same bits show the same in every frame

@@ -1,5 +1,5 @@
 -- The literals that a circuit's latches, bad properties and constraints take from the rows of a model's nodes.
-use Rattle.std.specs.Prelude.{ℕ, suc, List, [], ◌∷◌, ◌++◌, ◌==◌, length, replicate, Option, Some, None, option_and_then, unwrap_or, slice_get, slice_index}
+use Rattle.std.specs.Prelude.{ℕ, suc, List, [], ◌∷◌, ◌++◌, ◌==◌, Option, Some, None, option_and_then, unwrap_or, slice_get, slice_index}
 use Rattle.base.specs.Word.{bit}
 use Rattle.btor2.specs.declared.item.Item.{Item}
 use Rattle.btor2.specs.declared.item.Body.{Body}
@@ -47,7 +47,6 @@ abbrev pub constraint_literals : List Item → List (List ℕ) → Body → List
 constraint_literals items rows (body.Constraint a) = literal_at items rows a ∷ []
 constraint_literals items rows _ = []
 
--- a circuit with more bad properties and constraints, which have no names
+-- a circuit with more bad properties and constraints
 abbrev pub with_literals : Circuit → List ℕ → List ℕ → Circuit
-with_literals c bads constraints =
-    record c { bads = c.bads ++ bads; constraints = c.constraints ++ constraints; bad_names = c.bad_names ++ replicate (length bads) None; constraint_names = c.constraint_names ++ replicate (length constraints) None }
+with_literals c bads constraints = record c { bads = c.bads ++ bads; constraints = c.constraints ++ constraints }

@@ -1,5 +1,5 @@
 -- Worked rows: small models whose lowering can be worked out by hand. The model of one bit that toggles is `toggler` of the models' crate.
-use Rattle.std.specs.Prelude.{ℕ, List, [], ◌∷◌, None, Some, codes}
+use Rattle.std.specs.Prelude.{ℕ, List, [], ◌∷◌, Some, codes}
 use Rattle.base.specs.declared.operators.Unary.TheVariants as unary
 use Rattle.base.specs.declared.operators.Binary.TheVariants as binary
 use Rattle.btor2.specs.declared.item.Item.{Item}
@@ -53,10 +53,10 @@ unsatisfied =
       inputs = 2;
       latches = [];
       gates = record { rhs0 = 7; rhs1 = 1 } ∷ [];
+      outputs = [];
       bads = 0 ∷ [];
       constraints = [];
-      input_names = None ∷ None ∷ [];
-      latch_names = [];
-      bad_names = None ∷ [];
-      constraint_names = [];
+      justice = [];
+      fair = [];
+      names = [];
     }

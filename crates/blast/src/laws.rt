@@ -28,7 +28,7 @@ pub fn a_lowered_circuit_runs()
         → (state : Frame) (inputs : List Frame) → IsInitial items state → AreInputs items inputs
         → (vs : List Valuation) × IsCircuitTrace c (state_bits items state) (map (input_bits items) inputs) vs }
 {
-    aiger::exactly_one_trace();
+    aiger::laws::exactly_one_trace();
 }
 
 /// A law: a bad property can rise in a circuit that lowers a model, while all constraints hold so far, exactly where it can
@@ -36,7 +36,7 @@ pub fn a_lowered_circuit_runs()
 pub fn bad_properties_rise_alike()
     ensures { (items : List Item) (c : Circuit) (b : ℕ) → Lowers items c → CanRise items b ↔ CanRiseInCircuit c b }
 {
-    aiger::exactly_one_trace();
+    aiger::laws::exactly_one_trace();
     btor2::laws::exactly_one_trace();
 }
 
@@ -47,7 +47,7 @@ pub fn worked_lowerings()
     ensures is_no_circuit { ¬ Lowers gated unsatisfied }
     ensures is_not_of_profile { (c : Circuit) → ¬ Lowers nextless c }
 {
-    aiger::worked_traces();
+    aiger::laws::worked_traces();
     btor2::laws::worked_traces();
 }
 

@@ -5,12 +5,12 @@ ghost use Rattle.btor2.specs.Check.{IsWellFormed};
 ghost use Rattle.btor2.specs.Lists.{places};
 ghost use Rattle.btor2.specs.Trace.{bits_of};
 ghost use Rattle.aiger.specs.Limits.{greatest_count};
-ghost use Rattle.aiger.specs.Circuit.{names_of, with_names, is_name};
+ghost use Rattle.aiger.specs.Circuit.{section_names, is_name};
 ghost use Rattle.blast.specs.declared.fault.LowerFault.TheVariants as fault;
 ghost use Rattle.blast.specs.Cost.{input_width, state_width};
-ghost use Rattle.blast.specs.Leaves.{bit_name, bit_names, leaf_names, input_names, state_names, bad_names, constraint_names};
+ghost use Rattle.blast.specs.Leaves.{bit_name, bit_names, leaf_names, bad_names, constraint_names};
 ghost use Rattle.blast.specs.Blocks.{block, written, IsBlank};
-ghost use Rattle.blast.specs.Sections.{kind_of, item_names, section_names};
+ghost use Rattle.blast.specs.Sections.{kind_of, item_names, model_names, Renames, TakesNames};
 
 use crate::fault::LowerFault;
 use crate::items::{bit_count, item_at};
@@ -50,9 +50,9 @@ fn give_name(
     name: &[u8],
     circuit: &mut Circuit,
 ) -> Result<(), LowerFault>
-    requires free { slice_get (names_of section circuit.old) position ≡ Some None }
+    requires free { slice_get (section_names section circuit.old) position ≡ Some None }
     requires name { is_name name.now ≡ true }
-    ensures ok { OnOk result (circuit.new ≡ with_names section (slice_set (names_of section circuit.old) position (Some name.now)) circuit.old) }
+    ensures ok { OnOk result (Renames section circuit.old (slice_set (section_names section circuit.old) position (Some name.now)) circuit.new) }
     ensures err { IfErr result (λ e. e ≡ fault.NoMemory) }
 {
     match circuit.set_name(section, position, name) {
@@ -70,11 +70,11 @@ fn name_bits(
     count: u64,
     circuit: &mut Circuit,
 ) -> Result<(), LowerFault>
-    requires free { IsBlank None first count (names_of section circuit.old) }
-    requires room { first + count ≤ length (names_of section circuit.old) }
-    requires few { length (names_of section circuit.old) ≤ greatest_count }
+    requires free { IsBlank None first count (section_names section circuit.old) }
+    requires room { first + count ≤ length (section_names section circuit.old) }
+    requires few { length (section_names section circuit.old) ≤ greatest_count }
     requires count { count ≤ 64 }
-    ensures ok { OnOk result (circuit.new ≡ with_names section (written (names_of section circuit.old) first (bit_names (Some symbol.now) 0 count)) circuit.old) }
+    ensures ok { OnOk result (Renames section circuit.old (written (section_names section circuit.old) first (bit_names (Some symbol.now) 0 count)) circuit.new) }
     ensures err { IfErr result (λ e. e ≡ fault.NoMemory) }
 {
     for bit in 0..count {
@@ -93,11 +93,11 @@ fn name_word(
     count: u64,
     circuit: &mut Circuit,
 ) -> Result<(), LowerFault>
-    requires free { IsBlank None first count (names_of section circuit.old) }
-    requires room { first + count ≤ length (names_of section circuit.old) }
-    requires few { length (names_of section circuit.old) ≤ greatest_count }
+    requires free { IsBlank None first count (section_names section circuit.old) }
+    requires room { first + count ≤ length (section_names section circuit.old) }
+    requires few { length (section_names section circuit.old) ≤ greatest_count }
     requires count { count ≤ 64 }
-    ensures ok { OnOk result (circuit.new ≡ with_names section (written (names_of section circuit.old) first (bit_names symbol.now 0 count)) circuit.old) }
+    ensures ok { OnOk result (Renames section circuit.old (written (section_names section circuit.old) first (bit_names symbol.now 0 count)) circuit.new) }
     ensures err { IfErr result (λ e. e ≡ fault.NoMemory) }
 {
     match symbol {
@@ -117,10 +117,10 @@ fn name_leaf(
 ) -> Result<usize, LowerFault>
     requires well_formed { IsWellFormed model.now }
     requires place { slice_get model.now place ≡ Some item.now }
-    requires free { IsBlank None first (length (leaf_names model.now item.now)) (names_of section circuit.old) }
-    requires room { first + length (leaf_names model.now item.now) ≤ length (names_of section circuit.old) }
-    requires few { length (names_of section circuit.old) ≤ greatest_count }
-    ensures ok { OnOk result (circuit.new ≡ with_names section (written (names_of section circuit.old) first (leaf_names model.now item.now)) circuit.old) }
+    requires free { IsBlank None first (length (leaf_names model.now item.now)) (section_names section circuit.old) }
+    requires room { first + length (leaf_names model.now item.now) ≤ length (section_names section circuit.old) }
+    requires few { length (section_names section circuit.old) ≤ greatest_count }
+    ensures ok { OnOk result (Renames section circuit.old (written (section_names section circuit.old) first (leaf_names model.now item.now)) circuit.new) }
     ensures count { IfOk result (λ n. n ≡ length (leaf_names model.now item.now)) }
     ensures err { IfErr result (λ e. e ≡ fault.NoMemory) }
 {
@@ -136,9 +136,9 @@ fn name_property(
     symbol: &Option<Symbol>,
     circuit: &mut Circuit,
 ) -> Result<usize, LowerFault>
-    requires free { IsBlank None first 1 (names_of section circuit.old) }
-    requires room { first + 1 ≤ length (names_of section circuit.old) }
-    ensures ok { OnOk result (circuit.new ≡ with_names section (written (names_of section circuit.old) first (symbol.now ∷ [])) circuit.old) }
+    requires free { IsBlank None first 1 (section_names section circuit.old) }
+    requires room { first + 1 ≤ length (section_names section circuit.old) }
+    ensures ok { OnOk result (Renames section circuit.old (written (section_names section circuit.old) first (symbol.now ∷ [])) circuit.new) }
     ensures count { IfOk result (λ n. n ≡ 1) }
     ensures err { IfErr result (λ e. e ≡ fault.NoMemory) }
 {
@@ -162,10 +162,10 @@ fn name_item(
 ) -> Result<usize, LowerFault>
     requires well_formed { IsWellFormed model.now }
     requires place { slice_get model.now place ≡ Some item.now }
-    requires free { IsBlank None first (length (item_names section model.now item.now)) (names_of section circuit.old) }
-    requires room { first + length (item_names section model.now item.now) ≤ length (names_of section circuit.old) }
-    requires few { length (names_of section circuit.old) ≤ greatest_count }
-    ensures ok { OnOk result (circuit.new ≡ with_names section (written (names_of section circuit.old) first (item_names section model.now item.now)) circuit.old) }
+    requires free { IsBlank None first (length (item_names section model.now item.now)) (section_names section circuit.old) }
+    requires room { first + length (item_names section model.now item.now) ≤ length (section_names section circuit.old) }
+    requires few { length (section_names section circuit.old) ≤ greatest_count }
+    ensures ok { OnOk result (Renames section circuit.old (written (section_names section circuit.old) first (item_names section model.now item.now)) circuit.new) }
     ensures count { IfOk result (λ n. n ≡ length (item_names section model.now item.now)) }
     ensures err { IfErr result (λ e. e ≡ fault.NoMemory) }
 {
@@ -174,6 +174,7 @@ fn name_item(
         Section::Latch => name_leaf(model, place, Section::Latch, first, item, circuit),
         Section::Bad => name_property(Section::Bad, first, &item.symbol, circuit),
         Section::Constraint => name_property(Section::Constraint, first, &item.symbol, circuit),
+        Section::Output | Section::Justice | Section::Fair => Ok(0),
     }
 }
 
@@ -186,14 +187,15 @@ fn section_places(model: &Model, section: Section) -> &[usize]
         Section::Latch => model.states(),
         Section::Bad => model.bads(),
         Section::Constraint => model.constraints(),
+        Section::Output | Section::Justice | Section::Fair => &[],
     }
 }
 
 /// Names the positions of a section.
 fn name_section(model: &Model, section: Section, circuit: &mut Circuit) -> Result<(), LowerFault>
-    requires blank { names_of section circuit.old ≡ replicate (length (section_names section model.now)) None }
-    requires few { length (names_of section circuit.old) ≤ greatest_count }
-    ensures ok { OnOk result (circuit.new ≡ with_names section (section_names section model.now) circuit.old) }
+    requires blank { section_names section circuit.old ≡ replicate (length (model_names section model.now)) None }
+    requires few { length (section_names section circuit.old) ≤ greatest_count }
+    ensures ok { OnOk result (Renames section circuit.old (model_names section model.now) circuit.new) }
     ensures err { IfErr result (λ e. e ≡ fault.NoMemory) }
 {
     let items = model.items();
@@ -213,11 +215,12 @@ fn name_section(model: &Model, section: Section, circuit: &mut Circuit) -> Resul
 ///
 /// Error: `NoMemory`. Some positions may then have their names.
 pub(crate) fn set_names(model: &Model, circuit: &mut Circuit) -> Result<(), LowerFault>
-    requires inputs { circuit.old.input_names ≡ replicate (input_width model.now) None }
-    requires latches { circuit.old.latch_names ≡ replicate (state_width model.now) None }
-    requires bads { circuit.old.bad_names ≡ replicate (length (bad_names model.now)) None }
-    requires constraints { circuit.old.constraint_names ≡ replicate (length (constraint_names model.now)) None }
-    ensures ok { OnOk result (circuit.new ≡ record circuit.old { input_names = input_names model.now; latch_names = state_names model.now; bad_names = bad_names model.now; constraint_names = constraint_names model.now }) }
+    requires unnamed { circuit.old.names ≡ [] }
+    requires inputs { circuit.old.inputs ≡ input_width model.now }
+    requires latches { length circuit.old.latches ≡ state_width model.now }
+    requires bads { length circuit.old.bads ≡ length (bad_names model.now) }
+    requires constraints { length circuit.old.constraints ≡ length (constraint_names model.now) }
+    ensures ok { OnOk result (TakesNames model.now circuit.old circuit.new) }
     ensures err { IfErr result (λ e. e ≡ fault.NoMemory) }
 {
     // a circuit has at most 2^30 positions of a section, so their counts fit

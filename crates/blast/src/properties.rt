@@ -1,5 +1,5 @@
 //! The bad properties and constraints of a circuit.
-ghost use Rattle.std.specs.Prelude.{◌≡◌, ℕ, ◌+◌, ◌<◌, ◌≤◌, [], ◌++◌, length, replicate, Some, None, IfErr, OnOk, slice_get};
+ghost use Rattle.std.specs.Prelude.{◌≡◌, ℕ, ◌+◌, ◌<◌, ◌≤◌, [], ◌++◌, length, Some, IfErr, OnOk, slice_get};
 ghost use Rattle.btor2.specs.Check.{IsWellFormed};
 ghost use Rattle.btor2.specs.Items.{node_width};
 ghost use Rattle.aiger.specs.Limits.{greatest_count};
@@ -96,11 +96,11 @@ pub(crate) fn push_properties(
     requires all { length table.now ≡ length model.now }
     requires bads { circuit.old.bads ≡ [] }
     requires constraints { circuit.old.constraints ≡ [] }
-    requires bad_names { circuit.old.bad_names ≡ [] }
-    requires constraint_names { circuit.old.constraint_names ≡ [] }
     ensures bads { OnOk result (BadsRead model.now (net circuit.old) model.now circuit.new.bads) }
     ensures constraints { OnOk result (ConstraintsRead model.now (net circuit.old) model.now circuit.new.constraints) }
-    ensures others { OnOk result (circuit.new ≡ record circuit.old { bads = circuit.new.bads; constraints = circuit.new.constraints; bad_names = replicate (length (bad_names model.now)) None; constraint_names = replicate (length (constraint_names model.now)) None }) }
+    ensures many_bads { OnOk result (length circuit.new.bads ≡ length (bad_names model.now)) }
+    ensures many_constraints { OnOk result (length circuit.new.constraints ≡ length (constraint_names model.now)) }
+    ensures others { OnOk result (circuit.new ≡ record circuit.old { bads = circuit.new.bads; constraints = circuit.new.constraints }) }
     ensures err { IfErr result (λ e. e ≡ fault.NoMemory) }
 {
     let items = model.items();

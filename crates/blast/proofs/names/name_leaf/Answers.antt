@@ -1,12 +1,12 @@
 use Rattle.std.proofs.Common.{ℕ, None, subst, sym, ◌∙◌, arith}
-use Rattle.aiger.specs.Circuit.{names_of}
+use Rattle.aiger.specs.Circuit.{section_names}
 use Rattle.blast.specs.Blocks.{IsBlank}
 use Rattle.blast.proofs.NameLemmas.{length-leaf_names}
 use Rattle.blast.proofs.names.name_leaf.Goals as goal
 
 pub name_word-requires-clause-free : goal.name_word-requires-clause-free
 name_word-requires-clause-free c =
-    subst (λ (n : ℕ). IsBlank None c.args.first n (names_of c.args.section c.args.circuit.now)) (length-leaf_names c.args.model.now c.args.item.now ∙ sym c.bit_count-count.ensures.value) c.requires.free
+    subst (λ (n : ℕ). IsBlank None c.args.first n (section_names c.args.section c.args.circuit.now)) (length-leaf_names c.args.model.now c.args.item.now ∙ sym c.bit_count-count.ensures.value) c.requires.free
 
 pub name_word-requires-clause-room : goal.name_word-requires-clause-room
 name_word-requires-clause-room c = omega (arith, length-leaf_names c.args.model.now c.args.item.now)

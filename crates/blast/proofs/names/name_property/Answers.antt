@@ -1,6 +1,7 @@
 use Rattle.std.proofs.Common.{◌≡◌, ℕ, List, Some, true, set, ap, sym, subst, ◌∙◌}
 use Rattle.aiger.specs.Names.{is_name}
-use Rattle.aiger.specs.Circuit.{names_of, with_names}
+use Rattle.aiger.specs.Circuit.{section_names}
+use Rattle.blast.specs.Sections.{Renames}
 use Rattle.blast.proofs.NameLemmas.{symbol_is_name, named_property, unnamed_property}
 use Rattle.blast.proofs.names.name_property.Goals as goal
 
@@ -10,7 +11,7 @@ give_name-requires-clause-name c = subst (λ (name : List ℕ). is_name name ≡
 pub returns-in_ok-give_name-in-Some-clause-ok : goal.returns-in_ok-give_name-in-Some-clause-ok
 returns-in_ok-give_name-in-Some-clause-ok c =
     rw c.in-Some.is (named_property c.args.section c.args.circuit.now c.give_name.new.circuit c.args.first c.in-Some.symbol c.requires.room
-    (c.in_ok-give_name-in-Some.ensures.ok ∙ ap (λ (s : List ℕ). with_names c.args.section (set (names_of c.args.section c.args.circuit.now) c.args.first (Some s)) c.args.circuit.now) c.bytes.ensures.bytes))
+    (subst (λ (s : List ℕ). Renames c.args.section c.args.circuit.now (set (section_names c.args.section c.args.circuit.now) c.args.first (Some s)) c.give_name.new.circuit) c.bytes.ensures.bytes c.in_ok-give_name-in-Some.ensures.ok))
 
 pub returns-in-None-clause-ok : goal.returns-in-None-clause-ok
 returns-in-None-clause-ok c = rw c.in-None.is (unnamed_property c.args.section c.args.circuit.now c.args.first c.requires.free c.requires.room)

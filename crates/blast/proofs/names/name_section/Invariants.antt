@@ -1,5 +1,5 @@
 use Rattle.std.proofs.Common.{◌≡◌, length}
-use Rattle.aiger.specs.Circuit.{names_of}
+use Rattle.aiger.specs.Circuit.{section_names}
 use Rattle.blast.specs.Sections.{item_names}
 use Rattle.blast.proofs.KindBlocks.{reached}
 use Rattle.blast.proofs.NameLemmas.{WithItems}
@@ -10,5 +10,5 @@ invariant-loop-place l =
     record {
       first : l.first ≡ reached (item_names l.section l.model) l.model l.place-items l.place-index;
       names : WithItems l.section l.model l.place-items l.fn.circuit l.circuit l.place-index;
-      positions : length (names_of l.section l.circuit) ≡ length (names_of l.section l.fn.circuit);
+      positions : length (section_names l.section l.circuit) ≡ length (section_names l.section l.fn.circuit);
     }

@@ -21,16 +21,16 @@ loop-place-preserved c =
     (rw c.items-items.ensures.items at c.item_at.ensures) c.in_ok-push_item.ensures.ok
 
 pub returns-clause-bads : goal.returns-clause-bads
-returns-clause-bads c =
-    (all_properties c.args.model.now (net c.args.circuit.now) c.args.table.now c.args.circuit.now c.loop-place.circuit c.loop-place.place c.items-items.ensures.well_formed c.requires.reads c.requires.all c.loop-place.invariant (omega (arith, ap length c.items-items.ensures.items))
-    c.requires.bads c.requires.constraints c.requires.bad_names c.requires.constraint_names).0
+returns-clause-bads c = (all_properties c.args.model.now (net c.args.circuit.now) c.args.table.now c.args.circuit.now c.loop-place.circuit c.loop-place.place c.items-items.ensures.well_formed c.requires.reads c.requires.all c.loop-place.invariant (omega (arith, ap length c.items-items.ensures.items)) c.requires.bads c.requires.constraints).bads
 
 pub returns-clause-constraints : goal.returns-clause-constraints
-returns-clause-constraints c =
-    (all_properties c.args.model.now (net c.args.circuit.now) c.args.table.now c.args.circuit.now c.loop-place.circuit c.loop-place.place c.items-items.ensures.well_formed c.requires.reads c.requires.all c.loop-place.invariant (omega (arith, ap length c.items-items.ensures.items))
-    c.requires.bads c.requires.constraints c.requires.bad_names c.requires.constraint_names).1
+returns-clause-constraints c = (all_properties c.args.model.now (net c.args.circuit.now) c.args.table.now c.args.circuit.now c.loop-place.circuit c.loop-place.place c.items-items.ensures.well_formed c.requires.reads c.requires.all c.loop-place.invariant (omega (arith, ap length c.items-items.ensures.items)) c.requires.bads c.requires.constraints).constraints
+
+pub returns-clause-many_bads : goal.returns-clause-many_bads
+returns-clause-many_bads c = (all_properties c.args.model.now (net c.args.circuit.now) c.args.table.now c.args.circuit.now c.loop-place.circuit c.loop-place.place c.items-items.ensures.well_formed c.requires.reads c.requires.all c.loop-place.invariant (omega (arith, ap length c.items-items.ensures.items)) c.requires.bads c.requires.constraints).many_bads
+
+pub returns-clause-many_constraints : goal.returns-clause-many_constraints
+returns-clause-many_constraints c = (all_properties c.args.model.now (net c.args.circuit.now) c.args.table.now c.args.circuit.now c.loop-place.circuit c.loop-place.place c.items-items.ensures.well_formed c.requires.reads c.requires.all c.loop-place.invariant (omega (arith, ap length c.items-items.ensures.items)) c.requires.bads c.requires.constraints).many_constraints
 
 pub returns-clause-others : goal.returns-clause-others
-returns-clause-others c =
-    (all_properties c.args.model.now (net c.args.circuit.now) c.args.table.now c.args.circuit.now c.loop-place.circuit c.loop-place.place c.items-items.ensures.well_formed c.requires.reads c.requires.all c.loop-place.invariant (omega (arith, ap length c.items-items.ensures.items))
-    c.requires.bads c.requires.constraints c.requires.bad_names c.requires.constraint_names).2
+returns-clause-others c = (all_properties c.args.model.now (net c.args.circuit.now) c.args.table.now c.args.circuit.now c.loop-place.circuit c.loop-place.place c.items-items.ensures.well_formed c.requires.reads c.requires.all c.loop-place.invariant (omega (arith, ap length c.items-items.ensures.items)) c.requires.bads c.requires.constraints).others
