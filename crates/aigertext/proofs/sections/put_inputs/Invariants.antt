@@ -1,4 +1,4 @@
-use Rattle.std.proofs.Common.{◌+◌, ◌-◌, ◌≤◌}
+use Rattle.std.proofs.Common.{◌≡◌, ◌+◌, ◌-◌}
 use Rattle.aigertext.specs.Ascii.{input_lines}
 use Rattle.base.proofs.PieceLemmas.{Put}
 use Rattle.aigertext.proofs.sections.put_inputs.Given as goal
@@ -6,5 +6,5 @@ use Rattle.aigertext.proofs.sections.put_inputs.Given as goal
 abbrev pub invariant-loop-index : goal.invariant-loop-index
 invariant-loop-index g l = record {
   put : Put (g.K.Sink.written l.initial.sink) (g.K.Sink.written l.sink) l.initial.outbox l.outbox (input_lines 1 l.count) (input_lines (l.index + 1) (l.count - l.index));
-  counted : g.K.Sink.failures l.initial.sink ≤ g.K.Sink.failures l.sink;
+  counted : g.K.Sink.failures l.sink ≡ g.K.Sink.failures l.initial.sink;
 }

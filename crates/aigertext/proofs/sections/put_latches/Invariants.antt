@@ -1,4 +1,4 @@
-use Rattle.std.proofs.Common.{◌≡◌, ◌+◌, ◌≤◌, drop}
+use Rattle.std.proofs.Common.{◌≡◌, ◌+◌, drop}
 use Rattle.aigertext.specs.Ascii.{latch_lines}
 use Rattle.base.proofs.PieceLemmas.{Put}
 use Rattle.aigertext.proofs.sections.put_latches.Given as goal
@@ -6,6 +6,6 @@ use Rattle.aigertext.proofs.sections.put_latches.Given as goal
 abbrev pub invariant-loop-latch : goal.invariant-loop-latch
 invariant-loop-latch g l = record {
   put : Put (g.K.Sink.written l.initial.sink) (g.K.Sink.written l.sink) l.initial.outbox l.outbox (latch_lines l.first l.latches) (latch_lines l.variable (drop l.latch-index l.latches));
-  counted : g.K.Sink.failures l.initial.sink ≤ g.K.Sink.failures l.sink;
+  counted : g.K.Sink.failures l.sink ≡ g.K.Sink.failures l.initial.sink;
   in_order : l.variable ≡ l.first + l.latch-index;
 }
