@@ -1,26 +1,32 @@
 -- Laws of lines and of the numbers on them.
-use Rattle.std.proofs.Common.{◌≡◌, ℕ, zero, suc, ◌^◌, ◌<◌, ◌≤◌, [], ◌∷◌, length, decimal, refl, lit<, arith}
+use Rattle.std.proofs.Common.{◌≡◌, ◌==◌, true, false, ℕ, List, ◌++◌, ap, length-append, ◌^◌, ◌<◌, ◌≤◌, [], ◌∷◌, length, decimal, refl, lit<, arith}
+use Rattle.std.proofs.lemmas.Bool.Decides.{nat_tests}
 use Rattle.std.proofs.lemmas.Fmt.{length-decimal-le}
-use Rattle.aigertext.specs.Ascii.{without_zero_tail}
+use Rattle.aigertext.specs.Ascii.{numbers_line, kept_line}
 
 -- a number of 32 bits has at most ten digits
 pub decimal_short : (n : ℕ) → n < 2 ^ 32 → length (decimal n) ≤ 10
 decimal_short n h = length-decimal-le 10 n (lit< tt) (omega arith) (omega arith)
 
--- two counts, of which the second is not 0, are all kept
-pub kept_second : (m n : ℕ) → 0 < n → without_zero_tail (m ∷ n ∷ []) ≡ m ∷ n ∷ []
-kept_second m zero h = absurd (omega arith)
-kept_second zero (suc n) h = refl
-kept_second (suc m) (suc n) h = refl
+-- a line of numbers has a byte
+length-numbers_line : (ns : List ℕ) → 0 < length (numbers_line ns)
+length-numbers_line [] = omega arith
+length-numbers_line (n ∷ []) = omega (arith, length-append (decimal n) (10 ∷ []))
+length-numbers_line (n ∷ m ∷ ns) = omega (arith, length-append (decimal n) (32 ∷ numbers_line (m ∷ ns)))
 
--- a count that is not 0 is kept before a 0
-pub kept_first : (m n : ℕ) → 0 < m → n ≡ 0 → without_zero_tail (m ∷ n ∷ []) ≡ m ∷ []
-kept_first zero n h e = absurd (omega arith)
-kept_first (suc m) zero h e = refl
-kept_first (suc m) (suc n) h e = absurd (omega arith)
+-- a number in front of counts of which there are any
+pub before_counts : (n : ℕ) (line behind : List ℕ) → line ≡ kept_line behind → 0 < length line → decimal n ++ 32 ∷ line ≡ numbers_line (n ∷ behind)
+before_counts n line [] e h = absurd (omega (arith, ap length e))
+before_counts n line (m ∷ behind) e h = rw e refl
 
--- two counts of 0 are left out
-pub kept_none : (m n : ℕ) → m ≡ 0 → n ≡ 0 → without_zero_tail (m ∷ n ∷ []) ≡ []
-kept_none zero zero d e = refl
-kept_none (suc m) n d e = absurd (omega arith)
-kept_none zero (suc n) d e = absurd (omega arith)
+-- a number with no counts behind it
+pub without_counts : (n : ℕ) (line behind : List ℕ) → line ≡ kept_line behind → length line ≤ 0 → numbers_line (n ∷ []) ≡ numbers_line (n ∷ behind)
+without_counts n line [] e h = refl
+without_counts n line (m ∷ behind) e h = absurd (omega (arith, ap length e, length-numbers_line (m ∷ behind)))
+
+-- what a test for 0 says
+pub empty_from_test : (n : ℕ) → n == 0 ≡ true → n ≤ 0
+empty_from_test n t = grind (arith, nat_tests)
+
+pub some_from_test : (n : ℕ) → n == 0 ≡ false → 0 < n
+some_from_test n t = grind (arith, nat_tests)

@@ -5,7 +5,8 @@ use Rattle.aiger.specs.declared.circuit.Latch.{Latch}
 use Rattle.aiger.specs.declared.circuit.Reset.{Reset}
 use Rattle.aiger.specs.declared.circuit.Reset.TheVariants.{Zero, One, Free}
 use Rattle.aiger.specs.Net.{variables}
-use Rattle.aiger.specs.Circuit.{Circuit, Names, net}
+use Rattle.aiger.specs.declared.circuit.Section.TheVariants as section
+use Rattle.aiger.specs.Circuit.{Circuit, Names, net, section_names}
 
 -- a line of numbers: decimals with one space between, and byte 10
 abbrev pub numbers_line : List ℕ → List ℕ
@@ -24,11 +25,20 @@ abbrev pub without_zero_tail : List ℕ → List ℕ
 without_zero_tail [] = []
 without_zero_tail (n ∷ ns) = before_kept n (without_zero_tail ns)
 
--- the header: the greatest variable, how many inputs, latches, outputs and gates, and then as far as they are not 0 bad properties and constraints
+-- how many bad properties, constraints, justice properties and fairness constraints there are
+abbrev pub last_counts : Circuit → List ℕ
+last_counts c = length c.bads ∷ length c.constraints ∷ length c.justice ∷ length c.fair ∷ []
+
+-- the header: the greatest variable, how many inputs, latches, outputs and gates, and then the last counts as far as they are not 0
 abbrev pub header : Circuit → List ℕ
 header c =
-    codes "aag" ++ 32 ∷ numbers_line (variables (net c) ∷ c.inputs ∷ length c.latches ∷ 0 ∷ length c.gates
-    ∷ without_zero_tail (length c.bads ∷ length c.constraints ∷ []))
+    codes "aag" ++ 32 ∷ numbers_line (variables (net c) ∷ c.inputs ∷ length c.latches ∷ length c.outputs ∷ length c.gates
+    ∷ without_zero_tail (last_counts c))
+
+-- a line of numbers, where there are any
+abbrev pub kept_line : List ℕ → List ℕ
+kept_line [] = []
+kept_line (n ∷ ns) = numbers_line (n ∷ ns)
 
 -- a line for each input: its literal. The first has the given variable
 abbrev pub input_lines : ℕ → ℕ → List ℕ
@@ -51,6 +61,20 @@ abbrev pub literal_lines : List ℕ → List ℕ
 literal_lines [] = []
 literal_lines (l ∷ ls) = numbers_line (l ∷ []) ++ literal_lines ls
 
+-- a line for each list: how many literals it has
+abbrev pub size_lines : List (List ℕ) → List ℕ
+size_lines [] = []
+size_lines (ls ∷ lists) = numbers_line (length ls ∷ []) ++ size_lines lists
+
+-- a line for each literal of each list
+abbrev pub list_lines : List (List ℕ) → List ℕ
+list_lines [] = []
+list_lines (ls ∷ lists) = literal_lines ls ++ list_lines lists
+
+-- the lines of the justice properties: the sizes of all of them, then their literals
+abbrev pub justice_lines : List (List ℕ) → List ℕ
+justice_lines lists = size_lines lists ++ list_lines lists
+
 -- a line for each gate: its literal and its operands, the greater one first
 abbrev pub gate_lines : ℕ → List Gate → List ℕ
 gate_lines first [] = []
@@ -66,15 +90,33 @@ abbrev pub name_lines : ℕ → ℕ → Names → List ℕ
 name_lines letter position [] = []
 name_lines letter position (n ∷ ns) = name_line letter position n ++ name_lines letter (suc position) ns
 
--- the names, by section in the order of the letters i l b c
-abbrev pub all_names : Circuit → List ℕ
-all_names c =
-    name_lines 105 0 c.input_names ++ (name_lines 108 0 c.latch_names
-    ++ (name_lines 98 0 c.bad_names ++ name_lines 99 0 c.constraint_names))
+-- the names, by section in the order of the letters i l o b c j f
+abbrev pub leaf_names : Circuit → List ℕ
+leaf_names c = name_lines 105 0 (section_names section.Input c) ++ name_lines 108 0 (section_names section.Latch c)
 
--- the text: header, inputs, latches, bad properties, constraints, gates and names
+abbrev pub property_names : Circuit → List ℕ
+property_names c =
+    name_lines 111 0 (section_names section.Output c) ++ (name_lines 98 0 (section_names section.Bad c)
+    ++ name_lines 99 0 (section_names section.Constraint c))
+
+abbrev pub liveness_names : Circuit → List ℕ
+liveness_names c = name_lines 106 0 (section_names section.Justice c) ++ name_lines 102 0 (section_names section.Fair c)
+
+abbrev pub all_names : Circuit → List ℕ
+all_names c = leaf_names c ++ (property_names c ++ liveness_names c)
+
+-- the lines of inputs and latches
+abbrev pub leaf_lines : Circuit → List ℕ
+leaf_lines c = input_lines 1 c.inputs ++ latch_lines (suc c.inputs) c.latches
+
+-- the lines of outputs, bad properties, constraints, justice properties and fairness constraints
+abbrev pub property_lines : Circuit → List ℕ
+property_lines c =
+    literal_lines c.outputs ++ (literal_lines c.bads ++ (literal_lines c.constraints
+    ++ (justice_lines c.justice ++ literal_lines c.fair)))
+
+-- the text: header, inputs, latches, properties, gates and names
 abbrev pub ascii_text : Circuit → List ℕ
 ascii_text c =
-    header c ++ (input_lines 1 c.inputs ++ (latch_lines (suc c.inputs) c.latches
-    ++ (literal_lines c.bads ++ (literal_lines c.constraints
-    ++ (gate_lines (suc (c.inputs + length c.latches)) c.gates ++ all_names c)))))
+    header c ++ (leaf_lines c ++ (property_lines c
+    ++ (gate_lines (suc (c.inputs + length c.latches)) c.gates ++ all_names c)))

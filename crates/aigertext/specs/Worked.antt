@@ -1,8 +1,9 @@
--- Worked circuits: a latch that toggles, a latch that keeps its bit, and one gate.
-use Rattle.std.specs.Prelude.{ℕ, [], ◌∷◌, None, Some, codes}
+-- Worked circuits: a latch that toggles, a latch that keeps its bit, one gate, and properties of each kind.
+use Rattle.std.specs.Prelude.{ℕ, [], ◌∷◌, codes}
 use Rattle.aiger.specs.declared.circuit.Reset.{Reset}
 use Rattle.aiger.specs.declared.circuit.Reset.TheVariants.{Zero, Free}
-use Rattle.aiger.specs.Circuit.{Circuit}
+use Rattle.aiger.specs.declared.circuit.Section.TheVariants.{Input, Latch, Output, Constraint, Justice, Fair}
+use Rattle.aiger.specs.Circuit.{Circuit, rank}
 
 -- one latch with this next literal and this reset, named t[0], and bad where it is 1
 abbrev pub one_latch : ℕ → Reset → Circuit
@@ -11,12 +12,12 @@ one_latch next reset =
       inputs = 0;
       latches = record { next = next; reset = reset } ∷ [];
       gates = [];
+      outputs = [];
       bads = 2 ∷ [];
       constraints = [];
-      input_names = [];
-      latch_names = Some (codes "t[0]") ∷ [];
-      bad_names = None ∷ [];
-      constraint_names = [];
+      justice = [];
+      fair = [];
+      names = ((rank Latch, 0), codes "t[0]") ∷ [];
     }
 
 -- the latch begins with 0 and takes its negation
@@ -34,10 +35,25 @@ one_gate =
       inputs = 2;
       latches = [];
       gates = record { rhs0 = 4; rhs1 = 2 } ∷ [];
+      outputs = [];
       bads = [];
       constraints = 6 ∷ [];
-      input_names = Some (codes "a") ∷ None ∷ [];
-      latch_names = [];
-      bad_names = [];
-      constraint_names = Some (codes "both") ∷ [];
+      justice = [];
+      fair = [];
+      names = ((rank Input, 0), codes "a") ∷ ((rank Constraint, 0), codes "both") ∷ [];
+    }
+
+-- one input, two outputs, justice properties of two literals and of none, and a fairness constraint, with names given to some
+abbrev pub all_kinds : Circuit
+all_kinds =
+    record {
+      inputs = 1;
+      latches = [];
+      gates = [];
+      outputs = 2 ∷ 3 ∷ [];
+      bads = [];
+      constraints = [];
+      justice = (2 ∷ 3 ∷ []) ∷ [] ∷ [];
+      fair = 1 ∷ [];
+      names = ((rank Output, 1), codes "y") ∷ ((rank Justice, 1), codes "j") ∷ ((rank Fair, 0), codes "f") ∷ [];
     }

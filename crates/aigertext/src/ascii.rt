@@ -1,9 +1,12 @@
-ghost use Rattle.std.specs.Prelude.{◌≡◌, ◌+◌, ◌≤◌, ◌∷◌, [], length, OnOk, OnErr};
+//! The ascii writer: the header and the order of the sections.
+ghost use Rattle.std.specs.Prelude.{◌≡◌, suc, ◌+◌, ◌≤◌, ◌∷◌, [], length, OnOk, OnErr};
 ghost use Rattle.std.specs.Io.KnownBytes.{Appends};
 ghost use Rattle.base.specs.Device.{CountsFaults, AppendsBeginning};
-ghost use Rattle.aigertext.specs.Ascii.{numbers_line, without_zero_tail, header, ascii_text};
+ghost use Rattle.aigertext.specs.Ascii.{numbers_line, without_zero_tail, last_counts, header, leaf_lines, property_lines, ascii_text};
+ghost use Rattle.aiger.specs.Circuit.{IsCircuit};
 ghost use Rattle.base.specs.Pieces.{Puts};
 
+use crate::justice::put_justice;
 use crate::line::Line;
 use crate::names::put_all_names;
 use crate::sections::{put_gates, put_inputs, put_latches, put_line, put_literals};
@@ -45,13 +48,56 @@ fn put_text<K: Sink>(
         Ok(()) => {}
         Err(fault) => return Err(fault),
     }
+    match put_leaves(outbox, sink, circuit) {
+        Ok(()) => {}
+        Err(fault) => return Err(fault),
+    }
+    match put_properties(outbox, sink, circuit) {
+        Ok(()) => {}
+        Err(fault) => return Err(fault),
+    }
+    match put_gates(outbox, sink, first_gate(circuit), circuit.gates()) {
+        Ok(()) => {}
+        Err(fault) => return Err(fault),
+    }
+    put_all_names(outbox, sink, circuit)
+}
+
+/// The variable of the first gate.
+fn first_gate(circuit: &Circuit) -> u32
+    ensures variable { result ≡ suc (circuit.now.inputs + length circuit.now.latches) }
+    ensures valid { IsCircuit circuit.now }
+{
+    circuit.inputs() + circuit.latches().len() as u32 + 1
+}
+
+/// Puts the lines of the inputs and latches.
+fn put_leaves<K: Sink>(
+    outbox: &mut Outbox,
+    sink: &mut K,
+    circuit: &Circuit,
+) -> Result<(), DeviceFault>
+    ensures puts { Puts result (K.written sink.old) (K.written sink.new) outbox.old outbox.new (leaf_lines circuit.now) }
+    ensures failures { CountsFaults result (K.failures sink.old) (K.failures sink.new) }
+{
     let inputs = circuit.inputs();
     match put_inputs(outbox, sink, inputs) {
         Ok(()) => {}
         Err(fault) => return Err(fault),
     }
-    let latches = circuit.latches();
-    match put_latches(outbox, sink, inputs + 1, latches) {
+    put_latches(outbox, sink, inputs + 1, circuit.latches())
+}
+
+/// Puts the lines of the outputs, bad properties, constraints, justice properties and fairness constraints.
+fn put_properties<K: Sink>(
+    outbox: &mut Outbox,
+    sink: &mut K,
+    circuit: &Circuit,
+) -> Result<(), DeviceFault>
+    ensures puts { Puts result (K.written sink.old) (K.written sink.new) outbox.old outbox.new (property_lines circuit.now) }
+    ensures failures { CountsFaults result (K.failures sink.old) (K.failures sink.new) }
+{
+    match put_literals(outbox, sink, circuit.outputs()) {
         Ok(()) => {}
         Err(fault) => return Err(fault),
     }
@@ -63,12 +109,11 @@ fn put_text<K: Sink>(
         Ok(()) => {}
         Err(fault) => return Err(fault),
     }
-    let first_gate = inputs + latches.len() as u32 + 1;
-    match put_gates(outbox, sink, first_gate, circuit.gates()) {
+    match put_justice(outbox, sink, circuit) {
         Ok(()) => {}
         Err(fault) => return Err(fault),
     }
-    put_all_names(outbox, sink, circuit)
+    put_literals(outbox, sink, circuit.fair())
 }
 
 /// Puts the header of a circuit.
@@ -81,10 +126,8 @@ fn put_header<K: Sink>(
     ensures failures { CountsFaults result (K.failures sink.old) (K.failures sink.new) }
 {
     let mut line = Line::new();
-    let bads = circuit.bads().len() as u32;
-    let constraints = circuit.constraints().len() as u32;
-    write_last_counts(&mut line, circuit.gates().len() as u32, bads, constraints);
-    line.before(0);
+    write_last_counts(&mut line, circuit);
+    line.before(circuit.outputs().len() as u32);
     line.before(circuit.latches().len() as u32);
     line.before(circuit.inputs());
     line.before(circuit.variables());
@@ -95,19 +138,20 @@ fn put_header<K: Sink>(
     put_line(outbox, sink, &line)
 }
 
-/// Writes the end of a header: the gates, and the bad properties and constraints as far as they are not 0.
-fn write_last_counts(line: &mut Line, gates: u32, bads: u32, constraints: u32)
-    ensures counts { line.new ≡ numbers_line (gates ∷ without_zero_tail (bads ∷ constraints ∷ [])) }
-    ensures short { length line.new ≤ 33 }
+/// Writes the end of a header: the gates, and the counts behind them as far as they are not 0.
+fn write_last_counts(line: &mut Line, circuit: &Circuit)
+    ensures counts { line.new ≡ numbers_line (length circuit.now.gates ∷ without_zero_tail (last_counts circuit.now)) }
+    ensures short { length line.new ≤ 55 }
 {
-    if constraints > 0 {
-        line.last(constraints);
-        line.before(bads);
-        line.before(gates);
-    } else if bads > 0 {
-        line.last(bads);
-        line.before(gates);
-    } else {
+    line.clear();
+    line.count(circuit.fair().len() as u32);
+    line.count(circuit.justice_count() as u32);
+    line.count(circuit.constraints().len() as u32);
+    line.count(circuit.bads().len() as u32);
+    let gates = circuit.gates().len() as u32;
+    if line.bytes().is_empty() {
         line.last(gates);
+    } else {
+        line.before(gates);
     }
 }

@@ -2,13 +2,13 @@
 #![tactic(auto)]
 
 mod ascii;
-mod laws;
+mod justice;
+pub mod laws;
 mod line;
 mod names;
 mod sections;
 
 pub use ascii::{Form, write_ascii};
-pub use laws::{worked_lines, worked_texts};
 
 #[cfg(test)]
 mod tests;

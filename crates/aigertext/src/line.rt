@@ -1,11 +1,12 @@
+//! One line, written from its end to its front.
 ghost use Rattle.std.specs.Prelude.{◌≡◌, ℕ, ◌+◌, ◌<◌, ◌≤◌, List, [], ◌∷◌, ◌++◌, length, drop, decimal};
-ghost use Rattle.aigertext.specs.Ascii.{numbers_line};
+ghost use Rattle.aigertext.specs.Ascii.{numbers_line, kept_line, before_kept};
 
 use itoa::write_digits;
 use std::marker::Model;
 
-/// How many bytes a line holds: enough for a header of seven numbers.
-const ROOM: usize = 96;
+/// How many bytes a line holds: enough for a header of nine numbers.
+const ROOM: usize = 104;
 
 /// A line that is written from its end to its front. Clauses see its bytes.
 #[derive(Drop)]
@@ -19,7 +20,7 @@ impl Model for Line {
 
     ghost view = { λ l. drop l.start l.bytes };
 
-    ghost invariant = { λ l. l.start ≤ 96 };
+    ghost invariant = { λ l. l.start ≤ 104 };
 }
 
 impl Line {
@@ -50,7 +51,7 @@ impl Line {
 
     /// Puts a byte in front.
     pub fn byte(&mut self, byte: u8)
-        requires { length self.old < 96 }
+        requires { length self.old < 104 }
         ensures { self.new ≡ byte ∷ self.old }
     {
         self.start -= 1;
@@ -59,7 +60,7 @@ impl Line {
 
     /// Puts a number in front: at most ten digits.
     pub fn number(&mut self, number: u32)
-        requires { length self.old + 10 ≤ 96 }
+        requires { length self.old + 10 ≤ 104 }
         ensures digits { self.new ≡ decimal number ++ self.old }
         ensures short { length self.new ≤ length self.old + 10 }
     {
@@ -78,11 +79,24 @@ impl Line {
 
     /// Puts a number and a space in front.
     pub fn before(&mut self, number: u32)
-        requires { length self.old + 11 ≤ 96 }
+        requires { length self.old + 11 ≤ 104 }
         ensures digits { self.new ≡ decimal number ++ 32 ∷ self.old }
         ensures short { length self.new ≤ length self.old + 11 }
     {
         self.byte(b' ');
         self.number(number);
+    }
+
+    /// Puts a count in front of those behind it: nothing where it is 0 and there are none.
+    pub fn count(&mut self, count: u32)
+        requires { length self.old + 11 ≤ 104 }
+        ensures counts { (behind : List ℕ) → self.old ≡ kept_line behind → self.new ≡ kept_line (before_kept count behind) }
+        ensures short { length self.new ≤ length self.old + 11 }
+    {
+        if !self.bytes().is_empty() {
+            self.before(count);
+        } else if count > 0 {
+            self.last(count);
+        }
     }
 }

@@ -1,7 +1,8 @@
+//! The lines of the names that positions have.
 ghost use Rattle.std.specs.Prelude.{◌≡◌, ◌≤◌, ◌<◌, ◌∷◌, ◌++◌, [], length, decimal, Some};
 ghost use Rattle.base.specs.Device.{CountsFaults};
-ghost use Rattle.aiger.specs.Circuit.{names_of, name_at};
-ghost use Rattle.aigertext.specs.Ascii.{name_line, name_lines, all_names};
+ghost use Rattle.aiger.specs.Circuit.{section_count, section_names, name_of};
+ghost use Rattle.aigertext.specs.Ascii.{name_line, name_lines, leaf_names, property_names, liveness_names, all_names};
 ghost use Rattle.base.specs.Pieces.{Puts};
 
 use crate::line::Line;
@@ -9,13 +10,33 @@ use crate::sections::put_line;
 use aiger::{Circuit, Section};
 use base::{DeviceFault, Outbox, Sink};
 
-/// Puts the names of all sections, in the order of the letters i l b c.
+/// Puts the names of all sections, in the order of the letters i l o b c j f.
 pub fn put_all_names<K: Sink>(
     outbox: &mut Outbox,
     sink: &mut K,
     circuit: &Circuit,
 ) -> Result<(), DeviceFault>
     ensures puts { Puts result (K.written sink.old) (K.written sink.new) outbox.old outbox.new (all_names circuit.now) }
+    ensures failures { CountsFaults result (K.failures sink.old) (K.failures sink.new) }
+{
+    match put_leaf_names(outbox, sink, circuit) {
+        Ok(()) => {}
+        Err(fault) => return Err(fault),
+    }
+    match put_property_names(outbox, sink, circuit) {
+        Ok(()) => {}
+        Err(fault) => return Err(fault),
+    }
+    put_liveness_names(outbox, sink, circuit)
+}
+
+/// Puts the names of the inputs and latches.
+fn put_leaf_names<K: Sink>(
+    outbox: &mut Outbox,
+    sink: &mut K,
+    circuit: &Circuit,
+) -> Result<(), DeviceFault>
+    ensures puts { Puts result (K.written sink.old) (K.written sink.new) outbox.old outbox.new (leaf_names circuit.now) }
     ensures failures { CountsFaults result (K.failures sink.old) (K.failures sink.new) }
 {
     match put_names(
@@ -29,13 +50,32 @@ pub fn put_all_names<K: Sink>(
         Ok(()) => {}
         Err(fault) => return Err(fault),
     }
-    match put_names(
+    put_names(
         outbox,
         sink,
         circuit,
         Section::Latch,
         b'l',
         circuit.latches().len() as u32,
+    )
+}
+
+/// Puts the names of the outputs, bad properties and constraints.
+fn put_property_names<K: Sink>(
+    outbox: &mut Outbox,
+    sink: &mut K,
+    circuit: &Circuit,
+) -> Result<(), DeviceFault>
+    ensures puts { Puts result (K.written sink.old) (K.written sink.new) outbox.old outbox.new (property_names circuit.now) }
+    ensures failures { CountsFaults result (K.failures sink.old) (K.failures sink.new) }
+{
+    match put_names(
+        outbox,
+        sink,
+        circuit,
+        Section::Output,
+        b'o',
+        circuit.outputs().len() as u32,
     ) {
         Ok(()) => {}
         Err(fault) => return Err(fault),
@@ -61,6 +101,36 @@ pub fn put_all_names<K: Sink>(
     )
 }
 
+/// Puts the names of the justice properties and fairness constraints.
+fn put_liveness_names<K: Sink>(
+    outbox: &mut Outbox,
+    sink: &mut K,
+    circuit: &Circuit,
+) -> Result<(), DeviceFault>
+    ensures puts { Puts result (K.written sink.old) (K.written sink.new) outbox.old outbox.new (liveness_names circuit.now) }
+    ensures failures { CountsFaults result (K.failures sink.old) (K.failures sink.new) }
+{
+    match put_names(
+        outbox,
+        sink,
+        circuit,
+        Section::Justice,
+        b'j',
+        circuit.justice_count() as u32,
+    ) {
+        Ok(()) => {}
+        Err(fault) => return Err(fault),
+    }
+    put_names(
+        outbox,
+        sink,
+        circuit,
+        Section::Fair,
+        b'f',
+        circuit.fair().len() as u32,
+    )
+}
+
 /// Puts a line for each name of a section of so many positions.
 fn put_names<K: Sink>(
     outbox: &mut Outbox,
@@ -70,8 +140,8 @@ fn put_names<K: Sink>(
     letter: u8,
     count: u32,
 ) -> Result<(), DeviceFault>
-    requires { length (names_of section circuit.now) ≡ count }
-    ensures puts { Puts result (K.written sink.old) (K.written sink.new) outbox.old outbox.new (name_lines letter 0 (names_of section circuit.now)) }
+    requires { section_count section circuit.now ≡ count }
+    ensures puts { Puts result (K.written sink.old) (K.written sink.new) outbox.old outbox.new (name_lines letter 0 (section_names section circuit.now)) }
     ensures failures { CountsFaults result (K.failures sink.old) (K.failures sink.new) }
 {
     for position in 0..count {
@@ -92,7 +162,7 @@ fn put_name_at<K: Sink>(
     letter: u8,
     position: u32,
 ) -> Result<(), DeviceFault>
-    ensures puts { Puts result (K.written sink.old) (K.written sink.new) outbox.old outbox.new (name_line letter position (name_at (names_of section circuit.now) position)) }
+    ensures puts { Puts result (K.written sink.old) (K.written sink.new) outbox.old outbox.new (name_line letter position (name_of circuit.now section position)) }
     ensures failures { CountsFaults result (K.failures sink.old) (K.failures sink.new) }
 {
     match circuit.name(section, position as usize) {

@@ -1,3 +1,4 @@
+//! The lines of inputs, latches, literals and gates.
 ghost use Rattle.std.specs.Prelude.{◌+◌, ◌*◌, ◌≤◌, ◌≡◌, ◌∷◌, [], length};
 ghost use Rattle.base.specs.Device.{CountsFaults};
 ghost use Rattle.aigertext.specs.Ascii.{numbers_line, input_lines, reset_numbers, latch_lines, literal_lines, gate_lines};
@@ -16,7 +17,7 @@ pub fn put_line<K: Sink>(outbox: &mut Outbox, sink: &mut K, line: &Line) -> Resu
 }
 
 /// Puts the line of one number.
-fn put_number<K: Sink>(
+pub fn put_number<K: Sink>(
     outbox: &mut Outbox,
     sink: &mut K,
     line: &mut Line,

@@ -1,3 +1,4 @@
+//! The texts of small circuits, with ample memory.
 use super::*;
 use aiger::{Circuit, Lit, Reset, Section};
 use base::VecSink;
@@ -23,6 +24,20 @@ fn gate(alloc: Global) -> Option<Circuit> {
     Some(circuit)
 }
 
+/// Outputs, justice properties and a fairness constraint over one input, some with names.
+fn all_kinds(alloc: Global) -> Option<Circuit> {
+    let mut circuit = Circuit::new(alloc, 1, 0).ok()?;
+    let listed = [Lit::new(2), Lit::new(3)];
+    circuit.push_output(Lit::new(2)).ok()?;
+    circuit.push_output(Lit::new(3)).ok()?;
+    circuit.push_justice(&listed).ok()?;
+    circuit.push_justice(&[]).ok()?;
+    circuit.push_fair(Lit::TRUE).ok()?;
+    circuit.set_name(Section::Fair, 0, b"f").ok()?;
+    circuit.set_name(Section::Output, 1, b"y").ok()?;
+    Some(circuit)
+}
+
 #[test]
 fn spellings(rt: HostRuntime) {
     let mut sink = VecSink::new(rt.alloc());
@@ -42,5 +57,14 @@ fn spellings(rt: HostRuntime) {
     assert_eq!(rt;
         sink.bytes(),
         b"aag 3 2 0 0 1 0 1\n2\n4\n6\n6 4 2\n".as_slice()
+    );
+    let mut sink = VecSink::new(rt.alloc());
+    match all_kinds(rt.alloc()) {
+        Some(circuit) => assert!(rt; write_ascii(&circuit, &mut sink).is_ok()),
+        None => assert!(rt; false),
+    }
+    assert_eq!(rt;
+        sink.bytes(),
+        b"aag 1 1 0 2 0 0 0 2 1\n2\n2\n3\n2\n0\n2\n3\n1\no1 y\nf0 f\n".as_slice()
     );
 }

@@ -13,3 +13,7 @@ returns-clause-free_state c = refl
 pub returns-clause-one_gate : goal.returns-clause-one_gate
 unfolding digits
 returns-clause-one_gate c = refl
+
+pub returns-clause-all_kinds : goal.returns-clause-all_kinds
+unfolding digits
+returns-clause-all_kinds c = refl

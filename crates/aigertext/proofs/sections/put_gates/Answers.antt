@@ -1,4 +1,4 @@
-use Rattle.std.proofs.Common.{arith}
+use Rattle.std.proofs.Common.{◌∙◌, arith}
 use Rattle.base.proofs.PieceLemmas.{put_more, put_fails}
 use Rattle.aigertext.proofs.SectionLemmas.{gate_lines_at}
 use Rattle.aigertext.proofs.sections.put_gates.Goals as goal
@@ -13,6 +13,6 @@ loop-gate-preserved g c = record {
   put =
       put_more _ _ _ _ _ _ _ _ _ _ c.loop-gate.invariant.put c.in-Ok.ensures.puts
       (gate_lines_at c.loop-gate.variable c.loop-gate.gate-index c.args.gates.now c.gate-item.result (omega arith) c.gate-item.is);
-  counted = omega (arith, c.in-Ok.ensures.failures);
+  counted = c.in-Ok.ensures.failures ∙ c.loop-gate.invariant.counted;
   in_order = omega arith;
 }

@@ -1,4 +1,4 @@
-use Rattle.std.proofs.Common.{arith, ◌+◌, ◌-◌}
+use Rattle.std.proofs.Common.{◌∙◌, arith, ◌+◌, ◌-◌}
 use Rattle.base.proofs.PieceLemmas.{put_more, put_fails}
 use Rattle.aigertext.proofs.SectionLemmas.{input_lines_at}
 use Rattle.aigertext.proofs.sections.put_inputs.Goals as goal
@@ -13,5 +13,5 @@ loop-index-preserved g c = record {
   put =
       put_more _ _ _ _ _ _ _ _ _ _ c.loop-index.invariant.put c.in-Ok.ensures.puts
       (input_lines_at (c.loop-index.index + 1) (c.args.count - c.loop-index.index) (c.args.count - (c.loop-index.index + 1)) (omega arith));
-  counted = omega (arith, c.in-Ok.ensures.failures);
+  counted = c.in-Ok.ensures.failures ∙ c.loop-index.invariant.counted;
 }

@@ -1,4 +1,4 @@
-use Rattle.std.proofs.Common.{arith}
+use Rattle.std.proofs.Common.{◌∙◌, arith}
 use Rattle.base.proofs.PieceLemmas.{put_more, put_fails}
 use Rattle.aigertext.proofs.SectionLemmas.{latch_lines_at}
 use Rattle.aigertext.proofs.sections.put_latches.Goals as goal
@@ -13,6 +13,6 @@ loop-latch-preserved g c = record {
   put =
       put_more _ _ _ _ _ _ _ _ _ _ c.loop-latch.invariant.put c.in-Ok.ensures.puts
       (latch_lines_at c.loop-latch.variable c.loop-latch.latch-index c.args.latches.now c.latch-item.result (omega arith) c.latch-item.is);
-  counted = omega (arith, c.in-Ok.ensures.failures);
+  counted = c.in-Ok.ensures.failures ∙ c.loop-latch.invariant.counted;
   in_order = omega arith;
 }

@@ -13,5 +13,5 @@ loop-literal-preserved g c = record {
   put =
       put_more _ _ _ _ _ _ _ _ _ _ c.loop-literal.invariant.put c.in-Ok.ensures.puts
       (literal_lines_at c.loop-literal.literal-index c.args.literals.now _ _ (omega arith) (c.number.ensures ∙ c.literal-item.is));
-  counted = omega (arith, c.in-Ok.ensures.failures);
+  counted = c.in-Ok.ensures.failures ∙ c.loop-literal.invariant.counted;
 }

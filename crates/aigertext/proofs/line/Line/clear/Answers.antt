@@ -3,4 +3,4 @@ use Rattle.std.proofs.lemmas.List.{drop_all}
 use Rattle.aigertext.proofs.line.Line.clear.Goals as goal
 
 pub returns : goal.returns
-returns c = drop_all 96 c.self.inside.bytes (omega arith)
+returns c = drop_all 104 c.self.inside.bytes (omega arith)
