@@ -19,7 +19,7 @@ use Rattle.runs.specs.Holds.{next_id, LeavesFit, Keeps}
 use Rattle.runs.proofs.RankLemmas.{state_is_leaf, input_is_leaf, rank-below, ids-rank, length-ids}
 use Rattle.runs.proofs.NodeLemmas.{node_found}
 use Rattle.runs.proofs.WordLemmas.{slots_of, words_same, frame_fits}
-use Rattle.runs.proofs.KeepLemmas.{leaf-nth, slot-nth, slots-once, slots-apart, length-slots_of, other_values}
+use Rattle.runs.proofs.InvariantLemmas.{leaf-nth, slot-nth, slots-once, slots-apart, length-slots_of, other_values}
 
 -- the place of an item of a kind among its slots
 pub slot-own : (test : Body → Bool) (items : List Item) (id : ℕ) (y : Item) → find_item items id ≡ Some y → test y.body ≡ true

@@ -12,7 +12,7 @@ use Rattle.btor2.proofs.ModelLemmas.{IsIn, find_item-in}
 use Rattle.runs.specs.Frames.{is_leaf, ids_of, rank, given}
 use Rattle.runs.specs.Run.{more_steps}
 use Rattle.runs.proofs.RankLemmas.{rank-below, ids-rank, length-ids}
-use Rattle.runs.proofs.KeepLemmas.{leaf-nth}
+use Rattle.runs.proofs.InvariantLemmas.{leaf-nth}
 
 pub given-map : (test : Body → Bool) (items : List Item) (g : Frame) (id : ℕ) (x : Item) → find_item items id ≡ Some x → test x.body ≡ true → given test items (map g (ids_of test items)) id ≡ g id
 given-map test items g id x found is =

@@ -2,10 +2,11 @@ pub mod RankLemmas
 pub mod PlaceLemmas
 pub mod PassLemmas
 pub mod StateLemmas
+pub mod PropertyLemmas
 pub mod NodeLemmas
 pub mod SettleLemmas
 pub mod WordLemmas
-pub mod KeepLemmas
+pub mod InvariantLemmas
 pub mod ReadLemmas
 pub mod AdvanceLemmas
 pub mod StartLemmas

@@ -1,17 +1,21 @@
 -- The places of nodes, and what a run's lists have there.
-use Rattle.std.proofs.Common.{◌≡◌, ℕ, zero, suc, ◌<◌, true, List, [], ◌∷◌, ◌++◌, length, map, get_or, slice_get, Option, Some, None, is_some, MatchOption, option_and_then, unwrap_or, sym, ap, subst, ◌∙◌, arith}
+use Rattle.std.proofs.Common.{◌≡◌, ℕ, zero, suc, ◌+◌, ◌-◌, ◌<◌, Bool, true, false, List, [], ◌∷◌, ◌++◌, length, map, get_or, slice_get, Option, Some, None, is_some, MatchOption, option_and_then, unwrap_or, refl, sym, ap, subst, ◌∙◌, arith}
 use Rattle.std.proofs.lemmas.Option.{none-some, same_Some, get_or_from_slice_get}
+use Rattle.std.proofs.lemmas.Bool.{true≢false}
 use Rattle.std.proofs.lemmas.List.{length-map, get_or-map}
+use Rattle.base.specs.Widths.{unary_width, binary_width}
 use Rattle.btor2.specs.declared.item.Item.{Item}
 use Rattle.btor2.specs.declared.item.Body.{Body}
-use Rattle.btor2.specs.Items.{find_item, position_of, node_width, width_of_body, operands, constant_of_body}
+use Rattle.btor2.specs.declared.item.Body.TheVariants as body
+use Rattle.btor2.specs.Items.{find_item, position_of, node_sort, sort_width, node_width, width_of_body, operands}
 use Rattle.btor2.specs.Check.{IsWellFormed}
-use Rattle.btor2.specs.Lists.{width_at, constant_at}
+use Rattle.btor2.specs.Lists.{width_at}
 use Rattle.btor2.specs.Trace.{bits_of}
-use Rattle.btor2.proofs.AppendLemmas.{some_of, then_parts, is_some_from, node_width-append}
-use Rattle.btor2.proofs.AcceptedLemmas.{Each, HasWidth}
+use Rattle.btor2.proofs.AppendLemmas.{some_of, then_parts, is_some_from, sort_width-append, node_width-append}
+use Rattle.btor2.proofs.AcceptedLemmas.{Each, HasWidth, BodyIsAccepted}
 use Rattle.btor2.proofs.LookUps.{found}
 use Rattle.btor2.proofs.ModelLemmas.{IsIn-from_find, IsIn-from_place, IsAccepted-at}
+use Rattle.runs.specs.Frames.{has_value}
 use Rattle.runs.specs.Nodes.{slot}
 
 -- an item at a place is inside the list
@@ -90,6 +94,38 @@ operands_there items place x w at =
 pub operands_of : (items : List Item) (place : ℕ) (x : Item) (b : Body) → IsWellFormed items → slice_get items place ≡ Some x → x.body ≡ b → Each (λ a. is_some (node_width items a) ≡ true) (operands b)
 operands_of items place x b w at is = subst (λ (c : Body). Each (λ a. is_some (node_width items a) ≡ true) (operands c)) is (operands_there items place x w at)
 
--- the word of a constant at a place
-pub constant_read : (items : List Item) (place : ℕ) (x : Item) → slice_get items place ≡ Some x → constant_at items place ≡ constant_of_body items x.body
-constant_read items place x at = ap (option_and_then (λ (y : Item). constant_of_body items y.body)) at
+-- A line has a width where it has a value.
+
+sort_there : (before after : List Item) (s n : ℕ) → sort_width before s ≡ Some n → is_some (sort_width (before ++ after) s) ≡ true
+sort_there before after s n h = is_some_from (sort_width (before ++ after) s) n (sort_width-append before after s n h)
+
+pub value_width : (before after : List Item) (b : Body) → has_value b ≡ true → BodyIsAccepted before b → is_some (width_of_body (before ++ after) b) ≡ true
+value_width before after (body.Input s) has says = sort_there before after s says.0 says.1
+value_width before after (body.State s) has says = sort_there before after s says.0 says.1
+value_width before after (body.Zero s) has says = sort_there before after s says.0 says.1
+value_width before after (body.One s) has says = sort_there before after s says.0 says.1
+value_width before after (body.Ones s) has says = sort_there before after s says.0 says.1
+value_width before after (body.Const s d v) has says = sort_there before after s says.0 says.1
+value_width before after (body.Constd s v) has says = sort_there before after s says.0 says.1
+value_width before after (body.Consth s d v) has says = sort_there before after s says.0 says.1
+value_width before after (body.Uext s a by) has says = sort_there before after s (says.0 + by) says.2
+value_width before after (body.Sext s a by) has says = sort_there before after s (says.0 + by) says.2
+value_width before after (body.Slice s a u l) has says = sort_there before after s (u - l + 1) says.2
+value_width before after (body.Unary op s a) has says = sort_there before after s (unary_width op says.0) says.2
+value_width before after (body.Binary op s a b) has says = sort_there before after s (binary_width op says.0) says.3
+value_width before after (body.Concat s a b) has says = sort_there before after s (says.0 + says.1) says.4
+value_width before after (body.Ite s c t e) has says = sort_there before after s says.0 says.4
+value_width before after _ has says = absurd (cc)
+
+no_width : (f : ℕ → Option ℕ) (o : Option ℕ) → is_some o ≡ false → is_some (option_and_then f o) ≡ false
+no_width f None h = refl
+no_width f (Some s) h = absurd (true≢false h)
+
+pub width_there : (items : List Item) (place : ℕ) (x : Item) → IsWellFormed items → slice_get items place ≡ Some x → is_some (width_at items place) ≡ has_value x.body
+width_there items place x w at = ap (λ (o : Option Item). is_some (option_and_then (λ (y : Item). width_of_body items y.body) o)) at ∙ by (has_value x.body) refl
+  where
+    by : (b : Bool) → has_value x.body ≡ b → is_some (width_of_body items x.body) ≡ b
+    by true has =
+        let there = (IsIn-from_place items place x at).0 in
+        subst (λ (l : List Item). is_some (width_of_body l x.body) ≡ true) (sym there.splits) (value_width there.before (x ∷ there.after) x.body has (IsAccepted-at items x w there).says)
+    by false none = no_width (sort_width items) (node_sort x.body) none

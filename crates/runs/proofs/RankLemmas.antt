@@ -87,10 +87,10 @@ ids-rank test (x ∷ xs) id y h is =
   where
     here : (find_item xs id ≡ Some y → get_or (ids_of test xs) (rank test xs id) 0 ≡ id) → (b : Bool) → nat_eq id x.id ≡ b → cond b (Some x) (find_item xs id) ≡ Some y
         → get_or (map (λ (z : Item). z.id) (cond (test x.body) (x ∷ of_kind test xs) (of_kind test xs))) (cond b 0 (cond (test x.body) (suc (rank test xs id)) (rank test xs id))) 0 ≡ id
-    here later true same e =
+    here behind true same e =
         let own : test x.body ≡ true = ap (λ (z : Item). test z.body) (same_Some x y e) ∙ is in
         rw own (sym (eqb-true id x.id same))
-    here later false other e = more_found (test x.body) (rank test xs id) id x (of_kind test xs) (later e)
+    here behind false other e = more_found (test x.body) (rank test xs id) id x (of_kind test xs) (behind e)
 
 -- nodes with one place are one
 pub slot-one : (items : List Item) (i j : ℕ) (x y : Item) → find_item items i ≡ Some x → has_value x.body ≡ true → find_item items j ≡ Some y → has_value y.body ≡ true
@@ -141,10 +141,10 @@ nth test (y ∷ ys) k h = by (nth test ys) (test y.body) refl k h
 
     by : ((j : ℕ) → j < length (of_kind test ys) → (x : Item) × IsNth test ys j x) → (b : Bool) → test y.body ≡ b → (k : ℕ)
         → k < length (cond b (y ∷ of_kind test ys) (of_kind test ys)) → (x : Item) × IsNth test (y ∷ ys) k x
-    by later true e zero h =
+    by behind true e zero h =
         (y, record { before = []; after = ys; splits = refl; is = e; count = refl; id = rw e refl; stands = rw e refl; place = λ at. rw e (omega arith) })
-    by later true e (suc k) h = let there = later k (omega arith) in (there.0, pass k there.0 there.1 e)
-    by later false e k h = let there = later k h in (there.0, skip k there.0 there.1 e)
+    by behind true e (suc k) h = let there = behind k (omega arith) in (there.0, pass k there.0 there.1 e)
+    by behind false e k h = let there = behind k h in (there.0, skip k there.0 there.1 e)
 
 pub length-ids : (test : Body → Bool) (items : List Item) → length (ids_of test items) ≡ length (of_kind test items)
 length-ids test items = length-map (of_kind test items) (λ (x : Item). x.id)
@@ -154,8 +154,8 @@ length-places test at [] = refl
 length-places test at (x ∷ xs) = by (length-places test (suc at) xs) (test x.body)
   where
     by : length (places test (suc at) xs) ≡ length (of_kind test xs) → (b : Bool) → length (cond b (at ∷ places test (suc at) xs) (places test (suc at) xs)) ≡ length (cond b (x ∷ of_kind test xs) (of_kind test xs))
-    by later true = ap suc later
-    by later false = later
+    by behind true = ap suc behind
+    by behind false = behind
 
 -- what the k-th of a kind is in a well-formed list
 abbrev pub nth-in : (test : Body → Bool) (items : List Item) (k : ℕ) (x : Item) → IsNth test items k x → IsIn items x

@@ -45,18 +45,18 @@ pub record Settles (items : List Item) (f : Frame) (at : ℕ) (ns : List Node) (
 -- a line with a value, and one without
 step_node : (items : List Item) (f : Frame) (at : ℕ) (x : Item) (xs : List Item) (values : List ℕ) → has_value x.body ≡ true → NodeFits (node_of items x.body) values at
     → Settles items f (suc at) (nodes_of items xs) (set values at (node_value (node_of items x.body) values at)) → Settles items f at (nodes_of items (x ∷ xs)) values
-step_node items f at x xs values has fits later =
+step_node items f at x xs values has fits rest =
     let word = node_value (node_of items x.body) values at in
     subst (λ (b : Bool). Settles items f at (map (λ (y : Item). node_of items y.body) (cond b (x ∷ of_kind has_value xs) (of_kind has_value xs))) values) (sym has) (record {
-      fit = (fits, later.fit);
-      holds = later.holds;
-      many = later.many ∙ length-set values at word;
+      fit = (fits, rest.fit);
+      holds = rest.holds;
+      many = rest.many ∙ length-set values at word;
     })
 
 step_other : (items : List Item) (f : Frame) (at : ℕ) (x : Item) (xs : List Item) (values : List ℕ) → has_value x.body ≡ false → Settles items f at (nodes_of items xs) values
     → Settles items f at (nodes_of items (x ∷ xs)) values
-step_other items f at x xs values none later =
-    subst (λ (b : Bool). Settles items f at (map (λ (y : Item). node_of items y.body) (cond b (x ∷ of_kind has_value xs) (of_kind has_value xs))) values) (sym none) later
+step_other items f at x xs values none rest =
+    subst (λ (b : Bool). Settles items f at (map (λ (y : Item). node_of items y.body) (cond b (x ∷ of_kind has_value xs) (of_kind has_value xs))) values) (sym none) rest
 
 holds_more : (before : List Item) (x : Item) (values : List ℕ) (f : Frame) (at word : ℕ) → find_item before x.id ≡ None → at ≡ length (of_kind has_value before) → at < length values → word ≡ f x.id
     → HoldsFrame before values f → HoldsFrame (before ++ x ∷ []) (set values at word) f

@@ -24,7 +24,7 @@ use Rattle.runs.proofs.StateLemmas.{nth-get}
 use Rattle.runs.proofs.NodeLemmas.{constant_read}
 use Rattle.runs.proofs.SettleLemmas.{line_at}
 use Rattle.runs.proofs.WordLemmas.{slots_of, words_same, frame_fits}
-use Rattle.runs.proofs.KeepLemmas.{slots-apart, length-slots_of}
+use Rattle.runs.proofs.InvariantLemmas.{slots-apart, length-slots_of}
 use Rattle.runs.proofs.AdvanceLemmas.{slot-own, slots-inside, slots-differ, leaf_cases}
 
 -- Each state has a next where none lacks one.
@@ -33,16 +33,16 @@ lacks_here : (o : Option ℕ) (id : ℕ) (rest : Option ℕ) → cond (is_none o
 lacks_here None id rest h = absurd (none-some id (sym h))
 lacks_here (Some v) id rest h = refl
 
-lacks_later : (b : Bool) (id : ℕ) (rest : Option ℕ) → cond b (Some id) rest ≡ None → rest ≡ None
-lacks_later true id rest h = absurd (none-some id (sym h))
-lacks_later false id rest h = h
+lacks_rest : (b : Bool) (id : ℕ) (rest : Option ℕ) → cond b (Some id) rest ≡ None → rest ≡ None
+lacks_rest true id rest h = absurd (none-some id (sym h))
+lacks_rest false id rest h = h
 
 has_next : (items before after : List Item) (y : Item) → first_without_next items (before ++ y ∷ after) ≡ None → is_state y.body ≡ true → is_some (next_value items y.id) ≡ true
 has_next items [] after y h is =
     lacks_here (next_value items y.id) y.id (first_without_next items after)
     (subst (λ (b : Bool). cond (b && is_none (next_value items y.id)) (Some y.id) (first_without_next items after) ≡ None) is h)
 has_next items (x ∷ xs) after y h is =
-    has_next items xs after y (lacks_later (is_state x.body && is_none (next_value items x.id)) x.id (first_without_next items (xs ++ y ∷ after)) h) is
+    has_next items xs after y (lacks_rest (is_state x.body && is_none (next_value items x.id)) x.id (first_without_next items (xs ++ y ∷ after)) h) is
 
 pub nexts_there : (items : List Item) → first_without_next items items ≡ None → (id : ℕ) (y : Item) → find_item items id ≡ Some y → is_state y.body ≡ true → is_some (next_value items id) ≡ true
 nexts_there items h id y found is =
@@ -130,7 +130,7 @@ pub record Starts (items : List Item) (nodes : List Node) (slots states inputs n
   pub no_inputs : words_at values inputs ≡ zeros items
 
 -- the lists that a run is made of
-pub record Made (items : List Item) (nodes : List Node) (slots states inputs nexts bads constraints zero_values next_values : List ℕ) : Type 0 where
+pub record NewLists (items : List Item) (nodes : List Node) (slots states inputs nexts bads constraints zero_values next_values : List ℕ) : Type 0 where
   pub well_formed : IsWellFormed items
   pub has_nexts : first_without_next items items ≡ None
   pub are_nodes : nodes ≡ map (λ x. node_of items x.body) (of_kind has_value items)
@@ -143,7 +143,7 @@ pub record Made (items : List Item) (nodes : List Node) (slots states inputs nex
   pub are_zero : zero_values ≡ replicate (length nodes) 0
   pub are_first : next_values ≡ map (first_word items) (ids_of is_state items)
 
-module _ (items : List Item) (nodes : List Node) (slots states inputs nexts bads constraints zero_values next_values : List ℕ) (m : Made items nodes slots states inputs nexts bads constraints zero_values next_values) where
+module _ (items : List Item) (nodes : List Node) (slots states inputs nexts bads constraints zero_values next_values : List ℕ) (m : NewLists items nodes slots states inputs nexts bads constraints zero_values next_values) where
   zero_many : length zero_values ≡ length (of_kind has_value items)
   zero_many = ap length m.are_zero ∙ length-replicate (length nodes) 0 ∙ ap length m.are_nodes ∙ length-map (of_kind has_value items) (λ (x : Item). node_of items x.body)
 

@@ -147,7 +147,7 @@ first_word-none items k h e =
 
 -- One more of a list that is made of another.
 
-pub map_push : {A : Type 0} (f : A → ℕ) (list : List A) (made made' : List ℕ) (k : ℕ) (x d : A) (word : ℕ) → k < length list → made ≡ map f (take k list) → x ≡ get_or list k d → word ≡ f x → made' ≡ made ++ word ∷ []
-    → made' ≡ map f (take (k + 1) list)
-map_push f list made made' k x d word h m e w m' =
+pub map_push : {A : Type 0} (f : A → ℕ) (list : List A) (front longer : List ℕ) (k : ℕ) (x d : A) (word : ℕ) → k < length list → front ≡ map f (take k list) → x ≡ get_or list k d → word ≡ f x → longer ≡ front ++ word ∷ []
+    → longer ≡ map f (take (k + 1) list)
+map_push f list front longer k x d word h m e w m' =
     m' ∙ ap₂ (λ (l : List ℕ) (n : ℕ). l ++ n ∷ []) m (w ∙ ap f e) ∙ sym (map_more f list k d h)

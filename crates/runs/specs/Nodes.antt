@@ -9,10 +9,15 @@ use Rattle.btor2.specs.Trace.{bits_of}
 use Rattle.runs.specs.declared.nodes.Node.{Node}
 use Rattle.runs.specs.declared.nodes.Node.TheVariants as node
 use Rattle.runs.specs.Frames.{has_value, rank}
+use Rattle.runs.specs.Run.{property_at}
 
 -- the place of the node with an id among the now-values
 abbrev pub slot : List Item → ℕ → ℕ
 slot items id = rank has_value items id
+
+-- the slot of the node that the property at a place names
+abbrev pub property_slot : List Item → ℕ → ℕ
+property_slot items place = slot items (unwrap_or (property_at items place) 0)
 
 -- the node of a line with a value
 abbrev pub node_of : List Item → Body → Node

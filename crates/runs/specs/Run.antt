@@ -1,6 +1,6 @@
 -- A run of a model ("Btor2, BtorMC and Boolector 3.0", semantics of sequential models): the words that its states and inputs have now, and what
 -- is told of them. The counting of steps is this project's own.
-use Rattle.std.specs.Prelude.{ℕ, zero, suc, Bool, true, false, List, length, map, option_and_then, unwrap_or, ◌==◌}
+use Rattle.std.specs.Prelude.{ℕ, zero, suc, Bool, true, false, List, length, map, Option, Some, None, option_and_then, unwrap_or, slice_get, if◌then◌else◌, ◌==◌}
 use Rattle.base.specs.Steps.{one_more}
 use Rattle.btor2.specs.declared.item.Item.{Item}
 use Rattle.btor2.specs.declared.item.Body.{Body}
@@ -70,6 +70,10 @@ abbrev pub property_id : Body → ℕ
 property_id (body.Bad a) = a
 property_id (body.Constraint a) = a
 property_id _ = 0
+
+-- the node that the property at a place names, if one stands there
+abbrev pub property_at : List Item → ℕ → Option ℕ
+property_at items place = option_and_then (λ x. if is_property x.body then Some (property_id x.body) else None) (slice_get items place)
 
 -- whether the node that a property names is 1
 abbrev pub is_one : Frame → Body → Bool

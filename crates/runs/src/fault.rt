@@ -1,5 +1,6 @@
+//! The refusals of a new run.
 ghost use Rattle.std.specs.Prelude.{◌≡◌};
-ghost use Rattle.runs.specs.Faults.{new_number};
+ghost use Rattle.runs.specs.Faults.{new_number, new_name};
 
 use thiserror::Error;
 
@@ -7,10 +8,10 @@ use thiserror::Error;
 #[derive(Clone, Copy, Debug, PartialEq, Eq, Error)]
 pub enum NewFault {
     /// The first state in file order without a next; it has the id of the state's line.
-    #[error("item {0}: 70 NoNext")]
+    #[error("item {0}: {number} {name}", number = self.number(), name = self.name())]
     NoNext(u64),
     /// A growth was refused.
-    #[error("71 NoMemory")]
+    #[error("{number} {name}", number = self.number(), name = self.name())]
     NoMemory,
 }
 
@@ -22,6 +23,16 @@ impl NewFault {
         match self {
             NewFault::NoNext(_) => 70,
             NewFault::NoMemory => 71,
+        }
+    }
+
+    /// The name that is printed for the fault.
+    pub fn name(self) -> &'static str
+        ensures { result.now ≡ new_name self }
+    {
+        match self {
+            NewFault::NoNext(_) => "NoNext",
+            NewFault::NoMemory => "NoMemory",
         }
     }
 }

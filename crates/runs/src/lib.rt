@@ -1,16 +1,14 @@
-//! Runs of models: the words of all nodes, frame by frame.
+//! Runs of models: the words of all nodes, frame by frame. The laws of its definitions stand in `laws`.
 #![tactic(auto)]
 
 mod fault;
-mod kinds;
-mod laws;
+pub mod laws;
 mod nodes;
 mod passes;
 mod resolving;
 mod word_run;
 
 pub use fault::NewFault;
-pub use laws::{given_words, set_words, steps_count, worked_starts};
 pub use word_run::WordRun;
 
 #[cfg(test)]

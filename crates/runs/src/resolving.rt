@@ -1,17 +1,25 @@
 //! What a run keeps of its model: each id resolved once.
 ghost use Rattle.std.specs.Prelude.{◌≡◌, ℕ, ◌<◌, ◌≤◌, true, Some, map, length, is_some, slice_get, slice_index, option_copied, IfOk};
-ghost use Rattle.btor2.specs.Items.{is_state, is_bad, is_constraint, next_value};
+ghost use Rattle.btor2.specs.Items.{is_state, next_value};
 ghost use Rattle.btor2.specs.Check.{IsWellFormed};
 ghost use Rattle.btor2.specs.Lists.{places};
 ghost use Rattle.runs.specs.Frames.{has_value, of_kind, ids_of};
-ghost use Rattle.runs.specs.Nodes.{slot, node_of};
+ghost use Rattle.runs.specs.Nodes.{slot, node_of, property_slot};
 ghost use Rattle.runs.specs.Holds.{next_id};
-ghost use Rattle.runs.specs.Run.{first_word, is_property, property_id};
+ghost use Rattle.runs.specs.Run.{first_word, property_at};
 
-use crate::kinds::{has_value, is_bad, is_constraint};
 use crate::nodes::{Node, node_of, operand};
 use btor2::{Body, Item, Model};
 use std::alloc::{AllocError, Global};
+
+/// Whether the item at a place is a node with a value.
+fn is_node(model: &Model, place: usize, item: &Item) -> bool
+    requires well_formed { IsWellFormed model.now }
+    requires at { slice_get model.now place ≡ Some item.now }
+    ensures { result ≡ has_value item.now.body }
+{
+    model.width_of(place).is_some()
+}
 
 /// For each item how many nodes with a value stand before it.
 pub(crate) fn node_slots(alloc: Global, model: &Model) -> Result<Vec<usize>, AllocError>
@@ -20,9 +28,9 @@ pub(crate) fn node_slots(alloc: Global, model: &Model) -> Result<Vec<usize>, All
     let items = model.items();
     let mut slots = Vec::new(alloc);
     let mut count = 0;
-    for item in items {
+    for (place, item) in items.iter().enumerate() {
         slots.push(count)?;
-        if has_value(&item.body) {
+        if is_node(model, place, item) {
             count += 1;
         }
     }
@@ -41,7 +49,7 @@ pub(crate) fn resolved_nodes(
     let items = model.items();
     let mut nodes = Vec::new(alloc);
     for (place, item) in items.iter().enumerate() {
-        if has_value(&item.body) {
+        if is_node(model, place, item) {
             nodes.push(node_of(model, slots, place, item))?;
         }
     }
@@ -107,55 +115,36 @@ pub(crate) fn first_words(alloc: Global, model: &Model) -> Result<Vec<u64>, Allo
     Ok(words)
 }
 
-/// The slot of the node that a property at a place names.
-fn property_slot(model: &Model, slots: &[usize], place: usize, item: &Item) -> usize
-    requires well_formed { IsWellFormed model.now }
-    requires at { slice_get model.now place ≡ Some item.now }
+/// The slot of the node that the property at a place names.
+fn property_slot(model: &Model, slots: &[usize], place: usize) -> usize
     requires slots { slots.now ≡ map (λ x. slot model.now x.id) model.now }
-    requires property { is_property item.now.body ≡ true }
-    ensures { result ≡ slot model.now (property_id item.now.body) }
+    requires property { is_some (property_at model.now place) ≡ true }
+    ensures { result ≡ property_slot model.now place }
 {
-    match &item.body {
-        Body::Bad { operand: id } => operand(model, slots, *id).1,
-        Body::Constraint { operand: id } => operand(model, slots, *id).1,
-        _ => unreachable!(),
+    match model.items().get(place) {
+        Some(item) => match &item.body {
+            Body::Bad { operand: id } => operand(model, slots, *id).1,
+            Body::Constraint { operand: id } => operand(model, slots, *id).1,
+            _ => unreachable!(),
+        },
+        None => unreachable!(),
     }
 }
 
-/// The slots of the nodes that the bad properties name.
-pub(crate) fn bad_slots(
+/// The slots of the nodes that the properties at some places name.
+pub(crate) fn property_slots(
     alloc: Global,
     model: &Model,
     slots: &[usize],
+    places: &[usize],
 ) -> Result<Vec<usize>, AllocError>
-    requires { slots.now ≡ map (λ x. slot model.now x.id) model.now }
-    ensures { IfOk result (λ v. v.items ≡ map (λ x. slot model.now (property_id x.body)) (of_kind is_bad model.now)) }
+    requires slots { slots.now ≡ map (λ x. slot model.now x.id) model.now }
+    requires properties { (k : ℕ) → k < length places.now → is_some (property_at model.now (slice_index places.now k)) ≡ true }
+    ensures { IfOk result (λ v. v.items ≡ map (property_slot model.now) places.now) }
 {
-    let items = model.items();
-    let mut bads = Vec::new(alloc);
-    for (place, item) in items.iter().enumerate() {
-        if is_bad(&item.body) {
-            bads.push(property_slot(model, slots, place, item))?;
-        }
+    let mut named = Vec::new(alloc);
+    for place in places {
+        named.push(property_slot(model, slots, *place))?;
     }
-    Ok(bads)
-}
-
-/// The slots of the nodes that the constraints name.
-pub(crate) fn constraint_slots(
-    alloc: Global,
-    model: &Model,
-    slots: &[usize],
-) -> Result<Vec<usize>, AllocError>
-    requires { slots.now ≡ map (λ x. slot model.now x.id) model.now }
-    ensures { IfOk result (λ v. v.items ≡ map (λ x. slot model.now (property_id x.body)) (of_kind is_constraint model.now)) }
-{
-    let items = model.items();
-    let mut constraints = Vec::new(alloc);
-    for (place, item) in items.iter().enumerate() {
-        if is_constraint(&item.body) {
-            constraints.push(property_slot(model, slots, place, item))?;
-        }
-    }
-    Ok(constraints)
+    Ok(named)
 }

@@ -1,3 +1,4 @@
+//! Runs of small models, frame by frame.
 ghost use Rattle.std.specs.Prelude.{◌≡◌, ◌<◌, true};
 
 use super::*;
@@ -142,13 +143,17 @@ fn a_state_without_a_next_is_told(rt: HostRuntime) -> Result<(), Fail> {
         Ok(_) => assert!(rt; false),
         Err(fault) => {
             assert_eq!(rt; fault, NewFault::NoNext(2));
-            assert_eq!(rt; fault.number(), 70);
             assert_eq!(rt;
                 format!(in rt.alloc(); "{fault}")?.as_str(),
                 "item 2: 70 NoNext"
             );
         }
     }
+    let no_memory = NewFault::NoMemory;
+    assert_eq!(rt;
+        format!(in rt.alloc(); "{no_memory}")?.as_str(),
+        "71 NoMemory"
+    );
     Ok(())
 }
 

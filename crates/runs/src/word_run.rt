@@ -1,3 +1,4 @@
+//! The run of a model, and its calls.
 ghost use Rattle.std.specs.Prelude.{◌≡◌, ℕ, ◌+◌, ◌^◌, ◌<◌, true, false, None, length, map, is_some, IfOk, IfSome, slice_get, slice_index, slice_set};
 ghost use Rattle.btor2.specs.Items.{is_input, is_state, is_bad, is_constraint};
 ghost use Rattle.btor2.specs.Check.{IsWellFormed};
@@ -11,7 +12,7 @@ use crate::fault::NewFault;
 use crate::nodes::Node;
 use crate::passes::{clear_words, put_words, settle_nodes, take_words};
 use crate::resolving::{
-    bad_slots, constraint_slots, first_words, next_slots, node_slots, picked, resolved_nodes,
+    first_words, next_slots, node_slots, picked, property_slots, resolved_nodes,
 };
 use base::Tally;
 use btor2::Model;
@@ -64,8 +65,8 @@ impl<'a> WordRun<'a> {
         let states = picked(alloc, &slots, model.states())?;
         let inputs = picked(alloc, &slots, model.inputs())?;
         let nexts = next_slots(alloc, model, &slots)?;
-        let bads = bad_slots(alloc, model, &slots)?;
-        let constraints = constraint_slots(alloc, model, &slots)?;
+        let bads = property_slots(alloc, model, &slots, model.bads())?;
+        let constraints = property_slots(alloc, model, &slots, model.constraints())?;
         let next_values = first_words(alloc, model)?;
         let mut values = vec![in alloc; 0; nodes.len()]?;
         put_words(&next_values, &states, &mut values);

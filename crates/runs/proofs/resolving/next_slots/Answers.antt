@@ -33,13 +33,13 @@ loop-k-preserved c =
     let k : c.loop-k.k < length (places is_state 0 items) = omega (arith, ap length c.states-k-end.ensures) in
     let inside : c.loop-k.k < length (ids_of is_state items) = omega (arith, length-ids is_state items, length-places is_state 0 items) in
     let there = next_found items c.loop-k.k c.in-Some.place c.requires.well_formed c.requires.nexts k c.in-Some.ensures in
-    let made : c.loop-k.nexts.items ≡ map (λ id. slot items (next_id items id)) (take c.loop-k.k (ids_of is_state items)) = c.loop-k.invariant in
-    map_push (λ id. slot items (next_id items id)) (ids_of is_state items) c.loop-k.nexts.items c.push.new.self.items c.loop-k.k _ 0 _ inside made refl
+    let so_far : c.loop-k.nexts.items ≡ map (λ id. slot items (next_id items id)) (take c.loop-k.k (ids_of is_state items)) = c.loop-k.invariant in
+    map_push (λ id. slot items (next_id items id)) (ids_of is_state items) c.loop-k.nexts.items c.push.new.self.items c.loop-k.k _ 0 _ inside so_far refl
     (slot_read items c.args.slots.now _ c.in-Some.place c.requires.slots there.node) c.in_ok-push-in-Some.ensures.items
 
 pub returns : goal.returns
 returns c =
     let items = c.args.model.now in
     let all : length (ids_of is_state items) ≤ c.loop-k.k = omega (arith, ap length c.states-k-end.ensures, length-ids is_state items, length-places is_state 0 items) in
-    let made : c.loop-k.nexts.items ≡ map (λ id. slot items (next_id items id)) (take c.loop-k.k (ids_of is_state items)) = c.loop-k.invariant in
-    made ∙ ap (map (λ id. slot items (next_id items id))) (take_all c.loop-k.k (ids_of is_state items) all)
+    let so_far : c.loop-k.nexts.items ≡ map (λ id. slot items (next_id items id)) (take c.loop-k.k (ids_of is_state items)) = c.loop-k.invariant in
+    so_far ∙ ap (map (λ id. slot items (next_id items id))) (take_all c.loop-k.k (ids_of is_state items) all)

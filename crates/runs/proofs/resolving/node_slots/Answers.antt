@@ -5,24 +5,24 @@ use Rattle.runs.specs.Frames.{has_value, of_kind}
 use Rattle.runs.specs.Nodes.{slot}
 use Rattle.runs.proofs.StateLemmas.{slot-next, count_more, count_same, count_below, map_push}
 use Rattle.runs.proofs.resolving.node_slots.Goals as goal
-use Rattle.runs.proofs.resolving.node_slots.Goals.{then-has_value, else-has_value}
+use Rattle.runs.proofs.resolving.node_slots.Goals.{then-is_node, else-is_node}
 
 pub overflow_add-count : goal.overflow_add-count
-overflow_add-count c = omega (arith, c.loop-item.invariant.count, count_below c.loop-item.item-index c.items-items.result.now)
+overflow_add-count c = omega (arith, c.loop-place.invariant.count, count_below c.loop-place.place c.items-items.result.now)
 
-pub loop-item-preserved : goal.loop-item-preserved
-loop-item-preserved c =
+pub loop-place-preserved : goal.loop-place-preserved
+loop-place-preserved c =
     let items = c.args.model.now in
     let same : c.items-items.result.now ≡ items = c.items-items.ensures.items in
-    let at : slice_get items c.loop-item.item-index ≡ Some c.item-item.result =
-    ap (λ (l : List Item). slice_get l c.loop-item.item-index) (sym same) ∙ slice_get_read c.items-items.result.now _ c.loop-item.item-index c.item-item.result refl c.loop-item-test.true c.item-item.is in
-    let word : c.loop-item.count ≡ slot items c.item-item.result.id =
-    c.loop-item.invariant.count ∙ ap (λ (l : List Item). length (of_kind has_value (take c.loop-item.item-index l))) same ∙ sym (slot-next items c.loop-item.item-index c.item-item.result c.items-items.ensures.well_formed at) in
+    let at : slice_get items c.loop-place.place ≡ Some c.index-items-place.result =
+    ap (λ (l : List Item). slice_get l c.loop-place.place) (sym same) ∙ slice_get_read c.items-items.result.now _ c.loop-place.place c.index-items-place.result refl c.loop-place-test.true c.index-items-place.is in
+    let word : c.loop-place.count ≡ slot items c.index-items-place.result.id =
+    c.loop-place.invariant.count ∙ ap (λ (l : List Item). length (of_kind has_value (take c.loop-place.place l))) same ∙ sym (slot-next items c.loop-place.place c.index-items-place.result c.items-items.ensures.well_formed at) in
     record {
-      slots = map_push (λ (x : Item). slot items x.id) c.items-items.result.now c.loop-item.slots.items c.push.new.self.items c.loop-item.item-index c.item-item.result c.item-item.result c.loop-item.count c.loop-item-test.true
-          c.loop-item.invariant.slots c.item-item.is word c.in_ok-push.ensures.items;
-      count = elim c.if-has_value.branch [
-        | then-has_value w ↦ w.count-is ∙ count_more c.items-items.result.now c.loop-item.item-index c.loop-item.count c.item-item.result c.item-item.result c.loop-item-test.true c.item-item.is (sym c.has_value.ensures ∙ w.if-has_value.true) c.loop-item.invariant.count
-        | else-has_value w ↦ w.count-is ∙ count_same c.items-items.result.now c.loop-item.item-index c.loop-item.count c.item-item.result c.item-item.result c.loop-item-test.true c.item-item.is (sym c.has_value.ensures ∙ w.if-has_value.false) c.loop-item.invariant.count
+      slots = map_push (λ (x : Item). slot items x.id) c.items-items.result.now c.loop-place.slots.items c.push.new.self.items c.loop-place.place c.index-items-place.result c.index-items-place.result c.loop-place.count c.loop-place-test.true
+          c.loop-place.invariant.slots c.index-items-place.is word c.in_ok-push.ensures.items;
+      count = elim c.if-is_node.branch [
+        | then-is_node w ↦ w.count-is ∙ count_more c.items-items.result.now c.loop-place.place c.loop-place.count c.index-items-place.result c.index-items-place.result c.loop-place-test.true c.index-items-place.is (sym c.is_node.ensures ∙ w.if-is_node.true) c.loop-place.invariant.count
+        | else-is_node w ↦ w.count-is ∙ count_same c.items-items.result.now c.loop-place.place c.loop-place.count c.index-items-place.result c.index-items-place.result c.loop-place-test.true c.index-items-place.is (sym c.is_node.ensures ∙ w.if-is_node.false) c.loop-place.invariant.count
       ];
     }

@@ -3,9 +3,9 @@ use Rattle.runs.specs.Frames.{has_value, of_kind}
 use Rattle.runs.specs.Nodes.{slot}
 use Rattle.runs.proofs.resolving.node_slots.Given as goal
 
-abbrev pub invariant-loop-item : goal.invariant-loop-item
-invariant-loop-item l =
+abbrev pub invariant-loop-place : goal.invariant-loop-place
+invariant-loop-place l =
     record {
-      slots : l.slots.items ≡ map (λ x. slot l.model x.id) (take l.item-index l.items);
-      count : l.count ≡ length (of_kind has_value (take l.item-index l.items));
+      slots : l.slots.items ≡ map (λ x. slot l.model x.id) (take l.place l.items);
+      count : l.count ≡ length (of_kind has_value (take l.place l.items));
     }

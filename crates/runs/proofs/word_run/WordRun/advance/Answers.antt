@@ -6,7 +6,7 @@ use Rattle.btor2.specs.Trace.{Frame, next_state}
 use Rattle.runs.specs.Frames.{ids_of}
 use Rattle.runs.specs.Run.{Run, IsNow, more_steps}
 use Rattle.runs.specs.Nodes.{words_at}
-use Rattle.runs.proofs.KeepLemmas.{run_same}
+use Rattle.runs.proofs.InvariantLemmas.{run_same}
 use Rattle.runs.proofs.AdvanceLemmas.{AfterAdvance, nexts_inside, nexts_count, states_inside, states_differ, inputs_inside, advance_keeps}
 use Rattle.runs.proofs.word_run.WordRun.advance.Goals as goal
 use Rattle.runs.proofs.word_run.WordRun.advance.Goals.{After-clear_words}

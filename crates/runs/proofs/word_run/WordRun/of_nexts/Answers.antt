@@ -1,10 +1,11 @@
 use Rattle.std.proofs.Common.{◌≡◌, ◌≢◌, ◌<◌, ℕ, List, length, get_or, replicate, ap, sym, subst, ◌∙◌, arith}
 use Rattle.std.proofs.lemmas.List.{with_items_is}
 use Rattle.std.specs.Vec.{with_items}
-use Rattle.btor2.specs.Items.{is_state, is_input}
+use Rattle.btor2.specs.Items.{is_state, is_input, is_bad, is_constraint}
 use Rattle.runs.specs.Nodes.{words_at}
-use Rattle.runs.proofs.KeepLemmas.{run_same}
-use Rattle.runs.proofs.StartLemmas.{Made, Starts, nexts_listed, picked_inside, picked_slots, start_inside, start_many, start_once, starts}
+use Rattle.runs.proofs.InvariantLemmas.{run_same}
+use Rattle.runs.proofs.PropertyLemmas.{bad_is_property, constraint_is_property, properties_there, properties_slots}
+use Rattle.runs.proofs.StartLemmas.{NewLists, Starts, nexts_listed, picked_inside, picked_slots, start_inside, start_many, start_once, starts}
 use Rattle.runs.proofs.word_run.WordRun.of_nexts.Goals as goal
 use Rattle.runs.proofs.word_run.WordRun.of_nexts.Goals.{After-deref_mut, After-put_words}
 
@@ -17,11 +18,17 @@ picked-requires-2 c = picked_inside is_input c.args.model.now c.deref-3.result.n
 pub next_slots-requires-clause-nexts : goal.next_slots-requires-clause-nexts
 next_slots-requires-clause-nexts c = nexts_listed c.args.model.now c.requires.well_formed c.requires.nexts
 
--- the lists that were made
-made : (c : After-deref_mut)
-    → Made c.args.model.now c.in_ok-nodes.nodes.items c.in_ok-slots.slots.items c.in_ok-states.states.items c.in_ok-inputs.inputs.items c.in_ok-nexts.nexts.items c.in_ok-bads.bads.items c.in_ok-constraints.constraints.items c.in_ok-values.values.items
+pub property_slots-requires-clause-properties : goal.property_slots-requires-clause-properties
+property_slots-requires-clause-properties c = properties_there is_bad c.args.model.now c.bads.result.now bad_is_property c.bads.ensures
+
+pub property_slots-requires-2-clause-properties : goal.property_slots-requires-2-clause-properties
+property_slots-requires-2-clause-properties c = properties_there is_constraint c.args.model.now c.constraints.result.now constraint_is_property c.constraints.ensures
+
+-- the lists of a new run
+new_lists : (c : After-deref_mut)
+    → NewLists c.args.model.now c.in_ok-nodes.nodes.items c.in_ok-slots.slots.items c.in_ok-states.states.items c.in_ok-inputs.inputs.items c.in_ok-nexts.nexts.items c.in_ok-bads.bads.items c.in_ok-constraints.constraints.items c.in_ok-values.values.items
     c.in_ok-next_values.next_values.items
-made c =
+new_lists c =
     let many : c.len.result ≡ length c.in_ok-nodes.nodes.items = omega (arith, c.in_ok-nodes.nodes.ok.0) in
     record {
       well_formed = c.requires.well_formed;
@@ -31,23 +38,23 @@ made c =
       are_states = c.in_ok-states.ensures ∙ picked_slots is_state c.args.model.now c.deref-2.result.now c.states.result.now (c.deref-2.ensures.value ∙ c.in_ok-slots.ensures) c.states.ensures;
       are_inputs = c.in_ok-inputs.ensures ∙ picked_slots is_input c.args.model.now c.deref-3.result.now c.inputs.result.now (c.deref-3.ensures.value ∙ c.in_ok-slots.ensures) c.inputs.ensures;
       are_nexts = c.in_ok-nexts.ensures;
-      are_bads = c.in_ok-bads.ensures;
-      are_constraints = c.in_ok-constraints.ensures;
+      are_bads = c.in_ok-bads.ensures ∙ properties_slots is_bad c.args.model.now c.bads.result.now bad_is_property c.bads.ensures;
+      are_constraints = c.in_ok-constraints.ensures ∙ properties_slots is_constraint c.args.model.now c.constraints.result.now constraint_is_property c.constraints.ensures;
       are_zero = c.in_ok-values.ensures.items_if_clones_equal (λ y same. same) ∙ ap (λ (n : ℕ). replicate n 0) many;
       are_first = c.in_ok-next_values.ensures;
     }
 
 pub put_words-requires-clause-inside : goal.put_words-requires-clause-inside
-put_words-requires-clause-inside c = rw (c.deref-8.ensures.value, c.deref_mut.ensures.value) (start_inside _ _ _ _ _ _ _ _ _ _ (made c))
+put_words-requires-clause-inside c = rw (c.deref-8.ensures.value, c.deref_mut.ensures.value) (start_inside _ _ _ _ _ _ _ _ _ _ (new_lists c))
 
 pub put_words-requires-clause-as_many : goal.put_words-requires-clause-as_many
-put_words-requires-clause-as_many c = rw (c.deref-7.ensures.value, c.deref-8.ensures.value) (start_many _ _ _ _ _ _ _ _ _ _ (made c))
+put_words-requires-clause-as_many c = rw (c.deref-7.ensures.value, c.deref-8.ensures.value) (start_many _ _ _ _ _ _ _ _ _ _ (new_lists c))
 
 pub put_words-requires-clause-once : goal.put_words-requires-clause-once
-put_words-requires-clause-once c = rw (c.deref-8.ensures.value) (start_once _ _ _ _ _ _ _ _ _ _ (made c))
+put_words-requires-clause-once c = rw (c.deref-8.ensures.value) (start_once _ _ _ _ _ _ _ _ _ _ (new_lists c))
 
 begun : (c : After-put_words)
-    → Made c.args.model.now c.in_ok-nodes.nodes.items c.in_ok-slots.slots.items c.in_ok-states.states.items c.in_ok-inputs.inputs.items c.in_ok-nexts.nexts.items c.in_ok-bads.bads.items c.in_ok-constraints.constraints.items c.in_ok-values.values.items
+    → NewLists c.args.model.now c.in_ok-nodes.nodes.items c.in_ok-slots.slots.items c.in_ok-states.states.items c.in_ok-inputs.inputs.items c.in_ok-nexts.nexts.items c.in_ok-bads.bads.items c.in_ok-constraints.constraints.items c.in_ok-values.values.items
     c.in_ok-next_values.next_values.items
     → Starts c.args.model.now c.in_ok-nodes.nodes.items c.in_ok-slots.slots.items c.in_ok-states.states.items c.in_ok-inputs.inputs.items c.in_ok-nexts.nexts.items c.in_ok-bads.bads.items c.in_ok-constraints.constraints.items
     (with_items c.in_ok-values.values c.put_words.new.values).items c.in_ok-next_values.next_values.items
@@ -59,9 +66,9 @@ begun c m =
     (c.put_words.ensures.as_many ∙ ap length c.deref_mut.ensures.value))
 
 pub invariant_of-result : goal.invariant_of-result
-invariant_of-result c = (begun (goal.at.invariant_of-result c).After-put_words (made (goal.at.invariant_of-result c).After-deref_mut)).keeps
+invariant_of-result c = (begun (goal.at.invariant_of-result c).After-put_words (new_lists (goal.at.invariant_of-result c).After-deref_mut)).keeps
 
 pub returns : goal.returns
 returns c =
-    let begin = begun (goal.at.returns c).After-put_words (made (goal.at.returns c).After-deref_mut) in
+    let begin = begun (goal.at.returns c).After-put_words (new_lists (goal.at.returns c).After-deref_mut) in
     run_same _ _ _ _ _ _ _ _ begin.first_words begin.no_inputs c.new.ensures

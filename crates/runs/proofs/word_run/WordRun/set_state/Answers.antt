@@ -3,7 +3,7 @@ use Rattle.std.proofs.lemmas.List.{get_or_read}
 use Rattle.btor2.specs.Items.{is_state}
 use Rattle.btor2.specs.Lists.{places, width_at}
 use Rattle.runs.specs.Run.{Run}
-use Rattle.runs.proofs.KeepLemmas.{state_inside, set_state_keeps, run_same}
+use Rattle.runs.proofs.InvariantLemmas.{state_inside, set_state_keeps, run_same}
 use Rattle.runs.proofs.word_run.WordRun.set_state.Goals as goal
 
 pub index-requires : goal.index-requires

@@ -3,7 +3,7 @@ use Rattle.std.proofs.lemmas.List.{with_items_is}
 use Rattle.runs.specs.declared.nodes.Node.{Node}
 use Rattle.runs.specs.Run.{more_steps}
 use Rattle.runs.specs.Nodes.{settled_values}
-use Rattle.runs.proofs.KeepLemmas.{settle_fits, settle_many, settle_count, settle_keeps, run_same}
+use Rattle.runs.proofs.InvariantLemmas.{settle_fits, settle_many, settle_count, settle_keeps, run_same}
 use Rattle.runs.proofs.word_run.WordRun.settle.Goals as goal
 
 pub settle_nodes-requires : goal.settle_nodes-requires

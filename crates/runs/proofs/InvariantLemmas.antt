@@ -1,24 +1,23 @@
--- What each call of a run does to what the run keeps.
-use Rattle.std.proofs.Common.{◌≡◌, ℕ, ◌^◌, ◌<◌, Bool, true, false, List, ◌∷◌, ◌++◌, length, map, get_or, set, Option, Some, IfSome, is_some, option_and_then, unwrap_or, ⊎_elim, refl, sym, ap, subst, ◌∙◌, arith}
+-- What each call of a run does to the invariant of the run.
+use Rattle.std.proofs.Common.{◌≡◌, ℕ, ◌^◌, ◌<◌, Bool, true, false, List, length, map, get_or, set, Option, Some, IfSome, is_some, option_and_then, unwrap_or, ⊎_elim, refl, sym, ap, subst, ◌∙◌, arith}
 use Rattle.std.proofs.lemmas.Option.{same_Some}
 use Rattle.std.proofs.lemmas.Bool.{cases_eq, true≢false}
 use Rattle.std.proofs.lemmas.List.{length-map, length-set, get_or-map, get_or-set_same, get_or-set_other, ext_get_or}
 use Rattle.btor2.specs.declared.item.Item.{Item}
 use Rattle.btor2.specs.declared.item.Body.{Body}
-use Rattle.btor2.specs.declared.item.Body.TheVariants as body
-use Rattle.btor2.specs.Items.{find_item, sort_width, node_width, width_of_body, is_input, is_state}
+use Rattle.btor2.specs.Items.{find_item, node_width, width_of_body, is_input, is_state}
 use Rattle.btor2.specs.Check.{IsWellFormed}
 use Rattle.btor2.specs.Lists.{places, width_at}
 use Rattle.btor2.specs.Trace.{bits_of, IsFrame}
-use Rattle.btor2.proofs.AppendLemmas.{some_of, is_some_from, sort_width-append}
-use Rattle.btor2.proofs.AcceptedLemmas.{BodyIsAccepted}
-use Rattle.btor2.proofs.ModelLemmas.{IsIn, IsAccepted-at, node_width-at}
+use Rattle.btor2.proofs.AppendLemmas.{some_of}
+use Rattle.btor2.proofs.ModelLemmas.{node_width-at}
 use Rattle.runs.specs.declared.nodes.Node.{Node}
 use Rattle.runs.specs.Frames.{has_value, is_leaf, of_kind, ids_of, rank, given}
 use Rattle.runs.specs.Run.{Run}
 use Rattle.runs.specs.Nodes.{slot, node_of, words_at, NodesFit, settled_values}
 use Rattle.runs.specs.Holds.{LeavesFit, Keeps}
 use Rattle.runs.proofs.RankLemmas.{state_is_leaf, input_is_leaf, leaf_has_value, no_state_is_input, rank-below, slot-one, nth, nth-found, nth-rank, length-ids, length-places}
+use Rattle.runs.proofs.PlaceLemmas.{width_there}
 use Rattle.runs.proofs.StateLemmas.{nth-get}
 use Rattle.runs.proofs.WordLemmas.{slots_of, pass_fits, pass_many, pass_words, pass_leaves, pass_frame}
 
@@ -178,12 +177,6 @@ module _ (items : List Item) (w : IsWellFormed items) (values : List ℕ) (many 
       ∙ get_or-set_other values (get_or (slots_of test items) k 0) (get_or (slots_of other items) j 0) word 0 (λ e. apart j (omega (arith, length-slots_of other items)) (sym e))
       ∙ sym (get_or-map (λ (p : ℕ). get_or values p 0) (slots_of other items) j 0 0 inside))
 
--- the width of a leaf
-leaf_width : (before after : List Item) (b : Body) → is_leaf b ≡ true → BodyIsAccepted before b → is_some (width_of_body (before ++ after) b) ≡ true
-leaf_width before after (body.Input s) leaf says = is_some_from (sort_width (before ++ after) s) says.0 (sort_width-append before after s says.0 says.1)
-leaf_width before after (body.State s) leaf says = is_some_from (sort_width (before ++ after) s) says.0 (sort_width-append before after s says.0 says.1)
-leaf_width before after _ leaf says = absurd (cc)
-
 -- a word that fits the width at the k-th place of a kind fits that of its id
 pub leaf_fits : (test : Body → Bool) (items : List Item) (k word : ℕ) → IsWellFormed items → ((b : Body) → test b ≡ true → is_leaf b ≡ true) → k < length (places test 0 items)
     → IfSome (width_at items (get_or (places test 0 items) k 0)) (λ n. word < 2 ^ n) → (k < length (ids_of test items)) × (word < 2 ^ bits_of items (get_or (ids_of test items) k 0))
@@ -192,13 +185,12 @@ leaf_fits test items k word w leaf h fits =
     let there = nth test items k (omega (arith, length-places test 0 items)) in
     let at = nth-get test items k there.0 there.1 in
     let own : node_width items there.0.id ≡ width_of_body items there.0.body = node_width-at items (get_or (places test 0 items) k 0) there.0 w at in
-    let stands : IsIn items there.0 = record { before = there.1.before; after = there.1.after; splits = there.1.splits } in
-    let wide : is_some (width_of_body items there.0.body) ≡ true =
-    subst (λ (l : List Item). is_some (width_of_body l there.0.body) ≡ true) (sym there.1.splits)
-    (leaf_width there.1.before (there.0 ∷ there.1.after) there.0.body (leaf there.0.body there.1.is) (IsAccepted-at items there.0 w stands).says) in
-    let width = some_of (width_of_body items there.0.body) wide in
-    let at_place : width_at items (get_or (places test 0 items) k 0) ≡ Some width.0 = ap (option_and_then (λ (x : Item). width_of_body items x.body)) at ∙ width.1 in
-    let known : node_width items there.0.id ≡ Some width.0 = own ∙ width.1 in
+    let wide : is_some (width_at items (get_or (places test 0 items) k 0)) ≡ true =
+    width_there items (get_or (places test 0 items) k 0) there.0 w at ∙ leaf_has_value there.0.body (leaf there.0.body there.1.is)
+    in
+    let width = some_of (width_at items (get_or (places test 0 items) k 0)) wide in
+    let at_place : width_at items (get_or (places test 0 items) k 0) ≡ Some width.0 = width.1 in
+    let known : node_width items there.0.id ≡ Some width.0 = own ∙ sym (ap (option_and_then (λ (x : Item). width_of_body items x.body)) at) ∙ at_place in
     let bits : bits_of items there.0.id ≡ width.0 = ap (λ (o : Option ℕ). unwrap_or o 0) {y = Some width.0} known in
     let below : word < 2 ^ width.0 = subst (λ (o : Option ℕ). IfSome o (λ n. word < 2 ^ n)) at_place fits in
     (inside, subst (λ (i : ℕ). word < 2 ^ bits_of items i) (sym there.1.id) (subst (λ (n : ℕ). word < 2 ^ n) (sym bits) below))
