@@ -1,9 +1,10 @@
--- What exit status 0 of a command says.
-use Rattle.std.specs.Prelude.{◌≡◌, ℕ, List, ◌++◌, length, Option, IfSome, codes, decimal}
+-- What the exit statuses 0 and 1 of a command say.
+use Rattle.std.specs.Prelude.{◌≡◌, ℕ, List, [], ◌∷◌, ◌++◌, length, Option, None, IfSome, codes, decimal}
 use Rattle.std.specs.Io.KnownBytes.{Appends}
 use Rattle.btor2.specs.declared.item.Item.{Item}
 use Rattle.btor2.specs.Items.{is_input, is_state, is_bad, is_constraint}
-use Rattle.btor2.specs.Lists.{places}
+use Rattle.btor2.specs.Check.{IsWellFormed}
+use Rattle.btor2.specs.Lists.{places, first_without_next}
 use Rattle.btor2text.specs.declared.forms.Forms.TheVariants as forms
 use Rattle.btor2text.specs.Spelling.{StandsFor}
 use Rattle.btor2text.specs.Writing.{written}
@@ -12,6 +13,7 @@ use Rattle.blast.specs.Conversion.{Converts}
 use Rattle.witness.specs.declared.judgement.Judgement.{Judgement}
 use Rattle.witness.specs.declared.judgement.Judgement.TheVariants as judgement
 use Rattle.witness.specs.Judgements.{Judges}
+use Rattle.witness.specs.Printed.{judgement_text}
 use Rattle.hwtool.specs.declared.orders.Task.{Task}
 use Rattle.hwtool.specs.declared.orders.Task.TheVariants as task
 
@@ -24,13 +26,30 @@ abbrev pub IsAccepted : Judgement → Type 0
 IsAccepted (judgement.Accepted frames) = Unit {0}
 IsAccepted _ = ⊥
 
--- the first text is of a model over which the second is accepted
-pub record Accepts (model witness : Option (List ℕ)) : Type 0 where
+-- the line of a judgement
+abbrev pub judgement_line : Judgement → List ℕ
+judgement_line j = judgement_text j ++ 10 ∷ []
+
+-- The first text is of a model, each of whose states has a next; the second is judged so over it; and what was written is the line of that judgement.
+pub record IsJudged (model witness before now : Option (List ℕ)) (verdict : Judgement) : Type 0 where
   pub items : List Item
-  pub verdict : Judgement
   pub text : IsModelOf model items
+  pub well_formed : IsWellFormed items
+  pub each_has_next : first_without_next items items ≡ None
   pub judged : IfSome witness (λ text. Judges items text verdict)
+  pub line : Appends before now (judgement_line verdict)
+
+-- the second text is accepted over the model of the first, and what was written says so
+pub record Accepts (model witness before now : Option (List ℕ)) : Type 0 where
+  pub verdict : Judgement
+  pub is_judged : IsJudged model witness before now verdict
   pub accepted : IsAccepted verdict
+
+-- the second text has another judgement over the model of the first, and what was written says which
+pub record AcceptsNot (model witness before now : Option (List ℕ)) : Type 0 where
+  pub verdict : Judgement
+  pub is_judged : IsJudged model witness before now verdict
+  pub not_accepted : ¬ IsAccepted verdict
 
 -- the line that tells how many items, inputs, states, bad properties and constraints a model has
 abbrev pub counts_line : List Item → List ℕ
@@ -46,10 +65,16 @@ counts_line items =
 pub record Shows (known before now : Option (List ℕ)) : Type 0 where
   pub items : List Item
   pub text : IsModelOf known items
+  pub well_formed : IsWellFormed items
   pub appends : Appends before now (written items ++ counts_line items)
 
 -- the conversion is done, or the witness is accepted, or the model is shown
 abbrev pub IsDone : Task → Form → Option (List ℕ) → Option (List ℕ) → Option (List ℕ) → Option (List ℕ) → Type 0
 IsDone task.Lower form first second before now = Converts first before now form
-IsDone task.CheckBtor form first second before now = Accepts first second
+IsDone task.CheckBtor form first second before now = Accepts first second before now
 IsDone task.Show form first second before now = Shows first before now
+
+-- a witness is judged, and not accepted
+abbrev pub IsNotAccepted : Task → Option (List ℕ) → Option (List ℕ) → Option (List ℕ) → Option (List ℕ) → Type 0
+IsNotAccepted task.CheckBtor first second before now = AcceptsNot first second before now
+IsNotAccepted _ first second before now = ⊥

@@ -1,82 +1,82 @@
 //! `hwtool`: word-level BTOR2 models to AIGER circuits, and judgements of their witnesses.
 #![tactic(auto)]
 
+pub mod command_line;
 pub mod files;
 pub mod orders;
 pub mod running;
-pub mod words;
+pub mod statuses;
+pub mod telling;
 
-use base::{FromReader, Source, ToWriter};
+use base::{FromReader, Sink, Source, ToWriter};
+use command_line::{given_words, order};
 use files::NoFile;
-use orders::{Order, STANDARD_INPUT, Stop};
+use orders::{Order, STANDARD_INPUT};
 use running::run;
+use std::fs;
 use std::process::ExitCode;
-use std::{env, fs, io};
-use words::order;
+use telling::end;
 
-/// Reads the words after the program's name, opens the files and does the command.
-fn main(rt: HostRuntime) -> io::Result<ExitCode> {
-    let alloc = rt.alloc();
-    let given: Vec<String> = env::args(&rt)?.skip(1).collect(alloc)?;
-    let mut words: Vec<&str> = Vec::new(alloc);
-    for word in &given {
-        words.push(word.as_str())?;
-    }
-    let status = match order(alloc, words.as_slice()) {
-        Ok(order) => obey(&rt, &order),
-        Err(stop) => tell(&rt, &stop)?,
+/// Reads the words after the program's name, and does the command that they ask for.
+fn main(rt: HostRuntime) -> ExitCode {
+    // The next file that is opened takes the place of a standard stream that is closed, and would be taken for it. So
+    // folders stand there first, which can't be read nor written.
+    let _first = fs::open(&rt, "/");
+    let _second = fs::open(&rt, "/");
+    let _third = fs::open(&rt, "/");
+    let mut out = ToWriter::new(rt.stdout());
+    let mut err = ToWriter::new(rt.stderr());
+    let status = match given_words(&rt) {
+        Ok(words) => obey_words(&rt, words.as_slice(), &mut out, &mut err),
+        Err(stop) => end(&stop, &mut out, &mut err),
     };
-    Ok(ExitCode::from(status))
+    ExitCode::from(status)
+}
+
+/// Does the command that some words ask for, and answers the status.
+fn obey_words<O: Sink, E: Sink>(
+    rt: &HostRuntime,
+    words: &[String],
+    out: &mut O,
+    err: &mut E,
+) -> u8 {
+    match order(rt.alloc(), words) {
+        Ok(order) => obey(rt, &order, out, err),
+        Err(stop) => end(&stop, out, err),
+    }
 }
 
 /// Does a command on files and the standard streams, and answers the status.
-fn obey(rt: &HostRuntime, order: &Order<'_>) -> u8 {
+fn obey<O: Sink, E: Sink>(rt: &HostRuntime, order: &Order<'_>, out: &mut O, err: &mut E) -> u8 {
     if order.first == STANDARD_INPUT {
-        return obey_of(rt, order, &mut FromReader::new(rt.stdin()));
+        return obey_of(rt, order, &mut FromReader::new(rt.stdin()), out, err);
     }
     match fs::open(rt, order.first) {
-        Ok(file) => obey_of(rt, order, &mut FromReader::new(file)),
-        Err(_) => obey_of(rt, order, &mut NoFile::new()),
+        Ok(file) => obey_of(rt, order, &mut FromReader::new(file), out, err),
+        Err(_) => obey_of(rt, order, &mut NoFile::new(), out, err),
     }
 }
 
 /// The same, where the first source is open.
-fn obey_of<A: Source>(rt: &HostRuntime, order: &Order<'_>, first: &mut A) -> u8 {
-    match order.second {
-        None => obey_on(rt, order, first, &mut NoFile::new()),
-        Some(name) => {
-            if name == STANDARD_INPUT {
-                return obey_on(rt, order, first, &mut FromReader::new(rt.stdin()));
-            }
-            match fs::open(rt, name) {
-                Ok(file) => obey_on(rt, order, first, &mut FromReader::new(file)),
-                Err(_) => obey_on(rt, order, first, &mut NoFile::new()),
-            }
-        }
-    }
-}
-
-/// The same, where both sources are open.
-fn obey_on<A: Source, B: Source>(
+fn obey_of<A: Source, O: Sink, E: Sink>(
     rt: &HostRuntime,
     order: &Order<'_>,
     first: &mut A,
-    second: &mut B,
+    out: &mut O,
+    err: &mut E,
 ) -> u8 {
-    let mut out = ToWriter::new(rt.stdout());
-    let mut err = ToWriter::new(rt.stderr());
-    run(rt.alloc(), order, first, second, &mut out, &mut err)
-}
-
-/// Prints what stands in place of a command: help on standard output, refused words on standard error.
-fn tell(rt: &HostRuntime, stop: &Stop) -> io::Result<u8> {
-    let text = stop.text.as_str();
-    if stop.status == 0 {
-        print!(rt; "{text}")?;
-    } else {
-        eprint!(rt; "{text}")?;
+    let alloc = rt.alloc();
+    match order.second {
+        None => run(alloc, order, first, &mut NoFile::new(), out, err),
+        Some(STANDARD_INPUT) => {
+            let mut second = FromReader::new(rt.stdin());
+            run(alloc, order, first, &mut second, out, err)
+        }
+        Some(name) => match fs::open(rt, name) {
+            Ok(file) => run(alloc, order, first, &mut FromReader::new(file), out, err),
+            Err(_) => run(alloc, order, first, &mut NoFile::new(), out, err),
+        },
     }
-    Ok(stop.status)
 }
 
 #[cfg(test)]

@@ -1,5 +1,9 @@
-//! Commands, and what is printed in their place.
+//! Commands, and what stands in their place.
 
+ghost use Rattle.std.specs.Prelude.{◌≡◌};
+ghost use Rattle.hwtool.specs.Stops.{stop_status, stop_text};
+
+use crate::statuses::{DEVICE, DONE, WORDS_REFUSED};
 use aigertext::Form;
 
 /// The file name that stands for standard input.
@@ -29,12 +33,37 @@ pub struct Order<'a> {
     pub second: Option<&'a str>,
 }
 
-/// What is printed in place of a command, and the exit status: 0 for help, 4 for refused words, 3
-/// where there was no memory to read them.
+/// What stands in place of a command.
 #[derive(Debug, Drop)]
-pub struct Stop {
-    /// The exit status.
-    pub status: u8,
-    /// The text.
-    pub text: String,
+pub enum Stop {
+    /// Help, or the version: the text goes to standard output, and the status is 0.
+    Shown(String),
+    /// Refused words: the text goes to standard error, and the status is 4.
+    Refused(String),
+    /// There was no memory to read the words; the status is 3.
+    NoMemory,
+}
+
+impl Stop {
+    /// The exit status, where the text can be written.
+    pub fn status(&self) -> u8
+        ensures { result ≡ stop_status self.now }
+    {
+        match self {
+            Stop::Shown(_) => DONE,
+            Stop::Refused(_) => WORDS_REFUSED,
+            Stop::NoMemory => DEVICE,
+        }
+    }
+
+    /// The text, whole lines.
+    pub fn text(&self) -> &str
+        ensures { result.now ≡ stop_text self.now }
+    {
+        match self {
+            Stop::Shown(text) => text.as_str(),
+            Stop::Refused(text) => text.as_str(),
+            Stop::NoMemory => "no memory\n",
+        }
+    }
 }

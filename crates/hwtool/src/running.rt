@@ -1,12 +1,14 @@
 //! Doing a command.
 
-ghost use Rattle.std.specs.Prelude.{◌≡◌, ◌<◌, ◌++◌, IfOk};
+ghost use Rattle.std.specs.Prelude.{◌≡◌, ◌≢◌, ◌≤◌, ◌⊎◌, ◌++◌, IfOk};
 ghost use Rattle.std.specs.Io.KnownBytes.{Appends};
 ghost use Rattle.btor2text.specs.Writing.{written};
 ghost use Rattle.std.specs.String.{string_bytes};
-ghost use Rattle.hwtool.specs.Done.{IsDone, Accepts, IsAccepted, Shows, counts_line};
+ghost use Rattle.hwtool.specs.Done.{IsDone, IsNotAccepted, Accepts, AcceptsNot, IsAccepted, Shows, counts_line, judgement_line};
 
 use crate::orders::{Order, STANDARD_INPUT, Task};
+use crate::statuses::{DEVICE, DONE, NOT_ACCEPTED, REFUSED};
+use crate::telling::say;
 use base::{Sink, Source, write_all};
 use blast::{ConvertFault, LowerFault, convert};
 use btor2::Model;
@@ -14,24 +16,13 @@ use btor2text::{Why, read, write};
 use std::alloc::{AllocError, Global};
 use witness::{JudgeFault, Judgement, judge_words};
 
-/// The exit status of a command that is done.
-pub const DONE: u8 = 0;
-
-/// The exit status where a witness is not accepted.
-pub const NOT_ACCEPTED: u8 = 1;
-
-/// The exit status where the input is refused.
-pub const REFUSED: u8 = 2;
-
-/// The exit status where a device failed or memory was wanting.
-pub const DEVICE: u8 = 3;
-
 /// Does a command, and answers the exit status: 0 done or accepted, 1 not accepted, 2 input refused, 3 device or
 /// memory.
 ///
 /// Results go to `out`, refusals to `err`, a line each; where `err` fails the status is 3. `lower` and `show` do not
-/// read the second source. The status is 0 only where all of the circuit's text was written, the witness is accepted,
-/// or all of the model's text and the line of its counts were written.
+/// read the second source. The status is 0 only where all of the circuit's text was written, the witness is accepted
+/// and the line that says so was written, or all of the model's text and the line of its counts were written. It is 1
+/// only where the witness is judged, not accepted, and the line of its judgement was written.
 pub fn run<A: Source, B: Source, O: Sink, E: Sink>(
     alloc: Global,
     order: &Order<'_>,
@@ -41,6 +32,8 @@ pub fn run<A: Source, B: Source, O: Sink, E: Sink>(
     err: &mut E,
 ) -> u8
     ensures done { result ≡ 0 → IsDone order.now.task order.now.form (A.to_come first.old) (B.to_come second.old) (O.written out.old) (O.written out.new) }
+    ensures not_accepted { result ≡ 1 → IsNotAccepted order.now.task (A.to_come first.old) (B.to_come second.old) (O.written out.old) (O.written out.new) }
+    ensures statuses { result ≤ 3 }
 {
     match order.task {
         Task::Lower => match convert(alloc, first, out, order.form) {
@@ -61,7 +54,9 @@ fn check<A: Source, B: Source, O: Sink, E: Sink>(
     out: &mut O,
     err: &mut E,
 ) -> u8
-    ensures accepted { result ≡ 0 → Accepts (A.to_come first.old) (B.to_come second.old) }
+    ensures accepted { result ≡ 0 → Accepts (A.to_come first.old) (B.to_come second.old) (O.written out.old) (O.written out.new) }
+    ensures not_accepted { result ≡ 1 → AcceptsNot (A.to_come first.old) (B.to_come second.old) (O.written out.old) (O.written out.new) }
+    ensures statuses { result ≤ 3 }
 {
     let model = match read(alloc, first) {
         Ok(model) => model,
@@ -82,6 +77,7 @@ fn show<A: Source, O: Sink, E: Sink>(
     err: &mut E,
 ) -> u8
     ensures shown { result ≡ 0 → Shows (A.to_come first.old) (O.written out.old) (O.written out.new) }
+    ensures statuses { (result ≡ 0) ⊎ ((2 ≤ result) × (result ≤ 3)) }
 {
     let model = match read(alloc, first) {
         Ok(model) => model,
@@ -92,7 +88,8 @@ fn show<A: Source, O: Sink, E: Sink>(
 
 /// Writes the writer's text of a model and the line of its counts, and answers the exit status.
 fn tell_model<O: Sink, E: Sink>(alloc: Global, model: &Model, out: &mut O, err: &mut E) -> u8
-    ensures { result ≡ 0 → Appends (O.written out.old) (O.written out.new) (written model.now ++ counts_line model.now) }
+    ensures shown { result ≡ 0 → Appends (O.written out.old) (O.written out.new) (written model.now ++ counts_line model.now) }
+    ensures statuses { (result ≡ 0) ⊎ (result ≡ 3) }
 {
     let line = match counts_line(alloc, model) {
         Ok(line) => line,
@@ -122,9 +119,12 @@ fn counts_line(alloc: Global, model: &Model) -> Result<String, AllocError>
     )
 }
 
-/// Writes the line of a judgement, and answers the exit status: 0 accepted, 1 not accepted.
+/// Writes the line of a judgement, and answers the exit status: 0 accepted, 1 not accepted, 3 where it can't be written.
 fn tell<O: Sink, E: Sink>(alloc: Global, judgement: &Judgement, out: &mut O, err: &mut E) -> u8
-    ensures { result ≡ 0 → IsAccepted judgement.now }
+    ensures told { result ≢ 3 → Appends (O.written out.old) (O.written out.new) (judgement_line judgement.now) }
+    ensures accepted { result ≡ 0 → IsAccepted judgement.now }
+    ensures not_accepted { result ≡ 1 → ¬ IsAccepted judgement.now }
+    ensures statuses { (result ≤ 1) ⊎ (result ≡ 3) }
 {
     let status = match judgement {
         Judgement::Accepted { .. } => DONE,
@@ -139,9 +139,9 @@ fn tell<O: Sink, E: Sink>(alloc: Global, judgement: &Judgement, out: &mut O, err
     }
 }
 
-/// Writes the line of a witness that is not judged, and answers the exit status, which is not 0.
+/// Writes the line of a witness that is not judged, and answers the exit status, 2 or 3.
 fn refuse_witness<E: Sink>(alloc: Global, order: &Order<'_>, fault: &JudgeFault, err: &mut E) -> u8
-    ensures { 0 < result }
+    ensures { (2 ≤ result) × (result ≤ 3) }
 {
     let file = order.first;
     let witness = order.second.unwrap_or(STANDARD_INPUT);
@@ -160,9 +160,9 @@ fn refuse_witness<E: Sink>(alloc: Global, order: &Order<'_>, fault: &JudgeFault,
     }
 }
 
-/// Writes the line of a refused conversion, and answers the exit status, which is not 0.
+/// Writes the line of a refused conversion, and answers the exit status, 2 or 3.
 fn refuse<E: Sink>(alloc: Global, file: &str, fault: &ConvertFault, err: &mut E) -> u8
-    ensures { 0 < result }
+    ensures { (2 ≤ result) × (result ≤ 3) }
 {
     match refusal_line(alloc, file, fault) {
         Ok((status, line)) => say(err, status, line.as_bytes()),
@@ -170,9 +170,9 @@ fn refuse<E: Sink>(alloc: Global, file: &str, fault: &ConvertFault, err: &mut E)
     }
 }
 
-/// The exit status of a refused conversion, never 0, and its line.
+/// The exit status of a refused conversion, 2 or 3, and its line.
 fn refusal_line(alloc: Global, file: &str, fault: &ConvertFault) -> Result<(u8, String), AllocError>
-    ensures { IfOk result (λ told. 0 < told.0) }
+    ensures { IfOk result (λ told. (2 ≤ told.0) × (told.0 ≤ 3)) }
 {
     match fault {
         ConvertFault::Read(fault) => match fault.why {
@@ -186,15 +186,5 @@ fn refusal_line(alloc: Global, file: &str, fault: &ConvertFault) -> Result<(u8, 
         ConvertFault::Lower(LowerFault::NoMemory) => Err(AllocError),
         ConvertFault::Lower(fault) => Ok((REFUSED, format!(in alloc; "{file}: {fault}\n")?)),
         ConvertFault::Write(_) => Ok((DEVICE, format!(in alloc; "output: device\n")?)),
-    }
-}
-
-/// Writes a line, and answers the status, or 3 where that fails.
-fn say<E: Sink>(err: &mut E, status: u8, line: &[u8]) -> u8
-    ensures { 0 < status → 0 < result }
-{
-    match write_all(err, line) {
-        Ok(()) => status,
-        Err(_) => DEVICE,
     }
 }

@@ -1,17 +1,18 @@
-//! The rows of the first path, through the two public calls.
+//! Circuits and refusals, through the two public calls.
 
+use crate::command_line::order;
 use crate::files::NoFile;
-use crate::orders::Stop;
 use crate::running::run;
-use crate::words::order;
 use aiger::{Circuit, Lit, Reset};
-use base::{DeviceFault, Sink, Source, VecSink};
+use base::{Source, VecSink};
 use std::alloc::Global;
 use std::process::Abort;
 use std::test::Fail;
 
+mod devices;
 mod texts;
 mod witnesses;
+mod words;
 
 const TOGGLER: &str =
     "1 sort bitvec 1\n2 zero 1\n3 state 1 t\n4 init 1 3 2\n5 not 1 3\n6 next 1 3 5\n7 bad 3\n";
@@ -186,115 +187,5 @@ fn and_of_an_input_and_a_state(rt: HostRuntime) -> Result<(), Fail> {
             assert_eq!(rt; next.as_slice(), wanted.as_slice(), "{x} {s}");
         }
     }
-    Ok(())
-}
-
-/// The status and the text that stand in place of an order.
-fn stopped(alloc: Global, words: &[&str]) -> Option<Stop> {
-    match order(alloc, words) {
-        Ok(_) => None,
-        Err(stop) => Some(stop),
-    }
-}
-
-#[test]
-fn words(rt: HostRuntime) -> Result<(), Fail> {
-    let none: [&str; 0] = [];
-    match order(rt.alloc(), none.as_slice()) {
-        Ok(order) => assert_eq!(rt; order.first, "-"),
-        Err(_) => assert!(rt; false),
-    }
-    match order(rt.alloc(), ["lower", "--ascii", "a.btor2"].as_slice()) {
-        Ok(order) => assert_eq!(rt; order.first, "a.btor2"),
-        Err(_) => assert!(rt; false),
-    }
-    let help = stopped(rt.alloc(), ["--help"].as_slice()).ok_or("help")?;
-    assert_eq!(rt; help.status, 0);
-    assert!(rt; help.text.as_str().contains("lower"));
-    let refused: [&[&str]; 4] = [
-        &["frobnicate"],
-        &["lower"],
-        &["lower", "a", "b"],
-        &["lower", "--binary", "a"],
-    ];
-    for words in refused {
-        let stop = stopped(rt.alloc(), words).ok_or("refused words")?;
-        assert_eq!(rt; stop.status, 4);
-        assert!(rt; !stop.text.as_str().is_empty());
-    }
-    Ok(())
-}
-
-/// A sink that takes so many bytes, and then fails.
-#[derive(Drop)]
-struct Full {
-    room: usize,
-    failures: u128,
-}
-
-impl Sink for Full {
-    ghost failures = { λ s. s.failures };
-
-    fn write(&mut self, bytes: &[u8]) -> Result<usize, DeviceFault> {
-        let count = bytes.len().min(self.room);
-        if count == 0 && !bytes.is_empty() {
-            self.failures = self.failures.saturating_add(1);
-            return Err(DeviceFault::Failed);
-        }
-        self.room -= count;
-        Ok(count)
-    }
-}
-
-#[test]
-fn devices(rt: HostRuntime) -> Result<(), Fail> {
-    let words = ["lower", "model"];
-    let order = order(rt.alloc(), words.as_slice()).map_err(|_| "an order")?;
-    // a file that can't be opened
-    let mut out = VecSink::new(rt.alloc());
-    let mut err = VecSink::new(rt.alloc());
-    let status = run(
-        rt.alloc(),
-        &order,
-        &mut NoFile::new(),
-        &mut NoFile::new(),
-        &mut out,
-        &mut err,
-    );
-    assert_eq!(rt; status, 3);
-    assert_eq!(rt; err.bytes(), b"model: device\n".as_slice());
-    assert_eq!(rt; out.bytes().len(), 0);
-    // standard output fails, at once and after some bytes
-    for room in [0, 7] {
-        let mut out = Full { room, failures: 0 };
-        let mut err = VecSink::new(rt.alloc());
-        let mut first = TOGGLER.as_bytes();
-        let status = run(
-            rt.alloc(),
-            &order,
-            &mut first,
-            &mut NoFile::new(),
-            &mut out,
-            &mut err,
-        );
-        assert_eq!(rt; status, 3);
-        assert_eq!(rt; err.bytes(), b"output: device\n".as_slice());
-    }
-    // standard error fails
-    let mut out = VecSink::new(rt.alloc());
-    let mut err = Full {
-        room: 0,
-        failures: 0,
-    };
-    let mut first = "1 sort bitvec 65\n".as_bytes();
-    let status = run(
-        rt.alloc(),
-        &order,
-        &mut first,
-        &mut NoFile::new(),
-        &mut out,
-        &mut err,
-    );
-    assert_eq!(rt; status, 3);
     Ok(())
 }

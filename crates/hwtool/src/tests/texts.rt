@@ -132,3 +132,48 @@ fn every_form(rt: HostRuntime) -> Result<(), Fail> {
     assert_eq!(rt; written.as_slice(), wanted.as_bytes());
     Ok(())
 }
+
+/// The rows of the push refusals that need more than one line before them, each with the line that is told.
+#[test]
+fn refused_items(rt: HostRuntime) -> Result<(), Fail> {
+    let rows = [
+        (
+            "1 sort bitvec 4\n2 sort bitvec 1\n3 input 1\n4 slice 2 3 4 4\n",
+            "model: line 4: 7 SliceOutOfRange\n",
+        ),
+        (
+            "1 sort bitvec 4\n2 sort bitvec 1\n3 input 1\n4 slice 2 3 1 2\n",
+            "model: line 4: 7 SliceOutOfRange\n",
+        ),
+        (
+            "1 sort bitvec 1\n2 zero 1\n3 init 1 2 2\n",
+            "model: line 3: 8 NotAState\n",
+        ),
+        (
+            "1 sort bitvec 1\n2 input 1\n3 next 1 2 2\n",
+            "model: line 3: 8 NotAState\n",
+        ),
+        (
+            "1 sort bitvec 1\n2 zero 1\n3 state 1\n4 init 1 3 2\n5 init 1 3 2\n",
+            "model: line 5: 9 SecondInit\n",
+        ),
+        (
+            "1 sort bitvec 1\n2 state 1\n3 next 1 2 2\n4 next 1 2 2\n",
+            "model: line 4: 10 SecondNext\n",
+        ),
+        (
+            "1 sort bitvec 1\n2 state 1\n3 input 1\n4 init 1 2 3\n",
+            "model: line 4: 11 InitNotConstant\n",
+        ),
+    ];
+    let commands: [&[&str]; 2] = [&["show", "model"], &["check-btor", "model", "witness"]];
+    for (text, wanted) in rows {
+        for words in commands {
+            let (status, written, told) = ran(rt.alloc(), words, text, &mut NoFile::new())?;
+            assert_eq!(rt; status, 2, "{text}");
+            assert_eq!(rt; told.as_slice(), wanted.as_bytes(), "{text}");
+            assert_eq!(rt; written.len(), 0, "{text}");
+        }
+    }
+    Ok(())
+}

@@ -1,0 +1,197 @@
+//! The command line: the words that the program is given, and what they ask for.
+
+ghost use Rattle.std.specs.Prelude.{◌≡◌, IfOk, false, option_map};
+ghost use Rattle.hwtool.specs.Orders.{reads_input_twice};
+
+use crate::orders::{Order, STANDARD_INPUT, Stop, Task};
+use aigertext::Form;
+use clap::error::ErrorKind;
+use clap::{Arg, ArgAction, ArgMatches, Command, Error};
+use std::alloc::{AllocError, AllocGlobal, Global};
+use std::convert::AsStr;
+use std::env::Env;
+use std::{env, io};
+
+/// The program's name, with which each usage line begins.
+const PROGRAM: &str = "hwtool";
+
+/// What `--version` prints behind the program's name: its version, and the toolchain that it is proved and built with,
+/// in the line that `rt version` prints.
+pub const VERSION: &str = "0.1.0\nrattle-kit-13b logic dac8208d650f15bf";
+
+/// The end of each help.
+const STATUSES: &str = "The file - is standard input.
+
+Exit statuses:
+  0  the command is done, the witness is accepted, or help or the version is shown
+  1  the witness is not accepted
+  2  the input is refused
+  3  a device failed, or memory was wanting
+  4  the words of the command line are refused";
+
+/// What help says of a file of a model, and of one of a witness.
+const MODEL: &str = "The file of a BTOR2 model, or - for standard input";
+
+const WITNESS: &str = "The file of a BTOR2 witness, or - for standard input";
+
+/// What is told of words that are no text.
+const NO_TEXT: &str = "words: not UTF-8\n";
+
+/// What is told of words that name standard input twice.
+const INPUT_TWICE: &str = "words: standard input is read once, so - stands for one file\n";
+
+/// The word of the command that judges a witness.
+const CHECK_BTOR: &str = "check-btor";
+
+/// The word of the command that writes a model.
+const SHOW: &str = "show";
+
+/// A word that names a file.
+fn file_name<'a>(alloc: Global, name: &'a str, help: &'a str) -> Arg<'a> {
+    Arg::new(alloc, name)
+        .required(true)
+        .action(ArgAction::Set)
+        .help(help)
+}
+
+/// The words of `lower`.
+fn lower<'a>(alloc: Global) -> Result<Command<'a>, AllocError> {
+    let ascii = Arg::new(alloc, "ascii")
+        .long("ascii")
+        .action(ArgAction::SetTrue)
+        .help("Write the ascii form (the default)");
+    Command::new(alloc, "lower")
+        .about("Lower a BTOR2 model to an AIGER circuit on standard output")
+        .after_help(STATUSES)
+        .arg(ascii)?
+        .arg(file_name(alloc, "MODEL", MODEL))
+}
+
+/// The words of `check-btor`.
+fn check_btor<'a>(alloc: Global) -> Result<Command<'a>, AllocError> {
+    Command::new(alloc, CHECK_BTOR)
+        .about("Judge a BTOR2 witness over a model")
+        .after_help(STATUSES)
+        .arg(file_name(alloc, "MODEL", MODEL))?
+        .arg(file_name(alloc, "WITNESS", WITNESS))
+}
+
+/// The words of `show`.
+fn show<'a>(alloc: Global) -> Result<Command<'a>, AllocError> {
+    Command::new(alloc, SHOW)
+        .about("Write a BTOR2 model in the one spelling that this program gives")
+        .after_help(STATUSES)
+        .arg(file_name(alloc, "MODEL", MODEL))
+}
+
+/// The commands and their words.
+fn commands<'a>(alloc: Global) -> Result<Command<'a>, AllocError> {
+    Command::new(alloc, PROGRAM)
+        .bin_name(PROGRAM)?
+        .version(VERSION)
+        .after_help(STATUSES)
+        .about(
+            "Word-level BTOR2 models to AIGER circuits, and their witnesses. Without any word: lower standard input.",
+        )
+        .subcommand_required(true)
+        .subcommand(lower(alloc)?)?
+        .subcommand(check_btor(alloc)?)?
+        .subcommand(show(alloc)?)
+}
+
+/// The order that matches name.
+fn order_of<'a>(matches: &ArgMatches<'a>) -> Option<Order<'a>> {
+    let (command, words) = matches.subcommand()?;
+    let first = words.get_str("MODEL")?;
+    if command == CHECK_BTOR {
+        Some(Order {
+            task: Task::CheckBtor,
+            form: Form::Ascii,
+            first,
+            second: Some(words.get_str("WITNESS")?),
+        })
+    } else {
+        Some(Order {
+            task: if command == SHOW {
+                Task::Show
+            } else {
+                Task::Lower
+            },
+            form: Form::Ascii,
+            first,
+            second: None,
+        })
+    }
+}
+
+/// Whether a command would read standard input twice.
+fn reads_input_twice(order: &Order<'_>) -> bool
+    ensures { result ≡ reads_input_twice order.now.first.now (option_map (λ name. name.now) order.now.second) }
+{
+    match order.second {
+        Some(second) => order.first == STANDARD_INPUT && second == STANDARD_INPUT,
+        None => false,
+    }
+}
+
+/// What stands in place of a command where words are refused with a line of this program's own.
+fn refused(alloc: Global, line: &str) -> Stop {
+    match String::from_str(alloc, line) {
+        Ok(text) => Stop::Refused(text),
+        Err(_) => Stop::NoMemory,
+    }
+}
+
+/// What stands in place of a command that the parser does not find.
+fn stop_of(alloc: Global, error: &Error) -> Stop {
+    if error.kind() == ErrorKind::OutOfMemory {
+        return Stop::NoMemory;
+    }
+    match format!(in alloc; "{error}") {
+        Ok(text) if error.use_stderr() => Stop::Refused(text),
+        Ok(text) => Stop::Shown(text),
+        Err(_) => Stop::NoMemory,
+    }
+}
+
+/// The words after the program's name.
+///
+/// Errors: `Refused` where a word is no text, that is, not UTF-8; `NoMemory` where there was none to copy them.
+pub fn given_words<R: Env + AllocGlobal>(rt: &R) -> Result<Vec<String>, Stop> {
+    let alloc = rt.alloc();
+    match env::args(rt) {
+        Ok(words) => words.skip(1).collect(alloc).map_err(|_| Stop::NoMemory),
+        Err(error) if error.kind() == io::ErrorKind::InvalidData => Err(refused(alloc, NO_TEXT)),
+        Err(_) => Err(Stop::NoMemory),
+    }
+}
+
+/// Reads the words after the program's name. Without any it is `lower` on standard input.
+///
+/// Errors: `Shown` with the text of help or of the version, `Refused` where the words are no command, also where they
+/// name standard input twice, which can be read once, and `NoMemory`.
+pub fn order<'a, S: AsStr>(alloc: Global, words: &'a [S]) -> Result<Order<'a>, Stop>
+    // standard input is read once
+    ensures { IfOk result (λ order. reads_input_twice order.first.now (option_map (λ name. name.now) order.second) ≡ false) }
+{
+    if words.is_empty() {
+        return Ok(Order {
+            task: Task::Lower,
+            form: Form::Ascii,
+            first: STANDARD_INPUT,
+            second: None,
+        });
+    }
+    let command = match commands(alloc) {
+        Ok(command) => command.no_binary_name(true),
+        Err(_) => return Err(Stop::NoMemory),
+    };
+    match command.try_get_matches_from(words) {
+        Ok(matches) => match order_of(&matches) {
+            Some(order) if reads_input_twice(&order) => Err(refused(alloc, INPUT_TWICE)),
+            Some(order) => Ok(order),
+            None => Err(Stop::NoMemory),
+        },
+        Err(error) => Err(stop_of(alloc, &error)),
+    }
+}

@@ -1,0 +1,131 @@
+#!/usr/bin/env bash
+# Runs the built program as a user or a script does, and looks at its exit statuses and at what it prints: words that
+# are no text, full and closed devices, files that are not there, help and the version. Give the program's path, or
+# none for the one that `rt run` builds in crates/hwtool. The status is 0 where all is as it should be, else 1.
+set -u
+top=$(cd "$(dirname "$(readlink -f "${BASH_SOURCE[0]}")")/.." && pwd)
+program=$(readlink -f "${1:-$top/crates/hwtool/out/hwtool}")
+folder=$(mktemp -d) || exit 1
+trap 'rm -rf "$folder"' EXIT
+cd "$folder" || exit 1
+cp "$top"/examples/toggler.btor2 model.btor2
+cp "$top"/examples/toggler.witness witness
+failed=0
+count=0
+
+# expect NAME STATUS TEXT-OF-STANDARD-ERROR: what the last command, whose status is in `status`, should have done
+expect() {
+    count=$((count + 1))
+    if [ "$status" != "$2" ]; then
+        echo "$1: status $status, not $2"
+        failed=$((failed + 1))
+    elif [ "$(cat err)" != "$3" ]; then
+        echo "$1: standard error has '$(cat err)', not '$3'"
+        failed=$((failed + 1))
+    fi
+}
+
+# expect_line NAME FILE LINE: a file has this line
+expect_line() {
+    count=$((count + 1))
+    if ! grep -qxF -- "$3" "$2"; then
+        echo "$1: no line '$3'"
+        failed=$((failed + 1))
+    fi
+}
+
+[ -x "$program" ] || {
+    echo "$program is not built: run rt run in crates/hwtool"
+    exit 1
+}
+
+# commands that are done, and a witness that is not accepted
+"$program" lower model.btor2 >out 2>err; status=$?
+expect "lower" 0 ""
+expect_line "lower" out "aag 1 0 1 0 0 1"
+"$program" <model.btor2 >out 2>err; status=$?
+expect "no words" 0 ""
+expect_line "no words" out "aag 1 0 1 0 0 1"
+"$program" check-btor model.btor2 - <witness >out 2>err; status=$?
+expect "accepted" 0 ""
+expect_line "accepted" out "accepted 2 frames"
+echo unsat | "$program" check-btor model.btor2 - >out 2>err; status=$?
+expect "not accepted" 1 ""
+expect_line "not accepted" out "no claim"
+
+# refused input
+echo "1 sort bitvec 65" | "$program" show - >out 2>err; status=$?
+expect "refused input" 2 "-: line 1: 5 WidthOutOfRange"
+
+# files that are not there, or can't be read
+"$program" lower missing.btor2 >out 2>err; status=$?
+expect "a missing file" 3 "missing.btor2: device"
+"$program" show "$folder" >out 2>err; status=$?
+expect "a folder" 3 "$folder: device"
+"$program" show - <&- >out 2>err; status=$?
+expect "closed standard input" 3 "-: device"
+"$program" check-btor - witness <&- >out 2>err; status=$?
+expect "closed standard input in place of a model" 3 "-: device"
+"$program" check-btor model.btor2 - <&- >out 2>err; status=$?
+expect "closed standard input in place of a witness" 3 "-: device"
+
+# words
+"$program" lower $'model\xff.btor2' >out 2>err; status=$?
+expect "a word that is no text" 4 "words: not UTF-8"
+"$program" check-btor - - <model.btor2 >out 2>err; status=$?
+expect "standard input twice" 4 "words: standard input is read once, so - stands for one file"
+"$program" frobnicate >out 2>err; status=$?
+expect "refused words" 4 "$(cat err)"
+expect_line "refused words" err "Usage: hwtool <COMMAND>"
+"$program" lower >out 2>err; status=$?
+expect "lower of nothing" 4 "$(cat err)"
+expect_line "lower of nothing" err "Usage: hwtool lower <MODEL>"
+"$program" --help >out 2>err; status=$?
+expect "help" 0 ""
+expect_line "help" out "The file - is standard input."
+expect_line "help" out "  2  the input is refused"
+"$program" --version >out 2>err; status=$?
+expect "version" 0 ""
+expect_line "version" out "hwtool 0.1.0"
+if command -v rt >/dev/null; then
+    expect_line "version" out "$(rt version)"
+fi
+
+# full and closed devices
+for words in "--help" "--version" "lower model.btor2" "show model.btor2" "check-btor model.btor2 witness"; do
+    # shellcheck disable=SC2086
+    "$program" $words >/dev/full 2>err; status=$?
+    expect "$words onto a full device" 3 "output: device"
+    # shellcheck disable=SC2086
+    "$program" $words >&- 2>err; status=$?
+    expect "$words onto closed standard output" 3 "output: device"
+done
+: >err
+"$program" frobnicate >out 2>/dev/full; status=$?
+expect "refused words onto a full device" 3 ""
+"$program" frobnicate >out 2>&-; status=$?
+expect "refused words onto closed standard error" 3 ""
+"$program" lower $'\xff' >out 2>/dev/full; status=$?
+expect "a word that is no text, onto a full device" 3 ""
+"$program" --help >/dev/full 2>/dev/full; status=$?
+expect "help and its failure onto full devices" 3 ""
+
+# little memory: whatever is told, it is not a judgement, nor that the input is refused
+if command -v prlimit >/dev/null; then
+    word=$(head -c 100000 /dev/zero | tr '\0' a)
+    for kilobytes in 3000 3500 4000 4500 5000; do
+        { prlimit --as=$((kilobytes * 1024)) "$program" lower "$word" "$word" "$word" "$word" >out 2>err; } 2>/dev/null
+        status=$?
+        count=$((count + 1))
+        if [ "$status" -le 2 ]; then
+            echo "$kilobytes kilobytes of memory: status $status"
+            failed=$((failed + 1))
+        fi
+    done
+fi
+
+if [ "$failed" != 0 ]; then
+    echo "$failed of $count failed"
+    exit 1
+fi
+echo "$count passed"
