@@ -15,12 +15,13 @@ use Rattle.btor2.proofs.TraceLemmas.{next_state_fits}
 use Rattle.aiger.specs.Limits.{greatest_count}
 use Rattle.aiger.specs.Net.{Net}
 use Rattle.aiger.specs.declared.circuit.Gate.{Gate}
-use Rattle.aiger.specs.Circuit.{Circuit, IsCircuit, Names, net, fresh_latch}
+use Rattle.aiger.specs.Circuit.{Circuit, IsCircuit, net, fresh_latch}
 use Rattle.gates.specs.Made.{gates_only}
 use Rattle.blast.specs.declared.fault.LowerFault.TheVariants as fault
-use Rattle.blast.specs.Cost.{bound, state_width}
-use Rattle.blast.specs.Leaves.{of_kind, leaf_resets, resets_of_word, reset_of_bit, input_names, state_names, bad_names, constraint_names}
+use Rattle.blast.specs.Cost.{bound, input_width, state_width}
+use Rattle.blast.specs.Leaves.{of_kind, leaf_resets, resets_of_word, reset_of_bit}
 use Rattle.blast.specs.Lowering.{Lowers}
+use Rattle.blast.specs.Sections.{TakesNames}
 use Rattle.blast.specs.Reads.{leaves_only, LowersNodes, RowsRead, LatchesRead, BadsRead, ConstraintsRead}
 use Rattle.btor2.specs.Lists.{first_without_next}
 use Rattle.blast.specs.declared.fault.LowerFault.{LowerFault}
@@ -111,15 +112,16 @@ net_same : (i j k l : ℕ) (g h : List Gate) → i ≡ j → k ≡ l → g ≡ h
 net_same i j k l g h p q r = rw (p, q, r) refl
 
 -- the parts of a lowering make one
-pub assemble : (items : List Item) (n : Net) (rows : List (List ℕ)) (c1 c2 c3 c4 : Circuit) (unnamed_bads unnamed_constraints : Names)
+pub assemble : (items : List Item) (n : Net) (rows : List (List ℕ)) (c1 c2 c3 c4 : Circuit)
     → IsWellFormed items → IsOfProfile items → IsCircuit c4
     → LowersNodes items (leaves_only items) n rows → c1 ≡ gates_only n
     → LatchesRead items (net c1) items c2.latches → c2 ≡ record c1 { latches = c2.latches }
     → BadsRead items (net c2) items c3.bads → ConstraintsRead items (net c2) items c3.constraints
-    → c3 ≡ record c2 { bads = c3.bads; constraints = c3.constraints; bad_names = unnamed_bads; constraint_names = unnamed_constraints }
-    → c4 ≡ record c3 { input_names = input_names items; latch_names = state_names items; bad_names = bad_names items; constraint_names = constraint_names items }
+    → c3 ≡ record c2 { bads = c3.bads; constraints = c3.constraints }
+    → TakesNames items c3 c4
     → Lowers items c4
-assemble items n rows c1 c2 c3 c4 unnamed_bads unnamed_constraints well profile circuit nodes is1 latches is2 bads constraints is3 is4 =
+assemble items n rows c1 c2 c3 c4 well profile circuit nodes is1 latches is2 bads constraints is3 takes =
+    let is4 = takes.rest in
     let inputs1 : c1.inputs ≡ n.inputs = ap (λ (c : Circuit). c.inputs) is1 in
     let inputs2 : c2.inputs ≡ c1.inputs = ap (λ (c : Circuit). c.inputs) is2 in
     let inputs4 : c4.inputs ≡ c2.inputs = ap (λ (c : Circuit). c.inputs) is4 ∙ ap (λ (c : Circuit). c.inputs) is3 in
@@ -145,13 +147,31 @@ assemble items n rows c1 c2 c3 c4 unnamed_bads unnamed_constraints well profile 
       of_profile = profile;
       circuit = circuit;
       inputs = inputs4 ∙ inputs2 ∙ inputs1 ∙ nodes.grows.inputs;
-      input_names = ap (λ (c : Circuit). c.input_names) is4;
-      latch_names = ap (λ (c : Circuit). c.latch_names) is4;
+      input_names = takes.inputs;
+      latch_names = takes.latches;
       resets = rw latches4 latches.resets;
-      bad_names = ap (λ (c : Circuit). c.bad_names) is4;
-      constraint_names = ap (λ (c : Circuit). c.constraint_names) is4;
+      bad_names = takes.bads;
+      constraint_names = takes.constraints;
+      no_outputs = ap (λ (c : Circuit). c.outputs) is4 ∙ ap (λ (c : Circuit). c.outputs) is3 ∙ ap (λ (c : Circuit). c.outputs) is2 ∙ ap (λ (c : Circuit). c.outputs) is1;
+      no_justice = ap (λ (c : Circuit). c.justice) is4 ∙ ap (λ (c : Circuit). c.justice) is3 ∙ ap (λ (c : Circuit). c.justice) is2 ∙ ap (λ (c : Circuit). c.justice) is1;
+      no_fair = ap (λ (c : Circuit). c.fair) is4 ∙ ap (λ (c : Circuit). c.fair) is3 ∙ ap (λ (c : Circuit). c.fair) is2 ∙ ap (λ (c : Circuit). c.fair) is1;
       few_gates = rw (gates4, gates2, gates1, more.1) more.2;
       frames = λ state inputs initial in_fit fs t vs u. show_same items c4 observes state inputs fs vs initial.fits in_fit t u;
+    }
+
+-- what names are given to: it has none yet, and as many positions as the model gives
+pub record IsUnnamedYet (items : List Item) (c : Circuit) : Type 0 where
+  pub names : c.names ≡ []
+  pub inputs : c.inputs ≡ input_width items
+  pub latches : length c.latches ≡ state_width items
+
+pub unnamed_yet : (items : List Item) (n : Net) (rows : List (List ℕ)) (c1 c2 c3 : Circuit) → LowersNodes items (leaves_only items) n rows → c1 ≡ gates_only n
+    → LatchesRead items (net c1) items c2.latches → c2 ≡ record c1 { latches = c2.latches } → c3 ≡ record c2 { bads = c3.bads; constraints = c3.constraints } → IsUnnamedYet items c3
+unnamed_yet items n rows c1 c2 c3 nodes is1 latches is2 is3 =
+    record {
+      names = ap (λ (c : Circuit). c.names) is3 ∙ ap (λ (c : Circuit). c.names) is2 ∙ ap (λ (c : Circuit). c.names) is1;
+      inputs = ap (λ (c : Circuit). c.inputs) is3 ∙ ap (λ (c : Circuit). c.inputs) is2 ∙ ap (λ (c : Circuit). c.inputs) is1 ∙ nodes.grows.inputs;
+      latches = ap (λ (c : Circuit). length c.latches) is3 ∙ latch_count items (net c1) c2 latches;
     }
 
 -- the rows read as before once the latches are set

@@ -1,5 +1,5 @@
 -- Names of bits and of properties.
-use Rattle.std.proofs.Common.{◌≡◌, ℕ, zero, suc, ◌+◌, ◌%◌, ◌^◌, ◌<◌, ◌≤◌, Bool, true, false, not, cond, ◌==◌, ◌&&◌, List, [], ◌∷◌, ◌++◌, length, set, get_or, replicate, Option, Some, None, is_some, if◌then◌else◌, unwrap_or, option_and_then, slice_get, ◌≢◌, refl, sym, ap, ap₂, subst, ◌∙◌, length-append, arith, nat_le, decimal}
+use Rattle.std.proofs.Common.{◌≡◌, ℕ, zero, suc, ◌+◌, ◌%◌, ◌^◌, ◌<◌, ◌≤◌, Bool, true, false, not, cond, ◌==◌, ◌&&◌, List, [], ◌∷◌, ◌++◌, length, set, get_or, replicate, Option, Some, None, is_some, if◌then◌else◌, unwrap_or, option_and_then, slice_get, refl, sym, ap, ap₂, subst, ◌∙◌, length-append, arith, nat_le, decimal, ◌⊎◌, ⊎_elim}
 use Rattle.std.specs.List.{list_all, sum_by}
 use Rattle.std.proofs.lemmas.Bool.Decides.{nat_tests}
 use Rattle.std.proofs.lemmas.Bool.{and_parts, lt-ltb, le-leb, leb-true}
@@ -318,3 +318,21 @@ TakesNames-made items c0 c1 c2 c3 c4 a b d e =
       constraints = e.own;
       rest = e.rest ∙ ap (λ (c : Circuit). record c { names = c4.names }) d.rest ∙ ap (λ (c : Circuit). record c { names = c4.names }) b.rest ∙ ap (λ (c : Circuit). record c { names = c4.names }) a.rest;
     }
+
+-- a section that a lowering gives no names
+abbrev pub IsUnnamed : Section → Type 0
+IsUnnamed s = (s ≡ section.Output) ⊎ ((s ≡ section.Justice) ⊎ (s ≡ section.Fair))
+
+pub unnamed_places : (s : Section) (items : List Item) → IsUnnamed s → [] ≡ places (kind_of s) 0 items
+unnamed_places s items h =
+    ⊎_elim (λ e. rw e (sym (no_places 0 items))) (λ (k : (s ≡ section.Justice) ⊎ (s ≡ section.Fair)). ⊎_elim (λ e. rw e (sym (no_places 0 items))) (λ e. rw e (sym (no_places 0 items))) k) h
+
+none_given : (s : Section) (items : List Item) (x : Item) → IsUnnamed s → item_names s items x ≡ []
+none_given s items x h = ⊎_elim (λ e. rw e refl) (λ (k : (s ≡ section.Justice) ⊎ (s ≡ section.Fair)). ⊎_elim (λ e. rw e refl) (λ e. rw e refl) k) h
+
+pub unnamed_item : (s : Section) (c : Circuit) (first : ℕ) (items : List Item) (x : Item) → IsUnnamed s → Renames s c (written (section_names s c) first (item_names s items x)) c
+unnamed_item s c first items x h =
+    Renames-equal s c c (section_names s c) _ (sym (ap (written (section_names s c) first) (none_given s items x h) ∙ written-nil (section_names s c) first)) (Renames-own s c)
+
+pub unnamed_count : (s : Section) (items : List Item) (x : Item) → IsUnnamed s → 0 ≡ length (item_names s items x)
+unnamed_count s items x h = sym (ap length (none_given s items x h))

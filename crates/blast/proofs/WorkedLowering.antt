@@ -57,6 +57,9 @@ toggler_lowered well circuit =
       resets = refl;
       bad_names = refl;
       constraint_names = refl;
+      no_outputs = refl;
+      no_justice = refl;
+      no_fair = refl;
       few_gates = omega arith;
       frames = λ state inputs initial in_fit fs t vs u. show_same toggler toggler_circuit (observes well) state inputs fs vs initial.fits in_fit t u;
     }

@@ -1,4 +1,4 @@
-use Rattle.std.proofs.Common.{◌≡◌, ℕ, List, Some, true, set, ap, sym, subst, ◌∙◌}
+use Rattle.std.proofs.Common.{◌≡◌, ℕ, List, Some, true, set, sym, subst}
 use Rattle.aiger.specs.Names.{is_name}
 use Rattle.aiger.specs.Circuit.{section_names}
 use Rattle.blast.specs.Sections.{Renames}
