@@ -120,15 +120,15 @@ IsCircuit-justice c ls justice (Ok x) valid defined ok refused err =
 IsCircuit-justice c ls justice (Err x) valid defined ok refused err = subst (λ (lists : List (List ℕ)). IsCircuit (record c { justice = lists })) (sym err) valid
 
 -- with a name more or as it was
-pub IsCircuit-named : (c : Circuit) (s : Section) (k : ℕ) (name : List ℕ) (names : NameMap) (r : Result (Unit {0}) CircuitFault) → IsCircuit c → k < section_count s c → IsName name
-    → OnOk r (names ≡ with_name_in c.names s k name) → OnOk r (IsStrictlySortedBy place_cmp (keys_of names)) → OnErr r (names ≡ c.names) → IsCircuit (record c { names = names })
-IsCircuit-named c s k name names (Ok x) valid here good ok sorted err =
+pub IsCircuit-named : (c : Circuit) (s : Section) (k : ℕ) (name : List ℕ) (names : NameMap) (r : Result (Unit {0}) CircuitFault) → OnOk r (names ≡ with_name_in c.names s k name) → IsCircuit c → k < section_count s c → IsName name
+    → OnOk r (IsStrictlySortedBy place_cmp (keys_of names)) → OnErr r (names ≡ c.names) → IsCircuit (record c { names = names })
+IsCircuit-named c s k name names (Ok x) ok valid here good sorted err =
     let d : Circuit = record c { names = names } in
     let kept : (entry : Place × List ℕ) → IsNamed c entry → IsNamed d entry = λ entry n. record { section = n.section; is_section = n.is_section; position = omega (arith, n.position, same_counts c names n.section); name = n.name } in
     let new : IsNamed d ((rank s, k), name) = record { section = s; is_section = refl; position = omega (arith, here, same_counts c names s); name = good } in
     let all : All (IsNamed d) (with_name_in c.names s k name) = All-insert_entry exact_places (rank s, k) name (IsNamed d) c.names (All-weaker (IsNamed c) (IsNamed d) kept c.names valid.names.named) new in
     IsCircuit-lists c c.justice c.fair names valid (valid.few.justice, valid.few.justice_literals, valid.few.fair) valid.defined.justice valid.defined.fair (record { sorted = sorted; named = subst (All (IsNamed d)) (sym ok) all })
-IsCircuit-named c s k name names (Err x) valid here good ok sorted err = subst (λ (ns : NameMap). IsCircuit (record c { names = ns })) (sym err) valid
+IsCircuit-named c s k name names (Err x) ok valid here good sorted err = subst (λ (ns : NameMap). IsCircuit (record c { names = ns })) (sym err) valid
 
 -- with a gate more
 IsCircuit-gate : (c : Circuit) (g : Gate) → IsCircuit c → variables (net c) < greatest_count → IsDefined (net c) g.rhs0 → g.rhs1 ≤ g.rhs0 → IsCircuit (record c { gates = c.gates ++ g ∷ [] })

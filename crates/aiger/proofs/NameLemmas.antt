@@ -1,15 +1,19 @@
 -- Names: what one name more does to the map and to each section's list, and that the names determine the map.
-use Rattle.std.proofs.Common.{◌≡◌, ◌≢◌, ℕ, zero, suc, ◌≤◌, Bool, true, false, List, [], ◌∷◌, map, All, Some, refl, ap, sym, ◌∙◌, subst, arith, cond}
+use Rattle.std.proofs.Common.{◌≡◌, ◌≢◌, ℕ, zero, suc, ◌≤◌, Bool, true, false, List, [], ◌∷◌, map, All, None, Some, refl, ap, sym, ◌∙◌, subst, arith, cond}
 use Rattle.std.proofs.lemmas.Bool.Decides.{nat_tests}
 use Rattle.std.proofs.lemmas.List.Elements.{All-head, All-tail, All-cons, All-nil}
 use Rattle.std.proofs.lemmas.Map.Lookups.{CmpEqualImpliesEq, exact_unsigned, exact_pairs}
-use Rattle.std.proofs.lemmas.Cmp.{nat_cmp_total, on_total, then_total}
+use Rattle.std.proofs.lemmas.Cmp.{tied_itself, eq_by_cmp_equiv, nat_cmp_total, on_total, then_total}
+use Rattle.std.proofs.lemmas.Map.{lookup-none}
+use Rattle.std.proofs.lemmas.Map.Entries.{lookup_head, lookup_tail, none_past_head, none_below_head}
+use Rattle.std.proofs.lemmas.Map.Keys.{sorted_tail, IsDistinct-from_sorted}
+use Rattle.std.specs.List.Sorted.{IsStrictlySortedBy}
 use Rattle.std.specs.Cmp.{IsTotalOrder}
 use Rattle.std.specs.declared.cmp.Ordering.{Ordering}
 use Rattle.std.specs.declared.cmp.Ordering.TheVariants.{Less, Equal, Greater}
-use Rattle.std.specs.Ordering.{nat_cmp, is_eq, match_ordering}
+use Rattle.std.specs.Ordering.{ordering_reverse, nat_cmp, is_eq, match_ordering}
 use Rattle.std.specs.BTreeMap.{insert_entry, is_at}
-use Rattle.std.specs.Map.{lookup}
+use Rattle.std.specs.Map.{lookup, keys_of}
 use Rattle.std.specs.List.{list_all}
 use Rattle.aiger.specs.declared.circuit.Section.{Section}
 use Rattle.aiger.specs.declared.circuit.Section.TheVariants.{Input, Latch, Output, Bad, Constraint, Justice, Fair}
@@ -104,6 +108,60 @@ pub All-insert_entry : {K X : Type 0} {R : K → K → Ordering} → CmpEqualImp
 All-insert_entry exact k v P [] a p = All-cons P (k, v) [] p a
 All-insert_entry {K} {X} {R} exact k v P (e ∷ es) a p =
     holds_by exact k v P e es (insert_entry R es k v) (R k e.0) refl a p (All-insert_entry exact k v P es (All-tail P e es a) p)
+
+-- entries in order that are found alike begin with one key
+first_keys : {K X : Type 0} {R : K → K → Ordering} → IsTotalOrder R → (e f : K × X) (es fs : List (K × X)) → IsStrictlySortedBy R (keys_of (e ∷ es)) → IsStrictlySortedBy R (keys_of (f ∷ fs))
+    → ((q : K) → lookup (is_at (R q)) (e ∷ es) ≡ lookup (is_at (R q)) (f ∷ fs)) → R e.0 f.0 ≡ Equal
+first_keys {K} {X} {R} o e f es fs s t h = by (R e.0 f.0) refl
+  where
+    left : lookup (is_at (R e.0)) (e ∷ es) ≡ Some e.1
+    left = lookup_head (is_at (R e.0)) e es (ap is_eq (tied_itself o e.0))
+
+    right : lookup (is_at (R f.0)) (f ∷ fs) ≡ Some f.1
+    right = lookup_head (is_at (R f.0)) f fs (ap is_eq (tied_itself o f.0))
+
+    by : (r : Ordering) → R e.0 f.0 ≡ r → R e.0 f.0 ≡ Equal
+    by Equal k = k
+    by Less k =
+        let none : lookup (is_at (R e.0)) (f ∷ fs) ≡ None = lookup-none (is_at (R e.0)) (f ∷ fs) (none_below_head o e.0 f fs t k) in
+        let two : Some e.1 ≡ None = sym left ∙ (h e.0 ∙ none) in
+        absurd (cc)
+    by Greater k =
+        let less : R f.0 e.0 ≡ Less = o.antisymm f.0 e.0 ∙ ap ordering_reverse k in
+        let none : lookup (is_at (R f.0)) (e ∷ es) ≡ None = lookup-none (is_at (R f.0)) (e ∷ es) (none_below_head o f.0 e es s less) in
+        let two : Some f.1 ≡ None = sym right ∙ (sym (h f.0) ∙ none) in
+        absurd (cc)
+
+-- and so do the entries behind the first, where the first have one key
+rest_found_alike : {K X : Type 0} {R : K → K → Ordering} → IsTotalOrder R → (e f : K × X) (es fs : List (K × X)) → IsStrictlySortedBy R (keys_of (e ∷ es)) → IsStrictlySortedBy R (keys_of (f ∷ fs))
+    → e.0 ≡ f.0 → ((q : K) → lookup (is_at (R q)) (e ∷ es) ≡ lookup (is_at (R q)) (f ∷ fs)) → (q : K) → lookup (is_at (R q)) es ≡ lookup (is_at (R q)) fs
+rest_found_alike {K} {X} {R} o e f es fs s t same h q = by (is_eq (R q e.0)) refl
+  where
+    other : is_eq (R q e.0) ≡ is_eq (R q f.0)
+    other = ap (λ (k : K). is_eq (R q k)) same
+
+    by : (b : Bool) → is_eq (R q e.0) ≡ b → lookup (is_at (R q)) es ≡ lookup (is_at (R q)) fs
+    by true m =
+        lookup-none (is_at (R q)) es (none_past_head (eq_by_cmp_equiv o) q e es (IsDistinct-from_sorted R (keys_of (e ∷ es)) s) m)
+        ∙ sym (lookup-none (is_at (R q)) fs (none_past_head (eq_by_cmp_equiv o) q f fs (IsDistinct-from_sorted R (keys_of (f ∷ fs)) t) (sym other ∙ m)))
+    by false m = sym (lookup_tail (is_at (R q)) e es m) ∙ (h q ∙ lookup_tail (is_at (R q)) f fs (sym other ∙ m))
+
+-- entries in order that are found alike are the same
+pub entries_from_lookups : {K X : Type 0} {R : K → K → Ordering} → IsTotalOrder R → CmpEqualImpliesEq R → (es fs : List (K × X)) → IsStrictlySortedBy R (keys_of es) → IsStrictlySortedBy R (keys_of fs)
+    → ((q : K) → lookup (is_at (R q)) es ≡ lookup (is_at (R q)) fs) → es ≡ fs
+entries_from_lookups o exact [] [] s t h = refl
+entries_from_lookups {K} {X} {R} o exact [] (f ∷ fs) s t h =
+    let two : None ≡ Some f.1 = h f.0 ∙ lookup_head (is_at (R f.0)) f fs (ap is_eq (tied_itself o f.0)) in
+    absurd (cc)
+entries_from_lookups {K} {X} {R} o exact (e ∷ es) [] s t h =
+    let two : Some e.1 ≡ None = sym (lookup_head (is_at (R e.0)) e es (ap is_eq (tied_itself o e.0))) ∙ h e.0 in
+    absurd (cc)
+entries_from_lookups {K} {X} {R} o exact (e ∷ es) (f ∷ fs) s t h =
+    let key : e.0 ≡ f.0 = exact e.0 f.0 (first_keys o e f es fs s t h) in
+    let two : Some e.1 ≡ Some f.1 = sym (lookup_head (is_at (R e.0)) e es (ap is_eq (tied_itself o e.0))) ∙ (h e.0 ∙ lookup_head (is_at (R e.0)) f fs (ap is_eq (first_keys o e f es fs s t h))) in
+    let value : e.1 ≡ f.1 = cc in
+    let rest : es ≡ fs = entries_from_lookups o exact es fs (sorted_tail R e.0 (keys_of es) s) (sorted_tail R f.0 (keys_of fs) t) (rest_found_alike o e f es fs s t key h) in
+    ap (λ (k : K). (k, e.1) ∷ es) key ∙ (ap (λ (v : X). (f.0, v) ∷ es) value ∙ ap (λ (rest : List (K × X)). f ∷ rest) rest)
 
 -- entries whose values are seen through a function, one more put in before or after that
 seen_by : {K X Y : Type 0} (f : X → Y) (k : K) (v : X) (e : K × X) (es rest : List (K × X)) (more : List (K × Y)) (r : Ordering)

@@ -12,11 +12,12 @@ use Rattle.std.specs.declared.cmp.Ordering.TheVariants.{Less, Equal, Greater}
 use Rattle.std.proofs.lemmas.Option.{slice_get-get_or, get_or_from_slice_get, slice_get_within}
 use Rattle.std.specs.Ordering.{is_eq}
 use Rattle.std.specs.BTreeMap.{is_at}
+use Rattle.std.specs.Map.{lookup}
 use Rattle.aiger.specs.declared.circuit.Section.{Section}
 use Rattle.aiger.specs.declared.circuit.Section.TheVariants as section
 use Rattle.aiger.specs.Limits.{greatest_count}
 use Rattle.aiger.specs.Circuit.{Circuit, IsCircuit, IsNamed, Place, NameMap, Names, rank, place_cmp, name_in, name_of, name_at, section_count, section_names, with_name, fresh_circuit}
-use Rattle.aiger.proofs.NameLemmas.{exact_places, places_total, places_apart, positions_apart, lookup-insert_entry, section_from_rank}
+use Rattle.aiger.proofs.NameLemmas.{entries_from_lookups, exact_places, places_total, places_apart, positions_apart, lookup-insert_entry, section_from_rank}
 
 -- lists as long and with the same elements are the same
 same_elements : (xs ys : Names) → length xs ≡ length ys → ((k : ℕ) → k < length xs → get_or xs k None ≡ get_or ys k None) → xs ≡ ys
@@ -155,3 +156,33 @@ few_positions section.Bad c valid = valid.few.bads
 few_positions section.Constraint c valid = valid.few.constraints
 few_positions section.Justice c valid = valid.few.justice
 few_positions section.Fair c valid = valid.few.fair
+
+-- the names of a circuit at a place that a section has
+section_of_name : (c : Circuit) (q : Place) (v : List ℕ) → IsCircuit c → lookup (is_at (place_cmp q)) c.names ≡ Some v → (s : Section) × (q ≡ (rank s, q.1))
+section_of_name c q v valid e =
+    let found = place_from_lookup (is_at (place_cmp q)) c.names v e in
+    let there : found.0 < length c.names = slice_get_within c.names found.0 (found.1, v) found.2 in
+    let same : q ≡ found.1 = same_place q found.1 found.3 in
+    let named : IsNamed c (found.1, v) = subst (IsNamed c) (get_or_from_slice_get c.names found.0 (found.1, v) (found.1, v) found.2) (All-get_or (IsNamed c) c.names found.0 (found.1, v) there valid.names.named) in
+    (named.section, ap (λ (r : ℕ). (r, q.1)) (ap (λ (p : Place). p.0) same ∙ named.is_section))
+
+-- names that are found alike at each position are found alike at each place
+found_alike : (c d : Circuit) (q : Place) → IsCircuit c → IsCircuit d → ((s : Section) (k : ℕ) → name_of d s k ≡ name_of c s k)
+    → lookup (is_at (place_cmp q)) d.names ≡ lookup (is_at (place_cmp q)) c.names
+found_alike c d q valid other same = by (lookup (is_at (place_cmp q)) d.names) refl (lookup (is_at (place_cmp q)) c.names) refl
+  where
+    here : (s : Section) → q ≡ (rank s, q.1) → lookup (is_at (place_cmp q)) d.names ≡ lookup (is_at (place_cmp q)) c.names
+    here s e = subst (λ (p : Place). lookup (is_at (place_cmp p)) d.names ≡ lookup (is_at (place_cmp p)) c.names) (sym e) (same s q.1)
+
+    by : (r : Option (List ℕ)) → lookup (is_at (place_cmp q)) d.names ≡ r → (t : Option (List ℕ)) → lookup (is_at (place_cmp q)) c.names ≡ t
+        → lookup (is_at (place_cmp q)) d.names ≡ lookup (is_at (place_cmp q)) c.names
+    by None e None f = e ∙ sym f
+    by (Some v) e t f = let at = section_of_name d q v other e in here at.0 at.1
+    by None e (Some v) f = let at = section_of_name c q v valid f in here at.0 at.1
+
+-- so the names of two circuits that are found alike are the same
+pub same_names : (c : Circuit) (names : NameMap) → IsCircuit c → IsCircuit (record c { names = names }) → ((s : Section) (k : ℕ) → name_in names s k ≡ name_of c s k) → names ≡ c.names
+same_names c names valid other same =
+    let d : Circuit = record c { names = names } in
+    entries_from_lookups places_total exact_places names c.names other.names.sorted valid.names.sorted
+    (λ q. found_alike c d q valid other same)

@@ -2,7 +2,8 @@
 ghost use Rattle.std.specs.Prelude.{◌≡◌, ℕ, ◌+◌, ◌*◌, ◌<◌, ◌↔◌, List, [], ◌∷◌, Bool, true, false, not, ◌&&◌, All, length};
 ghost use Rattle.aiger.specs.Literal.{Valuation, literal_value, negation};
 ghost use Rattle.aiger.specs.Net.{Satisfies, AreOrdered};
-ghost use Rattle.aiger.specs.Circuit.{Circuit, IsCircuit};
+ghost use Rattle.aiger.specs.Circuit.{Circuit, IsCircuit, NameMap, name_in, name_of};
+ghost use Rattle.aiger.specs.declared.circuit.Section.{Section};
 ghost use Rattle.aiger.specs.Trace.{IsTrace, SameTrace, AreInitial};
 ghost use Rattle.aiger.specs.Worked.{toggler, off, on, one_gate};
 
@@ -20,6 +21,14 @@ pub fn exactly_one_trace()
     ensures unique { (c : Circuit) (state : List Bool) (inputs : List (List Bool)) (vs ws : List Valuation)
         → IsCircuit c → IsTrace c state inputs vs → IsTrace c state inputs ws
         → SameTrace c vs ws }
+{}
+
+/// The names of a circuit are a map from section and position: in whatever order they were given,
+/// circuits with the same lists and the same names are the same. It does nothing: its contract is
+/// the law.
+pub fn names_in_any_order()
+    ensures { (c : Circuit) (names : NameMap) → IsCircuit c → IsCircuit (record c { names = names })
+        → ((s : Section) (k : ℕ) → name_in names s k ≡ name_of c s k) → record c { names = names } ≡ c }
 {}
 
 /// Worked rows of literals, gates and traces. It does nothing: its contract and what it

@@ -1,4 +1,4 @@
-use Rattle.std.proofs.Common.{◌<◌, sym, ap, ◌∙◌, arith}
+use Rattle.std.proofs.Common.{sym, ap, ◌∙◌, arith}
 use Rattle.aiger.specs.Circuit.{section_count}
 use Rattle.aiger.specs.View.{circuit_of}
 use Rattle.aiger.proofs.CircuitLemmas.{IsCircuit-named}
@@ -7,5 +7,6 @@ use Rattle.aiger.proofs.circuit.Circuit.set_name.Goals as goal
 
 pub invariant_of-self : goal.invariant_of-self
 invariant_of-self c =
-    let here : c.args.position < section_count c.args.section (circuit_of c.self.inside) = omega (arith, c.count.ensures ∙ ap (section_count c.args.section) (sym c.self.view_is)) in
-    IsCircuit-named (circuit_of c.self.inside) c.args.section c.args.position c.args.name.now c.give.new.self c.give.result c.self.invariant here (IsName-from_test c.args.name.now (sym c.if-not-is_good_name.ensures)) c.give.ensures.ok c.give.ensures.sorted c.give.ensures.err
+    IsCircuit-named (circuit_of c.self.inside) _ _ _ c.give.new.self c.give.result c.give.ensures.ok c.self.invariant
+    (omega (arith, c.count.ensures ∙ ap (section_count c.args.section) (sym c.self.view_is)))
+    (IsName-from_test c.args.name.now (sym c.if-not-is_good_name.ensures)) c.give.ensures.sorted c.give.ensures.err
