@@ -13,6 +13,7 @@ ghost use Rattle.gates.specs.Division.{reduced, MakesQuotientRow, MakesDivision}
 ghost use Rattle.gates.specs.Connect.{connected, connected_words, connected_bits, words_bound};
 ghost use Rattle.gates.specs.Moves.{is_shift, is_rotation, is_move};
 ghost use Rattle.gates.specs.Made.{Grows, MakesAnd, MakesLiteral, MakesWord, Refuses, word_value};
+ghost use Rattle.gates.specs.Operands.{AreOperands};
 ghost use Rattle.gates.specs.Sums.{literal_number, MakesColumn, MakesSum};
 ghost use Rattle.gates.specs.Tests.{is_comparison, is_overflow, with_top_negated};
 ghost use Rattle.gates.specs.Worked.{no_gate};
@@ -53,6 +54,16 @@ pub fn worked_nets()
     ensures is_not { MakesWord no_gate no_gate 0 2 (λ v. unary_value unary.Not 2 (word_value v (2 ∷ 4 ∷ []))) (3 ∷ 5 ∷ []) }
     ensures no_memory { Refuses no_gate no_gate 1 fault.NoMemory }
     ensures too_big { ¬ Refuses no_gate no_gate 1 fault.TooBig }
+{}
+
+/// Worked rows: an input and the negation of another are operands; no literals are none, nor are lists of two lengths,
+/// nor a literal of a gate that does not stand.
+pub fn worked_operands()
+    ensures inputs { AreOperands no_gate 64 (2 ∷ []) (5 ∷ []) }
+    ensures no_literals { ¬ AreOperands no_gate 64 [] [] }
+    ensures two_lengths { ¬ AreOperands no_gate 64 (2 ∷ []) (2 ∷ 4 ∷ []) }
+    ensures too_long { ¬ AreOperands no_gate 1 (2 ∷ 4 ∷ []) (2 ∷ 4 ∷ []) }
+    ensures undefined { ¬ AreOperands no_gate 64 (6 ∷ []) (2 ∷ []) }
 {}
 
 /// Worked rows: bits and words connected, and the operators that move bits.
