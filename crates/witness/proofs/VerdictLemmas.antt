@@ -132,16 +132,22 @@ module _ (items : List Item) (k : ℕ) (f : Frame) (h : k < length (places is_st
   own_constant : (place : ℕ) (x : Item) → IsNth is_state items k x → Some place ≡ init_place items (get_or (places is_state 0 items) k 0) → constant_at items place ≡ init_constant items x.id
   own_constant place x n e = init_some items (init_value items x.id) place (sym (own_place x n) ∙ sym e)
 
-  pub differs-no_constant : (place : ℕ) → Some place ≡ init_place items (get_or (places is_state 0 items) k 0) → None ≡ constant_at items place → Differs false
+  differs-no_constant : (place : ℕ) → Some place ≡ init_place items (get_or (places is_state 0 items) k 0) → None ≡ constant_at items place → Differs false
   differs-no_constant place e d = by_item false (λ x n. ap (λ (o : Option ℕ). differs o (f x.id)) (d ∙ own_constant place x n e))
 
-  pub differs-some : (place word value : ℕ) → Some place ≡ init_place items (get_or (places is_state 0 items) k 0) → Some word ≡ constant_at items place
+  differs-some : (place word value : ℕ) → Some place ≡ init_place items (get_or (places is_state 0 items) k 0) → Some word ≡ constant_at items place
       → IfSome (slice_get items (get_or (places is_state 0 items) k 0)) (λ x. value ≡ f x.id) → Differs (not (nat_eq word value))
   differs-some place word value e d says =
       by_item (not (nat_eq word value))
       (λ x n.
       let own : value ≡ f x.id = subst (λ (o : Option Item). IfSome o (λ y. value ≡ f y.id)) (nth-get is_state items k x n) says in
       ap (λ (v : ℕ). not (nat_eq word v)) own ∙ ap (λ (o : Option ℕ). differs o (f x.id)) (d ∙ own_constant place x n e))
+
+  -- what a state with an init line differs by, whatever its value is
+  pub differs-init : (place value : ℕ) (o : Option ℕ) → Some place ≡ init_place items (get_or (places is_state 0 items) k 0) → o ≡ constant_at items place
+      → IfSome (slice_get items (get_or (places is_state 0 items) k 0)) (λ x. value ≡ f x.id) → Differs (differs o value)
+  differs-init place value None e d says = differs-no_constant place e d
+  differs-init place value (Some word) e d says = differs-some place word value e d says
 
 -- ---- flags
 

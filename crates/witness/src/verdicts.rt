@@ -55,6 +55,16 @@ fn give_inputs(run: &mut WordRun<'_>, given: &[Given])
     }
 }
 
+/// Whether a word is another than a constant, where there is one.
+fn differs(constant: Option<u64>, word: u64) -> bool
+    ensures { result ≡ differs constant word }
+{
+    match constant {
+        Some(constant) => constant != word,
+        None => false,
+    }
+}
+
 /// Whether a state has an init line and another word than that. `k` counts the states.
 fn differs_from_init(model: &Model, run: &WordRun<'_>, k: usize) -> bool
     requires same { run.now.items ≡ model.now }
@@ -64,10 +74,7 @@ fn differs_from_init(model: &Model, run: &WordRun<'_>, k: usize) -> bool
     ensures { (f : Frame) → IsNow run.now f → IfSome (slice_get (of_kind is_state model.now) k) (λ x. result ≡ differs (init_constant model.now x.id) (f x.id)) }
 {
     match model.init_of(k) {
-        Some(place) => match model.constant(place) {
-            Some(word) => word != run.value(model.states()[k]),
-            None => false,
-        },
+        Some(place) => differs(model.constant(place), run.value(model.states()[k])),
         None => false,
     }
 }
