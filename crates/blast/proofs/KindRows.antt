@@ -1,6 +1,5 @@
 -- Rows of nodes: that they are there, and what they read as.
-use Rattle.std.proofs.Common.{◌≡◌, ℕ, zero, suc, ◌+◌, ◌<◌, Bool, true, false, cond, ◌==◌, List, [], ◌∷◌, ◌++◌, length, Option, Some, None, is_some, is_none, unwrap_or, option_and_then, MatchOption, slice_get, get_or, ◌&&◌, if◌then◌else◌, refl, sym, ap, subst, ◌∙◌, append_assoc, length-append, arith}
-use Rattle.std.specs.List.{position_from}
+use Rattle.std.proofs.Common.{◌≡◌, ℕ, zero, suc, ◌<◌, Bool, true, false, cond, List, [], ◌∷◌, ◌++◌, length, Option, Some, None, is_some, is_none, unwrap_or, option_and_then, MatchOption, slice_get, get_or, ◌&&◌, if◌then◌else◌, refl, sym, ap, subst, ◌∙◌, append_assoc, length-append, arith}
 use Rattle.std.proofs.lemmas.Option.{slice_get_within, none-some, same_Some}
 use Rattle.btor2.specs.declared.item.Item.{Item}
 use Rattle.btor2.specs.declared.item.Body.{Body}
@@ -14,6 +13,7 @@ use Rattle.aiger.specs.Net.{Net}
 use Rattle.blast.specs.Reads.{ReadsWord, RowReads, RowsRead}
 use Rattle.blast.specs.Rows.{row_at, init_word}
 use Rattle.blast.proofs.KindBlocks.{slice_get-behind}
+use Rattle.btor2.proofs.LookUps.{position_found, place_below}
 
 -- a found item has a place
 place_of : (items : List Item) (id : ℕ) (x : Item) (o : Option ℕ) → MatchOption o (find_item items id ≡ None) (λ k. slice_get items k ≡ find_item items id) → find_item items id ≡ Some x
@@ -67,26 +67,9 @@ next_place-at items place x at = ap (λ (o : Option Item). option_and_then (posi
 pub init_place-at : (items : List Item) (place : ℕ) (x : Item) → slice_get items place ≡ Some x → init_place items place ≡ option_and_then (position_of items) (init_value items x.id)
 init_place-at items place x at = ap (λ (o : Option Item). option_and_then (position_of items) (option_and_then (init_value items) (option_and_then (λ (y : Item). Some y.id) o))) at
 
--- a position is that of an item
-position_found : (items : List Item) (id place : ℕ) (o : Option ℕ) → MatchOption o (find_item items id ≡ None) (λ k. slice_get items k ≡ find_item items id) → o ≡ Some place
-    → slice_get items place ≡ find_item items id
-position_found items id place None h e = absurd (none-some place e)
-position_found items id place (Some k) h e = ap (slice_get items) (sym (same_Some k place e)) ∙ h
-
 position_none : (items : List Item) (id : ℕ) (o : Option ℕ) → MatchOption o (find_item items id ≡ None) (λ k. slice_get items k ≡ find_item items id) → o ≡ None → find_item items id ≡ None
 position_none items id None h e = h
 position_none items id (Some k) h e = absurd (none-some k (sym e))
-
-position_below : (test : Item → Bool) (n : ℕ) (items : List Item) (k : ℕ) → position_from test n items ≡ Some k → k < n + length items
-position_below test n [] k h = absurd (none-some k h)
-position_below test n (x ∷ xs) k h =
-    elim (test x) as (λ b. cond b (Some n) (position_from test (n + 1) xs) ≡ Some k → k < n + suc (length xs)) [
-      | true ↦ λ e. omega (arith, same_Some n k e)
-      | false ↦ λ e. omega (arith, position_below test (n + 1) xs k e)
-    ] h
-
-pub place_below : (items : List Item) (id place : ℕ) → position_of items id ≡ Some place → place < length items
-place_below items id place e = omega (arith, position_below (λ (x : Item). id == x.id) 0 items place e)
 
 -- a next line's node has a place
 pub next_there : (items : List Item) (id : ℕ) → IsWellFormed items → is_some (next_value items id) ≡ true
@@ -101,7 +84,7 @@ next_there items id h some =
 constant_by : (items : List Item) (o : Option ℕ) (place : ℕ) → option_and_then (position_of items) o ≡ Some place → (constant_at items place ≡ option_and_then (constant_of items) o) × (place < length items)
 constant_by items None place e = absurd (none-some place e)
 constant_by items (Some v) place e =
-    let at : slice_get items place ≡ find_item items v = position_found items v place (position_of items v) (found v items) e in
+    let at : slice_get items place ≡ find_item items v = position_found items v place e in
     (ap (option_and_then (λ (x : Item). constant_of_body items x.body)) at, place_below items v place e)
 
 no_constant : (items : List Item) (o : Option ℕ) → option_and_then (position_of items) o ≡ None → None ≡ option_and_then (constant_of items) o

@@ -1,5 +1,5 @@
 -- The parts of a lowering, put together.
-use Rattle.std.proofs.Common.{◌≡◌, ℕ, ◌+◌, ◌≤◌, Bool, true, false, ◌&&◌, List, [], ◌∷◌, ◌++◌, length, nat_lt, Option, Some, None, is_none, is_some, if◌then◌else◌, option_and_then, option_map, refl, sym, ap, ◌∙◌, subst, arith, length-append}
+use Rattle.std.proofs.Common.{◌≡◌, ℕ, ◌+◌, ◌≤◌, Bool, true, false, List, [], ◌∷◌, ◌++◌, length, nat_lt, Option, Some, None, is_some, if◌then◌else◌, option_and_then, option_map, refl, sym, ap, ◌∙◌, subst, arith, length-append}
 use Rattle.std.proofs.lemmas.List.{length-map, length-replicate}
 use Rattle.std.specs.Prelude.{sum_by}
 use Rattle.std.specs.Option.{option_or}
@@ -27,6 +27,7 @@ use Rattle.btor2.specs.Lists.{first_without_next}
 use Rattle.blast.specs.declared.fault.LowerFault.{LowerFault}
 use Rattle.blast.specs.Refusal.{IsOfProfile, form_refusal, lowering_refusal, too_big}
 use Rattle.blast.proofs.LowerLemmas.{Observes, show_same}
+use Rattle.btor2.proofs.NextLemmas.{has_next}
 
 no_first : (o : Option ℕ) → option_map fault.NoNext o ≡ None → o ≡ None
 no_first None e = refl
@@ -54,20 +55,6 @@ bound_given items e =
     by_test true is none = absurd (cc)
     by_test false is none = grind (arith, nat_tests)
 
--- a state among some items, none of which lacks a next, has one
-has_next : (items front back : List Item) (x : Item) → is_state x.body ≡ true → first_without_next items (front ++ x ∷ back) ≡ None → is_some (next_value items x.id) ≡ true
-has_next items [] back x state none = here (is_state x.body) (next_value items x.id) state none
-  where
-    here : (b : Bool) (o : Option ℕ) → b ≡ true → (if b && is_none o then Some x.id else first_without_next items back) ≡ None → is_some o ≡ true
-    here true None e none = absurd (cc)
-    here true (Some v) e none = refl
-    here false o e none = absurd (cc)
-has_next items (y ∷ front) back x state none = behind (has_next items front back x state) (is_state y.body && is_none (next_value items y.id)) none
-  where
-    behind : (first_without_next items (front ++ x ∷ back) ≡ None → is_some (next_value items x.id) ≡ true) → (b : Bool) → (if b then Some y.id else first_without_next items (front ++ x ∷ back)) ≡ None → is_some (next_value items x.id) ≡ true
-    behind rest true none = absurd (cc)
-    behind rest false none = rest none
-
 -- by ids
 pub nexts_by_id : (items : List Item) → first_without_next items items ≡ None → (id : ℕ) → names_state items id ≡ true → is_some (next_value items id) ≡ true
 nexts_by_id items none id names = by_item (find_item items id) refl names
@@ -82,7 +69,7 @@ nexts_by_id items none id names = by_item (find_item items id) refl names
         let known = IsIn-from_find items id x is in
         let some = rw is at names in
         let whole : first_without_next items (known.0.before ++ x ∷ known.0.after) ≡ None = subst (λ (l : List Item). first_without_next items l ≡ None) known.0.splits none in
-        rw known.1 (has_next items known.0.before known.0.after x (state_of x (is_state x.body) refl some) whole)
+        rw known.1 (has_next items known.0.before known.0.after x whole (state_of x (is_state x.body) refl some))
 
 -- as many resets as bits
 pub length-resets : (w : ℕ) (o : Option ℕ) → length (resets_of_word w o) ≡ w

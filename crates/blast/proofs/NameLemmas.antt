@@ -80,16 +80,6 @@ bit_name_is_name s bit h low short =
 
 -- Names of one section.
 
--- a section has as many positions where the names alone are others
-count-same : (t : Section) (old new : Circuit) → new ≡ record old { names = new.names } → section_count t new ≡ section_count t old
-count-same section.Input old new e = ap (λ (c : Circuit). c.inputs) e
-count-same section.Latch old new e = ap (λ (c : Circuit). length c.latches) e
-count-same section.Output old new e = ap (λ (c : Circuit). length c.outputs) e
-count-same section.Bad old new e = ap (λ (c : Circuit). length c.bads) e
-count-same section.Constraint old new e = ap (λ (c : Circuit). length c.constraints) e
-count-same section.Justice old new e = ap (λ (c : Circuit). length c.justice) e
-count-same section.Fair old new e = ap (λ (c : Circuit). length c.fair) e
-
 -- its own names
 Renames-own : (s : Section) (c : Circuit) → Renames s c (section_names s c) c
 Renames-own s c = record { own = refl; others = λ t apart. refl; rest = refl }

@@ -1,6 +1,6 @@
 -- The places of nodes, and what a run's lists have there.
-use Rattle.std.proofs.Common.{◌≡◌, ℕ, zero, suc, ◌+◌, ◌-◌, ◌<◌, Bool, true, false, List, [], ◌∷◌, ◌++◌, length, map, get_or, slice_get, Option, Some, None, is_some, MatchOption, option_and_then, unwrap_or, refl, sym, ap, subst, ◌∙◌, arith}
-use Rattle.std.proofs.lemmas.Option.{none-some, same_Some, get_or_from_slice_get}
+use Rattle.std.proofs.Common.{◌≡◌, ℕ, zero, suc, ◌+◌, ◌-◌, ◌<◌, Bool, true, false, List, [], ◌∷◌, ◌++◌, length, map, get_or, slice_get, Option, Some, None, is_some, option_and_then, unwrap_or, refl, sym, ap, subst, ◌∙◌, arith}
+use Rattle.std.proofs.lemmas.Option.{none-some, get_or_from_slice_get}
 use Rattle.std.proofs.lemmas.Bool.{true≢false}
 use Rattle.std.proofs.lemmas.List.{length-map, get_or-map}
 use Rattle.base.specs.Widths.{unary_width, binary_width}
@@ -13,10 +13,10 @@ use Rattle.btor2.specs.Lists.{width_at}
 use Rattle.btor2.specs.Trace.{bits_of}
 use Rattle.btor2.proofs.AppendLemmas.{some_of, then_parts, is_some_from, sort_width-append, node_width-append}
 use Rattle.btor2.proofs.AcceptedLemmas.{Each, HasWidth, BodyIsAccepted}
-use Rattle.btor2.proofs.LookUps.{found}
 use Rattle.btor2.proofs.ModelLemmas.{IsIn-from_find, IsIn-from_place, IsAccepted-at}
 use Rattle.runs.specs.Frames.{has_value}
 use Rattle.runs.specs.Nodes.{slot}
+use Rattle.btor2.proofs.LookUps.{position_found, no_item}
 
 -- an item at a place is inside the list
 pub place_inside : {A : Type 0} (list : List A) (k : ℕ) (x : A) → slice_get list k ≡ Some x → k < length list
@@ -36,14 +36,6 @@ pub record NodePlace (items : List Item) (id place : ℕ) : Type 0 where
   pub own : item.id ≡ id
   pub width : width_at items place ≡ Some (bits_of items id)
 
-found_at : (items : List Item) (id place : ℕ) (o : Option ℕ) → MatchOption o (find_item items id ≡ None) (λ k. slice_get items k ≡ find_item items id) → o ≡ Some place
-    → slice_get items place ≡ find_item items id
-found_at items id place None h e = absurd (none-some place e)
-found_at items id place (Some k) h e = subst (λ (j : ℕ). slice_get items j ≡ find_item items id) (same_Some k place e) h
-
-pub position_found : (items : List Item) (id place : ℕ) → position_of items id ≡ Some place → slice_get items place ≡ find_item items id
-position_found items id place e = found_at items id place (position_of items id) (found id items) e
-
 pub node_place : (items : List Item) (id place : ℕ) → is_some (node_width items id) ≡ true → position_of items id ≡ Some place → NodePlace items id place
 node_place items id place there e =
     let width = some_of (node_width items id) there in
@@ -58,16 +50,11 @@ node_place items id place there e =
       width = ap (option_and_then (λ (x : Item). width_of_body items x.body)) at ∙ parts.2 ∙ ap (λ (n : ℕ). Some n) (sym bits);
     }
 
--- an id that has no place is no node's
-pub no_item : (items : List Item) (id : ℕ) (o : Option ℕ) → MatchOption o (find_item items id ≡ None) (λ k. slice_get items k ≡ find_item items id) → o ≡ None → find_item items id ≡ None
-no_item items id None h e = h
-no_item items id (Some k) h e = absurd (none-some k (sym e))
-
 pub no_place : (items : List Item) (id : ℕ) → is_some (node_width items id) ≡ true → position_of items id ≡ None → ⊥
 no_place items id there e =
     let width = some_of (node_width items id) there in
     let parts = then_parts (λ (x : Item). width_of_body items x.body) (find_item items id) width.0 width.1 in
-    none-some parts.0 (sym (no_item items id (position_of items id) (found id items) e) ∙ parts.1)
+    none-some parts.0 (sym (no_item items id e) ∙ parts.1)
 
 -- the slot that is kept for a place
 pub slot_read : (items : List Item) (slots : List ℕ) (id place : ℕ) → slots ≡ map (λ (x : Item). slot items x.id) items → NodePlace items id place → get_or slots place 0 ≡ slot items id

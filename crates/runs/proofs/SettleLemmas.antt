@@ -1,6 +1,6 @@
 -- The pass over the nodes makes the now-values the words of the frame.
-use Rattle.std.proofs.Common.{◌≡◌, ◌≢◌, ℕ, zero, suc, ◌+◌, ◌^◌, ◌<◌, Bool, true, false, cond, nat_eq, eqb-true, List, [], ◌∷◌, ◌++◌, length, map, get_or, set, Option, Some, None, is_some, option_and_then, unwrap_or, ◌⊎◌, inl, inr, ⊎_elim, refl, sym, ap, subst, ◌∙◌, append_assoc, append-nil, length-append, arith}
-use Rattle.std.proofs.lemmas.Option.{none-some, cond_some}
+use Rattle.std.proofs.Common.{◌≡◌, ◌≢◌, ℕ, zero, suc, ◌+◌, ◌^◌, ◌<◌, Bool, true, false, cond, List, [], ◌∷◌, ◌++◌, length, map, get_or, set, Option, None, is_some, option_and_then, unwrap_or, ⊎_elim, refl, sym, ap, subst, ◌∙◌, append_assoc, append-nil, length-append, arith}
+use Rattle.std.proofs.lemmas.Option.{none-some}
 use Rattle.std.proofs.lemmas.Bool.{true≢false}
 use Rattle.std.proofs.lemmas.List.{length-set, get_or-set_same, get_or-set_other}
 use Rattle.std.proofs.lemmas.List.Elements.{filter-append}
@@ -8,7 +8,6 @@ use Rattle.btor2.specs.declared.item.Item.{Item}
 use Rattle.btor2.specs.Items.{find_item, node_width, width_of_body}
 use Rattle.btor2.specs.Check.{IsWellFormed}
 use Rattle.btor2.specs.Trace.{Frame, bits_of, LineHolds, LinesHold, IsFrame}
-use Rattle.btor2.proofs.AppendLemmas.{find_item-append, find_item-after}
 use Rattle.btor2.proofs.ModelLemmas.{IsIn, IsAccepted-at, find_item-in}
 use Rattle.runs.specs.declared.nodes.Node.{Node}
 use Rattle.runs.specs.Frames.{has_value, is_leaf, of_kind}
@@ -16,16 +15,7 @@ use Rattle.runs.specs.Nodes.{slot, node_of, node_value, NodeFits, NodesFit, sett
 use Rattle.runs.specs.Holds.{HoldsFrame}
 use Rattle.runs.proofs.RankLemmas.{rank-own, rank-append, rank-below}
 use Rattle.runs.proofs.NodeLemmas.{node_gives}
-
--- what an id finds in a list with one item more: what it found, or that item
-found_cases : (before : List Item) (x : Item) (id : ℕ) (y : Item) → find_item (before ++ x ∷ []) id ≡ Some y → (find_item before id ≡ Some y) ⊎ ((id ≡ x.id) × (x ≡ y))
-found_cases before x id y h = found_by (find_item before id) refl
-  where
-    found_by : (o : Option Item) → find_item before id ≡ o → (find_item before id ≡ Some y) ⊎ ((id ≡ x.id) × (x ≡ y))
-    found_by None e =
-        let last = cond_some (nat_eq id x.id) x y (sym (find_item-after before (x ∷ []) id e) ∙ h) in
-        inr (eqb-true id x.id last.0, last.1)
-    found_by (Some z) e = inl (e ∙ sym (find_item-append before (x ∷ []) id z e) ∙ h)
+use Rattle.btor2.proofs.AppendLemmas.{found_cases}
 
 -- the nodes of some lines of a model
 abbrev pub nodes_of : List Item → List Item → List Node

@@ -1,48 +1,29 @@
 -- What a new run keeps.
-use Rattle.std.proofs.Common.{◌≡◌, ◌≢◌, ℕ, ◌^◌, ◌<◌, Bool, true, false, ◌&&◌, cond, List, [], ◌∷◌, ◌++◌, length, map, get_or, replicate, All, Option, Some, None, IfSome, is_some, is_none, option_and_then, unwrap_or, refl, sym, ap, subst, ◌∙◌, pow_pos, arith}
-use Rattle.std.proofs.lemmas.Option.{none-some}
+use Rattle.std.proofs.Common.{◌≡◌, ◌≢◌, ℕ, ◌^◌, ◌<◌, Bool, true, false, List, length, map, get_or, replicate, All, Option, Some, None, is_some, option_and_then, unwrap_or, refl, sym, ap, subst, ◌∙◌, pow_pos, arith}
 use Rattle.std.proofs.lemmas.Bool.{true≢false}
 use Rattle.std.proofs.lemmas.List.{length-map, length-replicate, get_or-map, get_or-replicate, ext_get_or}
 use Rattle.btor2.specs.declared.item.Item.{Item}
 use Rattle.btor2.specs.declared.item.Body.{Body}
-use Rattle.btor2.specs.declared.item.Body.TheVariants as body
-use Rattle.btor2.specs.Items.{find_item, node_width, width_of_body, constant_word, constant_of_body, constant_of, is_input, is_state, is_bad, is_constraint, init_value, next_value}
+use Rattle.btor2.specs.Items.{find_item, constant_of, is_input, is_state, is_bad, is_constraint, init_value, next_value}
 use Rattle.btor2.specs.Check.{IsWellFormed}
 use Rattle.btor2.specs.Lists.{places, first_without_next}
-use Rattle.btor2.specs.Trace.{Frame, bits_of, LineHolds, LinesHold}
-use Rattle.btor2.proofs.AppendLemmas.{then_parts, is_some_from}
-use Rattle.btor2.proofs.ModelLemmas.{IsIn-from_find, find_item-in, IsInitOf, IsInitOf-from_value}
-use Rattle.btor2.proofs.TraceLemmas.{frame_exists}
+use Rattle.btor2.specs.Trace.{bits_of}
+use Rattle.btor2.proofs.ModelLemmas.{IsIn-from_find, IsInitOf, IsInitOf-from_value}
 use Rattle.runs.specs.declared.nodes.Node.{Node}
-use Rattle.runs.specs.Frames.{has_value, of_kind, ids_of, rank, given}
+use Rattle.runs.specs.Frames.{has_value, of_kind, ids_of, rank}
 use Rattle.runs.specs.Run.{property_id, first_word, zeros}
 use Rattle.runs.specs.Nodes.{slot, node_of, words_at}
 use Rattle.runs.specs.Holds.{next_id, LeavesFit, Keeps}
 use Rattle.runs.proofs.RankLemmas.{state_is_leaf, input_is_leaf, leaf_has_value, rank-below, ids-rank, nth, nth-found, length-ids, length-places}
 use Rattle.runs.proofs.PlaceLemmas.{place_inside, map_read}
 use Rattle.runs.proofs.StateLemmas.{nth-get}
-use Rattle.runs.proofs.NodeLemmas.{constant_read}
-use Rattle.runs.proofs.SettleLemmas.{line_at}
-use Rattle.runs.proofs.WordLemmas.{slots_of, words_same, frame_fits}
+use Rattle.runs.proofs.WordLemmas.{slots_of, words_same}
 use Rattle.runs.proofs.InvariantLemmas.{slots-apart, length-slots_of}
 use Rattle.runs.proofs.AdvanceLemmas.{slot-own, slots-inside, slots-differ, leaf_cases}
+use Rattle.btor2.proofs.NextLemmas.{has_next}
+use Rattle.btor2.proofs.ConstantLemmas.{constant_below}
 
 -- Each state has a next where none lacks one.
-
-lacks_here : (o : Option ℕ) (id : ℕ) (rest : Option ℕ) → cond (is_none o) (Some id) rest ≡ None → is_some o ≡ true
-lacks_here None id rest h = absurd (none-some id (sym h))
-lacks_here (Some v) id rest h = refl
-
-lacks_rest : (b : Bool) (id : ℕ) (rest : Option ℕ) → cond b (Some id) rest ≡ None → rest ≡ None
-lacks_rest true id rest h = absurd (none-some id (sym h))
-lacks_rest false id rest h = h
-
-has_next : (items before after : List Item) (y : Item) → first_without_next items (before ++ y ∷ after) ≡ None → is_state y.body ≡ true → is_some (next_value items y.id) ≡ true
-has_next items [] after y h is =
-    lacks_here (next_value items y.id) y.id (first_without_next items after)
-    (subst (λ (b : Bool). cond (b && is_none (next_value items y.id)) (Some y.id) (first_without_next items after) ≡ None) is h)
-has_next items (x ∷ xs) after y h is =
-    has_next items xs after y (lacks_rest (is_state x.body && is_none (next_value items x.id)) x.id (first_without_next items (xs ++ y ∷ after)) h) is
 
 pub nexts_there : (items : List Item) → first_without_next items items ≡ None → (id : ℕ) (y : Item) → find_item items id ≡ Some y → is_state y.body ≡ true → is_some (next_value items id) ≡ true
 nexts_there items h id y found is =
@@ -76,40 +57,6 @@ picked_slots test items slots list own e =
 
 -- The first words fit.
 
-line_constant : (items : List Item) (state input f : Frame) (id n : ℕ) (b : Body) → is_some (constant_word n b) ≡ true → LineHolds items state input f id b → IfSome (constant_word (bits_of items id) b) (λ w. f id ≡ w)
-line_constant items state input f id n (body.Zero s) there h = h
-line_constant items state input f id n (body.One s) there h = h
-line_constant items state input f id n (body.Ones s) there h = h
-line_constant items state input f id n (body.Const s d v) there h = h
-line_constant items state input f id n (body.Constd s v) there h = h
-line_constant items state input f id n (body.Consth s d v) there h = h
-line_constant items state input f id n _ there h = absurd (cc)
-
-no_words_fit : (items : List Item) (n : ℕ) → n ≡ length (of_kind has_value items) → LeavesFit items (replicate n 0)
-no_words_fit items n e id y found leaf =
-    let inside : slot items id < n = omega (arith, rank-below has_value items id y found (leaf_has_value y.body leaf)) in
-    subst (λ (w : ℕ). w < 2 ^ bits_of items id) (sym (get_or-replicate n (slot items id) 0 0 inside)) (pow_pos (bits_of items id))
-
-constant_below : (items : List Item) (id word : ℕ) → IsWellFormed items → constant_of items id ≡ Some word → is_some (node_width items id) ≡ true → word < 2 ^ bits_of items id
-constant_below items id word w e there =
-    let parts = then_parts (λ (x : Item). constant_of_body items x.body) (find_item items id) word e in
-    let y = parts.0 in
-    let width = then_parts (λ (n : ℕ). constant_word n y.body) (width_of_body items y.body) word parts.2 in
-    let at = IsIn-from_find items id y parts.1 in
-    let values = replicate (length (of_kind has_value items)) 0 in
-    let many : length values ≡ length (of_kind has_value items) = length-replicate (length (of_kind has_value items)) 0 in
-    let leaves = no_words_fit items (length (of_kind has_value items)) refl in
-    let state : Frame = given is_state items (words_at values (slots_of is_state items)) in
-    let input : Frame = given is_input items (words_at values (slots_of is_input items)) in
-    let some = frame_exists items state input w in
-    let line = line_at items state input some.0 at.0.before at.0.after y (subst (LinesHold items state input some.0) at.0.splits some.1) in
-    let own : bits_of items y.id ≡ unwrap_or (width_of_body items y.body) 0 =
-    ap (λ (o : Option Item). unwrap_or (option_and_then (λ (x : Item). width_of_body items x.body) o) 0) (find_item-in items y w at.0) in
-    let read = constant_read items width.0 (bits_of items y.id) (some.0 y.id) y.body width.1 own (is_some_from (constant_word width.0 y.body) word width.2)
-    (line_constant items state input some.0 y.id width.0 y.body (is_some_from (constant_word width.0 y.body) word width.2) line) in
-    let same : word ≡ some.0 id = ap (λ (o : Option ℕ). unwrap_or o 0) (sym parts.2) ∙ read ∙ ap some.0 (sym at.1) in
-    subst (λ (n : ℕ). n < 2 ^ bits_of items id) (sym same) (frame_fits items w values many leaves some.0 some.1 id there)
-
 first_fits : (items : List Item) (id : ℕ) → IsWellFormed items → first_word items id < 2 ^ bits_of items id
 first_fits items id w = by (init_value items id) (λ v e. IsInitOf-from_value items id v w e)
   where
@@ -119,7 +66,7 @@ first_fits items id w = by (init_value items id) (λ v e. IsInitOf-from_value it
         let of = line v refl in
         let word : unwrap_or (constant_of items v) 0 ≡ of.constant = ap (λ (o : Option ℕ). unwrap_or o 0) of.word in
         let bits : bits_of items v ≡ bits_of items id = ap (λ (o : Option ℕ). unwrap_or o 0) (of.of_value ∙ sym of.of_state) in
-        let below = constant_below items v of.constant w of.word (is_some_from (node_width items v) of.width of.of_value) in
+        let below = constant_below items v of.constant w of.word in
         subst (λ (n : ℕ). n < 2 ^ bits_of items id) (sym word) (subst (λ (n : ℕ). of.constant < 2 ^ n) bits below)
 
 -- The run.

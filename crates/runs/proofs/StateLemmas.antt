@@ -1,24 +1,22 @@
 -- The k-th item of a kind, and what a run begins with for the k-th state.
-use Rattle.std.proofs.Common.{◌≡◌, ℕ, zero, suc, ◌+◌, ◌<◌, ◌≤◌, Bool, true, false, cond, List, [], ◌∷◌, ◌++◌, length, map, take, get_or, slice_get, Option, Some, None, is_some, option_and_then, unwrap_or, nat_eq, refl, sym, ap, ap₂, ◌∙◌, length-append, arith}
-use Rattle.std.specs.List.{position_from}
-use Rattle.std.proofs.lemmas.Option.{none-some, same_Some}
+use Rattle.std.proofs.Common.{◌≡◌, ℕ, zero, suc, ◌+◌, ◌<◌, ◌≤◌, Bool, true, false, cond, List, [], ◌∷◌, ◌++◌, length, map, take, get_or, slice_get, Option, Some, None, is_some, option_and_then, unwrap_or, refl, sym, ap, ap₂, ◌∙◌, length-append, arith}
 use Rattle.std.proofs.lemmas.List.{map_more, take_more}
 use Rattle.std.proofs.lemmas.List.Elements.{filter-append}
 use Rattle.std.proofs.Math.Seq.{take-append_seam}
 use Rattle.btor2.specs.declared.item.Item.{Item}
 use Rattle.btor2.specs.declared.item.Body.{Body}
-use Rattle.btor2.specs.Items.{position_of, node_width, is_state, init_value, next_value, constant_of, constant_of_body}
+use Rattle.btor2.specs.Items.{position_of, node_width, is_state, init_value, next_value}
 use Rattle.btor2.specs.Check.{IsWellFormed}
 use Rattle.btor2.specs.Lists.{places, id_at, init_place, next_place, constant_at}
 use Rattle.btor2.proofs.AppendLemmas.{some_of, is_some_from}
-use Rattle.btor2.proofs.LookUps.{found}
 use Rattle.btor2.proofs.ModelLemmas.{IsIn-from_place, IsAccepted-at, IsNextOf-from_value}
 use Rattle.runs.specs.Frames.{has_value, of_kind, ids_of}
 use Rattle.runs.specs.Nodes.{slot}
 use Rattle.runs.specs.Holds.{next_id}
 use Rattle.runs.specs.Run.{first_word}
 use Rattle.runs.proofs.RankLemmas.{IsNth, nth, length-ids, length-places, rank-own}
-use Rattle.runs.proofs.PlaceLemmas.{NodePlace, node_place, no_place, no_item, position_found}
+use Rattle.runs.proofs.PlaceLemmas.{NodePlace, node_place, no_place}
+use Rattle.btor2.proofs.LookUps.{init_some, init_none}
 
 behind : (front : List Item) (x : Item) (xs : List Item) → slice_get (front ++ x ∷ xs) (length front) ≡ Some x
 behind [] x xs = refl
@@ -111,25 +109,6 @@ next_missing items k w some h e =
 pub init_at : (items : List Item) (k : ℕ) → k < length (ids_of is_state items)
     → init_place items (get_or (places is_state 0 items) k 0) ≡ option_and_then (position_of items) (init_value items (get_or (ids_of is_state items) k 0))
 init_at items k h = ap (λ (o : Option ℕ). option_and_then (position_of items) (option_and_then (init_value items) o)) (id_at-place is_state items k h)
-
-position_below : (test : Item → Bool) (n : ℕ) (items : List Item) (k : ℕ) → position_from test n items ≡ Some k → k < n + length items
-position_below test n [] k h = absurd (none-some k h)
-position_below test n (x ∷ xs) k h =
-    elim (test x) as (λ b. cond b (Some n) (position_from test (n + 1) xs) ≡ Some k → k < n + suc (length xs)) [
-      | true ↦ λ e. omega (arith, same_Some n k e)
-      | false ↦ λ e. omega (arith, position_below test (n + 1) xs k e)
-    ] h
-
-init_some : (items : List Item) (o : Option ℕ) (place : ℕ) → option_and_then (position_of items) o ≡ Some place → (constant_at items place ≡ option_and_then (constant_of items) o) × (place < length items)
-init_some items None place e = absurd (none-some place e)
-init_some items (Some v) place e = (
-  ap (option_and_then (λ (x : Item). constant_of_body items x.body)) (position_found items v place e),
-  omega (arith, position_below (λ (x : Item). nat_eq v x.id) 0 items place e),
-)
-
-init_none : (items : List Item) (o : Option ℕ) → option_and_then (position_of items) o ≡ None → option_and_then (constant_of items) o ≡ None
-init_none items None e = refl
-init_none items (Some v) e = ap (option_and_then (λ (x : Item). constant_of_body items x.body)) (no_item items v (position_of items v) (found v items) e)
 
 -- where the init line's value has a place
 pub init_inside : (items : List Item) (k place : ℕ) → k < length (ids_of is_state items) → Some place ≡ init_place items (get_or (places is_state 0 items) k 0) → place < length items

@@ -6,7 +6,7 @@ use Rattle.std.proofs.lemmas.List.{take-append-drop, drop_more, take_more}
 use Rattle.std.proofs.lemmas.List.Folds.{list_any-append}
 use Rattle.witness.specs.Texts.{are_distinct}
 use Rattle.witness.specs.Admits.{Claim, claim_of, claims_of, with_claim, between_spaces}
-use Rattle.witness.specs.Reading.{HasNoSpace}
+use Rattle.base.specs.Lines.{HasNone}
 use Rattle.witness.proofs.LineLemmas.{pieces-none, pieces-some}
 
 -- claims behind others
@@ -20,7 +20,7 @@ behind-one list c (Some more) = ap (λ (l : List Claim). Some l) (sym (append_as
 
 -- a step of reading a line's claims
 module _ (list : List Claim) (rest : List ℕ) (total : Option (List Claim)) (so_far : total ≡ behind list (claims_of (between_spaces rest))) where
-  module _ (piece later : List ℕ) (is : rest ≡ piece ++ 32 ∷ later) (whole : HasNoSpace piece) where
+  module _ (piece later : List ℕ) (is : rest ≡ piece ++ 32 ∷ later) (whole : HasNone 32 piece) where
     step : total ≡ behind list (with_claim (claim_of piece) (claims_of (between_spaces later)))
     step = so_far ∙ ap (λ (ps : List (List ℕ)). behind list (claims_of ps)) (ap between_spaces is ∙ pieces-some piece later whole)
 
@@ -30,7 +30,7 @@ module _ (list : List Claim) (rest : List ℕ) (total : Option (List Claim)) (so
     pub none_here : claim_of piece ≡ None → total ≡ None
     none_here e = step ∙ ap (λ (o : Option Claim). behind list (with_claim o (claims_of (between_spaces later)))) e
 
-  module _ (whole : HasNoSpace rest) where
+  module _ (whole : HasNone 32 rest) where
     last : total ≡ behind list (with_claim (claim_of rest) (Some []))
     last = so_far ∙ ap (λ (ps : List (List ℕ)). behind list (claims_of ps)) (pieces-none rest whole)
 

@@ -3,10 +3,10 @@ use Rattle.std.proofs.Common.{◌≡◌, ◌≢◌, ◌&&◌, ◌||◌, set, ⊎
 use Rattle.std.proofs.Math.Seq.{drop-cons}
 use Rattle.std.proofs.lemmas.List.{drop_all, length-map, get_or-set_same, get_or-set_other}
 use Rattle.std.proofs.lemmas.Bool.{cases_eq}
-use Rattle.std.proofs.lemmas.Option.{none-some, get_or_from_slice_get}
+use Rattle.std.proofs.lemmas.Option.{get_or_from_slice_get}
 use Rattle.std.specs.List.{position_from, list_any}
 use Rattle.btor2.specs.declared.item.Item.{Item}
-use Rattle.btor2.specs.Items.{position_of, constant_of, constant_of_body, init_value, is_input, is_state, is_bad, is_constraint}
+use Rattle.btor2.specs.Items.{position_of, init_value, is_input, is_state, is_bad, is_constraint}
 use Rattle.btor2.specs.Lists.{places, init_place, constant_at}
 use Rattle.btor2.proofs.LookUps.{found}
 use Rattle.btor2.specs.Check.{IsWellFormed}
@@ -17,7 +17,6 @@ use Rattle.runs.specs.Frames.{given as given_words}
 use Rattle.runs.specs.Run.{Run, IsNow, state_words, zeros, is_one, start, first_word}
 use Rattle.runs.specs.Run.{input_words as run_inputs}
 use Rattle.runs.proofs.RankLemmas.{IsNth, nth, length-ids, length-places}
-use Rattle.runs.proofs.PlaceLemmas.{position_found, no_item}
 use Rattle.runs.proofs.StateLemmas.{nth-get, init_at}
 use Rattle.witness.specs.Texts.{are_distinct, widths_of}
 use Rattle.witness.specs.Reading.{is_set}
@@ -26,6 +25,7 @@ use Rattle.witness.specs.Judgements.{of_kind, nodes_of, init_constant, differs, 
 use Rattle.witness.specs.Fits.{PartFits, RisesAmong, NoneIsSet, words_put}
 use Rattle.witness.proofs.GivenLemmas.{SameAt, words_of_kind, states_given, inputs_given}
 use Rattle.witness.proofs.FrameLemmas.{frame_agrees, trace_agrees, different_of, trace_length, first_step, constraint_names, length-nodes, property_at}
+use Rattle.btor2.proofs.LookUps.{init_some, init_none}
 
 -- a run by its parts
 run_now : (r : Run) (items : List Item) (states inputs : List ℕ) (f : Frame) → r.items ≡ items → r.states ≡ states → r.inputs ≡ inputs
@@ -104,14 +104,6 @@ state_test items k f b b' h says e =
 
 -- ---- the init line of a state
 
-init_some : (items : List Item) (o : Option ℕ) (place : ℕ) → option_and_then (position_of items) o ≡ Some place → constant_at items place ≡ option_and_then (constant_of items) o
-init_some items None place e = absurd (none-some place e)
-init_some items (Some v) place e = ap (option_and_then (λ (x : Item). constant_of_body items x.body)) (position_found items v place e)
-
-init_none : (items : List Item) (o : Option ℕ) → option_and_then (position_of items) o ≡ None → option_and_then (constant_of items) o ≡ None
-init_none items None e = refl
-init_none items (Some v) e = ap (option_and_then (λ (x : Item). constant_of_body items x.body)) (no_item items v (position_of items v) (found v items) e)
-
 -- what is known of the k-th state, by its init line's place and constant
 module _ (items : List Item) (k : ℕ) (f : Frame) (h : k < length (places is_state 0 items)) where
   abbrev pub Differs : Bool → Type 0
@@ -130,7 +122,7 @@ module _ (items : List Item) (k : ℕ) (f : Frame) (h : k < length (places is_st
   differs-none e = by_item false (λ x n. ap (λ (o : Option ℕ). differs o (f x.id)) (sym (init_none items (init_value items x.id) (sym (own_place x n) ∙ sym e))))
 
   own_constant : (place : ℕ) (x : Item) → IsNth is_state items k x → Some place ≡ init_place items (get_or (places is_state 0 items) k 0) → constant_at items place ≡ init_constant items x.id
-  own_constant place x n e = init_some items (init_value items x.id) place (sym (own_place x n) ∙ sym e)
+  own_constant place x n e = (init_some items (init_value items x.id) place (sym (own_place x n) ∙ sym e)).0
 
   differs-no_constant : (place : ℕ) → Some place ≡ init_place items (get_or (places is_state 0 items) k 0) → None ≡ constant_at items place → Differs false
   differs-no_constant place e d = by_item false (λ x n. ap (λ (o : Option ℕ). differs o (f x.id)) (d ∙ own_constant place x n e))

@@ -37,10 +37,6 @@ GivesUnlessFull view (Ok x) read = read ≡ Ok (view x)
 GivesUnlessFull view (Err stop.NoMemory) read = Unit {0}
 GivesUnlessFull view (Err (stop.Refused w)) read = read ≡ Err w
 
--- no byte of a piece is a space
-abbrev pub HasNoSpace : List ℕ → Type 0
-HasNoSpace bytes = list_any (λ b. b == 32) bytes ≡ false
-
 -- ---- an assignment
 
 abbrev pub pair_with_symbol : ℕ → Option (List ℕ) → Result ℕ Why → Result (ℕ × ℕ) Why

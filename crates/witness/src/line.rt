@@ -1,25 +1,17 @@
 //! What single lines of a witness are.
 ghost use Rattle.std.specs.Prelude.{◌≡◌, ◌∷◌, ◌++◌, ◌<◌, ◌-◌, ◌^◌, MatchOption, decimal, option_copied};
 ghost use Rattle.std.specs.Str.{bytes_eq};
+ghost use Rattle.base.specs.Lines.{HasNone};
 ghost use Rattle.witness.specs.Texts.{is_comment};
 ghost use Rattle.witness.specs.Admits.{cut_at_space, begins_part};
-ghost use Rattle.witness.specs.Reading.{HasNoSpace};
 
-use base::decimal;
-use bstr::ByteSlice;
+use base::{cut_at, decimal};
 
 /// The bytes before the first space, and those behind it; nothing where there is no space.
 pub(crate) fn next_piece(line: &[u8]) -> Option<(&[u8], &[u8])>
-    ensures { MatchOption result (HasNoSpace line.now) (λ x. (line.now ≡ x.0.now ++ 32 ∷ x.1.now) × HasNoSpace x.0.now) }
+    ensures { MatchOption result (HasNone 32 line.now) (λ x. (line.now ≡ x.0.now ++ 32 ∷ x.1.now) × HasNone 32 x.0.now) }
 {
-    match line.find_byte(b' ') {
-        None => None,
-        Some(at) => {
-            let (front, rest) = line.split_at(at);
-            let (_, behind) = rest.split_at(1);
-            Some((front, behind))
-        }
-    }
+    cut_at(line, b' ')
 }
 
 /// The bytes before the first space or all, and those behind it where there is one.

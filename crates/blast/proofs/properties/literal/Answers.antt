@@ -3,8 +3,9 @@ use Rattle.std.proofs.lemmas.List.{get_or_read}
 use Rattle.std.proofs.lemmas.Option.{none-some}
 use Rattle.btor2.specs.Items.{position_of}
 use Rattle.blast.specs.Rows.{row_at}
-use Rattle.blast.proofs.KindRows.{place_below, node_place, row_at-found}
+use Rattle.blast.proofs.KindRows.{node_place, row_at-found}
 use Rattle.blast.proofs.properties.literal.Goals as goal
+use Rattle.btor2.proofs.LookUps.{place_below}
 
 pub row-requires : goal.row-requires
 row-requires c = omega (arith, place_below c.args.model.now c.args.id c.in-Some.place (ap (position_of c.args.model.now) (sym c.from.ensures) ∙ sym c.in-Some.ensures))
