@@ -9,3 +9,4 @@ pub mod ProductLemmas
 pub mod OrderLemmas
 pub mod OverflowLemmas
 pub mod QuotientLemmas
+pub mod WideProductLemmas

@@ -1,4 +1,4 @@
--- The operators of two operands that are built of gates so far: all but signed quotients and remainders, and the overflow of products.
+-- The operators of two operands that are built of gates so far: all but signed quotients and remainders.
 use Rattle.std.specs.Prelude.{Bool, true, false}
 use Rattle.base.specs.declared.operators.Binary.{Binary}
 use Rattle.base.specs.declared.operators.Binary.TheVariants as binary
@@ -7,6 +7,4 @@ abbrev pub is_built_binary : Binary → Bool
 is_built_binary binary.Sdiv = false
 is_built_binary binary.Srem = false
 is_built_binary binary.Smod = false
-is_built_binary binary.Umulo = false
-is_built_binary binary.Smulo = false
 is_built_binary _ = true

@@ -47,7 +47,7 @@ pub fn unary_bits<G: Gates>(g: &mut G, op: Unary, a: &Bits) -> Result<Bits, Gate
 
 /// The bits of what an operator gives for two operands.
 ///
-/// Conditions: the operator is none of those that are not built yet, `Sdiv`, `Srem`, `Smod`, `Umulo` and `Smulo`;
+/// Conditions: the operator is none of those that are not built yet, `Sdiv`, `Srem` and `Smod`;
 /// operands of equal length from 1 to 64, for `Iff` and `Implies` of length 1, all literals
 /// defined. Errors: `TooBig` only where the variables so far and the operator's bound sum to more than 2^30, `NoMemory`;
 /// the gates made so far stay.
@@ -84,9 +84,13 @@ pub fn binary_bits<G: Gates>(g: &mut G, op: Binary, a: &Bits, b: &Bits) -> Resul
         Binary::Mul => mul(g, a, b),
         Binary::Udiv => Ok(divide(g, a, b)?.quotient),
         Binary::Urem => Ok(divide(g, a, b)?.remainder),
-        Binary::Uaddo | Binary::Saddo | Binary::Usubo | Binary::Ssubo | Binary::Sdivo => {
-            Ok(one_bit(overflow(g, op, a, b)?))
-        }
+        Binary::Uaddo
+        | Binary::Saddo
+        | Binary::Usubo
+        | Binary::Ssubo
+        | Binary::Umulo
+        | Binary::Smulo
+        | Binary::Sdivo => Ok(one_bit(overflow(g, op, a, b)?)),
         _ => unreachable!(),
     }
 }
