@@ -10,3 +10,4 @@ pub mod OrderLemmas
 pub mod OverflowLemmas
 pub mod QuotientLemmas
 pub mod WideProductLemmas
+pub mod SignedDivisionLemmas

@@ -20,6 +20,7 @@ use crate::maker::{Bits, Gates};
 use crate::multiplication::mul;
 use crate::overflows::overflow;
 use crate::shifts::{rotate, shift};
+use crate::signed_division::{sdiv, srem};
 use aiger::Lit;
 use base::{Binary, Unary};
 
@@ -47,7 +48,7 @@ pub fn unary_bits<G: Gates>(g: &mut G, op: Unary, a: &Bits) -> Result<Bits, Gate
 
 /// The bits of what an operator gives for two operands.
 ///
-/// Conditions: the operator is none of those that are not built yet, `Sdiv`, `Srem` and `Smod`;
+/// Conditions: the operator is not `Smod`, which is not built yet;
 /// operands of equal length from 1 to 64, for `Iff` and `Implies` of length 1, all literals
 /// defined. Errors: `TooBig` only where the variables so far and the operator's bound sum to more than 2^30, `NoMemory`;
 /// the gates made so far stay.
@@ -84,6 +85,8 @@ pub fn binary_bits<G: Gates>(g: &mut G, op: Binary, a: &Bits, b: &Bits) -> Resul
         Binary::Mul => mul(g, a, b),
         Binary::Udiv => Ok(divide(g, a, b)?.quotient),
         Binary::Urem => Ok(divide(g, a, b)?.remainder),
+        Binary::Sdiv => sdiv(g, a, b),
+        Binary::Srem => srem(g, a, b),
         Binary::Uaddo
         | Binary::Saddo
         | Binary::Usubo

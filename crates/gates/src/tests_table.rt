@@ -64,7 +64,7 @@ const WIDEST: u32 = 5;
 fn is_binary_built(op: Binary) -> bool
     ensures { result ≡ is_built_binary op }
 {
-    !matches!(op, Binary::Sdiv | Binary::Srem | Binary::Smod)
+    !matches!(op, Binary::Smod)
 }
 
 /// The literals of so many inputs behind the first ones.
