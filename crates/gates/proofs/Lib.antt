@@ -11,3 +11,4 @@ pub mod OverflowLemmas
 pub mod QuotientLemmas
 pub mod WideProductLemmas
 pub mod SignedDivisionLemmas
+pub mod SignedModuloLemmas

@@ -73,7 +73,7 @@ pub size_below : (n a : ℕ) → 1 ≤ n → a < 2 ^ n → unsigned_abs (signed 
 size_below n a some below = omega (arith, ints, half n some, signed_is n a some below, pow_pos (n - 1))
 
 -- only zero has the size zero
-size_some : (n b : ℕ) → 1 ≤ n → b < 2 ^ n → b ≢ 0 → 0 < unsigned_abs (signed n b)
+pub size_some : (n b : ℕ) → 1 ≤ n → b < 2 ^ n → b ≢ 0 → 0 < unsigned_abs (signed n b)
 size_some n b some below other = omega (arith, ints, signed_is n b some below)
 
 -- zero's size

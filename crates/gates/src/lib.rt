@@ -33,7 +33,7 @@ pub use multiplication::mul;
 pub use overflows::overflow;
 pub use plain::PlainGates;
 pub use shifts::{rotate, shift};
-pub use signed_division::{sdiv, srem};
+pub use signed_division::{sdiv, smod, srem};
 
 #[cfg(test)]
 mod tests;
