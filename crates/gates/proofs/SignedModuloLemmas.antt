@@ -102,10 +102,10 @@ smod_is n a (suc b) x y some a_below b_below low_a high_a low_b high_b =
     ∙ sym (cond-false (suc b == 0) _ _ (ne_eqb (suc b) 0 other))
 
 -- a literal that is true where a remainder is not 0 and two signs differ
-pub MakesLiteral-moved : (n0 n1 n2 n3 : Net) (x y some other l : ℕ) (rest : List ℕ) → MakesLiteral n0 n1 (length rest) (λ v. not (word_value v rest == 0)) some
+pub MakesLiteral-rounded_down : (n0 n1 n2 n3 : Net) (x y some other l : ℕ) (rest : List ℕ) → MakesLiteral n0 n1 (length rest) (λ v. not (word_value v rest == 0)) some
     → MakesLiteral n1 n2 3 (λ v. differ (literal_value v x) (literal_value v y)) other → MakesAnd n2 n3 some other l
     → MakesLiteral n0 n3 (length rest + 4) (λ v. not (word_value v rest == 0) && differ (literal_value v x) (literal_value v y)) l
-MakesLiteral-moved n0 n1 n2 n3 x y some other l rest first second third =
+MakesLiteral-rounded_down n0 n1 n2 n3 x y some other l rest first second third =
     let joined = MakesLiteral-join n0 n1 n2 n3 (length rest) 3 1 some other l (λ v. not (word_value v rest == 0)) (λ v. differ (literal_value v x) (literal_value v y)) (λ s t. s && t) first second (MakesLiteral-and n2 n3 some other l third) in
     MakesLiteral-same n0 n3 (length rest + 3 + 1) (length rest + 4) l _ _ (omega arith) (λ v. refl) joined
 
