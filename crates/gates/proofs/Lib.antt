@@ -9,3 +9,6 @@ pub mod ProductLemmas
 pub mod OrderLemmas
 pub mod OverflowLemmas
 pub mod QuotientLemmas
+pub mod WideProductLemmas
+pub mod SignedDivisionLemmas
+pub mod SignedModuloLemmas

@@ -32,7 +32,7 @@ no_carry_out p s a b true below a_below b_below whole = grind (arith, nat_tests)
 no_carry_out p s a b false below a_below b_below whole = grind (arith, nat_tests)
 
 -- a number above all signed numbers of a width or below all overflows
-overflows_far : (n : ℕ) (z : ℤ) (t : Bool) → overflows n z ≡ t → (up z + 2 ^ (n - 1) < down z) ⊎ (down z + 2 ^ (n - 1) ≤ up z) → t ≡ true
+pub overflows_far : (n : ℕ) (z : ℤ) (t : Bool) → overflows n z ≡ t → (up z + 2 ^ (n - 1) < down z) ⊎ (down z + 2 ^ (n - 1) ≤ up z) → t ≡ true
 overflows_far n z true e far = refl
 overflows_far n z false e far = let near = overflows_out n z e in absurd (omega (arith, far, near))
 

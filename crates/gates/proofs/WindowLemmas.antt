@@ -20,6 +20,12 @@ word-append : (xs ys : List Bool) → word (xs ++ ys) ≡ word ys * 2 ^ length x
 word-append [] ys = omega arith
 word-append (x ∷ xs) ys = omega (arith, pow-suc 2 (length xs), word-append xs ys, ap (λ k. word ys * k) (pow-suc 2 (length xs)))
 
+-- the word of literals before others
+pub word_value-append : (v : Valuation) (low high : List ℕ) → word_value v (low ++ high) ≡ word_value v low + 2 ^ length low * word_value v high
+word_value-append v low high =
+    ap word (map-append (literal_value v) low high) ∙ word-append (map (literal_value v) low) (map (literal_value v) high)
+    ∙ ap (λ n. word_value v high * 2 ^ n + word_value v low) (length-map low (literal_value v)) ∙ omega arith
+
 -- the first literals of a list, and the others
 pub word_value-split : (v : Valuation) (a : List ℕ) (k : ℕ) → k ≤ length a → word_value v a ≡ word_value v (drop k a) * 2 ^ k + word_value v (take k a)
 word_value-split v a k le =

@@ -22,6 +22,8 @@ is_overflow binary.Uaddo = true
 is_overflow binary.Saddo = true
 is_overflow binary.Usubo = true
 is_overflow binary.Ssubo = true
+is_overflow binary.Umulo = true
+is_overflow binary.Smulo = true
 is_overflow binary.Sdivo = true
 is_overflow _ = false
 

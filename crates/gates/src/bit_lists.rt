@@ -1,5 +1,5 @@
-//! Lists of literals that take no gate: negated, of one literal, of one literal many times.
-ghost use Rattle.std.specs.Prelude.{◌≡◌, ◌≤◌, [], ◌∷◌, length, map, replicate};
+//! Lists of literals that take no gate: negated, of one literal, of one literal many times, longer, and without the low ones.
+ghost use Rattle.std.specs.Prelude.{◌≡◌, ◌+◌, ◌≤◌, [], ◌∷◌, ◌++◌, length, map, drop, replicate};
 ghost use Rattle.aiger.specs.Literal.{negation};
 
 use crate::maker::Bits;
@@ -35,5 +35,36 @@ pub(crate) fn repeated(lit: Lit, count: usize) -> Bits
     for _ in 0..count {
         bits.push(lit);
     }
+    bits
+}
+
+/// Literals put behind a word's.
+pub(crate) fn append(bits: &mut Bits, more: &[Lit])
+    requires { length bits.old.items + length more.now ≤ 128 }
+    ensures { bits.new.items ≡ bits.old.items ++ more.now }
+{
+    let added = bits.try_extend_from_slice(more);
+    prove!(added.is_ok());
+}
+
+/// The literals of a word, and above them one literal as many times.
+pub(crate) fn doubled(a: &Bits, above: Lit) -> Bits
+    requires { length a.now.items ≤ 64 }
+    ensures { result.items ≡ a.now.items ++ replicate (length a.now.items) above }
+{
+    let mut bits = Bits::new();
+    append(&mut bits, a.as_slice());
+    append(&mut bits, repeated(above, a.len()).as_slice());
+    bits
+}
+
+/// The literals of a word from a place on.
+pub(crate) fn high_bits(a: &Bits, from: usize) -> Bits
+    requires most { length a.now.items ≤ 128 }
+    requires inside { from ≤ length a.now.items }
+    ensures { result.items ≡ drop from a.now.items }
+{
+    let mut bits = Bits::new();
+    append(&mut bits, &a.as_slice()[from..]);
     bits
 }

@@ -6,7 +6,6 @@ ghost use Rattle.aiger.specs.Net.{IsDefined};
 ghost use Rattle.gates.specs.Operands.{AreOperands};
 ghost use Rattle.gates.specs.Made.{MakesWord, Refuses, word_value};
 ghost use Rattle.gates.specs.Bound.{unary_bound, binary_bound};
-ghost use Rattle.gates.specs.Built.{is_built_binary};
 
 use crate::adders::{add_bits, dec_bits, inc_bits, neg_bits, sub_bits};
 use crate::bit_lists::{negation, one_bit};
@@ -20,6 +19,7 @@ use crate::maker::{Bits, Gates};
 use crate::multiplication::mul;
 use crate::overflows::overflow;
 use crate::shifts::{rotate, shift};
+use crate::signed_division::{sdiv, smod, srem};
 use aiger::Lit;
 use base::{Binary, Unary};
 
@@ -47,12 +47,10 @@ pub fn unary_bits<G: Gates>(g: &mut G, op: Unary, a: &Bits) -> Result<Bits, Gate
 
 /// The bits of what an operator gives for two operands.
 ///
-/// Conditions: the operator is none of those that are not built yet, `Sdiv`, `Srem`, `Smod`, `Umulo` and `Smulo`;
-/// operands of equal length from 1 to 64, for `Iff` and `Implies` of length 1, all literals
-/// defined. Errors: `TooBig` only where the variables so far and the operator's bound sum to more than 2^30, `NoMemory`;
-/// the gates made so far stay.
+/// Conditions: operands of equal length from 1 to 64, for `Iff` and `Implies` of length 1, all literals defined.
+/// Errors: `TooBig` only where the variables so far and the operator's bound sum to more than 2^30, `NoMemory`; the gates
+/// made so far stay.
 pub fn binary_bits<G: Gates>(g: &mut G, op: Binary, a: &Bits, b: &Bits) -> Result<Bits, GateFault>
-    requires built { is_built_binary op ≡ true }
     requires of_bits { is_of_bits op ≡ true → length a.now.items ≡ 1 }
     requires operands { AreOperands (G.made g.old) 64 a.now.items b.now.items }
     ensures ok { IfOk result (λ bits. let n = length a.now.items in MakesWord (G.made g.old) (G.made g.new) (binary_bound op n) (binary_width op n) (λ v. binary_value op n (word_value v a.now.items) (word_value v b.now.items)) bits.items) }
@@ -84,9 +82,15 @@ pub fn binary_bits<G: Gates>(g: &mut G, op: Binary, a: &Bits, b: &Bits) -> Resul
         Binary::Mul => mul(g, a, b),
         Binary::Udiv => Ok(divide(g, a, b)?.quotient),
         Binary::Urem => Ok(divide(g, a, b)?.remainder),
-        Binary::Uaddo | Binary::Saddo | Binary::Usubo | Binary::Ssubo | Binary::Sdivo => {
-            Ok(one_bit(overflow(g, op, a, b)?))
-        }
-        _ => unreachable!(),
+        Binary::Sdiv => sdiv(g, a, b),
+        Binary::Srem => srem(g, a, b),
+        Binary::Smod => smod(g, a, b),
+        Binary::Uaddo
+        | Binary::Saddo
+        | Binary::Usubo
+        | Binary::Ssubo
+        | Binary::Umulo
+        | Binary::Smulo
+        | Binary::Sdivo => Ok(one_bit(overflow(g, op, a, b)?)),
     }
 }

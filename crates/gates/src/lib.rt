@@ -17,6 +17,7 @@ mod multiplication;
 mod overflows;
 mod plain;
 mod shifts;
+mod signed_division;
 
 pub use adders::{Added, add};
 pub use bitwise::equal;
@@ -32,6 +33,7 @@ pub use multiplication::mul;
 pub use overflows::overflow;
 pub use plain::PlainGates;
 pub use shifts::{rotate, shift};
+pub use signed_division::{sdiv, smod, srem};
 
 #[cfg(test)]
 mod tests;

@@ -13,7 +13,7 @@ use crate::maker::{Bits, Gates};
 use aiger::Lit;
 
 /// A word where a literal is true, and else none of its bits: its product with the literal.
-fn masked<G: Gates>(g: &mut G, a: &Bits, lit: Lit) -> Result<Bits, GateFault>
+pub(crate) fn masked<G: Gates>(g: &mut G, a: &Bits, lit: Lit) -> Result<Bits, GateFault>
     requires most { length a.now.items ≤ 128 }
     requires word { All (IsDefined (G.made g.old)) a.now.items }
     requires literal { IsDefined (G.made g.old) lit }

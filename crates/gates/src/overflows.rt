@@ -1,6 +1,7 @@
 //! Whether the result of an operation in whole numbers is one of the width.
-ghost use Rattle.std.specs.Prelude.{◌≡◌, ◌*◌, ◌≤◌, true, [], ◌∷◌, length, All, IfOk, IfErr};
-ghost use Rattle.base.specs.Operator.{binary_value};
+ghost use Rattle.std.specs.Prelude.{◌≡◌, ◌+◌, ◌*◌, ◌%◌, ◌^◌, ◌≤◌, true, [], ◌∷◌, length, All, IfOk, IfErr, if◌then◌else◌};
+ghost use Rattle.base.specs.Operator.{ones, binary_value};
+ghost use Rattle.aiger.specs.Literal.{literal_value};
 ghost use Rattle.aiger.specs.Net.{IsDefined};
 ghost use Rattle.gates.specs.Bound.{binary_bound};
 ghost use Rattle.gates.specs.Operands.{AreOperands};
@@ -8,21 +9,22 @@ ghost use Rattle.gates.specs.Made.{MakesWord, Refuses, word_value};
 ghost use Rattle.gates.specs.Tests.{is_overflow};
 
 use crate::adders::{add, difference};
-use crate::bit_lists::negation;
-use crate::bitwise::{Connective, connect_bits};
+use crate::bit_lists::{doubled, high_bits, negation, repeated};
+use crate::bitwise::{Connective, connect_bits, equal};
 use crate::comparisons::top_negated;
 use crate::fault::GateFault;
 use crate::literals::{conjunction, xor};
 use crate::maker::{Bits, Gates};
+use crate::multiplication::mul;
 use aiger::Lit;
 use base::Binary;
 
 /// A literal that is true where the result of an operation in whole numbers, signed or not as its name says, is none
 /// of the width.
 ///
-/// Conditions: the operator is one of the overflow tests `Uaddo`, `Saddo`, `Usubo`, `Ssubo` and `Sdivo`; operands of
-/// equal length from 1 to 64, all literals defined. Errors: `TooBig` only where the variables so far and the
-/// operator's bound sum to more than 2^30, `NoMemory`; the gates made so far stay.
+/// Conditions: the operator is one of the overflow tests `Uaddo`, `Saddo`, `Usubo`, `Ssubo`, `Umulo`, `Smulo` and
+/// `Sdivo`; operands of equal length from 1 to 64, all literals defined. Errors: `TooBig` only where the variables so far
+/// and the operator's bound sum to more than 2^30, `NoMemory`; the gates made so far stay.
 pub fn overflow<G: Gates>(g: &mut G, op: Binary, a: &Bits, b: &Bits) -> Result<Lit, GateFault>
     requires overflow { is_overflow op ≡ true }
     requires operands { AreOperands (G.made g.old) 64 a.now.items b.now.items }
@@ -34,6 +36,8 @@ pub fn overflow<G: Gates>(g: &mut G, op: Binary, a: &Bits, b: &Bits) -> Result<L
         Binary::Saddo => saddo(g, a, b),
         Binary::Usubo => usubo(g, a, b),
         Binary::Ssubo => ssubo(g, a, b),
+        Binary::Umulo => umulo(g, a, b),
+        Binary::Smulo => smulo(g, a, b),
         Binary::Sdivo => sdivo(g, a, b),
         _ => unreachable!(),
     }
@@ -90,4 +94,45 @@ fn sdivo<G: Gates>(g: &mut G, a: &Bits, b: &Bits) -> Result<Lit, GateFault>
     let is_least = connect_bits(g, Connective::And, as_least.as_slice())?;
     let is_minus_one = connect_bits(g, Connective::And, b.as_slice())?;
     conjunction(g, is_least, is_minus_one)
+}
+
+/// The product of two words, each with a literal above it as many times as it has bits. None of it is lost.
+fn wide_product<G: Gates>(
+    g: &mut G,
+    a: &Bits,
+    above_a: Lit,
+    b: &Bits,
+    above_b: Lit,
+) -> Result<Bits, GateFault>
+    requires operands { AreOperands (G.made g.old) 64 a.now.items b.now.items }
+    requires left { IsDefined (G.made g.old) above_a }
+    requires right { IsDefined (G.made g.old) above_b }
+    ensures ok { IfOk result (λ bits. let n = length a.now.items in MakesWord (G.made g.old) (G.made g.new) (40 * (n * n)) (2 * n) (λ v. (word_value v a.now.items + 2 ^ n * (if literal_value v above_a then ones n else 0)) * (word_value v b.now.items + 2 ^ n * (if literal_value v above_b then ones n else 0)) % 2 ^ (2 * n)) bits.items) }
+    ensures refused { IfErr result (let n = length a.now.items in Refuses (G.made g.old) (G.made g.new) (40 * (n * n))) }
+{
+    mul(g, &doubled(a, above_a), &doubled(b, above_b))
+}
+
+/// Whether the product of words as whole numbers is no word: a bit of its upper half is 1.
+fn umulo<G: Gates>(g: &mut G, a: &Bits, b: &Bits) -> Result<Lit, GateFault>
+    requires { AreOperands (G.made g.old) 64 a.now.items b.now.items }
+    ensures ok { IfOk result (λ l. let n = length a.now.items in MakesWord (G.made g.old) (G.made g.new) (40 * (n * n) + n) 1 (λ v. binary_value Binary.Umulo n (word_value v a.now.items) (word_value v b.now.items)) (l ∷ [])) }
+    ensures refused { IfErr result (let n = length a.now.items in Refuses (G.made g.old) (G.made g.new) (40 * (n * n) + n)) }
+{
+    let product = wide_product(g, a, Lit::FALSE, b, Lit::FALSE)?;
+    let high = high_bits(&product, a.len());
+    connect_bits(g, Connective::Or, high.as_slice())
+}
+
+/// Whether the product of signed numbers is none of the width: a bit of its upper half is not the sign of its lower half.
+fn smulo<G: Gates>(g: &mut G, a: &Bits, b: &Bits) -> Result<Lit, GateFault>
+    requires { AreOperands (G.made g.old) 64 a.now.items b.now.items }
+    ensures ok { IfOk result (λ l. let n = length a.now.items in MakesWord (G.made g.old) (G.made g.new) (40 * (n * n) + 4 * n) 1 (λ v. binary_value Binary.Smulo n (word_value v a.now.items) (word_value v b.now.items)) (l ∷ [])) }
+    ensures refused { IfErr result (let n = length a.now.items in Refuses (G.made g.old) (G.made g.new) (40 * (n * n) + 4 * n)) }
+{
+    let top = a.len() - 1;
+    let product = wide_product(g, a, a[top], b, b[top])?;
+    let high = high_bits(&product, a.len());
+    let fits = equal(g, &high, &repeated(product[top], a.len()))?;
+    Ok(fits.not())
 }

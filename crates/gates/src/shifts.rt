@@ -8,7 +8,7 @@ ghost use Rattle.gates.specs.Operands.{AreOperands};
 ghost use Rattle.gates.specs.Made.{MakesWord, Refuses, word_value};
 ghost use Rattle.gates.specs.Moves.{is_shift, is_rotation, is_move};
 
-use crate::bit_lists::repeated;
+use crate::bit_lists::{append, repeated};
 use crate::bitwise::{Connective, connect_bits};
 use crate::bound::log_up;
 use crate::choices::choose;
@@ -16,15 +16,6 @@ use crate::fault::GateFault;
 use crate::maker::{Bits, Gates};
 use aiger::Lit;
 use base::Binary;
-
-/// Literals put behind a word's.
-fn append(bits: &mut Bits, more: &[Lit])
-    requires { length bits.old.items + length more.now ≤ 128 }
-    ensures { bits.new.items ≡ bits.old.items ++ more.now }
-{
-    let added = bits.try_extend_from_slice(more);
-    prove!(added.is_ok());
-}
 
 /// Of two words one behind the other, as many literals as one has, from a place on.
 fn window(low: &Bits, high: &Bits, from: usize) -> Bits

@@ -1,6 +1,6 @@
-//! Every operator that is built, at all its operands of 1 to 5 bits, against the operators on words.
+//! Every operator, at all its operands of 1 to 5 bits, those of products and quotients of 1 to 4 bits, against the
+//! operators on words.
 ghost use Rattle.std.specs.Prelude.{◌≡◌, ◌+◌, ◌*◌, ◌<◌, ◌≤◌, ◌^◌, [], length, All};
-ghost use Rattle.gates.specs.Built.{is_built_binary};
 
 use super::*;
 use aiger::{Circuit, Lit};
@@ -60,14 +60,23 @@ const OPERATORS: [Op; 46] = [
 /// The greatest width of the table.
 const WIDEST: u32 = 5;
 
-/// Whether an operator of two operands is built.
-fn is_binary_built(op: Binary) -> bool
-    ensures { result ≡ is_built_binary op }
+/// The greatest width at which an operator is tested: products and quotients take many gates.
+fn widest(op: Op) -> u32
+    ensures { result ≤ 5 }
 {
-    !matches!(
-        op,
-        Binary::Sdiv | Binary::Srem | Binary::Smod | Binary::Umulo | Binary::Smulo
-    )
+    match op {
+        Op::Binary(
+            Binary::Mul
+            | Binary::Udiv
+            | Binary::Sdiv
+            | Binary::Urem
+            | Binary::Srem
+            | Binary::Smod
+            | Binary::Umulo
+            | Binary::Smulo,
+        ) => 4,
+        _ => WIDEST,
+    }
 }
 
 /// The literals of so many inputs behind the first ones.
@@ -84,7 +93,7 @@ fn inputs(before: u32, width: u32) -> Bits
     bits
 }
 
-/// The bits that an operator's builder makes of inputs; none where the operator is not built, or not at this width.
+/// The bits that an operator's builder makes of inputs; none where the operator is not one of this width.
 fn built(g: &mut PlainGates, op: Op, width: u32) -> Result<Option<Bits>, GateFault>
     requires some { 1 ≤ width }
     requires most { width ≤ 5 }
@@ -96,9 +105,8 @@ fn built(g: &mut PlainGates, op: Op, width: u32) -> Result<Option<Bits>, GateFau
         Op::Unary(op) => Ok(Some(unary_bits(g, op, &a)?)),
         Op::Binary(Binary::Iff) if width > 1 => Ok(None),
         Op::Binary(Binary::Implies) if width > 1 => Ok(None),
-        Op::Binary(op) if is_binary_built(op) => Ok(Some(binary_bits(g, op, &a, &b)?)),
+        Op::Binary(op) => Ok(Some(binary_bits(g, op, &a, &b)?)),
         Op::Ite => Ok(Some(ite_bits(g, &inputs(2 * WIDEST, 1), &a, &b)?)),
-        _ => Ok(None),
     }
 }
 
@@ -173,8 +181,8 @@ fn agrees(
     Ok(true)
 }
 
-/// Whether an operator's circuit agrees with the operator and has few enough gates, or is not built; none where it could
-/// not be made.
+/// Whether an operator's circuit agrees with the operator and has few enough gates, or it is none of this width; none
+/// where it could not be made.
 fn is_right(alloc: Global, op: Op, width: u32) -> Option<bool>
     requires some { 1 ≤ width }
     requires most { width ≤ 5 }
@@ -192,7 +200,7 @@ fn is_right(alloc: Global, op: Op, width: u32) -> Option<bool>
 #[test]
 fn every_operand_of_every_operator(rt: HostRuntime) {
     for op in OPERATORS {
-        for width in 1..WIDEST + 1 {
+        for width in 1..widest(op) + 1 {
             assert_eq!(rt;
                 is_right(rt.alloc(), op, width),
                 Some(true),

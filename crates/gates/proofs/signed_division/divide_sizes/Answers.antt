@@ -1,0 +1,36 @@
+use Rattle.std.proofs.Common.{◌*◌, ℕ, length, subst, unsigned_abs}
+use Rattle.std.proofs.lemmas.Result.{IfOk-weaker}
+use Rattle.base.specs.Signed.{signed}
+use Rattle.gates.specs.Made.{MakesWord, word_value}
+use Rattle.gates.proofs.SignedDivisionLemmas.{MakesWord-quotient, MakesWord-remainder}
+use Rattle.gates.proofs.signed_division.divide_sizes.Goals as goal
+
+pub returns-clause-quotient : goal.returns-clause-quotient
+returns-clause-quotient g c =
+    let first = g.G.Gates.made c.size.new.g in
+    let second = g.G.Gates.made c.size-2.new.g in
+    let a = c.args.a.now.items in
+    let b = c.args.b.now.items in
+    let n = length a in
+    let divisor : MakesWord first second (12 * n) n (λ v. unsigned_abs (signed n (word_value v b))) c.in_ok-divisor.divisor.items =
+    subst (λ (k : ℕ). MakesWord first second (12 * k) k (λ v. unsigned_abs (signed k (word_value v b))) c.in_ok-divisor.divisor.items) c.requires.equal c.in_ok-divisor.ensures.ok
+    in
+    IfOk-weaker c.divide.result _ _
+    (λ d makes. MakesWord-quotient (g.G.Gates.made c.args.g.now) first second (g.G.Gates.made c.divide.new.g) n c.in_ok-dividend.dividend.items c.in_ok-divisor.divisor.items d.quotient.items d.remainder.items
+    (λ v. unsigned_abs (signed n (word_value v a))) (λ v. unsigned_abs (signed n (word_value v b))) c.in_ok-dividend.ensures.ok divisor makes)
+    c.divide.ensures.ok
+
+pub returns-clause-remainder : goal.returns-clause-remainder
+returns-clause-remainder g c =
+    let first = g.G.Gates.made c.size.new.g in
+    let second = g.G.Gates.made c.size-2.new.g in
+    let a = c.args.a.now.items in
+    let b = c.args.b.now.items in
+    let n = length a in
+    let divisor : MakesWord first second (12 * n) n (λ v. unsigned_abs (signed n (word_value v b))) c.in_ok-divisor.divisor.items =
+    subst (λ (k : ℕ). MakesWord first second (12 * k) k (λ v. unsigned_abs (signed k (word_value v b))) c.in_ok-divisor.divisor.items) c.requires.equal c.in_ok-divisor.ensures.ok
+    in
+    IfOk-weaker c.divide.result _ _
+    (λ d makes. MakesWord-remainder (g.G.Gates.made c.args.g.now) first second (g.G.Gates.made c.divide.new.g) n c.in_ok-dividend.dividend.items c.in_ok-divisor.divisor.items d.quotient.items d.remainder.items
+    (λ v. unsigned_abs (signed n (word_value v a))) (λ v. unsigned_abs (signed n (word_value v b))) c.in_ok-dividend.ensures.ok divisor makes)
+    c.divide.ensures.ok

@@ -1,0 +1,17 @@
+use Rattle.std.proofs.Common.{◌≡◌, ◌-◌, length, get_or, refl}
+use Rattle.std.proofs.lemmas.Result.{IfOk-weaker}
+use Rattle.gates.proofs.SignedDivisionLemmas.{MakesWord-sdiv}
+use Rattle.gates.proofs.signed_division.sdiv.Goals as goal
+
+pub returns-clause-ok : goal.returns-clause-ok
+returns-clause-ok g c =
+    let a = c.args.a.now.items in
+    let b = c.args.b.now.items in
+    let x = c.index-deref-top.result in
+    let y = c.index-deref-top-2.result in
+    let x_is : x ≡ get_or a (length a - 1) x = rw (← c.len-top.ensures.value, ← c.deref.ensures.0) c.index-deref-top.is in
+    let y_is : y ≡ get_or b (length a - 1) y = rw (← c.len-top.ensures.value, ← c.deref-2.ensures.0) c.index-deref-top-2.is in
+    IfOk-weaker c.negated_where.result _ _
+    (λ bits makes. MakesWord-sdiv (g.G.Gates.made c.args.g.now) (g.G.Gates.made c.divide_sizes.new.g) (g.G.Gates.made c.xor.new.g) (g.G.Gates.made c.negated_where.new.g) (length a) x y c.in_ok-negative.negative a b
+    c.in_ok-divided.divided.quotient.items bits.items c.requires.some refl c.requires.equal x_is y_is c.in_ok-divided.ensures.quotient c.in_ok-negative.ensures.ok makes)
+    c.negated_where.ensures.ok

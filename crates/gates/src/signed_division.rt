@@ -1,0 +1,133 @@
+//! Division of words as signed numbers: the sizes of both are divided, and what that gives has its sign put back.
+ghost use Rattle.std.specs.Prelude.{◌≡◌, ◌+◌, ◌-◌, ◌*◌, ◌^◌, ◌≤◌, ◌%◌, ◌&&◌, ◌==◌, not, length, All, IfOk, IfErr, if◌then◌else◌, unsigned_abs};
+ghost use Rattle.base.specs.Operator.{unary_value, binary_value, udiv, urem};
+ghost use Rattle.base.specs.Signed.{signed};
+ghost use Rattle.aiger.specs.Literal.{literal_value};
+ghost use Rattle.aiger.specs.Net.{IsDefined};
+ghost use Rattle.gates.specs.Operands.{AreOperands};
+ghost use Rattle.gates.specs.Made.{MakesLiteral, MakesWord, Refuses, word_value};
+ghost use Rattle.gates.specs.Sums.{literal_number};
+ghost use Rattle.gates.specs.Connect.{differ};
+
+use crate::adders::{add_bits, neg_bits};
+use crate::bitwise::{Connective, connect_bits};
+use crate::choices::choose;
+use crate::division::{Divided, divide};
+use crate::fault::GateFault;
+use crate::literals::{conjunction, xor};
+use crate::maker::{Bits, Gates};
+use crate::multiplication::masked;
+use aiger::Lit;
+use base::{Binary, Unary};
+
+/// The bits of the word of a word's negated number where a literal is true, and else those of the word.
+fn negated_where<G: Gates>(g: &mut G, negative: Lit, a: &Bits) -> Result<Bits, GateFault>
+    requires some { 1 ≤ length a.now.items }
+    requires most { length a.now.items ≤ 64 }
+    requires literal { IsDefined (G.made g.old) negative }
+    requires defined { All (IsDefined (G.made g.old)) a.now.items }
+    ensures ok { IfOk result (λ bits. let n = length a.now.items in MakesWord (G.made g.old) (G.made g.new) (12 * n) n (λ v. if literal_value v negative then unary_value Unary.Neg n (word_value v a.now.items) else word_value v a.now.items) bits.items) }
+    ensures refused { IfErr result (Refuses (G.made g.old) (G.made g.new) (12 * length a.now.items)) }
+{
+    let negated = neg_bits(g, a)?;
+    choose(g, negative, &negated, a)
+}
+
+/// The bits of the size of the signed number that a word stands for.
+fn size<G: Gates>(g: &mut G, a: &Bits) -> Result<Bits, GateFault>
+    requires some { 1 ≤ length a.now.items }
+    requires most { length a.now.items ≤ 64 }
+    requires defined { All (IsDefined (G.made g.old)) a.now.items }
+    ensures ok { IfOk result (λ bits. let n = length a.now.items in MakesWord (G.made g.old) (G.made g.new) (12 * n) n (λ v. unsigned_abs (signed n (word_value v a.now.items))) bits.items) }
+    ensures refused { IfErr result (Refuses (G.made g.old) (G.made g.new) (12 * length a.now.items)) }
+{
+    negated_where(g, a[a.len() - 1], a)
+}
+
+/// The quotient and the remainder of the sizes of two signed numbers.
+fn divide_sizes<G: Gates>(g: &mut G, a: &Bits, b: &Bits) -> Result<Divided, GateFault>
+    requires { AreOperands (G.made g.old) 64 a.now.items b.now.items }
+    ensures quotient { IfOk result (λ divided. let n = length a.now.items in MakesWord (G.made g.old) (G.made g.new) (12 * (n * n) + 36 * n) n (λ v. udiv n (unsigned_abs (signed n (word_value v a.now.items))) (unsigned_abs (signed n (word_value v b.now.items)))) divided.quotient.items) }
+    ensures remainder { IfOk result (λ divided. let n = length a.now.items in MakesWord (G.made g.old) (G.made g.new) (12 * (n * n) + 36 * n) n (λ v. urem (unsigned_abs (signed n (word_value v a.now.items))) (unsigned_abs (signed n (word_value v b.now.items)))) divided.remainder.items) }
+    ensures refused { IfErr result (let n = length a.now.items in Refuses (G.made g.old) (G.made g.new) (12 * (n * n) + 36 * n)) }
+{
+    let dividend = size(g, a)?;
+    let divisor = size(g, b)?;
+    divide(g, &dividend, &divisor)
+}
+
+/// The bits of the quotient of two words as signed numbers, rounded towards zero. By 0 it is 1 for a negative dividend,
+/// and else all ones.
+///
+/// Conditions: operands of equal length n from 1 to 64, all literals defined. Errors: `TooBig` only where the variables
+/// so far and 12 n^2 + 51 n sum to more than 2^30, `NoMemory`; the gates made so far stay.
+pub fn sdiv<G: Gates>(g: &mut G, a: &Bits, b: &Bits) -> Result<Bits, GateFault>
+    requires { AreOperands (G.made g.old) 64 a.now.items b.now.items }
+    ensures ok { IfOk result (λ bits. let n = length a.now.items in MakesWord (G.made g.old) (G.made g.new) (12 * (n * n) + 51 * n) n (λ v. binary_value Binary.Sdiv n (word_value v a.now.items) (word_value v b.now.items)) bits.items) }
+    ensures refused { IfErr result (let n = length a.now.items in Refuses (G.made g.old) (G.made g.new) (12 * (n * n) + 51 * n)) }
+{
+    let top = a.len() - 1;
+    let divided = divide_sizes(g, a, b)?;
+    let negative = xor(g, a[top], b[top])?;
+    negated_where(g, negative, &divided.quotient)
+}
+
+/// The bits of the remainder of two words as signed numbers, which has the dividend's sign. By 0 it is the dividend.
+///
+/// Conditions: operands of equal length n from 1 to 64, all literals defined. Errors: `TooBig` only where the variables
+/// so far and 12 n^2 + 48 n sum to more than 2^30, `NoMemory`; the gates made so far stay.
+pub fn srem<G: Gates>(g: &mut G, a: &Bits, b: &Bits) -> Result<Bits, GateFault>
+    requires { AreOperands (G.made g.old) 64 a.now.items b.now.items }
+    ensures ok { IfOk result (λ bits. let n = length a.now.items in MakesWord (G.made g.old) (G.made g.new) (12 * (n * n) + 48 * n) n (λ v. binary_value Binary.Srem n (word_value v a.now.items) (word_value v b.now.items)) bits.items) }
+    ensures refused { IfErr result (let n = length a.now.items in Refuses (G.made g.old) (G.made g.new) (12 * (n * n) + 48 * n)) }
+{
+    let divided = divide_sizes(g, a, b)?;
+    negated_where(g, a[a.len() - 1], &divided.remainder)
+}
+
+/// Whether a remainder is not 0 and two signs differ: where the quotient rounded down is one less than the quotient
+/// rounded towards zero.
+fn is_rounded_down<G: Gates>(
+    g: &mut G,
+    rest: &Bits,
+    dividend_sign: Lit,
+    divisor_sign: Lit,
+) -> Result<Lit, GateFault>
+    requires most { length rest.now.items ≤ 64 }
+    requires rest { All (IsDefined (G.made g.old)) rest.now.items }
+    requires left { IsDefined (G.made g.old) dividend_sign }
+    requires right { IsDefined (G.made g.old) divisor_sign }
+    ensures ok { IfOk result (MakesLiteral (G.made g.old) (G.made g.new) (length rest.now.items + 4) (λ v. not (word_value v rest.now.items == 0) && differ (literal_value v dividend_sign) (literal_value v divisor_sign))) }
+    ensures refused { IfErr result (Refuses (G.made g.old) (G.made g.new) (length rest.now.items + 4)) }
+{
+    let some = connect_bits(g, Connective::Or, rest.as_slice())?;
+    let other = xor(g, dividend_sign, divisor_sign)?;
+    conjunction(g, some, other)
+}
+
+/// The bits of a word, and of its sum with another where a literal is true.
+fn added_where<G: Gates>(g: &mut G, lit: Lit, a: &Bits, b: &Bits) -> Result<Bits, GateFault>
+    requires operands { AreOperands (G.made g.old) 64 a.now.items b.now.items }
+    requires literal { IsDefined (G.made g.old) lit }
+    ensures ok { IfOk result (λ bits. let n = length a.now.items in MakesWord (G.made g.old) (G.made g.new) (10 * n) n (λ v. (word_value v a.now.items + word_value v b.now.items * literal_number v lit) % 2 ^ n) bits.items) }
+    ensures refused { IfErr result (Refuses (G.made g.old) (G.made g.new) (10 * length a.now.items)) }
+{
+    let more = masked(g, b, lit)?;
+    add_bits(g, a, &more)
+}
+
+/// The bits of the remainder of two words as signed numbers where the quotient is rounded down. It has the divisor's sign.
+/// By 0 it is the dividend.
+///
+/// Conditions: operands of equal length n from 1 to 64, all literals defined. Errors: `TooBig` only where the variables
+/// so far and 12 n^2 + 63 n sum to more than 2^30, `NoMemory`; the gates made so far stay.
+pub fn smod<G: Gates>(g: &mut G, a: &Bits, b: &Bits) -> Result<Bits, GateFault>
+    requires { AreOperands (G.made g.old) 64 a.now.items b.now.items }
+    ensures ok { IfOk result (λ bits. let n = length a.now.items in MakesWord (G.made g.old) (G.made g.new) (12 * (n * n) + 63 * n) n (λ v. binary_value Binary.Smod n (word_value v a.now.items) (word_value v b.now.items)) bits.items) }
+    ensures refused { IfErr result (let n = length a.now.items in Refuses (G.made g.old) (G.made g.new) (12 * (n * n) + 63 * n)) }
+{
+    let top = a.len() - 1;
+    let rest = srem(g, a, b)?;
+    let rounded_down = is_rounded_down(g, &rest, a[top], b[top])?;
+    added_where(g, rounded_down, &rest, b)
+}
