@@ -2,7 +2,7 @@
 use Rattle.std.proofs.Common.{◌≡◌, ℕ, zero, suc, ◌+◌, ◌*◌, ◌≤◌, Bool, true, not, ◌||◌, ◌==◌, cond, List, [], ◌∷◌, ◌++◌, length, Option, Some, unwrap_or, option_and_then, slice_get, get_or, take, map, replicate, sum_by, ◌⊎◌, inl, inr, refl, sym, ap, ap₂, subst, ◌∙◌, arith, length-append, add-one, ⊎_elim}
 use Rattle.std.specs.List.{range_with_len}
 use Rattle.std.proofs.lemmas.Option.{none-some, same_Some, slice_get_within, get_or_from_slice_get}
-use Rattle.std.proofs.lemmas.Bool.{false≢true, and_parts}
+use Rattle.std.proofs.lemmas.Bool.{and_parts}
 use Rattle.std.proofs.lemmas.Bool.Decides.{nat_tests}
 use Rattle.std.proofs.lemmas.List.{take_at, take_all, map_push, length-map}
 use Rattle.std.proofs.lemmas.List.Sums.{sum_by_more, sum_by_more_le}
@@ -11,7 +11,6 @@ use Rattle.base.specs.Operator.{unary_value, binary_value}
 use Rattle.base.specs.Widths.{is_of_bits, unary_width, binary_width}
 use Rattle.base.specs.declared.operators.Unary.{Unary}
 use Rattle.base.specs.declared.operators.Binary.{Binary}
-use Rattle.base.specs.declared.operators.Binary.TheVariants as binary
 use Rattle.btor2.specs.declared.item.Item.{Item}
 use Rattle.btor2.specs.declared.item.Body.{Body}
 use Rattle.btor2.specs.declared.item.Body.TheVariants as body
@@ -22,10 +21,9 @@ use Rattle.btor2.specs.Trace.{bits_of, LineHolds}
 use Rattle.btor2.proofs.AppendLemmas.{sort_width-append, node_width-append}
 use Rattle.btor2.proofs.AcceptedLemmas.{BodyIsAccepted}
 use Rattle.btor2.proofs.ModelLemmas.{IsIn-from_place, IsAccepted-at}
-use Rattle.btor2text.specs.Basic.{is_basic_binary, is_basic, are_basic}
+use Rattle.btor2text.specs.Basic.{is_basic, are_basic}
 use Rattle.aiger.specs.Net.{Net, variables, bits_from}
 use Rattle.gates.specs.Bound.{unary_bound, binary_bound}
-use Rattle.gates.specs.Built.{is_built_binary}
 use Rattle.gates.specs.Made.{Grows}
 use Rattle.gates.proofs.GrowthLemmas.{Grows-refl, Grows-trans, variables-grown}
 use Rattle.blast.specs.Leaves.{input_bits, state_bits}
@@ -134,14 +132,6 @@ MakesRow-zero items place n x s width row at is wide row_is =
     MakesRow-from_node items n n x 0 width (λ f. 0) row (omega arith) (sym (wide ∙ ap (λ (o : Option ℕ). unwrap_or o 0) (ap (option_and_then (λ (y : Item). width_of_body items y.body)) at)))
     (λ state input f h. subst (LineHolds items state input f x.id) is (LineHolds-at items state input f items place x h at))
     (MakesNode-zero items n width row row_is)
-
--- the operators of two operands among the basic forms are built of gates
-pub binary_built : (b : Body) (op : Binary) (s a c : ℕ) → is_basic b ≡ true → b ≡ body.Binary op s a c → is_built_binary op ≡ true
-binary_built b op s a c basic is = basic_built op (ap is_basic (sym is) ∙ basic)
-  where
-    basic_built : (op : Binary) → is_basic_binary op ≡ true → is_built_binary op ≡ true
-    basic_built binary.And h = refl
-    basic_built _ h = absurd (false≢true h)
 
 -- an item of a list of basic forms is of one
 pub basic_at : (items : List Item) (place : ℕ) (x : Item) → are_basic items ≡ true → slice_get items place ≡ Some x → is_basic x.body ≡ true

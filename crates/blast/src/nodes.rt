@@ -10,7 +10,6 @@ ghost use Rattle.aiger.specs.Limits.{greatest_count};
 ghost use Rattle.aiger.specs.Net.{variables};
 ghost use Rattle.btor2text.specs.Basic.{is_basic, are_basic};
 ghost use Rattle.gates.specs.Bound.{unary_bound, binary_bound};
-ghost use Rattle.gates.specs.Built.{is_built_binary};
 ghost use Rattle.blast.specs.Cost.{bound, line_cost};
 ghost use Rattle.blast.specs.Reads.{LowersNodes, leaves_only};
 ghost use Rattle.blast.specs.Table.{MakesNode, MakesRow, row_of, IsOperand, LowersFront};
@@ -112,7 +111,6 @@ fn binary_row<G: Gates>(
     left: u32,
     right: u32,
 ) -> Result<Bits, GateFault>
-    requires built { is_built_binary operator ≡ true }
     requires well_formed { IsWellFormed model.now }
     requires left { IsOperand model.now (G.made gates.old) table.now left }
     requires right { IsOperand model.now (G.made gates.old) table.now right }

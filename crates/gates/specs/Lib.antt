@@ -1,5 +1,4 @@
 pub mod Bound
-pub mod Built
 pub mod Connect
 pub mod Division
 pub mod Made

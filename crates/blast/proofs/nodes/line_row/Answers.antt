@@ -1,11 +1,7 @@
 use Rattle.std.proofs.Common.{◌∙◌}
 use Rattle.std.proofs.lemmas.Result.{IfOk-weaker}
-use Rattle.blast.proofs.NodeRows.{UnaryStands-at, BinaryStands-at, MakesRow-input, MakesRow-state, MakesRow-zero, MakesRow-unary, MakesRow-binary, unary_fits, binary_fits, binary_built, next-input, next-latch}
+use Rattle.blast.proofs.NodeRows.{UnaryStands-at, BinaryStands-at, MakesRow-input, MakesRow-state, MakesRow-zero, MakesRow-unary, MakesRow-binary, unary_fits, binary_fits, next-input, next-latch}
 use Rattle.blast.proofs.nodes.line_row.Goals as goal
-
-pub binary_row-requires-clause-built : goal.binary_row-requires-clause-built
-binary_row-requires-clause-built g c =
-    binary_built c.args.item.now.body c.in-Binary.operator c.in-Binary.sort c.in-Binary.left c.in-Binary.right c.requires.basic c.in-Binary.is
 
 pub unary_row-requires-clause-operand : goal.unary_row-requires-clause-operand
 unary_row-requires-clause-operand g c =
