@@ -8,9 +8,10 @@ pub mod laws;
 mod literal;
 mod names;
 
-pub use circuit::{Circuit, Gate, Latch, Reset, Section};
+pub use circuit::{Circuit, GREATEST_COUNT, Gate, Latch, Reset, Section};
 pub use fault::CircuitFault;
 pub use literal::Lit;
+pub use names::LONGEST_NAME;
 
 #[cfg(test)]
 mod tests;

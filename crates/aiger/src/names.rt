@@ -12,8 +12,8 @@ use std::alloc::Global;
 use std::collections::BTreeMap;
 use std::marker::Model;
 
-/// The greatest length of a name.
-const LONGEST_NAME: usize = 300;
+/// The greatest number of bytes of a name.
+pub const LONGEST_NAME: usize = 300;
 
 /// The names that there are, in the order of their sections and positions.
 #[derive(Debug, Drop)]

@@ -11,13 +11,10 @@ use crate::names::set_names;
 use crate::nodes::lower_nodes;
 use crate::properties::push_properties;
 use crate::widths::{bound, input_width, state_width};
-use aiger::Circuit;
+use aiger::{Circuit, GREATEST_COUNT};
 use btor2::Model;
 use gates::{GateFault, PlainGates};
 use std::alloc::Global;
-
-/// The greatest number of variables that a circuit may have, 2^30.
-const GREATEST_COUNT: u64 = 1073741824;
 
 /// Why a model is not lowered, want of memory apart.
 fn refusal(model: &Model) -> Option<LowerFault>
@@ -29,7 +26,7 @@ fn refusal(model: &Model) -> Option<LowerFault>
     match model.first_without_next() {
         Some(id) => Some(LowerFault::NoNext(id)),
         None => {
-            if bound(model) > GREATEST_COUNT {
+            if bound(model) > u64::from(GREATEST_COUNT) {
                 Some(LowerFault::TooBig)
             } else {
                 None

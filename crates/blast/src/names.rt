@@ -14,13 +14,10 @@ ghost use Rattle.blast.specs.Sections.{kind_of, item_names, model_names, Renames
 
 use crate::fault::LowerFault;
 use crate::items::{bit_count, item_at};
-use aiger::{Circuit, CircuitFault, Section};
+use aiger::{Circuit, CircuitFault, LONGEST_NAME, Section};
 use arrayvec::ArrayVec;
 use btor2::{Item, Model, Symbol};
 use itoa::Buffer;
-
-/// The greatest number of bytes of a name.
-const LONGEST_NAME: usize = 300;
 
 /// Writes the name of a bit: the symbol, and the bit's number in brackets.
 fn write_bit_name(symbol: &[u8], bit: u64, name: &mut ArrayVec<u8, LONGEST_NAME>)
