@@ -137,39 +137,43 @@ fn reads_input_twice(order: &Order<'_>) -> bool
 /// What stands in place of a command where words are refused with a line of this program's own.
 fn refused(alloc: Global, line: &str) -> Stop {
     match String::from_str(alloc, line) {
-        Ok(text) => Stop::Refused(text),
-        Err(_) => Stop::NoMemory,
+        Ok(text) => Stop::refused(text),
+        Err(_) => Stop::no_memory(alloc),
     }
 }
 
 /// What stands in place of a command that the parser does not find.
 fn stop_of(alloc: Global, error: &Error) -> Stop {
     if error.kind() == ErrorKind::OutOfMemory {
-        return Stop::NoMemory;
+        return Stop::no_memory(alloc);
     }
     match format!(in alloc; "{error}") {
-        Ok(text) if error.use_stderr() => Stop::Refused(text),
-        Ok(text) => Stop::Shown(text),
-        Err(_) => Stop::NoMemory,
+        Ok(text) if error.use_stderr() => Stop::refused(text),
+        Ok(text) => Stop::shown(text),
+        Err(_) => Stop::no_memory(alloc),
     }
 }
 
 /// The words after the program's name.
 ///
-/// Errors: `Refused` where a word is no text, that is, not UTF-8; `NoMemory` where there was none to copy them.
+/// Errors: a `Stop` with status 4 where a word is no text, that is, not UTF-8; with 3 where there was no memory to copy
+/// them.
 pub fn given_words<R: Env + AllocGlobal>(rt: &R) -> Result<Vec<String>, Stop> {
     let alloc = rt.alloc();
     match env::args(rt) {
-        Ok(words) => words.skip(1).collect(alloc).map_err(|_| Stop::NoMemory),
+        Ok(words) => words
+            .skip(1)
+            .collect(alloc)
+            .map_err(|_| Stop::no_memory(alloc)),
         Err(error) if error.kind() == io::ErrorKind::InvalidData => Err(refused(alloc, NO_TEXT)),
-        Err(_) => Err(Stop::NoMemory),
+        Err(_) => Err(Stop::no_memory(alloc)),
     }
 }
 
 /// Reads the words after the program's name. Without any it is `lower` on standard input.
 ///
-/// Errors: `Shown` with the text of help or of the version, `Refused` where the words are no command, also where they
-/// name standard input twice, which can be read once, and `NoMemory`.
+/// Errors: a `Stop` with status 0 and the text of help or of the version; with 4 where the words are no command, also
+/// where they name standard input twice, which can be read once; with 3 where there was no memory.
 pub fn order<'a, S: AsStr>(alloc: Global, words: &'a [S]) -> Result<Order<'a>, Stop>
     // standard input is read once
     ensures { IfOk result (λ order. reads_input_twice order.first.now (option_map (λ name. name.now) order.second) ≡ false) }
@@ -184,13 +188,13 @@ pub fn order<'a, S: AsStr>(alloc: Global, words: &'a [S]) -> Result<Order<'a>, S
     }
     let command = match commands(alloc) {
         Ok(command) => command.no_binary_name(true),
-        Err(_) => return Err(Stop::NoMemory),
+        Err(_) => return Err(Stop::no_memory(alloc)),
     };
     match command.try_get_matches_from(words) {
         Ok(matches) => match order_of(&matches) {
             Some(order) if reads_input_twice(&order) => Err(refused(alloc, INPUT_TWICE)),
             Some(order) => Ok(order),
-            None => Err(Stop::NoMemory),
+            None => Err(Stop::no_memory(alloc)),
         },
         Err(error) => Err(stop_of(alloc, &error)),
     }

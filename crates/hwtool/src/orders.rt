@@ -1,10 +1,10 @@
 //! Commands, and what stands in their place.
 
 ghost use Rattle.std.specs.Prelude.{◌≡◌};
-ghost use Rattle.hwtool.specs.Stops.{stop_status, stop_text};
 
 use crate::statuses::{DEVICE, DONE, WORDS_REFUSED};
 use aigertext::Form;
+use std::alloc::Global;
 
 /// The file name that stands for standard input.
 pub const STANDARD_INPUT: &str = "-";
@@ -33,37 +33,41 @@ pub struct Order<'a> {
     pub second: Option<&'a str>,
 }
 
-/// What stands in place of a command.
+/// What stands in place of a command: help or the version, refused words, or want of memory while the words are read.
 #[derive(Debug, Drop)]
-pub enum Stop {
-    /// Help, or the version: the text goes to standard output, and the status is 0.
-    Shown(String),
-    /// Refused words: the text goes to standard error, and the status is 4.
-    Refused(String),
-    /// There was no memory to read the words; the status is 3.
-    NoMemory,
+pub struct Stop {
+    /// The exit status, where the text can be written: 0 for help and the version, 4 for refused words, 3 where there was
+    /// no memory.
+    pub status: u8,
+    /// The text, whole lines; none where there was no memory.
+    pub text: String,
 }
 
 impl Stop {
-    /// The exit status, where the text can be written.
-    pub fn status(&self) -> u8
-        ensures { result ≡ stop_status self.now }
+    /// Help or the version: the text goes to standard output.
+    pub(crate) fn shown(text: String) -> Stop
+        ensures { result.status ≡ 0 }
     {
-        match self {
-            Stop::Shown(_) => DONE,
-            Stop::Refused(_) => WORDS_REFUSED,
-            Stop::NoMemory => DEVICE,
+        Stop { status: DONE, text }
+    }
+
+    /// Refused words: the text goes to standard error.
+    pub(crate) fn refused(text: String) -> Stop
+        ensures { result.status ≡ 4 }
+    {
+        Stop {
+            status: WORDS_REFUSED,
+            text,
         }
     }
 
-    /// The text, whole lines.
-    pub fn text(&self) -> &str
-        ensures { result.now ≡ stop_text self.now }
+    /// There was no memory to read the words, and none for a text.
+    pub(crate) fn no_memory(alloc: Global) -> Stop
+        ensures { result.status ≡ 3 }
     {
-        match self {
-            Stop::Shown(text) => text.as_str(),
-            Stop::Refused(text) => text.as_str(),
-            Stop::NoMemory => "no memory\n",
+        Stop {
+            status: DEVICE,
+            text: String::new(alloc),
         }
     }
 }

@@ -2,10 +2,10 @@
 
 ghost use Rattle.std.specs.Prelude.{◌≡◌, ◌≢◌, ◌≤◌, ◌⊎◌};
 ghost use Rattle.std.specs.Io.KnownBytes.{Appends};
-ghost use Rattle.hwtool.specs.Stops.{stop_status, stop_text};
+ghost use Rattle.std.specs.String.{string_bytes};
 
 use crate::orders::Stop;
-use crate::statuses::DEVICE;
+use crate::statuses::{DEVICE, DONE};
 use base::{Sink, write_all};
 
 /// Writes a line to standard error, and answers the status, or 3 where that fails.
@@ -22,20 +22,21 @@ pub(crate) fn say<E: Sink>(err: &mut E, status: u8, line: &[u8]) -> u8
 
 /// Tells what stands in place of a command, and answers the exit status.
 ///
-/// Help and the version go to `out`, with status 0; refused words go to `err`, with status 4, and so does want of
-/// memory, with status 3. Where the text can't be written the status is 3, and where that is so of `out`, a line on
-/// `err` says it.
+/// Help and the version go to `out`, with status 0; refused words go to `err`, with status 4, and the line `no memory`
+/// with status 3. Where the text can't be written the status is 3, and where that is so of `out`, a line on `err` says
+/// it.
 pub fn end<O: Sink, E: Sink>(stop: &Stop, out: &mut O, err: &mut E) -> u8
-    ensures status { (result ≡ stop_status stop.now) ⊎ (result ≡ 3) }
-    ensures shown { result ≡ 0 → Appends (O.written out.old) (O.written out.new) (stop_text stop.now) }
-    ensures refused { result ≡ 4 → Appends (E.written err.old) (E.written err.new) (stop_text stop.now) }
+    ensures status { (result ≡ stop.now.status) ⊎ (result ≡ 3) }
+    ensures shown { result ≡ 0 → Appends (O.written out.old) (O.written out.new) (string_bytes stop.now.text) }
+    ensures refused { result ≡ 4 → Appends (E.written err.old) (E.written err.new) (string_bytes stop.now.text) }
 {
-    let text = stop.text().as_bytes();
-    match stop {
-        Stop::Shown(_) => match write_all(out, text) {
-            Ok(()) => stop.status(),
+    let text = stop.text.as_bytes();
+    match stop.status {
+        DONE => match write_all(out, text) {
+            Ok(()) => DONE,
             Err(_) => say(err, DEVICE, b"output: device\n"),
         },
-        _ => say(err, stop.status(), text),
+        DEVICE => say(err, DEVICE, b"no memory\n"),
+        status => say(err, status, text),
     }
 }

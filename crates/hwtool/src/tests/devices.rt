@@ -227,15 +227,18 @@ fn full_standard_errors(rt: HostRuntime) -> Result<(), Fail> {
 fn stops_that_are_not_told(rt: HostRuntime) -> Result<(), Fail> {
     let help = String::from_str(rt.alloc(), "help\n")?;
     let mut err = VecSink::new(rt.alloc());
-    assert_eq!(rt; end(&Stop::Shown(help), &mut Full::new(2), &mut err), 3);
+    assert_eq!(rt; end(&Stop::shown(help), &mut Full::new(2), &mut err), 3);
     assert_eq!(rt; err.bytes(), b"output: device\n".as_slice());
     let refusal = String::from_str(rt.alloc(), "words\n")?;
     let mut out = VecSink::new(rt.alloc());
     assert_eq!(rt;
-        end(&Stop::Refused(refusal), &mut out, &mut Full::new(0)),
+        end(&Stop::refused(refusal), &mut out, &mut Full::new(0)),
         3
     );
-    assert_eq!(rt; end(&Stop::NoMemory, &mut out, &mut Full::new(0)), 3);
+    assert_eq!(rt;
+        end(&Stop::no_memory(rt.alloc()), &mut out, &mut Full::new(0)),
+        3
+    );
     assert_eq!(rt; out.bytes().len(), 0);
     Ok(())
 }

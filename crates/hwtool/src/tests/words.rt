@@ -62,8 +62,8 @@ fn refused_words(rt: HostRuntime) -> Result<(), Fail> {
     ];
     for (words, part) in rows {
         let stop = stopped(rt.alloc(), words).ok_or("refused words")?;
-        assert_eq!(rt; stop.status(), 4, "{part}");
-        let text = stop.text();
+        assert_eq!(rt; stop.status, 4, "{part}");
+        let text = stop.text.as_str();
         assert!(rt; text.contains(part), "{part}: {text}");
     }
     Ok(())
@@ -93,8 +93,8 @@ fn shown_texts(rt: HostRuntime) -> Result<(), Fail> {
     ];
     for (words, part) in rows {
         let stop = stopped(rt.alloc(), words).ok_or("a text")?;
-        assert_eq!(rt; stop.status(), 0, "{part}");
-        let text = stop.text();
+        assert_eq!(rt; stop.status, 0, "{part}");
+        let text = stop.text.as_str();
         assert!(rt; text.contains(part), "{part}: {text}");
     }
     Ok(())
@@ -126,7 +126,7 @@ fn told_stops(rt: HostRuntime) -> Result<(), Fail> {
     }
     let mut out = VecSink::new(rt.alloc());
     let mut err = VecSink::new(rt.alloc());
-    assert_eq!(rt; end(&Stop::NoMemory, &mut out, &mut err), 3);
+    assert_eq!(rt; end(&Stop::no_memory(rt.alloc()), &mut out, &mut err), 3);
     assert_eq!(rt; err.bytes(), b"no memory\n".as_slice());
     Ok(())
 }
@@ -176,8 +176,8 @@ fn words_of_a_command_line(rt: HostRuntime) -> Result<(), Fail> {
     match given_words(&(Words { words }, rt.alloc())) {
         Ok(_) => assert!(rt; false),
         Err(stop) => {
-            assert_eq!(rt; stop.status(), 4);
-            assert_eq!(rt; stop.text(), "words: not UTF-8\n");
+            assert_eq!(rt; stop.status, 4);
+            assert_eq!(rt; stop.text.as_str(), "words: not UTF-8\n");
         }
     }
     Ok(())
