@@ -15,7 +15,7 @@ ghost use Rattle.blast.specs.declared.fault.LowerFault.TheVariants as fault;
 ghost use Rattle.blast.specs.Cost.{line_cost, cost, input_width, state_width, bound};
 ghost use Rattle.blast.specs.Leaves.{bit_name, input_bits, state_bits, input_names, state_names, bad_names, constraint_names, resets_of_word, state_resets, bad_values, constraint_values};
 ghost use Rattle.blast.specs.Lowering.{Lowers};
-ghost use Rattle.blast.specs.Reachability.{CanRise, CanRiseInCircuit};
+ghost use Rattle.blast.specs.Reachability.{CanRise, CanRiseInCircuit, rises_within};
 ghost use Rattle.blast.specs.Refusal.{form_refusal, lowering_refusal};
 ghost use Rattle.blast.specs.Worked.{masked, named_toggler, gated, unsatisfied};
 
@@ -50,6 +50,19 @@ pub fn worked_lowerings()
     aiger::laws::worked_traces();
     btor2::laws::worked_traces();
 }
+
+/// Worked rows: where a bad property rises among frames. Constraints count up to the frame in which it rises, and in it;
+/// what fails behind that frame does not count.
+pub fn worked_rises()
+    ensures first { rises_within 0 (record { bads = true ∷ []; constraints = [] } ∷ []) ≡ true }
+    ensures second { rises_within 1 (record { bads = true ∷ false ∷ []; constraints = true ∷ [] } ∷ record { bads = false ∷ true ∷ []; constraints = true ∷ [] } ∷ []) ≡ true }
+    ensures never { rises_within 0 (record { bads = false ∷ []; constraints = [] } ∷ record { bads = false ∷ []; constraints = [] } ∷ []) ≡ false }
+    ensures no_frame { rises_within 0 [] ≡ false }
+    ensures no_such_property { rises_within 1 (record { bads = true ∷ []; constraints = [] } ∷ []) ≡ false }
+    ensures violated_in_it { rises_within 0 (record { bads = true ∷ []; constraints = true ∷ false ∷ [] } ∷ []) ≡ false }
+    ensures violated_before { rises_within 0 (record { bads = false ∷ []; constraints = false ∷ [] } ∷ record { bads = true ∷ []; constraints = true ∷ [] } ∷ []) ≡ false }
+    ensures violated_behind { rises_within 0 (record { bads = true ∷ []; constraints = true ∷ [] } ∷ record { bads = false ∷ []; constraints = false ∷ [] } ∷ []) ≡ true }
+{}
 
 /// Worked rows: the gates and the variables at most of a bit that toggles, and of two bits that are masked.
 pub fn worked_costs()
