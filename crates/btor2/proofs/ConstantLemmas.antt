@@ -10,15 +10,16 @@ use Rattle.btor2.specs.Check.{IsWellFormed}
 use Rattle.btor2.specs.Trace.{Frame, bits_of, LineHolds, LinesHold, StateFits, StatesFit, InputFits, InputsFit, InitHolds, InitsHold}
 use Rattle.btor2.proofs.AppendLemmas.{then_parts, is_some_from}
 use Rattle.btor2.proofs.ModelLemmas.{IsIn-from_find, find_item-in}
-use Rattle.btor2.proofs.TraceLemmas.{frame_exists, words_fit_frame}
+use Rattle.btor2.proofs.TraceLemmas.{line_among, frame_exists, words_fit_frame}
 
 -- the word 0 fits everywhere
 zero_state : (items : List Item) (id : ℕ) (b : Body) → StateFits items (λ id. 0) id b
-zero_state items id (body.State s) = pow_pos (bits_of items id)
+zero_state items id (body.State s) = λ carried. pow_pos (bits_of items id)
 zero_state items id _ = tt
 
 zero_input : (items : List Item) (id : ℕ) (b : Body) → InputFits items (λ id. 0) id b
 zero_input items id (body.Input s) = pow_pos (bits_of items id)
+zero_input items id (body.State s) = λ free. pow_pos (bits_of items id)
 zero_input items id _ = tt
 
 zero_states : (items xs : List Item) → StatesFit items (λ id. 0) xs
@@ -28,11 +29,6 @@ zero_states items (x ∷ xs) = (zero_state items x.id x.body, zero_states items 
 zero_inputs : (items xs : List Item) → InputsFit items (λ id. 0) xs
 zero_inputs items [] = tt
 zero_inputs items (x ∷ xs) = (zero_input items x.id x.body, zero_inputs items xs)
-
--- the line of an item among others
-line_among : (items : List Item) (state input f : Frame) (before after : List Item) (x : Item) → LinesHold items state input f (before ++ x ∷ after) → LineHolds items state input f x.id x.body
-line_among items state input f [] after x h = h.0
-line_among items state input f (y ∷ ys) after x h = line_among items state input f ys after x h.1
 
 -- in a frame a constant's node has its word
 constant_in_frame : (items : List Item) (state input f : Frame) (id word : ℕ) (b : Body) → constant_word (bits_of items id) b ≡ Some word → LineHolds items state input f id b → f id ≡ word

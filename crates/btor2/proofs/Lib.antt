@@ -6,4 +6,5 @@ pub mod ElsewhereLemmas
 pub mod NextLemmas
 pub mod PushLemmas
 pub mod TraceLemmas
+pub mod StateWords
 pub mod ConstantLemmas

@@ -10,7 +10,7 @@ use Rattle.base.proofs.ValueLaws.{unary_below, binary_below, ite_below, slice_be
 use Rattle.btor2.specs.declared.item.Item.{Item}
 use Rattle.btor2.specs.declared.item.Body.{Body}
 use Rattle.btor2.specs.declared.item.Body.TheVariants as body
-use Rattle.btor2.specs.Items.{find_item, node_sort, operands, sort_width, width_of_body, node_width, is_state, names_state, next_value}
+use Rattle.btor2.specs.Items.{find_item, node_sort, operands, sort_width, width_of_body, node_width, is_state, names_state, next_value, is_free}
 use Rattle.btor2.specs.Check.{IsWellFormed, IsWellFormedAfter}
 use Rattle.btor2.specs.Trace.{Frame, bits_of, line_word, LineHolds, LinesHold, IsFrame, next_state, IsTrace, InputFits, StateFits, InputsFit, StatesFit, IsInput, IsState, SameFrame, SameTrace}
 use Rattle.btor2.proofs.AppendLemmas.{found_cases, find_item-append, find_item-after, sort_width-append, node_width-append, some_of, is_some_from, then_parts}
@@ -23,6 +23,11 @@ node_found items a n h =
     let parts = then_parts (λ (x : Item). width_of_body items x.body) (find_item items a) n h in
     let sort = then_parts (sort_width items) (node_sort parts.0.body) n parts.2 in
     (parts.0, parts.1, is_some_from (node_sort parts.0.body) sort.0 sort.1)
+
+-- the line of an item among others
+pub line_among : (items : List Item) (state input f : Frame) (before after : List Item) (x : Item) → LinesHold items state input f (before ++ x ∷ after) → LineHolds items state input f x.id x.body
+line_among items state input f [] after x h = h.0
+line_among items state input f (y ∷ ys) after x h = line_among items state input f ys after x h.1
 
 -- There is a frame.
 
@@ -43,7 +48,7 @@ each_node items P (a ∷ more) h there = (h a there.0.0 there.0.1, each_node ite
 -- what two frames have at the operands of a line, they have in the word that it gives
 line_word-same : (items : List Item) (state state' input f g : Frame) (id : ℕ) (b : Body) → ((k : ℕ) → state k ≡ state' k) → Each (λ a. f a ≡ g a) (operands b)
     → line_word items state input f id b ≡ line_word items state' input g id b
-line_word-same items state state' input f g id (body.State s) states h = ap (λ (w : ℕ). Some w) (states id)
+line_word-same items state state' input f g id (body.State s) states h = ap (λ (w : ℕ). Some (cond (is_free items id) (input id) w)) (states id)
 line_word-same items state state' input f g id (body.Uext s a by) states h = ap (λ (w : ℕ). Some (uext_value w)) h.0
 line_word-same items state state' input f g id (body.Sext s a by) states h = ap (λ (w : ℕ). Some (sext_value (bits_of items a) w by)) h.0
 line_word-same items state state' input f g id (body.Slice s a u l) states h = ap (λ (w : ℕ). Some (slice_value w u l)) h.0
@@ -267,12 +272,18 @@ one_below : (n : ℕ) → 1 ≤ n → 1 < 2 ^ n
 one_below zero h = absurd (omega arith)
 one_below (suc n) h = omega (arith, pow-suc 2 n, pow_pos n)
 
+-- the word of a state fits where the one that it takes does
+state_word-fits : (b : Bool) (x y n : ℕ) → (b ≡ false → x < n) → (b ≡ true → y < n) → cond b y x < n
+state_word-fits true x y n carried free = free refl
+state_word-fits false x y n carried free = carried refl
+
 -- the word that an accepted line gives its node is one of the width of its sort
 line_word-fits : (items before more : List Item) (state input f : Frame) (id : ℕ) (b : Body) → items ≡ before ++ more → IsWellFormed before
     → bits_of items id ≡ unwrap_or (width_of_body items b) 0 → BodyIsAccepted before b → WordsFit items before f → StateFits items state id b → InputFits items input id b
     → IfSome (line_word items state input f id b) (λ w. w < 2 ^ bits_of items id)
 line_word-fits items before more state input f id (body.Input s) e wf bits says fits given in_word = in_word
-line_word-fits items before more state input f id (body.State s) e wf bits says fits given in_word = given
+line_word-fits items before more state input f id (body.State s) e wf bits says fits given in_word =
+    state_word-fits (is_free items id) (state id) (input id) (2 ^ bits_of items id) given in_word
 line_word-fits items before more state input f id (body.Zero s) e wf bits says fits given in_word = pow_pos (bits_of items id)
 line_word-fits items before more state input f id (body.One s) e wf bits says fits given in_word =
     below_by 1 1 (bits_of items id) says.0 refl (bits ∙ sort_in items before more s says.0 e says.1) (one_below says.0 (sort_width-range before s says.0 wf says.1).0)
@@ -351,11 +362,15 @@ names_own : (items : List Item) (x : Item) → IsWellFormed items → IsIn items
 names_own items x w at h =
     ap (λ (o : Option Item). is_some (option_and_then (λ (y : Item). cond (is_state y.body) (Some y) None) o)) (find_item-in items x w at) ∙ ap (λ (b : Bool). is_some (cond b (Some x) None)) h
 
+-- each state that is not free has a next line
+abbrev HasNexts : List Item → Type 0
+HasNexts items = (id : ℕ) → names_state items id ≡ true → is_free items id ≡ false → is_some (next_value items id) ≡ true
+
 state_after : (items : List Item) (f : Frame) (id : ℕ) (b : Body) → IsWellFormed items → (is_state b ≡ true → names_state items id ≡ true)
-    → ((k : ℕ) → names_state items k ≡ true → is_some (next_value items k) ≡ true) → ((k : ℕ) → is_some (node_width items k) ≡ true → f k < 2 ^ bits_of items k)
+    → HasNexts items → ((k : ℕ) → is_some (node_width items k) ≡ true → f k < 2 ^ bits_of items k)
     → StateFits items (next_state items f) id b
-state_after items f id (body.State s) w named nexts fits =
-    let value = some_of (next_value items id) (nexts id (named refl)) in
+state_after items f id (body.State s) w named nexts fits = λ carried.
+    let value = some_of (next_value items id) (nexts id (named refl) carried) in
     let line = IsNextOf-from_value items id value.0 w value.1 in
     let word = ap (λ (o : Option ℕ). unwrap_or (option_map f o) 0) value.1 in
     let bits = ap (λ (o : Option ℕ). unwrap_or o 0) (line.of_state ∙ sym line.of_value) in
@@ -363,7 +378,7 @@ state_after items f id (body.State s) w named nexts fits =
 state_after items f id _ w named nexts fits = tt
 
 states_after : (items : List Item) (f : Frame) (before rest : List Item) → IsWellFormed items → items ≡ before ++ rest
-    → ((k : ℕ) → names_state items k ≡ true → is_some (next_value items k) ≡ true) → ((k : ℕ) → is_some (node_width items k) ≡ true → f k < 2 ^ bits_of items k)
+    → HasNexts items → ((k : ℕ) → is_some (node_width items k) ≡ true → f k < 2 ^ bits_of items k)
     → StatesFit items (next_state items f) rest
 states_after items f before [] w e nexts fits = tt
 states_after items f before (x ∷ xs) w e nexts fits = (
@@ -371,8 +386,8 @@ states_after items f before (x ∷ xs) w e nexts fits = (
   states_after items f (before ++ x ∷ []) xs w (rw append_assoc e) nexts fits,
 )
 
--- where each state has a next line, the state that a frame leaves fits
+-- where each state that is not free has a next line, the state that a frame leaves fits
 pub next_state_fits : (items : List Item) (state input f : Frame) → IsWellFormed items → IsState items state → IsInput items input → IsFrame items state input f
-    → ((id : ℕ) → names_state items id ≡ true → is_some (next_value items id) ≡ true) → IsState items (next_state items f)
+    → HasNexts items → IsState items (next_state items f)
 next_state_fits items state input f w states inputs h nexts =
     states_after items f [] items w refl nexts (words_fit_frame items state input f w states inputs h)

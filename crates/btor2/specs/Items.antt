@@ -1,5 +1,5 @@
 -- What a list of items says of ids ("Btor2, BtorMC and Boolector 3.0", syntax: a line names sorts and nodes by the ids of earlier lines).
-use Rattle.std.specs.Prelude.{ℕ, Bool, true, false, List, [], ◌∷◌, Option, Some, None, ◌==◌, if◌then◌else◌, option_and_then, is_some}
+use Rattle.std.specs.Prelude.{ℕ, Bool, true, false, not, ◌&&◌, List, [], ◌∷◌, Option, Some, None, ◌==◌, if◌then◌else◌, option_and_then, is_some, is_none}
 use Rattle.std.specs.List.{position_from}
 use Rattle.std.specs.Option.{option_or}
 use Rattle.base.specs.Signed.{wrapped}
@@ -129,3 +129,15 @@ init_value (x ∷ xs) id = option_or (init_for id x.body) (init_value xs id)
 abbrev pub next_value : List Item → ℕ → Option ℕ
 next_value [] id = None
 next_value (x ∷ xs) id = option_or (next_for id x.body) (next_value xs id)
+
+-- whether the state with an id is free: it has neither an init line nor a next line. What a state has in a frame when nothing says what it has at first
+-- and what it takes next is any word (the standard leaves this open; it is this project's profile).
+abbrev pub is_free : List Item → ℕ → Bool
+is_free items id = is_none (init_value items id) && is_none (next_value items id)
+
+-- the states of a model that are free, and those that are carried from frame to frame
+abbrev pub is_free_state : List Item → Item → Bool
+is_free_state items x = is_state x.body && is_free items x.id
+
+abbrev pub is_carried_state : List Item → Item → Bool
+is_carried_state items x = is_state x.body && not (is_free items x.id)

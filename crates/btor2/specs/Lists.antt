@@ -1,8 +1,8 @@
 -- The lists of a model: its inputs, states, bad properties and constraints in file order.
-use Rattle.std.specs.Prelude.{ℕ, suc, Bool, ◌&&◌, List, [], ◌∷◌, ◌++◌, Option, Some, None, if◌then◌else◌, is_none, option_and_then, slice_get}
+use Rattle.std.specs.Prelude.{ℕ, suc, Bool, false, ◌&&◌, List, [], ◌∷◌, ◌++◌, Option, Some, None, if◌then◌else◌, is_none, is_some, option_and_then, option_map, unwrap_or, slice_get}
 use Rattle.btor2.specs.declared.item.Item.{Item}
 use Rattle.btor2.specs.declared.item.Body.{Body}
-use Rattle.btor2.specs.Items.{position_of, is_state, init_value, next_value, width_of_body, constant_of_body}
+use Rattle.btor2.specs.Items.{position_of, is_state, init_value, next_value, is_free, width_of_body, constant_of_body}
 
 -- the places of the items whose bodies pass a test, the first item at a given place
 abbrev pub places : (Body → Bool) → ℕ → List Item → List ℕ
@@ -24,6 +24,10 @@ init_place items place = option_and_then (position_of items) (option_and_then (i
 abbrev pub next_place : List Item → ℕ → Option ℕ
 next_place items place = option_and_then (position_of items) (option_and_then (next_value items) (id_at items place))
 
+-- whether the state at a place is free
+abbrev pub is_free_at : List Item → ℕ → Bool
+is_free_at items place = unwrap_or (option_map (is_free items) (id_at items place)) false
+
 -- the width of the node at a place, and its word where it is a constant
 abbrev pub width_at : List Item → ℕ → Option ℕ
 width_at items place = option_and_then (λ x. width_of_body items x.body) (slice_get items place)
@@ -31,7 +35,14 @@ width_at items place = option_and_then (λ x. width_of_body items x.body) (slice
 abbrev pub constant_at : List Item → ℕ → Option ℕ
 constant_at items place = option_and_then (λ x. constant_of_body items x.body) (slice_get items place)
 
--- the id of the first state among some items of a model, the second list, that has no next line in the model
-abbrev pub first_without_next : List Item → List Item → Option ℕ
-first_without_next items [] = None
-first_without_next items (x ∷ xs) = if is_state x.body && is_none (next_value items x.id) then Some x.id else first_without_next items xs
+-- whether the state with an id has an init line and no next line: nothing says what it takes next
+abbrev pub has_init_without_next : List Item → ℕ → Bool
+has_init_without_next items id = is_some (init_value items id) && is_none (next_value items id)
+
+abbrev pub has_init_without_next_at : List Item → ℕ → Bool
+has_init_without_next_at items place = unwrap_or (option_map (has_init_without_next items) (id_at items place)) false
+
+-- the id of the first state among some items of a model, the second list, that has an init line and no next line in the model
+abbrev pub first_init_without_next : List Item → List Item → Option ℕ
+first_init_without_next items [] = None
+first_init_without_next items (x ∷ xs) = if is_state x.body && has_init_without_next items x.id then Some x.id else first_init_without_next items xs

@@ -1,11 +1,12 @@
 -- Frames and traces of a model ("Btor2, BtorMC and Boolector 3.0", semantics of sequential models).
--- A frame is a function from ids to words, and means something at nodes with a value.
-use Rattle.std.specs.Prelude.{◌≡◌, ℕ, ◌<◌, ◌^◌, true, List, [], ◌∷◌, Option, Some, IfSome, option_map, unwrap_or, is_some}
+-- A frame is a function from ids to words, and means something at nodes with a value. In each frame the words of the inputs and of the free states are
+-- given anew; the words of the other states are carried from the frame before.
+use Rattle.std.specs.Prelude.{◌≡◌, ℕ, ◌<◌, ◌^◌, true, false, List, [], ◌∷◌, Option, Some, IfSome, option_map, unwrap_or, is_some, if◌then◌else◌}
 use Rattle.base.specs.Operator.{unary_value, binary_value, ite_value, slice_value, uext_value, sext_value, concat_value}
 use Rattle.btor2.specs.declared.item.Item.{Item}
 use Rattle.btor2.specs.declared.item.Body.{Body}
 use Rattle.btor2.specs.declared.item.Body.TheVariants as body
-use Rattle.btor2.specs.Items.{node_width, constant_word, constant_of, next_value}
+use Rattle.btor2.specs.Items.{node_width, constant_word, constant_of, next_value, is_free}
 
 abbrev pub Frame : Type 0
 Frame = ℕ → ℕ
@@ -14,11 +15,15 @@ Frame = ℕ → ℕ
 abbrev pub bits_of : List Item → ℕ → ℕ
 bits_of items id = unwrap_or (node_width items id) 0
 
--- The word that a line gives its node in a frame, where `state` has the words of the states and `input` those of the inputs:
--- a leaf has its given word, a constant its value, an operator what it gives for its operands' words.
+-- the word of a state in a frame: a free one has the word that is given, any other the word that is carried
+abbrev pub state_word : List Item → Frame → Frame → ℕ → ℕ
+state_word items state input id = if is_free items id then input id else state id
+
+-- The word that a line gives its node in a frame, where `state` has the words that are carried and `input` those that are given:
+-- a leaf has its word of these, a constant its value, an operator what it gives for its operands' words.
 abbrev pub line_word : List Item → Frame → Frame → Frame → ℕ → Body → Option ℕ
 line_word items state input f id (body.Input s) = Some (input id)
-line_word items state input f id (body.State s) = Some (state id)
+line_word items state input f id (body.State s) = Some (state_word items state input id)
 line_word items state input f id (body.Uext s a by) = Some (uext_value (f a))
 line_word items state input f id (body.Sext s a by) = Some (sext_value (bits_of items a) (f a) by)
 line_word items state input f id (body.Slice s a u l) = Some (slice_value (f a) u l)
@@ -37,28 +42,30 @@ abbrev pub LinesHold : List Item → Frame → Frame → Frame → List Item →
 LinesHold items state input f [] = Unit {0}
 LinesHold items state input f (x ∷ xs) = LineHolds items state input f x.id x.body × LinesHold items state input f xs
 
--- a frame of a model from given state words and input words
+-- a frame of a model from carried words and given words
 abbrev pub IsFrame : List Item → Frame → Frame → Frame → Type 0
 IsFrame items state input f = LinesHold items state input f items
 
--- the states' words in the frame after f: each has the word of its next node
+-- the words that are carried into the frame after f: each state has the word of its next node
 abbrev pub next_state : List Item → Frame → Frame
 next_state items f id = unwrap_or (option_map f (next_value items id)) 0
 
--- a trace: as many frames as input frames, each from the state that the one before leaves
+-- a trace: as many frames as there are given words for, each from the state that the one before leaves
 abbrev pub IsTrace : List Item → Frame → List Frame → List Frame → Type 0
 IsTrace items state [] [] = Unit {0}
 IsTrace items state [] (f ∷ fs) = ⊥
 IsTrace items state (input ∷ inputs) [] = ⊥
 IsTrace items state (input ∷ inputs) (f ∷ fs) = IsFrame items state input f × IsTrace items (next_state items f) inputs fs
 
--- a given word of a leaf is below 2 to its width
+-- a word that is given, to an input or a free state, is below 2 to its width
 abbrev pub InputFits : List Item → Frame → ℕ → Body → Type 0
 InputFits items input id (body.Input s) = input id < 2 ^ bits_of items id
+InputFits items input id (body.State s) = is_free items id ≡ true → input id < 2 ^ bits_of items id
 InputFits items input id _ = Unit {0}
 
+-- so is a word that is carried, by any other state
 abbrev pub StateFits : List Item → Frame → ℕ → Body → Type 0
-StateFits items state id (body.State s) = state id < 2 ^ bits_of items id
+StateFits items state id (body.State s) = is_free items id ≡ false → state id < 2 ^ bits_of items id
 StateFits items state id _ = Unit {0}
 
 -- what an init line asks of the initial words: the state has the word of the constant
@@ -78,7 +85,7 @@ abbrev pub InitsHold : List Item → Frame → List Item → Type 0
 InitsHold items state [] = Unit {0}
 InitsHold items state (x ∷ xs) = InitHolds items state x.body × InitsHold items state xs
 
--- words for the inputs of one frame, and for those of each of some frames
+-- words for the inputs and the free states of one frame, and for those of each of some frames
 abbrev pub IsInput : List Item → Frame → Type 0
 IsInput items input = InputsFit items input items
 
@@ -86,7 +93,7 @@ abbrev pub AreInputs : List Item → List Frame → Type 0
 AreInputs items [] = Unit {0}
 AreInputs items (input ∷ inputs) = IsInput items input × AreInputs items inputs
 
--- words for the states, and those of them that agree with the init lines
+-- words for the states that are carried, and those of them that agree with the init lines
 abbrev pub IsState : List Item → Frame → Type 0
 IsState items state = StatesFit items state items
 

@@ -1,4 +1,4 @@
--- Worked rows: a model that toggles one bit, one that counts, one of whose states has no next line, one that has a node of each shape, and the first lines of another.
+-- Worked rows: a model that toggles one bit, one that counts, two with states that lack a line, one that has a node of each shape, and the first lines of another.
 use Rattle.std.specs.Prelude.{ℕ, List, [], ◌∷◌, None, negsuc}
 use Rattle.base.specs.declared.operators.Unary.TheVariants as unary
 use Rattle.base.specs.declared.operators.Binary.TheVariants as binary
@@ -37,13 +37,27 @@ counter =
     ∷ line 10 (body.Bad 9)
     ∷ []
 
--- two states, of which the second has no next line
-abbrev pub nextless : List Item
-nextless =
+-- three states: one with neither an init line nor a next line, one with a next line alone and one with an init line alone
+abbrev pub open_ends : List Item
+open_ends =
+    line 1 (body.Sort 1)
+    ∷ line 2 (body.Zero 1)
+    ∷ line 3 (body.State 1)
+    ∷ line 4 (body.State 1)
+    ∷ line 5 (body.State 1)
+    ∷ line 6 (body.Next 1 4 3)
+    ∷ line 7 (body.Init 1 5 2)
+    ∷ []
+
+-- a free state, one that follows it a frame later, and an input that nothing names
+abbrev pub follower : List Item
+follower =
     line 1 (body.Sort 1)
     ∷ line 2 (body.State 1)
     ∷ line 3 (body.State 1)
-    ∷ line 4 (body.Next 1 2 2)
+    ∷ line 4 (body.Input 1)
+    ∷ line 5 (body.Next 1 3 2)
+    ∷ line 6 (body.Bad 3)
     ∷ []
 
 -- an input of four bits, constants, and what widens, cuts, joins and chooses

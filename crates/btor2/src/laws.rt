@@ -1,17 +1,17 @@
 //! Theorems on the definitions of models and traces, as functions with no code.
-ghost use Rattle.std.specs.Prelude.{◌≡◌, ℕ, ◌<◌, ◌≤◌, ◌^◌, true, List, [], ◌∷◌, ◌++◌, length, None, Some, is_some, pos, negsuc};
+ghost use Rattle.std.specs.Prelude.{◌≡◌, ℕ, ◌==◌, if◌then◌else◌, false, ◌<◌, ◌≤◌, ◌^◌, true, List, [], ◌∷◌, ◌++◌, length, None, Some, is_some, pos, negsuc};
 ghost use Rattle.base.specs.declared.operators.Unary.TheVariants as unary;
 ghost use Rattle.base.specs.declared.operators.Binary.TheVariants as binary;
 ghost use Rattle.btor2.specs.declared.item.Item.{Item};
 ghost use Rattle.btor2.specs.declared.item.Body.TheVariants as body;
 ghost use Rattle.btor2.specs.declared.fault.PushFault.TheVariants as fault;
-ghost use Rattle.btor2.specs.Items.{node_width, names_state, next_value};
+ghost use Rattle.btor2.specs.Items.{node_width, names_state, next_value, is_free};
 ghost use Rattle.btor2.specs.Check.{IsWellFormed, refusal};
-ghost use Rattle.btor2.specs.Lists.{first_without_next};
+ghost use Rattle.btor2.specs.Lists.{first_init_without_next};
 ghost use Rattle.btor2.specs.Trace.{Frame, bits_of, IsFrame, IsInput, IsState, IsTrace, SameTrace, next_state};
-ghost use Rattle.btor2.specs.Worked.{line, toggler, counter, nextless, shapes, nibble};
+ghost use Rattle.btor2.specs.Worked.{line, toggler, counter, open_ends, follower, shapes, nibble};
 
-/// A law: from state words and a list of input frames a model has exactly one trace.
+/// A law: from carried words and a list of given words a model has exactly one trace.
 pub fn exactly_one_trace()
     ensures exists { (items : List Item) (state : Frame) (inputs : List Frame) → IsWellFormed items
         → (fs : List Frame) × IsTrace items state inputs fs }
@@ -19,15 +19,15 @@ pub fn exactly_one_trace()
         → IsTrace items state inputs fs → IsTrace items state inputs gs → SameTrace items fs gs }
 {}
 
-/// A law: from state words and input words that fit their widths, each node's word fits its width, and so do the
-/// state words of the next frame where each state has a next.
+/// A law: from carried words and given words that fit their widths, each node's word fits its width, and so do the
+/// state words of the next frame where each state that is not free has a next.
 pub fn words_fit()
     ensures frame { (items : List Item) (state input f : Frame) → IsWellFormed items → IsState items state
         → IsInput items input → IsFrame items state input f
         → (id : ℕ) → is_some (node_width items id) ≡ true → f id < 2 ^ bits_of items id }
     ensures next { (items : List Item) (state input f : Frame) → IsWellFormed items → IsState items state
         → IsInput items input → IsFrame items state input f
-        → ((id : ℕ) → names_state items id ≡ true → is_some (next_value items id) ≡ true)
+        → ((id : ℕ) → names_state items id ≡ true → is_free items id ≡ false → is_some (next_value items id) ≡ true)
         → IsState items (next_state items f) }
 {}
 
@@ -57,10 +57,41 @@ pub fn worked_words()
         → (f 10 ≡ 8) × (f 11 ≡ 15) × (f 12 ≡ 15) × (f 13 ≡ 1) }
 {}
 
-/// Worked rows: a model whose state has a next line, and one whose second state has none.
-pub fn worked_nexts()
-    ensures each_has_next { first_without_next toggler toggler ≡ None }
-    ensures second_has_none { first_without_next nextless nextless ≡ Some 3 }
+/// A law: in a frame a state that is not free has the word that is carried, and a free one the word that is given. So
+/// where each state has a next, all of them have the words that are carried, whatever words are given to states.
+pub fn words_of_states()
+    ensures carried { (items : List Item) (state input f : Frame) (id : ℕ) → IsFrame items state input f
+        → names_state items id ≡ true → is_free items id ≡ false → f id ≡ state id }
+    ensures free { (items : List Item) (state input f : Frame) (id : ℕ) → IsFrame items state input f
+        → names_state items id ≡ true → is_free items id ≡ true → f id ≡ input id }
+    ensures with_next { (items : List Item) (state input f : Frame) (id : ℕ) → IsFrame items state input f
+        → names_state items id ≡ true → is_some (next_value items id) ≡ true → f id ≡ state id }
+{}
+
+/// Worked rows: of the states of two models those that are free, and the first that has an init line and no next line:
+/// neither in the toggler, whose state has both; the first state of the second model is free, its second has a next
+/// line alone and its third an init line alone.
+pub fn worked_free_states()
+    ensures toggler { is_free toggler 3 ≡ false }
+    ensures neither { is_free open_ends 3 ≡ true }
+    ensures next_alone { is_free open_ends 4 ≡ false }
+    ensures init_alone { is_free open_ends 5 ≡ false }
+    ensures open_ends_is_model { IsWellFormed open_ends }
+    ensures each_has_next { first_init_without_next toggler toggler ≡ None }
+    ensures third_has_none { first_init_without_next open_ends open_ends ≡ Some 5 }
+{}
+
+/// Worked rows: two frames of a model in which one state follows another that is free. The free one has the words that
+/// are given, 1 and then 0; the other follows it, whatever is given to it.
+pub fn worked_given_words()
+    ensures is_model { IsWellFormed follower }
+    ensures traces { (f g : Frame) → IsTrace follower (λ id. 0) ((λ id. 1) ∷ (λ id. 0) ∷ []) (f ∷ g ∷ [])
+        → (f 2 ≡ 1) × (f 3 ≡ 0) × (g 2 ≡ 0) × (g 3 ≡ 1) × (next_state follower g 3 ≡ 0) }
+    ensures is_carried { (f : Frame) → IsFrame follower (λ id. 1) (λ id. 0) f → (f 2 ≡ 0) × (f 3 ≡ 1) }
+    ensures fits { IsInput follower (λ id. 1) }
+    ensures too_wide { IsInput follower (λ id. if id == 2 then 2 else 0) → ⊥ }
+    ensures carried_fits { IsState follower (λ id. if id == 3 then 1 else 2) }
+    ensures carried_too_wide { IsState follower (λ id. 2) → ⊥ }
 {}
 
 /// Worked rows: an item for each row of the table of refusals.

@@ -1,10 +1,10 @@
 //! Models: checked lists of items, with what is read of them.
-ghost use Rattle.std.specs.Prelude.{◌≡◌, ◌<◌, ◌≤◌, ◌-◌, IfSome, [], length, is_none, option_and_then, option_copied, slice_get, slice_index};
+ghost use Rattle.std.specs.Prelude.{◌≡◌, ◌<◌, ◌≤◌, ◌-◌, IfSome, [], length, option_copied, slice_get, slice_index};
 ghost use Rattle.btor2.specs.Items.{find_item, position_of, sort_width, node_width, width_of_body, constant_of, constant_of_body, names_state, init_value, next_value, is_input, is_state, is_bad, is_constraint};
 ghost use Rattle.btor2.specs.Check.{IsWellFormed};
 ghost use Rattle.btor2.specs.Parts.{HaveSoundParts};
 ghost use Rattle.btor2.specs.Index.{is_in_place};
-ghost use Rattle.btor2.specs.Lists.{places, id_at, init_place, next_place, first_without_next, width_at, constant_at};
+ghost use Rattle.btor2.specs.Lists.{places, id_at, init_place, next_place, is_free_at, has_init_without_next_at, first_init_without_next, width_at, constant_at};
 
 mod check;
 mod push;
@@ -290,22 +290,37 @@ impl Model {
         self.next_place(self.states[k])
     }
 
-    /// Whether the state at a position has no next line.
-    fn lacks_next(&self, place: usize) -> bool
-        ensures { result ≡ is_none (option_and_then (next_value self.now) (id_at self.now place)) }
+    /// Whether a state is free: it has neither an init line nor a next line, so it has any word in each frame.
+    /// `k` counts the states in file order. No memory, and no walk of the model.
+    ///
+    /// Condition: `k` is below the number of states.
+    pub fn is_free(&self, k: usize) -> bool
+        requires { k < length (places is_state 0 self.now) }
+        ensures { result ≡ is_free_at self.now (slice_index (places is_state 0 self.now) k) }
     {
-        match self.id_at(place) {
-            Some(id) => self.next_value(id).is_none(),
-            None => true,
+        match self.id_at(self.states[k]) {
+            Some(id) => self.init_value(id).is_none() && self.next_value(id).is_none(),
+            None => false,
         }
     }
 
-    /// The id of the first state in file order that has no next line, if there is one. No memory.
-    pub fn first_without_next(&self) -> Option<u64>
-        ensures { result ≡ first_without_next self.now self.now }
+    /// Whether the state at a position has an init line and no next line.
+    fn has_init_without_next(&self, place: usize) -> bool
+        ensures { result ≡ has_init_without_next_at self.now place }
+    {
+        match self.id_at(place) {
+            Some(id) => self.init_value(id).is_some() && self.next_value(id).is_none(),
+            None => false,
+        }
+    }
+
+    /// The id of the first state in file order that has an init line and no next line, if there is one: nothing says
+    /// what it takes after the first frame. No memory.
+    pub fn first_init_without_next(&self) -> Option<u64>
+        ensures { result ≡ first_init_without_next self.now self.now }
     {
         for place in self.states() {
-            if self.lacks_next(*place) {
+            if self.has_init_without_next(*place) {
                 return self.id_at(*place);
             }
         }
