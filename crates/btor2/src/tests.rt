@@ -500,6 +500,8 @@ fn laws_are_called() {
     laws::words_fit();
     laws::worked_traces();
     laws::worked_words();
-    laws::worked_nexts();
+    laws::words_of_states();
+    laws::worked_free_states();
+    laws::worked_given_words();
     laws::worked_refusals();
 }

@@ -5,7 +5,7 @@ use Rattle.base.specs.Steps.{one_more}
 use Rattle.btor2.specs.declared.item.Item.{Item}
 use Rattle.btor2.specs.declared.item.Body.{Body}
 use Rattle.btor2.specs.declared.item.Body.TheVariants as body
-use Rattle.btor2.specs.Items.{is_input, is_state, init_value, constant_of}
+use Rattle.btor2.specs.Items.{is_input, is_state, names_state, init_value, constant_of}
 use Rattle.btor2.specs.Trace.{Frame, IsFrame}
 use Rattle.runs.specs.Frames.{has_value, of_kind, ids_of, given}
 
@@ -18,16 +18,16 @@ pub record Run : Type 0 where
   pub settled : Bool
   pub steps : ℕ
 
--- the words of its states, and of its inputs, by their ids
+-- the words of its states by their ids, and the words of its states and of its inputs
 abbrev pub state_words : Run → Frame
 state_words r = given is_state r.items r.states
 
-abbrev pub input_words : Run → Frame
-input_words r = given is_input r.items r.inputs
+abbrev pub leaf_words : Run → Frame
+leaf_words r id = if names_state r.items id then state_words r id else given is_input r.items r.inputs id
 
--- the frame that the run is in
+-- The frame that the run is in: the words of its states are carried, and given where the states are free.
 abbrev pub IsNow : Run → Frame → Type 0
-IsNow r f = IsFrame r.items (state_words r) (input_words r) f
+IsNow r f = IsFrame r.items (state_words r) (leaf_words r) f
 
 -- how many nodes of a model have a value, and how many states it has
 abbrev pub node_count : List Item → ℕ
@@ -41,7 +41,7 @@ abbrev pub more_steps : ℕ → ℕ → ℕ
 more_steps zero count = count
 more_steps (suc n) count = one_more (more_steps n count)
 
--- the word that a state begins with: that of its init line, or 0
+-- the word that a state begins with: that of its init line, or 0, as where it is free
 abbrev pub first_word : List Item → ℕ → ℕ
 first_word items id = unwrap_or (option_and_then (constant_of items) (init_value items id)) 0
 
