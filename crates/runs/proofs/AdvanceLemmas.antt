@@ -1,22 +1,21 @@
 -- Advancing: the states take the words of their next nodes, and the inputs 0.
-use Rattle.std.proofs.Common.{◌≡◌, ◌≢◌, ℕ, ◌^◌, ◌<◌, Bool, true, false, List, length, map, get_or, All, Option, Some, is_some, option_map, unwrap_or, refl, sym, ap, subst, ◌∙◌, pow_pos, arith}
+use Rattle.std.proofs.Common.{◌≡◌, ◌≢◌, ℕ, ◌^◌, ◌<◌, Bool, true, false, List, length, map, get_or, All, Option, Some, None, is_some, option_map, unwrap_or, refl, sym, ap, subst, ◌∙◌, pow_pos, arith}
 use Rattle.std.proofs.lemmas.List.{length-map, get_or-map}
 use Rattle.std.proofs.lemmas.List.Elements.{All-from_get_or}
 use Rattle.btor2.specs.declared.item.Item.{Item}
 use Rattle.btor2.specs.declared.item.Body.{Body}
-use Rattle.btor2.specs.declared.item.Body.TheVariants as body
 use Rattle.btor2.specs.Items.{find_item, node_width, is_input, is_state, next_value}
 use Rattle.btor2.specs.Check.{IsWellFormed}
 use Rattle.btor2.specs.Trace.{Frame, bits_of, IsFrame, next_state}
-use Rattle.btor2.proofs.AppendLemmas.{some_of, is_some_from}
+use Rattle.btor2.proofs.AppendLemmas.{is_some_from}
 use Rattle.btor2.proofs.ModelLemmas.{IsNextOf-from_value}
 use Rattle.btor2.proofs.TraceLemmas.{frame_exists}
 use Rattle.runs.specs.declared.nodes.Node.{Node}
-use Rattle.runs.specs.Frames.{has_value, is_leaf, of_kind, ids_of, rank, given}
+use Rattle.runs.specs.Frames.{has_value, is_leaf, of_kind, ids_of, rank, given, given_leaves}
 use Rattle.runs.specs.Run.{zeros}
-use Rattle.runs.specs.Nodes.{slot, words_at}
-use Rattle.runs.specs.Holds.{next_id, LeavesFit, Keeps}
-use Rattle.runs.proofs.RankLemmas.{state_is_leaf, input_is_leaf, rank-below, ids-rank, length-ids}
+use Rattle.runs.specs.Nodes.{slot, words_at, word_where, IsInside}
+use Rattle.runs.specs.Holds.{next_slot, LeavesFit, HoldsFrame, Keeps}
+use Rattle.runs.proofs.RankLemmas.{state_is_leaf, input_is_leaf, rank-below, ids-rank, length-ids, leaf_cases}
 use Rattle.runs.proofs.NodeLemmas.{node_found}
 use Rattle.runs.proofs.WordLemmas.{slots_of, words_same, frame_fits}
 use Rattle.runs.proofs.InvariantLemmas.{leaf-nth, slot-nth, slots-once, slots-apart, length-slots_of, other_values}
@@ -43,60 +42,66 @@ slots-differ test items w leaf j k less h e =
     omega (arith, same)
 
 -- the word of a state's next node in a frame
-pub record NextWord (items : List Item) (f : Frame) (id : ℕ) : Type 0 where
-  pub value : ℕ
+record NextWord (items : List Item) (f : Frame) (id value : ℕ) : Type 0 where
   pub item : Item
-  pub own : next_id items id ≡ value
   pub found : find_item items value ≡ Some item
   pub has : has_value item.body ≡ true
-  pub word : f value ≡ next_state items f id
   pub bits : bits_of items value ≡ bits_of items id
   pub there : is_some (node_width items value) ≡ true
 
-pub next_word : (items : List Item) (f : Frame) (id : ℕ) → IsWellFormed items → is_some (next_value items id) ≡ true → NextWord items f id
-next_word items f id w some =
-    let value = some_of (next_value items id) some in
-    let line = IsNextOf-from_value items id value.0 w value.1 in
-    let node = node_found items value.0 line.width line.of_value in
+next_word : (items : List Item) (f : Frame) (id value : ℕ) → IsWellFormed items → next_value items id ≡ Some value → NextWord items f id value
+next_word items f id value w e =
+    let line = IsNextOf-from_value items id value w e in
+    let node = node_found items value line.width line.of_value in
     record {
-      value = value.0;
       item = node.0;
-      own = ap (λ (o : Option ℕ). unwrap_or o 0) value.1;
       found = node.1;
       has = node.2;
-      word = sym (ap (λ (o : Option ℕ). unwrap_or (option_map f o) 0) value.1);
       bits = ap (λ (o : Option ℕ). unwrap_or o 0) (line.of_value ∙ sym line.of_state);
-      there = is_some_from (node_width items value.0) line.width line.of_value;
+      there = is_some_from (node_width items value) line.width line.of_value;
     }
 
--- what is a leaf is a state or an input
-pub leaf_cases : (P : Type 0) (b : Body) → is_leaf b ≡ true → (is_state b ≡ true → P) → (is_input b ≡ true → P) → P
-leaf_cases P (body.State s) leaf of_state of_input = of_state refl
-leaf_cases P (body.Input s) leaf of_state of_input = of_input refl
-leaf_cases P _ leaf of_state of_input = absurd (cc)
+-- the slot of a next node is a place of now-values, and its word in a frame is what the state has next
+next_slot-inside : (items : List Item) (n id : ℕ) → IsWellFormed items → n ≡ length (of_kind has_value items) → IsInside n (next_slot items id)
+next_slot-inside items n id w many = by (next_value items id) refl
+  where
+    by : (o : Option ℕ) → next_value items id ≡ o → IsInside n (option_map (slot items) o)
+    by None e = tt
+    by (Some v) e = let next = next_word items (λ i. 0) id v w e in omega (arith, rank-below has_value items v next.item next.found next.has)
 
-pub record AfterAdvance (items : List Item) (nodes : List Node) (slots states inputs nexts bads constraints values next_values values' : List ℕ) : Type 0 where
+next_slot-word : (items : List Item) (values : List ℕ) (f : Frame) (id : ℕ) → IsWellFormed items → HoldsFrame items values f → word_where values (next_slot items id) ≡ next_state items f id
+next_slot-word items values f id w holds = by (next_value items id) refl
+  where
+    by : (o : Option ℕ) → next_value items id ≡ o → word_where values (option_map (slot items) o) ≡ unwrap_or (option_map f o) 0
+    by None e = refl
+    by (Some v) e = let next = next_word items f id v w e in holds v next.item next.found next.has
+
+next_state-fits : (items : List Item) (f : Frame) (id : ℕ) → IsWellFormed items → ((v : ℕ) → is_some (node_width items v) ≡ true → f v < 2 ^ bits_of items v) → next_state items f id < 2 ^ bits_of items id
+next_state-fits items f id w fits = by (next_value items id) refl
+  where
+    by : (o : Option ℕ) → next_value items id ≡ o → unwrap_or (option_map f o) 0 < 2 ^ bits_of items id
+    by None e = pow_pos (bits_of items id)
+    by (Some v) e = let next = next_word items f id v w e in subst (λ (n : ℕ). f v < 2 ^ n) next.bits (fits v next.there)
+
+pub record AfterAdvance (items : List Item) (nodes : List Node) (slots states inputs : List ℕ) (nexts : List (Option ℕ)) (bads constraints values next_values values' : List ℕ) : Type 0 where
   pub keeps : Keeps items nodes slots states inputs nexts bads constraints values' next_values false
-  pub next_words : (f : Frame) → IsFrame items (given is_state items (words_at values states)) (given is_input items (words_at values inputs)) f → words_at values' states ≡ map (next_state items f) (ids_of is_state items)
+  pub next_words : (f : Frame) → IsFrame items (given is_state items (words_at values states)) (given_leaves items (words_at values states) (words_at values inputs)) f → words_at values' states ≡ map (next_state items f) (ids_of is_state items)
   pub no_inputs : words_at values' inputs ≡ zeros items
 
-module _ (items : List Item) (nodes : List Node) (slots states inputs nexts bads constraints values next_values : List ℕ) (settled : Bool) (k : Keeps items nodes slots states inputs nexts bads constraints values next_values settled)
+module _ (items : List Item) (nodes : List Node) (slots states inputs : List ℕ) (nexts : List (Option ℕ)) (bads constraints values next_values : List ℕ) (settled : Bool) (k : Keeps items nodes slots states inputs nexts bads constraints values next_values settled)
   where
-    pub nexts_inside : All (λ p. p < length values) nexts
+    pub nexts_inside : All (IsInside (length values)) nexts
     nexts_inside =
-        rw k.are_nexts (All-from_get_or (λ p. p < length values) (map (λ id. slot items (next_id items id)) (ids_of is_state items)) 0 (λ j h.
-        let there : j < length (ids_of is_state items) = omega (arith, length-map (ids_of is_state items) (λ id. slot items (next_id items id))) in
+        rw k.are_nexts (All-from_get_or (IsInside (length values)) (map (next_slot items) (ids_of is_state items)) None (λ j h.
+        let there : j < length (ids_of is_state items) = omega (arith, length-map (ids_of is_state items) (next_slot items)) in
         let id = get_or (ids_of is_state items) j 0 in
-        let at = leaf-nth is_state items j k.well_formed state_is_leaf there in
-        let next = next_word items (λ i. 0) id k.well_formed (k.has_nexts id at.item at.found at.is) in
-        let read = get_or-map (λ id. slot items (next_id items id)) (ids_of is_state items) j 0 0 there in
-        omega (arith, read, ap (slot items) next.own, rank-below has_value items next.value next.item next.found next.has, k.many_nodes)))
+        subst (IsInside (length values)) (sym (get_or-map (next_slot items) (ids_of is_state items) j 0 None there)) (next_slot-inside items (length values) id k.well_formed k.many_nodes)))
 
     pub nexts_many : length next_values ≡ length nexts
-    nexts_many = k.many_states ∙ sym (ap length k.are_nexts ∙ length-map (ids_of is_state items) (λ id. slot items (next_id items id)) ∙ length-ids is_state items)
+    nexts_many = k.many_states ∙ sym (ap length k.are_nexts ∙ length-map (ids_of is_state items) (next_slot items) ∙ length-ids is_state items)
 
     pub nexts_count : length nexts ≡ length (of_kind is_state items)
-    nexts_count = ap length k.are_nexts ∙ length-map (ids_of is_state items) (λ id. slot items (next_id items id)) ∙ length-ids is_state items
+    nexts_count = ap length k.are_nexts ∙ length-map (ids_of is_state items) (next_slot items) ∙ length-ids is_state items
 
     pub states_many : length nexts ≡ length states
     states_many = nexts_count ∙ sym (ap length k.are_states ∙ length-slots_of is_state items ∙ length-ids is_state items)
@@ -111,11 +116,11 @@ module _ (items : List Item) (nodes : List Node) (slots states inputs nexts bads
     inputs_inside = rw k.are_inputs (slots-inside is_input items (length values) k.well_formed input_is_leaf k.many_nodes)
 
     -- what no slot of a state or an input is, the passes leave
-    module _ (done : settled ≡ true) (taken put cleared : List ℕ) (take : taken ≡ words_at values nexts) (put_words : words_at put states ≡ taken)
+    module _ (done : settled ≡ true) (taken put cleared : List ℕ) (take : taken ≡ map (word_where values) nexts) (put_words : words_at put states ≡ taken)
         (clear_words : (j : ℕ) → j < length inputs → get_or cleared (get_or inputs j 0) 0 ≡ 0) (clear_others : (p : ℕ) → ((j : ℕ) → j < length inputs → get_or inputs j 0 ≢ p) → get_or cleared p 0 ≡ get_or put p 0)
         (many : length cleared ≡ length values) (many_next : length taken ≡ length next_values) where
       -- a state's word after the passes is that of its next node before
-      state_moved : (id : ℕ) (y : Item) → find_item items id ≡ Some y → is_state y.body ≡ true → get_or cleared (slot items id) 0 ≡ get_or values (slot items (next_id items id)) 0
+      state_moved : (id : ℕ) (y : Item) → find_item items id ≡ Some y → is_state y.body ≡ true → get_or cleared (slot items id) 0 ≡ word_where values (next_slot items id)
       state_moved id y found is =
           let at = slot-own is_state items id y found is in
           let r = rank is_state items id in
@@ -124,12 +129,12 @@ module _ (items : List Item) (nodes : List Node) (slots states inputs nexts bads
           let there : r < length (ids_of is_state items) = omega (arith, at.0, length-slots_of is_state items) in
           let apart : (j : ℕ) → j < length inputs → get_or inputs j 0 ≢ slot items id = λ j l e.
           slots-apart items r j k.well_formed there (omega (arith, ap length k.are_inputs, length-slots_of is_input items)) (at.1 ∙ sym e ∙ ap (λ (l : List ℕ). get_or l j 0) k.are_inputs) in
-          let moved : words_at put states ≡ words_at values nexts = put_words ∙ take in
+          let moved : words_at put states ≡ map (word_where values) nexts = put_words ∙ take in
           let nexts_inside : r < length nexts = omega (arith, states_many) in
           clear_others (slot items id) apart ∙ ap (λ (p : ℕ). get_or put p 0) (sym own) ∙ sym (get_or-map (λ (p : ℕ). get_or put p 0) states r 0 0 inside)
-          ∙ ap (λ (l : List ℕ). get_or l r 0) moved ∙ get_or-map (λ (p : ℕ). get_or values p 0) nexts r 0 0 nexts_inside
-          ∙ ap (λ (l : List ℕ). get_or values (get_or l r 0) 0) k.are_nexts
-          ∙ ap (λ (p : ℕ). get_or values p 0) (get_or-map (λ id. slot items (next_id items id)) (ids_of is_state items) r 0 0 there ∙ ap (λ (i : ℕ). slot items (next_id items i)) (ids-rank is_state items id y found is))
+          ∙ ap (λ (l : List ℕ). get_or l r 0) moved ∙ get_or-map (word_where values) nexts r None 0 nexts_inside
+          ∙ ap (λ (l : List (Option ℕ)). word_where values (get_or l r None)) k.are_nexts
+          ∙ ap (word_where values) (get_or-map (next_slot items) (ids_of is_state items) r 0 None there ∙ ap (next_slot items) (ids-rank is_state items id y found is))
 
       input_cleared : (id : ℕ) (y : Item) → find_item items id ≡ Some y → is_input y.body ≡ true → get_or cleared (slot items id) 0 ≡ 0
       input_cleared id y found is =
@@ -139,22 +144,17 @@ module _ (items : List Item) (nodes : List Node) (slots states inputs nexts bads
           ap (λ (p : ℕ). get_or cleared p 0) (sym own) ∙ clear_words r (omega (arith, at.0, ap length k.are_inputs))
 
       -- in the run's frame it is the word that the state has next
-      state_next : (f : Frame) → IsFrame items (given is_state items (words_at values states)) (given is_input items (words_at values inputs)) f → (id : ℕ) (y : Item) → find_item items id ≡ Some y → is_state y.body ≡ true
+      state_next : (f : Frame) → IsFrame items (given is_state items (words_at values states)) (given_leaves items (words_at values states) (words_at values inputs)) f → (id : ℕ) (y : Item) → find_item items id ≡ Some y → is_state y.body ≡ true
           → get_or cleared (slot items id) 0 ≡ next_state items f id
-      state_next f frame id y found is =
-          let next = next_word items f id k.well_formed (k.has_nexts id y found is) in
-          state_moved id y found is ∙ ap (λ (i : ℕ). get_or values (slot items i) 0) next.own ∙ k.frame done f frame next.value next.item next.found next.has ∙ next.word
+      state_next f frame id y found is = state_moved id y found is ∙ next_slot-word items values f id k.well_formed (k.frame done f frame)
 
       leaves_fit : LeavesFit items cleared
       leaves_fit id y found leaf =
           leaf_cases (get_or cleared (slot items id) 0 < 2 ^ bits_of items id) y.body leaf
           (λ is.
-          let some = frame_exists items (given is_state items (words_at values (slots_of is_state items))) (given is_input items (words_at values (slots_of is_input items))) k.well_formed in
-          let next = next_word items some.0 id k.well_formed (k.has_nexts id y found is) in
-          let below = frame_fits items k.well_formed values k.many_nodes k.leaves some.0 some.1 next.value next.there in
-          let frame : IsFrame items (given is_state items (words_at values states)) (given is_input items (words_at values inputs)) some.0 = rw (k.are_states, k.are_inputs) some.1 in
-          let word : get_or cleared (slot items id) 0 ≡ some.0 next.value = state_next some.0 frame id y found is ∙ sym next.word in
-          subst (λ (w : ℕ). w < 2 ^ bits_of items id) (sym word) (subst (λ (n : ℕ). some.0 next.value < 2 ^ n) next.bits below))
+          let some = frame_exists items (given is_state items (words_at values (slots_of is_state items))) (given_leaves items (words_at values (slots_of is_state items)) (words_at values (slots_of is_input items))) k.well_formed in
+          let frame : IsFrame items (given is_state items (words_at values states)) (given_leaves items (words_at values states) (words_at values inputs)) some.0 = rw (k.are_states, k.are_inputs) some.1 in
+          subst (λ (w : ℕ). w < 2 ^ bits_of items id) (sym (state_next some.0 frame id y found is)) (next_state-fits items some.0 id k.well_formed (frame_fits items k.well_formed values k.many_nodes k.leaves some.0 some.1)))
           (λ is. subst (λ (w : ℕ). w < 2 ^ bits_of items id) (sym (input_cleared id y found is)) (pow_pos (bits_of items id)))
 
       pub advance_keeps : AfterAdvance items nodes slots states inputs nexts bads constraints values taken cleared

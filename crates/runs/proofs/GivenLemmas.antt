@@ -5,13 +5,13 @@ use Rattle.std.proofs.lemmas.List.{length-map, length-set, get_or-map, get_or-se
 use Rattle.btor2.specs.declared.item.Item.{Item}
 use Rattle.btor2.specs.declared.item.Body.{Body}
 use Rattle.btor2.specs.declared.item.Body.TheVariants as body
-use Rattle.btor2.specs.Items.{find_item, is_state, is_input}
+use Rattle.btor2.specs.Items.{find_item, is_state, is_input, is_free}
 use Rattle.btor2.specs.Check.{IsWellFormed}
-use Rattle.btor2.specs.Trace.{Frame, LineHolds, LinesHold, IsFrame}
+use Rattle.btor2.specs.Trace.{Frame, state_word, LineHolds, LinesHold, IsFrame}
 use Rattle.btor2.proofs.ModelLemmas.{IsIn, find_item-in}
-use Rattle.runs.specs.Frames.{is_leaf, ids_of, rank, given}
+use Rattle.runs.specs.Frames.{is_leaf, ids_of, rank, given, given_leaves}
 use Rattle.runs.specs.Run.{more_steps}
-use Rattle.runs.proofs.RankLemmas.{rank-below, ids-rank, length-ids}
+use Rattle.runs.proofs.RankLemmas.{rank-below, ids-rank, length-ids, state_leaf, input_leaf, either_word}
 use Rattle.runs.proofs.InvariantLemmas.{leaf-nth}
 
 pub given-map : (test : Body → Bool) (items : List Item) (g : Frame) (id : ℕ) (x : Item) → find_item items id ≡ Some x → test x.body ≡ true → given test items (map g (ids_of test items)) id ≡ g id
@@ -20,13 +20,13 @@ given-map test items g id x found is =
     get_or-map g (ids_of test items) (rank test items id) 0 0 inside ∙ ap g (ids-rank test items id x found is)
 
 -- a line says the same from other words that it has in common
-line_given : (items : List Item) (state state' input input' f : Frame) (id : ℕ) (b : Body) → (is_state b ≡ true → state id ≡ state' id) → (is_input b ≡ true → input id ≡ input' id)
+line_given : (items : List Item) (state state' input input' f : Frame) (id : ℕ) (b : Body) → (is_state b ≡ true → state_word items state input id ≡ state_word items state' input' id) → (is_input b ≡ true → input id ≡ input' id)
     → LineHolds items state input f id b → LineHolds items state' input' f id b
 line_given items state state' input input' f id (body.State s) of_state of_input h = h ∙ of_state refl
 line_given items state state' input input' f id (body.Input s) of_state of_input h = h ∙ of_input refl
 line_given items state state' input input' f id _ of_state of_input h = h
 
-lines_given : (items : List Item) (state state' input input' f : Frame) (before rest : List Item) → items ≡ before ++ rest → ((x : Item) → IsIn items x → is_state x.body ≡ true → state x.id ≡ state' x.id)
+lines_given : (items : List Item) (state state' input input' f : Frame) (before rest : List Item) → items ≡ before ++ rest → ((x : Item) → IsIn items x → is_state x.body ≡ true → state_word items state input x.id ≡ state_word items state' input' x.id)
     → ((x : Item) → IsIn items x → is_input x.body ≡ true → input x.id ≡ input' x.id) → LinesHold items state input f rest → LinesHold items state' input' f rest
 lines_given items state state' input input' f before [] e of_states of_inputs h = tt
 lines_given items state state' input input' f before (x ∷ xs) e of_states of_inputs h =
@@ -37,18 +37,27 @@ lines_given items state state' input input' f before (x ∷ xs) e of_states of_i
 
 module _ (items : List Item) (state input f : Frame) (w : IsWellFormed items) where
   abbrev pub states_given : Frame
-  states_given = given is_state items (map state (ids_of is_state items))
+  states_given = given is_state items (map (state_word items state input) (ids_of is_state items))
 
-  abbrev pub inputs_given : Frame
-  inputs_given = given is_input items (map input (ids_of is_input items))
+  abbrev pub leaves_given : Frame
+  leaves_given = given_leaves items (map (state_word items state input) (ids_of is_state items)) (map input (ids_of is_input items))
 
-  pub frame_given : IsFrame items state input f → IsFrame items states_given inputs_given f
-  frame_given h =
-      lines_given items state states_given input inputs_given f [] items refl (λ x at is. sym (given-map is_state items state x.id x (find_item-in items x w at) is)) (λ x at is. sym (given-map is_input items input x.id x (find_item-in items x w at) is)) h
+  state_given : (x : Item) → IsIn items x → is_state x.body ≡ true → state_word items states_given leaves_given x.id ≡ state_word items state input x.id
+  state_given x at is =
+      let found = find_item-in items x w at in
+      let word = given-map is_state items (state_word items state input) x.id x found is in
+      either_word (is_free items x.id) (states_given x.id) (leaves_given x.id) (state_word items state input x.id) word (state_leaf items _ _ x.id x found is ∙ word)
 
-  pub frame_taken : IsFrame items states_given inputs_given f → IsFrame items state input f
-  frame_taken h =
-      lines_given items states_given state inputs_given input f [] items refl (λ x at is. given-map is_state items state x.id x (find_item-in items x w at) is) (λ x at is. given-map is_input items input x.id x (find_item-in items x w at) is) h
+  input_given : (x : Item) → IsIn items x → is_input x.body ≡ true → leaves_given x.id ≡ input x.id
+  input_given x at is =
+      let found = find_item-in items x w at in
+      input_leaf items _ _ x.id x found is ∙ given-map is_input items input x.id x found is
+
+  pub frame_given : IsFrame items state input f → IsFrame items states_given leaves_given f
+  frame_given h = lines_given items state states_given input leaves_given f [] items refl (λ x at is. sym (state_given x at is)) (λ x at is. sym (input_given x at is)) h
+
+  pub frame_taken : IsFrame items states_given leaves_given f → IsFrame items state input f
+  frame_taken h = lines_given items states_given state leaves_given input f [] items refl state_given input_given h
 
 pub more_steps-min : (n count : ℕ) → count < 2 ^ 128 → more_steps n count ≡ min (count + n) (2 ^ 128 - 1)
 more_steps-min zero count h = omega arith

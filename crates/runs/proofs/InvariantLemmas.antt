@@ -8,11 +8,11 @@ use Rattle.btor2.specs.declared.item.Body.{Body}
 use Rattle.btor2.specs.Items.{find_item, node_width, width_of_body, is_input, is_state}
 use Rattle.btor2.specs.Check.{IsWellFormed}
 use Rattle.btor2.specs.Lists.{places, width_at}
-use Rattle.btor2.specs.Trace.{bits_of, IsFrame}
+use Rattle.btor2.specs.Trace.{Frame, bits_of, IsFrame}
 use Rattle.btor2.proofs.AppendLemmas.{some_of}
 use Rattle.btor2.proofs.ModelLemmas.{node_width-at}
 use Rattle.runs.specs.declared.nodes.Node.{Node}
-use Rattle.runs.specs.Frames.{has_value, is_leaf, of_kind, ids_of, rank, given}
+use Rattle.runs.specs.Frames.{has_value, is_leaf, of_kind, ids_of, rank, given, given_leaves}
 use Rattle.runs.specs.Run.{Run}
 use Rattle.runs.specs.Nodes.{slot, node_of, words_at, NodesFit, settled_values}
 use Rattle.runs.specs.Holds.{LeavesFit, Keeps}
@@ -26,14 +26,18 @@ pub run_same : (items : List Item) (states states' inputs inputs' : List ℕ) (s
     → ◌≡◌ {A = Run} (record { items = items; states = states; inputs = inputs; settled = settled; steps = steps }) (record { items = items; states = states'; inputs = inputs'; settled = settled; steps = steps' })
 run_same items states states' inputs inputs' settled steps steps' e d h = rw (e, d, h) refl
 
+-- the frame of words of the states and of the inputs
+abbrev FrameOf : List Item → List ℕ → List ℕ → Frame → Type 0
+FrameOf items states inputs f = IsFrame items (given is_state items states) (given_leaves items states inputs) f
+
 -- Settling.
 
-pub record AfterSettle (items : List Item) (nodes : List Node) (slots states inputs nexts bads constraints values next_values values' : List ℕ) : Type 0 where
+pub record AfterSettle (items : List Item) (nodes : List Node) (slots states inputs : List ℕ) (nexts : List (Option ℕ)) (bads constraints values next_values values' : List ℕ) : Type 0 where
   pub keeps : Keeps items nodes slots states inputs nexts bads constraints values' next_values true
   pub same_states : words_at values' states ≡ words_at values states
   pub same_inputs : words_at values' inputs ≡ words_at values inputs
 
-module _ (items : List Item) (nodes : List Node) (slots states inputs nexts bads constraints values next_values : List ℕ) (settled : Bool) (k : Keeps items nodes slots states inputs nexts bads constraints values next_values settled) where
+module _ (items : List Item) (nodes : List Node) (slots states inputs : List ℕ) (nexts : List (Option ℕ)) (bads constraints values next_values : List ℕ) (settled : Bool) (k : Keeps items nodes slots states inputs nexts bads constraints values next_values settled) where
   pub settle_fits : NodesFit nodes 0 values
   settle_fits = rw k.are_nodes (pass_fits items k.well_formed values k.many_nodes k.leaves)
 
@@ -48,7 +52,6 @@ module _ (items : List Item) (nodes : List Node) (slots states inputs nexts bads
       record {
         keeps = record {
           well_formed = k.well_formed;
-          has_nexts = k.has_nexts;
           are_nodes = k.are_nodes;
           are_slots = k.are_slots;
           are_states = k.are_states;
@@ -59,10 +62,9 @@ module _ (items : List Item) (nodes : List Node) (slots states inputs nexts bads
           many_nodes = ap length own ∙ pass_many items k.well_formed values k.many_nodes k.leaves ∙ k.many_nodes;
           many_states = k.many_states;
           leaves = rw own (pass_leaves items k.well_formed values k.many_nodes k.leaves);
-          frame = λ e f frame. rw own (pass_frame items k.well_formed values k.many_nodes k.leaves f (subst (λ (l : List ℕ). IsFrame items (given is_state items (words_at values l)) (given is_input items (words_at values (slots_of is_input items))) f) k.are_states
-              (subst (λ (l : List ℕ). IsFrame items (given is_state items (words_at values states)) (given is_input items (words_at values l)) f) k.are_inputs
-              (subst (λ (l : List ℕ). IsFrame items (given is_state items l) (given is_input items (words_at values inputs)) f) of_states
-              (subst (λ (l : List ℕ). IsFrame items (given is_state items (words_at values' states)) (given is_input items l) f) of_inputs frame)))));
+          frame = λ e f frame. rw own (pass_frame items k.well_formed values k.many_nodes k.leaves f
+              (subst (λ (l : List ℕ). FrameOf items l (words_at values (slots_of is_input items)) f) (of_states ∙ ap (words_at values) k.are_states)
+              (subst (λ (l : List ℕ). FrameOf items (words_at values' states) l f) (of_inputs ∙ ap (words_at values) k.are_inputs) frame)));
         };
         same_states = of_states;
         same_inputs = of_inputs;
@@ -196,12 +198,11 @@ leaf_fits test items k word w leaf h fits =
     (inside, subst (λ (i : ℕ). word < 2 ^ bits_of items i) (sym there.1.id) (subst (λ (n : ℕ). word < 2 ^ n) (sym bits) below))
 
 -- what a run keeps where it is not settled, for other now-values
-pub other_values : (items : List Item) (nodes : List Node) (slots states inputs nexts bads constraints values next_values : List ℕ) (settled : Bool) → Keeps items nodes slots states inputs nexts bads constraints values next_values settled
+pub other_values : (items : List Item) (nodes : List Node) (slots states inputs : List ℕ) (nexts : List (Option ℕ)) (bads constraints values next_values : List ℕ) (settled : Bool) → Keeps items nodes slots states inputs nexts bads constraints values next_values settled
     → (values' next_values' : List ℕ) → length values' ≡ length values → length next_values' ≡ length next_values → LeavesFit items values' → Keeps items nodes slots states inputs nexts bads constraints values' next_values' false
 other_values items nodes slots states inputs nexts bads constraints values next_values settled k values' next_values' many many_next leaves =
     record {
       well_formed = k.well_formed;
-      has_nexts = k.has_nexts;
       are_nodes = k.are_nodes;
       are_slots = k.are_slots;
       are_states = k.are_states;
@@ -215,12 +216,12 @@ other_values items nodes slots states inputs nexts bads constraints values next_
       frame = λ e. absurd (true≢false (sym e));
     }
 
-pub record AfterSet (items : List Item) (nodes : List Node) (slots states inputs nexts bads constraints values next_values own other values' : List ℕ) (k word : ℕ) : Type 0 where
+pub record AfterSet (items : List Item) (nodes : List Node) (slots states inputs : List ℕ) (nexts : List (Option ℕ)) (bads constraints values next_values own other values' : List ℕ) (k word : ℕ) : Type 0 where
   pub keeps : Keeps items nodes slots states inputs nexts bads constraints values' next_values false
   pub set_word : words_at values' own ≡ set (words_at values own) k word
   pub same_words : words_at values' other ≡ words_at values other
 
-module _ (items : List Item) (nodes : List Node) (slots states inputs nexts bads constraints values next_values : List ℕ) (settled : Bool) (keep : Keeps items nodes slots states inputs nexts bads constraints values next_values settled) (k word : ℕ) where
+module _ (items : List Item) (nodes : List Node) (slots states inputs : List ℕ) (nexts : List (Option ℕ)) (bads constraints values next_values : List ℕ) (settled : Bool) (keep : Keeps items nodes slots states inputs nexts bads constraints values next_values settled) (k word : ℕ) where
   module _ (h : k < length (places is_state 0 items)) where
     pub state_inside : (k < length states) × (get_or states k 0 < length values)
     state_inside =

@@ -1,15 +1,15 @@
 -- How many items of a kind stand before an item.
-use Rattle.std.proofs.Common.{◌≡◌, ℕ, zero, suc, ◌+◌, ◌<◌, Bool, true, false, cond, nat_eq, eq-eqb, eqb-true, List, [], ◌∷◌, ◌++◌, length, map, get_or, slice_get, Some, None, refl, sym, ap, ◌∙◌, arith}
+use Rattle.std.proofs.Common.{◌≡◌, ℕ, zero, suc, ◌+◌, ◌<◌, Bool, true, false, cond, nat_eq, eq-eqb, eqb-true, List, [], ◌∷◌, ◌++◌, length, map, get_or, slice_get, Option, Some, None, is_some, option_and_then, refl, sym, ap, ◌∙◌, arith}
 use Rattle.std.proofs.lemmas.Option.{none-some, same_Some}
 use Rattle.std.proofs.lemmas.List.{length-map, get_or-map}
 use Rattle.btor2.specs.declared.item.Item.{Item}
 use Rattle.btor2.specs.declared.item.Body.{Body}
 use Rattle.btor2.specs.declared.item.Body.TheVariants as body
-use Rattle.btor2.specs.Items.{find_item, is_input, is_state}
+use Rattle.btor2.specs.Items.{find_item, is_input, is_state, names_state}
 use Rattle.btor2.specs.Check.{IsWellFormed}
 use Rattle.btor2.specs.Lists.{places}
 use Rattle.btor2.proofs.ModelLemmas.{IsIn, IsAccepted-at, find_item-in}
-use Rattle.runs.specs.Frames.{has_value, is_leaf, of_kind, ids_of, rank, given}
+use Rattle.runs.specs.Frames.{has_value, is_leaf, of_kind, ids_of, rank, given, given_leaves}
 use Rattle.runs.specs.Nodes.{slot, words_at}
 
 -- what a kind's leaves are
@@ -21,6 +21,12 @@ state_is_leaf _ h = absurd (cc)
 pub input_is_leaf : (b : Body) → is_input b ≡ true → is_leaf b ≡ true
 input_is_leaf (body.Input s) h = refl
 input_is_leaf _ h = absurd (cc)
+
+-- what is a leaf is a state or an input
+pub leaf_cases : (P : Type 0) (b : Body) → is_leaf b ≡ true → (is_state b ≡ true → P) → (is_input b ≡ true → P) → P
+leaf_cases P (body.State s) leaf of_state of_input = of_state refl
+leaf_cases P (body.Input s) leaf of_state of_input = of_input refl
+leaf_cases P _ leaf of_state of_input = absurd (cc)
 
 pub leaf_has_value : (b : Body) → is_leaf b ≡ true → has_value b ≡ true
 leaf_has_value (body.State s) h = refl
@@ -177,3 +183,29 @@ given-at test items values id y found is =
     let below' : rank test items id < length (map (slot items) (ids_of test items)) = omega (arith, length-map (ids_of test items) (slot items)) in
     get_or-map (λ (k : ℕ). get_or values k 0) (map (slot items) (ids_of test items)) (rank test items id) 0 0 below'
     ∙ ap (λ (k : ℕ). get_or values k 0) (get_or-map (slot items) (ids_of test items) (rank test items id) 0 0 below ∙ ap (slot items) (ids-rank test items id y found is))
+
+-- what is found as a state is named as one, and what is found as an input is not
+not_state : (b : Body) → is_input b ≡ true → is_state b ≡ false
+not_state (body.Input s) h = refl
+not_state _ h = absurd (cc)
+
+named_by : (items : List Item) (id : ℕ) (y : Item) (b : Bool) → find_item items id ≡ Some y → is_state y.body ≡ b → names_state items id ≡ b
+named_by items id y b found is =
+    ap (λ (o : Option Item). is_some (option_and_then (λ (x : Item). cond (is_state x.body) (Some x) None) o)) found ∙ ap (λ (c : Bool). is_some (cond c (Some y) None)) is ∙ by b
+  where
+    by : (c : Bool) → is_some (cond c (Some y) None) ≡ c
+    by true = refl
+    by false = refl
+
+-- in the frame of words of states and inputs a state has that of its list, and so has an input
+pub state_leaf : (items : List Item) (states inputs : List ℕ) (id : ℕ) (y : Item) → find_item items id ≡ Some y → is_state y.body ≡ true → given_leaves items states inputs id ≡ given is_state items states id
+state_leaf items states inputs id y found is = ap (λ (b : Bool). cond b (given is_state items states id) (given is_input items inputs id)) (named_by items id y true found is)
+
+pub input_leaf : (items : List Item) (states inputs : List ℕ) (id : ℕ) (y : Item) → find_item items id ≡ Some y → is_input y.body ≡ true → given_leaves items states inputs id ≡ given is_input items inputs id
+input_leaf items states inputs id y found is =
+    ap (λ (b : Bool). cond b (given is_state items states id) (given is_input items inputs id)) (named_by items id y false found (not_state y.body is))
+
+-- one of two words that are the same
+pub either_word : (b : Bool) (x y word : ℕ) → x ≡ word → y ≡ word → cond b y x ≡ word
+either_word true x y word e d = d
+either_word false x y word e d = e

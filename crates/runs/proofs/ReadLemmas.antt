@@ -1,17 +1,17 @@
 -- What the reading calls of a settled run answer.
-use Rattle.std.proofs.Common.{◌≡◌, ℕ, ◌<◌, Bool, true, List, length, map, get_or, slice_get, Some, is_some, refl, ap, ◌∙◌, arith}
+use Rattle.std.proofs.Common.{◌≡◌, ℕ, ◌<◌, Bool, true, List, length, map, get_or, slice_get, Option, Some, is_some, refl, ap, ◌∙◌, arith}
 use Rattle.std.proofs.lemmas.List.{length-map}
 use Rattle.btor2.specs.declared.item.Item.{Item}
 use Rattle.btor2.specs.declared.item.Body.{Body}
 use Rattle.btor2.specs.declared.item.Body.TheVariants as body
-use Rattle.btor2.specs.Items.{find_item, node_sort, sort_width, node_width, width_of_body, operands, is_input, is_state, is_bad, is_constraint}
+use Rattle.btor2.specs.Items.{find_item, node_sort, sort_width, node_width, width_of_body, operands, is_state, is_bad, is_constraint}
 use Rattle.btor2.specs.Lists.{places, width_at}
 use Rattle.btor2.specs.Trace.{Frame, IsFrame}
 use Rattle.btor2.proofs.AppendLemmas.{some_of, then_parts, is_some_from}
 use Rattle.btor2.proofs.AcceptedLemmas.{Each}
 use Rattle.btor2.proofs.ModelLemmas.{find_item-at}
 use Rattle.runs.specs.declared.nodes.Node.{Node}
-use Rattle.runs.specs.Frames.{has_value, of_kind, given}
+use Rattle.runs.specs.Frames.{has_value, of_kind, given, given_leaves}
 use Rattle.runs.specs.Run.{property_id}
 use Rattle.runs.specs.Nodes.{slot, words_at}
 use Rattle.runs.specs.Holds.{Keeps}
@@ -23,9 +23,9 @@ use Rattle.runs.proofs.StateLemmas.{nth-get}
 -- what is read at a place of the now-values is the word of a node in the run's frame
 pub record Reads (items : List Item) (states inputs values : List ℕ) (place id : ℕ) : Type 0 where
   pub inside : place < length values
-  pub word : (f : Frame) → IsFrame items (given is_state items (words_at values states)) (given is_input items (words_at values inputs)) f → get_or values place 0 ≡ f id
+  pub word : (f : Frame) → IsFrame items (given is_state items (words_at values states)) (given_leaves items (words_at values states) (words_at values inputs)) f → get_or values place 0 ≡ f id
 
-module _ (items : List Item) (nodes : List Node) (slots states inputs nexts bads constraints values next_values : List ℕ) (settled : Bool) (k : Keeps items nodes slots states inputs nexts bads constraints values next_values settled)
+module _ (items : List Item) (nodes : List Node) (slots states inputs : List ℕ) (nexts : List (Option ℕ)) (bads constraints values next_values : List ℕ) (settled : Bool) (k : Keeps items nodes slots states inputs nexts bads constraints values next_values settled)
     (done : settled ≡ true) where
   reads_found : (id place : ℕ) (y : Item) → find_item items id ≡ Some y → has_value y.body ≡ true → place ≡ slot items id → Reads items states inputs values place id
   reads_found id place y found has e =

@@ -1,40 +1,26 @@
 -- What a new run keeps.
-use Rattle.std.proofs.Common.{◌≡◌, ◌≢◌, ℕ, ◌^◌, ◌<◌, Bool, true, false, List, length, map, get_or, replicate, All, Option, Some, None, is_some, option_and_then, unwrap_or, refl, sym, ap, subst, ◌∙◌, pow_pos, arith}
+use Rattle.std.proofs.Common.{◌≡◌, ◌≢◌, ℕ, ◌^◌, ◌<◌, Bool, true, false, List, length, map, get_or, replicate, All, Option, Some, None, option_and_then, unwrap_or, refl, sym, ap, subst, ◌∙◌, pow_pos, arith}
 use Rattle.std.proofs.lemmas.Bool.{true≢false}
 use Rattle.std.proofs.lemmas.List.{length-map, length-replicate, get_or-map, get_or-replicate, ext_get_or}
 use Rattle.btor2.specs.declared.item.Item.{Item}
 use Rattle.btor2.specs.declared.item.Body.{Body}
-use Rattle.btor2.specs.Items.{find_item, constant_of, is_input, is_state, is_bad, is_constraint, init_value, next_value}
+use Rattle.btor2.specs.Items.{find_item, constant_of, is_input, is_state, is_bad, is_constraint, init_value}
 use Rattle.btor2.specs.Check.{IsWellFormed}
-use Rattle.btor2.specs.Lists.{places, first_without_next}
+use Rattle.btor2.specs.Lists.{places}
 use Rattle.btor2.specs.Trace.{bits_of}
-use Rattle.btor2.proofs.ModelLemmas.{IsIn-from_find, IsInitOf, IsInitOf-from_value}
+use Rattle.btor2.proofs.ModelLemmas.{IsInitOf, IsInitOf-from_value}
 use Rattle.runs.specs.declared.nodes.Node.{Node}
 use Rattle.runs.specs.Frames.{has_value, of_kind, ids_of, rank}
 use Rattle.runs.specs.Run.{property_id, first_word, zeros}
 use Rattle.runs.specs.Nodes.{slot, node_of, words_at}
-use Rattle.runs.specs.Holds.{next_id, LeavesFit, Keeps}
-use Rattle.runs.proofs.RankLemmas.{state_is_leaf, input_is_leaf, leaf_has_value, rank-below, ids-rank, nth, nth-found, length-ids, length-places}
+use Rattle.runs.specs.Holds.{next_slot, LeavesFit, Keeps}
+use Rattle.runs.proofs.RankLemmas.{state_is_leaf, input_is_leaf, leaf_has_value, rank-below, ids-rank, nth, length-ids, length-places, leaf_cases}
 use Rattle.runs.proofs.PlaceLemmas.{place_inside, map_read}
 use Rattle.runs.proofs.StateLemmas.{nth-get}
 use Rattle.runs.proofs.WordLemmas.{slots_of, words_same}
 use Rattle.runs.proofs.InvariantLemmas.{slots-apart, length-slots_of}
-use Rattle.runs.proofs.AdvanceLemmas.{slot-own, slots-inside, slots-differ, leaf_cases}
-use Rattle.btor2.proofs.NextLemmas.{has_next}
+use Rattle.runs.proofs.AdvanceLemmas.{slot-own, slots-inside, slots-differ}
 use Rattle.btor2.proofs.ConstantLemmas.{constant_below}
-
--- Each state has a next where none lacks one.
-
-pub nexts_there : (items : List Item) → first_without_next items items ≡ None → (id : ℕ) (y : Item) → find_item items id ≡ Some y → is_state y.body ≡ true → is_some (next_value items id) ≡ true
-nexts_there items h id y found is =
-    let at = IsIn-from_find items id y found in
-    subst (λ (i : ℕ). is_some (next_value items i) ≡ true) (sym at.1)
-    (has_next items at.0.before at.0.after y (subst (λ (l : List Item). first_without_next items l ≡ None) at.0.splits h) is)
-
-pub nexts_listed : (items : List Item) → IsWellFormed items → first_without_next items items ≡ None → (k : ℕ) → k < length (ids_of is_state items) → is_some (next_value items (get_or (ids_of is_state items) k 0)) ≡ true
-nexts_listed items w h k inside =
-    let there = nth is_state items k (omega (arith, length-ids is_state items)) in
-    subst (λ (i : ℕ). is_some (next_value items i) ≡ true) (sym there.1.id) (nexts_there items h there.0.id there.0 (nth-found is_state items k there.0 w there.1) there.1.is)
 
 -- The slots of a kind.
 
@@ -71,26 +57,25 @@ first_fits items id w = by (init_value items id) (λ v e. IsInitOf-from_value it
 
 -- The run.
 
-pub record Starts (items : List Item) (nodes : List Node) (slots states inputs nexts bads constraints values next_values : List ℕ) : Type 0 where
+pub record Starts (items : List Item) (nodes : List Node) (slots states inputs : List ℕ) (nexts : List (Option ℕ)) (bads constraints values next_values : List ℕ) : Type 0 where
   pub keeps : Keeps items nodes slots states inputs nexts bads constraints values next_values false
   pub first_words : words_at values states ≡ map (first_word items) (ids_of is_state items)
   pub no_inputs : words_at values inputs ≡ zeros items
 
 -- the lists that a run is made of
-pub record NewLists (items : List Item) (nodes : List Node) (slots states inputs nexts bads constraints zero_values next_values : List ℕ) : Type 0 where
+pub record NewLists (items : List Item) (nodes : List Node) (slots states inputs : List ℕ) (nexts : List (Option ℕ)) (bads constraints zero_values next_values : List ℕ) : Type 0 where
   pub well_formed : IsWellFormed items
-  pub has_nexts : first_without_next items items ≡ None
   pub are_nodes : nodes ≡ map (λ x. node_of items x.body) (of_kind has_value items)
   pub are_slots : slots ≡ map (λ x. slot items x.id) items
   pub are_states : states ≡ slots_of is_state items
   pub are_inputs : inputs ≡ slots_of is_input items
-  pub are_nexts : nexts ≡ map (λ id. slot items (next_id items id)) (ids_of is_state items)
+  pub are_nexts : nexts ≡ map (next_slot items) (ids_of is_state items)
   pub are_bads : bads ≡ map (λ x. slot items (property_id x.body)) (of_kind is_bad items)
   pub are_constraints : constraints ≡ map (λ x. slot items (property_id x.body)) (of_kind is_constraint items)
   pub are_zero : zero_values ≡ replicate (length nodes) 0
   pub are_first : next_values ≡ map (first_word items) (ids_of is_state items)
 
-module _ (items : List Item) (nodes : List Node) (slots states inputs nexts bads constraints zero_values next_values : List ℕ) (m : NewLists items nodes slots states inputs nexts bads constraints zero_values next_values) where
+module _ (items : List Item) (nodes : List Node) (slots states inputs : List ℕ) (nexts : List (Option ℕ)) (bads constraints zero_values next_values : List ℕ) (m : NewLists items nodes slots states inputs nexts bads constraints zero_values next_values) where
   zero_many : length zero_values ≡ length (of_kind has_value items)
   zero_many = ap length m.are_zero ∙ length-replicate (length nodes) 0 ∙ ap length m.are_nodes ∙ length-map (of_kind has_value items) (λ (x : Item). node_of items x.body)
 
@@ -134,7 +119,6 @@ module _ (items : List Item) (nodes : List Node) (slots states inputs nexts bads
         record {
           keeps = record {
             well_formed = m.well_formed;
-            has_nexts = nexts_there items m.has_nexts;
             are_nodes = m.are_nodes;
             are_slots = m.are_slots;
             are_states = m.are_states;

@@ -1,5 +1,5 @@
 -- The k-th item of a kind, and what a run begins with for the k-th state.
-use Rattle.std.proofs.Common.{◌≡◌, ℕ, zero, suc, ◌+◌, ◌<◌, ◌≤◌, Bool, true, false, cond, List, [], ◌∷◌, ◌++◌, length, map, take, get_or, slice_get, Option, Some, None, is_some, option_and_then, unwrap_or, refl, sym, ap, ap₂, ◌∙◌, length-append, arith}
+use Rattle.std.proofs.Common.{◌≡◌, ℕ, zero, suc, ◌+◌, ◌<◌, ◌≤◌, Bool, true, false, cond, List, [], ◌∷◌, ◌++◌, length, map, take, get_or, slice_get, Option, Some, None, option_and_then, unwrap_or, refl, sym, ap, ap₂, ◌∙◌, length-append, arith}
 use Rattle.std.proofs.lemmas.List.{map_more, take_more}
 use Rattle.std.proofs.lemmas.List.Elements.{filter-append}
 use Rattle.std.proofs.Math.Seq.{take-append_seam}
@@ -8,13 +8,12 @@ use Rattle.btor2.specs.declared.item.Body.{Body}
 use Rattle.btor2.specs.Items.{position_of, node_width, is_state, init_value, next_value}
 use Rattle.btor2.specs.Check.{IsWellFormed}
 use Rattle.btor2.specs.Lists.{places, id_at, init_place, next_place, constant_at}
-use Rattle.btor2.proofs.AppendLemmas.{some_of, is_some_from}
+use Rattle.btor2.proofs.AppendLemmas.{then_parts, is_some_from}
 use Rattle.btor2.proofs.ModelLemmas.{IsIn-from_place, IsAccepted-at, IsNextOf-from_value}
 use Rattle.runs.specs.Frames.{has_value, of_kind, ids_of}
 use Rattle.runs.specs.Nodes.{slot}
-use Rattle.runs.specs.Holds.{next_id}
 use Rattle.runs.specs.Run.{first_word}
-use Rattle.runs.proofs.RankLemmas.{IsNth, nth, length-ids, length-places, rank-own}
+use Rattle.runs.proofs.RankLemmas.{IsNth, nth, length-ids, rank-own}
 use Rattle.runs.proofs.PlaceLemmas.{NodePlace, node_place, no_place}
 use Rattle.btor2.proofs.LookUps.{init_some, init_none}
 
@@ -71,38 +70,32 @@ count_below (suc k) (x ∷ xs) = by (count_below k xs) (has_value x.body)
 
 -- The next node of the k-th state.
 
-pub record NextPlace (items : List Item) (k place : ℕ) : Type 0 where
-  pub at : next_place items (get_or (places is_state 0 items) k 0) ≡ Some place
-  pub node : NodePlace items (next_id items (get_or (ids_of is_state items) k 0)) place
+next_at : (items : List Item) (k : ℕ) → k < length (ids_of is_state items)
+    → next_place items (get_or (places is_state 0 items) k 0) ≡ option_and_then (position_of items) (next_value items (get_or (ids_of is_state items) k 0))
+next_at items k h = ap (λ (o : Option ℕ). option_and_then (position_of items) (option_and_then (next_value items) o)) (id_at-place is_state items k h)
 
-next_at : (items : List Item) (k place : ℕ) → IsWellFormed items → k < length (ids_of is_state items) → is_some (next_value items (get_or (ids_of is_state items) k 0)) ≡ true
-    → next_place items (get_or (places is_state 0 items) k 0) ≡ Some place → NextPlace items k place
-next_at items k place w h some e =
+-- where it has a place
+pub next_found : (items : List Item) (k place : ℕ) → IsWellFormed items → k < length (ids_of is_state items) → Some place ≡ next_place items (get_or (places is_state 0 items) k 0)
+    → (value : ℕ) × (next_value items (get_or (ids_of is_state items) k 0) ≡ Some value) × NodePlace items value place
+next_found items k place w h e =
     let id = get_or (ids_of is_state items) k 0 in
-    let value = some_of (next_value items id) some in
-    let line = IsNextOf-from_value items id value.0 w value.1 in
-    let own : next_id items id ≡ value.0 = ap (λ (o : Option ℕ). unwrap_or o 0) value.1 in
-    let there : is_some (node_width items (next_id items id)) ≡ true = ap (λ (v : ℕ). is_some (node_width items v)) own ∙ is_some_from (node_width items value.0) line.width line.of_value in
-    let by_id : next_place items (get_or (places is_state 0 items) k 0) ≡ position_of items (next_id items id) =
-    ap (λ (o : Option ℕ). option_and_then (position_of items) (option_and_then (next_value items) o)) (id_at-place is_state items k h) ∙ ap (option_and_then (position_of items)) value.1 ∙ ap (position_of items) (sym own) in
-    record { at = e; node = node_place items (next_id items id) place there (sym by_id ∙ e) }
+    let parts = then_parts (position_of items) (next_value items id) place (sym (next_at items k h) ∙ sym e) in
+    let line = IsNextOf-from_value items id parts.0 w parts.1 in
+    (parts.0, parts.1, node_place items parts.0 place (is_some_from (node_width items parts.0) line.width line.of_value) parts.2)
 
-pub next_found : (items : List Item) (k place : ℕ) → IsWellFormed items → ((j : ℕ) → j < length (ids_of is_state items) → is_some (next_value items (get_or (ids_of is_state items) j 0)) ≡ true)
-    → k < length (places is_state 0 items) → Some place ≡ next_place items (get_or (places is_state 0 items) k 0) → NextPlace items k place
-next_found items k place w some h e =
-    let inside : k < length (ids_of is_state items) = omega (arith, length-ids is_state items, length-places is_state 0 items) in
-    next_at items k place w inside (some k inside) (sym e)
+-- and where it has none
+pub next_missing : (items : List Item) (k : ℕ) → IsWellFormed items → k < length (ids_of is_state items) → None ≡ next_place items (get_or (places is_state 0 items) k 0)
+    → next_value items (get_or (ids_of is_state items) k 0) ≡ None
+next_missing items k w h e = by (next_value items id) refl (sym (next_at items k h) ∙ sym e)
+  where
+    id : ℕ
+    id = get_or (ids_of is_state items) k 0
 
-pub next_missing : (items : List Item) (k : ℕ) → IsWellFormed items → ((j : ℕ) → j < length (ids_of is_state items) → is_some (next_value items (get_or (ids_of is_state items) j 0)) ≡ true)
-    → k < length (places is_state 0 items) → None ≡ next_place items (get_or (places is_state 0 items) k 0) → ⊥
-next_missing items k w some h e =
-    let inside : k < length (ids_of is_state items) = omega (arith, length-ids is_state items, length-places is_state 0 items) in
-    let id = get_or (ids_of is_state items) k 0 in
-    let value = some_of (next_value items id) (some k inside) in
-    let line = IsNextOf-from_value items id value.0 w value.1 in
-    let by_id : next_place items (get_or (places is_state 0 items) k 0) ≡ position_of items value.0 =
-    ap (λ (o : Option ℕ). option_and_then (position_of items) (option_and_then (next_value items) o)) (id_at-place is_state items k inside) ∙ ap (option_and_then (position_of items)) value.1 in
-    no_place items value.0 (is_some_from (node_width items value.0) line.width line.of_value) (sym by_id ∙ sym e)
+    by : (o : Option ℕ) → next_value items id ≡ o → option_and_then (position_of items) o ≡ None → o ≡ None
+    by None e none = refl
+    by (Some v) e none =
+        let line = IsNextOf-from_value items id v w e in
+        absurd (no_place items v (is_some_from (node_width items v) line.width line.of_value) none)
 
 -- The first word of the k-th state.
 
@@ -126,7 +119,7 @@ first_word-none items k h e =
 
 -- One more of a list that is made of another.
 
-pub map_push : {A : Type 0} (f : A → ℕ) (list : List A) (front longer : List ℕ) (k : ℕ) (x d : A) (word : ℕ) → k < length list → front ≡ map f (take k list) → x ≡ get_or list k d → word ≡ f x → longer ≡ front ++ word ∷ []
+pub map_push : {A B : Type 0} (f : A → B) (list : List A) (front longer : List B) (k : ℕ) (x d : A) (word : B) → k < length list → front ≡ map f (take k list) → x ≡ get_or list k d → word ≡ f x → longer ≡ front ++ word ∷ []
     → longer ≡ map f (take (k + 1) list)
-map_push f list front longer k x d word h m e w m' =
-    m' ∙ ap₂ (λ (l : List ℕ) (n : ℕ). l ++ n ∷ []) m (w ∙ ap f e) ∙ sym (map_more f list k d h)
+map_push {B = B} f list front longer k x d word h m e w m' =
+    m' ∙ ap₂ (λ (l : List B) (n : B). l ++ n ∷ []) m (w ∙ ap f e) ∙ sym (map_more f list k d h)

@@ -4,15 +4,15 @@ use Rattle.std.proofs.lemmas.List.{length-map, get_or-map, ext_get_or}
 use Rattle.btor2.specs.declared.item.Item.{Item}
 use Rattle.btor2.specs.declared.item.Body.{Body}
 use Rattle.btor2.specs.declared.item.Body.TheVariants as body
-use Rattle.btor2.specs.Items.{find_item, node_width, is_input, is_state}
+use Rattle.btor2.specs.Items.{find_item, node_width, is_input, is_state, is_free}
 use Rattle.btor2.specs.Check.{IsWellFormed}
 use Rattle.btor2.specs.Trace.{Frame, bits_of, LineHolds, LinesHold, IsFrame, StateFits, InputFits, StatesFit, InputsFit, IsState, IsInput}
 use Rattle.btor2.proofs.ModelLemmas.{IsIn, IsIn-from_find, IsAccepted-at, find_item-in}
 use Rattle.btor2.proofs.TraceLemmas.{words_fit_frame, frame_exists}
-use Rattle.runs.specs.Frames.{has_value, is_leaf, of_kind, ids_of, given}
+use Rattle.runs.specs.Frames.{has_value, is_leaf, of_kind, ids_of, given, given_leaves}
 use Rattle.runs.specs.Nodes.{slot, words_at, NodesFit, settled_values}
 use Rattle.runs.specs.Holds.{LeavesFit, HoldsFrame}
-use Rattle.runs.proofs.RankLemmas.{state_is_leaf, input_is_leaf, leaf_has_value, rank-own, nth, nth-found, length-ids, given-at}
+use Rattle.runs.proofs.RankLemmas.{state_is_leaf, leaf_has_value, rank-own, nth, nth-found, length-ids, given-at, leaf_cases, state_leaf, input_leaf, either_word}
 use Rattle.runs.proofs.SettleLemmas.{Settles, LeavesHold, nodes_of, line_at, settle_all}
 
 -- the slots of the items of a kind
@@ -42,11 +42,12 @@ words_same test items values h w same = words_at-map values (slot items) (ids_of
 -- The given words fit, where the leaves do.
 
 state_fits : (items : List Item) (state : Frame) (id : ℕ) (b : Body) → (is_state b ≡ true → state id < 2 ^ bits_of items id) → StateFits items state id b
-state_fits items state id (body.State s) h = h refl
+state_fits items state id (body.State s) h = λ carried. h refl
 state_fits items state id _ h = tt
 
-input_fits : (items : List Item) (input : Frame) (id : ℕ) (b : Body) → (is_input b ≡ true → input id < 2 ^ bits_of items id) → InputFits items input id b
+input_fits : (items : List Item) (input : Frame) (id : ℕ) (b : Body) → (is_leaf b ≡ true → input id < 2 ^ bits_of items id) → InputFits items input id b
 input_fits items input id (body.Input s) h = h refl
+input_fits items input id (body.State s) h = λ free. h refl
 input_fits items input id _ h = tt
 
 states_fit : (items : List Item) (state : Frame) (before rest : List Item) → items ≡ before ++ rest → ((y : Item) → IsIn items y → is_state y.body ≡ true → state y.id < 2 ^ bits_of items y.id) → StatesFit items state rest
@@ -56,7 +57,7 @@ states_fit items state before (x ∷ xs) e h = (
   states_fit items state (before ++ x ∷ []) xs (e ∙ sym (append_assoc before (x ∷ []) xs)) h,
 )
 
-inputs_fit : (items : List Item) (input : Frame) (before rest : List Item) → items ≡ before ++ rest → ((y : Item) → IsIn items y → is_input y.body ≡ true → input y.id < 2 ^ bits_of items y.id) → InputsFit items input rest
+inputs_fit : (items : List Item) (input : Frame) (before rest : List Item) → items ≡ before ++ rest → ((y : Item) → IsIn items y → is_leaf y.body ≡ true → input y.id < 2 ^ bits_of items y.id) → InputsFit items input rest
 inputs_fit items input before [] e h = tt
 inputs_fit items input before (x ∷ xs) e h = (
   input_fits items input x.id x.body (h x (record { before = before; after = xs; splits = e })),
@@ -64,9 +65,9 @@ inputs_fit items input before (x ∷ xs) e h = (
 )
 
 -- a leaf has in a frame the word that is given
-leaf_word : (items : List Item) (state input f : Frame) (id word : ℕ) (b : Body) → is_leaf b ≡ true → LineHolds items state input f id b → (is_state b ≡ true → state id ≡ word) → (is_input b ≡ true → input id ≡ word)
+leaf_word : (items : List Item) (state input f : Frame) (id word : ℕ) (b : Body) → is_leaf b ≡ true → LineHolds items state input f id b → (is_state b ≡ true → state id ≡ word) → (is_leaf b ≡ true → input id ≡ word)
     → word ≡ f id
-leaf_word items state input f id word (body.State s) leaf h of_state of_input = sym (h ∙ of_state refl)
+leaf_word items state input f id word (body.State s) leaf h of_state of_input = sym (h ∙ either_word (is_free items id) (state id) (input id) word (of_state refl) (of_input refl))
 leaf_word items state input f id word (body.Input s) leaf h of_state of_input = sym (h ∙ of_input refl)
 leaf_word items state input f id word _ leaf h of_state of_input = absurd (cc)
 
@@ -75,7 +76,14 @@ module _ (items : List Item) (w : IsWellFormed items) (values : List ℕ) (many 
   states_now = given is_state items (words_at values (slots_of is_state items))
 
   abbrev pub inputs_now : Frame
-  inputs_now = given is_input items (words_at values (slots_of is_input items))
+  inputs_now = given_leaves items (words_at values (slots_of is_state items)) (words_at values (slots_of is_input items))
+
+  -- the word that is given to a leaf is its now-value
+  given_now : (id : ℕ) (y : Item) → find_item items id ≡ Some y → is_leaf y.body ≡ true → inputs_now id ≡ get_or values (slot items id) 0
+  given_now id y found leaf =
+      leaf_cases (inputs_now id ≡ get_or values (slot items id) 0) y.body leaf
+      (λ is. state_leaf items _ _ id y found is ∙ given-at is_state items values id y found is)
+      (λ is. input_leaf items _ _ id y found is ∙ given-at is_input items values id y found is)
 
   pub states_now-fit : IsState items states_now
   states_now-fit =
@@ -87,7 +95,7 @@ module _ (items : List Item) (w : IsWellFormed items) (values : List ℕ) (many 
   inputs_now-fit =
       inputs_fit items inputs_now [] items refl (λ y at is.
       let found = find_item-in items y w at in
-      subst (λ (k : ℕ). k < 2 ^ bits_of items y.id) (sym (given-at is_input items values y.id y found is)) (leaves y.id y found (input_is_leaf y.body is)))
+      subst (λ (k : ℕ). k < 2 ^ bits_of items y.id) (sym (given_now y.id y found is)) (leaves y.id y found is))
 
   -- in the frame of them each leaf has its now-value
   leaf_now : (f : Frame) → IsFrame items states_now inputs_now f → (y : Item) → IsIn items y → is_leaf y.body ≡ true → get_or values (slot items y.id) 0 ≡ f y.id
@@ -95,7 +103,7 @@ module _ (items : List Item) (w : IsWellFormed items) (values : List ℕ) (many 
       let found = find_item-in items y w at in
       leaf_word items states_now inputs_now f y.id (get_or values (slot items y.id) 0) y.body leaf
       (line_at items states_now inputs_now f at.before at.after y (subst (LinesHold items states_now inputs_now f) at.splits frame))
-      (given-at is_state items values y.id y found) (given-at is_input items values y.id y found)
+      (given-at is_state items values y.id y found) (given_now y.id y found)
 
   leaves_hold : (f : Frame) → IsFrame items states_now inputs_now f → LeavesHold items 0 values f
   leaves_hold f frame front after y e leaf =

@@ -4,7 +4,7 @@ use Rattle.std.specs.List.{filter}
 use Rattle.btor2.specs.declared.item.Item.{Item}
 use Rattle.btor2.specs.declared.item.Body.{Body}
 use Rattle.btor2.specs.declared.item.Body.TheVariants as body
-use Rattle.btor2.specs.Items.{node_sort}
+use Rattle.btor2.specs.Items.{node_sort, is_input, is_state, names_state}
 use Rattle.btor2.specs.Trace.{Frame}
 
 -- whether a line has a value: a leaf, a constant or an operator
@@ -32,3 +32,7 @@ rank test (x ∷ xs) id = if id == x.id then 0 else (if test x.body then suc (ra
 -- the frame of given words for the items of a kind: the k-th of them has the k-th word
 abbrev pub given : (Body → Bool) → List Item → List ℕ → Frame
 given test items words id = slice_index words (rank test items id)
+
+-- the frame of given words for the states and for the inputs
+abbrev pub given_leaves : List Item → List ℕ → List ℕ → Frame
+given_leaves items states inputs id = if names_state items id then given is_state items states id else given is_input items inputs id

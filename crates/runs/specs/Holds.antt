@@ -1,12 +1,12 @@
 -- What a run keeps of its model.
-use Rattle.std.specs.Prelude.{◌≡◌, ℕ, ◌<◌, ◌^◌, Bool, true, List, length, map, Some, is_some, unwrap_or, slice_index}
+use Rattle.std.specs.Prelude.{◌≡◌, ℕ, ◌<◌, ◌^◌, Bool, true, List, length, map, Option, Some, option_map, slice_index}
 use Rattle.btor2.specs.declared.item.Item.{Item}
 use Rattle.btor2.specs.Items.{find_item, is_input, is_state, is_bad, is_constraint, next_value}
 use Rattle.btor2.specs.Check.{IsWellFormed}
 use Rattle.btor2.specs.Trace.{Frame, IsFrame, bits_of}
 use Rattle.runs.specs.declared.nodes.Node.{Node}
 use Rattle.runs.specs.declared.word_run.WordRun.TheInside.{Inside}
-use Rattle.runs.specs.Frames.{has_value, is_leaf, of_kind, ids_of, given}
+use Rattle.runs.specs.Frames.{has_value, is_leaf, of_kind, ids_of, given, given_leaves}
 use Rattle.runs.specs.Run.{Run, property_id}
 use Rattle.runs.specs.Nodes.{slot, node_of, words_at}
 
@@ -21,9 +21,9 @@ run_of r =
       steps = r.tally;
     }
 
--- the id of the value of a state's next line
-abbrev pub next_id : List Item → ℕ → ℕ
-next_id items id = unwrap_or (next_value items id) 0
+-- the slot of the value of a state's next line, where it has one
+abbrev pub next_slot : List Item → ℕ → Option ℕ
+next_slot items id = option_map (slot items) (next_value items id)
 
 -- each now-value of a leaf fits its width
 abbrev pub LeavesFit : List Item → List ℕ → Type 0
@@ -36,20 +36,19 @@ HoldsFrame items values f = (id : ℕ) (y : Item) → find_item items id ≡ Som
 
 -- What the lists of a run have of a model: the nodes and their operands' slots, the slots of the states, of the inputs and of the
 -- states' next nodes and of those that the properties name; given words that fit; and the words of the frame where it is settled.
-pub record Keeps (items : List Item) (nodes : List Node) (slots states inputs nexts bads constraints values next_values : List ℕ) (settled : Bool) : Type 0 where
+pub record Keeps (items : List Item) (nodes : List Node) (slots states inputs : List ℕ) (nexts : List (Option ℕ)) (bads constraints values next_values : List ℕ) (settled : Bool) : Type 0 where
   pub well_formed : IsWellFormed items
-  pub has_nexts : (id : ℕ) (y : Item) → find_item items id ≡ Some y → is_state y.body ≡ true → is_some (next_value items id) ≡ true
   pub are_nodes : nodes ≡ map (λ x. node_of items x.body) (of_kind has_value items)
   pub are_slots : slots ≡ map (λ x. slot items x.id) items
   pub are_states : states ≡ map (slot items) (ids_of is_state items)
   pub are_inputs : inputs ≡ map (slot items) (ids_of is_input items)
-  pub are_nexts : nexts ≡ map (λ id. slot items (next_id items id)) (ids_of is_state items)
+  pub are_nexts : nexts ≡ map (next_slot items) (ids_of is_state items)
   pub are_bads : bads ≡ map (λ x. slot items (property_id x.body)) (of_kind is_bad items)
   pub are_constraints : constraints ≡ map (λ x. slot items (property_id x.body)) (of_kind is_constraint items)
   pub many_nodes : length values ≡ length (of_kind has_value items)
   pub many_states : length next_values ≡ length (of_kind is_state items)
   pub leaves : LeavesFit items values
-  pub frame : settled ≡ true → (f : Frame) → IsFrame items (given is_state items (words_at values states)) (given is_input items (words_at values inputs)) f
+  pub frame : settled ≡ true → (f : Frame) → IsFrame items (given is_state items (words_at values states)) (given_leaves items (words_at values states) (words_at values inputs)) f
       → HoldsFrame items values f
 
 abbrev pub IsRun : Inside → Type 0

@@ -1,5 +1,5 @@
 -- The nodes of a run, with their operands as places in the list of now-values, and what they give from that list.
-use Rattle.std.specs.Prelude.{ℕ, suc, ◌+◌, ◌^◌, ◌<◌, ◌≤◌, List, [], ◌∷◌, length, map, unwrap_or, slice_index, slice_set}
+use Rattle.std.specs.Prelude.{ℕ, suc, ◌+◌, ◌^◌, ◌<◌, ◌≤◌, List, [], ◌∷◌, Option, IfSome, length, map, option_map, unwrap_or, slice_index, slice_set}
 use Rattle.base.specs.Operator.{unary_value, binary_value, ite_value, slice_value, uext_value, sext_value, concat_value}
 use Rattle.btor2.specs.declared.item.Item.{Item}
 use Rattle.btor2.specs.declared.item.Body.{Body}
@@ -73,3 +73,10 @@ NodesFit (n ∷ ns) at values = NodeFits n values at × NodesFit ns (suc at) (sl
 -- the words at some places of a list
 abbrev pub words_at : List ℕ → List ℕ → List ℕ
 words_at values places = map (slice_index values) places
+
+-- the word at a place of a list, where there is a place, else 0; and a place that is in a list, where there is one
+abbrev pub word_where : List ℕ → Option ℕ → ℕ
+word_where values place = unwrap_or (option_map (slice_index values) place) 0
+
+abbrev pub IsInside : ℕ → Option ℕ → Type 0
+IsInside n place = IfSome place (λ p. p < n)

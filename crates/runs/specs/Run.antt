@@ -5,9 +5,9 @@ use Rattle.base.specs.Steps.{one_more}
 use Rattle.btor2.specs.declared.item.Item.{Item}
 use Rattle.btor2.specs.declared.item.Body.{Body}
 use Rattle.btor2.specs.declared.item.Body.TheVariants as body
-use Rattle.btor2.specs.Items.{is_input, is_state, names_state, init_value, constant_of}
+use Rattle.btor2.specs.Items.{is_input, is_state, init_value, constant_of}
 use Rattle.btor2.specs.Trace.{Frame, IsFrame}
-use Rattle.runs.specs.Frames.{has_value, of_kind, ids_of, given}
+use Rattle.runs.specs.Frames.{has_value, of_kind, ids_of, given, given_leaves}
 
 -- The words of the states and of the inputs are in file order. It is settled where no word was set since the last settling and
 -- the run has not advanced since. The steps are all that it has taken.
@@ -23,7 +23,7 @@ abbrev pub state_words : Run → Frame
 state_words r = given is_state r.items r.states
 
 abbrev pub leaf_words : Run → Frame
-leaf_words r id = if names_state r.items id then state_words r id else given is_input r.items r.inputs id
+leaf_words r = given_leaves r.items r.states r.inputs
 
 -- The frame that the run is in: the words of its states are carried, and given where the states are free.
 abbrev pub IsNow : Run → Frame → Type 0

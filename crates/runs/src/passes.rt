@@ -1,6 +1,6 @@
 //! The passes over the lists of words of a run.
-ghost use Rattle.std.specs.Prelude.{◌≡◌, ◌≢◌, ℕ, ◌<◌, ◌≤◌, length, All, slice_index};
-ghost use Rattle.runs.specs.Nodes.{settled_values, NodesFit, words_at};
+ghost use Rattle.std.specs.Prelude.{◌≡◌, ◌≢◌, ℕ, ◌<◌, ◌≤◌, length, map, All, slice_index};
+ghost use Rattle.runs.specs.Nodes.{settled_values, NodesFit, words_at, word_where, IsInside};
 ghost use Rattle.runs.specs.Run.{more_steps};
 
 use crate::nodes::{Node, node_word};
@@ -18,15 +18,31 @@ pub(crate) fn settle_nodes(nodes: &[Node], values: &mut [u64], tally: &mut Tally
     }
 }
 
-/// Takes the words at some places. One step for each.
-pub(crate) fn take_words(values: &[u64], places: &[usize], taken: &mut [u64], tally: &mut Tally)
-    requires inside { All (λ p. p < length values.now) places.now }
+/// The word at a place, where there is a place, and else 0.
+fn word_where(values: &[u64], place: Option<usize>) -> u64
+    requires { IsInside (length values.now) place }
+    ensures { result ≡ word_where values.now place }
+{
+    match place {
+        Some(place) => values[place],
+        None => 0,
+    }
+}
+
+/// Takes the words at some places, and 0 where there is none. One step for each.
+pub(crate) fn take_words(
+    values: &[u64],
+    places: &[Option<usize>],
+    taken: &mut [u64],
+    tally: &mut Tally,
+)
+    requires inside { All (IsInside (length values.now)) places.now }
     requires as_many { length taken.old ≡ length places.now }
-    ensures taken { taken.new ≡ words_at values.now places.now }
+    ensures taken { taken.new ≡ map (word_where values.now) places.now }
     ensures steps { tally.new ≡ more_steps (length places.now) tally.old }
 {
     for k in 0..places.len() {
-        taken[k] = base::take(values[places[k]], tally);
+        taken[k] = base::take(word_where(values, places[k]), tally);
     }
 }
 

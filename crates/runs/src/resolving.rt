@@ -1,11 +1,11 @@
 //! What a run keeps of its model: each id resolved once.
 ghost use Rattle.std.specs.Prelude.{◌≡◌, ℕ, ◌<◌, ◌≤◌, true, Some, map, length, is_some, slice_get, slice_index, option_copied, IfOk};
-ghost use Rattle.btor2.specs.Items.{is_state, next_value};
+ghost use Rattle.btor2.specs.Items.{is_state};
 ghost use Rattle.btor2.specs.Check.{IsWellFormed};
 ghost use Rattle.btor2.specs.Lists.{places};
 ghost use Rattle.runs.specs.Frames.{has_value, of_kind, ids_of};
 ghost use Rattle.runs.specs.Nodes.{slot, node_of, property_slot};
-ghost use Rattle.runs.specs.Holds.{next_id};
+ghost use Rattle.runs.specs.Holds.{next_slot};
 ghost use Rattle.runs.specs.Run.{first_word, property_at};
 
 use crate::nodes::{Node, node_of, operand};
@@ -72,23 +72,32 @@ pub(crate) fn picked(
     Ok(chosen)
 }
 
-/// The slots of the states' next nodes.
+/// The slot of a state's next node, if it has a next. `k` counts the states.
+fn next_slot(model: &Model, slots: &[usize], k: usize) -> Option<usize>
+    requires well_formed { IsWellFormed model.now }
+    requires slots { slots.now ≡ map (λ x. slot model.now x.id) model.now }
+    requires there { k < length (ids_of is_state model.now) }
+    ensures { result ≡ next_slot model.now (slice_index (ids_of is_state model.now) k) }
+{
+    match model.next_of(k) {
+        Some(place) => Some(slots[place]),
+        None => None,
+    }
+}
+
+/// The slots of the states' next nodes, where they have one.
 pub(crate) fn next_slots(
     alloc: Global,
     model: &Model,
     slots: &[usize],
-) -> Result<Vec<usize>, AllocError>
+) -> Result<Vec<Option<usize>>, AllocError>
     requires well_formed { IsWellFormed model.now }
     requires slots { slots.now ≡ map (λ x. slot model.now x.id) model.now }
-    requires nexts { (k : ℕ) → k < length (ids_of is_state model.now) → is_some (next_value model.now (slice_index (ids_of is_state model.now) k)) ≡ true }
-    ensures { IfOk result (λ v. v.items ≡ map (λ id. slot model.now (next_id model.now id)) (ids_of is_state model.now)) }
+    ensures { IfOk result (λ v. v.items ≡ map (next_slot model.now) (ids_of is_state model.now)) }
 {
     let mut nexts = Vec::new(alloc);
     for k in 0..model.states().len() {
-        match model.next_of(k) {
-            Some(place) => nexts.push(slots[place])?,
-            None => unreachable!(),
-        }
+        nexts.push(next_slot(model, slots, k))?;
     }
     Ok(nexts)
 }

@@ -2,7 +2,7 @@
 ghost use Rattle.std.specs.Prelude.{◌≡◌, ℕ, ◌+◌, ◌^◌, ◌<◌, true, false, None, length, map, is_some, IfOk, IfSome, slice_get, slice_index, slice_set};
 ghost use Rattle.btor2.specs.Items.{is_input, is_state, is_bad, is_constraint};
 ghost use Rattle.btor2.specs.Check.{IsWellFormed};
-ghost use Rattle.btor2.specs.Lists.{places, first_without_next, width_at};
+ghost use Rattle.btor2.specs.Lists.{places, first_init_without_next, width_at};
 ghost use Rattle.btor2.specs.Trace.{Frame, next_state};
 ghost use Rattle.runs.specs.Frames.{ids_of};
 ghost use Rattle.runs.specs.Run.{IsNow, node_count, state_count, more_steps, zeros, start, is_one};
@@ -27,10 +27,11 @@ pub struct WordRun<'a> {
     nodes: Vec<Node>,
     // for each item how many of them stand before it
     slots: Vec<usize>,
-    // the slots of the states, of the inputs, of the states' next nodes, and of the nodes that the properties name
+    // the slots of the states, of the inputs, of the states' next nodes where they have one, and of the nodes that
+    // the properties name
     states: Vec<usize>,
     inputs: Vec<usize>,
-    nexts: Vec<usize>,
+    nexts: Vec<Option<usize>>,
     bads: Vec<usize>,
     constraints: Vec<usize>,
     // the words of the nodes now; those of the leaves are given
@@ -54,9 +55,8 @@ impl<'a> std::marker::Model for WordRun<'a> {
 }
 
 impl<'a> WordRun<'a> {
-    /// The run of a model in which each state has a next.
-    fn of_nexts(alloc: Global, model: &'a Model) -> Result<WordRun<'a>, AllocError>
-        requires nexts { first_without_next model.now model.now ≡ None }
+    /// The run of a model, of which a state without a next begins each frame at 0.
+    fn resolved(alloc: Global, model: &'a Model) -> Result<WordRun<'a>, AllocError>
         requires well_formed { IsWellFormed model.now }
         ensures { IfOk result (λ run. run ≡ start model.now) }
     {
@@ -87,24 +87,26 @@ impl<'a> WordRun<'a> {
     }
 
     /// The run of a model. Each state begins at the word of its init line, or at 0, and each input at 0.
+    /// A free state, which has neither an init nor a next, keeps no word from frame to frame: it has the word that is
+    /// set in the frame, or 0.
     ///
-    /// Errors: `NoNext` with the id of the first state in file order that has no next; else `NoMemory`.
+    /// Errors: `NoNext` with the id of the first state in file order that has an init and no next; else `NoMemory`.
     pub fn new(alloc: Global, model: &'a Model) -> Result<WordRun<'a>, NewFault>
         ensures ok { IfOk result (λ run. run ≡ start model.now) }
-        ensures answer { AnswersNew result (first_without_next model.now model.now) }
+        ensures answer { AnswersNew result (first_init_without_next model.now model.now) }
     {
         // a model's items are well-formed
         let _ = model.items();
-        match model.first_without_next() {
+        match model.first_init_without_next() {
             Some(id) => Err(NewFault::NoNext(id)),
-            None => match WordRun::of_nexts(alloc, model) {
+            None => match WordRun::resolved(alloc, model) {
                 Ok(run) => Ok(run),
                 Err(_) => Err(NewFault::NoMemory),
             },
         }
     }
 
-    /// Gives a state a word. `k` counts the states in file order.
+    /// Gives a state a word; where it is free, its word in this frame. `k` counts the states in file order.
     ///
     /// Conditions: `k` is below the number of states, and `word` is below 2 to the state's width.
     pub fn set_state(&mut self, k: usize, word: u64)
@@ -177,7 +179,8 @@ impl<'a> WordRun<'a> {
         self.values[self.bads[i]] == 1
     }
 
-    /// Moves to the next frame: each state gets the word of its next node, and each input 0. One step for each state.
+    /// Moves to the next frame: each state gets the word of its next node, and each input and each free state 0. One
+    /// step for each state.
     ///
     /// Condition: the run is settled.
     pub fn advance(&mut self)

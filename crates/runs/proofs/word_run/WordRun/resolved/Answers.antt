@@ -5,18 +5,15 @@ use Rattle.btor2.specs.Items.{is_state, is_input, is_bad, is_constraint}
 use Rattle.runs.specs.Nodes.{words_at}
 use Rattle.runs.proofs.InvariantLemmas.{run_same}
 use Rattle.runs.proofs.PropertyLemmas.{bad_is_property, constraint_is_property, properties_there, properties_slots}
-use Rattle.runs.proofs.StartLemmas.{NewLists, Starts, nexts_listed, picked_inside, picked_slots, start_inside, start_many, start_once, starts}
-use Rattle.runs.proofs.word_run.WordRun.of_nexts.Goals as goal
-use Rattle.runs.proofs.word_run.WordRun.of_nexts.Goals.{After-deref_mut, After-put_words}
+use Rattle.runs.proofs.StartLemmas.{NewLists, Starts, picked_inside, picked_slots, start_inside, start_many, start_once, starts}
+use Rattle.runs.proofs.word_run.WordRun.resolved.Goals as goal
+use Rattle.runs.proofs.word_run.WordRun.resolved.Goals.{After-deref_mut, After-put_words}
 
 pub picked-requires : goal.picked-requires
 picked-requires c = picked_inside is_state c.args.model.now c.deref-2.result.now c.states.result.now (c.deref-2.ensures.value ∙ c.in_ok-slots.ensures) c.states.ensures
 
 pub picked-requires-2 : goal.picked-requires-2
 picked-requires-2 c = picked_inside is_input c.args.model.now c.deref-3.result.now c.inputs.result.now (c.deref-3.ensures.value ∙ c.in_ok-slots.ensures) c.inputs.ensures
-
-pub next_slots-requires-clause-nexts : goal.next_slots-requires-clause-nexts
-next_slots-requires-clause-nexts c = nexts_listed c.args.model.now c.requires.well_formed c.requires.nexts
 
 pub property_slots-requires-clause-properties : goal.property_slots-requires-clause-properties
 property_slots-requires-clause-properties c = properties_there is_bad c.args.model.now c.bads.result.now bad_is_property c.bads.ensures
@@ -32,7 +29,6 @@ new_lists c =
     let many : c.len.result ≡ length c.in_ok-nodes.nodes.items = omega (arith, c.in_ok-nodes.nodes.ok.0) in
     record {
       well_formed = c.requires.well_formed;
-      has_nexts = c.requires.nexts;
       are_nodes = c.in_ok-nodes.ensures;
       are_slots = c.in_ok-slots.ensures;
       are_states = c.in_ok-states.ensures ∙ picked_slots is_state c.args.model.now c.deref-2.result.now c.states.result.now (c.deref-2.ensures.value ∙ c.in_ok-slots.ensures) c.states.ensures;
