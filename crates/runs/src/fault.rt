@@ -7,7 +7,7 @@ use thiserror::Error;
 /// Why a model has no run.
 #[derive(Clone, Copy, Debug, PartialEq, Eq, Error)]
 pub enum NewFault {
-    /// The first state in file order without a next; it has the id of the state's line.
+    /// The first state in file order with an init and without a next; it has the id of the state's line.
     #[error("item {0}: {number} {name}", number = self.number(), name = self.name())]
     NoNext(u64),
     /// A growth was refused.

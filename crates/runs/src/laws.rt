@@ -20,10 +20,10 @@ pub fn given_words()
     ensures inputs { (items : List Item) (g : Frame) (id : ℕ) (x : Item) → find_item items id ≡ Some x → is_input x.body ≡ true → given is_input items (map g (ids_of is_input items)) id ≡ g id }
     ensures frames { (items : List Item) (state input f : Frame) → IsWellFormed items → IsFrame items state input f
         → IsFrame items (given is_state items (map (state_word items state input) (ids_of is_state items)))
-            (given_leaves items (map (state_word items state input) (ids_of is_state items)) (map input (ids_of is_input items))) f }
+        (given_leaves items (map (state_word items state input) (ids_of is_state items)) (map input (ids_of is_input items))) f }
     ensures no_others { (items : List Item) (state input f : Frame) → IsWellFormed items
         → IsFrame items (given is_state items (map (state_word items state input) (ids_of is_state items)))
-            (given_leaves items (map (state_word items state input) (ids_of is_state items)) (map input (ids_of is_input items))) f → IsFrame items state input f }
+        (given_leaves items (map (state_word items state input) (ids_of is_state items)) (map input (ids_of is_input items))) f → IsFrame items state input f }
 {}
 
 /// A law: a word that is set for the k-th state, or the k-th input, is the frame's word at its id.

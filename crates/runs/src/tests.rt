@@ -77,11 +77,41 @@ fn register_line(k: usize) -> Body {
     }
 }
 
-/// A line of a model whose state has no next.
+/// A line of a model whose state has an init and no next.
 fn stuck_line(k: usize) -> Body {
     match k {
         0 => Body::Sort { width: 1 },
-        _ => Body::State { sort: 1 },
+        1 => Body::State { sort: 1 },
+        2 => Body::Zero { sort: 1 },
+        _ => Body::Init {
+            sort: 1,
+            state: 2,
+            value: 3,
+        },
+    }
+}
+
+/// How many lines the follower has.
+const FOLLOWER: usize = 8;
+
+/// A line of a model with a free state of four bits, which may not be 0, and one that follows it a frame later.
+fn follower_line(k: usize) -> Body {
+    match k {
+        0 => Body::Sort { width: 4 },
+        1 | 2 => Body::State { sort: 1 },
+        3 => Body::Input { sort: 1 },
+        4 => Body::Next {
+            sort: 1,
+            state: 3,
+            value: 2,
+        },
+        5 => Body::Sort { width: 1 },
+        6 => Body::Unary {
+            operator: Unary::Redor,
+            sort: 6,
+            operand: 2,
+        },
+        _ => Body::Constraint { operand: 7 },
     }
 }
 
@@ -137,8 +167,8 @@ fn a_counter_counts(rt: HostRuntime) -> Result<(), Fail> {
 }
 
 #[test]
-fn a_state_without_a_next_is_told(rt: HostRuntime) -> Result<(), Fail> {
-    let model = model_of(rt.alloc(), 2, stuck_line).ok_or("refused")?;
+fn a_state_with_an_init_alone_is_told(rt: HostRuntime) -> Result<(), Fail> {
+    let model = model_of(rt.alloc(), 4, stuck_line).ok_or("refused")?;
     match WordRun::new(rt.alloc(), &model) {
         Ok(_) => assert!(rt; false),
         Err(fault) => {
@@ -214,5 +244,20 @@ fn words_that_are_set_are_read_back(rt: HostRuntime) -> Result<(), Fail> {
     run.advance();
     run.settle();
     assert_eq!(rt; two_words(&run, &model, 2, 3), (12, 0, false));
+    Ok(())
+}
+
+#[test]
+fn a_free_state_has_the_word_that_is_set(rt: HostRuntime) -> Result<(), Fail> {
+    let model = model_of(rt.alloc(), FOLLOWER, follower_line).ok_or("refused")?;
+    let mut run = WordRun::new(rt.alloc(), &model)?;
+    assert!(rt; set_both(&mut run, &model, 9, 12));
+    run.settle();
+    assert_eq!(rt; two_words(&run, &model, 1, 2), (9, 0, true));
+    run.advance();
+    run.settle();
+    assert_eq!(rt; two_words(&run, &model, 1, 2), (0, 9, false));
+    assert_eq!(rt; run.held(), 6);
+    assert_eq!(rt; run.steps(), 10);
     Ok(())
 }
