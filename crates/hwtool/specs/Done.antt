@@ -4,7 +4,7 @@ use Rattle.std.specs.Io.KnownBytes.{Appends}
 use Rattle.btor2.specs.declared.item.Item.{Item}
 use Rattle.btor2.specs.Items.{is_input, is_state, is_bad, is_constraint}
 use Rattle.btor2.specs.Check.{IsWellFormed}
-use Rattle.btor2.specs.Lists.{places, first_without_next}
+use Rattle.btor2.specs.Lists.{places, first_init_without_next}
 use Rattle.btor2text.specs.declared.forms.Forms.TheVariants as forms
 use Rattle.btor2text.specs.Spelling.{StandsFor}
 use Rattle.btor2text.specs.Writing.{written}
@@ -30,12 +30,12 @@ IsAccepted _ = ⊥
 abbrev pub judgement_line : Judgement → List ℕ
 judgement_line j = judgement_text j ++ 10 ∷ []
 
--- The first text is of a model, each of whose states has a next; the second is judged so over it; and what was written is the line of that judgement.
+-- The first text is of a model, each of whose states has a next or is free; the second is judged so over it; and what was written is the line of that judgement.
 pub record IsJudged (model witness before now : Option (List ℕ)) (verdict : Judgement) : Type 0 where
   pub items : List Item
   pub text : IsModelOf model items
   pub well_formed : IsWellFormed items
-  pub each_has_next : first_without_next items items ≡ None
+  pub each_has_next_or_is_free : first_init_without_next items items ≡ None
   pub judged : IfSome witness (λ text. Judges items text verdict)
   pub line : Appends before now (judgement_line verdict)
 

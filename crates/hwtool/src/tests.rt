@@ -17,7 +17,12 @@ mod words;
 const TOGGLER: &str =
     "1 sort bitvec 1\n2 zero 1\n3 state 1 t\n4 init 1 3 2\n5 not 1 3\n6 next 1 3 5\n7 bad 3\n";
 
-const FREE: &str = "1 sort bitvec 1\n2 state 1 t\n3 next 1 2 2\n4 bad 2\n";
+/// A state with a next and no init.
+const ANY_START: &str = "1 sort bitvec 1\n2 state 1 t\n3 next 1 2 2\n4 bad 2\n";
+
+/// A state with neither init nor next, one that follows it, and an input.
+const FREE: &str =
+    "1 sort bitvec 1\n2 state 1 f\n3 state 1 s\n4 input 1 x\n5 next 1 3 2\n6 bad 3\n";
 
 /// What the program answers and writes for its words and the texts of its files: status, standard output, standard error.
 fn ran<B: Source>(
@@ -50,7 +55,16 @@ fn lowered(alloc: Global, text: &str) -> Result<(u8, Vec<u8>, Vec<u8>), Fail> {
 fn circuits(rt: HostRuntime) -> Result<(), Fail> {
     let rows = [
         (TOGGLER, "aag 1 0 1 0 0 1\n2 3\n2\nl0 t[0]\n"),
-        (FREE, "aag 1 0 1 0 0 1\n2 2 2\n2\nl0 t[0]\n"),
+        (ANY_START, "aag 1 0 1 0 0 1\n2 2 2\n2\nl0 t[0]\n"),
+        (
+            FREE,
+            "aag 3 2 1 0 0 1\n2\n4\n6 4 6\n6\ni0 x[0]\ni1 f[0]\nl0 s[0]\n",
+        ),
+        ("1 sort bitvec 1\n2 state 1\n", "aag 1 1 0 0 0\n2\n"),
+        (
+            "1 sort bitvec 2\n2 state 1 f\n3 state 1\n4 input 1 x\n5 sort bitvec 1\n6 state 5 g\n7 constraint 6\n",
+            "aag 7 7 0 0 0 0 1\n2\n4\n6\n8\n10\n12\n14\n14\ni0 x[0]\ni1 x[1]\ni2 f[0]\ni3 f[1]\ni6 g[0]\n",
+        ),
         ("", "aag 0 0 0 0 0\n"),
         ("; nothing\n\n", "aag 0 0 0 0 0\n"),
         (
@@ -74,10 +88,13 @@ fn circuits(rt: HostRuntime) -> Result<(), Fail> {
 #[test]
 fn refusals(rt: HostRuntime) -> Result<(), Fail> {
     let rows = [
-        ("1 sort bitvec 1\n2 state 1\n", "model: item 2: 92 NoNext\n"),
         (
-            "1 sort bitvec 1\n2 state 1\n3 state 1\n4 next 1 2 2\n",
+            "1 sort bitvec 1\n2 zero 1\n3 state 1\n4 init 1 3 2\n",
             "model: item 3: 92 NoNext\n",
+        ),
+        (
+            "1 sort bitvec 1\n2 zero 1\n3 state 1\n4 state 1\n5 state 1\n6 init 1 5 2\n7 init 1 4 2\n8 next 1 3 2\n",
+            "model: item 4: 92 NoNext\n",
         ),
         (
             "1 sort bitvec 1\n2 add 1 1 1\n",

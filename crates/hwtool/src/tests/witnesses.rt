@@ -1,6 +1,6 @@
 //! Witnesses judged through the program, with the line that is printed for each.
 
-use super::{FREE, TOGGLER, ran};
+use super::{ANY_START, FREE, TOGGLER, ran};
 use std::alloc::Global;
 use std::test::Fail;
 
@@ -51,8 +51,8 @@ fn refuses(alloc: Global, witness: &str, line: u64, why: &str) -> Result<bool, F
 fn judgements(rt: HostRuntime) -> Result<(), Fail> {
     let rows = [
         (TOGGLER, RISES, 0, "accepted 2 frames"),
-        (FREE, "sat\nb0\n#0\n0 1\n@0\n.\n", 0, "accepted 1 frames"),
-        (FREE, "sat\nb0\n@0\n.\n", 1, "not reached: b0"),
+        (ANY_START, "sat\nb0\n#0\n0 1\n@0\n.\n", 0, "accepted 1 frames"),
+        (ANY_START, "sat\nb0\n@0\n.\n", 1, "not reached: b0"),
         (
             TOGGLER,
             "; note\n;\nsat\nb0\n#0\n0 0 t\n@0\n@1\n.\n",
@@ -142,7 +142,10 @@ fn violations(rt: HostRuntime) -> Result<(), Fail> {
 #[test]
 fn refused_models(rt: HostRuntime) -> Result<(), Fail> {
     let rows = [
-        ("1 sort bitvec 1\n2 state 1\n", "model: item 2: 70 NoNext\n"),
+        (
+            "1 sort bitvec 1\n2 zero 1\n3 state 1\n4 init 1 3 2\n",
+            "model: item 3: 70 NoNext\n",
+        ),
         (
             "1 sort bitvec 65\n2 state 1\n",
             "model: line 1: 5 WidthOutOfRange\n",
@@ -337,6 +340,55 @@ fn seventy_thousand_lines(rt: HostRuntime) -> Result<(), Fail> {
         text.push('\n')?;
         let printed = prints(rt.alloc(), model, text.as_str(), 0, whole)?;
         assert!(rt; printed, "{whole}");
+    }
+    Ok(())
+}
+
+/// A witness of the free state and its follower: the free state is 1 in the first frame, so the other is in the second.
+const FOLLOWED: &str = "sat\nb0\n#0\n1 0\n0 1\n@0\n0 0\n#1\n0 0\n@1\n0 0\n.\n";
+
+#[test]
+fn free_states(rt: HostRuntime) -> Result<(), Fail> {
+    let rows = [
+        (FREE, FOLLOWED, 0, "accepted 2 frames"),
+        (FREE, "sat\nb0\n#0\n0 1\n@0\n#1\n@1\n.\n", 0, "accepted 2 frames"),
+        (FREE, "sat\nb0\n#0\n0 1\n@0\n@1\n.\n", 0, "accepted 2 frames"),
+        (FREE, "sat\nb0\n@0\n#1\n0 1 f\n@1\n@2\n.\n", 0, "accepted 3 frames"),
+        // a free state that is not assigned is 0, and keeps no word of the frame before
+        (FREE, "sat\nb0\n@0\n#1\n@1\n.\n", 1, "not reached: b0"),
+        (FREE, "sat\nb0\n#0\n0 1\n@0\n.\n", 1, "not reached: b0"),
+        // a part for free states stands once before its frame, and gives words to them alone
+        (FREE, "sat\nb0\n@0\n#1\n1 0\n", 1, "malformed line 5: 114 BadIndex"),
+        (FREE, "sat\nb0\n@0\n#1\n2 0\n", 1, "malformed line 5: 114 BadIndex"),
+        (FREE, "sat\nb0\n@0\n#1\n.\n", 1, "malformed line 5: 113 FrameOrder"),
+        (FREE, "sat\nb0\n@0\n#1\n#1\n@1\n.\n", 1, "malformed line 5: 113 FrameOrder"),
+        (FREE, "sat\nb0\n@0\n#1\n@2\n.\n", 1, "malformed line 5: 113 FrameOrder"),
+        (FREE, "sat\nb0\n@0\n@1\n#1\n", 1, "malformed line 5: 113 FrameOrder"),
+        (FREE, "sat\nb0\n@0\n#0\n", 1, "malformed line 4: 113 FrameOrder"),
+        (FREE, "sat\nb0\n@0\n#2\n", 1, "malformed line 4: 113 FrameOrder"),
+        (FREE, "sat\nb0\n#1\n", 1, "malformed line 3: 113 FrameOrder"),
+        (FREE, "sat\nb0\n@0\n#1\n0 1\n0 1\n", 1, "malformed line 6: 115 IndexTwice"),
+        (FREE, "sat\nb0\n@0\n#1\n0 x\n", 1, "malformed line 5: 117 Undetermined"),
+        (TOGGLER, "sat\nb0\n@0\n#1\n@1\n.\n", 1, "malformed line 4: 113 FrameOrder"),
+    ];
+    for (model, witness, status, line) in rows {
+        let printed = prints(rt.alloc(), model, witness, status, line)?;
+        assert!(rt; printed, "{witness}");
+    }
+    Ok(())
+}
+
+#[test]
+fn a_witness_of_free_states_cut(rt: HostRuntime) -> Result<(), Fail> {
+    let mut line = 1;
+    for cut in 0..FOLLOWED.len() {
+        let text = format!(in rt.alloc(); "malformed line {line}: 118 Truncated")?;
+        let (front, _) = FOLLOWED.split_at(cut);
+        let printed = prints(rt.alloc(), FREE, front, 1, text.as_str())?;
+        assert!(rt; printed, "{front}");
+        if FOLLOWED.as_bytes()[cut] == b'\n' {
+            line += 1;
+        }
     }
     Ok(())
 }
