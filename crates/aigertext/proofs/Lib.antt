@@ -1,2 +1,4 @@
 mod LineLemmas
 mod SectionLemmas
+mod DeltaLemmas
+mod BinaryLemmas
