@@ -3,7 +3,9 @@
 
 mod ascii;
 mod binary;
+mod counts;
 mod deltas;
+mod fault;
 mod forms;
 mod header;
 mod justice;
@@ -15,6 +17,7 @@ mod sections;
 
 pub use ascii::write_ascii;
 pub use binary::write_binary;
+pub use fault::{ReadFault, Why};
 pub use forms::Form;
 
 #[cfg(test)]

@@ -85,8 +85,5 @@ fn binary_spellings(rt: HostRuntime) {
         Some(circuit) => assert!(rt; write_binary(&circuit, &mut sink).is_ok()),
         None => assert!(rt; false),
     }
-    assert_eq!(rt;
-        sink.bytes(),
-        b"aig 3 2 0 0 1 0 1\n6\n\x02\x02".as_slice()
-    );
+    assert_eq!(rt; sink.bytes(), b"aig 3 2 0 0 1 0 1\n6\n\x02\x02".as_slice());
 }
