@@ -11,7 +11,7 @@ pub record DigitsSoFar (before : List ℕ) (n : ℕ) (so_far : List ℕ) (rest :
   pub short : length so_far + more ≡ length before + 4
 
 -- a number above one digit is its lowest digit and the others
-digits-more : (more n : ℕ) → 128 ≤ n → digits_128 (suc more) n ≡ (n % 128 + 128) ∷ digits_128 more (n / 128)
+pub digits-more : (more n : ℕ) → 128 ≤ n → digits_128 (suc more) n ≡ (n % 128 + 128) ∷ digits_128 more (n / 128)
 digits-more more n h =
     let large : nat_lt n 128 ≡ false = grind (arith, nat_tests) in
     rw large refl

@@ -105,21 +105,21 @@ last_four rest = do
   no_more (b.0, c.0, j.0, f.0) f.1
 
 -- the first five numbers, and the fields behind them
-unfoldable pub first_five : List (List ℕ) → Result (ℕ × ℕ × ℕ × ℕ × ℕ × List (List ℕ)) Why
+unfoldable pub first_five : List (List ℕ) → Result ((ℕ × ℕ × ℕ × ℕ × ℕ) × List (List ℕ)) Why
 first_five rest = do
   m ← number_at rest
   i ← number_at m.1
   l ← number_at i.1
   o ← number_at l.1
   a ← number_at o.1
-  Ok (m.0, i.0, l.0, o.0, a.0, a.1)
+  Ok ((m.0, i.0, l.0, o.0, a.0), a.1)
 
 -- a number of the header, which is at most 2^30
 unfoldable pub count_of : ℕ → Result ℕ Why
 count_of n = if nat_lt greatest_count n then Err why.TooBig else Ok n
 
 -- the counts, where each is at most 2^30
-unfoldable pub counts_of : ℕ × ℕ × ℕ × ℕ × ℕ × List (List ℕ) → ℕ × ℕ × ℕ × ℕ → Result Counts Why
+unfoldable pub counts_of : ℕ × ℕ × ℕ × ℕ × ℕ → ℕ × ℕ × ℕ × ℕ → Result Counts Why
 counts_of x y = do
   variables ← count_of x.0
   inputs ← count_of x.1
@@ -146,8 +146,8 @@ header_fields [] = Err why.BadHeader
 header_fields (word ∷ rest) = do
   form ← form_of word
   x ← first_five rest
-  y ← last_four x.5
-  h ← counts_of x y
+  y ← last_four x.1
+  h ← counts_of x.0 y
   fits ← fitting form h
   Ok (form, fits)
 

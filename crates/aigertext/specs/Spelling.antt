@@ -5,7 +5,7 @@ use Rattle.aiger.specs.declared.circuit.Reset.{Reset}
 use Rattle.aiger.specs.declared.circuit.Reset.TheVariants.{Zero, One, Free}
 use Rattle.aiger.specs.declared.circuit.Section.{Section}
 use Rattle.aiger.specs.declared.circuit.Section.TheVariants as section
-use Rattle.aiger.specs.Circuit.{Circuit, IsCircuit, NameMap, name_in, with_name_in}
+use Rattle.aiger.specs.Circuit.{Circuit, IsCircuit, with_name, name_refusal}
 use Rattle.aigertext.specs.declared.forms.Form.{Form}
 use Rattle.aigertext.specs.declared.forms.Form.TheVariants.{Binary}
 use Rattle.aigertext.specs.Ascii.{numbers_line, form_word, first_counts, last_counts, property_lines}
@@ -56,11 +56,11 @@ pub record Given : Type 0 where
 abbrev pub given_line : Given → List ℕ
 given_line g = letter g.section ∷ decimal g.position ++ 32 ∷ g.name ++ 10 ∷ []
 
--- names given in turn, each to a position that has none, make of some names others
-abbrev pub GiveNames : NameMap → List Given → NameMap → Type 0
-GiveNames before [] after = before ≡ after
-GiveNames before (g ∷ gs) after =
-    (name_in before g.section g.position ≡ None) × GiveNames (with_name_in before g.section g.position g.name) gs after
+-- names given in turn, each of which the circuit takes, make of a circuit another
+abbrev pub GiveNames : Circuit → List Given → Circuit → Type 0
+GiveNames c [] d = c ≡ d
+GiveNames c (g ∷ gs) d =
+    (name_refusal c g.section g.position g.name ≡ None) × GiveNames (with_name c g.section g.position g.name) gs d
 
 -- a comment: none, or a line `c` and any bytes
 abbrev pub IsComment : List ℕ → Type 0
@@ -69,7 +69,7 @@ IsComment bytes = (bytes ≡ []) ⊎ ((any : List ℕ) × (bytes ≡ 99 ∷ 10 �
 -- what stands behind the gates: names in any order, and a comment
 pub record IsEnd (c : Circuit) (bytes : List ℕ) : Type 0 where
   pub given : List Given
-  pub names : GiveNames [] given c.names
+  pub names : GiveNames (record c { names = [] }) given c
   pub comment : List ℕ
   pub is_comment : IsComment comment
   pub spelled : bytes ≡ flat_map given_line given ++ comment

@@ -1,9 +1,10 @@
 //! Worked rows of the texts: functions that do nothing, whose contracts are the rows.
-ghost use Rattle.std.specs.Prelude.{◌≡◌, ℕ, List, [], ◌∷◌, ◌++◌, Result, codes};
+ghost use Rattle.std.specs.Prelude.{◌≡◌, ℕ, List, [], ◌∷◌, ◌++◌, Result, Ok, Err, codes};
 ghost use Rattle.aiger.specs.Circuit.{Circuit};
 ghost use Rattle.aigertext.specs.Ascii.{numbers_line, without_zero_tail, name_line, ascii_text};
 ghost use Rattle.aigertext.specs.Binary.{delta, binary_text};
 ghost use Rattle.aigertext.specs.Reading.{text_on};
+ghost use Rattle.aigertext.specs.Spelling.{IsBinaryText};
 ghost use Rattle.aigertext.specs.declared.counts.Counts.{Counts};
 ghost use Rattle.aigertext.specs.declared.fault.Stop.{Stop};
 ghost use Rattle.aigertext.specs.declared.fault.Why.TheVariants as why;
@@ -101,4 +102,20 @@ pub fn worked_binary_faults()
         → text_on ascii (codes "aig 1 1 0 0 0\ni0 x\ni0 y\n") ≡ Err (record { left = 5; why = why.BadSymbol }) }
     ensures cut_comment { (ascii : Counts → List ℕ → Result Circuit Stop)
         → text_on ascii (codes "aig 0 0 0 0 0\nc") ≡ Err (record { left = 1; why = why.Truncated }) }
+{}
+
+/// A binary text stands for at most one circuit: each that it stands for is the one that reading it gives.
+pub fn one_binary_circuit()
+    ensures read { (ascii : Counts → List ℕ → Result Circuit Stop) (text : List ℕ) (c : Circuit)
+        → IsBinaryText text c → text_on ascii text ≡ Ok c }
+    ensures same { (text : List ℕ) (c d : Circuit) → IsBinaryText text c → IsBinaryText text d → c ≡ d }
+{}
+
+/// Worked rows: a binary text with its whole header and a comment stands for a circuit; without its byte 10, with
+/// a delta of too many bytes or with the ascii form's word it does not.
+pub fn worked_binary_spellings()
+    ensures spelled_out { IsBinaryText (codes "aig 3 2 0 1 1 0 0\n6\n" ++ 2 ∷ 2 ∷ codes "c\nany") one_output }
+    ensures unended { ¬ IsBinaryText (codes "aig 3 2 0 1 1\n6\n" ++ 2 ∷ 2 ∷ codes "c") one_output }
+    ensures too_long { ¬ IsBinaryText (codes "aig 3 2 0 1 1\n6\n" ++ 130 ∷ 0 ∷ 2 ∷ []) one_output }
+    ensures ascii { ¬ IsBinaryText (codes "aag 3 2 0 1 1\n2\n4\n6\n6 4 2\n") one_output }
 {}
