@@ -1,2 +1,10 @@
 mod LineLemmas
 mod SectionLemmas
+mod DeltaLemmas
+mod BinaryLemmas
+mod FieldLemmas
+mod GateLemmas
+mod PropertyLemmas
+mod NameReadLemmas
+mod HeaderLemmas
+mod StandsLemmas

@@ -5,6 +5,8 @@ use Rattle.aiger.specs.declared.circuit.Latch.{Latch}
 use Rattle.aiger.specs.declared.circuit.Reset.{Reset}
 use Rattle.aiger.specs.declared.circuit.Reset.TheVariants.{Zero, One, Free}
 use Rattle.aiger.specs.Net.{variables}
+use Rattle.aigertext.specs.declared.forms.Form.{Form}
+use Rattle.aigertext.specs.declared.forms.Form.TheVariants.{Ascii, Binary}
 use Rattle.aiger.specs.declared.circuit.Section.TheVariants as section
 use Rattle.aiger.specs.Circuit.{Circuit, Names, net, section_names}
 
@@ -29,11 +31,18 @@ without_zero_tail (n ∷ ns) = before_kept n (without_zero_tail ns)
 abbrev pub last_counts : Circuit → List ℕ
 last_counts c = length c.bads ∷ length c.constraints ∷ length c.justice ∷ length c.fair ∷ []
 
--- the header: the greatest variable, how many inputs, latches, outputs and gates, and then the last counts as far as they are not 0
-abbrev pub header : Circuit → List ℕ
-header c =
-    codes "aag" ++ 32 ∷ numbers_line (variables (net c) ∷ c.inputs ∷ length c.latches ∷ length c.outputs ∷ length c.gates
-    ∷ without_zero_tail (last_counts c))
+-- the first word of a text
+abbrev pub form_word : Form → List ℕ
+form_word Ascii = codes "aag"
+form_word Binary = codes "aig"
+
+-- the greatest variable, and how many inputs, latches, outputs and gates there are
+abbrev pub first_counts : Circuit → List ℕ
+first_counts c = variables (net c) ∷ c.inputs ∷ length c.latches ∷ length c.outputs ∷ length c.gates ∷ []
+
+-- the header: the form's word, the first counts, and then the last counts as far as they are not 0
+abbrev pub header : Form → Circuit → List ℕ
+header form c = form_word form ++ 32 ∷ numbers_line (first_counts c ++ without_zero_tail (last_counts c))
 
 -- a line of numbers, where there are any
 abbrev pub kept_line : List ℕ → List ℕ
@@ -118,5 +127,5 @@ property_lines c =
 -- the text: header, inputs, latches, properties, gates and names
 abbrev pub ascii_text : Circuit → List ℕ
 ascii_text c =
-    header c ++ (leaf_lines c ++ (property_lines c
+    header Ascii c ++ (leaf_lines c ++ (property_lines c
     ++ (gate_lines (suc (c.inputs + length c.latches)) c.gates ++ all_names c)))

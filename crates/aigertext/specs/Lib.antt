@@ -1,2 +1,6 @@
 pub mod Ascii
+pub mod Binary
+pub mod Whys
+pub mod Spelling
+pub mod Reading
 pub mod Worked

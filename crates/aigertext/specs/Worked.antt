@@ -43,6 +43,21 @@ one_gate =
       names = ((rank Input, 0), codes "a") ∷ ((rank Constraint, 0), codes "both") ∷ [];
     }
 
+-- two inputs and a gate of them, which is an output
+abbrev pub one_output : Circuit
+one_output =
+    record {
+      inputs = 2;
+      latches = [];
+      gates = record { rhs0 = 4; rhs1 = 2 } ∷ [];
+      outputs = 6 ∷ [];
+      bads = [];
+      constraints = [];
+      justice = [];
+      fair = [];
+      names = [];
+    }
+
 -- one input, two outputs, justice properties of two literals and of none, and a fairness constraint, with names given to some
 abbrev pub all_kinds : Circuit
 all_kinds =

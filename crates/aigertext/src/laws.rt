@@ -1,7 +1,14 @@
-//! Worked rows of the ascii text: functions that do nothing, whose contracts are the rows.
-ghost use Rattle.std.specs.Prelude.{◌≡◌, [], ◌∷◌, codes};
+//! Worked rows of the texts: functions that do nothing, whose contracts are the rows.
+ghost use Rattle.std.specs.Prelude.{◌≡◌, ℕ, List, [], ◌∷◌, ◌++◌, Result, Ok, Err, codes};
+ghost use Rattle.aiger.specs.Circuit.{Circuit};
 ghost use Rattle.aigertext.specs.Ascii.{numbers_line, without_zero_tail, name_line, ascii_text};
-ghost use Rattle.aigertext.specs.Worked.{toggler, free_state, one_gate, all_kinds};
+ghost use Rattle.aigertext.specs.Binary.{delta, binary_text};
+ghost use Rattle.aigertext.specs.Reading.{text_on};
+ghost use Rattle.aigertext.specs.Spelling.{IsBinaryText};
+ghost use Rattle.aigertext.specs.declared.counts.Counts.{Counts};
+ghost use Rattle.aigertext.specs.declared.fault.Stop.{Stop};
+ghost use Rattle.aigertext.specs.declared.fault.Why.TheVariants as why;
+ghost use Rattle.aigertext.specs.Worked.{toggler, free_state, one_gate, one_output, all_kinds};
 
 /// Worked rows: the texts of a latch that toggles, of a latch with no initial value, of a gate, and of
 /// properties of each kind.
@@ -20,4 +27,95 @@ pub fn worked_lines()
     ensures both_kept { without_zero_tail (0 ∷ 1 ∷ []) ≡ 0 ∷ 1 ∷ [] }
     ensures name { name_line 98 12 (Some (codes "q")) ≡ codes "b12 q\n" }
     ensures no_name { name_line 98 12 None ≡ [] }
+{}
+
+/// Worked rows: the bytes of deltas, on both sides of each number of digits.
+pub fn worked_deltas()
+    ensures least { delta 0 ≡ 0 ∷ [] }
+    ensures one_digit { (delta 2 ≡ 2 ∷ []) × (delta 127 ≡ 127 ∷ []) }
+    ensures two_digits { (delta 128 ≡ 128 ∷ 1 ∷ []) × (delta 130 ≡ 130 ∷ 1 ∷ []) × (delta 16383 ≡ 255 ∷ 127 ∷ []) }
+    ensures three_digits { (delta 16384 ≡ 128 ∷ 128 ∷ 1 ∷ []) × (delta 2097151 ≡ 255 ∷ 255 ∷ 127 ∷ []) }
+    ensures four_digits { (delta 2097152 ≡ 128 ∷ 128 ∷ 128 ∷ 1 ∷ []) × (delta 268435455 ≡ 255 ∷ 255 ∷ 255 ∷ 127 ∷ []) }
+    ensures five_digits { (delta 268435456 ≡ 128 ∷ 128 ∷ 128 ∷ 128 ∷ 1 ∷ []) × (delta 2147483648 ≡ 128 ∷ 128 ∷ 128 ∷ 128 ∷ 8 ∷ []) }
+{}
+
+/// Worked rows: binary texts of the same circuits, and of a gate that is an output.
+pub fn worked_binary_texts()
+    ensures toggler { binary_text toggler ≡ codes "aig 1 0 1 0 0 1\n3\n2\nl0 t[0]\n" }
+    ensures free_state { binary_text free_state ≡ codes "aig 1 0 1 0 0 1\n2 2\n2\nl0 t[0]\n" }
+    ensures one_gate { binary_text one_gate ≡ codes "aig 3 2 0 0 1 0 1\n6\n" ++ 2 ∷ 2 ∷ codes "i0 a\nc0 both\n" }
+    ensures one_output { binary_text one_output ≡ codes "aig 3 2 0 1 1\n6\n" ++ 2 ∷ 2 ∷ [] }
+    ensures all_kinds { binary_text all_kinds ≡ codes "aig 1 1 0 2 0 0 0 2 1\n2\n3\n2\n0\n2\n3\n1\no1 y\nj1 j\nf0 f\n" }
+{}
+
+/// Worked rows: binary texts that are read, in the writer's spelling and in others.
+pub fn worked_binary_readings()
+    ensures toggler { (ascii : Counts → List ℕ → Result Circuit Stop)
+        → text_on ascii (codes "aig 1 0 1 0 0 1\n3\n2\nl0 t[0]\n") ≡ Ok toggler }
+    ensures spelled_out { (ascii : Counts → List ℕ → Result Circuit Stop)
+        → text_on ascii (codes "aig 1 0 1 0 0 1 0 0 0\n3 0\n2\nl0 t[0]\nc\nany") ≡ Ok toggler }
+    ensures free_state { (ascii : Counts → List ℕ → Result Circuit Stop)
+        → text_on ascii (codes "aig 1 0 1 0 0 1\n2 2\n2\nl0 t[0]\n") ≡ Ok free_state }
+    ensures one_output { (ascii : Counts → List ℕ → Result Circuit Stop)
+        → text_on ascii (codes "aig 3 2 0 1 1\n6\n" ++ 2 ∷ 2 ∷ []) ≡ Ok one_output }
+    ensures any_order { (ascii : Counts → List ℕ → Result Circuit Stop)
+        → text_on ascii (codes "aig 3 2 0 0 1 0 1\n6\n" ++ 2 ∷ 2 ∷ codes "c0 both\ni0 a\n") ≡ Ok one_gate }
+    ensures all_kinds { (ascii : Counts → List ℕ → Result Circuit Stop)
+        → text_on ascii (codes "aig 1 1 0 2 0 0 0 2 1\n2\n3\n2\n0\n2\n3\n1\no1 y\nj1 j\nf0 f\n") ≡ Ok all_kinds }
+{}
+
+/// Worked rows: where reading a binary text stops, in bytes before the end, and why.
+pub fn worked_binary_faults()
+    ensures header { (ascii : Counts → List ℕ → Result Circuit Stop)
+        → text_on ascii (codes "aig 1 1 0 0\n") ≡ Err (record { left = 12; why = why.BadHeader }) }
+    ensures two_spaces { (ascii : Counts → List ℕ → Result Circuit Stop)
+        → text_on ascii (codes "aig 0  0 0 0 0\n") ≡ Err (record { left = 15; why = why.BadHeader }) }
+    ensures ten_numbers { (ascii : Counts → List ℕ → Result Circuit Stop)
+        → text_on ascii (codes "aig 0 0 0 0 0 0 0 0 0 0\n") ≡ Err (record { left = 24; why = why.BadHeader }) }
+    ensures too_big { (ascii : Counts → List ℕ → Result Circuit Stop)
+        → text_on ascii (codes "aig 1073741825 0 0 0 0\n") ≡ Err (record { left = 23; why = why.TooBig }) }
+    ensures counts { (ascii : Counts → List ℕ → Result Circuit Stop)
+        → text_on ascii (codes "aig 2 1 0 0 0\n") ≡ Err (record { left = 14; why = why.CountsDisagree }) }
+    ensures cut_header { (ascii : Counts → List ℕ → Result Circuit Stop)
+        → text_on ascii (codes "aig 3 2 0 1 1") ≡ Err (record { left = 13; why = why.Truncated }) }
+    ensures no_latch { (ascii : Counts → List ℕ → Result Circuit Stop)
+        → text_on ascii (codes "aig 1073741824 0 1073741824 0 0\n") ≡ Err (record { left = 0; why = why.Truncated }) }
+    ensures literal { (ascii : Counts → List ℕ → Result Circuit Stop)
+        → text_on ascii (codes "aig 1 1 0 1 0\n4\n") ≡ Err (record { left = 2; why = why.BadNumber }) }
+    ensures reset { (ascii : Counts → List ℕ → Result Circuit Stop)
+        → text_on ascii (codes "aig 1 0 1 0 0\n2 3\n") ≡ Err (record { left = 4; why = why.BadLatch }) }
+    ensures own_literal { (ascii : Counts → List ℕ → Result Circuit Stop)
+        → text_on ascii (codes "aig 1 0 1 0 0\n2 3 0\n") ≡ Err (record { left = 6; why = why.BadLatch }) }
+    ensures sizes { (ascii : Counts → List ℕ → Result Circuit Stop)
+        → text_on ascii (codes "aig 0 0 0 0 0 0 0 2\n1073741824\n1\n") ≡ Err (record { left = 2; why = why.TooBig }) }
+    ensures not_shortest { (ascii : Counts → List ℕ → Result Circuit Stop)
+        → text_on ascii (codes "aig 3 2 0 1 1\n6\n" ++ 130 ∷ 0 ∷ 2 ∷ []) ≡ Err (record { left = 3; why = why.DeltaNotShortest }) }
+    ensures zero_in_two { (ascii : Counts → List ℕ → Result Circuit Stop)
+        → text_on ascii (codes "aig 3 2 0 1 1\n6\n" ++ 2 ∷ 128 ∷ 0 ∷ []) ≡ Err (record { left = 2; why = why.DeltaNotShortest }) }
+    ensures no_delta { (ascii : Counts → List ℕ → Result Circuit Stop)
+        → text_on ascii (codes "aig 3 2 0 1 1\n6\n" ++ 2 ∷ []) ≡ Err (record { left = 0; why = why.Truncated }) }
+    ensures of_itself { (ascii : Counts → List ℕ → Result Circuit Stop)
+        → text_on ascii (codes "aig 3 2 0 1 1\n6\n" ++ 0 ∷ 2 ∷ []) ≡ Err (record { left = 2; why = why.GateOrder }) }
+    ensures too_long { (ascii : Counts → List ℕ → Result Circuit Stop)
+        → text_on ascii (codes "aig 3 2 0 1 1\n6\n" ++ 255 ∷ 255 ∷ 255 ∷ 255 ∷ 255 ∷ []) ≡ Err (record { left = 5; why = why.DeltaTooLong }) }
+    ensures second_name { (ascii : Counts → List ℕ → Result Circuit Stop)
+        → text_on ascii (codes "aig 1 1 0 0 0\ni0 x\ni0 y\n") ≡ Err (record { left = 5; why = why.BadSymbol }) }
+    ensures cut_comment { (ascii : Counts → List ℕ → Result Circuit Stop)
+        → text_on ascii (codes "aig 0 0 0 0 0\nc") ≡ Err (record { left = 1; why = why.Truncated }) }
+{}
+
+/// A binary text stands for at most one circuit: each that it stands for is the one that reading it gives.
+pub fn one_binary_circuit()
+    ensures read { (ascii : Counts → List ℕ → Result Circuit Stop) (text : List ℕ) (c : Circuit)
+        → IsBinaryText text c → text_on ascii text ≡ Ok c }
+    ensures same { (text : List ℕ) (c d : Circuit) → IsBinaryText text c → IsBinaryText text d → c ≡ d }
+{}
+
+/// Worked rows: a binary text with its whole header and a comment stands for a circuit; without its byte 10, with
+/// a delta of too many bytes or with the ascii form's word it does not.
+pub fn worked_binary_spellings()
+    ensures spelled_out { IsBinaryText (codes "aig 3 2 0 1 1 0 0\n6\n" ++ 2 ∷ 2 ∷ codes "c\nany") one_output }
+    ensures unended { ¬ IsBinaryText (codes "aig 3 2 0 1 1\n6\n" ++ 2 ∷ 2 ∷ codes "c") one_output }
+    ensures too_long { ¬ IsBinaryText (codes "aig 3 2 0 1 1\n6\n" ++ 130 ∷ 0 ∷ 2 ∷ []) one_output }
+    ensures ascii { ¬ IsBinaryText (codes "aag 3 2 0 1 1\n2\n4\n6\n6 4 2\n") one_output }
 {}

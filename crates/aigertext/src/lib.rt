@@ -2,13 +2,23 @@
 #![tactic(auto)]
 
 mod ascii;
+mod binary;
+mod counts;
+mod deltas;
+mod fault;
+mod forms;
+mod header;
 mod justice;
 pub mod laws;
 mod line;
 mod names;
+mod properties;
 mod sections;
 
-pub use ascii::{Form, write_ascii};
+pub use ascii::write_ascii;
+pub use binary::write_binary;
+pub use fault::{ReadFault, Why};
+pub use forms::Form;
 
 #[cfg(test)]
 mod tests;

@@ -1,12 +1,21 @@
 //! The lines of inputs, latches, literals and gates.
-ghost use Rattle.std.specs.Prelude.{◌+◌, ◌*◌, ◌≤◌, ◌≡◌, ◌∷◌, [], length};
+ghost use Rattle.std.specs.Prelude.{◌+◌, ◌*◌, ◌≤◌, ◌≡◌, ◌∷◌, [], suc, length};
+ghost use Rattle.aiger.specs.Circuit.{IsCircuit, net};
 ghost use Rattle.base.specs.Device.{CountsFaults};
 ghost use Rattle.aigertext.specs.Ascii.{numbers_line, input_lines, reset_numbers, latch_lines, literal_lines, gate_lines};
 ghost use Rattle.base.specs.Pieces.{Puts};
 
 use crate::line::Line;
-use aiger::{Gate, Latch, Lit, Reset};
+use aiger::{Circuit, Gate, Latch, Lit, Reset};
 use base::{DeviceFault, Outbox, Sink};
+
+/// The variable of the first gate.
+pub fn first_gate(circuit: &Circuit) -> u32
+    ensures variable { result ≡ suc (circuit.now.inputs + length circuit.now.latches) }
+    ensures valid { IsCircuit circuit.now }
+{
+    circuit.inputs() + circuit.latches().len() as u32 + 1
+}
 
 /// Puts a line into the outbox.
 pub fn put_line<K: Sink>(outbox: &mut Outbox, sink: &mut K, line: &Line) -> Result<(), DeviceFault>
@@ -86,7 +95,7 @@ fn put_latch<K: Sink>(
 }
 
 /// Writes the end of a latch's line: its next literal and its reset.
-fn write_next(line: &mut Line, own: u32, latch: &Latch)
+pub fn write_next(line: &mut Line, own: u32, latch: &Latch)
     ensures numbers { line.new ≡ numbers_line (latch.now.next ∷ reset_numbers own latch.now.reset) }
     ensures short { length line.new ≤ 22 }
 {

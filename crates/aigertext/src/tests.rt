@@ -68,3 +68,22 @@ fn spellings(rt: HostRuntime) {
         b"aag 1 1 0 2 0 0 0 2 1\n2\n2\n3\n2\n0\n2\n3\n1\no1 y\nf0 f\n".as_slice()
     );
 }
+
+#[test]
+fn binary_spellings(rt: HostRuntime) {
+    let mut sink = VecSink::new(rt.alloc());
+    match toggler(rt.alloc()) {
+        Some(circuit) => assert!(rt; write_binary(&circuit, &mut sink).is_ok()),
+        None => assert!(rt; false),
+    }
+    assert_eq!(rt;
+        sink.bytes(),
+        b"aig 1 0 1 0 0 1\n3\n2\nl0 t[0]\n".as_slice()
+    );
+    let mut sink = VecSink::new(rt.alloc());
+    match gate(rt.alloc()) {
+        Some(circuit) => assert!(rt; write_binary(&circuit, &mut sink).is_ok()),
+        None => assert!(rt; false),
+    }
+    assert_eq!(rt; sink.bytes(), b"aig 3 2 0 0 1 0 1\n6\n\x02\x02".as_slice());
+}

@@ -1,7 +1,7 @@
 use Rattle.std.proofs.Common.{refl}
 use Rattle.aigertext.specs.Ascii.{property_lines, literal_lines, justice_lines}
 use Rattle.base.proofs.PieceLemmas.{put_none, put_more, put_fails, puts_last}
-use Rattle.aigertext.proofs.ascii.put_properties.Goals as goal
+use Rattle.aigertext.proofs.properties.put_properties.Goals as goal
 
 pub returns-in-Err-clause-puts : goal.returns-in-Err-clause-puts
 returns-in-Err-clause-puts g c =

@@ -1,7 +1,7 @@
 use Rattle.std.proofs.Common.{◌≡◌, ◌≤◌, ◌<◌, ◌∙◌, [], length, sym, ap, arith}
 use Rattle.aigertext.specs.Ascii.{kept_line, before_kept, without_zero_tail, last_counts}
 use Rattle.aigertext.proofs.LineLemmas.{before_counts, without_counts, empty_from_test, some_from_test}
-use Rattle.aigertext.proofs.ascii.write_last_counts.Goals as goal
+use Rattle.aigertext.proofs.header.write_last_counts.Goals as goal
 
 pub returns-then-is_empty-clause-counts : goal.returns-then-is_empty-clause-counts
 returns-then-is_empty-clause-counts c =

@@ -1,0 +1,92 @@
+-- The deltas of gates are read again.
+use Rattle.std.proofs.Common.{◌≡◌, ◌≢◌, ℕ, zero, suc, ◌+◌, ◌-◌, ◌*◌, ◌/◌, ◌%◌, ◌^◌, ◌<◌, ◌≤◌, true, false, ◌==◌, nat_lt, List, [], ◌∷◌, ◌++◌, length, Ok, refl, ap, ◌∙◌, append_assoc, inl, inr, arith}
+use Rattle.std.proofs.lemmas.Bool.{cases_lt, ne_eqb}
+use Rattle.std.proofs.lemmas.Bool.Decides.{nat_tests}
+use Rattle.aiger.specs.declared.circuit.Gate.{Gate}
+use Rattle.aiger.specs.Net.{AreOrderedFrom}
+use Rattle.aigertext.specs.Binary.{digits_128, delta, gate_deltas}
+use Rattle.aigertext.specs.Reading.{more_digits, delta_at, below, at_or_below, gate_at, gates_at}
+use Rattle.aigertext.proofs.DeltaLemmas.{digits-more, digits-one}
+
+-- a byte below 128, and one that is not
+is_last : (n : ℕ) → n < 128 → nat_lt n 128 ≡ true
+is_last n h = grind (arith, nat_tests)
+
+is_not_last : (n : ℕ) → 128 ≤ n → nat_lt n 128 ≡ false
+is_not_last n h = grind (arith, nat_tests)
+
+-- the value of the lowest digit and of the others
+value_of_digits : (n : ℕ) → (n % 128 + 128 - 128) + 128 * (n / 128) ≡ n
+value_of_digits n = omega arith
+
+last_digit : (more n : ℕ) (rest : List ℕ) → n < 128 → 0 < n → more_digits more (n ∷ rest) ≡ Ok (n, rest)
+last_digit zero n rest small some =
+    let other : n ≢ 0 = omega arith in
+    rw (is_last n small, ne_eqb n 0 other) refl
+last_digit (suc more) n rest small some =
+    let other : n ≢ 0 = omega arith in
+    rw (is_last n small, ne_eqb n 0 other) refl
+
+-- the digits behind the first one
+more_digits-read : (more n : ℕ) (rest : List ℕ) → n < 128 * 128 ^ more → 0 < n → more_digits more (digits_128 more n ++ rest) ≡ Ok (n, rest)
+more_digits-read zero n rest h some = last_digit zero n rest (omega (arith, h)) some
+more_digits-read (suc more) n rest h some =
+    elim (cases_lt n 128) [
+      | inl small ↦ ap (λ (l : List ℕ). more_digits (suc more) (l ++ rest)) (digits-one (suc more) n small) ∙ last_digit (suc more) n rest small some
+      | inr large ↦
+          let others : more_digits more (digits_128 more (n / 128) ++ rest) ≡ Ok (n / 128, rest) = more_digits-read more (n / 128) rest (omega (arith, h)) (omega arith) in
+          let first : nat_lt (n % 128 + 128) 128 ≡ false = is_not_last (n % 128 + 128) (omega arith) in
+          ap (λ (l : List ℕ). more_digits (suc more) (l ++ rest)) (digits-more more n large)
+          ∙ (rw (first, others) (ap (λ (m : ℕ). Ok (m, rest)) (value_of_digits n)))
+    ]
+
+-- a delta
+pub delta-read : (n : ℕ) (rest : List ℕ) → n < 2 ^ 35 → delta_at (delta n ++ rest) ≡ Ok (n, rest)
+unfolding delta_at
+delta-read n rest h =
+    elim (cases_lt n 128) [
+      | inl small ↦ ap (λ (l : List ℕ). delta_at (l ++ rest)) (digits-one 4 n small) ∙ (rw (is_last n small) refl)
+      | inr large ↦
+          let others : more_digits 3 (digits_128 3 (n / 128) ++ rest) ≡ Ok (n / 128, rest) = more_digits-read 3 (n / 128) rest (omega arith) (omega arith) in
+          let first : nat_lt (n % 128 + 128) 128 ≡ false = is_not_last (n % 128 + 128) (omega arith) in
+          ap (λ (l : List ℕ). delta_at (l ++ rest)) (digits-more 3 n large)
+          ∙ (rw (first, others) (ap (λ (m : ℕ). Ok (m, rest)) (value_of_digits n)))
+    ]
+
+-- what is left of a number from which the difference to a smaller one is taken
+difference : (a b : ℕ) → b ≤ a → a - (a - b) ≡ b
+difference a b h = omega arith
+
+below-read : (own first : ℕ) (rest : List ℕ) → first < own → below own (own - first, rest) ≡ Ok (first, rest)
+below-read own first rest h =
+    let some : (own - first) == 0 ≡ false = ne_eqb (own - first) 0 (omega arith) in
+    let small : nat_lt own (own - first) ≡ false = grind (arith, nat_tests) in
+    rw (some, small) (ap (λ (m : ℕ). Ok (m, rest)) (difference own first (omega arith)))
+
+at_or_below-read : (first second : ℕ) (rest : List ℕ) → second ≤ first → at_or_below first (first - second, rest) ≡ Ok (second, rest)
+at_or_below-read first second rest h =
+    let small : nat_lt first (first - second) ≡ false = grind (arith, nat_tests) in
+    rw small (ap (λ (m : ℕ). Ok (m, rest)) (difference first second h))
+
+-- a gate
+gate-read : (own : ℕ) (g : Gate) (rest : List ℕ) → g.rhs0 < own → g.rhs1 ≤ g.rhs0 → own < 2 ^ 35
+    → gate_at own ((delta (own - g.rhs0) ++ delta (g.rhs0 - g.rhs1)) ++ rest) ≡ Ok (g, rest)
+unfolding gate_at
+gate-read own g rest below' ordered small =
+    let first : delta_at (delta (own - g.rhs0) ++ (delta (g.rhs0 - g.rhs1) ++ rest)) ≡ Ok (own - g.rhs0, delta (g.rhs0 - g.rhs1) ++ rest) = delta-read (own - g.rhs0) (delta (g.rhs0 - g.rhs1) ++ rest) (omega arith) in
+    let second : delta_at (delta (g.rhs0 - g.rhs1) ++ rest) ≡ Ok (g.rhs0 - g.rhs1, rest) = delta-read (g.rhs0 - g.rhs1) rest (omega arith) in
+    ap (gate_at own) (append_assoc (delta (own - g.rhs0)) (delta (g.rhs0 - g.rhs1)) rest)
+    ∙ (rw (first, below-read own g.rhs0 (delta (g.rhs0 - g.rhs1) ++ rest) below', second, at_or_below-read g.rhs0 g.rhs1 rest ordered) refl)
+
+-- the literal of the variable after one
+next_literal : (first : ℕ) → 2 * first + 2 ≡ 2 * suc first
+next_literal first = omega arith
+
+-- the gates
+pub gates-read : (first : ℕ) (gates : List Gate) (rest : List ℕ) → AreOrderedFrom first gates → first + length gates ≤ 2 ^ 32 → gates_at (2 * first) (length gates) (gate_deltas first gates ++ rest) ≡ Ok (gates, rest)
+gates-read first [] rest ordered few = refl
+gates-read first (g ∷ gs) rest ordered few =
+    let text = append_assoc (delta (2 * first - g.rhs0) ++ delta (g.rhs0 - g.rhs1)) (gate_deltas (suc first) gs) rest in
+    let one : gate_at (2 * first) ((delta (2 * first - g.rhs0) ++ delta (g.rhs0 - g.rhs1)) ++ (gate_deltas (suc first) gs ++ rest)) ≡ Ok (g, gate_deltas (suc first) gs ++ rest) = gate-read (2 * first) g (gate_deltas (suc first) gs ++ rest) ordered.0 ordered.1 (omega arith) in
+    let more : gates_at (2 * first + 2) (length gs) (gate_deltas (suc first) gs ++ rest) ≡ Ok (gs, rest) = rw (next_literal first) (gates-read (suc first) gs rest ordered.2 (omega arith)) in
+    ap (gates_at (2 * first) (suc (length gs))) text ∙ (rw (one, more) refl)

@@ -1,0 +1,129 @@
+-- A binary text that stands for a circuit is read as it, and what is written stands for what was written.
+use Rattle.std.proofs.Common.{◌≡◌, ℕ, suc, ◌+◌, ◌*◌, ◌^◌, ◌<◌, ◌≤◌, List, [], ◌∷◌, ◌++◌, length, map, Result, Ok, refl, ap, ◌∙◌, append_assoc, arith, Err, subst}
+use Rattle.std.specs.Prelude.{All}
+use Rattle.std.specs.List.{concat}
+use Rattle.std.proofs.lemmas.List.Elements.{All-weaker, All-nil, All-head, All-tail, All-append}
+use Rattle.aiger.specs.declared.circuit.Latch.{Latch}
+use Rattle.aiger.specs.declared.circuit.Section.TheVariants as section
+use Rattle.aiger.specs.Limits.{greatest_count}
+use Rattle.aiger.specs.Net.{Net, variables, IsDefined}
+use Rattle.aiger.specs.Circuit.{Circuit, IsCircuit, net}
+use Rattle.aiger.proofs.SectionNameLemmas.{few_positions}
+use Rattle.aigertext.specs.declared.counts.Counts.{Counts}
+use Rattle.aigertext.specs.declared.fault.Stop.{Stop}
+use Rattle.aigertext.specs.declared.fault.Why.TheVariants as why
+use Rattle.aigertext.specs.Ascii.{property_lines, literal_lines, size_lines}
+use Rattle.aigertext.specs.Binary.{gate_deltas}
+use Rattle.aigertext.specs.Spelling.{IsBinaryText}
+use Rattle.aigertext.specs.Reading.{Properties, properties_at, nameless, binary_at, text_on, names_at}
+use Rattle.aigertext.proofs.GateLemmas.{gates-read}
+use Rattle.aigertext.proofs.HeaderLemmas.{counts_in, header-read}
+use Rattle.aigertext.proofs.NameReadLemmas.{HasFewPositions, names-read}
+use Rattle.aigertext.proofs.PropertyLemmas.{literals-read, sizes-read, list_lines-concat, length-concat, lists_of-concat, nexts-read}
+
+-- a literal that is defined is at most the greatest one
+defined_below : (n : Net) (l : ℕ) → IsDefined n l → l ≤ 2 * variables n + 1
+defined_below n l h = omega (arith, h)
+
+all_below : (n : Net) (ls : List ℕ) → All (IsDefined n) ls → All (λ l. l ≤ 2 * variables n + 1) ls
+all_below n ls h = All-weaker (IsDefined n) (λ l. l ≤ 2 * variables n + 1) (defined_below n) ls h
+
+lists_below : (n : Net) (lists : List (List ℕ)) → All (All (IsDefined n)) lists → All (λ l. l ≤ 2 * variables n + 1) (concat lists)
+lists_below n [] h = All-nil (λ l. l ≤ 2 * variables n + 1)
+lists_below n (ls ∷ lists) h =
+    All-append (λ l. l ≤ 2 * variables n + 1) ls (concat lists) (all_below n ls (All-head (All (IsDefined n)) ls lists h)) (lists_below n lists (All-tail (All (IsDefined n)) ls lists h))
+
+nexts_below : (n : Net) (ls : List Latch) → All (λ l. IsDefined n l.next) ls → All (λ l. l.next ≤ 2 * variables n + 1) ls
+nexts_below n ls h = All-weaker (λ l. IsDefined n l.next) (λ l. l.next ≤ 2 * variables n + 1) (λ l d. defined_below n l.next d) ls h
+
+-- the properties of a circuit
+abbrev pub properties_in : Circuit → Properties
+properties_in c =
+    record {
+      outputs = c.outputs;
+      bads = c.bads;
+      constraints = c.constraints;
+      sizes = map length c.justice;
+      listed = concat c.justice;
+      fair = c.fair;
+    }
+
+property_text : (c : Circuit) (rest : List ℕ)
+    → property_lines c ++ rest ≡ literal_lines c.outputs ++ (literal_lines c.bads ++ (literal_lines c.constraints ++ (size_lines c.justice ++ (literal_lines (concat c.justice) ++ (literal_lines c.fair ++ rest)))))
+property_text c rest = rw (← list_lines-concat c.justice) (simp append_assoc)
+
+properties-read : (c : Circuit) (rest : List ℕ) → IsCircuit c → properties_at (counts_in c) (property_lines c ++ rest) ≡ Ok (properties_in c, rest)
+unfolding properties_at
+properties-read c rest valid =
+    let g : ℕ = 2 * variables (net c) + 1 in
+    let small : g < 2 ^ 64 = omega (arith, valid.small) in
+    let five = literal_lines c.fair ++ rest in
+    let four = literal_lines (concat c.justice) ++ five in
+    let three = size_lines c.justice ++ four in
+    let two = literal_lines c.constraints ++ three in
+    let one = literal_lines c.bads ++ two in
+    let outputs = literals-read (2 * variables (net c) + 1) c.outputs one (all_below (net c) c.outputs valid.defined.outputs) small in
+    let bads = literals-read (2 * variables (net c) + 1) c.bads two (all_below (net c) c.bads valid.defined.bads) small in
+    let constraints = literals-read (2 * variables (net c) + 1) c.constraints three (all_below (net c) c.constraints valid.defined.constraints) small in
+    let sizes = sizes-read 0 c.justice four (omega (arith, valid.few.justice_literals)) in
+    let listed = literals-read (2 * variables (net c) + 1) (concat c.justice) five (lists_below (net c) c.justice valid.defined.justice) small in
+    let fair = literals-read (2 * variables (net c) + 1) c.fair rest (all_below (net c) c.fair valid.defined.fair) small in
+    ap (properties_at (counts_in c)) (property_text c rest)
+    ∙ (rw (outputs, bads, constraints, sizes, length-concat c.justice, listed, fair) refl)
+
+-- the circuit without its names
+nameless_is : (c : Circuit) → nameless c.inputs c.latches (properties_in c) c.gates ≡ record c { names = [] }
+nameless_is c = ap (λ (lists : List (List ℕ)). record c { names = []; justice = lists }) (lists_of-concat c.justice)
+
+few_in : (c : Circuit) → IsCircuit c → HasFewPositions (record c { names = [] })
+few_in c valid section.Input = few_positions section.Input c valid
+few_in c valid section.Latch = few_positions section.Latch c valid
+few_in c valid section.Output = few_positions section.Output c valid
+few_in c valid section.Bad = few_positions section.Bad c valid
+few_in c valid section.Constraint = few_positions section.Constraint c valid
+few_in c valid section.Justice = few_positions section.Justice c valid
+few_in c valid section.Fair = few_positions section.Fair c valid
+
+-- what stands behind the header
+body-read : (c : Circuit) (text : List ℕ) (t : IsBinaryText text c)
+    → binary_at (counts_in c) (t.latches ++ (property_lines c ++ (gate_deltas (suc (c.inputs + length c.latches)) c.gates ++ t.end))) ≡ Ok c
+unfolding binary_at
+body-read c text t =
+    let valid = t.valid in
+    let few : c.inputs + length c.latches + length c.gates ≤ greatest_count = valid.small in
+    let third = gate_deltas (suc (c.inputs + length c.latches)) c.gates ++ t.end in
+    let second = property_lines c ++ third in
+    let nexts = nexts-read (2 * variables (net c) + 1) (2 * suc c.inputs) c.latches t.latches second t.are_latches (nexts_below (net c) c.latches valid.defined.nexts) (omega (arith, few)) (omega arith) (omega (arith, few)) in
+    let properties = properties-read c third valid in
+    let gates = gates-read (suc (c.inputs + length c.latches)) c.gates t.end valid.ordered (omega (arith, few)) in
+    let names : names_at (nameless c.inputs c.latches (properties_in c) c.gates) t.end ≡ Ok c =
+    ap (λ (d : Circuit). names_at d t.end) (nameless_is c)
+    ∙ ap (names_at (record c { names = [] })) t.is_end.spelled
+    ∙ names-read (record c { names = [] }) t.is_end.given c t.is_end.comment (few_in c valid) t.is_end.names t.is_end.is_comment in
+    rw (nexts, properties, gates) names
+
+pub stands-read : (ascii : Counts → List ℕ → Result Circuit Stop) (text : List ℕ) (c : Circuit) → IsBinaryText text c → text_on ascii text ≡ Ok c
+unfolding text_on
+stands-read ascii text c t =
+    let behind = t.latches ++ (property_lines c ++ (gate_deltas (suc (c.inputs + length c.latches)) c.gates ++ t.end)) in
+    let header = header-read c t.header behind t.is_header t.valid in
+    ap (text_on ascii) t.whole ∙ (rw header (body-read c text t))
+
+-- what a text of the ascii form is read as does not matter for binary ones: it may be left unread
+abbrev pub unread : Counts → List ℕ → Result Circuit Stop
+unread h text = Err (record { left = length text; why = why.BadHeader })
+
+-- two circuits that are read are the same, and none is a stop
+abbrev circuit_or : Circuit → Result Circuit Stop → Circuit
+circuit_or c (Ok d) = d
+circuit_or c (Err e) = c
+
+pub ok_circuit : (c d : Circuit) → ◌≡◌ {A = Result Circuit Stop} (Ok c) (Ok d) → c ≡ d
+ok_circuit c d e = ap (circuit_or c) e
+
+abbrev is_read : Result Circuit Stop → Type 0
+is_read (Ok c) = Unit {0}
+is_read (Err e) = ⊥
+
+pub not_stopped : (c : Circuit) (e : Stop) → ◌≡◌ {A = Result Circuit Stop} (Ok c) (Err e) → ⊥
+not_stopped c e is = subst is_read is tt

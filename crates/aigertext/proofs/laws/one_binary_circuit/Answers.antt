@@ -1,0 +1,9 @@
+use Rattle.std.proofs.Common.{sym, ◌∙◌}
+use Rattle.aigertext.proofs.StandsLemmas.{stands-read, unread, ok_circuit}
+use Rattle.aigertext.proofs.laws.one_binary_circuit.Goals as goal
+
+pub returns-clause-read : goal.returns-clause-read
+returns-clause-read c = stands-read
+
+pub returns-clause-same : goal.returns-clause-same
+returns-clause-same c = λ text x y s t. ok_circuit x y (sym (stands-read unread text x s) ∙ stands-read unread text y t)

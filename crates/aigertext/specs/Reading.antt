@@ -1,0 +1,353 @@
+-- Reading a circuit's text from left to right, with the first fault that is met.
+use Rattle.std.specs.Prelude.{ℕ, zero, suc, ◌+◌, ◌-◌, ◌*◌, List, [], ◌∷◌, ◌++◌, length, take, drop, Option, Some, None, Result, Ok, Err, ◌==◌, ◌||◌, nat_le, nat_lt, if◌then◌else◌, codes}
+use Rattle.std.specs.List.{sum}
+use Rattle.std.specs.Str.{bytes_eq}
+use Rattle.base.specs.Lines.{text_of_lines, onto_first, whole_lines, unfinished}
+use Rattle.base.specs.Decimals.{number_of}
+use Rattle.aiger.specs.declared.circuit.Gate.{Gate}
+use Rattle.aiger.specs.declared.circuit.Latch.{Latch}
+use Rattle.aiger.specs.declared.circuit.Reset.{Reset}
+use Rattle.aiger.specs.declared.circuit.Reset.TheVariants as reset
+use Rattle.aiger.specs.declared.circuit.Section.{Section}
+use Rattle.aiger.specs.declared.circuit.Section.TheVariants as section
+use Rattle.aiger.specs.declared.fault.CircuitFault.{CircuitFault}
+use Rattle.aiger.specs.Limits.{greatest_count}
+use Rattle.aiger.specs.Circuit.{Circuit, with_name, name_refusal}
+use Rattle.aigertext.specs.declared.counts.Counts.{Counts}
+use Rattle.aigertext.specs.declared.fault.ReadFault.{ReadFault}
+use Rattle.aigertext.specs.declared.fault.Stop.{Stop}
+use Rattle.aigertext.specs.declared.fault.Why.{Why}
+use Rattle.aigertext.specs.declared.fault.Why.TheVariants as why
+use Rattle.aigertext.specs.declared.forms.Form.{Form}
+use Rattle.aigertext.specs.declared.forms.Form.TheVariants.{Ascii, Binary}
+
+-- ---- faults
+
+-- what a value gives to the next step; the first fault ends all steps
+infixl 10 ◌>>=◌
+abbrev pub ◌>>=◌ : {A B E : Type 0} → Result A E → (A → Result B E) → Result B E
+(Ok x) >>= f = f x
+(Err e) >>= f = Err e
+
+-- reading stops at the front of a text
+abbrev pub stop : List ℕ → Why → Stop
+stop text w = record { left = length text; why = w }
+
+-- what the front of a text says; its why is told with its place
+abbrev pub at : {A : Type 0} → List ℕ → Result A Why → Result A Stop
+at text (Ok x) = Ok x
+at text (Err w) = Err (stop text w)
+
+-- what an option has, or a why where it has nothing
+abbrev pub some_or : {A : Type 0} → Why → Option A → Result A Why
+some_or w (Some x) = Ok x
+some_or w None = Err w
+
+-- ---- lines and their fields
+
+abbrev pub onto_front : ℕ → Option (List ℕ × List ℕ) → Option (List ℕ × List ℕ)
+onto_front b None = None
+onto_front b (Some x) = Some (b ∷ x.0, x.1)
+
+-- the bytes before the first of a kind and those behind it, where there is one
+abbrev pub cut : ℕ → List ℕ → Option (List ℕ × List ℕ)
+cut byte [] = None
+cut byte (b ∷ bs) = if b == byte then Some ([], bs) else onto_front b (cut byte bs)
+
+-- the parts of a line between its spaces
+abbrev pub fields : List ℕ → List (List ℕ)
+fields [] = [] ∷ []
+fields (b ∷ bs) = if b == 32 then [] ∷ fields bs else onto_first b (fields bs)
+
+-- what the first line of a text says, and the text behind it
+abbrev pub cut_line : {A : Type 0} → (List ℕ → Result A Why) → List ℕ → Option (List ℕ × List ℕ) → Result (A × List ℕ) Stop
+cut_line says text None = Err (stop text why.Truncated)
+cut_line says text (Some x) = do
+  a ← at text (says x.0)
+  Ok (a, x.1)
+
+abbrev pub line_at : {A : Type 0} → (List ℕ → Result A Why) → List ℕ → Result (A × List ℕ) Stop
+line_at says text = cut_line says text (cut 10 text)
+
+-- what so many lines say, one after the other, and the text behind them; what a line says goes on to the next one
+abbrev pub lines_at : {A S : Type 0} → (S → List ℕ → Result A Why) → (S → A → S) → S → ℕ → List ℕ → Result (List A × List ℕ) Stop
+lines_at says next s zero text = Ok ([], text)
+lines_at says next s (suc n) text = do
+  x ← line_at (says s) text
+  xs ← lines_at says next (next s x.0) n x.1
+  Ok (x.0 ∷ xs.0, xs.1)
+
+-- ---- header
+
+-- the next number of a header, and the fields behind it
+unfoldable pub number_at : List (List ℕ) → Result (ℕ × List (List ℕ)) Why
+number_at [] = Err why.BadHeader
+number_at (field ∷ rest) = do
+  n ← some_or why.BadHeader (number_of field)
+  Ok (n, rest)
+
+-- one that may be left out with all behind it, and is then 0
+unfoldable pub last_at : List (List ℕ) → Result (ℕ × List (List ℕ)) Why
+last_at [] = Ok (0, [])
+last_at (field ∷ rest) = number_at (field ∷ rest)
+
+-- the last four numbers, behind which nothing stands
+abbrev pub no_more : {A : Type 0} → A → List (List ℕ) → Result A Why
+no_more x [] = Ok x
+no_more x (field ∷ rest) = Err why.BadHeader
+
+unfoldable pub last_four : List (List ℕ) → Result (ℕ × ℕ × ℕ × ℕ) Why
+last_four rest = do
+  b ← last_at rest
+  c ← last_at b.1
+  j ← last_at c.1
+  f ← last_at j.1
+  no_more (b.0, c.0, j.0, f.0) f.1
+
+-- the first five numbers, and the fields behind them
+unfoldable pub first_five : List (List ℕ) → Result ((ℕ × ℕ × ℕ × ℕ × ℕ) × List (List ℕ)) Why
+first_five rest = do
+  m ← number_at rest
+  i ← number_at m.1
+  l ← number_at i.1
+  o ← number_at l.1
+  a ← number_at o.1
+  Ok ((m.0, i.0, l.0, o.0, a.0), a.1)
+
+-- a number of the header, which is at most 2^30
+unfoldable pub count_of : ℕ → Result ℕ Why
+count_of n = if nat_lt greatest_count n then Err why.TooBig else Ok n
+
+-- the counts, where each is at most 2^30
+unfoldable pub counts_of : ℕ × ℕ × ℕ × ℕ × ℕ → ℕ × ℕ × ℕ × ℕ → Result Counts Why
+counts_of x y = do
+  variables ← count_of x.0
+  inputs ← count_of x.1
+  latches ← count_of x.2
+  outputs ← count_of x.3
+  gates ← count_of x.4
+  bads ← count_of y.0
+  constraints ← count_of y.1
+  justice ← count_of y.2
+  fair ← count_of y.3
+  Ok (record { variables = variables; inputs = inputs; latches = latches; outputs = outputs; gates = gates; bads = bads; constraints = constraints; justice = justice; fair = fair })
+
+-- the counts, where the greatest variable fits what it counts: in the binary form it is the sum, in the ascii form at least that
+unfoldable pub fitting : Form → Counts → Result Counts Why
+fitting Ascii h = if nat_lt h.variables (h.inputs + h.latches + h.gates) then Err why.CountsDisagree else Ok h
+fitting Binary h = if h.variables == h.inputs + h.latches + h.gates then Ok h else Err why.CountsDisagree
+
+-- the form that a word is of
+unfoldable pub form_of : List ℕ → Result Form Why
+form_of word = if bytes_eq word (codes "aag") then Ok Ascii else (if bytes_eq word (codes "aig") then Ok Binary else Err why.BadHeader)
+
+unfoldable pub header_fields : List (List ℕ) → Result (Form × Counts) Why
+header_fields [] = Err why.BadHeader
+header_fields (word ∷ rest) = do
+  form ← form_of word
+  x ← first_five rest
+  y ← last_four x.1
+  h ← counts_of x.0 y
+  fits ← fitting form h
+  Ok (form, fits)
+
+-- what a header says
+abbrev pub header_of : List ℕ → Result (Form × Counts) Why
+header_of line = header_fields (fields line)
+
+-- ---- latches, literals and sizes
+
+-- a number that is at most another
+abbrev pub within : Why → ℕ → Option ℕ → Result ℕ Why
+within w greatest None = Err w
+within w greatest (Some n) = if nat_le n greatest then Ok n else Err w
+
+-- the literal of a line
+unfoldable pub literal_of : ℕ → List ℕ → Result ℕ Why
+literal_of greatest line = within why.BadNumber greatest (number_of line)
+
+-- how a latch begins
+abbrev pub reset_of : ℕ → Option ℕ → Result Reset Why
+reset_of own None = Err why.BadLatch
+reset_of own (Some n) = if n == 0 then Ok reset.Zero else (if n == 1 then Ok reset.One else (if n == own then Ok reset.Free else Err why.BadLatch))
+
+-- a latch of the binary form: its next literal, and how it begins
+unfoldable pub next_fields : ℕ → ℕ → List (List ℕ) → Result Latch Why
+next_fields greatest own [] = Err why.BadLatch
+next_fields greatest own (next ∷ []) = do
+  n ← within why.BadLatch greatest (number_of next)
+  Ok (record { next = n; reset = reset.Zero })
+next_fields greatest own (next ∷ begins ∷ []) = do
+  n ← within why.BadLatch greatest (number_of next)
+  r ← reset_of own (number_of begins)
+  Ok (record { next = n; reset = r })
+next_fields greatest own (next ∷ begins ∷ more ∷ others) = Err why.BadLatch
+
+abbrev pub next_of : ℕ → ℕ → List ℕ → Result Latch Why
+next_of greatest own line = next_fields greatest own (fields line)
+
+-- the size of a justice property, where those before it have so many literals
+abbrev pub size_within : ℕ → Option ℕ → Result ℕ Why
+size_within before None = Err why.BadNumber
+size_within before (Some n) = if nat_le n (greatest_count - before) then Ok n else Err why.TooBig
+
+unfoldable pub size_of : ℕ → List ℕ → Result ℕ Why
+size_of before line = size_within before (number_of line)
+
+-- so many latches, the first of which has the given literal
+abbrev pub nexts_at : ℕ → ℕ → ℕ → List ℕ → Result (List Latch × List ℕ) Stop
+nexts_at greatest own n text = lines_at (next_of greatest) (λ o l. o + 2) own n text
+
+-- so many literals
+abbrev pub literals_at : ℕ → ℕ → List ℕ → Result (List ℕ × List ℕ) Stop
+literals_at greatest n text = lines_at literal_of (λ g l. g) greatest n text
+
+-- so many sizes
+abbrev pub sizes_at : ℕ → ℕ → List ℕ → Result (List ℕ × List ℕ) Stop
+sizes_at before n text = lines_at size_of (λ b size. b + size) before n text
+
+-- ---- gates of the binary form
+
+-- the digits of a delta behind its first one, of which so many more may follow, and the text behind them
+abbrev pub more_digits : ℕ → List ℕ → Result (ℕ × List ℕ) Why
+more_digits more [] = Err why.Truncated
+more_digits zero (b ∷ bs) = if nat_lt b 128 then (if b == 0 then Err why.DeltaNotShortest else Ok (b, bs)) else Err why.DeltaTooLong
+more_digits (suc more) (b ∷ bs) =
+    if nat_lt b 128 then (if b == 0 then Err why.DeltaNotShortest else Ok (b, bs))
+    else (more_digits more bs >>= (λ x. Ok ((b - 128) + 128 * x.0, x.1)))
+
+-- a delta, and the text behind it
+unfoldable pub delta_at : List ℕ → Result (ℕ × List ℕ) Why
+delta_at [] = Err why.Truncated
+delta_at (b ∷ bs) = if nat_lt b 128 then Ok (b, bs) else (more_digits 3 bs >>= (λ x. Ok ((b - 128) + 128 * x.0, x.1)))
+
+-- the greater operand of a gate with this literal, and the text behind its delta
+abbrev pub below : ℕ → ℕ × List ℕ → Result (ℕ × List ℕ) Why
+below own d = if (d.0 == 0) || nat_lt own d.0 then Err why.GateOrder else Ok (own - d.0, d.1)
+
+-- the smaller one
+abbrev pub at_or_below : ℕ → ℕ × List ℕ → Result (ℕ × List ℕ) Why
+at_or_below first d = if nat_lt first d.0 then Err why.GateOrder else Ok (first - d.0, d.1)
+
+-- a gate with this literal, and the text behind it
+unfoldable pub gate_at : ℕ → List ℕ → Result (Gate × List ℕ) Stop
+gate_at own text = do
+  x ← at text (delta_at text >>= below own)
+  y ← at x.1 (delta_at x.1 >>= at_or_below x.0)
+  Ok (record { rhs0 = x.0; rhs1 = y.0 }, y.1)
+
+-- so many gates, the first of which has the given literal
+abbrev pub gates_at : ℕ → ℕ → List ℕ → Result (List Gate × List ℕ) Stop
+gates_at own zero text = Ok ([], text)
+gates_at own (suc n) text = do
+  g ← gate_at own text
+  gs ← gates_at (own + 2) n g.1
+  Ok (g.0 ∷ gs.0, gs.1)
+
+-- ---- names
+
+-- the section that a letter stands for
+unfoldable pub section_of : ℕ → Option Section
+section_of b =
+    if b == 105 then Some section.Input
+    else (if b == 108 then Some section.Latch
+    else (if b == 111 then Some section.Output
+    else (if b == 98 then Some section.Bad
+    else (if b == 99 then Some section.Constraint
+    else (if b == 106 then Some section.Justice
+    else (if b == 102 then Some section.Fair else None))))))
+
+-- the circuit with a name more, where it is not refused
+abbrev pub accepted : Circuit → Option CircuitFault → Result Circuit Why
+accepted c None = Ok c
+accepted c (Some fault) = Err why.BadSymbol
+
+-- the circuit with the name that a line gives
+abbrev pub named_by : Circuit → Section → Option (List ℕ × List ℕ) → Result Circuit Why
+named_by c s None = Err why.BadSymbol
+named_by c s (Some x) = do
+  position ← some_or why.BadSymbol (number_of x.0)
+  accepted (with_name c s position x.1) (name_refusal c s position x.1)
+
+unfoldable pub name_on : Circuit → List ℕ → Result Circuit Why
+name_on c [] = Err why.BadSymbol
+name_on c (b ∷ bs) = do
+  s ← some_or why.BadSymbol (section_of b)
+  named_by c s (cut 32 bs)
+
+-- the circuit with the names that lines give, up to a line `c`; the last line has no byte 10
+abbrev pub names_on : Circuit → List (List ℕ) → List ℕ → Result Circuit Stop
+names_on c [] [] = Ok c
+names_on c [] (b ∷ bs) = Err (stop (b ∷ bs) why.Truncated)
+names_on c (line ∷ lines) last =
+    if bytes_eq line (codes "c") then Ok c
+    else (at (text_of_lines (line ∷ lines) ++ last) (name_on c line) >>= (λ d. names_on d lines last))
+
+-- the same of a text
+abbrev pub names_at : Circuit → List ℕ → Result Circuit Stop
+names_at c text = names_on c (whole_lines text) (unfinished text)
+
+-- ---- texts
+
+-- literals as lists of these sizes
+abbrev pub lists_of : List ℕ → List ℕ → List (List ℕ)
+lists_of [] literals = []
+lists_of (n ∷ ns) literals = take n literals ∷ lists_of ns (drop n literals)
+
+-- the literals of outputs, bad properties and constraints, the sizes and literals of the justice properties, and the fairness constraints
+pub record Properties : Type 0 where
+  pub outputs : List ℕ
+  pub bads : List ℕ
+  pub constraints : List ℕ
+  pub sizes : List ℕ
+  pub listed : List ℕ
+  pub fair : List ℕ
+
+-- the properties that a header counts, and the text behind them
+unfoldable pub properties_at : Counts → List ℕ → Result (Properties × List ℕ) Stop
+properties_at h text = do
+  o ← literals_at (2 * h.variables + 1) h.outputs text
+  b ← literals_at (2 * h.variables + 1) h.bads o.1
+  c ← literals_at (2 * h.variables + 1) h.constraints b.1
+  s ← sizes_at 0 h.justice c.1
+  j ← literals_at (2 * h.variables + 1) (sum s.0) s.1
+  f ← literals_at (2 * h.variables + 1) h.fair j.1
+  Ok (record { outputs = o.0; bads = b.0; constraints = c.0; sizes = s.0; listed = j.0; fair = f.0 }, f.1)
+
+-- a circuit without names
+abbrev pub nameless : ℕ → List Latch → Properties → List Gate → Circuit
+nameless inputs latches p gates =
+    record {
+      inputs = inputs;
+      latches = latches;
+      gates = gates;
+      outputs = p.outputs;
+      bads = p.bads;
+      constraints = p.constraints;
+      justice = lists_of p.sizes p.listed;
+      fair = p.fair;
+      names = [];
+    }
+
+-- the circuit that stands behind a header of the binary form
+unfoldable pub binary_at : Counts → List ℕ → Result Circuit Stop
+binary_at h text = do
+  l ← nexts_at (2 * h.variables + 1) (2 * suc h.inputs) h.latches text
+  p ← properties_at h l.1
+  g ← gates_at (2 * suc (h.inputs + h.latches)) h.gates p.1
+  names_at (nameless h.inputs l.0 p.0 g.0) g.1
+
+-- what stands behind a header of a form
+abbrev pub body_at : (Counts → List ℕ → Result Circuit Stop) → Form → Counts → List ℕ → Result Circuit Stop
+body_at ascii Ascii h text = ascii h text
+body_at ascii Binary h text = binary_at h text
+
+-- the circuit that a text spells, or where reading it stops; what stands behind a header of the ascii form is read by the first function
+unfoldable pub text_on : (Counts → List ℕ → Result Circuit Stop) → List ℕ → Result Circuit Stop
+text_on ascii text = do
+  h ← line_at header_of text
+  body_at ascii h.0.0 h.0.1 h.1
+
+-- the place of a fault, in bytes from 0
+abbrev pub fault_of : List ℕ → Stop → ReadFault
+fault_of text s = record { place = length text - s.left; why = s.why }

@@ -1,0 +1,101 @@
+//! Why a text is no circuit.
+ghost use Rattle.std.specs.Prelude.{◌≡◌};
+ghost use Rattle.aigertext.specs.Whys.{why_number, why_name};
+
+use thiserror::Error;
+
+/// What is wrong with a line or a delta of a circuit's text, or with the reading of it.
+///
+/// It is printed as its number, a space and its name.
+#[derive(Clone, Copy, Debug, PartialEq, Eq, Error)]
+#[error("{number} {name}", number = self.number(), name = self.name())]
+pub enum Why {
+    /// The first line is not `aag` or `aig` and 5 to 9 decimals.
+    BadHeader,
+    /// The greatest variable is not the sum of inputs, latches and gates (in the ascii form: is below it).
+    CountsDisagree,
+    /// A line of one number is none, an input's literal is not its own, another literal is above the greatest, or an
+    /// ascii gate's line is not three numbers.
+    BadNumber,
+    /// A latch's line has other numbers than it may have.
+    BadLatch,
+    /// A gate's operands are not below it, or the first is below the second.
+    GateOrder,
+    /// A delta of more than one byte ends in byte 0.
+    DeltaNotShortest,
+    /// The first five bytes of a delta all have the top bit.
+    DeltaTooLong,
+    /// A line behind the gates is neither a name for a position that has none nor the beginning of a comment.
+    BadSymbol,
+    /// A line or a delta is missing, or the text ends within it.
+    Truncated,
+    /// A number of the header, or the sum of the justice sizes, is above 2^30.
+    TooBig,
+    /// The source failed.
+    Device,
+    /// A growth was refused.
+    NoMemory,
+}
+
+impl Why {
+    /// The number that is printed for it.
+    pub fn number(self) -> u32
+        ensures { result ≡ why_number self }
+    {
+        match self {
+            Why::BadHeader => 50,
+            Why::CountsDisagree => 51,
+            Why::BadNumber => 52,
+            Why::BadLatch => 53,
+            Why::GateOrder => 54,
+            Why::DeltaNotShortest => 55,
+            Why::DeltaTooLong => 56,
+            Why::BadSymbol => 57,
+            Why::Truncated => 58,
+            Why::TooBig => 59,
+            Why::Device => 60,
+            Why::NoMemory => 61,
+        }
+    }
+
+    /// The name that is printed for it.
+    pub fn name(self) -> &'static str
+        ensures { result.now ≡ why_name self }
+    {
+        match self {
+            Why::BadHeader => "BadHeader",
+            Why::CountsDisagree => "CountsDisagree",
+            Why::BadNumber => "BadNumber",
+            Why::BadLatch => "BadLatch",
+            Why::GateOrder => "GateOrder",
+            Why::DeltaNotShortest => "DeltaNotShortest",
+            Why::DeltaTooLong => "DeltaTooLong",
+            Why::BadSymbol => "BadSymbol",
+            Why::Truncated => "Truncated",
+            Why::TooBig => "TooBig",
+            Why::Device => "Device",
+            Why::NoMemory => "NoMemory",
+        }
+    }
+}
+
+/// Why a text is no circuit: where the line or the delta begins, and what is wrong with it.
+///
+/// `Device` and `NoMemory` have place 0.
+#[derive(Clone, Copy, Debug, PartialEq, Eq, Error)]
+#[error("byte {place}: {why}")]
+pub struct ReadFault {
+    /// The place, in bytes from 0.
+    pub place: u64,
+    /// What is wrong there.
+    pub why: Why,
+}
+
+/// Where reading stopped: how many bytes of the text are left from the faulty line or delta on, and what is wrong.
+#[derive(Clone, Copy, Debug, PartialEq, Eq)]
+pub(crate) struct Stop {
+    /// The bytes left.
+    pub(crate) left: usize,
+    /// What is wrong.
+    pub(crate) why: Why,
+}
