@@ -10,9 +10,10 @@ use Rattle.btor2text.specs.declared.forms.Forms.TheVariants as forms
 use Rattle.btor2text.specs.FirstFault.{IsFaultOf}
 use Rattle.btor2text.specs.Spelling.{StandsFor}
 use Rattle.aiger.specs.Circuit.{Circuit}
-use Rattle.aigertext.specs.declared.ascii.Form.{Form}
-use Rattle.aigertext.specs.declared.ascii.Form.TheVariants.{Ascii}
+use Rattle.aigertext.specs.declared.forms.Form.{Form}
+use Rattle.aigertext.specs.declared.forms.Form.TheVariants.{Ascii, Binary}
 use Rattle.aigertext.specs.Ascii.{ascii_text}
+use Rattle.aigertext.specs.Binary.{binary_text}
 use Rattle.blast.specs.declared.fault.LowerFault.{LowerFault}
 use Rattle.blast.specs.declared.fault.ConvertFault.{ConvertFault}
 use Rattle.blast.specs.declared.fault.ConvertFault.TheVariants as fault
@@ -22,6 +23,7 @@ use Rattle.blast.specs.Refusal.{AnswersLowering, lowering_refusal}
 -- the writer's text of a circuit in a form
 abbrev pub circuit_text : Form → Circuit → List ℕ
 circuit_text Ascii c = ascii_text c
+circuit_text Binary c = binary_text c
 
 -- the bytes of a source, where it knows them, are a text of some items
 abbrev pub IsTextOf : Option (List ℕ) → List Item → Type 0

@@ -9,7 +9,7 @@ ghost use Rattle.blast.specs.Conversion.{AnswersConversion, TellsFirstFault, Has
 use crate::fault::ConvertFault;
 use crate::lowering::lower;
 use aiger::Circuit;
-use aigertext::{Form, write_ascii};
+use aigertext::{Form, write_ascii, write_binary};
 use base::{DeviceFault, Sink, Source};
 use btor2text::read_basic;
 use std::alloc::Global;
@@ -22,6 +22,7 @@ fn write<K: Sink>(circuit: &Circuit, sink: &mut K, form: Form) -> Result<(), Dev
 {
     match form {
         Form::Ascii => write_ascii(circuit, sink),
+        Form::Binary => write_binary(circuit, sink),
     }
 }
 

@@ -8,7 +8,7 @@ use Rattle.btor2.specs.Lists.{places, first_init_without_next}
 use Rattle.btor2text.specs.declared.forms.Forms.TheVariants as forms
 use Rattle.btor2text.specs.Spelling.{StandsFor}
 use Rattle.btor2text.specs.Writing.{written}
-use Rattle.aigertext.specs.declared.ascii.Form.{Form}
+use Rattle.aigertext.specs.declared.forms.Form.{Form}
 use Rattle.blast.specs.Conversion.{Converts}
 use Rattle.witness.specs.declared.judgement.Judgement.{Judgement}
 use Rattle.witness.specs.declared.judgement.Judgement.TheVariants as judgement

@@ -40,6 +40,13 @@ const NO_TEXT: &str = "words: not UTF-8\n";
 /// What is told of words that name standard input twice.
 const INPUT_TWICE: &str = "words: standard input is read once, so - stands for one file\n";
 
+/// What is told of words that choose both forms of a circuit.
+const TWO_FORMS: &str = "words: choose one form\n";
+
+/// The flags that choose the form of a circuit that is written.
+const ASCII: &str = "ascii";
+const BINARY: &str = "binary";
+
 /// The word of the command that judges a witness.
 const CHECK_BTOR: &str = "check-btor";
 
@@ -56,14 +63,19 @@ fn file_name<'a>(alloc: Global, name: &'a str, help: &'a str) -> Arg<'a> {
 
 /// The words of `lower`.
 fn lower<'a>(alloc: Global) -> Result<Command<'a>, AllocError> {
-    let ascii = Arg::new(alloc, "ascii")
-        .long("ascii")
+    let ascii = Arg::new(alloc, ASCII)
+        .long(ASCII)
         .action(ArgAction::SetTrue)
         .help("Write the ascii form (the default)");
+    let binary = Arg::new(alloc, BINARY)
+        .long(BINARY)
+        .action(ArgAction::SetTrue)
+        .help("Write the binary form");
     Command::new(alloc, "lower")
         .about("Lower a BTOR2 model to an AIGER circuit on standard output")
         .after_help(STATUSES)
         .arg(ascii)?
+        .arg(binary)?
         .arg(file_name(alloc, "MODEL", MODEL))
 }
 
@@ -117,10 +129,22 @@ fn order_of<'a>(matches: &ArgMatches<'a>) -> Option<Order<'a>> {
             } else {
                 Task::Lower
             },
-            form: Form::Ascii,
+            form: if words.get_flag(BINARY) {
+                Form::Binary
+            } else {
+                Form::Ascii
+            },
             first,
             second: None,
         })
+    }
+}
+
+/// Whether the words of a command choose both forms.
+fn chooses_both_forms(matches: &ArgMatches<'_>) -> bool {
+    match matches.subcommand() {
+        Some((_, words)) => words.get_flag(ASCII) && words.get_flag(BINARY),
+        None => false,
     }
 }
 
@@ -173,7 +197,7 @@ pub fn given_words<R: Env + AllocGlobal>(rt: &R) -> Result<Vec<String>, Stop> {
 /// Reads the words after the program's name. Without any it is `lower` on standard input.
 ///
 /// Errors: a `Stop` with status 0 and the text of help or of the version; with 4 where the words are no command, also
-/// where they name standard input twice, which can be read once; with 3 where there was no memory.
+/// where they name standard input twice, which can be read once, or choose both forms of a circuit; with 3 where there was no memory.
 pub fn order<'a, S: AsStr>(alloc: Global, words: &'a [S]) -> Result<Order<'a>, Stop>
     // standard input is read once
     ensures { IfOk result (λ order. reads_input_twice order.first.now (option_map (λ name. name.now) order.second) ≡ false) }
@@ -192,6 +216,7 @@ pub fn order<'a, S: AsStr>(alloc: Global, words: &'a [S]) -> Result<Order<'a>, S
     };
     match command.try_get_matches_from(words) {
         Ok(matches) => match order_of(&matches) {
+            Some(_) if chooses_both_forms(&matches) => Err(refused(alloc, TWO_FORMS)),
             Some(order) if reads_input_twice(&order) => Err(refused(alloc, INPUT_TWICE)),
             Some(order) => Ok(order),
             None => Err(Stop::no_memory(alloc)),

@@ -45,6 +45,12 @@ fn ran<B: Source>(
     }
 }
 
+/// What `lower --binary` of a text answers and writes.
+fn lowered_to_binary(alloc: Global, text: &str) -> Result<(u8, Vec<u8>, Vec<u8>), Fail> {
+    let words = ["lower", "--binary", "model"];
+    ran(alloc, words.as_slice(), text, &mut NoFile::new())
+}
+
 /// What `lower` of a text answers and writes.
 fn lowered(alloc: Global, text: &str) -> Result<(u8, Vec<u8>, Vec<u8>), Fail> {
     let words = ["lower", "model"];
@@ -78,6 +84,31 @@ fn circuits(rt: HostRuntime) -> Result<(), Fail> {
     ];
     for (text, wanted) in rows {
         let (status, written, told) = lowered(rt.alloc(), text)?;
+        assert_eq!(rt; status, 0, "{text}");
+        assert_eq!(rt; written.as_slice(), wanted.as_bytes(), "{text}");
+        assert_eq!(rt; told.len(), 0, "{text}");
+    }
+    Ok(())
+}
+
+#[test]
+fn binary_circuits(rt: HostRuntime) -> Result<(), Fail> {
+    let rows = [
+        (TOGGLER, "aig 1 0 1 0 0 1\n3\n2\nl0 t[0]\n"),
+        (ANY_START, "aig 1 0 1 0 0 1\n2 2\n2\nl0 t[0]\n"),
+        (
+            FREE,
+            "aig 3 2 1 0 0 1\n4 6\n6\ni0 x[0]\ni1 f[0]\nl0 s[0]\n",
+        ),
+        ("", "aig 0 0 0 0 0\n"),
+        // one gate, whose literal is 6: the deltas are 2 and 2
+        (
+            "1 sort bitvec 1\n2 input 1\n3 input 1\n4 and 1 2 3\n5 bad 4\n",
+            "aig 3 2 0 0 1 1\n6\n\u{2}\u{2}",
+        ),
+    ];
+    for (text, wanted) in rows {
+        let (status, written, told) = lowered_to_binary(rt.alloc(), text)?;
         assert_eq!(rt; status, 0, "{text}");
         assert_eq!(rt; written.as_slice(), wanted.as_bytes(), "{text}");
         assert_eq!(rt; told.len(), 0, "{text}");

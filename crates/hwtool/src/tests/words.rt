@@ -3,6 +3,7 @@
 use crate::command_line::{given_words, order};
 use crate::orders::{Stop, Task};
 use crate::telling::end;
+use aigertext::Form;
 use base::VecSink;
 use std::alloc::Global;
 use std::env::{Env, FillError};
@@ -16,19 +17,51 @@ fn stopped(alloc: Global, words: &[&str]) -> Option<Stop> {
 
 #[test]
 fn orders(rt: HostRuntime) -> Result<(), Fail> {
-    let rows: [(&[&str], Task, &str, &str); 7] = [
-        (&[], Task::Lower, "-", ""),
-        (&["lower", "--ascii", "a.btor2"], Task::Lower, "a.btor2", ""),
-        (&["lower", "-"], Task::Lower, "-", ""),
-        (&["show", "a.btor2"], Task::Show, "a.btor2", ""),
-        (&["check-btor", "a", "b"], Task::CheckBtor, "a", "b"),
-        (&["check-btor", "-", "b"], Task::CheckBtor, "-", "b"),
-        (&["check-btor", "a", "-"], Task::CheckBtor, "a", "-"),
+    let rows: [(&[&str], Task, Form, &str, &str); 8] = [
+        (&[], Task::Lower, Form::Ascii, "-", ""),
+        (
+            &["lower", "--ascii", "a"],
+            Task::Lower,
+            Form::Ascii,
+            "a",
+            "",
+        ),
+        (
+            &["lower", "--binary", "a"],
+            Task::Lower,
+            Form::Binary,
+            "a",
+            "",
+        ),
+        (&["lower", "-"], Task::Lower, Form::Ascii, "-", ""),
+        (&["show", "a"], Task::Show, Form::Ascii, "a", ""),
+        (
+            &["check-btor", "a", "b"],
+            Task::CheckBtor,
+            Form::Ascii,
+            "a",
+            "b",
+        ),
+        (
+            &["check-btor", "-", "b"],
+            Task::CheckBtor,
+            Form::Ascii,
+            "-",
+            "b",
+        ),
+        (
+            &["check-btor", "a", "-"],
+            Task::CheckBtor,
+            Form::Ascii,
+            "a",
+            "-",
+        ),
     ];
-    for (words, task, first, second) in rows {
+    for (words, task, form, first, second) in rows {
         match order(rt.alloc(), words) {
             Ok(order) => {
                 assert_eq!(rt; order.task, task);
+                assert_eq!(rt; order.form, form);
                 assert_eq!(rt; order.first, first);
                 assert_eq!(rt; order.second.unwrap_or(""), second);
             }
@@ -40,7 +73,7 @@ fn orders(rt: HostRuntime) -> Result<(), Fail> {
 
 #[test]
 fn refused_words(rt: HostRuntime) -> Result<(), Fail> {
-    let rows: [(&[&str], &str); 6] = [
+    let rows: [(&[&str], &str); 9] = [
         (&["frobnicate"], "\n\nUsage: hwtool <COMMAND>\n"),
         (&["lower"], "\n\nUsage: hwtool lower <MODEL>\n"),
         (
@@ -48,8 +81,20 @@ fn refused_words(rt: HostRuntime) -> Result<(), Fail> {
             "\n\nUsage: hwtool lower [OPTIONS] <MODEL>\n",
         ),
         (
-            &["lower", "--binary", "a"],
+            &["lower", "--both", "a"],
             "\n\nUsage: hwtool lower [OPTIONS] <MODEL>\n",
+        ),
+        (
+            &["lower", "--ascii", "--binary", "a"],
+            "words: choose one form\n",
+        ),
+        (
+            &["lower", "--binary", "--ascii", "--both", "a"],
+            "\n\nUsage: hwtool lower [OPTIONS] <MODEL>\n",
+        ),
+        (
+            &["show", "--binary", "a"],
+            "\n\nUsage: hwtool show <MODEL>\n",
         ),
         (
             &["check-btor", "a"],
