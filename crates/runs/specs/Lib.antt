@@ -4,3 +4,5 @@ pub mod Frames
 pub mod Run
 pub mod Nodes
 pub mod Holds
+pub mod CircuitRun
+pub mod CircuitHolds
