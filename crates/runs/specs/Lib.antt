@@ -6,3 +6,4 @@ pub mod Nodes
 pub mod Holds
 pub mod CircuitRun
 pub mod CircuitHolds
+pub mod Worked

@@ -16,4 +16,6 @@ pub use fault::NewFault;
 pub use word_run::WordRun;
 
 #[cfg(test)]
+mod bit_tests;
+#[cfg(test)]
 mod tests;
