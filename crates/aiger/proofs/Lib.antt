@@ -3,4 +3,4 @@ pub mod SectionNameLemmas
 mod NameLemmas
 mod JusticeLemmas
 mod CircuitLemmas
-mod TraceLemmas
+pub mod TraceLemmas

@@ -22,11 +22,11 @@ put-below : (v : Valuation) (k : ℕ) (b : Bool) (j : ℕ) → j < k → put v k
 put-below v k b j h = grind (arith, nat_tests)
 
 -- two valuations agree on each variable from 1 to below a bound
-abbrev AgreeBelow : ℕ → Valuation → Valuation → Type 0
+abbrev pub AgreeBelow : ℕ → Valuation → Valuation → Type 0
 AgreeBelow bound v w = (k : ℕ) → 1 ≤ k → k < bound → v k ≡ w k
 
 -- so they agree on each literal below twice the bound
-literal_value-agree : (bound : ℕ) (v w : Valuation) (l : ℕ) → AgreeBelow bound v w → l < 2 * bound → literal_value v l ≡ literal_value w l
+pub literal_value-agree : (bound : ℕ) (v w : Valuation) (l : ℕ) → AgreeBelow bound v w → l < 2 * bound → literal_value v l ≡ literal_value w l
 literal_value-agree bound v w zero a h = refl
 literal_value-agree bound v w (suc zero) a h = refl
 literal_value-agree bound v w (suc (suc l)) a h =
@@ -34,7 +34,7 @@ literal_value-agree bound v w (suc (suc l)) a h =
     grind (arith, nat_tests)
 
 -- and have the same bits there
-bits_from-agree : (first count : ℕ) (v w : Valuation) → ((k : ℕ) → first ≤ k → k < first + count → v k ≡ w k) → bits_from first count v ≡ bits_from first count w
+pub bits_from-agree : (first count : ℕ) (v w : Valuation) → ((k : ℕ) → first ≤ k → k < first + count → v k ≡ w k) → bits_from first count v ≡ bits_from first count w
 bits_from-agree first zero v w a = refl
 bits_from-agree first (suc count) v w a =
     let h : v first ≡ w first = a first (omega arith) (omega arith) in
@@ -140,7 +140,7 @@ agree_more first (g ∷ gs) v w one o s t a =
     λ k low high. all k low (omega arith)
 
 -- two frames from the same bits are the same
-SameFrame-from_bits : (c : Circuit) (state input : List Bool) (v w : Valuation) → IsCircuit c → IsFrame c state input v → IsFrame c state input w → SameFrame c v w
+pub SameFrame-from_bits : (c : Circuit) (state input : List Bool) (v w : Valuation) → IsCircuit c → IsFrame c state input v → IsFrame c state input w → SameFrame c v w
 SameFrame-from_bits c state input v w valid p q =
     let first : ℕ = suc (c.inputs + length c.latches) in
     let i : bits_from 1 c.inputs v ≡ bits_from 1 c.inputs w = p.inputs ∙ sym q.inputs in

@@ -11,3 +11,5 @@ pub mod ReadLemmas
 pub mod AdvanceLemmas
 pub mod StartLemmas
 pub mod GivenLemmas
+pub mod BitPassLemmas
+pub mod BitRunLemmas

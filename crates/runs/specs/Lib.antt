@@ -4,3 +4,6 @@ pub mod Frames
 pub mod Run
 pub mod Nodes
 pub mod Holds
+pub mod CircuitRun
+pub mod CircuitHolds
+pub mod Worked

@@ -1,12 +1,18 @@
 //! Theorems on the definitions of runs, as functions with no code.
-ghost use Rattle.std.specs.Prelude.{◌≡◌, ℕ, ◌+◌, ◌-◌, ◌<◌, ◌^◌, ◌==◌, true, false, min, List, [], ◌∷◌, map, length, slice_index, slice_set, if◌then◌else◌};
+ghost use Rattle.std.specs.Prelude.{◌≡◌, ℕ, ◌+◌, ◌-◌, ◌<◌, ◌^◌, ◌==◌, true, false, min, List, [], ◌∷◌, Bool, map, length, slice_index, slice_set, if◌then◌else◌};
 ghost use Rattle.btor2.specs.declared.item.Item.{Item};
 ghost use Rattle.btor2.specs.Items.{find_item, is_state, is_input};
 ghost use Rattle.btor2.specs.Check.{IsWellFormed};
-ghost use Rattle.btor2.specs.Trace.{Frame, IsFrame, state_word, next_state};
+ghost use Rattle.btor2.specs.Trace.{Frame, IsFrame, state_word, next_state as next_words};
 ghost use Rattle.btor2.specs.Worked.{counter, follower};
 ghost use Rattle.runs.specs.Frames.{ids_of, given, given_leaves};
 ghost use Rattle.runs.specs.Run.{IsNow, node_count, state_count, more_steps, start};
+ghost use Rattle.aiger.specs.Literal.{Valuation, literal_value};
+ghost use Rattle.aiger.specs.Circuit.{IsCircuit};
+ghost use Rattle.aiger.specs.Trace.{SameFrame, next_state};
+ghost use Rattle.aiger.specs.Worked.{toggler};
+ghost use Rattle.runs.specs.CircuitRun.{CircuitRun, IsFrameNow, circuit_start, settle_steps, circuit_held};
+ghost use Rattle.runs.specs.Worked.{conjunction, exchange, all_true};
 
 /// A law: steps are counted one by one, up to the greatest number of 128 bits.
 pub fn steps_count()
@@ -50,5 +56,28 @@ pub fn worked_free_states()
     ensures held { node_count follower + state_count follower ≡ 5 }
     ensures frame { (f : Frame) → IsNow (record (start follower) { states = 1 ∷ 0 ∷ [] }) f → (f 2 ≡ 1) × (f 3 ≡ 0) }
     ensures advances { (f : Frame) → IsNow (record (start follower) { states = 1 ∷ 0 ∷ [] }) f
-        → map (next_state follower f) (ids_of is_state follower) ≡ 0 ∷ 1 ∷ [] }
+        → map (next_words follower f) (ids_of is_state follower) ≡ 0 ∷ 1 ∷ [] }
+{}
+
+/// A law: a run of a circuit is in exactly one frame, whatever bits its latches and inputs have.
+pub fn exactly_one_frame()
+    ensures exists { (r : CircuitRun) → IsCircuit r.circuit → length r.latches ≡ length r.circuit.latches → length r.inputs ≡ r.circuit.inputs → (v : Valuation) × IsFrameNow r v }
+    ensures unique { (r : CircuitRun) (v w : Valuation) → IsCircuit r.circuit → IsFrameNow r v → IsFrameNow r w → SameFrame r.circuit v w }
+{}
+
+/// Worked rows: a latch that toggles begins at 0 and is 1 in the next frame; an AND gate of two inputs is 1 where both
+/// are; of two latches that exchange their bits, the one with no initial value begins at 0.
+pub fn worked_circuits()
+    ensures begins { circuit_start toggler ≡ record { circuit = toggler; latches = false ∷ []; inputs = []; settled = false; steps = 0 } }
+    ensures toggles { (v : Valuation) → IsFrameNow (circuit_start toggler) v → next_state toggler v ≡ true ∷ [] }
+    ensures toggler_held { circuit_held toggler ≡ 3 }
+    ensures toggler_steps { settle_steps toggler ≡ 0 }
+    ensures toggler_moves { more_steps (length toggler.latches) 0 ≡ 1 }
+    ensures both { (v : Valuation) → IsFrameNow (record (circuit_start conjunction) { inputs = true ∷ true ∷ [] }) v → literal_value v 6 ≡ true }
+    ensures one { (v : Valuation) → IsFrameNow (record (circuit_start conjunction) { inputs = true ∷ false ∷ [] }) v → literal_value v 6 ≡ false }
+    ensures others { ¬ IsFrameNow (record (circuit_start conjunction) { inputs = true ∷ false ∷ [] }) all_true }
+    ensures gate_held { circuit_held conjunction ≡ 4 }
+    ensures gate_steps { settle_steps conjunction ≡ 3 }
+    ensures resets { (circuit_start exchange).latches ≡ true ∷ false ∷ [] }
+    ensures exchanges { (v : Valuation) → IsFrameNow (circuit_start exchange) v → next_state exchange v ≡ false ∷ true ∷ [] }
 {}

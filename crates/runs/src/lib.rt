@@ -1,6 +1,9 @@
-//! Runs of models: the words of all nodes, frame by frame. The laws of its definitions stand in `laws`.
+//! Runs of models, with the words of all nodes, and of circuits, with the bits of all variables, frame by frame. The
+//! laws of its definitions stand in `laws`.
 #![tactic(auto)]
 
+mod bit_passes;
+mod bit_run;
 mod fault;
 pub mod laws;
 mod nodes;
@@ -8,8 +11,11 @@ mod passes;
 mod resolving;
 mod word_run;
 
+pub use bit_run::BitRun;
 pub use fault::NewFault;
 pub use word_run::WordRun;
 
+#[cfg(test)]
+mod bit_tests;
 #[cfg(test)]
 mod tests;

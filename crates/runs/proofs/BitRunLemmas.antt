@@ -1,0 +1,164 @@
+-- What the calls of a run of a circuit keep, and what they make of its bits.
+use Rattle.std.proofs.Common.{◌≡◌, ℕ, zero, suc, ◌+◌, ◌<◌, ◌≤◌, Bool, true, false, List, length, get_or, set, replicate, All, refl, sym, ap, subst, ◌∙◌, arith}
+use Rattle.std.proofs.lemmas.List.{length-map, length-set, length-replicate, get_or-map, get_or-replicate, get_or-set_other}
+use Rattle.base.specs.Steps.{one_more}
+use Rattle.aiger.specs.declared.circuit.Latch.{Latch}
+use Rattle.aiger.specs.declared.circuit.Reset.TheVariants.{Zero}
+use Rattle.aiger.specs.Literal.{Valuation, variable, literal_value}
+use Rattle.aiger.specs.Net.{variables, IsDefined, SatisfiesFrom, input_bits, latch_bits}
+use Rattle.aiger.specs.Circuit.{Circuit, IsCircuit, net}
+use Rattle.aiger.specs.Trace.{IsFrame, SameFrame, next_state}
+use Rattle.aiger.proofs.TraceLemmas.{literal_value-agree, bits_from-agree, SameFrame-from_bits}
+use Rattle.runs.specs.Run.{more_steps}
+use Rattle.runs.specs.CircuitRun.{CircuitRun, first_bit, first_bits, no_inputs}
+use Rattle.runs.specs.CircuitHolds.{valuation_of, KeepsBits}
+use Rattle.runs.proofs.BitPassLemmas.{bits_from-is, bits_from-set}
+
+-- runs with equal parts are equal
+pub circuit_run_same : (c : Circuit) (latches latches' inputs inputs' : List Bool) (settled : Bool) (steps steps' : ℕ) → latches ≡ latches' → inputs ≡ inputs' → steps ≡ steps'
+    → let a : CircuitRun = record { circuit = c; latches = latches; inputs = inputs; settled = settled; steps = steps } in let b : CircuitRun = record { circuit = c; latches = latches'; inputs = inputs'; settled = settled; steps = steps' } in a ≡ b
+circuit_run_same c latches latches' inputs inputs' settled steps steps' l i s = rw (l, i, s) refl
+
+-- the bits of the latches, and of the inputs
+abbrev pub latches_in : Circuit → List Bool → List Bool
+latches_in c bits = latch_bits (net c) (valuation_of bits)
+
+abbrev pub inputs_in : Circuit → List Bool → List Bool
+inputs_in c bits = input_bits (net c) (valuation_of bits)
+
+pub inputs_agree : (c : Circuit) (bits bits' : List Bool) → ((p : ℕ) → 1 ≤ p → p ≤ c.inputs → valuation_of bits' p ≡ valuation_of bits p) → inputs_in c bits' ≡ inputs_in c bits
+inputs_agree c bits bits' same = bits_from-agree 1 c.inputs (valuation_of bits') (valuation_of bits) (λ p low high. same p low (omega arith))
+
+pub latches_agree : (c : Circuit) (bits bits' : List Bool) → ((p : ℕ) → c.inputs < p → p ≤ c.inputs + length c.latches → valuation_of bits' p ≡ valuation_of bits p) → latches_in c bits' ≡ latches_in c bits
+latches_agree c bits bits' same = bits_from-agree (suc c.inputs) (length c.latches) (valuation_of bits') (valuation_of bits) (λ p low high. same p (omega arith) (omega arith))
+
+module _ (c : Circuit) (bits next_bits : List Bool) (settled : Bool) (k : KeepsBits c bits next_bits settled) where
+  -- a literal of the circuit is one of the list
+  pub defined_inside : (l : ℕ) → IsDefined (net c) l → variable l < length bits
+  defined_inside l d = omega (arith, k.many)
+
+  pub nexts_inside : All (λ (l : Latch). variable l.next < length bits) c.latches
+  nexts_inside j d h = defined_inside _ (k.valid.defined.nexts j d h)
+
+  -- its bit is that of the frame that the run is in
+  pub literal_now : settled ≡ true → (v : Valuation) → IsFrame c (latches_in c bits) (inputs_in c bits) v → (l : ℕ) → IsDefined (net c) l → literal_value (valuation_of bits) l ≡ literal_value v l
+  literal_now done v frame l d =
+      let own : IsFrame c (latches_in c bits) (inputs_in c bits) (valuation_of bits) = record { gates = k.gates done; inputs = refl; latches = refl } in
+      let same : SameFrame c (valuation_of bits) v = SameFrame-from_bits c (latches_in c bits) (inputs_in c bits) (valuation_of bits) v k.valid own frame in
+      literal_value-agree (suc (variables (net c))) (valuation_of bits) v l (λ p low high. same p low (omega arith)) (omega arith)
+
+  -- a bit set for a latch, or for an input
+  pub record AfterSet (bits' latches' inputs' : List Bool) : Type 0 where
+    pub keeps : KeepsBits c bits' next_bits false
+    pub latches : latches_in c bits' ≡ latches'
+    pub inputs : inputs_in c bits' ≡ inputs'
+
+  set_keeps : (place : ℕ) (b : Bool) → 0 < place → KeepsBits c (set bits place b) next_bits false
+  set_keeps place b above =
+      record {
+        valid = k.valid;
+        many = length-set bits place b ∙ k.many;
+        many_latches = k.many_latches;
+        constant = get_or-set_other bits place 0 b false (omega arith) ∙ k.constant;
+        gates = λ e. absurd (cc);
+      }
+
+  pub set_latch_keeps : (j place : ℕ) (b : Bool) → j < length c.latches → place ≡ 1 + c.inputs + j → AfterSet (set bits place b) (set (latches_in c bits) j b) (inputs_in c bits)
+  set_latch_keeps j place b inside at =
+      record {
+        keeps = set_keeps place b (omega arith);
+        latches = bits_from-set (suc c.inputs) (length c.latches) bits j place b (omega arith) inside (omega (arith, k.many));
+        inputs = inputs_agree c bits (set bits place b) (λ p low high. get_or-set_other bits place p b false (omega arith));
+      }
+
+  pub set_input_keeps : (j place : ℕ) (b : Bool) → j < c.inputs → place ≡ 1 + j → AfterSet (set bits place b) (latches_in c bits) (set (inputs_in c bits) j b)
+  set_input_keeps j place b inside at =
+      record {
+        keeps = set_keeps place b (omega arith);
+        latches = latches_agree c bits (set bits place b) (λ p low high. get_or-set_other bits place p b false (omega arith));
+        inputs = bits_from-set 1 c.inputs bits j place b (omega arith) inside (omega (arith, k.many));
+      }
+
+  -- the gates given their bits
+  pub record AfterSettle (bits' : List Bool) : Type 0 where
+    pub keeps : KeepsBits c bits' next_bits true
+    pub latches : latches_in c bits' ≡ latches_in c bits
+    pub inputs : inputs_in c bits' ≡ inputs_in c bits
+
+  pub settle_keeps : (first : ℕ) (bits' : List Bool) → first ≡ 1 + c.inputs + length c.latches → SatisfiesFrom first c.gates (valuation_of bits') → ((p : ℕ) → p < first → valuation_of bits' p ≡ valuation_of bits p) → length bits' ≡ length bits
+      → AfterSettle bits'
+  settle_keeps first bits' at gates others many =
+      let place : first ≡ suc (c.inputs + length c.latches) = omega arith in
+      record {
+        keeps = record {
+          valid = k.valid;
+          many = many ∙ k.many;
+          many_latches = k.many_latches;
+          constant = others 0 (omega arith) ∙ k.constant;
+          gates = λ e. subst (λ (n : ℕ). SatisfiesFrom n c.gates (valuation_of bits')) place gates;
+        };
+        latches = latches_agree c bits bits' (λ p low high. others p (omega arith));
+        inputs = inputs_agree c bits bits' (λ p low high. others p (omega arith));
+      }
+
+  -- the latches moved and the inputs cleared: `put` are the bits between
+  pub record AfterAdvance (next_bits' bits' : List Bool) : Type 0 where
+    pub keeps : KeepsBits c bits' next_bits' false
+    pub latches : (v : Valuation) → IsFrame c (latches_in c bits) (inputs_in c bits) v → latches_in c bits' ≡ next_state c v
+    pub inputs : inputs_in c bits' ≡ no_inputs c
+
+  pub advance_keeps : settled ≡ true → (next_bits' put bits' : List Bool) (first : ℕ) → first ≡ 1 + c.inputs
+      → ((j : ℕ) (d : Latch) → j < length c.latches → get_or next_bits' j false ≡ literal_value (valuation_of bits) (get_or c.latches j d).next) → length next_bits' ≡ length next_bits
+      → ((j : ℕ) → j < length next_bits' → get_or put (first + j) false ≡ get_or next_bits' j false) → ((p : ℕ) → p < first → get_or put p false ≡ get_or bits p false) → length put ≡ length bits
+      → ((j : ℕ) → j < c.inputs → get_or bits' (1 + j) false ≡ false) → ((p : ℕ) → c.inputs < p → get_or bits' p false ≡ get_or put p false) → get_or bits' 0 false ≡ get_or put 0 false → length bits' ≡ length put
+      → AfterAdvance next_bits' bits'
+  advance_keeps done next_bits' put bits' first at taken as_many puts below many cleared others constant many' =
+      record {
+        keeps = record {
+          valid = k.valid;
+          many = many' ∙ many ∙ k.many;
+          many_latches = as_many ∙ k.many_latches;
+          constant = constant ∙ below 0 (omega arith) ∙ k.constant;
+          gates = λ e. absurd (cc);
+        };
+        latches = λ v frame.
+            bits_from-is (suc c.inputs) (length c.latches) (valuation_of bits') (next_state c v) (length-map c.latches (λ (l : Latch). literal_value v l.next)) (λ j within.
+            let d : Latch = get_or c.latches j (record { next = 0; reset = Zero }) in
+            let same : suc c.inputs + j ≡ first + j = omega arith in
+            others (suc c.inputs + j) (omega arith) ∙ ap (valuation_of put) same ∙ puts j (omega (arith, as_many, k.many_latches)) ∙ taken j d within
+            ∙ literal_now done v frame (get_or c.latches j d).next (k.valid.defined.nexts j d within)
+            ∙ sym (get_or-map (λ (l : Latch). literal_value v l.next) c.latches j d false within));
+        inputs = bits_from-is 1 c.inputs (valuation_of bits') (no_inputs c) (length-replicate c.inputs false) (λ j within. cleared j within ∙ sym (get_or-replicate c.inputs j false false within));
+      }
+
+-- The bits of a new run: 0 each, and then those of the resets.
+pub record Starts (c : Circuit) (next_bits bits : List Bool) : Type 0 where
+  pub keeps : KeepsBits c bits next_bits false
+  pub latches : latches_in c bits ≡ first_bits c.latches
+  pub inputs : inputs_in c bits ≡ no_inputs c
+
+pub starts : (c : Circuit) (blank next_bits bits : List Bool) (first : ℕ) → IsCircuit c → first ≡ 1 + c.inputs → blank ≡ replicate (variables (net c) + 1) false
+    → ((j : ℕ) (d : Latch) → j < length c.latches → get_or next_bits j false ≡ first_bit (get_or c.latches j d).reset) → length next_bits ≡ length c.latches
+    → ((j : ℕ) → j < length next_bits → get_or bits (first + j) false ≡ get_or next_bits j false) → ((p : ℕ) → p < first → get_or bits p false ≡ get_or blank p false) → length bits ≡ length blank → Starts c next_bits bits
+starts c blank next_bits bits first valid at are_false taken as_many puts below many =
+    let are_zero : (p : ℕ) → p < first → get_or bits p false ≡ false =
+    λ p h. below p h ∙ ap (λ (l : List Bool). get_or l p false) are_false ∙ get_or-replicate (variables (net c) + 1) p false false (omega arith) in
+    record {
+      keeps = record {
+        valid = valid;
+        many = many ∙ ap length are_false ∙ length-replicate (variables (net c) + 1) false;
+        many_latches = as_many;
+        constant = are_zero 0 (omega arith);
+        gates = λ e. absurd (cc);
+      };
+      latches = bits_from-is (suc c.inputs) (length c.latches) (valuation_of bits) (first_bits c.latches) (length-map c.latches (λ (l : Latch). first_bit l.reset)) (λ j within.
+          let d : Latch = get_or c.latches j (record { next = 0; reset = Zero }) in
+          let same : suc c.inputs + j ≡ first + j = omega arith in
+          ap (valuation_of bits) same ∙ puts j (omega (arith, as_many)) ∙ taken j d within ∙ sym (get_or-map (λ (l : Latch). first_bit l.reset) c.latches j d false within));
+      inputs = bits_from-is 1 c.inputs (valuation_of bits) (no_inputs c) (length-replicate c.inputs false) (λ j within. are_zero (1 + j) (omega arith) ∙ sym (get_or-replicate c.inputs j false false within));
+    }
+
+-- steps after steps
+pub more_steps-sum : (m n count : ℕ) → more_steps n (more_steps m count) ≡ more_steps (m + n) count
+more_steps-sum m zero count = let same : m ≡ m + zero = omega arith in ap (λ (k : ℕ). more_steps k count) same
+more_steps-sum m (suc n) count = let same : suc (m + n) ≡ m + suc n = omega arith in ap one_more (more_steps-sum m n count) ∙ ap (λ (k : ℕ). more_steps k count) same

@@ -1,0 +1,14 @@
+use Rattle.std.proofs.Common.{◌≡◌, ℕ, ◌<◌, length, get_or, false}
+use Rattle.aiger.specs.declared.circuit.Latch.{Latch}
+use Rattle.aiger.specs.Literal.{literal_value}
+use Rattle.runs.specs.CircuitHolds.{valuation_of}
+use Rattle.runs.specs.Run.{more_steps}
+use Rattle.runs.proofs.bit_passes.take_nexts.Given as goal
+
+abbrev pub invariant-loop-k : goal.invariant-loop-k
+invariant-loop-k l =
+    record {
+      taken : (j : ℕ) (d : Latch) → j < l.k → get_or l.taken j false ≡ literal_value (valuation_of l.bits) (get_or l.latches j d).next;
+      as_many : length l.taken ≡ length l.fn.taken;
+      steps : l.tally ≡ more_steps l.k l.fn.tally;
+    }

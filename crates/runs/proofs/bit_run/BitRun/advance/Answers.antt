@@ -1,0 +1,54 @@
+use Rattle.std.proofs.Common.{◌≡◌, ℕ, ◌+◌, ◌<◌, Bool, true, false, List, length, get_or, ap, refl, sym, subst, ◌∙◌, arith}
+use Rattle.std.proofs.lemmas.List.{with_items_is}
+use Rattle.std.specs.Vec.{with_items}
+use Rattle.aiger.specs.declared.circuit.Latch.{Latch}
+use Rattle.aiger.specs.Literal.{Valuation, literal_value}
+use Rattle.aiger.specs.Trace.{next_state}
+use Rattle.runs.specs.Run.{more_steps}
+use Rattle.runs.specs.CircuitRun.{CircuitRun, IsFrameNow}
+use Rattle.runs.specs.CircuitHolds.{valuation_of}
+use Rattle.runs.proofs.BitRunLemmas.{AfterAdvance, latches_in, inputs_in, advance_keeps, circuit_run_same}
+use Rattle.runs.proofs.bit_run.BitRun.advance.Goals as goal
+use Rattle.runs.proofs.bit_run.BitRun.advance.Goals.{After-clear_inputs}
+
+-- the bits taken, those between, and those at the end
+taken_is : (c : After-clear_inputs) → (with_items c.self.inside.next_bits c.take_nexts.new.taken).items ≡ c.take_nexts.new.taken
+taken_is c = with_items_is c.self.inside.next_bits c.take_nexts.new.taken (omega (arith, c.deref_mut.ensures.len))
+
+put_is : (c : After-clear_inputs) → (with_items c.self.inside.bits c.put_bits.new.bits).items ≡ c.put_bits.new.bits
+put_is c = with_items_is c.self.inside.bits c.put_bits.new.bits (omega arith)
+
+cleared_is : (c : After-clear_inputs) → (with_items (with_items c.self.inside.bits c.put_bits.new.bits) c.clear_inputs.new.bits).items ≡ c.clear_inputs.new.bits
+cleared_is c = with_items_is (with_items c.self.inside.bits c.put_bits.new.bits) c.clear_inputs.new.bits (omega arith)
+
+after : (c : After-clear_inputs) → c.self.inside.settled ≡ true → AfterAdvance c.self.inside.circuit.now c.self.inside.bits.items c.self.inside.next_bits.items c.self.inside.settled c.self.invariant c.take_nexts.new.taken c.clear_inputs.new.bits
+after c done =
+    let circuit = c.self.inside.circuit.now in
+    let given : c.deref-2.result.now ≡ c.take_nexts.new.taken = c.deref-2.ensures.value ∙ taken_is c in
+    let between : c.deref_mut-3.result.now ≡ c.put_bits.new.bits = c.deref_mut-3.ensures.value ∙ put_is c in
+    let count : c.inputs-inputs.result ≡ circuit.inputs = c.inputs-inputs.ensures.count in
+    advance_keeps _ _ _ _ c.self.invariant done c.take_nexts.new.taken c.put_bits.new.bits c.clear_inputs.new.bits (1 + c.inputs-inputs.result) (ap (λ (n : ℕ). 1 + n) count)
+    (λ j d within.
+    c.take_nexts.ensures.taken j d (subst (λ (ls : List Latch). j < length ls) (sym c.latches.ensures.items) within)
+    ∙ ap (λ (bits : List Bool). literal_value (valuation_of bits) (get_or c.latches.result.now j d).next) c.deref.ensures.value
+    ∙ ap (λ (ls : List Latch). literal_value (valuation_of c.self.inside.bits.items) (get_or ls j d).next) c.latches.ensures.items)
+    (c.take_nexts.ensures.as_many ∙ ap length c.deref_mut.ensures.value)
+    (subst (λ (l : List Bool). (j : ℕ) → j < length l → get_or c.put_bits.new.bits (1 + c.inputs-inputs.result + j) false ≡ get_or l j false) given c.put_bits.ensures.put)
+    (λ p h. c.put_bits.ensures.others p h ∙ ap (λ (l : List Bool). get_or l p false) c.deref_mut-2.ensures.value) (c.put_bits.ensures.as_many ∙ ap length c.deref_mut-2.ensures.value)
+    (subst (λ (n : ℕ). (j : ℕ) → j < n → get_or c.clear_inputs.new.bits (1 + j) false ≡ false) count c.clear_inputs.ensures.cleared)
+    (λ p h. c.clear_inputs.ensures.others p (subst (λ (n : ℕ). n < p) (sym count) h) ∙ ap (λ (l : List Bool). get_or l p false) between) (c.clear_inputs.ensures.constant ∙ ap (λ (l : List Bool). get_or l 0 false) between)
+    (c.clear_inputs.ensures.as_many ∙ ap length between)
+
+pub returns-clause-latches : goal.returns-clause-latches
+returns-clause-latches c =
+    let end = (goal.at.returns-clause-latches c).After-clear_inputs in
+    let moved = after end (subst (λ (r : CircuitRun). r.settled ≡ true) (sym c.self.view_is) c.requires) in
+    subst (λ (r : CircuitRun). (v : Valuation) → IsFrameNow r v → latches_in c.self.inside.circuit.now (with_items (with_items c.self.inside.bits c.put_bits.new.bits) c.clear_inputs.new.bits).items ≡ next_state r.circuit v) c.self.view_is
+    (λ v frame. ap (latches_in c.self.inside.circuit.now) (cleared_is end) ∙ moved.latches v frame)
+
+pub returns-clause-others : goal.returns-clause-others
+returns-clause-others c =
+    let end = (goal.at.returns-clause-others c).After-clear_inputs in
+    let moved = after end (subst (λ (r : CircuitRun). r.settled ≡ true) (sym c.self.view_is) c.requires) in
+    let steps = c.take_nexts.ensures.steps ∙ ap (λ (n : ℕ). more_steps n c.self.inside.tally) (ap length c.latches.ensures.items) in
+    rw (← c.self.view_is) (circuit_run_same _ _ _ _ _ _ _ _ refl (ap (inputs_in c.self.inside.circuit.now) (cleared_is end) ∙ moved.inputs) steps)

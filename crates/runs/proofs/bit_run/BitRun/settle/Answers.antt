@@ -1,0 +1,22 @@
+use Rattle.std.proofs.Common.{◌≡◌, ℕ, ◌+◌, Bool, false, List, length, get_or, ap, ap₂, subst, ◌∙◌, arith}
+use Rattle.std.proofs.lemmas.List.{with_items_is}
+use Rattle.std.specs.Vec.{with_items}
+use Rattle.aiger.specs.declared.circuit.Gate.{Gate}
+use Rattle.aiger.specs.Net.{SatisfiesFrom}
+use Rattle.runs.specs.Run.{more_steps}
+use Rattle.runs.specs.CircuitHolds.{valuation_of}
+use Rattle.runs.proofs.BitRunLemmas.{latches_in, inputs_in, settle_keeps, circuit_run_same, more_steps-sum}
+use Rattle.runs.proofs.bit_run.BitRun.settle.Goals as goal
+
+pub returns : goal.returns
+returns c =
+    let circuit = c.self.inside.circuit.now in
+    let between : c.deref_mut-2.result.now ≡ c.self.inside.bits.items = c.deref_mut-2.ensures.value ∙ with_items_is c.self.inside.bits c.take_inputs.new.bits (omega arith) ∙ c.take_inputs.ensures.bits ∙ c.deref_mut.ensures.value in
+    let first : ℕ = 1 + c.inputs-inputs.result + length c.latches.result.now in
+    let place : first ≡ 1 + circuit.inputs + length circuit.latches = ap₂ (λ (i l : ℕ). 1 + i + l) c.inputs-inputs.ensures.count (ap length c.latches.ensures.items) in
+    let same = with_items_is (with_items c.self.inside.bits c.take_inputs.new.bits) c.settle_gates.new.bits (omega arith) in
+    let gates = subst (λ (gs : List Gate). SatisfiesFrom first gs (valuation_of c.settle_gates.new.bits)) c.gates.ensures.items c.settle_gates.ensures.gates in
+    let after = settle_keeps _ _ _ _ c.self.invariant first c.settle_gates.new.bits place gates (λ p h. c.settle_gates.ensures.others p h ∙ ap (λ (l : List Bool). get_or l p false) between) (c.settle_gates.ensures.as_many ∙ ap length between) in
+    let steps = c.settle_gates.ensures.steps ∙ ap₂ (λ (n t : ℕ). more_steps n t) (ap length c.gates.ensures.items) (c.take_inputs.ensures.steps ∙ ap (λ (n : ℕ). more_steps n c.self.inside.tally) c.inputs-inputs.ensures.count)
+    ∙ more_steps-sum circuit.inputs (length circuit.gates) c.self.inside.tally in
+    rw (← c.self.view_is) (circuit_run_same _ _ _ _ _ _ _ _ (ap (latches_in circuit) same ∙ after.latches) (ap (inputs_in circuit) same ∙ after.inputs) steps)

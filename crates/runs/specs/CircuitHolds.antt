@@ -1,0 +1,33 @@
+-- What a run of a circuit keeps.
+use Rattle.std.specs.Prelude.{◌≡◌, ◌+◌, Bool, true, false, List, length, slice_index_or}
+use Rattle.aiger.specs.Literal.{Valuation}
+use Rattle.aiger.specs.Net.{variables, Satisfies, input_bits, latch_bits}
+use Rattle.aiger.specs.Circuit.{Circuit, IsCircuit, net}
+use Rattle.runs.specs.declared.bit_run.BitRun.TheInside.{Inside}
+use Rattle.runs.specs.CircuitRun.{CircuitRun}
+
+-- the valuation of a list of bits: the k-th is the bit of variable k
+abbrev pub valuation_of : List Bool → Valuation
+valuation_of bits k = slice_index_or bits k false
+
+-- what contracts see of a run
+abbrev pub circuit_run_of : Inside → CircuitRun
+circuit_run_of r =
+    record {
+      circuit = r.circuit.now;
+      latches = latch_bits (net r.circuit.now) (valuation_of r.bits.items);
+      inputs = input_bits (net r.circuit.now) (valuation_of r.bits.items);
+      settled = r.settled;
+      steps = r.tally;
+    }
+
+-- The bits of 0 and of each variable, and room for each latch's next one; the bits satisfy the gates where the run is settled.
+pub record KeepsBits (c : Circuit) (bits next_bits : List Bool) (settled : Bool) : Type 0 where
+  pub valid : IsCircuit c
+  pub many : length bits ≡ variables (net c) + 1
+  pub many_latches : length next_bits ≡ length c.latches
+  pub constant : valuation_of bits 0 ≡ false
+  pub gates : settled ≡ true → Satisfies (net c) (valuation_of bits)
+
+abbrev pub IsCircuitRun : Inside → Type 0
+IsCircuitRun r = KeepsBits r.circuit.now r.bits.items r.next_bits.items r.settled
