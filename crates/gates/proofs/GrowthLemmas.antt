@@ -16,7 +16,7 @@ use Rattle.aiger.specs.declared.fault.CircuitFault.{CircuitFault}
 use Rattle.aiger.specs.declared.fault.CircuitFault.TheVariants.{TooBig, OrderBroken, LiteralOutOfRange}
 use Rattle.aiger.specs.Limits.{greatest_count}
 use Rattle.aiger.specs.Circuit.{Circuit, net, with_gate, gate_refusal}
-use Rattle.aiger.proofs.NetLemmas.{SatisfiesFrom-split, literal_value-even}
+use Rattle.aiger.proofs.NetLemmas.{SatisfiesFrom-split, literal_value-new}
 use Rattle.gates.specs.Made.{AreSame, Grows, MakesAnd}
 
 pub Grows-refl : (n : Net) (most : ℕ) → Grows n n most
@@ -54,19 +54,10 @@ IsDefined-grown old new most g l d = let more = variables-grown old new most g i
 pub All-defined-grown : (old new : Net) (most : ℕ) → Grows old new most → (ls : List ℕ) → All (IsDefined old) ls → All (IsDefined new) ls
 All-defined-grown old new most g ls all = All-weaker (IsDefined old) (IsDefined new) (IsDefined-grown old new most g) ls all
 
--- a gate with the operands in order is the and of both
-pub MakesAnd-push : (c : Circuit) (a b high low l : ℕ) → AreSame a b high low → l ≡ 2 * (variables (net c) + 1) → MakesAnd (net c) (net (with_gate c high low)) a b l
-MakesAnd-push c a b high low l same is =
-    record {
-      grows = record { inputs = refl; latches = refl; gates = (record { rhs0 = high; rhs1 = low } ∷ [], refl, omega arith) };
-      defined = omega (arith, length-append c.gates (record { rhs0 = high; rhs1 = low } ∷ []));
-      means = λ v s.
-          let own = (SatisfiesFrom-split (suc (c.inputs + length c.latches)) c.gates (record { rhs0 = high; rhs1 = low } ∷ []) v s).1.0 in
-          let here : suc (c.inputs + length c.latches) + length c.gates ≡ variables (net c) + 1 = omega arith in
-          let gate : v (variables (net c) + 1) ≡ (literal_value v high && literal_value v low) = rw here at own in
-          let value : literal_value v l ≡ v (variables (net c) + 1) = rw is (literal_value-even v (variables (net c) + 1) (omega arith)) in
-          value ∙ gate ∙ in_order v same;
-    }
+-- the and of two literals is that of the same two in either order
+pub and-same : (v : Valuation) (a b high low : ℕ) → AreSame a b high low → (literal_value v high && literal_value v low) ≡ (literal_value v a && literal_value v b)
+and-same v a b high low (inl e) = rw (e.0, e.1) refl
+and-same v a b high low (inr e) = rw (e.0, e.1) (swapped (literal_value v b) (literal_value v a))
   where
     swapped : (x y : Bool) → (x && y) ≡ (y && x)
     swapped true true = refl
@@ -74,9 +65,18 @@ MakesAnd-push c a b high low l same is =
     swapped false true = refl
     swapped false false = refl
 
-    in_order : (v : Valuation) → AreSame a b high low → (literal_value v high && literal_value v low) ≡ (literal_value v a && literal_value v b)
-    in_order v (inl e) = rw (e.0, e.1) refl
-    in_order v (inr e) = rw (e.0, e.1) (swapped (literal_value v b) (literal_value v a))
+-- a gate with the operands in order is the and of both
+pub MakesAnd-gate : (n : Net) (a b high low l : ℕ) → AreSame a b high low → l ≡ 2 * (variables n + 1) → MakesAnd n (record n { gates = n.gates ++ record { rhs0 = high; rhs1 = low } ∷ [] }) a b l
+MakesAnd-gate n a b high low l same is =
+    record {
+      grows = record { inputs = refl; latches = refl; gates = (record { rhs0 = high; rhs1 = low } ∷ [], refl, omega arith) };
+      defined = omega (arith, length-append n.gates (record { rhs0 = high; rhs1 = low } ∷ []));
+      means = λ v s. rw is (literal_value-new n (record { rhs0 = high; rhs1 = low }) v s) ∙ and-same v a b high low same;
+    }
+
+-- and so it is in a circuit
+pub MakesAnd-push : (c : Circuit) (a b high low l : ℕ) → AreSame a b high low → l ≡ 2 * (variables (net c) + 1) → MakesAnd (net c) (net (with_gate c high low)) a b l
+MakesAnd-push c a b high low l same is = MakesAnd-gate (net c) a b high low l same is
 
 -- literals that stand, made with no gate
 pub MakesWord-standing : (n : Net) (a : List ℕ) → All (IsDefined n) a → MakesWord n n 0 (length a) (λ v. word_value v a) a

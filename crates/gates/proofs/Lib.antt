@@ -12,3 +12,4 @@ pub mod QuotientLemmas
 pub mod WideProductLemmas
 pub mod SignedDivisionLemmas
 pub mod SignedModuloLemmas
+pub mod SharedLemmas

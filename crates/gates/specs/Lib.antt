@@ -4,6 +4,7 @@ pub mod Division
 pub mod Made
 pub mod Moves
 pub mod Operands
+pub mod Shared
 pub mod Sums
 pub mod Tests
 pub mod Faults

@@ -1,8 +1,9 @@
 //! Worked rows of the definitions of this crate, as functions with no code.
-ghost use Rattle.std.specs.Prelude.{◌≡◌, [], ◌∷◌, not, true, false};
+ghost use Rattle.std.specs.Prelude.{◌≡◌, Some, None, [], ◌∷◌, not, true, false};
 ghost use Rattle.base.specs.Operator.{unary_value};
 ghost use Rattle.base.specs.declared.operators.Unary.TheVariants as unary;
 ghost use Rattle.base.specs.declared.operators.Binary.TheVariants as binary;
+ghost use Rattle.aiger.specs.Circuit.{net};
 ghost use Rattle.aiger.specs.Literal.{literal_value};
 ghost use Rattle.aiger.specs.Worked.{one_gate};
 ghost use Rattle.gates.specs.declared.bitwise.Connective.TheVariants as by;
@@ -15,8 +16,21 @@ ghost use Rattle.gates.specs.Moves.{is_shift, is_rotation, is_move};
 ghost use Rattle.gates.specs.Made.{Grows, MakesAnd, MakesLiteral, MakesWord, Refuses, word_value};
 ghost use Rattle.gates.specs.Operands.{AreOperands};
 ghost use Rattle.gates.specs.Sums.{literal_number, MakesColumn, MakesSum};
+ghost use Rattle.gates.specs.Shared.{folded_and, gate_of, standing_and, AreShared, HasValuation, HasValuations};
 ghost use Rattle.gates.specs.Tests.{is_comparison, is_overflow, with_top_negated};
 ghost use Rattle.gates.specs.Worked.{no_gate};
+
+use aiger::Circuit;
+use aiger::laws::exactly_one_trace;
+
+/// Any bits of a circuit's inputs and latches have a valuation that satisfies its gates. So the circuit of a maker is no
+/// list of gates that nothing satisfies. Its contract is the law.
+pub fn gates_have_valuations(circuit: &Circuit)
+    ensures { HasValuations (net circuit.now) }
+{
+    exactly_one_trace();
+    let _variables = circuit.variables();
+}
 
 /// Worked rows: the gates that an operator takes at most.
 pub fn worked_bounds()
@@ -119,4 +133,23 @@ pub fn worked_divisions()
     ensures one_by_zero { MakesDivision no_gate no_gate 0 (1 ∷ []) (0 ∷ []) (1 ∷ []) (1 ∷ []) }
     ensures no_quotient_by_zero { ¬ MakesDivision no_gate no_gate 0 (1 ∷ []) (0 ∷ []) (0 ∷ []) (1 ∷ []) }
     ensures no_remainder_by_zero { ¬ MakesDivision no_gate no_gate 0 (1 ∷ []) (0 ∷ []) (1 ∷ []) (0 ∷ []) }
+{}
+
+/// Worked rows: an and that is folded, one that stands and one that needs a gate; gates that are shared, and gates with a
+/// constant, with two literals of one variable and with the same operands in both orders; a net that no bits have a
+/// valuation of, since its gate is true where it is not.
+pub fn worked_sharing()
+    ensures with_true { folded_and 6 1 ≡ Some 6 }
+    ensures with_false { folded_and 0 4 ≡ Some 0 }
+    ensures with_negation { folded_and 6 7 ≡ Some 0 }
+    ensures with_itself { folded_and 8 8 ≡ Some 8 }
+    ensures not_folded { folded_and 2 4 ≡ None }
+    ensures stands { standing_and (one_gate 4 2) 2 4 ≡ Some 6 }
+    ensures stands_not { standing_and (one_gate 4 2) 3 4 ≡ None }
+    ensures shared { AreShared (one_gate 4 2).gates }
+    ensures with_constant { ¬ AreShared (one_gate 4 1).gates }
+    ensures of_one_variable { ¬ AreShared (one_gate 3 2).gates }
+    ensures twice { ¬ AreShared (gate_of 2 4 ∷ gate_of 4 2 ∷ []) }
+    ensures valuation { HasValuation (one_gate 4 2) (true ∷ false ∷ []) [] }
+    ensures no_valuation { ¬ HasValuations (record { inputs = 0; latches = 0; gates = gate_of 3 3 ∷ [] }) }
 {}

@@ -10,12 +10,14 @@ mod choices;
 mod comparisons;
 mod division;
 mod fault;
+mod folding;
 pub mod laws;
 mod literals;
 mod maker;
 mod multiplication;
 mod overflows;
 mod plain;
+mod shared;
 mod shifts;
 mod signed_division;
 
@@ -32,6 +34,7 @@ pub use maker::{Bits, Gates};
 pub use multiplication::mul;
 pub use overflows::overflow;
 pub use plain::PlainGates;
+pub use shared::HashGates;
 pub use shifts::{rotate, shift};
 pub use signed_division::{sdiv, smod, srem};
 

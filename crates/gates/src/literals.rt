@@ -6,6 +6,7 @@ ghost use Rattle.gates.specs.Connect.{differ};
 ghost use Rattle.gates.specs.Made.{MakesAnd, MakesLiteral, Refuses};
 
 use crate::fault::GateFault;
+use crate::folding::folded;
 use crate::maker::Gates;
 use aiger::Lit;
 
@@ -16,14 +17,9 @@ pub(crate) fn conjunction<G: Gates>(g: &mut G, a: Lit, b: Lit) -> Result<Lit, Ga
     ensures ok { IfOk result (MakesAnd (G.made g.old) (G.made g.new) a b) }
     ensures refused { IfErr result (Refuses (G.made g.old) (G.made g.new) 1) }
 {
-    if a == b || b == Lit::TRUE {
-        Ok(a)
-    } else if a == Lit::TRUE {
-        Ok(b)
-    } else if a == Lit::FALSE || b == Lit::FALSE || a == b.not() {
-        Ok(Lit::FALSE)
-    } else {
-        g.and(a, b)
+    match folded(a, b) {
+        Some(lit) => Ok(lit),
+        None => g.and(a, b),
     }
 }
 

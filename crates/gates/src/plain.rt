@@ -4,8 +4,10 @@ ghost use Rattle.aiger.specs.Limits.{greatest_count};
 ghost use Rattle.aiger.specs.Net.{variables, IsDefined};
 ghost use Rattle.aiger.specs.Circuit.{net, with_gate};
 ghost use Rattle.gates.specs.Made.{AreSame, MakesAnd, Refuses, gates_only};
+ghost use Rattle.gates.specs.Shared.{HasValuations};
 
 use crate::fault::GateFault;
+use crate::laws::gates_have_valuations;
 use crate::maker::Gates;
 use aiger::{Circuit, CircuitFault, Lit};
 use std::alloc::Global;
@@ -46,9 +48,13 @@ impl PlainGates {
     }
 
     /// The circuit of these inputs, latches and gates, and nothing else. It takes no memory.
+    ///
+    /// Any bits of the inputs and the latches have a valuation that satisfies the gates.
     pub fn finish(self) -> Circuit
-        ensures { result ≡ gates_only self }
+        ensures circuit { result ≡ gates_only self }
+        ensures valuations { HasValuations self }
     {
+        gates_have_valuations(&self.circuit);
         self.circuit
     }
 }
@@ -66,7 +72,7 @@ fn in_order(a: Lit, b: Lit) -> (Lit, Lit)
 }
 
 /// Adds a gate to a circuit.
-fn push(circuit: &mut Circuit, greater: Lit, smaller: Lit) -> Result<Lit, GateFault>
+pub(crate) fn push(circuit: &mut Circuit, greater: Lit, smaller: Lit) -> Result<Lit, GateFault>
     requires order { smaller ≤ greater }
     requires defined { IsDefined (net circuit.old) greater }
     ensures ok { IfOk result (λ l. (circuit.new ≡ with_gate circuit.old greater smaller) × (l ≡ 2 * (variables (net circuit.old) + 1))) }

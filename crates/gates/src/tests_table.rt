@@ -1,11 +1,12 @@
-//! Every operator, at all its operands of 1 to 5 bits, those of products and quotients of 1 to 4 bits, against the
-//! operators on words.
+//! Every operator over both makers, at all its operands of 1 to 5 bits, those of products and quotients of 1 to 4 bits,
+//! and over the plain maker at a thousand operands of 64 bits, against the operators on words.
 ghost use Rattle.std.specs.Prelude.{◌≡◌, ◌+◌, ◌*◌, ◌<◌, ◌≤◌, ◌^◌, [], length, All};
 
 use super::*;
 use aiger::{Circuit, Lit};
 use base::{Binary, Tally, Unary, Width, binary, ite, ones, unary};
 use std::alloc::{AllocError, Global};
+use std::test::Fail;
 
 /// The operators of the table.
 const OPERATORS: [Op; 46] = [
@@ -57,10 +58,10 @@ const OPERATORS: [Op; 46] = [
     Op::Ite,
 ];
 
-/// The greatest width of the table.
+/// The greatest width at which all operands are tested.
 const WIDEST: u32 = 5;
 
-/// The greatest width at which an operator is tested: products and quotients take many gates.
+/// The greatest width at which all operands of an operator are tested: products and quotients take many gates.
 fn widest(op: Op) -> u32
     ensures { result ≤ 5 }
 {
@@ -79,10 +80,13 @@ fn widest(op: Op) -> u32
     }
 }
 
+/// Inputs for two operands of up to 64 bits and a condition, 64 for each.
+const INPUTS: u32 = 192;
+
 /// The literals of so many inputs behind the first ones.
 fn inputs(before: u32, width: u32) -> Bits
-    requires before { before ≤ 10 }
-    requires width { width ≤ 5 }
+    requires before { before ≤ 128 }
+    requires width { width ≤ 64 }
     ensures wide { length result.items ≡ width }
     ensures defined { All (λ l. l < 2 * (before + width + 1)) result.items }
 {
@@ -94,63 +98,113 @@ fn inputs(before: u32, width: u32) -> Bits
 }
 
 /// The bits that an operator's builder makes of inputs; none where the operator is not one of this width.
-fn built(g: &mut PlainGates, op: Op, width: u32) -> Result<Option<Bits>, GateFault>
+fn built<G: Gates>(g: &mut G, op: Op, width: u32) -> Result<Option<Bits>, GateFault>
     requires some { 1 ≤ width }
-    requires most { width ≤ 5 }
-    requires fresh { g.old ≡ record { inputs = 11; latches = 0; gates = [] } }
+    requires most { width ≤ 64 }
+    requires fresh { G.made g.old ≡ record { inputs = 192; latches = 0; gates = [] } }
 {
     let a = inputs(0, width);
-    let b = inputs(WIDEST, width);
+    let b = inputs(64, width);
     match op {
         Op::Unary(op) => Ok(Some(unary_bits(g, op, &a)?)),
         Op::Binary(Binary::Iff) if width > 1 => Ok(None),
         Op::Binary(Binary::Implies) if width > 1 => Ok(None),
         Op::Binary(op) => Ok(Some(binary_bits(g, op, &a, &b)?)),
-        Op::Ite => Ok(Some(ite_bits(g, &inputs(2 * WIDEST, 1), &a, &b)?)),
+        Op::Ite => Ok(Some(ite_bits(g, &inputs(128, 1), &a, &b)?)),
     }
 }
 
-/// Whether a literal is true, by the values of the variables.
-fn is_true(values: &[bool], lit: Lit) -> bool {
-    let positive = values.get(lit.var() as usize).copied().unwrap_or(false);
-    positive != (lit.number() % 2 == 1)
+/// A circuit and literals of it.
+#[derive(Drop)]
+struct Made {
+    circuit: Circuit,
+    bits: Bits,
 }
 
-/// The values of the constant and of the inputs, which have the bits of a number.
-fn input_values(alloc: Global, inputs: u64) -> Result<Vec<bool>, AllocError> {
+/// What an operator's builder makes over the plain maker; none where the operator is not one of this width.
+fn plain(alloc: Global, op: Op, width: u32) -> Option<Option<Made>>
+    requires some { 1 ≤ width }
+    requires most { width ≤ 64 }
+{
+    let mut g = PlainGates::new(alloc, INPUTS, 0).ok()?;
+    match built(&mut g, op, width).ok()? {
+        Some(bits) => Some(Some(Made {
+            circuit: g.finish(),
+            bits,
+        })),
+        None => Some(None),
+    }
+}
+
+/// What an operator's builder makes over the sharing maker; none where the operator is not one of this width.
+fn shared(alloc: Global, op: Op, width: u32) -> Option<Option<Made>>
+    requires some { 1 ≤ width }
+    requires most { width ≤ 64 }
+{
+    let mut g = HashGates::new(alloc, INPUTS, 0).ok()?;
+    match built(&mut g, op, width).ok()? {
+        Some(bits) => Some(Some(Made {
+            circuit: g.finish(),
+            bits,
+        })),
+        None => Some(None),
+    }
+}
+
+/// Two operands and a condition, in words of which the lowest bits count.
+type Operands = [u64; 3];
+
+/// The value of an input for up to 64 operands at once: the k-th bit is that for the k-th ones.
+fn input_values(batch: &[Operands], input: usize) -> u64
+    requires { input < 192 }
+{
+    let mut values: u64 = 0;
+    for operands in batch.iter().rev() {
+        values = (values << 1) | ((operands[input / 64] >> (input % 64)) & 1);
+    }
+    values
+}
+
+/// The value of a literal for up to 64 operands at once, by those of the variables.
+fn literal_values(values: &[u64], lit: Lit) -> u64 {
+    let positive = values.get(lit.var() as usize).copied().unwrap_or(0);
+    if lit.number() % 2 == 1 {
+        !positive
+    } else {
+        positive
+    }
+}
+
+/// The values of all variables for up to 64 operands at once.
+fn values(alloc: Global, circuit: &Circuit, batch: &[Operands]) -> Result<Vec<u64>, AllocError> {
     let mut values = Vec::new(alloc);
-    values.push(false)?;
-    for i in 0..2 * WIDEST + 1 {
-        values.push((inputs >> i) % 2 == 1)?;
+    values.push(0)?;
+    for input in 0..INPUTS as usize {
+        values.push(input_values(batch, input))?;
     }
-    Ok(values)
-}
-
-/// The values of all variables, where the inputs have the bits of a number.
-fn values(alloc: Global, circuit: &Circuit, inputs: u64) -> Result<Vec<bool>, AllocError> {
-    let mut values = input_values(alloc, inputs)?;
     for gate in circuit.gates() {
-        let value = is_true(&values, gate.rhs0) && is_true(&values, gate.rhs1);
+        let value = literal_values(&values, gate.rhs0) & literal_values(&values, gate.rhs1);
         values.push(value)?;
     }
     Ok(values)
 }
 
-/// The word that literals read as.
-fn word(values: &[bool], bits: &Bits) -> u64 {
+/// The word that literals read as for the k-th operands.
+fn word(values: &[u64], bits: &Bits, k: usize) -> u64
+    requires { k < 64 }
+{
     let mut word: u64 = 0;
     for lit in bits.as_slice().iter().rev() {
-        word = (word << 1) | u64::from(is_true(values, *lit));
+        word = (word << 1) | ((literal_values(values, *lit) >> k) & 1);
     }
     word
 }
 
-/// The word that an operator gives for two words, a choice by the bit `c`.
-fn expected(op: Op, w: Width, a: u64, b: u64, c: u64) -> u64
-    requires left { a < 2 ^ w }
-    requires right { b < 2 ^ w }
-    requires condition { c < 2 }
-{
+/// The word that an operator gives for operands of a width.
+fn expected(op: Op, w: Width, operands: Operands) -> u64 {
+    let a = operands[0] & ones(w);
+    let b = operands[1] & ones(w);
+    let c = operands[2] & 1;
     let mut tally = Tally::new();
     match op {
         Op::Unary(op) => unary(op, w, a, &mut tally),
@@ -159,42 +213,53 @@ fn expected(op: Op, w: Width, a: u64, b: u64, c: u64) -> u64
     }
 }
 
-/// Whether a circuit's literals read as what an operator gives, for all operands.
+/// Whether a circuit's literals read as what an operator gives, for operands in batches of up to 64.
 fn agrees(
     alloc: Global,
-    circuit: &Circuit,
-    bits: &Bits,
+    made: &Made,
     op: Op,
     w: Width,
-) -> Result<bool, AllocError>
-    requires { w ≤ 5 }
-{
-    for operands in 0..1_u64 << (2 * w.bits() + 1) {
-        let a = operands & ones(w);
-        let b = (operands >> w.bits()) & ones(w);
-        let c = (operands >> (2 * w.bits())) & 1;
-        let values = values(alloc, circuit, a | b << 5 | c << 10)?;
-        if word(&values, bits) != expected(op, w, a, b, c) {
-            return Ok(false);
+    all: &[Operands],
+) -> Result<bool, AllocError> {
+    for batch in all.chunks(64) {
+        let values = values(alloc, &made.circuit, batch)?;
+        for k in 0..batch.len() {
+            if word(&values, &made.bits, k) != expected(op, w, batch[k]) {
+                return Ok(false);
+            }
         }
     }
     Ok(true)
 }
 
-/// Whether an operator's circuit agrees with the operator and has few enough gates, or it is none of this width; none
-/// where it could not be made.
+/// All operands of a width.
+fn all_operands(alloc: Global, width: u32) -> Result<Vec<Operands>, AllocError>
+    requires { width ≤ 5 }
+{
+    let mut all = Vec::new(alloc);
+    for bits in 0..1_u64 << (2 * width + 1) {
+        all.push([bits, bits >> width, bits >> (2 * width)])?;
+    }
+    Ok(all)
+}
+
+/// Whether an operator's circuits agree with the operator, the plain one has few enough gates and the shared one no more,
+/// or it is none of this width; none where they could not be made.
 fn is_right(alloc: Global, op: Op, width: u32) -> Option<bool>
     requires some { 1 ≤ width }
     requires most { width ≤ 5 }
 {
-    let mut g = PlainGates::new(alloc, 11, 0).ok()?;
-    let Some(bits) = built(&mut g, op, width).ok()? else {
+    let w = Width::new(u64::from(width))?;
+    let (Some(plain), Some(shared)) = (plain(alloc, op, width)?, shared(alloc, op, width)?) else {
         return Some(true);
     };
-    let circuit = g.finish();
-    let is_small = circuit.gates().len() as u64 <= gate_bound(op, u64::from(width));
-    let w = Width::new(u64::from(width))?;
-    Some(is_small && agrees(alloc, &circuit, &bits, op, w).ok()?)
+    let all = all_operands(alloc, width).ok()?;
+    let most = gate_bound(op, u64::from(width));
+    let is_small = plain.circuit.gates().len() as u64 <= most;
+    let is_smaller = shared.circuit.gates().len() <= plain.circuit.gates().len();
+    let is_plain_right = agrees(alloc, &plain, op, w, &all).ok()?;
+    let is_shared_right = agrees(alloc, &shared, op, w, &all).ok()?;
+    Some(is_small && is_smaller && is_plain_right && is_shared_right)
 }
 
 #[test]
@@ -210,45 +275,101 @@ fn every_operand_of_every_operator(rt: HostRuntime) {
     }
 }
 
+/// A number's place in a list that looks like no order (Steele, Lea and Flood, "Fast splittable pseudorandom number
+/// generators").
+fn scrambled(number: u64) -> u64 {
+    let first = number.wrapping_mul(0x9e37_79b9_7f4a_7c15);
+    let second = (first ^ (first >> 30)).wrapping_mul(0xbf58_476d_1ce4_e5b9);
+    let third = (second ^ (second >> 27)).wrapping_mul(0x94d0_49bb_1331_11eb);
+    third ^ (third >> 31)
+}
+
+/// The operands at a place of the stored list: scrambled numbers of all lengths, and among them equal ones, divisors 0,
+/// -1 and small ones, and the least signed number.
+fn stored(place: u64) -> Operands
+    requires { place < 1000 }
+{
+    let a = scrambled(2 * place + 1) >> (place % 7 * 8);
+    let b = scrambled(2 * place + 2) >> (place % 64);
+    match place % 16 {
+        0 => [a, a, 0],
+        1 => [a, 0, 1],
+        2 => [a, u64::MAX, 0],
+        3 => [1 << 63, b, 1],
+        4 => [1 << 63, u64::MAX, 0],
+        5 => [a, place % 128, 1],
+        _ => [a, b, place],
+    }
+}
+
+/// The stored list of a thousand operands of 64 bits.
+fn stored_operands(alloc: Global) -> Result<Vec<Operands>, AllocError> {
+    let mut all = Vec::new(alloc);
+    for place in 0..1000 {
+        all.push(stored(place))?;
+    }
+    Ok(all)
+}
+
+/// Whether an operator's circuit at width 64 agrees with the operator at some operands and has few enough gates, or it is
+/// none of this width; none where it could not be made.
+fn is_right_at_64(alloc: Global, op: Op, all: &[Operands]) -> Option<bool> {
+    let w = Width::new(64)?;
+    let Some(plain) = plain(alloc, op, 64)? else {
+        return Some(true);
+    };
+    let is_small = plain.circuit.gates().len() as u64 <= gate_bound(op, 64);
+    Some(is_small && agrees(alloc, &plain, op, w, all).ok()?)
+}
+
+#[test]
+fn a_thousand_operands_of_every_operator(rt: HostRuntime) -> Result<(), Fail> {
+    let all = stored_operands(rt.alloc())?;
+    for op in OPERATORS {
+        assert_eq!(rt; is_right_at_64(rt.alloc(), op, &all), Some(true), "{op:?}");
+    }
+    Ok(())
+}
+
 /// How many gates the exclusive or of two literals takes.
 fn xor_gates(alloc: Global, a: Lit, b: Lit) -> Option<usize>
-    requires left { a < 24 }
-    requires right { b < 24 }
+    requires left { a < 386 }
+    requires right { b < 386 }
 {
-    let mut g = PlainGates::new(alloc, 11, 0).ok()?;
+    let mut g = PlainGates::new(alloc, INPUTS, 0).ok()?;
     xor(&mut g, a, b).ok()?;
     Some(g.finish().gates().len())
 }
 
 /// How many gates a choice between two literals takes.
 fn mux_gates(alloc: Global, c: Lit, t: Lit, e: Lit) -> Option<usize>
-    requires condition { c < 24 }
-    requires then { t < 24 }
-    requires otherwise { e < 24 }
+    requires condition { c < 386 }
+    requires then { t < 386 }
+    requires otherwise { e < 386 }
 {
-    let mut g = PlainGates::new(alloc, 11, 0).ok()?;
+    let mut g = PlainGates::new(alloc, INPUTS, 0).ok()?;
     mux(&mut g, c, t, e).ok()?;
     Some(g.finish().gates().len())
 }
 
 /// How many gates the test for equality of two words of two bits takes.
 fn equal_gates(alloc: Global) -> Option<usize> {
-    let mut g = PlainGates::new(alloc, 11, 0).ok()?;
-    equal(&mut g, &inputs(0, 2), &inputs(WIDEST, 2)).ok()?;
+    let mut g = PlainGates::new(alloc, INPUTS, 0).ok()?;
+    equal(&mut g, &inputs(0, 2), &inputs(64, 2)).ok()?;
     Some(g.finish().gates().len())
 }
 
 /// How many gates a shift of a word of two bits takes.
 fn shift_gates(alloc: Global) -> Option<usize> {
-    let mut g = PlainGates::new(alloc, 11, 0).ok()?;
-    shift(&mut g, Binary::Sll, &inputs(0, 2), &inputs(WIDEST, 2)).ok()?;
+    let mut g = PlainGates::new(alloc, INPUTS, 0).ok()?;
+    shift(&mut g, Binary::Sll, &inputs(0, 2), &inputs(64, 2)).ok()?;
     Some(g.finish().gates().len())
 }
 
 /// How many gates a rotation of a word of two bits takes.
 fn rotation_gates(alloc: Global) -> Option<usize> {
-    let mut g = PlainGates::new(alloc, 11, 0).ok()?;
-    rotate(&mut g, Binary::Rol, &inputs(0, 2), &inputs(WIDEST, 2)).ok()?;
+    let mut g = PlainGates::new(alloc, INPUTS, 0).ok()?;
+    rotate(&mut g, Binary::Rol, &inputs(0, 2), &inputs(64, 2)).ok()?;
     Some(g.finish().gates().len())
 }
 
