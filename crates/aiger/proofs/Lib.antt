@@ -3,4 +3,5 @@ pub mod SectionNameLemmas
 mod NameLemmas
 mod JusticeLemmas
 mod CircuitLemmas
+mod LooseLemmas
 mod TraceLemmas

@@ -9,5 +9,6 @@ pub mod Loose
 pub mod LooseTrace
 pub mod Renumbering
 pub mod View
+pub mod LooseView
 pub mod Trace
 pub mod Worked

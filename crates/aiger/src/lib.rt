@@ -12,7 +12,7 @@ mod names;
 pub use circuit::{Circuit, GREATEST_COUNT, Gate, Latch, Reset, Section};
 pub use fault::{CircuitFault, LooseFault};
 pub use literal::Lit;
-pub use loose::{GateLine, LatchLine};
+pub use loose::{GateLine, LatchLine, Loose};
 pub use names::LONGEST_NAME;
 
 #[cfg(test)]
