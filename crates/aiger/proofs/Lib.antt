@@ -4,4 +4,8 @@ mod NameLemmas
 mod JusticeLemmas
 mod CircuitLemmas
 mod LooseLemmas
+mod RenumberingLemmas
+mod OrderLemmas
+mod KnownLemmas
+mod LooseTraceLemmas
 mod TraceLemmas

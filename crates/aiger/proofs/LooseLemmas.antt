@@ -208,11 +208,11 @@ any_third p x a b c =
 count_push : (p : ℕ → Bool) (x : ℕ) (a : List ℕ) → count_by p (a ++ x ∷ []) ≡ count_by p a + (if p x then 1 else 0)
 count_push p x a = sum_by-append (λ (y : ℕ). cond (p y) 1 0) a (x ∷ []) ∙ ap (λ (n : ℕ). count_by p a + n) (sum_by-cons (λ (y : ℕ). cond (p y) 1 0) x [] ∙ omega arith)
 
-count_join : (p : ℕ → Bool) (a b c : List ℕ) → count_by p (a ++ b ++ c) ≡ count_by p a + count_by p b + count_by p c
+pub count_join : (p : ℕ → Bool) (a b c : List ℕ) → count_by p (a ++ b ++ c) ≡ count_by p a + count_by p b + count_by p c
 count_join p a b c = sum_by-append (λ (y : ℕ). cond (p y) 1 0) (a ++ b) c ∙ ap (λ (n : ℕ). n + count_by p c) (sum_by-append (λ (y : ℕ). cond (p y) 1 0) a b)
 
 -- none passes where the test finds none
-count_none : (p : ℕ → Bool) (xs : List ℕ) → list_any p xs ≡ false → count_by p xs ≡ 0
+pub count_none : (p : ℕ → Bool) (xs : List ℕ) → list_any p xs ≡ false → count_by p xs ≡ 0
 count_none p [] e = refl
 count_none p (x ∷ xs) e =
     let h : p x ≡ false = grind (arith, nat_tests) in

@@ -22,11 +22,11 @@ put-below : (v : Valuation) (k : ℕ) (b : Bool) (j : ℕ) → j < k → put v k
 put-below v k b j h = grind (arith, nat_tests)
 
 -- two valuations agree on each variable from 1 to below a bound
-abbrev AgreeBelow : ℕ → Valuation → Valuation → Type 0
+abbrev pub AgreeBelow : ℕ → Valuation → Valuation → Type 0
 AgreeBelow bound v w = (k : ℕ) → 1 ≤ k → k < bound → v k ≡ w k
 
 -- so they agree on each literal below twice the bound
-literal_value-agree : (bound : ℕ) (v w : Valuation) (l : ℕ) → AgreeBelow bound v w → l < 2 * bound → literal_value v l ≡ literal_value w l
+pub literal_value-agree : (bound : ℕ) (v w : Valuation) (l : ℕ) → AgreeBelow bound v w → l < 2 * bound → literal_value v l ≡ literal_value w l
 literal_value-agree bound v w zero a h = refl
 literal_value-agree bound v w (suc zero) a h = refl
 literal_value-agree bound v w (suc (suc l)) a h =
@@ -158,7 +158,7 @@ next_bits-agree bound (l ∷ ls) v w a d =
     cc
 
 -- so they leave the same state
-next_state-agree : (c : Circuit) (v w : Valuation) → IsCircuit c → SameFrame c v w → next_state c v ≡ next_state c w
+pub next_state-agree : (c : Circuit) (v w : Valuation) → IsCircuit c → SameFrame c v w → next_state c v ≡ next_state c w
 next_state-agree c v w valid same =
     let bound : ℕ = suc (variables (net c)) in
     next_bits-agree bound c.latches v w (λ k low high. same k low (omega arith)) (λ k d h. omega (arith, valid.defined.nexts k d h))

@@ -8,6 +8,7 @@ pub mod Circuit
 pub mod Loose
 pub mod LooseTrace
 pub mod Renumbering
+pub mod LooseObserved
 pub mod View
 pub mod LooseView
 pub mod Trace
