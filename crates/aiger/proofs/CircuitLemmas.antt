@@ -35,14 +35,14 @@ all_defined_from_test n (l ∷ ls) t =
     All-cons (IsDefined n) l ls (grind (arith, nat_tests)) (all_defined_from_test n ls r)
 
 -- what refuses nothing tells that there is room
-room_from_count : (count : ℕ) → count_refusal count ≡ None → count < greatest_count
+pub room_from_count : (count : ℕ) → count_refusal count ≡ None → count < greatest_count
 room_from_count count e = by (nat_le greatest_count count) refl e
   where
     by : (b : Bool) → nat_le greatest_count count ≡ b → (if b then Some TooBig else None) ≡ None → count < greatest_count
     by true t e = absurd (cc)
     by false t e = grind (arith, nat_tests)
 
-room_from_size : (lists : List (List ℕ)) (size : ℕ) → size_refusal lists size ≡ None → (length lists < greatest_count) × (sum_by length lists + size ≤ greatest_count)
+pub room_from_size : (lists : List (List ℕ)) (size : ℕ) → size_refusal lists size ≡ None → (length lists < greatest_count) × (sum_by length lists + size ≤ greatest_count)
 room_from_size lists size e = by (nat_le greatest_count (length lists)) refl (nat_lt greatest_count (sum_by length lists + size)) refl e
   where
     by : (b : Bool) → nat_le greatest_count (length lists) ≡ b → (d : Bool) → nat_lt greatest_count (sum_by length lists + size) ≡ d

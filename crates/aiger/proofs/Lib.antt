@@ -4,3 +4,9 @@ mod NameLemmas
 mod JusticeLemmas
 mod CircuitLemmas
 pub mod TraceLemmas
+mod LooseLemmas
+mod RenumberingLemmas
+mod OrderLemmas
+mod KnownLemmas
+mod LooseTraceLemmas
+mod TraceLemmas

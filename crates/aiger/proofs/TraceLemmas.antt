@@ -158,7 +158,7 @@ next_bits-agree bound (l ∷ ls) v w a d =
     cc
 
 -- so they leave the same state
-next_state-agree : (c : Circuit) (v w : Valuation) → IsCircuit c → SameFrame c v w → next_state c v ≡ next_state c w
+pub next_state-agree : (c : Circuit) (v w : Valuation) → IsCircuit c → SameFrame c v w → next_state c v ≡ next_state c w
 next_state-agree c v w valid same =
     let bound : ℕ = suc (variables (net c)) in
     next_bits-agree bound c.latches v w (λ k low high. same k low (omega arith)) (λ k d h. omega (arith, valid.defined.nexts k d h))

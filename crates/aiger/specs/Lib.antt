@@ -5,6 +5,11 @@ pub mod Refusal
 pub mod Names
 pub mod Justice
 pub mod Circuit
+pub mod Loose
+pub mod LooseTrace
+pub mod Renumbering
+pub mod LooseObserved
 pub mod View
+pub mod LooseView
 pub mod Trace
 pub mod Worked

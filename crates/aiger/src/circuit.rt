@@ -405,7 +405,7 @@ impl Circuit {
 }
 
 /// Adds a literal to a list of at most 2^30; after an error it is unchanged.
-fn push_counted(list: &mut Vec<Lit>, lit: Lit) -> Result<(), CircuitFault>
+pub fn push_counted(list: &mut Vec<Lit>, lit: Lit) -> Result<(), CircuitFault>
     ensures list { OnOk result (list.new.items ≡ list.old.items ++ lit ∷ []) }
     ensures refused { RefusesBy result (count_refusal (length list.old.items)) }
     ensures err { OnErr result (list.new.items ≡ list.old.items) }

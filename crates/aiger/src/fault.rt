@@ -1,6 +1,7 @@
-//! Why a circuit refuses what it is given.
+//! Why a circuit refuses what it is given, and why the lists of a file have no circuit.
 ghost use Rattle.std.specs.Prelude.{◌≡◌};
 ghost use Rattle.aiger.specs.Refusal.{fault_number, fault_name};
+ghost use Rattle.aiger.specs.Renumbering.{loose_fault_number, loose_fault_name};
 
 use thiserror::Error;
 
@@ -54,6 +55,47 @@ impl CircuitFault {
             CircuitFault::NameTaken => "NameTaken",
             CircuitFault::BadName => "BadName",
             CircuitFault::NoMemory => "NoMemory",
+        }
+    }
+}
+
+/// Why the lists of a file have no circuit.
+///
+/// It is printed as its number, a space and its name.
+#[derive(Clone, Copy, Debug, PartialEq, Eq, Error)]
+#[error("{number} {name}", number = self.number(), name = self.name())]
+pub enum LooseFault {
+    /// The first line with a literal whose variable is neither 0 nor defined: latches, outputs, bad
+    /// properties, constraints, justice literals, fairness constraints and gates are counted, in
+    /// this order and from 0.
+    Undefined(usize),
+    /// The position, from 0, of the first gate that depends on itself through operands, or on a gate
+    /// that does.
+    Cycle(usize),
+    /// A growth was refused.
+    NoMemory,
+}
+
+impl LooseFault {
+    /// The number that is printed for the fault.
+    pub fn number(self) -> u32
+        ensures { result ≡ loose_fault_number self }
+    {
+        match self {
+            LooseFault::Undefined(_) => 63,
+            LooseFault::Cycle(_) => 62,
+            LooseFault::NoMemory => 43,
+        }
+    }
+
+    /// The name that is printed for the fault.
+    pub fn name(self) -> &'static str
+        ensures { result.now ≡ loose_fault_name self }
+    {
+        match self {
+            LooseFault::Undefined(_) => "Undefined",
+            LooseFault::Cycle(_) => "Cycle",
+            LooseFault::NoMemory => "NoMemory",
         }
     }
 }

@@ -1,10 +1,14 @@
 //! Laws of circuits and their traces, and worked rows: functions that do nothing, whose contracts are the laws.
-ghost use Rattle.std.specs.Prelude.{◌≡◌, ℕ, ◌+◌, ◌*◌, ◌<◌, ◌↔◌, List, [], ◌∷◌, Bool, true, false, not, ◌&&◌, All, length};
+ghost use Rattle.std.specs.Prelude.{◌≡◌, ℕ, ◌+◌, ◌*◌, ◌<◌, ◌↔◌, List, [], ◌∷◌, Bool, true, false, not, ◌&&◌, All, length, map};
 ghost use Rattle.aiger.specs.Literal.{Valuation, literal_value, negation};
 ghost use Rattle.aiger.specs.Net.{Satisfies, AreOrdered};
 ghost use Rattle.aiger.specs.Circuit.{Circuit, IsCircuit, NameMap, name_in, name_of};
 ghost use Rattle.aiger.specs.declared.circuit.Section.{Section};
 ghost use Rattle.aiger.specs.Trace.{IsTrace, SameTrace, AreInitial};
+ghost use Rattle.aiger.specs.Loose.{Loose, IsLoose};
+ghost use Rattle.aiger.specs.LooseTrace.{IsLooseTrace};
+ghost use Rattle.aiger.specs.LooseObserved.{AllShowSame};
+ghost use Rattle.aiger.specs.Renumbering.{IsRenumbered, LeadsToCycle};
 ghost use Rattle.aiger.specs.Worked.{toggler, off, on, one_gate};
 
 use crate::literal::Lit;
@@ -29,6 +33,32 @@ pub fn exactly_one_trace()
 pub fn names_in_any_order()
     ensures { (c : Circuit) (names : NameMap) → IsCircuit c → IsCircuit (record c { names = names })
         → ((s : Section) (k : ℕ) → name_in names s k ≡ name_of c s k) → record c { names = names } ≡ c }
+{}
+
+/// A file and the circuit that it is as numbered: from the same inputs and first bits both have the
+/// same latches, outputs, bad properties and constraints in each frame ("AIGER 1.9 and Beyond",
+/// ascii format and semantics). It does nothing: its contract is the law.
+pub fn renumbered_traces()
+    // The file has a trace.
+    ensures exists { (l : Loose) (c : Circuit) (state : List Bool) (inputs : List (List Bool))
+        → IsLoose l → IsRenumbered l c → IsCircuit c
+        → length state ≡ length l.latches
+        → All (λ input. length input ≡ length l.inputs) inputs
+        → (vs : List Valuation) × IsLooseTrace l state inputs vs }
+    // Each of its traces shows what a trace of the circuit shows.
+    ensures same { (l : Loose) (c : Circuit) (state : List Bool) (inputs : List (List Bool)) (vs ws : List Valuation)
+        → IsRenumbered l c → IsCircuit c → IsLooseTrace l state inputs vs → IsTrace c state inputs ws
+        → AllShowSame l c vs ws }
+    // The latches begin alike.
+    ensures resets { (l : Loose) (c : Circuit) → IsRenumbered l c
+        → map (λ latch. latch.reset) c.latches ≡ map (λ line. line.reset) l.latches }
+{}
+
+/// A file is one circuit as numbered at most, and then none of its gates leads to a cycle. It does
+/// nothing: its contract is the law.
+pub fn one_renumbering()
+    ensures unique { (l : Loose) (c d : Circuit) → IsRenumbered l c → IsRenumbered l d → c ≡ d }
+    ensures no_cycle { (l : Loose) (c : Circuit) (j : ℕ) → IsLoose l → IsRenumbered l c → j < length l.gates → ¬ LeadsToCycle l j }
 {}
 
 /// Worked rows of literals, gates and traces. It does nothing: its contract and what it

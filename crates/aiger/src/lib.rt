@@ -6,11 +6,13 @@ mod fault;
 mod justice;
 pub mod laws;
 mod literal;
+mod loose;
 mod names;
 
 pub use circuit::{Circuit, GREATEST_COUNT, Gate, Latch, Reset, Section};
-pub use fault::CircuitFault;
+pub use fault::{CircuitFault, LooseFault};
 pub use literal::Lit;
+pub use loose::{GateLine, LatchLine, Loose};
 pub use names::LONGEST_NAME;
 
 #[cfg(test)]

@@ -1,0 +1,112 @@
+-- Where each variable that a file uses is defined.
+use Rattle.std.proofs.Common.{◌≡◌, ℕ, ◌+◌, ◌≤◌, Bool, true, false, not, ◌||◌, List, [], ◌∷◌, ◌++◌, map, length, All, None, Some, nat_lt, cond, refl, ap, sym, ◌∙◌, arith}
+use Rattle.std.proofs.lemmas.Bool.Decides.{nat_tests}
+use Rattle.std.proofs.lemmas.List.{map-append}
+use Rattle.std.proofs.lemmas.List.Elements.{All-cons, All-nil}
+use Rattle.std.proofs.lemmas.List.Folds.{list_any-append}
+use Rattle.std.specs.List.{list_any, list_all, position, position_or_len, concat}
+use Rattle.aiger.specs.declared.loose.GateLine.{GateLine}
+use Rattle.aiger.specs.declared.loose.LatchLine.{LatchLine}
+use Rattle.aiger.specs.Loose.{Loose}
+use Rattle.aiger.specs.Renumbering.{alone, is_known, used_lines, first_undefined}
+
+-- a list whose first place with a property is none has none
+place_of_none : (p : List ℕ → Bool) (xs : List (List ℕ)) → length xs ≤ position_or_len p xs → list_any p xs ≡ false
+place_of_none p [] h = refl
+place_of_none p (x ∷ xs) h = by (p x) refl (λ k. place_of_none p xs k)
+  where
+    by : (b : Bool) → p x ≡ b → (length xs ≤ position_or_len p xs → list_any p xs ≡ false) → list_any p (x ∷ xs) ≡ false
+    by true e rest =
+        let z : position_or_len p (x ∷ xs) ≡ 0 = ap (λ (b : Bool). cond (not b) (1 + position_or_len p xs) 0) e in
+        absurd (omega (arith, z, h))
+    by false e rest =
+        let z : position_or_len p (x ∷ xs) ≡ 1 + position_or_len p xs = ap (λ (b : Bool). cond (not b) (1 + position_or_len p xs) 0) e in
+        ap (λ (b : Bool). b || list_any p xs) e ∙ rest (omega (arith, z, h))
+
+pub none_from_position : (p : List ℕ → Bool) (xs : List (List ℕ)) → position p xs ≡ None → list_any p xs ≡ false
+none_from_position p xs e = by (nat_lt (position_or_len p xs) (length xs)) refl e
+  where
+    by : (b : Bool) → nat_lt (position_or_len p xs) (length xs) ≡ b → cond b (Some (position_or_len p xs)) None ≡ None → list_any p xs ≡ false
+    by true t e = absurd (cc)
+    by false t e = place_of_none p xs (grind (arith, nat_tests))
+
+-- a line with an unknown literal
+abbrev pub is_unknown : Loose → List ℕ → Bool
+is_unknown l lits = not (list_all (is_known l) lits)
+
+-- a literal is known
+abbrev pub IsKnown : Loose → ℕ → Type 0
+IsKnown l lit = is_known l lit ≡ true
+
+known_alone : (l : Loose) (xs : List ℕ) → list_any (is_unknown l) (map alone xs) ≡ false → All (IsKnown l) xs
+known_alone l [] t = All-nil (IsKnown l)
+known_alone l (x ∷ xs) t =
+    let h : is_known l x ≡ true = grind (arith, nat_tests) in
+    let r : list_any (is_unknown l) (map alone xs) ≡ false = grind (arith, nat_tests) in
+    All-cons (IsKnown l) x xs h (known_alone l xs r)
+
+known_lists : (l : Loose) (xss : List (List ℕ)) → list_any (is_unknown l) (map alone (concat xss)) ≡ false → All (All (IsKnown l)) xss
+known_lists l [] t = All-nil (All (IsKnown l))
+known_lists l (xs ∷ xss) t =
+    let e : map alone (concat (xs ∷ xss)) ≡ map alone xs ++ map alone (concat xss) = map-append alone xs (concat xss) in
+    let f : (list_any (is_unknown l) (map alone xs) || list_any (is_unknown l) (map alone (concat xss))) ≡ false = sym (list_any-append (is_unknown l) (map alone xs) (map alone (concat xss))) ∙ (ap (list_any (is_unknown l)) (sym e) ∙ t) in
+    let h : list_any (is_unknown l) (map alone xs) ≡ false = grind (arith, nat_tests) in
+    let r : list_any (is_unknown l) (map alone (concat xss)) ≡ false = grind (arith, nat_tests) in
+    All-cons (All (IsKnown l)) xs xss (known_alone l xs h) (known_lists l xss r)
+
+known_nexts : (l : Loose) (lines : List LatchLine) → list_any (is_unknown l) (map (λ line. line.next ∷ []) lines) ≡ false → All (λ line. IsKnown l line.next) lines
+known_nexts l [] t = All-nil (λ (line : LatchLine). IsKnown l line.next)
+known_nexts l (x ∷ xs) t =
+    let h : is_known l x.next ≡ true = grind (arith, nat_tests) in
+    let r : list_any (is_unknown l) (map (λ (line : LatchLine). line.next ∷ []) xs) ≡ false = grind (arith, nat_tests) in
+    All-cons (λ (line : LatchLine). IsKnown l line.next) x xs h (known_nexts l xs r)
+
+known_operands : (l : Loose) (lines : List GateLine) → list_any (is_unknown l) (map (λ line. line.rhs0 ∷ line.rhs1 ∷ []) lines) ≡ false → All (λ line. IsKnown l line.rhs0 × IsKnown l line.rhs1) lines
+known_operands l [] t = All-nil (λ (line : GateLine). IsKnown l line.rhs0 × IsKnown l line.rhs1)
+known_operands l (x ∷ xs) t =
+    let h : is_known l x.rhs0 ≡ true = grind (arith, nat_tests) in
+    let g : is_known l x.rhs1 ≡ true = grind (arith, nat_tests) in
+    let r : list_any (is_unknown l) (map (λ (line : GateLine). line.rhs0 ∷ line.rhs1 ∷ []) xs) ≡ false = grind (arith, nat_tests) in
+    All-cons (λ (line : GateLine). IsKnown l line.rhs0 × IsKnown l line.rhs1) x xs (h, g) (known_operands l xs r)
+
+-- each literal of the file is known
+pub record AllKnown (l : Loose) : Type 0 where
+  pub nexts : All (λ line. IsKnown l line.next) l.latches
+  pub outputs : All (IsKnown l) l.outputs
+  pub bads : All (IsKnown l) l.bads
+  pub constraints : All (IsKnown l) l.constraints
+  pub justice : All (All (IsKnown l)) l.justice
+  pub fair : All (IsKnown l) l.fair
+  pub operands : All (λ line. IsKnown l line.rhs0 × IsKnown l line.rhs1) l.gates
+
+-- neither of two lists joined
+none_left : (p : List ℕ → Bool) (xs ys : List (List ℕ)) → list_any p (xs ++ ys) ≡ false → (list_any p xs ≡ false) × (list_any p ys ≡ false)
+none_left p xs ys t =
+    let e = list_any-append p xs ys in
+    (grind (arith, nat_tests, e, t), grind (arith, nat_tests, e, t))
+
+pub all_known : (l : Loose) → first_undefined l ≡ None → AllKnown l
+all_known l e =
+    let p : List ℕ → Bool = is_unknown l in
+    let a : List (List ℕ) = map (λ (line : LatchLine). line.next ∷ []) l.latches in
+    let b : List (List ℕ) = map alone l.outputs in
+    let c : List (List ℕ) = map alone l.bads in
+    let d : List (List ℕ) = map alone l.constraints in
+    let f : List (List ℕ) = map alone (concat l.justice) in
+    let g : List (List ℕ) = map alone l.fair in
+    let h : List (List ℕ) = map (λ (line : GateLine). line.rhs0 ∷ line.rhs1 ∷ []) l.gates in
+    let n7 = none_left p (a ++ b ++ c ++ d ++ f ++ g) h (none_from_position p (used_lines l) e) in
+    let n6 = none_left p (a ++ b ++ c ++ d ++ f) g n7.0 in
+    let n5 = none_left p (a ++ b ++ c ++ d) f n6.0 in
+    let n4 = none_left p (a ++ b ++ c) d n5.0 in
+    let n3 = none_left p (a ++ b) c n4.0 in
+    let n2 = none_left p a b n3.0 in
+    record {
+      nexts = known_nexts l l.latches n2.0;
+      outputs = known_alone l l.outputs n2.1;
+      bads = known_alone l l.bads n3.1;
+      constraints = known_alone l l.constraints n4.1;
+      justice = known_lists l l.justice n5.1;
+      fair = known_alone l l.fair n6.1;
+      operands = known_operands l l.gates n7.1;
+    }

@@ -1,0 +1,11 @@
+use Rattle.std.proofs.Common.{[], ap, sym, ◌∙◌}
+use Rattle.aiger.specs.Renumbering.{renumbered}
+use Rattle.aiger.proofs.OrderLemmas.{same_order, no_cycle}
+use Rattle.aiger.proofs.laws.one_renumbering.Goals as goal
+
+pub returns-clause-unique : goal.returns-clause-unique
+returns-clause-unique x l c d one two =
+    one.circuit ∙ (ap (renumbered l) (same_order l [] one.order two.order one.is_order.in_turn two.is_order.in_turn one.is_order.all two.is_order.all) ∙ sym two.circuit)
+
+pub returns-clause-no_cycle : goal.returns-clause-no_cycle
+returns-clause-no_cycle x l c j valid one h = no_cycle l one.order j valid one.is_order.in_turn (one.is_order.all j h)

@@ -1,0 +1,11 @@
+use Rattle.std.proofs.Common.{sym}
+use Rattle.aiger.specs.LooseView.{loose_of}
+use Rattle.aiger.proofs.LooseLemmas.{IsLoose-justice, all_small_from_test}
+use Rattle.aiger.proofs.loose.Loose.push_justice.Goals as goal
+
+pub invariant_of-self : goal.invariant_of-self
+invariant_of-self c = (
+  IsLoose-justice (loose_of c.self.inside) c.args.lits.now c.push.new.self c.push.result c.self.invariant.0 (all_small_from_test c.args.lits.now (sym c.if-not-are_within.ensures))
+      c.push.ensures.ok c.push.ensures.refused c.push.ensures.err,
+  c.self.invariant.1,
+)
