@@ -8,3 +8,6 @@ mod PropertyLemmas
 mod NameReadLemmas
 mod HeaderLemmas
 mod StandsLemmas
+mod PlaceLemmas
+mod NameTextLemmas
+mod WrittenLemmas

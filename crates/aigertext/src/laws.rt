@@ -1,6 +1,6 @@
 //! Worked rows of the texts: functions that do nothing, whose contracts are the rows.
 ghost use Rattle.std.specs.Prelude.{◌≡◌, ℕ, List, [], ◌∷◌, ◌++◌, Result, Ok, Err, codes};
-ghost use Rattle.aiger.specs.Circuit.{Circuit};
+ghost use Rattle.aiger.specs.Circuit.{Circuit, IsCircuit};
 ghost use Rattle.aigertext.specs.Ascii.{numbers_line, without_zero_tail, name_line, ascii_text};
 ghost use Rattle.aigertext.specs.Binary.{delta, binary_text};
 ghost use Rattle.aigertext.specs.Reading.{text_on};
@@ -102,6 +102,12 @@ pub fn worked_binary_faults()
         → text_on ascii (codes "aig 1 1 0 0 0\ni0 x\ni0 y\n") ≡ Err (record { left = 5; why = why.BadSymbol }) }
     ensures cut_comment { (ascii : Counts → List ℕ → Result Circuit Stop)
         → text_on ascii (codes "aig 0 0 0 0 0\nc") ≡ Err (record { left = 1; why = why.Truncated }) }
+{}
+
+/// What is written in the binary form stands for the circuit that was written, and is read again as it.
+pub fn binary_read_back()
+    ensures stands { (c : Circuit) → IsCircuit c → IsBinaryText (binary_text c) c }
+    ensures read { (ascii : Counts → List ℕ → Result Circuit Stop) (c : Circuit) → IsCircuit c → text_on ascii (binary_text c) ≡ Ok c }
 {}
 
 /// A binary text stands for at most one circuit: each that it stands for is the one that reading it gives.
