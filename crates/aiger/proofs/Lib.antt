@@ -9,4 +9,3 @@ mod RenumberingLemmas
 mod OrderLemmas
 mod KnownLemmas
 mod LooseTraceLemmas
-mod TraceLemmas
