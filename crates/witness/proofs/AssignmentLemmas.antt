@@ -11,8 +11,8 @@ use Rattle.base.proofs.DecimalLemmas.{digit_range, chosen, number_is_decimal, nu
 use Rattle.btor2.specs.Symbols.{is_printed, is_symbol}
 use Rattle.witness.specs.declared.why.Why.{Why}
 use Rattle.witness.specs.declared.why.Why.TheVariants as why
-use Rattle.witness.specs.Texts.{Assignment, binary, symbol_part, assignment_line, claim, claims_line, IsAssignment}
-use Rattle.witness.specs.Admits.{cut_at_space, value_of, with_symbol, with_value, with_index, assignment_at, begins_part}
+use Rattle.witness.specs.Texts.{Shape, is_free_index, Assignment, binary, symbol_part, assignment_line, claim, claims_line, IsAssignment}
+use Rattle.witness.specs.Admits.{cut_at_space, value_of, with_symbol, with_value, with_index, assignment_at, names_free, free_assignment_at, begins_part}
 use Rattle.witness.proofs.PieceLemmas.{none_of, digits_without, decimal_digits, decimal_without, binary_digits, cut_at_space-parts, parts_of_cut, value_of-binary, IsBinary, value_is_binary}
 use Rattle.witness.proofs.ClaimLemmas.{AreBelow}
 
@@ -53,6 +53,22 @@ assignment_at-assignment_line widths before a small is new =
     ap (λ (c : List ℕ × Option (List ℕ)). with_index widths before c.1 (number_of c.0)) cut
     ∙ (ap (with_index widths before (Some value)) (number_of-decimal a.index lt)
     ∙ rw (lt-ltb a.index (length widths) within, new) (value_passes widths before a.index a.word a.symbol is.word is.symbol))
+
+-- it begins with its index
+index_of_line : (widths : List ℕ) (a : Assignment) → length widths < 2 ^ 64 → IsAssignment widths a → number_of (cut_at_space (assignment_line widths a)).0 ≡ Some a.index
+index_of_line widths a small is =
+    let within = is.index in
+    let lt : a.index < 2 ^ 64 = omega arith in
+    let value : List ℕ = binary (slice_index widths a.index) a.word ++ symbol_part a.symbol in
+    let cut : cut_at_space (assignment_line widths a) ≡ (decimal a.index, Some value) = ap cut_at_space (parts_of_assignment widths a) ∙ cut_at_space-parts (decimal a.index) (Some value) (decimal_without 32 a.index (omega arith) lt) in
+    ap (λ (c : List ℕ × Option (List ℕ)). number_of c.0) cut ∙ number_of-decimal a.index lt
+
+-- the same of a free state
+pub free_assignment_at-assignment_line : (shape : Shape) (before : List Assignment) (a : Assignment) → length shape.states < 2 ^ 64 → IsAssignment shape.states a → is_free_index shape a.index ≡ true
+    → stands_in a.index before ≡ false → free_assignment_at shape before (assignment_line shape.states a) ≡ Ok (before ++ a ∷ [])
+unfolding free_assignment_at
+free_assignment_at-assignment_line shape before a small is free new =
+    rw (index_of_line shape.states a small is, free) (assignment_at-assignment_line shape.states before a small is new)
 
 -- ---- a line that is read as an assignment
 
@@ -119,6 +135,24 @@ assignment_is_line widths before line list small h =
       all = symbol.1.2;
     }
 
+-- the same of a free state
+pub record IsFreeAssigned (shape : Shape) (before : List Assignment) (line : List ℕ) (list : List Assignment) : Type 0 where
+  pub assigned : IsAssigned shape.states before line list
+  pub free : is_free_index shape assigned.assignment.index ≡ true
+
+pub free_assignment_is_line : (shape : Shape) (before : List Assignment) (line : List ℕ) (list : List Assignment) → length shape.states < 2 ^ 64 → free_assignment_at shape before line ≡ Ok list → IsFreeAssigned shape before line list
+unfolding free_assignment_at
+free_assignment_is_line shape before line list small h =
+    let index : Option ℕ = number_of (cut_at_space line).0 in
+    elim (chosen (names_free shape index) (assignment_at shape.states before line) (Err why.BadIndex) (Ok list) h) [
+      | inl e ↦
+          let assigned = assignment_is_line shape.states before line list small e.1 in
+          let own : index ≡ Some assigned.assignment.index =
+          ap (λ (bytes : List ℕ). number_of (cut_at_space bytes).0) assigned.spelled ∙ index_of_line shape.states assigned.assignment small assigned.valid in
+          record { assigned = assigned; free = ap (names_free shape) (sym own) ∙ e.0 }
+      | inr e ↦ absurd (cc (e.1))
+    ]
+
 -- ---- the bytes of the lines
 
 -- bytes in front and behind, none of which is x
@@ -154,6 +188,7 @@ claims_line_is_line bads (i ∷ j ∷ more) small below =
 -- a line that begins with a digit opens and ends no part
 pub record IsPlain (line : List ℕ) : Type 0 where
   pub no_frame : (rest : List ℕ) → bytes_eq line (64 ∷ rest) ≡ false
+  pub no_states : (rest : List ℕ) → bytes_eq line (35 ∷ rest) ≡ false
   pub no_end : bytes_eq line (codes ".") ≡ false
   pub no_part : begins_part line ≡ false
 
@@ -166,6 +201,7 @@ digits_are_plain (b ∷ bs) rest all some =
     let hash : (b == 35) ≡ false = ne_eqb b 35 (λ e. omega arith) in
     record {
       no_frame = λ others. rw at refl;
+      no_states = λ others. rw hash refl;
       no_end = rw dot refl;
       no_part = or_from (b == 35) _ hash (or_from (b == 64) (b == 46) at dot);
     }

@@ -1,5 +1,5 @@
 -- What is read over a model fits it.
-use Rattle.std.proofs.Common.{◌≡◌, ◌≢◌, ℕ, suc, ◌<◌, ◌≤◌, Bool, List, [], ◌∷◌, Option, Some, None, Ok, length, map, unwrap_or, refl, ap, ◌∙◌, arith}
+use Rattle.std.proofs.Common.{◌≡◌, ℕ, suc, ◌<◌, ◌≤◌, Bool, true, List, [], ◌∷◌, Option, Some, None, Ok, All, length, map, unwrap_or, refl, ap, ◌∙◌, arith}
 use Rattle.std.specs.Prelude.{IfSome}
 use Rattle.std.proofs.lemmas.List.{length-map}
 use Rattle.std.proofs.lemmas.List.Elements.{All-nil, All-map, All-weaker}
@@ -11,10 +11,10 @@ use Rattle.btor2.specs.Items.{is_bad, is_input, is_state}
 use Rattle.btor2.specs.Check.{IsWellFormed}
 use Rattle.btor2.specs.Trace.{bits_of}
 use Rattle.btor2.proofs.ModelLemmas.{few_items}
-use Rattle.witness.specs.Texts.{Assignment, Witness, IsAssignment, IsPart, IsWitness, are_distinct, shape_of, widths_of}
+use Rattle.witness.specs.Texts.{Shape, is_free_index, Assignment, Parts, Witness, IsAssignment, IsPart, IsFreePart, IsFirst, IsLater, AreFrames, IsWitness, are_distinct, shape_of}
 use Rattle.witness.specs.Admits.{Read, read_text, witness_of}
-use Rattle.witness.specs.Judgements.{Words, of_kind, nodes_of, pairs_of, words_of}
-use Rattle.witness.specs.Fits.{PairFits, PartFits, WordsFit}
+use Rattle.witness.specs.Judgements.{Words, of_kind, nodes_of, pairs_of, frame_words, words_of}
+use Rattle.witness.specs.Fits.{PairFits, PartFits, FirstFits, LaterFits, FramesFit, WordsFit}
 use Rattle.witness.proofs.ReadLemmas.{IsSmall}
 use Rattle.witness.proofs.ToldLemmas.{read_says}
 
@@ -55,22 +55,39 @@ part_fits widths list h =
       distinct = ap are_distinct (indices_of list) ∙ h.distinct;
     }
 
-initial_fits : (widths : List ℕ) (part : Option (List Assignment)) → IfSome part (IsPart widths) → PartFits widths (pairs_of (unwrap_or part []))
-initial_fits widths None h = record { each = All-nil (PairFits widths); distinct = refl }
-initial_fits widths (Some list) h = part_fits widths list h
+states_fit : (widths : List ℕ) (part : Option (List Assignment)) → IfSome part (IsPart widths) → PartFits widths (pairs_of (unwrap_or part []))
+states_fit widths None h = record { each = All-nil (PairFits widths); distinct = refl }
+states_fit widths (Some list) h = part_fits widths list h
 
-some_frame : (frames : List (List Assignment)) → frames ≢ [] → map pairs_of frames ≢ []
-some_frame [] h = absurd (h refl)
-some_frame (part ∷ frames) h = λ e. absurd cc
+first_fits : (shape : Shape) (parts : Parts) → IsFirst shape parts → FirstFits shape (frame_words parts)
+first_fits shape parts h = record { states = states_fit shape.states parts.states h.states; inputs = part_fits shape.inputs parts.inputs h.inputs }
+
+any_part : (shape : Shape) (part : Option (List Assignment)) → IfSome part (IsFreePart shape) → IfSome part (IsPart shape.states)
+any_part shape None h = tt
+any_part shape (Some list) h = h.part
+
+abbrev AreFree : Shape → List (ℕ × ℕ) → Type 0
+AreFree shape list = All (λ p. is_free_index shape p.0 ≡ true) list
+
+all_free : (shape : Shape) (part : Option (List Assignment)) → IfSome part (IsFreePart shape) → AreFree shape (pairs_of (unwrap_or part []))
+all_free shape None h = All-nil (λ (p : ℕ × ℕ). is_free_index shape p.0 ≡ true)
+all_free shape (Some list) h = All-map (λ (p : ℕ × ℕ). is_free_index shape p.0 ≡ true) (λ (a : Assignment). (a.index, a.word)) list h.free
+
+later_fits : (shape : Shape) (parts : Parts) → IsLater shape parts → LaterFits shape (frame_words parts)
+later_fits shape parts h =
+    record { states = states_fit shape.states parts.states (any_part shape parts.states h.states); free = all_free shape parts.states h.states; inputs = part_fits shape.inputs parts.inputs h.inputs }
+
+frames_fit : (shape : Shape) (frames : List Parts) → AreFrames shape frames → FramesFit shape (map frame_words frames)
+frames_fit shape [] h = absurd h
+frames_fit shape (first ∷ more) h =
+    (first_fits shape first h.0, All-map (LaterFits shape) frame_words more (All-weaker (IsLater shape) (λ (parts : Parts). LaterFits shape (frame_words parts)) (later_fits shape) more h.1))
 
 -- the words of a witness over a model
 words_fit : (items : List Item) (w : Witness) → IsWitness (shape_of items) w → WordsFit items (words_of w)
 words_fit items w h =
     record {
       claims = All-weaker (λ i. i < length (of_kind is_bad items)) (λ i. i < length (nodes_of is_bad items)) (λ i below. omega (arith, below, bad_nodes items)) w.claims h.claims;
-      initial = initial_fits (widths_of is_state items) w.initial h.initial;
-      some_frame = some_frame w.frames h.some_frame;
-      frames = All-map (PartFits (widths_of is_input items)) pairs_of w.frames (All-weaker (IsPart (widths_of is_input items)) (λ (l : List Assignment). PartFits (widths_of is_input items) (pairs_of l)) (part_fits (widths_of is_input items)) w.frames h.frames);
+      frames = frames_fit (shape_of items) w.frames h.frames;
     }
 
 -- what a text reads as over a model fits it

@@ -14,7 +14,7 @@ use Rattle.witness.specs.declared.judgement.Judgement.{Judgement}
 use Rattle.witness.specs.declared.judgement.Judgement.TheVariants as judgement
 use Rattle.witness.specs.Texts.{shape_of}
 use Rattle.witness.specs.Admits.{Read, Fault, read_text, witness_of}
-use Rattle.witness.specs.Judgements.{Words, of_kind, initial_words, input_frames, nodes_of, first_different, violated_at, violation_from, never_rises, unreached_from, when_reached, when_kept, when_begun, verdict, words_of, makes_no_claim, JudgesWords, JudgesRead, JudgesText, Judges}
+use Rattle.witness.specs.Judgements.{Words, of_kind, initial_words, given_frames, nodes_of, first_different, violated_at, violation_from, never_rises, unreached_from, when_reached, when_kept, when_begun, verdict, words_of, makes_no_claim, JudgesWords, JudgesRead, JudgesText, Judges}
 use Rattle.base.specs.Lines.{whole_lines}
 
 -- ---- the nodes of properties have values
@@ -104,14 +104,14 @@ verdict_same items w fs gs well same =
 
 words_judged : (items : List Item) (w : Words) → IsWellFormed items → (j : Judgement) × JudgesWords items w j
 words_judged items w well =
-    let trace = trace_exists items (initial_words items w) (input_frames items w) well in (
+    let trace = trace_exists items (initial_words items w) (given_frames items w) well in (
       verdict items w trace.0,
-      λ fs h. verdict_same items w trace.0 fs well (trace_unique items (initial_words items w) (input_frames items w) trace.0 fs well trace.1 h),
+      λ fs h. verdict_same items w trace.0 fs well (trace_unique items (initial_words items w) (given_frames items w) trace.0 fs well trace.1 h),
     )
 
 words_judged_once : (items : List Item) (w : Words) (j k : Judgement) → IsWellFormed items → JudgesWords items w j → JudgesWords items w k → j ≡ k
 words_judged_once items w j k well first second =
-    let trace = trace_exists items (initial_words items w) (input_frames items w) well in
+    let trace = trace_exists items (initial_words items w) (given_frames items w) well in
     first trace.0 trace.1 ∙ sym (second trace.0 trace.1)
 
 read_judged : (items : List Item) (r : Result Read Fault) → IsWellFormed items → (j : Judgement) × JudgesRead items r j

@@ -12,10 +12,10 @@ use Rattle.witness.specs.declared.place.Place.TheVariants as place
 use Rattle.witness.specs.declared.place.Place as declared
 use Rattle.witness.specs.declared.fault.WitnessFault.{WitnessFault}
 use Rattle.witness.specs.declared.fault.WitnessFault.TheVariants as fault
-use Rattle.witness.specs.Texts.{Shape, Assignment, is_comment, most_lines}
-use Rattle.witness.specs.Admits.{Place, AtStatus, AtClaims, AtParts, InStates, InFrame, AtEnd, Read, nothing_read, cut_at_space, claims_at, value_of, with_symbol, with_value, with_index, assignment_at, begins_part, after_claims, after_assignment, admit_at, admit, is_at_end, is_nothing, end_why, Fault, fault_at, then_lines, read_lines, read_text, witness_of}
-use Rattle.witness.specs.Judgements.{pairs_of, words_of}
-use Rattle.witness.specs.Reading.{pair_with_symbol, pair_behind, pair_with_value, pair_with_index, pair_at, Admitted, nothing_admitted, status_on, with_claims, claims_on, parts_on, with_pair, assignment_on, states_on, with_frame, frame_on, line_at, line_on, is_whole, end_on, then_on, lines_on, IsFaultOf}
+use Rattle.witness.specs.Texts.{Shape, has_free, Assignment, Parts, is_comment, most_lines}
+use Rattle.witness.specs.Admits.{Place, AtStatus, AtClaims, AtParts, InStates, InFree, InFrame, AtEnd, Read, nothing_read, cut_at_space, claims_at, value_of, with_symbol, with_value, with_index, assignment_at, names_free, free_assignment_at, begins_part, opens_frame, opens_states, after_claims, after_assignment, states_closed, frame_closed, admit_at, admit, is_at_end, is_nothing, end_why, Fault, fault_at, then_lines, read_lines, read_text, witness_of}
+use Rattle.witness.specs.Judgements.{FrameWords, pairs_of, frame_words, words_of}
+use Rattle.witness.specs.Reading.{pair_with_symbol, pair_behind, pair_with_value, pair_with_index, pair_at, free_pair_at, Admitted, nothing_admitted, status_on, with_claims, claims_on, parts_on, with_pair, assignment_on, free_on, with_states, states_on, free_states_on, with_frame, frame_on, line_at, line_on, is_whole, end_on, then_on, lines_on, IsFaultOf}
 
 -- ---- an assignment
 
@@ -68,6 +68,15 @@ plain_assignment : (widths : List ℕ) (before : List Assignment) (line : List �
 unfolding pair_at assignment_at
 plain_assignment widths before line = plain_index widths before (cut_at_space line).1 (number_of (cut_at_space line).0)
 
+plain_free : (shape : Shape) (before : List Assignment) (line : List ℕ) → onto (pairs_of before) (free_pair_at shape (pairs_of before) line) ≡ plain_list (free_assignment_at shape before line)
+unfolding free_pair_at free_assignment_at
+plain_free shape before line =
+    elim (names_free shape (number_of (cut_at_space line).0)) as (λ b.
+    onto (pairs_of before) (cond b (pair_at shape.states (pairs_of before) line) (Err why.BadIndex)) ≡ plain_list (cond b (assignment_at shape.states before line) (Err why.BadIndex))) [
+      | true ↦ plain_assignment shape.states before line
+      | false ↦ refl
+    ]
+
 -- ---- a line
 
 abbrev place_of : Place → declared.Place
@@ -75,11 +84,12 @@ place_of AtStatus = place.Status
 place_of AtClaims = place.Claims
 place_of AtParts = place.Parts
 place_of InStates = place.States
+place_of InFree = place.Free
 place_of InFrame = place.Frame
 place_of AtEnd = place.End
 
 abbrev pub plain : Read → Admitted
-plain r = record { place = place_of r.place; words = words_of (witness_of r); open_part = pairs_of r.open_part }
+plain r = record { place = place_of r.place; words = words_of (witness_of r); states = pairs_of (unwrap_or r.states []); open_part = pairs_of r.open_part }
 
 abbrev plain_line : Result Read Why → Result Admitted Why
 plain_line (Ok r) = Ok (plain r)
@@ -97,7 +107,7 @@ plain_claims r (Err w) = refl
 plain_open : (r : Read) (pair : Result (ℕ × ℕ) Why) (list : Result (List Assignment) Why) → onto (pairs_of r.open_part) pair ≡ plain_list list → with_pair (plain r) pair ≡ plain_line (after_assignment r list)
 plain_open r (Ok p) (Ok list) e =
     let same : pairs_of r.open_part ++ p ∷ [] ≡ pairs_of list = cc in
-    ap (λ (l : List (ℕ × ℕ)). Ok (record { place = place_of r.place; words = words_of (witness_of r); open_part = l })) same
+    ap (λ (l : List (ℕ × ℕ)). Ok (record { place = place_of r.place; words = words_of (witness_of r); states = pairs_of (unwrap_or r.states []); open_part = l })) same
 plain_open r (Ok p) (Err w) e = absurd cc
 plain_open r (Err v) (Ok list) e = absurd cc
 plain_open r (Err v) (Err w) e = let same : v ≡ w = cc in ap (λ (x : Why). Err x) same
@@ -107,26 +117,34 @@ unfolding assignment_on
 plain_part widths r line =
     chosen_line (begins_part line) _ _ _ _ refl (plain_open r (pair_at widths (pairs_of r.open_part) line) (assignment_at widths r.open_part line) (plain_assignment widths r.open_part line))
 
-frames_more : (closed : List (List Assignment)) (list : List Assignment) → map pairs_of closed ++ pairs_of list ∷ [] ≡ map pairs_of (closed ++ list ∷ [])
-frames_more [] list = refl
-frames_more (x ∷ xs) list = ap (λ (l : List (List (ℕ × ℕ))). pairs_of x ∷ l) (frames_more xs list)
+plain_free_part : (shape : Shape) (r : Read) (line : List ℕ) → free_on shape (plain r) line ≡ plain_line (cond (begins_part line) (Err why.FrameOrder) (after_assignment r (free_assignment_at shape r.open_part line)))
+unfolding free_on
+plain_free_part shape r line =
+    chosen_line (begins_part line) _ _ _ _ refl (plain_open r (free_pair_at shape (pairs_of r.open_part) line) (free_assignment_at shape r.open_part line) (plain_free shape r.open_part line))
 
-plain_frame : (r : Read) (next : Place) → Ok (with_frame (place_of next) (plain r)) ≡ plain_line (Ok (record r { place = next; closed = r.closed ++ r.open_part ∷ []; open_part = [] }))
+frames_more : (closed : List Parts) (parts : Parts) → map frame_words closed ++ frame_words parts ∷ [] ≡ map frame_words (closed ++ parts ∷ [])
+frames_more [] parts = refl
+frames_more (x ∷ xs) parts = ap (λ (l : List FrameWords). frame_words x ∷ l) (frames_more xs parts)
+
+plain_frame : (r : Read) (next : Place) → Ok (with_frame (place_of next) (plain r)) ≡ plain_line (Ok (frame_closed next r))
 plain_frame r next =
-    ap (λ (frames : List (List (ℕ × ℕ))). Ok (record { place = place_of next; words = record { claims = r.claims; initial = pairs_of (unwrap_or r.initial []); frames = frames }; open_part = [] })) (frames_more r.closed r.open_part)
-
-plain_next : (r : Read) → r.place ≡ InFrame → Ok (with_frame place.Frame (plain r)) ≡ plain_line (Ok (record r { closed = r.closed ++ r.open_part ∷ []; open_part = [] }))
-plain_next r is = plain_frame r InFrame ∙ ap (λ (at : Place). plain_line (Ok (record r { place = at; closed = r.closed ++ r.open_part ∷ []; open_part = [] }))) (sym is)
+    ap (λ (frames : List FrameWords). Ok (record { place = place_of next; words = record { claims = r.claims; frames = frames }; states = []; open_part = [] }))
+    (frames_more r.closed (record { states = r.states; inputs = r.open_part }))
 
 plain_at : (shape : Shape) (r : Read) (line : List ℕ) (at : Place) → r.place ≡ at → line_at shape (plain r) line (place_of at) ≡ plain_line (admit_at shape r line at)
-unfolding status_on claims_on parts_on states_on frame_on
+unfolding status_on claims_on parts_on states_on free_states_on frame_on
 plain_at shape r line AtStatus is = chosen_line (is_comment line) _ _ _ _ refl (chosen_line (bytes_eq line (codes "sat")) _ _ _ _ refl refl)
 plain_at shape r line AtClaims is = plain_claims r (claims_at shape.bads line)
-plain_at shape r line AtParts is = chosen_line (bytes_eq line (codes "#0")) _ _ _ _ refl (chosen_line (bytes_eq line (codes "@0")) _ _ _ _ refl refl)
-plain_at shape r line InStates is = chosen_line (bytes_eq line (codes "@0")) _ _ _ _ refl (plain_part shape.states r line)
+plain_at shape r line AtParts is = chosen_line (opens_states 0 line) _ _ _ _ refl (chosen_line (opens_frame 0 line) _ _ _ _ refl refl)
+plain_at shape r line InStates is = chosen_line (opens_frame 0 line) _ _ _ _ refl (plain_part shape.states r line)
+plain_at shape r line InFree is =
+    let many : length (map frame_words r.closed) ≡ length r.closed = length-map r.closed frame_words in
+    rw many (chosen_line (opens_frame (length r.closed) line) _ _ _ _ refl (plain_free_part shape r line))
 plain_at shape r line InFrame is =
-    let many : length (map pairs_of r.closed) ≡ length r.closed = length-map r.closed pairs_of in
-    rw many (chosen_line (bytes_eq line (64 ∷ decimal (suc (length r.closed)))) _ _ _ _ (plain_next r is) (chosen_line (bytes_eq line (codes ".")) _ _ _ _ (plain_frame r AtEnd) (plain_part shape.inputs r line)))
+    let many : length (map frame_words r.closed) ≡ length r.closed = length-map r.closed frame_words in
+    let k : ℕ = suc (length r.closed) in
+    rw many (chosen_line (opens_frame k line) _ _ _ _ (plain_frame r InFrame)
+    (chosen_line (opens_states k line && has_free shape) _ _ _ _ (plain_frame r InFree) (chosen_line (bytes_eq line (codes ".")) _ _ _ _ (plain_frame r AtEnd) (plain_part shape.inputs r line))))
 plain_at shape r line AtEnd is = refl
 
 plain_admit : (shape : Shape) (r : Read) (line : List ℕ) → line_on shape (plain r) line ≡ plain_line (admit shape r line)
@@ -144,6 +162,7 @@ same_end AtStatus = refl
 same_end AtClaims = refl
 same_end AtParts = refl
 same_end InStates = refl
+same_end InFree = refl
 same_end InFrame = refl
 same_end AtEnd = refl
 

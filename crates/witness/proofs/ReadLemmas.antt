@@ -1,5 +1,5 @@
 -- A text that says a witness is read as it.
-use Rattle.std.proofs.Common.{◌≡◌, ℕ, suc, ◌<◌, ◌^◌, ◌==◌, Bool, true, false, not, ◌||◌, List, [], ◌∷◌, ◌++◌, Option, Some, None, Result, Ok, Err, length, map, decimal, codes, append_assoc, length-append, refl, sym, ap, ◌∙◌, arith}
+use Rattle.std.proofs.Common.{◌≡◌, ℕ, suc, ◌<◌, ◌^◌, ◌==◌, Bool, true, false, not, ◌||◌, List, [], ◌∷◌, ◌++◌, Option, Some, None, Result, Ok, Err, IfSome, length, map, decimal, codes, append_assoc, length-append, refl, sym, ap, ◌∙◌, arith}
 use Rattle.std.specs.Fmt.{digits}
 use Rattle.std.specs.List.{list_any, AllByRecursion}
 use Rattle.std.specs.Str.{bytes_eq}
@@ -9,9 +9,9 @@ use Rattle.std.proofs.lemmas.List.Elements.{recursion_from_All}
 use Rattle.std.proofs.lemmas.List.Folds.{list_any-append}
 use Rattle.std.proofs.lemmas.Slice.Eq.{bytes_eq-Decides}
 use Rattle.witness.specs.declared.why.Why.{Why}
-use Rattle.witness.specs.Texts.{Shape, Assignment, assignment_line, assignment_lines, frame_lines, is_comment, are_distinct, IsAssignment, IsPart}
-use Rattle.witness.specs.Admits.{assignment_at, claims_at, AtClaims, AtParts, InStates, InFrame, AtEnd, Read, nothing_read, admit}
-use Rattle.witness.proofs.AssignmentLemmas.{stands_in, assignment_at-assignment_line, IsPlain, assignment_line_is_plain}
+use Rattle.witness.specs.Texts.{Shape, is_free_index, has_free, Assignment, Parts, assignment_line, assignment_lines, states_lines, frame_lines, is_comment, are_distinct, IsAssignment, IsPart, IsFreePart, IsLater}
+use Rattle.witness.specs.Admits.{assignment_at, free_assignment_at, claims_at, AtClaims, AtParts, InStates, InFree, InFrame, AtEnd, Read, nothing_read, admit}
+use Rattle.witness.proofs.AssignmentLemmas.{stands_in, assignment_at-assignment_line, free_assignment_at-assignment_line, IsPlain, assignment_line_is_plain}
 
 -- the decimals of a model's properties, states and inputs can be read
 pub record IsSmall (shape : Shape) : Type 0 where
@@ -60,21 +60,28 @@ pub admitted : (shape : Shape) (r : Read) (line : List ℕ) (next : Read) (lines
     → admit_all shape r (line ∷ lines) ≡ admit_all shape next lines
 admitted shape r line next lines h = ap (λ (o : Result Read Why). admit_then o (λ s. admit_all shape s lines)) h
 
+-- the parts of a frame
+abbrev pub parts_of : Option (List Assignment) → List Assignment → Parts
+parts_of states list = record { states = states; inputs = list }
+
 -- what was read at each place
 abbrev pub at_claims : Read
-at_claims = record { place = AtClaims; claims = []; initial = None; closed = []; open_part = [] }
+at_claims = record { place = AtClaims; claims = []; closed = []; states = None; open_part = [] }
 
 abbrev pub at_parts : List ℕ → Read
-at_parts claims = record { place = AtParts; claims = claims; initial = None; closed = []; open_part = [] }
+at_parts claims = record { place = AtParts; claims = claims; closed = []; states = None; open_part = [] }
 
 abbrev pub in_states : List ℕ → List Assignment → Read
-in_states claims list = record { place = InStates; claims = claims; initial = None; closed = []; open_part = list }
+in_states claims list = record { place = InStates; claims = claims; closed = []; states = None; open_part = list }
 
-abbrev pub in_frame : List ℕ → Option (List Assignment) → List (List Assignment) → List Assignment → Read
-in_frame claims initial closed list = record { place = InFrame; claims = claims; initial = initial; closed = closed; open_part = list }
+abbrev pub in_free : List ℕ → List Parts → List Assignment → Read
+in_free claims closed list = record { place = InFree; claims = claims; closed = closed; states = None; open_part = list }
 
-abbrev pub at_end : List ℕ → Option (List Assignment) → List (List Assignment) → Read
-at_end claims initial frames = record { place = AtEnd; claims = claims; initial = initial; closed = frames; open_part = [] }
+abbrev pub in_frame : List ℕ → List Parts → Option (List Assignment) → List Assignment → Read
+in_frame claims closed states list = record { place = InFrame; claims = claims; closed = closed; states = states; open_part = list }
+
+abbrev pub at_end : List ℕ → List Parts → Read
+at_end claims frames = record { place = AtEnd; claims = claims; closed = frames; states = None; open_part = [] }
 
 pub comment_line : (shape : Shape) (line : List ℕ) → is_comment line ≡ true → admit shape nothing_read line ≡ Ok nothing_read
 unfolding admit
@@ -88,40 +95,63 @@ pub line_of_claims : (shape : Shape) (line claims : List ℕ) → claims_at shap
 unfolding admit
 line_of_claims shape line claims h = rw h refl
 
-pub states_begin : (shape : Shape) (claims : List ℕ) → admit shape (at_parts claims) (codes "#0") ≡ Ok (in_states claims [])
-unfolding admit
+pub states_begin : (shape : Shape) (claims : List ℕ) → admit shape (at_parts claims) (35 ∷ decimal 0) ≡ Ok (in_states claims [])
+unfolding admit digits
 states_begin shape claims = refl
 
-pub frames_begin : (shape : Shape) (claims : List ℕ) → admit shape (at_parts claims) (64 ∷ decimal 0) ≡ Ok (in_frame claims None [] [])
+pub frames_begin : (shape : Shape) (claims : List ℕ) → admit shape (at_parts claims) (64 ∷ decimal 0) ≡ Ok (in_frame claims [] None [])
 unfolding admit digits
 frames_begin shape claims = refl
 
-pub states_end : (shape : Shape) (claims : List ℕ) (list : List Assignment) → admit shape (in_states claims list) (64 ∷ decimal 0) ≡ Ok (in_frame claims (Some list) [] [])
+pub states_end : (shape : Shape) (claims : List ℕ) (list : List Assignment) → admit shape (in_states claims list) (64 ∷ decimal 0) ≡ Ok (in_frame claims [] (Some list) [])
 unfolding admit digits
 states_end shape claims list = refl
 
-next_frame : (shape : Shape) (claims : List ℕ) (initial : Option (List Assignment)) (closed : List (List Assignment)) (list : List Assignment)
-    → admit shape (in_frame claims initial closed list) (64 ∷ decimal (suc (length closed))) ≡ Ok (in_frame claims initial (closed ++ list ∷ []) [])
+free_end : (shape : Shape) (claims : List ℕ) (closed : List Parts) (list : List Assignment)
+    → admit shape (in_free claims closed list) (64 ∷ decimal (length closed)) ≡ Ok (in_frame claims closed (Some list) [])
 unfolding admit
-next_frame shape claims initial closed list =
+free_end shape claims closed list =
+    let line : List ℕ = 64 ∷ decimal (length closed) in
+    let same : bytes_eq line line ≡ true = (bytes_eq-Decides line line).1 refl in
+    rw same refl
+
+next_frame : (shape : Shape) (claims : List ℕ) (closed : List Parts) (states : Option (List Assignment)) (list : List Assignment)
+    → admit shape (in_frame claims closed states list) (64 ∷ decimal (suc (length closed))) ≡ Ok (in_frame claims (closed ++ parts_of states list ∷ []) None [])
+unfolding admit
+next_frame shape claims closed states list =
     let line : List ℕ = 64 ∷ decimal (suc (length closed)) in
     let same : bytes_eq line line ≡ true = (bytes_eq-Decides line line).1 refl in
     rw same refl
 
-last_line : (shape : Shape) (claims : List ℕ) (initial : Option (List Assignment)) (closed : List (List Assignment)) (list : List Assignment)
-    → admit shape (in_frame claims initial closed list) (codes ".") ≡ Ok (at_end claims initial (closed ++ list ∷ []))
+next_states : (shape : Shape) (claims : List ℕ) (closed : List Parts) (states : Option (List Assignment)) (list : List Assignment) → has_free shape ≡ true
+    → admit shape (in_frame claims closed states list) (35 ∷ decimal (suc (length closed))) ≡ Ok (in_free claims (closed ++ parts_of states list ∷ []) [])
 unfolding admit
-last_line shape claims initial closed list = refl
+next_states shape claims closed states list some =
+    let line : List ℕ = 35 ∷ decimal (suc (length closed)) in
+    let same : bytes_eq line line ≡ true = (bytes_eq-Decides line line).1 refl in
+    rw (same, some) refl
+
+last_line : (shape : Shape) (claims : List ℕ) (closed : List Parts) (states : Option (List Assignment)) (list : List Assignment)
+    → admit shape (in_frame claims closed states list) (codes ".") ≡ Ok (at_end claims (closed ++ parts_of states list ∷ []))
+unfolding admit
+last_line shape claims closed states list = refl
 
 line_in_states : (shape : Shape) (claims : List ℕ) (before : List Assignment) (line : List ℕ) (list : List Assignment) → IsPlain line
     → assignment_at shape.states before line ≡ Ok list → admit shape (in_states claims before) line ≡ Ok (in_states claims list)
 unfolding admit
-line_in_states shape claims before line list plain h = rw (plain.no_frame (codes "0"), plain.no_part, h) refl
+line_in_states shape claims before line list plain h = rw (plain.no_frame (decimal 0), plain.no_part, h) refl
 
-line_in_frame : (shape : Shape) (claims : List ℕ) (initial : Option (List Assignment)) (closed : List (List Assignment)) (before : List Assignment) (line : List ℕ) (list : List Assignment) → IsPlain line
-    → assignment_at shape.inputs before line ≡ Ok list → admit shape (in_frame claims initial closed before) line ≡ Ok (in_frame claims initial closed list)
+line_in_free : (shape : Shape) (claims : List ℕ) (closed : List Parts) (before : List Assignment) (line : List ℕ) (list : List Assignment) → IsPlain line
+    → free_assignment_at shape before line ≡ Ok list → admit shape (in_free claims closed before) line ≡ Ok (in_free claims closed list)
 unfolding admit
-line_in_frame shape claims initial closed before line list plain h = rw (plain.no_frame (decimal (suc (length closed))), plain.no_end, plain.no_part, h) refl
+line_in_free shape claims closed before line list plain h = rw (plain.no_frame (decimal (length closed)), plain.no_part, h) refl
+
+line_in_frame : (shape : Shape) (claims : List ℕ) (closed : List Parts) (states : Option (List Assignment)) (before : List Assignment) (line : List ℕ) (list : List Assignment) → IsPlain line
+    → assignment_at shape.inputs before line ≡ Ok list → admit shape (in_frame claims closed states before) line ≡ Ok (in_frame claims closed states list)
+unfolding admit
+line_in_frame shape claims closed states before line list plain h =
+    let k : ℕ = suc (length closed) in
+    rw (plain.no_frame (decimal k), plain.no_states (decimal k), plain.no_end, plain.no_part, h) refl
 
 -- ---- a part
 
@@ -146,35 +176,74 @@ states_part shape claims before (a ∷ list) tail small each distinct =
     ∙ (states_part shape claims (before ++ a ∷ []) list tail small each.1 (moved before a list distinct)
     ∙ ap (λ (l : List Assignment). admit_all shape (in_states claims l) tail) (append_assoc before (a ∷ []) list))
 
-inputs_part : (shape : Shape) (claims : List ℕ) (initial : Option (List Assignment)) (closed : List (List Assignment)) (before list : List Assignment) (tail : List (List ℕ)) → IsSmall shape → AllByRecursion (IsAssignment shape.inputs) list → are_distinct (indices (before ++ list)) ≡ true
-    → admit_all shape (in_frame claims initial closed before) (assignment_lines shape.inputs list ++ tail) ≡ admit_all shape (in_frame claims initial closed (before ++ list)) tail
-inputs_part shape claims initial closed before [] tail small each distinct = ap (λ (l : List Assignment). admit_all shape (in_frame claims initial closed l) tail) (sym (append-nil before))
-inputs_part shape claims initial closed before (a ∷ list) tail small each distinct =
+free_part : (shape : Shape) (claims : List ℕ) (closed : List Parts) (before list : List Assignment) (tail : List (List ℕ)) → IsSmall shape → AllByRecursion (IsAssignment shape.states) list
+    → AllByRecursion (λ (a : Assignment). is_free_index shape a.index ≡ true) list → are_distinct (indices (before ++ list)) ≡ true
+    → admit_all shape (in_free claims closed before) (assignment_lines shape.states list ++ tail) ≡ admit_all shape (in_free claims closed (before ++ list)) tail
+free_part shape claims closed before [] tail small each free distinct = ap (λ (l : List Assignment). admit_all shape (in_free claims closed l) tail) (sym (append-nil before))
+free_part shape claims closed before (a ∷ list) tail small each free distinct =
+    let widths : List ℕ = shape.states in
+    let line : List ℕ = assignment_line widths a in
+    let read = free_assignment_at-assignment_line shape before a small.states each.0 free.0 (new_index before a list distinct) in
+    let step = line_in_free shape claims closed before line (before ++ a ∷ []) (assignment_line_is_plain widths a small.states each.0) read in
+    admitted shape (in_free claims closed before) line (in_free claims closed (before ++ a ∷ [])) (assignment_lines widths list ++ tail) step
+    ∙ (free_part shape claims closed (before ++ a ∷ []) list tail small each.1 free.1 (moved before a list distinct)
+    ∙ ap (λ (l : List Assignment). admit_all shape (in_free claims closed l) tail) (append_assoc before (a ∷ []) list))
+
+inputs_part : (shape : Shape) (claims : List ℕ) (closed : List Parts) (states : Option (List Assignment)) (before list : List Assignment) (tail : List (List ℕ)) → IsSmall shape → AllByRecursion (IsAssignment shape.inputs) list → are_distinct (indices (before ++ list)) ≡ true
+    → admit_all shape (in_frame claims closed states before) (assignment_lines shape.inputs list ++ tail) ≡ admit_all shape (in_frame claims closed states (before ++ list)) tail
+inputs_part shape claims closed states before [] tail small each distinct = ap (λ (l : List Assignment). admit_all shape (in_frame claims closed states l) tail) (sym (append-nil before))
+inputs_part shape claims closed states before (a ∷ list) tail small each distinct =
     let widths : List ℕ = shape.inputs in
     let line : List ℕ = assignment_line widths a in
     let read = assignment_at-assignment_line widths before a small.inputs each.0 (new_index before a list distinct) in
-    let step = line_in_frame shape claims initial closed before line (before ++ a ∷ []) (assignment_line_is_plain widths a small.inputs each.0) read in
-    admitted shape (in_frame claims initial closed before) line (in_frame claims initial closed (before ++ a ∷ [])) (assignment_lines widths list ++ tail) step
-    ∙ (inputs_part shape claims initial closed (before ++ a ∷ []) list tail small each.1 (moved before a list distinct)
-    ∙ ap (λ (l : List Assignment). admit_all shape (in_frame claims initial closed l) tail) (append_assoc before (a ∷ []) list))
+    let step = line_in_frame shape claims closed states before line (before ++ a ∷ []) (assignment_line_is_plain widths a small.inputs each.0) read in
+    admitted shape (in_frame claims closed states before) line (in_frame claims closed states (before ++ a ∷ [])) (assignment_lines widths list ++ tail) step
+    ∙ (inputs_part shape claims closed states (before ++ a ∷ []) list tail small each.1 (moved before a list distinct)
+    ∙ ap (λ (l : List Assignment). admit_all shape (in_frame claims closed states l) tail) (append_assoc before (a ∷ []) list))
 
 -- ---- the frames, and the line behind them
 
-pub frames_part : (shape : Shape) (claims : List ℕ) (initial : Option (List Assignment)) (closed : List (List Assignment)) (list : List Assignment) (more : List (List Assignment)) → IsSmall shape → IsPart shape.inputs list → AllByRecursion (IsPart shape.inputs) more
-    → admit_all shape (in_frame claims initial closed []) (assignment_lines shape.inputs list ++ (frame_lines shape.inputs (suc (length closed)) more ++ codes "." ∷ [])) ≡ Ok (at_end claims initial (closed ++ list ∷ more))
-frames_part shape claims initial closed list [] small part parts =
-    inputs_part shape claims initial closed [] list (codes "." ∷ []) small (recursion_from_All (IsAssignment shape.inputs) list part.each) part.distinct
-    ∙ admitted shape (in_frame claims initial closed list) (codes ".") (at_end claims initial (closed ++ list ∷ [])) [] (last_line shape claims initial closed list)
-frames_part shape claims initial closed list (next ∷ more) small part parts =
-    let widths : List ℕ = shape.inputs in
+-- lines behind those of some frames
+pub frame_lines-behind : (shape : Shape) (k : ℕ) (next : Parts) (more : List Parts) (behind : List (List ℕ))
+    → frame_lines shape k (next ∷ more) ++ behind ≡ states_lines shape.states k next.states ++ ((64 ∷ decimal k) ∷ (assignment_lines shape.inputs next.inputs ++ (frame_lines shape (suc k) more ++ behind)))
+frame_lines-behind shape k next more behind =
+    let states : List (List ℕ) = states_lines shape.states k next.states in
+    let here : List (List ℕ) = assignment_lines shape.inputs next.inputs in
+    let rest : List (List ℕ) = frame_lines shape (suc k) more in
+    append_assoc states ((64 ∷ decimal k) ∷ (here ++ rest)) behind ∙ ap (λ (ls : List (List ℕ)). states ++ ((64 ∷ decimal k) ∷ ls)) (append_assoc here rest behind)
+
+-- a frame behind another begins, by its states or by its line
+next_begins : (shape : Shape) (claims : List ℕ) (closed : List Parts) (states : Option (List Assignment)) (list : List Assignment) (next : Option (List Assignment)) (tail : List (List ℕ)) → IsSmall shape → IfSome next (IsFreePart shape)
+    → admit_all shape (in_frame claims closed states list) (states_lines shape.states (suc (length closed)) next ++ ((64 ∷ decimal (suc (length closed))) ∷ tail))
+    ≡ admit_all shape (in_frame claims (closed ++ parts_of states list ∷ []) next []) tail
+next_begins shape claims closed states list None tail small part =
     let k : ℕ = suc (length closed) in
-    let others : List (List Assignment) = closed ++ list ∷ [] in
-    let count : suc k ≡ suc (length others) = omega (arith, length-append closed (list ∷ [])) in
-    let here : List (List ℕ) = assignment_lines widths next in
-    let tail : List (List ℕ) = frame_lines widths (suc k) more ++ codes "." ∷ [] in
-    inputs_part shape claims initial closed [] list (frame_lines widths k (next ∷ more) ++ codes "." ∷ []) small (recursion_from_All (IsAssignment widths) list part.each) part.distinct
-    ∙ (admitted shape (in_frame claims initial closed list) (64 ∷ decimal k) (in_frame claims initial others []) ((here ++ frame_lines widths (suc k) more) ++ codes "." ∷ []) (next_frame shape claims initial closed list)
-    ∙ (ap (admit_all shape (in_frame claims initial others [])) (append_assoc here (frame_lines widths (suc k) more) (codes "." ∷ []))
-    ∙ (ap (λ (n : ℕ). admit_all shape (in_frame claims initial others []) (here ++ (frame_lines widths n more ++ codes "." ∷ []))) count
-    ∙ (frames_part shape claims initial others next more small parts.0 parts.1
-    ∙ ap (λ (fs : List (List Assignment)). Ok (at_end claims initial fs)) (append_assoc closed (list ∷ []) (next ∷ more))))))
+    admitted shape (in_frame claims closed states list) (64 ∷ decimal k) (in_frame claims (closed ++ parts_of states list ∷ []) None []) tail (next_frame shape claims closed states list)
+next_begins shape claims closed states list (Some free) tail small part =
+    let k : ℕ = suc (length closed) in
+    let others : List Parts = closed ++ parts_of states list ∷ [] in
+    let count : k ≡ length others = omega (arith, length-append closed (parts_of states list ∷ [])) in
+    let each = recursion_from_All (IsAssignment shape.states) free part.part.each in
+    let all_free = recursion_from_All (λ (a : Assignment). is_free_index shape a.index ≡ true) free part.free in
+    admitted shape (in_frame claims closed states list) (35 ∷ decimal k) (in_free claims others []) (assignment_lines shape.states free ++ ((64 ∷ decimal k) ∷ tail)) (next_states shape claims closed states list part.some)
+    ∙ (free_part shape claims others [] free ((64 ∷ decimal k) ∷ tail) small each all_free part.part.distinct
+    ∙ (ap (λ (n : ℕ). admit_all shape (in_free claims others free) ((64 ∷ decimal n) ∷ tail)) count
+    ∙ admitted shape (in_free claims others free) (64 ∷ decimal (length others)) (in_frame claims others (Some free) []) tail (free_end shape claims others free)))
+
+pub frames_part : (shape : Shape) (claims : List ℕ) (closed : List Parts) (states : Option (List Assignment)) (list : List Assignment) (more : List Parts) → IsSmall shape → IsPart shape.inputs list → AllByRecursion (IsLater shape) more
+    → admit_all shape (in_frame claims closed states []) (assignment_lines shape.inputs list ++ (frame_lines shape (suc (length closed)) more ++ codes "." ∷ [])) ≡ Ok (at_end claims (closed ++ parts_of states list ∷ more))
+frames_part shape claims closed states list [] small part parts =
+    inputs_part shape claims closed states [] list (codes "." ∷ []) small (recursion_from_All (IsAssignment shape.inputs) list part.each) part.distinct
+    ∙ admitted shape (in_frame claims closed states list) (codes ".") (at_end claims (closed ++ parts_of states list ∷ [])) [] (last_line shape claims closed states list)
+frames_part shape claims closed states list (next ∷ more) small part parts =
+    let k : ℕ = suc (length closed) in
+    let others : List Parts = closed ++ parts_of states list ∷ [] in
+    let count : suc k ≡ suc (length others) = omega (arith, length-append closed (parts_of states list ∷ [])) in
+    let here : List (List ℕ) = assignment_lines shape.inputs next.inputs in
+    let tail : List (List ℕ) = frame_lines shape (suc k) more ++ codes "." ∷ [] in
+    inputs_part shape claims closed states [] list (frame_lines shape k (next ∷ more) ++ codes "." ∷ []) small (recursion_from_All (IsAssignment shape.inputs) list part.each) part.distinct
+    ∙ (ap (admit_all shape (in_frame claims closed states list)) (frame_lines-behind shape k next more (codes "." ∷ []))
+    ∙ (next_begins shape claims closed states list next.states (here ++ tail) small parts.0.states
+    ∙ (ap (λ (n : ℕ). admit_all shape (in_frame claims others next.states []) (here ++ (frame_lines shape n more ++ codes "." ∷ []))) count
+    ∙ (frames_part shape claims others next.states next.inputs more small parts.0.inputs parts.1
+    ∙ ap (λ (fs : List Parts). Ok (at_end claims fs)) (append_assoc closed (parts_of states list ∷ []) (next ∷ more))))))

@@ -1,6 +1,5 @@
 -- A text that is read says what it is read as: what each admitted line adds to what the lines before it say.
-use Rattle.std.proofs.Common.{◌≡◌, ◌⊎◌, ℕ, suc, ◌+◌, ◌==◌, true, false, not, ◌||◌, List, [], ◌∷◌, ◌++◌, Option, Some, None, Result, Ok, Err, IfSome, All, length, decimal, codes, if◌then◌else◌, append_assoc, length-append, inl, inr, refl, sym, ap, ◌∙◌, arith}
-use Rattle.std.specs.Fmt.{digits}
+use Rattle.std.proofs.Common.{◌≡◌, ◌⊎◌, ℕ, suc, ◌+◌, ◌==◌, true, false, not, ◌&&◌, ◌||◌, List, [], ◌∷◌, ◌++◌, Option, Some, None, Result, Ok, Err, All, length, decimal, codes, if◌then◌else◌, append_assoc, length-append, inl, inr, refl, sym, ap, ◌∙◌, arith}
 use Rattle.std.specs.List.{list_any, AllByRecursion}
 use Rattle.std.specs.Str.{bytes_eq}
 use Rattle.std.proofs.lemmas.Bool.{or_parts, or_from, and_parts, eqb-false, ne_eqb}
@@ -11,21 +10,17 @@ use Rattle.std.proofs.lemmas.Slice.Eq.{bytes_eq-Decides}
 use Rattle.base.proofs.DecimalLemmas.{chosen}
 use Rattle.witness.specs.declared.why.Why.{Why}
 use Rattle.witness.specs.declared.why.Why.TheVariants as why
-use Rattle.witness.specs.Texts.{Shape, Assignment, Witness, assignment_line, assignment_lines, claims_line, initial_lines, frame_lines, witness_lines, is_comment, are_distinct, IsAssignment, IsPart, IsWitness}
-use Rattle.witness.specs.Admits.{begins_part, assignment_at, after_assignment, claims_at, after_claims, Read, nothing_read, admit}
+use Rattle.witness.specs.Texts.{Shape, is_free_index, has_free, Assignment, Parts, Witness, assignment_line, assignment_lines, claims_line, states_lines, frame_lines, witness_lines, is_comment, are_distinct, IsAssignment, IsPart, IsFreePart, IsLater, AreFrames, IsWitness}
+use Rattle.witness.specs.Admits.{begins_part, opens_states, assignment_at, free_assignment_at, after_assignment, claims_at, after_claims, Read, nothing_read, in_part, admit}
 use Rattle.witness.proofs.ClaimLemmas.{AreBelow, AreClaims, claims_are_line}
-use Rattle.witness.proofs.AssignmentLemmas.{stands_in, IsAssigned, assignment_is_line}
-use Rattle.witness.proofs.ReadLemmas.{IsSmall, indices, stands_in-indices, was_false, at_claims, at_parts, in_states, in_frame, at_end}
+use Rattle.witness.proofs.AssignmentLemmas.{stands_in, IsAssigned, assignment_is_line, IsFreeAssigned, free_assignment_is_line}
+use Rattle.witness.proofs.ReadLemmas.{IsSmall, indices, stands_in-indices, was_false, parts_of, at_claims, at_parts, in_states, in_free, in_frame, at_end, frame_lines-behind}
 use Rattle.witness.proofs.WholeLemmas.{all_read}
 
 -- ---- what one line adds
 
 same_bytes : (xs ys : List ℕ) → bytes_eq xs ys ≡ true → xs ≡ ys
 same_bytes xs ys = (bytes_eq-Decides xs ys).0
-
-first_frame : codes "@0" ≡ 64 ∷ decimal 0
-unfolding digits
-first_frame = refl
 
 pub behind_comments : (shape : Shape) (line : List ℕ) (next : Read) → admit shape nothing_read line ≡ Ok next
     → ((is_comment line ≡ true) × (next ≡ nothing_read)) ⊎ ((line ≡ codes "sat") × (next ≡ at_claims))
@@ -53,15 +48,15 @@ behind_status shape line next small h =
     (parts.0, (claims_are_line shape.bads line parts.0 small.bads parts.1.0, cc (parts.1.1)))
 
 pub behind_claims : (shape : Shape) (claims line : List ℕ) (next : Read) → admit shape (at_parts claims) line ≡ Ok next
-    → ((line ≡ codes "#0") × (next ≡ in_states claims [])) ⊎ ((line ≡ 64 ∷ decimal 0) × (next ≡ in_frame claims None [] []))
+    → ((line ≡ 35 ∷ decimal 0) × (next ≡ in_states claims [])) ⊎ ((line ≡ 64 ∷ decimal 0) × (next ≡ in_frame claims [] None []))
 unfolding admit
 behind_claims shape claims line next h =
-    let other : Result Read Why = if bytes_eq line (codes "@0") then Ok (in_frame claims None [] []) else Err why.FrameOrder in
-    elim (chosen (bytes_eq line (codes "#0")) (Ok (in_states claims [])) other (Ok next) h) [
-      | inl e ↦ inl (same_bytes line (codes "#0") e.0, cc (e.1))
+    let other : Result Read Why = if bytes_eq line (64 ∷ decimal 0) then Ok (in_frame claims [] None []) else Err why.FrameOrder in
+    elim (chosen (bytes_eq line (35 ∷ decimal 0)) (Ok (in_states claims [])) other (Ok next) h) [
+      | inl e ↦ inl (same_bytes line (35 ∷ decimal 0) e.0, cc (e.1))
       | inr e ↦
-          elim (chosen (bytes_eq line (codes "@0")) (Ok (in_frame claims None [] [])) (Err why.FrameOrder) (Ok next) e.1) [
-            | inl d ↦ inr (same_bytes line (codes "@0") d.0 ∙ first_frame, cc (d.1))
+          elim (chosen (bytes_eq line (64 ∷ decimal 0)) (Ok (in_frame claims [] None [])) (Err why.FrameOrder) (Ok next) e.1) [
+            | inl d ↦ inr (same_bytes line (64 ∷ decimal 0) d.0, cc (d.1))
             | inr d ↦ absurd (cc (d.1))
           ]
     ]
@@ -70,55 +65,78 @@ assignment_parts : (r : Read) (o : Result (List Assignment) Why) (next : Read) �
 assignment_parts r (Ok list) next h = (list, (refl, h))
 assignment_parts r (Err w) next h = absurd cc
 
+-- a line of a part is read as an assignment
+in_part_parts : (r : Read) (line : List ℕ) (o : Result (List Assignment) Why) (next : Read) → in_part r line o ≡ Ok next → (list : List Assignment) × ((o ≡ Ok list) × (after_assignment r (Ok list) ≡ Ok next))
+in_part_parts r line o next h =
+    elim (chosen (begins_part line) (Err why.FrameOrder) (after_assignment r o) (Ok next) h) [
+      | inl d ↦ absurd (cc (d.1))
+      | inr d ↦ assignment_parts r o next d.1
+    ]
+
 pub behind_states : (shape : Shape) (claims : List ℕ) (before : List Assignment) (line : List ℕ) (next : Read) → IsSmall shape → admit shape (in_states claims before) line ≡ Ok next
-    → ((line ≡ 64 ∷ decimal 0) × (next ≡ in_frame claims (Some before) [] [])) ⊎ ((list : List Assignment) × (IsAssigned shape.states before line list × (next ≡ in_states claims list)))
+    → ((line ≡ 64 ∷ decimal 0) × (next ≡ in_frame claims [] (Some before) [])) ⊎ ((list : List Assignment) × (IsAssigned shape.states before line list × (next ≡ in_states claims list)))
 unfolding admit
 behind_states shape claims before line next small h =
     let r : Read = in_states claims before in
-    let read : Result Read Why = after_assignment r (assignment_at shape.states before line) in
-    let other : Result Read Why = if begins_part line then Err why.FrameOrder else read in
-    elim (chosen (bytes_eq line (codes "@0")) (Ok (in_frame claims (Some before) [] [])) other (Ok next) h) [
-      | inl e ↦ inl (same_bytes line (codes "@0") e.0 ∙ first_frame, cc (e.1))
+    let other : Result Read Why = in_part r line (assignment_at shape.states before line) in
+    elim (chosen (bytes_eq line (64 ∷ decimal 0)) (Ok (in_frame claims [] (Some before) [])) other (Ok next) h) [
+      | inl e ↦ inl (same_bytes line (64 ∷ decimal 0) e.0, cc (e.1))
       | inr e ↦
-          elim (chosen (begins_part line) (Err why.FrameOrder) read (Ok next) e.1) [
-            | inl d ↦ absurd (cc (d.1))
-            | inr d ↦
-                let parts = assignment_parts r (assignment_at shape.states before line) next d.1 in
-                inr (parts.0, (assignment_is_line shape.states before line parts.0 small.states parts.1.0, cc (parts.1.1)))
-          ]
+          let parts = in_part_parts r line (assignment_at shape.states before line) next e.1 in
+          inr (parts.0, (assignment_is_line shape.states before line parts.0 small.states parts.1.0, cc (parts.1.1)))
     ]
 
-pub behind_frame : (shape : Shape) (claims : List ℕ) (initial : Option (List Assignment)) (closed : List (List Assignment)) (before : List Assignment) (line : List ℕ) (next : Read) → IsSmall shape
-    → admit shape (in_frame claims initial closed before) line ≡ Ok next
-    → ((line ≡ 64 ∷ decimal (suc (length closed))) × (next ≡ in_frame claims initial (closed ++ before ∷ []) []))
-    ⊎ (((line ≡ codes ".") × (next ≡ at_end claims initial (closed ++ before ∷ [])))
-    ⊎ ((list : List Assignment) × (IsAssigned shape.inputs before line list × (next ≡ in_frame claims initial closed list))))
+pub behind_free : (shape : Shape) (claims : List ℕ) (closed : List Parts) (before : List Assignment) (line : List ℕ) (next : Read) → IsSmall shape → admit shape (in_free claims closed before) line ≡ Ok next
+    → ((line ≡ 64 ∷ decimal (length closed)) × (next ≡ in_frame claims closed (Some before) [])) ⊎ ((list : List Assignment) × (IsFreeAssigned shape before line list × (next ≡ in_free claims closed list)))
 unfolding admit
-behind_frame shape claims initial closed before line next small h =
-    let r : Read = in_frame claims initial closed before in
-    let header : List ℕ = 64 ∷ decimal (suc (length closed)) in
-    let frames : List (List Assignment) = closed ++ before ∷ [] in
-    let read : Result Read Why = after_assignment r (assignment_at shape.inputs before line) in
-    let inside : Result Read Why = if begins_part line then Err why.FrameOrder else read in
-    let other : Result Read Why = if bytes_eq line (codes ".") then Ok (at_end claims initial frames) else inside in
-    elim (chosen (bytes_eq line header) (Ok (in_frame claims initial frames [])) other (Ok next) h) [
+behind_free shape claims closed before line next small h =
+    let r : Read = in_free claims closed before in
+    let header : List ℕ = 64 ∷ decimal (length closed) in
+    let other : Result Read Why = in_part r line (free_assignment_at shape before line) in
+    elim (chosen (bytes_eq line header) (Ok (in_frame claims closed (Some before) [])) other (Ok next) h) [
       | inl e ↦ inl (same_bytes line header e.0, cc (e.1))
       | inr e ↦
-          elim (chosen (bytes_eq line (codes ".")) (Ok (at_end claims initial frames)) inside (Ok next) e.1) [
-            | inl d ↦ inr (inl (same_bytes line (codes ".") d.0, cc (d.1)))
+          let parts = in_part_parts r line (free_assignment_at shape before line) next e.1 in
+          inr (parts.0, (free_assignment_is_line shape before line parts.0 small.states parts.1.0, cc (parts.1.1)))
+    ]
+
+-- a line behind those of a frame: the first of the next frame, the first of its states' part, the last of all, or an assignment
+pub data BehindFrame (shape : Shape) (claims : List ℕ) (closed : List Parts) (states : Option (List Assignment)) (before : List Assignment) (line : List ℕ) (next : Read) : Type 0 where
+  NextFrame : line ≡ 64 ∷ decimal (suc (length closed)) → next ≡ in_frame claims (closed ++ parts_of states before ∷ []) None [] → BehindFrame shape claims closed states before line next
+  NextStates : line ≡ 35 ∷ decimal (suc (length closed)) → has_free shape ≡ true → next ≡ in_free claims (closed ++ parts_of states before ∷ []) [] → BehindFrame shape claims closed states before line next
+  TheEnd : line ≡ codes "." → next ≡ at_end claims (closed ++ parts_of states before ∷ []) → BehindFrame shape claims closed states before line next
+  OneMore : (list : List Assignment) → IsAssigned shape.inputs before line list → next ≡ in_frame claims closed states list → BehindFrame shape claims closed states before line next
+
+pub behind_frame : (shape : Shape) (claims : List ℕ) (closed : List Parts) (states : Option (List Assignment)) (before : List Assignment) (line : List ℕ) (next : Read) → IsSmall shape
+    → admit shape (in_frame claims closed states before) line ≡ Ok next → BehindFrame shape claims closed states before line next
+unfolding admit
+behind_frame shape claims closed states before line next small h =
+    let r : Read = in_frame claims closed states before in
+    let k : ℕ = suc (length closed) in
+    let frames : List Parts = closed ++ parts_of states before ∷ [] in
+    let inside : Result Read Why = in_part r line (assignment_at shape.inputs before line) in
+    let last : Result Read Why = if bytes_eq line (codes ".") then Ok (at_end claims frames) else inside in
+    let other : Result Read Why = if opens_states k line && has_free shape then Ok (in_free claims frames []) else last in
+    elim (chosen (bytes_eq line (64 ∷ decimal k)) (Ok (in_frame claims frames None [])) other (Ok next) h) [
+      | inl e ↦ NextFrame (same_bytes line (64 ∷ decimal k) e.0) (cc (e.1))
+      | inr e ↦
+          elim (chosen (opens_states k line && has_free shape) (Ok (in_free claims frames [])) last (Ok next) e.1) [
+            | inl d ↦
+                let both = and_parts (opens_states k line) (has_free shape) d.0 in
+                NextStates (same_bytes line (35 ∷ decimal k) both.0) both.1 (cc (d.1))
             | inr d ↦
-                elim (chosen (begins_part line) (Err why.FrameOrder) read (Ok next) d.1) [
-                  | inl f ↦ absurd (cc (f.1))
+                elim (chosen (bytes_eq line (codes ".")) (Ok (at_end claims frames)) inside (Ok next) d.1) [
+                  | inl f ↦ TheEnd (same_bytes line (codes ".") f.0) (cc (f.1))
                   | inr f ↦
-                      let parts = assignment_parts r (assignment_at shape.inputs before line) next f.1 in
-                      inr (inr (parts.0, (assignment_is_line shape.inputs before line parts.0 small.inputs parts.1.0, cc (parts.1.1))))
+                      let parts = in_part_parts r line (assignment_at shape.inputs before line) next f.1 in
+                      OneMore parts.0 (assignment_is_line shape.inputs before line parts.0 small.inputs parts.1.0) (cc (parts.1.1))
                 ]
           ]
     ]
 
-pub behind_end : (shape : Shape) (claims : List ℕ) (initial : Option (List Assignment)) (frames : List (List Assignment)) (line : List ℕ) (next : Read) → admit shape (at_end claims initial frames) line ≡ Ok next → ⊥
+pub behind_end : (shape : Shape) (claims : List ℕ) (frames : List Parts) (line : List ℕ) (next : Read) → admit shape (at_end claims frames) line ≡ Ok next → ⊥
 unfolding admit
-behind_end shape claims initial frames line next h = cc
+behind_end shape claims frames line next h = cc
 
 -- ---- parts and frames with one more
 
@@ -144,41 +162,84 @@ part_more widths before a part valid new =
 pub empty_part : (widths : List ℕ) → IsPart widths []
 empty_part widths = record { each = All-nil (IsAssignment widths); distinct = refl }
 
-pub parts_more : (widths : List ℕ) (closed : List (List Assignment)) (list : List Assignment) → All (IsPart widths) closed → IsPart widths list → All (IsPart widths) (closed ++ list ∷ [])
-parts_more widths closed list parts part = All-append (IsPart widths) closed (list ∷ []) parts (All-cons (IsPart widths) list [] part (All-nil (IsPart widths)))
+pub free_more : (shape : Shape) (before : List Assignment) (a : Assignment) → IsFreePart shape before → IsAssignment shape.states a → is_free_index shape a.index ≡ true → stands_in a.index before ≡ false → IsFreePart shape (before ++ a ∷ [])
+free_more shape before a part valid free new =
+    let test : Assignment → Type 0 = λ b. is_free_index shape b.index ≡ true in
+    record { some = part.some; part = part_more shape.states before a part.part valid new; free = All-append test before (a ∷ []) part.free (All-cons test a [] free (All-nil test)) }
 
-frame_lines-append : (widths : List ℕ) (k : ℕ) (xs ys : List (List Assignment)) → frame_lines widths k (xs ++ ys) ≡ frame_lines widths k xs ++ frame_lines widths (k + length xs) ys
-frame_lines-append widths k [] ys = ap (λ (n : ℕ). frame_lines widths n ys) (omega arith)
-frame_lines-append widths k (list ∷ xs) ys =
-    let line : List ℕ = 64 ∷ decimal k in
-    let here : List (List ℕ) = assignment_lines widths list in
-    let rest : List (List ℕ) = frame_lines widths (suc k) xs in
+pub empty_free : (shape : Shape) → has_free shape ≡ true → IsFreePart shape []
+empty_free shape some = record { some = some; part = empty_part shape.states; free = All-nil (λ (a : Assignment). is_free_index shape a.index ≡ true) }
+
+pub later_frame : (shape : Shape) (frames : List Parts) (parts : Parts) → AreFrames shape frames → IsLater shape parts → AreFrames shape (frames ++ parts ∷ [])
+later_frame shape [] parts valid later = absurd valid
+later_frame shape (first ∷ more) parts valid later = (valid.0, All-append (IsLater shape) more (parts ∷ []) valid.1 (All-cons (IsLater shape) parts [] later (All-nil (IsLater shape))))
+
+frame_lines-append : (shape : Shape) (k : ℕ) (xs ys : List Parts) → frame_lines shape k (xs ++ ys) ≡ frame_lines shape k xs ++ frame_lines shape (k + length xs) ys
+frame_lines-append shape k [] ys = ap (λ (n : ℕ). frame_lines shape n ys) (omega arith)
+frame_lines-append shape k (parts ∷ xs) ys =
     let count : suc k + length xs ≡ k + suc (length xs) = omega arith in
-    ap (λ (ls : List (List ℕ)). line ∷ (here ++ ls)) (frame_lines-append widths (suc k) xs ys ∙ ap (λ (n : ℕ). rest ++ frame_lines widths n ys) count)
-    ∙ ap (λ (ls : List (List ℕ)). line ∷ ls) (sym (append_assoc here rest (frame_lines widths (k + suc (length xs)) ys)))
+    let states : List (List ℕ) = states_lines shape.states k parts.states in
+    let here : List (List ℕ) = assignment_lines shape.inputs parts.inputs in
+    let rest : List (List ℕ) = frame_lines shape (suc k) xs in
+    ap (λ (ls : List (List ℕ)). states ++ ((64 ∷ decimal k) ∷ (here ++ ls))) (frame_lines-append shape (suc k) xs ys ∙ ap (λ (n : ℕ). rest ++ frame_lines shape n ys) count)
+    ∙ sym (frame_lines-behind shape k parts xs (frame_lines shape (k + suc (length xs)) ys))
+
+-- the same of one frame behind others
+one_frame : (shape : Shape) (closed : List Parts) (states : Option (List Assignment)) (list : List Assignment)
+    → frame_lines shape 0 (closed ++ parts_of states list ∷ []) ≡ frame_lines shape 0 closed ++ (states_lines shape.states (length closed) states ++ ((64 ∷ decimal (length closed)) ∷ assignment_lines shape.inputs list))
+one_frame shape closed states list =
+    let count : 0 + length closed ≡ length closed = omega arith in
+    let front : List (List ℕ) = frame_lines shape 0 closed in
+    let header : List ℕ = 64 ∷ decimal (length closed) in
+    frame_lines-append shape 0 closed (parts_of states list ∷ [])
+    ∙ (ap (λ (n : ℕ). front ++ frame_lines shape n (parts_of states list ∷ [])) count
+    ∙ ap (λ (ls : List (List ℕ)). front ++ (states_lines shape.states (length closed) states ++ (header ∷ ls))) (append-nil (assignment_lines shape.inputs list)))
 
 -- one more assignment in the last frame
-pub frame_lines-assignment : (widths : List ℕ) (closed : List (List Assignment)) (before : List Assignment) (a : Assignment)
-    → frame_lines widths 0 (closed ++ before ∷ []) ++ assignment_line widths a ∷ [] ≡ frame_lines widths 0 (closed ++ (before ++ a ∷ []) ∷ [])
-frame_lines-assignment widths closed before a =
-    let n : ℕ = 0 + length closed in
-    let line : List ℕ = 64 ∷ decimal n in
-    let front : List (List ℕ) = frame_lines widths 0 closed in
+pub frame_lines-assignment : (shape : Shape) (closed : List Parts) (states : Option (List Assignment)) (before : List Assignment) (a : Assignment)
+    → frame_lines shape 0 (closed ++ parts_of states before ∷ []) ++ assignment_line shape.inputs a ∷ [] ≡ frame_lines shape 0 (closed ++ parts_of states (before ++ a ∷ []) ∷ [])
+frame_lines-assignment shape closed states before a =
+    let widths : List ℕ = shape.inputs in
+    let front : List (List ℕ) = frame_lines shape 0 closed in
+    let part : List (List ℕ) = states_lines shape.states (length closed) states in
+    let header : List ℕ = 64 ∷ decimal (length closed) in
     let here : List (List ℕ) = assignment_lines widths before in
     let more : List (List ℕ) = assignment_line widths a ∷ [] in
-    ap (λ (ls : List (List ℕ)). ls ++ more) (frame_lines-append widths 0 closed (before ∷ []))
-    ∙ (append_assoc front (line ∷ (here ++ [])) more
-    ∙ (ap (λ (ls : List (List ℕ)). front ++ line ∷ (ls ++ more)) (append-nil here)
-    ∙ (ap (λ (ls : List (List ℕ)). front ++ line ∷ ls) (sym (map-append (assignment_line widths) before (a ∷ [])) ∙ sym (append-nil (assignment_lines widths (before ++ a ∷ []))))
-    ∙ sym (frame_lines-append widths 0 closed ((before ++ a ∷ []) ∷ [])))))
+    ap (λ (ls : List (List ℕ)). ls ++ more) (one_frame shape closed states before)
+    ∙ (append_assoc front (part ++ (header ∷ here)) more
+    ∙ (ap (λ (ls : List (List ℕ)). front ++ ls) (append_assoc part (header ∷ here) more)
+    ∙ (ap (λ (ls : List (List ℕ)). front ++ (part ++ (header ∷ ls))) (sym (map-append (assignment_line widths) before (a ∷ [])))
+    ∙ sym (one_frame shape closed states (before ++ a ∷ [])))))
 
--- one more frame
-pub frame_lines-frame : (widths : List ℕ) (closed : List (List Assignment)) (list : List Assignment)
-    → frame_lines widths 0 (closed ++ list ∷ []) ++ (64 ∷ decimal (suc (length closed))) ∷ [] ≡ frame_lines widths 0 ((closed ++ list ∷ []) ++ [] ∷ [])
-frame_lines-frame widths closed list =
-    let frames : List (List Assignment) = closed ++ list ∷ [] in
-    let count : suc (length closed) ≡ 0 + length frames = omega (arith, length-append closed (list ∷ [])) in
-    ap (λ (n : ℕ). frame_lines widths 0 frames ++ (64 ∷ decimal n) ∷ []) count ∙ sym (frame_lines-append widths 0 frames ([] ∷ []))
+-- one more frame, without a part of states
+pub frame_lines-frame : (shape : Shape) (closed : List Parts) (parts : Parts)
+    → frame_lines shape 0 (closed ++ parts ∷ []) ++ (64 ∷ decimal (suc (length closed))) ∷ [] ≡ frame_lines shape 0 ((closed ++ parts ∷ []) ++ parts_of None [] ∷ [])
+frame_lines-frame shape closed parts =
+    let frames : List Parts = closed ++ parts ∷ [] in
+    let count : suc (length closed) ≡ length frames = omega (arith, length-append closed (parts ∷ [])) in
+    ap (λ (n : ℕ). frame_lines shape 0 frames ++ (64 ∷ decimal n) ∷ []) count ∙ sym (one_frame shape frames None [])
+
+-- its part of states begins
+pub frame_lines-states : (shape : Shape) (closed : List Parts) (parts : Parts)
+    → frame_lines shape 0 (closed ++ parts ∷ []) ++ (35 ∷ decimal (suc (length closed))) ∷ [] ≡ frame_lines shape 0 (closed ++ parts ∷ []) ++ states_lines shape.states (length (closed ++ parts ∷ [])) (Some [])
+frame_lines-states shape closed parts =
+    let frames : List Parts = closed ++ parts ∷ [] in
+    let count : suc (length closed) ≡ length frames = omega (arith, length-append closed (parts ∷ [])) in
+    ap (λ (n : ℕ). frame_lines shape 0 frames ++ (35 ∷ decimal n) ∷ []) count
+
+-- one more assignment in a part of states
+pub states_lines-assignment : (widths : List ℕ) (front : List (List ℕ)) (k : ℕ) (before : List Assignment) (a : Assignment)
+    → (front ++ states_lines widths k (Some before)) ++ assignment_line widths a ∷ [] ≡ front ++ states_lines widths k (Some (before ++ a ∷ []))
+states_lines-assignment widths front k before a =
+    append_assoc front ((35 ∷ decimal k) ∷ assignment_lines widths before) (assignment_line widths a ∷ [])
+    ∙ ap (λ (ls : List (List ℕ)). front ++ ((35 ∷ decimal k) ∷ ls)) (sym (map-append (assignment_line widths) before (a ∷ [])))
+
+-- the line behind a part of states
+pub frame_lines-behind_states : (shape : Shape) (closed : List Parts) (list : List Assignment)
+    → (frame_lines shape 0 closed ++ states_lines shape.states (length closed) (Some list)) ++ (64 ∷ decimal (length closed)) ∷ [] ≡ frame_lines shape 0 (closed ++ parts_of (Some list) [] ∷ [])
+frame_lines-behind_states shape closed list =
+    append_assoc (frame_lines shape 0 closed) (states_lines shape.states (length closed) (Some list)) ((64 ∷ decimal (length closed)) ∷ [])
+    ∙ sym (one_frame shape closed (Some list) [])
 
 -- ---- what all admitted lines say
 
@@ -192,18 +253,23 @@ pub record IsClaimed (bads : ℕ) (claims : List ℕ) : Type 0 where
   pub distinct : are_distinct claims ≡ true
 
 -- the lines in front of the frames
-abbrev pub before_frames : Shape → List (List ℕ) → List ℕ → Option (List Assignment) → List (List ℕ)
-before_frames shape comments claims initial = comments ++ codes "sat" ∷ claims_line claims ∷ initial_lines shape.states initial
+abbrev pub before_frames : List (List ℕ) → List ℕ → List (List ℕ)
+before_frames comments claims = comments ++ codes "sat" ∷ claims_line claims ∷ []
+
+-- closed frames and an open one, whatever its inputs are given
+abbrev pub AreOpen : Shape → List Parts → Option (List Assignment) → Type 0
+AreOpen shape closed states = (list : List Assignment) → IsPart shape.inputs list → AreFrames shape (closed ++ parts_of states list ∷ [])
 
 -- some lines are the first of a witness, as far as what was read of them
 pub data Told (shape : Shape) (lines : List (List ℕ)) (r : Read) : Type 0 where
   ToldComments : (comments : List (List ℕ)) → AreComments comments → lines ≡ comments → r ≡ nothing_read → Told shape lines r
   ToldStatus : (comments : List (List ℕ)) → AreComments comments → lines ≡ comments ++ codes "sat" ∷ [] → r ≡ at_claims → Told shape lines r
-  ToldClaims : (comments : List (List ℕ)) → AreComments comments → (claims : List ℕ) → IsClaimed shape.bads claims
-      → lines ≡ comments ++ codes "sat" ∷ claims_line claims ∷ [] → r ≡ at_parts claims → Told shape lines r
+  ToldClaims : (comments : List (List ℕ)) → AreComments comments → (claims : List ℕ) → IsClaimed shape.bads claims → lines ≡ before_frames comments claims → r ≡ at_parts claims → Told shape lines r
   ToldStates : (comments : List (List ℕ)) → AreComments comments → (claims : List ℕ) → IsClaimed shape.bads claims → (list : List Assignment) → IsPart shape.states list
-      → lines ≡ before_frames shape comments claims (Some list) → r ≡ in_states claims list → Told shape lines r
-  ToldFrame : (comments : List (List ℕ)) → AreComments comments → (claims : List ℕ) → IsClaimed shape.bads claims → (initial : Option (List Assignment)) → IfSome initial (IsPart shape.states)
-      → (closed : List (List Assignment)) → All (IsPart shape.inputs) closed → (list : List Assignment) → IsPart shape.inputs list
-      → lines ≡ before_frames shape comments claims initial ++ frame_lines shape.inputs 0 (closed ++ list ∷ []) → r ≡ in_frame claims initial closed list → Told shape lines r
+      → lines ≡ before_frames comments claims ++ states_lines shape.states 0 (Some list) → r ≡ in_states claims list → Told shape lines r
+  ToldFree : (comments : List (List ℕ)) → AreComments comments → (claims : List ℕ) → IsClaimed shape.bads claims → (closed : List Parts) → AreFrames shape closed → (list : List Assignment) → IsFreePart shape list
+      → lines ≡ before_frames comments claims ++ (frame_lines shape 0 closed ++ states_lines shape.states (length closed) (Some list)) → r ≡ in_free claims closed list → Told shape lines r
+  ToldFrame : (comments : List (List ℕ)) → AreComments comments → (claims : List ℕ) → IsClaimed shape.bads claims → (closed : List Parts) (states : Option (List Assignment)) → AreOpen shape closed states
+      → (list : List Assignment) → IsPart shape.inputs list → lines ≡ before_frames comments claims ++ frame_lines shape 0 (closed ++ parts_of states list ∷ []) → r ≡ in_frame claims closed states list
+      → Told shape lines r
   ToldAll : (comments : List (List ℕ)) → AreComments comments → (w : Witness) → IsWitness shape w → lines ≡ witness_lines shape comments w → r ≡ all_read w → Told shape lines r

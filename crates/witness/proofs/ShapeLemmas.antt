@@ -1,17 +1,17 @@
 -- The widths of a model's states and inputs, by their places and by their ids.
-use Rattle.std.proofs.Common.{◌≡◌, ℕ, zero, suc, Bool, true, false, cond, List, [], ◌∷◌, ◌++◌, length, map, filter, Option, Some, is_some, unwrap_or, option_and_then, slice_get, All, refl, sym, ap, ap₂, subst, ◌∙◌, append_assoc, length-append, arith}
+use Rattle.std.proofs.Common.{◌≡◌, ℕ, zero, suc, Bool, true, false, cond, List, [], ◌∷◌, ◌++◌, length, map, filter, Option, Some, is_some, unwrap_or, option_and_then, option_map, slice_get, All, refl, sym, ap, ap₂, subst, ◌∙◌, append_assoc, length-append, arith}
 use Rattle.std.proofs.lemmas.List.Elements.{All-nil, All-cons}
 use Rattle.btor2.specs.declared.item.Item.{Item}
 use Rattle.btor2.specs.declared.item.Body.{Body}
 use Rattle.btor2.specs.declared.item.Body.TheVariants as body
-use Rattle.btor2.specs.Items.{width_of_body, is_state, is_input}
-use Rattle.btor2.specs.Lists.{places, width_at}
+use Rattle.btor2.specs.Items.{width_of_body, is_state, is_input, is_free}
+use Rattle.btor2.specs.Lists.{places, width_at, is_free_at}
 use Rattle.btor2.specs.Check.{IsWellFormed}
 use Rattle.btor2.specs.Trace.{bits_of}
 use Rattle.btor2.proofs.AppendLemmas.{is_some_from, width_of_body-append}
 use Rattle.btor2.proofs.AcceptedLemmas.{BodyIsAccepted}
 use Rattle.btor2.proofs.ModelLemmas.{IsIn-from_place, IsAccepted-at, node_width-at}
-use Rattle.witness.specs.Texts.{widths_of}
+use Rattle.witness.specs.Texts.{widths_of, free_of}
 
 -- an item of a kind has a width
 abbrev pub HasBits : (Body → Bool) → Type 0
@@ -81,6 +81,26 @@ widths_from kind items before (x ∷ xs) n is e w =
 
 pub widths_at_places : (kind : Body → Bool) (items : List Item) → IsWellFormed items → map (λ k. unwrap_or (width_at items k) 0) (places kind 0 items) ≡ widths_of kind items
 widths_at_places kind items w = widths_from kind items [] items 0 refl refl w
+
+-- the state at a place is free where the state with its id is
+free_of_id : (items : List Item) (k : ℕ) (x : Item) → slice_get items k ≡ Some x → is_free_at items k ≡ is_free items x.id
+free_of_id items k x at = ap (λ (o : Option Item). unwrap_or (option_map (is_free items) (option_and_then (λ (y : Item). Some y.id) o)) false) at
+
+abbrev free_by_id : List Item → List Item → List Bool
+free_by_id items xs = map (λ (x : Item). is_free items x.id) (filter (λ (x : Item). is_state x.body) xs)
+
+free_from : (items before xs : List Item) (n : ℕ) → items ≡ before ++ xs → length before ≡ n → map (is_free_at items) (places is_state n xs) ≡ free_by_id items xs
+free_from items before [] n is e = refl
+free_from items before (x ∷ xs) n is e =
+    let at : slice_get items n ≡ Some x = ap (λ (l : List Item). slice_get l n) is ∙ item_behind before xs x n e in
+    let rest : map (is_free_at items) (places is_state (suc n) xs) ≡ free_by_id items xs = free_from items (before ++ x ∷ []) xs (suc n) (is ∙ sym (append_assoc before (x ∷ []) xs)) (omega (arith, length-append before (x ∷ []))) in
+    elim (is_state x.body) as (λ b. map (is_free_at items) (cond b (n ∷ places is_state (suc n) xs) (places is_state (suc n) xs)) ≡ map (λ (y : Item). is_free items y.id) (cond b (x ∷ filter (λ (y : Item). is_state y.body) xs) (filter (λ (y : Item). is_state y.body) xs))) [
+      | true ↦ ap₂ (λ (a : Bool) (l : List Bool). a ∷ l) (free_of_id items n x at) rest
+      | false ↦ rest
+    ]
+
+pub free_at_places : (items : List Item) → map (is_free_at items) (places is_state 0 items) ≡ free_of items
+free_at_places items = free_from items [] items 0 refl refl
 
 -- as many places as items of a kind
 pub length-places : (kind : Body → Bool) (n : ℕ) (xs : List Item) → length (places kind n xs) ≡ length (filter (λ (x : Item). kind x.body) xs)

@@ -8,13 +8,13 @@ use Rattle.base.proofs.DecimalLemmas.{chosen}
 use Rattle.base.proofs.LineLemmas.{EachLine, each_front, lines_are_lines, parts_of_text}
 use Rattle.witness.specs.declared.why.Why.{Why}
 use Rattle.witness.specs.declared.why.Why.TheVariants as why
-use Rattle.witness.specs.Texts.{Shape, Assignment, Witness, assignment_line, assignment_lines, claims_line, initial_lines, frame_lines, witness_lines, is_comment, IsPart, IsWitness, most_lines, Says}
+use Rattle.witness.specs.Texts.{Shape, Assignment, Parts, Witness, assignment_line, claims_line, states_lines, frame_lines, witness_lines, is_comment, IsPart, IsFreePart, IsLater, AreFrames, IsWitness, most_lines, Says}
 use Rattle.witness.specs.Admits.{Read, nothing_read, admit, is_at_end, is_nothing, end_why, Fault, fault_at, then_lines, read_lines, read_text, witness_of}
 use Rattle.witness.proofs.ClaimLemmas.{AreClaims}
-use Rattle.witness.proofs.AssignmentLemmas.{IsAssigned}
-use Rattle.witness.proofs.ReadLemmas.{IsSmall, admit_all, admitted, at_claims, at_parts, in_states, in_frame}
-use Rattle.witness.proofs.WholeLemmas.{all_read, frames_and_end, lines_in_order, admit_parts, says_read}
-use Rattle.witness.proofs.SaidLemmas.{behind_comments, behind_status, behind_claims, behind_states, behind_frame, behind_end, part_more, parts_more, empty_part, frame_lines-assignment, frame_lines-frame, AreComments, IsClaimed, before_frames, Told, ToldComments, ToldStatus, ToldClaims, ToldStates, ToldFrame, ToldAll}
+use Rattle.witness.proofs.AssignmentLemmas.{IsAssigned, IsFreeAssigned}
+use Rattle.witness.proofs.ReadLemmas.{IsSmall, admit_all, admitted, parts_of, at_claims, at_parts, in_states, in_free, in_frame}
+use Rattle.witness.proofs.WholeLemmas.{all_read, frames_and_end, admit_parts, says_read}
+use Rattle.witness.proofs.SaidLemmas.{behind_comments, behind_status, behind_claims, behind_states, behind_free, BehindFrame, NextFrame, NextStates, TheEnd, OneMore, behind_frame, behind_end, part_more, empty_part, free_more, empty_free, later_frame, frame_lines-assignment, frame_lines-frame, frame_lines-states, states_lines-assignment, frame_lines-behind_states, AreComments, IsClaimed, before_frames, AreOpen, Told, ToldComments, ToldStatus, ToldClaims, ToldStates, ToldFree, ToldFrame, ToldAll}
 
 -- ---- one more line
 
@@ -43,81 +43,97 @@ after_status shape lines comments line next small marked whole h =
     ToldClaims comments marked claims good (all ∙ append_assoc comments (codes "sat" ∷ []) (claims_line claims ∷ [])) found.1.1
 
 after_claims_line : (shape : Shape) (lines comments : List (List ℕ)) (claims line : List ℕ) (next : Read) → AreComments comments → IsClaimed shape.bads claims
-    → lines ≡ comments ++ codes "sat" ∷ claims_line claims ∷ [] → admit shape (at_parts claims) line ≡ Ok next → Told shape (lines ++ line ∷ []) next
+    → lines ≡ before_frames comments claims → admit shape (at_parts claims) line ≡ Ok next → Told shape (lines ++ line ∷ []) next
 after_claims_line shape lines comments claims line next marked good whole h =
-    let front : List (List ℕ) = codes "sat" ∷ claims_line claims ∷ [] in
     elim (behind_claims shape claims line next h) [
-      | inl e ↦
-          let all = behind lines (comments ++ front) line (codes "#0") whole e.0 in
-          ToldStates comments marked claims good [] (empty_part shape.states) (all ∙ append_assoc comments front (codes "#0" ∷ [])) e.1
+      | inl e ↦ ToldStates comments marked claims good [] (empty_part shape.states) (behind lines (before_frames comments claims) line (35 ∷ decimal 0) whole e.0) e.1
       | inr e ↦
-          let all = behind lines (comments ++ front) line (64 ∷ decimal 0) whole e.0 in
-          ToldFrame comments marked claims good None tt [] (All-nil (IsPart shape.inputs)) [] (empty_part shape.inputs) all e.1
+          let opened : AreOpen shape [] None = λ list part. (record { states = tt; inputs = part }, All-nil (IsLater shape)) in
+          ToldFrame comments marked claims good [] None opened [] (empty_part shape.inputs) (behind lines (before_frames comments claims) line (64 ∷ decimal 0) whole e.0) e.1
     ]
 
 after_states : (shape : Shape) (lines comments : List (List ℕ)) (claims : List ℕ) (before : List Assignment) (line : List ℕ) (next : Read) → IsSmall shape → AreComments comments → IsClaimed shape.bads claims → IsPart shape.states before
-    → lines ≡ before_frames shape comments claims (Some before) → admit shape (in_states claims before) line ≡ Ok next → Told shape (lines ++ line ∷ []) next
+    → lines ≡ before_frames comments claims ++ states_lines shape.states 0 (Some before) → admit shape (in_states claims before) line ≡ Ok next → Told shape (lines ++ line ∷ []) next
 after_states shape lines comments claims before line next small marked good part whole h =
     let widths : List ℕ = shape.states in
-    let front : List (List ℕ) = codes "sat" ∷ claims_line claims ∷ codes "#0" ∷ [] in
+    let front : List (List ℕ) = before_frames comments claims in
+    let so_far : List (List ℕ) = states_lines widths 0 (Some before) in
     elim (behind_states shape claims before line next small h) [
       | inl e ↦
-          let all = behind lines (before_frames shape comments claims (Some before)) line (64 ∷ decimal 0) whole e.0 in
-          ToldFrame comments marked claims good (Some before) part [] (All-nil (IsPart shape.inputs)) [] (empty_part shape.inputs) all e.1
+          let all = behind lines (front ++ so_far) line (64 ∷ decimal 0) whole e.0 in
+          let opened : AreOpen shape [] (Some before) = λ list inputs. (record { states = part; inputs = inputs }, All-nil (IsLater shape)) in
+          ToldFrame comments marked claims good [] (Some before) opened [] (empty_part shape.inputs) (all ∙ append_assoc front so_far ((64 ∷ decimal 0) ∷ [])) e.1
       | inr e ↦
           let list : List Assignment = e.0 in
           let assigned : IsAssigned widths before line list = e.1.0 in
           let a : Assignment = assigned.assignment in
-          let all = behind lines (before_frames shape comments claims (Some before)) line (assignment_line widths a) whole assigned.spelled in
-          let joined : before_frames shape comments claims (Some before) ++ assignment_line widths a ∷ [] ≡ before_frames shape comments claims (Some (before ++ a ∷ [])) =
-          append_assoc comments (front ++ assignment_lines widths before) (assignment_line widths a ∷ [])
-          ∙ ap (λ (ls : List (List ℕ)). comments ++ (front ++ ls)) (sym (map-append (assignment_line widths) before (a ∷ []))) in
-          ToldStates comments marked claims good (before ++ a ∷ []) (part_more widths before a part assigned.valid assigned.new) (all ∙ joined) (e.1.1 ∙ ap (in_states claims) assigned.all)
+          let all = behind lines (front ++ so_far) line (assignment_line widths a) whole assigned.spelled in
+          ToldStates comments marked claims good (before ++ a ∷ []) (part_more widths before a part assigned.valid assigned.new) (all ∙ states_lines-assignment widths front 0 before a) (e.1.1 ∙ ap (in_states claims) assigned.all)
     ]
 
-some_more : {X : Type 0} (xs : List X) (x : X) → xs ++ x ∷ [] ≡ [] → ⊥
-some_more [] x e = cc
-some_more (y ∷ xs) x e = cc
-
-after_frame : (shape : Shape) (lines comments : List (List ℕ)) (claims : List ℕ) (initial : Option (List Assignment)) (closed : List (List Assignment)) (before : List Assignment) (line : List ℕ) (next : Read) → IsSmall shape → AreComments comments → IsClaimed shape.bads claims
-    → IfSome initial (IsPart shape.states) → All (IsPart shape.inputs) closed → IsPart shape.inputs before → lines ≡ before_frames shape comments claims initial ++ frame_lines shape.inputs 0 (closed ++ before ∷ [])
-    → admit shape (in_frame claims initial closed before) line ≡ Ok next → Told shape (lines ++ line ∷ []) next
-after_frame shape lines comments claims initial closed before line next small marked good states parts part whole h =
-    let widths : List ℕ = shape.inputs in
-    let front : List (List ℕ) = before_frames shape comments claims initial in
-    let frames : List (List Assignment) = closed ++ before ∷ [] in
-    let so_far : List (List ℕ) = frame_lines widths 0 frames in
-    let are_parts : All (IsPart widths) frames = parts_more widths closed before parts part in
-    elim (behind_frame shape claims initial closed before line next small h) [
+after_free : (shape : Shape) (lines comments : List (List ℕ)) (claims : List ℕ) (closed : List Parts) (before : List Assignment) (line : List ℕ) (next : Read) → IsSmall shape → AreComments comments → IsClaimed shape.bads claims
+    → AreFrames shape closed → IsFreePart shape before → lines ≡ before_frames comments claims ++ (frame_lines shape 0 closed ++ states_lines shape.states (length closed) (Some before))
+    → admit shape (in_free claims closed before) line ≡ Ok next → Told shape (lines ++ line ∷ []) next
+after_free shape lines comments claims closed before line next small marked good frames part whole h =
+    let widths : List ℕ = shape.states in
+    let front : List (List ℕ) = before_frames comments claims in
+    let so_far : List (List ℕ) = frame_lines shape 0 closed ++ states_lines widths (length closed) (Some before) in
+    elim (behind_free shape claims closed before line next small h) [
       | inl e ↦
-          let header : List ℕ = 64 ∷ decimal (suc (length closed)) in
+          let header : List ℕ = 64 ∷ decimal (length closed) in
           let all = behind lines (front ++ so_far) line header whole e.0 in
-          let joined = append_assoc front so_far (header ∷ []) ∙ ap (λ (ls : List (List ℕ)). front ++ ls) (frame_lines-frame widths closed before) in
-          ToldFrame comments marked claims good initial states frames are_parts [] (empty_part widths) (all ∙ joined) e.1
-      | inr more ↦
-          elim more [
-            | inl e ↦
-                let all = behind lines (front ++ so_far) line (codes ".") whole e.0 in
-                let w : Witness = record { claims = claims; initial = initial; frames = frames } in
-                let valid : IsWitness shape w =
-                record {
-                  some_claim = good.some;
-                  claims = All-from_recursion (λ i. i < shape.bads) claims good.below;
-                  distinct = good.distinct;
-                  initial = states;
-                  some_frame = some_more closed before;
-                  frames = are_parts;
-                } in
-                ToldAll comments marked w valid all e.1
-            | inr e ↦
-                let list : List Assignment = e.0 in
-                let assigned : IsAssigned widths before line list = e.1.0 in
-                let a : Assignment = assigned.assignment in
-                let all = behind lines (front ++ so_far) line (assignment_line widths a) whole assigned.spelled in
-                let joined = append_assoc front so_far (assignment_line widths a ∷ []) ∙ ap (λ (ls : List (List ℕ)). front ++ ls) (frame_lines-assignment widths closed before a) in
-                ToldFrame comments marked claims good initial states closed parts (before ++ a ∷ []) (part_more widths before a part assigned.valid assigned.new) (all ∙ joined) (e.1.1 ∙ ap (in_frame claims initial closed) assigned.all)
-          ]
+          let joined = append_assoc front so_far (header ∷ []) ∙ ap (λ (ls : List (List ℕ)). front ++ ls) (frame_lines-behind_states shape closed before) in
+          let opened : AreOpen shape closed (Some before) = λ list inputs. later_frame shape closed (parts_of (Some before) list) frames (record { states = part; inputs = inputs }) in
+          ToldFrame comments marked claims good closed (Some before) opened [] (empty_part shape.inputs) (all ∙ joined) e.1
+      | inr e ↦
+          let list : List Assignment = e.0 in
+          let free : IsFreeAssigned shape before line list = e.1.0 in
+          let a : Assignment = free.assigned.assignment in
+          let all = behind lines (front ++ so_far) line (assignment_line widths a) whole free.assigned.spelled in
+          let joined = append_assoc front so_far (assignment_line widths a ∷ []) ∙ ap (λ (ls : List (List ℕ)). front ++ ls) (states_lines-assignment widths (frame_lines shape 0 closed) (length closed) before a) in
+          ToldFree comments marked claims good closed frames (before ++ a ∷ []) (free_more shape before a part free.assigned.valid free.free free.assigned.new) (all ∙ joined) (e.1.1 ∙ ap (in_free claims closed) free.assigned.all)
     ]
+
+-- a line behind those of a frame
+module _ (shape : Shape) (lines comments : List (List ℕ)) (claims : List ℕ) (closed : List Parts) (states : Option (List Assignment)) (before : List Assignment) (line : List ℕ) (next : Read) (marked : AreComments comments)
+    (good : IsClaimed shape.bads claims) (is_open : AreOpen shape closed states) (part : IsPart shape.inputs before) (whole : lines ≡ before_frames comments claims ++ frame_lines shape 0 (closed ++ parts_of states before ∷ [])) where
+  by_frame : BehindFrame shape claims closed states before line next → Told shape (lines ++ line ∷ []) next
+  by_frame (NextFrame spelled is) =
+      let front : List (List ℕ) = before_frames comments claims in
+      let frames : List Parts = closed ++ parts_of states before ∷ [] in
+      let header : List ℕ = 64 ∷ decimal (suc (length closed)) in
+      let all = behind lines (front ++ frame_lines shape 0 frames) line header whole spelled in
+      let joined = append_assoc front (frame_lines shape 0 frames) (header ∷ []) ∙ ap (λ (ls : List (List ℕ)). front ++ ls) (frame_lines-frame shape closed (parts_of states before)) in
+      let opened : AreOpen shape frames None = λ list inputs. later_frame shape frames (parts_of None list) (is_open before part) (record { states = tt; inputs = inputs }) in
+      ToldFrame comments marked claims good frames None opened [] (empty_part shape.inputs) (all ∙ joined) is
+  by_frame (NextStates spelled some is) =
+      let front : List (List ℕ) = before_frames comments claims in
+      let frames : List Parts = closed ++ parts_of states before ∷ [] in
+      let header : List ℕ = 35 ∷ decimal (suc (length closed)) in
+      let all = behind lines (front ++ frame_lines shape 0 frames) line header whole spelled in
+      let joined = append_assoc front (frame_lines shape 0 frames) (header ∷ []) ∙ ap (λ (ls : List (List ℕ)). front ++ ls) (frame_lines-states shape closed (parts_of states before)) in
+      ToldFree comments marked claims good frames (is_open before part) [] (empty_free shape some) (all ∙ joined) is
+  by_frame (TheEnd spelled is) =
+      let front : List (List ℕ) = codes "sat" ∷ claims_line claims ∷ [] in
+      let frames : List Parts = closed ++ parts_of states before ∷ [] in
+      let all = behind lines (before_frames comments claims ++ frame_lines shape 0 frames) line (codes ".") whole spelled in
+      let joined = append_assoc (before_frames comments claims) (frame_lines shape 0 frames) (codes "." ∷ []) ∙ append_assoc comments front (frames_and_end shape frames) in
+      let valid : IsWitness shape (record { claims = claims; frames = frames }) =
+      record { some_claim = good.some; claims = All-from_recursion (λ i. i < shape.bads) claims good.below; distinct = good.distinct; frames = is_open before part } in
+      ToldAll comments marked (record { claims = claims; frames = frames }) valid (all ∙ joined) is
+  by_frame (OneMore list assigned is) =
+      let front : List (List ℕ) = before_frames comments claims in
+      let so_far : List (List ℕ) = frame_lines shape 0 (closed ++ parts_of states before ∷ []) in
+      let a : Assignment = assigned.assignment in
+      let all = behind lines (front ++ so_far) line (assignment_line shape.inputs a) whole assigned.spelled in
+      let joined = append_assoc front so_far (assignment_line shape.inputs a ∷ []) ∙ ap (λ (ls : List (List ℕ)). front ++ ls) (frame_lines-assignment shape closed states before a) in
+      ToldFrame comments marked claims good closed states is_open (before ++ a ∷ []) (part_more shape.inputs before a part assigned.valid assigned.new) (all ∙ joined) (is ∙ ap (in_frame claims closed states) assigned.all)
+
+after_frame : (shape : Shape) (lines comments : List (List ℕ)) (claims : List ℕ) (closed : List Parts) (states : Option (List Assignment)) (before : List Assignment) (line : List ℕ) (next : Read) → IsSmall shape → AreComments comments → IsClaimed shape.bads claims
+    → AreOpen shape closed states → IsPart shape.inputs before → lines ≡ before_frames comments claims ++ frame_lines shape 0 (closed ++ parts_of states before ∷ [])
+    → admit shape (in_frame claims closed states before) line ≡ Ok next → Told shape (lines ++ line ∷ []) next
+after_frame shape lines comments claims closed states before line next small marked good opened part whole h =
+    by_frame shape lines comments claims closed states before line next marked good opened part whole (behind_frame shape claims closed states before line next small h)
 
 -- a line that is admitted, behind lines that say what was read
 told_line : (shape : Shape) (lines : List (List ℕ)) (r : Read) (line : List ℕ) (next : Read) → IsSmall shape → Told shape lines r → admit shape r line ≡ Ok next → Told shape (lines ++ line ∷ []) next
@@ -129,10 +145,12 @@ told_line shape lines r line next small (ToldClaims comments marked claims good 
     after_claims_line shape lines comments claims line next marked good whole (subst (λ (s : Read). admit shape s line ≡ Ok next) is h)
 told_line shape lines r line next small (ToldStates comments marked claims good list part whole is) h =
     after_states shape lines comments claims list line next small marked good part whole (subst (λ (s : Read). admit shape s line ≡ Ok next) is h)
-told_line shape lines r line next small (ToldFrame comments marked claims good initial states closed parts list part whole is) h =
-    after_frame shape lines comments claims initial closed list line next small marked good states parts part whole (subst (λ (s : Read). admit shape s line ≡ Ok next) is h)
+told_line shape lines r line next small (ToldFree comments marked claims good closed frames list part whole is) h =
+    after_free shape lines comments claims closed list line next small marked good frames part whole (subst (λ (s : Read). admit shape s line ≡ Ok next) is h)
+told_line shape lines r line next small (ToldFrame comments marked claims good closed states opened list part whole is) h =
+    after_frame shape lines comments claims closed states list line next small marked good opened part whole (subst (λ (s : Read). admit shape s line ≡ Ok next) is h)
 told_line shape lines r line next small (ToldAll comments marked w valid whole is) h =
-    absurd (behind_end shape w.claims w.initial w.frames line next (subst (λ (s : Read). admit shape s line ≡ Ok next) is h))
+    absurd (behind_end shape w.claims w.frames line next (subst (λ (s : Read). admit shape s line ≡ Ok next) is h))
 
 -- ---- all lines
 
@@ -189,12 +207,13 @@ told_says shape text r (ToldComments comments marked whole is) done ended few = 
 told_says shape text r (ToldStatus comments marked whole is) done ended few = absurd (cc (subst (λ (s : Read). is_at_end s.place ≡ true) is done))
 told_says shape text r (ToldClaims comments marked claims good whole is) done ended few = absurd (cc (subst (λ (s : Read). is_at_end s.place ≡ true) is done))
 told_says shape text r (ToldStates comments marked claims good list part whole is) done ended few = absurd (cc (subst (λ (s : Read). is_at_end s.place ≡ true) is done))
-told_says shape text r (ToldFrame comments marked claims good initial states closed parts list part whole is) done ended few = absurd (cc (subst (λ (s : Read). is_at_end s.place ≡ true) is done))
+told_says shape text r (ToldFree comments marked claims good closed frames list part whole is) done ended few = absurd (cc (subst (λ (s : Read). is_at_end s.place ≡ true) is done))
+told_says shape text r (ToldFrame comments marked claims good closed states opened list part whole is) done ended few = absurd (cc (subst (λ (s : Read). is_at_end s.place ≡ true) is done))
 told_says shape text r (ToldAll comments marked w valid whole is) done ended few =
     let lines : List (List ℕ) = witness_lines shape comments w in
     let each : EachLine lines = subst EachLine whole (lines_are_lines text) in
-    let back : List (List ℕ) = codes "sat" ∷ claims_line w.claims ∷ (initial_lines shape.states w.initial ++ frames_and_end shape w.frames) in
-    let front : EachLine comments = each_front comments back (subst EachLine (lines_in_order shape comments w) each) in
+    let back : List (List ℕ) = codes "sat" ∷ claims_line w.claims ∷ frames_and_end shape w.frames in
+    let front : EachLine comments = each_front comments back each in
     let joined : text ≡ text_of_lines (whole_lines text) = sym (parts_of_text text) ∙ (ap (λ (t : List ℕ). text_of_lines (whole_lines text) ++ t) ended ∙ append-nil (text_of_lines (whole_lines text))) in
     let says : Says shape text w =
     record {

@@ -1,69 +1,100 @@
 -- What one frame of a run says, in the words of judgements.
-use Rattle.std.proofs.Common.{◌≡◌, ◌≢◌, ◌&&◌, ◌||◌, set, ⊎_elim, ℕ, suc, ◌+◌, ◌<◌, ◌≤◌, Bool, true, false, List, [], ◌∷◌, length, map, get_or, drop, nat_eq, not, cond, slice_get, Option, Some, None, IfSome, option_and_then, refl, sym, ap, ap₂, subst, ◌∙◌, arith}
+use Rattle.std.proofs.Common.{◌≡◌, ◌≢◌, ◌&&◌, ◌||◌, set, ⊎_elim, ℕ, suc, ◌+◌, ◌<◌, ◌≤◌, Bool, true, false, List, [], ◌∷◌, length, map, get_or, drop, nat_eq, not, cond, slice_get, Option, Some, None, IfSome, All, unwrap_or, option_and_then, refl, sym, ap, ap₂, subst, ◌∙◌, arith}
 use Rattle.std.proofs.Math.Seq.{drop-cons}
 use Rattle.std.proofs.lemmas.List.{drop_all, length-map, get_or-set_same, get_or-set_other}
 use Rattle.std.proofs.lemmas.Bool.{cases_eq}
+use Rattle.std.proofs.lemmas.List.Elements.{All-cons, All-weaker, All-drop}
 use Rattle.std.proofs.lemmas.Option.{get_or_from_slice_get}
 use Rattle.std.specs.List.{position_from, list_any}
 use Rattle.btor2.specs.declared.item.Item.{Item}
-use Rattle.btor2.specs.Items.{position_of, init_value, is_input, is_state, is_bad, is_constraint}
+use Rattle.btor2.specs.Items.{find_item, position_of, init_value, is_free, is_input, is_state, is_bad, is_constraint}
 use Rattle.btor2.specs.Lists.{places, init_place, constant_at}
 use Rattle.btor2.proofs.LookUps.{found}
 use Rattle.btor2.specs.Check.{IsWellFormed}
-use Rattle.btor2.specs.Trace.{Frame, IsFrame, IsTrace, next_state}
+use Rattle.btor2.specs.Trace.{Frame, state_word, IsFrame, IsTrace, next_state}
 use Rattle.btor2.proofs.TraceLemmas.{frame_exists}
-use Rattle.runs.specs.Frames.{ids_of}
-use Rattle.runs.specs.Frames.{given as given_words}
-use Rattle.runs.specs.Run.{Run, IsNow, state_words, zeros, is_one, start, first_word}
-use Rattle.runs.specs.Run.{input_words as run_inputs}
-use Rattle.runs.proofs.RankLemmas.{IsNth, nth, length-ids, length-places}
+use Rattle.runs.specs.Frames.{ids_of, given_leaves}
+use Rattle.runs.specs.Frames.{given as given_at}
+use Rattle.runs.specs.Run.{Run, IsNow, state_words, leaf_words, zeros, is_one, start, first_word}
+use Rattle.runs.proofs.RankLemmas.{IsNth, nth, length-ids, length-places, state_leaf, input_leaf, either_word}
 use Rattle.runs.proofs.StateLemmas.{nth-get, init_at}
-use Rattle.witness.specs.Texts.{are_distinct, widths_of}
+use Rattle.witness.specs.Texts.{Shape, shape_of, widths_of}
 use Rattle.witness.specs.Reading.{is_set}
 use Rattle.witness.specs.declared.judgement.Judgement.TheVariants as judgement
-use Rattle.witness.specs.Judgements.{of_kind, nodes_of, init_constant, differs, input_words, initial_words, input_frames, first_different, Words, Violation, violation_from, never_rises, unreached_from, when_reached, when_kept, when_begun, verdict}
-use Rattle.witness.specs.Fits.{PartFits, RisesAmong, NoneIsSet, words_put}
-use Rattle.witness.proofs.GivenLemmas.{SameAt, words_of_kind, states_given, inputs_given}
-use Rattle.witness.proofs.FrameLemmas.{frame_agrees, trace_agrees, different_of, trace_length, first_step, constraint_names, length-nodes, property_at}
+use Rattle.witness.specs.Judgements.{FrameWords, of_kind, nodes_of, init_constant, differs, given_to, initial_part, initial_words, given_words, given_frames, first_different, Words, Violation, violation_from, never_rises, unreached_from, when_reached, when_kept, when_begun, verdict}
+use Rattle.witness.specs.Fits.{PartFits, FirstFits, LaterFits, FramesFit, StandsAt, StandsBefore, RisesAmong, NoneIsSet, words_put}
+use Rattle.witness.proofs.GivenLemmas.{SameAt, words_of_kind, put_given, length-put, named_state, states_given, inputs_given, first_stands}
+use Rattle.witness.proofs.FrameLemmas.{frame_agrees, different_of, trace_length, first_step, constraint_names, length-nodes, property_at}
 use Rattle.btor2.proofs.LookUps.{init_some, init_none}
 
 -- a run by its parts
 run_now : (r : Run) (items : List Item) (states inputs : List ℕ) (f : Frame) → r.items ≡ items → r.states ≡ states → r.inputs ≡ inputs
-    → IsFrame items (given_words is_state items states) (given_words is_input items inputs) f → IsNow r f
+    → IsFrame items (given_at is_state items states) (given_leaves items states inputs) f → IsNow r f
 run_now r items states inputs f e d g h =
-    subst (λ (l : List Item). IsFrame l (given_words is_state l r.states) (given_words is_input l r.inputs) f) (sym e)
-    (subst (λ (l : List ℕ). IsFrame items (given_words is_state items l) (given_words is_input items r.inputs) f) (sym d)
-    (subst (λ (l : List ℕ). IsFrame items (given_words is_state items states) (given_words is_input items l) f) (sym g) h))
+    subst (λ (l : List Item). IsFrame l (given_at is_state l r.states) (given_leaves l r.states r.inputs) f) (sym e)
+    (subst (λ (l : List ℕ). IsFrame items (given_at is_state items l) (given_leaves items l r.inputs) f) (sym d)
+    (subst (λ (l : List ℕ). IsFrame items (given_at is_state items states) (given_leaves items states l) f) (sym g) h))
 
--- A run whose inputs were given the words of a part, and that was settled then, is in the frame of those words.
-module _ (items : List Item) (r r' settled : Run) (list : List (ℕ × ℕ)) (w : IsWellFormed items) (same : r.items ≡ items) (none : r.inputs ≡ zeros items) (distinct : are_distinct (map (λ (p : ℕ × ℕ). p.0) list) ≡ true)
-    (put : r' ≡ record r { inputs = words_put r.inputs list; settled = r'.settled }) (steps : ℕ) (done : settled ≡ record r' { settled = true; steps = steps }) where
+-- A run that stands before a frame, that was given the words of its two parts, and that was settled then, is in the frame.
+module _ (items : List Item) (r r' r'' settled : Run) (frame : FrameWords) (w : IsWellFormed items) (same : r.items ≡ items) (many : length r.states ≡ length (ids_of is_state items)) (none : r.inputs ≡ zeros items)
+    (fits : FirstFits (shape_of items) frame) (list list' : List (ℕ × ℕ)) (is_states : list ≡ frame.states) (is_inputs : list' ≡ frame.inputs)
+    (put : r' ≡ record r { states = words_put r.states list; settled = r'.settled }) (put_inputs : r'' ≡ record r' { inputs = words_put r'.inputs list'; settled = r''.settled }) (steps : ℕ) (done : settled ≡ record r'' { settled = true; steps = steps }) where
   pub settled_items : settled.items ≡ items
-  settled_items = ap (λ (x : Run). x.items) done ∙ ap (λ (x : Run). x.items) put ∙ same
+  settled_items = ap (λ (x : Run). x.items) done ∙ ap (λ (x : Run). x.items) put_inputs ∙ ap (λ (x : Run). x.items) put ∙ same
 
-  pub settled_now : (f : Frame) → IsFrame items (state_words r) (input_words items list) f → IsNow settled f
-  settled_now f h =
-      let inputs : settled.inputs ≡ words_put (zeros items) list = ap (λ (x : Run). x.inputs) done ∙ ap (λ (x : Run). x.inputs) put ∙ ap (λ (l : List ℕ). words_put l list) none in
-      run_now settled items r.states (words_put (zeros items) list) f settled_items (ap (λ (x : Run). x.states) done ∙ ap (λ (x : Run). x.states) put) inputs
-      (frame_agrees items (state_words r) (given_words is_state items r.states) (input_words items list) (given_words is_input items (words_put (zeros items) list)) f w
-      (λ id y found is. ap (λ (l : List Item). given_words is_state l r.states id) same)
-      (λ id y found is. sym (inputs_given items list distinct id y found is)) h)
+  settled_states : settled.states ≡ words_put r.states frame.states
+  settled_states = ap (λ (x : Run). x.states) done ∙ ap (λ (x : Run). x.states) put_inputs ∙ ap (λ (x : Run). x.states) put ∙ ap (words_put r.states) is_states
+
+  settled_inputs : settled.inputs ≡ words_put (zeros items) frame.inputs
+  settled_inputs =
+      ap (λ (x : Run). x.inputs) done ∙ ap (λ (x : Run). x.inputs) put_inputs
+      ∙ ap₂ words_put (ap (λ (x : Run). x.inputs) put ∙ none) is_inputs
+
+  -- the words of the states, as the frame has them
+  state_now : (carried : Frame) → StandsAt items carried frame (state_words r) → (id : ℕ) (y : Item) → find_item items id ≡ Some y → is_state y.body ≡ true
+      → state_word items carried (given_words items frame) id ≡ given_at is_state items (words_put r.states frame.states) id
+  state_now carried stands id y found is =
+      sym (put_given is_state items r.states frame.states many fits.states.distinct id y found is
+      ∙ (ap (λ (l : List Item). unwrap_or (given_to is_state items frame.states id) (given_at is_state l r.states id)) (sym same) ∙ stands id (named_state items id y found is)))
+
+  pub settled_now : (carried f : Frame) → StandsAt items carried frame (state_words r) → IsFrame items carried (given_words items frame) f → IsNow settled f
+  settled_now carried f stands h =
+      let states : List ℕ = words_put r.states frame.states in
+      let inputs : List ℕ = words_put (zeros items) frame.inputs in
+      run_now settled items states inputs f settled_items settled_states settled_inputs
+      (frame_agrees items carried (given_at is_state items states) (given_words items frame) (given_leaves items states inputs) f w
+      (λ id y found is. state_now carried stands id y found is
+      ∙ sym (either_word (is_free items id) (given_at is_state items states id) (given_leaves items states inputs id) (given_at is_state items states id) refl (state_leaf items states inputs id y found is)))
+      (λ id y found is. sym (inputs_given items frame fits.inputs.distinct id y found is) ∙ sym (input_leaf items states inputs id y found is)) h)
 
 -- the states of the next frame
-pub next_agrees : (items : List Item) (r : Run) (f : Frame) → r.items ≡ items → r.states ≡ map (next_state items f) (ids_of is_state items) → SameAt is_state items (next_state items f) (state_words r)
+pub next_agrees : (items : List Item) (r : Run) (f : Frame) → r.items ≡ items → r.states ≡ map (next_state items f) (ids_of is_state items) → SameAt is_state items (state_words r) (next_state items f)
 next_agrees items r f e d id y found is =
-    sym (ap (λ (l : List Item). given_words is_state l r.states id) e ∙ ap (λ (l : List ℕ). given_words is_state items l id) d ∙ words_of_kind is_state items (next_state items f) id y found is)
+    ap (λ (l : List Item). given_at is_state l r.states id) e ∙ ap (λ (l : List ℕ). given_at is_state items l id) d ∙ words_of_kind is_state items (next_state items f) id y found is
 
--- the words of the inputs from a frame on
-pub inputs_step : (items : List Item) (frames : List (List (ℕ × ℕ))) (k : ℕ) (part x : List (ℕ × ℕ)) → k < length frames → part ≡ x → x ≡ get_or frames k x
-    → map (input_words items) (drop k frames) ≡ input_words items part ∷ map (input_words items) (drop (k + 1) frames)
-inputs_step items frames k part x h e d =
+-- as many words as there are states, whatever the frame was
+pub advanced_many : (items : List Item) (settled after : Run) → IsWellFormed items → settled.items ≡ items → ((f : Frame) → IsNow settled f → after.states ≡ map (next_state settled.items f) (ids_of is_state settled.items))
+    → length after.states ≡ length (ids_of is_state items)
+advanced_many items settled after w same says =
+    let some = frame_exists settled.items (state_words settled) (leaf_words settled) (subst IsWellFormed (sym same) w) in
+    ap length (says some.0 some.1) ∙ length-map (ids_of is_state settled.items) (next_state settled.items some.0) ∙ ap (λ (l : List Item). length (ids_of is_state l)) same
+
+-- the frames from one on
+pub frames_step : (frames : List FrameWords) (k : ℕ) (x : FrameWords) → k < length frames → x ≡ get_or frames k x → drop k frames ≡ x ∷ drop (k + 1) frames
+frames_step frames k x h d =
     let one : suc k ≡ k + 1 = omega arith in
-    ap (map (input_words items)) (drop-cons frames k x h)
-    ∙ ap₂ (λ (l : List (ℕ × ℕ)) (j : ℕ). input_words items l ∷ map (input_words items) (drop j frames)) (sym d ∙ sym e) one
+    drop-cons frames k x h ∙ ap₂ (λ (y : FrameWords) (j : ℕ). y ∷ drop j frames) (sym d) one
 
-pub inputs_end : (items : List Item) (frames : List (List (ℕ × ℕ))) (k : ℕ) → length frames ≤ k → map (input_words items) (drop k frames) ≡ []
-inputs_end items frames k h = ap (map (input_words items)) (drop_all k frames h)
+pub each_fits : (shape : Shape) (frames : List FrameWords) → FramesFit shape frames → All (FirstFits shape) frames
+each_fits shape [] fit = absurd fit
+each_fits shape (first ∷ more) fit =
+    All-cons (FirstFits shape) first more fit.0 (All-weaker (LaterFits shape) (FirstFits shape) (λ frame later. record { states = later.states; inputs = later.inputs }) more fit.1)
+
+pub later_fit : (shape : Shape) (frames : List FrameWords) (k : ℕ) → FramesFit shape frames → All (LaterFits shape) (drop (k + 1) frames)
+later_fit shape [] k fit = absurd fit
+later_fit shape (first ∷ more) k fit =
+    let one : suc k ≡ k + 1 = omega arith in
+    subst (λ (j : ℕ). All (LaterFits shape) (drop j (first ∷ more))) one (All-drop (LaterFits shape) k more fit.1)
 
 -- ---- the first of a list
 
@@ -215,38 +246,49 @@ unreached_end claims nodes fs i whole h e = sym (ap (unreached_from claims fs i)
 
 -- ---- the judgement
 
+-- the words of the first frame fit
+pub initial_fits : (items : List Item) (frames : List FrameWords) → FramesFit (shape_of items) frames → PartFits (widths_of is_state items) (initial_part frames)
+initial_fits items [] fits = absurd fits
+initial_fits items (first ∷ more) fits = fits.0.states
+
 -- A run that begins with the words that a witness gives to the states.
 pub record Begun (items : List Item) (w : Words) (s : Run) : Type 0 where
   pub items_same : s.items ≡ items
   pub none : s.inputs ≡ zeros items
+  pub many : length s.states ≡ length (ids_of is_state items)
   pub states : SameAt is_state items (state_words s) (initial_words items w)
 
-pub begun : (items : List Item) (w : Words) (r r' s : Run) (list : List (ℕ × ℕ)) (steps : ℕ) → PartFits (widths_of is_state items) w.initial → r ≡ start items → list ≡ w.initial
+pub begun : (items : List Item) (w : Words) (r r' s : Run) (list : List (ℕ × ℕ)) (steps : ℕ) → FramesFit (shape_of items) w.frames → r ≡ start items → list ≡ initial_part w.frames
     → r' ≡ record r { states = words_put r.states list; settled = r'.settled } → s ≡ record r' { settled = true; steps = steps } → Begun items w s
 begun items w r r' s list steps fits starts own put done =
+    let part : List (ℕ × ℕ) = initial_part w.frames in
+    let firsts : List ℕ = map (first_word items) (ids_of is_state items) in
     let same : s.items ≡ items = ap (λ (x : Run). x.items) done ∙ ap (λ (x : Run). x.items) put ∙ ap (λ (x : Run). x.items) starts in
-    let words : s.states ≡ words_put (map (first_word items) (ids_of is_state items)) w.initial =
+    let words : s.states ≡ words_put firsts part =
     ap (λ (x : Run). x.states) done ∙ ap (λ (x : Run). x.states) put ∙ ap₂ words_put (ap (λ (x : Run). x.states) starts) own in
     record {
       items_same = same;
       none = ap (λ (x : Run). x.inputs) done ∙ ap (λ (x : Run). x.inputs) put ∙ ap (λ (x : Run). x.inputs) starts;
-      states = λ id y found is. ap (λ (l : List Item). given_words is_state l s.states id) same ∙ ap (λ (l : List ℕ). given_words is_state items l id) words ∙ states_given items w fits.distinct id y found is;
+      many = ap length words ∙ length-put firsts part ∙ length-map (ids_of is_state items) (first_word items);
+      states = λ id y found is. ap (λ (l : List Item). given_at is_state l s.states id) same ∙ ap (λ (l : List ℕ). given_at is_state items l id) words ∙ states_given items w (initial_fits items w.frames fits).distinct id y found is;
     }
 
 pub begun_different : (items : List Item) (w : Words) (s : Run) (o : Option ℕ) → IsWellFormed items → Begun items w s → ((f : Frame) → IsNow s f → o ≡ first_different items f)
     → o ≡ first_different items (initial_words items w)
 begun_different items w s o wf b says =
-    let some = frame_exists s.items (state_words s) (run_inputs s) (subst IsWellFormed (sym b.items_same) wf) in
-    let frame : IsFrame items (state_words s) (run_inputs s) some.0 = subst (λ (l : List Item). IsFrame l (state_words s) (run_inputs s) some.0) b.items_same some.1 in
+    let some = frame_exists s.items (state_words s) (leaf_words s) (subst IsWellFormed (sym b.items_same) wf) in
+    let frame : IsFrame items (state_words s) (leaf_words s) some.0 = subst (λ (l : List Item). IsFrame l (state_words s) (leaf_words s) some.0) b.items_same some.1 in
     says some.0 some.1
-    ∙ different_of items (initial_words items w) (run_inputs s) some.0
-    (frame_agrees items (state_words s) (initial_words items w) (run_inputs s) (run_inputs s) some.0 wf b.states (λ id y found is. refl) frame)
+    ∙ different_of items (initial_words items w) (leaf_words s) some.0
+    (frame_agrees items (state_words s) (initial_words items w) (leaf_words s) (leaf_words s) some.0 wf
+    (λ id y found is. ap (λ (v : ℕ). cond (is_free items id) (leaf_words s id) v) (b.states id y found is)) (λ id y found is. refl) frame)
 
-pub begun_trace : (items : List Item) (w : Words) (s : Run) (fs : List Frame) (frames : List (List (ℕ × ℕ))) → IsWellFormed items → Begun items w s → frames ≡ w.frames
-    → IsTrace items (initial_words items w) (input_frames items w) fs → IsTrace items (state_words s) (map (input_words items) frames) fs
-begun_trace items w s fs frames wf b e h =
-    subst (λ (l : List (List (ℕ × ℕ))). IsTrace items (state_words s) (map (input_words items) l) fs) (sym e)
-    (trace_agrees items (initial_words items w) (state_words s) (input_frames items w) fs wf (λ id y found is. sym (b.states id y found is)) h)
+pub begun_stands : (items : List Item) (w : Words) (s : Run) (frames : List FrameWords) → Begun items w s → frames ≡ w.frames → StandsBefore items (initial_words items w) frames (state_words s)
+begun_stands items w s frames b e = first_stands items w (state_words s) frames (sym e) b.states
+
+pub begun_trace : (items : List Item) (w : Words) (fs : List Frame) (frames : List FrameWords) → frames ≡ w.frames
+    → IsTrace items (initial_words items w) (given_frames items w) fs → IsTrace items (initial_words items w) (map (given_words items) frames) fs
+begun_trace items w fs frames e h = subst (λ (l : List FrameWords). IsTrace items (initial_words items w) (map (given_words items) l) fs) (sym e) h
 
 pub verdict_init : (items : List Item) (w : Words) (fs : List Frame) (o : Option ℕ) (i : ℕ) → o ≡ first_different items (initial_words items w) → o ≡ Some i → judgement.InitDiffers i ≡ verdict items w fs
 verdict_init items w fs o i e is = ap (when_begun items w fs) (sym is ∙ e)
@@ -260,5 +302,5 @@ pub verdict_reached : (items : List Item) (w : Words) (fs : List Frame) (o n : O
 verdict_reached items w fs o n p e is d at u =
     ap (when_reached (length fs)) u ∙ ap (when_kept items w fs) (sym at ∙ d) ∙ ap (when_begun items w fs) (sym is ∙ e)
 
-pub as_many_frames : (items : List Item) (w : Words) (fs : List Frame) → IsTrace items (initial_words items w) (input_frames items w) fs → length w.frames ≡ length fs
-as_many_frames items w fs h = sym (trace_length items (initial_words items w) (input_frames items w) fs h ∙ length-map w.frames (input_words items))
+pub as_many_frames : (items : List Item) (w : Words) (fs : List Frame) → IsTrace items (initial_words items w) (given_frames items w) fs → length w.frames ≡ length fs
+as_many_frames items w fs h = sym (trace_length items (initial_words items w) (given_frames items w) fs h ∙ length-map w.frames (given_words items))

@@ -3,25 +3,29 @@ use Rattle.std.proofs.Common.{◌≡◌, ℕ, List, [], ◌∷◌, refl, ap, ◌
 use Rattle.base.specs.Operator.{unary_value}
 use Rattle.base.specs.declared.operators.Unary.TheVariants as unary
 use Rattle.btor2.specs.Trace.{Frame, IsTrace}
-use Rattle.btor2.specs.Worked.{toggler}
+use Rattle.btor2.specs.Worked.{toggler, follower}
 use Rattle.witness.specs.declared.judgement.Judgement.TheVariants as judgement
-use Rattle.witness.specs.Judgements.{Words, initial_words, input_frames, verdict}
+use Rattle.witness.specs.Judgements.{FrameWords, Words, initial_words, given_frames, verdict}
 use Rattle.witness.specs.Worked.{constrained}
+
+-- a frame in which nothing is given
+abbrev no_words : FrameWords
+no_words = record { states = []; inputs = [] }
 
 -- the bit is given 0, for two frames
 abbrev pub two_frames : Words
-two_frames = record { claims = 0 ∷ []; initial = (0, 0) ∷ []; frames = [] ∷ [] ∷ [] }
+two_frames = record { claims = 0 ∷ []; frames = record { states = (0, 0) ∷ []; inputs = [] } ∷ no_words ∷ [] }
 
 -- nothing is given, for one frame
 abbrev pub one_frame : Words
-one_frame = record { claims = 0 ∷ []; initial = []; frames = [] ∷ [] }
+one_frame = record { claims = 0 ∷ []; frames = no_words ∷ [] }
 
 -- the bit negated
 not_word : (f : Frame) (x : ℕ) → f 3 ≡ x → f 5 ≡ unary_value unary.Not 1 (f 3) → f 5 ≡ unary_value unary.Not 1 x
 not_word f x bit is = is ∙ ap (λ (y : ℕ). unary_value unary.Not 1 y) bit
 
 -- the bit is 0 in the first frame and 1 in the second
-pub two_frames_judged : (fs : List Frame) → IsTrace toggler (initial_words toggler two_frames) (input_frames toggler two_frames) fs
+pub two_frames_judged : (fs : List Frame) → IsTrace toggler (initial_words toggler two_frames) (given_frames toggler two_frames) fs
     → judgement.Accepted 2 ≡ verdict toggler two_frames fs
 two_frames_judged [] t = absurd t
 two_frames_judged (f ∷ []) t = absurd t.1
@@ -32,7 +36,7 @@ two_frames_judged (f ∷ g ∷ []) t =
     rw (first, second) refl
 two_frames_judged (f ∷ g ∷ h ∷ fs) t = absurd t.1.1
 
-pub one_frame_judged : (fs : List Frame) → IsTrace toggler (initial_words toggler one_frame) (input_frames toggler one_frame) fs
+pub one_frame_judged : (fs : List Frame) → IsTrace toggler (initial_words toggler one_frame) (given_frames toggler one_frame) fs
     → judgement.NotReached 0 ≡ verdict toggler one_frame fs
 one_frame_judged [] t = absurd t
 one_frame_judged (f ∷ []) t =
@@ -41,7 +45,7 @@ one_frame_judged (f ∷ []) t =
 one_frame_judged (f ∷ g ∷ fs) t = absurd t.1
 
 -- the negated bit is 1 in the first frame and 0 in the second
-pub constraint_judged : (fs : List Frame) → IsTrace constrained (initial_words constrained two_frames) (input_frames constrained two_frames) fs
+pub constraint_judged : (fs : List Frame) → IsTrace constrained (initial_words constrained two_frames) (given_frames constrained two_frames) fs
     → judgement.Violated 1 0 ≡ verdict constrained two_frames fs
 constraint_judged [] t = absurd t
 constraint_judged (f ∷ []) t = absurd t.1
@@ -52,3 +56,32 @@ constraint_judged (f ∷ g ∷ []) t =
     let negated_again : g 5 ≡ 0 = not_word g 1 second t.1.0.1.1.1.1.0 in
     rw (negated, negated_again) refl
 constraint_judged (f ∷ g ∷ h ∷ fs) t = absurd t.1.1
+
+-- a free state is given 1 and then 0, the state that follows it 0, and the input 0
+abbrev pub follows_words : Words
+follows_words = record { claims = 0 ∷ []; frames = record { states = (0, 1) ∷ (1, 0) ∷ []; inputs = (0, 0) ∷ [] } ∷ record { states = (0, 0) ∷ []; inputs = (0, 0) ∷ [] } ∷ [] }
+
+-- the state follows in the second frame
+pub follows_judged : (fs : List Frame) → IsTrace follower (initial_words follower follows_words) (given_frames follower follows_words) fs → judgement.Accepted 2 ≡ verdict follower follows_words fs
+follows_judged [] t = absurd t
+follows_judged (f ∷ []) t = absurd t.1
+follows_judged (f ∷ g ∷ []) t =
+    let free : f 2 ≡ 1 = t.0.1.0 in
+    let first : f 3 ≡ 0 = t.0.1.1.0 in
+    let second : g 3 ≡ 1 = t.1.0.1.1.0 ∙ free in
+    rw (first, second) refl
+follows_judged (f ∷ g ∷ h ∷ fs) t = absurd t.1.1
+
+-- it is given 1 in the second frame alone
+abbrev pub late_words : Words
+late_words = record { claims = 0 ∷ []; frames = no_words ∷ record { states = (0, 1) ∷ []; inputs = [] } ∷ [] }
+
+pub does_not_follow_judged : (fs : List Frame) → IsTrace follower (initial_words follower late_words) (given_frames follower late_words) fs → judgement.NotReached 0 ≡ verdict follower late_words fs
+does_not_follow_judged [] t = absurd t
+does_not_follow_judged (f ∷ []) t = absurd t.1
+does_not_follow_judged (f ∷ g ∷ []) t =
+    let free : f 2 ≡ 0 = t.0.1.0 in
+    let first : f 3 ≡ 0 = t.0.1.1.0 in
+    let second : g 3 ≡ 0 = t.1.0.1.1.0 ∙ free in
+    rw (first, second) refl
+does_not_follow_judged (f ∷ g ∷ h ∷ fs) t = absurd t.1.1

@@ -9,7 +9,7 @@ use Rattle.base.specs.Lines.{whole_lines, unfinished}
 use Rattle.btor2.specs.Symbols.{is_symbol}
 use Rattle.witness.specs.declared.why.Why.{Why}
 use Rattle.witness.specs.declared.why.Why.TheVariants as why
-use Rattle.witness.specs.Texts.{Shape, Assignment, Witness, is_comment, are_distinct, most_lines}
+use Rattle.witness.specs.Texts.{Shape, is_free_index, has_free, Assignment, Parts, Witness, is_comment, are_distinct, most_lines}
 
 -- ---- a line's pieces
 
@@ -103,27 +103,55 @@ with_index widths before rest (Some i) =
 unfoldable pub assignment_at : List ℕ → List Assignment → List ℕ → Result (List Assignment) Why
 assignment_at widths before line = with_index widths before (cut_at_space line).1 (number_of (cut_at_space line).0)
 
+-- a number that is there and is the index of a free state
+abbrev pub names_free : Shape → Option ℕ → Bool
+names_free shape None = false
+names_free shape (Some i) = is_free_index shape i
+
+-- the same of a free state alone: 114 also where the index is that of a state that is not free
+unfoldable pub free_assignment_at : Shape → List Assignment → List ℕ → Result (List Assignment) Why
+free_assignment_at shape before line =
+    if names_free shape (number_of (cut_at_space line).0) then assignment_at shape.states before line else Err why.BadIndex
+
 -- ---- the lines in their order
 
--- where the next line stands
+-- where the next line stands: among comments or the status, the claims, the first line of the first frame, in the states' part of the first frame, in that of
+-- a later frame, in a frame behind its line `@<k>`, or behind the end
 pub data Place : Type 0 where
   AtStatus : Place
   AtClaims : Place
   AtParts : Place
   InStates : Place
+  InFree : Place
   InFrame : Place
   AtEnd : Place
 
--- what the admitted lines say: the claims, the initial part where it is closed, the closed frames, and the assignments of the part that is open
+-- what the admitted lines say: the claims, the frames that are closed, of the frame that is open the states' part where that is closed, and the assignments of
+-- the part that is open
 pub record Read : Type 0 where
   pub place : Place
   pub claims : List ℕ
-  pub initial : Option (List Assignment)
-  pub closed : List (List Assignment)
+  pub closed : List Parts
+  pub states : Option (List Assignment)
   pub open_part : List Assignment
 
 abbrev pub nothing_read : Read
-nothing_read = record { place = AtStatus; claims = []; initial = None; closed = []; open_part = [] }
+nothing_read = record { place = AtStatus; claims = []; closed = []; states = None; open_part = [] }
+
+-- the states' part is closed, and the frame's inputs follow
+abbrev pub states_closed : Read → Read
+states_closed r = record r { place = InFrame; states = Some r.open_part; open_part = [] }
+
+-- the frame is closed, and the next line stands at a place
+abbrev pub frame_closed : Place → Read → Read
+frame_closed next r = record r { place = next; closed = r.closed ++ record { states = r.states; inputs = r.open_part } ∷ []; states = None; open_part = [] }
+
+-- the lines that begin a frame, and its part of states
+abbrev pub opens_frame : ℕ → List ℕ → Bool
+opens_frame k line = bytes_eq line (64 ∷ decimal k)
+
+abbrev pub opens_states : ℕ → List ℕ → Bool
+opens_states k line = bytes_eq line (35 ∷ decimal k)
 
 -- a line that begins as those do that open or end a part
 abbrev pub begins_part : List ℕ → Bool
@@ -138,20 +166,25 @@ abbrev pub after_assignment : Read → Result (List Assignment) Why → Result R
 after_assignment r (Ok list) = Ok (record r { open_part = list })
 after_assignment r (Err w) = Err w
 
--- a whole line after the admitted lines
+-- an assignment of the part that is open, where the line does not begin as others do
+abbrev pub in_part : Read → List ℕ → Result (List Assignment) Why → Result Read Why
+in_part r line assigned = if begins_part line then Err why.FrameOrder else after_assignment r assigned
+
+-- A whole line after the admitted lines. A part of states behind the first frame is there only where there is a free state.
 abbrev pub admit_at : Shape → Read → List ℕ → Place → Result Read Why
 admit_at shape r line AtStatus = if is_comment line then Ok r else (if bytes_eq line (codes "sat") then Ok (record r { place = AtClaims }) else Err why.BadHeader)
 admit_at shape r line AtClaims = after_claims r (claims_at shape.bads line)
 admit_at shape r line AtParts =
-    if bytes_eq line (codes "#0") then Ok (record r { place = InStates })
-    else (if bytes_eq line (codes "@0") then Ok (record r { place = InFrame }) else Err why.FrameOrder)
+    if opens_states 0 line then Ok (record r { place = InStates })
+    else (if opens_frame 0 line then Ok (record r { place = InFrame }) else Err why.FrameOrder)
 admit_at shape r line InStates =
-    if bytes_eq line (codes "@0") then Ok (record r { place = InFrame; initial = Some r.open_part; open_part = [] })
-    else (if begins_part line then Err why.FrameOrder else after_assignment r (assignment_at shape.states r.open_part line))
+    if opens_frame 0 line then Ok (states_closed r) else in_part r line (assignment_at shape.states r.open_part line)
+admit_at shape r line InFree =
+    if opens_frame (length r.closed) line then Ok (states_closed r) else in_part r line (free_assignment_at shape r.open_part line)
 admit_at shape r line InFrame =
-    if bytes_eq line (64 ∷ decimal (suc (length r.closed))) then Ok (record r { closed = r.closed ++ r.open_part ∷ []; open_part = [] })
-    else (if bytes_eq line (codes ".") then Ok (record r { place = AtEnd; closed = r.closed ++ r.open_part ∷ []; open_part = [] })
-    else (if begins_part line then Err why.FrameOrder else after_assignment r (assignment_at shape.inputs r.open_part line)))
+    if opens_frame (suc (length r.closed)) line then Ok (frame_closed InFrame r)
+    else (if opens_states (suc (length r.closed)) line && has_free shape then Ok (frame_closed InFree r)
+    else (if bytes_eq line (codes ".") then Ok (frame_closed AtEnd r) else in_part r line (assignment_at shape.inputs r.open_part line)))
 admit_at shape r line AtEnd = Err why.Trailing
 
 unfoldable pub admit : Shape → Read → List ℕ → Result Read Why
@@ -198,4 +231,4 @@ read_text shape text = read_lines shape 0 nothing_read (whole_lines text) (unfin
 
 -- what the admitted lines of a whole text say
 abbrev pub witness_of : Read → Witness
-witness_of r = record { claims = r.claims; initial = r.initial; frames = r.closed }
+witness_of r = record { claims = r.claims; frames = r.closed }

@@ -16,12 +16,12 @@ judge_name fault.Device = codes "Device"
 judge_name fault.NoMemory = codes "NoMemory"
 judge_name (fault.NoNext id) = codes "NoNext"
 
--- a fault names a state without a next
+-- a fault names a state with an init and no next
 abbrev pub NamesState : JudgeFault → Type 0
 NamesState (fault.NoNext id) = Unit {0}
 NamesState _ = ⊥
 
--- a state without a next is named exactly where there is one, and it is the first
+-- a state with an init and no next is named exactly where there is one, and it is the first
 abbrev pub AnswersJudge : {T : Type 0} → Result T JudgeFault → Option ℕ → Type 0
 AnswersJudge (Err (fault.NoNext id)) lacking = lacking ≡ Some id
 AnswersJudge _ lacking = lacking ≡ None

@@ -1,12 +1,12 @@
 -- Words that fit a model, and what a run makes of them.
-use Rattle.std.specs.Prelude.{◌≡◌, ◌≢◌, ℕ, ◌<◌, ◌^◌, Bool, true, false, not, ◌||◌, ◌==◌, List, [], ◌∷◌, map, length, All, slice_index, slice_set}
+use Rattle.std.specs.Prelude.{◌≡◌, ℕ, ◌<◌, ◌^◌, Bool, true, false, not, ◌||◌, ◌==◌, List, [], ◌∷◌, map, length, All, unwrap_or, slice_index, slice_set}
 use Rattle.std.specs.List.{list_any}
 use Rattle.btor2.specs.declared.item.Item.{Item}
-use Rattle.btor2.specs.Items.{is_input, is_state, is_bad}
-use Rattle.btor2.specs.Trace.{Frame}
-use Rattle.witness.specs.Texts.{are_distinct, widths_of}
+use Rattle.btor2.specs.Items.{is_state, is_bad, names_state}
+use Rattle.btor2.specs.Trace.{Frame, state_word}
+use Rattle.witness.specs.Texts.{Shape, is_free_index, are_distinct, shape_of}
 use Rattle.witness.specs.Reading.{is_set}
-use Rattle.witness.specs.Judgements.{Words, nodes_of, never_rises}
+use Rattle.witness.specs.Judgements.{FrameWords, Words, given_to, given_words, nodes_of, never_rises}
 
 -- ---- words that fit
 
@@ -20,12 +20,24 @@ pub record PartFits (widths : List ℕ) (list : List (ℕ × ℕ)) : Type 0 wher
   pub each : All (PairFits widths) list
   pub distinct : are_distinct (map (λ p. p.0) list) ≡ true
 
+-- the words of the first frame, and of a later one
+pub record FirstFits (shape : Shape) (frame : FrameWords) : Type 0 where
+  pub states : PartFits shape.states frame.states
+  pub inputs : PartFits shape.inputs frame.inputs
+
+pub record LaterFits (shape : Shape) (frame : FrameWords) : Type 0 where
+  pub states : PartFits shape.states frame.states
+  pub free : All (λ p. is_free_index shape p.0 ≡ true) frame.states
+  pub inputs : PartFits shape.inputs frame.inputs
+
+abbrev pub FramesFit : Shape → List FrameWords → Type 0
+FramesFit shape [] = ⊥
+FramesFit shape (first ∷ later) = FirstFits shape first × All (LaterFits shape) later
+
 -- the words of a witness over a model
 pub record WordsFit (items : List Item) (w : Words) : Type 0 where
   pub claims : All (λ i. i < length (nodes_of is_bad items)) w.claims
-  pub initial : PartFits (widths_of is_state items) w.initial
-  pub some_frame : w.frames ≢ []
-  pub frames : All (PartFits (widths_of is_input items)) w.frames
+  pub frames : FramesFit (shape_of items) w.frames
 
 -- ---- what a run makes of them
 
@@ -33,6 +45,18 @@ pub record WordsFit (items : List Item) (w : Words) : Type 0 where
 abbrev pub words_put : List ℕ → List (ℕ × ℕ) → List ℕ
 words_put words [] = words
 words_put words (p ∷ more) = words_put (slice_set words p.0 p.1) more
+
+-- A run whose states have these words stands at a frame into which words are carried: once the frame's part of states is put over the run's words, each
+-- state has its word of the frame.
+abbrev pub StandsAt : List Item → Frame → FrameWords → Frame → Type 0
+StandsAt items carried frame words =
+    (id : ℕ) → names_state items id ≡ true
+    → unwrap_or (given_to is_state items frame.states id) (words id) ≡ state_word items carried (given_words items frame) id
+
+-- the same of the first of some frames
+abbrev pub StandsBefore : List Item → Frame → List FrameWords → Frame → Type 0
+StandsBefore items carried [] words = Unit {0}
+StandsBefore items carried (frame ∷ later) words = StandsAt items carried frame words
 
 -- a flag for each of some nodes is set where it was set before, or where the node is 1 in a frame
 abbrev pub RisesIn : List ℕ → Frame → List Bool → List Bool → Type 0

@@ -6,11 +6,11 @@ use Rattle.std.specs.Str.{bytes_eq}
 use Rattle.base.specs.Lines.{whole_lines}
 use Rattle.btor2.specs.declared.item.Item.{Item}
 use Rattle.btor2.specs.declared.item.Body.{Body}
-use Rattle.btor2.specs.Items.{is_input, is_state, is_bad, is_constraint, operands, constant_of, init_value}
+use Rattle.btor2.specs.Items.{is_input, is_state, is_bad, is_constraint, names_state, operands, constant_of, init_value}
 use Rattle.btor2.specs.Trace.{Frame, IsTrace}
 use Rattle.witness.specs.declared.judgement.Judgement.{Judgement}
 use Rattle.witness.specs.declared.judgement.Judgement.TheVariants as judgement
-use Rattle.witness.specs.Texts.{Assignment, Witness, shape_of, is_comment, most_lines}
+use Rattle.witness.specs.Texts.{Assignment, Parts, Witness, shape_of, is_comment, most_lines}
 use Rattle.witness.specs.Admits.{Read, Fault, read_text, witness_of}
 
 -- ---- the words that a witness gives
@@ -22,37 +22,53 @@ of_kind kind items = filter (λ x. kind x.body) items
 abbrev pub index_of : (Body → Bool) → List Item → ℕ → Option ℕ
 index_of kind items id = position_from (λ x. id == x.id) 0 (of_kind kind items)
 
--- what a witness says without the names: claims, and words by their indices
+-- what a witness says without the names: claims, and for each frame words of states and of inputs by their indices
+pub record FrameWords : Type 0 where
+  pub states : List (ℕ × ℕ)
+  pub inputs : List (ℕ × ℕ)
+
 pub record Words : Type 0 where
   pub claims : List ℕ
-  pub initial : List (ℕ × ℕ)
-  pub frames : List (List (ℕ × ℕ))
+  pub frames : List FrameWords
 
 abbrev pub pairs_of : List Assignment → List (ℕ × ℕ)
 pairs_of list = map (λ a. (a.index, a.word)) list
 
-abbrev pub words_of : Witness → Words
-words_of w = record { claims = w.claims; initial = pairs_of (unwrap_or w.initial []); frames = map pairs_of w.frames }
+abbrev pub frame_words : Parts → FrameWords
+frame_words parts = record { states = pairs_of (unwrap_or parts.states []); inputs = pairs_of parts.inputs }
 
--- the word that a part gives to an index
+abbrev pub words_of : Witness → Words
+words_of w = record { claims = w.claims; frames = map frame_words w.frames }
+
+-- the word that a part gives to an index, and to the item of a kind with an id
 abbrev pub given : List (ℕ × ℕ) → ℕ → Option ℕ
 given list k = option_map (λ p. p.1) (find (λ p. p.0 == k) list)
+
+abbrev pub given_to : (Body → Bool) → List Item → List (ℕ × ℕ) → ℕ → Option ℕ
+given_to kind items list id = option_and_then (given list) (index_of kind items id)
 
 -- the constant of a state's init line
 abbrev pub init_constant : List Item → ℕ → Option ℕ
 init_constant items id = option_and_then (constant_of items) (init_value items id)
 
--- a state has the word that it is given, else that of its init line, else 0
+-- the words of states in the first frame
+abbrev pub initial_part : List FrameWords → List (ℕ × ℕ)
+initial_part [] = []
+initial_part (first ∷ later) = first.states
+
+-- The words that are carried into the first frame: a state has the word that it is given there, else that of its init line, else 0. They mean something
+-- at the states that are not free.
 abbrev pub initial_words : List Item → Words → Frame
-initial_words items w id =
-    unwrap_or (option_or (option_and_then (given w.initial) (index_of is_state items id)) (init_constant items id)) 0
+initial_words items w id = unwrap_or (option_or (given_to is_state items (initial_part w.frames) id) (init_constant items id)) 0
 
--- an input has the word that it is given in a frame, else 0
-abbrev pub input_words : List Item → List (ℕ × ℕ) → Frame
-input_words items list id = unwrap_or (option_and_then (given list) (index_of is_input items id)) 0
+-- The words that are given in a frame: a state has the word of the states' part, an input that of the inputs', else 0. They mean something at the inputs and
+-- at the states that are free.
+abbrev pub given_words : List Item → FrameWords → Frame
+given_words items frame id =
+    unwrap_or (if names_state items id then given_to is_state items frame.states id else given_to is_input items frame.inputs id) 0
 
-abbrev pub input_frames : List Item → Words → List Frame
-input_frames items w = map (input_words items) w.frames
+abbrev pub given_frames : List Item → Words → List Frame
+given_frames items w = map (given_words items) w.frames
 
 -- ---- what is looked for in a trace
 
@@ -123,7 +139,7 @@ makes_no_claim n (line ∷ lines) =
 
 -- what is judged of what was read, by the model's one trace from its words
 abbrev pub JudgesWords : List Item → Words → Judgement → Type 0
-JudgesWords items w j = (fs : List Frame) → IsTrace items (initial_words items w) (input_frames items w) fs → j ≡ verdict items w fs
+JudgesWords items w j = (fs : List Frame) → IsTrace items (initial_words items w) (given_frames items w) fs → j ≡ verdict items w fs
 
 abbrev pub JudgesRead : List Item → Result Read Fault → Judgement → Type 0
 JudgesRead items (Err e) j = j ≡ judgement.Malformed e.line e.why

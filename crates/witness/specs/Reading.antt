@@ -12,9 +12,9 @@ use Rattle.witness.specs.declared.fault.WitnessFault.{WitnessFault}
 use Rattle.witness.specs.declared.fault.WitnessFault.TheVariants as fault
 use Rattle.witness.specs.declared.place.Place.{Place}
 use Rattle.witness.specs.declared.place.Place.TheVariants as place
-use Rattle.witness.specs.Texts.{Shape, is_comment, most_lines}
-use Rattle.witness.specs.Admits.{cut_at_space, claims_at, value_of, begins_part, Fault, fault_at, is_nothing}
-use Rattle.witness.specs.Judgements.{Words}
+use Rattle.witness.specs.Texts.{Shape, has_free, is_comment, most_lines}
+use Rattle.witness.specs.Admits.{cut_at_space, claims_at, value_of, names_free, begins_part, opens_frame, opens_states, Fault, fault_at, is_nothing}
+use Rattle.witness.specs.Judgements.{FrameWords, Words}
 
 -- ---- the indices of a part
 
@@ -63,16 +63,22 @@ pair_with_index widths part rest (Some i) =
 unfoldable pub pair_at : List ℕ → List (ℕ × ℕ) → List ℕ → Result (ℕ × ℕ) Why
 pair_at widths part line = pair_with_index widths part (cut_at_space line).1 (number_of (cut_at_space line).0)
 
+-- the same of a free state
+unfoldable pub free_pair_at : Shape → List (ℕ × ℕ) → List ℕ → Result (ℕ × ℕ) Why
+free_pair_at shape part line = if names_free shape (number_of (cut_at_space line).0) then pair_at shape.states part line else Err why.BadIndex
+
 -- ---- the lines in their order
 
--- what the admitted lines give: where the next one stands, the words of the parts that are closed, and the pairs of the one that is open
+-- what the admitted lines give: where the next one stands, the claims, the words of the frames that are closed, of the frame that is open those of states
+-- where their part is closed, and the pairs of the part that is open
 pub record Admitted : Type 0 where
   pub place : Place
   pub words : Words
+  pub states : List (ℕ × ℕ)
   pub open_part : List (ℕ × ℕ)
 
 abbrev pub nothing_admitted : Admitted
-nothing_admitted = record { place = place.Status; words = record { claims = []; initial = []; frames = [] }; open_part = [] }
+nothing_admitted = record { place = place.Status; words = record { claims = []; frames = [] }; states = []; open_part = [] }
 
 -- a comment or the status
 unfoldable pub status_on : Admitted → List ℕ → Result Admitted Why
@@ -87,41 +93,62 @@ with_claims a (Err w) = Err w
 unfoldable pub claims_on : Shape → Admitted → List ℕ → Result Admitted Why
 claims_on shape a line = with_claims a (claims_at shape.bads line)
 
--- the first line of the states' part, or of the first frame
+-- the first line of the first frame, or of its states' part
 unfoldable pub parts_on : Admitted → List ℕ → Result Admitted Why
 parts_on a line =
-    if bytes_eq line (codes "#0") then Ok (record a { place = place.States })
-    else (if bytes_eq line (codes "@0") then Ok (record a { place = place.Frame }) else Err why.FrameOrder)
+    if opens_states 0 line then Ok (record a { place = place.States })
+    else (if opens_frame 0 line then Ok (record a { place = place.Frame }) else Err why.FrameOrder)
 
 abbrev pub with_pair : Admitted → Result (ℕ × ℕ) Why → Result Admitted Why
 with_pair a (Ok p) = Ok (record a { open_part = a.open_part ++ p ∷ [] })
 with_pair a (Err w) = Err w
 
--- an assignment of the open part
+-- a pair of the open part, where the line does not begin as others do
+abbrev pub part_on : Admitted → List ℕ → Result (ℕ × ℕ) Why → Result Admitted Why
+part_on a line pair = if begins_part line then Err why.FrameOrder else with_pair a pair
+
+-- an assignment of the open part, to a node of these widths, or to a free state
 unfoldable pub assignment_on : List ℕ → Admitted → List ℕ → Result Admitted Why
-assignment_on widths a line = if begins_part line then Err why.FrameOrder else with_pair a (pair_at widths a.open_part line)
+assignment_on widths a line = part_on a line (pair_at widths a.open_part line)
 
--- one of the states' part, or the first line of the first frame
+unfoldable pub free_on : Shape → Admitted → List ℕ → Result Admitted Why
+free_on shape a line = part_on a line (free_pair_at shape a.open_part line)
+
+-- the open part is the frame's part of states
+abbrev pub with_states : Admitted → Admitted
+with_states a = record a { place = place.Frame; states = a.open_part; open_part = [] }
+
+-- one of the states' part of the first frame, or the line behind it
 unfoldable pub states_on : Shape → Admitted → List ℕ → Result Admitted Why
-states_on shape a line =
-    if bytes_eq line (codes "@0") then Ok (record a { place = place.Frame; words = record a.words { initial = a.open_part }; open_part = [] })
-    else assignment_on shape.states a line
+states_on shape a line = if opens_frame 0 line then Ok (with_states a) else assignment_on shape.states a line
 
--- the open part is a frame, and what comes next is at a place
+-- the same of a later frame
+unfoldable pub free_states_on : Shape → Admitted → List ℕ → Result Admitted Why
+free_states_on shape a line = if opens_frame (length a.words.frames) line then Ok (with_states a) else free_on shape a line
+
+-- the open part is that of a frame's inputs, and what comes next is at a place
 abbrev pub with_frame : Place → Admitted → Admitted
-with_frame next a = record a { place = next; words = record a.words { frames = a.words.frames ++ a.open_part ∷ [] }; open_part = [] }
+with_frame next a =
+    record a {
+      place = next;
+      words = record a.words { frames = a.words.frames ++ record { states = a.states; inputs = a.open_part } ∷ [] };
+      states = [];
+      open_part = [];
+    }
 
--- one of a frame, the first line of the next, or the last line
+-- one of a frame, the first line of the next or of its states' part, or the last line
 unfoldable pub frame_on : Shape → Admitted → List ℕ → Result Admitted Why
 frame_on shape a line =
-    if bytes_eq line (64 ∷ decimal (suc (length a.words.frames))) then Ok (with_frame place.Frame a)
-    else (if bytes_eq line (codes ".") then Ok (with_frame place.End a) else assignment_on shape.inputs a line)
+    if opens_frame (suc (length a.words.frames)) line then Ok (with_frame place.Frame a)
+    else (if opens_states (suc (length a.words.frames)) line && has_free shape then Ok (with_frame place.Free a)
+    else (if bytes_eq line (codes ".") then Ok (with_frame place.End a) else assignment_on shape.inputs a line))
 
 abbrev pub line_at : Shape → Admitted → List ℕ → Place → Result Admitted Why
 line_at shape a line place.Status = status_on a line
 line_at shape a line place.Claims = claims_on shape a line
 line_at shape a line place.Parts = parts_on a line
 line_at shape a line place.States = states_on shape a line
+line_at shape a line place.Free = free_states_on shape a line
 line_at shape a line place.Frame = frame_on shape a line
 line_at shape a line place.End = Err why.Trailing
 

@@ -1,28 +1,46 @@
 -- Which texts are witnesses over a model, and what they say ("Btor2, BtorMC and Boolector 3.0", witness format). This project's own: one claims line, no
--- bit left undetermined, which assignments may be missing, and the two defaults.
-use Rattle.std.specs.Prelude.{◌≡◌, ◌≢◌, ℕ, suc, ◌<◌, ◌≤◌, ◌^◌, Bool, true, false, not, ◌&&◌, ◌==◌, List, [], ◌∷◌, ◌++◌, Option, Some, None, IfSome, codes, decimal, map, reverse, length, filter, All, slice_index, if◌then◌else◌}
+-- bit left undetermined, which assignments may be missing and what is meant then, and the parts of free states in later frames.
+use Rattle.std.specs.Prelude.{◌≡◌, ◌≢◌, ℕ, suc, ◌<◌, ◌≤◌, ◌^◌, Bool, true, false, not, ◌&&◌, ◌==◌, List, [], ◌∷◌, ◌++◌, Option, Some, None, IfSome, codes, decimal, map, reverse, length, filter, All, slice_index, slice_index_or, if◌then◌else◌}
 use Rattle.std.specs.List.{list_any}
 use Rattle.base.specs.Word.{bits}
 use Rattle.base.specs.Lines.{text_of_lines, IsLine}
 use Rattle.btor2.specs.declared.item.Item.{Item}
 use Rattle.btor2.specs.declared.item.Body.{Body}
-use Rattle.btor2.specs.Items.{is_input, is_state, is_bad}
+use Rattle.btor2.specs.Items.{is_input, is_state, is_bad, is_free}
 use Rattle.btor2.specs.Trace.{bits_of}
 use Rattle.btor2.specs.Symbols.{is_symbol}
 
--- What a witness needs to know of a model: how many bad properties it has, and the widths of its states and of its inputs, in file order.
+-- What a witness needs to know of a model: how many bad properties it has, the widths of its states and of its inputs, and which of the states are free,
+-- in file order.
 pub record Shape : Type 0 where
   pub bads : ℕ
   pub states : List ℕ
+  pub free : List Bool
   pub inputs : List ℕ
 
 -- the widths of the nodes of a kind
 abbrev pub widths_of : (Body → Bool) → List Item → List ℕ
 widths_of kind items = map (λ x. bits_of items x.id) (filter (λ x. kind x.body) items)
 
+-- for each state whether it is free
+abbrev pub free_of : List Item → List Bool
+free_of items = map (λ x. is_free items x.id) (filter (λ x. is_state x.body) items)
+
 abbrev pub shape_of : List Item → Shape
 shape_of items =
-    record { bads = length (filter (λ x. is_bad x.body) items); states = widths_of is_state items; inputs = widths_of is_input items }
+    record {
+      bads = length (filter (λ x. is_bad x.body) items);
+      states = widths_of is_state items;
+      free = free_of items;
+      inputs = widths_of is_input items;
+    }
+
+-- the state with an index is there and free, and there is such a state
+abbrev pub is_free_index : Shape → ℕ → Bool
+is_free_index shape i = slice_index_or shape.free i false
+
+abbrev pub has_free : Shape → Bool
+has_free shape = list_any (λ b. b) shape.free
 
 -- A word given to a state or an input, by its index; the name has no meaning.
 pub record Assignment : Type 0 where
@@ -30,12 +48,16 @@ pub record Assignment : Type 0 where
   pub word : ℕ
   pub symbol : Option (List ℕ)
 
--- What a witness says: the bad properties that it claims, the words that it gives to states in the first frame (where it has a part for them), and
--- the words that it gives to inputs in each frame.
+-- What a witness says of one frame: the words that it gives to states, where it has a part for them, and those that it gives to inputs. In the first
+-- frame any state may have one, in a later frame a free state alone.
+pub record Parts : Type 0 where
+  pub states : Option (List Assignment)
+  pub inputs : List Assignment
+
+-- What a witness says: the bad properties that it claims, and the parts of its frames.
 pub record Witness : Type 0 where
   pub claims : List ℕ
-  pub initial : Option (List Assignment)
-  pub frames : List (List Assignment)
+  pub frames : List Parts
 
 -- ---- how each part is written, byte by byte
 
@@ -66,20 +88,20 @@ claims_line [] = []
 claims_line (i ∷ []) = claim i
 claims_line (i ∷ j ∷ more) = claim i ++ 32 ∷ claims_line (j ∷ more)
 
--- the line `#0` and the states' words
-abbrev pub initial_lines : List ℕ → Option (List Assignment) → List (List ℕ)
-initial_lines widths None = []
-initial_lines widths (Some list) = codes "#0" ∷ assignment_lines widths list
+-- the line `#<k>` and the words of states
+abbrev pub states_lines : List ℕ → ℕ → Option (List Assignment) → List (List ℕ)
+states_lines widths k None = []
+states_lines widths k (Some list) = (35 ∷ decimal k) ∷ assignment_lines widths list
 
--- the line `@<k>` and the inputs' words, for frames from k on
-abbrev pub frame_lines : List ℕ → ℕ → List (List Assignment) → List (List ℕ)
-frame_lines widths k [] = []
-frame_lines widths k (list ∷ more) = (64 ∷ decimal k) ∷ assignment_lines widths list ++ frame_lines widths (suc k) more
+-- for frames from k on: the part of states, where there is one, the line `@<k>` and the inputs' words
+abbrev pub frame_lines : Shape → ℕ → List Parts → List (List ℕ)
+frame_lines shape k [] = []
+frame_lines shape k (parts ∷ more) =
+    states_lines shape.states k parts.states ++ ((64 ∷ decimal k) ∷ (assignment_lines shape.inputs parts.inputs ++ frame_lines shape (suc k) more))
 
--- all lines: comments, the status, the claims, the initial part, the frames and the end
+-- all lines: comments, the status, the claims, the frames and the end
 abbrev pub witness_lines : Shape → List (List ℕ) → Witness → List (List ℕ)
-witness_lines shape comments w =
-    comments ++ codes "sat" ∷ claims_line w.claims ∷ initial_lines shape.states w.initial ++ frame_lines shape.inputs 0 w.frames ++ codes "." ∷ []
+witness_lines shape comments w = comments ++ (codes "sat" ∷ (claims_line w.claims ∷ (frame_lines shape 0 w.frames ++ codes "." ∷ [])))
 
 -- ---- what may be written
 
@@ -104,14 +126,32 @@ pub record IsPart (widths : List ℕ) (list : List Assignment) : Type 0 where
   pub each : All (IsAssignment widths) list
   pub distinct : are_distinct (map (λ a. a.index) list) ≡ true
 
+-- the states' words in a later frame: there is a free state, and all of them are of free states
+pub record IsFreePart (shape : Shape) (list : List Assignment) : Type 0 where
+  pub some : has_free shape ≡ true
+  pub part : IsPart shape.states list
+  pub free : All (λ a. is_free_index shape a.index ≡ true) list
+
+-- the parts of the first frame, and of a later one
+pub record IsFirst (shape : Shape) (parts : Parts) : Type 0 where
+  pub states : IfSome parts.states (IsPart shape.states)
+  pub inputs : IsPart shape.inputs parts.inputs
+
+pub record IsLater (shape : Shape) (parts : Parts) : Type 0 where
+  pub states : IfSome parts.states (IsFreePart shape)
+  pub inputs : IsPart shape.inputs parts.inputs
+
+-- there is a first frame, and any number of later ones
+abbrev pub AreFrames : Shape → List Parts → Type 0
+AreFrames shape [] = ⊥
+AreFrames shape (first ∷ later) = IsFirst shape first × All (IsLater shape) later
+
 -- what a witness may say over a model of this shape
 pub record IsWitness (shape : Shape) (w : Witness) : Type 0 where
   pub some_claim : w.claims ≢ []
   pub claims : All (λ i. i < shape.bads) w.claims
   pub distinct : are_distinct w.claims ≡ true
-  pub initial : IfSome w.initial (IsPart shape.states)
-  pub some_frame : w.frames ≢ []
-  pub frames : All (IsPart shape.inputs) w.frames
+  pub frames : AreFrames shape w.frames
 
 -- The most lines of a witness.
 abbrev pub most_lines : ℕ

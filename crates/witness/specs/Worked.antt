@@ -1,10 +1,10 @@
--- Worked rows: the toggling model with a constraint, one with an input of three bits, and a witness.
-use Rattle.std.specs.Prelude.{List, [], ◌∷◌, ◌++◌, Some, codes}
+-- Worked rows: the toggling model with a constraint, one with an input of three bits, and witnesses of the toggling model and of one with a free state.
+use Rattle.std.specs.Prelude.{List, [], ◌∷◌, ◌++◌, Some, None, codes}
 use Rattle.base.specs.declared.operators.Unary.TheVariants as unary
 use Rattle.btor2.specs.declared.item.Item.{Item}
 use Rattle.btor2.specs.declared.item.Body.TheVariants as body
 use Rattle.btor2.specs.Worked.{line, toggler}
-use Rattle.witness.specs.Texts.{Witness}
+use Rattle.witness.specs.Texts.{Parts, Witness}
 
 -- the toggling model, under the constraint that the bit is 0
 abbrev pub constrained : List Item
@@ -21,6 +21,26 @@ wide =
     ∷ []
 
 -- the toggling bit is given 0, under a name, and rises in the second frame
+abbrev pub nothing_given : Parts
+nothing_given = record { states = None; inputs = [] }
+
 abbrev pub rises : Witness
 rises =
-    record { claims = 0 ∷ []; initial = Some (record { index = 0; word = 0; symbol = Some (codes "t") } ∷ []); frames = [] ∷ [] ∷ [] }
+    record {
+      claims = 0 ∷ [];
+      frames = record { states = Some (record { index = 0; word = 0; symbol = Some (codes "t") } ∷ []); inputs = [] } ∷ nothing_given ∷ [];
+    }
+
+-- the free state is 1 and then 0, and the other follows it
+abbrev pub follows : Witness
+follows =
+    record {
+      claims = 0 ∷ [];
+      frames =
+          record {
+            states = Some (record { index = 0; word = 1; symbol = None } ∷ record { index = 1; word = 0; symbol = None } ∷ []);
+            inputs = record { index = 0; word = 0; symbol = None } ∷ [];
+          }
+          ∷ record { states = Some (record { index = 0; word = 0; symbol = None } ∷ []); inputs = record { index = 0; word = 0; symbol = None } ∷ [] }
+          ∷ [];
+    }

@@ -2,11 +2,13 @@
 ghost use Rattle.std.specs.Prelude.{◌≡◌, ◌≤◌, ◌==◌, length, map, reverse, option_copied};
 ghost use Rattle.std.specs.List.{list_any, list_all};
 ghost use Rattle.base.specs.Word.{bit_number, word};
-ghost use Rattle.witness.specs.Admits.{is_value_byte, value_of};
-ghost use Rattle.witness.specs.Reading.{pair_behind, pair_at, pair_with_symbol, pair_with_value, Gives};
+ghost use Rattle.base.specs.Decimals.{number_of};
+ghost use Rattle.witness.specs.Admits.{is_value_byte, value_of, names_free};
+ghost use Rattle.witness.specs.Reading.{pair_behind, pair_at, free_pair_at, pair_with_symbol, pair_with_value, Gives};
 
 use crate::line::cut;
 use crate::open_part::OpenPart;
+use crate::shape::Shape;
 use crate::why::Why;
 use crate::words::Given;
 use base::{Width, decimal};
@@ -116,5 +118,28 @@ pub(crate) fn assignment(widths: &[Width], part: &OpenPart, line: &[u8]) -> Resu
                 Err(Why::BadIndex)
             }
         }
+    }
+}
+
+/// Whether a token is the index of a free state.
+fn names_free(shape: &Shape, token: &[u8]) -> bool
+    ensures { result ≡ names_free shape.now (number_of token.now) }
+{
+    match decimal(token) {
+        Some(index) => shape.is_free(index),
+        None => false,
+    }
+}
+
+/// The assignment of a free state that a line makes behind those of its part.
+#[tactic(auto, unfolding(crate::specs::Reading::free_pair_at))]
+pub(crate) fn free_assignment(shape: &Shape, part: &OpenPart, line: &[u8]) -> Result<Given, Why>
+    ensures { Gives (λ x. x) result (free_pair_at shape.now part.now line.now) }
+{
+    let (token, _) = cut(line);
+    if names_free(shape, token) {
+        assignment(shape.states(), part, line)
+    } else {
+        Err(Why::BadIndex)
     }
 }

@@ -34,7 +34,7 @@ pub enum JudgeFault {
     /// A growth was refused.
     #[error("{number} {name}", number = self.number(), name = self.name())]
     NoMemory,
-    /// The first state in file order without a next; it has the id of the state's line. Nothing was read then.
+    /// The first state in file order with an init and no next; it has the id of the state's line. Nothing was read then.
     #[error("item {0}: {number} {name}", number = self.number(), name = self.name())]
     NoNext(u64),
 }

@@ -2,7 +2,7 @@
 ghost use Rattle.std.specs.Prelude.{◌≡◌, IfErr, IfOk, IfSome, MatchResult, OnOk, length, None};
 ghost use Rattle.std.specs.Io.KnownBytes.{IsAtEnd};
 ghost use Rattle.btor2.specs.Check.{IsWellFormed};
-ghost use Rattle.btor2.specs.Lists.{first_without_next};
+ghost use Rattle.btor2.specs.Lists.{first_init_without_next};
 ghost use Rattle.runs.specs.Run.{start};
 ghost use Rattle.witness.specs.Answers.{AnswersJudge, CountsJudge, NamesState};
 ghost use Rattle.witness.specs.Fits.{WordsFit, NoneIsSet};
@@ -81,7 +81,7 @@ fn judge_text(
 
 /// Reads a source to its end and judges its text as a witness over a model. The whole text is held, and what it says.
 ///
-/// Errors: `NoNext` with the first state in file order that has no next, and then nothing was read; else `Device`
+/// Errors: `NoNext` with the first state in file order that has an init and no next, and then nothing was read; else `Device`
 /// where the source failed in this call, once, and `NoMemory` where a growth was refused and the source did not fail.
 pub fn judge_words<S: Source>(
     alloc: Global,
@@ -90,8 +90,8 @@ pub fn judge_words<S: Source>(
 ) -> Result<Judgement, JudgeFault>
     // the judgement is that of the whole text
     ensures judged { IfOk result (λ judgement. IfSome (S.to_come source.old) (λ text. Judges model.now text judgement)) }
-    // a state without a next is named exactly where there is one, the first
-    ensures answer { AnswersJudge result (first_without_next model.now model.now) }
+    // a state with an init and no next is named exactly where there is one, the first
+    ensures answer { AnswersJudge result (first_init_without_next model.now model.now) }
     ensures unread { IfErr result (λ e. NamesState e → source.new ≡ source.old) }
     ensures end { OnOk result (IsAtEnd (S.to_come source.new)) }
     // the source failed once where a device's fault is answered, and else not at all

@@ -1,15 +1,15 @@
 //! Laws of witnesses, and worked rows, as functions with no code.
-ghost use Rattle.std.specs.Prelude.{◌≡◌, ℕ, List, [], ◌∷◌, ◌++◌, Ok, Err, codes, map};
+ghost use Rattle.std.specs.Prelude.{◌≡◌, ℕ, true, false, List, [], ◌∷◌, ◌++◌, All, None, Some, Ok, Err, codes, map};
 ghost use Rattle.btor2.specs.declared.item.Item.{Item};
 ghost use Rattle.btor2.specs.Check.{IsWellFormed};
-ghost use Rattle.btor2.specs.Worked.{toggler};
+ghost use Rattle.btor2.specs.Worked.{toggler, follower};
 ghost use Rattle.witness.specs.declared.why.Why.TheVariants as why;
 ghost use Rattle.witness.specs.declared.judgement.Judgement.{Judgement};
 ghost use Rattle.witness.specs.declared.judgement.Judgement.TheVariants as judgement;
-ghost use Rattle.witness.specs.Texts.{shape_of, Witness, Says};
+ghost use Rattle.witness.specs.Texts.{Shape, shape_of, has_free, Parts, Witness, AreFrames, Says};
 ghost use Rattle.witness.specs.Admits.{Read, read_text, witness_of};
-ghost use Rattle.witness.specs.Judgements.{words_of, input_frames, Judges};
-ghost use Rattle.witness.specs.Worked.{constrained, wide, rises};
+ghost use Rattle.witness.specs.Judgements.{words_of, given_frames, Judges};
+ghost use Rattle.witness.specs.Worked.{constrained, wide, nothing_given, rises, follows};
 
 /// A law: over a well-formed model, a text that says a witness is read as it, and a text that is read says what it is
 /// read as.
@@ -26,6 +26,12 @@ pub fn one_reading()
         → Says (shape_of items) text v → w ≡ v }
 {}
 
+/// A law: where no state is free, a witness has no part of states behind the first frame.
+pub fn no_later_states()
+    ensures { (shape : Shape) (first : Parts) (later : List Parts) → has_free shape ≡ false → AreFrames shape (first ∷ later)
+        → All (λ parts. parts.states ≡ None) later }
+{}
+
 /// A law: over a well-formed model a text has exactly one judgement.
 pub fn exactly_one_judgement()
     ensures exists { (items : List Item) (text : List ℕ) → IsWellFormed items → (j : Judgement) × Judges items text j }
@@ -35,7 +41,7 @@ pub fn exactly_one_judgement()
 
 /// Worked rows: the faults of texts over a model of one bit that toggles.
 pub fn worked_faults()
-    ensures shape { shape_of toggler ≡ record { bads = 1; states = 1 ∷ []; inputs = [] } }
+    ensures shape { shape_of toggler ≡ record { bads = 1; states = 1 ∷ []; free = false ∷ []; inputs = [] } }
     ensures nothing { read_text (shape_of toggler) [] ≡ Err (record { line = 1; why = why.Truncated }) }
     ensures state_twice { read_text (shape_of toggler) (codes "sat\nb0\n#0\n0 0\n0 0\n@0\n.\n") ≡ Err (record { line = 5; why = why.IndexTwice }) }
     ensures later_states { read_text (shape_of toggler) (codes "sat\nb0\n@0\n#1\n@1\n.\n") ≡ Err (record { line = 4; why = why.FrameOrder }) }
@@ -57,15 +63,40 @@ pub fn worked_faults()
     ensures other_status { read_text (shape_of toggler) (codes "satt\n") ≡ Err (record { line = 1; why = why.BadHeader }) }
 {}
 
+/// Worked rows: the faults of texts over a model of a free state, the first, and one that follows it.
+pub fn worked_free_faults()
+    ensures shape { shape_of follower ≡ record { bads = 1; states = 1 ∷ 1 ∷ []; free = true ∷ false ∷ []; inputs = 1 ∷ [] } }
+    ensures other_state { read_text (shape_of follower) (codes "sat\nb0\n@0\n#1\n1 0\n") ≡ Err (record { line = 5; why = why.BadIndex }) }
+    ensures end_behind_states { read_text (shape_of follower) (codes "sat\nb0\n@0\n#1\n.\n") ≡ Err (record { line = 5; why = why.FrameOrder }) }
+    ensures states_twice { read_text (shape_of follower) (codes "sat\nb0\n@0\n#1\n#1\n@1\n.\n") ≡ Err (record { line = 5; why = why.FrameOrder }) }
+    ensures states_behind_inputs { read_text (shape_of follower) (codes "sat\nb0\n@0\n@1\n#1\n.\n") ≡ Err (record { line = 5; why = why.FrameOrder }) }
+    ensures free_twice { read_text (shape_of follower) (codes "sat\nb0\n@0\n#1\n0 1\n0 0\n") ≡ Err (record { line = 6; why = why.IndexTwice }) }
+    ensures free_undetermined { read_text (shape_of follower) (codes "sat\nb0\n@0\n#1\n0 x\n") ≡ Err (record { line = 5; why = why.Undetermined }) }
+    ensures later_states_first { read_text (shape_of follower) (codes "sat\nb0\n#1\n") ≡ Err (record { line = 3; why = why.FrameOrder }) }
+    ensures other_number { read_text (shape_of follower) (codes "sat\nb0\n@0\n#2\n") ≡ Err (record { line = 4; why = why.FrameOrder }) }
+{}
+
+/// Worked rows: what texts over that model say: a free state's word in each of two frames, a part of states with no word,
+/// and a free state that has the word 0 where it is given none, whatever it had in the frame before.
+pub fn worked_free_witnesses()
+    ensures read { (r : Read) × ((read_text (shape_of follower) (codes "sat\nb0\n#0\n0 1\n1 0\n@0\n0 0\n#1\n0 0\n@1\n0 0\n.\n") ≡ Ok r) × (witness_of r ≡ follows)) }
+    ensures said { Says (shape_of follower) (codes "sat\nb0\n#0\n0 1\n1 0\n@0\n0 0\n#1\n0 0\n@1\n0 0\n.\n") follows }
+    ensures empty_part { (r : Read) × ((read_text (shape_of follower) (codes "sat\nb0\n@0\n#1\n@1\n.\n") ≡ Ok r)
+        × (witness_of r ≡ record { claims = 0 ∷ []; frames = nothing_given ∷ record { states = Some []; inputs = [] } ∷ [] })) }
+    ensures not_kept { (r : Read) × ((read_text (shape_of follower) (codes "sat\nb0\n#0\n0 1\n@0\n@1\n#2\n0 1\n@2\n.\n") ≡ Ok r)
+        × (map (λ f. f 2) (given_frames follower (words_of (witness_of r))) ≡ 1 ∷ 0 ∷ 1 ∷ [])) }
+{}
+
 /// Worked rows: what two texts say, a comment, a name and an initial part among it, and the words of an input that is given one in the first of two frames.
 pub fn worked_witnesses()
     ensures read { (r : Read) × ((read_text (shape_of toggler) (codes "; note\nsat\nb0\n#0\n0 0 t\n@0\n@1\n.\n") ≡ Ok r) × (witness_of r ≡ rises)) }
     ensures said { Says (shape_of toggler) (codes "; note\nsat\nb0\n#0\n0 0 t\n@0\n@1\n.\n") rises }
     ensures wide_is_model { IsWellFormed wide }
-    ensures words { (r : Read) × ((read_text (shape_of wide) (codes "sat\nb0\n@0\n0 100\n@1\n.\n") ≡ Ok r) × (map (λ f. f 2) (input_frames wide (words_of (witness_of r))) ≡ 4 ∷ 0 ∷ [])) }
+    ensures words { (r : Read) × ((read_text (shape_of wide) (codes "sat\nb0\n@0\n0 100\n@1\n.\n") ≡ Ok r) × (map (λ f. f 2) (given_frames wide (words_of (witness_of r))) ≡ 4 ∷ 0 ∷ [])) }
 {}
 
-/// Worked rows: judgements of texts over the model of one bit that toggles, and over it with a constraint.
+/// Worked rows: judgements of texts over the model of one bit that toggles, over it with a constraint, and over the model
+/// in which one state follows a free one.
 pub fn worked_judgements()
     ensures accepted { Judges toggler (codes "sat\nb0\n#0\n0 0\n@0\n@1\n.\n") (judgement.Accepted 2) }
     ensures other_init { Judges toggler (codes "sat\nb0\n#0\n0 1\n@0\n.\n") (judgement.InitDiffers 0) }
@@ -73,6 +104,8 @@ pub fn worked_judgements()
     ensures unsat { Judges toggler (codes "; x\nunsat\n") judgement.NoClaim }
     ensures unknown { Judges toggler (codes "unknown\nx") judgement.NoClaim }
     ensures malformed { Judges toggler (codes "sat\nb0\n.\n") (judgement.Malformed 3 why.FrameOrder) }
+    ensures follows { Judges follower (codes "sat\nb0\n#0\n0 1\n1 0\n@0\n0 0\n#1\n0 0\n@1\n0 0\n.\n") (judgement.Accepted 2) }
+    ensures does_not_follow { Judges follower (codes "sat\nb0\n@0\n#1\n0 1\n@1\n.\n") (judgement.NotReached 0) }
     ensures constrained_is_model { IsWellFormed constrained }
     ensures violated { Judges constrained (codes "sat\nb0\n#0\n0 0\n@0\n@1\n.\n") (judgement.Violated 1 0) }
 {}

@@ -23,7 +23,7 @@ pub use judging::judge_words;
 pub use reading::{claims_nothing, read_words};
 pub use shape::Shape;
 pub use why::Why;
-pub use words::{Given, Part, Words};
+pub use words::{FrameWords, Given, Part, Words};
 
 #[cfg(test)]
 mod tests;

@@ -3,7 +3,7 @@ ghost use Rattle.std.specs.Prelude.{◌≡◌, ◌∷◌, ◌++◌, ◌<◌, ◌
 ghost use Rattle.std.specs.Str.{bytes_eq};
 ghost use Rattle.base.specs.Lines.{HasNone};
 ghost use Rattle.witness.specs.Texts.{is_comment};
-ghost use Rattle.witness.specs.Admits.{cut_at_space, begins_part};
+ghost use Rattle.witness.specs.Admits.{cut_at_space, begins_part, opens_frame, opens_states};
 
 use base::{cut_at, decimal};
 
@@ -62,13 +62,24 @@ fn is_decimal_of(token: &[u8], number: u64) -> bool
     }
 }
 
-/// Whether a line opens the frame of a number.
+/// Whether a line is the one that begins the inputs of the frame of a number.
 pub(crate) fn opens_frame(line: &[u8], frame: u64) -> bool
     requires { frame < 2 ^ 64 - 1 }
-    ensures { result ≡ bytes_eq line.now (64 ∷ decimal frame) }
+    ensures { result ≡ opens_frame frame line.now }
 {
     match line {
         [b'@', digits @ ..] => is_decimal_of(digits, frame),
+        _ => false,
+    }
+}
+
+/// Whether a line is the one that begins the states of the frame of a number.
+pub(crate) fn opens_states(line: &[u8], frame: u64) -> bool
+    requires { frame < 2 ^ 64 - 1 }
+    ensures { result ≡ opens_states frame line.now }
+{
+    match line {
+        [b'#', digits @ ..] => is_decimal_of(digits, frame),
         _ => false,
     }
 }

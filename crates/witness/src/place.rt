@@ -6,11 +6,13 @@ pub(crate) enum Place {
     Status,
     /// The claims.
     Claims,
-    /// The first line of the states' part, or of the first frame.
+    /// The first line of the first frame, or of its states' part.
     Parts,
-    /// One of the states' part, or the first of the first frame.
+    /// One of the states' part of the first frame, or the line behind it.
     States,
-    /// One of a frame, the first of the next, or the last line.
+    /// One of the states' part of a later frame, or the line behind it.
+    Free,
+    /// One of a frame's inputs, the first line of the next frame or of its states' part, or the last line.
     Frame,
     /// None.
     End,

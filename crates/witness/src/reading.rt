@@ -5,20 +5,21 @@ ghost use Rattle.base.specs.Lines.{whole_lines, unfinished};
 ghost use Rattle.witness.specs.Texts.{Shape};
 ghost use Rattle.witness.specs.Admits.{Read, read_text, witness_of};
 ghost use Rattle.witness.specs.Judgements.{words_of, makes_no_claim};
-ghost use Rattle.witness.specs.Reading.{Admits, nothing_admitted, status_on, claims_on, parts_on, assignment_on, states_on, with_frame, frame_on, line_on, is_whole, end_on, malformed, stopped, lines_on, ReadsLines, IsFaultOf};
+ghost use Rattle.witness.specs.Reading.{Admits, nothing_admitted, status_on, claims_on, parts_on, part_on, assignment_on, free_on, with_states, states_on, free_states_on, with_frame, frame_on, line_on, is_whole, end_on, malformed, stopped, lines_on, ReadsLines, IsFaultOf};
 
-use crate::assignment::assignment;
+use crate::assignment::{assignment, free_assignment};
 use crate::claims::claims;
 use crate::fault::{Stop, WitnessFault};
-use crate::line::{begins_part, is_comment, is_line, opens_frame};
+use crate::line::{begins_part, is_comment, is_line, opens_frame, opens_states};
 use crate::open_part::OpenPart;
 use crate::place::Place;
 use crate::shape::Shape;
 use crate::why::Why;
-use crate::words::{Part, Words};
+use crate::words::{FrameWords, Given, Part, Words};
 use base::{Width, next_line};
 use std::alloc::Global;
 use std::marker::Model;
+use std::mem;
 
 /// The most lines of a witness.
 const MOST_LINES: u64 = 1 << 62;
@@ -28,8 +29,9 @@ const MOST_LINES: u64 = 1 << 62;
 struct Reading {
     place: Place,
     claims: Vec<u64>,
-    initial: Part,
-    frames: Vec<Part>,
+    frames: Vec<FrameWords>,
+    // the words of states in the frame that is open, where their part is closed
+    states: Part,
     part: OpenPart,
 }
 
@@ -40,7 +42,8 @@ impl Model for Reading {
 
     ghost view = { λ r. record {
       place = r.place;
-      words = record { claims = r.claims.items; initial = r.initial; frames = r.frames.items };
+      words = record { claims = r.claims.items; frames = r.frames.items };
+      states = r.states;
       open_part = r.part;
     } };
 }
@@ -53,8 +56,8 @@ impl Reading {
         Reading {
             place: Place::Status,
             claims: Vec::new(alloc),
-            initial: Part::new(alloc),
             frames: Vec::new(alloc),
+            states: Part::new(alloc),
             part: OpenPart::new(alloc),
         }
     }
@@ -63,7 +66,7 @@ impl Reading {
     fn words(self) -> Words
         ensures { result ≡ self.words }
     {
-        Words::new(self.claims, self.initial, self.frames)
+        Words::new(self.claims, self.frames)
     }
 
     /// A comment or the status.
@@ -96,15 +99,15 @@ impl Reading {
         }
     }
 
-    /// The first line of the states' part, or of the first frame.
+    /// The first line of the first frame, or of its states' part.
     #[tactic(auto, unfolding(crate::specs::Reading::parts_on))]
     fn parts(&mut self, line: &[u8]) -> Result<(), Stop>
         ensures { Admits result self.new (parts_on self.old line.now) }
     {
-        if is_line(line, b"#0") {
+        if opens_states(line, 0) {
             self.place = Place::States;
             Ok(())
-        } else if is_line(line, b"@0") {
+        } else if opens_frame(line, 0) {
             self.place = Place::Frame;
             Ok(())
         } else {
@@ -112,15 +115,14 @@ impl Reading {
         }
     }
 
-    /// An assignment of the open part, to a node of these widths.
-    #[tactic(auto, unfolding(crate::specs::Reading::assignment_on))]
-    fn assignment(&mut self, widths: &[Width], line: &[u8]) -> Result<(), Stop>
-        ensures { Admits result self.new (assignment_on widths.now self.old line.now) }
+    /// Adds the assignment that a line makes to the open part, where the line does not begin as others do.
+    fn take(&mut self, line: &[u8], given: Result<Given, Why>) -> Result<(), Stop>
+        ensures { Admits result self.new (part_on self.old line.now given) }
     {
         if begins_part(line) {
             return Err(Stop::Refused(Why::FrameOrder));
         }
-        match assignment(widths, &self.part, line) {
+        match given {
             Ok(given) => match self.part.push(given) {
                 Ok(()) => Ok(()),
                 Err(_) => Err(Stop::NoMemory),
@@ -129,17 +131,55 @@ impl Reading {
         }
     }
 
-    /// A line of the states' part, or the first of the first frame.
+    /// An assignment of the open part, to a node of these widths.
+    #[tactic(auto, unfolding(crate::specs::Reading::assignment_on))]
+    fn assignment(&mut self, widths: &[Width], line: &[u8]) -> Result<(), Stop>
+        ensures { Admits result self.new (assignment_on widths.now self.old line.now) }
+    {
+        let given = assignment(widths, &self.part, line);
+        self.take(line, given)
+    }
+
+    /// An assignment of the open part, to a free state.
+    #[tactic(auto, unfolding(crate::specs::Reading::free_on))]
+    fn free_assignment(&mut self, shape: &Shape, line: &[u8]) -> Result<(), Stop>
+        ensures { Admits result self.new (free_on shape.now self.old line.now) }
+    {
+        let given = free_assignment(shape, &self.part, line);
+        self.take(line, given)
+    }
+
+    /// Closes the states' part of a frame.
+    fn close_states(&mut self, alloc: Global)
+        ensures { self.new ≡ with_states self.old }
+    {
+        self.states = self.part.close(alloc);
+        self.place = Place::Frame;
+    }
+
+    /// A line of the states' part of the first frame, or the one behind it.
     #[tactic(auto, unfolding(crate::specs::Reading::states_on))]
     fn states(&mut self, alloc: Global, shape: &Shape, line: &[u8]) -> Result<(), Stop>
         ensures { Admits result self.new (states_on shape.now self.old line.now) }
     {
-        if is_line(line, b"@0") {
-            self.initial = self.part.close(alloc);
-            self.place = Place::Frame;
+        if opens_frame(line, 0) {
+            self.close_states(alloc);
             Ok(())
         } else {
             self.assignment(shape.states(), line)
+        }
+    }
+
+    /// A line of the states' part of a later frame, or the one behind it.
+    #[tactic(auto, unfolding(crate::specs::Reading::free_states_on))]
+    fn free_states(&mut self, alloc: Global, shape: &Shape, line: &[u8]) -> Result<(), Stop>
+        ensures { Admits result self.new (free_states_on shape.now self.old line.now) }
+    {
+        if opens_frame(line, self.closed_frames()) {
+            self.close_states(alloc);
+            Ok(())
+        } else {
+            self.free_assignment(shape, line)
         }
     }
 
@@ -147,8 +187,9 @@ impl Reading {
     fn close_frame(&mut self, alloc: Global, next: Place) -> Result<(), Stop>
         ensures { Admits result self.new (Ok (with_frame next self.old)) }
     {
-        let part = self.part.close(alloc);
-        match self.frames.push(part) {
+        let inputs = self.part.close(alloc);
+        let states = mem::replace(&mut self.states, Part::new(alloc));
+        match self.frames.push(FrameWords::new(states, inputs)) {
             Ok(()) => {
                 self.place = next;
                 Ok(())
@@ -165,13 +206,16 @@ impl Reading {
         self.frames.len() as u64
     }
 
-    /// A line of a frame, the first of the next, or the last of all.
+    /// A line of a frame's inputs, the first of the next frame or of its states' part, or the last of all.
     #[tactic(auto, unfolding(crate::specs::Reading::frame_on))]
     fn frame(&mut self, alloc: Global, shape: &Shape, line: &[u8]) -> Result<(), Stop>
         ensures { Admits result self.new (frame_on shape.now self.old line.now) }
     {
-        if opens_frame(line, self.closed_frames() + 1) {
+        let next = self.closed_frames() + 1;
+        if opens_frame(line, next) {
             self.close_frame(alloc, Place::Frame)
+        } else if opens_states(line, next) && shape.has_free() {
+            self.close_frame(alloc, Place::Free)
         } else if is_line(line, b".") {
             self.close_frame(alloc, Place::End)
         } else {
@@ -189,6 +233,7 @@ impl Reading {
             Place::Claims => self.claims(alloc, shape, line),
             Place::Parts => self.parts(line),
             Place::States => self.states(alloc, shape, line),
+            Place::Free => self.free_states(alloc, shape, line),
             Place::Frame => self.frame(alloc, shape, line),
             Place::End => Err(Stop::Refused(Why::Trailing)),
         }

@@ -3,8 +3,17 @@ use super::*;
 use btor2::{Body, Item, Model};
 use std::alloc::Global;
 
-/// A line of a model with states of 1 and 3 bits, an input of 2 and two bad properties.
-fn body(id: u64) -> Body {
+/// A model of which witnesses speak.
+#[derive(Clone, Copy)]
+enum Sample {
+    /// States of 1 and 3 bits, of which the first is free, an input of 2 and two bad properties.
+    Wide,
+    /// A free state, one that follows it a frame later and is bad, and an input, of one bit each.
+    Follower,
+}
+
+/// A line of the model with states of 1 and 3 bits.
+fn wide_body(id: u64) -> Body {
     match id {
         1 => Body::Sort { width: 1 },
         2 => Body::Sort { width: 3 },
@@ -12,18 +21,46 @@ fn body(id: u64) -> Body {
         4 => Body::State { sort: 1 },
         5 => Body::State { sort: 2 },
         6 => Body::Input { sort: 3 },
+        7 => Body::Next {
+            sort: 2,
+            state: 5,
+            value: 5,
+        },
         _ => Body::Bad { operand: 4 },
     }
 }
 
-/// The shape of that model.
-fn shape(alloc: Global) -> Option<Shape> {
+/// A line of the model of a state that follows another.
+fn follower_body(id: u64) -> Body {
+    match id {
+        1 => Body::Sort { width: 1 },
+        2 | 3 => Body::State { sort: 1 },
+        4 => Body::Input { sort: 1 },
+        5 => Body::Next {
+            sort: 1,
+            state: 3,
+            value: 2,
+        },
+        _ => Body::Bad { operand: 3 },
+    }
+}
+
+/// The shape of one of these models.
+fn shape(alloc: Global, sample: Sample) -> Option<Shape> {
     let mut model = Model::new(alloc);
-    for id in 1..9 {
+    let end = match sample {
+        Sample::Wide => 10,
+        Sample::Follower => 7,
+    };
+    for id in 1..end {
+        let body = match sample {
+            Sample::Wide => wide_body(id),
+            Sample::Follower => follower_body(id),
+        };
         let item = Item {
             id,
             symbol: None,
-            body: body(id),
+            body,
         };
         if model.push(item).is_err() {
             return None;
@@ -36,8 +73,8 @@ fn shape(alloc: Global) -> Option<Shape> {
 }
 
 /// The line and the number of a text's fault, none of a witness.
-fn fault(alloc: Global, shape: &Shape, text: &str) -> (u64, u32) {
-    match read_words(alloc, shape, text.as_bytes()) {
+fn fault(alloc: Global, shape: &Shape, text: &[u8]) -> (u64, u32) {
+    match read_words(alloc, shape, text) {
         Ok(_) => (0, 0),
         Err(WitnessFault::Malformed { line, why }) => (line, why.number()),
         Err(WitnessFault::NoMemory) => (0, 1),
@@ -46,7 +83,7 @@ fn fault(alloc: Global, shape: &Shape, text: &str) -> (u64, u32) {
 
 #[test]
 fn faults(rt: HostRuntime) {
-    let Some(shape) = shape(rt.alloc()) else {
+    let Some(shape) = shape(rt.alloc(), Sample::Wide) else {
         panic!(rt; "no shape");
     };
     let table = [
@@ -73,32 +110,66 @@ fn faults(rt: HostRuntime) {
         ("sat\nb0\n@0\n.\n\n", 5, 119),
         ("sat\nb0\n@0\n.", 4, 118),
         ("sat\nb0\n@0\n0 01\n@1\n0 01\n.\n", 0, 0),
+        ("sat\nb0\n@0\n#1\n1 000\n", 5, 114),
+        ("sat\nb0\n@0\n#1\n2 1\n", 5, 114),
+        ("sat\nb0\n@0\n#1\n0 1\n0 y\n", 6, 115),
+        ("sat\nb0\n@0\n#1\n0 11\n", 5, 116),
+        ("sat\nb0\n@0\n#1\n0 x\n", 5, 117),
+        ("sat\nb0\n@0\n#1\n0 1 ;\n", 5, 121),
+        ("sat\nb0\n@0\n#1\n#1\n", 5, 113),
+        ("sat\nb0\n@0\n#1\n.\n", 5, 113),
+        ("sat\nb0\n@0\n@1\n#1\n", 5, 113),
+        ("sat\nb0\n@0\n#1\n@2\n", 5, 113),
+        ("sat\nb0\n@0\n#1\n@1\n#2\n0 1\n@2\n.\n", 0, 0),
     ];
     for (text, line, number) in table {
-        assert_eq!(rt; fault(rt.alloc(), &shape, text), (line, number), "{text}");
+        assert_eq!(rt;
+            fault(rt.alloc(), &shape, text.as_bytes()),
+            (line, number),
+            "{text}"
+        );
     }
 }
 
 #[test]
 fn words(rt: HostRuntime) {
-    let Some(shape) = shape(rt.alloc()) else {
+    let Some(shape) = shape(rt.alloc(), Sample::Wide) else {
         panic!(rt; "no shape");
     };
-    let text = "; c\nsat\nb1 b0\n#0\n1 110 n\n0 1\n@0\n@1\n0 10\n.\n";
+    let text = "; c\nsat\nb1 b0\n#0\n1 110 n\n0 1\n@0\n#1\n0 1\n@1\n0 10\n.\n";
     let words = read_words(rt.alloc(), &shape, text.as_bytes()).expect(&rt, "a witness");
     assert_eq!(rt; words.claims(), [1, 0].as_slice());
-    let initial = words.initial().given();
+    let [first, second] = words.frames() else {
+        panic!(rt; "two frames");
+    };
+    let initial = first.states().given();
     assert_eq!(rt; initial.len(), 2);
-    let frames = words.frames();
-    assert_eq!(rt; frames.len(), 2);
     for (given, (index, word)) in initial.iter().zip([(1, 6), (0, 1)]) {
         assert_eq!(rt; (given.index(), given.word()), (index, word));
     }
-    for (frame, count) in frames.iter().zip([0, 1]) {
-        assert_eq!(rt; frame.given().len(), count);
-        for given in frame.given() {
-            assert_eq!(rt; (given.index(), given.word()), (0, 2));
-        }
+    assert_eq!(rt; first.inputs().given().len(), 0);
+    assert_eq!(rt; second.states().given().len(), 1);
+    assert_eq!(rt; second.inputs().given().len(), 1);
+    for given in second.states().given() {
+        assert_eq!(rt; (given.index(), given.word()), (0, 1));
+    }
+    for given in second.inputs().given() {
+        assert_eq!(rt; (given.index(), given.word()), (0, 2));
+    }
+}
+
+#[test]
+fn a_witness_cut_after_any_byte(rt: HostRuntime) {
+    let Some(shape) = shape(rt.alloc(), Sample::Follower) else {
+        panic!(rt; "no shape");
+    };
+    let text = b"sat\nb0\n#0\n1 0\n0 1\n@0\n0 0\n#1\n0 0\n@1\n0 0\n.\n";
+    assert_eq!(rt; fault(rt.alloc(), &shape, text), (0, 0));
+    for end in 0..text.len() {
+        let (front, _) = text.split_at(end);
+        let lines = front.iter().filter(|b| **b == b'\n').count() as u64;
+        let line = lines.wrapping_add(1);
+        assert_eq!(rt; fault(rt.alloc(), &shape, front), (line, 118), "{end}");
     }
 }
 

@@ -7,12 +7,12 @@ ghost use Rattle.btor2.specs.Lists.{places};
 ghost use Rattle.btor2.specs.Trace.{Frame, IsFrame, IsTrace, next_state};
 ghost use Rattle.runs.specs.Frames.{ids_of};
 ghost use Rattle.runs.specs.Run.{IsNow, state_words, zeros, start};
-ghost use Rattle.witness.specs.Texts.{widths_of};
-ghost use Rattle.witness.specs.Judgements.{of_kind, nodes_of, init_constant, input_words, differs, first_different, first_violated, violated_at, violation_from, unreached_from, JudgesWords};
-ghost use Rattle.witness.specs.Fits.{PairFits, PartFits, WordsFit, words_put, RisesIn, RisesAmong, NoneIsSet, AreClaimed};
+ghost use Rattle.witness.specs.Texts.{shape_of, widths_of};
+ghost use Rattle.witness.specs.Judgements.{of_kind, nodes_of, init_constant, initial_part, given_words, differs, first_different, first_violated, violated_at, violation_from, unreached_from, JudgesWords};
+ghost use Rattle.witness.specs.Fits.{PairFits, FirstFits, FramesFit, WordsFit, StandsAt, StandsBefore, words_put, RisesIn, RisesAmong, NoneIsSet, AreClaimed};
 
 use crate::judgement::Judgement;
-use crate::words::{Given, Part, Words};
+use crate::words::{FrameWords, Given, Words};
 use btor2::Model;
 use runs::WordRun;
 
@@ -121,26 +121,30 @@ fn note_rises(run: &WordRun<'_>, rose: &mut [bool])
     }
 }
 
-/// Runs one frame, with the words that a part gives to its inputs, and moves to the next. Answers the first constraint
-/// that does not hold in it, and sets the flags of the bad properties that rise.
+/// Runs one frame, with the words that are given in it, and moves to the next. Answers the first constraint that does
+/// not hold in it, and sets the flags of the bad properties that rise.
 fn judge_frame(
     model: &Model,
     run: &mut WordRun<'_>,
-    given: &[Given],
+    given: &FrameWords,
     rose: &mut [bool],
 ) -> Option<u64>
     requires same { run.old.items ≡ model.now }
     requires well_formed { IsWellFormed model.now }
+    requires many_states { length run.old.states ≡ length (ids_of is_state model.now) }
     requires no_inputs { run.old.inputs ≡ zeros model.now }
-    requires fits { PartFits (widths_of is_input model.now) given.now }
+    requires fits { FirstFits (shape_of model.now) given.now }
     requires many { length rose.old ≡ length (places is_bad 0 model.now) }
-    ensures violated { (f : Frame) → IsFrame model.now (state_words run.old) (input_words model.now given.now) f → result ≡ first_violated model.now f }
-    ensures rises { (f : Frame) → IsFrame model.now (state_words run.old) (input_words model.now given.now) f → RisesIn (nodes_of is_bad model.now) f rose.old rose.new }
-    ensures states { (f : Frame) → IsFrame model.now (state_words run.old) (input_words model.now given.now) f → run.new.states ≡ map (next_state model.now f) (ids_of is_state model.now) }
+    // the words that are carried into the frame are those of which the run's words, with the given ones, make the frame's
+    ensures violated { (carried f : Frame) → StandsAt model.now carried given.now (state_words run.old) → IsFrame model.now carried (given_words model.now given.now) f → result ≡ first_violated model.now f }
+    ensures rises { (carried f : Frame) → StandsAt model.now carried given.now (state_words run.old) → IsFrame model.now carried (given_words model.now given.now) f → RisesIn (nodes_of is_bad model.now) f rose.old rose.new }
+    ensures states { (carried f : Frame) → StandsAt model.now carried given.now (state_words run.old) → IsFrame model.now carried (given_words model.now given.now) f → run.new.states ≡ map (next_state model.now f) (ids_of is_state model.now) }
+    ensures still_many { length run.new.states ≡ length (ids_of is_state model.now) }
     ensures inputs { run.new.inputs ≡ zeros model.now }
     ensures items { run.new.items ≡ model.now }
 {
-    give_inputs(run, given);
+    give_states(run, given.states().given());
+    give_inputs(run, given.inputs().given());
     run.settle();
     let violated = first_violated(model, run);
     note_rises(run, rose);
@@ -166,20 +170,21 @@ fn earlier(found: Option<Breach>, frame: u64, violated: Option<u64>) -> Option<B
 fn judge_frames(
     model: &Model,
     run: &mut WordRun<'_>,
-    frames: &[Part],
+    frames: &[FrameWords],
     rose: &mut [bool],
 ) -> Option<Breach>
     requires same { run.old.items ≡ model.now }
     requires well_formed { IsWellFormed model.now }
+    requires many_states { length run.old.states ≡ length (ids_of is_state model.now) }
     requires no_inputs { run.old.inputs ≡ zeros model.now }
-    requires fit { All (PartFits (widths_of is_input model.now)) frames.now }
+    requires fit { FramesFit (shape_of model.now) frames.now }
     requires many { length rose.old ≡ length (places is_bad 0 model.now) }
-    ensures violated { (fs : List Frame) → IsTrace model.now (state_words run.old) (map (input_words model.now) frames.now) fs → result ≡ violation_from model.now 0 fs }
-    ensures rises { (fs : List Frame) → IsTrace model.now (state_words run.old) (map (input_words model.now) frames.now) fs → RisesAmong (nodes_of is_bad model.now) fs rose.old rose.new }
+    ensures violated { (carried : Frame) (fs : List Frame) → StandsBefore model.now carried frames.now (state_words run.old) → IsTrace model.now carried (map (given_words model.now) frames.now) fs → result ≡ violation_from model.now 0 fs }
+    ensures rises { (carried : Frame) (fs : List Frame) → StandsBefore model.now carried frames.now (state_words run.old) → IsTrace model.now carried (map (given_words model.now) frames.now) fs → RisesAmong (nodes_of is_bad model.now) fs rose.old rose.new }
 {
     let mut found = None;
     for k in 0..frames.len() {
-        let violated = judge_frame(model, run, frames[k].given(), rose);
+        let violated = judge_frame(model, run, &frames[k], rose);
         found = earlier(found, k as u64, violated);
     }
     found
@@ -209,6 +214,16 @@ fn first_unreached(claimed: &[bool], rose: &[bool]) -> Option<u64>
     None
 }
 
+/// The words that are given to states in the first frame.
+fn initial_part(frames: &[FrameWords]) -> &[Given]
+    ensures { result.now ≡ initial_part frames.now }
+{
+    match frames {
+        [] => &[],
+        [first, ..] => first.states().given(),
+    }
+}
+
 /// The judgement of the words that a witness gives, by one run of the model. `claimed` and `rose` have a flag for each
 /// bad property, for those that are claimed and those that rise in a frame.
 ///
@@ -229,7 +244,7 @@ pub(crate) fn judge_run(
     ensures { JudgesWords model.now words.now result }
 {
     let _items = model.items();
-    give_states(run, words.initial().given());
+    give_states(run, initial_part(words.frames()));
     run.settle();
     if let Some(index) = first_different(model, run) {
         return Judgement::InitDiffers { index };

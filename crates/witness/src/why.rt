@@ -17,7 +17,8 @@ pub enum Why {
     JusticeClaim,
     /// A line that opens or ends a part stands where it may not.
     FrameOrder,
-    /// An assignment's index is no decimal, or names no state or input.
+    /// An assignment's index is no decimal, or names no state or input, or behind the first frame a state that is not
+    /// free.
     BadIndex,
     /// The index stands earlier in this part.
     IndexTwice,

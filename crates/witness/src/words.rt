@@ -1,6 +1,6 @@
 //! The words that a witness gives, without the names.
 ghost use Rattle.std.specs.Prelude.{◌≡◌, ℕ, List, [], ◌∷◌, ◌++◌, OnOk, OnErr};
-ghost use Rattle.witness.specs.Judgements.{Words};
+ghost use Rattle.witness.specs.Judgements.{FrameWords, Words};
 
 use std::alloc::{AllocError, Global};
 use std::marker::Model;
@@ -92,13 +92,51 @@ impl Part {
     }
 }
 
-/// What a witness says, without its names: the bad properties that it claims, the words that it gives to states in the
-/// first frame, and those that it gives to inputs in each frame.
+/// The words that a witness gives in one frame, by its two parts: those of states and those of inputs.
+///
+/// Clauses see its record.
+#[derive(Drop)]
+pub struct FrameWords {
+    states: Part,
+    inputs: Part,
+}
+
+impl Model for FrameWords {
+    ghost use Rattle.witness.specs.Judgements.{FrameWords};
+
+    ghost Value = { FrameWords };
+
+    ghost view = { λ f. record { states = f.states; inputs = f.inputs } };
+}
+
+impl FrameWords {
+    /// The words of two parts.
+    pub(crate) fn new(states: Part, inputs: Part) -> FrameWords
+        ensures { result ≡ record { states = states; inputs = inputs } }
+    {
+        FrameWords { states, inputs }
+    }
+
+    /// The words of states: of any in the first frame, of free ones in a later one.
+    pub fn states(&self) -> &Part
+        ensures { result.now ≡ self.now.states }
+    {
+        &self.states
+    }
+
+    /// The words of inputs.
+    pub fn inputs(&self) -> &Part
+        ensures { result.now ≡ self.now.inputs }
+    {
+        &self.inputs
+    }
+}
+
+/// What a witness says, without its names: the bad properties that it claims, and the words that it gives in each frame.
 #[derive(Drop)]
 pub struct Words {
     claims: Vec<u64>,
-    initial: Part,
-    frames: Vec<Part>,
+    frames: Vec<FrameWords>,
 }
 
 impl Model for Words {
@@ -106,19 +144,15 @@ impl Model for Words {
 
     ghost Value = { Words };
 
-    ghost view = { λ w. record { claims = w.claims.items; initial = w.initial; frames = w.frames.items } };
+    ghost view = { λ w. record { claims = w.claims.items; frames = w.frames.items } };
 }
 
 impl Words {
     /// What was read.
-    pub(crate) fn new(claims: Vec<u64>, initial: Part, frames: Vec<Part>) -> Words
-        ensures { result ≡ record { claims = claims.items; initial = initial; frames = frames.items } }
+    pub(crate) fn new(claims: Vec<u64>, frames: Vec<FrameWords>) -> Words
+        ensures { result ≡ record { claims = claims.items; frames = frames.items } }
     {
-        Words {
-            claims,
-            initial,
-            frames,
-        }
+        Words { claims, frames }
     }
 
     /// The bad properties that are claimed, in file order from 0, as the claims line has them.
@@ -128,15 +162,8 @@ impl Words {
         self.claims.as_slice()
     }
 
-    /// The words of states in the first frame.
-    pub fn initial(&self) -> &Part
-        ensures { result.now ≡ self.now.initial }
-    {
-        &self.initial
-    }
-
-    /// The words of inputs, frame by frame.
-    pub fn frames(&self) -> &[Part]
+    /// The words that are given, frame by frame.
+    pub fn frames(&self) -> &[FrameWords]
         ensures { result.now ≡ self.now.frames }
     {
         self.frames.as_slice()

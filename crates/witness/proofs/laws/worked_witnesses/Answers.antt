@@ -2,16 +2,18 @@ use Rattle.std.proofs.Common.{[], ◌∷◌, Some, None, codes, refl, ◌≡◌,
 use Rattle.std.proofs.Math.Dec.{lit<, lit≤}
 use Rattle.std.proofs.lemmas.List.Elements.{All-from_recursion, All-nil}
 use Rattle.base.specs.Lines.{IsLine}
-use Rattle.witness.specs.Texts.{IsAssignment, IsPart, is_comment}
+use Rattle.witness.specs.Texts.{IsAssignment, IsPart, IsLater, shape_of, is_comment}
+use Rattle.btor2.specs.Worked.{toggler}
 use Rattle.std.specs.Fmt.{digits}
 use Rattle.btor2.specs.Check.{refusal, id_is_out_of_range, id_is_taken, sort_is_missing, operand_is_missing, state_is_none, width_is_out_of_range, slice_is_out_of_range, widths_differ, constant_does_not_fit, init_is_not_constant, is_second_init, is_second_next, justice_is_empty}
 use Rattle.base.specs.Decimals.{is_decimal, capped_value, number_of}
 use Rattle.witness.specs.Admits.{AtEnd, claims_at, value_of, assignment_at, admit, read_lines, read_text}
+use Rattle.witness.specs.Worked.{rises, nothing_given}
 use Rattle.witness.proofs.laws.worked_witnesses.Goals as goal
 
 pub returns-clause-read : goal.returns-clause-read
 unfolding digits read_text read_lines admit claims_at assignment_at value_of number_of capped_value is_decimal
-returns-clause-read c = (record { place = AtEnd; claims = 0 ∷ []; initial = Some (record { index = 0; word = 0; symbol = Some (codes "t") } ∷ []); closed = [] ∷ [] ∷ []; open_part = [] }, (refl, refl))
+returns-clause-read c = (record { place = AtEnd; claims = 0 ∷ []; closed = rises.frames; states = None; open_part = [] }, (refl, refl))
 
 pub returns-clause-said : goal.returns-clause-said
 unfolding digits
@@ -26,13 +28,17 @@ returns-clause-said c =
             some_claim = λ e. cc;
             claims = All-from_recursion (λ i. i < 1) (0 ∷ []) (lit< tt, tt);
             distinct = refl;
-            initial =
-                record {
-                  each = All-from_recursion (IsAssignment (1 ∷ [])) (record { index = 0; word = 0; symbol = Some (codes "t") } ∷ []) (record { index = lit< tt; word = lit< tt; symbol = refl }, tt);
-                  distinct = refl;
-                };
-            some_frame = λ e. cc;
-            frames = All-from_recursion (IsPart []) ([] ∷ [] ∷ []) (record { each = All-nil (IsAssignment []); distinct = refl }, (record { each = All-nil (IsAssignment []); distinct = refl }, tt));
+            frames = (
+              record {
+                states =
+                    record {
+                      each = All-from_recursion (IsAssignment (1 ∷ [])) (record { index = 0; word = 0; symbol = Some (codes "t") } ∷ []) (record { index = lit< tt; word = lit< tt; symbol = refl }, tt);
+                      distinct = refl;
+                    };
+                inputs = record { each = All-nil (IsAssignment []); distinct = refl };
+              },
+              All-from_recursion (IsLater (shape_of toggler)) (nothing_given ∷ []) (record { states = tt; inputs = record { each = All-nil (IsAssignment []); distinct = refl } }, tt),
+            );
           };
       few = lit≤ tt;
     }
@@ -43,4 +49,4 @@ returns-clause-wide_is_model c = (refl, (refl, (refl, (refl, (refl, tt)))))
 
 pub returns-clause-words : goal.returns-clause-words
 unfolding digits read_text read_lines admit claims_at assignment_at value_of number_of capped_value is_decimal
-returns-clause-words c = (record { place = AtEnd; claims = 0 ∷ []; initial = None; closed = (record { index = 0; word = 4; symbol = None } ∷ []) ∷ [] ∷ []; open_part = [] }, (refl, refl))
+returns-clause-words c = (record { place = AtEnd; claims = 0 ∷ []; closed = record { states = None; inputs = record { index = 0; word = 4; symbol = None } ∷ [] } ∷ nothing_given ∷ []; states = None; open_part = [] }, (refl, refl))
