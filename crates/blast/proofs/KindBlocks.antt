@@ -1,11 +1,11 @@
 -- Blocks of a list, one for each item of a kind, written one after another over entries that are blank.
 use Rattle.std.proofs.Common.{◌≡◌, ℕ, zero, suc, ◌+◌, ◌<◌, ◌≤◌, Bool, true, false, cond, List, [], ◌∷◌, ◌++◌, length, take, drop, set, get_or, replicate, Option, Some, slice_get, refl, sym, ap, ap₂, subst, ◌∙◌, append_assoc, append-nil, length-append, arith}
-use Rattle.std.proofs.lemmas.List.{length-replicate, take_at, drop_at, take_more, drop_more, take_all, drop_all, set_at, replicate-append-replicate, take-append-drop, length-take-le}
+use Rattle.std.proofs.lemmas.List.{length-replicate, take_at, drop_at, drop-drop, take_more, drop_more, take_all, drop_all, set_at, replicate-append-replicate, take-append-drop, length-take-le}
 use Rattle.std.proofs.lemmas.Option.{same_Some}
 use Rattle.btor2.specs.declared.item.Item.{Item}
 use Rattle.btor2.specs.declared.item.Body.{Body}
 use Rattle.btor2.specs.Lists.{places}
-use Rattle.blast.specs.Leaves.{of_kind}
+use Rattle.blast.specs.Leaves.{by_body, of_kind}
 use Rattle.blast.specs.Blocks.{block, blocks, written, IsBlank}
 
 -- Entries of lists.
@@ -101,6 +101,26 @@ written-at front old more rest at e same =
     let d : drop (at + length more) (front ++ (old ++ rest)) ≡ rest = ap (drop (at + length more)) (sym (append_assoc front old rest)) ∙ drop_at (front ++ old) rest (at + length more) n in
     ap₂ (λ (x y : List _). x ++ (more ++ y)) t d ∙ sym (append_assoc front more rest)
 
+-- a block written behind another
+pub written-further : {A : Type 0} (list : List A) (at : ℕ) (xs ys : List A) → at + length xs + length ys ≤ length list → written (written list at xs) (at + length xs) ys ≡ written list at (xs ++ ys)
+unfolding written
+written-further list at xs ys h =
+    let rest = drop (at + length xs) list in
+    let t : length (take at list) ≡ at = length-take-le at list (omega arith) in
+    let p : length (take at list ++ xs) ≡ at + length xs = omega (arith, length-append (take at list) xs) in
+    let d : at + length xs + length rest ≡ length list = length_drop_rest list (at + length xs) (omega arith) in
+    let old : length (take (length ys) rest) ≡ length ys = length-take-le (length ys) rest (omega arith) in
+    let n : at + length xs + length ys ≡ at + length (xs ++ ys) = omega (arith, length-append xs ys) in
+    ap (λ (l : List _). written l (at + length xs) ys) (sym (append_assoc (take at list) xs rest) ∙ ap (λ (l : List _). (take at list ++ xs) ++ l) (sym (take-append-drop (length ys) rest)))
+    ∙ written-at (take at list ++ xs) (take (length ys) rest) ys (drop (length ys) rest) (at + length xs) p old
+    ∙ ap₂ (λ (l r : List _). l ++ r) (append_assoc (take at list) xs ys) (drop-drop (length ys) (at + length xs) list ∙ ap (λ (k : ℕ). drop k list) n)
+    ∙ append_assoc (take at list) (xs ++ ys) (drop (at + length (xs ++ ys)) list)
+
+-- a block written over a whole list
+pub written-whole : {A : Type 0} (list more : List A) → length list ≡ length more → written list 0 more ≡ more
+unfolding written
+written-whole list more same = ap (λ (l : List _). more ++ l) (drop_all (0 + length more) list (omega arith)) ∙ append-nil more
+
 -- an entry written again
 set_same : {A : Type 0} (list : List A) (k : ℕ) (x : A) → slice_get list k ≡ Some x → set list k x ≡ list
 set_same [] k x e = refl
@@ -146,21 +166,32 @@ blocks-rest give items ps k h = ap (blocks give items) (drop_more ps k 0 h)
 
 -- the blocks of the places of a kind are what the items of the kind give
 kind_blocks : {A : Type 0} (kind : Body → Bool) (give : Item → List A) (before xs : List Item) (n : ℕ) → length before ≡ n
-    → blocks give (before ++ xs) (places kind n xs) ≡ of_kind kind give xs
+    → blocks give (before ++ xs) (places kind n xs) ≡ of_kind (by_body kind) give xs
 unfolding blocks
 kind_blocks kind give before [] n e = refl
 kind_blocks kind give before (x ∷ xs) n e =
     let own : slice_get (before ++ x ∷ xs) n ≡ Some x = ap (slice_get (before ++ x ∷ xs)) (omega arith) ∙ slice_get-behind before (x ∷ xs) n 0 e in
-    let rest : blocks give (before ++ x ∷ xs) (places kind (suc n) xs) ≡ of_kind kind give xs =
+    let rest : blocks give (before ++ x ∷ xs) (places kind (suc n) xs) ≡ of_kind (by_body kind) give xs =
     ap (λ (l : List Item). blocks give l (places kind (suc n) xs)) (sym (append_assoc before (x ∷ []) xs))
     ∙ kind_blocks kind give (before ++ x ∷ []) xs (suc n) (omega (arith, length-append before (x ∷ []))) in
-    elim (kind x.body) as (λ b. blocks give (before ++ x ∷ xs) (cond b (n ∷ places kind (suc n) xs) (places kind (suc n) xs)) ≡ cond b (give x) [] ++ of_kind kind give xs) [
+    elim (kind x.body) as (λ b. blocks give (before ++ x ∷ xs) (cond b (n ∷ places kind (suc n) xs) (places kind (suc n) xs)) ≡ cond b (give x) [] ++ of_kind (by_body kind) give xs) [
       | true ↦ ap₂ (λ (o : Option Item) (l : List _). block give o ++ l) own rest
       | false ↦ rest
     ]
 
-pub blocks-of_kind : {A : Type 0} (kind : Body → Bool) (give : Item → List A) (items : List Item) → blocks give items (places kind 0 items) ≡ of_kind kind give items
+pub blocks-of_kind : {A : Type 0} (kind : Body → Bool) (give : Item → List A) (items : List Item) → blocks give items (places kind 0 items) ≡ of_kind (by_body kind) give items
 blocks-of_kind kind give items = kind_blocks kind give [] items 0 refl
+
+-- where the items of a kind are among those of a wider kind, what the wider kind gives is what they give
+pub of_kind-within : {A : Type 0} (wide kind : Item → Bool) (give : Item → List A) (xs : List Item) → ((x : Item) → kind x ≡ true → wide x ≡ true)
+    → of_kind wide (λ x. cond (kind x) (give x) []) xs ≡ of_kind kind give xs
+of_kind-within wide kind give [] within = refl
+of_kind-within wide kind give (x ∷ xs) within = ap₂ (λ (l r : List _). l ++ r) (by (wide x) (kind x) (within x)) (of_kind-within wide kind give xs within)
+  where
+    by : (w k : Bool) → (k ≡ true → w ≡ true) → cond w (cond k (give x) []) [] ≡ cond k (give x) []
+    by true k h = refl
+    by false true h = let e : false ≡ true = h refl in absurd (cc)
+    by false false h = refl
 
 -- The blocks of the first so many places, before entries that are still blank.
 unfoldable pub so_far : {A : Type 0} → A → (Item → List A) → List Item → List ℕ → ℕ → List A
@@ -169,6 +200,10 @@ so_far blank give items ps k = blocks give items (take k ps) ++ replicate (lengt
 -- where the next block begins
 unfoldable pub reached : {A : Type 0} → (Item → List A) → List Item → List ℕ → ℕ → ℕ
 reached give items ps k = length (blocks give items (take k ps))
+
+pub reached-is : {A : Type 0} (give : Item → List A) (items : List Item) (ps : List ℕ) (k : ℕ) → reached give items ps k ≡ length (blocks give items (take k ps))
+unfolding reached
+reached-is give items ps k = refl
 
 pub so_far-none : {A : Type 0} (blank : A) (give : Item → List A) (items : List Item) (ps : List ℕ) → so_far blank give items ps 0 ≡ replicate (length (blocks give items ps)) blank
 unfolding so_far blocks
@@ -188,6 +223,19 @@ pub reached-more : {A : Type 0} (give : Item → List A) (items : List Item) (ps
 unfolding reached
 reached-more give items ps k h =
     ap length (blocks-more give items ps k h) ∙ length-append (blocks give items (take k ps)) (block give (slice_get items (get_or ps k 0)))
+
+-- the blocks so far and the next are within all of them
+pub reached-within : {A : Type 0} (give : Item → List A) (items : List Item) (ps : List ℕ) (k : ℕ) → k < length ps
+    → reached give items ps k + length (block give (slice_get items (get_or ps k 0))) ≤ length (blocks give items ps)
+reached-within give items ps k h =
+    let whole : blocks give items ps ≡ blocks give items (take (k + 1) ps) ++ blocks give items (drop (k + 1) ps) =
+    ap (blocks give items) (sym (take-append-drop (k + 1) ps)) ∙ blocks-append give items (take (k + 1) ps) (drop (k + 1) ps) in
+    let more = reached-more give items ps k h in
+    let own : reached give items ps (k + 1) ≡ length (blocks give items (take (k + 1) ps)) = reached-is give items ps (k + 1) in
+    omega (arith, ap length whole, length-append (blocks give items (take (k + 1) ps)) (blocks give items (drop (k + 1) ps)))
+
+pub reached-all : {A : Type 0} (give : Item → List A) (items : List Item) (ps : List ℕ) (k : ℕ) → length ps ≤ k → reached give items ps k ≡ length (blocks give items ps)
+reached-all give items ps k h = reached-is give items ps k ∙ ap (λ (l : List ℕ). length (blocks give items l)) (take_all k ps h)
 
 -- the entries so far, cut at the next block
 so_far_cut : {A : Type 0} (blank : A) (give : Item → List A) (items : List Item) (ps : List ℕ) (k : ℕ) → k < length ps

@@ -1,11 +1,11 @@
 -- Rows of nodes: that they are there, and what they read as.
-use Rattle.std.proofs.Common.{◌≡◌, ℕ, zero, suc, ◌<◌, Bool, true, false, cond, List, [], ◌∷◌, ◌++◌, length, Option, Some, None, is_some, is_none, unwrap_or, option_and_then, MatchOption, slice_get, get_or, ◌&&◌, if◌then◌else◌, refl, sym, ap, subst, ◌∙◌, append_assoc, length-append, arith}
+use Rattle.std.proofs.Common.{◌≡◌, ℕ, zero, suc, ◌<◌, Bool, true, false, cond, List, [], ◌∷◌, ◌++◌, length, Option, Some, None, is_some, is_none, unwrap_or, option_and_then, option_map, MatchOption, slice_get, get_or, ◌&&◌, not, if◌then◌else◌, refl, sym, ap, subst, ◌∙◌, append_assoc, length-append, arith}
 use Rattle.std.proofs.lemmas.Option.{slice_get_within, none-some, same_Some}
 use Rattle.btor2.specs.declared.item.Item.{Item}
 use Rattle.btor2.specs.declared.item.Body.{Body}
-use Rattle.btor2.specs.Items.{find_item, position_of, width_of_body, node_width, is_state, constant_of_body, constant_of, init_value, next_value}
+use Rattle.btor2.specs.Items.{find_item, position_of, width_of_body, node_width, is_state, constant_of_body, constant_of, init_value, next_value, is_free, is_free_state, is_carried_state}
 use Rattle.btor2.specs.Check.{IsWellFormed}
-use Rattle.btor2.specs.Lists.{places, init_place, next_place, first_without_next, constant_at}
+use Rattle.btor2.specs.Lists.{places, init_place, next_place, is_free_at, has_init_without_next, first_init_without_next, constant_at}
 use Rattle.btor2.proofs.LookUps.{found}
 use Rattle.btor2.proofs.AppendLemmas.{then_parts, some_of}
 use Rattle.btor2.proofs.ModelLemmas.{IsIn-from_find, IsNextOf-from_value}
@@ -128,25 +128,56 @@ pub place-kind : (kind : Body → Bool) (items : List Item) (ps : List ℕ) (k :
 place-kind kind items ps k x e low at =
     subst (λ (l : List ℕ). k < length l → slice_get items (get_or l k 0) ≡ Some x → kind x.body ≡ true) (sym e) (λ b h. kind_from kind [] items 0 k x refl b h) low at
 
--- where each state has a next, the first item has one if it is a state, and the others have theirs
-some_next : (items ys : List Item) (id : ℕ) (o : Option ℕ) → (if true && is_none o then Some id else first_without_next items ys) ≡ None → is_some o ≡ true
-some_next items ys id None h = absurd (none-some id (sym h))
-some_next items ys id (Some v) h = refl
+-- whether the state with a number is free, and whether it is carried
+pub is_free-at : (items : List Item) (place : ℕ) (x : Item) → slice_get items place ≡ Some x → is_free_at items place ≡ is_free items x.id
+is_free-at items place x at = ap (λ (o : Option Item). unwrap_or (option_map (is_free items) (option_and_then (λ (y : Item). Some y.id) o)) false) at
 
-pub head_next : (items : List Item) (y : Item) (ys : List Item) → first_without_next items (y ∷ ys) ≡ None → is_state y.body ≡ true → is_some (next_value items y.id) ≡ true
-head_next items y ys h state = some_next items ys y.id (next_value items y.id) (rw state at h)
+pub state_by_number : (items : List Item) (k : ℕ) (x : Item) (b : Bool) → k < length (places is_state 0 items) → slice_get items (get_or (places is_state 0 items) k 0) ≡ Some x → b ≡ is_free_at items (get_or (places is_state 0 items) k 0)
+    → (b ≡ is_free_state items x) × (not b ≡ is_carried_state items x)
+state_by_number items k x b low at e =
+    let state : is_state x.body ≡ true = place-kind is_state items (places is_state 0 items) k x refl low at in
+    let free : b ≡ is_free items x.id = e ∙ is_free-at items (get_or (places is_state 0 items) k 0) x at in
+    (free ∙ sym (ap (λ (s : Bool). s && is_free items x.id) state), ap not free ∙ sym (ap (λ (s : Bool). s && not (is_free items x.id)) state))
 
-later_next : (items ys : List Item) (id : ℕ) (b : Bool) → (if b then Some id else first_without_next items ys) ≡ None → first_without_next items ys ≡ None
+-- where no state has an init line alone, the first item has a next line if it is a state that is not free, and the others have theirs
+some_next : (items ys : List Item) (id : ℕ) (i o : Option ℕ) → (if true && (is_some i && is_none o) then Some id else first_init_without_next items ys) ≡ None → (is_none i && is_none o) ≡ false → is_some o ≡ true
+some_next items ys id i (Some v) h carried = refl
+some_next items ys id (Some v) None h carried = absurd (none-some id (sym h))
+some_next items ys id None None h carried = absurd (cc)
+
+-- what a state is that is carried
+pub carried_parts : (items : List Item) (x : Item) → is_carried_state items x ≡ true → (is_state x.body ≡ true) × (is_free items x.id ≡ false)
+carried_parts items x h = by (is_state x.body) (is_free items x.id) h
+  where
+    by : (b c : Bool) → (b && not c) ≡ true → (b ≡ true) × (c ≡ false)
+    by true false h = (refl, refl)
+    by true true h = absurd (cc)
+    by false c h = absurd (cc)
+
+pub free_parts : (items : List Item) (x : Item) → is_free_state items x ≡ true → (is_state x.body ≡ true) × (is_free items x.id ≡ true)
+free_parts items x h = by (is_state x.body) (is_free items x.id) h
+  where
+    by : (b c : Bool) → (b && c) ≡ true → (b ≡ true) × (c ≡ true)
+    by true true h = (refl, refl)
+    by true false h = absurd (cc)
+    by false c h = absurd (cc)
+
+pub head_next : (items : List Item) (y : Item) (ys : List Item) → first_init_without_next items (y ∷ ys) ≡ None → is_carried_state items y ≡ true → is_some (next_value items y.id) ≡ true
+head_next items y ys h carried =
+    let parts = carried_parts items y carried in
+    some_next items ys y.id (init_value items y.id) (next_value items y.id) (subst (λ (b : Bool). (if b && has_init_without_next items y.id then Some y.id else first_init_without_next items ys) ≡ None) parts.0 h) parts.1
+
+later_next : (items ys : List Item) (id : ℕ) (b : Bool) → (if b then Some id else first_init_without_next items ys) ≡ None → first_init_without_next items ys ≡ None
 later_next items ys id true h = absurd (none-some id (sym h))
 later_next items ys id false h = h
 
-pub tail_next : (items : List Item) (y : Item) (ys : List Item) → first_without_next items (y ∷ ys) ≡ None → first_without_next items ys ≡ None
-tail_next items y ys h = later_next items ys y.id (is_state y.body && is_none (next_value items y.id)) h
+pub tail_next : (items : List Item) (y : Item) (ys : List Item) → first_init_without_next items (y ∷ ys) ≡ None → first_init_without_next items ys ≡ None
+tail_next items y ys h = later_next items ys y.id (is_state y.body && has_init_without_next items y.id) h
 
--- where each state has a next, this one has
-pub next-given : (items xs : List Item) (k : ℕ) (x : Item) → first_without_next items xs ≡ None → slice_get xs k ≡ Some x → is_state x.body ≡ true → is_some (next_value items x.id) ≡ true
-next-given items [] k x h at state = absurd (none-some x at)
-next-given items (y ∷ ys) zero x h at state =
+-- where no state has an init line alone, this one has a next line, if it is not free
+pub next-given : (items xs : List Item) (k : ℕ) (x : Item) → first_init_without_next items xs ≡ None → slice_get xs k ≡ Some x → is_carried_state items x ≡ true → is_some (next_value items x.id) ≡ true
+next-given items [] k x h at carried = absurd (none-some x at)
+next-given items (y ∷ ys) zero x h at carried =
     let same = same_Some y x at in
-    ap (λ (z : Item). is_some (next_value items z.id)) (sym same) ∙ head_next items y ys h (ap (λ (z : Item). is_state z.body) same ∙ state)
-next-given items (y ∷ ys) (suc k) x h at state = next-given items ys k x (tail_next items y ys h) at state
+    ap (λ (z : Item). is_some (next_value items z.id)) (sym same) ∙ head_next items y ys h (ap (λ (z : Item). is_carried_state items z) same ∙ carried)
+next-given items (y ∷ ys) (suc k) x h at carried = next-given items ys k x (tail_next items y ys h) at carried

@@ -1,15 +1,14 @@
 -- The latches of states.
 use Rattle.std.proofs.Common.{◌≡◌, ℕ, zero, suc, ◌+◌, ◌*◌, ◌/◌, ◌%◌, ◌^◌, ◌<◌, ◌≤◌, Bool, true, false, cond, ◌==◌, List, [], ◌∷◌, ◌++◌, length, map, set, get_or, take, replicate, All, Option, Some, None, is_some, unwrap_or, option_map, slice_get, refl, sym, ap, ap₂, subst, ◌∙◌, length-append, arith}
-use Rattle.std.specs.List.{sum_by}
 use Rattle.std.proofs.Math.Nat.{pow-suc, div-div-eq-div-mul}
 use Rattle.std.proofs.lemmas.List.{map-append, take_all, take_more, length-take-le}
 use Rattle.std.proofs.lemmas.List.Elements.{All-nil, All-cons, All-append, All-get_or, All-head, All-tail}
 use Rattle.std.proofs.lemmas.List.Sums.{sum_by-cons}
 use Rattle.base.specs.Word.{bit, bits}
 use Rattle.btor2.specs.declared.item.Item.{Item}
-use Rattle.btor2.specs.Items.{node_width, is_state, next_value}
+use Rattle.btor2.specs.Items.{node_width, is_state, is_carried_state, next_value}
 use Rattle.btor2.specs.Check.{IsWellFormed}
-use Rattle.btor2.specs.Lists.{places, first_without_next}
+use Rattle.btor2.specs.Lists.{places, first_init_without_next}
 use Rattle.btor2.specs.Trace.{bits_of, next_state}
 use Rattle.btor2.proofs.AppendLemmas.{some_of}
 use Rattle.btor2.proofs.ModelLemmas.{IsNextOf-from_value, node_width-range}
@@ -20,12 +19,12 @@ use Rattle.aiger.specs.Literal.{literal_value}
 use Rattle.aiger.specs.Net.{Net, IsDefined}
 use Rattle.aiger.specs.Circuit.{Circuit, net, with_latch, fresh_latch}
 use Rattle.blast.specs.Blocks.{block, blocks, written}
-use Rattle.blast.specs.Cost.{state_width}
-use Rattle.blast.specs.Leaves.{of_kind, reset_of_bit, resets_of_word, leaf_resets, leaf_bits}
+use Rattle.blast.specs.Cost.{kind_width, carried_width}
+use Rattle.blast.specs.Leaves.{by_body, of_kind, reset_of_bit, resets_of_word, leaf_resets, leaf_bits}
 use Rattle.blast.specs.Reads.{ReadsWord, RowsRead, LatchesRead}
-use Rattle.blast.specs.Rows.{row_at, init_word, reset_at, row_latches, state_latches}
-use Rattle.blast.proofs.KindBlocks.{written-nil, written-more, length-written, blocks-of_kind, so_far, reached, so_far-none, so_far-all, so_far-room, so_far-more, reached-more}
-use Rattle.blast.proofs.KindRows.{row_at-reads, head_next, tail_next}
+use Rattle.blast.specs.Rows.{row_at, init_word, reset_at, row_latches, state_latches, item_latches}
+use Rattle.blast.proofs.KindBlocks.{written-nil, written-more, length-written, blocks-of_kind, of_kind-within, so_far, reached, so_far-none, so_far-all, so_far-room, so_far-more, reached-more}
+use Rattle.blast.proofs.KindRows.{row_at-reads, carried_parts, head_next, tail_next}
 
 -- The latches of a row.
 
@@ -119,7 +118,7 @@ empty_latches : (items : List Item) (n : Net) → LatchesRead items n [] []
 empty_latches items n = record { defined = All-nil (λ (latch : Latch). IsDefined n latch.next); resets = refl; nexts = λ state input f v t. refl }
 
 state_first : (items : List Item) (n : Net) (rows : List (List ℕ)) (x : Item) (xs : List Item) (latches : List Latch) → IsWellFormed items → RowsRead items n rows → length rows ≡ length items
-    → is_state x.body ≡ true → is_some (next_value items x.id) ≡ true → LatchesRead items n xs latches → LatchesRead items n (x ∷ xs) (state_latches items rows x ++ latches)
+    → is_carried_state items x ≡ true → is_some (next_value items x.id) ≡ true → LatchesRead items n xs latches → LatchesRead items n (x ∷ xs) (state_latches items rows x ++ latches)
 state_first items n rows x xs latches h reads all state some rest =
     let next = next_row-reads items n rows x.id h reads all some in
     let row = row_at items rows (next_value items x.id) in
@@ -130,33 +129,33 @@ state_first items n rows x xs latches h reads all state some rest =
       resets =
           map-append (λ (latch : Latch). latch.reset) (state_latches items rows x) latches
           ∙ ap₂ ◌++◌ (resets-row_latches init row (bits_of items x.id) (next.4.wide ∙ sym width)) rest.resets
-          ∙ sym (ap (λ (b : Bool). cond b (leaf_resets items x) [] ++ of_kind is_state (leaf_resets items) xs) state);
+          ∙ sym (ap (λ (b : Bool). cond b (leaf_resets items x) [] ++ of_kind (is_carried_state items) (leaf_resets items) xs) state);
       nexts = λ st input f v t.
           let word : next_state items f x.id ≡ f next.0 = ap (λ (o : Option ℕ). unwrap_or (option_map f o) 0) next.2 in
           map-append (λ (latch : Latch). literal_value v latch.next) (state_latches items rows x) latches
           ∙ ap₂ ◌++◌ (nexts-row_latches (literal_value v) init 0 row ∙ next.4.bits st input f v t ∙ ap₂ bits (sym width) (sym word)) (rest.nexts st input f v t)
-          ∙ sym (ap (λ (b : Bool). cond b (leaf_bits items (next_state items f) x) [] ++ of_kind is_state (leaf_bits items (next_state items f)) xs) state);
+          ∙ sym (ap (λ (b : Bool). cond b (leaf_bits items (next_state items f) x) [] ++ of_kind (is_carried_state items) (leaf_bits items (next_state items f)) xs) state);
     }
 
-other_first : (items : List Item) (n : Net) (x : Item) (xs : List Item) (latches : List Latch) → is_state x.body ≡ false → LatchesRead items n xs latches → LatchesRead items n (x ∷ xs) latches
+other_first : (items : List Item) (n : Net) (x : Item) (xs : List Item) (latches : List Latch) → is_carried_state items x ≡ false → LatchesRead items n xs latches → LatchesRead items n (x ∷ xs) latches
 other_first items n x xs latches other rest =
     record {
       defined = rest.defined;
-      resets = rest.resets ∙ sym (ap (λ (b : Bool). cond b (leaf_resets items x) [] ++ of_kind is_state (leaf_resets items) xs) other);
-      nexts = λ st input f v t. rest.nexts st input f v t ∙ sym (ap (λ (b : Bool). cond b (leaf_bits items (next_state items f) x) [] ++ of_kind is_state (leaf_bits items (next_state items f)) xs) other);
+      resets = rest.resets ∙ sym (ap (λ (b : Bool). cond b (leaf_resets items x) [] ++ of_kind (is_carried_state items) (leaf_resets items) xs) other);
+      nexts = λ st input f v t. rest.nexts st input f v t ∙ sym (ap (λ (b : Bool). cond b (leaf_bits items (next_state items f) x) [] ++ of_kind (is_carried_state items) (leaf_bits items (next_state items f)) xs) other);
     }
 
 item_first : (items : List Item) (n : Net) (rows : List (List ℕ)) (x : Item) (xs : List Item) (latches : List Latch) (b : Bool) → IsWellFormed items → RowsRead items n rows → length rows ≡ length items
-    → first_without_next items (x ∷ xs) ≡ None → is_state x.body ≡ b → LatchesRead items n xs latches → LatchesRead items n (x ∷ xs) (cond b (state_latches items rows x) [] ++ latches)
+    → first_init_without_next items (x ∷ xs) ≡ None → is_carried_state items x ≡ b → LatchesRead items n xs latches → LatchesRead items n (x ∷ xs) (cond b (state_latches items rows x) [] ++ latches)
 item_first items n rows x xs latches true h reads all nexts test rest = state_first items n rows x xs latches h reads all test (head_next items x xs nexts test) rest
 item_first items n rows x xs latches false h reads all nexts test rest = other_first items n x xs latches test rest
 
 -- the latches of states read as theirs
-pub LatchesRead-made : (items : List Item) (n : Net) (rows : List (List ℕ)) (xs : List Item) → IsWellFormed items → RowsRead items n rows → length rows ≡ length items → first_without_next items xs ≡ None
-    → LatchesRead items n xs (of_kind is_state (state_latches items rows) xs)
+pub LatchesRead-made : (items : List Item) (n : Net) (rows : List (List ℕ)) (xs : List Item) → IsWellFormed items → RowsRead items n rows → length rows ≡ length items → first_init_without_next items xs ≡ None
+    → LatchesRead items n xs (of_kind (is_carried_state items) (state_latches items rows) xs)
 LatchesRead-made items n rows [] h reads all nexts = empty_latches items n
 LatchesRead-made items n rows (x ∷ xs) h reads all nexts =
-    item_first items n rows x xs (of_kind is_state (state_latches items rows) xs) (is_state x.body) h reads all nexts refl (LatchesRead-made items n rows xs h reads all (tail_next items x xs nexts))
+    item_first items n rows x xs (of_kind (is_carried_state items) (state_latches items rows) xs) (is_carried_state items x) h reads all nexts refl (LatchesRead-made items n rows xs h reads all (tail_next items x xs nexts))
 
 -- the latches of a state are as many as its bits
 pub length-state_latches : (items : List Item) (n : Net) (rows : List (List ℕ)) (x : Item) → IsWellFormed items → RowsRead items n rows → length rows ≡ length items → is_some (next_value items x.id) ≡ true
@@ -166,17 +165,17 @@ length-state_latches items n rows x h reads all some =
     length-row_latches (init_word items x.id) 0 (row_at items rows (next_value items x.id)) ∙ next.4.wide ∙ sym (ap (λ (o : Option ℕ). unwrap_or o 0) next.3)
 
 latches_first : (items : List Item) (n : Net) (rows : List (List ℕ)) (x : Item) (xs : List Item) (b : Bool) → IsWellFormed items → RowsRead items n rows → length rows ≡ length items
-    → first_without_next items (x ∷ xs) ≡ None → is_state x.body ≡ b → length (cond b (state_latches items rows x) []) ≡ cond b (bits_of items x.id) 0
+    → first_init_without_next items (x ∷ xs) ≡ None → is_carried_state items x ≡ b → length (cond b (state_latches items rows x) []) ≡ cond b (bits_of items x.id) 0
 latches_first items n rows x xs true h reads all nexts test = length-state_latches items n rows x h reads all (head_next items x xs nexts test)
 latches_first items n rows x xs false h reads all nexts test = refl
 
-pub length-latches : (items : List Item) (n : Net) (rows : List (List ℕ)) (xs : List Item) → IsWellFormed items → RowsRead items n rows → length rows ≡ length items → first_without_next items xs ≡ None
-    → length (of_kind is_state (state_latches items rows) xs) ≡ sum_by (λ x. cond (is_state x.body) (bits_of items x.id) 0) xs
+pub length-latches : (items : List Item) (n : Net) (rows : List (List ℕ)) (xs : List Item) → IsWellFormed items → RowsRead items n rows → length rows ≡ length items → first_init_without_next items xs ≡ None
+    → length (of_kind (is_carried_state items) (state_latches items rows) xs) ≡ kind_width items (is_carried_state items) xs
 length-latches items n rows [] h reads all nexts = refl
 length-latches items n rows (x ∷ xs) h reads all nexts =
-    length-append (cond (is_state x.body) (state_latches items rows x) []) (of_kind is_state (state_latches items rows) xs)
-    ∙ ap₂ ◌+◌ (latches_first items n rows x xs (is_state x.body) h reads all nexts refl) (length-latches items n rows xs h reads all (tail_next items x xs nexts))
-    ∙ sym (sum_by-cons (λ (y : Item). cond (is_state y.body) (bits_of items y.id) 0) x xs)
+    length-append (cond (is_carried_state items x) (state_latches items rows x) []) (of_kind (is_carried_state items) (state_latches items rows) xs)
+    ∙ ap₂ ◌+◌ (latches_first items n rows x xs (is_carried_state items x) h reads all nexts refl) (length-latches items n rows xs h reads all (tail_next items x xs nexts))
+    ∙ sym (sum_by-cons (λ (y : Item). cond (is_carried_state items y) (bits_of items y.id) 0) x xs)
 
 -- Setting them.
 
@@ -231,48 +230,54 @@ WithRow-more old cur new first init row bit h low room given =
     ∙ written-more old.latches first so_far latch (omega arith)
     ∙ ap (written old.latches first) (sym (row_latches-more init row bit low)))
 
+-- what the items at the places of the states give is what the states give that are not free
+state_blocks : (items : List Item) (rows : List (List ℕ)) → blocks (item_latches items rows) items (places is_state 0 items) ≡ of_kind (is_carried_state items) (state_latches items rows) items
+state_blocks items rows =
+    blocks-of_kind is_state (item_latches items rows) items
+    ∙ of_kind-within (by_body is_state) (is_carried_state items) (state_latches items rows) items (λ x h. (carried_parts items x h).0)
+
 -- a circuit with the latches of the first so many states
 abbrev pub WithStates : List Item → List (List ℕ) → List ℕ → Circuit → Circuit → ℕ → Type 0
-WithStates items rows ps old cur k = cur ≡ record old { latches = so_far fresh_latch (state_latches items rows) items ps k }
+WithStates items rows ps old cur k = cur ≡ record old { latches = so_far fresh_latch (item_latches items rows) items ps k }
 
-pub WithStates-none : (items : List Item) (n : Net) (rows : List (List ℕ)) (ps : List ℕ) (c : Circuit) → IsWellFormed items → RowsRead items n rows → length rows ≡ length items → first_without_next items items ≡ None
-    → ps ≡ places is_state 0 items → c.latches ≡ replicate (state_width items) fresh_latch → WithStates items rows ps c c 0
+pub WithStates-none : (items : List Item) (n : Net) (rows : List (List ℕ)) (ps : List ℕ) (c : Circuit) → IsWellFormed items → RowsRead items n rows → length rows ≡ length items → first_init_without_next items items ≡ None
+    → ps ≡ places is_state 0 items → c.latches ≡ replicate (carried_width items) fresh_latch → WithStates items rows ps c c 0
 WithStates-none items n rows ps c h reads all nexts e fresh =
-    let own : blocks (state_latches items rows) items ps ≡ of_kind is_state (state_latches items rows) items =
-    ap (blocks (state_latches items rows) items) e ∙ blocks-of_kind is_state (state_latches items rows) items in
+    let own : blocks (item_latches items rows) items ps ≡ of_kind (is_carried_state items) (state_latches items rows) items =
+    ap (blocks (item_latches items rows) items) e ∙ state_blocks items rows in
     sym (ap (λ (l : List Latch). record c { latches = l })
-    (so_far-none fresh_latch (state_latches items rows) items ps
+    (so_far-none fresh_latch (item_latches items rows) items ps
     ∙ ap (λ (l : ℕ). replicate l fresh_latch) (ap length own ∙ length-latches items n rows items h reads all nexts)
     ∙ sym fresh))
 
 pub WithStates-all : (items : List Item) (rows : List (List ℕ)) (ps : List ℕ) (old cur : Circuit) (k : ℕ) → ps ≡ places is_state 0 items → length ps ≤ k → WithStates items rows ps old cur k
-    → cur ≡ record old { latches = of_kind is_state (state_latches items rows) items }
+    → cur ≡ record old { latches = of_kind (is_carried_state items) (state_latches items rows) items }
 WithStates-all items rows ps old cur k e end h =
     h ∙ ap (λ (l : List Latch). record old { latches = l })
-    (so_far-all fresh_latch (state_latches items rows) items ps k end ∙ ap (blocks (state_latches items rows) items) e ∙ blocks-of_kind is_state (state_latches items rows) items)
+    (so_far-all fresh_latch (item_latches items rows) items ps k end ∙ ap (blocks (item_latches items rows) items) e ∙ state_blocks items rows)
 
-next_state_block : (items : List Item) (rows : List (List ℕ)) (ps : List ℕ) (k : ℕ) (x : Item) → slice_get items (get_or ps k 0) ≡ Some x → block (state_latches items rows) (slice_get items (get_or ps k 0)) ≡ state_latches items rows x
-next_state_block items rows ps k x at = ap (block (state_latches items rows)) at
+next_state_block : (items : List Item) (rows : List (List ℕ)) (ps : List ℕ) (k : ℕ) (x : Item) → slice_get items (get_or ps k 0) ≡ Some x → block (item_latches items rows) (slice_get items (get_or ps k 0)) ≡ item_latches items rows x
+next_state_block items rows ps k x at = ap (block (item_latches items rows)) at
 
 pub WithStates-room : (items : List Item) (rows : List (List ℕ)) (ps : List ℕ) (old cur : Circuit) (k : ℕ) (x : Item) → WithStates items rows ps old cur k → k < length ps → slice_get items (get_or ps k 0) ≡ Some x
-    → reached (state_latches items rows) items ps k + length (state_latches items rows x) ≤ length cur.latches
+    → reached (item_latches items rows) items ps k + length (item_latches items rows x) ≤ length cur.latches
 WithStates-room items rows ps old cur k x h low at =
-    let room = so_far-room fresh_latch (state_latches items rows) items ps k low in
+    let room = so_far-room fresh_latch (item_latches items rows) items ps k low in
     omega (arith, room, ap length (next_state_block items rows ps k x at), ap (λ (c : Circuit). length c.latches) h)
 
 pub WithStates-more : (items : List Item) (rows : List (List ℕ)) (ps : List ℕ) (old cur new : Circuit) (k : ℕ) (x : Item) → WithStates items rows ps old cur k → k < length ps → slice_get items (get_or ps k 0) ≡ Some x
-    → new ≡ record cur { latches = written cur.latches (reached (state_latches items rows) items ps k) (state_latches items rows x) } → WithStates items rows ps old new (k + 1)
+    → new ≡ record cur { latches = written cur.latches (reached (item_latches items rows) items ps k) (item_latches items rows x) } → WithStates items rows ps old new (k + 1)
 WithStates-more items rows ps old cur new k x h low at given =
     given
-    ∙ ap (λ (c : Circuit). record c { latches = written c.latches (reached (state_latches items rows) items ps k) (state_latches items rows x) }) h
+    ∙ ap (λ (c : Circuit). record c { latches = written c.latches (reached (item_latches items rows) items ps k) (item_latches items rows x) }) h
     ∙ ap (λ (l : List Latch). record old { latches = l })
-    (ap (written (so_far fresh_latch (state_latches items rows) items ps k) (reached (state_latches items rows) items ps k)) (sym (next_state_block items rows ps k x at))
-    ∙ so_far-more fresh_latch (state_latches items rows) items ps k low)
+    (ap (written (so_far fresh_latch (item_latches items rows) items ps k) (reached (item_latches items rows) items ps k)) (sym (next_state_block items rows ps k x at))
+    ∙ so_far-more fresh_latch (item_latches items rows) items ps k low)
 
 pub reached-state : (items : List Item) (rows : List (List ℕ)) (ps : List ℕ) (k : ℕ) (x : Item) → k < length ps → slice_get items (get_or ps k 0) ≡ Some x
-    → reached (state_latches items rows) items ps (k + 1) ≡ reached (state_latches items rows) items ps k + length (state_latches items rows x)
+    → reached (item_latches items rows) items ps (k + 1) ≡ reached (item_latches items rows) items ps k + length (item_latches items rows x)
 reached-state items rows ps k x low at =
-    reached-more (state_latches items rows) items ps k low ∙ ap (λ (l : List Latch). reached (state_latches items rows) items ps k + length l) (next_state_block items rows ps k x at)
+    reached-more (item_latches items rows) items ps k low ∙ ap (λ (l : List Latch). reached (item_latches items rows) items ps k + length l) (next_state_block items rows ps k x at)
 
 -- with other latches, as many, the net is the same
 pub other_latches : (cur new : Circuit) (first : ℕ) (latches : List Latch) → new ≡ record cur { latches = written cur.latches first latches } → first + length latches ≤ length cur.latches

@@ -1,13 +1,12 @@
 -- The parts of a lowering, put together.
 use Rattle.std.proofs.Common.{◌≡◌, ℕ, ◌+◌, ◌≤◌, Bool, true, false, List, [], ◌∷◌, ◌++◌, length, nat_lt, Option, Some, None, is_some, if◌then◌else◌, option_and_then, option_map, refl, sym, ap, ◌∙◌, subst, arith, length-append}
 use Rattle.std.proofs.lemmas.List.{length-map, length-replicate}
-use Rattle.std.specs.Prelude.{sum_by}
 use Rattle.std.specs.Option.{option_or}
 use Rattle.std.proofs.lemmas.List.Sums.{sum_by-cons}
 use Rattle.std.proofs.lemmas.Bool.Decides.{nat_tests}
 use Rattle.base.proofs.BitLemmas.{length-bits}
 use Rattle.btor2.specs.declared.item.Item.{Item}
-use Rattle.btor2.specs.Items.{is_state, find_item, names_state, next_value, constant_of, init_value}
+use Rattle.btor2.specs.Items.{is_state, is_free, is_carried_state, find_item, names_state, next_value, constant_of, init_value}
 use Rattle.btor2.specs.Check.{IsWellFormed}
 use Rattle.btor2.specs.Trace.{bits_of}
 use Rattle.btor2.proofs.ModelLemmas.{IsIn-from_find}
@@ -18,14 +17,15 @@ use Rattle.aiger.specs.declared.circuit.Gate.{Gate}
 use Rattle.aiger.specs.Circuit.{Circuit, IsCircuit, net, fresh_latch}
 use Rattle.gates.specs.Made.{gates_only}
 use Rattle.blast.specs.declared.fault.LowerFault.TheVariants as fault
-use Rattle.blast.specs.Cost.{bound, input_width, state_width}
+use Rattle.blast.specs.Cost.{bound, kind_width, given_width, carried_width}
 use Rattle.blast.specs.Leaves.{of_kind, leaf_resets, resets_of_word, reset_of_bit}
 use Rattle.blast.specs.Lowering.{Lowers}
 use Rattle.blast.specs.Sections.{TakesNames}
 use Rattle.blast.specs.Reads.{leaves_only, LowersNodes, RowsRead, LatchesRead, BadsRead, ConstraintsRead}
-use Rattle.btor2.specs.Lists.{first_without_next}
+use Rattle.btor2.specs.Lists.{first_init_without_next}
 use Rattle.blast.specs.declared.fault.LowerFault.{LowerFault}
 use Rattle.blast.specs.Refusal.{IsOfProfile, form_refusal, lowering_refusal, too_big}
+use Rattle.blast.proofs.WidthLemmas.{leaves_width}
 use Rattle.blast.proofs.LowerLemmas.{Observes, show_same}
 use Rattle.btor2.proofs.NextLemmas.{has_next}
 
@@ -33,9 +33,9 @@ no_first : (o : Option ℕ) → option_map fault.NoNext o ≡ None → o ≡ Non
 no_first None e = refl
 no_first (Some id) e = absurd (cc)
 
--- in a model of the profile each state has a next
-pub nexts_given : (items : List Item) → IsOfProfile items → first_without_next items items ≡ None
-nexts_given items e = no_first (first_without_next items items) e
+-- in a model of the profile no state has an init line alone
+pub nexts_given : (items : List Item) → IsOfProfile items → first_init_without_next items items ≡ None
+nexts_given items e = no_first (first_init_without_next items items) e
 
 -- a model that is not refused is of the profile
 pub profile_given : (items : List Item) → lowering_refusal items ≡ None → IsOfProfile items
@@ -55,9 +55,13 @@ bound_given items e =
     by_test true is none = absurd (cc)
     by_test false is none = grind (arith, nat_tests)
 
--- by ids
-pub nexts_by_id : (items : List Item) → first_without_next items items ≡ None → (id : ℕ) → names_state items id ≡ true → is_some (next_value items id) ≡ true
-nexts_by_id items none id names = by_item (find_item items id) refl names
+-- so are the bits that are given and those that are carried
+pub leaves_given : (items : List Item) → lowering_refusal items ≡ None → given_width items + carried_width items ≤ greatest_count
+leaves_given items e = omega (arith, bound_given items e, leaves_width items)
+
+-- each state that is not free has a next line, by ids
+pub nexts_by_id : (items : List Item) → first_init_without_next items items ≡ None → (id : ℕ) → names_state items id ≡ true → is_free items id ≡ false → is_some (next_value items id) ≡ true
+nexts_by_id items none id names carried = by_item (find_item items id) refl names
   where
     state_of : (x : Item) (b : Bool) → is_state x.body ≡ b → is_some (if b then Some x else None) ≡ true → is_state x.body ≡ true
     state_of x true is some = is
@@ -68,30 +72,27 @@ nexts_by_id items none id names = by_item (find_item items id) refl names
     by_item (Some x) is names =
         let known = IsIn-from_find items id x is in
         let some = rw is at names in
-        let whole : first_without_next items (known.0.before ++ x ∷ known.0.after) ≡ None = subst (λ (l : List Item). first_without_next items l ≡ None) known.0.splits none in
-        rw known.1 (has_next items known.0.before known.0.after x whole (state_of x (is_state x.body) refl some))
+        let whole : first_init_without_next items (known.0.before ++ x ∷ known.0.after) ≡ None = subst (λ (l : List Item). first_init_without_next items l ≡ None) known.0.splits none in
+        rw known.1 (has_next items known.0.before known.0.after x whole (state_of x (is_state x.body) refl some) (subst (λ (k : ℕ). is_free items k ≡ false) known.1 carried))
 
 -- as many resets as bits
 pub length-resets : (w : ℕ) (o : Option ℕ) → length (resets_of_word w o) ≡ w
 length-resets w None = length-replicate w _
 length-resets w (Some x) = length-map _ reset_of_bit ∙ length-bits w x
 
--- the bits of the states among some items
-abbrev state_sum : List Item → List Item → ℕ
-state_sum items xs = sum_by (λ (x : Item). if is_state x.body then bits_of items x.id else 0) xs
-
 -- the states' resets are as many as their bits
-pub length-state_resets : (items xs : List Item) → length (of_kind is_state (leaf_resets items) xs) ≡ state_sum items xs
+pub length-state_resets : (items xs : List Item) → length (of_kind (is_carried_state items) (leaf_resets items) xs) ≡ kind_width items (is_carried_state items) xs
 length-state_resets items [] = refl
-length-state_resets items (x ∷ xs) = by_kind (is_state x.body) (length-state_resets items xs) ∙ sym (sum_by-cons (λ (y : Item). if is_state y.body then bits_of items y.id else 0) x xs)
+length-state_resets items (x ∷ xs) =
+    by_kind (is_carried_state items x) (length-state_resets items xs) ∙ sym (sum_by-cons (λ (y : Item). if is_carried_state items y then bits_of items y.id else 0) x xs)
   where
-    by_kind : (b : Bool) → length (of_kind is_state (leaf_resets items) xs) ≡ state_sum items xs
-        → length ((if b then leaf_resets items x else []) ++ of_kind is_state (leaf_resets items) xs) ≡ (if b then bits_of items x.id else 0) + state_sum items xs
-    by_kind true rest = length-append (leaf_resets items x) (of_kind is_state (leaf_resets items) xs) ∙ rw (length-resets (bits_of items x.id) (option_and_then (constant_of items) (init_value items x.id)), rest) refl
+    by_kind : (b : Bool) → length (of_kind (is_carried_state items) (leaf_resets items) xs) ≡ kind_width items (is_carried_state items) xs
+        → length ((if b then leaf_resets items x else []) ++ of_kind (is_carried_state items) (leaf_resets items) xs) ≡ (if b then bits_of items x.id else 0) + kind_width items (is_carried_state items) xs
+    by_kind true rest = length-append (leaf_resets items x) (of_kind (is_carried_state items) (leaf_resets items) xs) ∙ rw (length-resets (bits_of items x.id) (option_and_then (constant_of items) (init_value items x.id)), rest) refl
     by_kind false rest = rest ∙ omega arith
 
--- latches that read as the states are as many as the states' bits
-latch_count : (items : List Item) (n : Net) (c : Circuit) → LatchesRead items n items c.latches → length c.latches ≡ state_width items
+-- latches that read as the states are as many as the bits that are carried
+latch_count : (items : List Item) (n : Net) (c : Circuit) → LatchesRead items n items c.latches → length c.latches ≡ carried_width items
 latch_count items n c reads =
     sym (length-map c.latches (λ latch. latch.reset)) ∙ ap length reads.resets ∙ length-state_resets items items
 
@@ -119,7 +120,7 @@ assemble items n rows c1 c2 c3 c4 well profile circuit nodes is1 latches is2 bad
     let bads4 : c4.bads ≡ c3.bads = ap (λ (c : Circuit). c.bads) is4 in
     let constraints4 : c4.constraints ≡ c3.constraints = ap (λ (c : Circuit). c.constraints) is4 in
     let count1 : length c1.latches ≡ n.latches = ap (λ (c : Circuit). length c.latches) is1 ∙ length-replicate n.latches fresh_latch in
-    let count2 : length c2.latches ≡ state_width items = latch_count items (net c1) c2 latches in
+    let count2 : length c2.latches ≡ carried_width items = latch_count items (net c1) c2 latches in
     let net2 : net c2 ≡ net c1 = net_same c2.inputs c1.inputs (length c2.latches) (length c1.latches) c2.gates c1.gates inputs2 (count2 ∙ sym nodes.grows.latches ∙ sym count1) gates2 in
     let net4 : net c4 ≡ net c2 = net_same c4.inputs c2.inputs (length c4.latches) (length c2.latches) c4.gates c2.gates inputs4 (ap length latches4) gates4 in
     let observes : Observes items c4 = record {
@@ -149,8 +150,8 @@ assemble items n rows c1 c2 c3 c4 well profile circuit nodes is1 latches is2 bad
 -- what names are given to: it has none yet, and as many positions as the model gives
 pub record IsUnnamedYet (items : List Item) (c : Circuit) : Type 0 where
   pub names : c.names ≡ []
-  pub inputs : c.inputs ≡ input_width items
-  pub latches : length c.latches ≡ state_width items
+  pub inputs : c.inputs ≡ given_width items
+  pub latches : length c.latches ≡ carried_width items
 
 pub unnamed_yet : (items : List Item) (n : Net) (rows : List (List ℕ)) (c1 c2 c3 : Circuit) → LowersNodes items (leaves_only items) n rows → c1 ≡ gates_only n
     → LatchesRead items (net c1) items c2.latches → c2 ≡ record c1 { latches = c2.latches } → c3 ≡ record c2 { bads = c3.bads; constraints = c3.constraints } → IsUnnamedYet items c3

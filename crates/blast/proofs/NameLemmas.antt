@@ -1,15 +1,15 @@
 -- Names of bits and of properties.
-use Rattle.std.proofs.Common.{◌≡◌, ℕ, zero, suc, ◌+◌, ◌%◌, ◌^◌, ◌<◌, ◌≤◌, Bool, true, false, not, cond, ◌==◌, ◌&&◌, List, [], ◌∷◌, ◌++◌, length, set, get_or, replicate, Option, Some, None, is_some, if◌then◌else◌, unwrap_or, option_and_then, slice_get, refl, sym, ap, ap₂, subst, ◌∙◌, length-append, arith, nat_le, decimal, ◌⊎◌, ⊎_elim}
-use Rattle.std.specs.List.{list_all, sum_by}
+use Rattle.std.proofs.Common.{◌≡◌, ℕ, zero, suc, ◌+◌, ◌%◌, ◌^◌, ◌<◌, ◌≤◌, Bool, true, false, not, cond, ◌==◌, ◌&&◌, List, [], ◌∷◌, ◌++◌, length, take, set, get_or, replicate, Option, Some, None, is_some, if◌then◌else◌, unwrap_or, option_and_then, slice_get, refl, sym, ap, ap₂, subst, ◌∙◌, length-append, arith, nat_le, decimal}
+use Rattle.std.specs.List.{list_all}
 use Rattle.std.proofs.lemmas.Bool.Decides.{nat_tests}
 use Rattle.std.proofs.lemmas.Bool.{and_parts, lt-ltb, le-leb, leb-true}
+use Rattle.std.proofs.lemmas.List.{take_all}
 use Rattle.std.proofs.lemmas.List.Folds.{list_all-append}
 use Rattle.std.proofs.lemmas.List.Sums.{sum_by-cons}
 use Rattle.std.proofs.lemmas.Fmt.{decimal_by_steps}
 use Rattle.std.proofs.lemmas.Option.{same_Some, slice_get_within}
 use Rattle.btor2.specs.declared.item.Item.{Item}
-use Rattle.btor2.specs.declared.item.Body.{Body}
-use Rattle.btor2.specs.Items.{width_of_body, is_input, is_state}
+use Rattle.btor2.specs.Items.{width_of_body, is_input, is_free_state, is_carried_state}
 use Rattle.btor2.specs.Symbols.{is_symbol, is_printed}
 use Rattle.btor2.specs.Check.{IsWellFormed}
 use Rattle.btor2.specs.Lists.{places, width_at}
@@ -22,11 +22,14 @@ use Rattle.aiger.specs.declared.fault.CircuitFault.TheVariants as fault
 use Rattle.aiger.specs.Names.{NameMap, Names, is_name, is_printable}
 use Rattle.aiger.specs.Circuit.{Circuit, IsCircuit, section_count, section_names, name_of, with_name, name_refusal}
 use Rattle.aiger.proofs.SectionNameLemmas.{length-section_names, slice_get-section_names, section_names-unnamed, section_names-with_name, section_names-other_section, few_positions}
-use Rattle.blast.specs.Cost.{input_width, state_width}
-use Rattle.blast.specs.Leaves.{of_kind, bit_name, bit_names, leaf_names, input_names, state_names, bad_names, constraint_names}
+use Rattle.blast.specs.Cost.{kind_width, given_width, carried_width}
+use Rattle.blast.specs.declared.parts.Part.{Part}
+use Rattle.blast.specs.declared.parts.Part.TheVariants as part
+use Rattle.blast.specs.Leaves.{by_body, of_kind, bit_name, bit_names, leaf_names, bad_names, constraint_names}
 use Rattle.blast.specs.Blocks.{block, blocks, written, IsBlank}
-use Rattle.blast.specs.Sections.{is_none_of, kind_of, item_names, model_names, Renames, TakesNames}
-use Rattle.blast.proofs.KindBlocks.{written-nil, length-written, written-one, written-more, written-behind, written-blank, blocks-of_kind, so_far, reached, so_far-none, so_far-all, so_far-blank, so_far-room, so_far-more, reached-more}
+use Rattle.blast.specs.Sections.{kind_of, list_of, section_of, item_names, part_names, names_given, Renames, TakesNames}
+use Rattle.blast.proofs.KindBlocks.{slice_get-replicate, written-nil, length-written, written-one, written-more, written-behind, written-blank, written-further, written-whole, blocks-of_kind, blocks-more, of_kind-within, reached, reached-is, reached-more, reached-within, reached-all}
+use Rattle.blast.proofs.WidthLemmas.{part_in_list}
 
 -- a byte of a symbol is one of a name
 printed_is_printable : (b : ℕ) → is_printed b ≡ true → is_printable b ≡ true
@@ -204,125 +207,192 @@ bits_of-at items place x h at =
 pub length-leaf_names : (items : List Item) (x : Item) → length (leaf_names items x) ≡ bits_of items x.id
 length-leaf_names items x = length-bit_names x.symbol 0 (bits_of items x.id)
 
--- so far: the circuit with the names of the first so many items of a section
-abbrev pub WithItems : Section → List Item → List ℕ → Circuit → Circuit → ℕ → Type 0
-WithItems s items ps old cur k = Renames s old (so_far None (item_names s items) items ps k) cur
+-- what the items of a part's list give it are the names of the part
+pub part_blocks : (items : List Item) (p : Part) (ps : List ℕ) → ps ≡ places (list_of p) 0 items → blocks (names_given items p) items ps ≡ part_names items p
+part_blocks items p ps e =
+    ap (blocks (names_given items p) items) e ∙ blocks-of_kind (list_of p) (names_given items p) items
+    ∙ of_kind-within (by_body (list_of p)) (kind_of items p) (item_names items p) items (part_in_list items p)
 
-pub WithItems-none : (s : Section) (items : List Item) (ps : List ℕ) (c : Circuit) → ps ≡ places (kind_of s) 0 items → section_names s c ≡ replicate (length (model_names s items)) None
-    → WithItems s items ps c c 0
-WithItems-none s items ps c e blank =
-    let own : model_names s items ≡ blocks (item_names s items) items ps =
-    sym (blocks-of_kind (kind_of s) (item_names s items) items) ∙ ap (blocks (item_names s items) items) (sym e) in
-    Renames-equal s c c (section_names s c) _ (sym (so_far-none None (item_names s items) items ps ∙ ap (λ (names : Names). replicate (length names) None) (sym own) ∙ sym blank)) (Renames-own s c)
+-- so far: the circuit with the names of the first so many items of a part's list, from a first position on
+abbrev pub WithItems : List Item → Part → List ℕ → ℕ → Circuit → Circuit → ℕ → Type 0
+WithItems items p ps first old cur k = Renames (section_of p) old (written (section_names (section_of p) old) first (blocks (names_given items p) items (take k ps))) cur
 
-pub WithItems-all : (s : Section) (items : List Item) (ps : List ℕ) (old new : Circuit) (k : ℕ) → ps ≡ places (kind_of s) 0 items → length ps ≤ k
-    → WithItems s items ps old new k → Renames s old (model_names s items) new
-WithItems-all s items ps old new k e end h =
-    Renames-equal s old new _ _ (so_far-all None (item_names s items) items ps k end ∙ ap (blocks (item_names s items) items) e ∙ blocks-of_kind (kind_of s) (item_names s items) items) h
+pub WithItems-none : (items : List Item) (p : Part) (ps : List ℕ) (first : ℕ) (c : Circuit) → WithItems items p ps first c c 0
+unfolding blocks
+WithItems-none items p ps first c = Renames-equal (section_of p) c c (section_names (section_of p) c) _ (sym (written-nil (section_names (section_of p) c) first)) (Renames-own (section_of p) c)
+
+pub WithItems-all : (items : List Item) (p : Part) (ps : List ℕ) (first : ℕ) (old new : Circuit) (k : ℕ) → ps ≡ places (list_of p) 0 items → length ps ≤ k → WithItems items p ps first old new k
+    → Renames (section_of p) old (written (section_names (section_of p) old) first (part_names items p)) new
+WithItems-all items p ps first old new k e end h =
+    Renames-equal (section_of p) old new _ _
+    (ap (λ (l : List ℕ). written (section_names (section_of p) old) first (blocks (names_given items p) items l)) (take_all k ps end)
+    ∙ ap (written (section_names (section_of p) old) first) (part_blocks items p ps e))
+    h
 
 -- the item at the next place
-next_block : (s : Section) (items : List Item) (ps : List ℕ) (k : ℕ) (x : Item) → slice_get items (get_or ps k 0) ≡ Some x → block (item_names s items) (slice_get items (get_or ps k 0)) ≡ item_names s items x
-next_block s items ps k x at = ap (block (item_names s items)) at
+next_block : (items : List Item) (p : Part) (ps : List ℕ) (k : ℕ) (x : Item) → slice_get items (get_or ps k 0) ≡ Some x → block (names_given items p) (slice_get items (get_or ps k 0)) ≡ names_given items p x
+next_block items p ps k x at = ap (block (names_given items p)) at
 
-pub WithItems-free : (s : Section) (items : List Item) (ps : List ℕ) (old cur : Circuit) (k : ℕ) (x : Item) → WithItems s items ps old cur k → k < length ps → slice_get items (get_or ps k 0) ≡ Some x
-    → IsBlank None (reached (item_names s items) items ps k) (length (item_names s items x)) (section_names s cur)
-WithItems-free s items ps old cur k x r low at =
-    subst (λ (names : Names). IsBlank None (reached (item_names s items) items ps k) (length (item_names s items x)) names) (sym r.own)
-    (subst (λ (names : Names). IsBlank None (reached (item_names s items) items ps k) (length names) (so_far None (item_names s items) items ps k))
-    (next_block s items ps k x at)
-    (so_far-blank None (item_names s items) items ps k low))
+-- its names are within those of the part
+pub item_within : (items : List Item) (p : Part) (ps : List ℕ) (k : ℕ) (x : Item) → ps ≡ places (list_of p) 0 items → k < length ps → slice_get items (get_or ps k 0) ≡ Some x
+    → length (blocks (names_given items p) items (take k ps)) + length (names_given items p x) ≤ length (part_names items p)
+item_within items p ps k x e low at =
+    omega
+    (arith, reached-within (names_given items p) items ps k low, reached-is (names_given items p) items ps k, ap length (next_block items p ps k x at), ap length (part_blocks items p ps e))
 
-pub WithItems-room : (s : Section) (items : List Item) (ps : List ℕ) (old cur : Circuit) (k : ℕ) (x : Item) → WithItems s items ps old cur k → k < length ps → slice_get items (get_or ps k 0) ≡ Some x
-    → reached (item_names s items) items ps k + length (item_names s items x) ≤ length (section_names s cur)
-WithItems-room s items ps old cur k x r low at =
-    subst (λ (names : Names). reached (item_names s items) items ps k + length (item_names s items x) ≤ length names) (sym r.own)
-    (subst (λ (names : Names). reached (item_names s items) items ps k + length names ≤ length (so_far None (item_names s items) items ps k))
-    (next_block s items ps k x at)
-    (so_far-room None (item_names s items) items ps k low))
+pub WithItems-length : (items : List Item) (p : Part) (ps : List ℕ) (first : ℕ) (old cur : Circuit) (k : ℕ) → WithItems items p ps first old cur k
+    → first + length (blocks (names_given items p) items (take k ps)) ≤ length (section_names (section_of p) old) → length (section_names (section_of p) cur) ≡ length (section_names (section_of p) old)
+WithItems-length items p ps first old cur k r room = ap length r.own ∙ length-written (section_names (section_of p) old) first (blocks (names_given items p) items (take k ps)) room
 
-pub WithItems-more : (s : Section) (items : List Item) (ps : List ℕ) (old cur new : Circuit) (k : ℕ) (x : Item) → WithItems s items ps old cur k → k < length ps → slice_get items (get_or ps k 0) ≡ Some x
-    → Renames s cur (written (section_names s cur) (reached (item_names s items) items ps k) (item_names s items x)) new
-    → WithItems s items ps old new (k + 1)
-WithItems-more s items ps old cur new k x r low at given =
-    Renames-equal s old new _ _
-    (ap (written (so_far None (item_names s items) items ps k) (reached (item_names s items) items ps k)) (sym (next_block s items ps k x at)) ∙ so_far-more None (item_names s items) items ps k low)
-    (Renames-then s old cur new (so_far None (item_names s items) items ps k) (λ (names : Names). written names (reached (item_names s items) items ps k) (item_names s items x)) r given)
+-- a part of a section, from a first position on, that is there and has no name
+pub record IsOpen (s : Section) (c : Circuit) (first count : ℕ) : Type 0 where
+  pub blank : IsBlank None first count (section_names s c)
+  pub room : first + count ≤ length (section_names s c)
+
+-- the positions of the next item
+pub WithItems-open : (items : List Item) (p : Part) (ps : List ℕ) (first : ℕ) (old cur : Circuit) (k next : ℕ) (x : Item) → ps ≡ places (list_of p) 0 items → next ≡ first + reached (names_given items p) items ps k
+    → IsOpen (section_of p) old first (length (part_names items p)) → WithItems items p ps first old cur k → k < length ps → slice_get items (get_or ps k 0) ≡ Some x
+    → IsOpen (section_of p) cur next (length (names_given items p x))
+WithItems-open items p ps first old cur k next x e is_next free r low at =
+    let front = blocks (names_given items p) items (take k ps) in
+    let within = item_within items p ps k x e low at in
+    let here : next ≡ first + length front = is_next ∙ ap (λ (n : ℕ). first + n) (reached-is (names_given items p) items ps k) in
+    let room : first + length front ≤ length (section_names (section_of p) old) = omega (arith, free.room) in
+    record {
+      blank = record {
+        entries = λ j b.
+            let i : next + j ≡ first + length front + j = omega arith in
+            let i2 : first + length front + j ≡ first + (length front + j) = omega arith in
+            ap₂ slice_get r.own i ∙ written-behind (section_names (section_of p) old) first j front room
+            ∙ ap (slice_get (section_names (section_of p) old)) i2 ∙ free.blank.entries (length front + j) (omega arith);
+      };
+      room = omega (arith, free.room, WithItems-length items p ps first old cur k r room);
+    }
+
+pub WithItems-more : (items : List Item) (p : Part) (ps : List ℕ) (first : ℕ) (old cur new : Circuit) (k next : ℕ) (x : Item) → ps ≡ places (list_of p) 0 items → next ≡ first + reached (names_given items p) items ps k
+    → IsOpen (section_of p) old first (length (part_names items p)) → WithItems items p ps first old cur k → k < length ps → slice_get items (get_or ps k 0) ≡ Some x
+    → Renames (section_of p) cur (written (section_names (section_of p) cur) next (names_given items p x)) new
+    → WithItems items p ps first old new (k + 1)
+WithItems-more items p ps first old cur new k next x e is_next free r low at given =
+    let names = section_names (section_of p) old in
+    let front = blocks (names_given items p) items (take k ps) in
+    let within = item_within items p ps k x e low at in
+    let here : next ≡ first + length front = is_next ∙ ap (λ (n : ℕ). first + n) (reached-is (names_given items p) items ps k) in
+    Renames-equal (section_of p) old new _ _
+    (ap (λ (n : ℕ). written (written names first front) n (names_given items p x)) here
+    ∙ written-further names first front (names_given items p x) (omega (arith, free.room))
+    ∙ ap (written names first) (sym (blocks-more (names_given items p) items ps k low ∙ ap (λ (l : Names). front ++ l) (next_block items p ps k x at))))
+    (Renames-then (section_of p) old cur new (written names first front) (λ (l : Names). written l next (names_given items p x)) r given)
 
 -- where the next item's positions begin
-pub reached-item : (section : Section) (items : List Item) (ps : List ℕ) (k : ℕ) (x : Item) → k < length ps → slice_get items (get_or ps k 0) ≡ Some x
-    → reached (item_names section items) items ps (k + 1) ≡ reached (item_names section items) items ps k + length (item_names section items x)
-reached-item section items ps k x low at =
-    reached-more (item_names section items) items ps k low ∙ ap (λ (names : Names). reached (item_names section items) items ps k + length names) (next_block section items ps k x at)
+pub reached-item : (items : List Item) (p : Part) (ps : List ℕ) (k : ℕ) (x : Item) → k < length ps → slice_get items (get_or ps k 0) ≡ Some x
+    → reached (names_given items p) items ps (k + 1) ≡ reached (names_given items p) items ps k + length (names_given items p x)
+reached-item items p ps k x low at =
+    reached-more (names_given items p) items ps k low ∙ ap (λ (names : Names). reached (names_given items p) items ps k + length names) (next_block items p ps k x at)
 
--- as many positions as before
-pub written_positions : (s : Section) (cur new : Circuit) (first : ℕ) (names : Names) → Renames s cur (written (section_names s cur) first names) new
-    → first + length names ≤ length (section_names s cur) → length (section_names s new) ≡ length (section_names s cur)
-written_positions s cur new first names r room = ap length r.own ∙ length-written (section_names s cur) first names room
+-- and where those behind the last begin
+pub reached-part : (items : List Item) (p : Part) (ps : List ℕ) (k : ℕ) → ps ≡ places (list_of p) 0 items → length ps ≤ k → reached (names_given items p) items ps k ≡ length (part_names items p)
+reached-part items p ps k e end = reached-all (names_given items p) items ps k end ∙ ap length (part_blocks items p ps e)
+
+-- an item of another part gives no names
+pub no_names : (items : List Item) (p : Part) (c : Circuit) (first : ℕ) (x : Item) → kind_of items p x ≡ false → Renames (section_of p) c (written (section_names (section_of p) c) first (names_given items p x)) c
+no_names items p c first x h =
+    Renames-equal (section_of p) c c (section_names (section_of p) c) _
+    (sym (ap (λ (b : Bool). written (section_names (section_of p) c) first (cond b (item_names items p x) [])) h ∙ written-nil (section_names (section_of p) c) first))
+    (Renames-own (section_of p) c)
 
 -- the names of leaves are as many as their bits
-pub length-leaves : (kind : Body → Bool) (items xs : List Item) → length (of_kind kind (leaf_names items) xs) ≡ sum_by (λ x. cond (kind x.body) (bits_of items x.id) 0) xs
+pub length-leaves : (kind : Item → Bool) (items xs : List Item) → length (of_kind kind (leaf_names items) xs) ≡ kind_width items kind xs
 length-leaves kind items [] = refl
 length-leaves kind items (x ∷ xs) =
     let rest = length-leaves kind items xs in
-    let head : length (cond (kind x.body) (leaf_names items x) []) ≡ cond (kind x.body) (bits_of items x.id) 0 =
-    elim (kind x.body) as (λ b. length (cond b (leaf_names items x) []) ≡ cond b (bits_of items x.id) 0) [
+    let head : length (cond (kind x) (leaf_names items x) []) ≡ cond (kind x) (bits_of items x.id) 0 =
+    elim (kind x) as (λ b. length (cond b (leaf_names items x) []) ≡ cond b (bits_of items x.id) 0) [
       | true ↦ length-leaf_names items x
       | false ↦ refl
     ] in
-    length-append (cond (kind x.body) (leaf_names items x) []) (of_kind kind (leaf_names items) xs) ∙ ap₂ ◌+◌ head rest
-    ∙ sym (sum_by-cons (λ (y : Item). cond (kind y.body) (bits_of items y.id) 0) x xs)
+    length-append (cond (kind x) (leaf_names items x) []) (of_kind kind (leaf_names items) xs) ∙ ap₂ ◌+◌ head rest
+    ∙ sym (sum_by-cons (λ (y : Item). cond (kind y) (bits_of items y.id) 0) x xs)
 
--- no item is of no kind
-pub no_places : (at : ℕ) (items : List Item) → places is_none_of at items ≡ []
-no_places at [] = refl
-no_places at (x ∷ xs) = no_places (suc at) xs
+-- a circuit without names that has as many positions as a model gives names
+pub record IsUnnamed (items : List Item) (c : Circuit) : Type 0 where
+  pub names : c.names ≡ []
+  pub inputs : c.inputs ≡ length (part_names items part.Inputs) + length (part_names items part.FreeStates)
+  pub latches : length c.latches ≡ length (part_names items part.CarriedStates)
+  pub bads : length c.bads ≡ length (part_names items part.Bads)
+  pub constraints : length c.constraints ≡ length (part_names items part.Constraints)
 
--- as many blank positions as a model gives names
-blank_section : (s : Section) (c : Circuit) (names : Names) → c.names ≡ [] → section_count s c ≡ length names → section_names s c ≡ replicate (length names) None
-blank_section s c names none count = section_names-unnamed s c none ∙ ap (λ (n : ℕ). replicate n None) count
+pub IsUnnamed-from_widths : (items : List Item) (c : Circuit) → c.names ≡ [] → c.inputs ≡ given_width items → length c.latches ≡ carried_width items
+    → length c.bads ≡ length (bad_names items) → length c.constraints ≡ length (constraint_names items) → IsUnnamed items c
+IsUnnamed-from_widths items c none inputs latches bads constraints =
+    record {
+      names = none;
+      inputs = inputs ∙ sym (ap₂ ◌+◌ (length-leaves (by_body is_input) items items) (length-leaves (is_free_state items) items items));
+      latches = latches ∙ sym (length-leaves (is_carried_state items) items items);
+      bads = bads;
+      constraints = constraints;
+    }
 
-pub blank_inputs : (items : List Item) (c : Circuit) → c.names ≡ [] → c.inputs ≡ input_width items → section_names section.Input c ≡ replicate (length (input_names items)) None
-blank_inputs items c none count = blank_section section.Input c (input_names items) none (count ∙ sym (length-leaves is_input items items))
+-- such a circuit's sections are blank, also when others were named
+pub open_section : (s : Section) (c cur : Circuit) (first count : ℕ) → c.names ≡ [] → first + count ≤ section_count s c → section_names s cur ≡ section_names s c → IsOpen s cur first count
+open_section s c cur first count none room same =
+    record {
+      blank = record {
+        entries = λ k b. ap (λ (l : Names). slice_get l (first + k)) (same ∙ section_names-unnamed s c none) ∙ slice_get-replicate None (section_count s c) (first + k) (omega arith);
+      };
+      room = omega (arith, length-section_names s c, ap length same);
+    }
 
-pub blank_latches : (items : List Item) (c : Circuit) → c.names ≡ [] → length c.latches ≡ state_width items → section_names section.Latch c ≡ replicate (length (state_names items)) None
-blank_latches items c none count = blank_section section.Latch c (state_names items) none (count ∙ sym (length-leaves is_state items items))
-
-pub blank_bads : (items : List Item) (c : Circuit) → c.names ≡ [] → length c.bads ≡ length (bad_names items) → section_names section.Bad c ≡ replicate (length (bad_names items)) None
-blank_bads items c none count = blank_section section.Bad c (bad_names items) none count
-
-pub blank_constraints : (items : List Item) (c : Circuit) → c.names ≡ [] → length c.constraints ≡ length (constraint_names items) → section_names section.Constraint c ≡ replicate (length (constraint_names items)) None
-blank_constraints items c none count = blank_section section.Constraint c (constraint_names items) none count
+-- a section of which one part was named is still open behind it
+pub open_behind : (s : Section) (c cur : Circuit) (next count : ℕ) (names : Names) → c.names ≡ [] → length names + count ≤ section_count s c → next ≡ 0 + length names → Renames s c (written (section_names s c) 0 names) cur
+    → IsOpen s cur next count
+open_behind s c cur next count names none room e r =
+    let n = length-section_names s c in
+    record {
+      blank = record {
+        entries = λ k b.
+            let i : next + k ≡ 0 + length names + k = omega arith in
+            ap₂ slice_get r.own i ∙ written-behind (section_names s c) 0 k names (omega arith)
+            ∙ ap (λ (l : Names). slice_get l (0 + length names + k)) (section_names-unnamed s c none) ∙ slice_get-replicate None (section_count s c) (0 + length names + k) (omega arith);
+      };
+      room = omega (arith, ap length r.own, length-written (section_names s c) 0 names (omega arith));
+    }
 
 -- no section has more than the greatest count of positions
 pub few_names : (s : Section) (old new : Circuit) → IsCircuit old → section_names s new ≡ section_names s old → length (section_names s new) ≤ greatest_count
 few_names s old new valid same = omega (arith, few_positions s old valid, ap length same, length-section_names s old)
 
--- the four sections one after another
-pub TakesNames-made : (items : List Item) (c0 c1 c2 c3 c4 : Circuit) → Renames section.Input c0 (model_names section.Input items) c1 → Renames section.Latch c1 (model_names section.Latch items) c2
-    → Renames section.Bad c2 (model_names section.Bad items) c3 → Renames section.Constraint c3 (model_names section.Constraint items) c4 → TakesNames items c0 c4
-TakesNames-made items c0 c1 c2 c3 c4 a b d e =
+pub few_behind : (s : Section) (old new : Circuit) (names : Names) → IsCircuit old → length names ≤ section_count s old → Renames s old (written (section_names s old) 0 names) new → length (section_names s new) ≤ greatest_count
+few_behind s old new names valid room r = omega (arith, few_positions s old valid, ap length r.own, length-section_names s old, length-written (section_names s old) 0 names (omega (arith, length-section_names s old)))
+
+-- a section of one part has its names
+one_part : (s : Section) (c cur new : Circuit) (names : Names) → section_count s c ≡ length names → section_names s cur ≡ section_names s c → Renames s cur (written (section_names s cur) 0 names) new → section_names s new ≡ names
+one_part s c cur new names count same r = r.own ∙ written-whole (section_names s cur) names (ap length same ∙ length-section_names s c ∙ count)
+
+-- and one of two parts those of both
+two_parts : (s : Section) (c cur new : Circuit) (next : ℕ) (names more : Names) → section_count s c ≡ length names + length more → next ≡ 0 + length names → Renames s c (written (section_names s c) 0 names) cur
+    → Renames s cur (written (section_names s cur) next more) new → section_names s new ≡ names ++ more
+two_parts s c cur new next names more count e a b =
+    let n = length-section_names s c in
+    b.own ∙ ap₂ (λ (l : Names) (k : ℕ). written l k more) a.own e ∙ written-further (section_names s c) 0 names more (omega arith)
+    ∙ written-whole (section_names s c) (names ++ more) (omega (arith, length-append names more))
+
+-- the five parts one after another
+pub TakesNames-made : (items : List Item) (c0 c1 c2 c3 c4 c5 : Circuit) (next : ℕ) → IsUnnamed items c0 → next ≡ 0 + length (part_names items part.Inputs)
+    → Renames section.Input c0 (written (section_names section.Input c0) 0 (part_names items part.Inputs)) c1
+    → Renames section.Input c1 (written (section_names section.Input c1) next (part_names items part.FreeStates)) c2
+    → Renames section.Latch c2 (written (section_names section.Latch c2) 0 (part_names items part.CarriedStates)) c3
+    → Renames section.Bad c3 (written (section_names section.Bad c3) 0 (part_names items part.Bads)) c4
+    → Renames section.Constraint c4 (written (section_names section.Constraint c4) 0 (part_names items part.Constraints)) c5 → TakesNames items c0 c5
+TakesNames-made items c0 c1 c2 c3 c4 c5 next unnamed e a b l d k =
     record {
-      inputs = e.others section.Input (λ q. cc) ∙ d.others section.Input (λ q. cc) ∙ b.others section.Input (λ q. cc) ∙ a.own;
-      latches = e.others section.Latch (λ q. cc) ∙ d.others section.Latch (λ q. cc) ∙ b.own;
-      bads = e.others section.Bad (λ q. cc) ∙ d.own;
-      constraints = e.own;
-      rest = e.rest ∙ ap (λ (c : Circuit). record c { names = c4.names }) d.rest ∙ ap (λ (c : Circuit). record c { names = c4.names }) b.rest ∙ ap (λ (c : Circuit). record c { names = c4.names }) a.rest;
+      inputs = k.others section.Input (λ q. cc) ∙ d.others section.Input (λ q. cc) ∙ l.others section.Input (λ q. cc)
+          ∙ two_parts section.Input c0 c1 c2 next (part_names items part.Inputs) (part_names items part.FreeStates) unnamed.inputs e a b;
+      latches = k.others section.Latch (λ q. cc) ∙ d.others section.Latch (λ q. cc)
+          ∙ one_part section.Latch c0 c2 c3 (part_names items part.CarriedStates) unnamed.latches (b.others section.Latch (λ q. cc) ∙ a.others section.Latch (λ q. cc)) l;
+      bads = k.others section.Bad (λ q. cc)
+          ∙ one_part section.Bad c0 c3 c4 (part_names items part.Bads) unnamed.bads (l.others section.Bad (λ q. cc) ∙ b.others section.Bad (λ q. cc) ∙ a.others section.Bad (λ q. cc)) d;
+      constraints = one_part section.Constraint c0 c4 c5 (part_names items part.Constraints) unnamed.constraints
+          (d.others section.Constraint (λ q. cc) ∙ l.others section.Constraint (λ q. cc) ∙ b.others section.Constraint (λ q. cc) ∙ a.others section.Constraint (λ q. cc)) k;
+      rest = k.rest ∙ ap (λ (c : Circuit). record c { names = c5.names }) d.rest ∙ ap (λ (c : Circuit). record c { names = c5.names }) l.rest ∙ ap (λ (c : Circuit). record c { names = c5.names }) b.rest ∙ ap (λ (c : Circuit). record c { names = c5.names }) a.rest;
     }
-
--- a section that a lowering gives no names
-abbrev pub IsUnnamed : Section → Type 0
-IsUnnamed s = (s ≡ section.Output) ⊎ ((s ≡ section.Justice) ⊎ (s ≡ section.Fair))
-
-pub unnamed_places : (s : Section) (items : List Item) → IsUnnamed s → [] ≡ places (kind_of s) 0 items
-unnamed_places s items h =
-    ⊎_elim (λ e. rw e (sym (no_places 0 items))) (λ (k : (s ≡ section.Justice) ⊎ (s ≡ section.Fair)). ⊎_elim (λ e. rw e (sym (no_places 0 items))) (λ e. rw e (sym (no_places 0 items))) k) h
-
-none_given : (s : Section) (items : List Item) (x : Item) → IsUnnamed s → item_names s items x ≡ []
-none_given s items x h = ⊎_elim (λ e. rw e refl) (λ (k : (s ≡ section.Justice) ⊎ (s ≡ section.Fair)). ⊎_elim (λ e. rw e refl) (λ e. rw e refl) k) h
-
-pub unnamed_item : (s : Section) (c : Circuit) (first : ℕ) (items : List Item) (x : Item) → IsUnnamed s → Renames s c (written (section_names s c) first (item_names s items x)) c
-unnamed_item s c first items x h =
-    Renames-equal s c c (section_names s c) _ (sym (ap (written (section_names s c) first) (none_given s items x h) ∙ written-nil (section_names s c) first)) (Renames-own s c)
-
-pub unnamed_count : (s : Section) (items : List Item) (x : Item) → IsUnnamed s → 0 ≡ length (item_names s items x)
-unnamed_count s items x h = sym (ap length (none_given s items x h))

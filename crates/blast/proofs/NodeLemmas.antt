@@ -1,5 +1,5 @@
 -- The rows of nodes: what stays as gates are added, and what each form makes.
-use Rattle.std.proofs.Common.{◌≡◌, ℕ, zero, suc, ◌+◌, ◌*◌, ◌<◌, ◌≤◌, Bool, true, false, cond, List, [], ◌∷◌, ◌++◌, length, Option, Some, None, IfSome, unwrap_or, option_and_then, slice_get, get_or, take, drop, map, replicate, All, sum_by, refl, sym, ap, ap₂, subst, ◌∙◌, arith, length-append, append_assoc}
+use Rattle.std.proofs.Common.{◌≡◌, ℕ, zero, suc, ◌+◌, ◌*◌, ◌<◌, ◌≤◌, Bool, true, false, cond, List, [], ◌∷◌, ◌++◌, length, Option, Some, None, IfSome, unwrap_or, option_and_then, slice_get, get_or, take, drop, map, replicate, All, refl, sym, ap, ap₂, subst, ◌∙◌, arith, length-append, append_assoc}
 use Rattle.std.specs.List.{range_with_len}
 use Rattle.std.proofs.lemmas.Option.{none-some, same_Some, slice_get-get_or}
 use Rattle.std.proofs.lemmas.List.{take_at, drop_at, length-map, length-replicate}
@@ -12,7 +12,6 @@ use Rattle.base.specs.declared.operators.Unary.{Unary}
 use Rattle.base.specs.declared.operators.Binary.{Binary}
 use Rattle.base.proofs.BitLemmas.{length-bits, word-bits, bits-word_of_length}
 use Rattle.btor2.specs.declared.item.Item.{Item}
-use Rattle.btor2.specs.declared.item.Body.{Body}
 use Rattle.btor2.specs.Items.{find_item, position_of, width_of_body, node_width}
 use Rattle.btor2.specs.Check.{IsWellFormed}
 use Rattle.btor2.specs.Trace.{Frame, bits_of, LineHolds, LinesHold, IsFrame}
@@ -25,7 +24,7 @@ use Rattle.gates.specs.Bound.{unary_bound, binary_bound}
 use Rattle.gates.specs.Made.{Grows, MakesWord, word_value}
 use Rattle.gates.proofs.GrowthLemmas.{Grows-refl, Grows-weaker, Satisfies-earlier, All-defined-grown}
 use Rattle.blast.specs.Leaves.{of_kind, leaf_bits}
-use Rattle.blast.specs.Cost.{line_cost}
+use Rattle.blast.specs.Cost.{line_cost, kind_width}
 use Rattle.blast.specs.Reads.{Together, ReadsWord, RowsRead}
 use Rattle.blast.specs.Table.{MakesNode, MakesRow, IsOperand}
 use Rattle.btor2.proofs.TraceLemmas.{words_fit_frame}
@@ -200,25 +199,21 @@ MakesNode-zero items n width row is =
 -- Leaves.
 
 -- the items of a kind, of two lists
-of_kind-append : {A : Type 0} → (kind : Body → Bool) (give : Item → List A) (xs ys : List Item) → of_kind kind give (xs ++ ys) ≡ of_kind kind give xs ++ of_kind kind give ys
+of_kind-append : {A : Type 0} → (kind : Item → Bool) (give : Item → List A) (xs ys : List Item) → of_kind kind give (xs ++ ys) ≡ of_kind kind give xs ++ of_kind kind give ys
 of_kind-append kind give [] ys = refl
 of_kind-append {A} kind give (x ∷ xs) ys =
-    ap (λ (l : List A). cond (kind x.body) (give x) [] ++ l) (of_kind-append kind give xs ys) ∙ sym (append_assoc (cond (kind x.body) (give x) []) (of_kind kind give xs) (of_kind kind give ys))
-
--- how many bits the items of a kind have
-abbrev bits_among : List Item → (Body → Bool) → List Item → ℕ
-bits_among items kind some = sum_by (λ (x : Item). cond (kind x.body) (bits_of items x.id) 0) some
+    ap (λ (l : List A). cond (kind x) (give x) [] ++ l) (of_kind-append kind give xs ys) ∙ sym (append_assoc (cond (kind x) (give x) []) (of_kind kind give xs) (of_kind kind give ys))
 
 length-leaf : (items : List Item) (f : Frame) (x : Item) (b : Bool) → length (cond b (leaf_bits items f x) []) ≡ cond b (bits_of items x.id) 0
 length-leaf items f x true = length-bits (bits_of items x.id) (f x.id)
 length-leaf items f x false = refl
 
-length-leaves : (items : List Item) (kind : Body → Bool) (f : Frame) (xs : List Item) → length (of_kind kind (leaf_bits items f) xs) ≡ bits_among items kind xs
+pub length-leaves : (items : List Item) (kind : Item → Bool) (f : Frame) (xs : List Item) → length (of_kind kind (leaf_bits items f) xs) ≡ kind_width items kind xs
 length-leaves items kind f [] = refl
 length-leaves items kind f (x ∷ xs) =
-    length-append (cond (kind x.body) (leaf_bits items f x) []) (of_kind kind (leaf_bits items f) xs)
-    ∙ ap₂ ◌+◌ (length-leaf items f x (kind x.body)) (length-leaves items kind f xs)
-    ∙ sym (sum_by-cons (λ (y : Item). cond (kind y.body) (bits_of items y.id) 0) x xs)
+    length-append (cond (kind x) (leaf_bits items f x) []) (of_kind kind (leaf_bits items f) xs)
+    ∙ ap₂ ◌+◌ (length-leaf items f x (kind x)) (length-leaves items kind f xs)
+    ∙ sym (sum_by-cons (λ (y : Item). cond (kind y) (bits_of items y.id) 0) x xs)
 
 -- the middle parts of two equal lists that are cut at equal lengths
 same_middle : (a b c x y z : List Bool) → a ++ (b ++ c) ≡ x ++ (y ++ z) → length a ≡ length x → length b ≡ length y → b ≡ y
@@ -227,26 +222,33 @@ same_middle a b c x y z e front middle =
     sym (take_at b c (length b) refl) ∙ ap (take (length b)) rest ∙ take_at y z (length b) (sym middle)
 
 -- the variables of a leaf are its bits
-pub leaf_variables : (items before after : List Item) (x : Item) (kind : Body → Bool) (f : Frame) (v : Valuation) (first : ℕ) → items ≡ before ++ x ∷ after → kind x.body ≡ true
-    → bits_from first (bits_among items kind items) v ≡ of_kind kind (leaf_bits items f) items
-    → bits_from (first + bits_among items kind before) (bits_of items x.id) v ≡ leaf_bits items f x
+pub leaf_variables : (items before after : List Item) (x : Item) (kind : Item → Bool) (f : Frame) (v : Valuation) (first : ℕ) → items ≡ before ++ x ∷ after → kind x ≡ true
+    → bits_from first (kind_width items kind items) v ≡ of_kind kind (leaf_bits items f) items
+    → bits_from (first + kind_width items kind before) (bits_of items x.id) v ≡ leaf_bits items f x
 leaf_variables items before after x kind f v first splits is_kind whole =
-    let m = bits_among items kind before in
+    let m = kind_width items kind before in
     let w = bits_of items x.id in
-    let r = bits_among items kind after in
+    let r = kind_width items kind after in
     let give = leaf_bits items f in
-    let own : cond (kind x.body) (give x) [] ≡ give x = ap (λ (b : Bool). cond b (give x) []) is_kind in
+    let own : cond (kind x) (give x) [] ≡ give x = ap (λ (b : Bool). cond b (give x) []) is_kind in
     let right : of_kind kind give items ≡ of_kind kind give before ++ (give x ++ of_kind kind give after) =
     ap (of_kind kind give) splits ∙ of_kind-append kind give before (x ∷ after) ∙ ap (λ (l : List Bool). of_kind kind give before ++ (l ++ of_kind kind give after)) own in
-    let number : bits_among items kind items ≡ m + (w + r) =
-    ap (bits_among items kind) splits ∙ sum_by-append (λ (y : Item). cond (kind y.body) (bits_of items y.id) 0) before (x ∷ after)
-    ∙ ap (λ (k : ℕ). m + k) (sum_by-cons (λ (y : Item). cond (kind y.body) (bits_of items y.id) 0) x after ∙ ap (λ (b : Bool). cond b w 0 + r) is_kind) in
-    let left : bits_from first (bits_among items kind items) v ≡ bits_from first m v ++ (bits_from (first + m) w v ++ bits_from (first + m + w) r v) =
+    let number : kind_width items kind items ≡ m + (w + r) =
+    ap (kind_width items kind) splits ∙ sum_by-append (λ (y : Item). cond (kind y) (bits_of items y.id) 0) before (x ∷ after)
+    ∙ ap (λ (k : ℕ). m + k) (sum_by-cons (λ (y : Item). cond (kind y) (bits_of items y.id) 0) x after ∙ ap (λ (b : Bool). cond b w 0 + r) is_kind) in
+    let left : bits_from first (kind_width items kind items) v ≡ bits_from first m v ++ (bits_from (first + m) w v ++ bits_from (first + m + w) r v) =
     ap (λ (k : ℕ). bits_from first k v) number ∙ bits_from-append first m (w + r) v ∙ ap (λ (l : List Bool). bits_from first m v ++ l) (bits_from-append (first + m) w r v) in
     same_middle (bits_from first m v) (bits_from (first + m) w v) (bits_from (first + m + w) r v) (of_kind kind give before) (give x) (of_kind kind give after)
     (sym left ∙ whole ∙ right)
     (length-bits_from first m v ∙ sym (length-leaves items kind f before))
     (length-bits_from (first + m) w v ∙ sym (length-bits w (f x.id)))
+
+-- the parts of two equal lists of which the first parts are as long
+pub same_parts : {A : Type 0} (a b x y : List A) → a ++ b ≡ x ++ y → length a ≡ length x → (a ≡ x) × (b ≡ y)
+same_parts a b x y e front = (
+  sym (take_at a b (length a) refl) ∙ ap (take (length a)) e ∙ take_at x y (length a) (sym front),
+  sym (drop_at a b (length a) refl) ∙ ap (drop (length a)) e ∙ drop_at x y (length a) (sym front),
+)
 
 -- the literals of variables say their bits
 literals_of : (v : Valuation) (first count : ℕ) → 0 < first → map (literal_value v) (map (λ i. 2 * (first + i)) (range_with_len 0 count)) ≡ bits_from first count v

@@ -18,7 +18,7 @@ use Rattle.btor2.proofs.ModelLemmas.{IsAccepted-at, IsIn, IsIn-from_place}
 use Rattle.aiger.specs.Literal.{Valuation, literal_value}
 use Rattle.aiger.specs.Net.{Net, IsDefined}
 use Rattle.aiger.specs.Circuit.{Circuit}
-use Rattle.blast.specs.Leaves.{of_kind, observed, own_name, bad_names, constraint_names}
+use Rattle.blast.specs.Leaves.{by_body, of_kind, observed, own_name, bad_names, constraint_names}
 use Rattle.blast.specs.Reads.{Together, RowsRead, BadsRead, ConstraintsRead}
 use Rattle.blast.specs.Rows.{row_at, literal_at, bad_literals, constraint_literals, with_literals}
 use Rattle.blast.proofs.KindRows.{row_at-reads}
@@ -85,7 +85,7 @@ bad_first items rows f v _ h = refl
 
 bads_from : (items : List Item) (n : Net) (rows : List (List ℕ)) (f : Frame) (v : Valuation) (xs : List Item)
     → ((k : ℕ) (x : Item) (a : ℕ) → slice_get xs k ≡ Some x → x.body ≡ body.Bad a → literal_value v (literal_at items rows a) ≡ (f a == 1))
-    → map (literal_value v) (flat_map (λ (x : Item). bad_literals items rows x.body) xs) ≡ of_kind is_bad (λ (x : Item). observed f x.body) xs
+    → map (literal_value v) (flat_map (λ (x : Item). bad_literals items rows x.body) xs) ≡ of_kind (by_body is_bad) (λ (x : Item). observed f x.body) xs
 bads_from items n rows f v [] h = refl
 bads_from items n rows f v (x ∷ xs) h =
     map-append (literal_value v) (bad_literals items rows x.body) (flat_map (λ (y : Item). bad_literals items rows y.body) xs)
@@ -107,7 +107,7 @@ constraint_first items rows f v _ h = refl
 
 constraints_from : (items : List Item) (n : Net) (rows : List (List ℕ)) (f : Frame) (v : Valuation) (xs : List Item)
     → ((k : ℕ) (x : Item) (a : ℕ) → slice_get xs k ≡ Some x → x.body ≡ body.Constraint a → literal_value v (literal_at items rows a) ≡ (f a == 1))
-    → map (literal_value v) (flat_map (λ (x : Item). constraint_literals items rows x.body) xs) ≡ of_kind is_constraint (λ (x : Item). observed f x.body) xs
+    → map (literal_value v) (flat_map (λ (x : Item). constraint_literals items rows x.body) xs) ≡ of_kind (by_body is_constraint) (λ (x : Item). observed f x.body) xs
 constraints_from items n rows f v [] h = refl
 constraints_from items n rows f v (x ∷ xs) h =
     map-append (literal_value v) (constraint_literals items rows x.body) (flat_map (λ (y : Item). constraint_literals items rows y.body) xs)
@@ -142,19 +142,19 @@ constraint_named : (items : List Item) (rows : List (List ℕ)) (b : Body) (name
 constraint_named items rows (body.Constraint a) name = refl
 constraint_named items rows _ name = refl
 
-length-bads : (items : List Item) (rows : List (List ℕ)) (xs : List Item) → length (flat_map (λ (x : Item). bad_literals items rows x.body) xs) ≡ length (of_kind is_bad own_name xs)
+length-bads : (items : List Item) (rows : List (List ℕ)) (xs : List Item) → length (flat_map (λ (x : Item). bad_literals items rows x.body) xs) ≡ length (of_kind (by_body is_bad) own_name xs)
 length-bads items rows [] = refl
 length-bads items rows (x ∷ xs) =
     length-append (bad_literals items rows x.body) (flat_map (λ (y : Item). bad_literals items rows y.body) xs)
     ∙ ap₂ ◌+◌ (bad_named items rows x.body x.symbol) (length-bads items rows xs)
-    ∙ sym (length-append (cond (is_bad x.body) (own_name x) []) (of_kind is_bad own_name xs))
+    ∙ sym (length-append (cond (is_bad x.body) (own_name x) []) (of_kind (by_body is_bad) own_name xs))
 
-length-constraints : (items : List Item) (rows : List (List ℕ)) (xs : List Item) → length (flat_map (λ (x : Item). constraint_literals items rows x.body) xs) ≡ length (of_kind is_constraint own_name xs)
+length-constraints : (items : List Item) (rows : List (List ℕ)) (xs : List Item) → length (flat_map (λ (x : Item). constraint_literals items rows x.body) xs) ≡ length (of_kind (by_body is_constraint) own_name xs)
 length-constraints items rows [] = refl
 length-constraints items rows (x ∷ xs) =
     length-append (constraint_literals items rows x.body) (flat_map (λ (y : Item). constraint_literals items rows y.body) xs)
     ∙ ap₂ ◌+◌ (constraint_named items rows x.body x.symbol) (length-constraints items rows xs)
-    ∙ sym (length-append (cond (is_constraint x.body) (own_name x) []) (of_kind is_constraint own_name xs))
+    ∙ sym (length-append (cond (is_constraint x.body) (own_name x) []) (of_kind (by_body is_constraint) own_name xs))
 
 -- Adding them.
 

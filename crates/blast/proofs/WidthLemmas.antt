@@ -1,10 +1,10 @@
 -- Widths and gate bounds of well-formed lists.
-use Rattle.std.proofs.Common.{◌≡◌, ℕ, zero, suc, ◌+◌, ◌*◌, ◌^◌, ◌<◌, ◌≤◌, nat_lt, Bool, true, false, cond, nat_eq, List, [], ◌∷◌, ◌++◌, length, Option, Some, None, is_some, unwrap_or, option_and_then, slice_get, take, get_or, All, sum_by, refl, sym, ap, subst, ◌∙◌, arith}
+use Rattle.std.proofs.Common.{◌≡◌, ℕ, zero, suc, ◌+◌, ◌*◌, ◌^◌, ◌<◌, ◌≤◌, nat_lt, Bool, true, false, cond, nat_eq, List, [], ◌∷◌, ◌++◌, length, Option, Some, None, is_some, unwrap_or, option_and_then, slice_get, take, get_or, All, sum_by, not, ◌&&◌, refl, sym, ap, ap₂, subst, ◌∙◌, append_assoc, length-append, arith}
 use Rattle.std.proofs.Math.Nat.{mul-le-mul_left}
 use Rattle.std.specs.List.{position_from}
 use Rattle.std.proofs.lemmas.Option.{none-some, same_Some, slice_get_within, slice_get_read}
 use Rattle.std.proofs.lemmas.List.{take_all}
-use Rattle.std.proofs.lemmas.List.Sums.{count_by-le-length, sum_by-le, sum_by_more, sum_by_more_le}
+use Rattle.std.proofs.lemmas.List.Sums.{count_by-le-length, sum_by-le, sum_by_more, sum_by_more_le, sum_by-cons}
 use Rattle.std.proofs.lemmas.List.Elements.{All-nil, All-cons}
 use Rattle.base.specs.declared.operators.Unary.{Unary}
 use Rattle.base.specs.declared.operators.Unary.TheVariants as unary
@@ -14,14 +14,20 @@ use Rattle.gates.specs.Bound.{log_up, unary_bound, binary_bound}
 use Rattle.btor2.specs.declared.item.Item.{Item}
 use Rattle.btor2.specs.declared.item.Body.{Body}
 use Rattle.btor2.specs.declared.item.Body.TheVariants as body
-use Rattle.btor2.specs.Items.{find_item, position_of, width_of_body, node_width, operands, is_input, is_state}
-use Rattle.btor2.specs.Lists.{width_at}
+use Rattle.btor2.specs.Items.{find_item, position_of, width_of_body, node_width, operands, is_state, is_free, is_free_state, is_carried_state}
+use Rattle.btor2.specs.Lists.{width_at, places}
 use Rattle.btor2.specs.Check.{IsWellFormed}
 use Rattle.btor2.specs.Trace.{bits_of}
 use Rattle.btor2.proofs.AppendLemmas.{is_some_from, node_width-append}
 use Rattle.btor2.proofs.AcceptedLemmas.{Each, HasWidth}
 use Rattle.btor2.proofs.ModelLemmas.{IsIn-from_place, IsAccepted-at, node_width-at, node_width-range, few_items}
-use Rattle.blast.specs.Cost.{line_cost, cost, input_width, state_width}
+use Rattle.blast.specs.Cost.{line_cost, cost, kind_width, input_width, state_width, given_width, carried_width}
+use Rattle.blast.specs.Leaves.{by_body}
+use Rattle.blast.specs.declared.parts.Part.{Part}
+use Rattle.blast.specs.declared.parts.Part.TheVariants as part
+use Rattle.blast.specs.Sections.{kind_of, list_of}
+use Rattle.blast.proofs.KindBlocks.{slice_get-behind}
+use Rattle.blast.proofs.KindRows.{carried_parts, free_parts}
 
 -- a test of an id, and what it finds
 there_from : (b : Bool) (x : Item) (xs : List Item) (id n k : ℕ)
@@ -117,11 +123,8 @@ choice_most : (b : Bool) (n : ℕ) → n ≤ 64 → cond b n 0 ≤ 262144
 choice_most true n h = omega arith
 choice_most false n h = omega arith
 
-pub input_width-small : (items : List Item) → IsWellFormed items → input_width items < 2 ^ 39
-input_width-small items w = small_sum _ items (λ x. choice_most (is_input x.body) (bits_of items x.id) (bits_of-most items x.id w)) (few_items items w)
-
-pub state_width-small : (items : List Item) → IsWellFormed items → state_width items < 2 ^ 39
-state_width-small items w = small_sum _ items (λ x. choice_most (is_state x.body) (bits_of items x.id) (bits_of-most items x.id w)) (few_items items w)
+pub kind_width-small : (items : List Item) (kind : Item → Bool) → IsWellFormed items → kind_width items kind items < 2 ^ 39
+kind_width-small items kind w = small_sum _ items (λ x. choice_most (kind x) (bits_of items x.id) (bits_of-most items x.id w)) (few_items items w)
 
 pub cost-small : (items : List Item) → IsWellFormed items → cost items < 2 ^ 39
 cost-small items w = small_sum _ items (λ x. line_cost-most items x.body w) (few_items items w)
@@ -142,15 +145,74 @@ operands_there items k x w at =
     (accepted_operands there.before (x ∷ there.after) (operands x.body) (IsAccepted-at items x w there).nodes)
 
 -- a sum so far, with the next item's part
-pub sum_step : (f : Item → ℕ) (xs : List Item) (i total n : ℕ) (x : Item) → i < length xs → x ≡ get_or xs i x → total ≡ sum_by f (take i xs) → n ≡ f x
+pub sum_step : {A : Type 0} (f : A → ℕ) (xs : List A) (i total n : ℕ) (x : A) → i < length xs → x ≡ get_or xs i x → total ≡ sum_by f (take i xs) → n ≡ f x
     → (total + n ≡ sum_by f (take (i + 1) xs)) × (total + n ≤ sum_by f xs)
 sum_step f xs i total n x h is sum own =
     let next : n ≡ f (get_or xs i x) = own ∙ ap f is in
     (omega (arith, sum_by_more f xs i x h), omega (arith, sum_by_more_le f xs i x h))
 
-pub sum_whole : (f : Item → ℕ) (xs ys : List Item) (i total : ℕ) → length xs ≤ i → xs ≡ ys → total ≡ sum_by f (take i xs) → total ≡ sum_by f ys
+pub sum_whole : {A : Type 0} (f : A → ℕ) (xs ys : List A) (i total : ℕ) → length xs ≤ i → xs ≡ ys → total ≡ sum_by f (take i xs) → total ≡ sum_by f ys
 sum_whole f xs ys i total h same sum = sum ∙ ap (sum_by f) (take_all i xs h ∙ same)
 
 -- the item that a list gives at a place, in an equal list
 pub item_read : (xs ys : List Item) (i : ℕ) (x : Item) → xs ≡ ys → i < length xs → x ≡ get_or xs i x → slice_get ys i ≡ Some x
 item_read xs ys i x same h is = rw (← same) (slice_get_read xs (length xs) i x refl h is)
+
+-- Widths of kinds.
+
+-- the items of a part are in its list
+pub part_in_list : (items : List Item) (p : Part) (x : Item) → kind_of items p x ≡ true → list_of p x.body ≡ true
+part_in_list items part.Inputs x h = h
+part_in_list items part.FreeStates x h = (free_parts items x h).0
+part_in_list items part.CarriedStates x h = (carried_parts items x h).0
+part_in_list items part.Bads x h = h
+part_in_list items part.Constraints x h = h
+
+-- the bits of an item that may be there, where it is of a kind
+abbrev pub bits_there : List Item → (Item → Bool) → Option Item → ℕ
+bits_there items kind None = 0
+bits_there items kind (Some x) = cond (kind x) (bits_of items x.id) 0
+
+-- the bits at the places of a list are those of the items of a kind that is among the list
+places_width : (items : List Item) (list : Body → Bool) (kind : Item → Bool) (before xs : List Item) (n : ℕ) → ((x : Item) → kind x ≡ true → list x.body ≡ true) → length before ≡ n
+    → sum_by (λ p. bits_there items kind (slice_get (before ++ xs) p)) (places list n xs) ≡ kind_width items kind xs
+places_width items list kind before [] n within e = refl
+places_width items list kind before (x ∷ xs) n within e =
+    let all = before ++ x ∷ xs in
+    let own : slice_get all n ≡ Some x = ap (slice_get all) (omega arith) ∙ slice_get-behind before (x ∷ xs) n 0 e in
+    let rest : sum_by (λ p. bits_there items kind (slice_get all p)) (places list (suc n) xs) ≡ kind_width items kind xs =
+    ap (λ (l : List Item). sum_by (λ p. bits_there items kind (slice_get l p)) (places list (suc n) xs)) (sym (append_assoc before (x ∷ []) xs))
+    ∙ places_width items list kind (before ++ x ∷ []) xs (suc n) within (omega (arith, length-append before (x ∷ []))) in
+    by (list x.body) (kind x) (within x) (ap (bits_there items kind) own) rest ∙ sym (sum_by-cons (λ (y : Item). cond (kind y) (bits_of items y.id) 0) x xs)
+  where
+    by : (l k : Bool) → (k ≡ true → l ≡ true) → bits_there items kind (slice_get (before ++ x ∷ xs) n) ≡ cond k (bits_of items x.id) 0
+        → sum_by (λ p. bits_there items kind (slice_get (before ++ x ∷ xs) p)) (places list (suc n) xs) ≡ kind_width items kind xs
+        → sum_by (λ p. bits_there items kind (slice_get (before ++ x ∷ xs) p)) (cond l (n ∷ places list (suc n) xs) (places list (suc n) xs)) ≡ cond k (bits_of items x.id) 0 + kind_width items kind xs
+    by true k h own rest = sum_by-cons (λ p. bits_there items kind (slice_get (before ++ x ∷ xs) p)) n (places list (suc n) xs) ∙ ap₂ ◌+◌ own rest
+    by false true h own rest = let e : false ≡ true = h refl in absurd (cc)
+    by false false h own rest = rest ∙ omega arith
+
+pub part_width-places : (items : List Item) (p : Part) → sum_by (λ k. bits_there items (kind_of items p) (slice_get items k)) (places (list_of p) 0 items) ≡ kind_width items (kind_of items p) items
+part_width-places items p = places_width items (list_of p) (kind_of items p) [] items 0 (part_in_list items p) refl
+
+-- each state is free or carried
+pub states_width : (items xs : List Item) → kind_width items (is_free_state items) xs + kind_width items (is_carried_state items) xs ≡ kind_width items (by_body is_state) xs
+states_width items [] = refl
+states_width items (x ∷ xs) =
+    omega (
+      arith,
+      states_width items xs,
+      parts (is_state x.body) (is_free items x.id) (bits_of items x.id),
+      sum_by-cons (λ (y : Item). cond (is_free_state items y) (bits_of items y.id) 0) x xs,
+      sum_by-cons (λ (y : Item). cond (is_carried_state items y) (bits_of items y.id) 0) x xs,
+      sum_by-cons (λ (y : Item). cond (is_state y.body) (bits_of items y.id) 0) x xs,
+    )
+  where
+    parts : (b c : Bool) (n : ℕ) → cond (b && c) n 0 + cond (b && not c) n 0 ≡ cond b n 0
+    parts true true n = omega arith
+    parts true false n = omega arith
+    parts false c n = refl
+
+-- so the bits that are given and those that are carried are those of the inputs and of the states
+pub leaves_width : (items : List Item) → given_width items + carried_width items ≡ input_width items + state_width items
+leaves_width items = omega (arith, states_width items items)

@@ -1,5 +1,6 @@
--- The circuit of the model that toggles a bit, worked out by hand.
+-- The circuits of small models, worked out by hand.
 use Rattle.std.proofs.Common.{◌≡◌, ℕ, ◌-◌, ◌%◌, ◌<◌, rules, Bool, not, ◌==◌, List, [], ◌∷◌, refl, sym, ap, ◌∙◌, arith}
+use Rattle.std.specs.Fmt.{digits}
 use Rattle.std.proofs.lemmas.Bool.Decides.{nat_tests}
 use Rattle.btor2.specs.Check.{IsWellFormed}
 use Rattle.btor2.specs.Trace.{Frame}
@@ -8,6 +9,7 @@ use Rattle.btor2.proofs.TraceLemmas.{next_state_fits}
 use Rattle.aiger.specs.Literal.{Valuation}
 use Rattle.aiger.specs.Circuit.{IsCircuit, net}
 use Rattle.aiger.specs.Worked.{toggler as toggler_circuit}
+use Rattle.blast.specs.Worked.{named_follower, follower_circuit, free_alone, one_input}
 use Rattle.blast.specs.Lowering.{Lowers}
 use Rattle.blast.specs.Reads.{Together}
 use Rattle.blast.proofs.LowerAssembly.{nexts_by_id}
@@ -23,12 +25,14 @@ bit_negated x h = grind (arith, nat_tests)
 head_same : {A : Type 0} (x y : A) → (let l : List A = x ∷ [] in l) ≡ y ∷ [] → x ≡ y
 head_same x y e = cc
 
+-- The model that toggles a bit.
+
 module _ (state input f : Frame) (v : Valuation) (t : Together toggler (net toggler_circuit) state input f v) where
   latch : v 1 ≡ (state 3 % 2 == 1)
   latch = head_same (v 1) (state 3 % 2 == 1) t.latches
 
   small : state 3 < 2
-  small = t.state_fits.1.1.0
+  small = t.state_fits.1.1.0 refl
 
   next : not (v 1) ≡ (f 5 % 2 == 1)
   next = ap not latch ∙ bit_negated (state 3) small ∙ ap (λ (n : ℕ). n % 2 == 1) (sym (t.frame.1.1.1.1.0 ∙ ap (λ (n : ℕ). 1 - n) t.frame.1.1.0))
@@ -62,4 +66,78 @@ toggler_lowered well circuit =
       no_fair = refl;
       few_gates = omega arith;
       frames = λ state inputs initial in_fit fs t vs u. show_same toggler toggler_circuit (observes well) state inputs fs vs initial.fits in_fit t u;
+    }
+
+-- The model in which a state follows a free state.
+
+second_same : {A : Type 0} (a b x y : A) → (let l : List A = a ∷ b ∷ [] in l) ≡ x ∷ y ∷ [] → b ≡ y
+second_same a b x y e = cc
+
+module _ (state input f : Frame) (v : Valuation) (t : Together named_follower (net follower_circuit) state input f v) where
+  follower_next : v 2 ≡ (f 2 % 2 == 1)
+  follower_next = second_same (v 1) (v 2) (input 4 % 2 == 1) (input 2 % 2 == 1) t.inputs ∙ ap (λ (n : ℕ). n % 2 == 1) (sym t.frame.1.0)
+
+  follower_small : state 3 < 2
+  follower_small = t.state_fits.1.1.0 refl
+
+  follower_bad : v 3 ≡ (f 3 == 1)
+  follower_bad = head_same (v 3) (state 3 % 2 == 1) t.latches ∙ bit_is (state 3) follower_small ∙ ap (λ (n : ℕ). n == 1) (sym t.frame.1.1.0)
+
+follower_observes : IsWellFormed named_follower → Observes named_follower follower_circuit
+follower_observes well =
+    record {
+      latches = record { defined = search rules; resets = refl; nexts = λ state input f v t. ap (λ (b : Bool). b ∷ []) (follower_next state input f v t) };
+      bads = record { values = λ state input f v t. ap (λ (b : Bool). b ∷ []) (follower_bad state input f v t) };
+      constraints = record { values = λ state input f v t. refl };
+      stays = λ state input f fits in_fits frame. next_state_fits named_follower state input f well fits in_fits frame (nexts_by_id named_follower refl);
+    }
+
+pub follower_lowered : IsWellFormed named_follower → IsCircuit follower_circuit → Lowers named_follower follower_circuit
+unfolding digits
+follower_lowered well circuit =
+    record {
+      well_formed = well;
+      of_profile = refl;
+      circuit = circuit;
+      inputs = refl;
+      input_names = refl;
+      latch_names = refl;
+      resets = refl;
+      bad_names = refl;
+      constraint_names = refl;
+      no_outputs = refl;
+      no_justice = refl;
+      no_fair = refl;
+      few_gates = omega arith;
+      frames = λ state inputs initial in_fit fs t vs u. show_same named_follower follower_circuit (follower_observes well) state inputs fs vs initial.fits in_fit t u;
+    }
+
+-- The model of a free state alone.
+
+free_alone_observes : IsWellFormed free_alone → Observes free_alone one_input
+free_alone_observes well =
+    record {
+      latches = record { defined = search rules; resets = refl; nexts = λ state input f v t. refl };
+      bads = record { values = λ state input f v t. refl };
+      constraints = record { values = λ state input f v t. refl };
+      stays = λ state input f fits in_fits frame. next_state_fits free_alone state input f well fits in_fits frame (nexts_by_id free_alone refl);
+    }
+
+pub free_alone_lowered : IsWellFormed free_alone → IsCircuit one_input → Lowers free_alone one_input
+free_alone_lowered well circuit =
+    record {
+      well_formed = well;
+      of_profile = refl;
+      circuit = circuit;
+      inputs = refl;
+      input_names = refl;
+      latch_names = refl;
+      resets = refl;
+      bad_names = refl;
+      constraint_names = refl;
+      no_outputs = refl;
+      no_justice = refl;
+      no_fair = refl;
+      few_gates = omega arith;
+      frames = λ state inputs initial in_fit fs t vs u. show_same free_alone one_input (free_alone_observes well) state inputs fs vs initial.fits in_fit t u;
     }

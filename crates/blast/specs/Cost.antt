@@ -1,11 +1,12 @@
 -- How many AND gates and variables a lowering takes at most (the bounds of this project's profile).
-use Rattle.std.specs.Prelude.{ℕ, ◌+◌, List, if◌then◌else◌, sum_by}
+use Rattle.std.specs.Prelude.{ℕ, ◌+◌, Bool, List, if◌then◌else◌, sum_by}
 use Rattle.btor2.specs.declared.item.Item.{Item}
 use Rattle.btor2.specs.declared.item.Body.{Body}
 use Rattle.btor2.specs.declared.item.Body.TheVariants as body
-use Rattle.btor2.specs.Items.{is_input, is_state}
+use Rattle.btor2.specs.Items.{is_input, is_state, is_free_state, is_carried_state}
 use Rattle.btor2.specs.Trace.{bits_of}
 use Rattle.gates.specs.Bound.{unary_bound, binary_bound, ite_bound}
+use Rattle.blast.specs.Leaves.{by_body}
 
 -- the gate bound of a line: an operator's at the width of its operands, 0 for every other line
 abbrev pub line_cost : List Item → Body → ℕ
@@ -18,13 +19,26 @@ line_cost items _ = 0
 abbrev pub cost : List Item → ℕ
 cost items = sum_by (λ x. line_cost items x.body) items
 
--- how many bits the inputs of a model have together
-abbrev pub input_width : List Item → ℕ
-input_width items = sum_by (λ x. if is_input x.body then bits_of items x.id else 0) items
+-- how many bits the items of a kind have together, among some items of a model, the last list
+abbrev pub kind_width : List Item → (Item → Bool) → List Item → ℕ
+kind_width items kind some = sum_by (λ x. if kind x then bits_of items x.id else 0) some
 
--- how many bits the states of a model have together
+-- how many bits the inputs, the states, the free states and the other states of a model have together
+abbrev pub input_width : List Item → ℕ
+input_width items = kind_width items (by_body is_input) items
+
 abbrev pub state_width : List Item → ℕ
-state_width items = sum_by (λ x. if is_state x.body then bits_of items x.id else 0) items
+state_width items = kind_width items (by_body is_state) items
+
+abbrev pub free_width : List Item → ℕ
+free_width items = kind_width items (is_free_state items) items
+
+abbrev pub carried_width : List Item → ℕ
+carried_width items = kind_width items (is_carried_state items) items
+
+-- how many bits are given in each frame: those of the inputs and of the free states. So many inputs the circuit of a model has, and as many latches as bits that are carried
+abbrev pub given_width : List Item → ℕ
+given_width items = input_width items + free_width items
 
 -- the most variables that the circuit of a model takes: one for each input bit, each state bit and each gate
 abbrev pub bound : List Item → ℕ

@@ -4,28 +4,32 @@ use Rattle.base.specs.Word.{bits}
 use Rattle.btor2.specs.declared.item.Item.{Item}
 use Rattle.btor2.specs.declared.item.Body.{Body}
 use Rattle.btor2.specs.declared.item.Body.TheVariants as body
-use Rattle.btor2.specs.Items.{is_input, is_state, is_bad, is_constraint, constant_of, init_value}
+use Rattle.btor2.specs.Items.{is_input, is_bad, is_constraint, is_free_state, is_carried_state, constant_of, init_value}
 use Rattle.btor2.specs.Trace.{Frame, bits_of}
 use Rattle.aiger.specs.declared.circuit.Reset.{Reset}
 use Rattle.aiger.specs.declared.circuit.Reset.TheVariants as reset
 use Rattle.aiger.specs.Circuit.{Names}
 
--- what the items of a kind give, one after another
-abbrev pub of_kind : {A : Type 0} → (Body → Bool) → (Item → List A) → List Item → List A
+-- a test of an item by its body alone
+abbrev pub by_body : (Body → Bool) → Item → Bool
+by_body test x = test x.body
+
+-- what the items of a kind give, one after another: of those that pass a test
+abbrev pub of_kind : {A : Type 0} → (Item → Bool) → (Item → List A) → List Item → List A
 of_kind kind give [] = []
-of_kind kind give (x ∷ xs) = (if kind x.body then give x else []) ++ of_kind kind give xs
+of_kind kind give (x ∷ xs) = (if kind x then give x else []) ++ of_kind kind give xs
 
 -- the bits of a leaf's word in a frame, the lowest first
 abbrev pub leaf_bits : List Item → Frame → Item → List Bool
 leaf_bits items f x = bits (bits_of items x.id) (f x.id)
 
--- the bits of all inputs in a frame, input after input
+-- the bits of the words that are given in a frame, leaf after leaf: of all inputs, and then of all free states
 abbrev pub input_bits : List Item → Frame → List Bool
-input_bits items f = of_kind is_input (leaf_bits items f) items
+input_bits items input = of_kind (by_body is_input) (leaf_bits items input) items ++ of_kind (is_free_state items) (leaf_bits items input) items
 
--- the bits of all states in a frame, state after state
+-- the bits of the words that are carried into a frame, state after state: of all states that are not free
 abbrev pub state_bits : List Item → Frame → List Bool
-state_bits items f = of_kind is_state (leaf_bits items f) items
+state_bits items state = of_kind (is_carried_state items) (leaf_bits items state) items
 
 -- the name of a bit: the symbol, and the bit's number in brackets
 abbrev pub bit_name : List ℕ → ℕ → List ℕ
@@ -41,13 +45,13 @@ bit_names (Some symbol) first (suc count) = Some (bit_name symbol first) ∷ bit
 abbrev pub leaf_names : List Item → Item → Names
 leaf_names items x = bit_names x.symbol 0 (bits_of items x.id)
 
--- the names of the bits of all inputs
+-- the names of the bits that are given: of all inputs, and then of all free states
 abbrev pub input_names : List Item → Names
-input_names items = of_kind is_input (leaf_names items) items
+input_names items = of_kind (by_body is_input) (leaf_names items) items ++ of_kind (is_free_state items) (leaf_names items) items
 
--- the names of the bits of all states
+-- the names of the bits that are carried: of all states that are not free
 abbrev pub state_names : List Item → Names
-state_names items = of_kind is_state (leaf_names items) items
+state_names items = of_kind (is_carried_state items) (leaf_names items) items
 
 -- the name of a bad property or a constraint is its symbol
 abbrev pub own_name : Item → Names
@@ -55,11 +59,11 @@ own_name x = x.symbol ∷ []
 
 -- the names of the bad properties
 abbrev pub bad_names : List Item → Names
-bad_names items = of_kind is_bad own_name items
+bad_names items = of_kind (by_body is_bad) own_name items
 
 -- the names of the constraints
 abbrev pub constraint_names : List Item → Names
-constraint_names items = of_kind is_constraint own_name items
+constraint_names items = of_kind (by_body is_constraint) own_name items
 
 -- how a latch begins for a bit of an init constant
 abbrev pub reset_of_bit : Bool → Reset
@@ -75,9 +79,9 @@ resets_of_word width (Some x) = map reset_of_bit (bits width x)
 abbrev pub leaf_resets : List Item → Item → List Reset
 leaf_resets items x = resets_of_word (bits_of items x.id) (option_and_then (constant_of items) (init_value items x.id))
 
--- how the latches of all states begin
+-- how the latches begin: those of all states that are not free
 abbrev pub state_resets : List Item → List Reset
-state_resets items = of_kind is_state (leaf_resets items) items
+state_resets items = of_kind (is_carried_state items) (leaf_resets items) items
 
 -- whether a bad property rises, or a constraint holds, in a frame: its operand is 1
 abbrev pub observed : Frame → Body → List Bool
@@ -87,8 +91,8 @@ observed f _ = []
 
 -- which bad properties rise in a frame
 abbrev pub bad_values : List Item → Frame → List Bool
-bad_values items f = of_kind is_bad (λ x. observed f x.body) items
+bad_values items f = of_kind (by_body is_bad) (λ x. observed f x.body) items
 
 -- which constraints hold in a frame
 abbrev pub constraint_values : List Item → Frame → List Bool
-constraint_values items f = of_kind is_constraint (λ x. observed f x.body) items
+constraint_values items f = of_kind (by_body is_constraint) (λ x. observed f x.body) items

@@ -8,7 +8,7 @@ use Rattle.aiger.specs.declared.circuit.Section.TheVariants as section
 use Rattle.aiger.specs.Circuit.{Circuit, IsCircuit, section_names}
 use Rattle.aiger.specs.Trace.{IsTrace as IsCircuitTrace}
 use Rattle.blast.specs.Leaves.{input_bits, state_bits, input_names, state_names, bad_names, constraint_names, state_resets, bad_values, constraint_values}
-use Rattle.blast.specs.Cost.{cost, input_width}
+use Rattle.blast.specs.Cost.{cost, given_width}
 use Rattle.blast.specs.Refusal.{IsOfProfile}
 
 -- a frame of the model and a valuation of the circuit show the same bad properties and constraints
@@ -23,14 +23,14 @@ ShowSame items c [] (v ∷ vs) = ⊥
 ShowSame items c (f ∷ fs) [] = ⊥
 ShowSame items c (f ∷ fs) (v ∷ vs) = ShowsSame items c f v × ShowSame items c fs vs
 
--- a circuit lowers a model: its inputs and latches are the model's bits, and under the same words both show the same bad properties and constraints in every frame
+-- a circuit lowers a model: its inputs are the bits of the words that are given in each frame and its latches the bits of those that are carried, and under the same words both show the same bad properties and constraints in every frame
 pub record Lowers (items : List Item) (c : Circuit) : Type 0 where
   -- the model is one of the profile, and the circuit is one: its gates are in order, and every literal is of a variable that is there
   pub well_formed : IsWellFormed items
   pub of_profile : IsOfProfile items
   pub circuit : IsCircuit c
-  -- inputs and latches are the bits of the inputs and the states, in file order, the lowest first; names and resets are theirs
-  pub inputs : c.inputs ≡ input_width items
+  -- inputs are the bits of the inputs and then of the free states, latches those of the other states, in file order, the lowest first; names and resets are theirs
+  pub inputs : c.inputs ≡ given_width items
   pub input_names : section_names section.Input c ≡ input_names items
   pub latch_names : section_names section.Latch c ≡ state_names items
   pub resets : map (λ latch. latch.reset) c.latches ≡ state_resets items
@@ -42,7 +42,7 @@ pub record Lowers (items : List Item) (c : Circuit) : Type 0 where
   pub no_fair : c.fair ≡ []
   -- there are at most the stated number of gates
   pub few_gates : length c.gates ≤ cost items
-  -- from all initial words and under all input frames, the two traces from the same bits show the same in every frame
+  -- from all initial words and under all given words, the two traces from the same bits show the same in every frame
   pub frames : (state : Frame) (inputs : List Frame) → IsInitial items state → AreInputs items inputs
       → (fs : List Frame) → IsTrace items state inputs fs
       → (vs : List Valuation) → IsCircuitTrace c (state_bits items state) (map (input_bits items) inputs) vs

@@ -2,16 +2,16 @@
 use Rattle.std.specs.Prelude.{◌≡◌, ℕ, List, [], Some, IfSome, All, length, map, slice_get}
 use Rattle.base.specs.Word.{bits}
 use Rattle.btor2.specs.declared.item.Item.{Item}
-use Rattle.btor2.specs.Items.{is_state, is_bad, is_constraint, width_of_body}
+use Rattle.btor2.specs.Items.{is_bad, is_constraint, is_carried_state, width_of_body}
 use Rattle.btor2.specs.Trace.{Frame, IsFrame, IsState, IsInput, next_state}
 use Rattle.aiger.specs.declared.circuit.Latch.{Latch}
 use Rattle.aiger.specs.Literal.{Valuation, literal_value}
 use Rattle.aiger.specs.Net.{Net, IsDefined, Satisfies, input_bits as net_input_bits, latch_bits as net_latch_bits}
 use Rattle.gates.specs.Made.{Grows}
-use Rattle.blast.specs.Cost.{cost, input_width, state_width}
-use Rattle.blast.specs.Leaves.{of_kind, leaf_bits, leaf_resets, observed, input_bits, state_bits}
+use Rattle.blast.specs.Cost.{cost, given_width, carried_width}
+use Rattle.blast.specs.Leaves.{by_body, of_kind, leaf_bits, leaf_resets, observed, input_bits, state_bits}
 
--- a frame of the model and a valuation of the gates go together: they have the same bits at the inputs and at the states
+-- a frame of the model and a valuation of the gates go together: they have the same bits of what is given and of what is carried
 pub record Together (items : List Item) (n : Net) (state input f : Frame) (v : Valuation) : Type 0 where
   pub frame : IsFrame items state input f
   pub state_fits : IsState items state
@@ -36,7 +36,7 @@ RowsRead items n rows = (place : ℕ) (x : Item) (row : List ℕ) → slice_get 
 
 -- the net that a lowering begins with
 abbrev pub leaves_only : List Item → Net
-leaves_only items = record { inputs = input_width items; latches = state_width items; gates = [] }
+leaves_only items = record { inputs = given_width items; latches = carried_width items; gates = [] }
 
 -- a row for each item, made with at most the stated number of gates
 pub record LowersNodes (items : List Item) (old new : Net) (rows : List (List ℕ)) : Type 0 where
@@ -44,16 +44,16 @@ pub record LowersNodes (items : List Item) (old new : Net) (rows : List (List �
   pub reads : RowsRead items new rows
   pub grows : Grows old new (cost items)
 
--- latches are those of the states among some items: they begin as the states do, and take their next words' bits
+-- latches are those of the states among some items that are not free: they begin as the states do, and take their next words' bits
 pub record LatchesRead (items : List Item) (n : Net) (some : List Item) (latches : List Latch) : Type 0 where
   pub defined : All (λ latch. IsDefined n latch.next) latches
-  pub resets : map (λ latch. latch.reset) latches ≡ of_kind is_state (leaf_resets items) some
-  pub nexts : (state input f : Frame) (v : Valuation) → Together items n state input f v → map (λ latch. literal_value v latch.next) latches ≡ of_kind is_state (leaf_bits items (next_state items f)) some
+  pub resets : map (λ latch. latch.reset) latches ≡ of_kind (is_carried_state items) (leaf_resets items) some
+  pub nexts : (state input f : Frame) (v : Valuation) → Together items n state input f v → map (λ latch. literal_value v latch.next) latches ≡ of_kind (is_carried_state items) (leaf_bits items (next_state items f)) some
 
 -- in every frame, literals have the values of the bad properties among some items
 pub record BadsRead (items : List Item) (n : Net) (some : List Item) (bads : List ℕ) : Type 0 where
-  pub values : (state input f : Frame) (v : Valuation) → Together items n state input f v → map (literal_value v) bads ≡ of_kind is_bad (λ x. observed f x.body) some
+  pub values : (state input f : Frame) (v : Valuation) → Together items n state input f v → map (literal_value v) bads ≡ of_kind (by_body is_bad) (λ x. observed f x.body) some
 
 -- in every frame, literals have the values of the constraints among some items
 pub record ConstraintsRead (items : List Item) (n : Net) (some : List Item) (constraints : List ℕ) : Type 0 where
-  pub values : (state input f : Frame) (v : Valuation) → Together items n state input f v → map (literal_value v) constraints ≡ of_kind is_constraint (λ x. observed f x.body) some
+  pub values : (state input f : Frame) (v : Valuation) → Together items n state input f v → map (literal_value v) constraints ≡ of_kind (by_body is_constraint) (λ x. observed f x.body) some

@@ -2,15 +2,15 @@
 use Rattle.std.specs.Prelude.{◌≡◌, List, Option, Some, None, Result, Ok, Err, if◌then◌else◌, nat_lt, option_map, ◌⊎◌}
 use Rattle.std.specs.Option.{option_or}
 use Rattle.btor2.specs.declared.item.Item.{Item}
-use Rattle.btor2.specs.Lists.{first_without_next}
+use Rattle.btor2.specs.Lists.{first_init_without_next}
 use Rattle.aiger.specs.Limits.{greatest_count}
 use Rattle.blast.specs.Cost.{bound}
 use Rattle.blast.specs.declared.fault.LowerFault.{LowerFault}
 use Rattle.blast.specs.declared.fault.LowerFault.TheVariants as fault
 
--- what speaks against a model by its form: the first state in file order that has no next line
+-- what speaks against a model by its form: the first state in file order that has an init line and no next line
 abbrev pub form_refusal : List Item → Option LowerFault
-form_refusal items = option_map fault.NoNext (first_without_next items items)
+form_refusal items = option_map fault.NoNext (first_init_without_next items items)
 
 -- a well-formed model is of the profile where nothing speaks against it by its form
 abbrev pub IsOfProfile : List Item → Type 0

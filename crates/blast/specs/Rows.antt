@@ -1,10 +1,10 @@
 -- The literals that a circuit's latches, bad properties and constraints take from the rows of a model's nodes.
-use Rattle.std.specs.Prelude.{ℕ, suc, List, [], ◌∷◌, ◌++◌, ◌==◌, Option, Some, None, option_and_then, unwrap_or, slice_get, slice_index}
+use Rattle.std.specs.Prelude.{ℕ, suc, List, [], ◌∷◌, ◌++◌, ◌==◌, Option, Some, None, if◌then◌else◌, option_and_then, unwrap_or, slice_get, slice_index}
 use Rattle.base.specs.Word.{bit}
 use Rattle.btor2.specs.declared.item.Item.{Item}
 use Rattle.btor2.specs.declared.item.Body.{Body}
 use Rattle.btor2.specs.declared.item.Body.TheVariants as body
-use Rattle.btor2.specs.Items.{position_of, constant_of, init_value, next_value}
+use Rattle.btor2.specs.Items.{position_of, constant_of, init_value, next_value, is_carried_state}
 use Rattle.aiger.specs.declared.circuit.Latch.{Latch}
 use Rattle.aiger.specs.declared.circuit.Reset.{Reset}
 use Rattle.aiger.specs.declared.circuit.Reset.TheVariants as reset
@@ -32,6 +32,10 @@ row_latches init i (l ∷ row) = record { next = l; reset = reset_at init i } �
 -- the latches of a state: of the row of its next node
 abbrev pub state_latches : List Item → List (List ℕ) → Item → List Latch
 state_latches items rows x = row_latches (init_word items x.id) 0 (row_at items rows (next_value items x.id))
+
+-- the latches of an item: those of a state that is not free, and none of any other
+abbrev pub item_latches : List Item → List (List ℕ) → Item → List Latch
+item_latches items rows x = if is_carried_state items x then state_latches items rows x else []
 
 -- the literal of a node of one bit
 abbrev pub literal_at : List Item → List (List ℕ) → ℕ → ℕ

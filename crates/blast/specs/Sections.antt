@@ -1,36 +1,52 @@
--- The names that the items of a model give the positions of each section of its circuit, and circuits that take them.
-use Rattle.std.specs.Prelude.{◌≡◌, ◌≢◌, Bool, false, List, []}
+-- The names that the items of a model give the positions of its circuit, part by part, and circuits that take them.
+use Rattle.std.specs.Prelude.{◌≡◌, ◌≢◌, Bool, List, [], if◌then◌else◌}
 use Rattle.btor2.specs.declared.item.Item.{Item}
 use Rattle.btor2.specs.declared.item.Body.{Body}
-use Rattle.btor2.specs.Items.{is_input, is_state, is_bad, is_constraint}
+use Rattle.btor2.specs.Items.{is_input, is_state, is_bad, is_constraint, is_free_state, is_carried_state}
 use Rattle.aiger.specs.declared.circuit.Section.{Section}
 use Rattle.aiger.specs.declared.circuit.Section.TheVariants as section
 use Rattle.aiger.specs.Circuit.{Circuit, Names, section_names}
-use Rattle.blast.specs.Leaves.{of_kind, leaf_names, own_name, input_names, state_names, bad_names, constraint_names}
+use Rattle.blast.specs.declared.parts.Part.{Part}
+use Rattle.blast.specs.declared.parts.Part.TheVariants as part
+use Rattle.blast.specs.Leaves.{by_body, of_kind, leaf_names, own_name, input_names, state_names, bad_names, constraint_names}
 
--- no item is of this kind
-abbrev pub is_none_of : Body → Bool
-is_none_of b = false
+-- the items that the positions of a part come from
+abbrev pub kind_of : List Item → Part → Item → Bool
+kind_of items part.Inputs = by_body is_input
+kind_of items part.FreeStates = is_free_state items
+kind_of items part.CarriedStates = is_carried_state items
+kind_of items part.Bads = by_body is_bad
+kind_of items part.Constraints = by_body is_constraint
 
--- the items that a section's positions come from
-abbrev pub kind_of : Section → Body → Bool
-kind_of section.Input = is_input
-kind_of section.Latch = is_state
-kind_of section.Bad = is_bad
-kind_of section.Constraint = is_constraint
-kind_of _ = is_none_of
+-- the list of a model that they stand in, by its test of a body
+abbrev pub list_of : Part → Body → Bool
+list_of part.Inputs = is_input
+list_of part.FreeStates = is_state
+list_of part.CarriedStates = is_state
+list_of part.Bads = is_bad
+list_of part.Constraints = is_constraint
 
--- the names that one of them gives
-abbrev pub item_names : Section → List Item → Item → Names
-item_names section.Input items = leaf_names items
-item_names section.Latch items = leaf_names items
-item_names section.Bad items = own_name
-item_names section.Constraint items = own_name
-item_names _ items = λ x. []
+-- the section that their positions stand in: that of the inputs has two parts
+abbrev pub section_of : Part → Section
+section_of part.Inputs = section.Input
+section_of part.FreeStates = section.Input
+section_of part.CarriedStates = section.Latch
+section_of part.Bads = section.Bad
+section_of part.Constraints = section.Constraint
 
--- the names of a section
-abbrev pub model_names : Section → List Item → Names
-model_names section items = of_kind (kind_of section) (item_names section items) items
+-- the names that one of the items gives
+abbrev pub item_names : List Item → Part → Item → Names
+item_names items part.Bads = own_name
+item_names items part.Constraints = own_name
+item_names items _ = leaf_names items
+
+-- the names of a part
+abbrev pub part_names : List Item → Part → Names
+part_names items part = of_kind (kind_of items part) (item_names items part) items
+
+-- the names that an item gives a part: none where it is of another kind
+abbrev pub names_given : List Item → Part → Item → Names
+names_given items part x = if kind_of items part x then item_names items part x else []
 
 -- a circuit that has these names in one section, and else is as another
 pub record Renames (s : Section) (old : Circuit) (names : Names) (new : Circuit) : Type 0 where

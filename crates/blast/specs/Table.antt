@@ -2,12 +2,15 @@
 use Rattle.std.specs.Prelude.{◌≡◌, ℕ, suc, ◌+◌, ◌≤◌, true, List, [], ◌∷◌, Option, Some, option_and_then, if◌then◌else◌, is_some, All, length, map, sum_by, take, slice_range, slice_index, slice_get}
 use Rattle.base.specs.Word.{bits}
 use Rattle.btor2.specs.declared.item.Item.{Item}
-use Rattle.btor2.specs.Items.{is_input, is_state, position_of, node_width}
+use Rattle.btor2.specs.Items.{is_input, is_state, is_free, is_free_state, is_carried_state, position_of, node_width}
+use Rattle.btor2.specs.Lists.{places}
 use Rattle.btor2.specs.Trace.{Frame, bits_of}
 use Rattle.aiger.specs.Literal.{Valuation, literal_value}
 use Rattle.aiger.specs.Net.{Net, IsDefined}
 use Rattle.gates.specs.Made.{Grows}
-use Rattle.blast.specs.Cost.{line_cost, input_width}
+use Rattle.blast.specs.Cost.{line_cost, kind_width, input_width, given_width}
+use Rattle.blast.specs.Leaves.{by_body}
+use Rattle.blast.specs.declared.nodes.NextLeaf.{NextLeaf}
 use Rattle.blast.specs.Reads.{Together, ReadsWord, RowReads, RowsRead, leaves_only}
 
 -- the rows with these ends, of which the first begins at a place
@@ -53,18 +56,28 @@ pub record IsOperand (items : List Item) (n : Net) (rows : List (List ℕ)) (id 
 abbrev pub cost_among : List Item → List Item → ℕ
 cost_among items some = sum_by (λ x. line_cost items x.body) some
 
--- how many bits the inputs among some items of a model have together
-abbrev pub inputs_among : List Item → List Item → ℕ
-inputs_among items some = sum_by (λ x. if is_input x.body then bits_of items x.id else 0) some
+-- what the next leaf behind some items of a model has: variables are numbered the inputs' bits first, then those of the free states, then those of the other states
+abbrev pub next_leaf : List Item → List Item → NextLeaf
+next_leaf items some =
+    record {
+      input = suc (kind_width items (by_body is_input) some);
+      free = suc (input_width items + kind_width items (is_free_state items) some);
+      carried = suc (given_width items + kind_width items (is_carried_state items) some);
+      state = length (places is_state 0 some);
+    }
 
--- how many bits the states among some items of a model have together
-abbrev pub states_among : List Item → List Item → ℕ
-states_among items some = sum_by (λ x. if is_state x.body then bits_of items x.id else 0) some
+-- and what the leaf behind one item more has
+abbrev pub next_after : List Item → Item → NextLeaf → NextLeaf
+next_after items x next =
+    if is_input x.body
+    then record next { input = next.input + bits_of items x.id }
+    else if is_state x.body
+    then (if is_free items x.id then record next { free = next.free + bits_of items x.id; state = suc next.state } else record next { carried = next.carried + bits_of items x.id; state = suc next.state })
+    else next
 
--- the rows of the first so many items, and the variables of the next input bit and the next state bit
-pub record LowersFront (items : List Item) (place : ℕ) (n : Net) (rows : List (List ℕ)) (input latch : ℕ) : Type 0 where
+-- the rows of the first so many items, and what the next leaf has
+pub record LowersFront (items : List Item) (place : ℕ) (n : Net) (rows : List (List ℕ)) (next : NextLeaf) : Type 0 where
   pub all : length rows ≡ place
   pub reads : RowsRead items n rows
   pub grows : Grows (leaves_only items) n (cost_among items (take place items))
-  pub next_input : input ≡ suc (inputs_among items (take place items))
-  pub next_latch : latch ≡ suc (input_width items + states_among items (take place items))
+  pub leaves : next ≡ next_leaf items (take place items)

@@ -6,7 +6,8 @@ use Rattle.btor2.specs.declared.item.Item.{Item}
 use Rattle.btor2.specs.declared.item.Body.{Body}
 use Rattle.btor2.specs.declared.item.Body.TheVariants as body
 use Rattle.btor2.specs.Worked.{line}
-use Rattle.aiger.specs.Circuit.{Circuit}
+use Rattle.aiger.specs.declared.circuit.Reset.TheVariants as reset
+use Rattle.aiger.specs.Circuit.{Circuit, fresh_circuit}
 
 -- an item with a name
 abbrev pub named : ℕ → List ℕ → Body → Item
@@ -34,6 +35,51 @@ named_toggler =
     ∷ named 7 (codes "p") (body.Bad 3)
     ∷ named 8 (codes "x") (body.Input 1)
     ∷ line 9 (body.Constraint 8)
+    ∷ []
+
+-- a free state f, a state s that has its word a frame later and is bad where it is 1, and an input x that nothing names
+abbrev pub named_follower : List Item
+named_follower =
+    line 1 (body.Sort 1)
+    ∷ named 2 (codes "f") (body.State 1)
+    ∷ named 3 (codes "s") (body.State 1)
+    ∷ named 4 (codes "x") (body.Input 1)
+    ∷ line 5 (body.Next 1 3 2)
+    ∷ line 6 (body.Bad 3)
+    ∷ []
+
+-- its circuit: x and then f are the inputs, and s is a latch that takes f
+abbrev pub follower_circuit : Circuit
+follower_circuit =
+    record {
+      inputs = 2;
+      latches = record { next = 4; reset = reset.Free } ∷ [];
+      gates = [];
+      outputs = [];
+      bads = 6 ∷ [];
+      constraints = [];
+      justice = [];
+      fair = [];
+      names = ((0, 0), codes "x[0]") ∷ ((0, 1), codes "f[0]") ∷ ((1, 0), codes "s[0]") ∷ [];
+    }
+
+-- a free state alone, its circuit of one input, and a circuit that takes it for a latch
+abbrev pub free_alone : List Item
+free_alone = line 1 (body.Sort 1) ∷ line 2 (body.State 1) ∷ []
+
+abbrev pub one_input : Circuit
+one_input = fresh_circuit 1 0
+
+abbrev pub one_latch : Circuit
+one_latch = fresh_circuit 0 1
+
+-- a state with an init line and no next line
+abbrev pub init_alone : List Item
+init_alone =
+    line 1 (body.Sort 1)
+    ∷ line 2 (body.Zero 1)
+    ∷ line 3 (body.State 1)
+    ∷ line 4 (body.Init 1 3 2)
     ∷ []
 
 -- two bits of input, bad where both are 1

@@ -2,14 +2,14 @@
 ghost use Rattle.std.specs.Prelude.{◌≡◌, ℕ, ◌+◌, ◌<◌, ◌≤◌, true, length, replicate, Some, None, All, is_some, slice_get, slice_index};
 ghost use Rattle.btor2.specs.Check.{IsWellFormed};
 ghost use Rattle.btor2.specs.Items.{is_state, init_value, next_value};
-ghost use Rattle.btor2.specs.Lists.{places, first_without_next};
+ghost use Rattle.btor2.specs.Lists.{places, first_init_without_next};
 ghost use Rattle.aiger.specs.Net.{IsDefined};
 ghost use Rattle.aiger.specs.Limits.{greatest_count};
 ghost use Rattle.aiger.specs.Circuit.{net, with_latch, fresh_latch};
 ghost use Rattle.blast.specs.Blocks.{written};
-ghost use Rattle.blast.specs.Cost.{state_width};
+ghost use Rattle.blast.specs.Cost.{carried_width};
 ghost use Rattle.blast.specs.Reads.{RowsRead, LatchesRead};
-ghost use Rattle.blast.specs.Rows.{row_at, init_word, reset_at, row_latches, state_latches};
+ghost use Rattle.blast.specs.Rows.{row_at, init_word, reset_at, row_latches, state_latches, item_latches};
 
 use crate::items::item_at;
 use crate::table::Table;
@@ -110,15 +110,45 @@ fn set_state(
     row.len()
 }
 
-/// Sets the latches to the bits of the states: they begin as the states do, and take the bits of their next nodes.
+/// Sets the latches of a state that is not free from a first one on, and answers how many they are: a free state has
+/// none. `k` counts the states.
+fn set_unless_free(
+    model: &Model,
+    table: &Table,
+    k: usize,
+    item: &Item,
+    first: usize,
+    circuit: &mut Circuit,
+) -> usize
+    requires there { k < length (places is_state 0 model.now) }
+    requires place { slice_get model.now (slice_index (places is_state 0 model.now) k) ≡ Some item.now }
+    requires state { is_state item.now.body ≡ true }
+    requires well_formed { IsWellFormed model.now }
+    requires all { length table.now ≡ length model.now }
+    requires nexts { first_init_without_next model.now model.now ≡ None }
+    requires reads { RowsRead model.now (net circuit.old) table.now }
+    requires room { first + length (item_latches model.now table.now item.now) ≤ length circuit.old.latches }
+    requires few { length circuit.old.latches ≤ greatest_count }
+    ensures latches { circuit.new ≡ record circuit.old { latches = written circuit.old.latches first (item_latches model.now table.now item.now) } }
+    ensures count { result ≡ length (item_latches model.now table.now item.now) }
+{
+    if model.is_free(k) {
+        0
+    } else {
+        set_state(model, table, k, item, first, circuit)
+    }
+}
+
+/// Sets the latches to the bits of the states that are not free: they begin as the states do, and take the bits of
+/// their next nodes.
 ///
 /// Conditions: the table has a row for each item, which reads as its node's word; the circuit has a latch for each
-/// bit of a state, of which nothing was said yet; each state has a next.
+/// bit of a state that is not free, of which nothing was said yet; each such state has a next.
 pub(crate) fn set_latches(model: &Model, table: &Table, circuit: &mut Circuit)
     requires reads { RowsRead model.now (net circuit.old) table.now }
     requires all { length table.now ≡ length model.now }
-    requires fresh { circuit.old.latches ≡ replicate (state_width model.now) fresh_latch }
-    requires nexts { first_without_next model.now model.now ≡ None }
+    requires fresh { circuit.old.latches ≡ replicate (carried_width model.now) fresh_latch }
+    requires nexts { first_init_without_next model.now model.now ≡ None }
     ensures latches { LatchesRead model.now (net circuit.old) model.now circuit.new.latches }
     ensures others { circuit.new ≡ record circuit.old { latches = circuit.new.latches } }
 {
@@ -129,6 +159,6 @@ pub(crate) fn set_latches(model: &Model, table: &Table, circuit: &mut Circuit)
     let mut first = 0;
     for k in 0..states.len() {
         let item = item_at(items, states[k]);
-        first += set_state(model, table, k, item, first, circuit);
+        first += set_unless_free(model, table, k, item, first, circuit);
     }
 }

@@ -1,7 +1,7 @@
 //! Theorems on the definitions of lowerings, costs, leaves and refusals, as functions with no code.
-ghost use Rattle.std.specs.Prelude.{◌≡◌, ◌↔◌, ℕ, List, [], ◌∷◌, true, false, map, None, Some, codes};
+ghost use Rattle.std.specs.Prelude.{◌≡◌, ◌↔◌, ℕ, ◌+◌, ◌==◌, if◌then◌else◌, List, [], ◌∷◌, true, false, map, None, Some, codes};
 ghost use Rattle.aiger.specs.Literal.{Valuation};
-ghost use Rattle.aiger.specs.Circuit.{Circuit};
+ghost use Rattle.aiger.specs.Circuit.{Circuit, IsCircuit};
 ghost use Rattle.aiger.specs.Trace.{AreInitial, IsTrace as IsCircuitTrace};
 ghost use Rattle.aiger.specs.Worked.{toggler as toggler_circuit};
 ghost use Rattle.aiger.specs.declared.circuit.Reset.TheVariants as reset;
@@ -9,15 +9,16 @@ ghost use Rattle.base.specs.declared.operators.Unary.TheVariants as unary;
 ghost use Rattle.base.specs.declared.operators.Binary.TheVariants as binary;
 ghost use Rattle.btor2.specs.declared.item.Item.{Item};
 ghost use Rattle.btor2.specs.declared.item.Body.TheVariants as body;
+ghost use Rattle.btor2.specs.Check.{IsWellFormed};
 ghost use Rattle.btor2.specs.Trace.{Frame, IsInitial, AreInputs};
-ghost use Rattle.btor2.specs.Worked.{toggler, nextless};
+ghost use Rattle.btor2.specs.Worked.{toggler, open_ends};
 ghost use Rattle.blast.specs.declared.fault.LowerFault.TheVariants as fault;
-ghost use Rattle.blast.specs.Cost.{line_cost, cost, input_width, state_width, bound};
+ghost use Rattle.blast.specs.Cost.{line_cost, cost, input_width, state_width, free_width, given_width, carried_width, bound};
 ghost use Rattle.blast.specs.Leaves.{bit_name, input_bits, state_bits, input_names, state_names, bad_names, constraint_names, resets_of_word, state_resets, bad_values, constraint_values};
 ghost use Rattle.blast.specs.Lowering.{Lowers};
 ghost use Rattle.blast.specs.Reachability.{CanRise, CanRiseInCircuit, rises_within};
 ghost use Rattle.blast.specs.Refusal.{form_refusal, lowering_refusal};
-ghost use Rattle.blast.specs.Worked.{masked, named_toggler, gated, unsatisfied};
+ghost use Rattle.blast.specs.Worked.{masked, named_toggler, named_follower, follower_circuit, free_alone, one_input, one_latch, init_alone, gated, unsatisfied};
 
 /// A law: from the bits of all initial words that agree with a model's init lines, and under the bits of all words of its
 /// inputs, a circuit that lowers the model has a trace, and these are initial bits of the circuit.
@@ -40,15 +41,34 @@ pub fn bad_properties_rise_alike()
     btor2::laws::exactly_one_trace();
 }
 
-/// Worked rows: a circuit that lowers a model; a circuit that lowers none, since a gate has an operand above it and no
-/// valuation satisfies it; and a model that no circuit lowers, since a state has no next line.
+/// A law: the bits that are given in each frame and those that are carried are the bits of the inputs and of the states.
+pub fn bits_are_given_or_carried()
+    ensures { (items : List Item) → given_width items + carried_width items ≡ input_width items + state_width items }
+{}
+
+/// Worked rows: models with free states, and their circuits.
+pub fn worked_free_states()
+    ensures follower_is_model { IsWellFormed named_follower }
+    ensures alone_is_model { IsWellFormed free_alone }
+    ensures follower_is_circuit { IsCircuit follower_circuit }
+    ensures input_is_circuit { IsCircuit one_input }
+{}
+
+/// Worked rows: circuits that lower a model, of which one has a free state, which is an input behind the inputs, and one
+/// has free states alone, so that there is no latch; a circuit that lowers none, since a gate has an operand above it and
+/// no valuation satisfies it; one that takes a free state for a latch; and a model that no circuit lowers, since a state
+/// has an init line and no next line.
 pub fn worked_lowerings()
     ensures lowers { Lowers toggler toggler_circuit }
+    ensures follower { Lowers named_follower follower_circuit }
+    ensures free_alone { Lowers free_alone one_input }
+    ensures free_as_latch { ¬ Lowers free_alone one_latch }
     ensures is_no_circuit { ¬ Lowers gated unsatisfied }
-    ensures is_not_of_profile { (c : Circuit) → ¬ Lowers nextless c }
+    ensures is_not_of_profile { (c : Circuit) → ¬ Lowers open_ends c }
 {
     aiger::laws::worked_traces();
     btor2::laws::worked_traces();
+    worked_free_states();
 }
 
 /// Worked rows: where a bad property rises among frames. Constraints count up to the frame in which it rises, and in it;
@@ -76,6 +96,13 @@ pub fn worked_costs()
     ensures masked_inputs { input_width masked ≡ 2 }
     ensures masked_states { state_width masked ≡ 2 }
     ensures masked_bound { bound masked ≡ 6 }
+    ensures follower_inputs { input_width named_follower ≡ 1 }
+    ensures follower_states { state_width named_follower ≡ 2 }
+    ensures follower_free { free_width named_follower ≡ 1 }
+    ensures follower_given { given_width named_follower ≡ 2 }
+    ensures follower_carried { carried_width named_follower ≡ 1 }
+    ensures follower_bound { bound named_follower ≡ 3 }
+    ensures alone_carried { carried_width free_alone ≡ 0 }
 {}
 
 /// Worked rows: the bits of inputs and states, how latches begin, and what bad properties and constraints show.
@@ -84,10 +111,14 @@ pub fn worked_leaves()
     ensures input_bits { input_bits masked (λ id. 2) ≡ false ∷ true ∷ [] }
     ensures state_bit { state_bits toggler (λ id. 1) ≡ true ∷ [] }
     ensures state_bits { state_bits masked (λ id. 1) ≡ true ∷ false ∷ [] }
+    ensures free_behind_input { input_bits named_follower (λ id. if id == 2 then 1 else 0) ≡ false ∷ true ∷ [] }
+    ensures carried_alone { state_bits named_follower (λ id. if id == 3 then 1 else 0) ≡ true ∷ [] }
+    ensures none_carried { state_bits free_alone (λ id. 1) ≡ [] }
     ensures free_word { resets_of_word 2 None ≡ reset.Free ∷ reset.Free ∷ [] }
     ensures given_word { resets_of_word 2 (Some 1) ≡ reset.One ∷ reset.Zero ∷ [] }
     ensures begins_with_0 { state_resets toggler ≡ reset.Zero ∷ [] }
     ensures begins_freely { state_resets masked ≡ reset.Free ∷ reset.Free ∷ [] }
+    ensures of_carried { state_resets named_follower ≡ reset.Free ∷ [] }
     ensures is_bad { bad_values named_toggler (λ id. 1) ≡ true ∷ [] }
     ensures is_not_bad { bad_values named_toggler (λ id. 0) ≡ false ∷ [] }
     ensures is_met { constraint_values named_toggler (λ id. 1) ≡ true ∷ [] }
@@ -106,11 +137,18 @@ pub fn worked_names()
     ensures latch_without { state_names toggler ≡ None ∷ [] }
     ensures inputs_without { input_names masked ≡ None ∷ None ∷ [] }
     ensures bad_without { bad_names toggler ≡ None ∷ [] }
+    ensures free_behind_input { input_names named_follower ≡ Some (codes "x[0]") ∷ Some (codes "f[0]") ∷ [] }
+    ensures carried_alone { state_names named_follower ≡ Some (codes "s[0]") ∷ [] }
+    ensures free_without { input_names free_alone ≡ None ∷ [] }
 {}
 
-/// Worked rows: a model whose states each have a next line is not refused; else the first without one is told.
+/// Worked rows: a model whose states each have a next line or are free is not refused; else the first state with an init
+/// line and no next line is told.
 pub fn worked_refusals()
     ensures accepted { lowering_refusal masked ≡ None }
-    ensures no_next { lowering_refusal nextless ≡ Some (fault.NoNext 3) }
-    ensures by_form { form_refusal nextless ≡ Some (fault.NoNext 3) }
+    ensures free_accepted { lowering_refusal named_follower ≡ None }
+    ensures alone_accepted { lowering_refusal free_alone ≡ None }
+    ensures init_alone { lowering_refusal init_alone ≡ Some (fault.NoNext 3) }
+    ensures no_next { lowering_refusal open_ends ≡ Some (fault.NoNext 5) }
+    ensures by_form { form_refusal open_ends ≡ Some (fault.NoNext 5) }
 {}

@@ -9,6 +9,7 @@ pub mod laws;
 mod lowering;
 mod names;
 mod nodes;
+mod parts;
 mod properties;
 mod table;
 mod widths;

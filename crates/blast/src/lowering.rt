@@ -10,7 +10,7 @@ use crate::latches::set_latches;
 use crate::names::set_names;
 use crate::nodes::lower_nodes;
 use crate::properties::push_properties;
-use crate::widths::{bound, input_width, state_width};
+use crate::widths::{bound, carried_width, given_width};
 use aiger::{Circuit, GREATEST_COUNT};
 use btor2::Model;
 use gates::{GateFault, PlainGates};
@@ -23,7 +23,7 @@ fn refusal(model: &Model) -> Option<LowerFault>
 {
     // a model's items are well-formed
     let _ = model.items();
-    match model.first_without_next() {
+    match model.first_init_without_next() {
         Some(id) => Some(LowerFault::NoNext(id)),
         None => {
             if bound(model) > u64::from(GREATEST_COUNT) {
@@ -43,8 +43,8 @@ fn lower_accepted(alloc: Global, model: &Model) -> Result<Circuit, LowerFault>
     ensures ok { IfOk result (λ circuit. Lowers model.now circuit) }
     ensures memory { IfErr result (λ e. e ≡ LowerFault.NoMemory) }
 {
-    let inputs = input_width(model) as u32;
-    let latches = state_width(model) as u32;
+    let inputs = given_width(model) as u32;
+    let latches = carried_width(model) as u32;
     let mut gates = match PlainGates::new(alloc, inputs, latches) {
         Ok(gates) => gates,
         Err(GateFault::NoMemory) => return Err(LowerFault::NoMemory),
@@ -64,10 +64,11 @@ fn lower_accepted(alloc: Global, model: &Model) -> Result<Circuit, LowerFault>
     Ok(circuit)
 }
 
-/// The circuit that lowers a model: the bits of its inputs are the inputs, those of its states the latches.
+/// The circuit that lowers a model: the bits of its inputs and then those of its free states are the inputs, those of its
+/// other states the latches.
 ///
 /// Condition: the model is of the basic forms, which are those that are lowered so far; `btor2text::are_basic` is the
-/// test. Errors: `NoNext` with the first state in file order that has no next; else `TooBig` where the bound
+/// test. Errors: `NoNext` with the first state in file order that has an init line and no next line; else `TooBig` where the bound
 /// on the variables is above 2^30; else `NoMemory`. Nothing is given then.
 pub fn lower(alloc: Global, model: &Model) -> Result<Circuit, LowerFault>
     requires basic { are_basic model.now ≡ true }

@@ -1,5 +1,5 @@
 //! The names of a circuit's inputs, latches, bad properties and constraints.
-ghost use Rattle.std.specs.Prelude.{◌≡◌, ℕ, ◌+◌, ◌<◌, ◌≤◌, [], ◌∷◌, true, length, replicate, Some, None, IfOk, OnOk, IfErr, slice_get, slice_set};
+ghost use Rattle.std.specs.Prelude.{◌≡◌, ℕ, ◌+◌, ◌<◌, ◌≤◌, [], ◌∷◌, true, length, Some, None, IfOk, OnOk, IfErr, slice_get, slice_index, slice_set};
 ghost use Rattle.btor2.specs.Symbols.{is_symbol};
 ghost use Rattle.btor2.specs.Check.{IsWellFormed};
 ghost use Rattle.btor2.specs.Lists.{places};
@@ -7,13 +7,14 @@ ghost use Rattle.btor2.specs.Trace.{bits_of};
 ghost use Rattle.aiger.specs.Limits.{greatest_count};
 ghost use Rattle.aiger.specs.Circuit.{section_names, is_name};
 ghost use Rattle.blast.specs.declared.fault.LowerFault.TheVariants as fault;
-ghost use Rattle.blast.specs.Cost.{input_width, state_width};
+ghost use Rattle.blast.specs.Cost.{given_width, carried_width};
 ghost use Rattle.blast.specs.Leaves.{bit_name, bit_names, leaf_names, bad_names, constraint_names};
-ghost use Rattle.blast.specs.Blocks.{block, written, IsBlank};
-ghost use Rattle.blast.specs.Sections.{kind_of, item_names, model_names, Renames, TakesNames};
+ghost use Rattle.blast.specs.Blocks.{written, IsBlank};
+ghost use Rattle.blast.specs.Sections.{list_of, section_of, item_names, part_names, names_given, Renames, TakesNames};
 
 use crate::fault::LowerFault;
 use crate::items::{bit_count, item_at};
+use crate::parts::{Part, is_of_part, part_list, part_section};
 use aiger::{Circuit, CircuitFault, LONGEST_NAME, Section};
 use arrayvec::ArrayVec;
 use btor2::{Item, Model, Symbol};
@@ -148,61 +149,87 @@ fn name_property(
     }
 }
 
-/// Names the positions that an item gives a section, and answers how many they are.
-fn name_item(
+/// Names the positions of an item of a part, and answers how many they are.
+fn name_own(
     model: &Model,
+    part: Part,
     place: usize,
-    section: Section,
     first: usize,
     item: &Item,
     circuit: &mut Circuit,
 ) -> Result<usize, LowerFault>
     requires well_formed { IsWellFormed model.now }
     requires place { slice_get model.now place ≡ Some item.now }
-    requires free { IsBlank None first (length (item_names section model.now item.now)) (section_names section circuit.old) }
-    requires room { first + length (item_names section model.now item.now) ≤ length (section_names section circuit.old) }
-    requires few { length (section_names section circuit.old) ≤ greatest_count }
-    ensures ok { OnOk result (Renames section circuit.old (written (section_names section circuit.old) first (item_names section model.now item.now)) circuit.new) }
-    ensures count { IfOk result (λ n. n ≡ length (item_names section model.now item.now)) }
+    requires free { IsBlank None first (length (item_names model.now part item.now)) (section_names (section_of part) circuit.old) }
+    requires room { first + length (item_names model.now part item.now) ≤ length (section_names (section_of part) circuit.old) }
+    requires few { length (section_names (section_of part) circuit.old) ≤ greatest_count }
+    ensures ok { OnOk result (Renames (section_of part) circuit.old (written (section_names (section_of part) circuit.old) first (item_names model.now part item.now)) circuit.new) }
+    ensures count { IfOk result (λ n. n ≡ length (item_names model.now part item.now)) }
     ensures err { IfErr result (λ e. e ≡ fault.NoMemory) }
 {
-    match section {
-        Section::Input => name_leaf(model, place, Section::Input, first, item, circuit),
-        Section::Latch => name_leaf(model, place, Section::Latch, first, item, circuit),
-        Section::Bad => name_property(Section::Bad, first, &item.symbol, circuit),
-        Section::Constraint => name_property(Section::Constraint, first, &item.symbol, circuit),
-        Section::Output | Section::Justice | Section::Fair => Ok(0),
+    let section = part_section(part);
+    match part {
+        Part::Inputs => name_leaf(model, place, section, first, item, circuit),
+        Part::FreeStates => name_leaf(model, place, section, first, item, circuit),
+        Part::CarriedStates => name_leaf(model, place, section, first, item, circuit),
+        Part::Bads => name_property(section, first, &item.symbol, circuit),
+        Part::Constraints => name_property(section, first, &item.symbol, circuit),
     }
 }
 
-/// The places of the items that a section's positions come from.
-fn section_places(model: &Model, section: Section) -> &[usize]
-    ensures { result.now ≡ places (kind_of section) 0 model.now }
+/// Names the positions that an item gives a part, and answers how many they are: none where it is of another. `k` counts
+/// the list of the part.
+fn name_item(
+    model: &Model,
+    part: Part,
+    k: usize,
+    place: usize,
+    first: usize,
+    item: &Item,
+    circuit: &mut Circuit,
+) -> Result<usize, LowerFault>
+    requires well_formed { IsWellFormed model.now }
+    requires there { k < length (places (list_of part) 0 model.now) }
+    requires here { place ≡ slice_index (places (list_of part) 0 model.now) k }
+    requires place { slice_get model.now place ≡ Some item.now }
+    requires free { IsBlank None first (length (names_given model.now part item.now)) (section_names (section_of part) circuit.old) }
+    requires room { first + length (names_given model.now part item.now) ≤ length (section_names (section_of part) circuit.old) }
+    requires few { length (section_names (section_of part) circuit.old) ≤ greatest_count }
+    ensures ok { OnOk result (Renames (section_of part) circuit.old (written (section_names (section_of part) circuit.old) first (names_given model.now part item.now)) circuit.new) }
+    ensures count { IfOk result (λ n. n ≡ length (names_given model.now part item.now)) }
+    ensures err { IfErr result (λ e. e ≡ fault.NoMemory) }
 {
-    match section {
-        Section::Input => model.inputs(),
-        Section::Latch => model.states(),
-        Section::Bad => model.bads(),
-        Section::Constraint => model.constraints(),
-        Section::Output | Section::Justice | Section::Fair => &[],
+    if is_of_part(model, part, k) {
+        name_own(model, part, place, first, item, circuit)
+    } else {
+        Ok(0)
     }
 }
 
-/// Names the positions of a section.
-fn name_section(model: &Model, section: Section, circuit: &mut Circuit) -> Result<(), LowerFault>
-    requires blank { section_names section circuit.old ≡ replicate (length (model_names section model.now)) None }
-    requires few { length (section_names section circuit.old) ≤ greatest_count }
-    ensures ok { OnOk result (Renames section circuit.old (model_names section model.now) circuit.new) }
+/// Names the positions of a part from a first one on, and answers the position behind them.
+fn name_part(
+    model: &Model,
+    part: Part,
+    first: usize,
+    circuit: &mut Circuit,
+) -> Result<usize, LowerFault>
+    requires blank { IsBlank None first (length (part_names model.now part)) (section_names (section_of part) circuit.old) }
+    requires room { first + length (part_names model.now part) ≤ length (section_names (section_of part) circuit.old) }
+    requires few { length (section_names (section_of part) circuit.old) ≤ greatest_count }
+    ensures ok { OnOk result (Renames (section_of part) circuit.old (written (section_names (section_of part) circuit.old) first (part_names model.now part)) circuit.new) }
+    ensures next { IfOk result (λ n. n ≡ first + length (part_names model.now part)) }
     ensures err { IfErr result (λ e. e ≡ fault.NoMemory) }
 {
     let items = model.items();
-    let mut first = 0;
-    for place in section_places(model, section) {
-        let item = item_at(items, *place);
-        let count = name_item(model, *place, section, first, item, circuit)?;
-        first += count;
+    let list = part_list(model, part);
+    let mut next = first;
+    for k in 0..list.len() {
+        let place = list[k];
+        let item = item_at(items, place);
+        let count = name_item(model, part, k, place, next, item, circuit)?;
+        next += count;
     }
-    Ok(())
+    Ok(next)
 }
 
 /// Gives the bits of each input and state with a symbol the name `<symbol>[<bit>]`, and each bad property and
@@ -213,8 +240,8 @@ fn name_section(model: &Model, section: Section, circuit: &mut Circuit) -> Resul
 /// Error: `NoMemory`. Some positions may then have their names.
 pub(crate) fn set_names(model: &Model, circuit: &mut Circuit) -> Result<(), LowerFault>
     requires unnamed { circuit.old.names ≡ [] }
-    requires inputs { circuit.old.inputs ≡ input_width model.now }
-    requires latches { length circuit.old.latches ≡ state_width model.now }
+    requires inputs { circuit.old.inputs ≡ given_width model.now }
+    requires latches { length circuit.old.latches ≡ carried_width model.now }
     requires bads { length circuit.old.bads ≡ length (bad_names model.now) }
     requires constraints { length circuit.old.constraints ≡ length (constraint_names model.now) }
     ensures ok { OnOk result (TakesNames model.now circuit.old circuit.new) }
@@ -222,8 +249,10 @@ pub(crate) fn set_names(model: &Model, circuit: &mut Circuit) -> Result<(), Lowe
 {
     // a circuit has at most 2^30 positions of a section, so their counts fit
     let _ = circuit.variables();
-    name_section(model, Section::Input, circuit)?;
-    name_section(model, Section::Latch, circuit)?;
-    name_section(model, Section::Bad, circuit)?;
-    name_section(model, Section::Constraint, circuit)
+    let inputs = name_part(model, Part::Inputs, 0, circuit)?;
+    name_part(model, Part::FreeStates, inputs, circuit)?;
+    name_part(model, Part::CarriedStates, 0, circuit)?;
+    name_part(model, Part::Bads, 0, circuit)?;
+    name_part(model, Part::Constraints, 0, circuit)?;
+    Ok(())
 }

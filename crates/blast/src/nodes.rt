@@ -1,9 +1,9 @@
 //! The rows of literals of all nodes, in file order.
-ghost use Rattle.std.specs.Prelude.{◌≡◌, ℕ, ◌+◌, ◌*◌, ◌^◌, ◌<◌, ◌≤◌, List, true, is_some, map, replicate, length, Some, slice_get, IfOk, OnOk, IfErr, if◌then◌else◌, IfSome};
+ghost use Rattle.std.specs.Prelude.{◌≡◌, ℕ, ◌+◌, ◌*◌, ◌^◌, ◌<◌, ◌≤◌, List, true, is_some, map, replicate, length, Some, slice_get, take, IfOk, OnOk, IfErr, if◌then◌else◌, IfSome};
 ghost use Rattle.std.specs.List.{range_with_len};
 ghost use Rattle.base.specs.Operator.{unary_value, binary_value};
 ghost use Rattle.base.specs.Widths.{is_of_bits, unary_width, binary_width};
-ghost use Rattle.btor2.specs.Items.{is_input, is_state, node_width};
+ghost use Rattle.btor2.specs.Items.{is_input, is_state, is_free, node_width};
 ghost use Rattle.btor2.specs.Check.{IsWellFormed};
 ghost use Rattle.btor2.specs.Trace.{bits_of};
 ghost use Rattle.aiger.specs.Limits.{greatest_count};
@@ -12,16 +12,26 @@ ghost use Rattle.btor2text.specs.Basic.{is_basic, are_basic};
 ghost use Rattle.gates.specs.Bound.{unary_bound, binary_bound};
 ghost use Rattle.blast.specs.Cost.{bound, line_cost};
 ghost use Rattle.blast.specs.Reads.{LowersNodes, leaves_only};
-ghost use Rattle.blast.specs.Table.{MakesNode, MakesRow, row_of, IsOperand, LowersFront};
+ghost use Rattle.blast.specs.Table.{MakesNode, MakesRow, row_of, IsOperand, next_leaf, next_after, LowersFront};
 
 use crate::items::bit_count;
 use crate::table::Table;
-use crate::widths::input_width;
+use crate::widths::{given_width, input_width};
 use aiger::Lit;
 use base::{Binary, Unary};
 use btor2::{Body, Item, Model};
 use gates::{Bits, GateFault, Gates, binary_bits, unary_bits};
 use std::alloc::Global;
+
+/// What the next leaf has: the variable of the first bit of an input, of a free state and of another state, and the
+/// number of states before it.
+#[derive(Drop)]
+pub(crate) struct NextLeaf {
+    pub input: u64,
+    pub free: u64,
+    pub carried: u64,
+    pub state: usize,
+}
 
 /// The literals of so many variables from a first one on.
 fn variable_bits(first: u64, width: u64) -> Bits
@@ -125,29 +135,60 @@ fn binary_row<G: Gates>(
     binary_bits(gates, operator, &a, &b)
 }
 
-/// The row of a line, after the rows of those before it. `input` and `latch` are the variables of the next input bit and the next state bit.
+/// The row of an input: its variables.
+fn input_row(model: &Model, place: usize, item: &Item, next: &mut NextLeaf) -> Bits
+    requires well_formed { IsWellFormed model.now }
+    requires at { slice_get model.now place ≡ Some item.now }
+    requires input { is_input item.now.body ≡ true }
+    requires next { next.old ≡ next_leaf model.now (take place model.now) }
+    requires fits { bound model.now ≤ greatest_count }
+    ensures bits { result.items ≡ map (λ i. 2 * (next.old.input + i)) (range_with_len 0 (bits_of model.now item.now.id)) }
+    ensures next { next.new ≡ next_after model.now item.now next.old }
+{
+    next_bits(&mut next.input, bit_count(model, place, item))
+}
+
+/// The row of a state: its variables, which are those of an input bit where it is free.
+fn state_row(model: &Model, place: usize, item: &Item, next: &mut NextLeaf) -> Bits
+    requires well_formed { IsWellFormed model.now }
+    requires at { slice_get model.now place ≡ Some item.now }
+    requires state { is_state item.now.body ≡ true }
+    requires next { next.old ≡ next_leaf model.now (take place model.now) }
+    requires fits { bound model.now ≤ greatest_count }
+    ensures bits { result.items ≡ map (λ i. 2 * ((if is_free model.now item.now.id then next.old.free else next.old.carried) + i)) (range_with_len 0 (bits_of model.now item.now.id)) }
+    ensures next { next.new ≡ next_after model.now item.now next.old }
+{
+    let width = bit_count(model, place, item);
+    let free = model.is_free(next.state);
+    next.state += 1;
+    if free {
+        next_bits(&mut next.free, width)
+    } else {
+        next_bits(&mut next.carried, width)
+    }
+}
+
+/// The row of a line, after the rows of those before it.
 fn line_row<G: Gates>(
     model: &Model,
     gates: &mut G,
     table: &Table,
     place: usize,
     item: &Item,
-    input: &mut u64,
-    latch: &mut u64,
+    next: &mut NextLeaf,
 ) -> Result<Bits, GateFault>
     requires well_formed { IsWellFormed model.now }
     requires at { slice_get model.now place ≡ Some item.now }
     requires basic { is_basic item.now.body ≡ true }
-    requires front { LowersFront model.now place (G.made gates.old) table.now input.old latch.old }
+    requires front { LowersFront model.now place (G.made gates.old) table.now next.old }
     requires fits { bound model.now ≤ greatest_count }
     ensures ok { IfOk result (λ bits. MakesRow model.now (G.made gates.old) (G.made gates.new) item.now bits.items) }
-    ensures input { OnOk result (input.new ≡ input.old + (if is_input item.now.body then bits_of model.now item.now.id else 0)) }
-    ensures latch { OnOk result (latch.new ≡ latch.old + (if is_state item.now.body then bits_of model.now item.now.id else 0)) }
+    ensures next { OnOk result (next.new ≡ next_after model.now item.now next.old) }
     ensures memory { IfErr result (λ e. e ≡ GateFault.NoMemory) }
 {
     match &item.body {
-        Body::Input { .. } => Ok(next_bits(input, bit_count(model, place, item))),
-        Body::State { .. } => Ok(next_bits(latch, bit_count(model, place, item))),
+        Body::Input { .. } => Ok(input_row(model, place, item, next)),
+        Body::State { .. } => Ok(state_row(model, place, item, next)),
         Body::Zero { .. } => Ok(false_bits(bit_count(model, place, item))),
         Body::Unary {
             operator,
@@ -176,18 +217,17 @@ fn lower_item<G: Gates>(
     table: &mut Table,
     place: usize,
     item: &Item,
-    input: &mut u64,
-    latch: &mut u64,
+    next: &mut NextLeaf,
 ) -> Result<(), GateFault>
     requires well_formed { IsWellFormed model.now }
     requires at { slice_get model.now place ≡ Some item.now }
     requires basic { is_basic item.now.body ≡ true }
-    requires front { LowersFront model.now place (G.made gates.old) table.old input.old latch.old }
+    requires front { LowersFront model.now place (G.made gates.old) table.old next.old }
     requires fits { bound model.now ≤ greatest_count }
-    ensures ok { OnOk result (LowersFront model.now (place + 1) (G.made gates.new) table.new input.new latch.new) }
+    ensures ok { OnOk result (LowersFront model.now (place + 1) (G.made gates.new) table.new next.new) }
     ensures memory { IfErr result (λ e. e ≡ GateFault.NoMemory) }
 {
-    let bits = line_row(model, gates, table, place, item, input, latch)?;
+    let bits = line_row(model, gates, table, place, item, next)?;
     match table.push(bits.as_slice()) {
         Ok(()) => Ok(()),
         Err(_) => Err(GateFault::NoMemory),
@@ -197,8 +237,8 @@ fn lower_item<G: Gates>(
 /// The rows of literals of all items, in file order: those of an input and a state are their variables, those of an
 /// operator are made of its operands' rows, and a line without a value has an empty row.
 ///
-/// Conditions: the model is of the basic forms; the maker stands on the bits of the inputs and the states, and has made no gate; at most 2^30
-/// variables. Errors: `NoMemory`.
+/// Conditions: the model is of the basic forms; the maker stands on the bits that are given in each frame and on those
+/// that are carried, and has made no gate; at most 2^30 variables. Errors: `NoMemory`.
 pub(crate) fn lower_nodes<G: Gates>(
     alloc: Global,
     model: &Model,
@@ -212,12 +252,14 @@ pub(crate) fn lower_nodes<G: Gates>(
 {
     let items = model.items();
     let mut table = Table::new(alloc);
-    let mut input = 1;
-    let mut latch = 1 + input_width(model);
+    let mut next = NextLeaf {
+        input: 1,
+        free: 1 + input_width(model),
+        carried: 1 + given_width(model),
+        state: 0,
+    };
     for (place, item) in items.iter().enumerate() {
-        lower_item(
-            model, gates, &mut table, place, item, &mut input, &mut latch,
-        )?;
+        lower_item(model, gates, &mut table, place, item, &mut next)?;
     }
     Ok(table)
 }

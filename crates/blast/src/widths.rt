@@ -1,11 +1,14 @@
 //! How many gates and variables a lowering takes at most.
-ghost use Rattle.std.specs.Prelude.{◌≡◌, ◌≤◌, ◌+◌, true, All, Some, is_some, slice_get, if◌then◌else◌};
-ghost use Rattle.btor2.specs.Items.{node_width, operands, is_input, is_state};
+ghost use Rattle.std.specs.Prelude.{◌≡◌, ◌≤◌, ◌<◌, ◌^◌, true, All, Some, is_some, length, slice_get, slice_index, if◌then◌else◌};
+ghost use Rattle.btor2.specs.Items.{node_width, operands};
 ghost use Rattle.btor2.specs.Check.{IsWellFormed};
+ghost use Rattle.btor2.specs.Lists.{places};
 ghost use Rattle.btor2.specs.Trace.{bits_of};
-ghost use Rattle.blast.specs.Cost.{line_cost, cost, input_width, state_width, bound};
+ghost use Rattle.blast.specs.Cost.{line_cost, cost, kind_width, input_width, given_width, carried_width, bound};
+ghost use Rattle.blast.specs.Sections.{kind_of, list_of};
 
-use crate::items::bit_count;
+use crate::items::{bit_count, item_at};
+use crate::parts::{Part, is_of_part, part_list};
 use btor2::{Body, Item, Model};
 use gates::{Op, gate_bound};
 
@@ -25,28 +28,34 @@ fn node_bits(model: &Model, id: u32) -> u64
     }
 }
 
-/// The bits of an input, and 0 for another item.
-fn input_bits(model: &Model, place: usize, item: &Item) -> u64
+/// The bits of the item at a place, where it is of a part, and else 0. `k` counts the list of the part.
+fn part_bits(model: &Model, part: Part, k: usize, place: usize, item: &Item) -> u64
     requires well_formed { IsWellFormed model.now }
+    requires there { k < length (places (list_of part) 0 model.now) }
+    requires place { place ≡ slice_index (places (list_of part) 0 model.now) k }
     requires at { slice_get model.now place ≡ Some item.now }
-    ensures { result ≡ (if is_input item.now.body then bits_of model.now item.now.id else 0) }
+    ensures { result ≡ (if kind_of model.now part item.now then bits_of model.now item.now.id else 0) }
 {
-    match &item.body {
-        Body::Input { .. } => bit_count(model, place, item),
-        _ => 0,
+    if is_of_part(model, part, k) {
+        bit_count(model, place, item)
+    } else {
+        0
     }
 }
 
-/// The bits of a state, and 0 for another item.
-fn state_bits(model: &Model, place: usize, item: &Item) -> u64
-    requires well_formed { IsWellFormed model.now }
-    requires at { slice_get model.now place ≡ Some item.now }
-    ensures { result ≡ (if is_state item.now.body then bits_of model.now item.now.id else 0) }
+/// The bits of the items of a part.
+fn part_width(model: &Model, part: Part) -> u64
+    ensures value { result ≡ kind_width model.now (kind_of model.now part) model.now }
+    ensures small { result < 2 ^ 39 }
 {
-    match &item.body {
-        Body::State { .. } => bit_count(model, place, item),
-        _ => 0,
+    let items = model.items();
+    let list = part_list(model, part);
+    let mut total = 0;
+    for k in 0..list.len() {
+        let place = list[k];
+        total += part_bits(model, part, k, place, item_at(items, place));
     }
+    total
 }
 
 /// The gate bound of an operator, and 0 for another item.
@@ -70,26 +79,26 @@ fn line_cost(model: &Model, body: &Body) -> u64
 
 /// The bits of the inputs.
 pub(crate) fn input_width(model: &Model) -> u64
-    ensures { result ≡ input_width model.now }
+    ensures value { result ≡ input_width model.now }
+    ensures small { result < 2 ^ 39 }
 {
-    let items = model.items();
-    let mut total = 0;
-    for (place, item) in items.iter().enumerate() {
-        total += input_bits(model, place, item);
-    }
-    total
+    part_width(model, Part::Inputs)
 }
 
-/// The bits of the states.
-pub(crate) fn state_width(model: &Model) -> u64
-    ensures { result ≡ state_width model.now }
+/// The bits that are given in each frame: of the inputs and of the free states.
+pub(crate) fn given_width(model: &Model) -> u64
+    ensures value { result ≡ given_width model.now }
+    ensures small { result < 2 ^ 40 }
 {
-    let items = model.items();
-    let mut total = 0;
-    for (place, item) in items.iter().enumerate() {
-        total += state_bits(model, place, item);
-    }
-    total
+    input_width(model) + part_width(model, Part::FreeStates)
+}
+
+/// The bits that are carried from frame to frame: of the states that are not free.
+pub(crate) fn carried_width(model: &Model) -> u64
+    ensures value { result ≡ carried_width model.now }
+    ensures small { result < 2 ^ 39 }
+{
+    part_width(model, Part::CarriedStates)
 }
 
 /// How many AND gates the lowering of a model has at most: the gate bounds of all items.
@@ -109,5 +118,5 @@ pub fn bound(model: &Model) -> u64
     ensures { result ≡ bound model.now }
 {
     let _items = model.items();
-    input_width(model) + state_width(model) + cost(model)
+    given_width(model) + carried_width(model) + cost(model)
 }

@@ -17,3 +17,11 @@ returns-clause-latch c = refl
 pub returns-clause-input : goal.returns-clause-input
 unfolding digits
 returns-clause-input c = refl
+
+pub returns-clause-free_behind_input : goal.returns-clause-free_behind_input
+unfolding digits
+returns-clause-free_behind_input c = refl
+
+pub returns-clause-carried_alone : goal.returns-clause-carried_alone
+unfolding digits
+returns-clause-carried_alone c = refl

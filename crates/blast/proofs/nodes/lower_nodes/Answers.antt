@@ -5,7 +5,7 @@ use Rattle.blast.proofs.nodes.lower_nodes.Goals as goal
 
 pub loop-place-init : goal.loop-place-init
 loop-place-init g c =
-    LowersFront-start c.args.model.now (g.G.Gates.made c.args.gates.now) c.new-table.result (1 + c.input_width.result) c.requires.leaves c.new-table.ensures (ap (λ k. 1 + k) c.input_width.ensures)
+    LowersFront-start c.args.model.now (g.G.Gates.made c.args.gates.now) c.new-table.result (1 + c.input_width.result) (1 + c.given_width.result) c.requires.leaves c.new-table.ensures (ap (λ k. 1 + k) c.input_width.ensures.value) (ap (λ k. 1 + k) c.given_width.ensures.value)
 
 pub lower_item-requires : goal.lower_item-requires
 lower_item-requires g c =
@@ -24,4 +24,4 @@ loop-place-preserved g c = c.in_ok-lower_item.ensures.ok
 pub returns-clause-ok : goal.returns-clause-ok
 returns-clause-ok g c =
     let all : c.loop-place.place ≡ length c.args.model.now = omega (arith, ap length c.items-items.ensures.items, c.loop-place-test.false, c.loop-place.auto.place-end) in
-    LowersNodes-from_front c.args.model.now (g.G.Gates.made c.args.gates.now) (g.G.Gates.made c.loop-place.gates) c.loop-place.place c.loop-place.table c.loop-place.input c.loop-place.latch c.requires.leaves all c.loop-place.invariant
+    LowersNodes-from_front c.args.model.now (g.G.Gates.made c.args.gates.now) (g.G.Gates.made c.loop-place.gates) c.loop-place.place c.loop-place.table c.loop-place.next c.requires.leaves all c.loop-place.invariant
