@@ -79,7 +79,7 @@ gate-read own g rest below' ordered small =
     ∙ (rw (first, below-read own g.rhs0 (delta (g.rhs0 - g.rhs1) ++ rest) below', second, at_or_below-read g.rhs0 g.rhs1 rest ordered) refl)
 
 -- the literal of the variable after one
-next_literal : (first : ℕ) → 2 * first + 2 ≡ 2 * suc first
+pub next_literal : (first : ℕ) → 2 * first + 2 ≡ 2 * suc first
 next_literal first = omega arith
 
 -- the gates

@@ -11,3 +11,9 @@ mod StandsLemmas
 mod PlaceLemmas
 mod NameTextLemmas
 mod WrittenLemmas
+mod BackLemmas
+mod LatchBackLemmas
+mod GateBackLemmas
+mod NameBackLemmas
+mod HeaderBackLemmas
+mod ReadStandsLemmas

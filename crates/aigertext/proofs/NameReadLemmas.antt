@@ -107,7 +107,7 @@ module _ (c : Circuit) (g : Given) (few : HasFewPositions c) (e : name_refusal c
   step-read rest d more =
       rw (whole_lines-line (name_bytes g) rest bytes_are_line, unfinished-line (name_bytes g) rest, not_comment (letter g.section) (decimal g.position) g.name, name-read) more
 
-few_with_name : (c : Circuit) (g : Given) → HasFewPositions c → HasFewPositions (with_name c g.section g.position g.name)
+pub few_with_name : (c : Circuit) (g : Given) → HasFewPositions c → HasFewPositions (with_name c g.section g.position g.name)
 few_with_name c g few s = omega (arith, few s, section_count-with_name s c g.section g.position g.name)
 
 -- a name's line before a text

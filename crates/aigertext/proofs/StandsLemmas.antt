@@ -48,7 +48,7 @@ properties_in c =
       fair = c.fair;
     }
 
-property_text : (c : Circuit) (rest : List ℕ)
+pub property_text : (c : Circuit) (rest : List ℕ)
     → property_lines c ++ rest ≡ literal_lines c.outputs ++ (literal_lines c.bads ++ (literal_lines c.constraints ++ (size_lines c.justice ++ (literal_lines (concat c.justice) ++ (literal_lines c.fair ++ rest)))))
 property_text c rest = rw (← list_lines-concat c.justice) (simp append_assoc)
 
@@ -75,7 +75,7 @@ properties-read c rest valid =
 nameless_is : (c : Circuit) → nameless c.inputs c.latches (properties_in c) c.gates ≡ record c { names = [] }
 nameless_is c = ap (λ (lists : List (List ℕ)). record c { names = []; justice = lists }) (lists_of-concat c.justice)
 
-few_in : (c : Circuit) → IsCircuit c → HasFewPositions (record c { names = [] })
+pub few_in : (c : Circuit) → IsCircuit c → HasFewPositions (record c { names = [] })
 few_in c valid section.Input = few_positions section.Input c valid
 few_in c valid section.Latch = few_positions section.Latch c valid
 few_in c valid section.Output = few_positions section.Output c valid

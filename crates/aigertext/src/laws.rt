@@ -1,5 +1,5 @@
 //! Worked rows of the texts: functions that do nothing, whose contracts are the rows.
-ghost use Rattle.std.specs.Prelude.{◌≡◌, ℕ, List, [], ◌∷◌, ◌++◌, Result, Ok, Err, codes};
+ghost use Rattle.std.specs.Prelude.{◌≡◌, ℕ, ◌<◌, All, List, [], ◌∷◌, ◌++◌, Result, Ok, Err, codes};
 ghost use Rattle.aiger.specs.Circuit.{Circuit, IsCircuit};
 ghost use Rattle.aigertext.specs.Ascii.{numbers_line, without_zero_tail, name_line, ascii_text};
 ghost use Rattle.aigertext.specs.Binary.{delta, binary_text};
@@ -115,6 +115,13 @@ pub fn one_binary_circuit()
     ensures read { (ascii : Counts → List ℕ → Result Circuit Stop) (text : List ℕ) (c : Circuit)
         → IsBinaryText text c → text_on ascii text ≡ Ok c }
     ensures same { (text : List ℕ) (c d : Circuit) → IsBinaryText text c → IsBinaryText text d → c ≡ d }
+{}
+
+/// A circuit that a text is read as, whatever texts of the ascii form are read as, is one that it stands for in the
+/// binary form.
+pub fn binary_text_that_is_read()
+    ensures { (text : List ℕ) (c : Circuit) → All (λ b. b < 256) text → IsCircuit c
+        → ((ascii : Counts → List ℕ → Result Circuit Stop) → text_on ascii text ≡ Ok c) → IsBinaryText text c }
 {}
 
 /// Worked rows: a binary text with its whole header and a comment stands for a circuit; without its byte 10, with

@@ -1,0 +1,166 @@
+-- From what reading gives back to the text: deltas and gates.
+use Rattle.std.proofs.Common.{◌≡◌, ℕ, zero, suc, ◌+◌, ◌-◌, ◌*◌, ◌/◌, ◌%◌, ◌<◌, ◌≤◌, ◌==◌, ◌||◌, nat_lt, List, [], ◌∷◌, ◌++◌, length, Result, Ok, Err, refl, sym, ap, subst, ◌∙◌, append_assoc, inl, inr, if◌then◌else◌, arith}
+use Rattle.std.specs.List.{AllByRecursion}
+use Rattle.std.proofs.lemmas.Bool.{eqb-false, ltb-true, ltb-false, or_parts}
+use Rattle.base.proofs.DecimalLemmas.{chosen}
+use Rattle.aiger.specs.declared.circuit.Gate.{Gate}
+use Rattle.aigertext.specs.declared.fault.Stop.{Stop}
+use Rattle.aigertext.specs.declared.fault.Why.{Why}
+use Rattle.aigertext.specs.declared.fault.Why.TheVariants as why
+use Rattle.aigertext.specs.Binary.{digits_128, delta, gate_deltas}
+use Rattle.aigertext.specs.Reading.{◌>>=◌, at, more_digits, delta_at, below, at_or_below, gate_at, gates_at}
+use Rattle.aigertext.proofs.BackLemmas.{ok_same, not_err}
+use Rattle.aigertext.proofs.DeltaLemmas.{digits-more, digits-one}
+use Rattle.aigertext.proofs.GateLemmas.{next_literal}
+
+-- bytes
+abbrev pub AreBytes : List ℕ → Type 0
+AreBytes text = AllByRecursion (λ b. b < 256) text
+
+pub bytes_behind : (front rest : List ℕ) → AreBytes (front ++ rest) → AreBytes rest
+bytes_behind [] rest h = h
+bytes_behind (b ∷ front) rest h = bytes_behind front rest h.1
+
+-- digits at the front of a text
+record AreDigits (more : ℕ) (text : List ℕ) (n : ℕ) (rest : List ℕ) : Type 0 where
+  parts : text ≡ digits_128 more n ++ rest
+  some : 0 < n
+
+last_by : (more b : ℕ) (bs : List ℕ) (n : ℕ) (rest : List ℕ) → b < 128 → if◌then◌else◌ {A = Result (ℕ × List ℕ) Why} (b == 0) (Err why.DeltaNotShortest) (Ok (b, bs)) ≡ Ok (n, rest) → AreDigits more (b ∷ bs) n rest
+last_by more b bs n rest small e =
+    elim (chosen (b == 0) (Err why.DeltaNotShortest) (Ok (b, bs)) (Ok (n, rest)) e) [
+      | inl wrong ↦ absurd (not_err _ _ wrong.1)
+      | inr good ↦
+          let is : (b, bs) ≡ (n, rest) = ok_same (b, bs) (n, rest) good.1 in
+          subst (λ (p : ℕ × List ℕ). AreDigits more (b ∷ bs) p.0 p.1) is
+          (record { parts = ap (λ (l : List ℕ). l ++ bs) (sym (digits-one more b small)); some = omega (arith, eqb-false b 0 good.0) })
+    ]
+
+-- a digit before others
+digit_before : (b m : ℕ) → 128 ≤ b → b < 256 → ((b - 128 + 128 * m) % 128 + 128 ≡ b) × ((b - 128 + 128 * m) / 128 ≡ m)
+digit_before b m low high = (omega arith, omega arith)
+
+more_by : (more b : ℕ) (bs : List ℕ) (n : ℕ) (rest : List ℕ) (r : Result (ℕ × List ℕ) Why) → 128 ≤ b → b < 256 → ((m : ℕ) (rest : List ℕ) → r ≡ Ok (m, rest) → AreDigits more bs m rest)
+    → ◌>>=◌ {A = ℕ × List ℕ} {B = ℕ × List ℕ} {E = Why} r (λ x. Ok ((b - 128) + 128 * x.0, x.1)) ≡ Ok (n, rest)
+    → (b ∷ bs ≡ digits_128 (suc more) n ++ rest) × (0 < n)
+more_by more b bs n rest (Err w) low high others e = absurd (not_err _ _ e)
+more_by more b bs n rest (Ok x) low high others e =
+    let is : ◌≡◌ {A = ℕ × List ℕ} ((b - 128) + 128 * x.0, x.1) (n, rest) = ok_same ((b - 128) + 128 * x.0, x.1) (n, rest) e in
+    let o = others x.0 x.1 refl in
+    let d = digit_before b x.0 low high in
+    let large : 128 ≤ (b - 128) + 128 * x.0 = omega (arith, o.some) in
+    let digits : digits_128 (suc more) ((b - 128) + 128 * x.0) ≡ b ∷ digits_128 more x.0 =
+    digits-more more ((b - 128) + 128 * x.0) large ∙ ap (λ (k : ℕ). k ∷ digits_128 more (((b - 128) + 128 * x.0) / 128)) d.0 ∙ ap (λ (k : ℕ). b ∷ digits_128 more k) d.1 in
+    subst (λ (p : ℕ × List ℕ). (b ∷ bs ≡ digits_128 (suc more) p.0 ++ p.1) × (0 < p.0)) is
+    (ap (λ (l : List ℕ). b ∷ l) o.parts ∙ ap (λ (l : List ℕ). l ++ x.1) (sym digits), omega (arith, o.some))
+
+more_digits-back : (more : ℕ) (text : List ℕ) (n : ℕ) (rest : List ℕ) → AreBytes text → more_digits more text ≡ Ok (n, rest) → AreDigits more text n rest
+more_digits-back more [] n rest bytes e = absurd (not_err _ _ e)
+more_digits-back zero (b ∷ bs) n rest bytes e =
+    elim (chosen (nat_lt b 128) (if◌then◌else◌ {A = Result (ℕ × List ℕ) Why} (b == 0) (Err why.DeltaNotShortest) (Ok (b, bs))) (Err why.DeltaTooLong) (Ok (n, rest)) e) [
+      | inl small ↦ last_by zero b bs n rest (ltb-true b 128 small.0) small.1
+      | inr wrong ↦ absurd (not_err _ _ wrong.1)
+    ]
+more_digits-back (suc more) (b ∷ bs) n rest bytes e =
+    elim (chosen (nat_lt b 128) (if◌then◌else◌ {A = Result (ℕ × List ℕ) Why} (b == 0) (Err why.DeltaNotShortest) (Ok (b, bs))) (◌>>=◌ {A = ℕ × List ℕ} {B = ℕ × List ℕ} {E = Why} (more_digits more bs) (λ x. Ok ((b - 128) + 128 * x.0, x.1))) (Ok (n, rest)) e) [
+      | inl small ↦ last_by (suc more) b bs n rest (ltb-true b 128 small.0) small.1
+      | inr large ↦
+          let p = more_by more b bs n rest (more_digits more bs) (ltb-false b 128 large.0) bytes.0 (λ m after f. more_digits-back more bs m after bytes.1 f) large.1 in
+          record { parts = p.0; some = p.1 }
+    ]
+
+-- a delta at the front of a text
+pub delta-back : (text : List ℕ) (n : ℕ) (rest : List ℕ) → AreBytes text → delta_at text ≡ Ok (n, rest) → text ≡ delta n ++ rest
+unfolding delta_at
+delta-back [] n rest bytes e = absurd (not_err _ _ e)
+delta-back (b ∷ bs) n rest bytes e =
+    elim (chosen (nat_lt b 128) (Ok (b, bs)) (◌>>=◌ {A = ℕ × List ℕ} {B = ℕ × List ℕ} {E = Why} (more_digits 3 bs) (λ x. Ok ((b - 128) + 128 * x.0, x.1))) (Ok (n, rest)) e) [
+      | inl small ↦
+          let is : (b, bs) ≡ (n, rest) = ok_same (b, bs) (n, rest) small.1 in
+          subst (λ (p : ℕ × List ℕ). b ∷ bs ≡ delta p.0 ++ p.1) is (ap (λ (l : List ℕ). l ++ bs) (sym (digits-one 4 b (ltb-true b 128 small.0))))
+      | inr large ↦
+          (more_by 3 b bs n rest (more_digits 3 bs) (ltb-false b 128 large.0) bytes.0 (λ m after f. more_digits-back 3 bs m after bytes.1 f) large.1).0
+    ]
+
+-- the operands of a gate
+taken_twice : (a d : ℕ) → d ≤ a → a - (a - d) ≡ d
+taken_twice a d h = omega arith
+
+below-back : (own : ℕ) (text : List ℕ) (x : ℕ × List ℕ) (r : Result (ℕ × List ℕ) Why) → AreBytes text → delta_at text ≡ r → ◌>>=◌ {A = ℕ × List ℕ} {B = ℕ × List ℕ} {E = Why} r (below own) ≡ Ok x → text ≡ delta (own - x.0) ++ x.1
+below-back own text x (Err w) bytes f e = absurd (not_err _ _ e)
+below-back own text x (Ok d) bytes f e =
+    elim (chosen ((d.0 == 0) || nat_lt own d.0) (Err why.GateOrder) (Ok (own - d.0, d.1)) (Ok x) e) [
+      | inl wrong ↦ absurd (not_err _ _ wrong.1)
+      | inr good ↦
+          let le : d.0 ≤ own = ltb-false own d.0 (or_parts (d.0 == 0) (nat_lt own d.0) good.0).1 in
+          subst (λ (p : ℕ × List ℕ). text ≡ delta (own - p.0) ++ p.1) (ok_same (own - d.0, d.1) x good.1)
+          (delta-back text d.0 d.1 bytes f ∙ ap (λ (k : ℕ). delta k ++ d.1) (sym (taken_twice own d.0 le)))
+    ]
+
+at_or_below-back : (first : ℕ) (text : List ℕ) (x : ℕ × List ℕ) (r : Result (ℕ × List ℕ) Why) → AreBytes text → delta_at text ≡ r → ◌>>=◌ {A = ℕ × List ℕ} {B = ℕ × List ℕ} {E = Why} r (at_or_below first) ≡ Ok x → text ≡ delta (first - x.0) ++ x.1
+at_or_below-back first text x (Err w) bytes f e = absurd (not_err _ _ e)
+at_or_below-back first text x (Ok d) bytes f e =
+    elim (chosen (nat_lt first d.0) (Err why.GateOrder) (Ok (first - d.0, d.1)) (Ok x) e) [
+      | inl wrong ↦ absurd (not_err _ _ wrong.1)
+      | inr good ↦
+          let le : d.0 ≤ first = ltb-false first d.0 good.0 in
+          subst (λ (p : ℕ × List ℕ). text ≡ delta (first - p.0) ++ p.1) (ok_same (first - d.0, d.1) x good.1)
+          (delta-back text d.0 d.1 bytes f ∙ ap (λ (k : ℕ). delta k ++ d.1) (sym (taken_twice first d.0 le)))
+    ]
+
+-- a gate at the front of a text
+module _ (own : ℕ) (text : List ℕ) (g : Gate) (rest : List ℕ) (bytes : AreBytes text) where
+  second_by : (x : ℕ × List ℕ) (r : Result (ℕ × List ℕ) Why) → text ≡ delta (own - x.0) ++ x.1 → ◌>>=◌ {A = ℕ × List ℕ} {B = ℕ × List ℕ} {E = Why} (delta_at x.1) (at_or_below x.0) ≡ r
+      → ◌>>=◌ {A = ℕ × List ℕ} {B = Gate × List ℕ} {E = Stop} (at x.1 r) (λ y. Ok (record { rhs0 = x.0; rhs1 = y.0 }, y.1)) ≡ Ok (g, rest) → text ≡ (delta (own - g.rhs0) ++ delta (g.rhs0 - g.rhs1)) ++ rest
+  second_by x (Err w) first f e = absurd (not_err _ _ e)
+  second_by x (Ok y) first f e =
+      let is : (record { rhs0 = x.0; rhs1 = y.0 }, y.1) ≡ (g, rest) = ok_same (record { rhs0 = x.0; rhs1 = y.0 }, y.1) (g, rest) e in
+      let second : x.1 ≡ delta (x.0 - y.0) ++ y.1 = at_or_below-back x.0 x.1 y (delta_at x.1) (bytes_behind (delta (own - x.0)) x.1 (subst AreBytes first bytes)) refl f in
+      subst (λ (p : Gate × List ℕ). text ≡ (delta (own - p.0.rhs0) ++ delta (p.0.rhs0 - p.0.rhs1)) ++ p.1) is
+      (first ∙ ap (λ (l : List ℕ). delta (own - x.0) ++ l) second ∙ sym (append_assoc (delta (own - x.0)) (delta (x.0 - y.0)) y.1))
+
+  first_by : (r : Result (ℕ × List ℕ) Why) → ◌>>=◌ {A = ℕ × List ℕ} {B = ℕ × List ℕ} {E = Why} (delta_at text) (below own) ≡ r
+      → ◌>>=◌ {A = ℕ × List ℕ} {B = Gate × List ℕ} {E = Stop} (at text r) (λ x. ◌>>=◌ {A = ℕ × List ℕ} {B = Gate × List ℕ} {E = Stop} (at x.1 (◌>>=◌ {A = ℕ × List ℕ} {B = ℕ × List ℕ} {E = Why} (delta_at x.1) (at_or_below x.0))) (λ y. Ok (record { rhs0 = x.0; rhs1 = y.0 }, y.1))) ≡ Ok (g, rest)
+      → text ≡ (delta (own - g.rhs0) ++ delta (g.rhs0 - g.rhs1)) ++ rest
+  first_by (Err w) f e = absurd (not_err _ _ e)
+  first_by (Ok x) f e = second_by x (◌>>=◌ {A = ℕ × List ℕ} {B = ℕ × List ℕ} {E = Why} (delta_at x.1) (at_or_below x.0)) (below-back own text x (delta_at text) bytes refl f) refl e
+
+  gate-back : gate_at own text ≡ Ok (g, rest) → text ≡ (delta (own - g.rhs0) ++ delta (g.rhs0 - g.rhs1)) ++ rest
+  unfolding gate_at
+  gate-back e = first_by (◌>>=◌ {A = ℕ × List ℕ} {B = ℕ × List ℕ} {E = Why} (delta_at text) (below own)) refl e
+
+-- so many gates
+pub record AreGatesAt (first n : ℕ) (text : List ℕ) (gs : List Gate) (rest : List ℕ) : Type 0 where
+  pub parts : text ≡ gate_deltas first gs ++ rest
+  pub count : length gs ≡ n
+
+gates_by : (first n : ℕ) (text : List ℕ) (gs : List Gate) (rest : List ℕ) (x : Gate × List ℕ) (r : Result (List Gate × List ℕ) Stop)
+    → text ≡ (delta (2 * first - x.0.rhs0) ++ delta (x.0.rhs0 - x.0.rhs1)) ++ x.1 → ((hs : List Gate) (after : List ℕ) → r ≡ Ok (hs, after) → AreGatesAt (suc first) n x.1 hs after)
+    → ◌>>=◌ {A = List Gate × List ℕ} {B = List Gate × List ℕ} {E = Stop} r (λ ys. Ok (x.0 ∷ ys.0, ys.1)) ≡ Ok (gs, rest) → AreGatesAt first (suc n) text gs rest
+gates_by first n text gs rest x (Err w) one others e = absurd (not_err _ _ e)
+gates_by first n text gs rest x (Ok ys) one others e =
+    let is : (x.0 ∷ ys.0, ys.1) ≡ (gs, rest) = ok_same (x.0 ∷ ys.0, ys.1) (gs, rest) e in
+    let o = others ys.0 ys.1 refl in
+    subst (λ (p : List Gate × List ℕ). AreGatesAt first (suc n) text p.0 p.1) is
+    (record {
+      parts = one ∙ ap (λ (l : List ℕ). (delta (2 * first - x.0.rhs0) ++ delta (x.0.rhs0 - x.0.rhs1)) ++ l) o.parts
+          ∙ sym (append_assoc (delta (2 * first - x.0.rhs0) ++ delta (x.0.rhs0 - x.0.rhs1)) (gate_deltas (suc first) ys.0) ys.1);
+      count = ap suc o.count;
+    })
+
+pub gates-back : (first n : ℕ) (text : List ℕ) (gs : List Gate) (rest : List ℕ) → AreBytes text → gates_at (2 * first) n text ≡ Ok (gs, rest) → AreGatesAt first n text gs rest
+gates-back first zero text gs rest bytes e =
+    let is : ([], text) ≡ (gs, rest) = ok_same ([], text) (gs, rest) e in
+    subst (λ (p : List Gate × List ℕ). AreGatesAt first 0 text p.0 p.1) is (record { parts = refl; count = refl })
+gates-back first (suc n) text gs rest bytes e = by (gate_at (2 * first) text) refl e (λ x. gates-back (suc first) n x)
+  where
+    by : (r : Result (Gate × List ℕ) Stop) → gate_at (2 * first) text ≡ r
+        → ◌>>=◌ {A = Gate × List ℕ} {B = List Gate × List ℕ} {E = Stop} r (λ g. ◌>>=◌ {A = List Gate × List ℕ} {B = List Gate × List ℕ} {E = Stop} (gates_at (2 * first + 2) n g.1) (λ ys. Ok (g.0 ∷ ys.0, ys.1))) ≡ Ok (gs, rest)
+        → ((after : List ℕ) (hs : List Gate) (end : List ℕ) → AreBytes after → gates_at (2 * suc first) n after ≡ Ok (hs, end) → AreGatesAt (suc first) n after hs end)
+        → AreGatesAt first (suc n) text gs rest
+    by (Err w) f g again = absurd (not_err _ _ g)
+    by (Ok x) f g again =
+        let one = gate-back (2 * first) text x.0 x.1 bytes f in
+        let after : AreBytes x.1 = bytes_behind (delta (2 * first - x.0.rhs0) ++ delta (x.0.rhs0 - x.0.rhs1)) x.1 (subst AreBytes one bytes) in
+        gates_by first n text gs rest x (gates_at (2 * first + 2) n x.1) one
+        (λ hs end h. again x.1 hs end after (ap (λ (own : ℕ). gates_at own n x.1) (sym (next_literal first)) ∙ h)) g

@@ -1,0 +1,292 @@
+-- From what reading gives back to the text: the header.
+use Rattle.std.proofs.Common.{◌≡◌, ℕ, suc, ◌+◌, ◌≤◌, ◌==◌, nat_lt, List, [], ◌∷◌, ◌++◌, map, replicate, decimal, codes, Option, Some, None, Result, Ok, Err, refl, sym, ap, subst, ◌∙◌, inl, inr, if◌then◌else◌, arith}
+use Rattle.std.specs.Str.{bytes_eq}
+use Rattle.base.specs.Decimals.{number_of}
+use Rattle.aigertext.specs.declared.fault.Why.TheVariants as why
+use Rattle.aigertext.specs.Reading.{◌>>=◌, some_or, no_more, number_at, last_at, last_four, first_five, count_of, counts_of, fitting, form_of, header_fields, header_of, fields}
+use Rattle.aigertext.proofs.BackLemmas.{ok_same, not_err, bind-back}
+use Rattle.std.specs.List.{AllByRecursion}
+use Rattle.std.proofs.lemmas.Bool.{eqb-true, ltb-false}
+use Rattle.base.proofs.DecimalLemmas.{chosen, number_is_decimal}
+use Rattle.aiger.specs.Limits.{greatest_count}
+use Rattle.aigertext.specs.declared.counts.Counts.{Counts}
+use Rattle.aigertext.specs.declared.forms.Form.{Form}
+use Rattle.aigertext.specs.declared.forms.Form.TheVariants.{Ascii, Binary}
+use Rattle.aigertext.proofs.FieldLemmas.{joined}
+use Rattle.aigertext.proofs.LatchBackLemmas.{spaced, fields-back}
+use Rattle.aigertext.proofs.NameBackLemmas.{same_bytes}
+use Rattle.aigertext.specs.declared.fault.Why.{Why}
+
+-- a number of a header, and the fields behind it
+pub record IsNumberAt (fs : List (List ℕ)) (n : ℕ) (rest : List (List ℕ)) : Type 0 where
+  pub field : List ℕ
+  pub number : number_of field ≡ Some n
+  pub parts : fs ≡ field ∷ rest
+
+pub number-back : (fs : List (List ℕ)) (n : ℕ) (rest : List (List ℕ)) → number_at fs ≡ Ok (n, rest) → IsNumberAt fs n rest
+unfolding number_at
+number-back [] n rest e = absurd (not_err _ _ e)
+number-back (f ∷ fs) n rest e = by (number_of f) refl e
+  where
+    by : (r : Option ℕ) → number_of f ≡ r → ◌>>=◌ {A = ℕ} {B = ℕ × List (List ℕ)} {E = Why} (some_or why.BadHeader r) (λ m. Ok (m, fs)) ≡ Ok (n, rest) → IsNumberAt (f ∷ fs) n rest
+    by None g h = absurd (not_err _ _ h)
+    by (Some m) g h =
+        let is : ◌≡◌ {A = ℕ × List (List ℕ)} (m, fs) (n, rest) = ok_same (m, fs) (n, rest) h in
+        subst (λ (p : ℕ × List (List ℕ)). IsNumberAt (f ∷ fs) p.0 p.1) is (record { field = f; number = g; parts = refl })
+
+-- fields that write numbers
+abbrev pub Write : List (List ℕ) → List ℕ → Type 0
+Write [] [] = Unit {0}
+Write [] (n ∷ ns) = ⊥
+Write (f ∷ fs) [] = ⊥
+Write (f ∷ fs) (n ∷ ns) = (number_of f ≡ Some n) × Write fs ns
+
+-- numbers of which the zeros at the end may be left out
+pub record LeavesOut (fs : List (List ℕ)) (ns : List ℕ) : Type 0 where
+  pub kept : List ℕ
+  pub dropped : ℕ
+  pub counts : kept ++ replicate dropped 0 ≡ ns
+  pub written : Write fs kept
+
+zeros : (n : ℕ) → LeavesOut [] (replicate n 0)
+zeros n = record { kept = []; dropped = n; counts = refl; written = tt }
+
+one_more : (fs : List (List ℕ)) (n : ℕ) (rest : List (List ℕ)) (ns : List ℕ) → IsNumberAt fs n rest → LeavesOut rest ns → LeavesOut fs (n ∷ ns)
+one_more fs n rest ns is l =
+    subst (λ (gs : List (List ℕ)). LeavesOut gs (n ∷ ns)) (sym is.parts)
+    (record { kept = n ∷ l.kept; dropped = l.dropped; counts = ap (λ (ms : List ℕ). n ∷ ms) l.counts; written = (is.number, l.written) })
+
+-- one of the last four numbers, given what the fields behind it are
+last_by : (fs : List (List ℕ)) (n : ℕ) (rest : List (List ℕ)) (m : ℕ) (ns : List ℕ) → last_at fs ≡ Ok (n, rest) → (rest ≡ [] → ns ≡ replicate m 0) → LeavesOut rest ns → LeavesOut fs (n ∷ ns)
+unfolding last_at
+last_by [] n rest m ns e all l =
+    let is : ◌≡◌ {A = ℕ × List (List ℕ)} (0, []) (n, rest) = ok_same (0, []) (n, rest) e in
+    let zero' : 0 ≡ n = ap (λ (p : ℕ × List (List ℕ)). p.0) is in
+    let none : rest ≡ [] = sym (ap (λ (p : ℕ × List (List ℕ)). p.1) is) in
+    subst (λ (ms : List ℕ). LeavesOut [] ms) (ap (λ (k : ℕ). k ∷ replicate m 0) zero' ∙ ap (λ (ms : List ℕ). n ∷ ms) (sym (all none))) (zeros (suc m))
+last_by (f ∷ fs) n rest m ns e all l = one_more (f ∷ fs) n rest ns (number-back (f ∷ fs) n rest e) l
+
+-- where nothing is left, a number that may be left out is 0
+none-last : (fs : List (List ℕ)) (x : ℕ × List (List ℕ)) → last_at fs ≡ Ok x → fs ≡ [] → (x.0 ≡ 0) × (x.1 ≡ [])
+unfolding last_at
+none-last [] x e none =
+    let is : ◌≡◌ {A = ℕ × List (List ℕ)} (0, []) x = ok_same (0, []) x e in
+    (sym (ap (λ (p : ℕ × List (List ℕ)). p.0) is), sym (ap (λ (p : ℕ × List (List ℕ)). p.1) is))
+none-last (f ∷ fs) x e none = absurd cc
+
+no_more-back : {A : Type 0} (x y : A) (fs : List (List ℕ)) → no_more x fs ≡ Ok y → (fs ≡ []) × (x ≡ y)
+no_more-back x y [] e = (refl, ok_same x y e)
+no_more-back x y (f ∷ fs) e = absurd (not_err _ _ e)
+
+abbrev pub four : ℕ × ℕ × ℕ × ℕ → List ℕ
+four y = y.0 ∷ y.1 ∷ y.2 ∷ y.3 ∷ []
+
+pub last-back : (fs : List (List ℕ)) (y : ℕ × ℕ × ℕ × ℕ) → last_four fs ≡ Ok y → LeavesOut fs (four y)
+unfolding last_four
+last-back fs y e =
+    let b = bind-back (last_at fs) _ y e in
+    let c = bind-back (last_at b.value.1) _ y b.then' in
+    let j = bind-back (last_at c.value.1) _ y c.then' in
+    let f = bind-back (last_at j.value.1) _ y j.then' in
+    let end = no_more-back (b.value.0, c.value.0, j.value.0, f.value.0) y f.value.1 f.then' in
+    let none : LeavesOut f.value.1 [] = subst (λ (gs : List (List ℕ)). LeavesOut gs []) (sym end.0) (zeros 0) in
+    let all_j : j.value.1 ≡ [] → f.value.0 ∷ [] ≡ replicate 1 0 = λ h. ap (λ (k : ℕ). k ∷ []) (none-last j.value.1 f.value f.was h).0 in
+    let all_c : c.value.1 ≡ [] → j.value.0 ∷ f.value.0 ∷ [] ≡ replicate 2 0 =
+    λ h.
+    let n = none-last c.value.1 j.value j.was h in
+    ap (λ (k : ℕ). k ∷ f.value.0 ∷ []) n.0 ∙ ap (λ (ms : List ℕ). 0 ∷ ms) (all_j n.1) in
+    let all_b : b.value.1 ≡ [] → c.value.0 ∷ j.value.0 ∷ f.value.0 ∷ [] ≡ replicate 3 0 =
+    λ h.
+    let n = none-last b.value.1 c.value c.was h in
+    ap (λ (k : ℕ). k ∷ j.value.0 ∷ f.value.0 ∷ []) n.0 ∙ ap (λ (ms : List ℕ). 0 ∷ ms) (all_c n.1) in
+    let l1 = last_by j.value.1 f.value.0 f.value.1 0 [] f.was (λ h. refl) none in
+    let l2 = last_by c.value.1 j.value.0 j.value.1 1 (f.value.0 ∷ []) j.was all_j l1 in
+    let l3 = last_by b.value.1 c.value.0 c.value.1 2 (j.value.0 ∷ f.value.0 ∷ []) c.was all_c l2 in
+    let l4 = last_by fs b.value.0 b.value.1 3 (c.value.0 ∷ j.value.0 ∷ f.value.0 ∷ []) b.was all_b l3 in
+    subst (λ (z : ℕ × ℕ × ℕ × ℕ). LeavesOut fs (four z)) end.1 l4
+
+-- the first five numbers
+abbrev pub five : ℕ × ℕ × ℕ × ℕ × ℕ → List ℕ
+five x = x.0 ∷ x.1 ∷ x.2 ∷ x.3 ∷ x.4 ∷ []
+
+pub record FirstBack (fs : List (List ℕ)) (x : ℕ × ℕ × ℕ × ℕ × ℕ) (rest : List (List ℕ)) : Type 0 where
+  pub front : List (List ℕ)
+  pub parts : fs ≡ front ++ rest
+  pub written : Write front (five x)
+
+pub first-back : (fs : List (List ℕ)) (x : ℕ × ℕ × ℕ × ℕ × ℕ) (rest : List (List ℕ)) → first_five fs ≡ Ok (x, rest) → FirstBack fs x rest
+unfolding first_five
+first-back fs x rest e =
+    let m = bind-back (number_at fs) _ (x, rest) e in
+    let i = bind-back (number_at m.value.1) _ (x, rest) m.then' in
+    let l = bind-back (number_at i.value.1) _ (x, rest) i.then' in
+    let o = bind-back (number_at l.value.1) _ (x, rest) l.then' in
+    let a = bind-back (number_at o.value.1) _ (x, rest) o.then' in
+    let is : ◌≡◌ {A = (ℕ × ℕ × ℕ × ℕ × ℕ) × List (List ℕ)} ((m.value.0, i.value.0, l.value.0, o.value.0, a.value.0), a.value.1) (x, rest) = ok_same _ _ a.then' in
+    let m' = number-back fs m.value.0 m.value.1 m.was in
+    let i' = number-back m.value.1 i.value.0 i.value.1 i.was in
+    let l' = number-back i.value.1 l.value.0 l.value.1 l.was in
+    let o' = number-back l.value.1 o.value.0 o.value.1 o.was in
+    let a' = number-back o.value.1 a.value.0 a.value.1 a.was in
+    subst (λ (p : (ℕ × ℕ × ℕ × ℕ × ℕ) × List (List ℕ)). FirstBack fs p.0 p.1) is
+    (record {
+      front = m'.field ∷ i'.field ∷ l'.field ∷ o'.field ∷ a'.field ∷ [];
+      parts = m'.parts ∙ ap (λ (gs : List (List ℕ)). m'.field ∷ gs) i'.parts ∙ ap (λ (gs : List (List ℕ)). m'.field ∷ i'.field ∷ gs) l'.parts
+          ∙ ap (λ (gs : List (List ℕ)). m'.field ∷ i'.field ∷ l'.field ∷ gs) o'.parts ∙ ap (λ (gs : List (List ℕ)). m'.field ∷ i'.field ∷ l'.field ∷ o'.field ∷ gs) a'.parts;
+      written = (m'.number, (i'.number, (l'.number, (o'.number, (a'.number, tt)))));
+    })
+
+-- counts
+abbrev pub AreCounts : List ℕ → Type 0
+AreCounts ns = AllByRecursion (λ n. n ≤ greatest_count) ns
+
+count-back : (n m : ℕ) → count_of n ≡ Ok m → (m ≡ n) × (n ≤ greatest_count)
+unfolding count_of
+count-back n m e =
+    elim (chosen (nat_lt greatest_count n) (Err why.TooBig) (Ok n) (Ok m) e) [
+      | inl wrong ↦ absurd (not_err _ _ wrong.1)
+      | inr good ↦ (sym (ok_same n m good.1), ltb-false greatest_count n good.0)
+    ]
+
+abbrev pub first_of_counts : Counts → List ℕ
+first_of_counts h = h.variables ∷ h.inputs ∷ h.latches ∷ h.outputs ∷ h.gates ∷ []
+
+abbrev pub last_of_counts : Counts → List ℕ
+last_of_counts h = h.bads ∷ h.constraints ∷ h.justice ∷ h.fair ∷ []
+
+pub record CountsBack (x : ℕ × ℕ × ℕ × ℕ × ℕ) (y : ℕ × ℕ × ℕ × ℕ) (h : Counts) : Type 0 where
+  pub first : five x ≡ first_of_counts h
+  pub last : four y ≡ last_of_counts h
+  pub few_first : AreCounts (first_of_counts h)
+  pub few_last : AreCounts (last_of_counts h)
+
+pub list_of_five : (a b c d e v w x y z : ℕ) → v ≡ a → w ≡ b → x ≡ c → y ≡ d → z ≡ e → a ∷ b ∷ c ∷ d ∷ e ∷ [] ≡ v ∷ w ∷ x ∷ y ∷ z ∷ []
+list_of_five a b c d e v w x y z p q r s t = cc
+
+pub list_of_four : (a b c d v w x y : ℕ) → v ≡ a → w ≡ b → x ≡ c → y ≡ d → a ∷ b ∷ c ∷ d ∷ [] ≡ v ∷ w ∷ x ∷ y ∷ []
+list_of_four a b c d v w x y p q r s = cc
+
+pub counts-back : (x : ℕ × ℕ × ℕ × ℕ × ℕ) (y : ℕ × ℕ × ℕ × ℕ) (h : Counts) → counts_of x y ≡ Ok h → CountsBack x y h
+unfolding counts_of
+counts-back x y h e =
+    let m = bind-back (count_of x.0) _ h e in
+    let i = bind-back (count_of x.1) _ h m.then' in
+    let l = bind-back (count_of x.2) _ h i.then' in
+    let o = bind-back (count_of x.3) _ h l.then' in
+    let a = bind-back (count_of x.4) _ h o.then' in
+    let b = bind-back (count_of y.0) _ h a.then' in
+    let k = bind-back (count_of y.1) _ h b.then' in
+    let j = bind-back (count_of y.2) _ h k.then' in
+    let f = bind-back (count_of y.3) _ h j.then' in
+    let is = ok_same _ h f.then' in
+    let m' = count-back x.0 m.value m.was in
+    let i' = count-back x.1 i.value i.was in
+    let l' = count-back x.2 l.value l.was in
+    let o' = count-back x.3 o.value o.was in
+    let a' = count-back x.4 a.value a.was in
+    let b' = count-back y.0 b.value b.was in
+    let k' = count-back y.1 k.value k.was in
+    let j' = count-back y.2 j.value j.was in
+    let f' = count-back y.3 f.value f.was in
+    subst (CountsBack x y) is
+    (record {
+      first = list_of_five x.0 x.1 x.2 x.3 x.4 m.value i.value l.value o.value a.value m'.0 i'.0 l'.0 o'.0 a'.0;
+      last = list_of_four y.0 y.1 y.2 y.3 b.value k.value j.value f.value b'.0 k'.0 j'.0 f'.0;
+      few_first = (omega (arith, m'.0, m'.1), (omega (arith, i'.0, i'.1), (omega (arith, l'.0, l'.1), (omega (arith, o'.0, o'.1), (omega (arith, a'.0, a'.1), tt)))));
+      few_last = (omega (arith, b'.0, b'.1), (omega (arith, k'.0, k'.1), (omega (arith, j'.0, j'.1), (omega (arith, f'.0, f'.1), tt))));
+    })
+
+-- fields that write counts are their decimals
+counts_front : (xs ys : List ℕ) → AreCounts (xs ++ ys) → AreCounts xs
+counts_front [] ys h = tt
+counts_front (x ∷ xs) ys h = (h.0, counts_front xs ys h.1)
+
+write-decimals : (fs : List (List ℕ)) (ns : List ℕ) → AreCounts ns → Write fs ns → fs ≡ map decimal ns
+write-decimals [] [] few w = refl
+write-decimals [] (n ∷ ns) few w = absurd w
+write-decimals (f ∷ fs) [] few w = absurd w
+write-decimals (f ∷ fs) (n ∷ ns) few w =
+    ap (λ (g : List ℕ). g ∷ fs) (number_is_decimal f n w.0 (omega (arith, few.0))) ∙ ap (λ (gs : List (List ℕ)). decimal n ∷ gs) (write-decimals fs ns few.1 w.1)
+
+spaced-joined : (ns : List ℕ) → spaced (map decimal ns) ≡ joined ns
+spaced-joined [] = refl
+spaced-joined (n ∷ []) = refl
+spaced-joined (n ∷ m ∷ ns) = ap (λ (l : List ℕ). decimal n ++ 32 ∷ l) (spaced-joined (m ∷ ns))
+
+-- what a header line of the binary form is
+pub record HeaderBack (line : List ℕ) (h : Counts) : Type 0 where
+  pub kept : List ℕ
+  pub dropped : ℕ
+  pub counts : kept ++ replicate dropped 0 ≡ last_of_counts h
+  pub line_is : line ≡ codes "aig" ++ 32 ∷ joined (first_of_counts h ++ kept)
+  pub fits : h.variables ≡ h.inputs + h.latches + h.gates
+  pub few_first : AreCounts (first_of_counts h)
+  pub few_last : AreCounts (last_of_counts h)
+
+form-back : (word : List ℕ) → form_of word ≡ Ok Binary → word ≡ codes "aig"
+unfolding form_of
+form-back word e =
+    elim (chosen (bytes_eq word (codes "aag")) (Ok Ascii) (if bytes_eq word (codes "aig") then Ok Binary else Err why.BadHeader) (Ok Binary) e) [
+      | inl wrong ↦ absurd (ascii_not wrong.1)
+      | inr other ↦
+          elim (chosen (bytes_eq word (codes "aig")) (Ok Binary) (Err why.BadHeader) (Ok Binary) other.1) [
+            | inl good ↦ same_bytes word (codes "aig") good.0
+            | inr wrong ↦ absurd (not_err _ _ wrong.1)
+          ]
+    ]
+  where
+    ascii_not : ◌≡◌ {A = Result Form Why} (Ok Ascii) (Ok Binary) → ⊥
+    ascii_not e = cc
+
+fitting-back : (h g : Counts) → fitting Binary h ≡ Ok g → (h ≡ g) × (h.variables ≡ h.inputs + h.latches + h.gates)
+unfolding fitting
+fitting-back h g e =
+    elim (chosen (h.variables == h.inputs + h.latches + h.gates) (Ok h) (Err why.CountsDisagree) (Ok g) e) [
+      | inl good ↦ (ok_same h g good.1, eqb-true h.variables (h.inputs + h.latches + h.gates) good.0)
+      | inr wrong ↦ absurd (not_err _ _ wrong.1)
+    ]
+
+module _ (word : List ℕ) (rest : List (List ℕ)) (x : (ℕ × ℕ × ℕ × ℕ × ℕ) × List (List ℕ)) (y : ℕ × ℕ × ℕ × ℕ) (h : Counts)
+    (named : word ≡ codes "aig") (first : FirstBack rest x.0 x.1) (last : LeavesOut x.1 (four y)) (c : CountsBack x.0 y h) (fits : h.variables ≡ h.inputs + h.latches + h.gates) where
+  kept_few : AreCounts last.kept
+  kept_few = counts_front last.kept (replicate last.dropped 0) (subst AreCounts (sym (last.counts ∙ c.last)) c.few_last)
+
+  front_is : first.front ≡ map decimal (first_of_counts h)
+  front_is = write-decimals first.front (first_of_counts h) c.few_first (subst (Write first.front) c.first first.written)
+
+  rest_is : rest ≡ map decimal (first_of_counts h ++ last.kept)
+  rest_is =
+      first.parts ∙ ap (λ (gs : List (List ℕ)). gs ++ x.1) front_is
+      ∙ ap (λ (gs : List (List ℕ)). map decimal (first_of_counts h) ++ gs) (write-decimals x.1 last.kept kept_few last.written)
+
+  header-shape : HeaderBack (spaced (word ∷ rest)) h
+  header-shape = record {
+    kept = last.kept;
+    dropped = last.dropped;
+    counts = last.counts ∙ c.last;
+    line_is =
+        ap (λ (w : List ℕ). spaced (w ∷ rest)) named ∙ ap (λ (gs : List (List ℕ)). spaced (codes "aig" ∷ gs)) rest_is
+        ∙ ap (λ (l : List ℕ). codes "aig" ++ 32 ∷ l) (spaced-joined (first_of_counts h ++ last.kept));
+    fits = fits;
+    few_first = c.few_first;
+    few_last = c.few_last;
+  }
+
+fields_by : (fs : List (List ℕ)) (h : Counts) → header_fields fs ≡ Ok (Binary, h) → HeaderBack (spaced fs) h
+unfolding header_fields
+fields_by [] h e = absurd (not_err _ _ e)
+fields_by (word ∷ rest) h e =
+    let form = bind-back (form_of word) _ (Binary, h) e in
+    let x = bind-back (first_five rest) _ (Binary, h) form.then' in
+    let y = bind-back (last_four x.value.1) _ (Binary, h) x.then' in
+    let g = bind-back (counts_of x.value.0 y.value) _ (Binary, h) y.then' in
+    let fit = bind-back (fitting form.value g.value) _ (Binary, h) g.then' in
+    let is : ◌≡◌ {A = Form × Counts} (form.value, fit.value) (Binary, h) = ok_same _ _ fit.then' in
+    let binary : form.value ≡ Binary = ap (λ (p : Form × Counts). p.0) is in
+    let same : fit.value ≡ h = ap (λ (p : Form × Counts). p.1) is in
+    let fits = fitting-back g.value fit.value (subst (λ (f : Form). fitting f g.value ≡ Ok fit.value) binary fit.was) in
+    subst (HeaderBack (spaced (word ∷ rest))) (fits.0 ∙ same)
+    (header-shape word rest x.value y.value g.value (form-back word (form.was ∙ ap (λ (f : Form). Ok f) binary)) (first-back rest x.value.0 x.value.1 x.was) (last-back x.value.1 y.value y.was) (counts-back x.value.0 y.value g.value g.was) fits.1)
+
+pub header-back : (line : List ℕ) (h : Counts) → header_of line ≡ Ok (Binary, h) → HeaderBack line h
+header-back line h e = subst (λ (l : List ℕ). HeaderBack l h) (fields-back line) (fields_by (fields line) h e)

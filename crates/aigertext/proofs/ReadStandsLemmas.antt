@@ -1,0 +1,230 @@
+-- What reading gives stands for the text.
+use Rattle.std.proofs.Common.{◌≡◌, ℕ, suc, ◌+◌, ◌-◌, ◌*◌, ◌^◌, ◌<◌, ◌≤◌, List, [], ◌∷◌, ◌++◌, length, map, take, drop, codes, Ok, refl, sym, ap, subst, ◌∙◌, append_assoc, arith}
+use Rattle.std.specs.List.{concat, sum}
+use Rattle.std.proofs.lemmas.List.{length-take-le, take-append-drop, length-drop}
+use Rattle.std.proofs.lemmas.List.Sums.{sum-map, sum_by-cons}
+use Rattle.aiger.specs.declared.circuit.Latch.{Latch}
+use Rattle.aiger.specs.declared.circuit.Gate.{Gate}
+use Rattle.aiger.specs.declared.circuit.Section.TheVariants as section
+use Rattle.aiger.specs.Limits.{greatest_count}
+use Rattle.aiger.specs.Circuit.{Circuit, IsCircuit, with_name}
+use Rattle.aigertext.specs.declared.counts.Counts.{Counts}
+use Rattle.aigertext.specs.declared.forms.Form.{Form}
+use Rattle.aigertext.specs.declared.forms.Form.TheVariants.{Ascii, Binary}
+use Rattle.aigertext.specs.Ascii.{numbers_line, literal_lines, size_lines, property_lines, first_counts, last_counts}
+use Rattle.aigertext.specs.Binary.{gate_deltas}
+use Rattle.aigertext.specs.Spelling.{AreNextLines, GiveNames, Given, IsEnd, IsBinaryText}
+use Rattle.aigertext.specs.Reading.{Properties, lists_of, line_at, literals_at, sizes_at, nexts_at, gates_at, properties_at, nameless, binary_at, body_at, text_on, header_of}
+use Rattle.aigertext.proofs.BackLemmas.{ok_same, not_err, bind-back, literals-back, sizes-back, SaysAt, line-back}
+use Rattle.aigertext.proofs.FieldLemmas.{joined, numbers_line-joined}
+use Rattle.aigertext.proofs.GateBackLemmas.{AreBytes, bytes_behind, AreGatesAt, gates-back}
+use Rattle.aigertext.proofs.HeaderBackLemmas.{HeaderBack, header-back, AreCounts, first_of_counts, last_of_counts, list_of_five, list_of_four}
+use Rattle.aigertext.proofs.LatchBackLemmas.{AreLatchesAt, nexts-back}
+use Rattle.aigertext.proofs.NameBackLemmas.{names-back}
+use Rattle.aigertext.proofs.NameReadLemmas.{HasFewPositions}
+use Rattle.aigertext.proofs.StandsLemmas.{unread, property_text}
+
+-- ---- lists of given sizes
+
+fits_front : (n : ℕ) (ns literals : List ℕ) → length literals ≡ sum (n ∷ ns) → (n ≤ length literals) × (length (drop n literals) ≡ sum ns)
+fits_front n ns literals e =
+    let whole : sum (n ∷ ns) ≡ n + sum ns = sum_of_cons n ns in
+    (omega (arith, e, whole), omega (arith, e, whole, length-drop n literals))
+  where
+    same_map : (ns : List ℕ) → map (λ (n : ℕ). n) ns ≡ ns
+    same_map [] = refl
+    same_map (n ∷ ns) = ap (λ (l : List ℕ). n ∷ l) (same_map ns)
+
+    sum_of_cons : (n : ℕ) (ns : List ℕ) → sum (n ∷ ns) ≡ n + sum ns
+    sum_of_cons n ns =
+        ap sum (sym (same_map (n ∷ ns))) ∙ sum-map (λ (m : ℕ). m) (n ∷ ns) ∙ sum_by-cons (λ (m : ℕ). m) n ns
+        ∙ ap (λ (k : ℕ). n + k) (sym (sum-map (λ (m : ℕ). m) ns) ∙ ap sum (same_map ns))
+
+sizes_of_lists : (ns literals : List ℕ) → length literals ≡ sum ns → map length (lists_of ns literals) ≡ ns
+sizes_of_lists [] literals e = refl
+sizes_of_lists (n ∷ ns) literals e =
+    let fits = fits_front n ns literals e in
+    ap (λ (k : ℕ). k ∷ map length (lists_of ns (drop n literals))) (length-take-le n literals fits.0)
+    ∙ ap (λ (l : List ℕ). n ∷ l) (sizes_of_lists ns (drop n literals) fits.1)
+
+none_left : (literals : List ℕ) → length literals ≡ 0 → [] ≡ literals
+none_left [] e = refl
+none_left (l ∷ ls) e = absurd (omega (arith, e))
+
+concat_of_lists : (ns literals : List ℕ) → length literals ≡ sum ns → concat (lists_of ns literals) ≡ literals
+concat_of_lists [] literals e = none_left literals e
+concat_of_lists (n ∷ ns) literals e =
+    let fits = fits_front n ns literals e in
+    ap (λ (l : List ℕ). take n literals ++ l) (concat_of_lists ns (drop n literals) fits.1) ∙ take-append-drop n literals
+
+size_lines-is : (lists : List (List ℕ)) → size_lines lists ≡ literal_lines (map length lists)
+size_lines-is [] = refl
+size_lines-is (ls ∷ lists) = ap (λ (l : List ℕ). numbers_line (length ls ∷ []) ++ l) (size_lines-is lists)
+
+-- ---- properties
+
+pub record PropertiesBack (h : Counts) (text : List ℕ) (p : Properties) (rest : List ℕ) : Type 0 where
+  pub parts : text ≡ literal_lines p.outputs ++ (literal_lines p.bads ++ (literal_lines p.constraints ++ (literal_lines p.sizes ++ (literal_lines p.listed ++ (literal_lines p.fair ++ rest)))))
+  pub outputs : length p.outputs ≡ h.outputs
+  pub bads : length p.bads ≡ h.bads
+  pub constraints : length p.constraints ≡ h.constraints
+  pub sizes : length p.sizes ≡ h.justice
+  pub listed : length p.listed ≡ sum p.sizes
+  pub fair : length p.fair ≡ h.fair
+
+six_parts : (t a b c d e a' b' c' d' e' f r : List ℕ) → t ≡ a ++ a' → a' ≡ b ++ b' → b' ≡ c ++ c' → c' ≡ d ++ d' → d' ≡ e ++ e' → e' ≡ f ++ r → t ≡ a ++ (b ++ (c ++ (d ++ (e ++ (f ++ r)))))
+six_parts t a b c d e a' b' c' d' e' f r p q s u v w =
+    p ∙ ap (λ (l : List ℕ). a ++ l) (q ∙ ap (λ (l : List ℕ). b ++ l) (s ∙ ap (λ (l : List ℕ). c ++ l) (u ∙ ap (λ (l : List ℕ). d ++ l) (v ∙ ap (λ (l : List ℕ). e ++ l) w))))
+
+pub properties-back : (h : Counts) (text : List ℕ) (p : Properties) (rest : List ℕ) → h.variables ≤ greatest_count → properties_at h text ≡ Ok (p, rest) → PropertiesBack h text p rest
+unfolding properties_at
+properties-back h text p rest few e =
+    let g : ℕ = 2 * h.variables + 1 in
+    let small : 2 * h.variables + 1 < 2 ^ 64 - 1 = omega (arith, few) in
+    let o = bind-back (literals_at (2 * h.variables + 1) h.outputs text) _ (p, rest) e in
+    let b = bind-back (literals_at (2 * h.variables + 1) h.bads o.value.1) _ (p, rest) o.then' in
+    let c = bind-back (literals_at (2 * h.variables + 1) h.constraints b.value.1) _ (p, rest) b.then' in
+    let s = bind-back (sizes_at 0 h.justice c.value.1) _ (p, rest) c.then' in
+    let j = bind-back (literals_at (2 * h.variables + 1) (sum s.value.0) s.value.1) _ (p, rest) s.then' in
+    let f = bind-back (literals_at (2 * h.variables + 1) h.fair j.value.1) _ (p, rest) j.then' in
+    let is : ◌≡◌ {A = Properties × List ℕ} (record { outputs = o.value.0; bads = b.value.0; constraints = c.value.0; sizes = s.value.0; listed = j.value.0; fair = f.value.0 }, f.value.1) (p, rest) = ok_same _ _ f.then' in
+    let o' = literals-back (2 * h.variables + 1) h.outputs text o.value.0 o.value.1 small o.was in
+    let b' = literals-back (2 * h.variables + 1) h.bads o.value.1 b.value.0 b.value.1 small b.was in
+    let c' = literals-back (2 * h.variables + 1) h.constraints b.value.1 c.value.0 c.value.1 small c.was in
+    let s' = sizes-back 0 h.justice c.value.1 s.value.0 s.value.1 s.was in
+    let j' = literals-back (2 * h.variables + 1) (sum s.value.0) s.value.1 j.value.0 j.value.1 small j.was in
+    let f' = literals-back (2 * h.variables + 1) h.fair j.value.1 f.value.0 f.value.1 small f.was in
+    subst (λ (q : Properties × List ℕ). PropertiesBack h text q.0 q.1) is
+    (record {
+      parts = six_parts text (literal_lines o.value.0) (literal_lines b.value.0) (literal_lines c.value.0) (literal_lines s.value.0) (literal_lines j.value.0) o.value.1 b.value.1 c.value.1 s.value.1 j.value.1 (literal_lines f.value.0) f.value.1 o'.parts b'.parts c'.parts s'.parts j'.parts f'.parts;
+      outputs = o'.count;
+      bads = b'.count;
+      constraints = c'.count;
+      sizes = s'.count;
+      listed = j'.count;
+      fair = f'.count;
+    })
+
+-- ---- the circuit
+
+-- names change nothing else
+names_alone : (c : Circuit) (gs : List Given) (d : Circuit) → GiveNames c gs d → ◌≡◌ {A = Circuit} (record c { names = [] }) (record d { names = [] })
+names_alone c [] d e = ap (λ (x : Circuit). record x { names = [] }) e
+names_alone c (g ∷ gs) d e = names_alone (with_name c g.section g.position g.name) gs d e.1
+
+-- the text of a circuit's sections before its names
+pub record IsBody (h : Counts) (text : List ℕ) (end : List ℕ) (c : Circuit) : Type 0 where
+  pub latches : List ℕ
+  pub are_latches : AreNextLines (2 * suc c.inputs) c.latches latches
+  pub whole : text ≡ latches ++ (property_lines c ++ (gate_deltas (suc (c.inputs + length c.latches)) c.gates ++ end))
+  pub first : first_of_counts h ≡ first_counts c
+  pub last : last_of_counts h ≡ last_counts c
+
+length_lists : (ns literals : List ℕ) → length (lists_of ns literals) ≡ length ns
+length_lists [] literals = refl
+length_lists (n ∷ ns) literals = ap suc (length_lists ns (drop n literals))
+
+property_is : (inputs : ℕ) (ls : List Latch) (p : Properties) (gs : List Gate) (rest : List ℕ) → length p.listed ≡ sum p.sizes
+    → property_lines (nameless inputs ls p gs) ++ rest
+    ≡ literal_lines p.outputs ++ (literal_lines p.bads ++ (literal_lines p.constraints ++ (literal_lines p.sizes ++ (literal_lines p.listed ++ (literal_lines p.fair ++ rest)))))
+property_is inputs ls p gs rest e =
+    let sizes : size_lines (lists_of p.sizes p.listed) ≡ literal_lines p.sizes = size_lines-is (lists_of p.sizes p.listed) ∙ ap literal_lines (sizes_of_lists p.sizes p.listed e) in
+    property_text (nameless inputs ls p gs) rest
+    ∙ ap (λ (l : List ℕ). literal_lines p.outputs ++ (literal_lines p.bads ++ (literal_lines p.constraints ++ (l ++ (literal_lines (concat (lists_of p.sizes p.listed)) ++ (literal_lines p.fair ++ rest)))))) sizes
+    ∙ ap (λ (l : List ℕ). literal_lines p.outputs ++ (literal_lines p.bads ++ (literal_lines p.constraints ++ (literal_lines p.sizes ++ (literal_lines l ++ (literal_lines p.fair ++ rest))))))
+    (concat_of_lists p.sizes p.listed e)
+
+-- what stands behind a header is the circuit's sections
+module _ (h : Counts) (text : List ℕ) (c : Circuit) (ls : List Latch) (after : List ℕ) (p : Properties) (behind : List ℕ) (gs : List Gate) (end : List ℕ)
+    (few_first : AreCounts (first_of_counts h)) (few_last : AreCounts (last_of_counts h)) (fits : h.variables ≡ h.inputs + h.latches + h.gates)
+    (l : AreLatchesAt (2 * suc h.inputs) h.latches text ls after) (q : PropertiesBack h after p behind) (g : AreGatesAt (suc (h.inputs + h.latches)) h.gates behind gs end) where
+  bare : Circuit
+  bare = nameless h.inputs ls p gs
+
+  few_bare : HasFewPositions (nameless h.inputs ls p gs)
+  few_bare section.Input = few_first.1.0
+  few_bare section.Latch = omega (arith, l.count, few_first.1.1.0)
+  few_bare section.Output = omega (arith, q.outputs, few_first.1.1.1.0)
+  few_bare section.Bad = omega (arith, q.bads, few_last.0)
+  few_bare section.Constraint = omega (arith, q.constraints, few_last.1.0)
+  few_bare section.Justice = omega (arith, length_lists p.sizes p.listed, q.sizes, few_last.1.1.0)
+  few_bare section.Fair = omega (arith, q.fair, few_last.1.1.1.0)
+
+  body-is : IsBody h text end (nameless h.inputs ls p gs)
+  body-is = record {
+    latches = l.bytes;
+    are_latches = l.lines;
+    whole =
+        l.parts
+        ∙ ap (λ (t : List ℕ). l.bytes ++ t) (q.parts ∙ sym (property_is h.inputs ls p gs behind q.listed))
+        ∙ ap (λ (t : List ℕ). l.bytes ++ (property_lines (nameless h.inputs ls p gs) ++ t))
+        (g.parts ∙ ap (λ (n : ℕ). gate_deltas (suc (h.inputs + n)) gs ++ end) (sym l.count));
+    first = list_of_five h.variables h.inputs h.latches h.outputs h.gates (h.inputs + length ls + length gs) h.inputs (length ls) (length p.outputs) (length gs) (omega (arith, l.count, g.count, fits)) refl l.count q.outputs g.count;
+    last = list_of_four h.bads h.constraints h.justice h.fair (length p.bads) (length p.constraints) (length (lists_of p.sizes p.listed)) (length p.fair) q.bads q.constraints (length_lists p.sizes p.listed ∙ q.sizes) q.fair;
+  }
+
+-- the sections and the end of a circuit's text
+pub record BinaryBack (h : Counts) (text : List ℕ) (c : Circuit) : Type 0 where
+  pub end : List ℕ
+  pub body : IsBody h text end c
+  pub is_end : IsEnd c end
+
+bytes_after : (front rest text : List ℕ) → AreBytes text → text ≡ front ++ rest → AreBytes rest
+bytes_after front rest text bytes e = bytes_behind front rest (subst AreBytes e bytes)
+
+pub binary-back : (h : Counts) (text : List ℕ) (c : Circuit) → AreCounts (first_of_counts h) → AreCounts (last_of_counts h) → h.variables ≡ h.inputs + h.latches + h.gates → AreBytes text → binary_at h text ≡ Ok c → BinaryBack h text c
+unfolding binary_at
+binary-back h text c few_first few_last fits bytes e =
+    let l = bind-back (nexts_at (2 * h.variables + 1) (2 * suc h.inputs) h.latches text) _ c e in
+    let p = bind-back (properties_at h l.value.1) _ c l.then' in
+    let g = bind-back (gates_at (2 * suc (h.inputs + h.latches)) h.gates p.value.1) _ c p.then' in
+    let l' = nexts-back (2 * h.variables + 1) (2 * suc h.inputs) h.latches text l.value.0 l.value.1 (omega (arith, few_first.0)) (omega (arith, few_first.1.0, few_first.1.1.0)) l.was in
+    let p' = properties-back h l.value.1 p.value.0 p.value.1 few_first.0 p.was in
+    let bytes1 : AreBytes l.value.1 = bytes_after l'.bytes l.value.1 text bytes l'.parts in
+    let bytes2 : AreBytes p.value.1 = bytes_after (property_lines (nameless 0 [] p.value.0 [])) p.value.1 l.value.1 bytes1 (p'.parts ∙ sym (property_is 0 [] p.value.0 [] p.value.1 p'.listed)) in
+    let g' = gates-back (suc (h.inputs + h.latches)) h.gates p.value.1 g.value.0 g.value.1 bytes2 g.was in
+    let few = few_bare h text c l.value.0 l.value.1 p.value.0 p.value.1 g.value.0 g.value.1 few_first few_last fits l' p' g' in
+    let n = names-back (nameless h.inputs l.value.0 p.value.0 g.value.0) g.value.1 c few g.then' in
+    let alone = names_alone (nameless h.inputs l.value.0 p.value.0 g.value.0) n.given c n.names in
+    record {
+      end = g.value.1;
+      body = body_of h text g.value.1 c (subst (IsBody h text g.value.1) alone (body-is h text c l.value.0 l.value.1 p.value.0 p.value.1 g.value.0 g.value.1 few_first few_last fits l' p' g'));
+      is_end = record { given = n.given; names = subst (λ (d : Circuit). GiveNames d n.given c) alone n.names; comment = n.comment; is_comment = n.is_comment; spelled = n.parts };
+    }
+  where
+    body_of : (h : Counts) (text end : List ℕ) (c : Circuit) → IsBody h text end (record c { names = [] }) → IsBody h text end c
+    body_of h text end c b = record { latches = b.latches; are_latches = b.are_latches; whole = b.whole; first = b.first; last = b.last }
+
+-- ---- the text
+
+-- a text with a header of the binary form
+with_header : (text : List ℕ) (c : Circuit) (h : Counts) (rest : List ℕ) → IsCircuit c → (s : SaysAt header_of text (Binary, h) rest) → HeaderBack s.line h → BinaryBack h rest c → IsBinaryText text c
+with_header text c h rest valid s k b =
+    let numbers = first_counts c ++ k.kept in
+    let line : s.line ++ 10 ∷ [] ≡ codes "aig" ++ 32 ∷ numbers_line (first_counts c ++ k.kept) =
+    ap (λ (l : List ℕ). l ++ 10 ∷ []) (k.line_is ∙ ap (λ (ns : List ℕ). codes "aig" ++ 32 ∷ joined (ns ++ k.kept)) b.body.first)
+    ∙ ap (λ (l : List ℕ). codes "aig " ++ l) (sym (numbers_line-joined (first_counts c ++ k.kept))) in
+    record {
+      header = s.line ++ 10 ∷ [];
+      is_header = record { kept = k.kept; dropped = k.dropped; counts = k.counts ∙ b.body.last; spelled = line };
+      latches = b.body.latches;
+      are_latches = b.body.are_latches;
+      end = b.end;
+      is_end = b.is_end;
+      valid = valid;
+      whole = s.parts ∙ sym (append_assoc s.line (10 ∷ []) rest) ∙ ap (λ (l : List ℕ). (s.line ++ 10 ∷ []) ++ l) b.body.whole;
+    }
+
+form_by : (text : List ℕ) (c : Circuit) (form : Form) (h : Counts) (rest : List ℕ) → AreBytes text → IsCircuit c → line_at header_of text ≡ Ok ((form, h), rest) → body_at unread form h rest ≡ Ok c → IsBinaryText text c
+form_by text c Ascii h rest bytes valid was then' = absurd (not_err _ _ then')
+form_by text c Binary h rest bytes valid was then' =
+    let s = line-back header_of text (Binary, h) rest was in
+    let k = header-back s.line h s.said in
+    let behind : AreBytes (10 ∷ rest) = bytes_after s.line (10 ∷ rest) text bytes s.parts in
+    with_header text c h rest valid s k (binary-back h rest c k.few_first k.few_last k.fits behind.1 then')
+
+pub read-stands : (text : List ℕ) (c : Circuit) → AreBytes text → IsCircuit c → text_on unread text ≡ Ok c → IsBinaryText text c
+unfolding text_on
+read-stands text c bytes valid e =
+    let h = bind-back (line_at header_of text) _ c e in
+    form_by text c h.value.0.0 h.value.0.1 h.value.1 bytes valid h.was h.then'
