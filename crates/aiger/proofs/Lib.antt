@@ -7,5 +7,6 @@ mod LooseLemmas
 mod RenumberingLemmas
 mod OrderLemmas
 mod KnownLemmas
+mod ReadinessLemmas
 mod LooseTraceLemmas
 mod TraceLemmas
