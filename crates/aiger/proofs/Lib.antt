@@ -8,4 +8,5 @@ mod LooseLemmas
 mod RenumberingLemmas
 mod OrderLemmas
 mod KnownLemmas
+mod ReadinessLemmas
 mod LooseTraceLemmas

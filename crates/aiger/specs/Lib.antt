@@ -12,4 +12,5 @@ pub mod LooseObserved
 pub mod View
 pub mod LooseView
 pub mod Trace
+pub mod Readiness
 pub mod Worked

@@ -1,9 +1,10 @@
--- Worked circuits: a latch that toggles, and one gate.
+-- Worked circuits and files: a latch that toggles, one gate, two gates in each order, and a cycle.
 use Rattle.std.specs.Prelude.{ℕ, [], ◌∷◌, false, ◌==◌}
-use Rattle.aiger.specs.declared.circuit.Reset.TheVariants.{Zero}
+use Rattle.aiger.specs.declared.circuit.Reset.TheVariants.{Zero, Free}
 use Rattle.aiger.specs.Literal.{Valuation}
 use Rattle.aiger.specs.Net.{Net}
 use Rattle.aiger.specs.Circuit.{Circuit}
+use Rattle.aiger.specs.Loose.{Loose, empty_loose}
 
 -- one latch that begins with 0 and takes its negation, and is bad where it is 1
 abbrev pub toggler : Circuit
@@ -31,3 +32,70 @@ on k = k == 1
 abbrev pub one_gate : ℕ → ℕ → Net
 one_gate rhs0 rhs1 =
     record { inputs = 2; latches = 0; gates = record { rhs0 = rhs0; rhs1 = rhs1 } ∷ [] }
+
+-- two inputs and two gates, the second of which in the file has the first one's variable in an operand; the output is the second one
+abbrev pub crossed : Loose
+crossed =
+    record empty_loose {
+      inputs = 2 ∷ 4 ∷ [];
+      gates = record { lhs = 14; rhs0 = 2; rhs1 = 5 } ∷ record { lhs = 12; rhs0 = 14; rhs1 = 3 } ∷ [];
+      outputs = 12 ∷ [];
+    }
+
+-- the same with the gates exchanged, so that one is used before its line
+abbrev pub backwards : Loose
+backwards =
+    record empty_loose {
+      inputs = 2 ∷ 4 ∷ [];
+      gates = record { lhs = 12; rhs0 = 14; rhs1 = 3 } ∷ record { lhs = 14; rhs0 = 2; rhs1 = 5 } ∷ [];
+      outputs = 12 ∷ [];
+    }
+
+-- the circuit that both are as numbered
+abbrev pub straight : Circuit
+straight =
+    record {
+      inputs = 2;
+      latches = [];
+      gates = record { rhs0 = 5; rhs1 = 2 } ∷ record { rhs0 = 6; rhs1 = 3 } ∷ [];
+      outputs = 8 ∷ [];
+      bads = [];
+      constraints = [];
+      justice = [];
+      fair = [];
+      names = [];
+    }
+
+-- two gates of which each has the other's variable in an operand
+abbrev pub looped : Loose
+looped =
+    record empty_loose {
+      inputs = 2 ∷ [];
+      gates = record { lhs = 4; rhs0 = 6; rhs1 = 2 } ∷ record { lhs = 6; rhs0 = 4; rhs1 = 2 } ∷ [];
+      outputs = 4 ∷ [];
+    }
+
+-- a latch that toggles, under the variable 5, with its own literal as reset
+abbrev pub named_toggler : Loose
+named_toggler =
+    record empty_loose {
+      latches = record { current = 10; next = 11; reset = Free } ∷ [];
+      outputs = 10 ∷ [];
+    }
+
+-- its variable is 0, and 1
+abbrev pub named_off : Valuation
+named_off k = false
+
+abbrev pub named_on : Valuation
+named_on k = k == 5
+
+-- an input, an output of it, a justice property of it and an unknown variable, and a gate of another one
+abbrev pub unknown : Loose
+unknown =
+    record empty_loose {
+      inputs = 2 ∷ [];
+      outputs = 3 ∷ 1 ∷ [];
+      justice = [] ∷ (2 ∷ 9 ∷ []) ∷ [];
+      gates = record { lhs = 4; rhs0 = 2; rhs1 = 7 } ∷ [];
+    }

@@ -1,15 +1,16 @@
 //! Laws of circuits and their traces, and worked rows: functions that do nothing, whose contracts are the laws.
-ghost use Rattle.std.specs.Prelude.{◌≡◌, ℕ, ◌+◌, ◌*◌, ◌<◌, ◌↔◌, List, [], ◌∷◌, Bool, true, false, not, ◌&&◌, All, length, map};
+ghost use Rattle.std.specs.Prelude.{◌≡◌, ℕ, ◌+◌, ◌*◌, ◌<◌, ◌↔◌, List, [], ◌∷◌, Bool, true, false, not, ◌&&◌, All, length, map, None, Some};
 ghost use Rattle.aiger.specs.Literal.{Valuation, literal_value, negation};
 ghost use Rattle.aiger.specs.Net.{Satisfies, AreOrdered};
 ghost use Rattle.aiger.specs.Circuit.{Circuit, IsCircuit, NameMap, name_in, name_of};
 ghost use Rattle.aiger.specs.declared.circuit.Section.{Section};
 ghost use Rattle.aiger.specs.Trace.{IsTrace, SameTrace, AreInitial};
-ghost use Rattle.aiger.specs.Loose.{Loose, IsLoose};
+ghost use Rattle.aiger.specs.declared.fault.CircuitFault.TheVariants.{LiteralOutOfRange, TooBig};
+ghost use Rattle.aiger.specs.Loose.{Loose, IsLoose, HasDefinitions, empty_loose, with_input_line, line_refusal, use_refusal};
 ghost use Rattle.aiger.specs.LooseTrace.{IsLooseTrace};
 ghost use Rattle.aiger.specs.LooseObserved.{AllShowSame};
-ghost use Rattle.aiger.specs.Renumbering.{IsRenumbered, LeadsToCycle};
-ghost use Rattle.aiger.specs.Worked.{toggler, off, on, one_gate};
+ghost use Rattle.aiger.specs.Renumbering.{IsRenumbered, IsOrder, LeadsToCycle, IsFirstCyclic, first_undefined, renumbered};
+ghost use Rattle.aiger.specs.Worked.{toggler, off, on, one_gate, crossed, backwards, straight, looped, unknown, named_toggler, named_off, named_on};
 
 use crate::literal::Lit;
 
@@ -88,3 +89,28 @@ pub fn worked_traces()
     prove!(Lit::FALSE.number() == 0);
     prove!(Lit::TRUE.number() == 1);
 }
+
+/// Worked rows of the lists of a file and their renumbering. It does nothing: its contract is the
+/// rows.
+pub fn worked_renumbering()
+    // Gates in either order are the same circuit, the greater operand first.
+    ensures in_order { IsOrder crossed (0 ∷ 1 ∷ []) }
+    ensures before_its_line { IsOrder backwards (1 ∷ 0 ∷ []) }
+    ensures by_file_order { ¬ IsOrder backwards (0 ∷ 1 ∷ []) }
+    ensures same { (renumbered crossed (0 ∷ 1 ∷ []) ≡ straight) × (renumbered backwards (1 ∷ 0 ∷ []) ≡ straight) }
+    ensures valid { IsCircuit straight }
+    // Each variable that they use is defined; an undefined one is told at its line, from 0.
+    ensures known { (first_undefined crossed ≡ None) × (first_undefined looped ≡ None) }
+    ensures undefined { first_undefined unknown ≡ Some 3 }
+    // Each of two gates that use each other depends on itself.
+    ensures cycle { IsFirstCyclic looped 0 }
+    // A variable that is defined twice, and a defining literal that is odd.
+    ensures twice { ¬ HasDefinitions (with_input_line (with_input_line empty_loose 4) 4) }
+    ensures odd { line_refusal empty_loose 5 [] ≡ Some LiteralOutOfRange }
+    ensures again { line_refusal crossed 12 (2147483650 ∷ []) ≡ Some LiteralOutOfRange }
+    ensures too_big { (line_refusal crossed 10 (2147483650 ∷ []) ≡ Some TooBig) × (use_refusal 0 2147483650 ≡ Some TooBig) }
+    ensures at_the_limit { use_refusal 0 2147483649 ≡ None }
+    // The toggler under another name, from 0 and from 1.
+    ensures toggles { IsLooseTrace named_toggler (false ∷ []) ([] ∷ [] ∷ []) (named_off ∷ named_on ∷ []) }
+    ensures stays { ¬ IsLooseTrace named_toggler (false ∷ []) ([] ∷ [] ∷ []) (named_off ∷ named_off ∷ []) }
+{}

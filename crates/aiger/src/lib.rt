@@ -8,6 +8,7 @@ pub mod laws;
 mod literal;
 mod loose;
 mod names;
+mod readiness;
 
 pub use circuit::{Circuit, GREATEST_COUNT, Gate, Latch, Reset, Section};
 pub use fault::{CircuitFault, LooseFault};

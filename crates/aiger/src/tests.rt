@@ -202,3 +202,82 @@ fn faults_are_printed(rt: HostRuntime) -> Result<(), Fail> {
     }
     Ok(())
 }
+
+/// An input 6, a latch 4, the gate 10 of the literals 13 and 6, and a property of each kind.
+fn loose(alloc: Global) -> Result<Loose, CircuitFault> {
+    let mut lines = Loose::new(alloc);
+    lines.push_input(Lit::new(6))?;
+    lines.push_gate(Lit::new(10), Lit::new(13), Lit::new(6))?;
+    lines.push_latch(Lit::new(4), Lit::new(11), Reset::Free)?;
+    lines.push_output(Lit::new(6))?;
+    lines.push_bad(Lit::new(7))?;
+    lines.push_constraint(Lit::TRUE)?;
+    lines.push_justice(&[Lit::new(6)])?;
+    lines.push_fair(Lit::new(7))?;
+    lines.set_name(Section::Input, 0, b"a")?;
+    Ok(lines)
+}
+
+#[test]
+fn lines_are_kept(rt: HostRuntime) -> Result<(), Fail> {
+    let lines = loose(rt.alloc())?;
+    let latch = LatchLine {
+        current: Lit::new(4),
+        next: Lit::new(11),
+        reset: Reset::Free,
+    };
+    let gate = GateLine {
+        lhs: Lit::new(10),
+        rhs0: Lit::new(13),
+        rhs1: Lit::new(6),
+    };
+    assert!(rt; lines.inputs() == [Lit::new(6)].as_slice());
+    assert!(rt; lines.latches() == [latch].as_slice());
+    assert!(rt; lines.gates() == [gate].as_slice());
+    assert!(rt; lines.outputs() == [Lit::new(6)].as_slice());
+    assert!(rt; lines.bads() == [Lit::new(7)].as_slice());
+    assert!(rt; lines.constraints() == [Lit::TRUE].as_slice());
+    assert!(rt; lines.justice_count() == 1);
+    assert!(rt; lines.justice(0) == [Lit::new(6)].as_slice());
+    assert!(rt; lines.fair() == [Lit::new(7)].as_slice());
+    assert!(rt; lines.name(Section::Input, 0) == Some(b"a".as_slice()));
+    assert!(rt; lines.name(Section::Latch, 0).is_none());
+    Ok(())
+}
+
+#[test]
+fn the_first_fault_of_a_defining_literal(rt: HostRuntime) -> Result<(), Fail> {
+    let mut lines = loose(rt.alloc())?;
+    for (number, fault) in [
+        (1, CircuitFault::LiteralOutOfRange),
+        (9, CircuitFault::LiteralOutOfRange),
+        (10, CircuitFault::LiteralOutOfRange),
+        (2_147_483_650, CircuitFault::TooBig),
+        (2_147_483_651, CircuitFault::LiteralOutOfRange),
+    ] {
+        assert_eq!(rt;
+            lines.push_input(Lit::new(number)).err(),
+            Some(fault),
+            "of {number}"
+        );
+    }
+    let big = Lit::new(2_147_483_650);
+    assert_eq!(rt;
+        lines.push_gate(Lit::new(8), Lit::new(2), big).err(),
+        Some(CircuitFault::TooBig)
+    );
+    assert_eq!(rt; lines.push_output(big).err(), Some(CircuitFault::TooBig));
+    Ok(())
+}
+
+#[test]
+fn faults_of_numbering_are_printed(rt: HostRuntime) -> Result<(), Fail> {
+    for (fault, text) in [
+        (LooseFault::Undefined(3), "63 Undefined"),
+        (LooseFault::Cycle(0), "62 Cycle"),
+        (LooseFault::NoMemory, "43 NoMemory"),
+    ] {
+        assert_eq!(rt; format!(in rt.alloc(); "{fault}")?.as_str(), text);
+    }
+    Ok(())
+}

@@ -1,0 +1,82 @@
+-- Gates that wait for others: two slots for each gate say which gate's number an operand waits for.
+use Rattle.std.specs.Prelude.{◌≡◌, ℕ, zero, suc, ◌+◌, ◌*◌, ◌<◌, ◌≤◌, Bool, true, false, ◌&&◌, ◌||◌, not, List, [], ◌∷◌, ◌++◌, length, All, slice_index_or, nat_lt, nat_eq, count_by, if◌then◌else◌}
+use Rattle.std.specs.List.{list_any}
+
+-- a slot: 0 for an operand that waits for no gate, or the gate's position and 1
+abbrev pub slot_at : List ℕ → ℕ → ℕ
+slot_at slots s = slice_index_or slots s 0
+
+-- what a slot waits for once these gates are done: nothing, or one gate
+abbrev pub waits : List ℕ → List ℕ → ℕ → ℕ
+waits slots done s = if nat_eq (slot_at slots s) 0 || list_any (λ g. nat_eq (slot_at slots s) (suc g)) done then 0 else 1
+
+-- the last slot below a bound that names a gate, counted from 1, or 0
+abbrev pub last_user : List ℕ → ℕ → ℕ → ℕ
+last_user slots g zero = 0
+last_user slots g (suc s) = if nat_eq (slot_at slots s) (suc g) then suc s else last_user slots g s
+
+-- a gate may be next: it is not done, and none of its slots waits
+abbrev pub may_be_next : List ℕ → ℕ → List ℕ → ℕ → Bool
+may_be_next slots n done j = nat_lt j n && (not (list_any (nat_eq j) done) && nat_eq (waits slots done (2 * j) + waits slots done (2 * j + 1)) 0)
+
+-- two slots for each of so many gates
+pub record AreSlots (slots : List ℕ) (n : ℕ) : Type 0 where
+  pub count : length slots ≡ 2 * n
+  pub few : n ≤ 1073741824
+  pub within : All (λ slot. slot ≤ n) slots
+
+-- each gate's slots as chains, from the last one down
+pub record HasChains (slots : List ℕ) (n : ℕ) (heads : List ℕ) (nexts : List ℕ) : Type 0 where
+  pub heads_count : length heads ≡ n
+  pub nexts_count : length nexts ≡ length slots
+  pub head : (g : ℕ) → g < n → slice_index_or heads g 0 ≡ last_user slots g (length slots)
+  pub next : (s g : ℕ) → s < length slots → slot_at slots s ≡ suc g → slice_index_or nexts s 0 ≡ last_user slots g s
+
+-- for each gate how many of its slots wait; a gate that is done waits for nothing
+pub record CountsWaits (slots : List ℕ) (n : ℕ) (done : List ℕ) (waiting : List ℕ) : Type 0 where
+  pub count : length waiting ≡ n
+  pub each : (j : ℕ) → j < n → slice_index_or waiting j 0 ≡ waits slots done (2 * j) + waits slots done (2 * j + 1)
+  pub none : (j : ℕ) → list_any (nat_eq j) done ≡ true → slice_index_or waiting j 0 ≡ 0
+
+-- the gates that are not done and wait for nothing
+abbrev pub waits_for_nothing : ℕ → List ℕ → List ℕ → ℕ → Bool
+waits_for_nothing n done waiting j = nat_lt j n && (not (list_any (nat_eq j) done) && nat_eq (slice_index_or waiting j 0) 0)
+
+-- gates in turn: each is the first that may be next after the ones before it
+pub record IsFirstNext (slots : List ℕ) (n : ℕ) (done : List ℕ) (j : ℕ) : Type 0 where
+  pub next : may_be_next slots n done j ≡ true
+  pub first : (i : ℕ) → i < j → may_be_next slots n done i ≡ false
+
+abbrev pub FollowInTurn : List ℕ → ℕ → List ℕ → List ℕ → Type 0
+FollowInTurn slots n done [] = Unit {0}
+FollowInTurn slots n done (j ∷ js) = IsFirstNext slots n done j × FollowInTurn slots n (done ++ j ∷ []) js
+
+-- which gates are done
+pub record MarksDone (n : ℕ) (done : List ℕ) (marks : List Bool) : Type 0 where
+  pub count : length marks ≡ n
+  pub each : (j : ℕ) → j < n → slice_index_or marks j false ≡ list_any (nat_eq j) done
+  pub left : count_by not marks + length done ≡ n
+
+-- between two gates: what waits, what is ready and what is done
+pub record IsBetween (slots : List ℕ) (n : ℕ) (done : List ℕ) (waiting : List ℕ) (marks : List Bool) (is_in : ℕ → Bool) : Type 0 where
+  pub waits : CountsWaits slots n done waiting
+  pub marked : MarksDone n done marks
+  pub ready : (i : ℕ) → is_in i ≡ waits_for_nothing n done waiting i
+  pub in_turn : FollowInTurn slots n [] done
+
+-- a gate has left those that are ready, and its slots still count as waiting
+pub record IsTaken (slots : List ℕ) (n : ℕ) (order : List ℕ) (waiting : List ℕ) (is_in : ℕ → Bool) : Type 0 where
+  pub done : List ℕ
+  pub gate : ℕ
+  pub last : order ≡ done ++ gate ∷ []
+  pub within : gate < n
+  pub new : list_any (nat_eq gate) done ≡ false
+  pub waits : CountsWaits slots n done waiting
+  pub free : slice_index_or waiting gate 0 ≡ 0
+  pub ready : (i : ℕ) → is_in i ≡ waits_for_nothing n order waiting i
+
+-- all gates in turn, until none may be next
+pub record IsWholeOrder (slots : List ℕ) (n : ℕ) (order : List ℕ) (marks : List Bool) : Type 0 where
+  pub in_turn : FollowInTurn slots n [] order
+  pub marked : MarksDone n order marks
+  pub whole : (j : ℕ) → may_be_next slots n order j ≡ false

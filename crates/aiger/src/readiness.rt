@@ -1,0 +1,157 @@
+//! The order of readiness: each time the first gate of those that wait for no other.
+ghost use Rattle.std.specs.Prelude.{◌≡◌, ℕ, suc, ◌+◌, ◌-◌, ◌*◌, ◌<◌, ◌≤◌, [], ◌∷◌, ◌++◌, ◌&&◌, ◌||◌, length, slice_index_or, nat_lt, nat_eq, IfOk, OnOk, slice_set, if◌then◌else◌};
+ghost use Rattle.std.specs.Ordering.{nat_cmp};
+ghost use Rattle.std.specs.BTreeSet.{contains};
+ghost use Rattle.aiger.specs.Readiness.{AreSlots, HasChains, CountsWaits, waits_for_nothing, IsTaken, IsWholeOrder};
+
+use crate::fault::LooseFault;
+use std::alloc::Global;
+use std::collections::BTreeSet;
+
+/// Who waits for whom.
+///
+/// Each gate has two slots; a slot is 0 where its operand waits for no gate, or the position of the
+/// gate that it waits for and 1. The slots that wait for one gate are a chain, from the last one
+/// down, in which a slot stands as its place and 1, and 0 is the end.
+#[derive(Drop)]
+struct Users {
+    slots: Vec<u32>,
+    heads: Vec<u32>,
+    nexts: Vec<u32>,
+}
+
+/// The gates in the order of readiness, until none is ready, and for each gate whether it is among
+/// them. The error is want of memory.
+pub fn order_of_readiness(
+    alloc: Global,
+    slots: Vec<u32>,
+    gates: usize,
+) -> Result<(Vec<u32>, Vec<bool>), LooseFault>
+    requires { AreSlots slots.items gates }
+    ensures { IfOk result (λ r. IsWholeOrder slots.items gates r.0.items r.1.items) }
+{
+    let mut waiting = first_waits(alloc, &slots, gates)?;
+    let mut ready = first_ready(alloc, &waiting)?;
+    let users = chains(alloc, slots, gates)?;
+    let mut marks = match vec![in alloc; false; gates] {
+        Ok(list) => list,
+        Err(_) => return Err(LooseFault::NoMemory),
+    };
+    let mut order = Vec::new(alloc);
+    while let Some(gate) = ready.pop_first() {
+        match order.push(gate) {
+            Ok(()) => {}
+            Err(_) => return Err(LooseFault::NoMemory),
+        }
+        marks[gate as usize] = true;
+        release(&users, &order, &mut waiting, &mut ready)?;
+    }
+    Ok((order, marks))
+}
+
+/// The chains of slots of each gate.
+fn chains(alloc: Global, slots: Vec<u32>, gates: usize) -> Result<Users, LooseFault>
+    requires { AreSlots slots.items gates }
+    ensures chains { IfOk result (λ u. HasChains slots.items gates u.heads.items u.nexts.items) }
+    ensures slots { IfOk result (λ u. u.slots.items ≡ slots.items) }
+{
+    let mut heads = match vec![in alloc; 0u32; gates] {
+        Ok(list) => list,
+        Err(_) => return Err(LooseFault::NoMemory),
+    };
+    let mut nexts = Vec::new(alloc);
+    for s in 0..slots.len() {
+        let next = link(&mut heads, slots[s], s as u32);
+        match nexts.push(next) {
+            Ok(()) => {}
+            Err(_) => return Err(LooseFault::NoMemory),
+        }
+    }
+    Ok(Users {
+        slots,
+        heads,
+        nexts,
+    })
+}
+
+/// Puts a slot in front of the chain of the gate that it waits for, and answers what was in front.
+fn link(heads: &mut Vec<u32>, slot: u32, s: u32) -> u32
+    requires slot { slot ≤ length heads.old.items }
+    requires place { s < 2147483648 }
+    ensures next { (g : ℕ) → slot ≡ suc g → result ≡ slice_index_or heads.old.items g 0 }
+    ensures heads { heads.new.items ≡ (if nat_eq slot 0 then heads.old.items else slice_set heads.old.items (slot - 1) (s + 1)) }
+{
+    if slot == 0 {
+        return 0;
+    }
+    let gate = slot as usize - 1;
+    let next = heads[gate];
+    heads[gate] = s + 1;
+    next
+}
+
+/// For each gate how many of its slots wait, before any gate is done.
+fn first_waits(alloc: Global, slots: &[u32], gates: usize) -> Result<Vec<u8>, LooseFault>
+    requires { AreSlots slots.now gates }
+    ensures { IfOk result (λ r. CountsWaits slots.now gates [] r.items) }
+{
+    let mut waiting = Vec::new(alloc);
+    for gate in 0..gates {
+        let count = u8::from(slots[2 * gate] != 0) + u8::from(slots[2 * gate + 1] != 0);
+        match waiting.push(count) {
+            Ok(()) => {}
+            Err(_) => return Err(LooseFault::NoMemory),
+        }
+    }
+    Ok(waiting)
+}
+
+/// The gates that wait for nothing, before any gate is done.
+fn first_ready(alloc: Global, waiting: &[u8]) -> Result<BTreeSet<u32>, LooseFault>
+    requires { length waiting.now ≤ 1073741824 }
+    ensures { IfOk result (λ r. (i : ℕ) → contains nat_cmp r i ≡ waits_for_nothing (length waiting.now) [] waiting.now i) }
+{
+    let mut ready = BTreeSet::new(alloc);
+    for gate in 0..waiting.len() {
+        note(&mut ready, gate as u32, waiting[gate])?;
+    }
+    Ok(ready)
+}
+
+/// Notes a gate as ready where nothing is left that it waits for.
+fn note(ready: &mut BTreeSet<u32>, gate: u32, left: u8) -> Result<(), LooseFault>
+    ensures { OnOk result ((i : ℕ) → contains nat_cmp ready.new i ≡ (contains nat_cmp ready.old i || (nat_eq gate i && nat_eq left 0))) }
+{
+    if left != 0 {
+        return Ok(());
+    }
+    match ready.insert(gate) {
+        Ok(_) => Ok(()),
+        Err(_) => Err(LooseFault::NoMemory),
+    }
+}
+
+/// Each slot of the last gate of an order waits no longer.
+fn release(
+    users: &Users,
+    order: &[u32],
+    waiting: &mut Vec<u8>,
+    ready: &mut BTreeSet<u32>,
+) -> Result<(), LooseFault>
+    requires slots { AreSlots users.now.slots.items (length waiting.old.items) }
+    requires chains { HasChains users.now.slots.items (length waiting.old.items) users.now.heads.items users.now.nexts.items }
+    requires taken { IsTaken users.now.slots.items (length waiting.old.items) order.now waiting.old.items (contains nat_cmp ready.old) }
+    ensures waits { OnOk result (CountsWaits users.now.slots.items (length waiting.old.items) order.now waiting.new.items) }
+    ensures ready { OnOk result ((i : ℕ) → contains nat_cmp ready.new i ≡ waits_for_nothing (length waiting.old.items) order.now waiting.new.items i) }
+{
+    let gate = order[order.len() - 1] as usize;
+    let mut at = users.heads[gate];
+    while at != 0 {
+        let slot = at as usize - 1;
+        let left = waiting[slot / 2] - 1;
+        waiting[slot / 2] = left;
+        note(ready, (slot / 2) as u32, left)?;
+        at = users.nexts[slot];
+    }
+    Ok(())
+}
