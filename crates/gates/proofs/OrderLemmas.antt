@@ -61,6 +61,22 @@ MakesLiteral-column n0 n1 n2 n3 n4 a b below less greater rest l first second th
           (column_order (literal_value v a) (literal_value v b) (literal_value v below));
     }
 
+-- the gate of a column where nothing below is less
+pub MakesLiteral-lowest : (old new : Net) (a b below l : ℕ) → below ≡ 0 → MakesAnd old new (negation a) b l
+    → MakesLiteral old new 4 (λ v. nat_lt (literal_number v a) (literal_number v b + literal_number v below)) l
+MakesLiteral-lowest old new a b below l none makes =
+    record {
+      grows = Grows-weaker old new 1 4 (omega arith) makes.grows;
+      defined = makes.defined;
+      means = λ v s. rw (none, makes.means v s, literal_value-negation v a) (lowest (literal_value v a) (literal_value v b));
+    }
+  where
+    lowest : (x y : Bool) → (not x && y) ≡ nat_lt (bit_number x) (bit_number y + 0)
+    lowest true true = refl
+    lowest true false = refl
+    lowest false true = refl
+    lowest false false = refl
+
 -- no word of no bits is less than another
 pub MakesLiteral-not_less : (n : Net) → MakesLiteral n n 0 (λ v. nat_lt (word_value v []) (word_value v [])) 0
 MakesLiteral-not_less n = record { grows = Grows-refl n 0; defined = IsDefined-false n; means = λ v s. refl }

@@ -13,7 +13,6 @@ use Rattle.base.specs.Signed.{signed, overflows}
 use Rattle.base.proofs.SignedLaws.{half, signed_is, overflows_in, overflows_out}
 use Rattle.aiger.specs.Literal.{Valuation, literal_value, negation}
 use Rattle.aiger.specs.Net.{Net, Satisfies}
-use Rattle.aiger.proofs.NetLemmas.{IsDefined-negation, literal_value-negation}
 use Rattle.gates.specs.Connect.{differ}
 use Rattle.gates.specs.Made.{MakesAnd, MakesLiteral, MakesWord, word_value}
 use Rattle.gates.specs.Sums.{literal_number, MakesSum}
@@ -21,15 +20,6 @@ use Rattle.gates.specs.Tests.{with_top_negated}
 use Rattle.gates.proofs.GrowthLemmas.{Grows-trans, Satisfies-earlier, word_value-negation}
 use Rattle.gates.proofs.BitListLemmas.{word_value-below}
 use Rattle.gates.proofs.OrderLemmas.{signed_top, front_below, word_value-top, word_value-top_negated, length-top_negated, MakesWord-test}
-
--- the carry out tells whether a sum is no word, and whether a difference is none
-carry_out : (p s a b : ℕ) (o : Bool) → s < p → s + p * bit_number o ≡ a + b + 0 → o ≡ nat_le p (a + b)
-carry_out p s a b true below whole = grind (arith, nat_tests)
-carry_out p s a b false below whole = grind (arith, nat_tests)
-
-no_carry_out : (p s a b : ℕ) (o : Bool) → s < p → a < p → b < p → s + p * bit_number o ≡ a + (p - 1 - b) + 1 → not o ≡ nat_lt a b
-no_carry_out p s a b true below a_below b_below whole = grind (arith, nat_tests)
-no_carry_out p s a b false below a_below b_below whole = grind (arith, nat_tests)
 
 -- a number above all signed numbers of a width or below all overflows
 pub overflows_far : (n : ℕ) (z : ℤ) (t : Bool) → overflows n z ≡ t → (up z + 2 ^ (n - 1) < down z) ⊎ (down z + 2 ^ (n - 1) ≤ up z) → t ≡ true
@@ -127,33 +117,22 @@ MakesWord-ssubo old mid new a b sum into_top out l some same makes test =
     omega (arith, ints, opposite))
     makes test
 
-pub MakesWord-uaddo : (old new : Net) (a b sum : List ℕ) (into_top out : ℕ) → MakesSum old new (9 * length a) a b 0 sum into_top out
-    → MakesWord old new (9 * length a) 1 (λ v. binary_value binary.Uaddo (length a) (word_value v a) (word_value v b)) (out ∷ [])
-MakesWord-uaddo old new a b sum into_top out makes =
-    MakesWord-test old new (9 * length a) (9 * length a) (λ v. nat_le (2 ^ length a) (word_value v a + word_value v b)) _ out (omega arith)
-    (record {
-      grows = makes.grows;
-      defined = makes.out_defined;
-      means = λ v s.
-          let below : word_value v sum < 2 ^ length a = word_value-below v sum (length a) makes.wide in
-          carry_out (2 ^ length a) (word_value v sum) (word_value v a) (word_value v b) (literal_value v out) below (makes.whole v s);
-    })
-    (λ v. refl)
+-- a sum is no word where the second word is above what the first leaves up to the greatest
+above_rest : (p a b : ℕ) → a < p → nat_lt (p - 1 - a) b ≡ nat_le p (a + b)
+above_rest p a b below = grind (arith, nat_tests)
 
-pub MakesWord-usubo : (old new : Net) (a b sum : List ℕ) (into_top out not_out : ℕ) → length b ≡ length a → not_out ≡ negation out → MakesSum old new (9 * length a) a (map negation b) 1 sum into_top out
-    → MakesWord old new (9 * length a) 1 (λ v. binary_value binary.Usubo (length a) (word_value v a) (word_value v b)) (not_out ∷ [])
-MakesWord-usubo old new a b sum into_top out not_out same not_is makes =
-    MakesWord-test old new (9 * length a) (9 * length a) (λ v. nat_lt (word_value v a) (word_value v b)) _ not_out (omega arith)
-    (record {
-      grows = makes.grows;
-      defined = rw not_is (IsDefined-negation new out makes.out_defined);
-      means = λ v s.
-          let below : word_value v sum < 2 ^ length a = word_value-below v sum (length a) makes.wide in
-          let b_below : word_value v b < 2 ^ length a = word_value-below v b (length a) same in
-          let whole = rw (word_value-negation v b, same) at (makes.whole v s) in
-          rw not_is (literal_value-negation v out ∙ no_carry_out (2 ^ length a) (word_value v sum) (word_value v a) (word_value v b) (literal_value v out) below (word_value-below v a (length a) refl) b_below whole);
-    })
-    (λ v. refl)
+pub MakesWord-uaddo : (old new : Net) (a negated b : List ℕ) (l : ℕ) → negated ≡ map negation a
+    → MakesLiteral old new (6 * length negated) (λ v. nat_lt (word_value v negated) (word_value v b)) l
+    → MakesWord old new (9 * length a) 1 (λ v. binary_value binary.Uaddo (length a) (word_value v a) (word_value v b)) (l ∷ [])
+MakesWord-uaddo old new a negated b l is makes =
+    let same : length negated ≡ length a = rw is (length-map a negation) in
+    MakesWord-test old new (6 * length negated) (9 * length a) (λ v. nat_lt (word_value v negated) (word_value v b)) _ l (omega (arith, same)) makes
+    (λ v. ap bit_number (rw (is, word_value-negation v a) (above_rest (2 ^ length a) (word_value v a) (word_value v b) (word_value-below v a (length a) refl))))
+
+pub MakesWord-usubo : (old new : Net) (a b : List ℕ) (l : ℕ) → MakesLiteral old new (6 * length a) (λ v. nat_lt (word_value v a) (word_value v b)) l
+    → MakesWord old new (9 * length a) 1 (λ v. binary_value binary.Usubo (length a) (word_value v a) (word_value v b)) (l ∷ [])
+MakesWord-usubo old new a b l makes =
+    MakesWord-test old new (6 * length a) (9 * length a) (λ v. nat_lt (word_value v a) (word_value v b)) _ l (omega arith) makes (λ v. refl)
 
 -- a word is the least signed number where its bits negated, but for the highest one, are all ones
 least_is : (p low x : ℕ) (top : Bool) → low < p → x < 2 * p → low + p * bit_number top ≡ 2 * p - 1 - x → (low + p * bit_number (not top) == 2 * p - 1) ≡ (x == p)

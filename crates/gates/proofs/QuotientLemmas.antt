@@ -1,24 +1,23 @@
 -- Quotients and remainders of numbers that are one bit longer, and the gates that make them.
-use Rattle.std.proofs.Common.{◌≡◌, ℕ, zero, suc, ◌+◌, ◌-◌, ◌*◌, ◌/◌, ◌%◌, ◌^◌, ◌<◌, ◌≤◌, Bool, true, false, ◌==◌, nat_le, if◌then◌else◌, List, [], ◌∷◌, ◌++◌, length, map, take, replicate, refl, sym, ap, ap₂, ◌∙◌, arith, length-append, lit<}
-use Rattle.std.proofs.Math.Nat.{mod-eq_of_lt, mod-eq-sub-mul-div, mod-lt, zero-div, pow-le-pow_right}
-use Rattle.std.proofs.lemmas.Nat.{div-mul-add, mod_low, pow_pos}
+use Rattle.std.proofs.Common.{◌≡◌, ℕ, zero, suc, ◌+◌, ◌-◌, ◌*◌, ◌/◌, ◌^◌, ◌<◌, ◌≤◌, Bool, true, false, not, ◌&&◌, ◌||◌, ◌==◌, nat_le, if◌then◌else◌, List, [], ◌∷◌, length, map, take, drop, refl, sym, ap, ap₂, ◌∙◌, arith}
+use Rattle.std.proofs.Math.Nat.{mod-eq-sub-mul-div, mod-lt, zero-div}
+use Rattle.std.proofs.lemmas.Nat.{div-mul-add, pow_pos}
 use Rattle.std.proofs.lemmas.Bool.{cond-false, ne_eqb}
 use Rattle.std.proofs.lemmas.Bool.Decides.{nat_tests}
-use Rattle.std.proofs.lemmas.List.{length-replicate, length-take-le}
-use Rattle.std.proofs.lemmas.List.Elements.{All-nil, All-cons, All-replicate}
+use Rattle.std.proofs.lemmas.List.{length-take-le}
+use Rattle.std.proofs.lemmas.List.Elements.{All-nil, All-cons}
 use Rattle.base.specs.Word.{bit_number}
 use Rattle.base.specs.Operator.{udiv, urem}
 use Rattle.base.proofs.BitLemmas.{bit_number_small}
 use Rattle.aiger.specs.Literal.{Valuation, literal_value, negation}
 use Rattle.aiger.specs.Net.{Net, IsDefined, Satisfies}
-use Rattle.aiger.proofs.NetLemmas.{IsDefined-false}
-use Rattle.gates.specs.Made.{MakesWord, word_value}
+use Rattle.aiger.proofs.NetLemmas.{IsDefined-false, literal_value-negation}
+use Rattle.gates.specs.Made.{MakesAnd, MakesLiteral, MakesWord, word_value}
 use Rattle.gates.specs.Sums.{literal_number, MakesSum}
-use Rattle.gates.specs.Division.{reduced, MakesQuotientRow, MakesDivision}
+use Rattle.gates.specs.Division.{reduced, MakesQuotientRow, MakesRows, MakesDivision}
 use Rattle.gates.proofs.GrowthLemmas.{Grows-refl, Grows-weaker, Grows-trans, Satisfies-earlier, IsDefined-grown, All-defined-grown, word_value-negation}
 use Rattle.base.proofs.BitLemmas.{two_more}
 use Rattle.gates.proofs.BitListLemmas.{word_value-below}
-use Rattle.gates.proofs.SumLemmas.{word_value-push, word_value-zeros}
 use Rattle.gates.proofs.WindowLemmas.{word_value-split}
 
 -- the quotient and the remainder are those of which the number is made
@@ -66,78 +65,89 @@ quotient_more k t (suc b) x =
     rw (udiv_by (suc k) (bit_number x + 2 * t) b, udiv_by k t b, urem_by t b)
     (quotient_is _ (suc b) _ _ (row_below (suc b) _ x below) (row_whole t (suc b) (t / suc b) (t - suc b * (t / suc b)) x (omega (arith, below))))
 
-remainder_more : (n t b : ℕ) (x : Bool) → b < 2 ^ n → bit_number x + 2 * t < 2 ^ n → urem (bit_number x + 2 * t) b ≡ reduced (bit_number x + 2 * urem t b) b % 2 ^ n
-remainder_more n t zero x b_below below =
-    let all : bit_number x + 2 * t - 0 ≡ bit_number x + 2 * t = omega arith in
-    rw (goes_zero (bit_number x + 2 * urem t 0)) (sym (ap (λ k. k % 2 ^ n) all ∙ mod-eq_of_lt below))
-remainder_more n t (suc b) x b_below below =
+remainder_more : (t b : ℕ) (x : Bool) → urem (bit_number x + 2 * t) b ≡ reduced (bit_number x + 2 * urem t b) b
+remainder_more t zero x = rw (goes_zero (bit_number x + 2 * urem t 0)) (omega arith)
+remainder_more t (suc b) x =
     let left = remainder_below t b in
-    let rest = row_below (suc b) _ x left in
     rw (urem_by (bit_number x + 2 * t) b, urem_by t b)
-    (remainder_is _ (suc b) _ _ rest (row_whole t (suc b) (t / suc b) (t - suc b * (t / suc b)) x (omega (arith, left))) ∙ sym (mod-eq_of_lt (omega (arith, rest, b_below))))
+    (remainder_is _ (suc b) _ _ (row_below (suc b) _ x left) (row_whole t (suc b) (t / suc b) (t - suc b * (t / suc b)) x (omega (arith, left))))
 
--- a divisor taken from a number as a sum: the carry out says that it goes into it, and then the sum is what is left
-goes_by_carry : (p a b s : ℕ) (out : Bool) → s < p → a < p → b < p → s + p * bit_number out ≡ a + (p - 1 - b) + 1 → out ≡ nat_le b a
-goes_by_carry p a b s true s_below a_below b_below whole = grind (arith, nat_tests)
-goes_by_carry p a b s false s_below a_below b_below whole = grind (arith, nat_tests)
+-- a divisor's low part l taken from a number as a sum, h being what is above: the divisor goes into the number where nothing is above and the
+-- carry out is 1, and then the sum is what is left
+goes_by_carry : (p d l h s : ℕ) (out : Bool) → s < p → d < p → l < p → s + p * bit_number out ≡ d + (p - 1 - l) + 1 → (out && not (not (h == 0))) ≡ nat_le (l + p * h) d
+goes_by_carry p d l zero s true s_below d_below l_below whole = grind (arith, nat_tests)
+goes_by_carry p d l zero s false s_below d_below l_below whole = grind (arith, nat_tests)
+goes_by_carry p d l (suc h) s true s_below d_below l_below whole = let more : p * suc h ≡ p + p * h = omega arith in grind (arith, nat_tests)
+goes_by_carry p d l (suc h) s false s_below d_below l_below whole = let more : p * suc h ≡ p + p * h = omega arith in grind (arith, nat_tests)
 
-left_by_carry : (p q a b s : ℕ) (out : Bool) → s < p → a < p → b < p → s + p * bit_number out ≡ a + (p - 1 - b) + 1 → (if out then s % q else a % q) ≡ reduced a b % q
-left_by_carry p q a b s out s_below a_below b_below whole = rw (← goes_by_carry p a b s out s_below a_below b_below whole) (taken out whole)
-  where
-    taken : (out : Bool) → s + p * bit_number out ≡ a + (p - 1 - b) + 1 → (if out then s % q else a % q) ≡ (if out then a - b else a) % q
-    taken true whole = ap (λ k. k % q) (omega arith)
-    taken false whole = refl
+left_by_carry : (p d l h s : ℕ) (out : Bool) → s < p → d < p → l < p → s + p * bit_number out ≡ d + (p - 1 - l) + 1 → (if out && not (not (h == 0)) then s else d) ≡ reduced d (l + p * h)
+left_by_carry p d l zero s true s_below d_below l_below whole = grind (arith, nat_tests)
+left_by_carry p d l zero s false s_below d_below l_below whole = grind (arith, nat_tests)
+left_by_carry p d l (suc h) s true s_below d_below l_below whole = let more : p * suc h ≡ p + p * h = omega arith in grind (arith, nat_tests)
+left_by_carry p d l (suc h) s false s_below d_below l_below whole = let more : p * suc h ≡ p + p * h = omega arith in grind (arith, nat_tests)
 
--- the low literals of a word one bit longer
-word_value-low : (v : Valuation) (ls : List ℕ) (n : ℕ) → length ls ≡ suc n → word_value v (take n ls) ≡ word_value v ls % 2 ^ n
-word_value-low v ls n wide =
-    let inside : n ≤ length ls = omega arith in
-    let below : word_value v (take n ls) < 2 ^ n = rw (length-take-le n ls inside) at (word_value-below v (take n ls) _ refl) in
-    sym (ap (λ w. w % 2 ^ n) (word_value-split v ls n inside) ∙ mod_low _ n _ below)
+-- no bit from a place on yet, and one place more
+pub MakesLiteral-no_bit : (n : Net) → MakesLiteral n n 0 (λ v. not (word_value v [] == 0)) 0
+MakesLiteral-no_bit n = record { grows = Grows-refl n 0; defined = IsDefined-false n; means = λ v s. refl }
 
--- the gates of a row: the divisor with a zero at its high end taken from the row's dividend, and a choice by the carry out
-pub MakesQuotientRow-by_carry : (old mid new : Net) (dividend b wide sum : List ℕ) (into_top out : ℕ) (low high remainder : List ℕ)
-    → length dividend ≡ suc (length b) → wide ≡ b ++ 0 ∷ [] → MakesSum old mid (9 * length dividend) dividend (map negation wide) 1 sum into_top out
-    → low ≡ take (length b) sum → high ≡ take (length b) dividend
-    → MakesWord mid new (3 * length low) (length low) (λ v. if literal_value v out then word_value v low else word_value v high) remainder
-    → MakesQuotientRow old new (12 * length b + 9) dividend b out remainder
-MakesQuotientRow-by_carry old mid new dividend b wide sum into_top out low high remainder longer wide_is taken low_is high_is chosen =
-    let n = length b in
-    let in_sum : length sum ≡ suc n = taken.wide ∙ longer in
-    let count : length low ≡ n = ap length low_is ∙ length-take-le n sum (omega arith) in
-    let wide_count : length wide ≡ suc n = omega (arith, ap length wide_is, length-append b (0 ∷ [])) in
-    let wide_value : (v : Valuation) → word_value v wide ≡ word_value v b = λ v. ap (word_value v) wide_is ∙ word_value-push v b 0 ∙ omega arith in
-    let whole : (v : Valuation) → Satisfies mid v → word_value v sum + 2 ^ suc n * literal_number v out ≡ word_value v dividend + (2 ^ suc n - 1 - word_value v b) + 1 =
-    λ v s. rw (longer, word_value-negation v wide, wide_count, wide_value v) at (taken.whole v s) in
-    let sum_below : (v : Valuation) → word_value v sum < 2 ^ suc n = λ v. rw in_sum at (word_value-below v sum _ refl) in
-    let dividend_below : (v : Valuation) → word_value v dividend < 2 ^ suc n = λ v. rw longer at (word_value-below v dividend _ refl) in
-    let b_below : (v : Valuation) → word_value v b < 2 ^ suc n = λ v. omega (arith, word_value-below v b _ refl, two_more n) in
+pub MakesLiteral-bit_more : (old mid new : Net) (most all : ℕ) (ls : List ℕ) (x some l : ℕ) → most + 1 ≡ all
+    → MakesLiteral old mid most (λ v. not (word_value v ls == 0)) some → MakesLiteral mid new 1 (λ v. literal_value v some || literal_value v x) l
+    → MakesLiteral old new all (λ v. not (word_value v (x ∷ ls) == 0)) l
+MakesLiteral-bit_more old mid new most all ls x some l all_is so_far more =
     record {
-      grows = Grows-weaker old new (9 * length dividend + 3 * length low) (12 * n + 9) (omega arith) (Grows-trans old mid new (9 * length dividend) (3 * length low) taken.grows chosen.grows);
-      bit_defined = IsDefined-grown mid new (3 * length low) chosen.grows out taken.out_defined;
-      wide = chosen.wide ∙ count;
+      grows = Grows-weaker old new (most + 1) all (omega arith) (Grows-trans old mid new most 1 so_far.grows more.grows);
+      defined = more.defined;
+      means = λ v s. more.means v s ∙ (ap (λ y. y || literal_value v x) (so_far.means v (Satisfies-earlier mid new 1 more.grows v s)) ∙ one_more (word_value v ls) (literal_value v x));
+    }
+  where
+    one_more : (w : ℕ) (y : Bool) → (not (w == 0) || y) ≡ not (bit_number y + 2 * w == 0)
+    one_more w true = grind (arith, nat_tests)
+    one_more w false = grind (arith, nat_tests)
+
+-- the gates of a row: the divisor's low part taken from the dividend, whether it has a bit above, and a choice by both
+pub MakesQuotientRow-by_carry : (n0 n1 n2 n3 n4 : Net) (dividend b low sum : List ℕ) (into_top out above bit : ℕ) (remainder : List ℕ)
+    → length dividend ≤ length b → low ≡ take (length dividend) b → MakesSum n0 n1 (9 * length dividend) dividend (map negation low) 1 sum into_top out
+    → MakesLiteral n1 n2 (length b - length dividend) (λ v. not (word_value v (drop (length dividend) b) == 0)) above → MakesAnd n2 n3 out (negation above) bit
+    → MakesWord n3 n4 (3 * length sum) (length sum) (λ v. if literal_value v bit then word_value v sum else word_value v dividend) remainder
+    → MakesQuotientRow n0 n4 (12 * length b + 9) dividend b bit remainder
+MakesQuotientRow-by_carry n0 n1 n2 n3 n4 dividend b low sum into_top out above bit remainder inside low_is taken high goes chosen =
+    let n = length dividend in
+    let low_wide : length low ≡ n = ap length low_is ∙ length-take-le n b inside in
+    let to_three = Grows-trans n0 n2 n3 (9 * n + (length b - n)) 1 (Grows-trans n0 n1 n2 (9 * n) (length b - n) taken.grows high.grows) goes.grows in
+    let whole : (v : Valuation) → Satisfies n1 v → word_value v sum + 2 ^ n * literal_number v out ≡ word_value v dividend + (2 ^ n - 1 - word_value v low) + 1 =
+    λ v s. rw (word_value-negation v low, low_wide) at (taken.whole v s) in
+    let sum_below : (v : Valuation) → word_value v sum < 2 ^ n = λ v. word_value-below v sum n taken.wide in
+    let low_below : (v : Valuation) → word_value v low < 2 ^ n = λ v. word_value-below v low n low_wide in
+    let divisor : (v : Valuation) → word_value v b ≡ word_value v low + 2 ^ n * word_value v (drop n b) = λ v. let split = word_value-split v b n inside in rw low_is (omega (arith, split)) in
+    let bit_is : (v : Valuation) → Satisfies n3 v → literal_value v bit ≡ (literal_value v out && not (not (word_value v (drop n b) == 0))) =
+    λ v s. goes.means v s ∙ ap (λ x. literal_value v out && x) (literal_value-negation v above ∙ ap not (high.means v (Satisfies-earlier n2 n3 1 goes.grows v s))) in
+    let first : (v : Valuation) → Satisfies n3 v → Satisfies n1 v = λ v s. Satisfies-earlier n1 n2 (length b - n) high.grows v (Satisfies-earlier n2 n3 1 goes.grows v s) in
+    record {
+      grows = Grows-weaker n0 n4 (9 * n + (length b - n) + 1 + 3 * length sum) (12 * length b + 9) (omega (arith, taken.wide)) (Grows-trans n0 n3 n4 (9 * n + (length b - n) + 1) (3 * length sum) to_three chosen.grows);
+      bit_defined = IsDefined-grown n3 n4 (3 * length sum) chosen.grows bit goes.defined;
+      wide = chosen.wide ∙ taken.wide;
       remainder_defined = chosen.defined;
       goes = λ v s.
-          let before = Satisfies-earlier mid new (3 * length low) chosen.grows v s in
-          goes_by_carry (2 ^ suc n) _ _ _ (literal_value v out) (sum_below v) (dividend_below v) (b_below v) (whole v before);
+          let before = Satisfies-earlier n3 n4 (3 * length sum) chosen.grows v s in
+          bit_is v before ∙ rw (divisor v) (goes_by_carry (2 ^ n) _ _ (word_value v (drop n b)) _ (literal_value v out) (sum_below v) (word_value-below v dividend n refl) (low_below v) (whole v (first v before)));
       left = λ v s.
-          let before = Satisfies-earlier mid new (3 * length low) chosen.grows v s in
+          let before = Satisfies-earlier n3 n4 (3 * length sum) chosen.grows v s in
           chosen.means v s
-          ∙ ap₂ (λ x y. if literal_value v out then x else y) (ap (word_value v) low_is ∙ word_value-low v sum n in_sum) (ap (word_value v) high_is ∙ word_value-low v dividend n longer)
-          ∙ left_by_carry (2 ^ suc n) (2 ^ n) _ _ _ (literal_value v out) (sum_below v) (dividend_below v) (b_below v) (whole v before);
+          ∙ ap (λ x. if x then word_value v sum else word_value v dividend) (bit_is v before)
+          ∙ rw (divisor v) (left_by_carry (2 ^ n) _ _ (word_value v (drop n b)) _ (literal_value v out) (sum_below v) (word_value-below v dividend n refl) (low_below v) (whole v (first v before)));
     }
 
 -- no row is made yet
-pub MakesDivision-start : (n : Net) (b remainder : List ℕ) → remainder ≡ replicate (length b) 0 → MakesDivision n n 0 [] b [] remainder
-MakesDivision-start n b remainder is =
+pub MakesRows-start : (n : Net) (b : List ℕ) → MakesRows n n 0 [] b [] []
+MakesRows-start n b =
     record {
       grows = Grows-refl n 0;
       quotient_wide = refl;
-      remainder_wide = ap length is ∙ length-replicate (length b) 0;
+      remainder_wide = refl;
       quotient_defined = All-nil (IsDefined n);
-      remainder_defined = rw is (All-replicate (IsDefined n) (length b) 0 (IsDefined-false n));
+      remainder_defined = All-nil (IsDefined n);
       quotient_means = λ v s. no_quotient (word_value v b);
-      remainder_means = λ v s. ap (word_value v) is ∙ word_value-zeros v (length b) ∙ no_remainder (word_value v b);
+      remainder_means = λ v s. no_remainder (word_value v b);
     }
   where
     no_quotient : (b : ℕ) → 0 ≡ udiv 0 0 b
@@ -149,14 +159,14 @@ MakesDivision-start n b remainder is =
     no_remainder (suc b) = rw (urem_by 0 b) (omega arith)
 
 -- a row more
-pub MakesDivision-step : (old mid new : Net) (most more all : ℕ) (a b quotient remainder : List ℕ) (next bit : ℕ) (left : List ℕ)
-    → length a < length b → most + more ≤ all → MakesDivision old mid most a b quotient remainder → MakesQuotientRow mid new more (next ∷ remainder) b bit left
-    → MakesDivision old new all (next ∷ a) b (bit ∷ quotient) left
-MakesDivision-step old mid new most more all a b quotient remainder next bit left inside le so_far row =
+pub MakesRows-step : (old mid new : Net) (most more all : ℕ) (a b quotient remainder : List ℕ) (next bit : ℕ) (left : List ℕ)
+    → most + more ≤ all → MakesRows old mid most a b quotient remainder → MakesQuotientRow mid new more (next ∷ remainder) b bit left
+    → MakesRows old new all (next ∷ a) b (bit ∷ quotient) left
+MakesRows-step old mid new most more all a b quotient remainder next bit left le so_far row =
     record {
       grows = Grows-weaker old new (most + more) all le (Grows-trans old mid new most more so_far.grows row.grows);
       quotient_wide = ap suc so_far.quotient_wide;
-      remainder_wide = row.wide;
+      remainder_wide = row.wide ∙ ap suc so_far.remainder_wide;
       quotient_defined = All-cons (IsDefined new) bit quotient row.bit_defined (All-defined-grown mid new more row.grows quotient so_far.quotient_defined);
       remainder_defined = row.remainder_defined;
       quotient_means = λ v s.
@@ -165,8 +175,20 @@ MakesDivision-step old mid new most more all a b quotient remainder next bit lef
           ∙ sym (quotient_more (length a) (word_value v a) (word_value v b) (literal_value v next));
       remainder_means = λ v s.
           let before = Satisfies-earlier mid new more row.grows v s in
-          let powers : 2 ^ suc (length a) ≤ 2 ^ length b = pow-le-pow_right (lit< tt) (omega arith) in
-          let below : word_value v (next ∷ a) < 2 ^ length b = omega (arith, word_value-below v (next ∷ a) _ refl, powers) in
-          row.left v s ∙ ap (λ r. reduced (literal_number v next + 2 * r) (word_value v b) % 2 ^ length b) (so_far.remainder_means v before)
-          ∙ sym (remainder_more (length b) (word_value v a) (word_value v b) (literal_value v next) (word_value-below v b _ refl) below);
+          row.left v s ∙ ap (λ r. reduced (literal_number v next + 2 * r) (word_value v b)) (so_far.remainder_means v before)
+          ∙ sym (remainder_more (word_value v a) (word_value v b) (literal_value v next));
+    }
+
+-- the rows of a dividend as wide as the divisor are its division
+pub MakesDivision-rows : (old new : Net) (few most : ℕ) (a b quotient remainder : List ℕ) → length b ≡ length a → few ≤ most
+    → MakesRows old new few a b quotient remainder → MakesDivision old new most a b quotient remainder
+MakesDivision-rows old new few most a b quotient remainder same le rows =
+    record {
+      grows = Grows-weaker old new few most le rows.grows;
+      quotient_wide = rows.quotient_wide;
+      remainder_wide = rows.remainder_wide ∙ sym same;
+      quotient_defined = rows.quotient_defined;
+      remainder_defined = rows.remainder_defined;
+      quotient_means = rows.quotient_means;
+      remainder_means = rows.remainder_means;
     }

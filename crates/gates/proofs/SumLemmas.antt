@@ -17,7 +17,7 @@ use Rattle.aiger.specs.Net.{Net, IsDefined}
 use Rattle.aiger.proofs.NetLemmas.{literal_value-negation}
 use Rattle.gates.specs.Made.{MakesAnd, MakesLiteral, MakesWord, word_value}
 use Rattle.gates.specs.Sums.{literal_number, MakesColumn, MakesSum}
-use Rattle.gates.proofs.GrowthLemmas.{Grows-refl, Grows-weaker, Grows-trans, Satisfies-earlier, IsDefined-grown, All-defined-grown, word_value-negation}
+use Rattle.gates.proofs.GrowthLemmas.{Grows-refl, Grows-weaker, Grows-trans, Satisfies-earlier, IsDefined-grown, All-defined-grown, word_value-negation, MakesWord-negated}
 use Rattle.gates.proofs.BitListLemmas.{word_value-below}
 use Rattle.gates.proofs.WordLemmas.{word-push}
 
@@ -223,12 +223,31 @@ MakesWord-incremented old new a zeros sum into_top out are makes =
     MakesWord-sum old new (9 * length a) a zeros 1 sum into_top out _ makes
     (λ v. rw (are, word_value-zeros v (length a)) (ap (λ k. k % 2 ^ length a) (omega arith)))
 
-pub MakesWord-decremented : (old new : Net) (a all_ones sum : List ℕ) (into_top out : ℕ) → all_ones ≡ replicate (length a) 1
-    → MakesSum old new (9 * length a) a all_ones 0 sum into_top out
-    → MakesWord old new (9 * length a) (length a) (λ v. unary_value unary.Dec (length a) (word_value v a)) sum
-MakesWord-decremented old new a all_ones sum into_top out are makes =
-    MakesWord-sum old new (9 * length a) a all_ones 0 sum into_top out _ makes
-    (λ v.
-    let p = pow_pos (length a) in
-    rw (are, word_value-ones v (length a))
-    (sym (wrapped_is (length a) (pos (word_value v a) -ℤ pos 1) 1 (word_value v a + (2 ^ length a - 1) + 0) (omega (arith, ints, p)))))
+-- one less is the negation of one more than the negation
+one_less : (n x : ℕ) → x < 2 ^ n → 2 ^ n - 1 - (2 ^ n - 1 - x + 1) % 2 ^ n ≡ wrapped n (pos x -ℤ pos 1)
+one_less n zero below =
+    let p = pow_pos n in
+    let none : (2 ^ n - 1 - zero + 1) % 2 ^ n ≡ 0 = ap (λ k. k % 2 ^ n) (omega arith) ∙ add-mul-mod_self_left 0 (2 ^ n) 1 ∙ mod-eq_of_lt p in
+    let all : (2 ^ n - 1) % 2 ^ n ≡ 2 ^ n - 1 = mod-eq_of_lt (omega arith) in
+    let whole : 2 ^ n - 1 - (2 ^ n - 1 - zero + 1) % 2 ^ n ≡ 2 ^ n - 1 = omega (arith, none) in
+    whole ∙ (sym all ∙ sym (wrapped_is n (pos zero -ℤ pos 1) 1 (2 ^ n - 1) (omega (arith, ints, p))))
+one_less n (suc y) below =
+    let p = pow_pos n in
+    let some : (2 ^ n - 1 - suc y + 1) % 2 ^ n ≡ 2 ^ n - suc y = ap (λ k. k % 2 ^ n) (omega arith) ∙ mod-eq_of_lt (omega arith) in
+    let rest : 2 ^ n - 1 - (2 ^ n - suc y) ≡ y = omega arith in
+    let low : y % 2 ^ n ≡ y = mod-eq_of_lt (omega arith) in
+    ap (λ k. 2 ^ n - 1 - k) some ∙ (rest ∙ (sym low ∙ sym (wrapped_is n (pos (suc y) -ℤ pos 1) 0 y (omega (arith, ints)))))
+
+pub MakesWord-decremented : (old new : Net) (a negated incremented bits : List ℕ) → negated ≡ map negation a → bits ≡ map negation incremented
+    → MakesWord old new (9 * length negated) (length negated) (λ v. unary_value unary.Inc (length negated) (word_value v negated)) incremented
+    → MakesWord old new (9 * length a) (length a) (λ v. unary_value unary.Dec (length a) (word_value v a)) bits
+MakesWord-decremented old new a negated incremented bits negated_is bits_are makes =
+    let same : length negated ≡ length a = rw negated_is (length-map a negation) in
+    let of_a = rw same at makes in
+    let turned = MakesWord-negated old new (9 * length a) (length a) (λ v. unary_value unary.Inc (length a) (word_value v negated)) incremented bits bits_are of_a in
+    record {
+      grows = turned.grows;
+      wide = turned.wide;
+      defined = turned.defined;
+      means = λ v s. turned.means v s ∙ rw (negated_is, word_value-negation v a) (one_less (length a) (word_value v a) (word_value-below v a (length a) refl));
+    }

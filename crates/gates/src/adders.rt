@@ -137,7 +137,7 @@ pub(crate) fn inc_bits<G: Gates>(g: &mut G, a: &Bits) -> Result<Bits, GateFault>
     Ok(sum.sum)
 }
 
-/// The bits of a word and one less, which is the sum with the word of all ones.
+/// The bits of a word and one less, which is the negation of one more than its negation.
 pub(crate) fn dec_bits<G: Gates>(g: &mut G, a: &Bits) -> Result<Bits, GateFault>
     requires some { 1 ≤ length a.now.items }
     requires most { length a.now.items ≤ 64 }
@@ -145,6 +145,6 @@ pub(crate) fn dec_bits<G: Gates>(g: &mut G, a: &Bits) -> Result<Bits, GateFault>
     ensures ok { IfOk result (λ bits. let n = length a.now.items in MakesWord (G.made g.old) (G.made g.new) (9 * n) n (λ v. unary_value Unary.Dec n (word_value v a.now.items)) bits.items) }
     ensures refused { IfErr result (Refuses (G.made g.old) (G.made g.new) (9 * length a.now.items)) }
 {
-    let sum = add(g, a, &repeated(Lit::TRUE, a.len()), Lit::FALSE)?;
-    Ok(sum.sum)
+    let negated = inc_bits(g, &negation(a))?;
+    Ok(negation(&negated))
 }

@@ -1,5 +1,5 @@
-//! Lists of literals that take no gate: negated, of one literal, of one literal many times, longer, and without the low ones.
-ghost use Rattle.std.specs.Prelude.{◌≡◌, ◌+◌, ◌≤◌, [], ◌∷◌, ◌++◌, length, map, drop, replicate};
+//! Lists of literals that take no gate: negated, of one literal, of one literal many times, longer, without the low ones, and without the high ones.
+ghost use Rattle.std.specs.Prelude.{◌≡◌, ◌+◌, ◌≤◌, [], ◌∷◌, ◌++◌, length, map, take, drop, replicate};
 ghost use Rattle.aiger.specs.Literal.{negation};
 
 use crate::maker::Bits;
@@ -66,5 +66,16 @@ pub(crate) fn high_bits(a: &Bits, from: usize) -> Bits
 {
     let mut bits = Bits::new();
     append(&mut bits, &a.as_slice()[from..]);
+    bits
+}
+
+/// The lowest literals of a word, so many.
+pub(crate) fn low_bits(a: &Bits, count: usize) -> Bits
+    requires most { length a.now.items ≤ 128 }
+    requires inside { count ≤ length a.now.items }
+    ensures { result.items ≡ take count a.now.items }
+{
+    let mut bits = Bits::new();
+    append(&mut bits, &a.as_slice()[..count]);
     bits
 }

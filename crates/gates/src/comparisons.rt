@@ -15,7 +15,7 @@ use aiger::Lit;
 use base::Binary;
 
 /// Whether a word is less than another, by its highest column and whether it is less in the columns below: where the
-/// bits of the column are equal, the columns below decide.
+/// bits of the column are equal, the columns below decide. Below the lowest column nothing is.
 fn less_column<G: Gates>(g: &mut G, a: Lit, b: Lit, below: Lit) -> Result<Lit, GateFault>
     requires left { IsDefined (G.made g.old) a }
     requires right { IsDefined (G.made g.old) b }
@@ -24,6 +24,9 @@ fn less_column<G: Gates>(g: &mut G, a: Lit, b: Lit, below: Lit) -> Result<Lit, G
     ensures refused { IfErr result (Refuses (G.made g.old) (G.made g.new) 4) }
 {
     let less = conjunction(g, a.not(), b)?;
+    if below == Lit::FALSE {
+        return Ok(less);
+    }
     let greater = conjunction(g, a, b.not())?;
     let rest = conjunction(g, below, greater.not())?;
     disjunction(g, less, rest)

@@ -1,14 +1,16 @@
-//! Division of words: a row of gates for each bit of the dividend, from the highest down.
-ghost use Rattle.std.specs.Prelude.{◌≡◌, ◌+◌, ◌*◌, ◌≤◌, [], ◌∷◌, ◌++◌, length, replicate, All, IfOk, IfErr};
+//! Division of words: a row of gates for each bit of the dividend, from the highest down. A row is as wide as the bits that
+//! the dividend has given so far.
+ghost use Rattle.std.specs.Prelude.{◌≡◌, ◌+◌, ◌-◌, ◌*◌, ◌≤◌, ◌==◌, not, length, drop, All, IfOk, IfErr};
 ghost use Rattle.aiger.specs.Net.{IsDefined};
 ghost use Rattle.gates.specs.Operands.{AreOperands};
-ghost use Rattle.gates.specs.Made.{Refuses};
+ghost use Rattle.gates.specs.Made.{MakesLiteral, Refuses, word_value};
 ghost use Rattle.gates.specs.Division.{MakesQuotientRow, MakesDivision};
 
 use crate::adders::difference;
-use crate::bit_lists::repeated;
+use crate::bit_lists::low_bits;
 use crate::choices::choose;
 use crate::fault::GateFault;
+use crate::literals::{conjunction, disjunction};
 use crate::maker::{Bits, Gates};
 use aiger::Lit;
 
@@ -30,40 +32,43 @@ struct Row {
     remainder: Bits,
 }
 
-/// A word with a bit at its high end that is 0.
-fn widened(a: &Bits) -> Bits
-    requires { length a.now.items ≤ 64 }
-    ensures { result.items ≡ a.now.items ++ 0 ∷ [] }
+/// A literal that is true where a word has a bit at a place or above it.
+///
+/// It goes from the highest place down, so that a maker that makes no gate twice makes those of all places once.
+fn has_bit_from<G: Gates>(g: &mut G, a: &Bits, from: usize) -> Result<Lit, GateFault>
+    requires most { length a.now.items ≤ 64 }
+    requires inside { from ≤ length a.now.items }
+    requires defined { All (IsDefined (G.made g.old)) a.now.items }
+    ensures ok { IfOk result (MakesLiteral (G.made g.old) (G.made g.new) (length a.now.items - from) (λ v. not (word_value v (drop from a.now.items) == 0))) }
+    ensures refused { IfErr result (Refuses (G.made g.old) (G.made g.new) (length a.now.items - from)) }
 {
-    let mut bits = Bits::new();
-    for lit in a.as_slice() {
-        bits.push(*lit);
+    let width = a.len();
+    let mut some = Lit::FALSE;
+    for above in 0..width - from {
+        let place = width - 1 - above;
+        some = disjunction(g, some, a[place])?;
     }
-    bits.push(Lit::FALSE);
-    bits
+    Ok(some)
 }
 
-/// One row of a division: the next bit of the dividend is put below what the rows before left, and the divisor is taken
-/// from that where it goes into it.
-fn next_row<G: Gates>(g: &mut G, next: Lit, before: Bits, b: &Bits) -> Result<Row, GateFault>
+/// One row of a division: the divisor is taken from a dividend that is no wider, where it goes into it.
+///
+/// It does not where it has a bit above the dividend's; below, their difference tells.
+fn next_row<G: Gates>(g: &mut G, dividend: &Bits, b: &Bits) -> Result<Row, GateFault>
+    requires some { 1 ≤ length dividend.now.items }
+    requires inside { length dividend.now.items ≤ length b.now.items }
     requires most { length b.now.items ≤ 64 }
-    requires equal { length before.items ≡ length b.now.items }
-    requires next { IsDefined (G.made g.old) next }
-    requires left { All (IsDefined (G.made g.old)) before.items }
+    requires left { All (IsDefined (G.made g.old)) dividend.now.items }
     requires right { All (IsDefined (G.made g.old)) b.now.items }
-    ensures ok { IfOk result (λ row. MakesQuotientRow (G.made g.old) (G.made g.new) (12 * length b.now.items + 9) (next ∷ before.items) b.now.items row.bit row.remainder.items) }
+    ensures ok { IfOk result (λ row. MakesQuotientRow (G.made g.old) (G.made g.new) (12 * length b.now.items + 9) dividend.now.items b.now.items row.bit row.remainder.items) }
     ensures refused { IfErr result (Refuses (G.made g.old) (G.made g.new) (12 * length b.now.items + 9)) }
 {
-    let mut dividend = before;
-    dividend.insert(0, next);
-    let mut reduced = difference(g, &dividend, &widened(b))?;
-    dividend.truncate(b.len());
-    reduced.sum.truncate(b.len());
-    let remainder = choose(g, reduced.out, &reduced.sum, &dividend)?;
-    Ok(Row {
-        bit: reduced.out,
-        remainder,
-    })
+    let width = dividend.len();
+    let reduced = difference(g, dividend, &low_bits(b, width))?;
+    let above = has_bit_from(g, b, width)?;
+    let bit = conjunction(g, reduced.out, above.not())?;
+    let remainder = choose(g, bit, &reduced.sum, dividend)?;
+    Ok(Row { bit, remainder })
 }
 
 /// The quotient and the remainder of two words as whole numbers. By 0 the quotient is all ones and the remainder the
@@ -78,10 +83,11 @@ pub fn divide<G: Gates>(g: &mut G, a: &Bits, b: &Bits) -> Result<Divided, GateFa
 {
     let width = a.len();
     let mut quotient = Bits::new();
-    let mut remainder = repeated(Lit::FALSE, width);
+    let mut remainder = Bits::new();
     for done in 0..width {
         let place = width - 1 - done;
-        let row = next_row(g, a[place], remainder, b)?;
+        remainder.insert(0, a[place]);
+        let row = next_row(g, &remainder, b)?;
         quotient.insert(0, row.bit);
         remainder = row.remainder;
     }

@@ -11,7 +11,7 @@ ghost use Rattle.gates.specs.Tests.{is_overflow};
 use crate::adders::{add, difference};
 use crate::bit_lists::{doubled, high_bits, negation, repeated};
 use crate::bitwise::{Connective, connect_bits, equal};
-use crate::comparisons::top_negated;
+use crate::comparisons::{less, top_negated};
 use crate::fault::GateFault;
 use crate::literals::{conjunction, xor};
 use crate::maker::{Bits, Gates};
@@ -43,24 +43,22 @@ pub fn overflow<G: Gates>(g: &mut G, op: Binary, a: &Bits, b: &Bits) -> Result<L
     }
 }
 
-/// Whether the sum of words as whole numbers is no word: the carry out of it.
+/// Whether the sum of words as whole numbers is no word: the second is above what the first leaves up to the greatest.
 fn uaddo<G: Gates>(g: &mut G, a: &Bits, b: &Bits) -> Result<Lit, GateFault>
     requires { AreOperands (G.made g.old) 64 a.now.items b.now.items }
     ensures ok { IfOk result (λ l. let n = length a.now.items in MakesWord (G.made g.old) (G.made g.new) (9 * n) 1 (λ v. binary_value Binary.Uaddo n (word_value v a.now.items) (word_value v b.now.items)) (l ∷ [])) }
     ensures refused { IfErr result (Refuses (G.made g.old) (G.made g.new) (9 * length a.now.items)) }
 {
-    let sum = add(g, a, b, Lit::FALSE)?;
-    Ok(sum.out)
+    less(g, &negation(a), b)
 }
 
-/// Whether the difference of words as whole numbers is below 0: there is no carry out of it.
+/// Whether the difference of words as whole numbers is below 0: the first is less than the second.
 fn usubo<G: Gates>(g: &mut G, a: &Bits, b: &Bits) -> Result<Lit, GateFault>
     requires { AreOperands (G.made g.old) 64 a.now.items b.now.items }
     ensures ok { IfOk result (λ l. let n = length a.now.items in MakesWord (G.made g.old) (G.made g.new) (9 * n) 1 (λ v. binary_value Binary.Usubo n (word_value v a.now.items) (word_value v b.now.items)) (l ∷ [])) }
     ensures refused { IfErr result (Refuses (G.made g.old) (G.made g.new) (9 * length a.now.items)) }
 {
-    let sum = difference(g, a, b)?;
-    Ok(sum.out.not())
+    less(g, a, b)
 }
 
 /// Whether the sum of signed numbers is none of the width: the carries into and out of its highest bit differ.

@@ -1,7 +1,20 @@
+use Rattle.std.proofs.Common.{arith}
+use Rattle.std.proofs.lemmas.Result.{IfOk-weaker}
+use Rattle.gates.proofs.GrowthLemmas.{MakesWord-not}
 use Rattle.gates.proofs.OverflowLemmas.{MakesWord-uaddo}
 use Rattle.gates.proofs.overflows.uaddo.Goals as goal
 
+pub less-requires : goal.less-requires
+less-requires g c =
+    let negated = MakesWord-not _ c.args.a.now.items c.negation.result.items c.requires.left c.negation.ensures in
+    record {
+      some = omega (arith, negated.wide, c.requires.some);
+      most = omega (arith, negated.wide, c.requires.most);
+      equal = omega (arith, negated.wide, c.requires.equal);
+      left = negated.defined;
+      right = c.requires.right;
+    }
+
 pub returns-clause-ok : goal.returns-clause-ok
 returns-clause-ok g c =
-    let sum = c.in_ok-sum.sum in
-    MakesWord-uaddo _ _ c.args.a.now.items c.args.b.now.items sum.sum.items sum.into_top sum.out c.in_ok-sum.ensures.ok
+    IfOk-weaker c.less.result _ _ (λ l makes. MakesWord-uaddo _ _ c.args.a.now.items c.negation.result.items c.args.b.now.items l c.negation.ensures makes) c.less.ensures.ok

@@ -1,7 +1,6 @@
+use Rattle.std.proofs.lemmas.Result.{IfOk-weaker}
 use Rattle.gates.proofs.OverflowLemmas.{MakesWord-usubo}
 use Rattle.gates.proofs.overflows.usubo.Goals as goal
 
 pub returns-clause-ok : goal.returns-clause-ok
-returns-clause-ok g c =
-    let sum = c.in_ok-sum.sum in
-    MakesWord-usubo _ _ c.args.a.now.items c.args.b.now.items sum.sum.items sum.into_top sum.out c.not.result c.requires.equal c.not.ensures c.in_ok-sum.ensures.ok
+returns-clause-ok g c = IfOk-weaker c.less.result _ _ (λ l makes. MakesWord-usubo _ _ c.args.a.now.items c.args.b.now.items l makes) c.less.ensures.ok
