@@ -13,7 +13,7 @@ use crate::properties::push_properties;
 use crate::widths::{bound, carried_width, given_width};
 use aiger::{Circuit, GREATEST_COUNT};
 use btor2::Model;
-use gates::{GateFault, PlainGates};
+use gates::{GateFault, HashGates};
 use std::alloc::Global;
 
 /// Why a model is not lowered, want of memory apart.
@@ -45,7 +45,7 @@ fn lower_accepted(alloc: Global, model: &Model) -> Result<Circuit, LowerFault>
 {
     let inputs = given_width(model) as u32;
     let latches = carried_width(model) as u32;
-    let mut gates = match PlainGates::new(alloc, inputs, latches) {
+    let mut gates = match HashGates::new(alloc, inputs, latches) {
         Ok(gates) => gates,
         Err(GateFault::NoMemory) => return Err(LowerFault::NoMemory),
         Err(GateFault::TooBig) => unreachable!(),
