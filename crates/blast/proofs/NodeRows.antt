@@ -380,14 +380,14 @@ LowersFront-push items place old new rows rows' next next' x row front at m is i
     }
 
 -- no row yet
-pub LowersFront-start : (items : List Item) (n : Net) (rows : List (List ℕ)) (free carried : ℕ) → n ≡ leaves_only items → rows ≡ [] → free ≡ 1 + input_width items → carried ≡ 1 + given_width items
-    → LowersFront items 0 n rows (record { input = 1; free = free; carried = carried; state = 0 })
-LowersFront-start items n rows free carried is none free_is carried_is =
+pub LowersFront-start : (items : List Item) (n : Net) (rows : List (List ℕ)) (next : NextLeaf) → n ≡ leaves_only items → rows ≡ [] → next.input ≡ 1 → next.free ≡ 1 + input_width items → next.carried ≡ 1 + given_width items → next.state ≡ 0
+    → LowersFront items 0 n rows next
+LowersFront-start items n rows next is none input free carried state =
     record {
       all = ap length none;
       reads = λ k y r in_items in_rows. absurd (none-some r (sym (ap (λ (l : List (List ℕ)). slice_get l k) none) ∙ in_rows));
       grows = subst (λ (m : Net). Grows (leaves_only items) m 0) (sym is) (Grows-refl (leaves_only items) 0);
-      leaves = next_same 1 free carried 0 _ _ _ _ refl (omega (arith, free_is)) (omega (arith, carried_is)) refl;
+      leaves = next_same next.input next.free next.carried next.state _ _ _ _ input (omega arith) (omega arith) state;
     }
 
 -- all rows
