@@ -340,10 +340,7 @@ IsNextState-from_front items place x next at is e =
 pub IsNextState-free : (items : List Item) (place k : ℕ) (x : Item) (b : Bool) → IsNextState items place k → slice_get items place ≡ Some x → b ≡ is_free_at items (get_or (places is_state 0 items) k 0) → is_free items x.id ≡ b
 IsNextState-free items place k x b n at e = sym (e ∙ ap (is_free_at items) n.at ∙ is_free-at items place x at)
 
--- what the leaf behind an input has, and behind a state
-pub after_input : (items : List Item) (x : Item) (next : NextLeaf) → is_input x.body ≡ true → next_after items x next ≡ record next { input = next.input + bits_of items x.id }
-after_input items x next is = rw is refl
-
+-- what the leaf behind a state has
 pub after_state : (items : List Item) (x : Item) (next : NextLeaf) (b : Bool) → is_state x.body ≡ true → is_free items x.id ≡ b
     → next_after items x next ≡ cond b (record next { free = next.free + bits_of items x.id; state = suc next.state }) (record next { carried = next.carried + bits_of items x.id; state = suc next.state })
 after_state items x next b is free = rw (no_input x.body is, is, free) refl
