@@ -30,12 +30,6 @@ slice_get-replicate blank zero k h = absurd (omega arith)
 slice_get-replicate blank (suc n) zero h = refl
 slice_get-replicate blank (suc n) (suc k) h = slice_get-replicate blank n k (omega arith)
 
--- an entry of a front
-pub slice_get-front : {A : Type 0} (front list : List A) (k : ℕ) → k < length front → slice_get (front ++ list) k ≡ slice_get front k
-slice_get-front [] list k h = absurd (omega arith)
-slice_get-front (x ∷ front) list zero h = refl
-slice_get-front (x ∷ front) list (suc k) h = slice_get-front front list k (omega arith)
-
 -- Writing a block.
 
 -- what is left of a list
@@ -246,22 +240,6 @@ so_far_cut blank give items ps k h =
     (ap length (blocks-rest give items ps k h) ∙ length-append (block give (slice_get items (get_or ps k 0))) (blocks give items (drop (k + 1) ps)))
     ∙ ap (λ (l : List _). blocks give items (take k ps) ++ l)
     (sym (replicate-append-replicate (length (block give (slice_get items (get_or ps k 0)))) (length (blocks give items (drop (k + 1) ps))) blank))
-
-pub so_far-blank : {A : Type 0} (blank : A) (give : Item → List A) (items : List Item) (ps : List ℕ) (k : ℕ) → k < length ps
-    → IsBlank blank (reached give items ps k) (length (block give (slice_get items (get_or ps k 0)))) (so_far blank give items ps k)
-unfolding reached
-so_far-blank blank give items ps k h =
-    let count = length (block give (slice_get items (get_or ps k 0))) in
-    let more = length (blocks give items (drop (k + 1) ps)) in
-    let front = blocks give items (take k ps) in
-    record {
-      entries = λ j b.
-          let in_front : j < length (replicate count blank) = omega (arith, length-replicate count blank) in
-          ap (λ (l : List _). slice_get l (length front + j)) (so_far_cut blank give items ps k h)
-          ∙ slice_get-behind front (replicate count blank ++ replicate more blank) (length front) j refl
-          ∙ slice_get-front (replicate count blank) (replicate more blank) j in_front
-          ∙ slice_get-replicate blank count j b;
-    }
 
 pub so_far-room : {A : Type 0} (blank : A) (give : Item → List A) (items : List Item) (ps : List ℕ) (k : ℕ) → k < length ps
     → reached give items ps k + length (block give (slice_get items (get_or ps k 0))) ≤ length (so_far blank give items ps k)

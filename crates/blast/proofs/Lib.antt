@@ -11,3 +11,4 @@ pub mod LowerLemmas
 pub mod LowerAssembly
 pub mod ReachLemmas
 pub mod WorkedLowering
+pub mod CarriedAlone

@@ -340,10 +340,7 @@ IsNextState-from_front items place x next at is e =
 pub IsNextState-free : (items : List Item) (place k : ℕ) (x : Item) (b : Bool) → IsNextState items place k → slice_get items place ≡ Some x → b ≡ is_free_at items (get_or (places is_state 0 items) k 0) → is_free items x.id ≡ b
 IsNextState-free items place k x b n at e = sym (e ∙ ap (is_free_at items) n.at ∙ is_free-at items place x at)
 
--- what the leaf behind an input has, and behind a state
-pub after_input : (items : List Item) (x : Item) (next : NextLeaf) → is_input x.body ≡ true → next_after items x next ≡ record next { input = next.input + bits_of items x.id }
-after_input items x next is = rw is refl
-
+-- what the leaf behind a state has
 pub after_state : (items : List Item) (x : Item) (next : NextLeaf) (b : Bool) → is_state x.body ≡ true → is_free items x.id ≡ b
     → next_after items x next ≡ cond b (record next { free = next.free + bits_of items x.id; state = suc next.state }) (record next { carried = next.carried + bits_of items x.id; state = suc next.state })
 after_state items x next b is free = rw (no_input x.body is, is, free) refl
@@ -380,14 +377,14 @@ LowersFront-push items place old new rows rows' next next' x row front at m is i
     }
 
 -- no row yet
-pub LowersFront-start : (items : List Item) (n : Net) (rows : List (List ℕ)) (free carried : ℕ) → n ≡ leaves_only items → rows ≡ [] → free ≡ 1 + input_width items → carried ≡ 1 + given_width items
-    → LowersFront items 0 n rows (record { input = 1; free = free; carried = carried; state = 0 })
-LowersFront-start items n rows free carried is none free_is carried_is =
+pub LowersFront-start : (items : List Item) (n : Net) (rows : List (List ℕ)) (next : NextLeaf) → n ≡ leaves_only items → rows ≡ [] → next.input ≡ 1 → next.free ≡ 1 + input_width items → next.carried ≡ 1 + given_width items → next.state ≡ 0
+    → LowersFront items 0 n rows next
+LowersFront-start items n rows next is none input free carried state =
     record {
       all = ap length none;
       reads = λ k y r in_items in_rows. absurd (none-some r (sym (ap (λ (l : List (List ℕ)). slice_get l k) none) ∙ in_rows));
       grows = subst (λ (m : Net). Grows (leaves_only items) m 0) (sym is) (Grows-refl (leaves_only items) 0);
-      leaves = next_same 1 free carried 0 _ _ _ _ refl (omega (arith, free_is)) (omega (arith, carried_is)) refl;
+      leaves = next_same next.input next.free next.carried next.state _ _ _ _ input (omega arith) (omega arith) state;
     }
 
 -- all rows

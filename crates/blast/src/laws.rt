@@ -14,7 +14,8 @@ ghost use Rattle.btor2.specs.Trace.{Frame, IsInitial, AreInputs};
 ghost use Rattle.btor2.specs.Worked.{toggler, open_ends};
 ghost use Rattle.blast.specs.declared.fault.LowerFault.TheVariants as fault;
 ghost use Rattle.blast.specs.Cost.{line_cost, cost, input_width, state_width, free_width, given_width, carried_width, bound};
-ghost use Rattle.blast.specs.Leaves.{bit_name, input_bits, state_bits, input_names, state_names, bad_names, constraint_names, resets_of_word, state_resets, bad_values, constraint_values};
+ghost use Rattle.btor2.specs.Items.{is_input, is_state};
+ghost use Rattle.blast.specs.Leaves.{by_body, of_kind, leaf_bits, leaf_names, leaf_resets, HaveNexts, bit_name, input_bits, state_bits, input_names, state_names, bad_names, constraint_names, resets_of_word, state_resets, bad_values, constraint_values};
 ghost use Rattle.blast.specs.Lowering.{Lowers};
 ghost use Rattle.blast.specs.Reachability.{CanRise, CanRiseInCircuit, rises_within};
 ghost use Rattle.blast.specs.Refusal.{form_refusal, lowering_refusal};
@@ -44,6 +45,16 @@ pub fn bad_properties_rise_alike()
 /// A law: the bits that are given in each frame and those that are carried are the bits of the inputs and of the states.
 pub fn bits_are_given_or_carried()
     ensures { (items : List Item) → given_width items + carried_width items ≡ input_width items + state_width items }
+{}
+
+/// A law: in a model in which each state has a next line no state is free, so the bits that are given are those of the
+/// inputs, and the bits that are carried those of the states; and so are their names, and how the latches begin.
+pub fn no_state_is_free()
+    ensures input_bits { (items : List Item) → HaveNexts items → (f : Frame) → input_bits items f ≡ of_kind (by_body is_input) (leaf_bits items f) items }
+    ensures state_bits { (items : List Item) → HaveNexts items → (f : Frame) → state_bits items f ≡ of_kind (by_body is_state) (leaf_bits items f) items }
+    ensures input_names { (items : List Item) → HaveNexts items → input_names items ≡ of_kind (by_body is_input) (leaf_names items) items }
+    ensures state_names { (items : List Item) → HaveNexts items → state_names items ≡ of_kind (by_body is_state) (leaf_names items) items }
+    ensures resets { (items : List Item) → HaveNexts items → state_resets items ≡ of_kind (by_body is_state) (leaf_resets items) items }
 {}
 
 /// Worked rows: models with free states, and their circuits.

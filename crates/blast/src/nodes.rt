@@ -10,7 +10,7 @@ ghost use Rattle.aiger.specs.Limits.{greatest_count};
 ghost use Rattle.aiger.specs.Net.{variables};
 ghost use Rattle.btor2text.specs.Basic.{is_basic, are_basic};
 ghost use Rattle.gates.specs.Bound.{unary_bound, binary_bound};
-ghost use Rattle.blast.specs.Cost.{bound, line_cost};
+ghost use Rattle.blast.specs.Cost.{bound, line_cost, input_width, given_width};
 ghost use Rattle.blast.specs.Reads.{LowersNodes, leaves_only};
 ghost use Rattle.blast.specs.Table.{MakesNode, MakesRow, row_of, IsOperand, next_leaf, next_after, LowersFront};
 
@@ -31,6 +31,22 @@ pub(crate) struct NextLeaf {
     pub free: u64,
     pub carried: u64,
     pub state: usize,
+}
+
+/// What the first leaf has: variables are numbered the inputs' bits first, then those of the free states, then those of
+/// the other states.
+fn first_leaf(model: &Model) -> NextLeaf
+    ensures input { result.input ≡ 1 }
+    ensures free { result.free ≡ 1 + input_width model.now }
+    ensures carried { result.carried ≡ 1 + given_width model.now }
+    ensures state { result.state ≡ 0 }
+{
+    NextLeaf {
+        input: 1,
+        free: 1 + input_width(model),
+        carried: 1 + given_width(model),
+        state: 0,
+    }
 }
 
 /// The literals of so many variables from a first one on.
@@ -252,12 +268,7 @@ pub(crate) fn lower_nodes<G: Gates>(
 {
     let items = model.items();
     let mut table = Table::new(alloc);
-    let mut next = NextLeaf {
-        input: 1,
-        free: 1 + input_width(model),
-        carried: 1 + given_width(model),
-        state: 0,
-    };
+    let mut next = first_leaf(model);
     for (place, item) in items.iter().enumerate() {
         lower_item(model, gates, &mut table, place, item, &mut next)?;
     }

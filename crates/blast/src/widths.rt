@@ -4,7 +4,7 @@ ghost use Rattle.btor2.specs.Items.{node_width, operands};
 ghost use Rattle.btor2.specs.Check.{IsWellFormed};
 ghost use Rattle.btor2.specs.Lists.{places};
 ghost use Rattle.btor2.specs.Trace.{bits_of};
-ghost use Rattle.blast.specs.Cost.{line_cost, cost, kind_width, input_width, given_width, carried_width, bound};
+ghost use Rattle.blast.specs.Cost.{line_cost, cost, kind_width, input_width, state_width, given_width, carried_width, bound};
 ghost use Rattle.blast.specs.Sections.{kind_of, list_of};
 
 use crate::items::{bit_count, item_at};
@@ -101,6 +101,14 @@ pub(crate) fn carried_width(model: &Model) -> u64
     part_width(model, Part::CarriedStates)
 }
 
+/// The bits of the states: each is free or carried.
+fn state_width(model: &Model) -> u64
+    ensures value { result ≡ state_width model.now }
+    ensures small { result < 2 ^ 40 }
+{
+    part_width(model, Part::FreeStates) + carried_width(model)
+}
+
 /// How many AND gates the lowering of a model has at most: the gate bounds of all items.
 pub fn cost(model: &Model) -> u64
     ensures { result ≡ cost model.now }
@@ -118,5 +126,5 @@ pub fn bound(model: &Model) -> u64
     ensures { result ≡ bound model.now }
 {
     let _items = model.items();
-    given_width(model) + carried_width(model) + cost(model)
+    input_width(model) + state_width(model) + cost(model)
 }

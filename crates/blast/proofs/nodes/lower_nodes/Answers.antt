@@ -1,11 +1,12 @@
-use Rattle.std.proofs.Common.{◌≡◌, ◌+◌, length, ap, arith}
+use Rattle.std.proofs.Common.{◌≡◌, length, ap, arith}
 use Rattle.blast.proofs.WidthLemmas.{item_read}
 use Rattle.blast.proofs.NodeRows.{basic_at, LowersFront-start, LowersNodes-from_front}
 use Rattle.blast.proofs.nodes.lower_nodes.Goals as goal
 
 pub loop-place-init : goal.loop-place-init
 loop-place-init g c =
-    LowersFront-start c.args.model.now (g.G.Gates.made c.args.gates.now) c.new-table.result (1 + c.input_width.result) (1 + c.given_width.result) c.requires.leaves c.new-table.ensures (ap (λ k. 1 + k) c.input_width.ensures.value) (ap (λ k. 1 + k) c.given_width.ensures.value)
+    LowersFront-start c.args.model.now (g.G.Gates.made c.args.gates.now) c.new-table.result c.first_leaf-next.result c.requires.leaves c.new-table.ensures c.first_leaf-next.ensures.input c.first_leaf-next.ensures.free
+    c.first_leaf-next.ensures.carried c.first_leaf-next.ensures.state
 
 pub lower_item-requires : goal.lower_item-requires
 lower_item-requires g c =
