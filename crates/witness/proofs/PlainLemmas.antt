@@ -1,5 +1,5 @@
 -- Reading without names gives what reading gives, without its names.
-use Rattle.std.proofs.Common.{◌≡◌, ℕ, suc, ◌+◌, Bool, true, false, not, ◌&&◌, cond, nat_lt, nat_le, ◌==◌, List, [], ◌∷◌, ◌++◌, length, map, Option, Some, None, Result, Ok, Err, unwrap_or, slice_index, codes, decimal, refl, sym, ap, ◌∙◌}
+use Rattle.std.proofs.Common.{◌≡◌, ℕ, suc, ◌+◌, Bool, true, false, not, ◌&&◌, cond, nat_lt, nat_le, ◌==◌, List, [], ◌∷◌, ◌++◌, length, map, Option, Some, None, Result, Ok, Err, unwrap_or, slice_index, codes, refl, sym, ap, ◌∙◌}
 use Rattle.std.specs.List.{list_any}
 use Rattle.std.specs.Str.{bytes_eq}
 use Rattle.std.proofs.lemmas.List.{length-map}
@@ -13,9 +13,9 @@ use Rattle.witness.specs.declared.place.Place as declared
 use Rattle.witness.specs.declared.fault.WitnessFault.{WitnessFault}
 use Rattle.witness.specs.declared.fault.WitnessFault.TheVariants as fault
 use Rattle.witness.specs.Texts.{Shape, has_free, Assignment, Parts, is_comment, most_lines}
-use Rattle.witness.specs.Admits.{Place, AtStatus, AtClaims, AtParts, InStates, InFree, InFrame, AtEnd, Read, nothing_read, cut_at_space, claims_at, value_of, with_symbol, with_value, with_index, assignment_at, names_free, free_assignment_at, begins_part, opens_frame, opens_states, after_claims, after_assignment, states_closed, frame_closed, admit_at, admit, is_at_end, is_nothing, end_why, Fault, fault_at, then_lines, read_lines, read_text, witness_of}
+use Rattle.witness.specs.Admits.{Place, AtStatus, AtClaims, AtParts, InStates, InFree, InFrame, AtEnd, Read, nothing_read, cut_at_space, claims_at, value_of, with_symbol, with_value, with_index, assignment_at, names_free, free_assignment_at, begins_part, opens_frame, opens_states, after_claims, after_assignment, frame_closed, admit_at, admit, is_at_end, is_nothing, end_why, Fault, fault_at, then_lines, read_lines, read_text, witness_of}
 use Rattle.witness.specs.Judgements.{FrameWords, pairs_of, frame_words, words_of}
-use Rattle.witness.specs.Reading.{pair_with_symbol, pair_behind, pair_with_value, pair_with_index, pair_at, free_pair_at, Admitted, nothing_admitted, status_on, with_claims, claims_on, parts_on, with_pair, assignment_on, free_on, with_states, states_on, free_states_on, with_frame, frame_on, line_at, line_on, is_whole, end_on, then_on, lines_on, IsFaultOf}
+use Rattle.witness.specs.Reading.{pair_with_symbol, pair_behind, pair_with_value, pair_with_index, pair_at, free_pair_at, Admitted, nothing_admitted, status_on, with_claims, claims_on, parts_on, with_pair, assignment_on, free_on, states_on, free_states_on, with_frame, frame_on, line_at, line_on, is_whole, end_on, then_on, lines_on, IsFaultOf}
 
 -- ---- an assignment
 

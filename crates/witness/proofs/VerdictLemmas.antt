@@ -7,7 +7,7 @@ use Rattle.std.proofs.lemmas.List.Elements.{All-cons, All-weaker, All-drop}
 use Rattle.std.proofs.lemmas.Option.{get_or_from_slice_get}
 use Rattle.std.specs.List.{position_from, list_any}
 use Rattle.btor2.specs.declared.item.Item.{Item}
-use Rattle.btor2.specs.Items.{find_item, position_of, init_value, is_free, is_input, is_state, is_bad, is_constraint}
+use Rattle.btor2.specs.Items.{find_item, position_of, init_value, is_free, is_state, is_bad, is_constraint}
 use Rattle.btor2.specs.Lists.{places, init_place, constant_at}
 use Rattle.btor2.proofs.LookUps.{found}
 use Rattle.btor2.specs.Check.{IsWellFormed}

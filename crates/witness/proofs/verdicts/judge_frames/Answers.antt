@@ -1,13 +1,10 @@
 use Rattle.std.proofs.Common.{◌+◌, List, drop, subst}
 use Rattle.std.proofs.lemmas.List.{drop_all}
-use Rattle.std.proofs.lemmas.List.Elements.{All-get_or}
-use Rattle.btor2.specs.Trace.{Frame}
 use Rattle.runs.specs.Run.{state_words}
 use Rattle.witness.specs.Texts.{shape_of}
 use Rattle.witness.specs.Judgements.{FrameWords}
-use Rattle.witness.specs.Fits.{FirstFits}
 use Rattle.witness.proofs.FrameLemmas.{Stands, Stands-more, Stands-end}
-use Rattle.witness.proofs.VerdictLemmas.{frames_step, next_agrees, each_fits, later_fit}
+use Rattle.witness.proofs.VerdictLemmas.{frames_step, next_agrees, later_fit}
 use Rattle.witness.proofs.verdicts.judge_frames.Goals as goal
 
 pub loop-k-preserved : goal.loop-k-preserved
