@@ -8,5 +8,6 @@ mod RenumberingLemmas
 mod OrderLemmas
 mod KnownLemmas
 mod ReadinessLemmas
+mod NumberingLemmas
 mod LooseTraceLemmas
 mod TraceLemmas
