@@ -19,8 +19,10 @@ use Rattle.aiger.specs.Circuit.{Circuit, IsCircuit, IsNamed, net, section_count,
 use Rattle.aiger.specs.Loose.{Loose, IsLoose, IsNamedLine, loose_count, is_defined, latch_variable, gate_variable}
 use Rattle.aiger.specs.Renumbering.{is_known, gate_line, gate_name, numbered, has_number, is_ready, AreInTurn, IsOrder, Uses, LeadsAlong, DependsOn, LeadsToCycle, IsFirstCyclic, new_literal, ordered_gate, new_gate, renumbered}
 use Rattle.aiger.proofs.RenumberingLemmas.{found, place_kept, named_from_test, new_of_variable, new_constant}
-use Rattle.aiger.proofs.OrderLemmas.{numbered-append, has_number-append, ready_parts, any_map, name_at_place, false_unless, no_cycle, number_from_known}
+use Rattle.aiger.proofs.OrderLemmas.{numbered-append, has_number-append, ready_parts, any_map, name_at_place, false_unless, no_cycle, number_from_known, AreGates, AreGates-push, gate_from_name, gate_is_variable}
 use Rattle.aiger.proofs.KnownLemmas.{IsKnown, AllKnown}
+use Rattle.aiger.specs.Readiness.{slot_at, waits, may_be_next, FollowInTurn}
+use Rattle.aiger.proofs.ReadinessLemmas.{any_suc}
 
 -- a gate that has no number uses another one that has none, where none is ready
 unnumbered_operand : (l : Loose) (order : List ℕ) (lit : ℕ) → is_known l lit ≡ true → has_number (numbered l order) lit ≡ false → (i : ℕ) × ((i < length l.gates) × (variable lit ≡ gate_name l i) × (list_any (nat_eq i) order ≡ false))
@@ -179,3 +181,141 @@ are_ordered l done (j ∷ js) order turn e =
     let n : length (numbered l (done ++ j ∷ [])) ≡ suc (length (numbered l done)) = ap length (numbered-append l done (j ∷ [])) ∙ omega (arith, length-append (numbered l done) (gate_name l j ∷ [])) in
     let rest = are_ordered l (done ++ j ∷ []) js order turn.1 (e ∙ sym (append_assoc done (j ∷ []) js)) in
     (o.0, o.1, subst (λ (k : ℕ). AreOrderedFrom (suc k) (map (λ (i : ℕ). new_gate names (gate_line l i)) js)) n rest)
+
+-- how many variables have numbers
+length_numbered : (l : Loose) (order : List ℕ) → length (numbered l order) ≡ length l.inputs + length l.latches + length order
+length_numbered l order =
+    omega (arith, length-append (map variable l.inputs ++ map latch_variable l.latches) (map (gate_name l) order), length-append (map variable l.inputs) (map latch_variable l.latches), length-map l.inputs variable, length-map l.latches latch_variable, length-map order (gate_name l))
+
+-- a latch by the number of its next literal
+abbrev new_latch : List ℕ → LatchLine → Latch
+new_latch names line = record { next = new_literal names line.next; reset = line.reset }
+
+-- how many variables the circuit has
+variables_renumbered : (l : Loose) (order : List ℕ) → variables (net (renumbered l order)) ≡ length (numbered l order)
+variables_renumbered l order =
+    omega (arith, length_numbered l order, length-map l.latches (new_latch (numbered l order)), length-map order (λ (j : ℕ). new_gate (numbered l order) (gate_line l j)))
+
+-- a literal that has a number is defined in the circuit
+defined_renumbered : (l : Loose) (order : List ℕ) (lit : ℕ) → has_number (numbered l order) lit ≡ true → IsDefined (net (renumbered l order)) (new_literal (numbered l order) lit)
+defined_renumbered l order lit t =
+    let below : new_literal (numbered l order) lit < 2 * suc (length (numbered l order)) = subst (λ (ns : List ℕ). new_literal ns lit < 2 * suc (length (numbered l order))) (append-nil (numbered l order)) (new_literal-below (numbered l order) [] lit t) in
+    omega (arith, below, variables_renumbered l order)
+
+section_renumbered : (l : Loose) (order lits : List ℕ) → ((j : ℕ) → j < length l.gates → list_any (nat_eq j) order ≡ true) → All (IsKnown l) lits → All (IsDefined (net (renumbered l order))) (map (new_literal (numbered l order)) lits)
+section_renumbered l order lits all known =
+    All-map (IsDefined (net (renumbered l order))) (new_literal (numbered l order)) lits (All-weaker (IsKnown l) (λ (lit : ℕ). IsDefined (net (renumbered l order)) (new_literal (numbered l order) lit)) (λ lit t. defined_renumbered l order lit (number_from_known l order lit all t)) lits known)
+
+-- as many positions
+counts_renumbered : (l : Loose) (order : List ℕ) (s : Section) → section_count s (renumbered l order) ≡ loose_count s l
+counts_renumbered l order section.Input = refl
+counts_renumbered l order section.Latch = length-map l.latches (new_latch (numbered l order))
+counts_renumbered l order section.Output = length-map l.outputs (new_literal (numbered l order))
+counts_renumbered l order section.Bad = length-map l.bads (new_literal (numbered l order))
+counts_renumbered l order section.Constraint = length-map l.constraints (new_literal (numbered l order))
+counts_renumbered l order section.Justice = length-map l.justice (map (new_literal (numbered l order)))
+counts_renumbered l order section.Fair = length-map l.fair (new_literal (numbered l order))
+
+-- as many literals in all lists
+sizes_kept : (f : ℕ → ℕ) (lists : List (List ℕ)) → sum_by length (map (map f) lists) ≡ sum_by length lists
+sizes_kept f [] = refl
+sizes_kept f (x ∷ xs) =
+    sum_by-cons length (map f x) (map (map f) xs) ∙ (omega (arith, length-map x f, sizes_kept f xs) ∙ sym (sum_by-cons length x xs))
+
+-- the renumbered circuit is one
+pub IsCircuit-renumbered : (l : Loose) (order : List ℕ) → IsLoose l → AllKnown l → IsOrder l order → length order ≤ length l.gates → IsCircuit (renumbered l order)
+IsCircuit-renumbered l order valid known is few =
+    let names : List ℕ = numbered l order in
+    let c : Circuit = renumbered l order in
+    let named : (entry : Place × List ℕ) → IsNamedLine l entry → IsNamed c entry = λ entry n. record { section = n.section; is_section = n.is_section; position = omega (arith, n.position, counts_renumbered l order n.section); name = n.name } in
+    let first : length (numbered l []) ≡ length l.inputs + length c.latches = omega (arith, length_numbered l [], length-map l.latches (new_latch names)) in
+    record {
+      small = omega (arith, variables_renumbered l order, length_numbered l order, valid.few.defined);
+      few = record {
+        outputs = omega (arith, length-map l.outputs (new_literal names), valid.few.outputs);
+        bads = omega (arith, length-map l.bads (new_literal names), valid.few.bads);
+        constraints = omega (arith, length-map l.constraints (new_literal names), valid.few.constraints);
+        justice = omega (arith, length-map l.justice (map (new_literal names)), valid.few.justice);
+        justice_literals = omega (arith, sizes_kept (new_literal names) l.justice, valid.few.justice_literals);
+        fair = omega (arith, length-map l.fair (new_literal names), valid.few.fair);
+      };
+      ordered = subst (λ (k : ℕ). AreOrderedFrom (suc k) c.gates) first (are_ordered l [] order order is.in_turn refl);
+      defined = record {
+        nexts = All-map (λ (x : Latch). IsDefined (net c) x.next) (new_latch names) l.latches (All-weaker (λ (line : LatchLine). IsKnown l line.next) (λ (line : LatchLine). IsDefined (net c) (new_literal names line.next)) (λ line t. defined_renumbered l order line.next (number_from_known l order line.next is.all t)) l.latches known.nexts);
+        outputs = section_renumbered l order l.outputs is.all known.outputs;
+        bads = section_renumbered l order l.bads is.all known.bads;
+        constraints = section_renumbered l order l.constraints is.all known.constraints;
+        justice = All-map (All (IsDefined (net c))) (map (new_literal names)) l.justice (All-weaker (All (IsKnown l)) (λ (lits : List ℕ). All (IsDefined (net c)) (map (new_literal names) lits)) (λ lits t. section_renumbered l order lits is.all t) l.justice known.justice);
+        fair = section_renumbered l order l.fair is.all known.fair;
+      };
+      names = record { sorted = valid.names.sorted; named = All-weaker (IsNamedLine l) (IsNamed c) named l.names valid.names.named };
+    }
+
+-- a slot says what a literal waits for
+pub record IsSlotOf (l : Loose) (lit slot : ℕ) : Type 0 where
+  pub leaf : slot ≡ 0 → has_number (numbered l []) lit ≡ true
+  pub gate : (g : ℕ) → slot ≡ suc g → (g < length l.gates) × (variable lit ≡ gate_name l g)
+
+-- two slots for each gate of a file, for its operands in their order
+pub record AreSlotsOf (l : Loose) (slots : List ℕ) : Type 0 where
+  pub first : (j : ℕ) → j < length l.gates → IsSlotOf l (gate_line l j).rhs0 (slot_at slots (2 * j))
+  pub second : (j : ℕ) → j < length l.gates → IsSlotOf l (gate_line l j).rhs1 (slot_at slots (2 * j + 1))
+
+-- a slot waits where its literal has no number
+slot_waits : (l : Loose) (slots done : List ℕ) (s lit : ℕ) → IsLoose l → AreGates l done → IsSlotOf l lit (slot_at slots s) → waits slots done s ≡ (if has_number (numbered l done) lit then 0 else 1)
+slot_waits l slots done s lit valid within is = by (slot_at slots s) refl
+  where
+    by : (slot : ℕ) → slot_at slots s ≡ slot → waits slots done s ≡ (if has_number (numbered l done) lit then 0 else 1)
+    by zero e =
+        let t : nat_eq (slot_at slots s) 0 ≡ true = grind (arith, nat_tests) in
+        let n : has_number (numbered l done) lit ≡ true = subst (λ (ns : List ℕ). has_number ns lit ≡ true) (sym (numbered-append l [] done)) (has_number-append (numbered l []) (map (gate_name l) done) lit (is.leaf e)) in
+        ap (λ (b : Bool). if b || list_any (λ g. nat_eq (slot_at slots s) (suc g)) done then 0 else 1) t ∙ sym (ap (λ (b : Bool). if b then 0 else 1) n)
+    by (suc g) e =
+        let r = is.gate g e in
+        let a : nat_eq (slot_at slots s) 0 ≡ false = grind (arith, nat_tests) in
+        let b : list_any (λ h. nat_eq (slot_at slots s) (suc h)) done ≡ list_any (nat_eq g) done = any_suc (slot_at slots s) g done e in
+        let z : (variable lit == 0) ≡ false = gate_is_variable l g lit valid r.0 r.1 in
+        let m : list_any (nat_eq (variable lit)) (numbered l done) ≡ list_any (nat_eq g) done = same_test (list_any (nat_eq (variable lit)) (numbered l done)) (list_any (nat_eq g) done)
+            (λ t. gate_from_name l done g valid within r.0 (subst (λ (v : ℕ). list_any (nat_eq v) (numbered l done) ≡ true) r.1 t))
+            (λ t. let x : list_any (nat_eq (gate_name l g)) (map (gate_name l) done) ≡ true = any_map (gate_name l) g done t in
+                let y = list_any-append (nat_eq (gate_name l g)) (map variable l.inputs ++ map latch_variable l.latches) (map (gate_name l) done) in
+                let w : list_any (nat_eq (gate_name l g)) (numbered l done) ≡ true = grind (arith, nat_tests, x, y) in
+                subst (λ (v : ℕ). list_any (nat_eq v) (numbered l done) ≡ true) (sym r.1) w) in
+        let n : has_number (numbered l done) lit ≡ list_any (nat_eq g) done = ap (λ (x : Bool). x || list_any (nat_eq (variable lit)) (numbered l done)) z ∙ m in
+        ap (λ (x : Bool). if x || list_any (λ h. nat_eq (slot_at slots s) (suc h)) done then 0 else 1) a ∙ (ap (λ (x : Bool). if x then 0 else 1) b ∙ sym (ap (λ (x : Bool). if x then 0 else 1) n))
+      where
+        same_test : (x y : Bool) → (x ≡ true → y ≡ true) → (y ≡ true → x ≡ true) → x ≡ y
+        same_test true true f g = refl
+        same_test true false f g = sym (f refl)
+        same_test false true f g = g refl
+        same_test false false f g = refl
+
+-- a gate may be next by its slots exactly where it is ready
+pub next_is_ready : (l : Loose) (slots done : List ℕ) → IsLoose l → AreGates l done → AreSlotsOf l slots → (j : ℕ) → may_be_next slots (length l.gates) done j ≡ is_ready l done j
+next_is_ready l slots done valid within are j =
+    ⊎_elim
+    (λ (low : j < length l.gates).
+        let a = slot_waits l slots done (2 * j) (gate_line l j).rhs0 valid within (are.first j low) in
+        let b = slot_waits l slots done (2 * j + 1) (gate_line l j).rhs1 valid within (are.second j low) in
+        let p : nat_eq (waits slots done (2 * j) + waits slots done (2 * j + 1)) 0 ≡ (has_number (numbered l done) (gate_line l j).rhs0 && has_number (numbered l done) (gate_line l j).rhs1) =
+            both (has_number (numbered l done) (gate_line l j).rhs0) (has_number (numbered l done) (gate_line l j).rhs1) (waits slots done (2 * j)) (waits slots done (2 * j + 1)) a b in
+        ap (λ (x : Bool). nat_lt j (length l.gates) && (not (list_any (nat_eq j) done) && x)) p)
+    (λ (high : length l.gates ≤ j).
+        let t : nat_lt j (length l.gates) ≡ false = grind (arith, nat_tests) in
+        ap (λ (x : Bool). x && (not (list_any (nat_eq j) done) && nat_eq (waits slots done (2 * j) + waits slots done (2 * j + 1)) 0)) t ∙ sym (ap (λ (x : Bool). x && (not (list_any (nat_eq j) done) && (has_number (numbered l done) (gate_line l j).rhs0 && has_number (numbered l done) (gate_line l j).rhs1))) t))
+    (cases_lt j (length l.gates))
+  where
+    both : (x y : Bool) (m n : ℕ) → m ≡ (if x then 0 else 1) → n ≡ (if y then 0 else 1) → nat_eq (m + n) 0 ≡ (x && y)
+    both true true m n e f = let z : m + n ≡ 0 = omega (arith, e, f) in grind (arith, nat_tests)
+    both true false m n e f = let z : m + n ≡ 1 = omega (arith, e, f) in grind (arith, nat_tests)
+    both false true m n e f = let z : m + n ≡ 1 = omega (arith, e, f) in grind (arith, nat_tests)
+    both false false m n e f = let z : m + n ≡ 2 = omega (arith, e, f) in grind (arith, nat_tests)
+
+-- gates in turn by their slots are in turn
+pub in_turn_from_slots : (l : Loose) (slots done js : List ℕ) → IsLoose l → AreGates l done → AreSlotsOf l slots → FollowInTurn slots (length l.gates) done js → AreInTurn l done js
+in_turn_from_slots l slots done [] valid within are turn = tt
+in_turn_from_slots l slots done (j ∷ js) valid within are turn =
+    let e = next_is_ready l slots done valid within are in
+    let ready : is_ready l done j ≡ true = sym (e j) ∙ turn.0.next in
+    let low = (ready_parts l done j ready).0 in
+    (record { ready = ready; first = λ i h. sym (e i) ∙ turn.0.first i h }, in_turn_from_slots l slots (done ++ j ∷ []) js valid (AreGates-push l done j within low) are turn.1)

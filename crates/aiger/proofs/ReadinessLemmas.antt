@@ -210,7 +210,7 @@ release_step slots n done g s left waiting is_in now_in are r less note =
     }
 
 -- a slot of a gate among others
-any_suc : (slot g : ℕ) (xs : List ℕ) → slot ≡ suc g → list_any (λ h. nat_eq slot (suc h)) xs ≡ list_any (nat_eq g) xs
+pub any_suc : (slot g : ℕ) (xs : List ℕ) → slot ≡ suc g → list_any (λ h. nat_eq slot (suc h)) xs ≡ list_any (nat_eq g) xs
 any_suc slot g [] e = refl
 any_suc slot g (x ∷ xs) e =
     let r = any_suc slot g xs e in
