@@ -1,22 +1,21 @@
 -- What numbering the lists of a file comes to: a circuit, or a gate that leads to a cycle.
-use Rattle.std.proofs.Common.{◌≡◌, ℕ, zero, suc, ◌+◌, ◌-◌, ◌*◌, ◌/◌, ◌%◌, ◌<◌, ◌≤◌, Bool, true, false, not, ◌&&◌, ◌||◌, ◌==◌, List, [], ◌∷◌, ◌++◌, map, length, replicate, All, None, Some, ◌⊎◌, inl, inr, nat_eq, nat_lt, nat_le, slice_index_or, slice_set, cond, refl, ap, sym, ◌∙◌, subst, arith, if◌then◌else◌, length-append, append_assoc, append-nil, ⊎_elim}
+use Rattle.std.proofs.Common.{◌≡◌, ℕ, zero, suc, ◌+◌, ◌*◌, ◌<◌, ◌≤◌, Bool, true, false, not, ◌&&◌, ◌||◌, ◌==◌, List, [], ◌∷◌, ◌++◌, map, length, replicate, All, ◌⊎◌, inl, inr, nat_eq, nat_lt, slice_index_or, slice_set, cond, refl, ap, sym, ◌∙◌, subst, arith, if◌then◌else◌, length-append, append_assoc, append-nil, ⊎_elim}
 use Rattle.std.proofs.lemmas.Bool.Decides.{nat_tests}
 use Rattle.std.proofs.lemmas.Bool.{cases_lt, cases_order}
 use Rattle.std.proofs.lemmas.List.{length-map, length-set, get_or-set_other, length-replicate}
-use Rattle.std.proofs.lemmas.List.Elements.{All-weaker, All-map, All-nil, All-cons, All-head, All-tail}
-use Rattle.std.proofs.lemmas.List.Folds.{list_any-append, list_any_at}
+use Rattle.std.proofs.lemmas.List.Elements.{All-weaker, All-map}
+use Rattle.std.proofs.lemmas.List.Folds.{list_any-append}
 use Rattle.std.proofs.lemmas.List.Sums.{sum_by-set, sum_by-cons}
-use Rattle.std.specs.List.{list_any, list_all, position, position_or_len, count_by, sum_by}
+use Rattle.std.specs.List.{list_any, position_or_len, count_by, sum_by}
 use Rattle.aiger.specs.declared.circuit.Gate.{Gate}
 use Rattle.aiger.specs.declared.circuit.Latch.{Latch}
 use Rattle.aiger.specs.declared.circuit.Section.{Section}
 use Rattle.aiger.specs.declared.circuit.Section.TheVariants as section
-use Rattle.aiger.specs.declared.loose.GateLine.{GateLine}
 use Rattle.aiger.specs.declared.loose.LatchLine.{LatchLine}
 use Rattle.aiger.specs.Literal.{variable}
-use Rattle.aiger.specs.Net.{Net, IsDefined, AreOrderedFrom, variables}
+use Rattle.aiger.specs.Net.{IsDefined, AreOrderedFrom, variables}
 use Rattle.aiger.specs.Circuit.{Circuit, IsCircuit, IsNamed, net, section_count, Place}
-use Rattle.aiger.specs.Loose.{Loose, IsLoose, IsNamedLine, loose_count, is_defined, latch_variable, gate_variable}
+use Rattle.aiger.specs.Loose.{Loose, IsLoose, IsNamedLine, loose_count, latch_variable, gate_variable}
 use Rattle.aiger.specs.Renumbering.{is_known, gate_line, gate_name, numbered, has_number, is_ready, AreInTurn, IsOrder, Uses, LeadsAlong, DependsOn, LeadsToCycle, IsFirstCyclic, new_literal, ordered_gate, new_gate, renumbered}
 use Rattle.aiger.proofs.RenumberingLemmas.{found, place_kept, named_from_test, new_of_variable, new_constant}
 use Rattle.aiger.proofs.OrderLemmas.{numbered-append, has_number-append, ready_parts, any_map, name_at_place, false_unless, no_cycle, number_from_known, AreGates, AreGates-push, gate_from_name, gate_is_variable}
@@ -43,8 +42,8 @@ unnumbered_operand l order lit t none =
         let name : gate_name l p ≡ variable lit = sym (name_at_place l.gates p (record { lhs = 0; rhs0 = 0; rhs1 = 0 }) low) ∙ r.1 in
         let h = list_any-append (nat_eq (variable lit)) (map variable l.inputs ++ map latch_variable l.latches) (map (gate_name l) order) in
         let new : list_any (nat_eq p) order ≡ false = false_unless (list_any (nat_eq p) order) (λ u.
-            let m : list_any (nat_eq (variable lit)) (map (gate_name l) order) ≡ true = subst (λ (v : ℕ). list_any (nat_eq v) (map (gate_name l) order) ≡ true) name (any_map (gate_name l) p order u) in
-            grind (arith, nat_tests, m, h, none)) in
+        let m : list_any (nat_eq (variable lit)) (map (gate_name l) order) ≡ true = subst (λ (v : ℕ). list_any (nat_eq v) (map (gate_name l) order) ≡ true) name (any_map (gate_name l) p order u) in
+        grind (arith, nat_tests, m, h, none)) in
         (p, (low, sym name, new))
     by false false false e f g =
         let h = list_any-append (nat_eq (variable lit)) (map variable l.inputs ++ map latch_variable l.latches) (map gate_variable l.gates) in
@@ -57,6 +56,7 @@ uses_unnumbered l order j known stuck low new =
   where
     both : IsKnown l (gate_line l j).rhs0 × IsKnown l (gate_line l j).rhs1
     both = known.operands j (record { lhs = 0; rhs0 = 0; rhs1 = 0 }) low
+
     by : (x y : Bool) → has_number (numbered l order) (gate_line l j).rhs0 ≡ x → has_number (numbered l order) (gate_line l j).rhs1 ≡ y → (i : ℕ) × (Uses l j i × (list_any (nat_eq i) order ≡ false))
     by false y e f =
         let r = unnumbered_operand l order (gate_line l j).rhs0 both.0 e in
@@ -67,8 +67,8 @@ uses_unnumbered l order j known stuck low new =
     by true true e f =
         let a : nat_lt j (length l.gates) ≡ true = grind (arith, nat_tests) in
         let b : is_ready l order j ≡ true = ap (λ (x : Bool). x && (not (list_any (nat_eq j) order) && (has_number (numbered l order) (gate_line l j).rhs0 && has_number (numbered l order) (gate_line l j).rhs1))) a
-            ∙ (ap (λ (x : Bool). not x && (has_number (numbered l order) (gate_line l j).rhs0 && has_number (numbered l order) (gate_line l j).rhs1)) new
-            ∙ (ap (λ (x : Bool). x && has_number (numbered l order) (gate_line l j).rhs1) e ∙ f)) in
+        ∙ (ap (λ (x : Bool). not x && (has_number (numbered l order) (gate_line l j).rhs0 && has_number (numbered l order) (gate_line l j).rhs1)) new
+        ∙ (ap (λ (x : Bool). x && has_number (numbered l order) (gate_line l j).rhs1) e ∙ f)) in
         absurd (let z : true ≡ false = sym b ∙ stuck in cc)
 
 -- one step more along operands
@@ -104,9 +104,9 @@ reach_more : (l : Loose) (marks : List Bool) (j k : ℕ) → k < length marks �
 reach_more l marks j k low u reach i t =
     ⊎_elim (λ (same : i ≡ k). inl same)
     (λ (o : (i < k) ⊎ (k < i)).
-        let other : i ≡ k → ⊥ = λ x. ⊎_elim (λ (h : i < k). omega arith) (λ (h : k < i). omega arith) o in
-        let before : slice_index_or marks i false ≡ true = sym (get_or-set_other marks k i true false other) ∙ t in
-        ⊎_elim (λ (e : i ≡ j). let same : Uses l i k = subst (λ (x : ℕ). Uses l x k) (sym e) u in inr ([], same)) (λ (d : DependsOn l i j). inr (d.0 ++ j ∷ [], leads_further l i j k d.0 d.1 u)) (reach i before))
+    let other : i ≡ k → ⊥ = λ x. ⊎_elim (λ (h : i < k). omega arith) (λ (h : k < i). omega arith) o in
+    let before : slice_index_or marks i false ≡ true = sym (get_or-set_other marks k i true false other) ∙ t in
+    ⊎_elim (λ (e : i ≡ j). let same : Uses l i k = subst (λ (x : ℕ). Uses l x k) (sym e) u in inr ([], same)) (λ (d : DependsOn l i j). inr (d.0 ++ j ∷ [], leads_further l i j k d.0 d.1 u)) (reach i before))
     (cases_order i k)
 
 -- a walk along gates without numbers comes back to one of those that it marked
@@ -276,11 +276,11 @@ slot_waits l slots done s lit valid within is = by (slot_at slots s) refl
         let b : list_any (λ h. nat_eq (slot_at slots s) (suc h)) done ≡ list_any (nat_eq g) done = any_suc (slot_at slots s) g done e in
         let z : (variable lit == 0) ≡ false = gate_is_variable l g lit valid r.0 r.1 in
         let m : list_any (nat_eq (variable lit)) (numbered l done) ≡ list_any (nat_eq g) done = same_test (list_any (nat_eq (variable lit)) (numbered l done)) (list_any (nat_eq g) done)
-            (λ t. gate_from_name l done g valid within r.0 (subst (λ (v : ℕ). list_any (nat_eq v) (numbered l done) ≡ true) r.1 t))
-            (λ t. let x : list_any (nat_eq (gate_name l g)) (map (gate_name l) done) ≡ true = any_map (gate_name l) g done t in
-                let y = list_any-append (nat_eq (gate_name l g)) (map variable l.inputs ++ map latch_variable l.latches) (map (gate_name l) done) in
-                let w : list_any (nat_eq (gate_name l g)) (numbered l done) ≡ true = grind (arith, nat_tests, x, y) in
-                subst (λ (v : ℕ). list_any (nat_eq v) (numbered l done) ≡ true) (sym r.1) w) in
+        (λ t. gate_from_name l done g valid within r.0 (subst (λ (v : ℕ). list_any (nat_eq v) (numbered l done) ≡ true) r.1 t))
+        (λ t. let x : list_any (nat_eq (gate_name l g)) (map (gate_name l) done) ≡ true = any_map (gate_name l) g done t in
+        let y = list_any-append (nat_eq (gate_name l g)) (map variable l.inputs ++ map latch_variable l.latches) (map (gate_name l) done) in
+        let w : list_any (nat_eq (gate_name l g)) (numbered l done) ≡ true = grind (arith, nat_tests, x, y) in
+        subst (λ (v : ℕ). list_any (nat_eq v) (numbered l done) ≡ true) (sym r.1) w) in
         let n : has_number (numbered l done) lit ≡ list_any (nat_eq g) done = ap (λ (x : Bool). x || list_any (nat_eq (variable lit)) (numbered l done)) z ∙ m in
         ap (λ (x : Bool). if x || list_any (λ h. nat_eq (slot_at slots s) (suc h)) done then 0 else 1) a ∙ (ap (λ (x : Bool). if x then 0 else 1) b ∙ sym (ap (λ (x : Bool). if x then 0 else 1) n))
       where
@@ -295,14 +295,14 @@ pub next_is_ready : (l : Loose) (slots done : List ℕ) → IsLoose l → AreGat
 next_is_ready l slots done valid within are j =
     ⊎_elim
     (λ (low : j < length l.gates).
-        let a = slot_waits l slots done (2 * j) (gate_line l j).rhs0 valid within (are.first j low) in
-        let b = slot_waits l slots done (2 * j + 1) (gate_line l j).rhs1 valid within (are.second j low) in
-        let p : nat_eq (waits slots done (2 * j) + waits slots done (2 * j + 1)) 0 ≡ (has_number (numbered l done) (gate_line l j).rhs0 && has_number (numbered l done) (gate_line l j).rhs1) =
-            both (has_number (numbered l done) (gate_line l j).rhs0) (has_number (numbered l done) (gate_line l j).rhs1) (waits slots done (2 * j)) (waits slots done (2 * j + 1)) a b in
-        ap (λ (x : Bool). nat_lt j (length l.gates) && (not (list_any (nat_eq j) done) && x)) p)
+    let a = slot_waits l slots done (2 * j) (gate_line l j).rhs0 valid within (are.first j low) in
+    let b = slot_waits l slots done (2 * j + 1) (gate_line l j).rhs1 valid within (are.second j low) in
+    let p : nat_eq (waits slots done (2 * j) + waits slots done (2 * j + 1)) 0 ≡ (has_number (numbered l done) (gate_line l j).rhs0 && has_number (numbered l done) (gate_line l j).rhs1) =
+    both (has_number (numbered l done) (gate_line l j).rhs0) (has_number (numbered l done) (gate_line l j).rhs1) (waits slots done (2 * j)) (waits slots done (2 * j + 1)) a b in
+    ap (λ (x : Bool). nat_lt j (length l.gates) && (not (list_any (nat_eq j) done) && x)) p)
     (λ (high : length l.gates ≤ j).
-        let t : nat_lt j (length l.gates) ≡ false = grind (arith, nat_tests) in
-        ap (λ (x : Bool). x && (not (list_any (nat_eq j) done) && nat_eq (waits slots done (2 * j) + waits slots done (2 * j + 1)) 0)) t ∙ sym (ap (λ (x : Bool). x && (not (list_any (nat_eq j) done) && (has_number (numbered l done) (gate_line l j).rhs0 && has_number (numbered l done) (gate_line l j).rhs1))) t))
+    let t : nat_lt j (length l.gates) ≡ false = grind (arith, nat_tests) in
+    ap (λ (x : Bool). x && (not (list_any (nat_eq j) done) && nat_eq (waits slots done (2 * j) + waits slots done (2 * j + 1)) 0)) t ∙ sym (ap (λ (x : Bool). x && (not (list_any (nat_eq j) done) && (has_number (numbered l done) (gate_line l j).rhs0 && has_number (numbered l done) (gate_line l j).rhs1))) t))
     (cases_lt j (length l.gates))
   where
     both : (x y : Bool) (m n : ℕ) → m ≡ (if x then 0 else 1) → n ≡ (if y then 0 else 1) → nat_eq (m + n) 0 ≡ (x && y)
