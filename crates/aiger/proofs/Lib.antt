@@ -9,4 +9,5 @@ mod RenumberingLemmas
 mod OrderLemmas
 mod KnownLemmas
 mod ReadinessLemmas
+mod NumberingLemmas
 mod LooseTraceLemmas

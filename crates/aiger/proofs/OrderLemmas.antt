@@ -136,7 +136,7 @@ abbrev pub AreGates : Loose → List ℕ → Type 0
 AreGates l done = (i : ℕ) → list_any (nat_eq i) done ≡ true → i < length l.gates
 
 -- a literal of a gate's variable is no constant
-gate_is_variable : (l : Loose) (i lit : ℕ) → IsLoose l → i < length l.gates → variable lit ≡ gate_name l i → (variable lit == 0) ≡ false
+pub gate_is_variable : (l : Loose) (i lit : ℕ) → IsLoose l → i < length l.gates → variable lit ≡ gate_name l i → (variable lit == 0) ≡ false
 gate_is_variable l i lit valid h e =
     let d : IsDefining (gate_line l i).lhs = valid.definitions.gates i (record { lhs = 0; rhs0 = 0; rhs1 = 0 }) h in
     let two : 2 ≤ (gate_line l i).lhs = d.least in

@@ -210,7 +210,7 @@ release_step slots n done g s left waiting is_in now_in are r less note =
     }
 
 -- a slot of a gate among others
-any_suc : (slot g : ℕ) (xs : List ℕ) → slot ≡ suc g → list_any (λ h. nat_eq slot (suc h)) xs ≡ list_any (nat_eq g) xs
+pub any_suc : (slot g : ℕ) (xs : List ℕ) → slot ≡ suc g → list_any (λ h. nat_eq slot (suc h)) xs ≡ list_any (nat_eq g) xs
 any_suc slot g [] e = refl
 any_suc slot g (x ∷ xs) e =
     let r = any_suc slot g xs e in
@@ -286,16 +286,6 @@ waits_push slots done g s = by (nat_eq (slot_at slots s) (suc g)) refl
         or_false : (b : Bool) → (b || false) ≡ b
         or_false true = refl
         or_false false = refl
-
--- after the last slot is released
-pub release_ends : (slots : List ℕ) (n : ℕ) (order waiting waited : List ℕ) (is_in was_in : ℕ → Bool) (t : IsTaken slots n order waited was_in) → IsReleasing slots n t.done t.gate 0 waiting is_in → CountsWaits slots n order waiting
-release_ends slots n order waiting waited is_in was_in t r =
-    subst (λ (o : List ℕ). CountsWaits slots n o waiting) (sym t.last)
-    (record {
-      count = r.count;
-      each = λ j h. omega (arith, r.each j h, waits_push slots t.done t.gate (2 * j), waits_push slots t.done t.gate (2 * j + 1));
-      none = r.none;
-    })
 
 -- whether a gate may be next, by the counts
 pub may_be_next_is : (slots : List ℕ) (n : ℕ) (done waiting : List ℕ) → CountsWaits slots n done waiting → (i : ℕ) → may_be_next slots n done i ≡ waits_for_nothing n done waiting i
@@ -502,14 +492,3 @@ first_waits_step slots gate count' waiting w e =
 
 pub first_waits_end : (slots : List ℕ) (n : ℕ) (waiting : List ℕ) → FirstWaits slots n waiting → CountsWaits slots n [] waiting
 first_waits_end slots n waiting w = record { count = w.count; each = w.each; none = λ j t. absurd (cc) }
-
--- what is read at an index
-pub read_index : (xs : List ℕ) (i e : ℕ) → i < length xs → e ≡ slice_index_or xs i e → e ≡ slice_index_or xs i 0
-read_index [] i e l h = absurd (omega arith)
-read_index (x ∷ xs) zero e l h = h
-read_index (x ∷ xs) (suc i) e l h = read_index xs i e (omega arith) h
-
--- no test passes in an empty list
-pub none_in_empty : (p : ℕ → Bool) (xs : List ℕ) → (0 < length xs → ⊥) → list_any p xs ≡ false
-none_in_empty p [] h = refl
-none_in_empty p (x ∷ xs) h = absurd (h (omega arith))

@@ -72,7 +72,7 @@ constant_value v w (suc zero) e = refl
 constant_value v w (suc (suc n)) e = let z : suc (suc n) / 2 ≡ 0 = grind (arith, nat_tests) in absurd (omega arith)
 
 -- a new literal of a constant, and of a variable
-new_constant : (names : List ℕ) (lit : ℕ) → (variable lit == 0) ≡ true → new_literal names lit ≡ lit
+pub new_constant : (names : List ℕ) (lit : ℕ) → (variable lit == 0) ≡ true → new_literal names lit ≡ lit
 new_constant names lit e = ap (λ (b : Bool). if b then lit else 2 * suc (position_or_len (nat_eq (variable lit)) names) + lit % 2) e
 
 pub new_of_variable : (names : List ℕ) (lit : ℕ) → (variable lit == 0) ≡ false → new_literal names lit ≡ 2 * suc (position_or_len (nat_eq (variable lit)) names) + lit % 2

@@ -269,7 +269,15 @@ impl Loose {
     fn may_define(&self, lit: Lit) -> bool
         ensures { result ≡ (is_defining lit && not (is_defined self.now (variable lit))) }
     {
-        is_definer(lit) && !self.defined.contains(&lit.var())
+        is_definer(lit) && !self.defines(lit.var())
+    }
+
+    /// Whether an input, a latch or a gate line defines a variable. It takes no memory.
+    pub fn defines(&self, variable: u32) -> bool
+        ensures defined { result ≡ is_defined self.now variable }
+        ensures valid { IsLoose self.now }
+    {
+        self.defined.contains(&variable)
     }
 
     /// Whether there are fewer than 2^30 definitions.

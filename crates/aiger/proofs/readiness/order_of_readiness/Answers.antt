@@ -1,10 +1,15 @@
-use Rattle.std.proofs.Common.{◌≡◌, ◌<◌, ℕ, true, false, not, length, slice_set, arith, List, [], ◌∷◌, ◌++◌, ap, sym, subst, ◌∙◌, length-append}
+use Rattle.std.proofs.Common.{◌≡◌, ◌<◌, ℕ, Bool, true, false, not, length, slice_set, arith, List, [], ◌∷◌, ◌++◌, ap, sym, subst, ◌∙◌, length-append, refl}
 use Rattle.std.specs.Ordering.{nat_cmp}
 use Rattle.std.specs.BTreeSet.{contains}
-use Rattle.std.specs.List.{count_by}
+use Rattle.std.specs.List.{count_by, list_any}
 use Rattle.aiger.specs.Readiness.{IsTaken, IsWholeOrder, FollowInTurn, MarksDone, CountsWaits, waits_for_nothing, may_be_next}
-use Rattle.aiger.proofs.ReadinessLemmas.{taken, may_be_next_is, none_in_empty}
+use Rattle.aiger.proofs.ReadinessLemmas.{taken, may_be_next_is}
 use Rattle.aiger.proofs.readiness.order_of_readiness.Goals as goal
+
+-- no test passes in an empty list
+none_in_empty : (p : ℕ → Bool) (xs : List ℕ) → (0 < length xs → ⊥) → list_any p xs ≡ false
+none_in_empty p [] h = refl
+none_in_empty p (x ∷ xs) h = absurd (h (omega arith))
 
 pub release-requires-clause-taken : goal.release-requires-clause-taken
 release-requires-clause-taken c =
