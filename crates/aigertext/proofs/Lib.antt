@@ -17,3 +17,4 @@ mod GateBackLemmas
 mod NameBackLemmas
 mod HeaderBackLemmas
 mod ReadStandsLemmas
+mod FieldCutLemmas

@@ -1,5 +1,5 @@
 -- Reading a circuit's text from left to right, with the first fault that is met.
-use Rattle.std.specs.Prelude.{ℕ, zero, suc, ◌+◌, ◌-◌, ◌*◌, List, [], ◌∷◌, ◌++◌, length, take, drop, Option, Some, None, Result, Ok, Err, ◌==◌, ◌||◌, nat_le, nat_lt, if◌then◌else◌, codes}
+use Rattle.std.specs.Prelude.{◌≡◌, ℕ, zero, suc, ◌+◌, ◌-◌, ◌*◌, List, [], ◌∷◌, ◌++◌, length, take, drop, Option, Some, None, Result, Ok, Err, ◌==◌, ◌||◌, nat_le, nat_lt, if◌then◌else◌, codes}
 use Rattle.std.specs.List.{sum}
 use Rattle.std.specs.Str.{bytes_eq}
 use Rattle.base.specs.Lines.{text_of_lines, onto_first, whole_lines, unfinished}
@@ -38,6 +38,11 @@ abbrev pub at : {A : Type 0} → List ℕ → Result A Why → Result A Stop
 at text (Ok x) = Ok x
 at text (Err w) = Err (stop text w)
 
+-- what a function returned, seen by view, is what reading gives
+abbrev pub Gives : {X Y E : Type 0} → (X → Y) → Result X E → Result Y E → Type 0
+Gives view (Ok x) read = read ≡ Ok (view x)
+Gives view (Err e) read = read ≡ Err e
+
 -- what an option has, or a why where it has nothing
 abbrev pub some_or : {A : Type 0} → Why → Option A → Result A Why
 some_or w (Some x) = Ok x
@@ -58,6 +63,11 @@ cut byte (b ∷ bs) = if b == byte then Some ([], bs) else onto_front b (cut byt
 abbrev pub fields : List ℕ → List (List ℕ)
 fields [] = [] ∷ []
 fields (b ∷ bs) = if b == 32 then [] ∷ fields bs else onto_first b (fields bs)
+
+-- the same behind a field: nothing where the line ended, else what follows its space
+abbrev pub fields_behind : List ℕ → List (List ℕ)
+fields_behind [] = []
+fields_behind (b ∷ bs) = fields bs
 
 -- what the first line of a text says, and the text behind it
 abbrev pub cut_line : {A : Type 0} → (List ℕ → Result A Why) → List ℕ → Option (List ℕ × List ℕ) → Result (A × List ℕ) Stop

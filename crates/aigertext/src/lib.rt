@@ -6,12 +6,16 @@ mod binary;
 mod counts;
 mod deltas;
 mod fault;
+mod fields;
 mod forms;
+mod head;
 mod header;
 mod justice;
 pub mod laws;
 mod line;
 mod names;
+mod nexts;
+mod numbers;
 mod properties;
 mod sections;
 

@@ -1,0 +1,42 @@
+//! Reading a line of one number: a literal, or the size of a justice property.
+ghost use Rattle.std.specs.Prelude.{◌≡◌, ◌≤◌};
+ghost use Rattle.aigertext.specs.Reading.{Gives, literal_of, size_of};
+
+use crate::fault::Why;
+use aiger::{GREATEST_COUNT, Lit};
+use base::decimal;
+
+/// The literal of a line, which is at most the greatest one.
+#[tactic(auto, unfolding(crate::specs::Reading::literal_of))]
+pub fn literal(line: &[u8], greatest: u32) -> Result<Lit, Why>
+    ensures { Gives (λ x. x) result (literal_of greatest line.now) }
+{
+    match decimal(line) {
+        None => Err(Why::BadNumber),
+        Some(number) => {
+            if number <= u64::from(greatest) {
+                Ok(Lit::new(number as u32))
+            } else {
+                Err(Why::BadNumber)
+            }
+        }
+    }
+}
+
+/// The size of a justice property, where those before it have so many literals together.
+#[tactic(auto, unfolding(crate::specs::Reading::size_of))]
+pub fn size(line: &[u8], before: u32) -> Result<u32, Why>
+    requires { before ≤ 1073741824 }
+    ensures { Gives (λ x. x) result (size_of before line.now) }
+{
+    match decimal(line) {
+        None => Err(Why::BadNumber),
+        Some(number) => {
+            if number <= u64::from(GREATEST_COUNT - before) {
+                Ok(number as u32)
+            } else {
+                Err(Why::TooBig)
+            }
+        }
+    }
+}
