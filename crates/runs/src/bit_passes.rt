@@ -1,5 +1,6 @@
 //! The passes over the lists of bits of a run.
-ghost use Rattle.std.specs.Prelude.{◌≡◌, ℕ, ◌+◌, ◌<◌, ◌≤◌, false, length, All, slice_index_or};
+ghost use Rattle.std.specs.Prelude.{◌≡◌, ℕ, ◌+◌, ◌<◌, ◌≤◌, false, length, All, slice_index_or, slice_set};
+ghost use Rattle.base.specs.Steps.{one_more};
 ghost use Rattle.aiger.specs.Literal.{variable, literal_value};
 ghost use Rattle.aiger.specs.Net.{AreOrderedFrom, SatisfiesFrom};
 ghost use Rattle.runs.specs.CircuitRun.{first_bit};
@@ -48,6 +49,17 @@ pub(crate) fn settle_gates(gates: &[Gate], first: usize, bits: &mut [bool], tall
     }
 }
 
+/// Takes the bit of a latch's next literal as the `k`-th of those taken. One step.
+fn take_next(latch: &Latch, bits: &[bool], k: usize, taken: &mut [bool], tally: &mut Tally)
+    requires inside { variable latch.now.next < length bits.now }
+    requires constant { slice_index_or bits.now 0 false ≡ false }
+    requires there { k < length taken.old }
+    ensures taken { taken.new ≡ slice_set taken.old k (literal_value (valuation_of bits.now) latch.now.next) }
+    ensures step { tally.new ≡ one_more tally.old }
+{
+    taken[k] = base::take(literal_bit(bits, latch.next), tally);
+}
+
 /// Takes the bits of the latches' next literals. One step for each.
 pub(crate) fn take_nexts(latches: &[Latch], bits: &[bool], taken: &mut [bool], tally: &mut Tally)
     requires inside { All (λ l. variable l.next < length bits.now) latches.now }
@@ -58,7 +70,7 @@ pub(crate) fn take_nexts(latches: &[Latch], bits: &[bool], taken: &mut [bool], t
     ensures steps { tally.new ≡ more_steps (length latches.now) tally.old }
 {
     for (k, latch) in latches.iter().enumerate() {
-        taken[k] = base::take(literal_bit(bits, latch.next), tally);
+        take_next(latch, bits, k, taken, tally);
     }
 }
 
