@@ -13,3 +13,4 @@ pub mod WideProductLemmas
 pub mod SignedDivisionLemmas
 pub mod SignedModuloLemmas
 pub mod SharedLemmas
+pub mod TopLemmas

@@ -1,5 +1,5 @@
 -- Products of words, row by row.
-use Rattle.std.proofs.Common.{◌≡◌, ℕ, zero, suc, ◌+◌, ◌-◌, ◌*◌, ◌%◌, ◌^◌, ◌<◌, ◌≤◌, Bool, true, false, ◌&&◌, List, [], ◌∷◌, ◌++◌, length, map, take, get_or, replicate, refl, sym, ap, subst, ◌∙◌, arith}
+use Rattle.std.proofs.Common.{◌≡◌, ℕ, zero, suc, ◌+◌, ◌-◌, ◌*◌, ◌%◌, ◌^◌, ◌<◌, ◌≤◌, Bool, true, false, ◌&&◌, List, [], ◌∷◌, ◌++◌, length, map, take, get_or, replicate, refl, sym, ap, ◌∙◌, arith}
 use Rattle.std.proofs.Math.Nat.{pow-suc, mul_assoc, mod-add-mod, add-mod-mod, mod-eq_of_lt}
 use Rattle.std.proofs.lemmas.Nat.{pow_pos, pow-add, mul-le, mul-mod_first, mod-mul-add}
 use Rattle.std.proofs.lemmas.List.{length-take-le, take_all}
@@ -7,10 +7,9 @@ use Rattle.base.specs.Word.{word, bit_number}
 use Rattle.aiger.specs.Literal.{Valuation, literal_value}
 use Rattle.aiger.specs.Net.{Net}
 use Rattle.gates.specs.Made.{MakesWord, word_value}
-use Rattle.gates.specs.Sums.{literal_number, MakesSum}
+use Rattle.gates.specs.Sums.{literal_number}
 use Rattle.gates.proofs.WordLemmas.{zip_with}
 use Rattle.gates.proofs.BitListLemmas.{IsRow, MakesWord-row, MakesWord-same, MakesWord-weaker, MakesWord-of_word, word_value-below, word_value-more}
-use Rattle.gates.proofs.SumLemmas.{MakesWord-sum}
 use Rattle.gates.proofs.WindowLemmas.{word_value-split}
 
 -- each bit of a word and one bit: the word's product with that bit
@@ -68,17 +67,16 @@ added_row s a k t p =
     ∙ ap (λ w. (s + w) % p) (mul_assoc a k t)
 
 -- a sum so far and the row of one bit
-pub MakesWord-with_row : (old mid new : Net) (n place lit : ℕ) (sum a moved row added : List ℕ) (into_top out : ℕ)
+pub MakesWord-with_row : (old mid new : Net) (n place lit : ℕ) (sum a moved row added : List ℕ)
     → length sum ≡ n → length moved ≡ n → ((v : Valuation) → word_value v moved ≡ word_value v a * 2 ^ place % 2 ^ n)
     → MakesWord old mid (length moved) (length moved) (λ v. word_value v moved * literal_number v lit) row
-    → MakesSum mid new (9 * length sum) sum row 0 added into_top out
+    → MakesWord mid new (9 * length sum) (length sum) (λ v. (word_value v sum + word_value v row + literal_number v 0) % 2 ^ length sum) added
     → MakesWord old new (10 * n) n (λ v. (word_value v sum + word_value v a * (2 ^ place * literal_number v lit)) % 2 ^ n) added
-MakesWord-with_row old mid new n place lit sum a moved row added into_top out wide moved_wide moved_is masked makes =
+MakesWord-with_row old mid new n place lit sum a moved row added wide moved_wide moved_is masked makes =
     let first : MakesWord old mid n n (λ v. word_value v moved * literal_number v lit) row = rw moved_wide at masked in
-    let all : MakesSum mid new (9 * n) sum row 0 added into_top out = rw wide at makes in
+    let all = rw wide at makes in
     let second : MakesWord mid new (9 * n) n (λ v. (word_value v sum + word_value v row) % 2 ^ n) added =
-    subst (λ (k : ℕ). MakesWord mid new (9 * n) k (λ v. (word_value v sum + word_value v row) % 2 ^ k) added) wide
-    (MakesWord-sum mid new (9 * n) sum row 0 added into_top out (λ v. (word_value v sum + word_value v row) % 2 ^ length sum) all (λ v. ap (λ k. k % 2 ^ length sum) (omega arith)))
+    MakesWord-same mid new (9 * n) n _ _ added (λ v. ap (λ k. k % 2 ^ n) (omega arith)) all
     in
     let both = MakesWord-of_word old mid new n (9 * n) n n (λ v. word_value v moved * literal_number v lit) (λ v w. (word_value v sum + w) % 2 ^ n) row added first second in
     MakesWord-weaker old new (n + 9 * n) (10 * n) n _ added (omega arith)

@@ -15,6 +15,7 @@ use Rattle.base.specs.Word.{bit_number, word}
 use Rattle.aiger.specs.Literal.{Valuation, literal_value, negation}
 use Rattle.aiger.specs.Net.{Net, IsDefined}
 use Rattle.aiger.proofs.NetLemmas.{literal_value-negation}
+use Rattle.gates.specs.Connect.{differ}
 use Rattle.gates.specs.Made.{MakesAnd, MakesLiteral, MakesWord, word_value}
 use Rattle.gates.specs.Sums.{literal_number, MakesColumn, MakesSum}
 use Rattle.gates.proofs.GrowthLemmas.{Grows-refl, Grows-weaker, Grows-trans, Satisfies-earlier, IsDefined-grown, All-defined-grown, word_value-negation, MakesWord-negated}
@@ -160,6 +161,17 @@ MakesSum-whole old new few most i a b carry sum into_top out in_a in_b le makes 
       top = all.top;
     }
 
+-- the highest bit of a sum, by the highest bits and the carry into them
+pub top_sum : (p s : ℕ) (x y o : Bool) → s < p → (s + p * (bit_number x + bit_number y + bit_number o)) % (2 * p) ≡ s + p * bit_number (differ (differ x y) o)
+top_sum p s true true true below = ap (λ k. k % (2 * p)) (omega arith) ∙ add-mul-mod_self_left (s + p * 1) (2 * p) 1 ∙ mod-eq_of_lt (omega arith)
+top_sum p s true true false below = ap (λ k. k % (2 * p)) (omega arith) ∙ add-mul-mod_self_left (s + p * 0) (2 * p) 1 ∙ mod-eq_of_lt (omega arith)
+top_sum p s true false true below = ap (λ k. k % (2 * p)) (omega arith) ∙ add-mul-mod_self_left (s + p * 0) (2 * p) 1 ∙ mod-eq_of_lt (omega arith)
+top_sum p s true false false below = mod-eq_of_lt (omega arith)
+top_sum p s false true true below = ap (λ k. k % (2 * p)) (omega arith) ∙ add-mul-mod_self_left (s + p * 0) (2 * p) 1 ∙ mod-eq_of_lt (omega arith)
+top_sum p s false true false below = mod-eq_of_lt (omega arith)
+top_sum p s false false true below = mod-eq_of_lt (omega arith)
+top_sum p s false false false below = mod-eq_of_lt (omega arith)
+
 -- the low part of a sum is the sum modulo the words
 low_part : (p s o t : ℕ) → s < p → s + p * o ≡ t → t % p ≡ s
 low_part p s o t below whole = ap (λ k. k % p) (sym whole) ∙ add-mul-mod_self_left s p o ∙ mod-eq_of_lt below
@@ -194,10 +206,15 @@ pub word_value-ones : (v : Valuation) (n : ℕ) → word_value v (replicate n 1)
 word_value-ones v zero = refl
 word_value-ones v (suc n) = omega (arith, word_value-ones v n, two_more n, pow_pos n)
 
-pub MakesWord-added : (old new : Net) (a b sum : List ℕ) (into_top out : ℕ) → MakesSum old new (9 * length a) a b 0 sum into_top out
-    → MakesWord old new (9 * length a) (length a) (λ v. binary_value binary.Add (length a) (word_value v a) (word_value v b)) sum
-MakesWord-added old new a b sum into_top out makes =
-    MakesWord-sum old new (9 * length a) a b 0 sum into_top out _ makes (λ v. ap (λ k. k % 2 ^ length a) (omega arith))
+pub MakesWord-added : (old new : Net) (a b bits : List ℕ)
+    → MakesWord old new (9 * length a) (length a) (λ v. (word_value v a + word_value v b + literal_number v 0) % 2 ^ length a) bits
+    → MakesWord old new (9 * length a) (length a) (λ v. binary_value binary.Add (length a) (word_value v a) (word_value v b)) bits
+MakesWord-added old new a b bits makes = record {
+  grows = makes.grows;
+  wide = makes.wide;
+  defined = makes.defined;
+  means = λ v s. makes.means v s ∙ ap (λ k. k % 2 ^ length a) (omega arith);
+}
 
 pub MakesWord-subtracted : (old new : Net) (a b sum : List ℕ) (into_top out : ℕ) → length b ≡ length a → MakesSum old new (9 * length a) a (map negation b) 1 sum into_top out
     → MakesWord old new (9 * length a) (length a) (λ v. binary_value binary.Sub (length a) (word_value v a) (word_value v b)) sum

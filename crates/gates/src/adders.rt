@@ -1,5 +1,5 @@
 //! Sums of words, a column of bits at a time, and the operators that are sums.
-ghost use Rattle.std.specs.Prelude.{◌≡◌, ◌+◌, ◌*◌, ◌≤◌, length, map, All, IfOk, IfErr};
+ghost use Rattle.std.specs.Prelude.{◌≡◌, ◌+◌, ◌*◌, ◌%◌, ◌^◌, ◌≤◌, length, map, take, All, IfOk, IfErr};
 ghost use Rattle.base.specs.Operator.{unary_value, binary_value};
 ghost use Rattle.aiger.specs.Net.{IsDefined};
 ghost use Rattle.aiger.specs.Literal.{negation};
@@ -9,7 +9,7 @@ ghost use Rattle.gates.specs.Sums.{literal_number, MakesColumn, MakesSum};
 
 use crate::bit_lists::{negation, repeated};
 use crate::fault::GateFault;
-use crate::literals::{conjunction, disjunction};
+use crate::literals::{conjunction, disjunction, xor};
 use crate::maker::{Bits, Gates};
 use aiger::Lit;
 use base::{Binary, Unary};
@@ -62,6 +62,32 @@ fn full_adder<G: Gates>(g: &mut G, a: Lit, b: Lit, c: Lit) -> Result<Column, Gat
     })
 }
 
+/// The sum of so many of the lowest columns of two words and of a carry.
+fn columns<G: Gates>(
+    g: &mut G,
+    a: &Bits,
+    b: &Bits,
+    carry: Lit,
+    count: usize,
+) -> Result<Added, GateFault>
+    requires operands { AreOperands (G.made g.old) 128 a.now.items b.now.items }
+    requires carry { IsDefined (G.made g.old) carry }
+    requires inside { count ≤ length a.now.items }
+    ensures ok { IfOk result (λ added. MakesSum (G.made g.old) (G.made g.new) (7 * count) (take count a.now.items) (take count b.now.items) carry added.sum.items added.into_top added.out) }
+    ensures refused { IfErr result (Refuses (G.made g.old) (G.made g.new) (7 * count)) }
+{
+    let mut sum = Bits::new();
+    let mut into_top = carry;
+    let mut out = carry;
+    for i in 0..count {
+        into_top = out;
+        let column = full_adder(g, a[i], b[i], out)?;
+        sum.push(column.sum);
+        out = column.carry;
+    }
+    Ok(Added { sum, into_top, out })
+}
+
 /// The sum of two words and a carry, with the carries into and out of its highest bit.
 ///
 /// Conditions: operands of equal length from 1 to 128, all literals defined. Errors: `TooBig` only where the
@@ -72,16 +98,28 @@ pub fn add<G: Gates>(g: &mut G, a: &Bits, b: &Bits, carry: Lit) -> Result<Added,
     ensures ok { IfOk result (λ added. MakesSum (G.made g.old) (G.made g.new) (9 * length a.now.items) a.now.items b.now.items carry added.sum.items added.into_top added.out) }
     ensures refused { IfErr result (Refuses (G.made g.old) (G.made g.new) (9 * length a.now.items)) }
 {
-    let mut sum = Bits::new();
-    let mut into_top = carry;
-    let mut out = carry;
-    for i in 0..a.len() {
-        into_top = out;
-        let column = full_adder(g, a[i], b[i], out)?;
-        sum.push(column.sum);
-        out = column.carry;
-    }
-    Ok(Added { sum, into_top, out })
+    columns(g, a, b, carry, a.len())
+}
+
+/// The bits of the sum of two words and a carry. There is no carry out of the highest column.
+pub(crate) fn sum_bits<G: Gates>(
+    g: &mut G,
+    a: &Bits,
+    b: &Bits,
+    carry: Lit,
+) -> Result<Bits, GateFault>
+    requires operands { AreOperands (G.made g.old) 128 a.now.items b.now.items }
+    requires carry { IsDefined (G.made g.old) carry }
+    ensures ok { IfOk result (λ bits. let n = length a.now.items in MakesWord (G.made g.old) (G.made g.new) (9 * n) n (λ v. (word_value v a.now.items + word_value v b.now.items + literal_number v carry) % 2 ^ n) bits.items) }
+    ensures refused { IfErr result (Refuses (G.made g.old) (G.made g.new) (9 * length a.now.items)) }
+{
+    let top = a.len() - 1;
+    let low = columns(g, a, b, carry, top)?;
+    let differ = xor(g, a[top], b[top])?;
+    let last = xor(g, differ, low.out)?;
+    let mut sum = low.sum;
+    sum.push(last);
+    Ok(sum)
 }
 
 /// The difference of two words as a sum: the second word negated, and one more. The carries are those of the sum.
@@ -99,8 +137,7 @@ pub(crate) fn add_bits<G: Gates>(g: &mut G, a: &Bits, b: &Bits) -> Result<Bits, 
     ensures ok { IfOk result (λ bits. let n = length a.now.items in MakesWord (G.made g.old) (G.made g.new) (9 * n) n (λ v. binary_value Binary.Add n (word_value v a.now.items) (word_value v b.now.items)) bits.items) }
     ensures refused { IfErr result (Refuses (G.made g.old) (G.made g.new) (9 * length a.now.items)) }
 {
-    let sum = add(g, a, b, Lit::FALSE)?;
-    Ok(sum.sum)
+    sum_bits(g, a, b, Lit::FALSE)
 }
 
 /// The bits of the difference of two words.

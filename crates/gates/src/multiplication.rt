@@ -6,7 +6,7 @@ ghost use Rattle.gates.specs.Operands.{AreOperands};
 ghost use Rattle.gates.specs.Made.{MakesWord, Refuses, word_value};
 ghost use Rattle.gates.specs.Sums.{literal_number};
 
-use crate::adders::add;
+use crate::adders::sum_bits;
 use crate::fault::GateFault;
 use crate::literals::conjunction;
 use crate::maker::{Bits, Gates};
@@ -61,8 +61,7 @@ fn with_row<G: Gates>(
     ensures refused { IfErr result (Refuses (G.made g.old) (G.made g.new) (10 * length a.now.items)) }
 {
     let row = masked(g, &raised(a, place), lit)?;
-    let added = add(g, sum, &row, Lit::FALSE)?;
-    Ok(added.sum)
+    sum_bits(g, sum, &row, Lit::FALSE)
 }
 
 /// The bits of the product of two words modulo 2 to the width.

@@ -1,5 +1,6 @@
+use Rattle.std.proofs.lemmas.Result.{IfOk-weaker}
 use Rattle.gates.proofs.SumLemmas.{MakesWord-added}
 use Rattle.gates.proofs.adders.add_bits.Goals as goal
 
 pub returns-clause-ok : goal.returns-clause-ok
-returns-clause-ok g c = MakesWord-added _ _ c.args.a.now.items c.args.b.now.items c.in_ok-sum.sum.sum.items c.in_ok-sum.sum.into_top c.in_ok-sum.sum.out c.in_ok-sum.ensures.ok
+returns-clause-ok g c = IfOk-weaker c.sum_bits.result _ _ (λ bits makes. MakesWord-added _ _ c.args.a.now.items c.args.b.now.items bits.items makes) c.sum_bits.ensures.ok

@@ -1,0 +1,50 @@
+use Rattle.std.proofs.Common.{◌≡◌, ◌+◌, ◌-◌, ◌*◌, ◌≤◌, rules, ◌∷◌, [], ◌++◌, length, take, sym, ◌∙◌, arith}
+use Rattle.std.proofs.lemmas.List.{take_all}
+use Rattle.gates.specs.Made.{Refuses}
+use Rattle.gates.proofs.GrowthLemmas.{Grows-trans}
+use Rattle.gates.proofs.LiteralLemmas.{Refuses-behind}
+use Rattle.gates.proofs.SumLemmas.{front_with}
+use Rattle.gates.proofs.TopLemmas.{MakesWord-without_carry}
+use Rattle.gates.proofs.adders.sum_bits.Goals as goal
+
+pub returns-clause-ok : goal.returns-clause-ok
+returns-clause-ok g c =
+    let low = c.in_ok-low.low in
+    let a = c.args.a.now.items in
+    let b = c.args.b.now.items in
+    let k = c.len-top.result - 1 in
+    let wide = c.len-top.ensures.value in
+    let some = c.requires.operands.some in
+    let same = c.requires.operands.equal in
+    let x = c.index-deref-top.result in
+    let y = c.index-deref-top-2.result in
+    let a_is : a ≡ take k a ++ x ∷ [] = sym (take_all (k + 1) a (omega arith)) ∙ front_with a c.deref.result.now k x c.deref.ensures.0 (omega arith) c.index-deref-top.is in
+    let b_is : b ≡ take k b ++ y ∷ [] = sym (take_all (k + 1) b (omega arith)) ∙ front_with b c.deref-2.result.now k y c.deref-2.ensures.0 (omega arith) c.index-deref-top-2.is in
+    MakesWord-without_carry _ _ _ _ k a b c.args.carry low.sum.items low.into_top low.out x y c.in_ok-differ.differ c.in_ok-last.last c.push.new.self.items
+    (omega arith) (omega arith) a_is b_is c.push.ensures.items c.in_ok-low.ensures.ok c.in_ok-differ.ensures.ok c.in_ok-last.ensures.ok
+
+pub returns-in_err-differ-clause-refused : goal.returns-in_err-differ-clause-refused
+returns-in_err-differ-clause-refused g c =
+    let old = g.G.Gates.made c.args.g.now in
+    let mid = g.G.Gates.made c.columns.new.g in
+    let new = g.G.Gates.made c.xor.new.g in
+    let n = length c.args.a.now.items in
+    let low = 7 * (c.len-top.result - 1) in
+    let fault = c.in_err-differ.field-0.0 in
+    let within : low + 3 ≤ 9 * n = omega (arith, c.len-top.ensures.value, c.requires.operands.some) in
+    let whole : Refuses old new (9 * n) fault = Refuses-behind old mid new low 3 (9 * n) fault within c.in_ok-low.ensures.ok.grows c.in_err-differ.ensures.refused in
+    search rules
+
+pub returns-in_err-last-clause-refused : goal.returns-in_err-last-clause-refused
+returns-in_err-last-clause-refused g c =
+    let old = g.G.Gates.made c.args.g.now in
+    let mid = g.G.Gates.made c.columns.new.g in
+    let next = g.G.Gates.made c.xor.new.g in
+    let new = g.G.Gates.made c.xor-2.new.g in
+    let n = length c.args.a.now.items in
+    let low = 7 * (c.len-top.result - 1) in
+    let fault = c.in_err-last.field-0.0 in
+    let within : low + 3 + 3 ≤ 9 * n = omega (arith, c.len-top.ensures.value, c.requires.operands.some) in
+    let before = Grows-trans old mid next low 3 c.in_ok-low.ensures.ok.grows c.in_ok-differ.ensures.ok.grows in
+    let whole : Refuses old new (9 * n) fault = Refuses-behind old next new (low + 3) 3 (9 * n) fault within before c.in_err-last.ensures.refused in
+    search rules
