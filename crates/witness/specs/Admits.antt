@@ -108,7 +108,7 @@ abbrev pub names_free : Shape → Option ℕ → Bool
 names_free shape None = false
 names_free shape (Some i) = is_free_index shape i
 
--- the same of a free state alone: 114 also where the index is that of a state that is not free
+-- the same behind the assignments of a part of free states: 114 also where the index is that of a state that is not free
 unfoldable pub free_assignment_at : Shape → List Assignment → List ℕ → Result (List Assignment) Why
 free_assignment_at shape before line =
     if names_free shape (number_of (cut_at_space line).0) then assignment_at shape.states before line else Err why.BadIndex
