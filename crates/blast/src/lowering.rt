@@ -68,8 +68,8 @@ fn lower_accepted(alloc: Global, model: &Model) -> Result<Circuit, LowerFault>
 /// other states the latches.
 ///
 /// Condition: the model is of the basic forms, which are those that are lowered so far; `btor2text::are_basic` is the
-/// test. Errors: `NoNext` with the first state in file order that has an init line and no next line; else `TooBig` where the bound
-/// on the variables is above 2^30; else `NoMemory`. Nothing is given then.
+/// test. Errors: `NoNext` with the first state in file order that has an init line and no next line; else `TooBig` where
+/// the bound on the variables is above 2^30; else `NoMemory`. Nothing is given then.
 pub fn lower(alloc: Global, model: &Model) -> Result<Circuit, LowerFault>
     requires basic { are_basic model.now ≡ true }
     ensures ok { IfOk result (λ circuit. Lowers model.now circuit) }
