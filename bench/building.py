@@ -18,6 +18,8 @@ def rows(crates):
 def built(folder, name, crates):
     """Proves and builds the program of `NAME.rt.txt` on these crates, in a folder that is new.
 
+    What is written of its proof stands in `NAME.proofs`, where there is any.
+
     The answer is its path and the processor that it is built for. `rt run` builds it by LLVM, and runs it once on
     nothing. What the crates' own checks kept is copied along, so that they are not proved anew.
     """
@@ -27,6 +29,9 @@ def built(folder, name, crates):
         shutil.copytree(os.path.join(TOP, "crates", crate), os.path.join(folder, "crates", crate), symlinks=True)
     shutil.copy(os.path.join(TOP, "HANDLES"), folder)
     shutil.copy(os.path.join(BENCH, name + ".rt.txt"), os.path.join(source, "main.rt"))
+    proofs = os.path.join(BENCH, name + ".proofs")
+    if os.path.isdir(proofs):
+        shutil.copytree(proofs, os.path.join(os.path.dirname(source), "proofs"))
     with open(os.path.join(folder, "crates.txt"), "w") as listed:
         listed.write("\n".join(rows(crates) + [f"{name}: {' '.join(crates)}"]) + "\n")
     crate = os.path.dirname(source)

@@ -1,0 +1,8 @@
+use Rattle.std.proofs.Common.{◌≡◌, ◌+◌, ◌*◌, ◌<◌, length, All}
+use Rattle.gate_counts.proofs.inputs.Given as goal
+
+abbrev pub invariant-loop-i : goal.invariant-loop-i
+invariant-loop-i l = record {
+  wide : length l.bits.items ≡ l.i;
+  defined : All (λ x. x < 2 * (l.before + l.width + 1)) l.bits.items;
+}
