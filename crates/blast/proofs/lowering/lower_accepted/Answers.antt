@@ -21,28 +21,28 @@ push_properties-requires-clause-reads c =
     let items = c.args.model.now in
     let leaves : c.in-Ok.gates ≡ leaves_only items = c.in-Ok.ensures.ok ∙ rw (c.given_width-inputs.ensures.value, c.carried_width-latches.ensures.value) refl in
     let nodes : LowersNodes items (leaves_only items) c.lower_nodes.new.gates c.in-Ok-lower_nodes.table = subst (λ (n : Net). LowersNodes items n c.lower_nodes.new.gates c.in-Ok-lower_nodes.table) leaves c.in-Ok-lower_nodes.ensures.ok in
-    rows_still items c.lower_nodes.new.gates c.in-Ok-lower_nodes.table c.finish-circuit.result c.set_latches.new.circuit nodes c.finish-circuit.ensures c.set_latches.ensures.latches c.set_latches.ensures.others
+    rows_still items c.lower_nodes.new.gates c.in-Ok-lower_nodes.table c.finish-circuit.result c.set_latches.new.circuit nodes c.finish-circuit.ensures.circuit c.set_latches.ensures.latches c.set_latches.ensures.others
 
 pub set_names-requires-clause-unnamed : goal.set_names-requires-clause-unnamed
 set_names-requires-clause-unnamed c =
     let items = c.args.model.now in
     let leaves : c.in-Ok.gates ≡ leaves_only items = c.in-Ok.ensures.ok ∙ rw (c.given_width-inputs.ensures.value, c.carried_width-latches.ensures.value) refl in
     let nodes : LowersNodes items (leaves_only items) c.lower_nodes.new.gates c.in-Ok-lower_nodes.table = subst (λ (n : Net). LowersNodes items n c.lower_nodes.new.gates c.in-Ok-lower_nodes.table) leaves c.in-Ok-lower_nodes.ensures.ok in
-    (unnamed_yet items c.lower_nodes.new.gates c.in-Ok-lower_nodes.table c.finish-circuit.result c.set_latches.new.circuit c.push_properties.new.circuit nodes c.finish-circuit.ensures c.set_latches.ensures.latches c.set_latches.ensures.others c.in_ok-push_properties.ensures.others).names
+    (unnamed_yet items c.lower_nodes.new.gates c.in-Ok-lower_nodes.table c.finish-circuit.result c.set_latches.new.circuit c.push_properties.new.circuit nodes c.finish-circuit.ensures.circuit c.set_latches.ensures.latches c.set_latches.ensures.others c.in_ok-push_properties.ensures.others).names
 
 pub set_names-requires-clause-inputs : goal.set_names-requires-clause-inputs
 set_names-requires-clause-inputs c =
     let items = c.args.model.now in
     let leaves : c.in-Ok.gates ≡ leaves_only items = c.in-Ok.ensures.ok ∙ rw (c.given_width-inputs.ensures.value, c.carried_width-latches.ensures.value) refl in
     let nodes : LowersNodes items (leaves_only items) c.lower_nodes.new.gates c.in-Ok-lower_nodes.table = subst (λ (n : Net). LowersNodes items n c.lower_nodes.new.gates c.in-Ok-lower_nodes.table) leaves c.in-Ok-lower_nodes.ensures.ok in
-    (unnamed_yet items c.lower_nodes.new.gates c.in-Ok-lower_nodes.table c.finish-circuit.result c.set_latches.new.circuit c.push_properties.new.circuit nodes c.finish-circuit.ensures c.set_latches.ensures.latches c.set_latches.ensures.others c.in_ok-push_properties.ensures.others).inputs
+    (unnamed_yet items c.lower_nodes.new.gates c.in-Ok-lower_nodes.table c.finish-circuit.result c.set_latches.new.circuit c.push_properties.new.circuit nodes c.finish-circuit.ensures.circuit c.set_latches.ensures.latches c.set_latches.ensures.others c.in_ok-push_properties.ensures.others).inputs
 
 pub set_names-requires-clause-latches : goal.set_names-requires-clause-latches
 set_names-requires-clause-latches c =
     let items = c.args.model.now in
     let leaves : c.in-Ok.gates ≡ leaves_only items = c.in-Ok.ensures.ok ∙ rw (c.given_width-inputs.ensures.value, c.carried_width-latches.ensures.value) refl in
     let nodes : LowersNodes items (leaves_only items) c.lower_nodes.new.gates c.in-Ok-lower_nodes.table = subst (λ (n : Net). LowersNodes items n c.lower_nodes.new.gates c.in-Ok-lower_nodes.table) leaves c.in-Ok-lower_nodes.ensures.ok in
-    (unnamed_yet items c.lower_nodes.new.gates c.in-Ok-lower_nodes.table c.finish-circuit.result c.set_latches.new.circuit c.push_properties.new.circuit nodes c.finish-circuit.ensures c.set_latches.ensures.latches c.set_latches.ensures.others c.in_ok-push_properties.ensures.others).latches
+    (unnamed_yet items c.lower_nodes.new.gates c.in-Ok-lower_nodes.table c.finish-circuit.result c.set_latches.new.circuit c.push_properties.new.circuit nodes c.finish-circuit.ensures.circuit c.set_latches.ensures.latches c.set_latches.ensures.others c.in_ok-push_properties.ensures.others).latches
 
 pub returns-clause-ok : goal.returns-clause-ok
 returns-clause-ok c =
@@ -50,5 +50,5 @@ returns-clause-ok c =
     let leaves : c.in-Ok.gates ≡ leaves_only items = c.in-Ok.ensures.ok ∙ rw (c.given_width-inputs.ensures.value, c.carried_width-latches.ensures.value) refl in
     let nodes : LowersNodes items (leaves_only items) c.lower_nodes.new.gates c.in-Ok-lower_nodes.table = subst (λ (n : Net). LowersNodes items n c.lower_nodes.new.gates c.in-Ok-lower_nodes.table) leaves c.in-Ok-lower_nodes.ensures.ok in
     assemble items c.lower_nodes.new.gates c.in-Ok-lower_nodes.table c.finish-circuit.result c.set_latches.new.circuit c.push_properties.new.circuit c.set_names.new.circuit
-    c.requires.well_formed (profile_given items c.requires.accepted) (search rules) nodes c.finish-circuit.ensures c.set_latches.ensures.latches c.set_latches.ensures.others c.in_ok-push_properties.ensures.bads c.in_ok-push_properties.ensures.constraints
+    c.requires.well_formed (profile_given items c.requires.accepted) (search rules) nodes c.finish-circuit.ensures.circuit c.set_latches.ensures.latches c.set_latches.ensures.others c.in_ok-push_properties.ensures.bads c.in_ok-push_properties.ensures.constraints
     c.in_ok-push_properties.ensures.others c.in_ok-set_names.ensures.ok
