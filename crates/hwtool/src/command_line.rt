@@ -45,6 +45,7 @@ const TWO_FORMS: &str = "words: choose one form\n";
 
 /// The flags that choose the form of a circuit that is written.
 const ASCII: &str = "ascii";
+
 const BINARY: &str = "binary";
 
 /// The word of the command that judges a witness.

@@ -96,10 +96,7 @@ fn binary_circuits(rt: HostRuntime) -> Result<(), Fail> {
     let rows = [
         (TOGGLER, "aig 1 0 1 0 0 1\n3\n2\nl0 t[0]\n"),
         (ANY_START, "aig 1 0 1 0 0 1\n2 2\n2\nl0 t[0]\n"),
-        (
-            FREE,
-            "aig 3 2 1 0 0 1\n4 6\n6\ni0 x[0]\ni1 f[0]\nl0 s[0]\n",
-        ),
+        (FREE, "aig 3 2 1 0 0 1\n4 6\n6\ni0 x[0]\ni1 f[0]\nl0 s[0]\n"),
         ("", "aig 0 0 0 0 0\n"),
         // one gate, whose literal is 6: the deltas are 2 and 2
         (

@@ -51,7 +51,12 @@ fn refuses(alloc: Global, witness: &str, line: u64, why: &str) -> Result<bool, F
 fn judgements(rt: HostRuntime) -> Result<(), Fail> {
     let rows = [
         (TOGGLER, RISES, 0, "accepted 2 frames"),
-        (ANY_START, "sat\nb0\n#0\n0 1\n@0\n.\n", 0, "accepted 1 frames"),
+        (
+            ANY_START,
+            "sat\nb0\n#0\n0 1\n@0\n.\n",
+            0,
+            "accepted 1 frames",
+        ),
         (ANY_START, "sat\nb0\n@0\n.\n", 1, "not reached: b0"),
         (
             TOGGLER,
@@ -351,25 +356,95 @@ const FOLLOWED: &str = "sat\nb0\n#0\n1 0\n0 1\n@0\n0 0\n#1\n0 0\n@1\n0 0\n.\n";
 fn free_states(rt: HostRuntime) -> Result<(), Fail> {
     let rows = [
         (FREE, FOLLOWED, 0, "accepted 2 frames"),
-        (FREE, "sat\nb0\n#0\n0 1\n@0\n#1\n@1\n.\n", 0, "accepted 2 frames"),
-        (FREE, "sat\nb0\n#0\n0 1\n@0\n@1\n.\n", 0, "accepted 2 frames"),
-        (FREE, "sat\nb0\n@0\n#1\n0 1 f\n@1\n@2\n.\n", 0, "accepted 3 frames"),
+        (
+            FREE,
+            "sat\nb0\n#0\n0 1\n@0\n#1\n@1\n.\n",
+            0,
+            "accepted 2 frames",
+        ),
+        (
+            FREE,
+            "sat\nb0\n#0\n0 1\n@0\n@1\n.\n",
+            0,
+            "accepted 2 frames",
+        ),
+        (
+            FREE,
+            "sat\nb0\n@0\n#1\n0 1 f\n@1\n@2\n.\n",
+            0,
+            "accepted 3 frames",
+        ),
         // a free state that is not assigned is 0, and keeps no word of the frame before
         (FREE, "sat\nb0\n@0\n#1\n@1\n.\n", 1, "not reached: b0"),
         (FREE, "sat\nb0\n#0\n0 1\n@0\n.\n", 1, "not reached: b0"),
         // a part for free states stands once before its frame, and gives words to them alone
-        (FREE, "sat\nb0\n@0\n#1\n1 0\n", 1, "malformed line 5: 114 BadIndex"),
-        (FREE, "sat\nb0\n@0\n#1\n2 0\n", 1, "malformed line 5: 114 BadIndex"),
-        (FREE, "sat\nb0\n@0\n#1\n.\n", 1, "malformed line 5: 113 FrameOrder"),
-        (FREE, "sat\nb0\n@0\n#1\n#1\n@1\n.\n", 1, "malformed line 5: 113 FrameOrder"),
-        (FREE, "sat\nb0\n@0\n#1\n@2\n.\n", 1, "malformed line 5: 113 FrameOrder"),
-        (FREE, "sat\nb0\n@0\n@1\n#1\n", 1, "malformed line 5: 113 FrameOrder"),
-        (FREE, "sat\nb0\n@0\n#0\n", 1, "malformed line 4: 113 FrameOrder"),
-        (FREE, "sat\nb0\n@0\n#2\n", 1, "malformed line 4: 113 FrameOrder"),
+        (
+            FREE,
+            "sat\nb0\n@0\n#1\n1 0\n",
+            1,
+            "malformed line 5: 114 BadIndex",
+        ),
+        (
+            FREE,
+            "sat\nb0\n@0\n#1\n2 0\n",
+            1,
+            "malformed line 5: 114 BadIndex",
+        ),
+        (
+            FREE,
+            "sat\nb0\n@0\n#1\n.\n",
+            1,
+            "malformed line 5: 113 FrameOrder",
+        ),
+        (
+            FREE,
+            "sat\nb0\n@0\n#1\n#1\n@1\n.\n",
+            1,
+            "malformed line 5: 113 FrameOrder",
+        ),
+        (
+            FREE,
+            "sat\nb0\n@0\n#1\n@2\n.\n",
+            1,
+            "malformed line 5: 113 FrameOrder",
+        ),
+        (
+            FREE,
+            "sat\nb0\n@0\n@1\n#1\n",
+            1,
+            "malformed line 5: 113 FrameOrder",
+        ),
+        (
+            FREE,
+            "sat\nb0\n@0\n#0\n",
+            1,
+            "malformed line 4: 113 FrameOrder",
+        ),
+        (
+            FREE,
+            "sat\nb0\n@0\n#2\n",
+            1,
+            "malformed line 4: 113 FrameOrder",
+        ),
         (FREE, "sat\nb0\n#1\n", 1, "malformed line 3: 113 FrameOrder"),
-        (FREE, "sat\nb0\n@0\n#1\n0 1\n0 1\n", 1, "malformed line 6: 115 IndexTwice"),
-        (FREE, "sat\nb0\n@0\n#1\n0 x\n", 1, "malformed line 5: 117 Undetermined"),
-        (TOGGLER, "sat\nb0\n@0\n#1\n@1\n.\n", 1, "malformed line 4: 113 FrameOrder"),
+        (
+            FREE,
+            "sat\nb0\n@0\n#1\n0 1\n0 1\n",
+            1,
+            "malformed line 6: 115 IndexTwice",
+        ),
+        (
+            FREE,
+            "sat\nb0\n@0\n#1\n0 x\n",
+            1,
+            "malformed line 5: 117 Undetermined",
+        ),
+        (
+            TOGGLER,
+            "sat\nb0\n@0\n#1\n@1\n.\n",
+            1,
+            "malformed line 4: 113 FrameOrder",
+        ),
     ];
     for (model, witness, status, line) in rows {
         let printed = prints(rt.alloc(), model, witness, status, line)?;

@@ -90,11 +90,11 @@ fn refused_words(rt: HostRuntime) -> Result<(), Fail> {
         ),
         (
             &["lower", "--binary", "--ascii", "--both", "a"],
-            "\n\nUsage: hwtool lower [OPTIONS] <MODEL>\n",
+            "error: unexpected argument '--both' found\n",
         ),
         (
             &["show", "--binary", "a"],
-            "\n\nUsage: hwtool show <MODEL>\n",
+            "error: unexpected argument '--binary' found\n",
         ),
         (
             &["check-btor", "a"],
