@@ -100,7 +100,7 @@ pub record IsRenumbered (l : Loose) (c : Circuit) : Type 0 where
   pub is_order : IsOrder l order
   pub circuit : c ≡ renumbered l order
 
--- a gate has another one's variable in an operand
+-- a gate has a gate's variable, another one's or its own, in an operand
 pub record Uses (l : Loose) (j i : ℕ) : Type 0 where
   pub user : j < length l.gates
   pub used : i < length l.gates

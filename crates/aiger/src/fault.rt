@@ -11,7 +11,8 @@ use thiserror::Error;
 #[derive(Clone, Copy, Debug, PartialEq, Eq, Error)]
 #[error("{number} {name}", number = self.number(), name = self.name())]
 pub enum CircuitFault {
-    /// A literal's variable is above the greatest one of the circuit.
+    /// A literal's variable is above the greatest one of the circuit. In the lists of a file: a literal that is to define
+    /// a variable is odd, below 2 or of a variable that is defined already.
     LiteralOutOfRange,
     /// A gate's second operand is above its first.
     OrderBroken,

@@ -14,12 +14,12 @@ pub enum Why {
     BadHeader,
     /// The greatest variable is not the sum of inputs, latches and gates (in the ascii form: is below it).
     CountsDisagree,
-    /// A line of one number is none, an input's literal is not its own, another literal is above the greatest, or an
-    /// ascii gate's line is not three numbers.
+    /// A line of one number is none, an input's literal defines no new variable, another literal is above the greatest,
+    /// or an ascii gate's line is not three numbers.
     BadNumber,
-    /// A latch's line has other numbers than it may have.
+    /// A latch's line has other numbers than it may have, or its own literal defines no new variable.
     BadLatch,
-    /// A gate's operands are not below it, or the first is below the second.
+    /// A binary gate's operands are not below it in their order, or an ascii gate's literal defines no new variable.
     GateOrder,
     /// A delta of more than one byte ends in byte 0.
     DeltaNotShortest,

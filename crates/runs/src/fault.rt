@@ -4,7 +4,7 @@ ghost use Rattle.runs.specs.Faults.{new_number, new_name};
 
 use thiserror::Error;
 
-/// Why a model has no run.
+/// Why a model or a circuit has no run.
 #[derive(Clone, Copy, Debug, PartialEq, Eq, Error)]
 pub enum NewFault {
     /// The first state in file order with an init and without a next; it has the id of the state's line.
