@@ -10,7 +10,7 @@ use thiserror::Error;
 #[derive(Clone, Copy, Debug, PartialEq, Eq, Error)]
 #[error("{number} {name}", number = self.number(), name = self.name())]
 pub enum LowerFault {
-    /// The first state in file order without a next; it has the id of the state's line.
+    /// The first state in file order with an init and without a next; it has the id of the state's line.
     #[error("item {0}: {number} {name}", number = self.number(), name = self.name())]
     NoNext(u64),
     /// The bound on the variables is above 2^30.

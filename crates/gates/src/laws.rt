@@ -1,4 +1,4 @@
-//! Worked rows of the definitions of this crate, as functions with no code.
+//! Laws and worked rows of the definitions of this crate.
 ghost use Rattle.std.specs.Prelude.{◌≡◌, Some, None, [], ◌∷◌, not, true, false};
 ghost use Rattle.base.specs.Operator.{unary_value};
 ghost use Rattle.base.specs.declared.operators.Unary.TheVariants as unary;

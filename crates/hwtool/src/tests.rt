@@ -67,6 +67,11 @@ fn circuits(rt: HostRuntime) -> Result<(), Fail> {
             "aag 3 2 1 0 0 1\n2\n4\n6 4 6\n6\ni0 x[0]\ni1 f[0]\nl0 s[0]\n",
         ),
         ("1 sort bitvec 1\n2 state 1\n", "aag 1 1 0 0 0\n2\n"),
+        // the same two operands in either order make one gate
+        (
+            "1 sort bitvec 1\n2 input 1\n3 input 1\n4 and 1 2 3\n5 and 1 3 2\n6 bad 4\n7 bad 5\n",
+            "aag 3 2 0 0 1 2\n2\n4\n6\n6\n6 4 2\n",
+        ),
         (
             "1 sort bitvec 2\n2 state 1 f\n3 state 1\n4 input 1 x\n5 sort bitvec 1\n6 state 5 g\n7 constraint 6\n",
             "aag 7 7 0 0 0 0 1\n2\n4\n6\n8\n10\n12\n14\n14\ni0 x[0]\ni1 x[1]\ni2 f[0]\ni3 f[1]\ni6 g[0]\n",

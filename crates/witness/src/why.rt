@@ -15,7 +15,7 @@ pub enum Why {
     BadClaim,
     /// A justice property is claimed.
     JusticeClaim,
-    /// A line that opens or ends a part stands where it may not.
+    /// A line that opens or ends a part stands where it may not, or the first line behind the claims opens none.
     FrameOrder,
     /// An assignment's index is no decimal, or names no state or input, or behind the first frame a state that is not
     /// free.
