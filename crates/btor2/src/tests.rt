@@ -408,14 +408,19 @@ fn a_model_is_read_as_it_was_pushed(rt: HostRuntime) -> Result<(), Fail> {
     Ok(())
 }
 
+/// Whether a model has a state and its first one is free.
+fn first_is_free(model: &Model) -> bool {
+    !model.states().is_empty() && model.is_free(0)
+}
+
 #[test]
 fn states_that_lack_a_line_are_told(rt: HostRuntime) -> Result<(), Fail> {
     let state_alone = model_of(rt.alloc(), 3, toggler_line)?;
-    assert!(rt; state_alone.is_free(0) && state_alone.first_init_without_next().is_none());
+    assert!(rt; first_is_free(&state_alone) && state_alone.first_init_without_next().is_none());
     let front = model_of(rt.alloc(), 5, toggler_line)?;
-    assert!(rt; !front.is_free(0) && front.first_init_without_next() == Some(5));
+    assert!(rt; !first_is_free(&front) && front.first_init_without_next() == Some(5));
     let toggler = model_of(rt.alloc(), TOGGLER, toggler_line)?;
-    assert!(rt; !toggler.is_free(0) && toggler.first_init_without_next().is_none());
+    assert!(rt; !first_is_free(&toggler) && toggler.first_init_without_next().is_none());
     Ok(())
 }
 

@@ -455,13 +455,16 @@ fn free_states(rt: HostRuntime) -> Result<(), Fail> {
 
 #[test]
 fn a_witness_of_free_states_cut(rt: HostRuntime) -> Result<(), Fail> {
+    let words = ["check-btor", "model", "witness"];
+    let bytes = FOLLOWED.as_bytes();
     let mut line = 1;
-    for cut in 0..FOLLOWED.len() {
-        let text = format!(in rt.alloc(); "malformed line {line}: 118 Truncated")?;
-        let (front, _) = FOLLOWED.split_at(cut);
-        let printed = prints(rt.alloc(), FREE, front, 1, text.as_str())?;
-        assert!(rt; printed, "{front}");
-        if FOLLOWED.as_bytes()[cut] == b'\n' {
+    for cut in 0..bytes.len() {
+        let mut front = &bytes[..cut];
+        let (status, written, _) = ran(rt.alloc(), words.as_slice(), FREE, &mut front)?;
+        let text = format!(in rt.alloc(); "malformed line {line}: 118 Truncated\n")?;
+        assert_eq!(rt; status, 1, "{cut}");
+        assert_eq!(rt; written.as_slice(), text.as_bytes(), "{cut}");
+        if bytes[cut] == b'\n' {
             line += 1;
         }
     }
