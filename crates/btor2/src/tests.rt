@@ -410,7 +410,10 @@ fn a_model_is_read_as_it_was_pushed(rt: HostRuntime) -> Result<(), Fail> {
 
 /// Whether a model has a state and its first one is free.
 fn first_is_free(model: &Model) -> bool {
-    !model.states().is_empty() && model.is_free(0)
+    if model.states().is_empty() {
+        return false;
+    }
+    model.is_free(0)
 }
 
 #[test]
