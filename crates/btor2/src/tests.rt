@@ -416,14 +416,20 @@ fn first_is_free(model: &Model) -> bool {
     model.is_free(0)
 }
 
+/// How many lines of the toggling model a model has, whether its first state is free, and the state with an init alone.
+const FRONTS: [(usize, bool, Option<u64>); 3] = [
+    (3, true, None),
+    (5, false, Some(5)),
+    (TOGGLER, false, None),
+];
+
 #[test]
 fn states_that_lack_a_line_are_told(rt: HostRuntime) -> Result<(), Fail> {
-    let state_alone = model_of(rt.alloc(), 3, toggler_line)?;
-    assert!(rt; first_is_free(&state_alone) && state_alone.first_init_without_next().is_none());
-    let front = model_of(rt.alloc(), 5, toggler_line)?;
-    assert!(rt; !first_is_free(&front) && front.first_init_without_next() == Some(5));
-    let toggler = model_of(rt.alloc(), TOGGLER, toggler_line)?;
-    assert!(rt; !first_is_free(&toggler) && toggler.first_init_without_next().is_none());
+    for (lines, free, init_alone) in FRONTS {
+        let model = model_of(rt.alloc(), lines, toggler_line)?;
+        assert!(rt; first_is_free(&model) == free, "{lines}");
+        assert!(rt; model.first_init_without_next() == init_alone, "{lines}");
+    }
     Ok(())
 }
 
