@@ -457,7 +457,7 @@ fn free_states(rt: HostRuntime) -> Result<(), Fail> {
 fn a_witness_of_free_states_cut(rt: HostRuntime) -> Result<(), Fail> {
     let words = ["check-btor", "model", "witness"];
     let bytes = FOLLOWED.as_bytes();
-    let mut line = 1;
+    let mut line = 1u64;
     for cut in 0..bytes.len() {
         let mut front = &bytes[..cut];
         let (status, written, _) = ran(rt.alloc(), words.as_slice(), FREE, &mut front)?;
@@ -465,7 +465,7 @@ fn a_witness_of_free_states_cut(rt: HostRuntime) -> Result<(), Fail> {
         assert_eq!(rt; status, 1, "{cut}");
         assert_eq!(rt; written.as_slice(), text.as_bytes(), "{cut}");
         if bytes[cut] == b'\n' {
-            line += 1;
+            line = line.saturating_add(1);
         }
     }
     Ok(())
