@@ -15,6 +15,3 @@ pub use fault::{CircuitFault, LooseFault};
 pub use literal::Lit;
 pub use loose::{GateLine, LatchLine, Loose};
 pub use names::LONGEST_NAME;
-
-#[cfg(test)]
-mod tests;

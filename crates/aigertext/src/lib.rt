@@ -23,6 +23,3 @@ pub use ascii::write_ascii;
 pub use binary::write_binary;
 pub use fault::{ReadFault, Why};
 pub use forms::Form;
-
-#[cfg(test)]
-mod tests;

@@ -28,6 +28,3 @@ pub use sources::{FromReader, ReadAllFault, Source, read_all};
 pub use tally::{Tally, gate, take};
 pub use width::Width;
 pub use words::{binary, concat, ite, sext, slice, uext, unary};
-
-#[cfg(test)]
-mod tests;

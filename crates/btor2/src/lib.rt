@@ -14,6 +14,3 @@ pub use item::{Body, Item};
 pub use model::Model;
 pub use operands::Operands;
 pub use symbol::{Symbol, SymbolFault};
-
-#[cfg(test)]
-mod tests;

@@ -19,6 +19,3 @@ pub use fault::{ReadFault, Why};
 pub use forms::Forms;
 pub use reading::{read, read_basic};
 pub use writing::write;
-
-#[cfg(test)]
-mod tests;

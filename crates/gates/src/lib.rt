@@ -37,8 +37,3 @@ pub use plain::PlainGates;
 pub use shared::HashGates;
 pub use shifts::{rotate, shift};
 pub use signed_division::{sdiv, smod, srem};
-
-#[cfg(test)]
-mod tests;
-#[cfg(test)]
-mod tests_table;

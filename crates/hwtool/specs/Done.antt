@@ -10,6 +10,7 @@ use Rattle.btor2text.specs.Spelling.{StandsFor}
 use Rattle.btor2text.specs.Writing.{written}
 use Rattle.aigertext.specs.declared.forms.Form.{Form}
 use Rattle.blast.specs.Conversion.{Converts}
+use Rattle.blast.specs.Cost.{cost, bound}
 use Rattle.witness.specs.declared.judgement.Judgement.{Judgement}
 use Rattle.witness.specs.declared.judgement.Judgement.TheVariants as judgement
 use Rattle.witness.specs.Judgements.{Judges}
@@ -68,11 +69,23 @@ pub record Shows (known before now : Option (List ℕ)) : Type 0 where
   pub well_formed : IsWellFormed items
   pub appends : Appends before now (written items ++ counts_line items)
 
--- the conversion is done, or the witness is accepted, or the model is shown
+-- the lines that tell how many gates and variables the lowering of a model has at most
+abbrev pub cost_lines : List Item → List ℕ
+cost_lines items = codes "gates " ++ (decimal (cost items) ++ (codes "\nvariables " ++ (decimal (bound items) ++ codes "\n")))
+
+-- all that was to come is a text of some model, and what was written tells its cost
+pub record TellsCost (known before now : Option (List ℕ)) : Type 0 where
+  pub items : List Item
+  pub text : IsModelOf known items
+  pub well_formed : IsWellFormed items
+  pub appends : Appends before now (cost_lines items)
+
+-- the conversion is done, or the witness is accepted, or the model is shown, or its cost is told
 abbrev pub IsDone : Task → Form → Option (List ℕ) → Option (List ℕ) → Option (List ℕ) → Option (List ℕ) → Type 0
 IsDone task.Lower form first second before now = Converts first before now form
 IsDone task.CheckBtor form first second before now = Accepts first second before now
 IsDone task.Show form first second before now = Shows first before now
+IsDone task.Cost form first second before now = TellsCost first before now
 
 -- a witness is judged, and not accepted
 abbrev pub IsNotAccepted : Task → Option (List ℕ) → Option (List ℕ) → Option (List ℕ) → Option (List ℕ) → Type 0

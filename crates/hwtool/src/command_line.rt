@@ -54,6 +54,9 @@ const CHECK_BTOR: &str = "check-btor";
 /// The word of the command that writes a model.
 const SHOW: &str = "show";
 
+/// The word of the command that tells the cost of a lowering.
+const COST: &str = "cost";
+
 /// A word that names a file.
 fn file_name<'a>(alloc: Global, name: &'a str, help: &'a str) -> Arg<'a> {
     Arg::new(alloc, name)
@@ -97,6 +100,14 @@ fn show<'a>(alloc: Global) -> Result<Command<'a>, AllocError> {
         .arg(file_name(alloc, "MODEL", MODEL))
 }
 
+/// The words of `cost`.
+fn cost<'a>(alloc: Global) -> Result<Command<'a>, AllocError> {
+    Command::new(alloc, COST)
+        .about("Tell how many gates and variables the circuit of a BTOR2 model has at most")
+        .after_help(STATUSES)
+        .arg(file_name(alloc, "MODEL", MODEL))
+}
+
 /// The commands and their words.
 fn commands<'a>(alloc: Global) -> Result<Command<'a>, AllocError> {
     Command::new(alloc, PROGRAM)
@@ -109,36 +120,36 @@ fn commands<'a>(alloc: Global) -> Result<Command<'a>, AllocError> {
         .subcommand_required(true)
         .subcommand(lower(alloc)?)?
         .subcommand(check_btor(alloc)?)?
-        .subcommand(show(alloc)?)
+        .subcommand(show(alloc)?)?
+        .subcommand(cost(alloc)?)
+}
+
+/// The task of a command's word.
+fn task_of(command: &str) -> Task {
+    if command == CHECK_BTOR {
+        Task::CheckBtor
+    } else if command == SHOW {
+        Task::Show
+    } else if command == COST {
+        Task::Cost
+    } else {
+        Task::Lower
+    }
 }
 
 /// The order that matches name.
 fn order_of<'a>(matches: &ArgMatches<'a>) -> Option<Order<'a>> {
     let (command, words) = matches.subcommand()?;
-    let first = words.get_str("MODEL")?;
-    if command == CHECK_BTOR {
-        Some(Order {
-            task: Task::CheckBtor,
-            form: Form::Ascii,
-            first,
-            second: Some(words.get_str("WITNESS")?),
-        })
-    } else {
-        Some(Order {
-            task: if command == SHOW {
-                Task::Show
-            } else {
-                Task::Lower
-            },
-            form: if words.get_flag(BINARY) {
-                Form::Binary
-            } else {
-                Form::Ascii
-            },
-            first,
-            second: None,
-        })
-    }
+    Some(Order {
+        task: task_of(command),
+        form: if words.get_flag(BINARY) {
+            Form::Binary
+        } else {
+            Form::Ascii
+        },
+        first: words.get_str("MODEL")?,
+        second: words.get_str("WITNESS"),
+    })
 }
 
 /// Whether the words of a command choose both forms.

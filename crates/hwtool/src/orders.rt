@@ -18,6 +18,8 @@ pub enum Task {
     CheckBtor,
     /// Writes a model's text in the writer's form.
     Show,
+    /// Tells how many gates and variables the lowering of a model has at most.
+    Cost,
 }
 
 /// A command, the form of the circuits that it writes, and the names of its files.

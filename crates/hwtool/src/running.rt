@@ -4,13 +4,13 @@ ghost use Rattle.std.specs.Prelude.{◌≡◌, ◌≢◌, ◌≤◌, ◌⊎◌, 
 ghost use Rattle.std.specs.Io.KnownBytes.{Appends};
 ghost use Rattle.btor2text.specs.Writing.{written};
 ghost use Rattle.std.specs.String.{string_bytes};
-ghost use Rattle.hwtool.specs.Done.{IsDone, IsNotAccepted, Accepts, AcceptsNot, IsAccepted, Shows, counts_line, judgement_line};
+ghost use Rattle.hwtool.specs.Done.{IsDone, IsNotAccepted, Accepts, AcceptsNot, IsAccepted, Shows, TellsCost, counts_line, cost_lines, judgement_line};
 
 use crate::orders::{Order, STANDARD_INPUT, Task};
 use crate::statuses::{DEVICE, DONE, NOT_ACCEPTED, REFUSED};
 use crate::telling::say;
 use base::{Sink, Source, write_all};
-use blast::{ConvertFault, LowerFault, convert};
+use blast::{ConvertFault, LowerFault, bound, convert, cost};
 use btor2::Model;
 use btor2text::{Why, read, write};
 use std::alloc::{AllocError, Global};
@@ -19,10 +19,10 @@ use witness::{JudgeFault, Judgement, judge_words};
 /// Does a command, and answers the exit status: 0 done or accepted, 1 not accepted, 2 input refused, 3 device or
 /// memory.
 ///
-/// Results go to `out`, refusals to `err`, a line each; where `err` fails the status is 3. `lower` and `show` do not
-/// read the second source. The status is 0 only where all of the circuit's text was written, the witness is accepted
-/// and the line that says so was written, or all of the model's text and the line of its counts were written. It is 1
-/// only where the witness is judged, not accepted, and the line of its judgement was written.
+/// Results go to `out`, refusals to `err`, a line each; where `err` fails the status is 3. Only a command of two files
+/// reads the second source. The status is 0 only where all of the circuit's text was written, the witness is accepted
+/// and the line that says so was written, all of the model's text and the line of its counts were written, or both
+/// lines of its cost. It is 1 only where the witness is judged, not accepted, and the line of its judgement was written.
 pub fn run<A: Source, B: Source, O: Sink, E: Sink>(
     alloc: Global,
     order: &Order<'_>,
@@ -42,6 +42,7 @@ pub fn run<A: Source, B: Source, O: Sink, E: Sink>(
         },
         Task::CheckBtor => check(alloc, order, first, second, out, err),
         Task::Show => show(alloc, order, first, out, err),
+        Task::Cost => tell_cost(alloc, order, first, out, err),
     }
 }
 
@@ -99,10 +100,7 @@ fn tell_model<O: Sink, E: Sink>(alloc: Global, model: &Model, out: &mut O, err: 
         Ok(()) => {}
         Err(_) => return say(err, DEVICE, b"output: device\n"),
     }
-    match write_all(out, line.as_bytes()) {
-        Ok(()) => DONE,
-        Err(_) => say(err, DEVICE, b"output: device\n"),
-    }
+    write_result(out, line.as_bytes(), err)
 }
 
 /// The line that tells how many items, inputs, states, bad properties and constraints a model has.
@@ -117,6 +115,47 @@ fn counts_line(alloc: Global, model: &Model) -> Result<String, AllocError>
     format!(in alloc;
         "; {items} items, {inputs} inputs, {states} states, {bads} bad, {constraints} constraints\n"
     )
+}
+
+/// Writes how many gates and variables the lowering of a model has at most, and answers the exit status.
+fn tell_cost<A: Source, O: Sink, E: Sink>(
+    alloc: Global,
+    order: &Order<'_>,
+    first: &mut A,
+    out: &mut O,
+    err: &mut E,
+) -> u8
+    ensures told { result ≡ 0 → TellsCost (A.to_come first.old) (O.written out.old) (O.written out.new) }
+    ensures statuses { (result ≡ 0) ⊎ ((2 ≤ result) × (result ≤ 3)) }
+{
+    let model = match read(alloc, first) {
+        Ok(model) => model,
+        Err(fault) => return refuse(alloc, order.first, &ConvertFault::Read(fault), err),
+    };
+    match cost_lines(alloc, &model) {
+        Ok(lines) => write_result(out, lines.as_bytes(), err),
+        Err(_) => say(err, DEVICE, b"no memory\n"),
+    }
+}
+
+/// The lines that tell how many gates and variables the lowering of a model has at most.
+fn cost_lines(alloc: Global, model: &Model) -> Result<String, AllocError>
+    ensures { IfOk result (λ lines. string_bytes lines ≡ cost_lines model.now) }
+{
+    let gates = cost(model);
+    let variables = bound(model);
+    format!(in alloc; "gates {gates}\nvariables {variables}\n")
+}
+
+/// Writes a result to standard output, and answers the exit status.
+fn write_result<O: Sink, E: Sink>(out: &mut O, text: &[u8], err: &mut E) -> u8
+    ensures written { result ≡ 0 → Appends (O.written out.old) (O.written out.new) text.now }
+    ensures statuses { (result ≡ 0) ⊎ (result ≡ 3) }
+{
+    match write_all(out, text) {
+        Ok(()) => DONE,
+        Err(_) => say(err, DEVICE, b"output: device\n"),
+    }
 }
 
 /// Writes the line of a judgement, and answers the exit status: 0 accepted, 1 not accepted, 3 where it can't be written.

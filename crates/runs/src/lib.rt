@@ -14,8 +14,3 @@ mod word_run;
 pub use bit_run::BitRun;
 pub use fault::NewFault;
 pub use word_run::WordRun;
-
-#[cfg(test)]
-mod bit_tests;
-#[cfg(test)]
-mod tests;

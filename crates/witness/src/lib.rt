@@ -24,6 +24,3 @@ pub use reading::{claims_nothing, read_words};
 pub use shape::Shape;
 pub use why::Why;
 pub use words::{FrameWords, Given, Part, Words};
-
-#[cfg(test)]
-mod tests;

@@ -1,4 +1,4 @@
-//! Models that are shown, through the two public calls.
+//! Models that are shown and whose cost is told, through the two public calls.
 
 use super::ran;
 use crate::files::NoFile;
@@ -6,38 +6,68 @@ use std::alloc::Global;
 use std::process::Abort;
 use std::test::Fail;
 
-/// What `show` of a text answers and writes: status, standard output, standard error.
-fn shown(alloc: Global, text: &str) -> Result<(u8, Vec<u8>, Vec<u8>), Fail> {
-    let words = ["show", "model"];
+/// What a command on the text of a model answers and writes: status, standard output, standard error.
+fn answered(alloc: Global, command: &str, text: &str) -> Result<(u8, Vec<u8>, Vec<u8>), Fail> {
+    let words = [command, "model"];
     ran(alloc, words.as_slice(), text, &mut NoFile::new())
 }
 
+/// What `show` of a text answers and writes.
+fn shown(alloc: Global, text: &str) -> Result<(u8, Vec<u8>, Vec<u8>), Fail> {
+    answered(alloc, "show", text)
+}
+
 #[test]
-fn shown_models(rt: HostRuntime) -> Result<(), Fail> {
+fn shown_models_and_costs(rt: HostRuntime) -> Result<(), Fail> {
     let rows = [
-        ("", "; 0 items, 0 inputs, 0 states, 0 bad, 0 constraints\n"),
+        ("show", "", "; 0 items, 0 inputs, 0 states, 0 bad, 0 constraints\n"),
         (
+            "show",
             "; t\n1 sort  bitvec 1 ; bit\n\n2 input 1 a\n3 not 1 2\n4 output 3\n",
             "1 sort bitvec 1\n2 input 1 a\n3 not 1 2\n4 output 3\n; 4 items, 1 inputs, 0 states, 0 bad, 0 constraints\n",
         ),
         (
+            "show",
             "1 sort bitvec 8\n2 consth 1 00FF\n",
             "1 sort bitvec 8\n2 consth 1 00ff\n; 2 items, 0 inputs, 0 states, 0 bad, 0 constraints\n",
         ),
         (
+            "show",
             "1 sort bitvec 8\n2 input 1 a;b\n",
             "1 sort bitvec 8\n2 input 1 a;b\n; 2 items, 1 inputs, 0 states, 0 bad, 0 constraints\n",
         ),
         (
+            "show",
             "1 sort bitvec 4\n2 constd 1 -8\n3 constd 1 15\n",
             "1 sort bitvec 4\n2 constd 1 -8\n3 constd 1 15\n; 3 items, 0 inputs, 0 states, 0 bad, 0 constraints\n",
         ),
+        ("cost", "", "gates 0\nvariables 0\n"),
+        (
+            "cost",
+            "1 sort bitvec 64\n2 input 1\n3 input 1\n4 mul 1 2 3\n",
+            "gates 40960\nvariables 41088\n",
+        ),
+        (
+            "cost",
+            "1 sort bitvec 64\n2 input 1\n3 input 1\n4 sll 1 2 3\n",
+            "gates 1408\nvariables 1536\n",
+        ),
+        (
+            "cost",
+            "1 sort bitvec 1\n2 sort bitvec 2\n3 zero 2\n4 state 2 c\n5 init 2 4 3\n6 inc 2 4\n7 next 2 4 6\n8 const 2 11\n9 eq 1 4 8\n10 bad 9\n",
+            "gates 26\nvariables 28\n",
+        ),
+        (
+            "cost",
+            "1 sort bitvec 1\n2 input 1\n3 fair 2\n4 zero 1\n5 state 1\n6 init 1 5 4\n",
+            "gates 0\nvariables 2\n",
+        ),
     ];
-    for (text, wanted) in rows {
-        let (status, written, told) = shown(rt.alloc(), text)?;
-        assert_eq!(rt; status, 0, "{text}");
-        assert_eq!(rt; written.as_slice(), wanted.as_bytes(), "{text}");
-        assert_eq!(rt; told.len(), 0, "{text}");
+    for (command, text, wanted) in rows {
+        let (status, written, told) = answered(rt.alloc(), command, text)?;
+        assert_eq!(rt; status, 0, "{command} of {text}");
+        assert_eq!(rt; written.as_slice(), wanted.as_bytes(), "{command} of {text}");
+        assert_eq!(rt; told.len(), 0, "{command} of {text}");
     }
     Ok(())
 }

@@ -17,7 +17,7 @@ fn stopped(alloc: Global, words: &[&str]) -> Option<Stop> {
 
 #[test]
 fn orders(rt: HostRuntime) -> Result<(), Fail> {
-    let rows: [(&[&str], Task, Form, &str, &str); 8] = [
+    let rows: [(&[&str], Task, Form, &str, &str); 9] = [
         (&[], Task::Lower, Form::Ascii, "-", ""),
         (
             &["lower", "--ascii", "a"],
@@ -35,6 +35,7 @@ fn orders(rt: HostRuntime) -> Result<(), Fail> {
         ),
         (&["lower", "-"], Task::Lower, Form::Ascii, "-", ""),
         (&["show", "a"], Task::Show, Form::Ascii, "a", ""),
+        (&["cost", "a"], Task::Cost, Form::Ascii, "a", ""),
         (
             &["check-btor", "a", "b"],
             Task::CheckBtor,

@@ -2,7 +2,7 @@
 //! and over the plain maker at a thousand operands of 64 bits, against the operators on words.
 ghost use Rattle.std.specs.Prelude.{◌≡◌, ◌+◌, ◌*◌, ◌<◌, ◌≤◌, ◌^◌, [], length, All};
 
-use super::*;
+use gates::{Bits, GateFault, Gates, HashGates, Op, PlainGates, binary_bits, equal, gate_bound, ite_bits, mux, rotate, shift, unary_bits, xor};
 use aiger::{Circuit, Lit};
 use base::{Binary, Tally, Unary, Width, binary, ite, ones, unary};
 use std::alloc::{AllocError, Global};

@@ -1,7 +1,7 @@
 //! The bounds, the limit on variables, and what is printed of the refusals.
 ghost use Rattle.std.specs.Prelude.{◌≡◌, []};
 
-use super::*;
+use gates::{GateFault, Gates, HashGates, Op, PlainGates, gate_bound};
 use aiger::{Gate, Lit};
 use base::{Binary, Unary};
 use std::alloc::Global;

@@ -1,5 +1,5 @@
 //! Tables of texts and their faults.
-use super::*;
+use btor2text::{Why, are_basic, read, read_basic, write};
 use base::VecSink;
 use btor2::PushFault;
 use std::alloc::Global;

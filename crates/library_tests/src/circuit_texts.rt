@@ -1,5 +1,5 @@
 //! The texts of small circuits, with ample memory.
-use super::*;
+use aigertext::{write_ascii, write_binary};
 use aiger::{Circuit, Lit, Reset, Section};
 use base::VecSink;
 use std::alloc::Global;

@@ -1,7 +1,7 @@
 //! Runs of small models, frame by frame.
 ghost use Rattle.std.specs.Prelude.{◌≡◌, ◌<◌, true};
 
-use super::*;
+use runs::{NewFault, WordRun};
 use base::{Binary, Unary};
 use btor2::{Body, Item, Model};
 use std::alloc::Global;

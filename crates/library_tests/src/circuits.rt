@@ -1,5 +1,5 @@
 //! Each call once with ample memory, and the first fault of each.
-use super::*;
+use aiger::{Circuit, CircuitFault, Gate, GateLine, Latch, LatchLine, Lit, Loose, LooseFault, Reset, Section};
 use std::alloc::Global;
 use std::test::Fail;
 

@@ -1,6 +1,7 @@
-//! What no clause says: that calls succeed, what is printed, and that nothing is tried again.
-use super::*;
-use crate::signed::wrap;
+//! What no clause says of words and devices: that calls succeed, what is printed, and that nothing is tried again.
+ghost use Rattle.std.specs.Prelude.{◌<◌, ◌^◌};
+
+use base::{Binary, DeviceFault, FromReader, Outbox, ReadAllFault, Sink, Source, Tally, ToWriter, Unary, VecSink, Width, binary, concat, cut_at, decimal, gate, ite, laws, next_line, ones, read_all, sext, slice, take, uext, unary, write_all};
 use std::collections::VecDeque;
 use std::io::{self, ErrorKind, Read, Write};
 use std::test::Fail;
@@ -89,6 +90,13 @@ impl Sink for Dripping {
         self.failures = self.failures.saturating_add(1);
         Err(DeviceFault::Failed)
     }
+}
+
+/// A number as a word of a width: the number itself, or the greatest word where it is above that.
+fn word(w: Width, x: u64) -> u64
+    ensures { result < 2 ^ w }
+{
+    x.min(ones(w))
 }
 
 #[test]
@@ -192,7 +200,7 @@ fn words_of_two_operands(rt: HostRuntime) -> Result<(), Fail> {
     ] {
         let w = Width::new(bits).ok_or("no width")?;
         assert_eq!(rt;
-            binary(op, w, wrap(w, a), wrap(w, b), &mut tally),
+            binary(op, w, word(w, a), word(w, b), &mut tally),
             want,
             "{op:?} of {a} and {b} at width {bits}"
         );
@@ -222,7 +230,7 @@ fn words_of_one_operand_and_parts(rt: HostRuntime) -> Result<(), Fail> {
         (Unary::Redxor, 5, 0),
     ] {
         assert_eq!(rt;
-            unary(op, w8, wrap(w8, a), &mut tally),
+            unary(op, w8, word(w8, a), &mut tally),
             want,
             "{op:?} of {a}"
         );

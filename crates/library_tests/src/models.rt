@@ -1,5 +1,5 @@
 //! Tables of refusals, and calls that succeed.
-use super::*;
+use btor2::{Body, Item, Model, Operands, PushFault, Symbol, SymbolFault, laws};
 use base::{Binary, Unary};
 use std::alloc::Global;
 use std::test::Fail;

@@ -1,5 +1,5 @@
 use Rattle.std.proofs.Common.{◌≡◌, ◌+◌, ◌*◌, ◌<◌, length, All}
-use Rattle.gates.proofs.tests_table.inputs.Given as goal
+use Rattle.library_tests.proofs.operator_tables.inputs.Given as goal
 
 abbrev pub invariant-loop-i : goal.invariant-loop-i
 invariant-loop-i l = record {

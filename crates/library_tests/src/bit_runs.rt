@@ -1,7 +1,7 @@
 //! Runs of small circuits, frame by frame.
 ghost use Rattle.std.specs.Prelude.{◌≡◌, true};
 
-use super::*;
+use runs::BitRun;
 use aiger::{Circuit, CircuitFault, Lit, Reset};
 use std::alloc::Global;
 use std::test::Fail;

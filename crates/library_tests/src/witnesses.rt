@@ -1,5 +1,5 @@
 //! What texts say, their faults, and what is printed of faults.
-use super::*;
+use witness::{JudgeFault, Shape, WitnessFault, claims_nothing, read_words};
 use btor2::{Body, Item, Model};
 use std::alloc::Global;
 

@@ -1,0 +1,24 @@
+//! Tests of the libraries: what no clause says, and each public call once with ample memory. They stand in a crate of
+//! their own because a crate with tests is proved twice.
+#![tactic(auto)]
+
+#[cfg(test)]
+mod bit_runs;
+#[cfg(test)]
+mod circuit_texts;
+#[cfg(test)]
+mod circuits;
+#[cfg(test)]
+mod gate_makers;
+#[cfg(test)]
+mod model_texts;
+#[cfg(test)]
+mod models;
+#[cfg(test)]
+mod operator_tables;
+#[cfg(test)]
+mod witnesses;
+#[cfg(test)]
+mod word_runs;
+#[cfg(test)]
+mod words_and_devices;
