@@ -361,7 +361,8 @@ def main():
             known = calls.setdefault(call, [])
             known.extend(d for d in direct if d not in known)
             roots.extend((d, "%s of %s" % (call, name)) for d in direct)
-        tables[name] = calls_table(modules, name, calls)
+        if calls:
+            tables[name] = calls_table(modules, name, calls)
     because = closure(modules, roots)
     if asked == ["--list"]:
         for crate, name, word in sorted(because):
@@ -373,7 +374,7 @@ def main():
         return 0
     text = PAGE.read_text()
     wrong = []
-    for name in crates:
+    for name in tables:
         found = re.search(r"<!-- calls of %s -->\n(.*?)<!-- end of calls -->" % name, text, re.S)
         if not found:
             wrong.append("no table of the calls of %s" % name)
