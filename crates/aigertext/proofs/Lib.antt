@@ -18,3 +18,10 @@ mod NameBackLemmas
 mod HeaderBackLemmas
 mod ReadStandsLemmas
 mod FieldCutLemmas
+mod FrontLemmas
+mod PassLemmas
+mod DigitReadLemmas
+mod TakeLemmas
+mod ListLemmas
+mod NamingLemmas
+mod SectionReadLemmas

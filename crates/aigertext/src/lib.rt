@@ -3,17 +3,25 @@
 
 mod ascii;
 mod binary;
+mod binary_reading;
+mod checks;
 mod counts;
 mod deltas;
 mod fault;
 mod fields;
 mod forms;
+mod front;
+mod gate_bytes;
 mod head;
 mod header;
 mod justice;
 pub mod laws;
+mod leaves;
 mod line;
+mod lists;
+mod literals;
 mod names;
+mod naming;
 mod nexts;
 mod numbers;
 mod properties;

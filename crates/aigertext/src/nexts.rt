@@ -1,5 +1,5 @@
 //! Reading the line of a latch in the binary form.
-ghost use Rattle.std.specs.Prelude.{◌≡◌, ◌∷◌, []};
+ghost use Rattle.std.specs.Prelude.{◌≡◌, ◌≤◌, ◌∷◌, [], IfOk};
 ghost use Rattle.aigertext.specs.Reading.{Gives, within, reset_of, next_fields, next_of};
 ghost use Rattle.aigertext.specs.declared.fault.Why.TheVariants as why;
 ghost use Rattle.base.specs.Decimals.{number_of};
@@ -11,7 +11,8 @@ use base::decimal;
 
 /// The next literal of a latch, which is at most the greatest one.
 fn next_literal(field: &[u8], greatest: u32) -> Result<Lit, Why>
-    ensures { Gives (λ x. x) result (within why.BadLatch greatest (number_of field.now)) }
+    ensures gives { Gives (λ x. x) result (within why.BadLatch greatest (number_of field.now)) }
+    ensures small { IfOk result (λ l. l ≤ greatest) }
 {
     match decimal(field) {
         None => Err(Why::BadLatch),
@@ -48,7 +49,8 @@ fn reset(field: &[u8], own: u32) -> Result<Reset, Why>
 /// A latch whose reset is left out.
 #[tactic(auto, unfolding(crate::specs::Reading::next_fields))]
 fn plain_latch(next: &[u8], greatest: u32, own: u32) -> Result<Latch, Why>
-    ensures { Gives (λ x. x) result (next_fields greatest own (next.now ∷ [])) }
+    ensures gives { Gives (λ x. x) result (next_fields greatest own (next.now ∷ [])) }
+    ensures small { IfOk result (λ l. l.next ≤ greatest) }
 {
     let next = next_literal(next, greatest)?;
     Ok(Latch {
@@ -60,7 +62,8 @@ fn plain_latch(next: &[u8], greatest: u32, own: u32) -> Result<Latch, Why>
 /// A latch with a reset.
 #[tactic(auto, unfolding(crate::specs::Reading::next_fields))]
 fn latch_with(next: &[u8], begins: &[u8], greatest: u32, own: u32) -> Result<Latch, Why>
-    ensures { Gives (λ x. x) result (next_fields greatest own (next.now ∷ begins.now ∷ [])) }
+    ensures gives { Gives (λ x. x) result (next_fields greatest own (next.now ∷ begins.now ∷ [])) }
+    ensures small { IfOk result (λ l. l.next ≤ greatest) }
 {
     let next = next_literal(next, greatest)?;
     let reset = reset(begins, own)?;
@@ -73,7 +76,8 @@ fn latch_with(next: &[u8], begins: &[u8], greatest: u32, own: u32) -> Result<Lat
 /// Error: `BadLatch`.
 #[tactic(auto, unfolding(crate::specs::Reading::next_fields))]
 pub fn next_latch(line: &[u8], greatest: u32, own: u32) -> Result<Latch, Why>
-    ensures { Gives (λ x. x) result (next_of greatest own line.now) }
+    ensures gives { Gives (λ x. x) result (next_of greatest own line.now) }
+    ensures small { IfOk result (λ l. l.next ≤ greatest) }
 {
     let (next, rest) = first_field(line);
     match next_field(rest) {

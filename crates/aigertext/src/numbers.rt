@@ -1,5 +1,5 @@
 //! Reading a line of one number: a literal, or the size of a justice property.
-ghost use Rattle.std.specs.Prelude.{◌≡◌, ◌≤◌};
+ghost use Rattle.std.specs.Prelude.{◌≡◌, ◌≤◌, ◌+◌, IfOk};
 ghost use Rattle.aigertext.specs.Reading.{Gives, literal_of, size_of};
 
 use crate::fault::Why;
@@ -9,7 +9,8 @@ use base::decimal;
 /// The literal of a line, which is at most the greatest one.
 #[tactic(auto, unfolding(crate::specs::Reading::literal_of))]
 pub fn literal(line: &[u8], greatest: u32) -> Result<Lit, Why>
-    ensures { Gives (λ x. x) result (literal_of greatest line.now) }
+    ensures gives { Gives (λ x. x) result (literal_of greatest line.now) }
+    ensures small { IfOk result (λ l. l ≤ greatest) }
 {
     match decimal(line) {
         None => Err(Why::BadNumber),
@@ -27,7 +28,8 @@ pub fn literal(line: &[u8], greatest: u32) -> Result<Lit, Why>
 #[tactic(auto, unfolding(crate::specs::Reading::size_of))]
 pub fn size(line: &[u8], before: u32) -> Result<u32, Why>
     requires { before ≤ 1073741824 }
-    ensures { Gives (λ x. x) result (size_of before line.now) }
+    ensures gives { Gives (λ x. x) result (size_of before line.now) }
+    ensures small { IfOk result (λ n. before + n ≤ 1073741824) }
 {
     match decimal(line) {
         None => Err(Why::BadNumber),

@@ -1,0 +1,241 @@
+-- What was read so far stands on the circuit, and the rest is still to be read.
+use Rattle.std.proofs.Common.{◌≡◌, ℕ, ◌+◌, ◌-◌, ◌*◌, ◌<◌, ◌≤◌, List, [], ◌∷◌, ◌++◌, length, drop, get_or, length-drop, Option, None, Some, Result, Ok, Err, ◌⊎◌, inl, inr, nat_lt, nat_le, false, refl, sym, ap, ◌∙◌, append_assoc, append-nil, length-append, arith, slice_set}
+use Rattle.std.proofs.lemmas.Bool.Decides.{nat_tests}
+use Rattle.std.proofs.lemmas.List.{drop_more, drop_all, set_at}
+use Rattle.aiger.specs.declared.circuit.Gate.{Gate}
+use Rattle.aiger.specs.declared.circuit.Latch.{Latch}
+use Rattle.aiger.specs.declared.fault.CircuitFault.{CircuitFault}
+use Rattle.aiger.specs.declared.fault.CircuitFault.TheVariants.{NoMemory}
+use Rattle.aiger.specs.Limits.{greatest_count}
+use Rattle.aiger.specs.Literal.{variable}
+use Rattle.aiger.specs.Net.{variables}
+use Rattle.aiger.specs.Circuit.{Circuit, net, with_gate, with_latch, property_refusal, literal_refusal, gate_refusal}
+use Rattle.aigertext.specs.declared.fault.Stop.{Stop}
+use Rattle.aigertext.specs.declared.literals.LiteralSection.{LiteralSection}
+use Rattle.aigertext.specs.declared.literals.LiteralSection.TheVariants.{Output, Bad, Constraint, Fair}
+use Rattle.aigertext.specs.Reading.{line_at, literal_of, next_of, gate_at, literals_at, nexts_at, gates_at}
+use Rattle.aigertext.specs.Passes.{onto, literals_of, with_literals, with_gates, with_latches}
+use Rattle.aigertext.proofs.PassLemmas.{onto_step, onto_stop, onto_done, gates_step, gates_stop, gates_done}
+
+-- an error of a call that nothing refuses is want of memory
+pub only_memory : (e : CircuitFault) (fault : Option CircuitFault) → fault ≡ None → (fault ≡ Some e) ⊎ ((fault ≡ None) × (e ≡ NoMemory)) → e ≡ NoMemory
+only_memory e fault none (inl some) = absurd cc
+only_memory e fault none (inr is) = is.1
+
+-- where nothing refuses a call, it has no fault
+pub no_fault : {e : CircuitFault} {fault : Option CircuitFault} → fault ≡ None → fault ≡ Some e → ⊥
+no_fault none some = cc
+
+-- what a literal that is small enough is
+in_range : (g v l : ℕ) → g ≡ 2 * v + 1 → l ≤ g → nat_lt v (variable l) ≡ false
+in_range g v l is small = let low : variable l ≤ v = omega arith in grind (arith, nat_tests)
+
+onto_nothing : {A : Type 0} (r : Result (List A × List ℕ) Stop) → onto [] r ≡ r
+onto_nothing (Ok x) = refl
+onto_nothing (Err e) = refl
+
+less_nothing : (n : ℕ) → n - 0 ≡ n
+less_nothing n = omega arith
+
+-- ---- literals of a section
+
+pub record Pushed (section : LiteralSection) (greatest count index : ℕ) (before now : Circuit) (text rest : List ℕ) : Type 0 where
+  pub literals : List ℕ
+  pub is : now ≡ with_literals section before literals
+  pub many : length literals ≡ index
+  pub read : onto literals (literals_at greatest (count - index) rest) ≡ literals_at greatest count text
+
+pub push_begins : (section : LiteralSection) (greatest count : ℕ) (c : Circuit) (text : List ℕ) → Pushed section greatest count 0 c c text text
+push_begins section greatest count c text = record { literals = []; is = same section; many = refl; read = ap (λ (k : ℕ). onto [] (literals_at greatest k text)) (less_nothing count) ∙ onto_nothing (literals_at greatest count text) }
+  where
+    same : (section : LiteralSection) → c ≡ with_literals section c []
+    same Output = ap (λ (ls : List ℕ). record c { outputs = ls }) (sym (append-nil c.outputs))
+    same Bad = ap (λ (ls : List ℕ). record c { bads = ls }) (sym (append-nil c.bads))
+    same Constraint = ap (λ (ls : List ℕ). record c { constraints = ls }) (sym (append-nil c.constraints))
+    same Fair = ap (λ (ls : List ℕ). record c { fair = ls }) (sym (append-nil c.fair))
+
+with_more : (section : LiteralSection) (c : Circuit) (ls ms : List ℕ) → with_literals section (with_literals section c ls) ms ≡ with_literals section c (ls ++ ms)
+with_more Output c ls ms = ap (λ (l : List ℕ). record c { outputs = l }) (append_assoc c.outputs ls ms)
+with_more Bad c ls ms = ap (λ (l : List ℕ). record c { bads = l }) (append_assoc c.bads ls ms)
+with_more Constraint c ls ms = ap (λ (l : List ℕ). record c { constraints = l }) (append_assoc c.constraints ls ms)
+with_more Fair c ls ms = ap (λ (l : List ℕ). record c { fair = l }) (append_assoc c.fair ls ms)
+
+same_net : (section : LiteralSection) (c : Circuit) (ls : List ℕ) → variables (net (with_literals section c ls)) ≡ variables (net c)
+same_net Output c ls = refl
+same_net Bad c ls = refl
+same_net Constraint c ls = refl
+same_net Fair c ls = refl
+
+many_now : (section : LiteralSection) (c : Circuit) (ls : List ℕ) → length (literals_of section (with_literals section c ls)) ≡ length (literals_of section c) + length ls
+many_now Output c ls = length-append c.outputs ls
+many_now Bad c ls = length-append c.bads ls
+many_now Constraint c ls = length-append c.constraints ls
+many_now Fair c ls = length-append c.fair ls
+
+module _ (section : LiteralSection) (greatest count index : ℕ) (before now : Circuit) (text rest : List ℕ) (p : Pushed section greatest count index before now text rest) (more : index < count) where
+  pub push_step : (l : ℕ) (after : List ℕ) (next : Circuit) → line_at (literal_of greatest) rest ≡ Ok (l, after) → next ≡ with_literals section now (l ∷ []) → Pushed section greatest count (index + 1) before next text after
+  push_step l after next one is = record {
+    literals = p.literals ++ l ∷ [];
+    is = is ∙ ap (λ (c : Circuit). with_literals section c (l ∷ [])) p.is ∙ with_more section before p.literals (l ∷ []);
+    many = length-append p.literals (l ∷ []) ∙ ap (λ (k : ℕ). k + 1) p.many;
+    read =
+        onto_step literal_of (λ g l. g) greatest (count - index) (count - (index + 1)) rest (omega arith) p.literals l after greatest (literals_at greatest count text) refl one p.read;
+  }
+
+  pub push_stop : (e : Stop) → line_at (literal_of greatest) rest ≡ Err e → literals_at greatest count text ≡ Err e
+  push_stop e one = onto_stop literal_of (λ g l. g) greatest (count - index) (count - (index + 1)) rest (omega arith) p.literals e (literals_at greatest count text) one p.read
+
+  pub push_accepts : (l : ℕ) → l ≤ greatest → greatest ≡ 2 * variables (net before) + 1 → length (literals_of section before) + count ≤ 1073741824 → property_refusal now (length (literals_of section now)) l ≡ None
+  push_accepts l small is few =
+      let same : variables (net now) ≡ variables (net before) = ap (λ (c : Circuit). variables (net c)) p.is ∙ same_net section before p.literals in
+      let defined : nat_lt (variables (net now)) (variable l) ≡ false = ap (λ (v : ℕ). nat_lt v (variable l)) same ∙ in_range greatest (variables (net before)) l is small in
+      let many : length (literals_of section now) ≡ length (literals_of section before) + index =
+      ap (λ (c : Circuit). length (literals_of section c)) p.is ∙ many_now section before p.literals ∙ ap (λ (k : ℕ). length (literals_of section before) + k) p.many in
+      let room : length (literals_of section now) < greatest_count = omega (arith, many, more, few) in
+      let free : nat_le greatest_count (length (literals_of section now)) ≡ false = grind (arith, nat_tests) in
+      rw (defined, free) refl
+
+pub push_done : (section : LiteralSection) (greatest count index : ℕ) (before now : Circuit) (text rest : List ℕ) (p : Pushed section greatest count index before now text rest) → count ≤ index → literals_at greatest count text ≡ Ok (p.literals, rest)
+push_done section greatest count index before now text rest p all =
+    onto_done literal_of (λ g l. g) greatest (count - index) rest (omega arith) p.literals (literals_at greatest count text) p.read
+
+-- ---- latches
+
+pub record AreSet (greatest first count index : ℕ) (before now : Circuit) (text rest : List ℕ) : Type 0 where
+  pub latches : List Latch
+  pub is : now ≡ with_latches before (latches ++ drop index before.latches)
+  pub many : length latches ≡ index
+  pub read : onto latches (nexts_at greatest (first + 2 * index) (count - index) rest) ≡ nexts_at greatest first count text
+
+pub set_begins : (greatest first count : ℕ) (c : Circuit) (text : List ℕ) → AreSet greatest first count 0 c c text text
+set_begins greatest first count c text =
+    let here : first + 2 * 0 ≡ first = omega arith in
+    record {
+      latches = [];
+      is = refl;
+      many = refl;
+      read = ap (λ (k : ℕ). onto [] (nexts_at greatest k (count - 0) text)) here ∙ ap (λ (k : ℕ). onto [] (nexts_at greatest first k text)) (less_nothing count) ∙ onto_nothing (nexts_at greatest first count text);
+    }
+
+module _ (greatest first count index : ℕ) (before now : Circuit) (text rest : List ℕ) (p : AreSet greatest first count index before now text rest) (more : index < count) where
+  pub set_step : (l : Latch) (after : List ℕ) (next : Circuit) → count ≡ length before.latches → line_at (next_of greatest (first + 2 * index)) rest ≡ Ok (l, after) → next ≡ with_latch now index l → AreSet greatest first count (index + 1) before next text after
+  set_step l after next all one is =
+      let inside : index < length before.latches = omega (arith, all, more) in
+      let others : drop index before.latches ≡ get_or before.latches index l ∷ drop (index + 1) before.latches = drop_more before.latches index l inside in
+      let changed : slice_set (p.latches ++ drop index before.latches) index l ≡ (p.latches ++ l ∷ []) ++ drop (index + 1) before.latches =
+      ap (λ (ls : List Latch). slice_set (p.latches ++ ls) index l) others
+      ∙ set_at p.latches (get_or before.latches index l) (drop (index + 1) before.latches) l index p.many
+      ∙ sym (append_assoc p.latches (l ∷ []) (drop (index + 1) before.latches)) in
+      record {
+        latches = p.latches ++ l ∷ [];
+        is = is ∙ ap (λ (c : Circuit). with_latch c index l) p.is ∙ ap (λ (ls : List Latch). with_latches before ls) changed;
+        many = length-append p.latches (l ∷ []) ∙ ap (λ (k : ℕ). k + 1) p.many;
+        read = onto_step (next_of greatest) (λ o l. o + 2) (first + 2 * index) (count - index) (count - (index + 1)) rest (omega arith) p.latches l after (first + 2 * (index + 1)) (nexts_at greatest first count text) (omega arith) one p.read;
+      }
+
+  pub set_stop : (e : Stop) → line_at (next_of greatest (first + 2 * index)) rest ≡ Err e → nexts_at greatest first count text ≡ Err e
+  set_stop e one = onto_stop (next_of greatest) (λ o l. o + 2) (first + 2 * index) (count - index) (count - (index + 1)) rest (omega arith) p.latches e (nexts_at greatest first count text) one p.read
+
+  pub many_latches : count ≡ length before.latches → length now.latches ≡ length before.latches
+  many_latches all =
+      ap (λ (c : Circuit). length c.latches) p.is ∙ length-append p.latches (drop index before.latches)
+      ∙ omega (arith, p.many, length-drop index before.latches, all, more)
+
+  pub set_accepts : (l : ℕ) → l ≤ greatest → greatest ≡ 2 * variables (net before) + 1 → count ≡ length before.latches → literal_refusal now l ≡ None
+  set_accepts l small is all =
+      let same : variables (net now) ≡ variables (net before) =
+      ap (λ (c : Circuit). c.inputs + length now.latches + length c.gates) p.is ∙ ap (λ (k : ℕ). before.inputs + k + length before.gates) (many_latches all) in
+      let defined : nat_lt (variables (net now)) (variable l) ≡ false = ap (λ (v : ℕ). nat_lt v (variable l)) same ∙ in_range greatest (variables (net before)) l is small in
+      rw defined refl
+
+pub set_done : (greatest first count index : ℕ) (before now : Circuit) (text rest : List ℕ) (p : AreSet greatest first count index before now text rest) → count ≤ index → count ≡ length before.latches
+    → (nexts_at greatest first count text ≡ Ok (p.latches, rest)) × (now ≡ with_latches before p.latches)
+set_done greatest first count index before now text rest p all lines =
+    let none : drop index before.latches ≡ [] = drop_all index before.latches (omega (arith, all, lines)) in (
+      onto_done (next_of greatest) (λ o l. o + 2) (first + 2 * index) (count - index) rest (omega arith) p.latches (nexts_at greatest first count text) p.read,
+      p.is ∙ ap (λ (ls : List Latch). with_latches before ls) (ap (λ (ls : List Latch). p.latches ++ ls) none ∙ append-nil p.latches),
+    )
+
+pub set_many : (greatest first count index : ℕ) (before now : Circuit) (text rest : List ℕ) (p : AreSet greatest first count index before now text rest) → count ≤ index → index ≤ count → count ≡ length before.latches → length now.latches ≡ length before.latches
+set_many greatest first count index before now text rest p all within' lines =
+    ap (λ (c : Circuit). length c.latches) p.is ∙ length-append p.latches (drop index before.latches)
+    ∙ omega (arith, p.many, length-drop index before.latches, all, within', lines)
+
+-- ---- gates
+
+pub record ArePushed (first count index : ℕ) (before now : Circuit) (text rest : List ℕ) : Type 0 where
+  pub gates : List Gate
+  pub is : now ≡ with_gates before gates
+  pub many : length gates ≡ index
+  pub read : onto gates (gates_at (first + 2 * index) (count - index) rest) ≡ gates_at first count text
+
+pub gates_begin : (first count : ℕ) (c : Circuit) (text : List ℕ) → ArePushed first count 0 c c text text
+gates_begin first count c text =
+    let here : first + 2 * 0 ≡ first = omega arith in
+    record {
+      gates = [];
+      is = ap (λ (gs : List Gate). record c { gates = gs }) (sym (append-nil c.gates));
+      many = refl;
+      read = ap (λ (k : ℕ). onto [] (gates_at k (count - 0) text)) here ∙ ap (λ (k : ℕ). onto [] (gates_at first k text)) (less_nothing count) ∙ onto_nothing (gates_at first count text);
+    }
+
+pub many_gates : (before now : Circuit) (gs : List Gate) → now ≡ with_gates before gs → length now.gates ≡ length before.gates + length gs
+many_gates before now gs is = ap (λ (c : Circuit). length c.gates) is ∙ length-append before.gates gs
+
+module _ (first count index : ℕ) (before now : Circuit) (text rest : List ℕ) (p : ArePushed first count index before now text rest) (more : index < count) where
+  pub gate_step : (g : Gate) (after : List ℕ) (next : Circuit) → gate_at (first + 2 * index) rest ≡ Ok (g, after) → next ≡ with_gate now g.rhs0 g.rhs1 → ArePushed first count (index + 1) before next text after
+  gate_step g after next one is = record {
+    gates = p.gates ++ g ∷ [];
+    is = is ∙ ap (λ (c : Circuit). with_gate c g.rhs0 g.rhs1) p.is ∙ ap (λ (gs : List Gate). record before { gates = gs }) (append_assoc before.gates p.gates (g ∷ []));
+    many = length-append p.gates (g ∷ []) ∙ ap (λ (k : ℕ). k + 1) p.many;
+    read = gates_step (first + 2 * index) (count - index) (count - (index + 1)) rest (omega arith) p.gates g after (first + 2 * (index + 1)) (gates_at first count text) (omega arith) one p.read;
+  }
+
+  pub gate_stop : (e : Stop) → gate_at (first + 2 * index) rest ≡ Err e → gates_at first count text ≡ Err e
+  gate_stop e one = gates_stop (first + 2 * index) (count - index) (count - (index + 1)) rest (omega arith) p.gates e (gates_at first count text) one p.read
+
+  pub gate_accepts : (x y : ℕ) → x < first + 2 * index → y ≤ x → first ≡ 2 * (variables (net before) + 1) → variables (net before) + count ≤ 1073741824 → gate_refusal now x y ≡ None
+  gate_accepts x y below' order next few =
+      let now_many : variables (net now) ≡ variables (net before) + index =
+      ap (λ (c : Circuit). c.inputs + length c.latches + length now.gates) p.is ∙ omega (arith, many_gates before now p.gates p.is, p.many) in
+      let first_in : nat_lt (variables (net now)) (variable x) ≡ false = let low : variable x ≤ variables (net now) = omega (arith, now_many, below', next) in grind (arith, nat_tests) in
+      let second_in : nat_lt (variables (net now)) (variable y) ≡ false = let low : variable y ≤ variables (net now) = omega (arith, now_many, below', order, next) in grind (arith, nat_tests) in
+      let ordered : nat_lt x y ≡ false = grind (arith, nat_tests) in
+      let room : variables (net now) < greatest_count = omega (arith, now_many, few, more) in
+      let free : nat_le greatest_count (variables (net now)) ≡ false = grind (arith, nat_tests) in
+      rw (first_in, second_in, ordered, free) refl
+
+pub gates_are_done : (first count index : ℕ) (before now : Circuit) (text rest : List ℕ) (p : ArePushed first count index before now text rest) → count ≤ index → gates_at first count text ≡ Ok (p.gates, rest)
+gates_are_done first count index before now text rest p all = gates_done (first + 2 * index) (count - index) rest p.gates (gates_at first count text) (omega arith) p.read
+
+-- ---- a list of literals
+
+pub record Collected (greatest count index : ℕ) (before now : List ℕ) (text rest : List ℕ) : Type 0 where
+  pub literals : List ℕ
+  pub is : now ≡ before ++ literals
+  pub many : length literals ≡ index
+  pub read : onto literals (literals_at greatest (count - index) rest) ≡ literals_at greatest count text
+
+pub collect_begins : (greatest count : ℕ) (before text : List ℕ) → Collected greatest count 0 before before text text
+collect_begins greatest count before text = record {
+  literals = [];
+  is = sym (append-nil before);
+  many = refl;
+  read = ap (λ (k : ℕ). onto [] (literals_at greatest k text)) (less_nothing count) ∙ onto_nothing (literals_at greatest count text);
+}
+
+module _ (greatest count index : ℕ) (before now text rest : List ℕ) (p : Collected greatest count index before now text rest) (more : index < count) where
+  pub collect_step : (l : ℕ) (after next : List ℕ) → line_at (literal_of greatest) rest ≡ Ok (l, after) → next ≡ now ++ l ∷ [] → Collected greatest count (index + 1) before next text after
+  collect_step l after next one is = record {
+    literals = p.literals ++ l ∷ [];
+    is = is ∙ ap (λ (ls : List ℕ). ls ++ l ∷ []) p.is ∙ append_assoc before p.literals (l ∷ []);
+    many = length-append p.literals (l ∷ []) ∙ ap (λ (k : ℕ). k + 1) p.many;
+    read = onto_step literal_of (λ g l. g) greatest (count - index) (count - (index + 1)) rest (omega arith) p.literals l after greatest (literals_at greatest count text) refl one p.read;
+  }
+
+  pub collect_stop : (e : Stop) → line_at (literal_of greatest) rest ≡ Err e → literals_at greatest count text ≡ Err e
+  collect_stop e one = onto_stop literal_of (λ g l. g) greatest (count - index) (count - (index + 1)) rest (omega arith) p.literals e (literals_at greatest count text) one p.read
+
+pub collect_done : (greatest count index : ℕ) (before now text rest : List ℕ) (p : Collected greatest count index before now text rest) → count ≤ index → literals_at greatest count text ≡ Ok (p.literals, rest)
+collect_done greatest count index before now text rest p all =
+    onto_done literal_of (λ g l. g) greatest (count - index) rest (omega arith) p.literals (literals_at greatest count text) p.read

@@ -1,0 +1,4 @@
+use Rattle.aigertext.proofs.gate_bytes.+more_digits.Given as goal
+
+abbrev pub decreases-more_digits : goal.decreases-more_digits
+decreases-more_digits l = l.more

@@ -1,0 +1,104 @@
+-- Words between the parts of the reader, which goes over a text twice: what stands behind the lines that were looked at, and what a circuit has of those that were read.
+use Rattle.std.specs.Prelude.{◌≡◌, ℕ, zero, suc, ◌+◌, List, [], ◌∷◌, ◌++◌, Result, Ok, Err, ◌⊎◌}
+use Rattle.std.specs.List.{sum}
+use Rattle.aiger.specs.declared.circuit.Gate.{Gate}
+use Rattle.aiger.specs.declared.circuit.Latch.{Latch}
+use Rattle.aiger.specs.Circuit.{Circuit}
+use Rattle.aigertext.specs.declared.fault.Stop.{Stop}
+use Rattle.aigertext.specs.declared.fault.Why.{Why}
+use Rattle.aigertext.specs.declared.fault.Why.TheVariants as why
+use Rattle.aigertext.specs.declared.literals.LiteralSection.{LiteralSection}
+use Rattle.aigertext.specs.declared.literals.LiteralSection.TheVariants.{Output, Bad, Constraint, Fair}
+use Rattle.aigertext.specs.Reading.{◌>>=◌, line_at, size_of, literals_at, delta_at, below, at_or_below, Properties, lists_of}
+
+-- ---- the first pass: only what stands behind the lines
+
+-- the text behind what was read
+abbrev pub behind : {A E : Type 0} → Result (A × List ℕ) E → Result (List ℕ) E
+behind (Ok x) = Ok x.1
+behind (Err e) = Err e
+
+-- the sum of the sizes that were read and of those before them, and the text behind
+abbrev pub total_from : ℕ → Result (List ℕ × List ℕ) Stop → Result (ℕ × List ℕ) Stop
+total_from before (Ok x) = Ok (before + sum x.0, x.1)
+total_from before (Err e) = Err e
+
+-- the operands of a gate by their deltas
+abbrev pub greater_at : ℕ → List ℕ → Result (ℕ × List ℕ) Why
+greater_at own text = delta_at text >>= below own
+
+abbrev pub smaller_at : ℕ → List ℕ → Result (ℕ × List ℕ) Why
+smaller_at greater text = delta_at text >>= at_or_below greater
+
+-- ---- the second pass: what a circuit has of them
+
+-- what was read, behind what was read before it
+abbrev pub onto : {A : Type 0} → List A → Result (List A × List ℕ) Stop → Result (List A × List ℕ) Stop
+onto front (Ok x) = Ok (front ++ x.0, x.1)
+onto front (Err e) = Err e
+
+-- something was read, and made of a value what it makes; or reading stops there, or memory ran out
+abbrev pub Takes : {A X C : Type 0} → (X → List ℕ) → Result X Stop → (A → C) → C → Result (A × List ℕ) Stop → Type 0
+Takes {A} view (Ok x) make new read = (a : A) × ((read ≡ Ok (a, view x)) × (new ≡ make a))
+Takes view (Err e) make new read = (e.why ≡ why.NoMemory) ⊎ (read ≡ Err e)
+
+-- the literals of a section
+abbrev pub literals_of : LiteralSection → Circuit → List ℕ
+literals_of Output c = c.outputs
+literals_of Bad c = c.bads
+literals_of Constraint c = c.constraints
+literals_of Fair c = c.fair
+
+-- the circuit with more literals in a section
+abbrev pub with_literals : LiteralSection → Circuit → List ℕ → Circuit
+with_literals Output c ls = record c { outputs = c.outputs ++ ls }
+with_literals Bad c ls = record c { bads = c.bads ++ ls }
+with_literals Constraint c ls = record c { constraints = c.constraints ++ ls }
+with_literals Fair c ls = record c { fair = c.fair ++ ls }
+
+-- with more gates, other latches, more justice properties
+abbrev pub with_gates : Circuit → List Gate → Circuit
+with_gates c gs = record c { gates = c.gates ++ gs }
+
+abbrev pub with_latches : Circuit → List Latch → Circuit
+with_latches c ls = record c { latches = ls }
+
+abbrev pub with_lists : Circuit → List (List ℕ) → Circuit
+with_lists c lists = record c { justice = c.justice ++ lists }
+
+-- so many justice properties, each by its size's line in the first text and its literals' lines in the second
+abbrev pub lists_at : ℕ → ℕ → ℕ → List ℕ → List ℕ → Result (List (List ℕ) × List ℕ) Stop
+lists_at greatest before zero sizes text = Ok ([], text)
+lists_at greatest before (suc n) sizes text = do
+  size ← line_at (size_of before) sizes
+  ls ← literals_at greatest size.0 text
+  more ← lists_at greatest (before + size.0) n size.1 ls.1
+  Ok (ls.0 ∷ more.0, more.1)
+
+-- a line was read onto a circuit, unless memory ran out
+abbrev pub Becomes : Result (Unit {0}) Why → Circuit → Result Circuit Why → Type 0
+Becomes (Ok u) c read = read ≡ Ok c
+Becomes (Err w) c read = (w ≡ why.NoMemory) ⊎ (read ≡ Err w)
+
+-- a text was read onto a circuit, unless memory ran out
+abbrev pub BecomesAt : Result (Unit {0}) Stop → Circuit → Result Circuit Stop → Type 0
+BecomesAt (Ok u) c read = read ≡ Ok c
+BecomesAt (Err e) c read = (e.why ≡ why.NoMemory) ⊎ (read ≡ Err e)
+
+-- a text was read as a circuit, unless memory ran out
+abbrev pub ReadsAs : Result Circuit Stop → Result Circuit Stop → Type 0
+ReadsAs (Ok c) read = read ≡ Ok c
+ReadsAs (Err e) read = (e.why ≡ why.NoMemory) ⊎ (read ≡ Err e)
+
+-- no properties stand on a circuit yet
+pub record HasNoProperties (c : Circuit) : Type 0 where
+  pub outputs : c.outputs ≡ []
+  pub bads : c.bads ≡ []
+  pub constraints : c.constraints ≡ []
+  pub justice : c.justice ≡ []
+  pub fair : c.fair ≡ []
+
+-- the circuit with all properties that were read
+abbrev pub with_properties : Circuit → Properties → Circuit
+with_properties c p =
+    record c { outputs = p.outputs; bads = p.bads; constraints = p.constraints; justice = lists_of p.sizes p.listed; fair = p.fair }

@@ -1,0 +1,82 @@
+//! Reading what stands behind the header of a binary text.
+ghost use Rattle.std.specs.Prelude.{◌≡◌};
+ghost use Rattle.aiger.specs.Circuit.{net};
+ghost use Rattle.aiger.specs.Net.{variables};
+ghost use Rattle.aigertext.specs.declared.forms.Form.TheVariants as form;
+ghost use Rattle.aigertext.specs.Reading.{binary_at, properties_at};
+ghost use Rattle.aigertext.specs.Passes.{ReadsAs, Takes, HasNoProperties, with_properties};
+ghost use Rattle.aigertext.specs.Counts.{AreSmall, Fits};
+
+use crate::checks::{check_latches, check_properties, check_sizes};
+use crate::counts::Counts;
+use crate::fault::Stop;
+use crate::front::stop;
+use crate::leaves::{push_gates, set_latches};
+use crate::lists::push_lists;
+use crate::literals::{LiteralSection, push_literals, want_of_memory};
+use crate::naming::give_names;
+use aiger::Circuit;
+use std::alloc::Global;
+
+/// Adds all properties by their lines, and answers the text behind them.
+#[tactic(auto, unfolding(crate::specs::Reading::properties_at))]
+fn push_properties<'a>(
+    alloc: Global,
+    circuit: &mut Circuit,
+    text: &'a [u8],
+    counts: &Counts,
+) -> Result<&'a [u8], Stop>
+    requires defined { counts.now.variables ≡ variables (net circuit.old) }
+    requires none { HasNoProperties circuit.old }
+    requires small { AreSmall counts.now }
+    ensures { Takes (λ x. x.now) result (with_properties circuit.old) circuit.new (properties_at counts.now text.now) }
+{
+    let greatest = 2 * counts.variables + 1;
+    let rest = push_literals(
+        circuit,
+        LiteralSection::Output,
+        text,
+        greatest,
+        counts.outputs,
+    )?;
+    let rest = push_literals(circuit, LiteralSection::Bad, rest, greatest, counts.bads)?;
+    let sizes = push_literals(
+        circuit,
+        LiteralSection::Constraint,
+        rest,
+        greatest,
+        counts.constraints,
+    )?;
+    let (_, listed) = check_sizes(sizes, counts.justice)?;
+    let rest = match push_lists(alloc, circuit, sizes, listed, greatest, counts.justice) {
+        Ok(rest) => rest,
+        Err(stop) => return Err(stop),
+    };
+    push_literals(circuit, LiteralSection::Fair, rest, greatest, counts.fair)
+}
+
+/// The circuit behind a header of the binary form. The lines before the gates are looked at first, so that no list is
+/// made by a number of the header before so many lines were there.
+#[tactic(auto, unfolding(crate::specs::Reading::binary_at))]
+pub fn read_sections(alloc: Global, counts: &Counts, text: &[u8]) -> Result<Circuit, Stop>
+    requires small { AreSmall counts.now }
+    requires fits { Fits form.Binary counts.now }
+    ensures { ReadsAs result (binary_at counts.now text.now) }
+{
+    let greatest = 2 * counts.variables + 1;
+    let latch = 2 * (counts.inputs + 1);
+    let gate = 2 * (counts.inputs + counts.latches + 1);
+    let properties = check_latches(text, greatest, latch, counts.latches)?;
+    let gates = check_properties(properties, counts)?;
+    let mut circuit = match Circuit::new(alloc, counts.inputs, counts.latches) {
+        Ok(circuit) => circuit,
+        Err(fault) => return Err(stop(text, want_of_memory(fault))),
+    };
+    let names = push_gates(&mut circuit, gates, gate, counts.gates)?;
+    let properties = set_latches(&mut circuit, text, greatest, latch, counts.latches)?;
+    push_properties(alloc, &mut circuit, properties, counts)?;
+    match give_names(&mut circuit, names) {
+        Ok(()) => Ok(circuit),
+        Err(stop) => Err(stop),
+    }
+}
