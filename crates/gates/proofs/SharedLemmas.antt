@@ -1,34 +1,34 @@
 -- Gates that are made once: what a new one keeps, and what a folded one says.
-use Rattle.std.proofs.Common.{◌≡◌, ℕ, zero, suc, ◌+◌, ◌<◌, ◌≤◌, Bool, true, false, not, ◌&&◌, ◌||◌, ◌==◌, List, [], ◌∷◌, ◌++◌, length, get_or, max, min, position, Option, None, Some, inl, inr, ⊎_elim, refl, sym, ◌∙◌, ap, arith, rules, true≢false, Result, Ok, Err, IfOk, OnErr, if◌then◌else◌}
+use Rattle.std.proofs.Common.{◌≡◌, ℕ, zero, suc, ◌+◌, ◌*◌, ◌<◌, ◌≤◌, Bool, true, false, not, ◌&&◌, ◌||◌, ◌==◌, List, [], ◌∷◌, ◌++◌, length, get_or, max, min, position, Option, None, Some, inl, inr, ⊎_elim, refl, sym, ◌∙◌, ap, arith, rules, true≢false, Result, Ok, Err, IfOk, IfErr, if◌then◌else◌}
 use Rattle.std.specs.List.{list_any}
-use Rattle.std.specs.Option.{option_map, option_or}
+use Rattle.std.specs.Option.{option_map, option_or, ok_or}
 use Rattle.std.proofs.lemmas.Bool.{cases_lt}
 use Rattle.std.proofs.lemmas.Bool.Decides.{nat_tests}
 use Rattle.std.proofs.lemmas.List.Elements.{All-push}
-use Rattle.std.proofs.lemmas.List.Folds.{Any-from_list_any}
 use Rattle.std.proofs.lemmas.List.Quantifiers.{all_pairs_push, position-Some}
+use Rattle.std.proofs.lemmas.Result.{IfOk-weaker}
 use Rattle.std.proofs.lemmas.List.Sums.{fails_before_first}
 use Rattle.aiger.specs.declared.circuit.Gate.{Gate}
+use Rattle.aiger.specs.Circuit.{Circuit, net}
 use Rattle.aiger.specs.Literal.{Valuation, negation, literal_value}
-use Rattle.aiger.specs.Net.{Net, IsDefined, SatisfiesFrom}
+use Rattle.aiger.specs.Net.{Net, variables, IsDefined, SatisfiesFrom}
 use Rattle.aiger.proofs.NetLemmas.{literal_value-even, literal_value-negation}
-use Rattle.gates.specs.Made.{AreSame, MakesAnd}
-use Rattle.gates.proofs.GrowthLemmas.{Grows-refl, and-same}
+use Rattle.gates.specs.Made.{AreSame, MakesAnd, gates_only}
+use Rattle.gates.proofs.GrowthLemmas.{Grows-refl, and-same, MakesAnd-gate}
 use Rattle.gates.specs.Shared.{folded_and, gate_of, is_gate_of, gate_literal, standing_and, IsNeeded, AreShared}
 
 -- where there is no first place that passes, none passes
 pub none_passes : {X : Type 0} (p : X → Bool) (xs : List X) → position p xs ≡ None → (k : ℕ) (d : X) → k < length xs → p (get_or xs k d) ≡ false
 none_passes p xs none k d h = fails_before_first p xs k d (grind (arith, nat_tests))
 
--- and the list has no such element
-pub list_any-none : {X : Type 0} (p : X → Bool) (xs : List X) → position p xs ≡ None → list_any p xs ≡ false
-list_any-none p xs none = by (list_any p xs) refl
+-- and where the list has no such element, there is no first place that passes
+pub position-none : {X : Type 0} (p : X → Bool) (xs : List X) → list_any p xs ≡ false → position p xs ≡ None
+position-none p [] none = refl
+position-none p (x ∷ xs) none = by (p x) refl (position-none p xs)
   where
-    by : (b : Bool) → list_any p xs ≡ b → b ≡ false
-    by false e = refl
-    by true e =
-        let some = Any-from_list_any p xs e in
-        absurd (true≢false (sym some.4 ∙ (ap p (sym some.3) ∙ none_passes p xs none some.0 some.1 some.2)))
+    by : (b : Bool) → p x ≡ b → (list_any p xs ≡ false → position p xs ≡ None) → position p (x ∷ xs) ≡ None
+    by true e rest = absurd (search rules)
+    by false e rest = let later : list_any p xs ≡ false = search rules in let none = rest later in search rules
 
 -- an and that is neither one of the two literals nor a constant needs a gate
 pub IsNeeded-gate_of : (a b : ℕ) → folded_and a b ≡ None → IsNeeded (gate_of a b)
@@ -160,10 +160,28 @@ MakesAnd-standing n a b l left right is = by (folded_and a b) (position (is_gate
     by (Some x) p e h is = let same : x ≡ l = search rules in MakesAnd-folded n a b l left right (rw same at e)
 
 -- shared gates stay so where a gate that is needed and does not stand was added, and where nothing was
-pub AreShared-made : {T : Type 0} {E : Type 0} (result : Result T E) (old new : Net) (a b : ℕ) (P : T → Type 0)
-    → IfOk result (λ l. (new ≡ record old { gates = old.gates ++ gate_of a b ∷ [] }) × P l) → OnErr result (new ≡ old)
-    → AreShared old.gates → standing_and old a b ≡ None → AreShared new.gates
-AreShared-made (Ok l) old new a b P made kept shared none =
-    let needed = standing-none old a b none in
-    rw made.0 (AreShared-push old.gates a b shared needed.0 needed.1)
-AreShared-made (Err e) old new a b P made kept shared none = rw kept shared
+pub AreShared-made : {T E : Type 0} (result : Result T E) (old new : Circuit) (a b : ℕ) (P : T → Type 0) (Q : E → Type 0)
+    → IfOk result (λ l. (new ≡ record old { gates = old.gates ++ gate_of a b ∷ [] }) × P l) → IfErr result (λ e. Q e × (new ≡ old))
+    → old ≡ gates_only (net old) → AreShared old.gates → folded_and a b ≡ None → position (is_gate_of a b) old.gates ≡ None
+    → (new ≡ gates_only (net new)) × AreShared new.gates
+AreShared-made (Ok l) old new a b P Q made kept only shared needed absent =
+    let pushed = AreShared-push old.gates a b shared needed absent in
+    rw made.0 ((λ j. record (only j) { gates = old.gates ++ gate_of a b ∷ [] }), pushed)
+AreShared-made (Err e) old new a b P Q made kept only shared needed absent = rw kept.1 (only, shared)
+
+-- an and that is not folded: the gate that stands, or the one that was made
+pub MakesAnd-made : {E : Type 0} (result : Result ℕ E) (old new : Net) (a b : ℕ) → IsDefined old a → IsDefined old b
+    → ((k : ℕ) → position (is_gate_of a b) old.gates ≡ Some k → (result ≡ Ok (gate_literal old k)) × (new ≡ old))
+    → (position (is_gate_of a b) old.gates ≡ None → IfOk result (λ l. (new ≡ record old { gates = old.gates ++ gate_of a b ∷ [] }) × (l ≡ 2 * (variables old + 1))))
+    → IfOk result (MakesAnd old new a b)
+MakesAnd-made {E} result old new a b left right standing fresh = by (position (is_gate_of a b) old.gates) refl
+  where
+    by : (at : Option ℕ) → position (is_gate_of a b) old.gates ≡ at → IfOk result (MakesAnd old new a b)
+    by (Some k) at = let made = standing k at in rw (made.0, made.1) (MakesAnd-gate_at old a b k at)
+    by None at = IfOk-weaker result _ _ (λ l done. rw done.0 (MakesAnd-gate old a b _ _ l (gate_of-same a b) done.1)) (fresh at)
+
+-- what stands for the and, or a fault where nothing does
+pub IfOk-standing : {E : Type 0} (n : Net) (a b : ℕ) (found : Option ℕ) (fault : E) (result : Result ℕ E) → IsDefined n a → IsDefined n b → found ≡ standing_and n a b → result ≡ ok_or found fault
+    → IfOk result (MakesAnd n n a b)
+IfOk-standing n a b None fault result left right is gives = rw gives tt
+IfOk-standing n a b (Some l) fault result left right is gives = rw gives (MakesAnd-standing n a b l left right (sym is))

@@ -1,12 +1,14 @@
 //! The gate maker that makes no gate twice.
-ghost use Rattle.std.specs.Prelude.{◌≡◌, ℕ, ◌+◌, ◌*◌, ◌<◌, ◌==◌, ◌&&◌, ◌↔◌, [], ◌∷◌, ◌++◌, None, Some, Ok, position, length, max, min, IfOk, IfErr, OnErr, IsErrOf};
+ghost use Rattle.std.specs.Prelude.{◌≡◌, ℕ, ◌+◌, ◌*◌, ◌<◌, ◌≤◌, ◌==◌, ◌&&◌, ◌↔◌, [], ◌∷◌, ◌++◌, None, Some, Ok, is_some, position, length, max, min, if◌then◌else◌, IfOk, IfErr, OnErr, IsErrOf};
 ghost use Rattle.std.specs.Option.{option_map};
+ghost use Rattle.std.proofs.Common.{rules};
+ghost use Rattle.std.specs.Cmp.Rules.{hashing};
 ghost use Rattle.aiger.specs.Limits.{greatest_count};
 ghost use Rattle.aiger.specs.Net.{variables, IsDefined};
 ghost use Rattle.aiger.specs.declared.circuit.Gate.{Gate};
-ghost use Rattle.indexmap.specs.IndexSet.{spare};
+ghost use Rattle.aiger.specs.Circuit.{net};
 ghost use Rattle.gates.specs.Made.{MakesAnd, Refuses, gates_only};
-ghost use Rattle.gates.specs.Shared.{gate_of, is_gate_of, gate_literal, standing_and, AreShared, HasValuations};
+ghost use Rattle.gates.specs.Shared.{folded_and, gate_of, is_gate_of, gate_literal, standing_and, AreShared, HasValuations};
 
 use crate::fault::GateFault;
 use crate::folding::folded;
@@ -16,13 +18,28 @@ use crate::plain::push;
 use aiger::{Circuit, CircuitFault, GREATEST_COUNT, Lit};
 use indexmap::IndexSet;
 use std::alloc::Global;
+use std::hash::{Hash, Hasher};
 use std::marker::Model;
 
 /// The operands of a gate, the greater one first.
-#[derive(Clone, Copy, Debug, PartialEq, Eq, Hash)]
+#[derive(Clone, Copy, Debug, PartialEq, Eq)]
 struct Pair {
     greater: u32,
     smaller: u32,
+}
+
+impl Hash for Pair {
+    ghost use Rattle.std.specs.Prelude.{◌+◌, ◌*◌, ◌^◌};
+    ghost use Rattle.std.specs.Hash.{u64 as words};
+
+    ghost hash_input = { λ pair. words (pair.rhs0 * 2 ^ 32 + pair.rhs1) };
+
+    ghost respects_eq = { Prim.search (hashing, rules) };
+
+    /// Both operands as one number, which takes half the time of one after the other.
+    fn hash<H: Hasher>(&self, state: &mut H) {
+        state.write_u64(self.greater as u64 * 0x1_0000_0000 + self.smaller as u64);
+    }
 }
 
 impl Model for Pair {
@@ -67,16 +84,50 @@ fn pair_of(a: Lit, b: Lit) -> Pair
     }
 }
 
-/// Adds a pair that is not there, where there is room.
-fn add_pair(pairs: &mut IndexSet<Pair>, pair: Pair)
-    requires room { 0 < spare pairs.old }
-    requires absent { position (λ g. pair.rhs0 == g.rhs0 && pair.rhs1 == g.rhs1) pairs.old.keys ≡ None }
-    ensures { pairs.new.keys ≡ pairs.old.keys ++ pair ∷ [] }
+/// Where a pair stands. A pair that does not stand is put behind the others, and the answer is then none.
+///
+/// The pair is looked up once, and takes no memory where it stands.
+fn place_or_add(pairs: &mut IndexSet<Pair>, pair: Pair) -> Result<Option<usize>, GateFault>
+    ensures place { IfOk result (λ place. place ≡ position (λ g. pair.rhs0 == g.rhs0 && pair.rhs1 == g.rhs1) pairs.old.keys) }
+    ensures keys { IfOk result (λ place. pairs.new.keys ≡ (if is_some place then pairs.old.keys else pairs.old.keys ++ pair ∷ [])) }
+    ensures err { IfErr result (λ e. (e ≡ GateFault.NoMemory) × (pairs.new.keys ≡ pairs.old.keys)) }
+    ensures absent { OnErr result (position (λ g. pair.rhs0 == g.rhs0 && pair.rhs1 == g.rhs1) pairs.old.keys ≡ None) }
 {
-    match pairs.insert(pair) {
-        Ok(_) => {}
-        Err(_) => unreachable!(),
+    match pairs.insert_full(pair) {
+        Ok((_, true)) => Ok(None),
+        Ok((place, false)) => Ok(Some(place)),
+        Err(_) => Err(GateFault::NoMemory),
     }
+}
+
+/// The literal of a circuit's gate at a place.
+fn gate_at(circuit: &Circuit, place: usize) -> Lit
+    requires { place < length circuit.now.gates }
+    ensures { result ≡ gate_literal (net circuit.now) place }
+{
+    let before = circuit.inputs() + circuit.latches().len() as u32;
+    Lit::new(2 * (before + place as u32 + 1))
+}
+
+/// Adds the gate of the last pair. Where it is refused, the pair is taken back.
+fn push_pair(
+    circuit: &mut Circuit,
+    pairs: &mut IndexSet<Pair>,
+    pair: Pair,
+) -> Result<Lit, GateFault>
+    requires last { pairs.old.keys ≡ circuit.old.gates ++ pair ∷ [] }
+    requires order { pair.rhs1 ≤ pair.rhs0 }
+    requires defined { IsDefined (net circuit.old) pair.rhs0 }
+    requires room { variables (net circuit.old) < greatest_count }
+    ensures ok { IfOk result (λ l. (circuit.new ≡ record circuit.old { gates = circuit.old.gates ++ pair ∷ [] }) × (l ≡ 2 * (variables (net circuit.old) + 1))) }
+    ensures err { IfErr result (λ e. (e ≡ GateFault.NoMemory) × (circuit.new ≡ circuit.old)) }
+    ensures pairs { pairs.new.keys ≡ circuit.new.gates }
+{
+    let lit = push(circuit, Lit::new(pair.greater), Lit::new(pair.smaller));
+    if lit.is_err() {
+        pairs.truncate(circuit.gates().len());
+    }
+    lit
 }
 
 impl HashGates {
@@ -115,10 +166,7 @@ impl HashGates {
         ensures { result ≡ option_map (gate_literal self.now) (position (is_gate_of a b) self.now.gates) }
     {
         match self.pairs.get_index_of(&pair_of(a, b)) {
-            Some(place) => {
-                let before = self.circuit.inputs() + self.circuit.latches().len() as u32;
-                Some(Lit::new(2 * (before + place as u32 + 1)))
-            }
+            Some(place) => Some(gate_at(&self.circuit, place)),
             None => None,
         }
     }
@@ -135,29 +183,23 @@ impl HashGates {
         }
     }
 
-    /// A new gate of two operands.
-    fn make(&mut self, a: Lit, b: Lit) -> Result<Lit, GateFault>
+    /// The gate of two operands, which is made where it does not stand, in a maker that has a variable left.
+    fn gate_or_make(&mut self, a: Lit, b: Lit) -> Result<Lit, GateFault>
         requires left { IsDefined self.old a }
         requires right { IsDefined self.old b }
-        requires absent { standing_and self.old a b ≡ None }
-        ensures ok { IfOk result (λ l. (self.new ≡ record self.old { gates = self.old.gates ++ gate_of a b ∷ [] }) × (l ≡ 2 * (variables self.old + 1))) }
-        ensures err { OnErr result (self.new ≡ self.old) }
-        ensures too_big { IsErrOf result GateFault.TooBig ↔ (greatest_count < variables self.old + 1) }
+        requires needed { folded_and a b ≡ None }
+        requires room { variables self.old < greatest_count }
+        ensures standing { (k : ℕ) → position (is_gate_of a b) self.old.gates ≡ Some k → (result ≡ Ok (gate_literal self.old k)) × (self.new ≡ self.old) }
+        ensures fresh { position (is_gate_of a b) self.old.gates ≡ None → IfOk result (λ l. (self.new ≡ record self.old { gates = self.old.gates ++ gate_of a b ∷ [] }) × (l ≡ 2 * (variables self.old + 1))) }
+        ensures err { IfErr result (λ e. (e ≡ GateFault.NoMemory) × (self.new ≡ self.old)) }
+        ensures shared { AreShared self.new.gates }
     {
-        if self.circuit.variables() >= GREATEST_COUNT {
-            return Err(GateFault::TooBig);
-        }
-        if self.pairs.reserve(1).is_err() {
-            return Err(GateFault::NoMemory);
-        }
         let pair = pair_of(a, b);
-        let lit = push(
-            &mut self.circuit,
-            Lit::new(pair.greater),
-            Lit::new(pair.smaller),
-        )?;
-        add_pair(&mut self.pairs, pair);
-        Ok(lit)
+        match place_or_add(&mut self.pairs, pair) {
+            Ok(Some(place)) => Ok(gate_at(&self.circuit, place)),
+            Ok(None) => push_pair(&mut self.circuit, &mut self.pairs, pair),
+            Err(fault) => Err(fault),
+        }
     }
 }
 
@@ -177,9 +219,12 @@ impl Gates for HashGates {
         ensures too_big { IsErrOf result GateFault.TooBig ↔ ((standing_and self.old a b ≡ None) × (greatest_count < variables self.old + 1)) }
         ensures shared { AreShared self.new.gates }
     {
-        match self.standing(a, b) {
+        if self.circuit.variables() >= GREATEST_COUNT {
+            return self.standing(a, b).ok_or(GateFault::TooBig);
+        }
+        match folded(a, b) {
             Some(lit) => Ok(lit),
-            None => self.make(a, b),
+            None => self.gate_or_make(a, b),
         }
     }
 }
