@@ -72,7 +72,7 @@ claim_parts : (justice : Bool) (o : Option ℕ) (c : Claim) → claim_with justi
 claim_parts justice None c h = absurd cc
 claim_parts justice (Some i) c h = (cc, cc)
 
-piece_is_claim : (piece : List ℕ) (c : Claim) → claim_of piece ≡ Some c → c.justice ≡ false → c.index < 2 ^ 64 - 1 → piece ≡ claim c.index
+pub piece_is_claim : (piece : List ℕ) (c : Claim) → claim_of piece ≡ Some c → c.justice ≡ false → c.index < 2 ^ 64 - 1 → piece ≡ claim c.index
 piece_is_claim [] c h bad lt = absurd cc
 piece_is_claim (b ∷ bs) c h bad lt =
     let other : Option Claim = if b == 106 then claim_with true (number_of bs) else None in

@@ -17,3 +17,6 @@ pub mod FrameLemmas
 pub mod VerdictLemmas
 pub mod FitLemmas
 pub mod OneJudgement
+pub mod BitReadLemmas
+pub mod BitOneJudgement
+pub mod BitWorkedLemmas

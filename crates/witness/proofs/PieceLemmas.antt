@@ -112,17 +112,17 @@ digits_are_digits (false ∷ bs) = digits_are_digits bs
 pub binary_digits : (width x : ℕ) → are_digits (binary width x) ≡ true
 binary_digits width x = digits_are_digits (reverse (bits width x))
 
-digits_are_values : (bs : List Bool) → list_all is_value_byte (map digit bs) ≡ true
+pub digits_are_values : (bs : List Bool) → list_all is_value_byte (map digit bs) ≡ true
 digits_are_values [] = refl
 digits_are_values (true ∷ bs) = digits_are_values bs
 digits_are_values (false ∷ bs) = digits_are_values bs
 
-digits_determine : (bs : List Bool) → list_any (λ b. b == 120) (map digit bs) ≡ false
+pub digits_determine : (bs : List Bool) → list_any (λ b. b == 120) (map digit bs) ≡ false
 digits_determine [] = refl
 digits_determine (true ∷ bs) = digits_determine bs
 digits_determine (false ∷ bs) = digits_determine bs
 
-bits_of_digits : (bs : List Bool) → map (λ b. b == 49) (map digit bs) ≡ bs
+pub bits_of_digits : (bs : List Bool) → map (λ b. b == 49) (map digit bs) ≡ bs
 bits_of_digits [] = refl
 bits_of_digits (true ∷ bs) = ap (λ (more : List Bool). true ∷ more) (bits_of_digits bs)
 bits_of_digits (false ∷ bs) = ap (λ (more : List Bool). false ∷ more) (bits_of_digits bs)
@@ -154,7 +154,7 @@ digit_of_bit b is not_x =
           ]
     ]
 
-digits_of_bits : (bytes : List ℕ) → list_all is_value_byte bytes ≡ true → list_any (λ b. b == 120) bytes ≡ false → map digit (map (λ b. b == 49) bytes) ≡ bytes
+pub digits_of_bits : (bytes : List ℕ) → list_all is_value_byte bytes ≡ true → list_any (λ b. b == 120) bytes ≡ false → map digit (map (λ b. b == 49) bytes) ≡ bytes
 digits_of_bits [] all none = refl
 digits_of_bits (b ∷ bs) all none =
     let is = and_parts (is_value_byte b) (list_all is_value_byte bs) all in

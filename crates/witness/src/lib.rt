@@ -2,6 +2,7 @@
 #![tactic(auto)]
 
 mod assignment;
+pub mod bit_laws;
 mod claims;
 mod fault;
 mod flags;

@@ -1,0 +1,100 @@
+-- A text has one judgement over a circuit: the circuit has one trace, and a judgement looks only at its literals.
+use Rattle.std.proofs.Common.{◌≡◌, ℕ, suc, ◌+◌, ◌<◌, Bool, true, false, cond, not, ◌||◌, List, [], ◌∷◌, length, Option, Some, None, Result, Ok, Err, slice_index, refl, sym, ap, ap₂, ◌∙◌, arith}
+use Rattle.std.specs.List.{position_from, AllByRecursion}
+use Rattle.std.proofs.lemmas.List.Elements.{recursion_from_All, All-get_or}
+use Rattle.base.specs.Lines.{whole_lines}
+use Rattle.aiger.specs.Literal.{Valuation, literal_value}
+use Rattle.aiger.specs.Net.{variables, IsDefined}
+use Rattle.aiger.specs.Circuit.{Circuit, IsCircuit, net}
+use Rattle.aiger.specs.Trace.{SameFrame, SameTrace}
+use Rattle.aiger.proofs.TraceLemmas.{literal_value-agree, trace_exists, trace_unique}
+use Rattle.witness.specs.declared.judgement.Judgement.{Judgement}
+use Rattle.witness.specs.declared.judgement.Judgement.TheVariants as judgement
+use Rattle.witness.specs.Admits.{Fault}
+use Rattle.witness.specs.Judgements.{violated_at}
+use Rattle.witness.specs.BitTexts.{BitWitness, IsBitWitness}
+use Rattle.witness.specs.BitAdmits.{BitRead, read_bit_text, bit_witness_of}
+use Rattle.witness.specs.BitJudgements.{first_reset_differing, bit_violation_from, bit_rises, when_risen, when_unbroken, when_reset, bit_verdict, makes_no_bit_claim, JudgesBits, JudgesBitRead, JudgesBitText, BitJudges}
+use Rattle.witness.proofs.BitReadLemmas.{bit_read_says}
+
+-- ---- traces that are the same have the same verdict
+
+-- a literal that is defined says the same in the same frames
+same_bit : (c : Circuit) (v w : Valuation) (l : ℕ) → SameFrame c v w → IsDefined (net c) l → literal_value v l ≡ literal_value w l
+same_bit c v w l same defined =
+    literal_value-agree (suc (variables (net c))) v w l (λ k low high. same k low (omega arith)) (omega (arith, defined))
+
+first_same : (c : Circuit) (v w : Valuation) (n : ℕ) (ls : List ℕ) → SameFrame c v w → AllByRecursion (IsDefined (net c)) ls
+    → position_from (λ l. not (literal_value v l)) n ls ≡ position_from (λ l. not (literal_value w l)) n ls
+first_same c v w n [] same defined = refl
+first_same c v w n (l ∷ ls) same defined =
+    ap₂ (λ (b : Bool) (o : Option ℕ). cond (not b) (Some n) o) (same_bit c v w l same defined.0) (first_same c v w (n + 1) ls same defined.1)
+
+violations_same : (c : Circuit) (k : ℕ) (vs ws : List Valuation) → AllByRecursion (IsDefined (net c)) c.constraints → SameTrace c vs ws → bit_violation_from c k vs ≡ bit_violation_from c k ws
+violations_same c k [] [] defined same = refl
+violations_same c k [] (w ∷ ws) defined same = absurd same
+violations_same c k (v ∷ vs) [] defined same = absurd same
+violations_same c k (v ∷ vs) (w ∷ ws) defined same =
+    ap₂ (violated_at k) (first_same c v w 0 c.constraints same.0 defined) (violations_same c (suc k) vs ws defined same.1)
+
+rises_same : (c : Circuit) (i : ℕ) (vs ws : List Valuation) → IsDefined (net c) (slice_index c.bads i) → SameTrace c vs ws → bit_rises c i vs ≡ bit_rises c i ws
+rises_same c i [] [] defined same = refl
+rises_same c i [] (w ∷ ws) defined same = absurd same
+rises_same c i (v ∷ vs) [] defined same = absurd same
+rises_same c i (v ∷ vs) (w ∷ ws) defined same =
+    ap₂ (λ (a b : Bool). a || b) (same_bit c v w (slice_index c.bads i) same.0 defined) (rises_same c i vs ws defined same.1)
+
+length_same : (c : Circuit) (vs ws : List Valuation) → SameTrace c vs ws → length vs ≡ length ws
+length_same c [] [] same = refl
+length_same c [] (w ∷ ws) same = absurd same
+length_same c (v ∷ vs) [] same = absurd same
+length_same c (v ∷ vs) (w ∷ ws) same = ap suc (length_same c vs ws same.1)
+
+verdict_same : (c : Circuit) (w : BitWitness) (vs us : List Valuation) → IsCircuit c → w.claim < length c.bads → SameTrace c vs us → bit_verdict c w vs ≡ bit_verdict c w us
+verdict_same c w vs us circuit below same =
+    let defined : IsDefined (net c) (slice_index c.bads w.claim) = All-get_or (IsDefined (net c)) c.bads w.claim 0 below circuit.defined.bads in
+    let reached : when_risen w.claim (length vs) (bit_rises c w.claim vs) ≡ when_risen w.claim (length us) (bit_rises c w.claim us) =
+    ap₂ (when_risen w.claim) (length_same c vs us same) (rises_same c w.claim vs us defined same) in
+    let broken = violations_same c 0 vs us (recursion_from_All (IsDefined (net c)) c.constraints circuit.defined.constraints) same in
+    elim (first_reset_differing 0 c.latches w.initial) as (λ o. when_reset c w vs o ≡ when_reset c w us o) [
+      | Some k ↦ refl
+      | None ↦
+          ap (when_unbroken c w vs) broken
+          ∙ elim (bit_violation_from c 0 us) as (λ v. when_unbroken c w vs v ≡ when_unbroken c w us v) [ Some v ↦ refl | None ↦ reached ]
+    ]
+
+-- ---- one judgement
+
+bits_judged : (c : Circuit) (w : BitWitness) → IsCircuit c → IsBitWitness c w → (j : Judgement) × JudgesBits c w j
+bits_judged c w circuit valid =
+    let trace = trace_exists c w.initial w.frames circuit valid.initial valid.frames in
+    (bit_verdict c w trace.0, λ vs h. verdict_same c w trace.0 vs circuit valid.claim (trace_unique c w.initial w.frames trace.0 vs circuit trace.1 h))
+
+bits_judged_once : (c : Circuit) (w : BitWitness) (j k : Judgement) → IsCircuit c → IsBitWitness c w → JudgesBits c w j → JudgesBits c w k → j ≡ k
+bits_judged_once c w j k circuit valid first second =
+    let trace = trace_exists c w.initial w.frames circuit valid.initial valid.frames in
+    first trace.0 trace.1 ∙ sym (second trace.0 trace.1)
+
+read_judged : (c : Circuit) (text : List ℕ) (r : Result BitRead Fault) → IsCircuit c → read_bit_text c text ≡ r → (j : Judgement) × JudgesBitRead c r j
+read_judged c text (Err e) circuit is = (judgement.Malformed e.line e.why, refl)
+read_judged c text (Ok r) circuit is = bits_judged c (bit_witness_of r) circuit (bit_read_says c text r circuit is).valid
+
+read_judged_once : (c : Circuit) (text : List ℕ) (r : Result BitRead Fault) (j k : Judgement) → IsCircuit c → read_bit_text c text ≡ r → JudgesBitRead c r j → JudgesBitRead c r k → j ≡ k
+read_judged_once c text (Err e) j k circuit is first second = first ∙ sym second
+read_judged_once c text (Ok r) j k circuit is first second = bits_judged_once c (bit_witness_of r) j k circuit (bit_read_says c text r circuit is).valid first second
+
+text_judged : (c : Circuit) (text : List ℕ) (b : Bool) → IsCircuit c → (j : Judgement) × JudgesBitText c text b j
+text_judged c text true circuit = (judgement.NoClaim, refl)
+text_judged c text false circuit = read_judged c text (read_bit_text c text) circuit refl
+
+text_judged_once : (c : Circuit) (text : List ℕ) (b : Bool) (j k : Judgement) → IsCircuit c → JudgesBitText c text b j → JudgesBitText c text b k → j ≡ k
+text_judged_once c text true j k circuit first second = first ∙ sym second
+text_judged_once c text false j k circuit first second = read_judged_once c text (read_bit_text c text) j k circuit refl first second
+
+-- a text has a judgement
+pub some_bit_judgement : (c : Circuit) (text : List ℕ) → IsCircuit c → (j : Judgement) × BitJudges c text j
+some_bit_judgement c text circuit = text_judged c text (makes_no_bit_claim (whole_lines text)) circuit
+
+-- and no other
+pub same_bit_judgement : (c : Circuit) (text : List ℕ) (j k : Judgement) → IsCircuit c → BitJudges c text j → BitJudges c text k → j ≡ k
+same_bit_judgement c text j k circuit first second = text_judged_once c text (makes_no_bit_claim (whole_lines text)) j k circuit first second

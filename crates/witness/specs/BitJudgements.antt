@@ -1,0 +1,83 @@
+-- The judgement of a text over a circuit ("AIGER 1.9 and Beyond", semantics; the order of the six answers is this project's).
+use Rattle.std.specs.Prelude.{◌≡◌, ℕ, suc, Bool, true, false, not, ◌||◌, List, [], ◌∷◌, Option, Some, None, Result, Ok, Err, codes, length, slice_index, if◌then◌else◌}
+use Rattle.std.specs.List.{list_any, position_from}
+use Rattle.std.specs.Str.{bytes_eq}
+use Rattle.base.specs.Lines.{whole_lines}
+use Rattle.aiger.specs.declared.circuit.Latch.{Latch}
+use Rattle.aiger.specs.declared.circuit.Reset.{Reset}
+use Rattle.aiger.specs.declared.circuit.Reset.TheVariants.{Zero, One, Free}
+use Rattle.aiger.specs.Literal.{Valuation, literal_value}
+use Rattle.aiger.specs.Circuit.{Circuit}
+use Rattle.aiger.specs.Trace.{IsTrace}
+use Rattle.witness.specs.declared.judgement.Judgement.{Judgement}
+use Rattle.witness.specs.declared.judgement.Judgement.TheVariants as judgement
+use Rattle.witness.specs.Admits.{Fault}
+use Rattle.witness.specs.Judgements.{Violation, violated_at}
+use Rattle.witness.specs.BitTexts.{BitWitness}
+use Rattle.witness.specs.BitAdmits.{BitRead, read_bit_text, bit_witness_of}
+
+-- ---- what is looked for
+
+-- a bit is not that of a reset
+abbrev pub differs_from_reset : Reset → Bool → Bool
+differs_from_reset Zero b = b
+differs_from_reset One b = not b
+differs_from_reset Free b = false
+
+-- the first latch whose bit is not that of its reset; latches are counted from k on
+abbrev pub first_reset_differing : ℕ → List Latch → List Bool → Option ℕ
+first_reset_differing k [] bits = None
+first_reset_differing k (l ∷ ls) [] = None
+first_reset_differing k (l ∷ ls) (b ∷ bs) = if differs_from_reset l.reset b then Some k else first_reset_differing (suc k) ls bs
+
+-- the first constraint that does not hold in a frame
+abbrev pub first_bit_violated : Circuit → Valuation → Option ℕ
+first_bit_violated c v = position_from (λ l. not (literal_value v l)) 0 c.constraints
+
+-- the first frame in which a constraint does not hold, and the first such constraint; frames are counted from k on
+abbrev pub bit_violation_from : Circuit → ℕ → List Valuation → Option Violation
+bit_violation_from c k [] = None
+bit_violation_from c k (v ∷ vs) = violated_at k (first_bit_violated c v) (bit_violation_from c (suc k) vs)
+
+-- a bad property rises in a frame
+abbrev pub bit_rises : Circuit → ℕ → List Valuation → Bool
+bit_rises c i vs = list_any (λ v. literal_value v (slice_index c.bads i)) vs
+
+-- ---- the judgement
+
+abbrev pub when_risen : ℕ → ℕ → Bool → Judgement
+when_risen i frames true = judgement.Accepted frames
+when_risen i frames false = judgement.NotReached i
+
+abbrev pub when_unbroken : Circuit → BitWitness → List Valuation → Option Violation → Judgement
+when_unbroken c w vs None = when_risen w.claim (length vs) (bit_rises c w.claim vs)
+when_unbroken c w vs (Some v) = judgement.Violated v.frame v.constraint
+
+abbrev pub when_reset : Circuit → BitWitness → List Valuation → Option ℕ → Judgement
+when_reset c w vs None = when_unbroken c w vs (bit_violation_from c 0 vs)
+when_reset c w vs (Some k) = judgement.InitDiffers k
+
+-- of a witness with its trace: initial bits first, then constraints in all frames, then the claim
+abbrev pub bit_verdict : Circuit → BitWitness → List Valuation → Judgement
+bit_verdict c w vs = when_reset c w vs (first_reset_differing 0 c.latches w.initial)
+
+-- the first line is whole, and says that there is no counterexample, or that none is known
+abbrev pub makes_no_bit_claim : List (List ℕ) → Bool
+makes_no_bit_claim [] = false
+makes_no_bit_claim (line ∷ lines) = bytes_eq line (codes "0") || bytes_eq line (codes "2")
+
+-- what is judged of a witness, by the circuit's one trace from its bits
+abbrev pub JudgesBits : Circuit → BitWitness → Judgement → Type 0
+JudgesBits c w j = (vs : List Valuation) → IsTrace c w.initial w.frames vs → j ≡ bit_verdict c w vs
+
+abbrev pub JudgesBitRead : Circuit → Result BitRead Fault → Judgement → Type 0
+JudgesBitRead c (Err e) j = j ≡ judgement.Malformed e.line e.why
+JudgesBitRead c (Ok r) j = JudgesBits c (bit_witness_of r) j
+
+abbrev pub JudgesBitText : Circuit → List ℕ → Bool → Judgement → Type 0
+JudgesBitText c text true j = j ≡ judgement.NoClaim
+JudgesBitText c text false j = JudgesBitRead c (read_bit_text c text) j
+
+-- the judgement of a text over a circuit
+abbrev pub BitJudges : Circuit → List ℕ → Judgement → Type 0
+BitJudges c text j = JudgesBitText c text (makes_no_bit_claim (whole_lines text)) j
