@@ -1,5 +1,5 @@
 -- The lists of a model: its inputs, states, bad properties and constraints in file order.
-use Rattle.std.specs.Prelude.{ℕ, suc, Bool, false, ◌&&◌, List, [], ◌∷◌, ◌++◌, Option, Some, None, if◌then◌else◌, is_none, is_some, option_and_then, option_map, unwrap_or, slice_get}
+use Rattle.std.specs.Prelude.{◌≡◌, ℕ, suc, true, Bool, false, ◌&&◌, List, [], ◌∷◌, ◌++◌, Option, Some, None, if◌then◌else◌, is_none, is_some, option_and_then, option_map, unwrap_or, slice_get}
 use Rattle.btor2.specs.declared.item.Item.{Item}
 use Rattle.btor2.specs.declared.item.Body.{Body}
 use Rattle.btor2.specs.Items.{position_of, is_state, init_value, next_value, is_free, width_of_body, constant_of_body}
@@ -46,3 +46,7 @@ has_init_without_next_at items place = unwrap_or (option_map (has_init_without_n
 abbrev pub first_init_without_next : List Item → List Item → Option ℕ
 first_init_without_next items [] = None
 first_init_without_next items (x ∷ xs) = if is_state x.body && has_init_without_next items x.id then Some x.id else first_init_without_next items xs
+
+-- each state of a model has a next line
+abbrev pub HaveNexts : List Item → Type 0
+HaveNexts items = (place : ℕ) (x : Item) → slice_get items place ≡ Some x → is_state x.body ≡ true → is_some (next_value items x.id) ≡ true

@@ -8,7 +8,7 @@ ghost use Rattle.btor2.specs.declared.fault.PushFault.TheVariants as fault;
 ghost use Rattle.btor2.specs.Items.{node_width, names_state, next_value, is_free};
 ghost use Rattle.btor2.specs.Check.{IsWellFormed, refusal};
 ghost use Rattle.btor2.specs.Lists.{first_init_without_next};
-ghost use Rattle.btor2.specs.Trace.{Frame, bits_of, IsFrame, IsInput, IsState, IsTrace, SameTrace, next_state};
+ghost use Rattle.btor2.specs.Trace.{Frame, bits_of, IsFrame, IsInput, IsState, IsTrace, SameTrace, next_state, InputFits, StateFits};
 ghost use Rattle.btor2.specs.Worked.{line, toggler, counter, open_ends, follower, shapes, nibble};
 
 /// A law: from carried words and a list of given words a model has exactly one trace.
@@ -66,6 +66,16 @@ pub fn words_of_states()
         → names_state items id ≡ true → is_free items id ≡ true → f id ≡ input id }
     ensures with_next { (items : List Item) (state input f : Frame) (id : ℕ) → IsFrame items state input f
         → names_state items id ≡ true → is_some (next_value items id) ≡ true → f id ≡ state id }
+{}
+
+/// A law: a state with a next line asks nothing of the words that are given in a frame, and asks of those that are
+/// carried that its word fits its width. So where each state has a next, given words are words of the inputs alone,
+/// and carried words are words of all states.
+pub fn words_that_fit_states()
+    ensures given { (items : List Item) (input : Frame) (id sort : ℕ) → is_some (next_value items id) ≡ true
+        → InputFits items input id (body.State sort) }
+    ensures carried { (items : List Item) (state : Frame) (id sort : ℕ) → is_some (next_value items id) ≡ true
+        → StateFits items state id (body.State sort) → state id < 2 ^ bits_of items id }
 {}
 
 /// Worked rows: of the states of two models those that are free, and the first that has an init line and no next line:

@@ -2,6 +2,7 @@
 ghost use Rattle.std.specs.Prelude.{◌≡◌, ℕ, true, false, List, [], ◌∷◌, ◌++◌, All, None, Some, Ok, Err, codes, map};
 ghost use Rattle.btor2.specs.declared.item.Item.{Item};
 ghost use Rattle.btor2.specs.Check.{IsWellFormed};
+ghost use Rattle.btor2.specs.Lists.{HaveNexts};
 ghost use Rattle.btor2.specs.Worked.{toggler, follower};
 ghost use Rattle.witness.specs.declared.why.Why.TheVariants as why;
 ghost use Rattle.witness.specs.declared.judgement.Judgement.{Judgement};
@@ -26,9 +27,11 @@ pub fn one_reading()
         → Says (shape_of items) text v → w ≡ v }
 {}
 
-/// A law: where no state is free, a witness has no part of states behind the first frame.
+/// A law: where each state of a model has a next none is free, and where none is, a witness has no part of states
+/// behind the first frame.
 pub fn no_later_states()
-    ensures { (shape : Shape) (first : Parts) (later : List Parts) → has_free shape ≡ false → AreFrames shape (first ∷ later)
+    ensures none_free { (items : List Item) → HaveNexts items → has_free (shape_of items) ≡ false }
+    ensures no_part { (shape : Shape) (first : Parts) (later : List Parts) → has_free shape ≡ false → AreFrames shape (first ∷ later)
         → All (λ parts. parts.states ≡ None) later }
 {}
 
