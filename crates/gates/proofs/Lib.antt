@@ -8,6 +8,7 @@ pub mod SumLemmas
 pub mod ProductLemmas
 pub mod OrderLemmas
 pub mod OverflowLemmas
+pub mod CarryLemmas
 pub mod QuotientLemmas
 pub mod WideProductLemmas
 pub mod SignedDivisionLemmas

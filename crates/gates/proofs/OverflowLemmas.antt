@@ -1,7 +1,5 @@
 -- The overflow tests, and the gates that tell them.
-use Rattle.std.proofs.Common.{◌≡◌, ℕ, suc, ◌+◌, ◌-◌, ◌*◌, ◌/◌, ◌%◌, ◌^◌, ◌<◌, ◌≤◌, ◌⊎◌, inl, inr, Bool, true, false, not, ◌&&◌, ◌==◌, nat_lt, nat_le, List, [], ◌∷◌, length, map, take, get_or, ℤ, pos, ◌+ℤ◌, ◌-ℤ◌, refl, sym, ap, ap₂, ◌∙◌, arith}
-use Rattle.std.proofs.Math.Nat.{add-mul-mod_self_left, mod-eq_of_lt, div-mul-le_self, lt-div-mul-add}
-use Rattle.std.proofs.lemmas.Nat.{pow_pos}
+use Rattle.std.proofs.Common.{◌≡◌, ℕ, suc, ◌+◌, ◌-◌, ◌*◌, ◌^◌, ◌<◌, ◌≤◌, ◌⊎◌, inl, inr, Bool, true, false, not, ◌&&◌, ◌==◌, nat_lt, nat_le, List, [], ◌∷◌, length, map, take, get_or, ℤ, pos, ◌+ℤ◌, ◌-ℤ◌, refl, sym, ap, ap₂, ◌∙◌, arith}
 use Rattle.std.proofs.lemmas.Bool.Decides.{nat_tests}
 use Rattle.std.proofs.lemmas.Int.{ints}
 use Rattle.std.proofs.lemmas.List.{length-map}
@@ -12,10 +10,10 @@ use Rattle.base.specs.Operator.{ones, binary_value}
 use Rattle.base.specs.Signed.{signed, overflows}
 use Rattle.base.proofs.SignedLaws.{half, signed_is, overflows_in, overflows_out}
 use Rattle.aiger.specs.Literal.{Valuation, literal_value, negation}
-use Rattle.aiger.specs.Net.{Net, Satisfies}
+use Rattle.aiger.specs.Net.{Net}
 use Rattle.gates.specs.Connect.{differ}
 use Rattle.gates.specs.Made.{MakesAnd, MakesLiteral, MakesWord, word_value}
-use Rattle.gates.specs.Sums.{literal_number, MakesSum}
+use Rattle.gates.specs.Sums.{literal_number}
 use Rattle.gates.specs.Tests.{with_top_negated}
 use Rattle.gates.proofs.GrowthLemmas.{Grows-trans, Satisfies-earlier, word_value-negation}
 use Rattle.gates.proofs.BitListLemmas.{word_value-below}
@@ -27,7 +25,7 @@ overflows_far n z true e far = refl
 overflows_far n z false e far = let near = overflows_out n z e in absurd (omega (arith, far, near))
 
 -- a sum of signed numbers by the sum m of the words without their highest bits, q being what these bits take off: it overflows where the carries differ
-carries_differ : (n m q s : ℕ) (t o : Bool) → (q ≡ 0) ⊎ ((q ≡ 2 ^ (n - 1)) ⊎ (q ≡ 2 * 2 ^ (n - 1)))
+pub carries_differ : (n m q s : ℕ) (t o : Bool) → (q ≡ 0) ⊎ ((q ≡ 2 ^ (n - 1)) ⊎ (q ≡ 2 * 2 ^ (n - 1)))
     → s < 2 * 2 ^ (n - 1) → s + 2 * 2 ^ (n - 1) * bit_number o ≡ m + q → bit_number t * 2 ^ (n - 1) ≤ m → m < bit_number t * 2 ^ (n - 1) + 2 ^ (n - 1)
     → overflows n (pos m -ℤ pos q) ≡ differ t o
 carries_differ n m q s true true taken below whole least most = overflows_in n (pos m -ℤ pos q) (omega (arith, ints, taken)) (omega (arith, ints, taken))
@@ -36,86 +34,36 @@ carries_differ n m q s true false taken below whole least most = overflows_far n
 carries_differ n m q s false true taken below whole least most = overflows_far n (pos m -ℤ pos q) _ refl (inl (omega (arith, ints, taken)))
 
 -- the highest bits of two words take off nothing, half of the words or all of them
-taken_off : (p : ℕ) (x y : Bool) → (p * (bit_number x + bit_number y) ≡ 0) ⊎ ((p * (bit_number x + bit_number y) ≡ p) ⊎ (p * (bit_number x + bit_number y) ≡ 2 * p))
+pub taken_off : (p : ℕ) (x y : Bool) → (p * (bit_number x + bit_number y) ≡ 0) ⊎ ((p * (bit_number x + bit_number y) ≡ p) ⊎ (p * (bit_number x + bit_number y) ≡ 2 * p))
 taken_off p true true = inr (inr (omega arith))
 taken_off p true false = inr (inl (omega arith))
 taken_off p false true = inr (inl (omega arith))
 taken_off p false false = inl (omega arith)
 
 -- so the sum of two signed numbers and a carry
-signed_sum : (n a b c : ℕ) (x y : Bool) → 1 ≤ n → a < 2 ^ (n - 1) → b < 2 ^ (n - 1)
+pub signed_sum : (n a b c : ℕ) (x y : Bool) → 1 ≤ n → a < 2 ^ (n - 1) → b < 2 ^ (n - 1)
     → signed n (a + 2 ^ (n - 1) * bit_number x) +ℤ signed n (b + 2 ^ (n - 1) * bit_number y) +ℤ pos c ≡ pos (a + b + c) -ℤ pos (2 ^ (n - 1) * (bit_number x + bit_number y))
 signed_sum n a b c x y h a_below b_below = rw (signed_top n a x h a_below, signed_top n b y h b_below) (omega (arith, ints))
 
--- the carry into the highest bit is what the words without their highest bits give
-carry_in : (p m : ℕ) (t : Bool) → 0 < p → bit_number t ≡ m / p → (bit_number t * p ≤ m) × (m < bit_number t * p + p)
-carry_in p m t h is = rw is (div-mul-le_self m p, lt-div-mul-add h)
-
--- the sum of two signed numbers and a carry overflows where the carries of the sum of their words differ
-sum_overflows : (n a b c s : ℕ) (x y t o : Bool) → 1 ≤ n → a < 2 ^ (n - 1) → b < 2 ^ (n - 1) → s < 2 ^ n
-    → s + 2 ^ n * bit_number o ≡ a + 2 ^ (n - 1) * bit_number x + (b + 2 ^ (n - 1) * bit_number y) + c
-    → bit_number t ≡ ((a + 2 ^ (n - 1) * bit_number x) % 2 ^ (n - 1) + (b + 2 ^ (n - 1) * bit_number y) % 2 ^ (n - 1) + c) / 2 ^ (n - 1)
-    → overflows n (signed n (a + 2 ^ (n - 1) * bit_number x) +ℤ signed n (b + 2 ^ (n - 1) * bit_number y) +ℤ pos c) ≡ differ t o
-sum_overflows n a b c s x y t o h a_below b_below s_below whole top =
-    let low_a : (a + 2 ^ (n - 1) * bit_number x) % 2 ^ (n - 1) ≡ a = add-mul-mod_self_left a (2 ^ (n - 1)) (bit_number x) ∙ mod-eq_of_lt a_below in
-    let low_b : (b + 2 ^ (n - 1) * bit_number y) % 2 ^ (n - 1) ≡ b = add-mul-mod_self_left b (2 ^ (n - 1)) (bit_number y) ∙ mod-eq_of_lt b_below in
-    let all = half n h in
-    let into : bit_number t ≡ (a + b + c) / 2 ^ (n - 1) = top ∙ rw (low_a, low_b) refl in
-    let least = carry_in (2 ^ (n - 1)) (a + b + c) t (pow_pos (n - 1)) into in
-    let below : s < 2 * 2 ^ (n - 1) = rw (← all) s_below in
-    let sum : s + 2 * 2 ^ (n - 1) * bit_number o ≡ a + b + c + 2 ^ (n - 1) * (bit_number x + bit_number y) = rw (← all) (omega (arith, whole)) in
-    ap (overflows n) (signed_sum n a b c x y h a_below b_below)
-    ∙ carries_differ n (a + b + c) (2 ^ (n - 1) * (bit_number x + bit_number y)) s t o (taken_off (2 ^ (n - 1)) x y) below sum least.0 least.1
-
--- the same of an adder's answer
-adder_overflows : (old new : Net) (most : ℕ) (a b : List ℕ) (carry : ℕ) (sum : List ℕ) (into_top out : ℕ) → 1 ≤ length a → length b ≡ length a → MakesSum old new most a b carry sum into_top out
-    → (v : Valuation) → Satisfies new v
-    → overflows (length a) (signed (length a) (word_value v a) +ℤ signed (length a) (word_value v b) +ℤ pos (literal_number v carry)) ≡ differ (literal_value v into_top) (literal_value v out)
-adder_overflows old new most a b carry sum into_top out some same makes v s =
-    let k = length a - 1 in
-    let of_a : word_value v a ≡ word_value v (take k a) + 2 ^ k * literal_number v (get_or a k 0) = word_value-top v a k (omega arith) in
-    let of_b : word_value v b ≡ word_value v (take k b) + 2 ^ k * literal_number v (get_or b k 0) = word_value-top v b k (omega arith) in
-    let a_below : word_value v (take k a) < 2 ^ k = front_below v a k (omega arith) in
-    let b_below : word_value v (take k b) < 2 ^ k = front_below v b k (omega arith) in
-    let sum_below : word_value v sum < 2 ^ length a = word_value-below v sum (length a) makes.wide in
-    rw (of_a, of_b)
-    (sum_overflows (length a) (word_value v (take k a)) (word_value v (take k b)) (literal_number v carry) (word_value v sum) (literal_value v (get_or a k 0)) (literal_value v (get_or b k 0))
-    (literal_value v into_top) (literal_value v out) some a_below b_below sum_below (rw (of_a, of_b) at (makes.whole v s)) (rw (of_a, of_b) at (makes.top v s)))
-
--- a literal that is true where the carries differ
-MakesWord-carries_differ : (old mid new : Net) (a b : List ℕ) (carry : ℕ) (sum : List ℕ) (into_top out l : ℕ) (z : Valuation → ℤ) → 1 ≤ length a → length b ≡ length a
-    → ((v : Valuation) → signed (length a) (word_value v a) +ℤ signed (length a) (word_value v b) +ℤ pos (literal_number v carry) ≡ z v)
-    → MakesSum old mid (9 * length a) a b carry sum into_top out → MakesLiteral mid new 3 (λ v. differ (literal_value v into_top) (literal_value v out)) l
-    → MakesWord old new (12 * length a) 1 (λ v. bit_number (overflows (length a) (z v))) (l ∷ [])
-MakesWord-carries_differ old mid new a b carry sum into_top out l z some same is makes test =
-    MakesWord-test old new (9 * length a + 3) (12 * length a) (λ v. overflows (length a) (z v)) (λ v. bit_number (overflows (length a) (z v))) l (omega arith)
-    (record {
-      grows = Grows-trans old mid new (9 * length a) 3 makes.grows test.grows;
-      defined = test.defined;
-      means = λ v s. test.means v s ∙ sym (adder_overflows old mid (9 * length a) a b carry sum into_top out some same makes v (Satisfies-earlier mid new 3 test.grows v s)) ∙ ap (overflows (length a)) (is v);
-    })
-    (λ v. refl)
-
-pub MakesWord-saddo : (old mid new : Net) (a b sum : List ℕ) (into_top out l : ℕ) → 1 ≤ length a → length b ≡ length a
-    → MakesSum old mid (9 * length a) a b 0 sum into_top out → MakesLiteral mid new 3 (λ v. differ (literal_value v into_top) (literal_value v out)) l
+pub MakesWord-saddo : (old new : Net) (a b : List ℕ) (l : ℕ)
+    → MakesLiteral old new (12 * length a) (λ v. overflows (length a) (signed (length a) (word_value v a) +ℤ signed (length a) (word_value v b) +ℤ pos (literal_number v 0))) l
     → MakesWord old new (12 * length a) 1 (λ v. binary_value binary.Saddo (length a) (word_value v a) (word_value v b)) (l ∷ [])
-MakesWord-saddo old mid new a b sum into_top out l some same makes test =
-    MakesWord-carries_differ old mid new a b 0 sum into_top out l (λ v. signed (length a) (word_value v a) +ℤ signed (length a) (word_value v b)) some same (λ v. omega (arith, ints)) makes test
+MakesWord-saddo old new a b l makes =
+    MakesWord-test old new (12 * length a) (12 * length a) _ _ l (omega arith) makes (λ v. ap (λ z. bit_number (overflows (length a) z)) (omega (arith, ints)))
 
 -- the signed number of a negated word
 signed_not : (n x : ℕ) → 1 ≤ n → x < 2 ^ n → signed n (2 ^ n - 1 - x) +ℤ pos 1 ≡ pos 0 -ℤ signed n x
 signed_not n x h below = omega (arith, ints, half n h, signed_is n x h below, signed_is n (2 ^ n - 1 - x) h (omega arith))
 
-pub MakesWord-ssubo : (old mid new : Net) (a b sum : List ℕ) (into_top out l : ℕ) → 1 ≤ length a → length b ≡ length a
-    → MakesSum old mid (9 * length a) a (map negation b) 1 sum into_top out → MakesLiteral mid new 3 (λ v. differ (literal_value v into_top) (literal_value v out)) l
+pub MakesWord-ssubo : (old new : Net) (a b negated : List ℕ) (l : ℕ) → 1 ≤ length a → length b ≡ length a → negated ≡ map negation b
+    → MakesLiteral old new (12 * length a) (λ v. overflows (length a) (signed (length a) (word_value v a) +ℤ signed (length a) (word_value v negated) +ℤ pos (literal_number v 1))) l
     → MakesWord old new (12 * length a) 1 (λ v. binary_value binary.Ssubo (length a) (word_value v a) (word_value v b)) (l ∷ [])
-MakesWord-ssubo old mid new a b sum into_top out l some same makes test =
-    MakesWord-carries_differ old mid new a (map negation b) 1 sum into_top out l (λ v. signed (length a) (word_value v a) -ℤ signed (length a) (word_value v b)) some (length-map b negation ∙ same)
+MakesWord-ssubo old new a b negated l some same is makes =
+    MakesWord-test old new (12 * length a) (12 * length a) _ _ l (omega arith) makes
     (λ v.
     let below : word_value v b < 2 ^ length a = word_value-below v b (length a) same in
-    let opposite : signed (length a) (word_value v (map negation b)) +ℤ pos 1 ≡ pos 0 -ℤ signed (length a) (word_value v b) = rw (word_value-negation v b, same) (signed_not (length a) (word_value v b) some below) in
-    omega (arith, ints, opposite))
-    makes test
+    let opposite : signed (length a) (word_value v negated) +ℤ pos 1 ≡ pos 0 -ℤ signed (length a) (word_value v b) = rw (is, word_value-negation v b, same) (signed_not (length a) (word_value v b) some below) in
+    ap (λ z. bit_number (overflows (length a) z)) (omega (arith, ints, opposite)))
 
 -- a sum is no word where the second word is above what the first leaves up to the greatest
 above_rest : (p a b : ℕ) → a < p → nat_lt (p - 1 - a) b ≡ nat_le p (a + b)

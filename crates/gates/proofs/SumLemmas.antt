@@ -14,7 +14,7 @@ use Rattle.base.proofs.WrapLemmas.{wrapped_is}
 use Rattle.base.specs.Word.{bit_number, word}
 use Rattle.aiger.specs.Literal.{Valuation, literal_value, negation}
 use Rattle.aiger.specs.Net.{Net, IsDefined}
-use Rattle.aiger.proofs.NetLemmas.{literal_value-negation}
+use Rattle.aiger.proofs.NetLemmas.{IsDefined-negation, literal_value-negation}
 use Rattle.gates.specs.Connect.{differ}
 use Rattle.gates.specs.Made.{MakesAnd, MakesLiteral, MakesWord, word_value}
 use Rattle.gates.specs.Sums.{literal_number, MakesColumn, MakesSum}
@@ -75,6 +75,41 @@ MakesColumn-full n0 n1 n2 n3 a b c low first second sum carry one two three =
           let carry_is = one_of_two (literal_value v first) (literal_value v second) (omega (arith, low_is, sum_is, x, y, z)) in
           omega (arith, ap bit_number (three.means v s), carry_is, low_is, sum_is);
     }
+
+-- two bits and one, by the two bits' sum: its low bit is the other one, and it has a high bit where one of the two is 1
+with_one : (x y s k : Bool) → bit_number s + 2 * bit_number k ≡ bit_number x + bit_number y → bit_number (not s) + 2 * bit_number (x || y) ≡ bit_number x + bit_number y + 1
+with_one true true true k e = absurd (omega (arith, e))
+with_one true true false k e = refl
+with_one true false true k e = refl
+with_one true false false k e = absurd (omega (arith, e))
+with_one false true true k e = refl
+with_one false true false k e = absurd (omega (arith, e))
+with_one false false true k e = absurd (omega (arith, e))
+with_one false false false k e = refl
+
+pub MakesColumn-one : (n0 n1 n2 : Net) (a b low first carry : ℕ)
+    → MakesColumn n0 n1 3 (λ v. literal_number v a + literal_number v b) low first
+    → MakesLiteral n1 n2 1 (λ v. literal_value v a || literal_value v b) carry
+    → MakesColumn n0 n2 4 (λ v. literal_number v a + literal_number v b + 1) (negation low) carry
+MakesColumn-one n0 n1 n2 a b low first carry one two =
+    record {
+      grows = Grows-trans n0 n1 n2 3 1 one.grows two.grows;
+      sum_defined = IsDefined-negation n2 low (IsDefined-grown n1 n2 1 two.grows low one.sum_defined);
+      carry_defined = two.defined;
+      means = λ v s.
+          let low_is = one.means v (Satisfies-earlier n1 n2 1 two.grows v s) in
+          rw (literal_value-negation v low, two.means v s) (with_one (literal_value v a) (literal_value v b) (literal_value v low) (literal_value v first) low_is);
+    }
+
+-- so is the sum of three bits of which one is true
+pub MakesColumn-with_true : (old new : Net) (a b c sum carry : ℕ) → c ≡ 1 → MakesColumn old new 4 (λ v. literal_number v a + literal_number v b + 1) sum carry
+    → MakesColumn old new 7 (λ v. literal_number v a + literal_number v b + literal_number v c) sum carry
+MakesColumn-with_true old new a b c sum carry is makes = record {
+  grows = Grows-weaker old new 4 7 (omega arith) makes.grows;
+  sum_defined = makes.sum_defined;
+  carry_defined = makes.carry_defined;
+  means = λ v s. rw is (makes.means v s);
+}
 
 -- a literal read at a place of a list is one of its literals
 pub literal_at : (n : Net) (ls read : List ℕ) (i l : ℕ) → read ≡ ls → i < length ls → l ≡ get_or read i l → All (IsDefined n) ls → IsDefined n l
@@ -216,13 +251,17 @@ MakesWord-added old new a b bits makes = record {
   means = λ v s. makes.means v s ∙ ap (λ k. k % 2 ^ length a) (omega arith);
 }
 
-pub MakesWord-subtracted : (old new : Net) (a b sum : List ℕ) (into_top out : ℕ) → length b ≡ length a → MakesSum old new (9 * length a) a (map negation b) 1 sum into_top out
-    → MakesWord old new (9 * length a) (length a) (λ v. binary_value binary.Sub (length a) (word_value v a) (word_value v b)) sum
-MakesWord-subtracted old new a b sum into_top out same makes =
-    MakesWord-sum old new (9 * length a) a (map negation b) 1 sum into_top out _ makes
-    (λ v.
-    let below : word_value v b < 2 ^ length a = word_value-below v b (length a) same in
-    rw (word_value-negation v b, same) (difference_is (length a) (word_value v a) (word_value v b) below))
+pub MakesWord-subtracted : (old new : Net) (a b negated bits : List ℕ) → length b ≡ length a → negated ≡ map negation b
+    → MakesWord old new (9 * length a) (length a) (λ v. (word_value v a + word_value v negated + literal_number v 1) % 2 ^ length a) bits
+    → MakesWord old new (9 * length a) (length a) (λ v. binary_value binary.Sub (length a) (word_value v a) (word_value v b)) bits
+MakesWord-subtracted old new a b negated bits same is makes = record {
+  grows = makes.grows;
+  wide = makes.wide;
+  defined = makes.defined;
+  means = λ v s.
+      let below : word_value v b < 2 ^ length a = word_value-below v b (length a) same in
+      makes.means v s ∙ rw (is, word_value-negation v b, same) (difference_is (length a) (word_value v a) (word_value v b) below);
+}
 
 pub MakesWord-negative : (old new : Net) (a zeros sum : List ℕ) (into_top out : ℕ) → zeros ≡ replicate (length a) 0
     → MakesSum old new (9 * length zeros) zeros (map negation a) 1 sum into_top out

@@ -45,6 +45,21 @@ fn half_adder<G: Gates>(g: &mut G, a: Lit, b: Lit) -> Result<Column, GateFault>
     Ok(Column { sum, carry: both })
 }
 
+/// The sum of two bits and one, which takes no gate but those of the sum of the two bits where a maker makes none twice.
+fn adder_with_one<G: Gates>(g: &mut G, a: Lit, b: Lit) -> Result<Column, GateFault>
+    requires left { IsDefined (G.made g.old) a }
+    requires right { IsDefined (G.made g.old) b }
+    ensures ok { IfOk result (λ c. MakesColumn (G.made g.old) (G.made g.new) 4 (λ v. literal_number v a + literal_number v b + 1) c.sum c.carry) }
+    ensures refused { IfErr result (Refuses (G.made g.old) (G.made g.new) 4) }
+{
+    let two = half_adder(g, a, b)?;
+    let carry = disjunction(g, a, b)?;
+    Ok(Column {
+        sum: two.sum.not(),
+        carry,
+    })
+}
+
 /// The sum of three bits.
 fn full_adder<G: Gates>(g: &mut G, a: Lit, b: Lit, c: Lit) -> Result<Column, GateFault>
     requires left { IsDefined (G.made g.old) a }
@@ -53,6 +68,9 @@ fn full_adder<G: Gates>(g: &mut G, a: Lit, b: Lit, c: Lit) -> Result<Column, Gat
     ensures ok { IfOk result (λ column. MakesColumn (G.made g.old) (G.made g.new) 7 (λ v. literal_number v a + literal_number v b + literal_number v c) column.sum column.carry) }
     ensures refused { IfErr result (Refuses (G.made g.old) (G.made g.new) 7) }
 {
+    if c == Lit::TRUE {
+        return adder_with_one(g, a, b);
+    }
     let first = half_adder(g, a, b)?;
     let second = half_adder(g, first.sum, c)?;
     let carry = disjunction(g, first.carry, second.carry)?;
@@ -146,8 +164,7 @@ pub(crate) fn sub_bits<G: Gates>(g: &mut G, a: &Bits, b: &Bits) -> Result<Bits, 
     ensures ok { IfOk result (λ bits. let n = length a.now.items in MakesWord (G.made g.old) (G.made g.new) (9 * n) n (λ v. binary_value Binary.Sub n (word_value v a.now.items) (word_value v b.now.items)) bits.items) }
     ensures refused { IfErr result (Refuses (G.made g.old) (G.made g.new) (9 * length a.now.items)) }
 {
-    let sum = difference(g, a, b)?;
-    Ok(sum.sum)
+    sum_bits(g, a, &negation(b), Lit::TRUE)
 }
 
 /// The bits of the word of a word's negated number: none less the word.

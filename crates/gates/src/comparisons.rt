@@ -16,7 +16,7 @@ use base::Binary;
 
 /// Whether a word is less than another, by its highest column and whether it is less in the columns below: where the
 /// bits of the column are equal, the columns below decide. Below the lowest column nothing is.
-fn less_column<G: Gates>(g: &mut G, a: Lit, b: Lit, below: Lit) -> Result<Lit, GateFault>
+pub(crate) fn less_column<G: Gates>(g: &mut G, a: Lit, b: Lit, below: Lit) -> Result<Lit, GateFault>
     requires left { IsDefined (G.made g.old) a }
     requires right { IsDefined (G.made g.old) b }
     requires below { IsDefined (G.made g.old) below }

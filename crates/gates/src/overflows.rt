@@ -1,17 +1,18 @@
 //! Whether the result of an operation in whole numbers is one of the width.
-ghost use Rattle.std.specs.Prelude.{◌≡◌, ◌+◌, ◌*◌, ◌%◌, ◌^◌, ◌≤◌, true, [], ◌∷◌, length, All, IfOk, IfErr, if◌then◌else◌};
+ghost use Rattle.std.specs.Prelude.{◌≡◌, ◌+◌, ◌*◌, ◌%◌, ◌^◌, ◌≤◌, true, nat_le, pos, ◌+ℤ◌, [], ◌∷◌, length, take, All, IfOk, IfErr, if◌then◌else◌};
 ghost use Rattle.base.specs.Operator.{ones, binary_value};
+ghost use Rattle.base.specs.Signed.{signed, overflows};
 ghost use Rattle.aiger.specs.Literal.{literal_value};
 ghost use Rattle.aiger.specs.Net.{IsDefined};
 ghost use Rattle.gates.specs.Bound.{binary_bound};
 ghost use Rattle.gates.specs.Operands.{AreOperands};
-ghost use Rattle.gates.specs.Made.{MakesWord, Refuses, word_value};
+ghost use Rattle.gates.specs.Made.{MakesLiteral, MakesWord, Refuses, word_value};
+ghost use Rattle.gates.specs.Sums.{literal_number};
 ghost use Rattle.gates.specs.Tests.{is_overflow};
 
-use crate::adders::{add, difference};
 use crate::bit_lists::{doubled, high_bits, negation, repeated};
 use crate::bitwise::{Connective, connect_bits, equal};
-use crate::comparisons::{less, top_negated};
+use crate::comparisons::{less, less_column, top_negated};
 use crate::fault::GateFault;
 use crate::literals::{conjunction, xor};
 use crate::maker::{Bits, Gates};
@@ -61,24 +62,56 @@ fn usubo<G: Gates>(g: &mut G, a: &Bits, b: &Bits) -> Result<Lit, GateFault>
     less(g, a, b)
 }
 
-/// Whether the sum of signed numbers is none of the width: the carries into and out of its highest bit differ.
+/// Whether so many of the lowest columns of two words and a carry sum to more than the columns hold. It takes no gate
+/// for the sum's bits.
+fn carry_out<G: Gates>(
+    g: &mut G,
+    a: &Bits,
+    b: &Bits,
+    carry: Lit,
+    count: usize,
+) -> Result<Lit, GateFault>
+    requires operands { AreOperands (G.made g.old) 64 a.now.items b.now.items }
+    requires carry { IsDefined (G.made g.old) carry }
+    requires inside { count ≤ length a.now.items }
+    ensures ok { IfOk result (MakesLiteral (G.made g.old) (G.made g.new) (4 * count) (λ v. nat_le (2 ^ count) (word_value v (take count a.now.items) + word_value v (take count b.now.items) + literal_number v carry))) }
+    ensures refused { IfErr result (Refuses (G.made g.old) (G.made g.new) (4 * count)) }
+{
+    let mut out = carry;
+    for i in 0..count {
+        out = less_column(g, a[i].not(), b[i], out)?;
+    }
+    Ok(out)
+}
+
+/// Whether the sum of signed numbers and a carry is none of the width: the carries into and out of its highest bit differ.
+fn sum_overflow<G: Gates>(g: &mut G, a: &Bits, b: &Bits, carry: Lit) -> Result<Lit, GateFault>
+    requires operands { AreOperands (G.made g.old) 64 a.now.items b.now.items }
+    requires carry { IsDefined (G.made g.old) carry }
+    ensures ok { IfOk result (let n = length a.now.items in MakesLiteral (G.made g.old) (G.made g.new) (12 * n) (λ v. overflows n (signed n (word_value v a.now.items) +ℤ signed n (word_value v b.now.items) +ℤ pos (literal_number v carry)))) }
+    ensures refused { IfErr result (Refuses (G.made g.old) (G.made g.new) (12 * length a.now.items)) }
+{
+    let into_top = carry_out(g, a, b, carry, a.len() - 1)?;
+    let out = carry_out(g, a, b, carry, a.len())?;
+    xor(g, into_top, out)
+}
+
+/// Whether the sum of signed numbers is none of the width.
 fn saddo<G: Gates>(g: &mut G, a: &Bits, b: &Bits) -> Result<Lit, GateFault>
     requires { AreOperands (G.made g.old) 64 a.now.items b.now.items }
     ensures ok { IfOk result (λ l. let n = length a.now.items in MakesWord (G.made g.old) (G.made g.new) (12 * n) 1 (λ v. binary_value Binary.Saddo n (word_value v a.now.items) (word_value v b.now.items)) (l ∷ [])) }
     ensures refused { IfErr result (Refuses (G.made g.old) (G.made g.new) (12 * length a.now.items)) }
 {
-    let sum = add(g, a, b, Lit::FALSE)?;
-    xor(g, sum.into_top, sum.out)
+    sum_overflow(g, a, b, Lit::FALSE)
 }
 
-/// Whether the difference of signed numbers is none of the width: the carries into and out of its highest bit differ.
+/// Whether the difference of signed numbers is none of the width, as a sum: the second word negated, and one more.
 fn ssubo<G: Gates>(g: &mut G, a: &Bits, b: &Bits) -> Result<Lit, GateFault>
     requires { AreOperands (G.made g.old) 64 a.now.items b.now.items }
     ensures ok { IfOk result (λ l. let n = length a.now.items in MakesWord (G.made g.old) (G.made g.new) (12 * n) 1 (λ v. binary_value Binary.Ssubo n (word_value v a.now.items) (word_value v b.now.items)) (l ∷ [])) }
     ensures refused { IfErr result (Refuses (G.made g.old) (G.made g.new) (12 * length a.now.items)) }
 {
-    let sum = difference(g, a, b)?;
-    xor(g, sum.into_top, sum.out)
+    sum_overflow(g, a, &negation(b), Lit::TRUE)
 }
 
 /// Whether the quotient of signed numbers is none of the width: the least number, whose highest bit alone is 1, by the

@@ -1,10 +1,20 @@
+use Rattle.std.proofs.Common.{arith}
 use Rattle.std.proofs.lemmas.Result.{IfOk-weaker}
+use Rattle.gates.proofs.GrowthLemmas.{MakesWord-not}
 use Rattle.gates.proofs.OverflowLemmas.{MakesWord-ssubo}
 use Rattle.gates.proofs.overflows.ssubo.Goals as goal
 
+pub sum_overflow-requires-clause-operands : goal.sum_overflow-requires-clause-operands
+sum_overflow-requires-clause-operands g c =
+    let negated = MakesWord-not _ c.args.b.now.items c.negation.result.items c.requires.right c.negation.ensures in
+    record {
+      some = c.requires.some;
+      most = c.requires.most;
+      equal = omega (arith, negated.wide, c.requires.equal);
+      left = c.requires.left;
+      right = negated.defined;
+    }
+
 pub returns-clause-ok : goal.returns-clause-ok
 returns-clause-ok g c =
-    let sum = c.in_ok-sum.sum in
-    IfOk-weaker c.xor.result _ _
-    (λ l makes. MakesWord-ssubo _ _ _ c.args.a.now.items c.args.b.now.items sum.sum.items sum.into_top sum.out l c.requires.some c.requires.equal c.in_ok-sum.ensures.ok makes)
-    c.xor.ensures.ok
+    IfOk-weaker c.sum_overflow.result _ _ (λ l makes. MakesWord-ssubo _ _ c.args.a.now.items c.args.b.now.items c.negation.result.items l c.requires.some c.requires.equal c.negation.ensures makes) c.sum_overflow.ensures.ok

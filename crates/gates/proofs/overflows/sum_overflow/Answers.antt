@@ -1,0 +1,10 @@
+use Rattle.std.proofs.lemmas.Result.{IfOk-weaker}
+use Rattle.gates.proofs.CarryLemmas.{MakesLiteral-sum_overflow}
+use Rattle.gates.proofs.overflows.sum_overflow.Goals as goal
+
+pub returns-clause-ok : goal.returns-clause-ok
+returns-clause-ok g c =
+    IfOk-weaker c.xor.result _ _
+    (λ l makes. MakesLiteral-sum_overflow _ _ _ _ c.args.a.now.items c.args.b.now.items c.args.carry c.in_ok-into_top.into_top c.in_ok-out.out l c.requires.operands.some c.requires.operands.equal
+    (rw c.len.ensures.value at c.in_ok-into_top.ensures.ok) (rw c.len-2.ensures.value at c.in_ok-out.ensures.ok) makes)
+    c.xor.ensures.ok
