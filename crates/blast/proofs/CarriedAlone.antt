@@ -1,8 +1,11 @@
 -- Models in which each state has a next line: no state is free.
-use Rattle.std.proofs.Common.{◌≡◌, ℕ, suc, Bool, true, false, not, ◌&&◌, cond, List, [], ◌∷◌, ◌++◌, Some, slice_get, refl, ap, ap₂, ◌∙◌, append-nil}
+use Rattle.std.proofs.Common.{◌≡◌, ℕ, suc, Bool, true, false, not, ◌&&◌, cond, List, [], ◌∷◌, ◌++◌, ◌+◌, Some, slice_get, refl, sym, ap, ap₂, ◌∙◌, append-nil, arith}
+use Rattle.std.proofs.lemmas.List.Sums.{sum_by-cons}
 use Rattle.btor2.specs.declared.item.Item.{Item}
 use Rattle.btor2.specs.Items.{is_state, is_free, is_free_state, is_carried_state}
+use Rattle.btor2.specs.Trace.{bits_of}
 use Rattle.btor2.proofs.StateWords.{not_free}
+use Rattle.blast.specs.Cost.{kind_width, input_width, state_width, given_width, carried_width}
 use Rattle.blast.specs.Leaves.{by_body, of_kind, HaveNexts}
 
 -- kinds that are the same of some items give the same of them, and a kind that none is of gives nothing
@@ -36,3 +39,23 @@ given_alone items give front h = ap (λ (l : List _). front ++ l) (of_kind-none 
 
 pub carried_alone : {A : Type 0} (items : List Item) (give : Item → List A) → HaveNexts items → of_kind (is_carried_state items) give items ≡ of_kind (by_body is_state) give items
 carried_alone items give h = of_kind-alike (is_carried_state items) (by_body is_state) give items (all_carried items h)
+
+-- the same of widths
+width-alike : (items : List Item) (kind other : Item → Bool) (xs : List Item) → ((place : ℕ) (x : Item) → slice_get xs place ≡ Some x → kind x ≡ other x) → kind_width items kind xs ≡ kind_width items other xs
+width-alike items kind other [] same = refl
+width-alike items kind other (x ∷ xs) same =
+    sum_by-cons (λ (y : Item). cond (kind y) (bits_of items y.id) 0) x xs
+    ∙ ap₂ ◌+◌ (ap (λ (b : Bool). cond b (bits_of items x.id) 0) (same 0 x refl)) (width-alike items kind other xs (λ place y at. same (suc place) y at))
+    ∙ sym (sum_by-cons (λ (y : Item). cond (other y) (bits_of items y.id) 0) x xs)
+
+width-none : (items : List Item) (kind : Item → Bool) (xs : List Item) → ((place : ℕ) (x : Item) → slice_get xs place ≡ Some x → kind x ≡ false) → kind_width items kind xs ≡ 0
+width-none items kind [] none = refl
+width-none items kind (x ∷ xs) none =
+    sum_by-cons (λ (y : Item). cond (kind y) (bits_of items y.id) 0) x xs
+    ∙ ap₂ ◌+◌ (ap (λ (b : Bool). cond b (bits_of items x.id) 0) (none 0 x refl)) (width-none items kind xs (λ place y at. none (suc place) y at))
+
+pub given_width_alone : (items : List Item) → HaveNexts items → given_width items ≡ input_width items
+given_width_alone items h = omega (arith, width-none items (is_free_state items) items (none_free items h))
+
+pub carried_width_alone : (items : List Item) → HaveNexts items → carried_width items ≡ state_width items
+carried_width_alone items h = width-alike items (is_carried_state items) (by_body is_state) items (all_carried items h)

@@ -3,10 +3,14 @@ pub mod WidthLemmas
 pub mod KindBlocks
 pub mod KindRows
 pub mod NodeLemmas
+pub mod PlacedLemmas
 pub mod NodeRows
+pub mod PlacedRows
 pub mod NameLemmas
 pub mod LatchLemmas
+pub mod RefusalLemmas
 pub mod PropertyLemmas
+pub mod OutputNames
 pub mod LowerLemmas
 pub mod LowerAssembly
 pub mod ReachLemmas

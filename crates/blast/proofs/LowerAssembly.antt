@@ -1,5 +1,5 @@
 -- The parts of a lowering, put together.
-use Rattle.std.proofs.Common.{◌≡◌, ℕ, ◌+◌, ◌≤◌, Bool, true, false, List, [], ◌∷◌, ◌++◌, length, nat_lt, Option, Some, None, is_some, if◌then◌else◌, option_and_then, option_map, refl, sym, ap, ◌∙◌, subst, arith, length-append}
+use Rattle.std.proofs.Common.{◌≡◌, ℕ, ◌+◌, ◌≤◌, Bool, true, false, List, [], ◌∷◌, ◌++◌, length, nat_lt, Option, Some, None, is_some, if◌then◌else◌, option_and_then, ◌&&◌, refl, sym, ap, ◌∙◌, subst, arith, length-append}
 use Rattle.std.proofs.lemmas.List.{length-map, length-replicate}
 use Rattle.std.specs.Option.{option_or}
 use Rattle.std.proofs.lemmas.List.Sums.{sum_by-cons}
@@ -21,21 +21,38 @@ use Rattle.blast.specs.Cost.{bound, kind_width, given_width, carried_width}
 use Rattle.blast.specs.Leaves.{of_kind, leaf_resets, resets_of_word, reset_of_bit}
 use Rattle.blast.specs.Lowering.{Lowers}
 use Rattle.blast.specs.Sections.{TakesNames}
-use Rattle.blast.specs.Reads.{leaves_only, LowersNodes, RowsRead, LatchesRead, BadsRead, ConstraintsRead}
-use Rattle.btor2.specs.Lists.{first_init_without_next}
+use Rattle.blast.specs.Reads.{leaves_only, LowersNodes, RowsRead, LatchesRead, OutputsRead, BadsRead, ConstraintsRead}
+use Rattle.btor2.specs.declared.item.Body.{Body}
+use Rattle.btor2.specs.declared.item.Body.TheVariants as body
+use Rattle.btor2.specs.Lists.{has_init_without_next, first_init_without_next}
 use Rattle.blast.specs.declared.fault.LowerFault.{LowerFault}
-use Rattle.blast.specs.Refusal.{IsOfProfile, form_refusal, lowering_refusal, too_big}
+use Rattle.blast.specs.Refusal.{IsOfProfile, line_refusal, first_refusal, form_refusal, lowering_refusal, too_big}
 use Rattle.blast.proofs.WidthLemmas.{leaves_width}
 use Rattle.blast.proofs.LowerLemmas.{Observes, show_same}
 use Rattle.btor2.proofs.NextLemmas.{has_next}
 
-no_first : (o : Option ℕ) → option_map fault.NoNext o ≡ None → o ≡ None
-no_first None e = refl
-no_first (Some id) e = absurd (cc)
+-- where nothing speaks against some items, none of them is a state with an init line alone
+no_lacking : (items : List Item) (id : ℕ) (b : Body) → line_refusal items id b ≡ None → (is_state b && has_init_without_next items id) ≡ false
+no_lacking items id (body.State s) h = by (has_init_without_next items id) h
+  where
+    by : (t : Bool) → (if t then Some (fault.NoNext id) else None) ≡ None → t ≡ false
+    by true h = absurd (cc)
+    by false h = refl
+no_lacking items id _ h = refl
+
+none_of_two : (o p : Option LowerFault) → option_or o p ≡ None → (o ≡ None) × (p ≡ None)
+none_of_two None p h = (refl, h)
+none_of_two (Some e) p h = absurd (cc)
+
+none_lacking : (items xs : List Item) → first_refusal items xs ≡ None → first_init_without_next items xs ≡ None
+none_lacking items [] h = refl
+none_lacking items (x ∷ xs) h =
+    let parts = none_of_two (line_refusal items x.id x.body) (first_refusal items xs) h in
+    ap (λ (t : Bool). if t then Some x.id else first_init_without_next items xs) (no_lacking items x.id x.body parts.0) ∙ none_lacking items xs parts.1
 
 -- in a model of the profile no state has an init line alone
 pub nexts_given : (items : List Item) → IsOfProfile items → first_init_without_next items items ≡ None
-nexts_given items e = no_first (first_init_without_next items items) e
+nexts_given items e = none_lacking items items e
 
 -- a model that is not refused is of the profile
 pub profile_given : (items : List Item) → lowering_refusal items ≡ None → IsOfProfile items
@@ -104,11 +121,11 @@ pub assemble : (items : List Item) (n : Net) (rows : List (List ℕ)) (c1 c2 c3 
     → IsWellFormed items → IsOfProfile items → IsCircuit c4
     → LowersNodes items (leaves_only items) n rows → c1 ≡ gates_only n
     → LatchesRead items (net c1) items c2.latches → c2 ≡ record c1 { latches = c2.latches }
-    → BadsRead items (net c2) items c3.bads → ConstraintsRead items (net c2) items c3.constraints
-    → c3 ≡ record c2 { bads = c3.bads; constraints = c3.constraints }
+    → OutputsRead items (net c2) items c3.outputs → BadsRead items (net c2) items c3.bads → ConstraintsRead items (net c2) items c3.constraints
+    → c3 ≡ record c2 { outputs = c3.outputs; bads = c3.bads; constraints = c3.constraints }
     → TakesNames items c3 c4
     → Lowers items c4
-assemble items n rows c1 c2 c3 c4 well profile circuit nodes is1 latches is2 bads constraints is3 takes =
+assemble items n rows c1 c2 c3 c4 well profile circuit nodes is1 latches is2 outputs bads constraints is3 takes =
     let is4 = takes.rest in
     let inputs1 : c1.inputs ≡ n.inputs = ap (λ (c : Circuit). c.inputs) is1 in
     let inputs2 : c2.inputs ≡ c1.inputs = ap (λ (c : Circuit). c.inputs) is2 in
@@ -117,6 +134,7 @@ assemble items n rows c1 c2 c3 c4 well profile circuit nodes is1 latches is2 bad
     let gates2 : c2.gates ≡ c1.gates = ap (λ (c : Circuit). c.gates) is2 in
     let gates4 : c4.gates ≡ c2.gates = ap (λ (c : Circuit). c.gates) is4 ∙ ap (λ (c : Circuit). c.gates) is3 in
     let latches4 : c4.latches ≡ c2.latches = ap (λ (c : Circuit). c.latches) is4 ∙ ap (λ (c : Circuit). c.latches) is3 in
+    let outputs4 : c4.outputs ≡ c3.outputs = ap (λ (c : Circuit). c.outputs) is4 in
     let bads4 : c4.bads ≡ c3.bads = ap (λ (c : Circuit). c.bads) is4 in
     let constraints4 : c4.constraints ≡ c3.constraints = ap (λ (c : Circuit). c.constraints) is4 in
     let count1 : length c1.latches ≡ n.latches = ap (λ (c : Circuit). length c.latches) is1 ∙ length-replicate n.latches fresh_latch in
@@ -125,6 +143,7 @@ assemble items n rows c1 c2 c3 c4 well profile circuit nodes is1 latches is2 bad
     let net4 : net c4 ≡ net c2 = net_same c4.inputs c2.inputs (length c4.latches) (length c2.latches) c4.gates c2.gates inputs4 (ap length latches4) gates4 in
     let observes : Observes items c4 = record {
       latches = subst (λ (m : Net). LatchesRead items m items c4.latches) (sym (net4 ∙ net2)) (rw latches4 latches);
+      outputs = subst (λ (m : Net). OutputsRead items m items c4.outputs) (sym net4) (rw outputs4 outputs);
       bads = subst (λ (m : Net). BadsRead items m items c4.bads) (sym net4) (rw bads4 bads);
       constraints = subst (λ (m : Net). ConstraintsRead items m items c4.constraints) (sym net4) (rw constraints4 constraints);
       stays = λ state input f fits in_fits frame. next_state_fits items state input f well fits in_fits frame (nexts_by_id items (nexts_given items profile));
@@ -138,9 +157,9 @@ assemble items n rows c1 c2 c3 c4 well profile circuit nodes is1 latches is2 bad
       input_names = takes.inputs;
       latch_names = takes.latches;
       resets = rw latches4 latches.resets;
+      output_names = takes.outputs;
       bad_names = takes.bads;
       constraint_names = takes.constraints;
-      no_outputs = ap (λ (c : Circuit). c.outputs) is4 ∙ ap (λ (c : Circuit). c.outputs) is3 ∙ ap (λ (c : Circuit). c.outputs) is2 ∙ ap (λ (c : Circuit). c.outputs) is1;
       no_justice = ap (λ (c : Circuit). c.justice) is4 ∙ ap (λ (c : Circuit). c.justice) is3 ∙ ap (λ (c : Circuit). c.justice) is2 ∙ ap (λ (c : Circuit). c.justice) is1;
       no_fair = ap (λ (c : Circuit). c.fair) is4 ∙ ap (λ (c : Circuit). c.fair) is3 ∙ ap (λ (c : Circuit). c.fair) is2 ∙ ap (λ (c : Circuit). c.fair) is1;
       few_gates = rw (gates4, gates2, gates1, more.1) more.2;
@@ -154,7 +173,7 @@ pub record IsUnnamedYet (items : List Item) (c : Circuit) : Type 0 where
   pub latches : length c.latches ≡ carried_width items
 
 pub unnamed_yet : (items : List Item) (n : Net) (rows : List (List ℕ)) (c1 c2 c3 : Circuit) → LowersNodes items (leaves_only items) n rows → c1 ≡ gates_only n
-    → LatchesRead items (net c1) items c2.latches → c2 ≡ record c1 { latches = c2.latches } → c3 ≡ record c2 { bads = c3.bads; constraints = c3.constraints } → IsUnnamedYet items c3
+    → LatchesRead items (net c1) items c2.latches → c2 ≡ record c1 { latches = c2.latches } → c3 ≡ record c2 { outputs = c3.outputs; bads = c3.bads; constraints = c3.constraints } → IsUnnamedYet items c3
 unnamed_yet items n rows c1 c2 c3 nodes is1 latches is2 is3 =
     record {
       names = ap (λ (c : Circuit). c.names) is3 ∙ ap (λ (c : Circuit). c.names) is2 ∙ ap (λ (c : Circuit). c.names) is1;

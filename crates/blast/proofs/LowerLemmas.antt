@@ -7,11 +7,12 @@ use Rattle.aiger.specs.Circuit.{Circuit, net}
 use Rattle.aiger.specs.Trace.{IsFrame as IsCircuitFrame, IsTrace as IsCircuitTrace, next_state as next_bits}
 use Rattle.blast.specs.Leaves.{input_bits, state_bits}
 use Rattle.blast.specs.Lowering.{ShowSame}
-use Rattle.blast.specs.Reads.{Together, LatchesRead, BadsRead, ConstraintsRead}
+use Rattle.blast.specs.Reads.{Together, LatchesRead, OutputsRead, BadsRead, ConstraintsRead}
 
 -- all that is observed of a circuit reads as the model's words
 pub record Observes (items : List Item) (c : Circuit) : Type 0 where
   pub latches : LatchesRead items (net c) items c.latches
+  pub outputs : OutputsRead items (net c) items c.outputs
   pub bads : BadsRead items (net c) items c.bads
   pub constraints : ConstraintsRead items (net c) items c.constraints
   pub stays : (state input f : Frame) → IsState items state → IsInput items input → IsFrame items state input f → IsState items (next_state items f)
@@ -31,6 +32,6 @@ show_same items c o state (input ∷ inputs) (f ∷ fs) [] fits in_fit t u = u
 show_same items c o state (input ∷ inputs) (f ∷ fs) (v ∷ vs) fits in_fit t u =
     let both = together items c state input f v fits in_fit.0 t.0 u.0 in
     let next : next_bits c v ≡ state_bits items (next_state items f) = o.latches.nexts state input f v both in (
-      record { bads = o.bads.values state input f v both; constraints = o.constraints.values state input f v both },
+      record { outputs = o.outputs.values state input f v both; bads = o.bads.values state input f v both; constraints = o.constraints.values state input f v both },
       show_same items c o (next_state items f) inputs fs vs (o.stays state input f fits in_fit.0 t.0) in_fit.1 t.1 (subst (λ s. IsCircuitTrace c s (map (input_bits items) inputs) vs) next u.1),
     )

@@ -25,7 +25,7 @@ use Rattle.aiger.proofs.SectionNameLemmas.{length-section_names, slice_get-secti
 use Rattle.blast.specs.Cost.{kind_width, given_width, carried_width}
 use Rattle.blast.specs.declared.parts.Part.{Part}
 use Rattle.blast.specs.declared.parts.Part.TheVariants as part
-use Rattle.blast.specs.Leaves.{by_body, of_kind, bit_name, bit_names, leaf_names, bad_names, constraint_names}
+use Rattle.blast.specs.Leaves.{by_body, of_kind, bit_name, bit_names, leaf_names, output_names, bad_names, constraint_names}
 use Rattle.blast.specs.Blocks.{block, blocks, written, IsBlank}
 use Rattle.blast.specs.Sections.{kind_of, list_of, section_of, item_names, part_names, names_given, Renames, TakesNames}
 use Rattle.blast.proofs.KindBlocks.{slice_get-replicate, written-nil, length-written, written-one, written-more, written-behind, written-blank, written-further, written-whole, blocks-of_kind, blocks-more, of_kind-within, reached, reached-is, reached-more, reached-within, reached-all}
@@ -84,15 +84,15 @@ bit_name_is_name s bit h low short =
 -- Names of one section.
 
 -- its own names
-Renames-own : (s : Section) (c : Circuit) → Renames s c (section_names s c) c
+pub Renames-own : (s : Section) (c : Circuit) → Renames s c (section_names s c) c
 Renames-own s c = record { own = refl; others = λ t apart. refl; rest = refl }
 
 -- equal names
-Renames-equal : (s : Section) (old new : Circuit) (names more : Names) → names ≡ more → Renames s old names new → Renames s old more new
+pub Renames-equal : (s : Section) (old new : Circuit) (names more : Names) → names ≡ more → Renames s old names new → Renames s old more new
 Renames-equal s old new names more e r = subst (λ (n : Names). Renames s old n new) e r
 
 -- names given after others
-Renames-then : (s : Section) (old cur new : Circuit) (names : Names) (f : Names → Names) → Renames s old names cur → Renames s cur (f (section_names s cur)) new → Renames s old (f names) new
+pub Renames-then : (s : Section) (old cur new : Circuit) (names : Names) (f : Names → Names) → Renames s old names cur → Renames s cur (f (section_names s cur)) new → Renames s old (f names) new
 Renames-then s old cur new names f r t =
     record {
       own = t.own ∙ ap f r.own;
@@ -319,16 +319,18 @@ pub record IsUnnamed (items : List Item) (c : Circuit) : Type 0 where
   pub names : c.names ≡ []
   pub inputs : c.inputs ≡ length (part_names items part.Inputs) + length (part_names items part.FreeStates)
   pub latches : length c.latches ≡ length (part_names items part.CarriedStates)
+  pub outputs : length c.outputs ≡ length (output_names items)
   pub bads : length c.bads ≡ length (part_names items part.Bads)
   pub constraints : length c.constraints ≡ length (part_names items part.Constraints)
 
 pub IsUnnamed-from_widths : (items : List Item) (c : Circuit) → c.names ≡ [] → c.inputs ≡ given_width items → length c.latches ≡ carried_width items
-    → length c.bads ≡ length (bad_names items) → length c.constraints ≡ length (constraint_names items) → IsUnnamed items c
-IsUnnamed-from_widths items c none inputs latches bads constraints =
+    → length c.outputs ≡ length (output_names items) → length c.bads ≡ length (bad_names items) → length c.constraints ≡ length (constraint_names items) → IsUnnamed items c
+IsUnnamed-from_widths items c none inputs latches outputs bads constraints =
     record {
       names = none;
       inputs = inputs ∙ sym (ap₂ ◌+◌ (length-leaves (by_body is_input) items items) (length-leaves (is_free_state items) items items));
       latches = latches ∙ sym (length-leaves (is_carried_state items) items items);
+      outputs = outputs;
       bads = bads;
       constraints = constraints;
     }
@@ -377,22 +379,27 @@ two_parts s c cur new next names more count e a b =
     b.own ∙ ap₂ (λ (l : Names) (k : ℕ). written l k more) a.own e ∙ written-further (section_names s c) 0 names more (omega arith)
     ∙ written-whole (section_names s c) (names ++ more) (omega (arith, length-append names more))
 
--- the five parts one after another
-pub TakesNames-made : (items : List Item) (c0 c1 c2 c3 c4 c5 : Circuit) (next : ℕ) → IsUnnamed items c0 → next ≡ 0 + length (part_names items part.Inputs)
+-- the five parts one after another, and the outputs
+pub TakesNames-made : (items : List Item) (c0 c1 c2 c3 c4 c5 c6 : Circuit) (next : ℕ) → IsUnnamed items c0 → next ≡ 0 + length (part_names items part.Inputs)
     → Renames section.Input c0 (written (section_names section.Input c0) 0 (part_names items part.Inputs)) c1
     → Renames section.Input c1 (written (section_names section.Input c1) next (part_names items part.FreeStates)) c2
     → Renames section.Latch c2 (written (section_names section.Latch c2) 0 (part_names items part.CarriedStates)) c3
     → Renames section.Bad c3 (written (section_names section.Bad c3) 0 (part_names items part.Bads)) c4
-    → Renames section.Constraint c4 (written (section_names section.Constraint c4) 0 (part_names items part.Constraints)) c5 → TakesNames items c0 c5
-TakesNames-made items c0 c1 c2 c3 c4 c5 next unnamed e a b l d k =
+    → Renames section.Constraint c4 (written (section_names section.Constraint c4) 0 (part_names items part.Constraints)) c5
+    → Renames section.Output c5 (output_names items) c6 → TakesNames items c0 c6
+TakesNames-made items c0 c1 c2 c3 c4 c5 c6 next unnamed e a b l d k o =
     record {
-      inputs = k.others section.Input (λ q. cc) ∙ d.others section.Input (λ q. cc) ∙ l.others section.Input (λ q. cc)
+      inputs = o.others section.Input (λ q. cc) ∙ k.others section.Input (λ q. cc) ∙ d.others section.Input (λ q. cc) ∙ l.others section.Input (λ q. cc)
           ∙ two_parts section.Input c0 c1 c2 next (part_names items part.Inputs) (part_names items part.FreeStates) unnamed.inputs e a b;
-      latches = k.others section.Latch (λ q. cc) ∙ d.others section.Latch (λ q. cc)
+      latches = o.others section.Latch (λ q. cc) ∙ k.others section.Latch (λ q. cc) ∙ d.others section.Latch (λ q. cc)
           ∙ one_part section.Latch c0 c2 c3 (part_names items part.CarriedStates) unnamed.latches (b.others section.Latch (λ q. cc) ∙ a.others section.Latch (λ q. cc)) l;
-      bads = k.others section.Bad (λ q. cc)
+      outputs = o.own;
+      bads = o.others section.Bad (λ q. cc) ∙ k.others section.Bad (λ q. cc)
           ∙ one_part section.Bad c0 c3 c4 (part_names items part.Bads) unnamed.bads (l.others section.Bad (λ q. cc) ∙ b.others section.Bad (λ q. cc) ∙ a.others section.Bad (λ q. cc)) d;
-      constraints = one_part section.Constraint c0 c4 c5 (part_names items part.Constraints) unnamed.constraints
+      constraints = o.others section.Constraint (λ q. cc) ∙ one_part section.Constraint c0 c4 c5 (part_names items part.Constraints) unnamed.constraints
           (d.others section.Constraint (λ q. cc) ∙ l.others section.Constraint (λ q. cc) ∙ b.others section.Constraint (λ q. cc) ∙ a.others section.Constraint (λ q. cc)) k;
-      rest = k.rest ∙ ap (λ (c : Circuit). record c { names = c5.names }) d.rest ∙ ap (λ (c : Circuit). record c { names = c5.names }) l.rest ∙ ap (λ (c : Circuit). record c { names = c5.names }) b.rest ∙ ap (λ (c : Circuit). record c { names = c5.names }) a.rest;
+      rest = o.rest ∙ ap last k.rest ∙ ap last d.rest ∙ ap last l.rest ∙ ap last b.rest ∙ ap last a.rest;
     }
+  where
+    last : Circuit → Circuit
+    last c = record c { names = c6.names }

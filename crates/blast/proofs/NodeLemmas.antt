@@ -1,12 +1,12 @@
 -- The rows of nodes: what stays as gates are added, and what each form makes.
-use Rattle.std.proofs.Common.{◌≡◌, ℕ, zero, suc, ◌+◌, ◌*◌, ◌<◌, ◌≤◌, Bool, true, false, cond, List, [], ◌∷◌, ◌++◌, length, Option, Some, None, IfSome, unwrap_or, option_and_then, slice_get, get_or, take, drop, map, replicate, All, refl, sym, ap, ap₂, subst, ◌∙◌, arith, length-append, append_assoc}
+use Rattle.std.proofs.Common.{◌≡◌, ℕ, zero, suc, ◌+◌, ◌*◌, ◌<◌, ◌≤◌, Bool, true, false, cond, List, [], ◌∷◌, ◌++◌, length, Option, Some, None, IfSome, unwrap_or, option_and_then, slice_get, get_or, take, drop, map, All, refl, sym, ap, ap₂, subst, ◌∙◌, arith, length-append, append_assoc}
 use Rattle.std.specs.List.{range_with_len}
 use Rattle.std.proofs.lemmas.Option.{none-some, same_Some, slice_get-get_or}
-use Rattle.std.proofs.lemmas.List.{take_at, drop_at, length-map, length-replicate}
-use Rattle.std.proofs.lemmas.List.Elements.{All-nil, All-cons, All-replicate, All-map}
+use Rattle.std.proofs.lemmas.List.{take_at, drop_at, length-map}
+use Rattle.std.proofs.lemmas.List.Elements.{All-nil, All-cons, All-map}
 use Rattle.std.proofs.lemmas.List.Sums.{sum_by-append, sum_by-cons}
 use Rattle.base.specs.Word.{word, bits}
-use Rattle.base.specs.Operator.{unary_value, binary_value}
+use Rattle.base.specs.Operator.{unary_value, binary_value, ite_value}
 use Rattle.base.specs.Widths.{unary_width, binary_width}
 use Rattle.base.specs.declared.operators.Unary.{Unary}
 use Rattle.base.specs.declared.operators.Binary.{Binary}
@@ -20,7 +20,7 @@ use Rattle.btor2.proofs.ModelLemmas.{IsIn-from_find, node_width-at, node_width-r
 use Rattle.aiger.specs.Literal.{Valuation, literal_value}
 use Rattle.aiger.specs.Net.{Net, variables, IsDefined, bits_from}
 use Rattle.aiger.proofs.NetLemmas.{length-bits_from, bits_from-append, bits_from-literals}
-use Rattle.gates.specs.Bound.{unary_bound, binary_bound}
+use Rattle.gates.specs.Bound.{unary_bound, binary_bound, ite_bound}
 use Rattle.gates.specs.Made.{Grows, MakesWord, word_value}
 use Rattle.gates.proofs.GrowthLemmas.{Grows-refl, Grows-weaker, Satisfies-earlier, All-defined-grown}
 use Rattle.blast.specs.Leaves.{of_kind, leaf_bits}
@@ -128,7 +128,7 @@ word_of_operand items n rows id w a state input f v t =
 -- Operators.
 
 -- a row that reads as a word of its length has the word's bits
-bits_of_word : (v : Valuation) (row : List ℕ) (width value : ℕ) → length row ≡ width → word_value v row ≡ value → map (literal_value v) row ≡ bits width value
+pub bits_of_word : (v : Valuation) (row : List ℕ) (width value : ℕ) → length row ≡ width → word_value v row ≡ value → map (literal_value v) row ≡ bits width value
 bits_of_word v row width value wide is =
     sym (bits-word_of_length width (map (literal_value v) row) (length-map row (literal_value v) ∙ wide)) ∙ ap (bits width) is
 
@@ -180,21 +180,33 @@ MakesNode-binary items old new rows op x y a b row w o p same_a same_b m =
               (k.means v t.satisfied ∙ ap₂ (binary_value op n_x) (word_of_operand items old rows x w o state input f v earlier) (word_of_operand items old rows y w p state input f v earlier));
         }
 
--- Constants.
-
--- false literals are the bits of 0
-zero_row : (v : Valuation) (n : ℕ) → map (literal_value v) (replicate n 0) ≡ bits n 0
-zero_row v zero = refl
-zero_row v (suc n) = ap (λ (l : List Bool). false ∷ l) (zero_row v n)
-
-pub MakesNode-zero : (items : List Item) (n : Net) (width : ℕ) (row : List ℕ) → row ≡ replicate width 0 → MakesNode items n n 0 width (λ f. 0) row
-MakesNode-zero items n width row is =
-    rw is (record {
-      grows = Grows-refl n 0;
-      wide = length-replicate width 0;
-      defined = All-replicate (IsDefined n) width 0 (omega arith);
-      bits = λ state input f v t. zero_row v width;
-    })
+-- a choice
+pub MakesNode-ite : (items : List Item) (old new : Net) (rows : List (List ℕ)) (x y z : ℕ) (c a b row : List ℕ) → IsWellFormed items → (q : IsOperand items old rows x) → (o : IsOperand items old rows y) → (p : IsOperand items old rows z)
+    → Some q.row ≡ Some c → Some o.row ≡ Some a → Some p.row ≡ Some b
+    → MakesWord old new (ite_bound (length a)) (length a) (λ v. ite_value (word_value v c) (word_value v a) (word_value v b)) row
+    → MakesNode items old new (ite_bound (bits_of items y)) (bits_of items y) (λ f. ite_value (f x) (f y) (f z)) row
+MakesNode-ite items old new rows x y z c a b row w q o p same_c same_a same_b m =
+    let is_c : q.row ≡ c = same_Some q.row c same_c in
+    let is_a : o.row ≡ a = same_Some o.row a same_a in
+    let is_b : p.row ≡ b = same_Some p.row b same_b in
+    let wide : length a ≡ bits_of items y = ap length (sym is_a) ∙ o.reads.wide in
+    from (length a) wide (rw (is_c, is_b, is_a) m)
+  where
+    from : (n : ℕ) → n ≡ bits_of items y → MakesWord old new (ite_bound n) n (λ v. ite_value (word_value v q.row) (word_value v o.row) (word_value v p.row)) row
+        → MakesNode items old new (ite_bound (bits_of items y)) (bits_of items y) (λ f. ite_value (f x) (f y) (f z)) row
+    from n e m =
+        let n_y = bits_of items y in
+        let k : MakesWord old new (ite_bound n_y) n_y (λ v. ite_value (word_value v q.row) (word_value v o.row) (word_value v p.row)) row = rw e at m in
+        record {
+          grows = k.grows;
+          wide = k.wide;
+          defined = k.defined;
+          bits = λ state input f v t.
+              let earlier = Together-earlier items old new (ite_bound n_y) k.grows state input f v t in
+              bits_of_word v row n_y (ite_value (f x) (f y) (f z)) k.wide
+              (k.means v t.satisfied ∙ ap (λ (i : ℕ). ite_value i (word_value v o.row) (word_value v p.row)) (word_of_operand items old rows x w q state input f v earlier)
+              ∙ ap₂ (ite_value (f x)) (word_of_operand items old rows y w o state input f v earlier) (word_of_operand items old rows z w p state input f v earlier));
+        }
 
 -- Leaves.
 

@@ -1,8 +1,7 @@
 -- The rows of a model so far, and one row more: one lemma for each form.
-use Rattle.std.proofs.Common.{◌≡◌, ℕ, zero, suc, ◌+◌, ◌*◌, ◌≤◌, Bool, true, false, not, ◌||◌, ◌&&◌, ◌==◌, ◌<◌, cond, List, [], ◌∷◌, ◌++◌, length, Option, Some, unwrap_or, option_and_then, slice_get, get_or, take, map, replicate, sum_by, ◌⊎◌, inl, inr, refl, sym, ap, ap₂, subst, ◌∙◌, arith, length-append, add-one, ⊎_elim}
+use Rattle.std.proofs.Common.{◌≡◌, ℕ, zero, suc, ◌+◌, ◌*◌, ◌≤◌, Bool, true, false, not, ◌||◌, ◌&&◌, ◌==◌, ◌<◌, cond, List, [], ◌∷◌, ◌++◌, length, Option, Some, unwrap_or, option_and_then, slice_get, get_or, take, map, sum_by, ◌⊎◌, inl, inr, refl, sym, ap, ap₂, subst, ◌∙◌, arith, length-append, add-one, ⊎_elim}
 use Rattle.std.specs.List.{range_with_len}
 use Rattle.std.proofs.lemmas.Option.{none-some, same_Some, slice_get_within, get_or_from_slice_get}
-use Rattle.std.proofs.lemmas.Bool.{and_parts}
 use Rattle.std.proofs.lemmas.Bool.Decides.{nat_tests}
 use Rattle.std.proofs.lemmas.List.{take_at, take_all, take_more, map_push, length-map}
 use Rattle.std.proofs.lemmas.List.Sums.{sum_by_more, sum_by_more_le, sum_by-take-le}
@@ -15,13 +14,12 @@ use Rattle.btor2.specs.declared.item.Item.{Item}
 use Rattle.btor2.specs.declared.item.Body.{Body}
 use Rattle.btor2.specs.declared.item.Body.TheVariants as body
 use Rattle.btor2.specs.Items.{width_of_body, sort_width, is_input, is_state, is_free, is_free_state, is_carried_state}
-use Rattle.btor2.specs.Lists.{width_at, places, is_free_at}
+use Rattle.btor2.specs.Lists.{places, is_free_at}
 use Rattle.btor2.specs.Check.{IsWellFormed}
 use Rattle.btor2.specs.Trace.{Frame, bits_of, LineHolds}
 use Rattle.btor2.proofs.AppendLemmas.{sort_width-append, node_width-append}
 use Rattle.btor2.proofs.AcceptedLemmas.{BodyIsAccepted}
 use Rattle.btor2.proofs.ModelLemmas.{IsIn-from_place, IsAccepted-at}
-use Rattle.btor2text.specs.Basic.{is_basic, are_basic}
 use Rattle.aiger.specs.Literal.{Valuation}
 use Rattle.aiger.specs.Net.{Net, variables, bits_from}
 use Rattle.aiger.proofs.NetLemmas.{length-bits_from, bits_from-append}
@@ -35,7 +33,7 @@ use Rattle.blast.specs.Reads.{Together, RowReads, leaves_only, LowersNodes}
 use Rattle.blast.specs.Table.{MakesNode, MakesRow, IsOperand, cost_among, next_leaf, next_after, LowersFront}
 use Rattle.blast.proofs.WidthLemmas.{bits_of-at, leaves_width}
 use Rattle.blast.proofs.KindRows.{is_free-at}
-use Rattle.blast.proofs.NodeLemmas.{MakesRow-from_node, MakesNode-variables, MakesNode-zero, length-leaves, leaf_variables, same_parts, length-range, LineHolds-at, IsOperand-from_front, RowsRead-later}
+use Rattle.blast.proofs.NodeLemmas.{MakesRow-from_node, MakesNode-variables, length-leaves, leaf_variables, same_parts, length-range, LineHolds-at, IsOperand-from_front, RowsRead-later}
 
 -- The rows so far.
 
@@ -148,20 +146,6 @@ MakesRow-state items place n rows next x s row w front at is row_is = by (is_fre
         (omega (arith, front.grows.inputs, front.grows.latches)) (ap (λ (l : NextLeaf). l.carried) front.leaves ∙ omega arith) row_is
         (λ state inp f v t. (ap₂ (λ (i l : ℕ). bits_from (suc i) l v) (sym front.grows.inputs) (sym front.grows.latches) ∙ t.latches, word_of false e state inp f v t))
 
--- a zero's row
-pub MakesRow-zero : (items : List Item) (place : ℕ) (n : Net) (x : Item) (s width : ℕ) (row : List ℕ) → slice_get items place ≡ Some x
-    → x.body ≡ body.Zero s → width ≡ unwrap_or (width_at items place) 0 → row ≡ replicate width 0 → MakesRow items n n x row
-MakesRow-zero items place n x s width row at is wide row_is =
-    MakesRow-from_node items n n x 0 width (λ f. 0) row (omega arith) (sym (wide ∙ ap (λ (o : Option ℕ). unwrap_or o 0) (ap (option_and_then (λ (y : Item). width_of_body items y.body)) at)))
-    (λ state input f h. subst (LineHolds items state input f x.id) is (LineHolds-at items state input f items place x h at))
-    (MakesNode-zero items n width row row_is)
-
--- an item of a list of basic forms is of one
-pub basic_at : (items : List Item) (place : ℕ) (x : Item) → are_basic items ≡ true → slice_get items place ≡ Some x → is_basic x.body ≡ true
-basic_at [] place x basic at = absurd (none-some x at)
-basic_at (y ∷ ys) zero x basic at = subst (λ (z : Item). is_basic z.body ≡ true) (same_Some y x at) (and_parts (is_basic y.body) (are_basic ys) basic).0
-basic_at (y ∷ ys) (suc place) x basic at = basic_at ys place x (and_parts (is_basic y.body) (are_basic ys) basic).1 at
-
 -- what a line of one operand is in a well-formed list
 pub record UnaryStands (items : List Item) (n : Net) (rows : List (List ℕ)) (op : Unary) (s a : ℕ) : Type 0 where
   pub operand : IsOperand items n rows a
@@ -257,7 +241,7 @@ places-append list n (x ∷ xs) ys = by (list x.body) (places-append list (suc n
     by false e = e
 
 -- one item more
-states_more : (items : List Item) (place : ℕ) (x : Item) → slice_get items place ≡ Some x
+pub states_more : (items : List Item) (place : ℕ) (x : Item) → slice_get items place ≡ Some x
     → length (places is_state 0 (take (place + 1) items)) ≡ length (places is_state 0 (take place items)) + cond (is_state x.body) 1 0
 states_more items place x at =
     let within = slice_get_within items place x at in
@@ -317,7 +301,7 @@ IsNextState-split ps qs place k e = (omega (arith, length-append ps (place ∷ q
     here [] = refl
     here (r ∷ rs) = here rs
 
-length-places : (list : Body → Bool) (n : ℕ) (xs : List Item) → length (places list n xs) ≤ length xs
+pub length-places : (list : Body → Bool) (n : ℕ) (xs : List Item) → length (places list n xs) ≤ length xs
 length-places list n [] = omega arith
 length-places list n (x ∷ xs) = by (list x.body) (length-places list (suc n) xs)
   where

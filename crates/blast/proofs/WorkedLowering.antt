@@ -1,7 +1,8 @@
 -- The circuits of small models, worked out by hand.
-use Rattle.std.proofs.Common.{◌≡◌, ℕ, ◌-◌, ◌%◌, ◌<◌, rules, Bool, not, ◌==◌, List, [], ◌∷◌, refl, sym, ap, ◌∙◌, arith}
+use Rattle.std.proofs.Common.{◌≡◌, ℕ, ◌-◌, ◌/◌, ◌%◌, ◌<◌, rules, Bool, not, ◌==◌, List, [], ◌∷◌, refl, sym, ap, ap₂, ◌∙◌, arith}
 use Rattle.std.specs.Fmt.{digits}
 use Rattle.std.proofs.lemmas.Bool.Decides.{nat_tests}
+use Rattle.base.specs.Word.{bits}
 use Rattle.btor2.specs.Check.{IsWellFormed}
 use Rattle.btor2.specs.Trace.{Frame}
 use Rattle.btor2.specs.Worked.{toggler}
@@ -9,7 +10,7 @@ use Rattle.btor2.proofs.TraceLemmas.{next_state_fits}
 use Rattle.aiger.specs.Literal.{Valuation}
 use Rattle.aiger.specs.Circuit.{IsCircuit, net}
 use Rattle.aiger.specs.Worked.{toggler as toggler_circuit}
-use Rattle.blast.specs.Worked.{named_follower, follower_circuit, free_alone, one_input}
+use Rattle.blast.specs.Worked.{named_follower, follower_circuit, free_alone, one_input, named_inverter, inverter_circuit, named_keeper, keeper_circuit}
 use Rattle.blast.specs.Lowering.{Lowers}
 use Rattle.blast.specs.Reads.{Together}
 use Rattle.blast.proofs.LowerAssembly.{nexts_by_id}
@@ -44,6 +45,7 @@ observes : IsWellFormed toggler → Observes toggler toggler_circuit
 observes well =
     record {
       latches = record { defined = search rules; resets = refl; nexts = λ state input f v t. ap (λ (b : Bool). b ∷ []) (next state input f v t) };
+      outputs = record { values = λ state input f v t. refl };
       bads = record { values = λ state input f v t. ap (λ (b : Bool). b ∷ []) (bad state input f v t) };
       constraints = record { values = λ state input f v t. refl };
       stays = λ state input f fits in_fits frame. next_state_fits toggler state input f well fits in_fits frame (nexts_by_id toggler refl);
@@ -59,9 +61,9 @@ toggler_lowered well circuit =
       input_names = refl;
       latch_names = refl;
       resets = refl;
+      output_names = refl;
       bad_names = refl;
       constraint_names = refl;
-      no_outputs = refl;
       no_justice = refl;
       no_fair = refl;
       few_gates = omega arith;
@@ -87,6 +89,7 @@ follower_observes : IsWellFormed named_follower → Observes named_follower foll
 follower_observes well =
     record {
       latches = record { defined = search rules; resets = refl; nexts = λ state input f v t. ap (λ (b : Bool). b ∷ []) (follower_next state input f v t) };
+      outputs = record { values = λ state input f v t. refl };
       bads = record { values = λ state input f v t. ap (λ (b : Bool). b ∷ []) (follower_bad state input f v t) };
       constraints = record { values = λ state input f v t. refl };
       stays = λ state input f fits in_fits frame. next_state_fits named_follower state input f well fits in_fits frame (nexts_by_id named_follower refl);
@@ -103,9 +106,9 @@ follower_lowered well circuit =
       input_names = refl;
       latch_names = refl;
       resets = refl;
+      output_names = refl;
       bad_names = refl;
       constraint_names = refl;
-      no_outputs = refl;
       no_justice = refl;
       no_fair = refl;
       few_gates = omega arith;
@@ -118,6 +121,7 @@ free_alone_observes : IsWellFormed free_alone → Observes free_alone one_input
 free_alone_observes well =
     record {
       latches = record { defined = search rules; resets = refl; nexts = λ state input f v t. refl };
+      outputs = record { values = λ state input f v t. refl };
       bads = record { values = λ state input f v t. refl };
       constraints = record { values = λ state input f v t. refl };
       stays = λ state input f fits in_fits frame. next_state_fits free_alone state input f well fits in_fits frame (nexts_by_id free_alone refl);
@@ -133,11 +137,104 @@ free_alone_lowered well circuit =
       input_names = refl;
       latch_names = refl;
       resets = refl;
+      output_names = refl;
       bad_names = refl;
       constraint_names = refl;
-      no_outputs = refl;
       no_justice = refl;
       no_fair = refl;
       few_gates = omega arith;
       frames = λ state inputs initial in_fit fs t vs u. show_same free_alone one_input (free_alone_observes well) state inputs fs vs initial.fits in_fit t u;
+    }
+
+-- The model that shows two bits negated.
+
+low_negated : (x : ℕ) → x < 4 → not (x % 2 == 1) ≡ ((3 - x) % 2 == 1)
+low_negated x h = grind (arith, nat_tests)
+
+high_negated : (x : ℕ) → x < 4 → not (x / 2 % 2 == 1) ≡ ((3 - x) / 2 % 2 == 1)
+high_negated x h = grind (arith, nat_tests)
+
+pair_same : {A : Type 0} (a b x y : A) → (let l : List A = a ∷ b ∷ [] in l) ≡ x ∷ y ∷ [] → a ≡ x
+pair_same a b x y e = cc
+
+module _ (state input f : Frame) (v : Valuation) (t : Together named_inverter (net inverter_circuit) state input f v) where
+  inverted : f 3 ≡ 3 - input 2
+  inverted = t.frame.1.1.0 ∙ ap (λ (n : ℕ). 3 - n) t.frame.1.0
+
+  inverter_small : input 2 < 4
+  inverter_small = t.input_fits.1.0
+
+  shown_low : not (v 1) ≡ (f 3 % 2 == 1)
+  shown_low = ap not (pair_same (v 1) (v 2) (input 2 % 2 == 1) (input 2 / 2 % 2 == 1) t.inputs) ∙ low_negated (input 2) inverter_small ∙ ap (λ (n : ℕ). n % 2 == 1) (sym inverted)
+
+  shown_high : not (v 2) ≡ (f 3 / 2 % 2 == 1)
+  shown_high = ap not (second_same (v 1) (v 2) (input 2 % 2 == 1) (input 2 / 2 % 2 == 1) t.inputs) ∙ high_negated (input 2) inverter_small ∙ ap (λ (n : ℕ). n / 2 % 2 == 1) (sym inverted)
+
+inverter_observes : IsWellFormed named_inverter → Observes named_inverter inverter_circuit
+inverter_observes well =
+    record {
+      latches = record { defined = search rules; resets = refl; nexts = λ state input f v t. refl };
+      outputs = record { values = λ state input f v t. ap₂ (λ (a b : Bool). a ∷ b ∷ []) (shown_low state input f v t) (shown_high state input f v t) };
+      bads = record { values = λ state input f v t. refl };
+      constraints = record { values = λ state input f v t. refl };
+      stays = λ state input f fits in_fits frame. next_state_fits named_inverter state input f well fits in_fits frame (nexts_by_id named_inverter refl);
+    }
+
+pub inverter_lowered : IsWellFormed named_inverter → IsCircuit inverter_circuit → Lowers named_inverter inverter_circuit
+unfolding digits
+inverter_lowered well circuit =
+    record {
+      well_formed = well;
+      of_profile = refl;
+      circuit = circuit;
+      inputs = refl;
+      input_names = refl;
+      latch_names = refl;
+      resets = refl;
+      output_names = refl;
+      bad_names = refl;
+      constraint_names = refl;
+      no_justice = refl;
+      no_fair = refl;
+      few_gates = omega arith;
+      frames = λ state inputs initial in_fit fs t vs u. show_same named_inverter inverter_circuit (inverter_observes well) state inputs fs vs initial.fits in_fit t u;
+    }
+
+-- The model that keeps two bits.
+
+module _ (state input f : Frame) (v : Valuation) (t : Together named_keeper (net keeper_circuit) state input f v) where
+  kept : (let l : List Bool = v 1 ∷ v 2 ∷ [] in l) ≡ bits 2 (f 3)
+  kept = t.latches ∙ ap (bits 2) (sym t.frame.1.1.0)
+
+  high_bad : v 2 ≡ (f 5 == 1)
+  high_bad = second_same (v 1) (v 2) (f 3 % 2 == 1) (f 3 / 2 % 2 == 1) kept ∙ ap (λ (n : ℕ). n == 1) (sym t.frame.1.1.1.1.0)
+
+keeper_observes : IsWellFormed named_keeper → Observes named_keeper keeper_circuit
+keeper_observes well =
+    record {
+      latches = record { defined = search rules; resets = refl; nexts = λ state input f v t. kept state input f v t };
+      outputs = record { values = λ state input f v t. refl };
+      bads = record { values = λ state input f v t. ap (λ (b : Bool). b ∷ []) (high_bad state input f v t) };
+      constraints = record { values = λ state input f v t. refl };
+      stays = λ state input f fits in_fits frame. next_state_fits named_keeper state input f well fits in_fits frame (nexts_by_id named_keeper refl);
+    }
+
+pub keeper_lowered : IsWellFormed named_keeper → IsCircuit keeper_circuit → Lowers named_keeper keeper_circuit
+unfolding digits
+keeper_lowered well circuit =
+    record {
+      well_formed = well;
+      of_profile = refl;
+      circuit = circuit;
+      inputs = refl;
+      input_names = refl;
+      latch_names = refl;
+      resets = refl;
+      output_names = refl;
+      bad_names = refl;
+      constraint_names = refl;
+      no_justice = refl;
+      no_fair = refl;
+      few_gates = omega arith;
+      frames = λ state inputs initial in_fit fs t vs u. show_same named_keeper keeper_circuit (keeper_observes well) state inputs fs vs initial.fits in_fit t u;
     }

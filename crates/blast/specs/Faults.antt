@@ -7,12 +7,16 @@ use Rattle.blast.specs.declared.fault.ConvertFault.TheVariants as convert
 
 -- the number of a refusal of a lowering
 abbrev pub lower_number : LowerFault → ℕ
+lower_number (lower.Justice id) = 90
+lower_number (lower.Fair id) = 91
 lower_number (lower.NoNext id) = 92
 lower_number lower.TooBig = 93
 lower_number lower.NoMemory = 94
 
 -- and its name
 abbrev pub lower_name : LowerFault → List ℕ
+lower_name (lower.Justice id) = codes "Justice"
+lower_name (lower.Fair id) = codes "Fair"
 lower_name (lower.NoNext id) = codes "NoNext"
 lower_name lower.TooBig = codes "TooBig"
 lower_name lower.NoMemory = codes "NoMemory"

@@ -89,6 +89,32 @@ observed f (body.Bad a) = (f a == 1) ∷ []
 observed f (body.Constraint a) = (f a == 1) ∷ []
 observed f _ = []
 
+-- whether a line is an output
+abbrev pub is_output : Body → Bool
+is_output (body.Output a) = true
+is_output _ = false
+
+-- how many bits an output line shows, and which they are in a frame, the lowest first: those of its node's word
+abbrev pub shown_width : List Item → Body → ℕ
+shown_width items (body.Output a) = bits_of items a
+shown_width items _ = 0
+
+abbrev pub shown_bits : List Item → Frame → Body → List Bool
+shown_bits items f (body.Output a) = bits (bits_of items a) (f a)
+shown_bits items f _ = []
+
+-- the bits that are shown in a frame, output after output
+abbrev pub output_bits : List Item → Frame → List Bool
+output_bits items f = of_kind (by_body is_output) (λ x. shown_bits items f x.body) items
+
+-- the names of the bits of an output line, from bit 0 on
+abbrev pub shown_names : List Item → Item → Names
+shown_names items x = bit_names x.symbol 0 (shown_width items x.body)
+
+-- the names of the bits that are shown
+abbrev pub output_names : List Item → Names
+output_names items = of_kind (by_body is_output) (shown_names items) items
+
 -- which bad properties rise in a frame
 abbrev pub bad_values : List Item → Frame → List Bool
 bad_values items f = of_kind (by_body is_bad) (λ x. observed f x.body) items

@@ -7,12 +7,13 @@ use Rattle.aiger.specs.Literal.{Valuation, literal_value}
 use Rattle.aiger.specs.declared.circuit.Section.TheVariants as section
 use Rattle.aiger.specs.Circuit.{Circuit, IsCircuit, section_names}
 use Rattle.aiger.specs.Trace.{IsTrace as IsCircuitTrace}
-use Rattle.blast.specs.Leaves.{input_bits, state_bits, input_names, state_names, bad_names, constraint_names, state_resets, bad_values, constraint_values}
+use Rattle.blast.specs.Leaves.{input_bits, state_bits, input_names, state_names, output_names, bad_names, constraint_names, state_resets, output_bits, bad_values, constraint_values}
 use Rattle.blast.specs.Cost.{cost, given_width}
 use Rattle.blast.specs.Refusal.{IsOfProfile}
 
--- a frame of the model and a valuation of the circuit show the same bad properties and constraints
+-- a frame of the model and a valuation of the circuit show the same output bits, bad properties and constraints
 pub record ShowsSame (items : List Item) (c : Circuit) (f : Frame) (v : Valuation) : Type 0 where
+  pub outputs : map (literal_value v) c.outputs ≡ output_bits items f
   pub bads : map (literal_value v) c.bads ≡ bad_values items f
   pub constraints : map (literal_value v) c.constraints ≡ constraint_values items f
 
@@ -23,7 +24,7 @@ ShowSame items c [] (v ∷ vs) = ⊥
 ShowSame items c (f ∷ fs) [] = ⊥
 ShowSame items c (f ∷ fs) (v ∷ vs) = ShowsSame items c f v × ShowSame items c fs vs
 
--- a circuit lowers a model: its inputs are the bits of the words that are given in each frame and its latches the bits of those that are carried, and under the same words both show the same bad properties and constraints in every frame
+-- a circuit lowers a model: its inputs are the bits of the words that are given in each frame and its latches the bits of those that are carried, and under the same words both show the same output bits, bad properties and constraints in every frame
 pub record Lowers (items : List Item) (c : Circuit) : Type 0 where
   -- the model is one of the profile, and the circuit is one: its gates are in order, and every literal is of a variable that is there
   pub well_formed : IsWellFormed items
@@ -34,10 +35,11 @@ pub record Lowers (items : List Item) (c : Circuit) : Type 0 where
   pub input_names : section_names section.Input c ≡ input_names items
   pub latch_names : section_names section.Latch c ≡ state_names items
   pub resets : map (λ latch. latch.reset) c.latches ≡ state_resets items
+  -- outputs are the bits of the output lines in file order, the lowest first; names are theirs
+  pub output_names : section_names section.Output c ≡ output_names items
   pub bad_names : section_names section.Bad c ≡ bad_names items
   pub constraint_names : section_names section.Constraint c ≡ constraint_names items
-  -- there are no outputs, since no line that gives one is lowered yet, and no justice and no fairness
-  pub no_outputs : c.outputs ≡ []
+  -- there is no justice and no fairness
   pub no_justice : c.justice ≡ []
   pub no_fair : c.fair ≡ []
   -- there are at most the stated number of gates

@@ -9,7 +9,7 @@ use Rattle.aiger.specs.Literal.{Valuation, literal_value}
 use Rattle.aiger.specs.Net.{Net, IsDefined, Satisfies, input_bits as net_input_bits, latch_bits as net_latch_bits}
 use Rattle.gates.specs.Made.{Grows}
 use Rattle.blast.specs.Cost.{cost, given_width, carried_width}
-use Rattle.blast.specs.Leaves.{by_body, of_kind, leaf_bits, leaf_resets, observed, input_bits, state_bits}
+use Rattle.blast.specs.Leaves.{by_body, of_kind, leaf_bits, leaf_resets, observed, is_output, shown_bits, input_bits, state_bits}
 
 -- a frame of the model and a valuation of the gates go together: they have the same bits of what is given and of what is carried
 pub record Together (items : List Item) (n : Net) (state input f : Frame) (v : Valuation) : Type 0 where
@@ -49,6 +49,10 @@ pub record LatchesRead (items : List Item) (n : Net) (some : List Item) (latches
   pub defined : All (λ latch. IsDefined n latch.next) latches
   pub resets : map (λ latch. latch.reset) latches ≡ of_kind (is_carried_state items) (leaf_resets items) some
   pub nexts : (state input f : Frame) (v : Valuation) → Together items n state input f v → map (λ latch. literal_value v latch.next) latches ≡ of_kind (is_carried_state items) (leaf_bits items (next_state items f)) some
+
+-- in every frame, literals have the values of the bits of the outputs among some items
+pub record OutputsRead (items : List Item) (n : Net) (some : List Item) (outputs : List ℕ) : Type 0 where
+  pub values : (state input f : Frame) (v : Valuation) → Together items n state input f v → map (literal_value v) outputs ≡ of_kind (by_body is_output) (λ x. shown_bits items f x.body) some
 
 -- in every frame, literals have the values of the bad properties among some items
 pub record BadsRead (items : List Item) (n : Net) (some : List Item) (bads : List ℕ) : Type 0 where

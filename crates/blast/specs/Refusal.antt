@@ -1,16 +1,30 @@
 -- Which models are not lowered, and why.
-use Rattle.std.specs.Prelude.{◌≡◌, List, Option, Some, None, Result, Ok, Err, if◌then◌else◌, nat_lt, option_map, ◌⊎◌}
+use Rattle.std.specs.Prelude.{◌≡◌, ℕ, List, [], ◌∷◌, Option, Some, None, Result, Ok, Err, if◌then◌else◌, nat_lt, ◌⊎◌}
 use Rattle.std.specs.Option.{option_or}
 use Rattle.btor2.specs.declared.item.Item.{Item}
-use Rattle.btor2.specs.Lists.{first_init_without_next}
+use Rattle.btor2.specs.declared.item.Body.{Body}
+use Rattle.btor2.specs.declared.item.Body.TheVariants as body
+use Rattle.btor2.specs.Lists.{has_init_without_next}
 use Rattle.aiger.specs.Limits.{greatest_count}
 use Rattle.blast.specs.Cost.{bound}
 use Rattle.blast.specs.declared.fault.LowerFault.{LowerFault}
 use Rattle.blast.specs.declared.fault.LowerFault.TheVariants as fault
 
--- what speaks against a model by its form: the first state in file order that has an init line and no next line
+-- what speaks against a line of a model, that of the item with an id: it is a justice line, a fairness line, or that of a state that has an init line and no next line
+abbrev pub line_refusal : List Item → ℕ → Body → Option LowerFault
+line_refusal items id (body.Justice nodes) = Some (fault.Justice id)
+line_refusal items id (body.Fair a) = Some (fault.Fair id)
+line_refusal items id (body.State s) = if has_init_without_next items id then Some (fault.NoNext id) else None
+line_refusal items id _ = None
+
+-- what speaks against the first among some items of a model, the second list, that something speaks against
+abbrev pub first_refusal : List Item → List Item → Option LowerFault
+first_refusal items [] = None
+first_refusal items (x ∷ xs) = option_or (line_refusal items x.id x.body) (first_refusal items xs)
+
+-- what speaks against a model by its form: against the first such item in file order
 abbrev pub form_refusal : List Item → Option LowerFault
-form_refusal items = option_map fault.NoNext (first_init_without_next items items)
+form_refusal items = first_refusal items items
 
 -- a well-formed model is of the profile where nothing speaks against it by its form
 abbrev pub IsOfProfile : List Item → Type 0

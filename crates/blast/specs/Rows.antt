@@ -1,6 +1,6 @@
--- The literals that a circuit's latches, bad properties and constraints take from the rows of a model's nodes.
-use Rattle.std.specs.Prelude.{ℕ, suc, List, [], ◌∷◌, ◌++◌, ◌==◌, Option, Some, None, if◌then◌else◌, option_and_then, unwrap_or, slice_get, slice_index}
-use Rattle.base.specs.Word.{bit}
+-- The literals that a circuit's latches, outputs, bad properties and constraints take from the rows of a model's nodes and from words.
+use Rattle.std.specs.Prelude.{ℕ, suc, Bool, true, false, List, [], ◌∷◌, ◌++◌, ◌==◌, Option, Some, None, if◌then◌else◌, option_and_then, unwrap_or, map, slice_get, slice_index}
+use Rattle.base.specs.Word.{bit, bits}
 use Rattle.btor2.specs.declared.item.Item.{Item}
 use Rattle.btor2.specs.declared.item.Body.{Body}
 use Rattle.btor2.specs.declared.item.Body.TheVariants as body
@@ -14,6 +14,16 @@ use Rattle.blast.specs.Leaves.{reset_of_bit}
 -- the row of the node that an id may name, and none of no node
 unfoldable pub row_at : List Item → List (List ℕ) → Option ℕ → List ℕ
 row_at items rows id = unwrap_or (option_and_then (slice_get rows) (option_and_then (position_of items) id)) []
+
+-- the literal of a bit: true or false
+abbrev pub bit_literal : Bool → ℕ
+bit_literal true = 1
+bit_literal false = 0
+
+-- the literals of the bits of a word that may be there
+abbrev pub word_literals : ℕ → Option ℕ → List ℕ
+word_literals width None = []
+word_literals width (Some x) = map bit_literal (bits width x)
 
 -- the word of a state's init line
 abbrev pub init_word : List Item → ℕ → Option ℕ
@@ -41,6 +51,11 @@ item_latches items rows x = if is_carried_state items x then state_latches items
 abbrev pub literal_at : List Item → List (List ℕ) → ℕ → ℕ
 literal_at items rows id = slice_index (row_at items rows (Some id)) 0
 
+-- the literals that a line adds to the outputs: the row of its operand, and none for any other line
+abbrev pub output_literals : List Item → List (List ℕ) → Body → List ℕ
+output_literals items rows (body.Output a) = row_at items rows (Some a)
+output_literals items rows _ = []
+
 -- the literals that a line adds to the bad properties: that of its operand, and none for any other line
 abbrev pub bad_literals : List Item → List (List ℕ) → Body → List ℕ
 bad_literals items rows (body.Bad a) = literal_at items rows a ∷ []
@@ -51,6 +66,6 @@ abbrev pub constraint_literals : List Item → List (List ℕ) → Body → List
 constraint_literals items rows (body.Constraint a) = literal_at items rows a ∷ []
 constraint_literals items rows _ = []
 
--- a circuit with more bad properties and constraints
-abbrev pub with_literals : Circuit → List ℕ → List ℕ → Circuit
-with_literals c bads constraints = record c { bads = c.bads ++ bads; constraints = c.constraints ++ constraints }
+-- a circuit with more outputs, bad properties and constraints
+abbrev pub with_literals : Circuit → List ℕ → List ℕ → List ℕ → Circuit
+with_literals c outputs bads constraints = record c { outputs = c.outputs ++ outputs; bads = c.bads ++ bads; constraints = c.constraints ++ constraints }

@@ -8,7 +8,7 @@ use Rattle.aiger.specs.declared.circuit.Section.TheVariants as section
 use Rattle.aiger.specs.Circuit.{Circuit, Names, section_names}
 use Rattle.blast.specs.declared.parts.Part.{Part}
 use Rattle.blast.specs.declared.parts.Part.TheVariants as part
-use Rattle.blast.specs.Leaves.{by_body, of_kind, leaf_names, own_name, input_names, state_names, bad_names, constraint_names}
+use Rattle.blast.specs.Leaves.{by_body, of_kind, leaf_names, own_name, input_names, state_names, output_names, bad_names, constraint_names}
 
 -- the items that the positions of a part come from
 abbrev pub kind_of : List Item → Part → Item → Bool
@@ -58,6 +58,7 @@ pub record Renames (s : Section) (old : Circuit) (names : Names) (new : Circuit)
 pub record TakesNames (items : List Item) (old new : Circuit) : Type 0 where
   pub inputs : section_names section.Input new ≡ input_names items
   pub latches : section_names section.Latch new ≡ state_names items
+  pub outputs : section_names section.Output new ≡ output_names items
   pub bads : section_names section.Bad new ≡ bad_names items
   pub constraints : section_names section.Constraint new ≡ constraint_names items
   pub rest : new ≡ record old { names = new.names }

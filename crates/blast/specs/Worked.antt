@@ -106,3 +106,75 @@ unsatisfied =
       fair = [];
       names = [];
     }
+
+-- two bits of input, x, which are shown negated, as y
+abbrev pub named_inverter : List Item
+named_inverter =
+    line 1 (body.Sort 2)
+    ∷ named 2 (codes "x") (body.Input 1)
+    ∷ line 3 (body.Unary unary.Not 1 2)
+    ∷ named 4 (codes "y") (body.Output 3)
+    ∷ []
+
+-- its circuit: the outputs are the negated inputs
+abbrev pub inverter_circuit : Circuit
+inverter_circuit =
+    record {
+      inputs = 2;
+      latches = [];
+      gates = [];
+      outputs = 3 ∷ 5 ∷ [];
+      bads = [];
+      constraints = [];
+      justice = [];
+      fair = [];
+      names = ((0, 0), codes "x[0]") ∷ ((0, 1), codes "x[1]") ∷ ((2, 0), codes "y[0]") ∷ ((2, 1), codes "y[1]") ∷ [];
+    }
+
+-- and the same without outputs
+abbrev pub without_outputs : Circuit
+without_outputs = record inverter_circuit { outputs = []; names = ((0, 0), codes "x[0]") ∷ ((0, 1), codes "x[1]") ∷ [] }
+
+-- a state of two bits, s, that keeps its word, bad where its higher bit is 1
+abbrev pub named_keeper : List Item
+named_keeper =
+    line 1 (body.Sort 2)
+    ∷ line 2 (body.Sort 1)
+    ∷ named 3 (codes "s") (body.State 1)
+    ∷ line 4 (body.Next 1 3 3)
+    ∷ line 5 (body.Slice 2 3 1 1)
+    ∷ line 6 (body.Bad 5)
+    ∷ []
+
+-- its circuit: each latch takes its own bit, and the second is the bad property
+abbrev pub keeper_circuit : Circuit
+keeper_circuit =
+    record {
+      inputs = 0;
+      latches = record { next = 2; reset = reset.Free } ∷ record { next = 4; reset = reset.Free } ∷ [];
+      gates = [];
+      outputs = [];
+      bads = 4 ∷ [];
+      constraints = [];
+      justice = [];
+      fair = [];
+      names = ((1, 0), codes "s[0]") ∷ ((1, 1), codes "s[1]") ∷ [];
+    }
+
+-- a fairness line before a justice line, and a justice line before a state with an init line and no next line
+abbrev pub fair_first : List Item
+fair_first =
+    line 1 (body.Sort 1)
+    ∷ line 2 (body.Input 1)
+    ∷ line 3 (body.Fair 2)
+    ∷ line 4 (body.Justice (2 ∷ []))
+    ∷ []
+
+abbrev pub justice_first : List Item
+justice_first =
+    line 1 (body.Sort 1)
+    ∷ line 2 (body.Zero 1)
+    ∷ line 3 (body.Justice (2 ∷ []))
+    ∷ line 4 (body.State 1)
+    ∷ line 5 (body.Init 1 4 2)
+    ∷ []

@@ -11,7 +11,7 @@ use crate::lowering::lower;
 use aiger::Circuit;
 use aigertext::{Form, write_ascii, write_binary};
 use base::{DeviceFault, Sink, Source};
-use btor2text::read_basic;
+use btor2text::read;
 use std::alloc::Global;
 
 /// Writes the text of a circuit in a form.
@@ -43,7 +43,7 @@ pub fn convert<S: Source, K: Sink>(
     ensures unwritten { IfErr result (λ e. IsBeforeWriting e → sink.new ≡ sink.old) }
     ensures device { RaisesFailures result (S.failures source.old) (S.failures source.new) (K.failures sink.old) (K.failures sink.new) }
 {
-    let model = match read_basic(alloc, source) {
+    let model = match read(alloc, source) {
         Ok(model) => model,
         Err(fault) => return Err(ConvertFault::Read(fault)),
     };

@@ -10,7 +10,13 @@ use thiserror::Error;
 #[derive(Clone, Copy, Debug, PartialEq, Eq, Error)]
 #[error("{number} {name}", number = self.number(), name = self.name())]
 pub enum LowerFault {
-    /// The first state in file order with an init and without a next; it has the id of the state's line.
+    /// A justice line, which is the first item in file order that speaks against the model; it has the line's id.
+    #[error("item {0}: {number} {name}", number = self.number(), name = self.name())]
+    Justice(u64),
+    /// A fairness line, which is the first such item; it has the line's id.
+    #[error("item {0}: {number} {name}", number = self.number(), name = self.name())]
+    Fair(u64),
+    /// A state with an init and without a next, which is the first such item; it has the id of the state's line.
     #[error("item {0}: {number} {name}", number = self.number(), name = self.name())]
     NoNext(u64),
     /// The bound on the variables is above 2^30.
@@ -25,6 +31,8 @@ impl LowerFault {
         ensures { result ≡ lower_number self }
     {
         match self {
+            LowerFault::Justice(_) => 90,
+            LowerFault::Fair(_) => 91,
             LowerFault::NoNext(_) => 92,
             LowerFault::TooBig => 93,
             LowerFault::NoMemory => 94,
@@ -36,6 +44,8 @@ impl LowerFault {
         ensures { result.now ≡ lower_name self }
     {
         match self {
+            LowerFault::Justice(_) => "Justice",
+            LowerFault::Fair(_) => "Fair",
             LowerFault::NoNext(_) => "NoNext",
             LowerFault::TooBig => "TooBig",
             LowerFault::NoMemory => "NoMemory",

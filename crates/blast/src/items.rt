@@ -1,9 +1,12 @@
 //! What a lowering reads of a model's items.
-ghost use Rattle.std.specs.Prelude.{◌≡◌, ◌<◌, ◌≤◌, length, Some, slice_get, unwrap_or};
+ghost use Rattle.std.specs.Prelude.{◌≡◌, ◌<◌, ◌≤◌, true, length, Some, is_some, slice_get, unwrap_or};
 ghost use Rattle.btor2.specs.Check.{IsWellFormed};
 ghost use Rattle.btor2.specs.Lists.{width_at};
 ghost use Rattle.btor2.specs.Trace.{bits_of};
+ghost use Rattle.blast.specs.Table.{row_of};
 
+use crate::table::Table;
+use aiger::Lit;
 use btor2::{Item, Model};
 
 /// The item at a place.
@@ -25,5 +28,16 @@ pub(crate) fn bit_count(model: &Model, place: usize, item: &Item) -> u64
     match model.width_of(place) {
         Some(width) => width.bits(),
         None => 0,
+    }
+}
+
+/// The row of the node with an id.
+pub(crate) fn node_row<'a>(model: &Model, table: &'a Table, id: u32) -> &'a [Lit]
+    requires { is_some (row_of model.now table.now id) ≡ true }
+    ensures { row_of model.now table.now id ≡ Some result.now }
+{
+    match model.position(u64::from(id)) {
+        Some(place) => table.row(place),
+        None => unreachable!(),
     }
 }

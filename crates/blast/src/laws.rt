@@ -15,11 +15,11 @@ ghost use Rattle.btor2.specs.Worked.{toggler, open_ends};
 ghost use Rattle.blast.specs.declared.fault.LowerFault.TheVariants as fault;
 ghost use Rattle.blast.specs.Cost.{line_cost, cost, input_width, state_width, free_width, given_width, carried_width, bound};
 ghost use Rattle.btor2.specs.Items.{is_input, is_state};
-ghost use Rattle.blast.specs.Leaves.{by_body, of_kind, leaf_bits, leaf_names, leaf_resets, HaveNexts, bit_name, input_bits, state_bits, input_names, state_names, bad_names, constraint_names, resets_of_word, state_resets, bad_values, constraint_values};
+ghost use Rattle.blast.specs.Leaves.{by_body, of_kind, leaf_bits, leaf_names, leaf_resets, HaveNexts, bit_name, input_bits, state_bits, input_names, state_names, output_names, bad_names, constraint_names, resets_of_word, state_resets, output_bits, bad_values, constraint_values};
 ghost use Rattle.blast.specs.Lowering.{Lowers};
 ghost use Rattle.blast.specs.Reachability.{CanRise, CanRiseInCircuit, rises_within};
 ghost use Rattle.blast.specs.Refusal.{form_refusal, lowering_refusal};
-ghost use Rattle.blast.specs.Worked.{masked, named_toggler, named_follower, follower_circuit, free_alone, one_input, one_latch, init_alone, gated, unsatisfied};
+ghost use Rattle.blast.specs.Worked.{masked, named_toggler, named_follower, follower_circuit, free_alone, one_input, one_latch, init_alone, gated, unsatisfied, named_inverter, inverter_circuit, without_outputs, named_keeper, keeper_circuit, fair_first, justice_first};
 
 /// A law: from the bits of all initial words that agree with a model's init lines, and under the bits of all words of its
 /// inputs, a circuit that lowers the model has a trace, and these are initial bits of the circuit.
@@ -48,12 +48,14 @@ pub fn bits_are_given_or_carried()
 {}
 
 /// A law: in a model in which each state has a next line no state is free, so the bits that are given are those of the
-/// inputs, and the bits that are carried those of the states; and so are their names, and how the latches begin.
+/// inputs, and the bits that are carried those of the states; and so are how many they are, their names, and how the latches begin.
 pub fn no_state_is_free()
     ensures input_bits { (items : List Item) → HaveNexts items → (f : Frame) → input_bits items f ≡ of_kind (by_body is_input) (leaf_bits items f) items }
     ensures state_bits { (items : List Item) → HaveNexts items → (f : Frame) → state_bits items f ≡ of_kind (by_body is_state) (leaf_bits items f) items }
     ensures input_names { (items : List Item) → HaveNexts items → input_names items ≡ of_kind (by_body is_input) (leaf_names items) items }
     ensures state_names { (items : List Item) → HaveNexts items → state_names items ≡ of_kind (by_body is_state) (leaf_names items) items }
+    ensures given_width { (items : List Item) → HaveNexts items → given_width items ≡ input_width items }
+    ensures carried_width { (items : List Item) → HaveNexts items → carried_width items ≡ state_width items }
     ensures resets { (items : List Item) → HaveNexts items → state_resets items ≡ of_kind (by_body is_state) (leaf_resets items) items }
 {}
 
@@ -81,6 +83,21 @@ pub fn worked_lowerings()
     btor2::laws::worked_traces();
     worked_free_states();
 }
+
+/// Worked rows: a model with an output of two bits, and one that is bad where a bit of a slice is 1, with their circuits;
+/// and a circuit that has no outputs, which does not lower the first.
+pub fn worked_outputs()
+    ensures inverter_is_model { IsWellFormed named_inverter }
+    ensures inverter_is_circuit { IsCircuit inverter_circuit }
+    ensures inverter { Lowers named_inverter inverter_circuit }
+    ensures without { ¬ Lowers named_inverter without_outputs }
+    ensures keeper_is_model { IsWellFormed named_keeper }
+    ensures keeper_is_circuit { IsCircuit keeper_circuit }
+    ensures keeper { Lowers named_keeper keeper_circuit }
+    ensures shown { output_bits named_inverter (λ id. 2) ≡ false ∷ true ∷ [] }
+    ensures nothing_shown { output_bits named_keeper (λ id. 2) ≡ [] }
+    ensures names { output_names named_inverter ≡ Some (codes "y[0]") ∷ Some (codes "y[1]") ∷ [] }
+{}
 
 /// Worked rows: where a bad property rises among frames. Constraints count up to the frame in which it rises, and in it;
 /// what fails behind that frame does not count.
@@ -153,13 +170,15 @@ pub fn worked_names()
     ensures free_without { input_names free_alone ≡ None ∷ [] }
 {}
 
-/// Worked rows: a model whose states each have a next line or are free is not refused; else the first state with an init
-/// line and no next line is told.
+/// Worked rows: a model whose states each have a next line or are free is not refused; a state with an init line and no next
+/// line is told, a justice line and a fairness line, of several the first in file order.
 pub fn worked_refusals()
     ensures accepted { lowering_refusal masked ≡ None }
     ensures free_accepted { lowering_refusal named_follower ≡ None }
     ensures alone_accepted { lowering_refusal free_alone ≡ None }
     ensures init_alone { lowering_refusal init_alone ≡ Some (fault.NoNext 3) }
     ensures no_next { lowering_refusal open_ends ≡ Some (fault.NoNext 5) }
+    ensures fair_first { lowering_refusal fair_first ≡ Some (fault.Fair 3) }
+    ensures justice_first { lowering_refusal justice_first ≡ Some (fault.Justice 3) }
     ensures by_form { form_refusal open_ends ≡ Some (fault.NoNext 5) }
 {}

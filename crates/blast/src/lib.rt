@@ -10,7 +10,9 @@ mod lowering;
 mod names;
 mod nodes;
 mod parts;
+mod placed;
 mod properties;
+mod refusals;
 mod table;
 mod widths;
 

@@ -1,7 +1,6 @@
 //! Lowering a model to a circuit.
-ghost use Rattle.std.specs.Prelude.{◌≡◌, ℕ, ◌≤◌, None, Some, true, IfOk, IfErr};
+ghost use Rattle.std.specs.Prelude.{◌≡◌, ℕ, ◌≤◌, None, Some, IfOk, IfErr};
 ghost use Rattle.btor2.specs.Check.{IsWellFormed};
-ghost use Rattle.btor2text.specs.Basic.{are_basic};
 ghost use Rattle.blast.specs.Lowering.{Lowers};
 ghost use Rattle.blast.specs.Refusal.{AnswersLowering, lowering_refusal};
 
@@ -10,6 +9,7 @@ use crate::latches::set_latches;
 use crate::names::set_names;
 use crate::nodes::lower_nodes;
 use crate::properties::push_properties;
+use crate::refusals::form_refusal;
 use crate::widths::{bound, carried_width, given_width};
 use aiger::{Circuit, GREATEST_COUNT};
 use btor2::Model;
@@ -23,8 +23,8 @@ fn refusal(model: &Model) -> Option<LowerFault>
 {
     // a model's items are well-formed
     let _ = model.items();
-    match model.first_init_without_next() {
-        Some(id) => Some(LowerFault::NoNext(id)),
+    match form_refusal(model) {
+        Some(fault) => Some(fault),
         None => {
             if bound(model) > u64::from(GREATEST_COUNT) {
                 Some(LowerFault::TooBig)
@@ -37,7 +37,6 @@ fn refusal(model: &Model) -> Option<LowerFault>
 
 /// The circuit of a model that nothing speaks against.
 fn lower_accepted(alloc: Global, model: &Model) -> Result<Circuit, LowerFault>
-    requires basic { are_basic model.now ≡ true }
     requires accepted { lowering_refusal model.now ≡ None }
     requires well_formed { IsWellFormed model.now }
     ensures ok { IfOk result (λ circuit. Lowers model.now circuit) }
@@ -65,13 +64,12 @@ fn lower_accepted(alloc: Global, model: &Model) -> Result<Circuit, LowerFault>
 }
 
 /// The circuit that lowers a model: the bits of its inputs and then those of its free states are the inputs, those of its
-/// other states the latches.
+/// other states the latches, and those of the nodes that output lines name are the outputs.
 ///
-/// Condition: the model is of the basic forms, which are those that are lowered so far; `btor2text::are_basic` is the
-/// test. Errors: `NoNext` with the first state in file order that has an init line and no next line; else `TooBig` where
-/// the bound on the variables is above 2^30; else `NoMemory`. Nothing is given then.
+/// Errors: `Justice`, `Fair` or `NoNext` with the first item in file order that is a justice line, a fairness line or a
+/// state that has an init line and no next line; else `TooBig` where the bound on the variables is above 2^30; else
+/// `NoMemory`. Nothing is given then.
 pub fn lower(alloc: Global, model: &Model) -> Result<Circuit, LowerFault>
-    requires basic { are_basic model.now ≡ true }
     ensures ok { IfOk result (λ circuit. Lowers model.now circuit) }
     ensures answer { AnswersLowering result (lowering_refusal model.now) }
 {

@@ -1,26 +1,26 @@
 //! The rows of literals of all nodes, in file order.
-ghost use Rattle.std.specs.Prelude.{◌≡◌, ℕ, ◌+◌, ◌*◌, ◌^◌, ◌<◌, ◌≤◌, List, true, is_some, map, replicate, length, Some, slice_get, take, IfOk, OnOk, IfErr, if◌then◌else◌, IfSome};
+ghost use Rattle.std.specs.Prelude.{◌≡◌, ℕ, ◌+◌, ◌*◌, ◌^◌, ◌<◌, ◌≤◌, List, true, is_some, map, length, Some, slice_get, take, IfOk, OnOk, IfErr, if◌then◌else◌, IfSome};
 ghost use Rattle.std.specs.List.{range_with_len};
-ghost use Rattle.base.specs.Operator.{unary_value, binary_value};
+ghost use Rattle.base.specs.Operator.{unary_value, binary_value, ite_value};
 ghost use Rattle.base.specs.Widths.{is_of_bits, unary_width, binary_width};
 ghost use Rattle.btor2.specs.Items.{is_input, is_state, is_free, node_width};
 ghost use Rattle.btor2.specs.Check.{IsWellFormed};
 ghost use Rattle.btor2.specs.Trace.{bits_of};
 ghost use Rattle.aiger.specs.Limits.{greatest_count};
 ghost use Rattle.aiger.specs.Net.{variables};
-ghost use Rattle.btor2text.specs.Basic.{is_basic, are_basic};
-ghost use Rattle.gates.specs.Bound.{unary_bound, binary_bound};
+ghost use Rattle.gates.specs.Bound.{unary_bound, binary_bound, ite_bound};
 ghost use Rattle.blast.specs.Cost.{bound, line_cost, input_width, given_width};
 ghost use Rattle.blast.specs.Reads.{LowersNodes, leaves_only};
 ghost use Rattle.blast.specs.Table.{MakesNode, MakesRow, row_of, IsOperand, next_leaf, next_after, LowersFront};
 
-use crate::items::bit_count;
+use crate::items::{bit_count, node_row};
+use crate::placed::{concat_row, constant_row, copy_bits, sext_row, slice_row, uext_row};
 use crate::table::Table;
 use crate::widths::{given_width, input_width};
 use aiger::Lit;
 use base::{Binary, Unary};
 use btor2::{Body, Item, Model};
-use gates::{Bits, GateFault, Gates, binary_bits, unary_bits};
+use gates::{Bits, GateFault, Gates, binary_bits, ite_bits, unary_bits};
 use std::alloc::Global;
 
 /// What the next leaf has: the variable of the first bit of an input, of a free state and of another state, and the
@@ -74,40 +74,13 @@ fn next_bits(next: &mut u64, width: u64) -> Bits
     bits
 }
 
-/// So many false literals.
-fn false_bits(width: u64) -> Bits
-    requires { width ≤ 64 }
-    ensures { result.items ≡ replicate width 0 }
-{
-    let mut bits = Bits::new();
-    for _ in 0..width {
-        bits.push(Lit::FALSE);
-    }
-    bits
-}
-
-/// A row, copied.
-fn copy_bits(row: &[Lit]) -> Bits
-    requires { length row.now ≤ 64 }
-    ensures { result.items ≡ row.now }
-{
-    let mut bits = Bits::new();
-    match bits.try_extend_from_slice(row) {
-        Ok(()) => bits,
-        Err(_) => unreachable!(),
-    }
-}
-
 /// The row of the node with an id, copied.
 fn operand_bits(model: &Model, table: &Table, id: u32) -> Bits
     requires there { is_some (row_of model.now table.now id) ≡ true }
     requires few { IfSome (row_of model.now table.now id) (λ row. length row ≤ 64) }
     ensures { row_of model.now table.now id ≡ Some result.items }
 {
-    match model.position(u64::from(id)) {
-        Some(place) => copy_bits(table.row(place)),
-        None => unreachable!(),
-    }
+    copy_bits(node_row(model, table, id))
 }
 
 /// The row of a line of one operand.
@@ -149,6 +122,31 @@ fn binary_row<G: Gates>(
     let a = operand_bits(model, table, left);
     let b = operand_bits(model, table, right);
     binary_bits(gates, operator, &a, &b)
+}
+
+/// The row of a choice.
+fn ite_row<G: Gates>(
+    model: &Model,
+    gates: &mut G,
+    table: &Table,
+    condition: u32,
+    first: u32,
+    second: u32,
+) -> Result<Bits, GateFault>
+    requires well_formed { IsWellFormed model.now }
+    requires condition { IsOperand model.now (G.made gates.old) table.now condition }
+    requires first { IsOperand model.now (G.made gates.old) table.now first }
+    requires second { IsOperand model.now (G.made gates.old) table.now second }
+    requires one { bits_of model.now condition ≡ 1 }
+    requires equal { bits_of model.now second ≡ bits_of model.now first }
+    requires fits { variables (G.made gates.old) + ite_bound (bits_of model.now first) ≤ greatest_count }
+    ensures ok { IfOk result (λ bits. let n = bits_of model.now first in MakesNode model.now (G.made gates.old) (G.made gates.new) (ite_bound n) n (λ f. ite_value (f condition) (f first) (f second)) bits.items) }
+    ensures memory { IfErr result (λ e. e ≡ GateFault.NoMemory) }
+{
+    let c = operand_bits(model, table, condition);
+    let t = operand_bits(model, table, first);
+    let e = operand_bits(model, table, second);
+    ite_bits(gates, &c, &t, &e)
 }
 
 /// The row of an input: its variables.
@@ -195,7 +193,6 @@ fn line_row<G: Gates>(
 ) -> Result<Bits, GateFault>
     requires well_formed { IsWellFormed model.now }
     requires at { slice_get model.now place ≡ Some item.now }
-    requires basic { is_basic item.now.body ≡ true }
     requires front { LowersFront model.now place (G.made gates.old) table.now next.old }
     requires fits { bound model.now ≤ greatest_count }
     ensures ok { IfOk result (λ bits. MakesRow model.now (G.made gates.old) (G.made gates.new) item.now bits.items) }
@@ -205,7 +202,6 @@ fn line_row<G: Gates>(
     match &item.body {
         Body::Input { .. } => Ok(input_row(model, place, item, next)),
         Body::State { .. } => Ok(state_row(model, place, item, next)),
-        Body::Zero { .. } => Ok(false_bits(bit_count(model, place, item))),
         Body::Unary {
             operator,
             operand,
@@ -217,12 +213,25 @@ fn line_row<G: Gates>(
             right,
             ..
         } => binary_row(model, gates, table, *operator, *left, *right),
-        Body::Sort { .. }
-        | Body::Init { .. }
-        | Body::Next { .. }
-        | Body::Bad { .. }
-        | Body::Constraint { .. } => Ok(Bits::new()),
-        _ => unreachable!(),
+        Body::Ite {
+            condition,
+            first,
+            second,
+            ..
+        } => ite_row(model, gates, table, *condition, *first, *second),
+        Body::Uext { operand, by, .. } => Ok(uext_row(node_row(model, table, *operand), *by)),
+        Body::Sext { operand, by, .. } => Ok(sext_row(node_row(model, table, *operand), *by)),
+        Body::Slice {
+            operand,
+            upper,
+            lower,
+            ..
+        } => Ok(slice_row(node_row(model, table, *operand), *upper, *lower)),
+        Body::Concat { high, low, .. } => Ok(concat_row(
+            node_row(model, table, *high),
+            node_row(model, table, *low),
+        )),
+        _ => Ok(constant_row(model, place, item)),
     }
 }
 
@@ -237,7 +246,6 @@ fn lower_item<G: Gates>(
 ) -> Result<(), GateFault>
     requires well_formed { IsWellFormed model.now }
     requires at { slice_get model.now place ≡ Some item.now }
-    requires basic { is_basic item.now.body ≡ true }
     requires front { LowersFront model.now place (G.made gates.old) table.old next.old }
     requires fits { bound model.now ≤ greatest_count }
     ensures ok { OnOk result (LowersFront model.now (place + 1) (G.made gates.new) table.new next.new) }
@@ -251,16 +259,16 @@ fn lower_item<G: Gates>(
 }
 
 /// The rows of literals of all items, in file order: those of an input and a state are their variables, those of an
-/// operator are made of its operands' rows, and a line without a value has an empty row.
+/// constant its bits, those of an operator are made of its operands' rows or placed, and a line without a value has an
+/// empty row.
 ///
-/// Conditions: the model is of the basic forms; the maker stands on the bits that are given in each frame and on those
-/// that are carried, and has made no gate; at most 2^30 variables. Errors: `NoMemory`.
+/// Conditions: the maker stands on the bits that are given in each frame and on those that are carried, and has made no
+/// gate; at most 2^30 variables. Errors: `NoMemory`.
 pub(crate) fn lower_nodes<G: Gates>(
     alloc: Global,
     model: &Model,
     gates: &mut G,
 ) -> Result<Table, GateFault>
-    requires basic { are_basic model.now ≡ true }
     requires leaves { G.made gates.old ≡ leaves_only model.now }
     requires fits { bound model.now ≤ greatest_count }
     ensures ok { IfOk result (λ rows. LowersNodes model.now (G.made gates.old) (G.made gates.new) rows) }

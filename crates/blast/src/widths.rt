@@ -13,7 +13,7 @@ use btor2::{Body, Item, Model};
 use gates::{Op, gate_bound};
 
 /// The width of the node with an id.
-fn node_bits(model: &Model, id: u32) -> u64
+pub(crate) fn node_bits(model: &Model, id: u32) -> u64
     requires { is_some (node_width model.now id) ≡ true }
     ensures value { result ≡ bits_of model.now id }
     ensures some { 1 ≤ result }

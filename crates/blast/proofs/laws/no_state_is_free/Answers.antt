@@ -1,6 +1,6 @@
 use Rattle.btor2.specs.Items.{is_input}
 use Rattle.blast.specs.Leaves.{by_body, of_kind, leaf_bits, leaf_names, leaf_resets}
-use Rattle.blast.proofs.CarriedAlone.{given_alone, carried_alone}
+use Rattle.blast.proofs.CarriedAlone.{given_alone, carried_alone, given_width_alone, carried_width_alone}
 use Rattle.blast.proofs.laws.no_state_is_free.Goals as goal
 
 pub returns-clause-input_bits : goal.returns-clause-input_bits
@@ -14,6 +14,12 @@ returns-clause-input_names c items h = given_alone items (leaf_names items) (of_
 
 pub returns-clause-state_names : goal.returns-clause-state_names
 returns-clause-state_names c items h = carried_alone items (leaf_names items) h
+
+pub returns-clause-given_width : goal.returns-clause-given_width
+returns-clause-given_width c = given_width_alone
+
+pub returns-clause-carried_width : goal.returns-clause-carried_width
+returns-clause-carried_width c = carried_width_alone
 
 pub returns-clause-resets : goal.returns-clause-resets
 returns-clause-resets c items h = carried_alone items (leaf_resets items) h

@@ -1,6 +1,6 @@
 use Rattle.std.proofs.Common.{◌≡◌, length, ap, arith}
 use Rattle.blast.proofs.WidthLemmas.{item_read}
-use Rattle.blast.proofs.NodeRows.{basic_at, LowersFront-start, LowersNodes-from_front}
+use Rattle.blast.proofs.NodeRows.{LowersFront-start, LowersNodes-from_front}
 use Rattle.blast.proofs.nodes.lower_nodes.Goals as goal
 
 pub loop-place-init : goal.loop-place-init
@@ -13,8 +13,6 @@ lower_item-requires g c =
     record {
       well_formed = c.items-items.ensures.well_formed;
       at = item_read c.items-items.result.now c.args.model.now c.loop-place.place c.index-items-place.result c.items-items.ensures.items c.loop-place-test.true c.index-items-place.is;
-      basic = basic_at c.args.model.now c.loop-place.place c.index-items-place.result c.requires.basic
-          (item_read c.items-items.result.now c.args.model.now c.loop-place.place c.index-items-place.result c.items-items.ensures.items c.loop-place-test.true c.index-items-place.is);
       front = c.loop-place.invariant;
       fits = c.requires.fits;
     }
