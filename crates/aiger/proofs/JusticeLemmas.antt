@@ -1,7 +1,7 @@
 -- Lists in one list with their ends: one list more, how many there are, and the one at a position.
-use Rattle.std.proofs.Common.{◌≡◌, ℕ, zero, suc, ◌+◌, ◌-◌, ◌<◌, ◌≤◌, List, [], ◌∷◌, ◌++◌, length, take, drop, get_or, Some, None, slice_get, nat_le, nat_lt, if◌then◌else◌, true, false, Bool, slice_index_or, refl, ap, sym, ◌∙◌, arith, length-append, length-drop, drop_at}
-use Rattle.std.proofs.lemmas.List.{length-take-le, take_all, take-append-le}
-use Rattle.std.specs.List.{sum_by}
+use Rattle.std.proofs.Common.{◌≡◌, ℕ, zero, suc, ◌+◌, ◌-◌, ◌<◌, ◌≤◌, List, [], ◌∷◌, ◌++◌, length, take, drop, get_or, Some, None, slice_get, nat_le, nat_lt, if◌then◌else◌, true, false, Bool, map, slice_index_or, refl, ap, sym, ◌∙◌, arith, length-append, length-drop, drop_at}
+use Rattle.std.proofs.lemmas.List.{length-take-le, take_all, take-append-le, drop-append-le, take-append-drop, take-map, drop-map, drop_all}
+use Rattle.std.specs.List.{sum_by, concat}
 use Rattle.std.proofs.lemmas.List.Sums.{sum_by-cons}
 use Rattle.std.proofs.lemmas.Bool.Decides.{nat_tests}
 use Rattle.aiger.specs.Circuit.{size_refusal}
@@ -107,3 +107,22 @@ lists_with_one_more ends literals own ends' literals' end' n e l h =
     let f : ends' ≡ ends ++ length (literals ++ own) ∷ [] = e ∙ ap (λ (k : ℕ). ends ++ k ∷ []) (n ∙ ap length l) in
     let a : AreEnds 0 (ends ++ length (literals ++ own) ∷ []) (length (literals ++ own)) = AreEnds-push 0 ends (length literals) (length (literals ++ own)) h (omega (arith, length-append literals own)) in
     (rw (f, l) a, rw (f, l) (lists_between-push 0 ends literals own h))
+
+-- the lists joined are the literals from the start on
+pub concat-lists_between : (start : ℕ) (ends literals : List ℕ) → AreEnds start ends (length literals) → concat (lists_between start ends literals) ≡ drop start literals
+concat-lists_between start [] literals h = sym (drop_all start literals (omega (arith, h)))
+concat-lists_between start (e ∷ ends) literals h =
+    let le : e ≤ length literals = start_below e ends (length literals) h.1 in
+    let t : length (take e literals) ≡ e = length-take-le e literals le in
+    let s : drop start (take e literals ++ drop e literals) ≡ drop start (take e literals) ++ drop e literals = drop-append-le start (take e literals) (drop e literals) (omega (arith, t, h.0)) in
+    ap (λ (xs : List ℕ). drop start (take e literals) ++ xs) (concat-lists_between e ends literals h.1) ∙ (sym s ∙ ap (drop start) (take-append-drop e literals))
+
+pub all_literals : (ends literals : List ℕ) → AreEnds 0 ends (length literals) → concat (lists_between 0 ends literals) ≡ literals
+all_literals ends literals h = concat-lists_between 0 ends literals h
+
+-- the lists of other literals in their place
+pub lists_between-map : (f : ℕ → ℕ) (start : ℕ) (ends literals : List ℕ) → lists_between start ends (map f literals) ≡ map (map f) (lists_between start ends literals)
+lists_between-map f start [] literals = refl
+lists_between-map f start (e ∷ ends) literals =
+    let t : drop start (take e (map f literals)) ≡ map f (drop start (take e literals)) = ap (drop start) (take-map f e literals) ∙ drop-map f start (take e literals) in
+    ap (λ (xs : List ℕ). xs ∷ lists_between e ends (map f literals)) t ∙ ap (λ (xss : List (List ℕ)). map f (drop start (take e literals)) ∷ xss) (lists_between-map f e ends literals)

@@ -4,10 +4,11 @@ use Rattle.std.proofs.lemmas.Bool.Decides.{nat_tests}
 use Rattle.std.proofs.lemmas.List.{map-append}
 use Rattle.std.proofs.lemmas.List.Elements.{All-cons, All-nil}
 use Rattle.std.proofs.lemmas.List.Folds.{list_any-append}
-use Rattle.std.specs.List.{list_any, list_all, position, position_or_len, concat}
+use Rattle.std.specs.List.{list_any, position, position_or_len, concat}
 use Rattle.aiger.specs.declared.loose.GateLine.{GateLine}
 use Rattle.aiger.specs.declared.loose.LatchLine.{LatchLine}
 use Rattle.aiger.specs.Loose.{Loose}
+use Rattle.aiger.specs.Numbering.{is_unknown}
 use Rattle.aiger.specs.Renumbering.{alone, is_known, used_lines, first_undefined}
 
 -- a list whose first place with a property is none has none
@@ -29,10 +30,6 @@ none_from_position p xs e = by (nat_lt (position_or_len p xs) (length xs)) refl 
     by : (b : Bool) → nat_lt (position_or_len p xs) (length xs) ≡ b → cond b (Some (position_or_len p xs)) None ≡ None → list_any p xs ≡ false
     by true t e = absurd (cc)
     by false t e = place_of_none p xs (grind (arith, nat_tests))
-
--- a line with an unknown literal
-abbrev pub is_unknown : Loose → List ℕ → Bool
-is_unknown l lits = not (list_all (is_known l) lits)
 
 -- a literal is known
 abbrev pub IsKnown : Loose → ℕ → Type 0

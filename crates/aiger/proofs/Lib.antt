@@ -10,4 +10,7 @@ mod OrderLemmas
 mod KnownLemmas
 mod ReadinessLemmas
 mod NumberingLemmas
+mod PlacesLemmas
 mod LooseTraceLemmas
+mod NumbersLemmas
+mod UndefinedLemmas

@@ -14,7 +14,7 @@ use Rattle.std.specs.declared.cmp.Ordering.TheVariants.{Less, Equal, Greater}
 use Rattle.std.specs.Ordering.{ordering_reverse, nat_cmp, is_eq, match_ordering}
 use Rattle.std.specs.BTreeMap.{insert_entry, is_at}
 use Rattle.std.specs.Map.{lookup, keys_of}
-use Rattle.std.specs.List.{list_all}
+use Rattle.std.specs.List.{list_all, AllZip, each_same}
 use Rattle.aiger.specs.declared.circuit.Section.{Section}
 use Rattle.aiger.specs.declared.circuit.Section.TheVariants.{Input, Latch, Output, Bad, Constraint, Justice, Fair}
 use Rattle.aiger.specs.Names.{Place, rank, place_cmp, IsName, is_name, is_printable}
@@ -194,3 +194,13 @@ IsName-from_test name t =
       short = grind (arith, nat_tests);
       printable = printable_from_test name (grind (arith, nat_tests));
     }
+
+-- entries that are clones show the same
+pub shown_alike : {E F : Type 0} (show : E → F) (R : E → E → Type 0) → ((x y : E) → R x y → show y ≡ show x) → (xs ys : List E) → AllZip R xs ys → map show ys ≡ map show xs
+shown_alike show R same [] [] z = refl
+shown_alike show R same [] (y ∷ ys) z = absurd z
+shown_alike show R same (x ∷ xs) [] z = absurd z
+shown_alike show R same (x ∷ xs) (y ∷ ys) z = ap (λ e. e ∷ map show ys) (same x y z.0) ∙ ap (λ es. show x ∷ es) (shown_alike show R same xs ys z.1)
+
+pub same_entry : (a b c d : ℕ) (name copy : List ℕ) → c ≡ a → d ≡ b → AllZip (λ x y. y ≡ x) name copy → ◌≡◌ {A = Place × List ℕ} ((c, d), copy) ((a, b), name)
+same_entry a b c d name copy e f z = rw (e, f, each_same name copy z) refl

@@ -14,7 +14,7 @@ use Rattle.aiger.specs.declared.circuit.Section.TheVariants as section
 use Rattle.aiger.specs.declared.loose.LatchLine.{LatchLine}
 use Rattle.aiger.specs.Literal.{variable}
 use Rattle.aiger.specs.Net.{IsDefined, AreOrderedFrom, variables}
-use Rattle.aiger.specs.Circuit.{Circuit, IsCircuit, IsNamed, net, section_count, Place}
+use Rattle.aiger.specs.Circuit.{Circuit, IsCircuit, IsNamed, net, section_count, Place, NameMap}
 use Rattle.aiger.specs.Loose.{Loose, IsLoose, IsNamedLine, loose_count, latch_variable, gate_variable}
 use Rattle.aiger.specs.Renumbering.{is_known, gate_line, gate_name, numbered, has_number, is_ready, AreInTurn, IsOrder, Uses, LeadsAlong, DependsOn, LeadsToCycle, IsFirstCyclic, new_literal, ordered_gate, new_gate, renumbered}
 use Rattle.aiger.proofs.RenumberingLemmas.{found, place_kept, named_from_test, new_of_variable, new_constant}
@@ -188,7 +188,7 @@ length_numbered l order =
     omega (arith, length-append (map variable l.inputs ++ map latch_variable l.latches) (map (gate_name l) order), length-append (map variable l.inputs) (map latch_variable l.latches), length-map l.inputs variable, length-map l.latches latch_variable, length-map order (gate_name l))
 
 -- a latch by the number of its next literal
-abbrev new_latch : List ℕ → LatchLine → Latch
+abbrev pub new_latch : List ℕ → LatchLine → Latch
 new_latch names line = record { next = new_literal names line.next; reset = line.reset }
 
 -- how many variables the circuit has
@@ -319,3 +319,11 @@ in_turn_from_slots l slots done (j ∷ js) valid within are turn =
     let ready : is_ready l done j ≡ true = sym (e j) ∙ turn.0.next in
     let low = (ready_parts l done j ready).0 in
     (record { ready = ready; first = λ i h. sym (e i) ∙ turn.0.first i h }, in_turn_from_slots l slots (done ++ j ∷ []) js valid (AreGates-push l done j within low) are turn.1)
+
+-- the circuit from its lists
+pub are_renumbered : (l : Loose) (order names : List ℕ) (inputs : ℕ) (latches : List Latch) (gates : List Gate) (outputs bads constraints : List ℕ) (justice : List (List ℕ)) (fair : List ℕ) (entries : NameMap)
+    → names ≡ numbered l order → inputs ≡ length l.inputs → latches ≡ map (new_latch names) l.latches → gates ≡ map (λ j. new_gate names (gate_line l j)) order
+    → outputs ≡ map (new_literal names) l.outputs → bads ≡ map (new_literal names) l.bads → constraints ≡ map (new_literal names) l.constraints
+    → justice ≡ map (map (new_literal names)) l.justice → fair ≡ map (new_literal names) l.fair → entries ≡ l.names
+    → record { inputs = inputs; latches = latches; gates = gates; outputs = outputs; bads = bads; constraints = constraints; justice = justice; fair = fair; names = entries } ≡ renumbered l order
+are_renumbered l order names inputs latches gates outputs bads constraints justice fair entries n a b c d e f g h i = rw (a, b, c, d, e, f, g, h, i, n) refl

@@ -13,4 +13,5 @@ pub mod View
 pub mod LooseView
 pub mod Trace
 pub mod Readiness
+pub mod Numbering
 pub mod Worked

@@ -3,6 +3,8 @@ ghost use Rattle.std.specs.Prelude.{◌≡◌, ℕ, ◌+◌, ◌*◌, ◌<◌, �
 ghost use Rattle.aiger.specs.Refusal.{RefusesBy};
 ghost use Rattle.aiger.specs.Circuit.{count_refusal};
 
+mod renumbered;
+
 use crate::fault::CircuitFault;
 use crate::justice::JusticeList;
 use crate::literal::Lit;

@@ -3,6 +3,7 @@ ghost use Rattle.std.specs.Prelude.{◌≡◌};
 ghost use Rattle.aiger.specs.Refusal.{fault_number, fault_name};
 ghost use Rattle.aiger.specs.Renumbering.{loose_fault_number, loose_fault_name};
 
+use std::alloc::AllocError;
 use thiserror::Error;
 
 /// Why a circuit refuses what it is given. It is unchanged then.
@@ -98,5 +99,16 @@ impl LooseFault {
             LooseFault::Cycle(_) => "Cycle",
             LooseFault::NoMemory => "NoMemory",
         }
+    }
+}
+
+/// A growth that was refused.
+impl From<AllocError> for LooseFault {
+    ghost use Rattle.aiger.specs.declared.fault.LooseFault.TheVariants.{NoMemory};
+
+    ghost from_gives = { λ _ e. e ≡ NoMemory };
+
+    fn from(_: AllocError) -> LooseFault {
+        LooseFault::NoMemory
     }
 }

@@ -1,7 +1,7 @@
 //! The justice properties of a circuit: the literals of all of them in one list, and where each ends.
-ghost use Rattle.std.specs.Prelude.{◌≡◌, ◌<◌, ◌≤◌, [], ◌∷◌, ◌++◌, length, Some, None, if◌then◌else◌, OnOk, OnErr, slice_get};
+ghost use Rattle.std.specs.Prelude.{◌≡◌, ℕ, ◌<◌, ◌≤◌, [], ◌∷◌, ◌++◌, length, Some, None, if◌then◌else◌, OnOk, OnErr, IfOk, slice_get, map};
 ghost use Rattle.aiger.specs.declared.fault.CircuitFault.TheVariants.{TooBig};
-ghost use Rattle.std.specs.List.{sum_by};
+ghost use Rattle.std.specs.List.{sum_by, concat};
 ghost use Rattle.aiger.specs.Circuit.{size_refusal};
 ghost use Rattle.aiger.specs.Justice.{start_at};
 ghost use Rattle.aiger.specs.Refusal.{RefusesBy};
@@ -9,7 +9,7 @@ ghost use Rattle.aiger.specs.Refusal.{RefusesBy};
 use crate::circuit::GREATEST_COUNT;
 use crate::fault::CircuitFault;
 use crate::literal::Lit;
-use std::alloc::Global;
+use std::alloc::{AllocError, Global};
 use std::marker::Model;
 
 /// The literals of all justice properties, and where those of each end.
@@ -86,6 +86,26 @@ impl JusticeList {
         ensures { result ≡ length self.now }
     {
         self.ends.len()
+    }
+
+    /// The literals of all of them, one after another.
+    pub fn all_literals(&self) -> &[Lit]
+        ensures { result.now ≡ concat self.now }
+    {
+        &self.literals
+    }
+
+    /// As many with these literals in their place, one after another.
+    pub fn with_literals(
+        &self,
+        alloc: Global,
+        literals: Vec<Lit>,
+    ) -> Result<JusticeList, AllocError>
+        requires { length literals.items ≡ length (concat self.now) }
+        ensures { (f : ℕ → ℕ) → literals.items ≡ map f (concat self.now) → IfOk result (λ j. j ≡ map (map f) self.now) }
+    {
+        let ends = self.ends.to_vec(alloc)?;
+        Ok(JusticeList { literals, ends })
     }
 
     /// The literals of one.

@@ -8,7 +8,10 @@ pub mod laws;
 mod literal;
 mod loose;
 mod names;
+mod numbering;
+mod numbers;
 mod readiness;
+mod undefined;
 
 pub use circuit::{Circuit, GREATEST_COUNT, Gate, Latch, Reset, Section};
 pub use fault::{CircuitFault, LooseFault};

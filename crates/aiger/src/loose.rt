@@ -1,6 +1,6 @@
 //! The lists of an ascii file as it names them: variables in any numbering, gates in any order.
 ghost use Rattle.std.specs.Prelude.{◌≡◌, ◌<◌, true, [], ◌∷◌, ◌++◌, length, None, Some, OnOk, OnErr, option_copied, slice_get, nat_le, nat_eq, ◌&&◌, not};
-ghost use Rattle.std.specs.List.{list_all};
+ghost use Rattle.std.specs.List.{list_all, concat};
 ghost use Rattle.std.specs.HashSet.{IsUnchanged, Updates};
 ghost use Rattle.aiger.specs.Literal.{variable};
 ghost use Rattle.aiger.specs.Refusal.{RefusesBy};
@@ -366,6 +366,28 @@ impl Loose {
         ensures valid { IsLoose self.now }
     {
         self.justice.literals(i)
+    }
+
+    /// The literals of all justice properties, one after another.
+    pub(crate) fn justice_literals(&self) -> &[Lit]
+        ensures items { result.now ≡ concat self.now.justice }
+        ensures valid { IsLoose self.now }
+    {
+        self.justice.all_literals()
+    }
+
+    /// The justice properties as they are kept.
+    pub(crate) fn justice_list(&self) -> &JusticeList
+        ensures { result.now ≡ self.now.justice }
+    {
+        &self.justice
+    }
+
+    /// The names as they are kept.
+    pub(crate) fn name_keeper(&self) -> &NameKeeper
+        ensures { result.now ≡ self.now.names }
+    {
+        &self.names
     }
 
     /// The fairness constraints.

@@ -1,5 +1,5 @@
 //! The names of a circuit's positions: an entry for each position that has a name, and nothing for the others.
-ghost use Rattle.std.specs.Prelude.{◌≡◌, [], None, OnOk, OnErr, option_copied};
+ghost use Rattle.std.specs.Prelude.{◌≡◌, [], None, OnOk, OnErr, IfOk, option_copied};
 ghost use Rattle.std.specs.List.{list_all};
 ghost use Rattle.std.specs.List.Sorted.{IsStrictlySortedBy};
 ghost use Rattle.std.specs.Map.{keys_of};
@@ -8,7 +8,7 @@ ghost use Rattle.aiger.specs.Refusal.{RefusesBy};
 
 use crate::circuit::Section;
 use crate::fault::CircuitFault;
-use std::alloc::Global;
+use std::alloc::{AllocError, Global};
 use std::collections::BTreeMap;
 use std::marker::Model;
 
@@ -64,6 +64,17 @@ impl NameKeeper {
             Ok(_) => Ok(()),
             Err(_) => Err(CircuitFault::NoMemory),
         }
+    }
+
+    /// The same names again.
+    pub fn copy(&self) -> Result<NameKeeper, AllocError>
+        ensures { IfOk result (λ k. k ≡ self.now) }
+    {
+        let entries = self.entries.clone()?;
+        Ok(NameKeeper {
+            alloc: self.alloc,
+            entries,
+        })
     }
 
     /// The name of a position of a section, if it has one.

@@ -4,8 +4,7 @@ ghost use Rattle.std.specs.Ordering.{nat_cmp};
 ghost use Rattle.std.specs.BTreeSet.{contains};
 ghost use Rattle.aiger.specs.Readiness.{AreSlots, HasChains, CountsWaits, waits_for_nothing, IsTaken, IsWholeOrder};
 
-use crate::fault::LooseFault;
-use std::alloc::Global;
+use std::alloc::{AllocError, Global};
 use std::collections::BTreeSet;
 
 /// Who waits for whom.
@@ -26,7 +25,7 @@ pub fn order_of_readiness(
     alloc: Global,
     slots: Vec<u32>,
     gates: usize,
-) -> Result<(Vec<u32>, Vec<bool>), LooseFault>
+) -> Result<(Vec<u32>, Vec<bool>), AllocError>
     requires { AreSlots slots.items gates }
     ensures { IfOk result (λ r. IsWholeOrder slots.items gates r.0.items r.1.items) }
 {
@@ -35,13 +34,13 @@ pub fn order_of_readiness(
     let users = chains(alloc, slots, gates)?;
     let mut marks = match vec![in alloc; false; gates] {
         Ok(list) => list,
-        Err(_) => return Err(LooseFault::NoMemory),
+        Err(_) => return Err(AllocError),
     };
     let mut order = Vec::new(alloc);
     while let Some(gate) = ready.pop_first() {
         match order.push(gate) {
             Ok(()) => {}
-            Err(_) => return Err(LooseFault::NoMemory),
+            Err(_) => return Err(AllocError),
         }
         marks[gate as usize] = true;
         release(&users, &order, &mut waiting, &mut ready)?;
@@ -50,21 +49,21 @@ pub fn order_of_readiness(
 }
 
 /// The chains of slots of each gate.
-fn chains(alloc: Global, slots: Vec<u32>, gates: usize) -> Result<Users, LooseFault>
+fn chains(alloc: Global, slots: Vec<u32>, gates: usize) -> Result<Users, AllocError>
     requires { AreSlots slots.items gates }
     ensures chains { IfOk result (λ u. HasChains slots.items gates u.heads.items u.nexts.items) }
     ensures slots { IfOk result (λ u. u.slots.items ≡ slots.items) }
 {
     let mut heads = match vec![in alloc; 0u32; gates] {
         Ok(list) => list,
-        Err(_) => return Err(LooseFault::NoMemory),
+        Err(_) => return Err(AllocError),
     };
     let mut nexts = Vec::new(alloc);
     for s in 0..slots.len() {
         let next = link(&mut heads, slots[s], s as u32);
         match nexts.push(next) {
             Ok(()) => {}
-            Err(_) => return Err(LooseFault::NoMemory),
+            Err(_) => return Err(AllocError),
         }
     }
     Ok(Users {
@@ -91,7 +90,7 @@ fn link(heads: &mut Vec<u32>, slot: u32, s: u32) -> u32
 }
 
 /// For each gate how many of its slots wait, before any gate is done.
-fn first_waits(alloc: Global, slots: &[u32], gates: usize) -> Result<Vec<u8>, LooseFault>
+fn first_waits(alloc: Global, slots: &[u32], gates: usize) -> Result<Vec<u8>, AllocError>
     requires { AreSlots slots.now gates }
     ensures { IfOk result (λ r. CountsWaits slots.now gates [] r.items) }
 {
@@ -100,14 +99,14 @@ fn first_waits(alloc: Global, slots: &[u32], gates: usize) -> Result<Vec<u8>, Lo
         let count = u8::from(slots[2 * gate] != 0) + u8::from(slots[2 * gate + 1] != 0);
         match waiting.push(count) {
             Ok(()) => {}
-            Err(_) => return Err(LooseFault::NoMemory),
+            Err(_) => return Err(AllocError),
         }
     }
     Ok(waiting)
 }
 
 /// The gates that wait for nothing, before any gate is done.
-fn first_ready(alloc: Global, waiting: &[u8]) -> Result<BTreeSet<u32>, LooseFault>
+fn first_ready(alloc: Global, waiting: &[u8]) -> Result<BTreeSet<u32>, AllocError>
     requires { length waiting.now ≤ 1073741824 }
     ensures { IfOk result (λ r. (i : ℕ) → contains nat_cmp r i ≡ waits_for_nothing (length waiting.now) [] waiting.now i) }
 {
@@ -119,7 +118,7 @@ fn first_ready(alloc: Global, waiting: &[u8]) -> Result<BTreeSet<u32>, LooseFaul
 }
 
 /// Notes a gate as ready where nothing is left that it waits for.
-fn note(ready: &mut BTreeSet<u32>, gate: u32, left: u8) -> Result<(), LooseFault>
+fn note(ready: &mut BTreeSet<u32>, gate: u32, left: u8) -> Result<(), AllocError>
     ensures { OnOk result ((i : ℕ) → contains nat_cmp ready.new i ≡ (contains nat_cmp ready.old i || (nat_eq gate i && nat_eq left 0))) }
 {
     if left != 0 {
@@ -127,7 +126,7 @@ fn note(ready: &mut BTreeSet<u32>, gate: u32, left: u8) -> Result<(), LooseFault
     }
     match ready.insert(gate) {
         Ok(_) => Ok(()),
-        Err(_) => Err(LooseFault::NoMemory),
+        Err(_) => Err(AllocError),
     }
 }
 
@@ -137,7 +136,7 @@ fn release(
     order: &[u32],
     waiting: &mut Vec<u8>,
     ready: &mut BTreeSet<u32>,
-) -> Result<(), LooseFault>
+) -> Result<(), AllocError>
     requires slots { AreSlots users.now.slots.items (length waiting.old.items) }
     requires chains { HasChains users.now.slots.items (length waiting.old.items) users.now.heads.items users.now.nexts.items }
     requires taken { IsTaken users.now.slots.items (length waiting.old.items) order.now waiting.old.items (contains nat_cmp ready.old) }

@@ -1,0 +1,111 @@
+-- The first line of a list of lines that is joined from parts.
+use Rattle.std.proofs.Common.{◌≡◌, ℕ, suc, ◌+◌, ◌≤◌, Bool, true, false, not, ◌&&◌, List, [], ◌∷◌, ◌++◌, map, length, Option, Some, None, nat_lt, cond, refl, ap, sym, ◌∙◌, arith, length-append}
+use Rattle.std.proofs.lemmas.Bool.Decides.{nat_tests}
+use Rattle.std.proofs.lemmas.List.Sums.{sum_by-cons}
+use Rattle.aiger.specs.Limits.{greatest_count}
+use Rattle.std.specs.Option.{option_map}
+use Rattle.std.specs.List.{position, position_or_len, concat, sum_by}
+use Rattle.aiger.specs.declared.loose.GateLine.{GateLine}
+use Rattle.aiger.specs.declared.loose.LatchLine.{LatchLine}
+use Rattle.aiger.specs.Loose.{Loose, IsLoose}
+use Rattle.aiger.specs.Renumbering.{alone, is_known, used_lines}
+use Rattle.aiger.specs.Numbering.{is_unknown}
+
+-- the first place where the first one passes, and where it does not
+place_yes : {X : Type 0} (p : X → Bool) (x : X) (xs : List X) → p x ≡ true → position p (x ∷ xs) ≡ Some 0
+place_yes p x xs e =
+    let z : position_or_len p (x ∷ xs) ≡ 0 = ap (λ (b : Bool). cond (not b) (1 + position_or_len p xs) 0) e in
+    let u : nat_lt 0 (suc (length xs)) ≡ true = grind (arith, nat_tests) in
+    ap (λ (k : ℕ). cond (nat_lt k (suc (length xs))) (Some k) None) z ∙ ap (λ (b : Bool). cond b (Some 0) None) u
+
+place_no : {X : Type 0} (p : X → Bool) (x : X) (xs : List X) → p x ≡ false → position p (x ∷ xs) ≡ option_map suc (position p xs)
+place_no p x xs e = step (nat_lt (position_or_len p xs) (length xs)) refl
+  where
+    here : position p (x ∷ xs) ≡ cond (nat_lt (suc (position_or_len p xs)) (suc (length xs))) (Some (suc (position_or_len p xs))) None
+    here =
+        let z : position_or_len p (x ∷ xs) ≡ suc (position_or_len p xs) = ap (λ (b : Bool). cond (not b) (1 + position_or_len p xs) 0) e ∙ omega arith in
+        ap (λ (k : ℕ). cond (nat_lt k (suc (length xs))) (Some k) None) z
+
+    step : (b : Bool) → nat_lt (position_or_len p xs) (length xs) ≡ b → position p (x ∷ xs) ≡ option_map suc (position p xs)
+    step true t =
+        let u : nat_lt (suc (position_or_len p xs)) (suc (length xs)) ≡ true = grind (arith, nat_tests) in
+        here ∙ (ap (λ (b : Bool). cond b (Some (suc (position_or_len p xs))) None) u ∙ sym (ap (λ (b : Bool). option_map suc (cond b (Some (position_or_len p xs)) None)) t))
+    step false t =
+        let u : nat_lt (suc (position_or_len p xs)) (suc (length xs)) ≡ false = grind (arith, nat_tests) in
+        here ∙ (ap (λ (b : Bool). cond b (Some (suc (position_or_len p xs))) None) u ∙ sym (ap (λ (b : Bool). option_map suc (cond b (Some (position_or_len p xs)) None)) t))
+
+-- a place that is found in the front is the place in the whole
+pub place_in_front : {X : Type 0} (p : X → Bool) (xs ys : List X) (k : ℕ) → position p xs ≡ Some k → position p (xs ++ ys) ≡ Some k
+place_in_front p [] ys k e = absurd (cc)
+place_in_front p (x ∷ xs) ys k e = by (p x) refl (λ m f. place_in_front p xs ys m f)
+  where
+    by : (b : Bool) → p x ≡ b → ((m : ℕ) → position p xs ≡ Some m → position p (xs ++ ys) ≡ Some m) → position p ((x ∷ xs) ++ ys) ≡ Some k
+    by true t rest = place_yes p x (xs ++ ys) t ∙ (sym (place_yes p x xs t) ∙ e)
+    by false t rest = further (position p xs) refl
+      where
+        further : (o : Option ℕ) → position p xs ≡ o → position p ((x ∷ xs) ++ ys) ≡ Some k
+        further None f = let z : ◌≡◌ {A = Option ℕ} None (Some k) = sym (ap (option_map suc) f) ∙ (sym (place_no p x xs t) ∙ e) in absurd (cc)
+        further (Some m) f = place_no p x (xs ++ ys) t ∙ (ap (option_map suc) (rest m f) ∙ (sym (ap (option_map suc) f) ∙ (sym (place_no p x xs t) ∙ e)))
+
+-- where none is in the front, it is behind it
+pub place_behind : {X : Type 0} (p : X → Bool) (xs ys : List X) → position p xs ≡ None → position p (xs ++ ys) ≡ option_map (λ k. length xs + k) (position p ys)
+place_behind p [] ys e = same (position p ys)
+  where
+    same : (o : Option ℕ) → o ≡ option_map (λ k. 0 + k) o
+    same None = refl
+    same (Some k) = let e : k ≡ 0 + k = omega arith in ap Some e
+place_behind p (x ∷ xs) ys e = by (p x) refl (λ f. place_behind p xs ys f)
+  where
+    more : (o : Option ℕ) → option_map suc (option_map (λ k. length xs + k) o) ≡ option_map (λ k. suc (length xs) + k) o
+    more None = refl
+    more (Some k) = let e : suc (length xs + k) ≡ suc (length xs) + k = omega arith in ap Some e
+
+    by : (b : Bool) → p x ≡ b → (position p xs ≡ None → position p (xs ++ ys) ≡ option_map (λ k. length xs + k) (position p ys)) → position p ((x ∷ xs) ++ ys) ≡ option_map (λ k. suc (length xs) + k) (position p ys)
+    by true t rest = let z : ◌≡◌ {A = Option ℕ} (Some 0) None = sym (place_yes p x xs t) ∙ e in absurd (cc)
+    by false t rest = further (position p xs) refl
+      where
+        further : (o : Option ℕ) → position p xs ≡ o → position p ((x ∷ xs) ++ ys) ≡ option_map (λ k. suc (length xs) + k) (position p ys)
+        further (Some m) f = let z : ◌≡◌ {A = Option ℕ} (Some (suc m)) None = sym (ap (option_map suc) f) ∙ (sym (place_no p x xs t) ∙ e) in absurd (cc)
+        further None f = place_no p x (xs ++ ys) t ∙ (ap (option_map suc) (rest f) ∙ more (position p ys))
+
+-- the same places by what elements become
+place_of_map : {X Y : Type 0} (p : X → Bool) (q : Y → Bool) (f : X → Y) → ((x : X) → p x ≡ q (f x)) → (xs : List X) → position p xs ≡ position q (map f xs)
+place_of_map p q f same [] = refl
+place_of_map p q f same (x ∷ xs) = by (p x) refl (place_of_map p q f same xs)
+  where
+    by : (b : Bool) → p x ≡ b → position p xs ≡ position q (map f xs) → position p (x ∷ xs) ≡ position q (f x ∷ map f xs)
+    by true t rest = place_yes p x xs t ∙ sym (place_yes q (f x) (map f xs) (sym (same x) ∙ t))
+    by false t rest = place_no p x xs t ∙ (ap (option_map suc) rest ∙ sym (place_no q (f x) (map f xs) (sym (same x) ∙ t)))
+
+one_known : (b : Bool) → not b ≡ not (b && true)
+one_known true = refl
+one_known false = refl
+
+both_known : (a b : Bool) → not (a && b) ≡ not (a && (b && true))
+both_known true true = refl
+both_known true false = refl
+both_known false b = refl
+
+pub unknown_literals : (l : Loose) (lits : List ℕ) → position (λ lit. not (is_known l lit)) lits ≡ position (is_unknown l) (map alone lits)
+unknown_literals l lits = place_of_map (λ (lit : ℕ). not (is_known l lit)) (is_unknown l) alone (λ lit. one_known (is_known l lit)) lits
+
+pub unknown_nexts : (l : Loose) (lines : List LatchLine) → position (λ line. not (is_known l line.next)) lines ≡ position (is_unknown l) (map (λ line. line.next ∷ []) lines)
+unknown_nexts l lines = place_of_map (λ (line : LatchLine). not (is_known l line.next)) (is_unknown l) (λ (line : LatchLine). line.next ∷ []) (λ line. one_known (is_known l line.next)) lines
+
+pub unknown_gates : (l : Loose) (lines : List GateLine) → position (λ line. not (is_known l line.rhs0 && is_known l line.rhs1)) lines ≡ position (is_unknown l) (map (λ line. line.rhs0 ∷ line.rhs1 ∷ []) lines)
+unknown_gates l lines = place_of_map (λ (line : GateLine). not (is_known l line.rhs0 && is_known l line.rhs1)) (is_unknown l) (λ (line : GateLine). line.rhs0 ∷ line.rhs1 ∷ []) (λ line. both_known (is_known l line.rhs0) (is_known l line.rhs1)) lines
+
+-- how many literals are in all lists
+length_concat : (lists : List (List ℕ)) → length (concat lists) ≡ sum_by length lists
+length_concat [] = refl
+length_concat (x ∷ xs) = omega (arith, length-append x (concat xs), length_concat xs, sum_by-cons length x xs)
+
+-- there are few justice literals
+pub few_justice : (l : Loose) → IsLoose l → length (concat l.justice) ≤ greatest_count
+few_justice l valid = omega (arith, length_concat l.justice, valid.few.justice_literals)
+
+-- the lines that use literals, from the lists
+pub are_used_lines : (l : Loose) (nexts : List LatchLine) (outputs bads constraints justice fair : List ℕ) (gates : List GateLine)
+    → nexts ≡ l.latches → outputs ≡ l.outputs → bads ≡ l.bads → constraints ≡ l.constraints → justice ≡ concat l.justice → fair ≡ l.fair → gates ≡ l.gates
+    → map (λ line. line.next ∷ []) nexts ++ map alone outputs ++ map alone bads ++ map alone constraints ++ map alone justice ++ map alone fair ++ map (λ line. line.rhs0 ∷ line.rhs1 ∷ []) gates ≡ used_lines l
+are_used_lines l nexts outputs bads constraints justice fair gates a b c d e f g = rw (a, b, c, d, e, f, g) refl

@@ -1,0 +1,34 @@
+-- What stands between the parts of numbering: the slots of a file's gates, and their order as far as it goes.
+use Rattle.std.specs.Prelude.{◌≡◌, ℕ, suc, ◌-◌, ◌≤◌, slice_index_or, count_by, Bool, not, false, List, [], ◌∷◌, length, nat_eq, if◌then◌else◌, ◌==◌}
+use Rattle.std.specs.List.{position_or_len, flat_map, list_all}
+use Rattle.aiger.specs.declared.loose.GateLine.{GateLine}
+use Rattle.aiger.specs.Literal.{variable}
+use Rattle.aiger.specs.Loose.{Loose, gate_variable}
+use Rattle.aiger.specs.Renumbering.{AreInTurn, is_ready, is_known}
+use Rattle.aiger.specs.Readiness.{MarksDone}
+
+-- a line with a literal whose variable is neither 0 nor defined
+abbrev pub is_unknown : Loose → List ℕ → Bool
+is_unknown l lits = not (list_all (is_known l) lits)
+
+-- no variable stands twice
+abbrev pub IsOnce : List ℕ → Type 0
+IsOnce names = (v : ℕ) → count_by (nat_eq v) names ≤ 1
+
+-- the variable of the gate line at a position
+abbrev pub name_in : List GateLine → ℕ → ℕ
+name_in lines j = gate_variable (slice_index_or lines j (record { lhs = 0; rhs0 = 0; rhs1 = 0 }))
+
+-- what a literal waits for, by the places of the defined variables, of which so many first ones are no gates
+abbrev pub slot_of : List ℕ → ℕ → ℕ → ℕ
+slot_of names leaves lit = if variable lit == 0 then 0 else suc (position_or_len (nat_eq (variable lit)) names) - leaves
+
+-- the slots of gates: two for each
+abbrev pub slots_of : List ℕ → ℕ → List GateLine → List ℕ
+slots_of names leaves gates = flat_map (λ line. slot_of names leaves line.rhs0 ∷ slot_of names leaves line.rhs1 ∷ []) gates
+
+-- the gates of a file in the order of readiness, until none is ready, and which ones these are
+pub record IsReadyOrder (l : Loose) (order : List ℕ) (marks : List Bool) : Type 0 where
+  pub in_turn : AreInTurn l [] order
+  pub marked : MarksDone (length l.gates) order marks
+  pub whole : (j : ℕ) → is_ready l order j ≡ false

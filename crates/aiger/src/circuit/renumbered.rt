@@ -1,0 +1,98 @@
+//! The circuit of the lists of a file whose variables have their numbers.
+ghost use Rattle.std.specs.Prelude.{◌≡◌, ◌<◌, ◌≤◌, map, length, All, slice_index_or, nat_lt, IfOk, if◌then◌else◌};
+ghost use Rattle.aiger.specs.Limits.{greatest_count};
+ghost use Rattle.aiger.specs.Circuit.{IsCircuit};
+ghost use Rattle.aiger.specs.Renumbering.{numbered, new_literal, ordered_gate, new_gate, renumbered};
+
+use crate::circuit::{Circuit, Gate, Latch};
+use crate::literal::Lit;
+use crate::loose::{GateLine, LatchLine, Loose};
+use crate::numbers::Numbers;
+use std::alloc::{AllocError, Global};
+
+impl Circuit {
+    /// The lists of a file, whose gates are in this order, with the numbers of their variables. The
+    /// error is want of memory.
+    pub(crate) fn renumbered(
+        alloc: Global,
+        lines: &Loose,
+        numbers: &Numbers,
+        order: &[u32],
+    ) -> Result<Circuit, AllocError>
+        requires few { length numbers.now ≤ greatest_count }
+        requires numbers { numbers.now ≡ numbered lines.now order.now }
+        requires within { All (λ j. j < length lines.now.gates) order.now }
+        requires valid { IsCircuit (renumbered lines.now order.now) }
+        ensures { IfOk result (λ c. c ≡ renumbered lines.now order.now) }
+    {
+        let latches = new_latches(alloc, numbers, lines.latches())?;
+        let gates = new_gates(alloc, numbers, lines.gates(), order)?;
+        let outputs = numbers.literals(alloc, lines.outputs())?;
+        let bads = numbers.literals(alloc, lines.bads())?;
+        let constraints = numbers.literals(alloc, lines.constraints())?;
+        let literals = numbers.literals(alloc, lines.justice_literals())?;
+        let justice = lines.justice_list().with_literals(alloc, literals)?;
+        let fair = numbers.literals(alloc, lines.fair())?;
+        let names = lines.name_keeper().copy()?;
+        Ok(Circuit {
+            inputs: lines.inputs().len() as u32,
+            latches,
+            gates,
+            outputs,
+            bads,
+            constraints,
+            justice,
+            fair,
+            names,
+        })
+    }
+}
+
+/// Latches by the numbers of their next literals.
+fn new_latches(
+    alloc: Global,
+    numbers: &Numbers,
+    lines: &[LatchLine],
+) -> Result<Vec<Latch>, AllocError>
+    requires { length numbers.now ≤ greatest_count }
+    ensures { IfOk result (λ v. v.items ≡ map (λ line. record { next = new_literal numbers.now line.next; reset = line.reset }) lines.now) }
+{
+    let mut latches = Vec::with_capacity(alloc, lines.len())?;
+    for line in lines {
+        latches.push(Latch {
+            next: numbers.literal(line.next),
+            reset: line.reset,
+        })?;
+    }
+    Ok(latches)
+}
+
+/// Gates in this order, by the numbers of their operands.
+fn new_gates(
+    alloc: Global,
+    numbers: &Numbers,
+    lines: &[GateLine],
+    order: &[u32],
+) -> Result<Vec<Gate>, AllocError>
+    requires few { length numbers.now ≤ greatest_count }
+    requires within { All (λ j. j < length lines.now) order.now }
+    ensures { IfOk result (λ v. v.items ≡ map (λ j. new_gate numbers.now (slice_index_or lines.now j (record { lhs = 0; rhs0 = 0; rhs1 = 0 }))) order.now) }
+{
+    let mut gates = Vec::with_capacity(alloc, order.len())?;
+    for gate in order {
+        let line = lines[*gate as usize];
+        gates.push(ordered(numbers.literal(line.rhs0), numbers.literal(line.rhs1)))?;
+    }
+    Ok(gates)
+}
+
+/// A gate of two operands, the greater one first.
+fn ordered(a: Lit, b: Lit) -> Gate
+    ensures { result ≡ ordered_gate a b }
+{
+    if a.number() < b.number() {
+        Gate { rhs0: b, rhs1: a }
+    } else {
+        Gate { rhs0: a, rhs1: b }
+    }
+}

@@ -1,0 +1,105 @@
+//! The lists of a file as a circuit: their variables get the numbers of a circuit.
+ghost use Rattle.std.specs.Prelude.{◌≡◌, ◌+◌, ◌<◌, ◌≤◌, ◌++◌, map, length, not, None, All, IfOk};
+ghost use Rattle.std.specs.List.{position};
+ghost use Rattle.aiger.specs.Limits.{greatest_count};
+ghost use Rattle.aiger.specs.Loose.{IsLoose, defined_variables};
+ghost use Rattle.aiger.specs.Renumbering.{AnswersNumber, first_undefined};
+ghost use Rattle.aiger.specs.Numbering.{slots_of, IsReadyOrder};
+
+use crate::circuit::Circuit;
+use crate::fault::LooseFault;
+use crate::loose::Loose;
+use crate::numbers::Numbers;
+use crate::readiness::order_of_readiness;
+use std::alloc::{AllocError, Global};
+
+impl Loose {
+    /// The circuit that the lists are, by the numbers of a circuit: the inputs by their lines, then
+    /// the latches, then the gates, each time the first gate in the file of those whose operands
+    /// all have numbers ("AIGER 1.9 and Beyond", ascii format). Of a gate's operands the greater
+    /// one comes first, and variables that no line defines vanish.
+    ///
+    /// Errors, of which the first that applies in this order is answered: `Undefined` where a line
+    /// uses a variable that is neither 0 nor defined, with the first such line; `Cycle` where a gate
+    /// depends on itself through operands, with the first gate that does or that depends on one that
+    /// does; `NoMemory`. The lists stay as they are.
+    ///
+    /// It takes a fixed number of words for each definition and each literal, and a time in
+    /// proportion to n log n for n of them at most.
+    pub fn number(&self, alloc: Global) -> Result<Circuit, LooseFault>
+        ensures { AnswersNumber self.now result }
+    {
+        match self.undefined_line() {
+            Some(line) => Err(LooseFault::Undefined(line)),
+            None => self.number_known(alloc),
+        }
+    }
+
+    /// The circuit that the lists are where each variable that they use is defined.
+    fn number_known(&self, alloc: Global) -> Result<Circuit, LooseFault>
+        requires { first_undefined self.now ≡ None }
+        ensures { AnswersNumber self.now result }
+    {
+        let mut numbers = self.places(alloc)?;
+        let (order, marks) = self.gate_order(alloc, &numbers)?;
+        match first_left(&marks) {
+            Some(gate) => Err(LooseFault::Cycle(gate)),
+            None => {
+                numbers.truncate(self.inputs().len() + self.latches().len());
+                numbers.push_in_order(self.gates(), &order)?;
+                Ok(Circuit::renumbered(alloc, self, &numbers, &order)?)
+            }
+        }
+    }
+
+    /// The defined variables by their places: inputs, latches and gates, each in file order.
+    fn places(&self, alloc: Global) -> Result<Numbers, AllocError>
+        ensures numbers { IfOk result (λ n. n ≡ defined_variables self.now) }
+        ensures valid { IsLoose self.now }
+    {
+        let count = self.inputs().len() + self.latches().len() + self.gates().len();
+        let mut numbers = Numbers::with_room(alloc, count)?;
+        numbers.push_inputs(self.inputs())?;
+        numbers.push_latches(self.latches())?;
+        numbers.push_gates(self.gates())?;
+        Ok(numbers)
+    }
+
+    /// The gates in the order of readiness, until none is ready, and for each gate whether it is
+    /// among them.
+    fn gate_order(
+        &self,
+        alloc: Global,
+        numbers: &Numbers,
+    ) -> Result<(Vec<u32>, Vec<bool>), AllocError>
+        requires known { first_undefined self.now ≡ None }
+        requires numbers { numbers.now ≡ defined_variables self.now }
+        ensures { IfOk result (λ r. IsReadyOrder self.now r.0.items r.1.items) }
+    {
+        let gates = self.gates().len();
+        let slots = self.slots(alloc, numbers)?;
+        order_of_readiness(alloc, slots, gates)
+    }
+
+    /// For each gate the two slots of its operands: 0 where an operand waits for no gate, or the
+    /// position of the gate that it waits for and 1.
+    fn slots(&self, alloc: Global, numbers: &Numbers) -> Result<Vec<u32>, AllocError>
+        requires { length numbers.now ≤ greatest_count }
+        ensures { IfOk result (λ v. v.items ≡ slots_of numbers.now (length self.now.inputs + length self.now.latches) self.now.gates) }
+    {
+        let leaves = self.inputs().len() + self.latches().len();
+        let mut slots = Vec::with_capacity(alloc, 2 * self.gates().len())?;
+        for line in self.gates() {
+            slots.push(numbers.slot(leaves, line.rhs0))?;
+            slots.push(numbers.slot(leaves, line.rhs1))?;
+        }
+        Ok(slots)
+    }
+}
+
+/// The first gate that has no number, if there is one.
+fn first_left(marks: &[bool]) -> Option<usize>
+    ensures { result ≡ position not marks.now }
+{
+    marks.iter().position(|done| !*done)
+}

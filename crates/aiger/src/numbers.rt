@@ -1,0 +1,146 @@
+//! Variables in the order of their numbers, and the literals that have these numbers.
+ghost use Rattle.std.specs.Prelude.{◌≡◌, ◌<◌, ◌≤◌, false, All, [], ◌∷◌, ◌++◌, map, length, take, nat_eq, IfOk, OnOk};
+ghost use Rattle.std.specs.List.{list_any, position_or_len};
+ghost use Rattle.aiger.specs.Limits.{greatest_count};
+ghost use Rattle.aiger.specs.Literal.{variable};
+ghost use Rattle.aiger.specs.Loose.{latch_variable, gate_variable};
+ghost use Rattle.aiger.specs.Renumbering.{new_literal};
+ghost use Rattle.aiger.specs.Numbering.{IsOnce, name_in, slot_of};
+
+use crate::literal::Lit;
+use crate::loose::{GateLine, LatchLine};
+use indexmap::IndexSet;
+use std::alloc::{AllocError, Global};
+use std::marker::Model;
+
+/// Variables in the order of their numbers, which begin with 1; a variable's place is found by one look-up.
+#[derive(Drop)]
+pub struct Numbers {
+    variables: IndexSet<u32>,
+}
+
+impl Model for Numbers {
+    ghost use Rattle.std.specs.Prelude.{ℕ, List};
+
+    ghost Value = { List ℕ };
+
+    ghost view = { λ n. n.variables.keys };
+}
+
+impl Numbers {
+    /// No variables yet, and room for so many.
+    pub fn with_room(alloc: Global, count: usize) -> Result<Numbers, AllocError>
+        ensures { IfOk result (λ n. n ≡ []) }
+    {
+        let variables = IndexSet::with_capacity(alloc, count)?;
+        Ok(Numbers { variables })
+    }
+
+    /// Gives a variable the next number.
+    pub fn push(&mut self, variable: u32) -> Result<(), AllocError>
+        requires new { list_any (nat_eq variable) self.old ≡ false }
+        ensures { OnOk result (self.new ≡ self.old ++ variable ∷ []) }
+    {
+        self.variables.insert_full(variable)?;
+        Ok(())
+    }
+
+    /// Gives the variables of input lines the next numbers.
+    pub fn push_inputs(&mut self, inputs: &[Lit]) -> Result<(), AllocError>
+        requires { IsOnce (self.old ++ map variable inputs.now) }
+        ensures { OnOk result (self.new ≡ self.old ++ map variable inputs.now) }
+    {
+        for lit in inputs {
+            self.push(lit.var())?;
+        }
+        Ok(())
+    }
+
+    /// Gives the variables of latch lines the next numbers.
+    pub fn push_latches(&mut self, lines: &[LatchLine]) -> Result<(), AllocError>
+        requires { IsOnce (self.old ++ map latch_variable lines.now) }
+        ensures { OnOk result (self.new ≡ self.old ++ map latch_variable lines.now) }
+    {
+        for line in lines {
+            self.push(line.current.var())?;
+        }
+        Ok(())
+    }
+
+    /// Gives the variables of gate lines the next numbers.
+    pub fn push_gates(&mut self, lines: &[GateLine]) -> Result<(), AllocError>
+        requires { IsOnce (self.old ++ map gate_variable lines.now) }
+        ensures { OnOk result (self.new ≡ self.old ++ map gate_variable lines.now) }
+    {
+        for line in lines {
+            self.push(line.lhs.var())?;
+        }
+        Ok(())
+    }
+
+    /// Gives the variables of gate lines the next numbers, in this order.
+    pub fn push_in_order(&mut self, lines: &[GateLine], order: &[u32]) -> Result<(), AllocError>
+        requires within { All (λ j. j < length lines.now) order.now }
+        requires once { IsOnce (self.old ++ map (name_in lines.now) order.now) }
+        ensures { OnOk result (self.new ≡ self.old ++ map (name_in lines.now) order.now) }
+    {
+        for gate in order {
+            self.push(lines[*gate as usize].lhs.var())?;
+        }
+        Ok(())
+    }
+
+    /// Keeps the first so many variables.
+    pub fn truncate(&mut self, count: usize)
+        ensures { self.new ≡ take count self.old }
+    {
+        self.variables.truncate(count);
+    }
+
+    /// The place of a variable, from 0, or how many there are where it is not among them.
+    pub fn place(&self, variable: u32) -> usize
+        ensures place { result ≡ position_or_len (nat_eq variable) self.now }
+        ensures within { result ≤ length self.now }
+    {
+        match self.variables.get_index_of(&variable) {
+            Some(place) => place,
+            None => self.variables.len(),
+        }
+    }
+
+    /// What a literal waits for, where so many first variables are no gates': 0 for nothing, or the
+    /// gate's position and 1.
+    pub fn slot(&self, leaves: usize, lit: Lit) -> u32
+        requires { length self.now ≤ greatest_count }
+        ensures { result ≡ slot_of self.now leaves lit }
+    {
+        if lit.var() == 0 {
+            return 0;
+        }
+        (self.place(lit.var()) + 1).saturating_sub(leaves) as u32
+    }
+
+    /// A literal by its variable's number.
+    pub fn literal(&self, lit: Lit) -> Lit
+        requires { length self.now ≤ greatest_count }
+        ensures { result ≡ new_literal self.now lit }
+    {
+        if lit.var() == 0 {
+            return lit;
+        }
+        let number = self.place(lit.var()) as u32 + 1;
+        Lit::new(2 * number + lit.number() % 2)
+    }
+
+    /// Literals by their variables' numbers.
+    pub fn literals(&self, alloc: Global, lits: &[Lit]) -> Result<Vec<Lit>, AllocError>
+        requires { length self.now ≤ greatest_count }
+        ensures { IfOk result (λ v. v.items ≡ map (new_literal self.now) lits.now) }
+    {
+        let mut renumbered = Vec::with_capacity(alloc, lits.len())?;
+        for lit in lits {
+            renumbered.push(self.literal(*lit))?;
+        }
+        Ok(renumbered)
+    }
+}
