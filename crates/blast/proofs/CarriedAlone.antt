@@ -6,7 +6,8 @@ use Rattle.btor2.specs.Items.{is_state, is_free, is_free_state, is_carried_state
 use Rattle.btor2.specs.Trace.{bits_of}
 use Rattle.btor2.proofs.StateWords.{not_free}
 use Rattle.blast.specs.Cost.{kind_width, input_width, state_width, given_width, carried_width}
-use Rattle.blast.specs.Leaves.{by_body, of_kind, HaveNexts}
+use Rattle.btor2.specs.Lists.{HaveNexts}
+use Rattle.blast.specs.Leaves.{by_body, of_kind}
 
 -- kinds that are the same of some items give the same of them, and a kind that none is of gives nothing
 of_kind-alike : {A : Type 0} (kind other : Item → Bool) (give : Item → List A) (xs : List Item) → ((place : ℕ) (x : Item) → slice_get xs place ≡ Some x → kind x ≡ other x) → of_kind kind give xs ≡ of_kind other give xs

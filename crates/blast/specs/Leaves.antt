@@ -1,10 +1,10 @@
 -- What a lowering makes of the leaves and the observed lines of a model, in file order ("Btor2, BtorMC and Boolector 3.0" on one side, "AIGER 1.9 and Beyond" on the other; how the one becomes the other is this project's profile).
-use Rattle.std.specs.Prelude.{◌≡◌, ℕ, zero, suc, Bool, true, false, List, [], ◌∷◌, ◌++◌, ◌==◌, Option, Some, None, if◌then◌else◌, option_and_then, is_some, slice_get, map, replicate, decimal}
+use Rattle.std.specs.Prelude.{ℕ, zero, suc, Bool, true, false, List, [], ◌∷◌, ◌++◌, ◌==◌, Option, Some, None, if◌then◌else◌, option_and_then, map, replicate, decimal}
 use Rattle.base.specs.Word.{bits}
 use Rattle.btor2.specs.declared.item.Item.{Item}
 use Rattle.btor2.specs.declared.item.Body.{Body}
 use Rattle.btor2.specs.declared.item.Body.TheVariants as body
-use Rattle.btor2.specs.Items.{is_input, is_state, is_bad, is_constraint, is_free_state, is_carried_state, constant_of, init_value, next_value}
+use Rattle.btor2.specs.Items.{is_input, is_bad, is_constraint, is_free_state, is_carried_state, constant_of, init_value}
 use Rattle.btor2.specs.Trace.{Frame, bits_of}
 use Rattle.aiger.specs.declared.circuit.Reset.{Reset}
 use Rattle.aiger.specs.declared.circuit.Reset.TheVariants as reset
@@ -122,7 +122,3 @@ bad_values items f = of_kind (by_body is_bad) (λ x. observed f x.body) items
 -- which constraints hold in a frame
 abbrev pub constraint_values : List Item → Frame → List Bool
 constraint_values items f = of_kind (by_body is_constraint) (λ x. observed f x.body) items
-
--- each state of a model has a next line
-abbrev pub HaveNexts : List Item → Type 0
-HaveNexts items = (place : ℕ) (x : Item) → slice_get items place ≡ Some x → is_state x.body ≡ true → is_some (next_value items x.id) ≡ true
