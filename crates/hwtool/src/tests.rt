@@ -86,6 +86,23 @@ fn circuits(rt: HostRuntime) -> Result<(), Fail> {
             "1 sort bitvec 1\n2 input 1\n3 bad 2 p\n4 constraint 2 c\n",
             "aag 1 1 0 0 0 1 1\n2\n2\n2\nb0 p\nc0 c\n",
         ),
+        (
+            "1 sort bitvec 2\n2 input 1 x\n3 not 1 2\n4 output 3 y\n",
+            "aag 2 2 0 2 0\n2\n4\n3\n5\ni0 x[0]\ni1 x[1]\no0 y[0]\no1 y[1]\n",
+        ),
+        (
+            "1 sort bitvec 2\n2 sort bitvec 1\n3 state 1 s\n4 next 1 3 3\n5 slice 2 3 1 1\n6 bad 5\n",
+            "aag 2 0 2 0 0 1\n2 2 2\n4 4 4\n4\nl0 s[0]\nl1 s[1]\n",
+        ),
+        (
+            "1 sort bitvec 1\n2 input 1\n3 input 1\n4 and 1 2 3\n5 and 1 3 2\n6 output 4\n7 output 5\n",
+            "aag 3 2 0 2 1\n2\n4\n6\n6\n6 4 2\n",
+        ),
+        // the bits of the word 2 are the resets, the lowest first
+        (
+            "1 sort bitvec 2\n2 constd 1 -2\n3 state 1\n4 init 1 3 2\n5 next 1 3 3\n",
+            "aag 2 0 2 0 0\n2 2\n4 4 1\n",
+        ),
     ];
     for (text, wanted) in rows {
         let (status, written, told) = lowered(rt.alloc(), text)?;
@@ -130,8 +147,25 @@ fn refusals(rt: HostRuntime) -> Result<(), Fail> {
             "model: item 4: 92 NoNext\n",
         ),
         (
+            "1 sort bitvec 1\n2 input 1\n3 fair 2\n4 justice 1 2\n",
+            "model: item 3: 91 Fair\n",
+        ),
+        (
+            "1 sort bitvec 1\n2 input 1\n3 justice 1 2\n4 fair 2\n",
+            "model: item 3: 90 Justice\n",
+        ),
+        // the line of the state decides, and not that of its init
+        (
+            "1 sort bitvec 1\n2 zero 1\n3 state 1\n4 fair 2\n5 init 1 3 2\n",
+            "model: item 3: 92 NoNext\n",
+        ),
+        (
+            "1 sort bitvec 1\n2 zero 1\n3 fair 2\n4 state 1\n5 init 1 4 2\n",
+            "model: item 3: 91 Fair\n",
+        ),
+        (
             "1 sort bitvec 1\n2 add 1 1 1\n",
-            "model: line 2: 23 UnknownOperator\n",
+            "model: line 2: 4 NoSuchNode\n",
         ),
         (
             "1 sort bitvec 1\n2 sort array 1 1\n",
@@ -213,7 +247,7 @@ fn next_bits(alloc: Global, circuit: &Circuit, leaves: &[bool]) -> Result<Vec<bo
 /// The circuit of a text.
 fn circuit_of(alloc: Global, text: &str) -> Option<Circuit> {
     let mut source = text.as_bytes();
-    match btor2text::read_basic(alloc, &mut source) {
+    match btor2text::read(alloc, &mut source) {
         Ok(model) => blast::lower(alloc, &model).ok(),
         Err(_) => None,
     }

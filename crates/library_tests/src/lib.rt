@@ -11,6 +11,8 @@ mod circuits;
 #[cfg(test)]
 mod gate_makers;
 #[cfg(test)]
+mod lowerings;
+#[cfg(test)]
 mod model_texts;
 #[cfg(test)]
 mod models;
