@@ -130,7 +130,7 @@ fn refusals(rt: HostRuntime) -> Result<(), Fail> {
             "model: item 4: 92 NoNext\n",
         ),
         (
-            "1 sort bitvec 1\n2 add 1 1 1\n",
+            "1 sort bitvec 1\n2 udivo 1 1 1\n",
             "model: line 2: 23 UnknownOperator\n",
         ),
         (
@@ -213,7 +213,7 @@ fn next_bits(alloc: Global, circuit: &Circuit, leaves: &[bool]) -> Result<Vec<bo
 /// The circuit of a text.
 fn circuit_of(alloc: Global, text: &str) -> Option<Circuit> {
     let mut source = text.as_bytes();
-    match btor2text::read_basic(alloc, &mut source) {
+    match btor2text::read(alloc, &mut source) {
         Ok(model) => blast::lower(alloc, &model).ok(),
         Err(_) => None,
     }
