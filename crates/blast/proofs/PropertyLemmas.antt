@@ -369,11 +369,11 @@ WithOutputs old cur row k = cur ≡ record old { outputs = old.outputs ++ take k
 pub WithOutputs-none : (c : Circuit) (row : List ℕ) → WithOutputs c c row 0
 WithOutputs-none c row = ap (λ (o : List ℕ). record c { outputs = o }) (sym (append-nil c.outputs))
 
-pub WithOutputs-more : (old cur new : Circuit) (row : List ℕ) (k l : ℕ) → WithOutputs old cur row k → k < length row → l ≡ get_or row k l → new ≡ with_output cur l → WithOutputs old new row (k + 1)
+pub WithOutputs-more : (old cur new : Circuit) (row : List ℕ) (k l : ℕ) → WithOutputs old cur row k → k < length row → l ≡ get_or row k 0 → new ≡ with_output cur l → WithOutputs old new row (k + 1)
 WithOutputs-more old cur new row k l h low is given =
     given ∙ ap (λ (c : Circuit). with_output c l) h
     ∙ ap (λ (o : List ℕ). record old { outputs = o })
-    (append_assoc old.outputs (take k row) (l ∷ []) ∙ ap (λ (m : List ℕ). old.outputs ++ m) (sym (take_more row k l low ∙ ap (λ (j : ℕ). take k row ++ j ∷ []) (sym is))))
+    (append_assoc old.outputs (take k row) (l ∷ []) ∙ ap (λ (m : List ℕ). old.outputs ++ m) (sym (take_more row k 0 low ∙ ap (λ (j : ℕ). take k row ++ j ∷ []) (sym is))))
 
 pub WithOutputs-few : (old cur : Circuit) (row : List ℕ) (k most : ℕ) → WithOutputs old cur row k → k < length row → length old.outputs + length row ≤ most → length cur.outputs < most
 WithOutputs-few old cur row k most h low room = omega (arith, ap (λ (c : Circuit). length c.outputs) h, length-append old.outputs (take k row), length-take k row)

@@ -1,5 +1,5 @@
 //! The outputs, bad properties and constraints of a circuit.
-ghost use Rattle.std.specs.Prelude.{◌≡◌, ℕ, ◌+◌, ◌<◌, ◌≤◌, [], ◌++◌, true, length, Some, All, is_some, IfErr, OnOk, slice_get};
+ghost use Rattle.std.specs.Prelude.{◌≡◌, ℕ, ◌+◌, ◌<◌, ◌≤◌, [], ◌++◌, true, length, Some, All, is_some, IfErr, OnOk, slice_get, slice_index};
 ghost use Rattle.btor2.specs.Check.{IsWellFormed};
 ghost use Rattle.aiger.specs.Limits.{greatest_count};
 ghost use Rattle.aiger.specs.Net.{IsDefined};
@@ -39,6 +39,14 @@ fn push_output(lit: Lit, circuit: &mut Circuit) -> Result<(), LowerFault>
     }
 }
 
+/// The literal of a bit of a row.
+fn literal_of(row: &[Lit], bit: usize) -> Lit
+    requires { bit < length row.now }
+    ensures { result ≡ slice_index row.now bit }
+{
+    row[bit]
+}
+
 /// Adds the outputs of a row: one of each literal, the lowest bit first.
 fn push_row(row: &[Lit], circuit: &mut Circuit) -> Result<(), LowerFault>
     requires defined { All (IsDefined (net circuit.old)) row.now }
@@ -46,8 +54,8 @@ fn push_row(row: &[Lit], circuit: &mut Circuit) -> Result<(), LowerFault>
     ensures ok { OnOk result (circuit.new ≡ record circuit.old { outputs = circuit.old.outputs ++ row.now }) }
     ensures err { IfErr result (λ e. e ≡ fault.NoMemory) }
 {
-    for i in 0..row.len() {
-        push_output(row[i], circuit)?;
+    for bit in 0..row.len() {
+        push_output(literal_of(row, bit), circuit)?;
     }
     Ok(())
 }
