@@ -14,3 +14,4 @@ mod PlacesLemmas
 mod LooseTraceLemmas
 mod NumbersLemmas
 mod UndefinedLemmas
+mod CompleteLemmas

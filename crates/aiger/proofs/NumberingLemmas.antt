@@ -93,7 +93,7 @@ walk_on l j k u (i, (r, around)) =
     (i, (inr on, around))
 
 -- one mark more
-mark_more : (marks : List Bool) (k : ℕ) → k < length marks → slice_index_or marks k false ≡ false → count_by not (slice_set marks k true) + 1 ≡ count_by not marks
+pub mark_more : (marks : List Bool) (k : ℕ) → k < length marks → slice_index_or marks k false ≡ false → count_by not (slice_set marks k true) + 1 ≡ count_by not marks
 mark_more marks k low t =
     let s : count_by not (slice_set marks k true) + cond (not (slice_index_or marks k false)) 1 0 ≡ count_by not marks + 0 = sum_by-set (λ (b : Bool). cond (not b) 1 0) marks k true false low in
     let u : ◌≡◌ {A = ℕ} (cond (not (slice_index_or marks k false)) 1 0) 1 = ap (λ (b : Bool). cond (not b) 1 0) t in
@@ -127,17 +127,18 @@ walk l order known stuck (suc fuel) marks j few count low new reach =
     by k u true t rest = walk_back l j k u (reach k t)
     by k u false t rest = walk_on l j k u (rest t)
 
+-- at first none is marked
+pub none_marked : (n i : ℕ) → slice_index_or (replicate n false) i false ≡ false
+none_marked zero i = refl
+none_marked (suc n) zero = refl
+none_marked (suc n) (suc i) = none_marked n i
+
 -- a gate without a number, where none is ready, leads to a cycle
 pub leads_to_cycle : (l : Loose) (order : List ℕ) (j : ℕ) → AllKnown l → ((i : ℕ) → is_ready l order i ≡ false) → j < length l.gates → list_any (nat_eq j) order ≡ false → LeadsToCycle l j
 leads_to_cycle l order j known stuck low new =
     let marks : List Bool = replicate (length l.gates) false in
     let reach : (i : ℕ) → slice_index_or marks i false ≡ true → Reaches l i j = λ i t. absurd (let z : true ≡ false = sym t ∙ none_marked (length l.gates) i in cc) in
     walk l order known stuck (count_by not marks) marks j (omega arith) (length-replicate (length l.gates) false) low new reach
-  where
-    none_marked : (n i : ℕ) → slice_index_or (replicate n false) i false ≡ false
-    none_marked zero i = refl
-    none_marked (suc n) zero = refl
-    none_marked (suc n) (suc i) = none_marked n i
 
 -- the first gate without a number is the first that leads to a cycle
 pub first_cyclic : (l : Loose) (order : List ℕ) (g : ℕ) → IsLoose l → AllKnown l → AreInTurn l [] order → ((i : ℕ) → is_ready l order i ≡ false) → g < length l.gates → list_any (nat_eq g) order ≡ false → ((i : ℕ) → i < g → list_any (nat_eq i) order ≡ true) → IsFirstCyclic l g

@@ -83,6 +83,10 @@ named_toggler =
       outputs = 10 ∷ [];
     }
 
+-- the circuit that it is as numbered: a latch that may begin with either bit
+abbrev pub toggler_of_any : Circuit
+toggler_of_any = record toggler { latches = record { next = 3; reset = Free } ∷ []; outputs = 2 ∷ []; bads = [] }
+
 -- its variable is 0, and 1
 abbrev pub named_off : Valuation
 named_off k = false
@@ -98,4 +102,44 @@ unknown =
       outputs = 3 ∷ 1 ∷ [];
       justice = [] ∷ (2 ∷ 9 ∷ []) ∷ [];
       gates = record { lhs = 4; rhs0 = 2; rhs1 = 7 } ∷ [];
+    }
+
+-- a gate of which no other has the variable, one that has its own variable in both operands, and one between them
+abbrev pub led : Loose
+led =
+    record empty_loose {
+      inputs = 2 ∷ [];
+      gates = record { lhs = 8; rhs0 = 6; rhs1 = 2 } ∷ record { lhs = 4; rhs0 = 4; rhs1 = 2 } ∷ record { lhs = 6; rhs0 = 4; rhs1 = 2 } ∷ [];
+    }
+
+-- inputs whose variables are numbered against the order of their lines, one of them the greatest there is; the output is the one that stands first
+abbrev pub far : Loose
+far = record empty_loose { inputs = 2147483648 ∷ 2 ∷ []; outputs = 2147483648 ∷ [] }
+
+-- an input, a literal of each section, and a name
+abbrev pub of_each : Loose
+of_each =
+    record empty_loose {
+      inputs = 6 ∷ [];
+      outputs = 6 ∷ [];
+      bads = 7 ∷ [];
+      constraints = 1 ∷ [];
+      justice = (6 ∷ []) ∷ [];
+      fair = 7 ∷ [];
+      names = ((0, 0), 97 ∷ []) ∷ [];
+    }
+
+-- the circuit that it is as numbered
+abbrev pub of_each_numbered : Circuit
+of_each_numbered =
+    record {
+      inputs = 1;
+      latches = [];
+      gates = [];
+      outputs = 2 ∷ [];
+      bads = 3 ∷ [];
+      constraints = 1 ∷ [];
+      justice = (2 ∷ []) ∷ [];
+      fair = 3 ∷ [];
+      names = ((0, 0), 97 ∷ []) ∷ [];
     }

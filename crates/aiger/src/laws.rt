@@ -9,8 +9,8 @@ ghost use Rattle.aiger.specs.declared.fault.CircuitFault.TheVariants.{LiteralOut
 ghost use Rattle.aiger.specs.Loose.{Loose, IsLoose, HasDefinitions, empty_loose, with_input_line, line_refusal, use_refusal};
 ghost use Rattle.aiger.specs.LooseTrace.{IsLooseTrace};
 ghost use Rattle.aiger.specs.LooseObserved.{AllShowSame};
-ghost use Rattle.aiger.specs.Renumbering.{IsRenumbered, IsOrder, LeadsToCycle, IsFirstCyclic, first_undefined, renumbered};
-ghost use Rattle.aiger.specs.Worked.{toggler, off, on, one_gate, crossed, backwards, straight, looped, unknown, named_toggler, named_off, named_on};
+ghost use Rattle.aiger.specs.Renumbering.{IsRenumbered, IsOrder, LeadsToCycle, DependsOn, IsFirstCyclic, first_undefined, renumbered};
+ghost use Rattle.aiger.specs.Worked.{toggler, off, on, one_gate, crossed, backwards, straight, looped, led, far, of_each, of_each_numbered, toggler_of_any, unknown, named_toggler, named_off, named_on};
 
 use crate::literal::Lit;
 
@@ -42,22 +42,23 @@ pub fn names_in_any_order()
 pub fn renumbered_traces()
     // The file has a trace.
     ensures exists { (l : Loose) (c : Circuit) (state : List Bool) (inputs : List (List Bool))
-        → IsLoose l → IsRenumbered l c → IsCircuit c
-        → length state ≡ length l.latches
+        → IsLoose l → IsRenumbered l c → length state ≡ length l.latches
         → All (λ input. length input ≡ length l.inputs) inputs
         → (vs : List Valuation) × IsLooseTrace l state inputs vs }
     // Each of its traces shows what a trace of the circuit shows.
     ensures same { (l : Loose) (c : Circuit) (state : List Bool) (inputs : List (List Bool)) (vs ws : List Valuation)
-        → IsRenumbered l c → IsCircuit c → IsLooseTrace l state inputs vs → IsTrace c state inputs ws
+        → IsLoose l → IsRenumbered l c → IsLooseTrace l state inputs vs → IsTrace c state inputs ws
         → AllShowSame l c vs ws }
     // The latches begin alike.
     ensures resets { (l : Loose) (c : Circuit) → IsRenumbered l c
         → map (λ latch. latch.reset) c.latches ≡ map (λ line. line.reset) l.latches }
 {}
 
-/// A file is one circuit as numbered at most, and then none of its gates leads to a cycle. It does
-/// nothing: its contract is the law.
+/// A file is a circuit as numbered exactly where each variable that it uses is defined and none of
+/// its gates leads to a cycle, and then it is one alone. It does nothing: its contract is the law.
 pub fn one_renumbering()
+    ensures exists { (l : Loose) → first_undefined l ≡ None → ((j : ℕ) → j < length l.gates → ¬ LeadsToCycle l j) → (c : Circuit) × IsRenumbered l c }
+    ensures circuit { (l : Loose) (c : Circuit) → IsLoose l → IsRenumbered l c → IsCircuit c }
     ensures unique { (l : Loose) (c d : Circuit) → IsRenumbered l c → IsRenumbered l d → c ≡ d }
     ensures no_cycle { (l : Loose) (c : Circuit) (j : ℕ) → IsLoose l → IsRenumbered l c → j < length l.gates → ¬ LeadsToCycle l j }
 {}
@@ -104,6 +105,12 @@ pub fn worked_renumbering()
     ensures undefined { first_undefined unknown ≡ Some 3 }
     // Each of two gates that use each other depends on itself.
     ensures cycle { IsFirstCyclic looped 0 }
+    // A gate that leads to the cycle of another one and is on none itself.
+    ensures led { IsFirstCyclic led 0 × (¬ DependsOn led 0 0) × DependsOn led 1 1 }
+    // The number of a variable comes from its line alone.
+    ensures far { (renumbered far []).outputs ≡ 2 ∷ [] }
+    ensures alone { renumbered named_toggler [] ≡ toggler_of_any }
+    ensures of_each { IsRenumbered of_each of_each_numbered }
     // A variable that is defined twice, and a defining literal that is odd.
     ensures twice { ¬ HasDefinitions (with_input_line (with_input_line empty_loose 4) 4) }
     ensures odd { line_refusal empty_loose 5 [] ≡ Some LiteralOutOfRange }

@@ -90,8 +90,9 @@ impl Loose {
         let leaves = self.inputs().len() + self.latches().len();
         let mut slots = Vec::with_capacity(alloc, 2 * self.gates().len())?;
         for line in self.gates() {
-            slots.push(numbers.slot(leaves, line.rhs0))?;
-            slots.push(numbers.slot(leaves, line.rhs1))?;
+            let (first, second) = numbers.operand_slots(leaves, *line);
+            slots.push(first)?;
+            slots.push(second)?;
         }
         Ok(slots)
     }

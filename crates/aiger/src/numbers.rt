@@ -108,9 +108,17 @@ impl Numbers {
         }
     }
 
+    /// What the operands of a gate wait for.
+    pub fn operand_slots(&self, leaves: usize, line: GateLine) -> (u32, u32)
+        requires { length self.now ≤ greatest_count }
+        ensures { result ≡ (slot_of self.now leaves line.rhs0, slot_of self.now leaves line.rhs1) }
+    {
+        (self.slot(leaves, line.rhs0), self.slot(leaves, line.rhs1))
+    }
+
     /// What a literal waits for, where so many first variables are no gates': 0 for nothing, or the
     /// gate's position and 1.
-    pub fn slot(&self, leaves: usize, lit: Lit) -> u32
+    fn slot(&self, leaves: usize, lit: Lit) -> u32
         requires { length self.now ≤ greatest_count }
         ensures { result ≡ slot_of self.now leaves lit }
     {

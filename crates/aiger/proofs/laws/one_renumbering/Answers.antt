@@ -1,6 +1,7 @@
 use Rattle.std.proofs.Common.{[], ap, sym, ◌∙◌}
 use Rattle.aiger.specs.Renumbering.{renumbered}
 use Rattle.aiger.proofs.OrderLemmas.{same_order, no_cycle}
+use Rattle.aiger.proofs.CompleteLemmas.{has_renumbering, is_circuit}
 use Rattle.aiger.proofs.laws.one_renumbering.Goals as goal
 
 pub returns-clause-unique : goal.returns-clause-unique
@@ -9,3 +10,9 @@ returns-clause-unique x l c d one two =
 
 pub returns-clause-no_cycle : goal.returns-clause-no_cycle
 returns-clause-no_cycle x l c j valid one h = no_cycle l one.order j valid one.is_order.in_turn (one.is_order.all j h)
+
+pub returns-clause-exists : goal.returns-clause-exists
+returns-clause-exists x = has_renumbering
+
+pub returns-clause-circuit : goal.returns-clause-circuit
+returns-clause-circuit x = is_circuit

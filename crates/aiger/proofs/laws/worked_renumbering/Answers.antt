@@ -1,10 +1,11 @@
-use Rattle.std.proofs.Common.{rules, ◌≡◌, ◌<◌, ℕ, zero, suc, true, false, [], ◌∷◌, inl, refl, arith, nat_eq}
+use Rattle.std.proofs.Common.{rules, ◌≡◌, ◌<◌, ℕ, zero, suc, true, false, List, [], ◌∷◌, ◌⊎◌, inl, inr, refl, arith, nat_eq, ⊎_elim}
 use Rattle.std.specs.List.{list_any}
-use Rattle.aiger.specs.Renumbering.{is_ready, Uses}
+use Rattle.aiger.specs.Renumbering.{is_ready, Uses, LeadsAlong, gate_line}
+use Rattle.aiger.specs.Literal.{variable}
 use Rattle.std.specs.List.Sorted.{IsStrictlySortedBy}
 use Rattle.std.proofs.lemmas.List.Elements.{All-nil}
 use Rattle.aiger.specs.Circuit.{IsNamed, HasFew, HasDefined, net}
-use Rattle.aiger.specs.Worked.{crossed, backwards, straight, looped}
+use Rattle.aiger.specs.Worked.{crossed, backwards, straight, looped, led}
 use Rattle.aiger.proofs.laws.worked_renumbering.Goals as goal
 
 -- what holds of 0 holds of each number below 1
@@ -61,3 +62,45 @@ returns-clause-cycle c =
 
 pub returns-clause-twice : goal.returns-clause-twice
 returns-clause-twice c d = omega (arith, d.once 2)
+
+-- and what holds of 0, 1 and 2 of each number below 3
+below_three : (P : ℕ → Type 0) → P 0 → P 1 → P 2 → (i : ℕ) → i < 3 → P i
+below_three P p q r zero h = p
+below_three P p q r (suc zero) h = q
+below_three P p q r (suc (suc zero)) h = r
+below_three P p q r (suc (suc (suc i))) h = absurd (omega arith)
+
+-- no gate has the variable of the one that leads to the cycle
+none_uses : (j : ℕ) → ¬ Uses led j 0
+none_uses j u =
+    below_three (λ i. (variable (gate_line led i).rhs0 ≡ 4) ⊎ (variable (gate_line led i).rhs1 ≡ 4) → ⊥)
+    (λ o. ⊎_elim (λ (e : 3 ≡ 4). omega (arith, e)) (λ (e : 1 ≡ 4). omega (arith, e)) o)
+    (λ o. ⊎_elim (λ (e : 2 ≡ 4). omega (arith, e)) (λ (e : 1 ≡ 4). omega (arith, e)) o)
+    (λ o. ⊎_elim (λ (e : 2 ≡ 4). omega (arith, e)) (λ (e : 1 ≡ 4). omega (arith, e)) o)
+    j u.user u.operand
+
+none_leads : (j : ℕ) (through : List ℕ) → LeadsAlong led j through 0 → ⊥
+none_leads j [] u = none_uses j u
+none_leads j (k ∷ ks) u = none_leads k ks u.1
+
+pub returns-clause-led : goal.returns-clause-led
+returns-clause-led c =
+    let one : Uses led 0 2 = record { user = omega arith; used = omega arith; operand = inl refl } in
+    let two : Uses led 2 1 = record { user = omega arith; used = omega arith; operand = inl refl } in
+    let own : Uses led 1 1 = record { user = omega arith; used = omega arith; operand = inl refl } in (
+      record {
+        leads = (1, (inr (2 ∷ [], (one, two)), ([], own)));
+        first = λ i h. absurd (omega arith);
+      },
+      (λ d. none_leads 0 d.0 d.1),
+      ([], own),
+    )
+
+pub returns-clause-of_each : goal.returns-clause-of_each
+returns-clause-of_each c =
+    record {
+      known = refl;
+      order = [];
+      is_order = record { in_turn = tt; all = λ j h. absurd (omega arith) };
+      circuit = refl;
+    }

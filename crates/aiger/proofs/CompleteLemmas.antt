@@ -1,0 +1,92 @@
+-- Orders: none is longer than the file has gates, there is one that cannot go on, and without cycles it is complete.
+use Rattle.std.proofs.Common.{◌≡◌, ℕ, zero, suc, ◌+◌, ◌<◌, ◌≤◌, Bool, true, false, not, List, [], ◌∷◌, ◌++◌, length, replicate, ◌⊎◌, inl, inr, None, nat_eq, slice_index_or, slice_set, sym, ◌∙◌, subst, refl, arith, length-append, ⊎_elim}
+use Rattle.std.proofs.lemmas.Bool.Decides.{nat_tests}
+use Rattle.std.proofs.lemmas.Bool.{cases_order}
+use Rattle.std.proofs.lemmas.List.{length-set, get_or-set_other, length-replicate}
+use Rattle.std.proofs.lemmas.List.Folds.{list_any-append}
+use Rattle.std.proofs.lemmas.List.Sums.{count_by-le-length}
+use Rattle.std.specs.List.{list_any, count_by}
+use Rattle.aiger.specs.Circuit.{Circuit, IsCircuit}
+use Rattle.aiger.specs.Loose.{Loose, IsLoose}
+use Rattle.aiger.specs.Renumbering.{first_undefined, is_ready, AreInTurn, IsOrder, IsRenumbered, LeadsToCycle, renumbered}
+use Rattle.aiger.proofs.OrderLemmas.{ready_parts, false_unless, AreInTurn-push}
+use Rattle.aiger.proofs.KnownLemmas.{all_known}
+use Rattle.aiger.proofs.NumberingLemmas.{mark_more, none_marked, leads_to_cycle, IsCircuit-renumbered}
+
+-- gates in turn are no more than those that are not marked
+few_in_turn : (l : Loose) (done js : List ℕ) (marks : List Bool) → AreInTurn l done js → length marks ≡ length l.gates
+    → ((i : ℕ) → slice_index_or marks i false ≡ true → list_any (nat_eq i) done ≡ true) → length js ≤ count_by not marks
+few_in_turn l done [] marks turn count marked = omega arith
+few_in_turn l done (j ∷ js) marks turn count marked =
+    let r = ready_parts l done j turn.0.ready in
+    let free : slice_index_or marks j false ≡ false = false_unless (slice_index_or marks j false) (λ t. let z : true ≡ false = sym (marked j t) ∙ r.1 in cc) in
+    let low : j < length marks = omega (arith, count, r.0) in
+    let more : (i : ℕ) → slice_index_or (slice_set marks j true) i false ≡ true → list_any (nat_eq i) (done ++ j ∷ []) ≡ true = λ i t.
+    ⊎_elim (λ (same : i ≡ j). let e = list_any-append (nat_eq i) done (j ∷ []) in let s : nat_eq i j ≡ true = grind (arith, nat_tests) in grind (arith, nat_tests, e, s))
+    (λ (o : (i < j) ⊎ (j < i)).
+    let other : i ≡ j → ⊥ = λ x. ⊎_elim (λ (h : i < j). omega arith) (λ (h : j < i). omega arith) o in
+    let before : list_any (nat_eq i) done ≡ true = marked i (sym (get_or-set_other marks j i true false other) ∙ t) in
+    let e = list_any-append (nat_eq i) done (j ∷ []) in
+    grind (arith, nat_tests, e, before))
+    (cases_order i j) in
+    omega (arith, few_in_turn l (done ++ j ∷ []) js (slice_set marks j true) turn.1 (length-set marks j true ∙ count) more, mark_more marks j low free)
+
+pub few_in_order : (l : Loose) (order : List ℕ) → AreInTurn l [] order → length order ≤ length l.gates
+few_in_order l order turn =
+    let marks : List Bool = replicate (length l.gates) false in
+    omega (arith, few_in_turn l [] order marks turn (length-replicate (length l.gates) false) (λ i t. let z : true ≡ false = sym t ∙ none_marked (length l.gates) i in absurd (cc)), count_by-le-length not marks, length-replicate (length l.gates) false)
+
+-- what a file is as numbered is a circuit
+pub is_circuit : (l : Loose) (c : Circuit) → IsLoose l → IsRenumbered l c → IsCircuit c
+is_circuit l c valid is =
+    subst IsCircuit (sym is.circuit) (IsCircuit-renumbered l is.order valid (all_known l is.known) is.is_order (few_in_order l is.order is.is_order.in_turn))
+
+-- the least number below a bound that passes, or none does
+least_below : (p : ℕ → Bool) (n : ℕ) → ((j : ℕ) × ((p j ≡ true) × ((i : ℕ) → i < j → p i ≡ false))) ⊎ ((i : ℕ) → i < n → p i ≡ false)
+least_below p zero = inr (λ i h. absurd (omega arith))
+least_below p (suc n) =
+    ⊎_elim (λ f. inl f) (λ none. by none (p n) refl) (least_below p n)
+  where
+    by : ((i : ℕ) → i < n → p i ≡ false) → (b : Bool) → p n ≡ b → ((j : ℕ) × ((p j ≡ true) × ((i : ℕ) → i < j → p i ≡ false))) ⊎ ((i : ℕ) → i < suc n → p i ≡ false)
+    by none true e = inl (n, (e, none))
+    by none false e = inr (λ i h. ⊎_elim (λ (s : i ≡ n). subst (λ (k : ℕ). p k ≡ false) (sym s) e) (λ (o : (i < n) ⊎ (n < i)). ⊎_elim (λ (low : i < n). none i low) (λ (high : n < i). absurd (omega arith)) o) (cases_order i n))
+
+-- gates in turn that cannot go on
+abbrev Ends : Loose → Type 0
+Ends l = (order : List ℕ) × (AreInTurn l [] order × ((j : ℕ) → is_ready l order j ≡ false))
+
+-- where none of the file's gates is ready, no number is
+none_at_all : (l : Loose) (order : List ℕ) → ((i : ℕ) → i < length l.gates → is_ready l order i ≡ false) → (j : ℕ) → is_ready l order j ≡ false
+none_at_all l order none j =
+    false_unless (is_ready l order j) (λ t. let z : true ≡ false = sym t ∙ none j (ready_parts l order j t).0 in cc)
+
+-- gates in turn go on until none is ready
+goes_on : (l : Loose) (fuel : ℕ) (order : List ℕ) → AreInTurn l [] order → length l.gates ≤ fuel + length order → Ends l
+goes_on l zero order turn enough =
+    ⊎_elim
+    (λ (f : (j : ℕ) × ((is_ready l order j ≡ true) × ((i : ℕ) → i < j → is_ready l order i ≡ false))).
+    let more : AreInTurn l [] (order ++ f.0 ∷ []) = AreInTurn-push l [] order f.0 turn (record { ready = f.1.0; first = f.1.1 }) in
+    absurd (omega (arith, few_in_order l (order ++ f.0 ∷ []) more, length-append order (f.0 ∷ []), enough)))
+    (λ (none : (i : ℕ) → i < length l.gates → is_ready l order i ≡ false). (order, (turn, none_at_all l order none)))
+    (least_below (is_ready l order) (length l.gates))
+goes_on l (suc fuel) order turn enough =
+    ⊎_elim
+    (λ (f : (j : ℕ) × ((is_ready l order j ≡ true) × ((i : ℕ) → i < j → is_ready l order i ≡ false))).
+    let more : AreInTurn l [] (order ++ f.0 ∷ []) = AreInTurn-push l [] order f.0 turn (record { ready = f.1.0; first = f.1.1 }) in
+    goes_on l fuel (order ++ f.0 ∷ []) more (omega (arith, length-append order (f.0 ∷ []), enough)))
+    (λ (none : (i : ℕ) → i < length l.gates → is_ready l order i ≡ false). (order, (turn, none_at_all l order none)))
+    (least_below (is_ready l order) (length l.gates))
+
+-- lists without undefined variables and without cycles are a circuit as numbered
+pub has_renumbering : (l : Loose) → first_undefined l ≡ None → ((j : ℕ) → j < length l.gates → ¬ LeadsToCycle l j) → (c : Circuit) × IsRenumbered l c
+has_renumbering l known free =
+    let ends : Ends l = goes_on l (length l.gates) [] tt (omega arith) in
+    let whole : IsOrder l ends.0 = record {
+      in_turn = ends.1.0;
+      all = λ j low. by (list_any (nat_eq j) ends.0) (λ new. free j low (leads_to_cycle l ends.0 j (all_known l known) ends.1.1 low new));
+    } in
+    (renumbered l ends.0, record { known = known; order = ends.0; is_order = whole; circuit = refl })
+  where
+    by : (b : Bool) → (b ≡ false → ⊥) → b ≡ true
+    by true h = refl
+    by false h = absurd (h refl)
