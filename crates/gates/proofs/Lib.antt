@@ -10,6 +10,7 @@ pub mod OrderLemmas
 pub mod OverflowLemmas
 pub mod CarryLemmas
 pub mod QuotientLemmas
+pub mod LostLemmas
 pub mod WideProductLemmas
 pub mod SignedDivisionLemmas
 pub mod SignedModuloLemmas

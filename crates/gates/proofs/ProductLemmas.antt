@@ -102,7 +102,7 @@ MakesWord-first_row old new n lit a b bits some wide same is masked =
     first)
 
 -- a product so far and a row more
-product_more : (a m k t p : ℕ) → (a * m % p + a * (k * t)) % p ≡ a * (m + k * t) % p
+pub product_more : (a m k t p : ℕ) → (a * m % p + a * (k * t)) % p ≡ a * (m + k * t) % p
 product_more a m k t p = mod-add-mod (a * m) p (a * (k * t)) ∙ ap (λ w. w % p) (omega arith)
 
 -- each further row is the product with one bit more

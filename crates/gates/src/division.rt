@@ -35,7 +35,7 @@ struct Row {
 /// A literal that is true where a word has a bit at a place or above it.
 ///
 /// It goes from the highest place down, so that a maker that makes no gate twice makes those of all places once.
-fn has_bit_from<G: Gates>(g: &mut G, a: &Bits, from: usize) -> Result<Lit, GateFault>
+pub(crate) fn has_bit_from<G: Gates>(g: &mut G, a: &Bits, from: usize) -> Result<Lit, GateFault>
     requires most { length a.now.items ≤ 64 }
     requires inside { from ≤ length a.now.items }
     requires defined { All (IsDefined (G.made g.old)) a.now.items }

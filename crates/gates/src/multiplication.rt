@@ -1,14 +1,15 @@
 //! Products of words: a row for each bit of the second operand, added up.
-ghost use Rattle.std.specs.Prelude.{◌≡◌, ◌+◌, ◌*◌, ◌%◌, ◌^◌, ◌≤◌, length, All, IfOk, IfErr};
-ghost use Rattle.aiger.specs.Literal.{Valuation};
+ghost use Rattle.std.specs.Prelude.{◌≡◌, ◌+◌, ◌*◌, ◌%◌, ◌^◌, ◌<◌, ◌≤◌, ◌||◌, nat_le, length, All, IfOk, IfErr};
+ghost use Rattle.aiger.specs.Literal.{Valuation, literal_value};
 ghost use Rattle.aiger.specs.Net.{Net, IsDefined};
 ghost use Rattle.gates.specs.Operands.{AreOperands};
-ghost use Rattle.gates.specs.Made.{MakesWord, Refuses, word_value};
+ghost use Rattle.gates.specs.Made.{MakesLiteral, MakesWord, Refuses, word_value};
 ghost use Rattle.gates.specs.Sums.{literal_number};
 
-use crate::adders::sum_bits;
+use crate::adders::{add, sum_bits};
+use crate::division::has_bit_from;
 use crate::fault::GateFault;
-use crate::literals::conjunction;
+use crate::literals::{conjunction, disjunction};
 use crate::maker::{Bits, Gates};
 use aiger::Lit;
 
@@ -76,6 +77,63 @@ pub fn mul<G: Gates>(g: &mut G, a: &Bits, b: &Bits) -> Result<Bits, GateFault>
     let mut product = masked(g, a, b[0])?;
     for place in 1..b.len() {
         product = with_row(g, &product, a, place, b[place])?;
+    }
+    Ok(product)
+}
+
+/// A product within its width, and whether a part of it is above.
+#[derive(Drop)]
+pub(crate) struct Product {
+    /// The product modulo 2 to the width.
+    pub(crate) bits: Bits,
+    /// Whether the product is no word of the width.
+    pub(crate) lost: Lit,
+}
+
+/// A sum so far and the row of one bit, as `with_row`, and whether their whole sum is no word of the width, or was
+/// none before: the row has a bit above the width, or the sum has a carry.
+fn with_whole_row<G: Gates>(
+    g: &mut G,
+    so_far: &Product,
+    a: &Bits,
+    place: usize,
+    lit: Lit,
+) -> Result<Product, GateFault>
+    requires operands { AreOperands (G.made g.old) 64 a.now.items so_far.now.bits.items }
+    requires lost { IsDefined (G.made g.old) so_far.now.lost }
+    requires some { 1 ≤ place }
+    requires inside { place < length a.now.items }
+    requires literal { IsDefined (G.made g.old) lit }
+    ensures bits { IfOk result (λ product. let n = length a.now.items in MakesWord (G.made g.old) (G.made g.new) (12 * n) n (λ v. (word_value v so_far.now.bits.items + word_value v a.now.items * (2 ^ place * literal_number v lit)) % 2 ^ n) product.bits.items) }
+    ensures lost { IfOk result (λ product. let n = length a.now.items in MakesLiteral (G.made g.old) (G.made g.new) (12 * n) (λ v. literal_value v so_far.now.lost || nat_le (2 ^ n) (word_value v so_far.now.bits.items + word_value v a.now.items * (2 ^ place * literal_number v lit))) product.lost) }
+    ensures refused { IfErr result (Refuses (G.made g.old) (G.made g.new) (12 * length a.now.items)) }
+{
+    let row = masked(g, &raised(a, place), lit)?;
+    let sum = add(g, &so_far.bits, &row, Lit::FALSE)?;
+    let above = has_bit_from(g, a, a.len() - place)?;
+    let cut = conjunction(g, above, lit)?;
+    let more = disjunction(g, cut, sum.out)?;
+    let lost = disjunction(g, so_far.lost, more)?;
+    Ok(Product {
+        bits: sum.sum,
+        lost,
+    })
+}
+
+/// The bits of the product of two words, and whether it is no word of the width.
+pub(crate) fn whole_product<G: Gates>(g: &mut G, a: &Bits, b: &Bits) -> Result<Product, GateFault>
+    requires { AreOperands (G.made g.old) 64 a.now.items b.now.items }
+    ensures bits { IfOk result (λ product. let n = length a.now.items in MakesWord (G.made g.old) (G.made g.new) (12 * (n * n)) n (λ v. word_value v a.now.items * word_value v b.now.items % 2 ^ n) product.bits.items) }
+    ensures lost { IfOk result (λ product. let n = length a.now.items in MakesLiteral (G.made g.old) (G.made g.new) (12 * (n * n)) (λ v. nat_le (2 ^ n) (word_value v a.now.items * word_value v b.now.items)) product.lost) }
+    ensures refused { IfErr result (let n = length a.now.items in Refuses (G.made g.old) (G.made g.new) (12 * (n * n))) }
+{
+    let bits = masked(g, a, b[0])?;
+    let mut product = Product {
+        bits,
+        lost: Lit::FALSE,
+    };
+    for place in 1..b.len() {
+        product = with_whole_row(g, &product, a, place, b[place])?;
     }
     Ok(product)
 }

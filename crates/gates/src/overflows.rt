@@ -16,7 +16,7 @@ use crate::comparisons::{less, less_column, top_negated};
 use crate::fault::GateFault;
 use crate::literals::{conjunction, xor};
 use crate::maker::{Bits, Gates};
-use crate::multiplication::mul;
+use crate::multiplication::{mul, whole_product};
 use aiger::Lit;
 use base::Binary;
 
@@ -144,15 +144,14 @@ fn wide_product<G: Gates>(
     mul(g, &doubled(a, above_a), &doubled(b, above_b))
 }
 
-/// Whether the product of words as whole numbers is no word: a bit of its upper half is 1.
+/// Whether the product of words as whole numbers is no word.
 fn umulo<G: Gates>(g: &mut G, a: &Bits, b: &Bits) -> Result<Lit, GateFault>
     requires { AreOperands (G.made g.old) 64 a.now.items b.now.items }
     ensures ok { IfOk result (λ l. let n = length a.now.items in MakesWord (G.made g.old) (G.made g.new) (40 * (n * n) + n) 1 (λ v. binary_value Binary.Umulo n (word_value v a.now.items) (word_value v b.now.items)) (l ∷ [])) }
     ensures refused { IfErr result (let n = length a.now.items in Refuses (G.made g.old) (G.made g.new) (40 * (n * n) + n)) }
 {
-    let product = wide_product(g, a, Lit::FALSE, b, Lit::FALSE)?;
-    let high = high_bits(&product, a.len());
-    connect_bits(g, Connective::Or, high.as_slice())
+    let product = whole_product(g, a, b)?;
+    Ok(product.lost)
 }
 
 /// Whether the product of signed numbers is none of the width: a bit of its upper half is not the sign of its lower half.

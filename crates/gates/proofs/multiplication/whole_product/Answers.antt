@@ -1,0 +1,26 @@
+use Rattle.std.proofs.Common.{◌*◌, length, refl, arith}
+use Rattle.gates.proofs.BitListLemmas.{MakesWord-weaker}
+use Rattle.gates.proofs.ProductLemmas.{MakesWord-first_row}
+use Rattle.gates.proofs.LostLemmas.{MakesLiteral-first_row, MakesWord-next_whole_row, MakesLiteral-next_row}
+use Rattle.gates.proofs.multiplication.whole_product.Goals as goal
+
+pub loop-place-init : goal.loop-place-init
+loop-place-init g c =
+    let n = length c.args.a.now.items in
+    let bits = c.in_ok-bits.bits.items in
+    record {
+      bits = MakesWord-weaker _ _ (10 * (n * 1)) (12 * (n * 1)) n _ bits (omega arith)
+          (MakesWord-first_row _ _ _ c.index-deref-0.result c.args.a.now.items c.args.b.now.items bits c.requires.some refl c.requires.equal (cc) c.in_ok-bits.ensures.ok);
+      lost = MakesLiteral-first_row _ _ _ (12 * (n * 1)) c.index-deref-0.result c.args.a.now.items c.args.b.now.items bits c.requires.some refl c.requires.equal (cc) (omega arith) c.in_ok-bits.ensures.ok;
+    }
+
+pub loop-place-preserved : goal.loop-place-preserved
+loop-place-preserved g c =
+    let so_far = c.loop-place.product in
+    let next = c.in_ok-product.product in
+    record {
+      bits = MakesWord-next_whole_row _ _ _ _ c.loop-place.place c.index-deref-place.result c.args.a.now.items c.args.b.now.items so_far.bits.items next.bits.items
+          c.requires.equal (omega arith) (cc) c.loop-place.invariant.bits c.in_ok-product.ensures.bits;
+      lost = MakesLiteral-next_row _ _ _ _ c.loop-place.place c.index-deref-place.result so_far.lost next.lost c.args.a.now.items c.args.b.now.items so_far.bits.items
+          c.requires.equal (omega arith) (cc) c.loop-place.invariant.bits c.loop-place.invariant.lost c.in_ok-product.ensures.lost;
+    }
