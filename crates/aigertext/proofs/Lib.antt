@@ -25,3 +25,5 @@ mod TakeLemmas
 mod ListLemmas
 mod NamingLemmas
 mod SectionReadLemmas
+mod WhyLemmas
+mod AnswerLemmas

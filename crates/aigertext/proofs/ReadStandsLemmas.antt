@@ -22,7 +22,8 @@ use Rattle.aigertext.proofs.HeaderBackLemmas.{HeaderBack, header-back, AreCounts
 use Rattle.aigertext.proofs.LatchBackLemmas.{AreLatchesAt, nexts-back}
 use Rattle.aigertext.proofs.NameBackLemmas.{names-back}
 use Rattle.aigertext.proofs.NameReadLemmas.{HasFewPositions}
-use Rattle.aigertext.proofs.StandsLemmas.{unread, property_text}
+use Rattle.aigertext.specs.Passes.{unread}
+use Rattle.aigertext.proofs.StandsLemmas.{property_text}
 
 -- ---- lists of given sizes
 

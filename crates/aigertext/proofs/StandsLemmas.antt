@@ -11,7 +11,6 @@ use Rattle.aiger.specs.Circuit.{Circuit, IsCircuit, net}
 use Rattle.aiger.proofs.SectionNameLemmas.{few_positions}
 use Rattle.aigertext.specs.declared.counts.Counts.{Counts}
 use Rattle.aigertext.specs.declared.fault.Stop.{Stop}
-use Rattle.aigertext.specs.declared.fault.Why.TheVariants as why
 use Rattle.aigertext.specs.Ascii.{property_lines, literal_lines, size_lines}
 use Rattle.aigertext.specs.Binary.{gate_deltas}
 use Rattle.aigertext.specs.Spelling.{IsBinaryText}
@@ -108,10 +107,6 @@ stands-read ascii text c t =
     let behind = t.latches ++ (property_lines c ++ (gate_deltas (suc (c.inputs + length c.latches)) c.gates ++ t.end)) in
     let header = header-read c t.header behind t.is_header t.valid in
     ap (text_on ascii) t.whole ∙ (rw header (body-read c text t))
-
--- what a text of the ascii form is read as does not matter for binary ones: it may be left unread
-abbrev pub unread : Counts → List ℕ → Result Circuit Stop
-unread h text = Err (record { left = length text; why = why.BadHeader })
 
 -- two circuits that are read are the same, and none is a stop
 abbrev circuit_or : Circuit → Result Circuit Stop → Circuit

@@ -1,15 +1,17 @@
 -- Words between the parts of the reader, which goes over a text twice: what stands behind the lines that were looked at, and what a circuit has of those that were read.
-use Rattle.std.specs.Prelude.{◌≡◌, ℕ, zero, suc, ◌+◌, List, [], ◌∷◌, ◌++◌, Result, Ok, Err, ◌⊎◌}
+use Rattle.std.specs.Prelude.{◌≡◌, ℕ, zero, suc, ◌+◌, List, [], ◌∷◌, ◌++◌, length, Result, Ok, Err, ◌⊎◌}
 use Rattle.std.specs.List.{sum}
 use Rattle.aiger.specs.declared.circuit.Gate.{Gate}
 use Rattle.aiger.specs.declared.circuit.Latch.{Latch}
 use Rattle.aiger.specs.Circuit.{Circuit}
+use Rattle.aigertext.specs.declared.counts.Counts.{Counts}
+use Rattle.aigertext.specs.declared.fault.ReadFault.{ReadFault}
 use Rattle.aigertext.specs.declared.fault.Stop.{Stop}
 use Rattle.aigertext.specs.declared.fault.Why.{Why}
 use Rattle.aigertext.specs.declared.fault.Why.TheVariants as why
 use Rattle.aigertext.specs.declared.literals.LiteralSection.{LiteralSection}
 use Rattle.aigertext.specs.declared.literals.LiteralSection.TheVariants.{Output, Bad, Constraint, Fair}
-use Rattle.aigertext.specs.Reading.{◌>>=◌, line_at, size_of, literals_at, delta_at, below, at_or_below, Properties, lists_of}
+use Rattle.aigertext.specs.Reading.{◌>>=◌, line_at, size_of, literals_at, delta_at, below, at_or_below, Properties, lists_of, text_on, fault_of}
 
 -- ---- the first pass: only what stands behind the lines
 
@@ -102,3 +104,25 @@ pub record HasNoProperties (c : Circuit) : Type 0 where
 abbrev pub with_properties : Circuit → Properties → Circuit
 with_properties c p =
     record c { outputs = p.outputs; bads = p.bads; constraints = p.constraints; justice = lists_of p.sizes p.listed; fair = p.fair }
+
+-- ---- whole texts
+
+-- a text of the ascii form, where only the binary form is read
+abbrev pub unread : Counts → List ℕ → Result Circuit Stop
+unread h text = Err (record { left = length text; why = why.BadHeader })
+
+-- reading a text of the binary form stops with this fault
+pub record IsFaultOf (text : List ℕ) (e : ReadFault) : Type 0 where
+  pub stop : Stop
+  pub stops : text_on unread text ≡ Err stop
+  pub is : e ≡ fault_of text stop
+
+-- a text was read as a circuit or has the fault, unless memory ran out
+abbrev pub ReadsText : List ℕ → Result Circuit ReadFault → Type 0
+ReadsText text (Ok c) = text_on unread text ≡ Ok c
+ReadsText text (Err e) = (e ≡ record { place = 0; why = why.NoMemory }) ⊎ IsFaultOf text e
+
+-- a text that stands for a circuit was read as it, where neither the device failed nor memory ran out
+abbrev pub GivesCircuit : Result Circuit ReadFault → Circuit → Type 0
+GivesCircuit (Ok d) c = d ≡ c
+GivesCircuit (Err e) c = (e.why ≡ why.Device) ⊎ (e.why ≡ why.NoMemory)

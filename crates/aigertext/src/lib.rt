@@ -25,6 +25,7 @@ mod naming;
 mod nexts;
 mod numbers;
 mod properties;
+mod reading;
 mod sections;
 
 pub use ascii::write_ascii;

@@ -1,5 +1,6 @@
 use Rattle.std.proofs.Common.{sym, ◌∙◌}
-use Rattle.aigertext.proofs.StandsLemmas.{stands-read, unread, ok_circuit}
+use Rattle.aigertext.specs.Passes.{unread}
+use Rattle.aigertext.proofs.StandsLemmas.{stands-read, ok_circuit}
 use Rattle.aigertext.proofs.laws.one_binary_circuit.Goals as goal
 
 pub returns-clause-read : goal.returns-clause-read

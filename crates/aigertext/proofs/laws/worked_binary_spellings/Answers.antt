@@ -7,7 +7,8 @@ use Rattle.aiger.specs.Circuit.{IsCircuit, IsNamed, HasFew, HasDefined, net}
 use Rattle.aigertext.specs.declared.fault.Why.TheVariants as why
 use Rattle.aigertext.specs.Worked.{one_output}
 use Rattle.aigertext.specs.Reading.{text_on, binary_at, properties_at, name_on, section_of, gate_at, delta_at, size_of, next_fields, literal_of, header_fields, form_of, fitting, counts_of, count_of, first_five, last_four, last_at, number_at}
-use Rattle.aigertext.proofs.StandsLemmas.{stands-read, unread, not_stopped}
+use Rattle.aigertext.specs.Passes.{unread}
+use Rattle.aigertext.proofs.StandsLemmas.{stands-read, not_stopped}
 use Rattle.aigertext.proofs.laws.worked_binary_spellings.Goals as goal
 
 is_circuit : IsCircuit one_output

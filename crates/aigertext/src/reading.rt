@@ -1,0 +1,88 @@
+//! Reading circuits.
+ghost use Rattle.std.specs.Prelude.{◌≡◌, ◌⊎◌, ℕ, List, Some, IfOk, IfErr, IfSome, OnOk};
+ghost use Rattle.std.specs.Io.KnownBytes.{IsAtEnd};
+ghost use Rattle.base.specs.Device.{HasRisen};
+ghost use Rattle.aiger.specs.Circuit.{Circuit as CircuitValue, IsCircuit};
+ghost use Rattle.aigertext.specs.Reading.{text_on, fault_of};
+ghost use Rattle.aigertext.specs.Spelling.{IsBinaryText};
+ghost use Rattle.aigertext.specs.Passes.{ReadsAs, ReadsText, GivesCircuit, IsFaultOf, unread};
+ghost use Rattle.aigertext.specs.declared.fault.Why.TheVariants as why;
+
+use crate::binary_reading::read_sections;
+use crate::fault::{ReadFault, Stop, Why};
+use crate::forms::Form;
+use crate::front::{header_line, stop};
+use aiger::Circuit;
+use base::{ReadAllFault, Source, read_all};
+use std::alloc::Global;
+
+/// The circuit that a text of the binary form spells; one of the ascii form is not read.
+#[tactic(auto, unfolding(crate::specs::Reading::text_on))]
+fn read_known(alloc: Global, text: &[u8]) -> Result<Circuit, Stop>
+    ensures reads { ReadsAs result (text_on unread text.now) }
+    ensures valid { IfOk result (λ c. IsCircuit c) }
+{
+    match header_line(text) {
+        Ok(((Form::Binary, counts), rest)) => read_sections(alloc, &counts, rest),
+        Ok(((Form::Ascii, _), rest)) => Err(stop(rest, Why::BadHeader)),
+        Err(stop) => Err(stop),
+    }
+}
+
+/// The fault of a text at which reading stopped; want of memory has place 0.
+fn fault(text: &[u8], stop: Stop) -> ReadFault
+    ensures full { stop.why ≡ why.NoMemory → result ≡ record { place = 0; why = why.NoMemory } }
+    ensures placed { ¬ (stop.why ≡ why.NoMemory) → result ≡ fault_of text.now stop }
+{
+    match stop.why {
+        Why::NoMemory => ReadFault {
+            place: 0,
+            why: Why::NoMemory,
+        },
+        why => ReadFault {
+            place: text.len().saturating_sub(stop.left) as u64,
+            why,
+        },
+    }
+}
+
+/// The circuit that a text of the binary form spells, or its fault.
+fn read_text(alloc: Global, text: &[u8]) -> Result<Circuit, ReadFault>
+    ensures reads { ReadsText text.now result }
+    ensures stands { IfOk result (λ c. IsBinaryText text.now c) }
+{
+    match read_known(alloc, text) {
+        Ok(circuit) => Ok(circuit),
+        Err(stop) => Err(fault(text, stop)),
+    }
+}
+
+/// The circuit that a source's bytes spell in the binary form.
+///
+/// Errors: `Device` where the source failed in this call and `NoMemory` where a growth was refused, with place 0;
+/// else the first why of the first line or delta that has one, at its place.
+pub(crate) fn read_binary<S: Source>(alloc: Global, source: &mut S) -> Result<Circuit, ReadFault>
+    // the text stands for what is read
+    ensures found { IfOk result (λ c. IfSome (S.to_come source.old) (λ text. IsBinaryText text c)) }
+    // every text that stands for a circuit is read as it, want of memory and device faults apart
+    ensures only { (text : List ℕ) (c : CircuitValue) → S.to_come source.old ≡ Some text → IsBinaryText text c → GivesCircuit result c }
+    // a fault that is neither is where reading stops
+    ensures fault { IfErr result (λ e. IfSome (S.to_come source.old) (λ text. (e.why ≡ why.Device) ⊎ ((e.why ≡ why.NoMemory) ⊎ IsFaultOf text e))) }
+    ensures end { OnOk result (IsAtEnd (S.to_come source.new)) }
+    ensures counted { OnOk result (S.failures source.new ≡ S.failures source.old) }
+    ensures device { IfErr result (λ e. e.why ≡ why.Device → HasRisen (S.failures source.old) (S.failures source.new)) }
+    ensures unfailed { IfErr result (λ e. ¬ (e.why ≡ why.Device) → S.failures source.new ≡ S.failures source.old) }
+    ensures place { IfErr result (λ e. (e.why ≡ why.Device) ⊎ (e.why ≡ why.NoMemory) → e.place ≡ 0) }
+{
+    match read_all(alloc, source) {
+        Ok(text) => read_text(alloc, text.as_slice()),
+        Err(ReadAllFault::Device) => Err(ReadFault {
+            place: 0,
+            why: Why::Device,
+        }),
+        Err(ReadAllFault::NoMemory) => Err(ReadFault {
+            place: 0,
+            why: Why::NoMemory,
+        }),
+    }
+}
