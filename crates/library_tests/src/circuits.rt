@@ -281,3 +281,42 @@ fn faults_of_numbering_are_printed(rt: HostRuntime) -> Result<(), Fail> {
     }
     Ok(())
 }
+
+/// An input 2, two justice properties with one literal in all, and gate lines.
+fn gate_lists(alloc: Global, gates: &[[u32; 3]]) -> Result<Loose, CircuitFault> {
+    let mut lines = Loose::new(alloc);
+    lines.push_input(Lit::new(2))?;
+    lines.push_justice(&[])?;
+    lines.push_justice(&[Lit::TRUE])?;
+    for [lhs, rhs0, rhs1] in gates {
+        lines.push_gate(Lit::new(*lhs), Lit::new(*rhs0), Lit::new(*rhs1))?;
+    }
+    Ok(lines)
+}
+
+#[test]
+fn gates_are_numbered(rt: HostRuntime) -> Result<(), Fail> {
+    // gates in reverse order, one that leads to the cycle of another, and one of an undefined variable
+    for (gates, fault) in [
+        ([[4, 6, 2], [6, 8, 2], [8, 2, 3]], None),
+        (
+            [[8, 6, 2], [4, 4, 2], [6, 4, 2]],
+            Some(LooseFault::Cycle(0)),
+        ),
+        (
+            [[4, 6, 2], [6, 3, 2], [8, 4, 10]],
+            Some(LooseFault::Undefined(3)),
+        ),
+    ] {
+        let lines = gate_lists(rt.alloc(), &gates)?;
+        assert!(rt; lines.number(rt.alloc()).err() == fault);
+    }
+    let lines = gate_lists(rt.alloc(), &[[4, 6, 2], [6, 8, 2], [8, 2, 3]])?;
+    let circuit = lines.number(rt.alloc())?;
+    for (gate, [rhs0, rhs1]) in circuit.gates().iter().zip([[3, 2], [4, 2], [6, 2]]) {
+        assert_eq!(rt; gate.rhs0.number(), rhs0);
+        assert_eq!(rt; gate.rhs1.number(), rhs1);
+    }
+    assert_eq!(rt; circuit.gates().len(), 3);
+    Ok(())
+}
