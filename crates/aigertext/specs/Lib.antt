@@ -3,6 +3,7 @@ pub mod Binary
 pub mod Whys
 pub mod Spelling
 pub mod Reading
+pub mod AsciiReading
 pub mod Counts
 pub mod Passes
 pub mod Worked

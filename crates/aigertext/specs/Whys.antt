@@ -1,7 +1,7 @@
 -- The numbers and names of what can be wrong with a circuit's text (they are this project's).
 use Rattle.std.specs.Prelude.{ℕ, List, codes}
 use Rattle.aigertext.specs.declared.fault.Why.{Why}
-use Rattle.aigertext.specs.declared.fault.Why.TheVariants.{BadHeader, CountsDisagree, BadNumber, BadLatch, GateOrder, DeltaNotShortest, DeltaTooLong, BadSymbol, Truncated, TooBig, Device, NoMemory}
+use Rattle.aigertext.specs.declared.fault.Why.TheVariants.{BadHeader, CountsDisagree, BadNumber, BadLatch, GateOrder, DeltaNotShortest, DeltaTooLong, BadSymbol, Truncated, TooBig, Cycle, Undefined, Device, NoMemory}
 
 -- the number that is printed for a why
 abbrev pub why_number : Why → ℕ
@@ -15,6 +15,8 @@ why_number DeltaTooLong = 56
 why_number BadSymbol = 57
 why_number Truncated = 58
 why_number TooBig = 59
+why_number Cycle = 62
+why_number Undefined = 63
 why_number Device = 60
 why_number NoMemory = 61
 
@@ -30,5 +32,7 @@ why_name DeltaTooLong = codes "DeltaTooLong"
 why_name BadSymbol = codes "BadSymbol"
 why_name Truncated = codes "Truncated"
 why_name TooBig = codes "TooBig"
+why_name Cycle = codes "Cycle"
+why_name Undefined = codes "Undefined"
 why_name Device = codes "Device"
 why_name NoMemory = codes "NoMemory"

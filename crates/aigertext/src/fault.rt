@@ -31,6 +31,10 @@ pub enum Why {
     Truncated,
     /// A number of the header, or the sum of the justice sizes, is above 2^30.
     TooBig,
+    /// A gate of the ascii form depends on itself, or on one that does, through operands.
+    Cycle,
+    /// A line of the ascii form uses a variable that no line defines.
+    Undefined,
     /// The source failed.
     Device,
     /// A growth was refused.
@@ -53,6 +57,8 @@ impl Why {
             Why::BadSymbol => 57,
             Why::Truncated => 58,
             Why::TooBig => 59,
+            Why::Cycle => 62,
+            Why::Undefined => 63,
             Why::Device => 60,
             Why::NoMemory => 61,
         }
@@ -73,6 +79,8 @@ impl Why {
             Why::BadSymbol => "BadSymbol",
             Why::Truncated => "Truncated",
             Why::TooBig => "TooBig",
+            Why::Cycle => "Cycle",
+            Why::Undefined => "Undefined",
             Why::Device => "Device",
             Why::NoMemory => "NoMemory",
         }

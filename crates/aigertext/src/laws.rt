@@ -5,6 +5,9 @@ ghost use Rattle.aigertext.specs.Ascii.{numbers_line, without_zero_tail, name_li
 ghost use Rattle.aigertext.specs.Binary.{delta, binary_text};
 ghost use Rattle.aigertext.specs.Reading.{text_on};
 ghost use Rattle.aigertext.specs.Spelling.{IsBinaryText};
+ghost use Rattle.aiger.specs.Loose.{empty_loose};
+ghost use Rattle.aiger.specs.declared.circuit.Reset.TheVariants as reset;
+ghost use Rattle.aigertext.specs.AsciiReading.{lists_of_file, lines_before, stop_behind};
 ghost use Rattle.aigertext.specs.declared.counts.Counts.{Counts};
 ghost use Rattle.aigertext.specs.declared.fault.Stop.{Stop};
 ghost use Rattle.aigertext.specs.declared.fault.Why.TheVariants as why;
@@ -131,4 +134,19 @@ pub fn worked_binary_spellings()
     ensures unended { ¬ IsBinaryText (codes "aig 3 2 0 1 1\n6\n" ++ 2 ∷ 2 ∷ codes "c") one_output }
     ensures too_long { ¬ IsBinaryText (codes "aig 3 2 0 1 1\n6\n" ++ 130 ∷ 0 ∷ 2 ∷ []) one_output }
     ensures ascii { ¬ IsBinaryText (codes "aag 3 2 0 1 1\n2\n4\n6\n6 4 2\n") one_output }
+{}
+
+/// Worked rows: the lists of an ascii file in any numbering and order, where reading them stops, and at which line a
+/// variable that no line defines is used.
+pub fn worked_ascii_lists()
+    ensures any_order { lists_of_file (record { variables = 9; inputs = 1; latches = 0; outputs = 1; gates = 2; bads = 0; constraints = 0; justice = 0; fair = 0 }) (codes "8\n5\n4 6 8\n6 9 8\n")
+        ≡ Ok (record empty_loose { inputs = 8 ∷ []; outputs = 5 ∷ []; gates = record { lhs = 4; rhs0 = 6; rhs1 = 8 } ∷ record { lhs = 6; rhs0 = 9; rhs1 = 8 } ∷ [] }, []) }
+    ensures free_latch { lists_of_file (record { variables = 2; inputs = 0; latches = 1; outputs = 0; gates = 0; bads = 0; constraints = 0; justice = 0; fair = 0 }) (codes "4 4 4\n")
+        ≡ Ok (record empty_loose { latches = record { current = 4; next = 4; reset = reset.Free } ∷ [] }, []) }
+    ensures operand { lists_of_file (record { variables = 3; inputs = 1; latches = 0; outputs = 1; gates = 1; bads = 0; constraints = 0; justice = 0; fair = 0 }) (codes "2\n6\n4 2 9\n")
+        ≡ Err (record { left = 6; why = why.BadNumber }) }
+    ensures defined_twice { lists_of_file (record { variables = 2; inputs = 1; latches = 0; outputs = 0; gates = 1; bads = 0; constraints = 0; justice = 0; fair = 0 }) (codes "2\n2 1 1\n")
+        ≡ Err (record { left = 6; why = why.GateOrder }) }
+    ensures undefined { stop_behind (codes "2\n4 4 2\n6 8 2\n") (lines_before (record { variables = 4; inputs = 1; latches = 0; outputs = 0; gates = 2; bads = 0; constraints = 0; justice = 0; fair = 0 }) 1) why.Undefined
+        ≡ record { left = 6; why = why.Undefined } }
 {}

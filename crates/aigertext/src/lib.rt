@@ -2,6 +2,7 @@
 #![tactic(auto)]
 
 mod ascii;
+mod ascii_lines;
 mod binary;
 mod binary_reading;
 mod checks;

@@ -10,7 +10,7 @@ use aiger::{Latch, Lit, Reset};
 use base::decimal;
 
 /// The next literal of a latch, which is at most the greatest one.
-fn next_literal(field: &[u8], greatest: u32) -> Result<Lit, Why>
+pub fn next_literal(field: &[u8], greatest: u32) -> Result<Lit, Why>
     ensures gives { Gives (λ x. x) result (within why.BadLatch greatest (number_of field.now)) }
     ensures small { IfOk result (λ l. l ≤ greatest) }
 {
@@ -27,7 +27,7 @@ fn next_literal(field: &[u8], greatest: u32) -> Result<Lit, Why>
 }
 
 /// How a latch begins: 0, 1, or its own literal where it has no initial value.
-fn reset(field: &[u8], own: u32) -> Result<Reset, Why>
+pub fn reset(field: &[u8], own: u32) -> Result<Reset, Why>
     ensures { Gives (λ x. x) result (reset_of own (number_of field.now)) }
 {
     match decimal(field) {

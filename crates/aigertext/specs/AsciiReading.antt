@@ -1,0 +1,140 @@
+-- Reading a circuit's ascii text from left to right ("AIGER 1.9 and Beyond", ascii format), with the first fault that is met: the lists of the file, then the circuit that they are, then its names.
+use Rattle.std.specs.Prelude.{◌≡◌, ℕ, zero, suc, ◌+◌, ◌-◌, ◌*◌, ◌&&◌, not, List, [], ◌∷◌, ◌++◌, length, Option, Some, None, Result, Ok, Err, nat_lt, nat_le, ◌⊎◌, if◌then◌else◌}
+use Rattle.base.specs.Decimals.{number_of}
+use Rattle.aiger.specs.declared.circuit.Reset.TheVariants as reset
+use Rattle.aiger.specs.declared.loose.GateLine.{GateLine}
+use Rattle.aiger.specs.declared.loose.LatchLine.{LatchLine}
+use Rattle.aiger.specs.Circuit.{Circuit}
+use Rattle.aiger.specs.Literal.{variable}
+use Rattle.aiger.specs.Loose.{Loose, empty_loose, is_defined, is_defining, with_input_line, with_latch_line, with_gate_line}
+use Rattle.aiger.specs.Renumbering.{IsRenumbered, used_lines, first_undefined, IsFirstCyclic}
+use Rattle.aigertext.specs.declared.counts.Counts.{Counts}
+use Rattle.aigertext.specs.declared.fault.Stop.{Stop}
+use Rattle.aigertext.specs.declared.fault.Why.{Why}
+use Rattle.aigertext.specs.declared.fault.Why.TheVariants as why
+use Rattle.aigertext.specs.Reading.{◌>>=◌, at, stop, cut, fields, line_at, some_or, within, reset_of, lists_of, Properties, properties_at, names_at}
+
+-- ---- lines
+
+-- a literal that defines a new variable, which is at most the greatest
+abbrev pub defining : Why → ℕ → Loose → ℕ → Result ℕ Why
+defining w greatest l n = if nat_le n greatest && (is_defining n && not (is_defined l (variable n))) then Ok n else Err w
+
+-- the literal of an input's line
+abbrev pub input_by : ℕ → Loose → Option ℕ → Result ℕ Why
+input_by greatest l None = Err why.BadNumber
+input_by greatest l (Some n) = defining why.BadNumber greatest l n
+
+unfoldable pub input_of : ℕ → Loose → List ℕ → Result ℕ Why
+input_of greatest l line = input_by greatest l (number_of line)
+
+-- a latch: its own literal, its next literal, and how it begins
+abbrev pub own_by : ℕ → Loose → Option ℕ → Result ℕ Why
+own_by greatest l None = Err why.BadLatch
+own_by greatest l (Some n) = defining why.BadLatch greatest l n
+
+unfoldable pub latch_fields : ℕ → Loose → List (List ℕ) → Result LatchLine Why
+latch_fields greatest l [] = Err why.BadLatch
+latch_fields greatest l (current ∷ []) = Err why.BadLatch
+latch_fields greatest l (current ∷ next ∷ []) = do
+  own ← own_by greatest l (number_of current)
+  n ← within why.BadLatch greatest (number_of next)
+  Ok (record { current = own; next = n; reset = reset.Zero })
+latch_fields greatest l (current ∷ next ∷ begins ∷ []) = do
+  own ← own_by greatest l (number_of current)
+  n ← within why.BadLatch greatest (number_of next)
+  r ← reset_of own (number_of begins)
+  Ok (record { current = own; next = n; reset = r })
+latch_fields greatest l (current ∷ next ∷ begins ∷ more ∷ others) = Err why.BadLatch
+
+abbrev pub latch_of : ℕ → Loose → List ℕ → Result LatchLine Why
+latch_of greatest l line = latch_fields greatest l (fields line)
+
+-- a gate: three numbers, of which the first defines a new variable; that is asked last
+unfoldable pub gate_fields : ℕ → Loose → List (List ℕ) → Result GateLine Why
+gate_fields greatest l (lhs ∷ rhs0 ∷ rhs1 ∷ []) = do
+  own ← some_or why.BadNumber (number_of lhs)
+  a ← within why.BadNumber greatest (number_of rhs0)
+  b ← within why.BadNumber greatest (number_of rhs1)
+  new ← defining why.GateOrder greatest l own
+  Ok (record { lhs = new; rhs0 = a; rhs1 = b })
+gate_fields greatest l other = Err why.BadNumber
+
+abbrev pub gate_of : ℕ → Loose → List ℕ → Result GateLine Why
+gate_of greatest l line = gate_fields greatest l (fields line)
+
+-- ---- lists
+
+-- so many lines that define variables, each onto the lists with those before it, and the text behind them
+abbrev pub onto_lists : {A : Type 0} → (Loose → List ℕ → Result A Why) → (Loose → A → Loose) → Loose → ℕ → List ℕ → Result (Loose × List ℕ) Stop
+onto_lists says with' l zero text = Ok (l, text)
+onto_lists says with' l (suc n) text = do
+  x ← line_at (says l) text
+  onto_lists says with' (with' l x.0) n x.1
+
+-- the lists with their properties
+abbrev pub with_properties_of : Loose → Properties → Loose
+with_properties_of l p =
+    record l { outputs = p.outputs; bads = p.bads; constraints = p.constraints; justice = lists_of p.sizes p.listed; fair = p.fair }
+
+-- the lists that stand behind a header of the ascii form, and the text behind them
+unfoldable pub lists_of_file : Counts → List ℕ → Result (Loose × List ℕ) Stop
+lists_of_file h text = do
+  i ← onto_lists (input_of (2 * h.variables + 1)) with_input_line empty_loose h.inputs text
+  l ← onto_lists (latch_of (2 * h.variables + 1)) with_latch_line i.0 h.latches i.1
+  p ← properties_at h l.1
+  onto_lists (gate_of (2 * h.variables + 1)) with_gate_line (with_properties_of l.0 p.0) h.gates p.1
+
+-- ---- faults of the lists
+
+-- a text without so many lines at its front
+abbrev pub behind_line : List ℕ → Option (List ℕ × List ℕ) → List ℕ
+behind_line text None = text
+behind_line text (Some x) = x.1
+
+abbrev pub behind_lines : ℕ → List ℕ → List ℕ
+behind_lines zero text = text
+behind_lines (suc n) text = behind_lines n (behind_line text (cut 10 text))
+
+-- how many lines stand behind the header before the line that is k-th of those that use literals: the inputs are before all of them, the sizes of the justice properties before the justice literals
+abbrev pub lines_before : Counts → ℕ → ℕ
+lines_before h k =
+    if nat_lt k (h.latches + h.outputs + h.bads + h.constraints) then h.inputs + k else h.inputs + h.justice + k
+
+-- which of the lines that use literals is that of a gate: they are the last ones
+abbrev pub use_of_gate : Loose → ℕ → ℕ
+use_of_gate l g = length (used_lines l) - length l.gates + g
+
+-- ---- texts
+
+-- reading stops at the front of what stands behind so many lines
+abbrev pub stop_behind : List ℕ → ℕ → Why → Stop
+stop_behind text lines w = stop (behind_lines lines text) w
+
+-- the lists are a circuit, and the answer is that circuit with the names behind them
+pub record AnswersNamed (l : Loose) (names : List ℕ) (answer : Result Circuit Stop) : Type 0 where
+  pub circuit : Circuit
+  pub is_renumbered : IsRenumbered l circuit
+  pub is : answer ≡ names_at circuit names
+
+-- a line uses a variable that none defines, and the answer is a stop at the first such line
+pub record AnswersUndefined (h : Counts) (text : List ℕ) (l : Loose) (answer : Result Circuit Stop) : Type 0 where
+  pub line : ℕ
+  pub undefined : first_undefined l ≡ Some line
+  pub is : answer ≡ Err (stop_behind text (lines_before h line) why.Undefined)
+
+-- all variables are defined, and gates depend on themselves: the answer is a stop at the first gate that leads to a cycle
+pub record AnswersCycle (h : Counts) (text : List ℕ) (l : Loose) (answer : Result Circuit Stop) : Type 0 where
+  pub gate : ℕ
+  pub known : first_undefined l ≡ None
+  pub cyclic : IsFirstCyclic l gate
+  pub is : answer ≡ Err (stop_behind text (lines_before h (use_of_gate l gate)) why.Cycle)
+
+-- what the lists of a file, or where reading them stops, have for an answer
+abbrev pub AnswersLists : Counts → List ℕ → Result (Loose × List ℕ) Stop → Result Circuit Stop → Type 0
+AnswersLists h text (Ok x) answer = AnswersNamed x.0 x.1 answer ⊎ (AnswersUndefined h text x.0 answer ⊎ AnswersCycle h text x.0 answer)
+AnswersLists h text (Err e) answer = answer ≡ Err e
+
+-- reading what stands behind a header of the ascii form: the circuit that it spells, or where reading stops
+abbrev pub AnswersAscii : Counts → List ℕ → Result Circuit Stop → Type 0
+AnswersAscii h text answer = AnswersLists h text (lists_of_file h text) answer
