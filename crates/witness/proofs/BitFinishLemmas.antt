@@ -1,5 +1,5 @@
 -- The judgement of a text by what a judge of witnesses of a circuit holds.
-use Rattle.std.proofs.Common.{◌≡◌, ℕ, suc, ◌+◌, ◌≤◌, ◌-◌, ◌^◌, min, nat_le, Bool, true, false, cond, not, ◌&&◌, List, [], ◌∷◌, Option, Some, None, Result, Ok, Err, length, refl, sym, ap, ap₂, subst, ◌∙◌, arith}
+use Rattle.std.proofs.Common.{◌≡◌, ℕ, suc, ◌+◌, ◌-◌, ◌^◌, min, nat_le, Bool, true, false, cond, not, ◌&&◌, List, [], ◌∷◌, Some, None, Result, Ok, Err, length, refl, sym, ap, subst, ◌∙◌, arith}
 use Rattle.base.specs.Lines.{whole_lines, unfinished}
 use Rattle.aiger.specs.Circuit.{Circuit}
 use Rattle.aiger.specs.Literal.{Valuation}
@@ -12,10 +12,9 @@ use Rattle.witness.specs.declared.bit_place.BitPlace.{BitPlace as CodePlace}
 use Rattle.witness.specs.declared.bit_place.BitPlace.TheVariants as code
 use Rattle.witness.specs.Texts.{most_lines}
 use Rattle.witness.specs.Admits.{is_nothing, Fault, fault_at}
-use Rattle.witness.specs.Judgements.{Violation}
 use Rattle.witness.specs.BitTexts.{BitWitness}
-use Rattle.witness.specs.BitAdmits.{BitPlace, AtDone, BitRead, BitReading, nothing_admitted, lines_behind, bit_reading, is_done, last_why, read_or_fault, read_with, read_bit_text, bit_witness_of}
-use Rattle.witness.specs.BitJudgements.{first_reset_differing, bit_violation_from, bit_rises, when_risen, when_unbroken, when_reset, bit_verdict, makes_no_bit_claim, JudgesBitRead, JudgesBitText, BitJudges}
+use Rattle.witness.specs.BitAdmits.{BitPlace, AtDone, BitRead, BitReading, nothing_admitted, lines_behind, bit_reading, is_done, read_or_fault, read_bit_text, bit_witness_of}
+use Rattle.witness.specs.BitJudgements.{first_reset_differing, bit_violation_from, bit_rises, when_risen, when_unbroken, when_reset, bit_verdict, JudgesBitRead, JudgesBitText, BitJudges}
 use Rattle.witness.specs.BitPlays.{BitPlay, Plays, Traced}
 use Rattle.witness.specs.BitStands.{place_of, PlaysAt, BitJudge, StandsFor, last_refusal, with_rise, with_breach, with_differing, judgement_of}
 

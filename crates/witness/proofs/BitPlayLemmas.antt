@@ -1,21 +1,20 @@
 -- Frames of a witness of a circuit, closed one after the other.
-use Rattle.std.proofs.Common.{◌≡◌, ℕ, suc, ◌+◌, ◌*◌, ◌<◌, ◌≤◌, ◌-◌, ◌^◌, ◌==◌, min, Bool, true, false, cond, not, ◌||◌, List, [], ◌∷◌, ◌++◌, Option, Some, None, map, length, take, get_or, set, length-append, refl, sym, ap, ap₂, subst, ◌∙◌, arith}
-use Rattle.std.specs.List.{list_any, position_from}
+use Rattle.std.proofs.Common.{◌≡◌, ℕ, suc, ◌+◌, ◌*◌, ◌<◌, ◌≤◌, ◌-◌, ◌^◌, min, Bool, true, false, cond, ◌||◌, List, [], ◌∷◌, ◌++◌, Option, Some, None, map, length, take, get_or, set, length-append, refl, sym, ap, ap₂, subst, ◌∙◌, arith}
 use Rattle.std.specs.Option.{option_or}
 use Rattle.std.proofs.lemmas.List.{take_more_set, length-map, length-set, length-replicate}
 use Rattle.std.proofs.lemmas.List.Folds.{list_any-append}
 use Rattle.std.proofs.Math.Seq.{take-length}
 use Rattle.aiger.specs.declared.circuit.Latch.{Latch}
 use Rattle.aiger.specs.Literal.{Valuation, literal_value}
-use Rattle.aiger.specs.Circuit.{Circuit, IsCircuit}
+use Rattle.aiger.specs.Circuit.{Circuit}
 use Rattle.aiger.specs.Trace.{IsFrame, IsTrace, next_state}
 use Rattle.runs.specs.Run.{more_steps}
-use Rattle.runs.specs.CircuitRun.{CircuitRun, IsFrameNow, circuit_start, no_inputs, settle_steps}
+use Rattle.runs.specs.CircuitRun.{CircuitRun, IsFrameNow, no_inputs, settle_steps}
 use Rattle.runs.proofs.BitRunLemmas.{more_steps-sum}
 use Rattle.witness.specs.Judgements.{Violation, violated_at}
 use Rattle.witness.specs.BitJudgements.{differs_from_reset, first_reset_differing, first_bit_violated, bit_violation_from, bit_rises}
 use Rattle.witness.specs.BitScans.{is_one_bit}
-use Rattle.witness.specs.BitPlays.{BitPlay, play_start, frame_steps, steps_of, state_behind, Begins, Traced, Plays, differing, latch_given}
+use Rattle.witness.specs.BitPlays.{BitPlay, frame_steps, steps_of, state_behind, Begins, Traced, Plays, differing, latch_given}
 
 -- ---- initial bits
 

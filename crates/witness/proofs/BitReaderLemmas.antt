@@ -1,5 +1,5 @@
 -- Lines of a witness of a circuit, admitted one after the other by what is kept of them.
-use Rattle.std.proofs.Common.{◌≡◌, ℕ, ◌+◌, ◌*◌, ◌<◌, ◌≤◌, ◌^◌, Bool, true, false, List, [], ◌∷◌, ◌++◌, Option, Some, None, Result, Ok, Err, MatchResult, codes, map, length, take, refl, sym, ap, subst, ◌∙◌, arith}
+use Rattle.std.proofs.Common.{◌≡◌, ℕ, ◌*◌, ◌<◌, ◌^◌, Bool, true, false, List, [], ◌∷◌, ◌++◌, None, Result, Ok, Err, MatchResult, codes, map, length, take, refl, sym, ap, subst, ◌∙◌, arith}
 use Rattle.std.specs.Str.{bytes_eq}
 use Rattle.std.proofs.lemmas.List.{length-map, length-replicate}
 use Rattle.std.proofs.Math.Seq.{take-length}
@@ -7,14 +7,14 @@ use Rattle.aiger.specs.Circuit.{Circuit}
 use Rattle.aiger.specs.Literal.{Valuation}
 use Rattle.aiger.specs.Trace.{IsTrace}
 use Rattle.runs.specs.Run.{more_steps}
-use Rattle.runs.specs.CircuitRun.{CircuitRun, circuit_start, first_bit}
+use Rattle.runs.specs.CircuitRun.{first_bit}
 use Rattle.witness.specs.declared.why.Why.{Why}
 use Rattle.witness.specs.declared.why.Why.TheVariants as why
 use Rattle.witness.specs.declared.bit_place.BitPlace.{BitPlace as CodePlace}
 use Rattle.witness.specs.declared.bit_place.BitPlace.TheVariants as code
-use Rattle.witness.specs.BitAdmits.{BitPlace, AtHeader, AtClaim, AtInitial, AtFirst, AtLater, AtDone, BitRead, claim_at, bits_at, after_claim, after_initial, after_frame, bit_admit}
+use Rattle.witness.specs.BitAdmits.{AtClaim, AtInitial, AtFirst, AtLater, AtDone, BitRead, claim_at, bits_at, after_frame, bit_admit}
 use Rattle.witness.specs.BitScans.{is_one_bit}
-use Rattle.witness.specs.BitPlays.{BitPlay, play_start, frame_steps, steps_of, Begins, Traced, Plays}
+use Rattle.witness.specs.BitPlays.{BitPlay, play_start, frame_steps, Begins, Traced, Plays}
 use Rattle.witness.specs.BitStands.{place_of, BitReader, PlaysAt, Counts, Reads, GivesLine}
 use Rattle.witness.proofs.BitReadLemmas.{claim_is_line, bits_are_line}
 use Rattle.witness.proofs.BitPlayLemmas.{none_left}

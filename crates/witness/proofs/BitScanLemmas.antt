@@ -1,18 +1,16 @@
 -- What is kept of a line byte by byte is what its bytes say.
-use Rattle.std.proofs.Common.{◌≡◌, ℕ, suc, ◌+◌, ◌-◌, ◌*◌, ◌<◌, ◌≤◌, ◌^◌, ◌==◌, min, nat_lt, nat_le, Bool, true, false, cond, not, ◌&&◌, ◌||◌, List, [], ◌∷◌, ◌++◌, Option, Some, None, Result, Ok, Err, map, length, take, get_or, length-append, refl, sym, ap, ap₂, subst, ◌∙◌, arith, inl, inr}
+use Rattle.std.proofs.Common.{◌≡◌, ℕ, ◌+◌, ◌-◌, ◌*◌, ◌<◌, ◌≤◌, ◌^◌, ◌==◌, min, nat_lt, nat_le, Bool, true, false, not, ◌&&◌, ◌||◌, List, [], ◌∷◌, ◌++◌, Some, None, Ok, Err, length, take, get_or, length-append, refl, sym, ap, ap₂, ◌∙◌, arith, inl, inr}
 use Rattle.std.specs.List.{list_any, list_all}
-use Rattle.std.specs.Str.{bytes_eq}
-use Rattle.std.proofs.lemmas.Bool.{cases_Bool, cases_eq, cases_lt, and_parts, and_from, eqb-true, eqb-false, eq-eqb, ne_eqb, le-leb, le-ltb, lt-ltb}
-use Rattle.std.proofs.lemmas.Bool.Decides.{nat_tests}
+use Rattle.std.proofs.lemmas.Bool.{cases_Bool, and_parts, and_from, eqb-true, eqb-false, ne_eqb, le-leb, le-ltb, lt-ltb}
 use Rattle.std.proofs.lemmas.List.Folds.{list_any-append, list_all-append}
 use Rattle.std.proofs.Math.Seq.{take-append_seam, take-length}
 use Rattle.base.specs.Decimals.{is_digit, are_digits, is_decimal, capped_value, number_of}
 use Rattle.base.proofs.DecimalLemmas.{digit_range, capped_value-nil, capped_value_more}
 use Rattle.witness.specs.declared.bit_scan.Scan.{Scan}
-use Rattle.witness.specs.Admits.{is_value_byte, is_nothing}
+use Rattle.witness.specs.Admits.{is_value_byte}
 use Rattle.witness.specs.declared.why.Why.TheVariants as why
-use Rattle.witness.specs.BitAdmits.{claim_at, bits_at}
-use Rattle.witness.specs.BitScans.{behind_first, is_one_bit, Scans, number_more, scan_more, has_decimal}
+use Rattle.witness.specs.BitAdmits.{claim_at}
+use Rattle.witness.specs.BitScans.{behind_first, Scans, number_more, scan_more, has_decimal}
 
 -- a number with a digit more
 value_more : (digits : List ℕ) (b n : ℕ) → are_digits (digits ++ b ∷ []) ≡ true → n ≡ capped_value digits → number_more n b ≡ capped_value (digits ++ b ∷ [])

@@ -1,5 +1,5 @@
 -- What a judge of witnesses of a circuit holds, and which texts it stands for.
-use Rattle.std.specs.Prelude.{◌≡◌, ℕ, ◌<◌, ◌≤◌, ◌^◌, Bool, true, false, not, ◌&&◌, nat_le, List, [], ◌∷◌, Option, Some, None, Result, Ok, Err, length, if◌then◌else◌}
+use Rattle.std.specs.Prelude.{◌≡◌, ℕ, ◌<◌, ◌≤◌, ◌^◌, Bool, true, false, not, ◌&&◌, nat_le, List, [], Option, Some, None, Result, Ok, Err, length, if◌then◌else◌}
 use Rattle.base.specs.Lines.{whole_lines, unfinished}
 use Rattle.aiger.specs.Circuit.{Circuit}
 use Rattle.witness.specs.declared.why.Why.{Why}
@@ -11,7 +11,7 @@ use Rattle.witness.specs.declared.bit_place.BitPlace.TheVariants as code
 use Rattle.witness.specs.declared.bit_scan.Scan.{Scan}
 use Rattle.witness.specs.Texts.{most_lines}
 use Rattle.witness.specs.Judgements.{Violation}
-use Rattle.witness.specs.BitAdmits.{BitPlace, AtHeader, AtClaim, AtInitial, AtFirst, AtLater, AtDone, BitRead, BitReading, bit_admit, nothing_admitted, lines_behind}
+use Rattle.witness.specs.BitAdmits.{BitPlace, AtHeader, AtClaim, AtInitial, AtFirst, AtLater, AtDone, BitRead, bit_admit, nothing_admitted, lines_behind}
 use Rattle.witness.specs.BitJudgements.{makes_no_bit_claim}
 use Rattle.witness.specs.BitScans.{Scans}
 use Rattle.witness.specs.BitPlays.{BitPlay, play_start, steps_of, Begins, Plays}

@@ -1,4 +1,4 @@
-use Rattle.std.proofs.Common.{◌≡◌, ℕ, List, ◌++◌, take}
+use Rattle.std.proofs.Common.{ℕ, List, ◌++◌, take}
 use Rattle.aiger.specs.Circuit.{Circuit}
 use Rattle.witness.specs.BitStands.{StandsFor}
 use Rattle.witness.proofs.bit_judge.BitJudge.feed.Given as goal

@@ -1,7 +1,6 @@
-use Rattle.std.proofs.Common.{◌≡◌, ℕ, Bool, None, Some, subst, sym, ap, ap₂, ◌∙◌}
+use Rattle.std.proofs.Common.{◌≡◌, Bool, subst, sym, ap₂, ◌∙◌}
 use Rattle.base.specs.Lines.{unfinished}
 use Rattle.witness.specs.Admits.{is_nothing}
-use Rattle.witness.specs.declared.judgement.Judgement.{Judgement}
 use Rattle.witness.specs.declared.bit_place.BitPlace.{BitPlace as CodePlace}
 use Rattle.witness.specs.BitJudgements.{BitJudges}
 use Rattle.witness.specs.BitStands.{BitJudge, StandsFor, last_refusal, judgement_of}

@@ -1,8 +1,8 @@
-use Rattle.std.proofs.Common.{◌≡◌, ℕ, Bool, ◌||◌, ◌&&◌, None, Some, Ok, List, codes, length, ◌<◌, ◌^◌, ◌++◌, ◌∷◌, [], subst, sym, ap, ◌∙◌, refl, arith}
+use Rattle.std.proofs.Common.{◌≡◌, Bool, ◌||◌, ◌&&◌, None, Some, codes, length, ◌<◌, ◌^◌, ◌++◌, ◌∷◌, [], subst, sym, ap, ◌∙◌, arith}
 use Rattle.std.specs.Str.{bytes_eq}
 use Rattle.witness.specs.declared.bit_place.BitPlace.{BitPlace as CodePlace}
 use Rattle.witness.specs.BitAdmits.{nothing_admitted, lines_behind}
-use Rattle.witness.specs.BitStands.{BitReader, BitJudge, IsOfLines, Reads, is_first}
+use Rattle.witness.specs.BitStands.{BitReader, BitJudge, IsOfLines, is_first}
 use Rattle.witness.proofs.BitJudgeLemmas.{too_many, not_admitted, line_admitted}
 use Rattle.witness.proofs.bit_judge.BitJudge.judge_line.Goals as goal
 

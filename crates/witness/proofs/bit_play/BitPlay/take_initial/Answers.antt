@@ -1,5 +1,4 @@
-use Rattle.std.proofs.Common.{◌≡◌, ℕ, ◌-◌, ◌^◌, ◌<◌, ◌++◌, ◌∷◌, [], List, length, get_or, subst, sym, ap, ◌∙◌, arith}
-use Rattle.aiger.specs.declared.circuit.Latch.{Latch}
+use Rattle.std.proofs.Common.{◌≡◌, ◌-◌, ◌^◌, ◌<◌, ◌++◌, ◌∷◌, [], length, get_or, subst, sym, ap, ◌∙◌, arith}
 use Rattle.aiger.specs.Circuit.{Circuit, fresh_latch}
 use Rattle.witness.specs.BitScans.{is_one_bit}
 use Rattle.witness.specs.BitJudgements.{differs_from_reset}

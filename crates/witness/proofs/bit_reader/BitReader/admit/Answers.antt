@@ -1,7 +1,7 @@
-use Rattle.std.proofs.Common.{◌≡◌, ◌<◌, ◌^◌, ℕ, Ok, Err, map, length, subst, sym, ap, ◌∙◌}
+use Rattle.std.proofs.Common.{◌≡◌, ◌<◌, ◌^◌, Ok, Err, map, length, subst, sym, ap, ◌∙◌}
 use Rattle.aiger.specs.Circuit.{Circuit}
 use Rattle.witness.specs.declared.bit_place.BitPlace.TheVariants as code
-use Rattle.witness.specs.BitAdmits.{BitRead, claim_at, bits_at}
+use Rattle.witness.specs.BitAdmits.{claim_at, bits_at}
 use Rattle.witness.specs.BitScans.{is_one_bit}
 use Rattle.witness.specs.BitPlays.{Plays}
 use Rattle.witness.specs.BitStands.{BitReader, Reads}

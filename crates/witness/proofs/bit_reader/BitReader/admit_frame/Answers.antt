@@ -1,9 +1,9 @@
-use Rattle.std.proofs.Common.{◌≡◌, ◌<◌, ℕ, ◌++◌, ◌∷◌, [], List, Bool, Ok, map, length, subst, sym, ap, ◌∙◌}
+use Rattle.std.proofs.Common.{◌≡◌, ◌<◌, ◌++◌, ◌∷◌, [], Ok, map, length, subst, sym, ap, ◌∙◌}
 use Rattle.std.proofs.lemmas.List.{length-map}
 use Rattle.aiger.specs.Circuit.{Circuit}
 use Rattle.witness.specs.BitAdmits.{bits_at}
 use Rattle.witness.specs.BitScans.{is_one_bit}
-use Rattle.witness.specs.BitPlays.{BitPlay, Plays}
+use Rattle.witness.specs.BitPlays.{Plays}
 use Rattle.witness.specs.BitStands.{BitReader, Reads}
 use Rattle.witness.proofs.BitReadLemmas.{bits_are_line}
 use Rattle.witness.proofs.BitReaderLemmas.{frame_read}

@@ -1,4 +1,4 @@
-use Rattle.std.proofs.Common.{◌≡◌, ℕ, ◌++◌, ◌∷◌, [], subst, sym}
+use Rattle.std.proofs.Common.{subst, sym}
 use Rattle.witness.specs.declared.bit_place.BitPlace.TheVariants as code
 use Rattle.witness.specs.BitStands.{BitReader, Reads}
 use Rattle.witness.proofs.BitReaderLemmas.{plays_at, byte_read}
