@@ -20,3 +20,9 @@ pub mod OneJudgement
 pub mod BitReadLemmas
 pub mod BitOneJudgement
 pub mod BitWorkedLemmas
+pub mod BitScanLemmas
+pub mod BitPlayLemmas
+pub mod BitReaderLemmas
+pub mod BitJudgeLemmas
+pub mod BitFinishLemmas
+pub mod BitFeedLemmas

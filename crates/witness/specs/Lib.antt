@@ -11,3 +11,6 @@ pub mod Printed
 pub mod BitTexts
 pub mod BitAdmits
 pub mod BitJudgements
+pub mod BitScans
+pub mod BitPlays
+pub mod BitStands

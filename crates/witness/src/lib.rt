@@ -2,7 +2,13 @@
 #![tactic(auto)]
 
 mod assignment;
+mod bit_judge;
+mod bit_judging;
 pub mod bit_laws;
+mod bit_place;
+mod bit_play;
+mod bit_reader;
+mod bit_scan;
 mod claims;
 mod fault;
 mod flags;
@@ -18,6 +24,8 @@ mod verdicts;
 mod why;
 mod words;
 
+pub use bit_judge::BitJudge;
+pub use bit_judging::judge_bits;
 pub use fault::{JudgeFault, WitnessFault};
 pub use judgement::Judgement;
 pub use judging::judge_words;

@@ -18,9 +18,9 @@ use runs::WordRun;
 
 /// A frame and a constraint that does not hold in it, both counted from 0.
 #[derive(Clone, Copy, Debug, PartialEq, Eq)]
-struct Breach {
-    frame: u64,
-    constraint: u64,
+pub(crate) struct Breach {
+    pub(crate) frame: u64,
+    pub(crate) constraint: u64,
 }
 
 impl std::marker::Model for Breach {
@@ -153,7 +153,7 @@ fn judge_frame(
 }
 
 /// A breach that was found, or else one of a constraint in a frame.
-fn earlier(found: Option<Breach>, frame: u64, violated: Option<u64>) -> Option<Breach>
+pub(crate) fn earlier(found: Option<Breach>, frame: u64, violated: Option<u64>) -> Option<Breach>
     ensures { result ≡ option_or found (violated_at frame violated None) }
 {
     match found {

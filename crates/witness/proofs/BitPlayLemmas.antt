@@ -1,0 +1,186 @@
+-- Frames of a witness of a circuit, closed one after the other.
+use Rattle.std.proofs.Common.{◌≡◌, ℕ, suc, ◌+◌, ◌*◌, ◌<◌, ◌≤◌, ◌-◌, ◌^◌, min, Bool, true, false, cond, ◌||◌, List, [], ◌∷◌, ◌++◌, Option, Some, None, map, length, take, get_or, set, length-append, refl, sym, ap, ap₂, subst, ◌∙◌, arith}
+use Rattle.std.specs.Option.{option_or}
+use Rattle.std.proofs.lemmas.List.{take_more_set, length-map, length-set, length-replicate}
+use Rattle.std.proofs.lemmas.List.Folds.{list_any-append}
+use Rattle.std.proofs.Math.Seq.{take-length}
+use Rattle.aiger.specs.declared.circuit.Latch.{Latch}
+use Rattle.aiger.specs.Literal.{Valuation, literal_value}
+use Rattle.aiger.specs.Circuit.{Circuit}
+use Rattle.aiger.specs.Trace.{IsFrame, IsTrace, next_state}
+use Rattle.runs.specs.Run.{more_steps}
+use Rattle.runs.specs.CircuitRun.{CircuitRun, IsFrameNow, no_inputs, settle_steps}
+use Rattle.runs.proofs.BitRunLemmas.{more_steps-sum}
+use Rattle.witness.specs.Judgements.{Violation, violated_at}
+use Rattle.witness.specs.BitJudgements.{differs_from_reset, first_reset_differing, first_bit_violated, bit_violation_from, bit_rises}
+use Rattle.witness.specs.BitScans.{is_one_bit}
+use Rattle.witness.specs.BitPlays.{BitPlay, frame_steps, steps_of, state_behind, Begins, Traced, Plays, differing, latch_given}
+
+-- ---- initial bits
+
+pub none_left : (k : ℕ) (latches : List Latch) → first_reset_differing k latches [] ≡ None
+none_left k [] = refl
+none_left k (l ∷ latches) = refl
+
+-- a bit more
+pub differing_more : (k : ℕ) (latches : List Latch) (bits : List Bool) (b : Bool) (d : Latch) → length bits < length latches
+    → first_reset_differing k latches (bits ++ b ∷ []) ≡ differing (first_reset_differing k latches bits) (k + length bits) (differs_from_reset (get_or latches (length bits) d).reset b)
+differing_more k [] bits b d h = absurd (omega (arith, h))
+differing_more k (l ∷ latches) [] b d h =
+    let here : k + 0 ≡ k = omega arith in
+    elim (differs_from_reset l.reset b) as (λ x. cond x (Some k) (first_reset_differing (suc k) latches []) ≡ differing None (k + 0) x) [
+      | true ↦ rw here refl
+      | false ↦ none_left (suc k) latches
+    ]
+differing_more k (l ∷ latches) (x ∷ bits) b d h =
+    let rest = differing_more (suc k) latches bits b d (omega (arith, h)) in
+    let same : suc k + length bits ≡ k + suc (length bits) = omega arith in
+    elim (differs_from_reset l.reset x) as (λ t. cond t (Some k) (first_reset_differing (suc k) latches (bits ++ b ∷ [])) ≡ differing (cond t (Some k) (first_reset_differing (suc k) latches bits)) (k + suc (length bits)) (differs_from_reset (get_or latches (length bits) d).reset b)) [
+      | true ↦ refl
+      | false ↦ rest ∙ ap (λ (n : ℕ). differing (first_reset_differing (suc k) latches bits) n (differs_from_reset (get_or latches (length bits) d).reset b)) same
+    ]
+
+map-more : (line : List ℕ) (b : ℕ) → map is_one_bit (line ++ b ∷ []) ≡ map is_one_bit line ++ is_one_bit b ∷ []
+map-more [] b = refl
+map-more (x ∷ line) b = ap (λ (bits : List Bool). is_one_bit x ∷ bits) (map-more line b)
+
+-- a byte more of the line of initial bits
+pub begins_more : (c : Circuit) (p : BitPlay) (line : List ℕ) (byte k : ℕ) (d : Latch) → length c.latches < 2 ^ 64 - 1 → k ≡ min (length line) (2 ^ 64 - 1) → k < length c.latches → Begins c p line
+    → Begins c (latch_given p k (is_one_bit byte) (differs_from_reset (get_or c.latches k d).reset (is_one_bit byte))) (line ++ byte ∷ [])
+begins_more c p line byte k d small is room h =
+    let at : k ≡ length line = omega (arith, is, room, small) in
+    let many = h.many in
+    let long = length-append line (byte ∷ []) in
+    record {
+      start = ap (λ (q : BitPlay). latch_given q k (is_one_bit byte) (differs_from_reset (get_or c.latches k d).reset (is_one_bit byte))) h.start;
+      many = length-set p.run.latches k (is_one_bit byte) ∙ many;
+      bits = λ few.
+          let fewer : length line ≤ length c.latches = omega (arith, few, long) in
+          let inside : k < length p.run.latches = omega (arith, room, many) in
+          ap (λ (n : ℕ). take n (set p.run.latches k (is_one_bit byte))) (long ∙ ap (λ (n : ℕ). n + 1) (sym at))
+          ∙ (take_more_set p.run.latches k (is_one_bit byte) inside
+          ∙ (ap (λ (n : ℕ). take n p.run.latches ++ is_one_bit byte ∷ []) at
+          ∙ (ap (λ (bits : List Bool). bits ++ is_one_bit byte ∷ []) (h.bits fewer)
+          ∙ sym (map-more line byte))));
+      differs = λ few.
+          let fewer : length line ≤ length c.latches = omega (arith, few, long) in
+          let inside : length (map is_one_bit line) < length c.latches = omega (arith, few, long, length-map line is_one_bit) in
+          let place : k ≡ length (map is_one_bit line) = at ∙ sym (length-map line is_one_bit) in
+          let number : length (map is_one_bit line) ≡ 0 + length (map is_one_bit line) = omega arith in
+          ap (λ (o : Option ℕ). differing o k (differs_from_reset (get_or c.latches k d).reset (is_one_bit byte))) (h.differs fewer)
+          ∙ (ap (λ (n : ℕ). differing (first_reset_differing 0 c.latches (map is_one_bit line)) n (differs_from_reset (get_or c.latches n d).reset (is_one_bit byte))) place
+          ∙ (ap (λ (n : ℕ). differing (first_reset_differing 0 c.latches (map is_one_bit line)) n (differs_from_reset (get_or c.latches (length (map is_one_bit line)) d).reset (is_one_bit byte))) number
+          ∙ (sym (differing_more 0 c.latches (map is_one_bit line) (is_one_bit byte) d inside)
+          ∙ ap (first_reset_differing 0 c.latches) (sym (map-more line byte)))));
+    }
+
+-- ---- a frame more
+
+record SplitTrace (c : Circuit) (state : List Bool) (inputs : List (List Bool)) (last : List Bool) (vs : List Valuation) : Type 0 where
+  front : List Valuation
+  v : Valuation
+  is : vs ≡ front ++ v ∷ []
+  trace : IsTrace c state inputs front
+  frame : IsFrame c (state_behind c state front) last v
+  many : length front ≡ length inputs
+
+-- the last frame of a trace, and those before
+split_trace : (c : Circuit) (state : List Bool) (inputs : List (List Bool)) (last : List Bool) (vs : List Valuation) → IsTrace c state (inputs ++ last ∷ []) vs → SplitTrace c state inputs last vs
+split_trace c state [] last [] t = absurd t
+split_trace c state [] last (v ∷ []) t = record { front = []; v = v; is = refl; trace = tt; frame = t.0; many = refl }
+split_trace c state [] last (v ∷ w ∷ vs) t = absurd t.1
+split_trace c state (input ∷ inputs) last [] t = absurd t
+split_trace c state (input ∷ inputs) last (v ∷ vs) t =
+    let rest = split_trace c (next_state c v) inputs last vs t.1 in
+    record { front = v ∷ rest.front; v = rest.v; is = ap (λ (us : List Valuation). v ∷ us) rest.is; trace = (t.0, rest.trace); frame = rest.frame; many = ap suc rest.many }
+
+state_more : (c : Circuit) (state : List Bool) (vs : List Valuation) (v : Valuation) → state_behind c state (vs ++ v ∷ []) ≡ next_state c v
+state_more c state [] v = refl
+state_more c state (w ∷ vs) v = state_more c (next_state c w) vs v
+
+violation_more : (c : Circuit) (k : ℕ) (vs : List Valuation) (v : Valuation) → bit_violation_from c k (vs ++ v ∷ []) ≡ option_or (bit_violation_from c k vs) (violated_at (k + length vs) (first_bit_violated c v) None)
+violation_more c k [] v = ap (λ (n : ℕ). violated_at n (first_bit_violated c v) None) (omega arith)
+violation_more c k (w ∷ vs) v =
+    let rest = violation_more c (suc k) vs v in
+    elim (first_bit_violated c w) as (λ o. violated_at k o (bit_violation_from c (suc k) (vs ++ v ∷ [])) ≡ option_or (violated_at k o (bit_violation_from c (suc k) vs)) (violated_at (k + suc (length vs)) (first_bit_violated c v) None)) [
+      | Some i ↦ refl
+      | None ↦ rest ∙ ap (λ (n : ℕ). option_or (bit_violation_from c (suc k) vs) (violated_at n (first_bit_violated c v) None)) (omega arith)
+    ]
+
+rises_more : (c : Circuit) (claim : ℕ) (vs : List Valuation) (v : Valuation) → bit_rises c claim (vs ++ v ∷ []) ≡ (bit_rises c claim vs || literal_value v (get_or c.bads claim 0))
+rises_more c claim vs v =
+    list_any-append (λ (w : Valuation). literal_value w (get_or c.bads claim 0)) vs (v ∷ []) ∙ ap (λ (b : Bool). bit_rises c claim vs || b) (or-false (literal_value v (get_or c.bads claim 0)))
+  where
+    or-false : (b : Bool) → (b || false) ≡ b
+    or-false true = refl
+    or-false false = refl
+
+-- what is kept once a frame is closed
+pub record Closes (c : Circuit) (claim : ℕ) (old new : BitPlay) : Type 0 where
+  pub circuit : new.circuit ≡ old.circuit
+  pub differs : new.differs ≡ old.differs
+  pub frames : new.frames ≡ min (old.frames + 1) (2 ^ 64 - 1)
+  pub run : new.run ≡ record old.run { latches = new.run.latches; inputs = no_inputs old.run.circuit; settled = false; steps = more_steps (length old.run.circuit.latches) (more_steps (settle_steps old.run.circuit) old.run.steps) }
+  pub latches : (v : Valuation) → IsFrameNow old.run v → new.run.latches ≡ next_state old.run.circuit v
+  pub breach : (v : Valuation) → IsFrameNow old.run v → new.breach ≡ option_or old.breach (violated_at old.frames (first_bit_violated c v) None)
+  pub rose : (v : Valuation) → IsFrameNow old.run v → new.rose ≡ (old.rose || literal_value v (get_or c.bads claim 0))
+
+module _ (c : Circuit) (claim : ℕ) (initial : List Bool) (frames : List (List Bool)) (line : List ℕ) (old new : BitPlay) (plays : Plays c claim initial frames old line) (closes : Closes c claim old new) (few : length frames < 2 ^ 62) (whole : length line ≡ c.inputs) where
+  abbrev here : List Bool
+  here = map is_one_bit line
+
+  inputs_are : old.run.inputs ≡ here
+  inputs_are =
+      let many = plays.many in
+      let same : length line ≡ length old.run.inputs = whole ∙ sym many in
+      sym (take-length old.run.inputs) ∙ (ap (λ (n : ℕ). take n old.run.inputs) (sym same) ∙ plays.bits (omega (arith, whole)))
+
+  traced_more : (vs : List Valuation) → IsTrace c initial (frames ++ here ∷ []) vs → Traced c claim initial new vs
+  traced_more vs t =
+      let s = split_trace c initial frames here vs t in
+      let was = plays.traced s.front s.trace in
+      let now : IsFrameNow old.run s.v =
+      subst (λ (k : Circuit). IsFrame k old.run.latches old.run.inputs s.v) (sym plays.run)
+      (subst (λ (state : List Bool). IsFrame c state old.run.inputs s.v) (sym was.latches)
+      (subst (λ (input : List Bool). IsFrame c (state_behind c initial s.front) input s.v) (sym inputs_are) s.frame)) in
+      let number : old.frames ≡ 0 + length s.front = plays.count ∙ (sym s.many ∙ omega arith) in
+      record {
+        latches = closes.latches s.v now ∙ (ap (λ (k : Circuit). next_state k s.v) plays.run ∙ (sym (state_more c initial s.front s.v) ∙ ap (state_behind c initial) (sym s.is)));
+        breach =
+            closes.breach s.v now
+            ∙ (ap₂ (λ (o : Option Violation) (n : ℕ). option_or o (violated_at n (first_bit_violated c s.v) None)) was.breach number
+            ∙ (sym (violation_more c 0 s.front s.v) ∙ ap (bit_violation_from c 0) (sym s.is)));
+        rose =
+            closes.rose s.v now
+            ∙ (ap (λ (b : Bool). b || literal_value s.v (get_or c.bads claim 0)) was.rose
+            ∙ (sym (rises_more c claim s.front s.v) ∙ ap (bit_rises c claim) (sym s.is)));
+      }
+
+  steps_more : new.run.steps ≡ steps_of c (length (frames ++ here ∷ []))
+  steps_more =
+      let n = length frames in
+      let long : length (frames ++ here ∷ []) ≡ n + 1 = length-append frames (here ∷ []) in
+      ap (λ (r : CircuitRun). r.steps) closes.run
+      ∙ (ap₂ (λ (k : Circuit) (s : ℕ). more_steps (length k.latches) (more_steps (settle_steps k) s)) plays.run plays.steps
+      ∙ (ap (λ (s : ℕ). more_steps (length c.latches) s) (more_steps-sum (n * frame_steps c) (settle_steps c) 0)
+      ∙ (more_steps-sum (n * frame_steps c + settle_steps c) (length c.latches) 0
+      ∙ ap (λ (m : ℕ). more_steps m 0) (product n (settle_steps c) (length c.latches) ∙ ap (λ (m : ℕ). m * frame_steps c) (sym long)))))
+    where
+      product : (n s l : ℕ) → n * (s + l) + s + l ≡ (n + 1) * (s + l)
+      product n s l = omega arith
+
+  -- a frame more is closed
+  pub plays_more : Plays c claim initial (frames ++ here ∷ []) new []
+  plays_more =
+      let count = plays.count in
+      let long = length-append frames (here ∷ []) in
+      record {
+        circuit = closes.circuit ∙ plays.circuit;
+        run = ap (λ (r : CircuitRun). r.circuit) closes.run ∙ plays.run;
+        differs = closes.differs ∙ plays.differs;
+        many = ap (λ (r : CircuitRun). length r.inputs) closes.run ∙ (ap (λ (k : Circuit). length (no_inputs k)) plays.run ∙ length-replicate c.inputs false);
+        bits = λ fits. refl;
+        count = closes.frames ∙ omega (arith, count, few, long);
+        steps = steps_more;
+        traced = traced_more;
+      }

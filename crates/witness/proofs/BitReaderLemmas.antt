@@ -1,0 +1,182 @@
+-- Lines of a witness of a circuit, admitted one after the other by what is kept of them.
+use Rattle.std.proofs.Common.{◌≡◌, ℕ, ◌*◌, ◌<◌, ◌^◌, Bool, true, false, List, [], ◌∷◌, ◌++◌, None, Result, Ok, Err, MatchResult, codes, map, length, take, refl, sym, ap, subst, ◌∙◌, arith}
+use Rattle.std.specs.Str.{bytes_eq}
+use Rattle.std.proofs.lemmas.List.{length-map, length-replicate}
+use Rattle.std.proofs.Math.Seq.{take-length}
+use Rattle.aiger.specs.Circuit.{Circuit}
+use Rattle.aiger.specs.Literal.{Valuation}
+use Rattle.aiger.specs.Trace.{IsTrace}
+use Rattle.runs.specs.Run.{more_steps}
+use Rattle.runs.specs.CircuitRun.{first_bit}
+use Rattle.witness.specs.declared.why.Why.{Why}
+use Rattle.witness.specs.declared.why.Why.TheVariants as why
+use Rattle.witness.specs.declared.bit_place.BitPlace.{BitPlace as CodePlace}
+use Rattle.witness.specs.declared.bit_place.BitPlace.TheVariants as code
+use Rattle.witness.specs.BitAdmits.{AtClaim, AtInitial, AtFirst, AtLater, AtDone, BitRead, claim_at, bits_at, after_frame, bit_admit}
+use Rattle.witness.specs.BitScans.{is_one_bit}
+use Rattle.witness.specs.BitPlays.{BitPlay, play_start, frame_steps, Begins, Traced, Plays}
+use Rattle.witness.specs.BitStands.{place_of, BitReader, PlaysAt, Counts, Reads, GivesLine}
+use Rattle.witness.proofs.BitReadLemmas.{claim_is_line, bits_are_line}
+use Rattle.witness.proofs.BitPlayLemmas.{none_left}
+
+-- ---- the play begins
+
+begins_start : (c : Circuit) (p : BitPlay) → p ≡ play_start c → Begins c p []
+begins_start c p e =
+    subst (λ (p : BitPlay). Begins c p []) (sym e)
+    (record { start = refl; many = length-map c.latches (λ l. first_bit l.reset); bits = λ few. refl; differs = λ few. sym (none_left 0 c.latches) })
+
+-- as many bytes as there are latches are their bits
+initial_is : (c : Circuit) (p : BitPlay) (line : List ℕ) → Begins c p line → length line ≡ length c.latches → p.run.latches ≡ map is_one_bit line
+initial_is c p line h whole =
+    let many = h.many in
+    let same : length p.run.latches ≡ length line = many ∙ sym whole in
+    sym (take-length p.run.latches) ∙ (ap (λ (n : ℕ). take n p.run.latches) same ∙ h.bits (omega (arith, whole)))
+
+traced_start : (c : Circuit) (claim : ℕ) (initial : List Bool) (p : BitPlay) (vs : List Valuation) → p.run.latches ≡ initial → p.breach ≡ None → p.rose ≡ false → IsTrace c initial [] vs → Traced c claim initial p vs
+traced_start c claim initial p [] latches breach rose t = record { latches = latches; breach = breach; rose = rose }
+traced_start c claim initial p (v ∷ vs) latches breach rose t = absurd t
+
+plays_start : (c : Circuit) (p : BitPlay) (line : List ℕ) (claim : ℕ) (frames : List (List Bool)) → Begins c p line → length line ≡ length c.latches → frames ≡ [] → Plays c claim (map is_one_bit line) frames p []
+plays_start c p line claim frames h whole none =
+    subst (λ (frames : List (List Bool)). Plays c claim (map is_one_bit line) frames p []) (sym none)
+    (record {
+      circuit = ap (λ (p : BitPlay). p.circuit) h.start;
+      run = ap (λ (p : BitPlay). p.run.circuit) h.start;
+      differs = h.differs (omega (arith, whole));
+      many = ap (λ (p : BitPlay). length p.run.inputs) h.start ∙ length-replicate c.inputs false;
+      bits = λ few. refl;
+      count = ap (λ (p : BitPlay). p.frames) h.start;
+      steps = ap (λ (p : BitPlay). p.run.steps) h.start ∙ no_steps (frame_steps c);
+      traced = λ vs t.
+          traced_start c claim (map is_one_bit line) p vs (initial_is c p line h whole) (ap (λ (p : BitPlay). p.breach) h.start) (ap (λ (p : BitPlay). p.rose) h.start) t;
+    })
+  where
+    no_steps : (n : ℕ) → 0 ≡ more_steps (0 * n) 0
+    no_steps n =
+        let none : 0 * n ≡ 0 = omega arith in
+        rw none refl
+
+-- ---- a line at each place
+
+module _ (c : Circuit) (r : BitRead) (line : List ℕ) (q : BitReader) (reads : Reads c q r line) where
+  is_at : (x : CodePlace) → q.place ≡ x → r.place ≡ place_of x
+  is_at x e = sym reads.place ∙ ap place_of e
+
+  pub plays_at : (x : CodePlace) → q.place ≡ x → PlaysAt c r q.play line (place_of x)
+  plays_at x e = subst (PlaysAt c r q.play line) (is_at x e) reads.play
+
+  pub header_refused : q.place ≡ code.Header → bytes_eq line (codes "1") ≡ false → bit_admit c r line ≡ Err why.BadHeader
+  unfolding bit_admit
+  header_refused e fails = rw (is_at code.Header e, fails) refl
+
+  pub header_admitted : q.place ≡ code.Header → bytes_eq line (codes "1") ≡ true → (next : BitRead) × ((bit_admit c r line ≡ Ok next) × Reads c (record q { place = code.Claim }) next [])
+  unfolding bit_admit
+  header_admitted e is =
+      let plays = plays_at code.Header e in (
+        record r { place = AtClaim },
+        (rw (is_at code.Header e, is) refl, record { counts = record { circuit = reads.counts.circuit; frames = reads.counts.frames; steps = reads.counts.steps }; place = refl; claim = reads.claim; play = plays }),
+      )
+
+  pub claim_refused : (w : Why) → q.place ≡ code.Claim → claim_at (length c.bads) line ≡ Err w → bit_admit c r line ≡ Err w
+  unfolding bit_admit
+  claim_refused w e is = rw (is_at code.Claim e, is) refl
+
+  pub claim_admitted : (i : ℕ) → q.place ≡ code.Claim → length c.bads < 2 ^ 64 → claim_at (length c.bads) line ≡ Ok i → (next : BitRead) × ((bit_admit c r line ≡ Ok next) × Reads c (record q { place = code.Initial; claim = i }) next [])
+  unfolding bit_admit
+  claim_admitted i e small is =
+      let plays = plays_at code.Claim e in
+      let there = claim_is_line (length c.bads) line i small is in (
+        record r { place = AtInitial; claim = i },
+        (
+          rw (is_at code.Claim e, is) refl,
+          record { counts = record { circuit = reads.counts.circuit; frames = reads.counts.frames; steps = reads.counts.steps }; place = refl; claim = refl; play = (begins_start c q.play plays.0, plays.1, there.below) },
+        ),
+      )
+
+  pub initial_refused : (w : Why) → q.place ≡ code.Initial → bits_at (length c.latches) line ≡ Err w → bit_admit c r line ≡ Err w
+  unfolding bit_admit
+  initial_refused w e is = rw (is_at code.Initial e, is) refl
+
+  pub initial_admitted : q.place ≡ code.Initial → bits_at (length c.latches) line ≡ Ok (map is_one_bit line) → (next : BitRead) × ((bit_admit c r line ≡ Ok next) × Reads c (record q { place = code.First }) next [])
+  unfolding bit_admit
+  initial_admitted e is =
+      let plays = plays_at code.Initial e in
+      let are = bits_are_line (length c.latches) line (map is_one_bit line) is in
+      let whole : length line ≡ length c.latches = sym (length-map line is_one_bit) ∙ are.many in (
+        record r { place = AtFirst; initial = map is_one_bit line },
+        (
+          rw (is_at code.Initial e, is) refl,
+          record { counts = record { circuit = reads.counts.circuit; frames = reads.counts.frames; steps = reads.counts.steps }; place = refl; claim = reads.claim; play = (plays_start c q.play line r.claim r.frames plays.0 whole plays.1, plays.2) },
+        ),
+      )
+
+  pub end_refused : q.place ≡ code.First → bytes_eq line (codes ".") ≡ true → bit_admit c r line ≡ Err why.FrameOrder
+  unfolding bit_admit
+  end_refused e is = rw (is_at code.First e, is) refl
+
+  pub end_admitted : q.place ≡ code.Later → bytes_eq line (codes ".") ≡ true → (next : BitRead) × ((bit_admit c r line ≡ Ok next) × Reads c (record q { place = code.Done }) next [])
+  unfolding bit_admit
+  end_admitted e is =
+      let plays = plays_at code.Later e in (
+        record r { place = AtDone },
+        (
+          rw (is_at code.Later e, is) refl,
+          record {
+            counts = record { circuit = reads.counts.circuit; frames = reads.counts.frames; steps = reads.counts.steps };
+            place = refl;
+            claim = reads.claim;
+            play =
+                record {
+                  circuit = plays.0.circuit;
+                  run = plays.0.run;
+                  differs = plays.0.differs;
+                  many = plays.0.many;
+                  bits = λ few. refl;
+                  count = plays.0.count;
+                  steps = plays.0.steps;
+                  traced = plays.0.traced;
+                };
+          },
+        ),
+      )
+
+  pub trailing_refused : q.place ≡ code.Done → bit_admit c r line ≡ Err why.Trailing
+  unfolding bit_admit
+  trailing_refused e = rw (is_at code.Done e) refl
+
+  -- the line of a frame
+  pub first_frame : q.place ≡ code.First → bytes_eq line (codes ".") ≡ false → bit_admit c r line ≡ after_frame r (bits_at c.inputs line)
+  unfolding bit_admit
+  first_frame e fails = rw (is_at code.First e, fails) refl
+
+  pub later_frame : q.place ≡ code.Later → bytes_eq line (codes ".") ≡ false → bit_admit c r line ≡ after_frame r (bits_at c.inputs line)
+  unfolding bit_admit
+  later_frame e fails = rw (is_at code.Later e, fails) refl
+
+  pub frame_gives : (after : BitReader) (result : Result (Unit {0}) Why) → bit_admit c r line ≡ after_frame r (bits_at c.inputs line)
+      → MatchResult result (λ _. (bits_at c.inputs line ≡ Ok (map is_one_bit line)) × Reads c after (record r { place = AtLater; frames = r.frames ++ map is_one_bit line ∷ [] }) []) (λ w. bits_at c.inputs line ≡ Err w)
+      → GivesLine c r line after result
+  frame_gives after (Ok u) is h = (record r { place = AtLater; frames = r.frames ++ map is_one_bit line ∷ [] }, (is ∙ ap (after_frame r) h.0, h.1))
+  frame_gives after (Err w) is h = is ∙ ap (after_frame r) h
+
+  -- a frame more
+  pub frame_read : (p : BitPlay) → length line ≡ c.inputs → r.claim < length c.bads → Plays c r.claim r.initial (r.frames ++ map is_one_bit line ∷ []) p []
+      → Reads c (record { play = p; place = code.Later; claim = q.claim }) (record r { place = AtLater; frames = r.frames ++ map is_one_bit line ∷ [] }) []
+  frame_read p whole below plays =
+      record {
+        counts = record { circuit = plays.circuit; frames = plays.count; steps = plays.steps };
+        place = refl;
+        claim = reads.claim;
+        play = (plays, below);
+      }
+
+  -- a byte more of a frame's line
+  pub byte_read : (x : CodePlace) (p : BitPlay) (byte : ℕ) → q.place ≡ x → PlaysAt c r p (line ++ byte ∷ []) (place_of x) → Counts c (record q { play = p }) r → Reads c (record q { play = p }) r (line ++ byte ∷ [])
+  byte_read x p byte e plays counts =
+      record {
+        counts = counts;
+        place = reads.place;
+        claim = reads.claim;
+        play = subst (PlaysAt c r p (line ++ byte ∷ [])) (sym (is_at x e)) plays;
+      }

@@ -1,0 +1,214 @@
+-- What is kept of a line byte by byte is what its bytes say.
+use Rattle.std.proofs.Common.{◌≡◌, ℕ, ◌+◌, ◌-◌, ◌*◌, ◌<◌, ◌≤◌, ◌^◌, ◌==◌, min, nat_lt, nat_le, Bool, true, false, not, ◌&&◌, ◌||◌, List, [], ◌∷◌, ◌++◌, Some, None, Ok, Err, length, take, get_or, length-append, refl, sym, ap, ap₂, ◌∙◌, arith, inl, inr}
+use Rattle.std.specs.List.{list_any, list_all}
+use Rattle.std.proofs.lemmas.Bool.{cases_Bool, and_parts, and_from, eqb-true, eqb-false, ne_eqb, le-leb, le-ltb, lt-ltb}
+use Rattle.std.proofs.lemmas.List.Folds.{list_any-append, list_all-append}
+use Rattle.std.proofs.Math.Seq.{take-append_seam, take-length}
+use Rattle.base.specs.Decimals.{is_digit, are_digits, is_decimal, capped_value, number_of}
+use Rattle.base.proofs.DecimalLemmas.{digit_range, capped_value-nil, capped_value_more}
+use Rattle.witness.specs.declared.bit_scan.Scan.{Scan}
+use Rattle.witness.specs.Admits.{is_value_byte}
+use Rattle.witness.specs.declared.why.Why.TheVariants as why
+use Rattle.witness.specs.BitAdmits.{claim_at}
+use Rattle.witness.specs.BitScans.{behind_first, Scans, number_more, scan_more, has_decimal}
+
+-- a number with a digit more
+value_more : (digits : List ℕ) (b n : ℕ) → are_digits (digits ++ b ∷ []) ≡ true → n ≡ capped_value digits → number_more n b ≡ capped_value (digits ++ b ∷ [])
+value_more digits b n all is =
+    let whole : List ℕ = digits ++ b ∷ [] in
+    let long : length whole ≡ length digits + 1 = length-append digits (b ∷ []) in
+    let more = capped_value_more whole (length digits) all (omega (arith, long)) in
+    let front : take (length digits) whole ≡ digits = take-append_seam digits (b ∷ []) in
+    let full : take (length digits + 1) whole ≡ whole = ap (λ (n : ℕ). take n whole) (sym long) ∙ take-length whole in
+    let last : get_or whole (length digits) 0 ≡ b = at_end digits b in
+    let digit : is_digit b ≡ true = last_digit digits b all in
+    let one : min (min (capped_value digits * 10) (2 ^ 64 - 1) + (b - 48)) (2 ^ 64 - 1) ≡ capped_value whole =
+    sym (sym (ap capped_value full) ∙ more ∙ ap₂ (λ (front : List ℕ) (last : ℕ). min (min (capped_value front * 10) (2 ^ 64 - 1) + (last - 48)) (2 ^ 64 - 1)) front last) in
+    rw (digit, is) one
+  where
+    at_end : (digits : List ℕ) (b : ℕ) → get_or (digits ++ b ∷ []) (length digits) 0 ≡ b
+    at_end [] b = refl
+    at_end (d ∷ digits) b = at_end digits b
+
+    last_digit : (digits : List ℕ) (b : ℕ) → are_digits (digits ++ b ∷ []) ≡ true → is_digit b ≡ true
+    last_digit [] b all = (and_parts (is_digit b) true all).0
+    last_digit (d ∷ digits) b all = last_digit digits b (and_parts (is_digit d) (are_digits (digits ++ b ∷ [])) all).1
+
+and-true : (b : Bool) → (b && true) ≡ b
+and-true true = refl
+and-true false = refl
+
+or-false : (b : Bool) → (b || false) ≡ b
+or-false true = refl
+or-false false = refl
+
+digits-more : (digits : List ℕ) (b : ℕ) → are_digits (digits ++ b ∷ []) ≡ (are_digits digits && is_digit b)
+digits-more digits b = list_all-append is_digit digits (b ∷ []) ∙ ap (λ (d : Bool). are_digits digits && d) (and-true (is_digit b))
+
+-- the first byte
+one_byte : (s : Scan) (b : ℕ) → Scans s [] → Scans (scan_more s b) (b ∷ [])
+one_byte s b h =
+    let none : s.count ≡ 0 = h.count in
+    record {
+      count = omega (arith, none);
+      first = rw none refl;
+      zero = rw none h.zero;
+      digits = rw (none, h.digits) refl;
+      number = λ all. rw none capped_value-nil;
+      values = rw h.values (sym (and-true (is_value_byte b)));
+      unknown = rw h.unknown (sym (or-false (b == 120)));
+    }
+
+-- the second
+second_byte : (s : Scan) (a b : ℕ) → Scans s (a ∷ []) → Scans (scan_more s b) (a ∷ b ∷ [])
+second_byte s a b h =
+    let one : s.count ≡ 1 = h.count in
+    let digits : s.digits ≡ true = h.digits in
+    record {
+      count = omega (arith, one);
+      first = rw one h.first;
+      zero = rw one refl;
+      digits = rw (one, digits) (sym (and-true (is_digit b)));
+      number = λ all.
+          let digit : is_digit b ≡ true = rw (one, digits) at all in
+          rw one (value_more [] b s.number (and_from (is_digit b) true digit refl) (h.number digits));
+      values = rw h.values (sym (list_all-append is_value_byte (a ∷ []) (b ∷ []) ∙ ap (λ (v : Bool). list_all is_value_byte (a ∷ []) && v) (and-true (is_value_byte b))));
+      unknown = rw h.unknown (sym (list_any-append (λ c. c == 120) (a ∷ []) (b ∷ []) ∙ ap (λ (v : Bool). list_any (λ c. c == 120) (a ∷ []) || v) (or-false (b == 120))));
+    }
+
+-- a later one
+later_byte : (s : Scan) (x y : ℕ) (line : List ℕ) (b : ℕ) → Scans s (x ∷ y ∷ line) → Scans (scan_more s b) ((x ∷ y ∷ line) ++ b ∷ [])
+later_byte s x y line b h =
+    let whole : List ℕ = x ∷ y ∷ line in
+    let many : s.count ≡ min (length whole) (2 ^ 64 - 1) = h.count in
+    let not_none : (s.count == 0) ≡ false = ne_eqb s.count 0 (λ e. omega (arith, many, e)) in
+    let not_one : (s.count == 1) ≡ false = ne_eqb s.count 1 (λ e. omega (arith, many, e)) in
+    let all_digits : (s.digits && is_digit b) ≡ are_digits (behind_first (whole ++ b ∷ [])) = ap (λ (d : Bool). d && is_digit b) h.digits ∙ sym (digits-more (y ∷ line) b) in
+    record {
+      count = omega (arith, many, length-append whole (b ∷ []));
+      first = rw not_none h.first;
+      zero = rw not_one h.zero;
+      digits = rw not_none all_digits;
+      number = λ all.
+          let both : (s.digits && is_digit b) ≡ true = rw not_none at all in
+          let parts = and_parts s.digits (is_digit b) both in
+          rw not_none (value_more (y ∷ line) b s.number (sym all_digits ∙ both) (h.number parts.0));
+      values = rw h.values (sym (list_all-append is_value_byte whole (b ∷ []) ∙ ap (λ (v : Bool). list_all is_value_byte whole && v) (and-true (is_value_byte b))));
+      unknown = rw h.unknown (sym (list_any-append (λ c. c == 120) whole (b ∷ []) ∙ ap (λ (v : Bool). list_any (λ c. c == 120) whole || v) (or-false (b == 120))));
+    }
+
+-- a byte more
+pub scans_more : (s : Scan) (line : List ℕ) (b : ℕ) → Scans s line → Scans (scan_more s b) (line ++ b ∷ [])
+scans_more s [] b h = one_byte s b h
+scans_more s (a ∷ []) b h = second_byte s a b h
+scans_more s (x ∷ y ∷ line) b h = later_byte s x y line b h
+
+-- no byte
+pub scans_nothing : Scans (record { count = 0; first = 0; zero = false; digits = true; number = 0; values = true; unknown = false }) []
+scans_nothing = record { count = refl; first = refl; zero = refl; digits = refl; number = λ all. capped_value-nil; values = refl; unknown = refl }
+
+-- ---- decimals
+
+-- digits of which the first is not `0`
+digits_not_zero : (d : ℕ) (ds : List ℕ) → (d == 48) ≡ false → (nat_le 49 d && nat_le d 57 && are_digits (d ∷ ds)) ≡ are_digits (d ∷ ds)
+digits_not_zero d ds not =
+    elim (cases_Bool (are_digits (d ∷ ds))) [
+      | inl all ↦
+          let range = digit_range d (and_parts (is_digit d) (are_digits ds) all).0 in
+          let above : 49 ≤ d = omega (arith, range, eqb-false d 48 not) in
+          rw (all, le-leb 49 d above, le-leb d 57 range.1) refl
+      | inr none ↦ rw none (and-false (nat_le 49 d && nat_le d 57))
+    ]
+  where
+    and-false : (b : Bool) → (b && false) ≡ false
+    and-false true = refl
+    and-false false = refl
+
+-- what stands behind the first byte is a decimal, by what is kept
+decimal_test : (s : Scan) (a : ℕ) (tail : List ℕ) → Scans s (a ∷ tail) → is_decimal tail ≡ has_decimal s
+unfolding is_decimal
+decimal_test s a [] h =
+    let one : s.count ≡ 1 = h.count in
+    rw one refl
+decimal_test s a (d ∷ []) h =
+    let two : s.count ≡ 2 = h.count in
+    elim (cases_Bool (d == 48)) [
+      | inl zero ↦ let is : d ≡ 48 = eqb-true d 48 zero in rw (two, h.digits, h.zero, is) refl
+      | inr not ↦ rw (two, h.digits, h.zero, not) (digits_not_zero d [] not ∙ sym (and-true (are_digits (d ∷ []))))
+    ]
+decimal_test s a (d ∷ e ∷ ds) h =
+    let many : s.count ≡ min (length (a ∷ d ∷ e ∷ ds)) (2 ^ 64 - 1) = h.count in
+    let above : nat_lt 1 s.count ≡ true = lt-ltb 1 s.count (omega (arith, many)) in
+    let not_two : (s.count == 2) ≡ false = ne_eqb s.count 2 (λ e. omega (arith, many, e)) in
+    elim (cases_Bool (d == 48)) [
+      | inl zero ↦ rw (above, not_two, h.digits, h.zero, zero) (sym (and-false (are_digits (d ∷ e ∷ ds))))
+      | inr not ↦ rw (above, not_two, h.digits, h.zero, not) (digits_not_zero d (e ∷ ds) not ∙ sym (and-true (are_digits (d ∷ e ∷ ds))))
+    ]
+  where
+    and-false : (b : Bool) → (b && false) ≡ false
+    and-false true = refl
+    and-false false = refl
+
+-- a decimal that is kept
+number_kept : (s : Scan) (a : ℕ) (tail : List ℕ) → Scans s (a ∷ tail) → has_decimal s ≡ true → number_of tail ≡ Some s.number
+unfolding number_of
+number_kept s a tail h holds =
+    let test : is_decimal tail ≡ true = decimal_test s a tail h ∙ holds in
+    let digits : s.digits ≡ true = (and_parts s.digits (not s.zero || (s.count == 2)) (and_parts (nat_lt 1 s.count) (s.digits && (not s.zero || (s.count == 2))) holds).1).0 in
+    rw (test, h.number digits) refl
+
+no_number : (s : Scan) (a : ℕ) (tail : List ℕ) → Scans s (a ∷ tail) → has_decimal s ≡ false → number_of tail ≡ None
+unfolding number_of
+no_number s a tail h fails =
+    let test : is_decimal tail ≡ false = decimal_test s a tail h ∙ fails in
+    rw test refl
+
+-- ---- claims
+
+no_claim_without : (line : List ℕ) (bads : ℕ) → number_of (behind_first line) ≡ None → claim_at bads line ≡ Err why.BadClaim
+no_claim_without [] bads none = refl
+no_claim_without (a ∷ tail) bads none =
+    elim (cases_Bool (a == 98)) [
+      | inl b ↦ rw (b, none) refl
+      | inr not_b ↦
+          elim (cases_Bool (a == 106)) [
+            | inl j ↦ rw (not_b, j, none) refl
+            | inr not_j ↦ rw (not_b, not_j) refl
+          ]
+    ]
+
+pub claims_no_decimal : (s : Scan) (line : List ℕ) (bads : ℕ) → Scans s line → has_decimal s ≡ false → Err why.BadClaim ≡ claim_at bads line
+claims_no_decimal s [] bads h fails = refl
+claims_no_decimal s (a ∷ tail) bads h fails = sym (no_claim_without (a ∷ tail) bads (no_number s a tail h fails))
+
+pub claims_justice : (s : Scan) (line : List ℕ) (bads : ℕ) → Scans s line → has_decimal s ≡ true → s.first ≡ 106 → Err why.JusticeClaim ≡ claim_at bads line
+claims_justice s [] bads h holds j =
+    let none : s.count ≡ 0 = h.count in
+    absurd (cc (rw none at holds))
+claims_justice s (a ∷ tail) bads h holds j =
+    let is : a ≡ 106 = sym h.first ∙ j in
+    rw (is, number_kept s a tail h holds) refl
+
+pub claims_bad : (s : Scan) (line : List ℕ) (bads : ℕ) → Scans s line → has_decimal s ≡ true → s.first ≡ 98 → s.number < bads → Ok s.number ≡ claim_at bads line
+claims_bad s [] bads h holds b below =
+    let none : s.count ≡ 0 = h.count in
+    absurd (cc (rw none at holds))
+claims_bad s (a ∷ tail) bads h holds b below =
+    let is : a ≡ 98 = sym h.first ∙ b in
+    rw (is, number_kept s a tail h holds, lt-ltb s.number bads below) refl
+
+-- neither
+pub claims_other : (s : Scan) (line : List ℕ) (bads : ℕ) → Scans s line → (s.first ≡ 106 → ⊥) → (s.first ≡ 98 → ⊥) → Err why.BadClaim ≡ claim_at bads line
+claims_other s [] bads h not_j not_b = refl
+claims_other s (a ∷ tail) bads h not_j not_b =
+    let is : s.first ≡ a = h.first in
+    let no_b : (a == 98) ≡ false = ne_eqb a 98 (λ e. not_b (is ∙ e)) in
+    let no_j : (a == 106) ≡ false = ne_eqb a 106 (λ e. not_j (is ∙ e)) in
+    rw (no_b, no_j) refl
+
+-- a bad property that is not there
+pub claims_too_far : (s : Scan) (line : List ℕ) (bads : ℕ) → Scans s line → has_decimal s ≡ true → s.first ≡ 98 → bads ≤ s.number → Err why.BadClaim ≡ claim_at bads line
+claims_too_far s [] bads h holds b far = refl
+claims_too_far s (a ∷ tail) bads h holds b far =
+    let is : a ≡ 98 = sym h.first ∙ b in
+    rw (is, number_kept s a tail h holds, le-ltb s.number bads far) refl

@@ -1,0 +1,24 @@
+use Rattle.std.proofs.Common.{[], subst, sym}
+use Rattle.base.specs.Lines.{whole_lines, unfinished}
+use Rattle.witness.specs.declared.bit_scan.Scan.{Scan}
+use Rattle.witness.specs.BitScans.{Scans}
+use Rattle.witness.specs.BitStands.{BitJudge, StandsFor}
+use Rattle.witness.proofs.BitJudgeLemmas.{end_more, stays_refused, with_line, no_refusal, some_refusal}
+use Rattle.witness.proofs.bit_judge.BitJudge.end_line.Goals as goal
+
+pub returns-then-is_none : goal.returns-then-is_none
+returns-then-is_none c circuit text stands =
+    let j : BitJudge = record { reader = c.self.inside.reader; line = c.self.inside.line; admitted = c.self.inside.admitted; refused = c.self.inside.refused; no_claim = c.self.inside.no_claim } in
+    let now : StandsFor circuit j text = subst (λ (j : BitJudge). StandsFor circuit j text) (sym c.self.view_is) stands in
+    let none = no_refusal c.self.inside.refused c.if-is_none.ensures in
+    end_more circuit text c.judge_line.new.self
+    (c.judge_line.ensures.lines circuit (whole_lines text) (unfinished text) (with_line circuit (whole_lines text) (unfinished text) j c.new-self-inside.result now.lines) now.line none)
+    (subst (λ (s : Scan). Scans s []) (sym c.judge_line.ensures.line) c.new-self-inside.ensures)
+
+pub returns-else-is_none : goal.returns-else-is_none
+returns-else-is_none c circuit text stands =
+    let j : BitJudge = record { reader = c.self.inside.reader; line = c.self.inside.line; admitted = c.self.inside.admitted; refused = c.self.inside.refused; no_claim = c.self.inside.no_claim } in
+    let now : StandsFor circuit j text = subst (λ (j : BitJudge). StandsFor circuit j text) (sym c.self.view_is) stands in
+    let refused = some_refusal c.self.inside.refused c.if-is_none.ensures in
+    end_more circuit text (record j { line = c.new-self-inside.result })
+    (stays_refused circuit (whole_lines text) (unfinished text) j c.new-self-inside.result refused.0 now.lines refused.1) c.new-self-inside.ensures

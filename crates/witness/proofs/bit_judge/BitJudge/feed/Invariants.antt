@@ -1,0 +1,8 @@
+use Rattle.std.proofs.Common.{ℕ, List, ◌++◌, take}
+use Rattle.aiger.specs.Circuit.{Circuit}
+use Rattle.witness.specs.BitStands.{StandsFor}
+use Rattle.witness.proofs.bit_judge.BitJudge.feed.Given as goal
+
+-- the bytes before are taken
+abbrev pub invariant-loop-byte : goal.invariant-loop-byte
+invariant-loop-byte l = (c : Circuit) (text : List ℕ) → StandsFor c l.fn.self text → StandsFor c l.self (text ++ take l.byte-index l.bytes)

@@ -1,0 +1,10 @@
+use Rattle.std.proofs.Common.{List, ℕ, []}
+use Rattle.witness.specs.BitJudgements.{BitJudges}
+use Rattle.witness.specs.BitStands.{StandsFor}
+use Rattle.witness.proofs.BitFeedLemmas.{if_some_then}
+use Rattle.witness.proofs.bit_judging.judge_bits.Goals as goal
+
+pub returns-in-Ok-feed_all-clause-judged : goal.returns-in-Ok-feed_all-clause-judged
+returns-in-Ok-feed_all-clause-judged g c =
+    if_some_then _ (λ (text : List ℕ). StandsFor c.args.circuit.now c.feed_all.new.judge text) (λ (text : List ℕ). BitJudges c.args.circuit.now text c.finish.result) (c.finish.ensures c.args.circuit.now)
+    (c.in-Ok-feed_all.ensures.fed c.args.circuit.now [] c.in-Ok.ensures)

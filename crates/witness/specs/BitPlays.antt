@@ -1,0 +1,69 @@
+-- The frames of a witness of a circuit, played one after the other while its lines are read: what is kept of them, and which lines it is of.
+use Rattle.std.specs.Prelude.{◌≡◌, ℕ, ◌+◌, ◌*◌, ◌≤◌, Bool, true, false, List, [], ◌∷◌, Option, Some, None, map, length, take, slice_set}
+use Rattle.aiger.specs.Literal.{Valuation}
+use Rattle.aiger.specs.Circuit.{Circuit}
+use Rattle.aiger.specs.Trace.{IsTrace, next_state}
+use Rattle.runs.specs.Run.{more_steps}
+use Rattle.runs.specs.CircuitRun.{CircuitRun, circuit_start, settle_steps}
+use Rattle.witness.specs.Judgements.{Violation}
+use Rattle.witness.specs.BitScans.{is_one_bit}
+use Rattle.witness.specs.BitJudgements.{first_reset_differing, bit_violation_from, bit_rises}
+
+-- a run of the circuit; the first latch whose initial bit is not that of its reset; how many frames are closed, the first constraint that did not hold in them,
+-- and whether the claimed bad property rose
+pub record BitPlay : Type 0 where
+  pub circuit : Circuit
+  pub run : CircuitRun
+  pub differs : Option ℕ
+  pub frames : ℕ
+  pub breach : Option Violation
+  pub rose : Bool
+
+-- nothing is read
+abbrev pub play_start : Circuit → BitPlay
+play_start c = record { circuit = c; run = circuit_start c; differs = None; frames = 0; breach = None; rose = false }
+
+-- the steps of one frame, and of so many
+abbrev pub frame_steps : Circuit → ℕ
+frame_steps c = settle_steps c + length c.latches
+
+abbrev pub steps_of : Circuit → ℕ → ℕ
+steps_of c frames = more_steps (frames * frame_steps c) 0
+
+-- the bits that the latches have behind the frames of a trace
+abbrev pub state_behind : Circuit → List Bool → List Valuation → List Bool
+state_behind c state [] = state
+state_behind c state (v ∷ vs) = state_behind c (next_state c v) vs
+
+-- these bytes of the line of initial bits are read
+pub record Begins (c : Circuit) (p : BitPlay) (line : List ℕ) : Type 0 where
+  pub start : p ≡ record (play_start c) { run = record (circuit_start c) { latches = p.run.latches; settled = p.run.settled }; differs = p.differs }
+  pub many : length p.run.latches ≡ length c.latches
+  pub bits : length line ≤ length c.latches → take (length line) p.run.latches ≡ map is_one_bit line
+  pub differs : length line ≤ length c.latches → p.differs ≡ first_reset_differing 0 c.latches (map is_one_bit line)
+
+-- what a trace says of what is kept
+pub record Traced (c : Circuit) (claim : ℕ) (initial : List Bool) (p : BitPlay) (vs : List Valuation) : Type 0 where
+  pub latches : p.run.latches ≡ state_behind c initial vs
+  pub breach : p.breach ≡ bit_violation_from c 0 vs
+  pub rose : p.rose ≡ bit_rises c claim vs
+
+-- these frames are closed, and these bytes of the next one's line are read
+pub record Plays (c : Circuit) (claim : ℕ) (initial : List Bool) (frames : List (List Bool)) (p : BitPlay) (line : List ℕ) : Type 0 where
+  pub circuit : p.circuit ≡ c
+  pub run : p.run.circuit ≡ c
+  pub differs : p.differs ≡ first_reset_differing 0 c.latches initial
+  pub many : length p.run.inputs ≡ c.inputs
+  pub bits : length line ≤ c.inputs → take (length line) p.run.inputs ≡ map is_one_bit line
+  pub count : p.frames ≡ length frames
+  pub steps : p.run.steps ≡ steps_of c (length frames)
+  pub traced : (vs : List Valuation) → IsTrace c initial frames vs → Traced c claim initial p vs
+
+-- with the initial bit of a latch that is there
+abbrev pub differing : Option ℕ → ℕ → Bool → Option ℕ
+differing None k true = Some k
+differing None k false = None
+differing (Some i) k b = Some i
+
+abbrev pub latch_given : BitPlay → ℕ → Bool → Bool → BitPlay
+latch_given p k b differs = record p { run = record p.run { latches = slice_set p.run.latches k b; settled = false }; differs = differing p.differs k differs }

@@ -1,0 +1,46 @@
+-- What is kept of the bytes of a line of which more may follow.
+use Rattle.std.specs.Prelude.{◌≡◌, ℕ, ◌+◌, ◌-◌, ◌*◌, ◌^◌, min, Bool, true, not, ◌&&◌, ◌||◌, ◌==◌, nat_lt, List, [], ◌∷◌, length, slice_index_or, if◌then◌else◌}
+use Rattle.std.specs.List.{list_any, list_all}
+use Rattle.base.specs.Decimals.{is_digit, are_digits, capped_value}
+use Rattle.witness.specs.declared.bit_scan.Scan.{Scan}
+use Rattle.witness.specs.Admits.{is_value_byte}
+
+-- the bytes behind the first
+abbrev pub behind_first : List ℕ → List ℕ
+behind_first [] = []
+behind_first (b ∷ bs) = bs
+
+-- the bit of a byte
+abbrev pub is_one_bit : ℕ → Bool
+is_one_bit b = b == 49
+
+-- what is kept is that of these bytes
+pub record Scans (s : Scan) (line : List ℕ) : Type 0 where
+  pub count : s.count ≡ min (length line) (2 ^ 64 - 1)
+  pub first : s.first ≡ slice_index_or line 0 0
+  pub zero : s.zero ≡ (slice_index_or line 1 0 == 48)
+  pub digits : s.digits ≡ are_digits (behind_first line)
+  pub number : s.digits ≡ true → s.number ≡ capped_value (behind_first line)
+  pub values : s.values ≡ list_all is_value_byte line
+  pub unknown : s.unknown ≡ list_any (λ b. b == 120) line
+
+-- a number with a digit more
+abbrev pub number_more : ℕ → ℕ → ℕ
+number_more number byte = if is_digit byte then min (min (number * 10) (2 ^ 64 - 1) + (byte - 48)) (2 ^ 64 - 1) else number
+
+-- the same with a byte more
+abbrev pub scan_more : Scan → ℕ → Scan
+scan_more s byte =
+    record {
+      count = min (s.count + 1) (2 ^ 64 - 1);
+      first = if s.count == 0 then byte else s.first;
+      zero = if s.count == 1 then byte == 48 else s.zero;
+      digits = s.digits && ((s.count == 0) || is_digit byte);
+      number = if s.count == 0 then 0 else number_more s.number byte;
+      values = s.values && is_value_byte byte;
+      unknown = s.unknown || (byte == 120);
+    }
+
+-- what stands behind the first byte is a decimal
+abbrev pub has_decimal : Scan → Bool
+has_decimal s = nat_lt 1 s.count && (s.digits && (not s.zero || (s.count == 2)))

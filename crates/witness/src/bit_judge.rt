@@ -1,0 +1,242 @@
+//! The judge of witnesses of a circuit.
+ghost use Rattle.std.specs.Prelude.{◌≡◌, ℕ, ◌&&◌, ◌||◌, List, [], ◌∷◌, ◌++◌, MatchResult, None, codes};
+ghost use Rattle.std.specs.Str.{bytes_eq};
+ghost use Rattle.aiger.specs.Circuit.{Circuit};
+ghost use Rattle.runs.specs.CircuitRun.{circuit_held};
+ghost use Rattle.witness.specs.BitAdmits.{admitted_lines, closed_frames};
+ghost use Rattle.witness.specs.BitJudgements.{BitJudges};
+ghost use Rattle.witness.specs.BitScans.{Scans};
+ghost use Rattle.witness.specs.BitPlays.{steps_of};
+ghost use Rattle.witness.specs.BitStands.{IsOfLines, StandsFor, is_first, last_refusal, judgement_of};
+
+use crate::bit_place::BitPlace;
+use crate::bit_play::BitPlay;
+use crate::bit_reader::BitReader;
+use crate::bit_scan::Scan;
+use crate::judgement::Judgement;
+use crate::why::Why;
+use aiger::Circuit;
+use runs::NewFault;
+use std::alloc::Global;
+use std::marker::Model;
+
+/// The most lines of a witness.
+const MOST_LINES: u64 = 1 << 62;
+
+/// A judge of witnesses of a circuit, which it borrows: it is fed a text piece by piece, and keeps none of it. Beside the
+/// values of one run of the circuit it holds a fixed number of words; neither feeding nor finishing takes memory or
+/// refuses anything.
+///
+/// Clauses see what it holds; which texts it stands for is a relation to that.
+#[derive(Drop)]
+pub struct BitJudge<'a> {
+    reader: BitReader<'a>,
+    // the bytes of the line that has not ended
+    line: Scan,
+    // how many whole lines are admitted
+    admitted: u64,
+    // why the whole line behind them was refused
+    refused: Option<Why>,
+    // the first line says that there is no claim
+    no_claim: bool,
+}
+
+impl<'a> Model for BitJudge<'a> {
+    ghost use Rattle.witness.specs.BitStands.{BitJudge as BitJudgeValue};
+
+    ghost Value = { BitJudgeValue };
+
+    ghost view = { λ j. record { reader = j.reader; line = j.line; admitted = j.admitted; refused = j.refused; no_claim = j.no_claim } };
+}
+
+/// Whether a line says that there is no claim, where it is the first.
+fn says_no_claim(place: BitPlace, line: Scan) -> bool
+    ensures { (bytes : List ℕ) → Scans line bytes → result ≡ (is_first place && (bytes_eq bytes (codes "0") || bytes_eq bytes (codes "2"))) }
+{
+    match place {
+        BitPlace::Header => line.is_byte(b'0') || line.is_byte(b'2'),
+        BitPlace::Claim | BitPlace::Initial | BitPlace::First | BitPlace::Later | BitPlace::Done =>
+            false,
+    }
+}
+
+/// Whether one of two holds.
+fn either(one: bool, other: bool) -> bool
+    ensures { result ≡ (one || other) }
+{
+    one || other
+}
+
+/// Why the line is refused that follows so many whole lines and does not end, if it is.
+fn last_refusal(place: BitPlace, admitted: u64, empty: bool) -> Option<Why>
+    ensures { result ≡ last_refusal place admitted empty }
+{
+    match place {
+        BitPlace::Done => {
+            if empty {
+                None
+            } else if admitted >= MOST_LINES {
+                Some(Why::TooLong)
+            } else {
+                Some(Why::Trailing)
+            }
+        }
+        BitPlace::Header
+        | BitPlace::Claim
+        | BitPlace::Initial
+        | BitPlace::First
+        | BitPlace::Later => {
+            if admitted >= MOST_LINES && !empty {
+                Some(Why::TooLong)
+            } else {
+                Some(Why::Truncated)
+            }
+        }
+    }
+}
+
+/// What is judged of a whole witness by its frames.
+fn judgement_of(play: &BitPlay<'_>, claim: u64) -> Judgement
+    ensures { result ≡ judgement_of play.now claim }
+{
+    if let Some(index) = play.differs() {
+        return Judgement::InitDiffers { index };
+    }
+    if let Some(breach) = play.breach() {
+        return Judgement::Violated {
+            frame: breach.frame,
+            constraint: breach.constraint,
+        };
+    }
+    if !play.rose() {
+        return Judgement::NotReached { claim };
+    }
+    Judgement::Accepted {
+        frames: play.frames(),
+    }
+}
+
+impl<'a> BitJudge<'a> {
+    /// A judge of witnesses of a circuit, which stands for the empty text.
+    ///
+    /// Error: `NoMemory`.
+    pub fn new(alloc: Global, circuit: &'a Circuit) -> Result<BitJudge<'a>, NewFault>
+        ensures { MatchResult result (λ judge. StandsFor circuit.now judge []) (λ fault. fault ≡ NewFault.NoMemory) }
+    {
+        match BitReader::new(alloc, circuit) {
+            Ok(reader) => Ok(BitJudge {
+                reader,
+                line: Scan::new(),
+                admitted: 0,
+                refused: None,
+                no_claim: false,
+            }),
+            Err(fault) => Err(fault),
+        }
+    }
+
+    /// A line has ended behind the whole lines, none of which was refused.
+    fn judge_line(&mut self, line: Scan)
+        ensures lines { (c : Circuit) (lines : List (List ℕ)) (bytes : List ℕ) → IsOfLines c self.old lines bytes → Scans line bytes → self.old.refused ≡ None → IsOfLines c self.new (lines ++ bytes ∷ []) [] }
+        ensures line { self.new.line ≡ self.old.line }
+    {
+        self.no_claim = either(self.no_claim, says_no_claim(self.reader.place(), line));
+        if self.admitted >= MOST_LINES {
+            self.refused = Some(Why::TooLong);
+            return;
+        }
+        match self.reader.admit(line) {
+            Ok(()) => self.admitted += 1,
+            Err(why) => self.refused = Some(why),
+        }
+    }
+
+    /// Takes the end of a line.
+    fn end_line(&mut self)
+        ensures { (c : Circuit) (text : List ℕ) → StandsFor c self.old text → StandsFor c self.new (text ++ 10 ∷ []) }
+    {
+        let line = self.line;
+        self.line = Scan::new();
+        if self.refused.is_none() {
+            self.judge_line(line);
+        }
+    }
+
+    /// Takes a byte that ends no line.
+    fn take_byte(&mut self, byte: u8)
+        ensures { (c : Circuit) (text : List ℕ) → (byte ≡ 10 → ⊥) → StandsFor c self.old text → StandsFor c self.new (text ++ byte ∷ []) }
+    {
+        let count = self.line.count();
+        self.line.push(byte);
+        if self.refused.is_none() {
+            self.reader.take(count, byte);
+        }
+    }
+
+    /// Takes a byte.
+    fn take(&mut self, byte: u8)
+        ensures { (c : Circuit) (text : List ℕ) → StandsFor c self.old text → StandsFor c self.new (text ++ byte ∷ []) }
+    {
+        if byte == b'\n' {
+            self.end_line();
+            return;
+        }
+        self.take_byte(byte);
+    }
+
+    /// Takes a piece of the text behind those before: a judge that stood for a text stands for that text with the piece
+    /// behind it.
+    pub fn feed(&mut self, bytes: &[u8])
+        ensures { (c : Circuit) (text : List ℕ) → StandsFor c self.old text → StandsFor c self.new (text ++ bytes.now) }
+    {
+        for byte in bytes {
+            self.take(*byte);
+        }
+    }
+
+    /// The judgement of the text: of every one that the judge stands for.
+    pub fn finish(self) -> Judgement
+        ensures { (c : Circuit) (text : List ℕ) → StandsFor c self.entry text → BitJudges c text result }
+    {
+        if self.no_claim {
+            return Judgement::NoClaim;
+        }
+        let line = self.admitted.saturating_add(1);
+        if let Some(why) = self.refused {
+            return Judgement::Malformed { line, why };
+        }
+        if let Some(why) = last_refusal(self.reader.place(), self.admitted, self.line.is_empty()) {
+            return Judgement::Malformed { line, why };
+        }
+        judgement_of(self.reader.play(), self.reader.claim())
+    }
+
+    /// How many bits the judge's run holds: one for 0 and each variable, and one for each latch.
+    pub fn held(&self) -> u64
+        ensures { (c : Circuit) (text : List ℕ) → StandsFor c self.now text → result ≡ circuit_held c }
+    {
+        self.reader.play().held()
+    }
+
+    /// The steps that the run has taken: for each closed frame one for each input, each gate and each latch. The count
+    /// stays at its greatest value, 2^128 - 1, once it is there.
+    pub fn steps(&self) -> u128
+        ensures { (c : Circuit) (text : List ℕ) → StandsFor c self.now text → result ≡ steps_of c (closed_frames c text) }
+    {
+        self.reader.play().steps()
+    }
+
+    /// How many frames are closed: those whose lines have ended before the first faulty line.
+    pub fn closed_frames(&self) -> u64
+        ensures { (c : Circuit) (text : List ℕ) → StandsFor c self.now text → result ≡ closed_frames c text }
+    {
+        self.reader.play().frames()
+    }
+
+    /// How many whole lines stand before the first faulty line.
+    pub fn admitted_lines(&self) -> u64
+        ensures { (c : Circuit) (text : List ℕ) → StandsFor c self.now text → result ≡ admitted_lines c text }
+    {
+        self.admitted
+    }
+}

@@ -1,0 +1,218 @@
+//! The frames of a witness of a circuit, played while its lines are read.
+ghost use Rattle.std.specs.Prelude.{◌≡◌, ℕ, ◌<◌, ◌-◌, ◌^◌, ◌||◌, min, true, Bool, List, [], ◌∷◌, ◌++◌, MatchResult, length, map, slice_index, slice_index_or};
+ghost use Rattle.aiger.specs.declared.circuit.Latch.{Latch};
+ghost use Rattle.aiger.specs.Literal.{Valuation, literal_value};
+ghost use Rattle.aiger.specs.Circuit.{Circuit};
+ghost use Rattle.runs.specs.CircuitRun.{IsFrameNow, circuit_held};
+ghost use Rattle.witness.specs.BitScans.{is_one_bit};
+ghost use Rattle.witness.specs.BitJudgements.{differs_from_reset, first_bit_violated};
+ghost use Rattle.witness.specs.BitPlays.{Begins, Plays, play_start, differing, latch_given};
+
+use crate::verdicts::{Breach, earlier};
+use aiger::{Circuit, Reset};
+use runs::{BitRun, NewFault};
+use std::alloc::Global;
+use std::marker::Model;
+
+/// The frames of a witness of a circuit that are closed, and the bits of the line that may go on.
+#[derive(Drop)]
+pub(crate) struct BitPlay<'a> {
+    circuit: &'a Circuit,
+    run: BitRun<'a>,
+    // the first latch whose initial bit is not that of its reset
+    differs: Option<u64>,
+    frames: u64,
+    // the first constraint that did not hold in a closed frame
+    breach: Option<Breach>,
+    // the claimed bad property rose in a closed frame
+    rose: bool,
+}
+
+impl<'a> Model for BitPlay<'a> {
+    ghost use Rattle.std.specs.Prelude.{◌≡◌};
+    ghost use Rattle.witness.specs.BitPlays.{BitPlay as BitPlayValue};
+
+    ghost Value = { BitPlayValue };
+
+    ghost view = { λ p. record { circuit = p.circuit.now; run = p.run; differs = p.differs; frames = p.frames; breach = p.breach; rose = p.rose } };
+
+    ghost invariant = { λ p. p.run.circuit ≡ p.circuit.now };
+}
+
+/// Whether a bit is not that of a reset.
+fn differs_from_reset(reset: Reset, bit: bool) -> bool
+    ensures { result ≡ differs_from_reset reset bit }
+{
+    match reset {
+        Reset::Zero => bit,
+        Reset::One => !bit,
+        Reset::Free => false,
+    }
+}
+
+/// A latch that was found, or else the one of this number where it differs.
+fn differing(found: Option<u64>, k: u64, differs: bool) -> Option<u64>
+    ensures { result ≡ differing found k differs }
+{
+    match found {
+        Some(first) => Some(first),
+        None => { if differs { Some(k) } else { None } }
+    }
+}
+
+/// Whether one of two holds.
+fn either(one: bool, other: bool) -> bool
+    ensures { result ≡ (one || other) }
+{
+    one || other
+}
+
+/// The first constraint that does not hold.
+fn first_violated(circuit: &Circuit, run: &BitRun<'_>) -> Option<u64>
+    requires same { run.now.circuit ≡ circuit.now }
+    requires settled { run.now.settled ≡ true }
+    ensures { (v : Valuation) → IsFrameNow run.now v → result ≡ first_bit_violated circuit.now v }
+{
+    for i in 0..circuit.constraints().len() {
+        if !run.constraint(i) {
+            return Some(i as u64);
+        }
+    }
+    None
+}
+
+/// Whether a bad property is there and rises.
+fn rises(circuit: &Circuit, run: &BitRun<'_>, claim: u64) -> bool
+    requires same { run.now.circuit ≡ circuit.now }
+    requires settled { run.now.settled ≡ true }
+    ensures { (v : Valuation) → IsFrameNow run.now v → claim < length circuit.now.bads → result ≡ literal_value v (slice_index circuit.now.bads claim) }
+{
+    let claim = claim as usize;
+    claim < circuit.bads().len() && run.bad(claim)
+}
+
+impl<'a> BitPlay<'a> {
+    /// Of a circuit, before any line.
+    ///
+    /// Error: `NoMemory`.
+    pub(crate) fn new(alloc: Global, circuit: &'a Circuit) -> Result<BitPlay<'a>, NewFault>
+        ensures { MatchResult result (λ p. p ≡ play_start circuit.now) (λ fault. fault ≡ NewFault.NoMemory) }
+    {
+        match BitRun::new(alloc, circuit) {
+            Ok(run) => Ok(BitPlay {
+                circuit,
+                run,
+                differs: None,
+                frames: 0,
+                breach: None,
+                rose: false,
+            }),
+            Err(fault) => Err(fault),
+        }
+    }
+
+    /// How many bad properties, latches and inputs there are.
+    pub(crate) fn bads(&self) -> u64
+        ensures { result ≡ length self.now.circuit.bads }
+    {
+        self.circuit.bads().len() as u64
+    }
+
+    pub(crate) fn latches(&self) -> u64
+        ensures count { result ≡ length self.now.circuit.latches }
+        ensures few { result < 2 ^ 64 - 1 }
+    {
+        self.circuit.latches().len() as u64
+    }
+
+    pub(crate) fn inputs(&self) -> u64
+        ensures count { result ≡ self.now.circuit.inputs }
+        ensures few { result < 2 ^ 64 - 1 }
+    {
+        u64::from(self.circuit.inputs())
+    }
+
+    /// The closed frames.
+    pub(crate) fn frames(&self) -> u64
+        ensures { result ≡ self.now.frames }
+    {
+        self.frames
+    }
+
+    /// How many bits the run holds, and the steps that it has taken.
+    pub(crate) fn held(&self) -> u64
+        ensures { result ≡ circuit_held self.now.circuit }
+    {
+        self.run.held()
+    }
+
+    pub(crate) fn steps(&self) -> u128
+        ensures { result ≡ self.now.run.steps }
+    {
+        self.run.steps()
+    }
+
+    /// Gives a latch that is there its initial bit.
+    fn set_latch(&mut self, k: usize, bit: bool)
+        requires { k < length self.old.circuit.latches }
+        ensures { (d : Latch) → self.new ≡ latch_given self.old k bit (differs_from_reset (slice_index_or self.old.circuit.latches k d).reset bit) }
+    {
+        self.run.set_state(k, bit);
+        let differs = differs_from_reset(self.circuit.latches()[k].reset, bit);
+        self.differs = differing(self.differs, k as u64, differs);
+    }
+
+    /// Takes a byte of the line of initial bits. `k` counts the bytes before it.
+    pub(crate) fn take_initial(&mut self, k: u64, byte: u8)
+        ensures { (c : Circuit) (line : List ℕ) → k ≡ min (length line) (2 ^ 64 - 1) → Begins c self.old line → Begins c self.new (line ++ byte ∷ []) }
+    {
+        let k = k as usize;
+        if k < self.circuit.latches().len() {
+            self.set_latch(k, byte == b'1');
+        }
+    }
+
+    /// Takes a byte of a frame's line. `k` counts the bytes before it.
+    pub(crate) fn take_input(&mut self, k: u64, byte: u8)
+        ensures { (c : Circuit) (claim : ℕ) (initial : List Bool) (frames : List (List Bool)) (line : List ℕ) → k ≡ min (length line) (2 ^ 64 - 1) → Plays c claim initial frames self.old line → Plays c claim initial frames self.new (line ++ byte ∷ []) }
+    {
+        let k = k as usize;
+        if k < self.circuit.inputs() as usize {
+            self.run.set_input(k, byte == b'1');
+        }
+    }
+
+    /// Closes the frame whose line has ended: settles it, looks at its constraints and at the claimed bad property, and
+    /// moves on.
+    pub(crate) fn close(&mut self, claim: u64)
+        ensures { (c : Circuit) (initial : List Bool) (frames : List (List Bool)) (line : List ℕ) → Plays c claim initial frames self.old line → claim < length c.bads → length frames < 2 ^ 62 → length line ≡ c.inputs → Plays c claim initial (frames ++ map is_one_bit line ∷ []) self.new [] }
+    {
+        self.run.settle();
+        let violated = first_violated(self.circuit, &self.run);
+        let rises = rises(self.circuit, &self.run, claim);
+        self.breach = earlier(self.breach, self.frames, violated);
+        self.rose = either(self.rose, rises);
+        self.run.advance();
+        self.frames = self.frames.saturating_add(1);
+    }
+
+    /// The first latch whose initial bit is not that of its reset, the first breach in a closed frame, and whether the
+    /// claimed bad property rose.
+    pub(crate) fn differs(&self) -> Option<u64>
+        ensures { result ≡ self.now.differs }
+    {
+        self.differs
+    }
+
+    pub(crate) fn breach(&self) -> Option<Breach>
+        ensures { result ≡ self.now.breach }
+    {
+        self.breach
+    }
+
+    pub(crate) fn rose(&self) -> bool
+        ensures { result ≡ self.now.rose }
+    {
+        self.rose
+    }
+}

@@ -1,0 +1,143 @@
+//! The lines of a witness of a circuit, admitted one after the other.
+ghost use Rattle.std.specs.Prelude.{◌≡◌, ℕ, ◌<◌, ◌-◌, ◌^◌, min, Bool, List, [], ◌∷◌, ◌++◌, MatchResult, OnErr, Ok, Err, length, map};
+ghost use Rattle.aiger.specs.Circuit.{Circuit};
+ghost use Rattle.runs.specs.CircuitRun.{circuit_held};
+ghost use Rattle.witness.specs.BitAdmits.{BitRead, AtLater, bits_at, bit_admit};
+ghost use Rattle.witness.specs.BitScans.{Scans, is_one_bit};
+ghost use Rattle.witness.specs.BitPlays.{play_start, Plays};
+ghost use Rattle.witness.specs.BitStands.{Reads, GivesLine};
+
+use crate::bit_place::BitPlace;
+use crate::bit_play::BitPlay;
+use crate::bit_scan::Scan;
+use crate::why::Why;
+use aiger::Circuit;
+use runs::NewFault;
+use std::alloc::Global;
+use std::marker::Model;
+
+/// What the admitted lines of a witness of a circuit say, and the bits of the line that may go on.
+#[derive(Drop)]
+pub(crate) struct BitReader<'a> {
+    play: BitPlay<'a>,
+    place: BitPlace,
+    claim: u64,
+}
+
+impl<'a> Model for BitReader<'a> {
+    ghost use Rattle.witness.specs.BitStands.{BitReader as BitReaderValue};
+
+    ghost Value = { BitReaderValue };
+
+    ghost view = { λ q. record { play = q.play; place = q.place; claim = q.claim } };
+}
+
+impl<'a> BitReader<'a> {
+    /// Of a circuit, before any line.
+    ///
+    /// Error: `NoMemory`.
+    pub(crate) fn new(alloc: Global, circuit: &'a Circuit) -> Result<BitReader<'a>, NewFault>
+        ensures { MatchResult result (λ q. q ≡ record { play = play_start circuit.now; place = BitPlace.Header; claim = 0 }) (λ fault. fault ≡ NewFault.NoMemory) }
+    {
+        match BitPlay::new(alloc, circuit) {
+            Ok(play) => Ok(BitReader {
+                play,
+                place: BitPlace::Header,
+                claim: 0,
+            }),
+            Err(fault) => Err(fault),
+        }
+    }
+
+    /// The frames that are closed, and the claimed bad property.
+    pub(crate) fn play(&self) -> &BitPlay<'a>
+        ensures { result.now ≡ self.now.play }
+    {
+        &self.play
+    }
+
+    pub(crate) fn claim(&self) -> u64
+        ensures { result ≡ self.now.claim }
+    {
+        self.claim
+    }
+
+    /// Which line comes next.
+    pub(crate) fn place(&self) -> BitPlace
+        ensures { result ≡ self.now.place }
+    {
+        self.place
+    }
+
+    /// Takes a byte of the next line. `k` counts the bytes before it.
+    pub(crate) fn take(&mut self, k: u64, byte: u8)
+        ensures { (c : Circuit) (r : BitRead) (line : List ℕ) → k ≡ min (length line) (2 ^ 64 - 1) → Reads c self.old r line → Reads c self.new r (line ++ byte ∷ []) }
+    {
+        match self.place {
+            BitPlace::Initial => self.play.take_initial(k, byte),
+            BitPlace::First => self.play.take_input(k, byte),
+            BitPlace::Later => self.play.take_input(k, byte),
+            BitPlace::Header | BitPlace::Claim | BitPlace::Done => {}
+        }
+    }
+
+    /// The line of a frame has ended.
+    fn admit_frame(&mut self, line: Scan) -> Result<(), Why>
+        ensures frame { (c : Circuit) (r : BitRead) (bytes : List ℕ) → Reads c self.old r bytes → Scans line bytes → Plays c r.claim r.initial r.frames self.old.play bytes → r.claim < length c.bads → length r.frames < 2 ^ 62 → MatchResult result (λ _. (bits_at c.inputs bytes ≡ Ok (map is_one_bit bytes)) × Reads c self.new (record r { place = AtLater; frames = r.frames ++ map is_one_bit bytes ∷ [] }) []) (λ why. bits_at c.inputs bytes ≡ Err why) }
+        ensures err { OnErr result (self.new ≡ self.old) }
+    {
+        match line.bits(self.play.inputs()) {
+            Ok(()) => {
+                self.play.close(self.claim);
+                self.place = BitPlace::Later;
+                Ok(())
+            }
+            Err(why) => Err(why),
+        }
+    }
+
+    /// The line has ended: it is admitted, or why it is not.
+    pub(crate) fn admit(&mut self, line: Scan) -> Result<(), Why>
+        ensures line { (c : Circuit) (r : BitRead) (bytes : List ℕ) → Reads c self.old r bytes → Scans line bytes → length r.frames < 2 ^ 62 → GivesLine c r bytes self.new result }
+        ensures err { OnErr result (self.new ≡ self.old) }
+    {
+        match self.place {
+            BitPlace::Header => {
+                if !line.is_byte(b'1') {
+                    return Err(Why::BadHeader);
+                }
+                self.place = BitPlace::Claim;
+                Ok(())
+            }
+            BitPlace::Claim => match line.claim(self.play.bads()) {
+                Ok(claim) => {
+                    self.claim = claim;
+                    self.place = BitPlace::Initial;
+                    Ok(())
+                }
+                Err(why) => Err(why),
+            },
+            BitPlace::Initial => match line.bits(self.play.latches()) {
+                Ok(()) => {
+                    self.place = BitPlace::First;
+                    Ok(())
+                }
+                Err(why) => Err(why),
+            },
+            BitPlace::First => {
+                if line.is_byte(b'.') {
+                    return Err(Why::FrameOrder);
+                }
+                self.admit_frame(line)
+            }
+            BitPlace::Later => {
+                if line.is_byte(b'.') {
+                    self.place = BitPlace::Done;
+                    return Ok(());
+                }
+                self.admit_frame(line)
+            }
+            BitPlace::Done => Err(Why::Trailing),
+        }
+    }
+}
