@@ -1,8 +1,8 @@
 //! Runs of small circuits, frame by frame.
 ghost use Rattle.std.specs.Prelude.{◌≡◌, true};
 
-use runs::BitRun;
 use aiger::{Circuit, CircuitFault, Lit, Reset};
+use runs::BitRun;
 use std::alloc::Global;
 use std::test::Fail;
 

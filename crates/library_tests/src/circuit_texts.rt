@@ -1,6 +1,6 @@
 //! The texts of small circuits, with ample memory.
-use aigertext::{write_ascii, write_binary};
 use aiger::{Circuit, Lit, Reset, Section};
+use aigertext::{write_ascii, write_binary};
 use base::VecSink;
 use std::alloc::Global;
 

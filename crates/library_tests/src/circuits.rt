@@ -1,5 +1,7 @@
 //! Each call once with ample memory, and the first fault of each.
-use aiger::{Circuit, CircuitFault, Gate, GateLine, Latch, LatchLine, Lit, Loose, LooseFault, Reset, Section};
+use aiger::{
+    Circuit, CircuitFault, Gate, GateLine, Latch, LatchLine, Lit, Loose, LooseFault, Reset, Section,
+};
 use std::alloc::Global;
 use std::test::Fail;
 

@@ -1,9 +1,9 @@
 //! The bounds, the limit on variables, and what is printed of the refusals.
 ghost use Rattle.std.specs.Prelude.{◌≡◌, []};
 
-use gates::{GateFault, Gates, HashGates, Op, PlainGates, gate_bound};
 use aiger::{Gate, Lit};
 use base::{Binary, Unary};
+use gates::{GateFault, Gates, HashGates, Op, PlainGates, gate_bound};
 use std::alloc::Global;
 use std::test::Fail;
 

@@ -5,6 +5,8 @@
 #[cfg(test)]
 mod bit_runs;
 #[cfg(test)]
+mod bit_witnesses;
+#[cfg(test)]
 mod circuit_texts;
 #[cfg(test)]
 mod circuits;

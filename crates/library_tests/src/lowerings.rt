@@ -111,7 +111,11 @@ fn operators_of_one_operand(rt: HostRuntime) -> Result<(), Fail> {
     ];
     for (form, [a, b, c, d]) in rows {
         let lines = format!(in rt.alloc(); "7 {form} 4\n")?;
-        assert_eq!(rt; answers(rt.alloc(), lines.as_str())?, [a, b, c, d, a, b, c, d], "{form}");
+        assert_eq!(rt;
+            answers(rt.alloc(), lines.as_str())?,
+            [a, b, c, d, a, b, c, d],
+            "{form}"
+        );
     }
     Ok(())
 }
@@ -159,7 +163,11 @@ fn operators_of_two_operands(rt: HostRuntime) -> Result<(), Fail> {
     ];
     for (form, [a, b, c, d]) in rows {
         let lines = format!(in rt.alloc(); "6 const 2 10\n7 {form} 4 6\n")?;
-        assert_eq!(rt; answers(rt.alloc(), lines.as_str())?, [a, b, c, d, a, b, c, d], "{form}");
+        assert_eq!(rt;
+            answers(rt.alloc(), lines.as_str())?,
+            [a, b, c, d, a, b, c, d],
+            "{form}"
+        );
     }
     Ok(())
 }
@@ -183,7 +191,8 @@ fn step(run: &mut BitRun, circuit: &Circuit) -> Option<(bool, bool)>
 /// A counter of two bits from 1 on, which is bad where it is 3 and is not to be 2.
 #[test]
 fn states_with_init_and_next(rt: HostRuntime) -> Result<(), Fail> {
-    let text = "1 sort bitvec 1\n2 sort bitvec 2\n3 one 2\n4 state 2\n5 init 2 4 3\n6 inc 2 4\n7 next 2 4 6\n8 ones 2\n9 eq 1 4 8\n10 bad 9\n11 const 2 10\n12 neq 1 4 11\n13 constraint 12\n";
+    let text =
+        "1 sort bitvec 1\n2 sort bitvec 2\n3 one 2\n4 state 2\n5 init 2 4 3\n6 inc 2 4\n7 next 2 4 6\n8 ones 2\n9 eq 1 4 8\n10 bad 9\n11 const 2 10\n12 neq 1 4 11\n13 constraint 12\n";
     let circuit = circuit_of(rt.alloc(), text)?;
     let mut run = BitRun::new(rt.alloc(), &circuit)?;
     assert_eq!(rt; step(&mut run, &circuit), Some((false, true)));

@@ -1,6 +1,6 @@
 //! Tables of refusals, and calls that succeed.
-use btor2::{Body, Item, Model, Operands, PushFault, Symbol, SymbolFault, laws};
 use base::{Binary, Unary};
+use btor2::{Body, Item, Model, Operands, PushFault, Symbol, SymbolFault, laws};
 use std::alloc::Global;
 use std::test::Fail;
 

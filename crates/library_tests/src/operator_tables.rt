@@ -2,9 +2,12 @@
 //! and over the plain maker at a thousand operands of 64 bits, against the operators on words.
 ghost use Rattle.std.specs.Prelude.{◌≡◌, ◌+◌, ◌*◌, ◌<◌, ◌≤◌, ◌^◌, [], length, All};
 
-use gates::{Bits, GateFault, Gates, HashGates, Op, PlainGates, binary_bits, equal, gate_bound, ite_bits, mux, rotate, shift, unary_bits, xor};
 use aiger::{Circuit, Lit};
 use base::{Binary, Tally, Unary, Width, binary, ite, ones, unary};
+use gates::{
+    Bits, GateFault, Gates, HashGates, Op, PlainGates, binary_bits, equal, gate_bound, ite_bits,
+    mux, rotate, shift, unary_bits, xor,
+};
 use std::alloc::{AllocError, Global};
 use std::test::Fail;
 

@@ -1,7 +1,7 @@
 //! What texts say, their faults, and what is printed of faults.
-use witness::{JudgeFault, Shape, WitnessFault, claims_nothing, read_words};
 use btor2::{Body, Item, Model};
 use std::alloc::Global;
+use witness::{JudgeFault, Shape, WitnessFault, claims_nothing, read_words};
 
 /// A model of which witnesses speak.
 #[derive(Clone, Copy)]

@@ -1,9 +1,9 @@
 //! Runs of small models, frame by frame.
 ghost use Rattle.std.specs.Prelude.{◌≡◌, ◌<◌, true};
 
-use runs::{NewFault, WordRun};
 use base::{Binary, Unary};
 use btor2::{Body, Item, Model};
+use runs::{NewFault, WordRun};
 use std::alloc::Global;
 use std::test::Fail;
 

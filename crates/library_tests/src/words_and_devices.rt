@@ -1,7 +1,11 @@
 //! What no clause says of words and devices: that calls succeed, what is printed, and that nothing is tried again.
 ghost use Rattle.std.specs.Prelude.{◌<◌, ◌^◌};
 
-use base::{Binary, DeviceFault, FromReader, Outbox, ReadAllFault, Sink, Source, Tally, ToWriter, Unary, VecSink, Width, binary, concat, cut_at, decimal, gate, ite, laws, next_line, ones, read_all, sext, slice, take, uext, unary, write_all};
+use base::{
+    Binary, DeviceFault, FromReader, Outbox, ReadAllFault, Sink, Source, Tally, ToWriter, Unary,
+    VecSink, Width, binary, concat, cut_at, decimal, gate, ite, laws, next_line, ones, read_all,
+    sext, slice, take, uext, unary, write_all,
+};
 use std::collections::VecDeque;
 use std::io::{self, ErrorKind, Read, Write};
 use std::test::Fail;
