@@ -322,3 +322,36 @@ fn gates_are_numbered(rt: HostRuntime) -> Result<(), Fail> {
     assert_eq!(rt; circuit.gates().len(), 3);
     Ok(())
 }
+
+/// Input 6 with the name `a`, and in each section of properties a literal of it, or true.
+fn one_of_each(alloc: Global) -> Result<Loose, CircuitFault> {
+    let mut lines = Loose::new(alloc);
+    lines.push_input(Lit::new(6))?;
+    lines.push_output(Lit::new(6))?;
+    lines.push_bad(Lit::new(7))?;
+    lines.push_constraint(Lit::TRUE)?;
+    lines.push_justice(&[Lit::new(6)])?;
+    lines.push_fair(Lit::new(7))?;
+    lines.set_name(Section::Input, 0, b"a")?;
+    Ok(lines)
+}
+
+/// Whether a circuit has one input with the name `a`, and the same literals of it.
+fn has_one_of_each(circuit: &Circuit) -> bool {
+    circuit.inputs() == 1
+        && circuit.outputs() == [Lit::new(2)].as_slice()
+        && circuit.bads() == [Lit::new(3)].as_slice()
+        && circuit.constraints() == [Lit::TRUE].as_slice()
+        && circuit.justice_count() == 1
+        && circuit.justice(0) == [Lit::new(2)].as_slice()
+        && circuit.fair() == [Lit::new(3)].as_slice()
+        && circuit.name(Section::Input, 0) == Some(b"a".as_slice())
+}
+
+#[test]
+fn each_section_is_numbered(rt: HostRuntime) -> Result<(), Fail> {
+    let lines = one_of_each(rt.alloc())?;
+    let circuit = lines.number(rt.alloc())?;
+    assert!(rt; has_one_of_each(&circuit));
+    Ok(())
+}
