@@ -27,3 +27,4 @@ mod NamingLemmas
 mod SectionReadLemmas
 mod WhyLemmas
 mod AnswerLemmas
+mod FileLemmas

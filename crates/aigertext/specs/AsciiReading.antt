@@ -1,5 +1,5 @@
 -- Reading a circuit's ascii text from left to right ("AIGER 1.9 and Beyond", ascii format), with the first fault that is met: the lists of the file, then the circuit that they are, then its names.
-use Rattle.std.specs.Prelude.{◌≡◌, ℕ, zero, suc, ◌+◌, ◌-◌, ◌*◌, ◌&&◌, not, List, [], ◌∷◌, ◌++◌, length, Option, Some, None, Result, Ok, Err, nat_lt, nat_le, ◌⊎◌, if◌then◌else◌}
+use Rattle.std.specs.Prelude.{◌≡◌, ℕ, zero, suc, ◌+◌, ◌-◌, ◌*◌, ◌≤◌, ◌&&◌, true, not, List, [], ◌∷◌, length, Option, Some, None, Result, Ok, Err, nat_lt, nat_le, ◌⊎◌, if◌then◌else◌}
 use Rattle.base.specs.Decimals.{number_of}
 use Rattle.aiger.specs.declared.circuit.Reset.TheVariants as reset
 use Rattle.aiger.specs.declared.loose.GateLine.{GateLine}
@@ -12,13 +12,17 @@ use Rattle.aigertext.specs.declared.counts.Counts.{Counts}
 use Rattle.aigertext.specs.declared.fault.Stop.{Stop}
 use Rattle.aigertext.specs.declared.fault.Why.{Why}
 use Rattle.aigertext.specs.declared.fault.Why.TheVariants as why
-use Rattle.aigertext.specs.Reading.{◌>>=◌, at, stop, cut, fields, line_at, some_or, within, reset_of, lists_of, Properties, properties_at, names_at}
+use Rattle.aigertext.specs.Reading.{◌>>=◌, stop, cut, fields, line_at, some_or, within, reset_of, lists_of, Properties, properties_at, names_at}
 
 -- ---- lines
 
 -- a literal that defines a new variable, which is at most the greatest
 abbrev pub defining : Why → ℕ → Loose → ℕ → Result ℕ Why
 defining w greatest l n = if nat_le n greatest && (is_defining n && not (is_defined l (variable n))) then Ok n else Err w
+
+-- the same of a literal: it is at most the greatest, may define a variable, and no line defines that
+abbrev pub IsNew : ℕ → Loose → ℕ → Type 0
+IsNew greatest l n = (n ≤ greatest) × ((is_defining n && not (is_defined l (variable n))) ≡ true)
 
 -- the literal of an input's line
 abbrev pub input_by : ℕ → Loose → Option ℕ → Result ℕ Why
@@ -104,6 +108,13 @@ lines_before h k =
 -- which of the lines that use literals is that of a gate: they are the last ones
 abbrev pub use_of_gate : Loose → ℕ → ℕ
 use_of_gate l g = length (used_lines l) - length l.gates + g
+
+-- ---- reading onto lists
+
+-- lines were read onto the lists of a file, or reading stops there, or memory ran out
+abbrev pub ReadsOnto : {X : Type 0} → (X → List ℕ) → Result X Stop → Loose → Result (Loose × List ℕ) Stop → Type 0
+ReadsOnto view (Ok x) l read = read ≡ Ok (l, view x)
+ReadsOnto view (Err e) l read = (e.why ≡ why.NoMemory) ⊎ (read ≡ Err e)
 
 -- ---- texts
 

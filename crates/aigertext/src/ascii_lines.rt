@@ -1,10 +1,8 @@
 //! Reading the lines of an ascii text that define variables: inputs, latches and gates.
-ghost use Rattle.std.specs.Prelude.{◌≡◌, ◌≤◌, ◌∷◌, [], true, not, IfOk};
+ghost use Rattle.std.specs.Prelude.{◌≡◌, ◌≤◌, ◌∷◌, [], IfOk};
 ghost use Rattle.base.specs.Decimals.{number_of};
-ghost use Rattle.aiger.specs.Literal.{variable};
-ghost use Rattle.aiger.specs.Loose.{is_defining, is_defined};
-ghost use Rattle.aigertext.specs.Reading.{Gives, literal_of};
-ghost use Rattle.aigertext.specs.AsciiReading.{defining, input_of, own_by, latch_fields, latch_of, gate_fields, gate_of};
+ghost use Rattle.aigertext.specs.Reading.{Gives};
+ghost use Rattle.aigertext.specs.AsciiReading.{IsNew, defining, input_of, own_by, latch_fields, latch_of, gate_fields, gate_of};
 
 use crate::fault::Why;
 use crate::fields::{first_field, next_field};
@@ -15,7 +13,8 @@ use base::decimal;
 
 /// The literal of a number, where it is even, at least 2 and at most the greatest, and no line defines its variable.
 fn defining(number: u64, why: Why, greatest: u32, lists: &Loose) -> Result<Lit, Why>
-    ensures { Gives (λ x. x) result (defining why greatest lists.now number) }
+    ensures gives { Gives (λ x. x) result (defining why greatest lists.now number) }
+    ensures new { IfOk result (λ n. IsNew greatest lists.now n) }
 {
     if number > u64::from(greatest) {
         return Err(why);
@@ -33,7 +32,8 @@ fn defining(number: u64, why: Why, greatest: u32, lists: &Loose) -> Result<Lit, 
 /// Error: `BadNumber`.
 #[tactic(auto, unfolding(crate::specs::AsciiReading::input_of))]
 pub fn input(line: &[u8], greatest: u32, lists: &Loose) -> Result<Lit, Why>
-    ensures { Gives (λ x. x) result (input_of greatest lists.now line.now) }
+    ensures gives { Gives (λ x. x) result (input_of greatest lists.now line.now) }
+    ensures new { IfOk result (λ n. IsNew greatest lists.now n) }
 {
     match decimal(line) {
         None => Err(Why::BadNumber),
@@ -43,7 +43,8 @@ pub fn input(line: &[u8], greatest: u32, lists: &Loose) -> Result<Lit, Why>
 
 /// The own literal of a latch.
 fn own_literal(field: &[u8], greatest: u32, lists: &Loose) -> Result<Lit, Why>
-    ensures { Gives (λ x. x) result (own_by greatest lists.now (number_of field.now)) }
+    ensures gives { Gives (λ x. x) result (own_by greatest lists.now (number_of field.now)) }
+    ensures new { IfOk result (λ n. IsNew greatest lists.now n) }
 {
     match decimal(field) {
         None => Err(Why::BadLatch),
@@ -54,7 +55,9 @@ fn own_literal(field: &[u8], greatest: u32, lists: &Loose) -> Result<Lit, Why>
 /// A latch whose reset is left out.
 #[tactic(auto, unfolding(crate::specs::AsciiReading::latch_fields))]
 fn plain_latch(current: &[u8], next: &[u8], greatest: u32, lists: &Loose) -> Result<LatchLine, Why>
-    ensures { Gives (λ x. x) result (latch_fields greatest lists.now (current.now ∷ next.now ∷ [])) }
+    ensures gives { Gives (λ x. x) result (latch_fields greatest lists.now (current.now ∷ next.now ∷ [])) }
+    ensures new { IfOk result (λ l. IsNew greatest lists.now l.current) }
+    ensures small { IfOk result (λ l. l.next ≤ greatest) }
 {
     let current = own_literal(current, greatest, lists)?;
     let next = next_literal(next, greatest)?;
@@ -74,7 +77,9 @@ fn latch_with(
     greatest: u32,
     lists: &Loose,
 ) -> Result<LatchLine, Why>
-    ensures { Gives (λ x. x) result (latch_fields greatest lists.now (current.now ∷ next.now ∷ begins.now ∷ [])) }
+    ensures gives { Gives (λ x. x) result (latch_fields greatest lists.now (current.now ∷ next.now ∷ begins.now ∷ [])) }
+    ensures new { IfOk result (λ l. IsNew greatest lists.now l.current) }
+    ensures small { IfOk result (λ l. l.next ≤ greatest) }
 {
     let current = own_literal(current, greatest, lists)?;
     let next = next_literal(next, greatest)?;
@@ -91,7 +96,9 @@ fn latch_with(
 /// Error: `BadLatch`.
 #[tactic(auto, unfolding(crate::specs::AsciiReading::latch_fields))]
 pub fn latch(line: &[u8], greatest: u32, lists: &Loose) -> Result<LatchLine, Why>
-    ensures { Gives (λ x. x) result (latch_of greatest lists.now line.now) }
+    ensures gives { Gives (λ x. x) result (latch_of greatest lists.now line.now) }
+    ensures new { IfOk result (λ l. IsNew greatest lists.now l.current) }
+    ensures small { IfOk result (λ l. l.next ≤ greatest) }
 {
     let (current, rest) = first_field(line);
     match next_field(rest) {
@@ -115,7 +122,9 @@ fn gate_with(
     greatest: u32,
     lists: &Loose,
 ) -> Result<GateLine, Why>
-    ensures { Gives (λ x. x) result (gate_fields greatest lists.now (lhs.now ∷ rhs0.now ∷ rhs1.now ∷ [])) }
+    ensures gives { Gives (λ x. x) result (gate_fields greatest lists.now (lhs.now ∷ rhs0.now ∷ rhs1.now ∷ [])) }
+    ensures new { IfOk result (λ g. IsNew greatest lists.now g.lhs) }
+    ensures small { IfOk result (λ g. (g.rhs0 ≤ greatest) × (g.rhs1 ≤ greatest)) }
 {
     match decimal(lhs) {
         None => Err(Why::BadNumber),
@@ -134,7 +143,9 @@ fn gate_with(
 /// or an operand is above the greatest literal, `GateOrder` where its own literal defines no new variable.
 #[tactic(auto, unfolding(crate::specs::AsciiReading::gate_fields))]
 pub fn gate(line: &[u8], greatest: u32, lists: &Loose) -> Result<GateLine, Why>
-    ensures { Gives (λ x. x) result (gate_of greatest lists.now line.now) }
+    ensures gives { Gives (λ x. x) result (gate_of greatest lists.now line.now) }
+    ensures new { IfOk result (λ g. IsNew greatest lists.now g.lhs) }
+    ensures small { IfOk result (λ g. (g.rhs0 ≤ greatest) × (g.rhs1 ≤ greatest)) }
 {
     let (lhs, rest) = first_field(line);
     match next_field(rest) {

@@ -3,6 +3,7 @@
 
 mod ascii;
 mod ascii_lines;
+mod ascii_lists;
 mod binary;
 mod binary_reading;
 mod checks;
