@@ -10,7 +10,7 @@ use Rattle.witness.specs.declared.bit_scan.Scan.{Scan}
 use Rattle.witness.specs.Admits.{is_value_byte}
 use Rattle.witness.specs.declared.why.Why.TheVariants as why
 use Rattle.witness.specs.BitAdmits.{claim_at}
-use Rattle.witness.specs.BitScans.{behind_first, Scans, number_more, scan_more, has_decimal}
+use Rattle.witness.specs.BitScans.{behind_first, Scans, number_more, scan_more, has_decimal, claimed}
 
 -- a number with a digit more
 value_more : (digits : List ℕ) (b n : ℕ) → are_digits (digits ++ b ∷ []) ≡ true → n ≡ capped_value digits → number_more n b ≡ capped_value (digits ++ b ∷ [])
@@ -181,34 +181,22 @@ pub claims_no_decimal : (s : Scan) (line : List ℕ) (bads : ℕ) → Scans s li
 claims_no_decimal s [] bads h fails = refl
 claims_no_decimal s (a ∷ tail) bads h fails = sym (no_claim_without (a ∷ tail) bads (no_number s a tail h fails))
 
-pub claims_justice : (s : Scan) (line : List ℕ) (bads : ℕ) → Scans s line → has_decimal s ≡ true → s.first ≡ 106 → Err why.JusticeClaim ≡ claim_at bads line
-claims_justice s [] bads h holds j =
+claims_by_first : (a n bads : ℕ) (tail : List ℕ) → number_of tail ≡ Some n → claimed a n bads ≡ claim_at bads (a ∷ tail)
+claims_by_first a n bads tail is =
+    elim (cases_Bool (a == 98)) [
+      | inl b ↦ let one : a ≡ 98 = eqb-true a 98 b in rw (one, is) refl
+      | inr not_b ↦
+          elim (cases_Bool (a == 106)) [
+            | inl j ↦ rw (not_b, j, is) refl
+            | inr not_j ↦ rw (not_b, not_j) refl
+          ]
+    ]
+
+-- a decimal behind the first byte
+pub claims_decimal : (s : Scan) (line : List ℕ) (bads : ℕ) → Scans s line → has_decimal s ≡ true → claimed s.first s.number bads ≡ claim_at bads line
+claims_decimal s [] bads h holds =
     let none : s.count ≡ 0 = h.count in
     absurd (cc (rw none at holds))
-claims_justice s (a ∷ tail) bads h holds j =
-    let is : a ≡ 106 = sym h.first ∙ j in
-    rw (is, number_kept s a tail h holds) refl
-
-pub claims_bad : (s : Scan) (line : List ℕ) (bads : ℕ) → Scans s line → has_decimal s ≡ true → s.first ≡ 98 → s.number < bads → Ok s.number ≡ claim_at bads line
-claims_bad s [] bads h holds b below =
-    let none : s.count ≡ 0 = h.count in
-    absurd (cc (rw none at holds))
-claims_bad s (a ∷ tail) bads h holds b below =
-    let is : a ≡ 98 = sym h.first ∙ b in
-    rw (is, number_kept s a tail h holds, lt-ltb s.number bads below) refl
-
--- neither
-pub claims_other : (s : Scan) (line : List ℕ) (bads : ℕ) → Scans s line → (s.first ≡ 106 → ⊥) → (s.first ≡ 98 → ⊥) → Err why.BadClaim ≡ claim_at bads line
-claims_other s [] bads h not_j not_b = refl
-claims_other s (a ∷ tail) bads h not_j not_b =
+claims_decimal s (a ∷ tail) bads h holds =
     let is : s.first ≡ a = h.first in
-    let no_b : (a == 98) ≡ false = ne_eqb a 98 (λ e. not_b (is ∙ e)) in
-    let no_j : (a == 106) ≡ false = ne_eqb a 106 (λ e. not_j (is ∙ e)) in
-    rw (no_b, no_j) refl
-
--- a bad property that is not there
-pub claims_too_far : (s : Scan) (line : List ℕ) (bads : ℕ) → Scans s line → has_decimal s ≡ true → s.first ≡ 98 → bads ≤ s.number → Err why.BadClaim ≡ claim_at bads line
-claims_too_far s [] bads h holds b far = refl
-claims_too_far s (a ∷ tail) bads h holds b far =
-    let is : a ≡ 98 = sym h.first ∙ b in
-    rw (is, number_kept s a tail h holds, le-ltb s.number bads far) refl
+    ap (λ (f : ℕ). claimed f s.number bads) is ∙ claims_by_first a s.number bads tail (number_kept s a tail h holds)

@@ -184,14 +184,21 @@ impl<'a> BitJudge<'a> {
         self.take_byte(byte);
     }
 
-    /// Takes a piece of the text behind those before: a judge that stood for a text stands for that text with the piece
-    /// behind it.
-    pub fn feed(&mut self, bytes: &[u8])
+    /// Takes bytes one by one.
+    fn take_all(&mut self, bytes: &[u8])
         ensures { (c : Circuit) (text : List ℕ) → StandsFor c self.old text → StandsFor c self.new (text ++ bytes.now) }
     {
         for byte in bytes {
             self.take(*byte);
         }
+    }
+
+    /// Takes a piece of the text behind those before: a judge that stood for a text stands for that text with the piece
+    /// behind it.
+    pub fn feed(&mut self, bytes: &[u8])
+        ensures { (c : Circuit) (text : List ℕ) → StandsFor c self.old text → StandsFor c self.new (text ++ bytes.now) }
+    {
+        self.take_all(bytes);
     }
 
     /// The judgement of the text: of every one that the judge stands for.
@@ -220,6 +227,7 @@ impl<'a> BitJudge<'a> {
 
     /// The steps that the run has taken: for each closed frame one for each input, each gate and each latch. The count
     /// stays at its greatest value, 2^128 - 1, once it is there.
+    #[tactic(auto, unfolding(crate::specs::BitAdmits::bit_reading))]
     pub fn steps(&self) -> u128
         ensures { (c : Circuit) (text : List ℕ) → StandsFor c self.now text → result ≡ steps_of c (closed_frames c text) }
     {
@@ -227,6 +235,7 @@ impl<'a> BitJudge<'a> {
     }
 
     /// How many frames are closed: those whose lines have ended before the first faulty line.
+    #[tactic(auto, unfolding(crate::specs::BitAdmits::bit_reading))]
     pub fn closed_frames(&self) -> u64
         ensures { (c : Circuit) (text : List ℕ) → StandsFor c self.now text → result ≡ closed_frames c text }
     {
@@ -234,9 +243,11 @@ impl<'a> BitJudge<'a> {
     }
 
     /// How many whole lines stand before the first faulty line.
+    #[tactic(auto, unfolding(crate::specs::BitAdmits::bit_reading))]
     pub fn admitted_lines(&self) -> u64
         ensures { (c : Circuit) (text : List ℕ) → StandsFor c self.now text → result ≡ admitted_lines c text }
     {
-        self.admitted
+        let lines = self.admitted;
+        lines
     }
 }

@@ -4,7 +4,7 @@ ghost use Rattle.std.specs.Str.{bytes_eq};
 ghost use Rattle.base.specs.Decimals.{is_digit};
 ghost use Rattle.witness.specs.Admits.{is_value_byte, is_nothing};
 ghost use Rattle.witness.specs.BitAdmits.{claim_at, bits_at};
-ghost use Rattle.witness.specs.BitScans.{Scans, number_more, scan_more, has_decimal, is_one_bit};
+ghost use Rattle.witness.specs.BitScans.{Scans, number_more, scan_more, has_decimal, claimed, is_one_bit};
 
 use crate::why::Why;
 
@@ -51,6 +51,20 @@ fn number_more(number: u64, byte: u8) -> u64
             .saturating_add(u64::from(byte - b'0'))
     } else {
         number
+    }
+}
+
+/// What is claimed by a line with this first byte and this number behind it, of so many bad properties, or why nothing is.
+fn claimed(first: u8, number: u64, bads: u64) -> Result<u64, Why>
+    ensures { result ≡ claimed first number bads }
+{
+    if first == b'j' {
+        return Err(Why::JusticeClaim);
+    }
+    if first == b'b' && number < bads {
+        Ok(number)
+    } else {
+        Err(Why::BadClaim)
     }
 }
 
@@ -135,16 +149,7 @@ impl Scan {
         if !self.has_decimal() {
             return Err(Why::BadClaim);
         }
-        if self.first == b'j' {
-            return Err(Why::JusticeClaim);
-        }
-        if self.first != b'b' {
-            return Err(Why::BadClaim);
-        }
-        if self.number >= bads {
-            return Err(Why::BadClaim);
-        }
-        Ok(self.number)
+        claimed(self.first, self.number, bads)
     }
 
     /// That the line is so many bits, or why it is not.

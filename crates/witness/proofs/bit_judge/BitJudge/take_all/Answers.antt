@@ -1,7 +1,7 @@
 use Rattle.std.proofs.Common.{◌≡◌, List, ℕ, ◌++◌, ◌∷◌, [], ◌+◌, take, get_or, append_assoc, subst, sym, ap, ◌∙◌}
 use Rattle.std.proofs.lemmas.List.{take_more}
 use Rattle.witness.specs.BitStands.{StandsFor}
-use Rattle.witness.proofs.bit_judge.BitJudge.feed.Goals as goal
+use Rattle.witness.proofs.bit_judge.BitJudge.take_all.Goals as goal
 
 pub loop-byte-preserved : goal.loop-byte-preserved
 loop-byte-preserved c circuit text stands =

@@ -1,7 +1,7 @@
 use Rattle.std.proofs.Common.{ℕ, List, ◌++◌, take}
 use Rattle.aiger.specs.Circuit.{Circuit}
 use Rattle.witness.specs.BitStands.{StandsFor}
-use Rattle.witness.proofs.bit_judge.BitJudge.feed.Given as goal
+use Rattle.witness.proofs.bit_judge.BitJudge.take_all.Given as goal
 
 -- the bytes before are taken
 abbrev pub invariant-loop-byte : goal.invariant-loop-byte

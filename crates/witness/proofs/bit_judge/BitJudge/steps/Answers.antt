@@ -1,9 +1,0 @@
-use Rattle.std.proofs.Common.{ap, ◌∙◌}
-use Rattle.witness.specs.BitAdmits.{bit_reading}
-use Rattle.witness.specs.BitPlays.{BitPlay}
-use Rattle.witness.specs.BitStands.{BitJudge}
-use Rattle.witness.proofs.bit_judge.BitJudge.steps.Goals as goal
-
-pub returns : goal.returns
-unfolding bit_reading
-returns c circuit text stands = c.steps.ensures ∙ (ap (λ (p : BitPlay). p.run.steps) c.play.ensures ∙ (ap (λ (j : BitJudge). j.reader.play.run.steps) c.self.view_is ∙ stands.lines.counts.steps))
