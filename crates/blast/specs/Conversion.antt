@@ -6,7 +6,6 @@ use Rattle.btor2.specs.declared.item.Item.{Item}
 use Rattle.btor2text.specs.declared.fault.ReadFault.{ReadFault}
 use Rattle.btor2text.specs.declared.fault.Why.{Why}
 use Rattle.btor2text.specs.declared.fault.Why.TheVariants as why
-use Rattle.btor2text.specs.declared.forms.Forms.TheVariants as forms
 use Rattle.btor2text.specs.FirstFault.{IsFaultOf}
 use Rattle.btor2text.specs.Spelling.{StandsFor}
 use Rattle.aiger.specs.Circuit.{Circuit}
@@ -27,7 +26,7 @@ circuit_text Binary c = binary_text c
 
 -- the bytes of a source, where it knows them, are a text of some items
 abbrev pub IsTextOf : Option (List ℕ) → List Item → Type 0
-IsTextOf known items = IfSome known (λ text. StandsFor forms.All text items)
+IsTextOf known items = IfSome known (λ text. StandsFor text items)
 
 -- all that was to come is a text of some model, and what was written is the text of a circuit that lowers it
 pub record Converts (known written now : Option (List ℕ)) (form : Form) : Type 0 where
@@ -53,7 +52,7 @@ pub record RefusesModel (known : Option (List ℕ)) (e : LowerFault) : Type 0 wh
 
 -- a text that stands for a model is refused only for the device or for memory
 abbrev pub RefusesText : Option (List ℕ) → ReadFault → Type 0
-RefusesText known e = (text : List ℕ) (items : List Item) → known ≡ Some text → StandsFor forms.All text items → (e.why ≡ why.Device) ⊎ (e.why ≡ why.NoMemory)
+RefusesText known e = (text : List ℕ) (items : List Item) → known ≡ Some text → StandsFor text items → (e.why ≡ why.Device) ⊎ (e.why ≡ why.NoMemory)
 
 -- what a conversion's answer says: done, the text refused, the model refused, or the write failed. `known` is the bytes to come; `written` and `now` are what the sink held before and holds after
 abbrev pub AnswersConversion : Option (List ℕ) → Option (List ℕ) → Option (List ℕ) → Form → Result (Unit {0}) ConvertFault → Type 0
@@ -64,7 +63,7 @@ AnswersConversion known written now form (Err (fault.Write e)) = BeginsToConvert
 
 -- a fault of reading is that of the first faulty line, by its first why, unless the device failed or memory was wanting
 abbrev pub TellsFirstFault : Option (List ℕ) → ConvertFault → Type 0
-TellsFirstFault known (fault.Read e) = IfSome known (λ text. (e.why ≡ why.Device) ⊎ ((e.why ≡ why.NoMemory) ⊎ IsFaultOf forms.All text e))
+TellsFirstFault known (fault.Read e) = IfSome known (λ text. (e.why ≡ why.Device) ⊎ ((e.why ≡ why.NoMemory) ⊎ IsFaultOf text e))
 TellsFirstFault known _ = Unit {0}
 
 -- a fault of reading has line 0 where the device failed or memory was wanting

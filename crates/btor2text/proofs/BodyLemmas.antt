@@ -3,8 +3,6 @@ use Rattle.std.proofs.Common.{◌≡◌, ℕ, ◌^◌, ◌≤◌, List, [], ◌�
 use Rattle.std.specs.Fmt.{signed_decimal}
 use Rattle.btor2.specs.declared.item.Body.{Body}
 use Rattle.btor2.specs.declared.item.Body.TheVariants as body
-use Rattle.btor2text.specs.declared.forms.Forms.{Forms}
-use Rattle.btor2text.specs.declared.forms.Forms.TheVariants as forms
 use Rattle.btor2text.specs.declared.forms.Form.{Form}
 use Rattle.btor2text.specs.declared.forms.Form.TheVariants as form
 use Rattle.btor2text.specs.declared.forms.Leaf.{Leaf}
@@ -17,8 +15,7 @@ use Rattle.btor2text.specs.declared.forms.Link.{Link}
 use Rattle.btor2text.specs.declared.forms.Link.TheVariants as link
 use Rattle.btor2text.specs.declared.forms.Property.{Property}
 use Rattle.btor2text.specs.declared.forms.Property.TheVariants as property
-use Rattle.btor2text.specs.Basic.{is_basic, is_known}
-use Rattle.btor2text.specs.Words.{is_basic_form, knows, form_name}
+use Rattle.btor2text.specs.Words.{form_name}
 use Rattle.btor2text.specs.Digits.{IsNumber}
 use Rattle.btor2text.specs.Spelling.{Says}
 use Rattle.btor2text.specs.Reading.{◌>>=◌, Tokens, sort_at, width_at, pair_at, triple_at, operand_at, plain_at, digits_at, signed_at, counted_at, constant_at, leaf_body, extension_body, link_body, property_body, body_at}
@@ -52,36 +49,6 @@ body_form (body.Constraint a) = form.Property property.Constraint
 body_form (body.Fair a) = form.Property property.Fair
 body_form (body.Output a) = form.Property property.Output
 body_form (body.Justice nodes) = form.Justice
-
--- a body is known where its form is
-basic_form : (b : Body) → is_basic_form (body_form b) ≡ is_basic b
-basic_form (body.Sort n) = refl
-basic_form (body.Input s) = refl
-basic_form (body.State s) = refl
-basic_form (body.Zero s) = refl
-basic_form (body.One s) = refl
-basic_form (body.Ones s) = refl
-basic_form (body.Const s d v) = refl
-basic_form (body.Constd s v) = refl
-basic_form (body.Consth s d v) = refl
-basic_form (body.Uext s a w) = refl
-basic_form (body.Sext s a w) = refl
-basic_form (body.Slice s a u l) = refl
-basic_form (body.Unary op s a) = refl
-basic_form (body.Binary op s a b) = refl
-basic_form (body.Concat s a b) = refl
-basic_form (body.Ite s c t e) = refl
-basic_form (body.Init s t v) = refl
-basic_form (body.Next s t v) = refl
-basic_form (body.Bad a) = refl
-basic_form (body.Constraint a) = refl
-basic_form (body.Fair a) = refl
-basic_form (body.Output a) = refl
-basic_form (body.Justice nodes) = refl
-
-pub knows_body : (forms : Forms) (b : Body) → knows forms (body_form b) ≡ is_known forms b
-knows_body forms.Basic b = basic_form b
-knows_body forms.All b = refl
 
 -- what the tokens behind a form's word were read as: a body of this form, which the tokens up to those that follow say
 pub record Taken (f : Form) (tokens : Tokens) (x : Body × Tokens) : Type 0 where

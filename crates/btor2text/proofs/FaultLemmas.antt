@@ -10,7 +10,6 @@ use Rattle.btor2.specs.Check.{IsWellFormed, IsWellFormedAfter}
 use Rattle.btor2text.specs.declared.fault.Why.{Why}
 use Rattle.btor2text.specs.declared.fault.Why.TheVariants as why
 use Rattle.btor2text.specs.declared.fault.ReadFault.{ReadFault}
-use Rattle.btor2text.specs.declared.forms.Forms.{Forms}
 use Rattle.btor2text.specs.Tokens.{tokens}
 use Rattle.btor2text.specs.Spelling.{SpellsAll}
 use Rattle.btor2text.specs.Reading.{line_after, fault_at, then_lines, line_on, lines_on, text_on}
@@ -18,19 +17,19 @@ use Rattle.btor2text.specs.FirstFault.{IsUnfinished, BeginsFaulty, IsFaultOf}
 use Rattle.btor2text.proofs.StandsLemmas.{AddsLine, line_takes, well_after, spells_line}
 
 -- what the first of some lines has
-abbrev FaultHere : Forms → List Item → List (List ℕ) → List ℕ → Why → Type 0
-FaultHere forms items [] last w = (last ≢ []) × (w ≡ why.Unfinished)
-FaultHere forms items (line ∷ lines) last w = line_on forms items (tokens line) ≡ Err w
+abbrev FaultHere : List Item → List (List ℕ) → List ℕ → Why → Type 0
+FaultHere items [] last w = (last ≢ []) × (w ≡ why.Unfinished)
+FaultHere items (line ∷ lines) last w = line_on items (tokens line) ≡ Err w
 
-record FaultIn (forms : Forms) (n : ℕ) (before : List Item) (lines : List (List ℕ)) (last : List ℕ) (e : ReadFault) : Type 0 where
+record FaultIn (n : ℕ) (before : List Item) (lines : List (List ℕ)) (last : List ℕ) (e : ReadFault) : Type 0 where
   front : List (List ℕ)
   back : List (List ℕ)
   added : List Item
   parts : lines ≡ front ++ back
-  spelled : SpellsAll forms (map tokens front) added
+  spelled : SpellsAll (map tokens front) added
   well_formed : IsWellFormedAfter before added
   place : e.line ≡ min (n + (length front + 1)) (2 ^ 64 - 1)
-  here : FaultHere forms (before ++ added) back last e.why
+  here : FaultHere (before ++ added) back last e.why
 
 -- a fault that was told; it is one fault, and no items
 abbrev pub failed : ReadFault → Result (List Item) ReadFault
@@ -46,16 +45,16 @@ pub some_bytes : (b : ℕ) (bs : List ℕ) → b ∷ bs ≢ []
 some_bytes b bs e = cc
 
 -- the fault is at this line
-at_once : (forms : Forms) (n : ℕ) (before : List Item) (lines : List (List ℕ)) (last : List ℕ) (w : Why) (e : ReadFault) → fault_at (line_after n) w ≡ e → FaultHere forms before lines last w → FaultIn forms n before lines last e
-at_once forms n before lines last w e is here =
+at_once : (n : ℕ) (before : List Item) (lines : List (List ℕ)) (last : List ℕ) (w : Why) (e : ReadFault) → fault_at (line_after n) w ≡ e → FaultHere before lines last w → FaultIn n before lines last e
+at_once n before lines last w e is here =
     let line : line_after n ≡ e.line = ap (λ (f : ReadFault). f.line) is in
     let why-is : w ≡ e.why = ap (λ (f : ReadFault). f.why) is in
-    let moved : FaultHere forms (before ++ []) lines last e.why = subst (λ (v : Why). FaultHere forms (before ++ []) lines last v) why-is (subst (λ (items : List Item). FaultHere forms items lines last w) (sym (append-nil before)) here) in
+    let moved : FaultHere (before ++ []) lines last e.why = subst (λ (v : Why). FaultHere (before ++ []) lines last v) why-is (subst (λ (items : List Item). FaultHere items lines last w) (sym (append-nil before)) here) in
     record { front = []; back = lines; added = []; parts = refl; spelled = tt; well_formed = tt; place = omega arith; here = moved }
 
 -- the fault is that of a line behind one that adds to the items
-fault_behind : (forms : Forms) (n : ℕ) (before mid : List Item) (line : List ℕ) (lines : List (List ℕ)) (last : List ℕ) (e : ReadFault) → AddsLine forms before (tokens line) mid → FaultIn forms (line_after n) mid lines last e → FaultIn forms n before (line ∷ lines) last e
-fault_behind forms n before mid line lines last e (inl h) f =
+fault_behind : (n : ℕ) (before mid : List Item) (line : List ℕ) (lines : List (List ℕ)) (last : List ℕ) (e : ReadFault) → AddsLine before (tokens line) mid → FaultIn (line_after n) mid lines last e → FaultIn n before (line ∷ lines) last e
+fault_behind n before mid line lines last e (inl h) f =
     let same : mid ++ f.added ≡ before ++ f.added = ap (λ (m : List Item). m ++ f.added) h.1 in
     record {
       front = line ∷ f.front;
@@ -65,41 +64,41 @@ fault_behind forms n before mid line lines last e (inl h) f =
       spelled = rw h.0 f.spelled;
       well_formed = rw h.1 at f.well_formed;
       place = omega (arith, f.place);
-      here = subst (λ (items : List Item). FaultHere forms items f.back last e.why) same f.here;
+      here = subst (λ (items : List Item). FaultHere items f.back last e.why) same f.here;
     }
-fault_behind forms n before mid line lines last e (inr h) f =
+fault_behind n before mid line lines last e (inr h) f =
     let same : mid ++ f.added ≡ before ++ h.0 ∷ f.added = ap (λ (m : List Item). m ++ f.added) h.1.1 ∙ append_assoc before (h.0 ∷ []) f.added in
     record {
       front = line ∷ f.front;
       back = f.back;
       added = h.0 ∷ f.added;
       parts = ap (λ (rest : List (List ℕ)). line ∷ rest) f.parts;
-      spelled = spells_line forms (tokens line) (map tokens f.front) h.0 f.added h.1.0.0 f.spelled;
+      spelled = spells_line (tokens line) (map tokens f.front) h.0 f.added h.1.0.0 f.spelled;
       well_formed = (h.1.0.1, rw h.1.1 at f.well_formed);
       place = omega (arith, f.place);
-      here = subst (λ (items : List Item). FaultHere forms items f.back last e.why) same f.here;
+      here = subst (λ (items : List Item). FaultHere items f.back last e.why) same f.here;
     }
 
-then_fails : (forms : Forms) (n : ℕ) (before : List Item) (line : List ℕ) (lines : List (List ℕ)) (last : List ℕ) (e : ReadFault) (others : List Item → Result (List Item) ReadFault) (r : Result (List Item) Why)
-    → IsWellFormed before → ((mid : List Item) → IsWellFormed mid → others mid ≡ Err e → FaultIn forms (line_after n) mid lines last e)
-    → line_on forms before (tokens line) ≡ r → then_lines (line_after n) r others ≡ Err e → FaultIn forms n before (line ∷ lines) last e
-then_fails forms n before line lines last e others (Ok mid) formed rest is h =
-    let adds = line_takes forms before (tokens line) mid formed is in
-    fault_behind forms n before mid line lines last e adds (rest mid (well_after forms before mid (tokens line) formed adds) h)
-then_fails forms n before line lines last e others (Err w) formed rest is h = at_once forms n before (line ∷ lines) last w e (faults (fault_at (line_after n) w) e h) is
+then_fails : (n : ℕ) (before : List Item) (line : List ℕ) (lines : List (List ℕ)) (last : List ℕ) (e : ReadFault) (others : List Item → Result (List Item) ReadFault) (r : Result (List Item) Why)
+    → IsWellFormed before → ((mid : List Item) → IsWellFormed mid → others mid ≡ Err e → FaultIn (line_after n) mid lines last e)
+    → line_on before (tokens line) ≡ r → then_lines (line_after n) r others ≡ Err e → FaultIn n before (line ∷ lines) last e
+then_fails n before line lines last e others (Ok mid) formed rest is h =
+    let adds = line_takes before (tokens line) mid formed is in
+    fault_behind n before mid line lines last e adds (rest mid (well_after before mid (tokens line) formed adds) h)
+then_fails n before line lines last e others (Err w) formed rest is h = at_once n before (line ∷ lines) last w e (faults (fault_at (line_after n) w) e h) is
 
-lines_fail : (forms : Forms) (n : ℕ) (before : List Item) (lines : List (List ℕ)) (last : List ℕ) (e : ReadFault) → IsWellFormed before → lines_on forms n before lines last ≡ Err e → FaultIn forms n before lines last e
+lines_fail : (n : ℕ) (before : List Item) (lines : List (List ℕ)) (last : List ℕ) (e : ReadFault) → IsWellFormed before → lines_on n before lines last ≡ Err e → FaultIn n before lines last e
 unfolding lines_on
-lines_fail forms n before [] [] e formed h = absurd (not_failed before e h)
-lines_fail forms n before [] (b ∷ bs) e formed h = at_once forms n before [] (b ∷ bs) why.Unfinished e (faults (fault_at (line_after n) why.Unfinished) e h) (some_bytes b bs, refl)
-lines_fail forms n before (line ∷ lines) last e formed h =
-    then_fails forms n before line lines last e (λ mid. lines_on forms (line_after n) mid lines last) (line_on forms before (tokens line)) formed (λ mid formed read. lines_fail forms (line_after n) mid lines last e formed read) refl h
+lines_fail n before [] [] e formed h = absurd (not_failed before e h)
+lines_fail n before [] (b ∷ bs) e formed h = at_once n before [] (b ∷ bs) why.Unfinished e (faults (fault_at (line_after n) why.Unfinished) e h) (some_bytes b bs, refl)
+lines_fail n before (line ∷ lines) last e formed h =
+    then_fails n before line lines last e (λ mid. lines_on (line_after n) mid lines last) (line_on before (tokens line)) formed (λ mid formed read. lines_fail (line_after n) mid lines last e formed read) refl h
 
 -- ---- from lines to bytes
 
-faulty_line : (forms : Forms) (items : List Item) (back : List (List ℕ)) (last : List ℕ) (w : Why) → EachLine back → IsLine last → FaultHere forms items back last w → IsUnfinished (text_of_lines back ++ last) w ⊎ BeginsFaulty forms items (text_of_lines back ++ last) w
-faulty_line forms items [] last w each line here = inl (record { line = line; some = here.0; is = here.1 })
-faulty_line forms items (line ∷ others) last w each whole here =
+faulty_line : (items : List Item) (back : List (List ℕ)) (last : List ℕ) (w : Why) → EachLine back → IsLine last → FaultHere items back last w → IsUnfinished (text_of_lines back ++ last) w ⊎ BeginsFaulty items (text_of_lines back ++ last) w
+faulty_line items [] last w each line here = inl (record { line = line; some = here.0; is = here.1 })
+faulty_line items (line ∷ others) last w each whole here =
     inr (record {
       line = line;
       after = text_of_lines others ++ last;
@@ -109,10 +108,10 @@ faulty_line forms items (line ∷ others) last w each whole here =
     })
 
 -- a fault that a text gives is that of its first line with one
-pub text_fails : (forms : Forms) (text : List ℕ) (e : ReadFault) → text_on forms text ≡ Err e → IsFaultOf forms text e
+pub text_fails : (text : List ℕ) (e : ReadFault) → text_on text ≡ Err e → IsFaultOf text e
 unfolding text_on
-text_fails forms text e h =
-    let f = lines_fail forms 0 [] (whole_lines text) (unfinished text) e tt h in
+text_fails text e h =
+    let f = lines_fail 0 [] (whole_lines text) (unfinished text) e tt h in
     let each : EachLine (f.front ++ f.back) = rw (← f.parts) (lines_are_lines text) in
     let joined : text_of_lines (whole_lines text) ≡ text_of_lines f.front ++ text_of_lines f.back = ap text_of_lines f.parts ∙ flat_map-append (λ line. line ++ 10 ∷ []) f.front f.back in
     record {
@@ -124,5 +123,5 @@ text_fails forms text e h =
       spelled = f.spelled;
       well_formed = f.well_formed;
       place = omega (arith, f.place);
-      faulty = faulty_line forms f.added f.back (unfinished text) e.why (each_back f.front f.back each) (unfinished_is_line text) f.here;
+      faulty = faulty_line f.added f.back (unfinished text) e.why (each_back f.front f.back each) (unfinished_is_line text) f.here;
     }

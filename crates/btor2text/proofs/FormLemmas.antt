@@ -1,5 +1,5 @@
 -- A word that is read as a form is the form's word, and the form's word is read as it.
-use Rattle.std.proofs.Common.{◌≡◌, ℕ, true, List, [], ◌∷◌, Option, Some, None, Ok, Err, option_map, refl, sym, ap, subst, ◌∙◌, inl, inr, ◌⊎◌}
+use Rattle.std.proofs.Common.{◌≡◌, ℕ, List, [], ◌∷◌, Option, Some, None, Ok, option_map, refl, sym, ap, subst, ◌∙◌, inl, inr, ◌⊎◌}
 use Rattle.std.specs.Option.{option_or}
 use Rattle.std.specs.Str.{bytes_eq}
 use Rattle.base.specs.declared.operators.Unary.{Unary}
@@ -7,8 +7,6 @@ use Rattle.base.specs.declared.operators.Unary.TheVariants as unary
 use Rattle.base.specs.declared.operators.Binary.{Binary}
 use Rattle.base.specs.declared.operators.Binary.TheVariants as binary
 use Rattle.base.proofs.DecimalLemmas.{chosen}
-use Rattle.btor2text.specs.declared.fault.Why.TheVariants as why
-use Rattle.btor2text.specs.declared.forms.Forms.{Forms}
 use Rattle.btor2text.specs.declared.forms.Form.{Form}
 use Rattle.btor2text.specs.declared.forms.Form.TheVariants as form
 use Rattle.btor2text.specs.declared.forms.Leaf.TheVariants as leaf
@@ -16,9 +14,9 @@ use Rattle.btor2text.specs.declared.forms.Constant.TheVariants as constant
 use Rattle.btor2text.specs.declared.forms.Extension.TheVariants as extension
 use Rattle.btor2text.specs.declared.forms.Link.TheVariants as link
 use Rattle.btor2text.specs.declared.forms.Property.TheVariants as property
-use Rattle.btor2text.specs.Words.{unary_name, binary_name, form_name, named, unaries, tests, bitwise, moves, arithmetic, overflows, leaves, constants, links, properties, others, unary_of, binary_of, plain_form_of, form_named, knows, known_form, form_of}
+use Rattle.btor2text.specs.Words.{unary_name, binary_name, form_name, named, unaries, tests, bitwise, moves, arithmetic, overflows, leaves, constants, links, properties, others, unary_of, binary_of, plain_form_of, form_named, known_form, form_of}
 use Rattle.btor2text.specs.Reading.{Tokens, form_at}
-use Rattle.btor2text.proofs.PlaceLemmas.{bind_ok, done, ok_is, some_is, is_word}
+use Rattle.btor2text.proofs.PlaceLemmas.{bind_ok, ok_is, some_is, is_word}
 
 -- a word that names something is its name
 named_is : {A : Type 0} (name : A → List ℕ) (word : List ℕ) (xs : List A) (x : A) → named name word xs ≡ Some x → word ≡ name x
@@ -78,25 +76,21 @@ form_named_is word f e0 =
     (operator_is (λ op. form.Unary op) unary_name (unary_of word) word f (λ op. refl) (unary_is word))
     (operator_is (λ op. form.Binary op) binary_name (binary_of word) word f (λ op. refl) (binary_is word)))
 
-known_is : (forms : Forms) (word : List ℕ) (o : Option Form) (f : Form) → known_form forms word o ≡ Ok f → (o ≡ Some f) × (knows forms f ≡ true)
-known_is forms word None f e = absurd cc
-known_is forms word (Some g) f e =
-    elim (chosen (knows forms g) (done g) (Err why.UnknownOperator) (Ok f) e) [
-      | inl h ↦ let same = ok_is g f h.1 in (ap (λ x. Some x) same, subst (λ (x : Form). knows forms x ≡ true) same h.0)
-      | inr h ↦ absurd cc
-    ]
+known_is : (word : List ℕ) (o : Option Form) (f : Form) → known_form word o ≡ Ok f → o ≡ Some f
+known_is word None f e = absurd cc
+known_is word (Some g) f e = ap (λ x. Some x) (ok_is g f e)
 
-form_takes : (forms : Forms) (word : List ℕ) (f : Form) → form_of forms word ≡ Ok f → (word ≡ form_name f) × (knows forms f ≡ true)
+form_takes : (word : List ℕ) (f : Form) → form_of word ≡ Ok f → word ≡ form_name f
 unfolding form_of
-form_takes forms word f e = let known = known_is forms word (form_named word) f e in (form_named_is word f known.0, known.1)
+form_takes word f e = form_named_is word f (known_is word (form_named word) f e)
 
-pub form_at_takes : (forms : Forms) (tokens : Tokens) (x : Form × Tokens) → form_at forms tokens ≡ Ok x → (tokens ≡ form_name x.0 ∷ x.1) × (knows forms x.0 ≡ true)
+pub form_at_takes : (tokens : Tokens) (x : Form × Tokens) → form_at tokens ≡ Ok x → tokens ≡ form_name x.0 ∷ x.1
 unfolding form_at
-form_at_takes forms [] x e = absurd cc
-form_at_takes forms (word ∷ rest) x e =
-    let f = bind_ok (form_of forms word) (λ f. Ok (f, rest)) x e in
-    let is = form_takes forms word f.0 f.1 in
-    subst (λ (p : Form × Tokens). (word ∷ rest ≡ form_name p.0 ∷ p.1) × (knows forms p.0 ≡ true)) {x = (f.0, rest)} (ok_is (f.0, rest) x f.2) (ap (λ w. w ∷ rest) is.0, is.1)
+form_at_takes [] x e = absurd cc
+form_at_takes (word ∷ rest) x e =
+    let f = bind_ok (form_of word) (λ f. Ok (f, rest)) x e in
+    let is = form_takes word f.0 f.1 in
+    subst (λ (p : Form × Tokens). word ∷ rest ≡ form_name p.0 ∷ p.1) {x = (f.0, rest)} (ok_is (f.0, rest) x f.2) (ap (λ w. w ∷ rest) is)
 
 -- each form's word is read as it
 form_named-again : (f : Form) → form_named (form_name f) ≡ Some f
@@ -168,6 +162,6 @@ form_named-again (form.Binary binary.Umulo) = refl
 form_named-again (form.Binary binary.Smulo) = refl
 form_named-again (form.Binary binary.Sdivo) = refl
 
-pub form_at-again : (forms : Forms) (f : Form) (rest : Tokens) → knows forms f ≡ true → form_at forms (form_name f ∷ rest) ≡ Ok (f, rest)
+pub form_at-again : (f : Form) (rest : Tokens) → form_at (form_name f ∷ rest) ≡ Ok (f, rest)
 unfolding form_at form_of
-form_at-again forms f rest known = rw (form_named-again f, known) refl
+form_at-again f rest = rw (form_named-again f) refl

@@ -10,7 +10,6 @@ use Rattle.btor2.specs.Check.{refusal, IsWellFormed, IsWellFormedAfter}
 use Rattle.btor2.proofs.ModelLemmas.{IsWellFormed-push}
 use Rattle.btor2text.specs.declared.fault.Why.{Why}
 use Rattle.btor2text.specs.declared.fault.ReadFault.{ReadFault}
-use Rattle.btor2text.specs.declared.forms.Forms.{Forms}
 use Rattle.btor2text.specs.Tokens.{tokens}
 use Rattle.btor2text.specs.Spelling.{Spells, SpellsAll, StandsFor}
 use Rattle.btor2text.specs.Reading.{Tokens, item_at, accepted, line_after, then_lines, line_on, lines_on, text_on}
@@ -21,69 +20,69 @@ use Rattle.btor2text.proofs.ItemLemmas.{item_takes, item_again}
 -- ---- one line
 
 -- what a line that was read adds
-abbrev pub AddsLine : Forms → List Item → Tokens → List Item → Type 0
-AddsLine forms before line items = ((line ≡ []) × (items ≡ before)) ⊎ ((x : Item) × ((Spells forms line x × (refusal before x ≡ None)) × (items ≡ before ++ x ∷ [])))
+abbrev pub AddsLine : List Item → Tokens → List Item → Type 0
+AddsLine before line items = ((line ≡ []) × (items ≡ before)) ⊎ ((x : Item) × ((Spells line x × (refusal before x ≡ None)) × (items ≡ before ++ x ∷ [])))
 
 accepted_is : (before : List Item) (x : Item) (r : Option PushFault) (items : List Item) → accepted before x r ≡ Ok items → (r ≡ None) × (items ≡ before ++ x ∷ [])
 accepted_is before x None items e = (refl, cc)
 accepted_is before x (Some f) items e = absurd cc
 
-pub line_takes : (forms : Forms) (before : List Item) (line : Tokens) (items : List Item) → IsWellFormed before → line_on forms before line ≡ Ok items → AddsLine forms before line items
+pub line_takes : (before : List Item) (line : Tokens) (items : List Item) → IsWellFormed before → line_on before line ≡ Ok items → AddsLine before line items
 unfolding line_on
-line_takes forms before [] items formed e = inl (refl, cc)
-line_takes forms before (first ∷ rest) items formed e =
-    let x = bind_ok (item_at forms first rest) (λ x. accepted before x (refusal before x)) items e in
+line_takes before [] items formed e = inl (refl, cc)
+line_takes before (first ∷ rest) items formed e =
+    let x = bind_ok (item_at first rest) (λ x. accepted before x (refusal before x)) items e in
     let is = accepted_is before x.0 (refusal before x.0) items x.2 in
-    inr (x.0, ((item_takes forms first rest x.0 x.1 (accepted_fits before x.0 formed is.0), is.0), is.1))
+    inr (x.0, ((item_takes first rest x.0 x.1 (accepted_fits before x.0 formed is.0), is.0), is.1))
 
-line_again : (forms : Forms) (before : List Item) (first : List ℕ) (rest : Tokens) (x : Item) → IsWellFormed before → Spells forms (first ∷ rest) x → refusal before x ≡ None → line_on forms before (first ∷ rest) ≡ Ok (before ++ x ∷ [])
+line_again : (before : List Item) (first : List ℕ) (rest : Tokens) (x : Item) → IsWellFormed before → Spells (first ∷ rest) x → refusal before x ≡ None → line_on before (first ∷ rest) ≡ Ok (before ++ x ∷ [])
 unfolding line_on
-line_again forms before first rest x formed spelled none =
-    rw (item_again forms first rest x spelled (accepted_fits before x formed none), none) refl
+line_again before first rest x formed spelled none =
+    rw (item_again first rest x spelled (accepted_fits before x formed none), none) refl
 
 -- ---- lines
 
 no_tokens : (t : List ℕ) (ts : Tokens) → [] ≡ t ∷ ts → ⊥
 no_tokens t ts e = cc
 
-pub spells_line : (forms : Forms) (line : Tokens) (lines : List Tokens) (x : Item) (xs : List Item) → Spells forms line x → SpellsAll forms lines xs → SpellsAll forms (line ∷ lines) (x ∷ xs)
-spells_line forms [] lines x xs one others = absurd (no_tokens _ _ one.tokens)
-spells_line forms (token ∷ line) lines x xs one others = (one, others)
+pub spells_line : (line : Tokens) (lines : List Tokens) (x : Item) (xs : List Item) → Spells line x → SpellsAll lines xs → SpellsAll (line ∷ lines) (x ∷ xs)
+spells_line [] lines x xs one others = absurd (no_tokens _ _ one.tokens)
+spells_line (token ∷ line) lines x xs one others = (one, others)
 
 -- what lines that were read add
-record Adds (forms : Forms) (before : List Item) (lines : List Tokens) (last : List ℕ) (items : List Item) : Type 0 where
+record Adds (before : List Item) (lines : List Tokens) (last : List ℕ) (items : List Item) : Type 0 where
   added : List Item
   whole : items ≡ before ++ added
-  spelled : SpellsAll forms lines added
+  spelled : SpellsAll lines added
   well_formed : IsWellFormedAfter before added
   ended : last ≡ []
 
-adds_line : (forms : Forms) (before mid items : List Item) (line : Tokens) (lines : List Tokens) (last : List ℕ) → AddsLine forms before line mid → Adds forms mid lines last items → Adds forms before (line ∷ lines) last items
-adds_line forms before mid items line lines last (inl h) others =
+adds_line : (before mid items : List Item) (line : Tokens) (lines : List Tokens) (last : List ℕ) → AddsLine before line mid → Adds mid lines last items → Adds before (line ∷ lines) last items
+adds_line before mid items line lines last (inl h) others =
     let whole : items ≡ before ++ others.added = others.whole ∙ ap (λ (m : List Item). m ++ others.added) h.1 in
     let well : IsWellFormedAfter before others.added = rw h.1 at others.well_formed in
     rw h.0 (record { added = others.added; whole = whole; spelled = others.spelled; well_formed = well; ended = others.ended })
-adds_line forms before mid items line lines last (inr h) others =
+adds_line before mid items line lines last (inr h) others =
     let well : IsWellFormedAfter (before ++ h.0 ∷ []) others.added = rw h.1.1 at others.well_formed in
     record {
       added = h.0 ∷ others.added;
       whole = others.whole ∙ (ap (λ (m : List Item). m ++ others.added) h.1.1 ∙ append_assoc before (h.0 ∷ []) others.added);
-      spelled = spells_line forms line lines h.0 others.added h.1.0.0 others.spelled;
+      spelled = spells_line line lines h.0 others.added h.1.0.0 others.spelled;
       well_formed = (h.1.0.1, well);
       ended = others.ended;
     }
 
-pub well_after : (forms : Forms) (before mid : List Item) (line : Tokens) → IsWellFormed before → AddsLine forms before line mid → IsWellFormed mid
-well_after forms before mid line formed (inl h) = rw h.1 formed
-well_after forms before mid line formed (inr h) = rw h.1.1 (IsWellFormed-push before h.0 formed h.1.0.1)
+pub well_after : (before mid : List Item) (line : Tokens) → IsWellFormed before → AddsLine before line mid → IsWellFormed mid
+well_after before mid line formed (inl h) = rw h.1 formed
+well_after before mid line formed (inr h) = rw h.1.1 (IsWellFormed-push before h.0 formed h.1.0.1)
 
-then_adds : (forms : Forms) (n : ℕ) (before items : List Item) (line : Tokens) (lines : List Tokens) (last : List ℕ) (others : List Item → Result (List Item) ReadFault) (r : Result (List Item) Why)
-    → IsWellFormed before → ((mid : List Item) → IsWellFormed mid → others mid ≡ Ok items → Adds forms mid lines last items)
-    → line_on forms before line ≡ r → then_lines n r others ≡ Ok items → Adds forms before (line ∷ lines) last items
-then_adds forms n before items line lines last others (Ok mid) formed rest is e =
-    let adds = line_takes forms before line mid formed is in
-    adds_line forms before mid items line lines last adds (rest mid (well_after forms before mid line formed adds) e)
-then_adds forms n before items line lines last others (Err w) formed rest is e = absurd cc
+then_adds : (n : ℕ) (before items : List Item) (line : Tokens) (lines : List Tokens) (last : List ℕ) (others : List Item → Result (List Item) ReadFault) (r : Result (List Item) Why)
+    → IsWellFormed before → ((mid : List Item) → IsWellFormed mid → others mid ≡ Ok items → Adds mid lines last items)
+    → line_on before line ≡ r → then_lines n r others ≡ Ok items → Adds before (line ∷ lines) last items
+then_adds n before items line lines last others (Ok mid) formed rest is e =
+    let adds = line_takes before line mid formed is in
+    adds_line before mid items line lines last adds (rest mid (well_after before mid line formed adds) e)
+then_adds n before items line lines last others (Err w) formed rest is e = absurd cc
 
 -- items that were read; two of them that are the same answer are the same
 abbrev pub done : List Item → Result (List Item) ReadFault
@@ -92,43 +91,43 @@ done items = Ok items
 pub ok_items : (a b : List Item) → done a ≡ done b → a ≡ b
 ok_items a b e = cc
 
-lines_take : (forms : Forms) (n : ℕ) (before : List Item) (lines : List (List ℕ)) (last : List ℕ) (items : List Item) → IsWellFormed before → lines_on forms n before lines last ≡ Ok items → Adds forms before (map tokens lines) last items
+lines_take : (n : ℕ) (before : List Item) (lines : List (List ℕ)) (last : List ℕ) (items : List Item) → IsWellFormed before → lines_on n before lines last ≡ Ok items → Adds before (map tokens lines) last items
 unfolding lines_on
-lines_take forms n before [] [] items formed e = record { added = []; whole = ok_items items before (sym e) ∙ sym (append-nil before); spelled = tt; well_formed = tt; ended = refl }
-lines_take forms n before [] (b ∷ bs) items formed e = absurd cc
-lines_take forms n before (line ∷ lines) last items formed e =
-    then_adds forms (line_after n) before items (tokens line) (map tokens lines) last (λ mid. lines_on forms (line_after n) mid lines last) (line_on forms before (tokens line)) formed (λ mid formed read. lines_take forms (line_after n) mid lines last items formed read) refl e
+lines_take n before [] [] items formed e = record { added = []; whole = ok_items items before (sym e) ∙ sym (append-nil before); spelled = tt; well_formed = tt; ended = refl }
+lines_take n before [] (b ∷ bs) items formed e = absurd cc
+lines_take n before (line ∷ lines) last items formed e =
+    then_adds (line_after n) before items (tokens line) (map tokens lines) last (λ mid. lines_on (line_after n) mid lines last) (line_on before (tokens line)) formed (λ mid formed read. lines_take (line_after n) mid lines last items formed read) refl e
 
 -- a line that spells an item, or has no token, and the lines behind it
-empty_again : (forms : Forms) (n : ℕ) (before items : List Item) (others : List Item → Result (List Item) ReadFault) → others before ≡ Ok (before ++ items) → then_lines n (line_on forms before []) others ≡ Ok (before ++ items)
+empty_again : (n : ℕ) (before items : List Item) (others : List Item → Result (List Item) ReadFault) → others before ≡ Ok (before ++ items) → then_lines n (line_on before []) others ≡ Ok (before ++ items)
 unfolding line_on
-empty_again forms n before items others e = e
+empty_again n before items others e = e
 
-then_again : (forms : Forms) (n : ℕ) (before items : List Item) (line : Tokens) (lines : List Tokens) (others : List Item → Result (List Item) ReadFault)
-    → IsWellFormed before → SpellsAll forms (line ∷ lines) items → IsWellFormedAfter before items
-    → ((mid xs : List Item) → IsWellFormed mid → SpellsAll forms lines xs → IsWellFormedAfter mid xs → others mid ≡ Ok (mid ++ xs))
-    → then_lines n (line_on forms before line) others ≡ Ok (before ++ items)
-then_again forms n before items [] lines others formed spelled well rest = empty_again forms n before items others (rest before items formed spelled well)
-then_again forms n before [] (token ∷ line) lines others formed spelled well rest = absurd spelled
-then_again forms n before (x ∷ xs) (token ∷ line) lines others formed spelled well rest =
-    let one = line_again forms before token line x formed spelled.0 well.0 in
+then_again : (n : ℕ) (before items : List Item) (line : Tokens) (lines : List Tokens) (others : List Item → Result (List Item) ReadFault)
+    → IsWellFormed before → SpellsAll (line ∷ lines) items → IsWellFormedAfter before items
+    → ((mid xs : List Item) → IsWellFormed mid → SpellsAll lines xs → IsWellFormedAfter mid xs → others mid ≡ Ok (mid ++ xs))
+    → then_lines n (line_on before line) others ≡ Ok (before ++ items)
+then_again n before items [] lines others formed spelled well rest = empty_again n before items others (rest before items formed spelled well)
+then_again n before [] (token ∷ line) lines others formed spelled well rest = absurd spelled
+then_again n before (x ∷ xs) (token ∷ line) lines others formed spelled well rest =
+    let one = line_again before token line x formed spelled.0 well.0 in
     let more = rest (before ++ x ∷ []) xs (IsWellFormed-push before x formed well.0) spelled.1 well.1 in
     ap (λ r. then_lines n r others) one ∙ (more ∙ ap (λ (all : List Item). Ok all) (append_assoc before (x ∷ []) xs))
 
-lines_again : (forms : Forms) (n : ℕ) (before : List Item) (lines : List (List ℕ)) (items : List Item) → IsWellFormed before → SpellsAll forms (map tokens lines) items → IsWellFormedAfter before items → lines_on forms n before lines [] ≡ Ok (before ++ items)
+lines_again : (n : ℕ) (before : List Item) (lines : List (List ℕ)) (items : List Item) → IsWellFormed before → SpellsAll (map tokens lines) items → IsWellFormedAfter before items → lines_on n before lines [] ≡ Ok (before ++ items)
 unfolding lines_on
-lines_again forms n before [] [] formed spelled well = ap (λ (all : List Item). Ok all) (sym (append-nil before))
-lines_again forms n before [] (x ∷ xs) formed spelled well = absurd spelled
-lines_again forms n before (line ∷ lines) items formed spelled well =
-    then_again forms (line_after n) before items (tokens line) (map tokens lines) (λ mid. lines_on forms (line_after n) mid lines []) formed spelled well (λ mid xs formed others wells. lines_again forms (line_after n) mid lines xs formed others wells)
+lines_again n before [] [] formed spelled well = ap (λ (all : List Item). Ok all) (sym (append-nil before))
+lines_again n before [] (x ∷ xs) formed spelled well = absurd spelled
+lines_again n before (line ∷ lines) items formed spelled well =
+    then_again (line_after n) before items (tokens line) (map tokens lines) (λ mid. lines_on (line_after n) mid lines []) formed spelled well (λ mid xs formed others wells. lines_again (line_after n) mid lines xs formed others wells)
 
 -- ---- a text
 
 -- what is read stands for the text
-pub read_stands : (forms : Forms) (text : List ℕ) (items : List Item) → text_on forms text ≡ Ok items → StandsFor forms text items
+pub read_stands : (text : List ℕ) (items : List Item) → text_on text ≡ Ok items → StandsFor text items
 unfolding text_on
-read_stands forms text items e =
-    let adds = lines_take forms 0 [] (whole_lines text) (unfinished text) items tt e in
+read_stands text items e =
+    let adds = lines_take 0 [] (whole_lines text) (unfinished text) items tt e in
     let parts : text_of_lines (whole_lines text) ≡ text = sym (append-nil (text_of_lines (whole_lines text))) ∙ (ap (λ (last : List ℕ). text_of_lines (whole_lines text) ++ last) (sym adds.ended) ∙ parts_of_text text) in
     rw adds.whole (record {
       lines = whole_lines text;
@@ -139,8 +138,8 @@ read_stands forms text items e =
     })
 
 -- a text that stands for a model is read as it
-pub stands_read : (forms : Forms) (text : List ℕ) (items : List Item) → StandsFor forms text items → text_on forms text ≡ Ok items
+pub stands_read : (text : List ℕ) (items : List Item) → StandsFor text items → text_on text ≡ Ok items
 unfolding text_on
-stands_read forms text items s =
+stands_read text items s =
     let each = recursion_from_All IsLine s.lines s.each in
-    rw (s.whole, lines_of_text s.lines each, unfinished_of_text s.lines) (lines_again forms 0 [] s.lines items tt s.spelled s.well_formed)
+    rw (s.whole, lines_of_text s.lines each, unfinished_of_text s.lines) (lines_again 0 [] s.lines items tt s.spelled s.well_formed)

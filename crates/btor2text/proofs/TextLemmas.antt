@@ -6,19 +6,18 @@ use Rattle.btor2.specs.declared.item.Item.{Item}
 use Rattle.btor2text.specs.declared.fault.Why.{Why}
 use Rattle.btor2text.specs.declared.fault.Why.TheVariants as why
 use Rattle.btor2text.specs.declared.fault.ReadFault.{ReadFault}
-use Rattle.btor2text.specs.declared.forms.Forms.{Forms}
 use Rattle.btor2text.specs.Tokens.{tokens}
 use Rattle.btor2text.specs.Reading.{line_after, fault_at, fault_of, then_lines, line_on, lines_on}
 
 -- one line more
-pub lines_on-line : (forms : Forms) (n : ℕ) (before : List Item) (text line rest : List ℕ) → text ≡ line ++ 10 ∷ rest → IsLine line
-    → lines_on forms n before (whole_lines text) (unfinished text) ≡ then_lines (line_after n) (line_on forms before (tokens line)) (λ items. lines_on forms (line_after n) items (whole_lines rest) (unfinished rest))
+pub lines_on-line : (n : ℕ) (before : List Item) (text line rest : List ℕ) → text ≡ line ++ 10 ∷ rest → IsLine line
+    → lines_on n before (whole_lines text) (unfinished text) ≡ then_lines (line_after n) (line_on before (tokens line)) (λ items. lines_on (line_after n) items (whole_lines rest) (unfinished rest))
 unfolding lines_on
-lines_on-line forms n before text line rest is h = rw (is, whole_lines-line line rest h, unfinished-line line rest) refl
+lines_on-line n before text line rest is h = rw (is, whole_lines-line line rest h, unfinished-line line rest) refl
 
 -- the end
-pub lines_on-last : (forms : Forms) (n : ℕ) (before : List Item) (text : List ℕ) → IsLine text → lines_on forms n before (whole_lines text) (unfinished text) ≡ lines_on forms n before [] text
-lines_on-last forms n before text h = rw (whole_lines-last text h, unfinished-last text h) refl
+pub lines_on-last : (n : ℕ) (before : List Item) (text : List ℕ) → IsLine text → lines_on n before (whole_lines text) (unfinished text) ≡ lines_on n before [] text
+lines_on-last n before text h = rw (whole_lines-last text h, unfinished-last text h) refl
 
 -- a fault is told at its line, or is want of memory
 pub fault_of-full : (n : ℕ) (w : Why) → w ≡ why.NoMemory → fault_of n w ≡ fault_at 0 why.NoMemory
@@ -38,26 +37,26 @@ fault_of_cases n why.Unfinished = inr refl
 fault_of_cases n why.Device = inr refl
 
 -- a step of the loop over lines: the line is read, or has a fault
-module _ (forms : Forms) (n m : ℕ) (before : List Item) (text line rest : List ℕ) (total : Result (List Item) ReadFault) (is : text ≡ line ++ 10 ∷ rest) (whole : IsLine line) (number : m ≡ line_after n) (so_far : lines_on forms n before (whole_lines text) (unfinished text) ≡ total) where
-  pub goes_on : (items : List Item) → line_on forms before (tokens line) ≡ Ok items → lines_on forms m items (whole_lines rest) (unfinished rest) ≡ total
+module _ (n m : ℕ) (before : List Item) (text line rest : List ℕ) (total : Result (List Item) ReadFault) (is : text ≡ line ++ 10 ∷ rest) (whole : IsLine line) (number : m ≡ line_after n) (so_far : lines_on n before (whole_lines text) (unfinished text) ≡ total) where
+  pub goes_on : (items : List Item) → line_on before (tokens line) ≡ Ok items → lines_on m items (whole_lines rest) (unfinished rest) ≡ total
   goes_on items read =
-      let step = lines_on-line forms n before text line rest is whole in
-      let one : lines_on forms n before (whole_lines text) (unfinished text) ≡ lines_on forms (line_after n) items (whole_lines rest) (unfinished rest) = step ∙ rw read refl in
+      let step = lines_on-line n before text line rest is whole in
+      let one : lines_on n before (whole_lines text) (unfinished text) ≡ lines_on (line_after n) items (whole_lines rest) (unfinished rest) = step ∙ rw read refl in
       rw number (sym one ∙ so_far)
 
-  pub ends_at : (e : Why) → line_on forms before (tokens line) ≡ Err e → total ≡ Err (fault_at m e)
+  pub ends_at : (e : Why) → line_on before (tokens line) ≡ Err e → total ≡ Err (fault_at m e)
   ends_at e read =
-      let step = lines_on-line forms n before text line rest is whole in
-      let one : lines_on forms n before (whole_lines text) (unfinished text) ≡ Err (fault_at (line_after n) e) = step ∙ rw read refl in
+      let step = lines_on-line n before text line rest is whole in
+      let one : lines_on n before (whole_lines text) (unfinished text) ≡ Err (fault_at (line_after n) e) = step ∙ rw read refl in
       rw number (sym so_far ∙ one)
 
 -- the end of the loop
-pub is_done : (forms : Forms) (n : ℕ) (before : List Item) (text : List ℕ) (total : Result (List Item) ReadFault) → IsLine text → length text ≡ 0 → lines_on forms n before (whole_lines text) (unfinished text) ≡ total → total ≡ Ok before
+pub is_done : (n : ℕ) (before : List Item) (text : List ℕ) (total : Result (List Item) ReadFault) → IsLine text → length text ≡ 0 → lines_on n before (whole_lines text) (unfinished text) ≡ total → total ≡ Ok before
 unfolding lines_on
-is_done forms n before [] total h none so_far = sym so_far
-is_done forms n before (b ∷ bs) total h none so_far = absurd (omega arith)
+is_done n before [] total h none so_far = sym so_far
+is_done n before (b ∷ bs) total h none so_far = absurd (omega arith)
 
-pub is_unfinished : (forms : Forms) (n m : ℕ) (before : List Item) (text : List ℕ) (total : Result (List Item) ReadFault) → IsLine text → (length text ≡ 0 → ⊥) → m ≡ line_after n → lines_on forms n before (whole_lines text) (unfinished text) ≡ total → total ≡ Err (fault_at m why.Unfinished)
+pub is_unfinished : (n m : ℕ) (before : List Item) (text : List ℕ) (total : Result (List Item) ReadFault) → IsLine text → (length text ≡ 0 → ⊥) → m ≡ line_after n → lines_on n before (whole_lines text) (unfinished text) ≡ total → total ≡ Err (fault_at m why.Unfinished)
 unfolding lines_on
-is_unfinished forms n m before [] total h some number so_far = absurd (some refl)
-is_unfinished forms n m before (b ∷ bs) total h some number so_far = rw number (sym so_far ∙ lines_on-last forms n before (b ∷ bs) h)
+is_unfinished n m before [] total h some number so_far = absurd (some refl)
+is_unfinished n m before (b ∷ bs) total h some number so_far = rw number (sym so_far ∙ lines_on-last n before (b ∷ bs) h)

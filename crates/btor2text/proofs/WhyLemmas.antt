@@ -13,13 +13,12 @@ use Rattle.btor2.specs.Check.{refusal}
 use Rattle.btor2text.specs.declared.fault.Why.{Why}
 use Rattle.btor2text.specs.declared.fault.Why.TheVariants as why
 use Rattle.btor2text.specs.declared.fault.ReadFault.{ReadFault}
-use Rattle.btor2text.specs.declared.forms.Forms.{Forms}
 use Rattle.btor2text.specs.declared.forms.Form.{Form}
 use Rattle.btor2text.specs.declared.forms.Form.TheVariants as form
 use Rattle.btor2text.specs.declared.forms.Constant.{Constant}
 use Rattle.btor2text.specs.declared.forms.Constant.TheVariants as constant
 use Rattle.btor2text.specs.Tokens.{tokens}
-use Rattle.btor2text.specs.Words.{form_named, knows, no_form, known_form, form_of}
+use Rattle.btor2text.specs.Words.{form_named, no_form, known_form, form_of}
 use Rattle.btor2text.specs.Digits.{number_in, signed_number}
 use Rattle.btor2text.specs.Reading.{◌>>=◌, Tokens, is_negative, some_of, operand_of, plain, operand, plain_at, kept_id, sort_at, operand_at, width_at, pair_at, triple_at, digits_at, signed_at, operands_at, counted_at, constant_at, extension_body, form_at, body_at, symbol_end, symbol_at, item_at, refused, accepted, line_after, then_lines, line_on, lines_on, text_on}
 
@@ -93,18 +92,18 @@ no_form_told : (word : List ℕ) → IsOfText (no_form word)
 unfolding no_form
 no_form_told word = elim (bytes_eq word (codes "read") || bytes_eq word (codes "write")) as (λ b. IsOfText (cond b why.ArrayOperator why.UnknownOperator)) [ true ↦ tt | false ↦ tt ]
 
-known_form_told : (forms : Forms) (word : List ℕ) (o : Option Form) → Told (known_form forms word o)
-known_form_told forms word None = no_form_told word
-known_form_told forms word (Some f) = told_if (knows forms f) (Ok f) (Err why.UnknownOperator) tt tt
+known_form_told : (word : List ℕ) (o : Option Form) → Told (known_form word o)
+known_form_told word None = no_form_told word
+known_form_told word (Some f) = tt
 
-form_told : (forms : Forms) (word : List ℕ) → Told (form_of forms word)
+form_told : (word : List ℕ) → Told (form_of word)
 unfolding form_of
-form_told forms word = known_form_told forms word (form_named word)
+form_told word = known_form_told word (form_named word)
 
-form_at_told : (forms : Forms) (tokens : Tokens) → Told (form_at forms tokens)
+form_at_told : (tokens : Tokens) → Told (form_at tokens)
 unfolding form_at
-form_at_told forms [] = tt
-form_at_told forms (word ∷ rest) = told_bind (form_of forms word) (λ f. Ok (f, rest)) (form_told forms word) (λ _. tt)
+form_at_told [] = tt
+form_at_told (word ∷ rest) = told_bind (form_of word) (λ f. Ok (f, rest)) (form_told word) (λ _. tt)
 
 digits_at_told : (radix most : ℕ) (tokens : Tokens) → Told (digits_at radix most tokens)
 unfolding digits_at
@@ -168,11 +167,11 @@ unfolding symbol_at
 symbol_at_told [] = tt
 symbol_at_told (token ∷ rest) = told_if (is_symbol token) (symbol_end token rest) (Err why.BadSymbol) (symbol_end_told token rest) tt
 
-item_at_told : (forms : Forms) (first : List ℕ) (rest : Tokens) → Told (item_at forms first rest)
+item_at_told : (first : List ℕ) (rest : Tokens) → Told (item_at first rest)
 unfolding item_at
-item_at_told forms first rest =
+item_at_told first rest =
     told_bind (plain first) _ (plain_told first) (λ id.
-    told_bind (form_at forms rest) _ (form_at_told forms rest) (λ f.
+    told_bind (form_at rest) _ (form_at_told rest) (λ f.
     told_bind (body_at f.0 f.1) _ (body_at_told f.0 f.1) (λ b.
     told_bind (symbol_at b.1) _ (symbol_at_told b.1) (λ _. tt))))
 
@@ -184,10 +183,10 @@ accepted_told : (before : List Item) (x : Item) (r : Option PushFault) → Told 
 accepted_told before x None = tt
 accepted_told before x (Some f) = refused_told f
 
-line_on_told : (forms : Forms) (before : List Item) (line : Tokens) → Told (line_on forms before line)
+line_on_told : (before : List Item) (line : Tokens) → Told (line_on before line)
 unfolding line_on
-line_on_told forms before [] = tt
-line_on_told forms before (first ∷ rest) = told_bind (item_at forms first rest) _ (item_at_told forms first rest) (λ x. accepted_told before x (refusal before x))
+line_on_told before [] = tt
+line_on_told before (first ∷ rest) = told_bind (item_at first rest) _ (item_at_told first rest) (λ x. accepted_told before x (refusal before x))
 
 -- ---- texts
 
@@ -199,13 +198,13 @@ then_told : (n : ℕ) (r : Result (List Item) Why) (others : List Item → Resul
 then_told n (Ok mid) others h k = k mid
 then_told n (Err w) others h k = h
 
-lines_told : (forms : Forms) (n : ℕ) (before : List Item) (lines : List (List ℕ)) (last : List ℕ) → TextTold (lines_on forms n before lines last)
+lines_told : (n : ℕ) (before : List Item) (lines : List (List ℕ)) (last : List ℕ) → TextTold (lines_on n before lines last)
 unfolding lines_on
-lines_told forms n before [] [] = tt
-lines_told forms n before [] (b ∷ bs) = tt
-lines_told forms n before (line ∷ lines) last =
-    then_told (line_after n) (line_on forms before (tokens line)) _ (line_on_told forms before (tokens line)) (λ mid. lines_told forms (line_after n) mid lines last)
+lines_told n before [] [] = tt
+lines_told n before [] (b ∷ bs) = tt
+lines_told n before (line ∷ lines) last =
+    then_told (line_after n) (line_on before (tokens line)) _ (line_on_told before (tokens line)) (λ mid. lines_told (line_after n) mid lines last)
 
-pub text_told : (forms : Forms) (text : List ℕ) → TextTold (text_on forms text)
+pub text_told : (text : List ℕ) → TextTold (text_on text)
 unfolding text_on
-text_told forms text = lines_told forms 0 [] (whole_lines text) (unfinished text)
+text_told text = lines_told 0 [] (whole_lines text) (unfinished text)

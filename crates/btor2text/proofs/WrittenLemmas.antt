@@ -27,7 +27,6 @@ use Rattle.btor2.specs.Check.{IsWellFormed, IsWellFormedAfter}
 use Rattle.btor2.specs.Parts.{HasFewOperands, HasSoundParts, HaveSoundParts}
 use Rattle.btor2.proofs.AcceptedLemmas.{Each}
 use Rattle.btor2.proofs.ModelLemmas.{IsWellFormed-push}
-use Rattle.btor2text.specs.declared.forms.Forms.TheVariants as forms
 use Rattle.btor2text.specs.Tokens.{is_blank, tokens, begins_token}
 use Rattle.btor2text.specs.Words.{unary_name, binary_name}
 use Rattle.btor2text.specs.Digits.{are_digits_of, IsNumber, last_digits}
@@ -314,12 +313,11 @@ line_text x = decimal x.id ++ behind_spaces (form_tokens x.body ++ symbol_tokens
 line_words : (x : Item) → Fits x → HasSoundParts x → AreWords (form_tokens x.body ++ symbol_tokens x.symbol)
 line_words x fits writable = are_words-append (form_tokens x.body) (symbol_tokens x.symbol) (form_words x.body fits.body writable.operands) (symbol_words x.symbol writable.symbol)
 
-line_spells : (x : Item) → Fits x → HasSoundParts x → Spells forms.All (tokens (line_text x)) x
+line_spells : (x : Item) → Fits x → HasSoundParts x → Spells (tokens (line_text x)) x
 line_spells x fits writable = record {
   form = form_tokens x.body;
   tokens = tokens_behind (decimal x.id) (form_tokens x.body ++ symbol_tokens x.symbol) (id_word x.id fits.id) (line_words x fits writable);
   says = says_written x.body fits.body writable.operands;
-  known = refl;
   symbol = writable.symbol;
 }
 
@@ -330,10 +328,10 @@ written_text : (items : List Item) → written items ≡ text_of_lines (map line
 written_text [] = refl
 written_text (x ∷ xs) = ap₂ (λ (a b : List ℕ). a ++ b) (sym (append_assoc (decimal x.id) (behind_spaces (form_tokens x.body ++ symbol_tokens x.symbol)) (10 ∷ []))) (written_text xs)
 
-lines_spell : (before items : List Item) → IsWellFormed before → IsWellFormedAfter before items → HaveSoundParts items → SpellsAll forms.All (map tokens (map line_text items)) items
+lines_spell : (before items : List Item) → IsWellFormed before → IsWellFormedAfter before items → HaveSoundParts items → SpellsAll (map tokens (map line_text items)) items
 lines_spell before [] h well writable = tt
 lines_spell before (x ∷ xs) h well writable =
-    spells_line forms.All (tokens (line_text x)) (map tokens (map line_text xs)) x xs (line_spells x (accepted_fits before x h well.0) writable.0)
+    spells_line (tokens (line_text x)) (map tokens (map line_text xs)) x xs (line_spells x (accepted_fits before x h well.0) writable.0)
     (lines_spell (before ++ x ∷ []) xs (IsWellFormed-push before x h well.0) well.1 writable.1)
 
 lines_are_lines : (before items : List Item) → IsWellFormed before → IsWellFormedAfter before items → HaveSoundParts items → EachLine (map line_text items)
@@ -341,7 +339,7 @@ lines_are_lines before [] h well writable = tt
 lines_are_lines before (x ∷ xs) h well writable = (line_is_line x (accepted_fits before x h well.0) writable.0, lines_are_lines (before ++ x ∷ []) xs (IsWellFormed-push before x h well.0) well.1 writable.1)
 
 -- what is written stands for the items
-pub written_stands : (items : List Item) → IsWellFormed items → HaveSoundParts items → StandsFor forms.All (written items) items
+pub written_stands : (items : List Item) → IsWellFormed items → HaveSoundParts items → StandsFor (written items) items
 written_stands items well writable = record {
   lines = map line_text items;
   whole = written_text items;

@@ -6,7 +6,6 @@ use Rattle.btor2.specs.Check.{IsWellFormed}
 use Rattle.btor2text.specs.declared.fault.Why.{Why}
 use Rattle.btor2text.specs.declared.fault.Why.TheVariants as why
 use Rattle.btor2text.specs.declared.fault.ReadFault.{ReadFault}
-use Rattle.btor2text.specs.declared.forms.Forms.{Forms}
 use Rattle.btor2text.specs.Tokens.{tokens}
 use Rattle.btor2text.specs.Spelling.{SpellsAll}
 use Rattle.btor2text.specs.Reading.{line_on}
@@ -18,21 +17,21 @@ pub record IsUnfinished (text : List ℕ) (w : Why) : Type 0 where
   pub is : w ≡ why.Unfinished
 
 -- the first line of a text has a fault behind items: what its tokens give is that
-pub record BeginsFaulty (forms : Forms) (items : List Item) (text : List ℕ) (w : Why) : Type 0 where
+pub record BeginsFaulty (items : List Item) (text : List ℕ) (w : Why) : Type 0 where
   pub line : List ℕ
   pub after : List ℕ
   pub parts : text ≡ line ++ 10 ∷ after
   pub whole : IsLine line
-  pub faulty : line_on forms items (tokens line) ≡ Err w
+  pub faulty : line_on items (tokens line) ≡ Err w
 
 -- the lines before the fault's stand for a model, and the fault is what the next line has; its number is told up to 2 ^ 64 - 1
-pub record IsFaultOf (forms : Forms) (text : List ℕ) (e : ReadFault) : Type 0 where
+pub record IsFaultOf (text : List ℕ) (e : ReadFault) : Type 0 where
   pub lines : List (List ℕ)
   pub items : List Item
   pub rest : List ℕ
   pub parts : text ≡ text_of_lines lines ++ rest
   pub each : All IsLine lines
-  pub spelled : SpellsAll forms (map tokens lines) items
+  pub spelled : SpellsAll (map tokens lines) items
   pub well_formed : IsWellFormed items
   pub place : e.line ≡ min (length lines + 1) (2 ^ 64 - 1)
-  pub faulty : IsUnfinished rest e.why ⊎ BeginsFaulty forms items rest e.why
+  pub faulty : IsUnfinished rest e.why ⊎ BeginsFaulty items rest e.why

@@ -1,4 +1,3 @@
-pub mod Basic
 pub mod Digits
 pub mod FirstFault
 pub mod Tokens

@@ -13,7 +13,6 @@ use Rattle.btor2.specs.Symbols.{is_symbol}
 use Rattle.btor2text.specs.declared.fault.ReadFault.{ReadFault}
 use Rattle.btor2text.specs.declared.fault.Why.{Why}
 use Rattle.btor2text.specs.declared.fault.Why.TheVariants as why
-use Rattle.btor2text.specs.declared.forms.Forms.{Forms}
 use Rattle.btor2text.specs.declared.forms.Form.{Form}
 use Rattle.btor2text.specs.declared.forms.Form.TheVariants as form
 use Rattle.btor2text.specs.declared.forms.Leaf.{Leaf}
@@ -152,10 +151,10 @@ counted_at tokens = do
   if k.0 == 2 ^ 64 - 1 then Err why.BadToken else Ok a
 
 -- a form, and the tokens behind its word
-unfoldable pub form_at : Forms → Tokens → Result (Form × Tokens) Why
-form_at forms [] = Err why.BadToken
-form_at forms (word ∷ rest) = do
-  f ← form_of forms word
+unfoldable pub form_at : Tokens → Result (Form × Tokens) Why
+form_at [] = Err why.BadToken
+form_at (word ∷ rest) = do
+  f ← form_of word
   Ok (f, rest)
 
 -- the bodies of the forms of a group
@@ -253,10 +252,10 @@ symbol_at (token ∷ rest) = if is_symbol token then symbol_end token rest else 
 -- ---- lines
 
 -- the item that a line's tokens spell, of which `first` is the first
-unfoldable pub item_at : Forms → List ℕ → Tokens → Result Item Why
-item_at forms first rest = do
+unfoldable pub item_at : List ℕ → Tokens → Result Item Why
+item_at first rest = do
   id ← plain first
-  f ← form_at forms rest
+  f ← form_at rest
   b ← body_at f.0 f.1
   symbol ← symbol_at b.1
   Ok (record { id = id; symbol = symbol; body = b.0 })
@@ -272,10 +271,10 @@ accepted before x None = Ok (before ++ x ∷ [])
 accepted before x (Some f) = Err (refused f)
 
 -- the items after one more line
-unfoldable pub line_on : Forms → List Item → Tokens → Result (List Item) Why
-line_on forms before [] = Ok before
-line_on forms before (first ∷ rest) = do
-  x ← item_at forms first rest
+unfoldable pub line_on : List Item → Tokens → Result (List Item) Why
+line_on before [] = Ok before
+line_on before (first ∷ rest) = do
+  x ← item_at first rest
   accepted before x (refusal before x)
 
 -- ---- texts
@@ -299,14 +298,14 @@ then_lines n (Ok items) others = others items
 then_lines n (Err e) others = Err (fault_at n e)
 
 -- what line n + 1 and those after it give behind some items; the last has no byte 10
-unfoldable pub lines_on : Forms → ℕ → List Item → List (List ℕ) → List ℕ → Result (List Item) ReadFault
-lines_on forms n before [] [] = Ok before
-lines_on forms n before [] (b ∷ bs) = Err (fault_at (line_after n) why.Unfinished)
-lines_on forms n before (line ∷ lines) last = then_lines (line_after n) (line_on forms before (tokens line)) (λ items. lines_on forms (line_after n) items lines last)
+unfoldable pub lines_on : ℕ → List Item → List (List ℕ) → List ℕ → Result (List Item) ReadFault
+lines_on n before [] [] = Ok before
+lines_on n before [] (b ∷ bs) = Err (fault_at (line_after n) why.Unfinished)
+lines_on n before (line ∷ lines) last = then_lines (line_after n) (line_on before (tokens line)) (λ items. lines_on (line_after n) items lines last)
 
 -- the items that a text spells, or its fault
-unfoldable pub text_on : Forms → List ℕ → Result (List Item) ReadFault
-text_on forms text = lines_on forms 0 [] (whole_lines text) (unfinished text)
+unfoldable pub text_on : List ℕ → Result (List Item) ReadFault
+text_on text = lines_on 0 [] (whole_lines text) (unfinished text)
 
 -- a line was read onto a model, unless memory ran out
 abbrev pub ReadsLine : Result (Unit {0}) Why → List Item → Result (List Item) Why → Type 0

@@ -7,8 +7,6 @@ use Rattle.btor2.specs.declared.item.Body.{Body}
 use Rattle.btor2.specs.declared.item.Body.TheVariants as body
 use Rattle.btor2.specs.Symbols.{is_symbol}
 use Rattle.btor2.specs.Check.{IsWellFormed}
-use Rattle.btor2text.specs.declared.forms.Forms.{Forms}
-use Rattle.btor2text.specs.Basic.{is_known}
 use Rattle.btor2text.specs.Digits.{IsNumber, last_digits}
 use Rattle.btor2text.specs.Tokens.{tokens}
 use Rattle.btor2text.specs.Words.{unary_name, binary_name}
@@ -53,26 +51,25 @@ abbrev pub symbol_tokens : Option (List ℕ) → List (List ℕ)
 symbol_tokens None = []
 symbol_tokens (Some symbol) = symbol ∷ []
 
--- the tokens of a line spell an item: its id, its form, which is one that a reader knows, and its symbol, which is a symbol's bytes
-pub record Spells (forms : Forms) (line : List (List ℕ)) (x : Item) : Type 0 where
+-- the tokens of a line spell an item: its id, its form, and its symbol, which is a symbol's bytes
+pub record Spells (line : List (List ℕ)) (x : Item) : Type 0 where
   pub form : List (List ℕ)
   pub tokens : line ≡ decimal x.id ∷ form ++ symbol_tokens x.symbol
   pub says : Says x.body form
-  pub known : is_known forms x.body ≡ true
   pub symbol : IfSome x.symbol (λ bytes. is_symbol bytes ≡ true)
 
 -- lines stand for items in order; a line without tokens stands for nothing
-abbrev pub SpellsAll : Forms → List (List (List ℕ)) → List Item → Type 0
-SpellsAll forms [] [] = Unit {0}
-SpellsAll forms [] (x ∷ xs) = ⊥
-SpellsAll forms ([] ∷ lines) xs = SpellsAll forms lines xs
-SpellsAll forms ((token ∷ line) ∷ lines) [] = ⊥
-SpellsAll forms ((token ∷ line) ∷ lines) (x ∷ xs) = Spells forms (token ∷ line) x × SpellsAll forms lines xs
+abbrev pub SpellsAll : List (List (List ℕ)) → List Item → Type 0
+SpellsAll [] [] = Unit {0}
+SpellsAll [] (x ∷ xs) = ⊥
+SpellsAll ([] ∷ lines) xs = SpellsAll lines xs
+SpellsAll ((token ∷ line) ∷ lines) [] = ⊥
+SpellsAll ((token ∷ line) ∷ lines) (x ∷ xs) = Spells (token ∷ line) x × SpellsAll lines xs
 
 -- a text stands for a model: every line ends with byte 10, the lines with a token stand for the items in order, and these are well formed
-pub record StandsFor (forms : Forms) (text : List ℕ) (items : List Item) : Type 0 where
+pub record StandsFor (text : List ℕ) (items : List Item) : Type 0 where
   pub lines : List (List ℕ)
   pub whole : text ≡ text_of_lines lines
   pub each : All IsLine lines
-  pub spelled : SpellsAll forms (map tokens lines) items
+  pub spelled : SpellsAll (map tokens lines) items
   pub well_formed : IsWellFormed items

@@ -1,5 +1,5 @@
 -- The words of operators and of line forms ("Btor2, BtorMC and Boolector 3.0", syntax and table of operators).
-use Rattle.std.specs.Prelude.{ℕ, Bool, true, false, List, [], ◌∷◌, ◌||◌, Option, Some, None, Result, Ok, Err, codes, if◌then◌else◌, option_map}
+use Rattle.std.specs.Prelude.{ℕ, List, [], ◌∷◌, ◌||◌, Option, Some, None, Result, Ok, Err, codes, if◌then◌else◌, option_map}
 use Rattle.std.specs.Str.{bytes_eq}
 use Rattle.std.specs.Option.{option_or}
 use Rattle.base.specs.declared.operators.Unary.{Unary}
@@ -8,8 +8,6 @@ use Rattle.base.specs.declared.operators.Binary.{Binary}
 use Rattle.base.specs.declared.operators.Binary.TheVariants as binary
 use Rattle.btor2text.specs.declared.fault.Why.{Why}
 use Rattle.btor2text.specs.declared.fault.Why.TheVariants as why
-use Rattle.btor2text.specs.declared.forms.Forms.{Forms}
-use Rattle.btor2text.specs.declared.forms.Forms.TheVariants as forms
 use Rattle.btor2text.specs.declared.forms.Form.{Form}
 use Rattle.btor2text.specs.declared.forms.Form.TheVariants as form
 use Rattle.btor2text.specs.declared.forms.Leaf.{Leaf}
@@ -22,7 +20,6 @@ use Rattle.btor2text.specs.declared.forms.Link.{Link}
 use Rattle.btor2text.specs.declared.forms.Link.TheVariants as link
 use Rattle.btor2text.specs.declared.forms.Property.{Property}
 use Rattle.btor2text.specs.declared.forms.Property.TheVariants as property
-use Rattle.btor2text.specs.Basic.{is_basic_unary, is_basic_binary}
 
 -- the word of an operator of one operand
 abbrev pub unary_name : Unary → List ℕ
@@ -183,41 +180,15 @@ form_named word =
     option_or (plain_form_of word)
     (option_or (option_map (λ op. form.Unary op) (unary_of word)) (option_map (λ op. form.Binary op) (binary_of word)))
 
--- a basic form
-abbrev pub is_basic_leaf : Leaf → Bool
-is_basic_leaf leaf.Input = true
-is_basic_leaf leaf.State = true
-is_basic_leaf leaf.Zero = true
-is_basic_leaf _ = false
-
-abbrev pub is_basic_property : Property → Bool
-is_basic_property property.Bad = true
-is_basic_property property.Constraint = true
-is_basic_property _ = false
-
-abbrev pub is_basic_form : Form → Bool
-is_basic_form form.Sort = true
-is_basic_form (form.Leaf l) = is_basic_leaf l
-is_basic_form (form.Unary op) = is_basic_unary op
-is_basic_form (form.Binary op) = is_basic_binary op
-is_basic_form (form.Link l) = true
-is_basic_form (form.Property p) = is_basic_property p
-is_basic_form _ = false
-
--- a form is one of those that a reader knows
-abbrev pub knows : Forms → Form → Bool
-knows forms.Basic f = is_basic_form f
-knows forms.All f = true
-
 -- why a word names no form: it is of arrays, or unknown
 unfoldable pub no_form : List ℕ → Why
 no_form word = if bytes_eq word (codes "read") || bytes_eq word (codes "write") then why.ArrayOperator else why.UnknownOperator
 
 -- the form of a word, given the form that it names, where it names one
-abbrev pub known_form : Forms → List ℕ → Option Form → Result Form Why
-known_form forms word None = Err (no_form word)
-known_form forms word (Some f) = if knows forms f then Ok f else Err why.UnknownOperator
+abbrev pub known_form : List ℕ → Option Form → Result Form Why
+known_form word None = Err (no_form word)
+known_form word (Some f) = Ok f
 
--- the form of a word, where a reader knows it
-unfoldable pub form_of : Forms → List ℕ → Result Form Why
-form_of forms word = known_form forms word (form_named word)
+-- the form of a word
+unfoldable pub form_of : List ℕ → Result Form Why
+form_of word = known_form word (form_named word)

@@ -1,20 +1,10 @@
 //! The forms of lines and the words that name them.
 ghost use Rattle.std.specs.Prelude.{◌≡◌};
-ghost use Rattle.btor2text.specs.Words.{named, form_name, leaves, constants, links, properties, others, plain_form_of, form_named, is_basic_form, knows, no_form, form_of};
+ghost use Rattle.btor2text.specs.Words.{named, form_name, leaves, constants, links, properties, others, plain_form_of, form_named, no_form, form_of};
 
 use crate::fault::Why;
 use crate::operators::{binary_of, is_word, unary_of};
 use base::{Binary, Unary};
-
-/// The line forms that a reader knows.
-#[derive(Clone, Copy, Debug, PartialEq, Eq)]
-pub enum Forms {
-    /// Those that are lowered so far: `sort`, `input`, `state`, `zero`, `not`, `and`, `init`, `next`, `bad` and
-    /// `constraint`.
-    Basic,
-    /// All of them.
-    All,
-}
 
 /// A node that has a sort alone.
 #[derive(Clone, Copy)]
@@ -198,30 +188,6 @@ fn form_named(word: &[u8]) -> Option<Form>
     }
 }
 
-/// Whether a form is a basic one.
-fn is_basic_form(form: Form) -> bool
-    ensures { result ≡ is_basic_form form }
-{
-    match form {
-        Form::Sort | Form::Link(_) => true,
-        Form::Leaf(leaf) => matches!(leaf, Leaf::Input | Leaf::State | Leaf::Zero),
-        Form::Unary(operator) => matches!(operator, Unary::Not),
-        Form::Binary(operator) => matches!(operator, Binary::And),
-        Form::Property(property) => matches!(property, Property::Bad | Property::Constraint),
-        _ => false,
-    }
-}
-
-/// Whether a form is one of those that a reader knows.
-fn knows(forms: Forms, form: Form) -> bool
-    ensures { result ≡ knows forms form }
-{
-    match forms {
-        Forms::Basic => is_basic_form(form),
-        Forms::All => true,
-    }
-}
-
 /// Why a word names no form.
 #[tactic(auto, unfolding(crate::specs::Words::no_form))]
 fn no_form(word: &[u8]) -> Why
@@ -236,12 +202,11 @@ fn no_form(word: &[u8]) -> Why
 
 /// The form that a word names, where it is known.
 #[tactic(auto, unfolding(crate::specs::Words::form_of))]
-pub(crate) fn form_of(forms: Forms, word: &[u8]) -> Result<Form, Why>
-    ensures { result ≡ form_of forms word.now }
+pub(crate) fn form_of(word: &[u8]) -> Result<Form, Why>
+    ensures { result ≡ form_of word.now }
 {
     match form_named(word) {
         None => Err(no_form(word)),
-        Some(form) if knows(forms, form) => Ok(form),
-        Some(_) => Err(Why::UnknownOperator),
+        Some(form) => Ok(form),
     }
 }

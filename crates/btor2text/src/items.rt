@@ -6,7 +6,7 @@ ghost use Rattle.btor2text.specs.Reading.{Gives, GivesUnlessFull, form_at, leaf_
 
 use crate::constants::constant_at;
 use crate::fault::Why;
-use crate::forms::{Extension, Form, Forms, Leaf, Link, Property, form_of};
+use crate::forms::{Extension, Form, Leaf, Link, Property, form_of};
 use crate::places::{
     counted_at, operand_at, pair_at, plain, plain_at, sort_at, triple_at, width_at,
 };
@@ -16,13 +16,13 @@ use std::alloc::Global;
 
 /// A form, and the line behind its word.
 #[tactic(auto, unfolding(crate::specs::Reading::form_at))]
-fn form_at(forms: Forms, line: &[u8]) -> Result<(Form, &[u8]), Why>
-    ensures { Gives (λ x. (x.0, tokens x.1.now)) result (form_at forms (tokens line.now)) }
+fn form_at(line: &[u8]) -> Result<(Form, &[u8]), Why>
+    ensures { Gives (λ x. (x.0, tokens x.1.now)) result (form_at (tokens line.now)) }
 {
     match next_token(line) {
         None => Err(Why::BadToken),
         Some((word, rest)) => {
-            let form = form_of(forms, word)?;
+            let form = form_of(word)?;
             Ok((form, rest))
         }
     }
@@ -182,11 +182,11 @@ fn symbol_at(alloc: Global, line: &[u8]) -> Result<Option<Symbol>, Why>
 
 /// The item that a line spells, of which the first token is cut off already.
 #[tactic(auto, unfolding(crate::specs::Reading::item_at))]
-pub(crate) fn item(forms: Forms, alloc: Global, first: &[u8], line: &[u8]) -> Result<Item, Why>
-    ensures { GivesUnlessFull (λ x. x) result (item_at forms first.now (tokens line.now)) }
+pub(crate) fn item(alloc: Global, first: &[u8], line: &[u8]) -> Result<Item, Why>
+    ensures { GivesUnlessFull (λ x. x) result (item_at first.now (tokens line.now)) }
 {
     let id = plain(first)?;
-    let (form, rest) = form_at(forms, line)?;
+    let (form, rest) = form_at(line)?;
     let (body, rest) = body_at(alloc, form, rest)?;
     let symbol = symbol_at(alloc, rest)?;
     Ok(Item { id, symbol, body })

@@ -8,8 +8,6 @@ ghost use Rattle.btor2.specs.Check.{IsWellFormed};
 ghost use Rattle.btor2.specs.Parts.{HaveSoundParts};
 ghost use Rattle.btor2.specs.Worked.{line};
 ghost use Rattle.btor2text.specs.declared.fault.Why.TheVariants as why;
-ghost use Rattle.btor2text.specs.declared.forms.Forms.{Forms};
-ghost use Rattle.btor2text.specs.declared.forms.Forms.TheVariants as forms;
 ghost use Rattle.btor2text.specs.Tokens.{tokens};
 ghost use Rattle.btor2text.specs.Whys.{number_of};
 ghost use Rattle.btor2text.specs.Spelling.{Spells, StandsFor};
@@ -20,14 +18,14 @@ ghost use Rattle.btor2text.specs.Reading.{line_on, text_on};
 /// What is written stands for the items that are written, and is read again as them, for all well-formed lists of items
 /// whose parts are as their types keep them: `btor2::Model::items` gives both of every model, and `write` says it of them.
 pub fn read_back()
-    ensures stands { (items : List Item) → IsWellFormed items → HaveSoundParts items → StandsFor forms.All (written items) items }
-    ensures read { (items : List Item) → IsWellFormed items → HaveSoundParts items → text_on forms.All (written items) ≡ Ok items }
+    ensures stands { (items : List Item) → IsWellFormed items → HaveSoundParts items → StandsFor (written items) items }
+    ensures read { (items : List Item) → IsWellFormed items → HaveSoundParts items → text_on (written items) ≡ Ok items }
 {}
 
 /// A text stands for at most one list of items: each that it stands for is the one that reading it gives.
 pub fn one_model()
-    ensures read { (known : Forms) (text : List ℕ) (items : List Item) → StandsFor known text items → text_on known text ≡ Ok items }
-    ensures same { (known : Forms) (text : List ℕ) (items others : List Item) → StandsFor known text items → StandsFor known text others → items ≡ others }
+    ensures read { (text : List ℕ) (items : List Item) → StandsFor text items → text_on text ≡ Ok items }
+    ensures same { (text : List ℕ) (items others : List Item) → StandsFor text items → StandsFor text others → items ≡ others }
 {}
 
 /// Worked rows: the tokens of lines.
@@ -41,44 +39,42 @@ pub fn worked_tokens()
 
 /// Worked rows: lines that spell items, and a text that stands for one: without its last byte 10 it stands for none.
 pub fn worked_items()
-    ensures negated { Spells forms.Basic (tokens (codes "5 not 1 3")) (line 5 (body.Unary unary.Not 1 3)) }
-    ensures named { Spells forms.All (tokens (codes "3 state 1 t ; named")) (record { id = 3; symbol = Some (codes "t"); body = body.State 1 }) }
-    ensures hexadecimal { Spells forms.All (tokens (codes "2 consth 1 00Ff")) (line 2 (body.Consth 1 4 255)) }
-    ensures negative { Spells forms.All (tokens (codes "2 constd 1 -8")) (line 2 (body.Constd 1 (negsuc 7))) }
-    ensures justice { Spells forms.All (tokens (codes "4 justice 2 2 3")) (line 4 (body.Justice (2 ∷ 3 ∷ []))) }
-    ensures leading_zero { ¬ Spells forms.All (tokens (codes "05 not 1 3")) (line 5 (body.Unary unary.Not 1 3)) }
-    ensures not_basic { ¬ Spells forms.Basic (tokens (codes "2 one 1")) (line 2 (body.One 1)) }
-    ensures text { StandsFor forms.All (codes "1 sort bitvec 1\n") (line 1 (body.Sort 1) ∷ []) }
-    ensures unended { ¬ StandsFor forms.All (codes "1 sort bitvec 1") (line 1 (body.Sort 1) ∷ []) }
-    ensures empty { StandsFor forms.All [] [] }
+    ensures negated { Spells (tokens (codes "5 not 1 3")) (line 5 (body.Unary unary.Not 1 3)) }
+    ensures named { Spells (tokens (codes "3 state 1 t ; named")) (record { id = 3; symbol = Some (codes "t"); body = body.State 1 }) }
+    ensures hexadecimal { Spells (tokens (codes "2 consth 1 00Ff")) (line 2 (body.Consth 1 4 255)) }
+    ensures negative { Spells (tokens (codes "2 constd 1 -8")) (line 2 (body.Constd 1 (negsuc 7))) }
+    ensures justice { Spells (tokens (codes "4 justice 2 2 3")) (line 4 (body.Justice (2 ∷ 3 ∷ []))) }
+    ensures leading_zero { ¬ Spells (tokens (codes "05 not 1 3")) (line 5 (body.Unary unary.Not 1 3)) }
+    ensures text { StandsFor (codes "1 sort bitvec 1\n") (line 1 (body.Sort 1) ∷ []) }
+    ensures unended { ¬ StandsFor (codes "1 sort bitvec 1") (line 1 (body.Sort 1) ∷ []) }
+    ensures empty { StandsFor [] [] }
 {}
 
 /// Worked rows: what is wrong with lines that are read behind no item.
 pub fn worked_whys()
-    ensures bad_token { line_on forms.All [] (tokens (codes "1 sort foo")) ≡ Err why.BadToken }
-    ensures leading_zero { line_on forms.All [] (tokens (codes "01 sort bitvec 1")) ≡ Err why.BadToken }
-    ensures negative_sort { line_on forms.All [] (tokens (codes "3 not -1 2")) ≡ Err why.BadToken }
-    ensures two_symbols { line_on forms.All [] (tokens (codes "2 input 1 a b")) ≡ Err why.BadToken }
-    ensures array_sort { line_on forms.All [] (tokens (codes "2 sort array 1 1")) ≡ Err why.ArraySort }
-    ensures array_operator { line_on forms.All [] (tokens (codes "4 read 1 2 3")) ≡ Err why.ArrayOperator }
-    ensures unknown_operator { line_on forms.All [] (tokens (codes "2 udivo 1 1 1")) ≡ Err why.UnknownOperator }
-    ensures not_basic { line_on forms.Basic [] (tokens (codes "2 add 1 1 1")) ≡ Err why.UnknownOperator }
-    ensures negative_operand { line_on forms.All [] (tokens (codes "3 not 1 -2")) ≡ Err why.NegativeOperand }
-    ensures negative_zero { line_on forms.All [] (tokens (codes "2 constd 1 -0")) ≡ Err why.BadToken }
-    ensures no_count { line_on forms.All [] (tokens (codes "3 justice")) ≡ Err why.BadToken }
-    ensures few_operands { line_on forms.All [] (tokens (codes "3 justice 2 1")) ≡ Err why.BadToken }
-    ensures no_operands { line_on forms.All [] (tokens (codes "3 justice 0")) ≡ Err (why.Refused push.JusticeEmpty) }
-    ensures refused { line_on forms.All [] (tokens (codes "2 input 1")) ≡ Err (why.Refused push.NoSuchSort) }
-    ensures above_the_greatest { line_on forms.All [] (tokens (codes "2 input 4294967296")) ≡ Err (why.Refused push.NoSuchSort) }
-    ensures bad_symbol { line_on forms.All [] (tokens (codes "2 input 1 a" ++ 200 ∷ [])) ≡ Err why.BadSymbol }
-    ensures nothing { line_on forms.All [] (tokens (codes "; t")) ≡ Ok [] }
-    ensures does_not_fit { line_on forms.All (line 1 (body.Sort 4) ∷ []) (tokens (codes "2 const 1 101")) ≡ Err why.ConstantDoesNotFit }
+    ensures bad_token { line_on [] (tokens (codes "1 sort foo")) ≡ Err why.BadToken }
+    ensures leading_zero { line_on [] (tokens (codes "01 sort bitvec 1")) ≡ Err why.BadToken }
+    ensures negative_sort { line_on [] (tokens (codes "3 not -1 2")) ≡ Err why.BadToken }
+    ensures two_symbols { line_on [] (tokens (codes "2 input 1 a b")) ≡ Err why.BadToken }
+    ensures array_sort { line_on [] (tokens (codes "2 sort array 1 1")) ≡ Err why.ArraySort }
+    ensures array_operator { line_on [] (tokens (codes "4 read 1 2 3")) ≡ Err why.ArrayOperator }
+    ensures unknown_operator { line_on [] (tokens (codes "2 udivo 1 1 1")) ≡ Err why.UnknownOperator }
+    ensures negative_operand { line_on [] (tokens (codes "3 not 1 -2")) ≡ Err why.NegativeOperand }
+    ensures negative_zero { line_on [] (tokens (codes "2 constd 1 -0")) ≡ Err why.BadToken }
+    ensures no_count { line_on [] (tokens (codes "3 justice")) ≡ Err why.BadToken }
+    ensures few_operands { line_on [] (tokens (codes "3 justice 2 1")) ≡ Err why.BadToken }
+    ensures no_operands { line_on [] (tokens (codes "3 justice 0")) ≡ Err (why.Refused push.JusticeEmpty) }
+    ensures refused { line_on [] (tokens (codes "2 input 1")) ≡ Err (why.Refused push.NoSuchSort) }
+    ensures above_the_greatest { line_on [] (tokens (codes "2 input 4294967296")) ≡ Err (why.Refused push.NoSuchSort) }
+    ensures bad_symbol { line_on [] (tokens (codes "2 input 1 a" ++ 200 ∷ [])) ≡ Err why.BadSymbol }
+    ensures nothing { line_on [] (tokens (codes "; t")) ≡ Ok [] }
+    ensures does_not_fit { line_on (line 1 (body.Sort 4) ∷ []) (tokens (codes "2 const 1 101")) ≡ Err why.ConstantDoesNotFit }
 {}
 
 /// Worked rows: the first faults of texts, and the numbers of some whys.
 pub fn worked_faults()
-    ensures second_line { IsFaultOf forms.All (codes "1 sort bitvec 1\n3 not 1 -2\n") (record { line = 2; why = why.NegativeOperand }) }
-    ensures unfinished { IsFaultOf forms.All (codes "1 sort bitvec 1") (record { line = 1; why = why.Unfinished }) }
+    ensures second_line { IsFaultOf (codes "1 sort bitvec 1\n3 not 1 -2\n") (record { line = 2; why = why.NegativeOperand }) }
+    ensures unfinished { IsFaultOf (codes "1 sort bitvec 1") (record { line = 1; why = why.Unfinished }) }
     ensures numbers { (number_of why.ArraySort ≡ 21) × (number_of why.NegativeOperand ≡ 24) × (number_of why.UnknownOperator ≡ 23) × (number_of why.ConstantDoesNotFit ≡ 25) }
 {}
 

@@ -1,7 +1,6 @@
 //! Word-level models as text, after "Btor2, BtorMC and Boolector 3.0".
 #![tactic(auto)]
 
-mod basic;
 mod constants;
 mod digits;
 mod fault;
@@ -14,8 +13,6 @@ mod reading;
 mod tokens;
 mod writing;
 
-pub use basic::are_basic;
 pub use fault::{ReadFault, Why};
-pub use forms::Forms;
-pub use reading::{read, read_basic};
+pub use reading::read;
 pub use writing::write;

@@ -6,7 +6,6 @@ ghost use Rattle.base.specs.Device.{CountsFaults, AppendsBeginning};
 ghost use Rattle.btor2.specs.declared.item.Body.TheVariants as body;
 ghost use Rattle.btor2.specs.Check.{IsWellFormed};
 ghost use Rattle.base.specs.Pieces.{Puts};
-ghost use Rattle.btor2text.specs.declared.forms.Forms.TheVariants as forms;
 ghost use Rattle.btor2text.specs.Spelling.{form_tokens, symbol_tokens, StandsFor};
 ghost use Rattle.btor2text.specs.Reading.{text_on};
 ghost use Rattle.btor2text.specs.Writing.{behind_spaces, HasFewDigits, written_line, written};
@@ -24,8 +23,8 @@ use itoa::Buffer;
 pub fn write<K: Sink>(model: &Model, sink: &mut K) -> Result<(), DeviceFault>
     ensures ok { OnOk result (Appends (K.written sink.old) (K.written sink.new) (written model.now)) }
     ensures err { OnErr result (AppendsBeginning (K.written sink.old) (K.written sink.new) (written model.now)) }
-    ensures stands { StandsFor forms.All (written model.now) model.now }
-    ensures read { text_on forms.All (written model.now) ≡ Ok model.now }
+    ensures stands { StandsFor (written model.now) model.now }
+    ensures read { text_on (written model.now) ≡ Ok model.now }
     ensures failures { CountsFaults result (K.failures sink.old) (K.failures sink.new) }
 {
     let mut outbox = Outbox::new();

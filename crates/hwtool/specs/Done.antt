@@ -5,7 +5,6 @@ use Rattle.btor2.specs.declared.item.Item.{Item}
 use Rattle.btor2.specs.Items.{is_input, is_state, is_bad, is_constraint}
 use Rattle.btor2.specs.Check.{IsWellFormed}
 use Rattle.btor2.specs.Lists.{places, first_init_without_next}
-use Rattle.btor2text.specs.declared.forms.Forms.TheVariants as forms
 use Rattle.btor2text.specs.Spelling.{StandsFor}
 use Rattle.btor2text.specs.Writing.{written}
 use Rattle.aigertext.specs.declared.forms.Form.{Form}
@@ -20,7 +19,7 @@ use Rattle.hwtool.specs.declared.orders.Task.TheVariants as task
 
 -- the bytes of a source, where it knows them, are a text of some items
 abbrev pub IsModelOf : Option (List ℕ) → List Item → Type 0
-IsModelOf known items = IfSome known (λ text. StandsFor forms.All text items)
+IsModelOf known items = IfSome known (λ text. StandsFor text items)
 
 -- a judgement is that the witness is accepted
 abbrev pub IsAccepted : Judgement → Type 0

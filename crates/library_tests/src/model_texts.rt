@@ -5,12 +5,11 @@ use btor2text::{Why, are_basic, read, read_basic, write};
 use std::alloc::Global;
 use std::test::Fail;
 
-/// How many items a text of the basic forms has, or the line and the number of its fault.
+/// How many items a text has, or the line and the number of its fault.
 fn answer(alloc: Global, text: &str) -> Result<usize, (u64, u32)> {
     let mut source = text.as_bytes();
-    match read_basic(alloc, &mut source) {
-        Ok(model) if are_basic(&model) => Ok(model.items().len()),
-        Ok(_) => Err((0, 0)),
+    match read(alloc, &mut source) {
+        Ok(model) => Ok(model.items().len()),
         Err(fault) => Err((fault.line, fault.why.number())),
     }
 }

@@ -6,4 +6,4 @@ pub returns-clause-read : goal.returns-clause-read
 returns-clause-read c = stands_read
 
 pub returns-clause-same : goal.returns-clause-same
-returns-clause-same c = λ known text items others stands also. ok_items items others (sym (stands_read known text items stands) ∙ stands_read known text others also)
+returns-clause-same c = λ text items others stands also. ok_items items others (sym (stands_read text items stands) ∙ stands_read text others also)

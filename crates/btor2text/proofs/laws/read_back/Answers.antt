@@ -1,4 +1,3 @@
-use Rattle.btor2text.specs.declared.forms.Forms.TheVariants as forms
 use Rattle.btor2text.specs.Writing.{written}
 use Rattle.btor2text.proofs.StandsLemmas.{stands_read}
 use Rattle.btor2text.proofs.WrittenLemmas.{written_stands}
@@ -8,4 +7,4 @@ pub returns-clause-stands : goal.returns-clause-stands
 returns-clause-stands c = written_stands
 
 pub returns-clause-read : goal.returns-clause-read
-returns-clause-read c = λ items well writable. stands_read forms.All (written items) items (written_stands items well writable)
+returns-clause-read c = λ items well writable. stands_read (written items) items (written_stands items well writable)

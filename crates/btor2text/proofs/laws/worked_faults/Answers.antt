@@ -21,7 +21,7 @@ returns-clause-second_line c =
       rest = codes "3 not 1 -2\n";
       parts = refl;
       each = All-from_recursion IsLine (codes "1 sort bitvec 1" ∷ []) (refl, tt);
-      spelled = (record { form = codes "sort" ∷ codes "bitvec" ∷ codes "1" ∷ []; tokens = refl; says = refl; known = refl; symbol = tt }, tt);
+      spelled = (record { form = codes "sort" ∷ codes "bitvec" ∷ codes "1" ∷ []; tokens = refl; says = refl; symbol = tt }, tt);
       well_formed = (refl, tt);
       place = refl;
       faulty = inr (record { line = codes "3 not 1 -2"; after = []; parts = refl; whole = refl; faulty = refl });

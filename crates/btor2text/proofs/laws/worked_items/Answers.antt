@@ -5,9 +5,7 @@ use Rattle.btor2.specs.declared.item.Body.TheVariants as body
 use Rattle.btor2.specs.Worked.{line}
 use Rattle.btor2.specs.Check.{refusal, id_is_out_of_range, id_is_taken, sort_is_missing, operand_is_missing, state_is_none, width_is_out_of_range, widths_differ, init_is_not_constant, is_second_init, is_second_next, slice_is_out_of_range, constant_does_not_fit, justice_is_empty}
 use Rattle.base.specs.Lines.{IsLine}
-use Rattle.std.proofs.lemmas.Bool.{false≢true}
 use Rattle.btor2text.specs.declared.fault.Why.TheVariants as why
-use Rattle.btor2text.specs.declared.forms.Forms.TheVariants as forms
 use Rattle.btor2text.specs.Reading.{fault_at, lines_on, text_on}
 use Rattle.btor2text.proofs.FaultLemmas.{not_failed}
 use Rattle.btor2text.proofs.StandsLemmas.{stands_read}
@@ -15,23 +13,23 @@ use Rattle.btor2text.proofs.laws.worked_items.Goals as goal
 
 pub returns-clause-negated : goal.returns-clause-negated
 unfolding digits
-returns-clause-negated c = record { form = codes "not" ∷ codes "1" ∷ codes "3" ∷ []; tokens = refl; says = refl; known = refl; symbol = tt }
+returns-clause-negated c = record { form = codes "not" ∷ codes "1" ∷ codes "3" ∷ []; tokens = refl; says = refl; symbol = tt }
 
 pub returns-clause-named : goal.returns-clause-named
 unfolding digits
-returns-clause-named c = record { form = codes "state" ∷ codes "1" ∷ []; tokens = refl; says = refl; known = refl; symbol = refl }
+returns-clause-named c = record { form = codes "state" ∷ codes "1" ∷ []; tokens = refl; says = refl; symbol = refl }
 
 pub returns-clause-hexadecimal : goal.returns-clause-hexadecimal
 unfolding digits
-returns-clause-hexadecimal c = record { form = codes "consth" ∷ codes "1" ∷ codes "00Ff" ∷ []; tokens = refl; says = (codes "00Ff", refl, record { each = refl; many = refl; says = refl }); known = refl; symbol = tt }
+returns-clause-hexadecimal c = record { form = codes "consth" ∷ codes "1" ∷ codes "00Ff" ∷ []; tokens = refl; says = (codes "00Ff", refl, record { each = refl; many = refl; says = refl }); symbol = tt }
 
 pub returns-clause-negative : goal.returns-clause-negative
 unfolding digits
-returns-clause-negative c = record { form = codes "constd" ∷ codes "1" ∷ codes "-8" ∷ []; tokens = refl; says = refl; known = refl; symbol = tt }
+returns-clause-negative c = record { form = codes "constd" ∷ codes "1" ∷ codes "-8" ∷ []; tokens = refl; says = refl; symbol = tt }
 
 pub returns-clause-justice : goal.returns-clause-justice
 unfolding digits
-returns-clause-justice c = record { form = codes "justice" ∷ codes "2" ∷ codes "2" ∷ codes "3" ∷ []; tokens = refl; says = (refl, lit< tt); known = refl; symbol = tt }
+returns-clause-justice c = record { form = codes "justice" ∷ codes "2" ∷ codes "2" ∷ codes "3" ∷ []; tokens = refl; says = (refl, lit< tt); symbol = tt }
 
 pub returns-clause-text : goal.returns-clause-text
 unfolding digits refusal id_is_out_of_range id_is_taken sort_is_missing operand_is_missing state_is_none width_is_out_of_range widths_differ init_is_not_constant is_second_init is_second_next slice_is_out_of_range constant_does_not_fit justice_is_empty
@@ -40,7 +38,7 @@ returns-clause-text c =
       lines = codes "1 sort bitvec 1" ∷ [];
       whole = refl;
       each = All-from_recursion IsLine (codes "1 sort bitvec 1" ∷ []) (refl, tt);
-      spelled = (record { form = codes "sort" ∷ codes "bitvec" ∷ codes "1" ∷ []; tokens = refl; says = refl; known = refl; symbol = tt }, tt);
+      spelled = (record { form = codes "sort" ∷ codes "bitvec" ∷ codes "1" ∷ []; tokens = refl; says = refl; symbol = tt }, tt);
       well_formed = (refl, tt);
     }
 
@@ -48,12 +46,9 @@ pub returns-clause-leading_zero : goal.returns-clause-leading_zero
 unfolding digits
 returns-clause-leading_zero c = λ s. absurd (cc s.tokens)
 
-pub returns-clause-not_basic : goal.returns-clause-not_basic
-returns-clause-not_basic c = λ s. false≢true s.known
-
 pub returns-clause-unended : goal.returns-clause-unended
 unfolding text_on lines_on
-returns-clause-unended c = λ s. not_failed (line 1 (body.Sort 1) ∷ []) (fault_at 1 why.Unfinished) (sym (stands_read forms.All (codes "1 sort bitvec 1") (line 1 (body.Sort 1) ∷ []) s))
+returns-clause-unended c = λ s. not_failed (line 1 (body.Sort 1) ∷ []) (fault_at 1 why.Unfinished) (sym (stands_read (codes "1 sort bitvec 1") (line 1 (body.Sort 1) ∷ []) s))
 
 pub returns-clause-empty : goal.returns-clause-empty
 returns-clause-empty c = record { lines = []; whole = refl; each = All-nil IsLine; spelled = tt; well_formed = tt }

@@ -34,10 +34,6 @@ pub returns-clause-unknown_operator : goal.returns-clause-unknown_operator
 unfolding line_on item_at symbol_at body_at constant_at form_at form_of form_named plain_form_of unary_of binary_of no_form counted_at operands_at digits_at signed_at triple_at pair_at width_at operand_at kept_id sort_at plain_at operand plain is_negative signed_number decimal_number number_in number_of capped_value is_decimal refusal id_is_out_of_range id_is_taken sort_is_missing operand_is_missing state_is_none width_is_out_of_range widths_differ init_is_not_constant is_second_init is_second_next slice_is_out_of_range constant_does_not_fit justice_is_empty
 returns-clause-unknown_operator c = refl
 
-pub returns-clause-not_basic : goal.returns-clause-not_basic
-unfolding line_on item_at symbol_at body_at constant_at form_at form_of form_named plain_form_of unary_of binary_of no_form counted_at operands_at digits_at signed_at triple_at pair_at width_at operand_at kept_id sort_at plain_at operand plain is_negative signed_number decimal_number number_in number_of capped_value is_decimal refusal id_is_out_of_range id_is_taken sort_is_missing operand_is_missing state_is_none width_is_out_of_range widths_differ init_is_not_constant is_second_init is_second_next slice_is_out_of_range constant_does_not_fit justice_is_empty
-returns-clause-not_basic c = refl
-
 pub returns-clause-negative_operand : goal.returns-clause-negative_operand
 unfolding line_on item_at symbol_at body_at constant_at form_at form_of form_named plain_form_of unary_of binary_of no_form counted_at operands_at digits_at signed_at triple_at pair_at width_at operand_at kept_id sort_at plain_at operand plain is_negative signed_number decimal_number number_in number_of capped_value is_decimal refusal id_is_out_of_range id_is_taken sort_is_missing operand_is_missing state_is_none width_is_out_of_range widths_differ init_is_not_constant is_second_init is_second_next slice_is_out_of_range constant_does_not_fit justice_is_empty
 returns-clause-negative_operand c = refl

@@ -10,19 +10,19 @@ returns-in-Err c =
       | inr read ↦
           elim (fault_of_cases c.saturating_add-line.result c.in-Err.why) [
             | inl full ↦ inl (c.fault.ensures ∙ full)
-            | inr is ↦ inr (rw (c.fault.ensures ∙ is) (ends_at c.args.forms c.loop-bytes.line c.saturating_add-line.result c.loop-bytes.model c.loop-bytes.rest.now c.in-Some.bytes.now c.in-Some.after.now _ c.in-Some.ensures.0 c.in-Some.ensures.1 c.saturating_add-line.ensures c.loop-bytes.invariant c.in-Err.why read))
+            | inr is ↦ inr (rw (c.fault.ensures ∙ is) (ends_at c.loop-bytes.line c.saturating_add-line.result c.loop-bytes.model c.loop-bytes.rest.now c.in-Some.bytes.now c.in-Some.after.now _ c.in-Some.ensures.0 c.in-Some.ensures.1 c.saturating_add-line.ensures c.loop-bytes.invariant c.in-Err.why read))
           ]
     ]
 
 pub loop-bytes-preserved : goal.loop-bytes-preserved
 loop-bytes-preserved c =
-    goes_on c.args.forms c.loop-bytes.line c.saturating_add-line.result c.loop-bytes.model c.loop-bytes.rest.now c.in-Some.bytes.now c.in-Some.after.now _ c.in-Some.ensures.0 c.in-Some.ensures.1 c.saturating_add-line.ensures c.loop-bytes.invariant c.read_line.new.model c.in-Ok.ensures
+    goes_on c.loop-bytes.line c.saturating_add-line.result c.loop-bytes.model c.loop-bytes.rest.now c.in-Some.bytes.now c.in-Some.after.now _ c.in-Some.ensures.0 c.in-Some.ensures.1 c.saturating_add-line.ensures c.loop-bytes.invariant c.read_line.new.model c.in-Ok.ensures
 
 pub returns-then-is_empty : goal.returns-then-is_empty
 returns-then-is_empty c =
     let none : length c.loop-bytes.rest.now ≡ 0 = eqb-true _ 0 (sym c.if-is_empty.ensures) in
-    is_done c.args.forms c.loop-bytes.line c.loop-bytes.model c.loop-bytes.rest.now _ c.in_default.ensures none c.loop-bytes.invariant
+    is_done c.loop-bytes.line c.loop-bytes.model c.loop-bytes.rest.now _ c.in_default.ensures none c.loop-bytes.invariant
 
 pub returns-else-is_empty : goal.returns-else-is_empty
 returns-else-is_empty c =
-    inr (rw c.fault-else-is_empty.ensures (is_unfinished c.args.forms c.loop-bytes.line c.saturating_add.result c.loop-bytes.model c.loop-bytes.rest.now _ c.in_default.ensures (eqb-false _ 0 (sym c.if-is_empty.ensures)) c.saturating_add.ensures c.loop-bytes.invariant))
+    inr (rw c.fault-else-is_empty.ensures (is_unfinished c.loop-bytes.line c.saturating_add.result c.loop-bytes.model c.loop-bytes.rest.now _ c.in_default.ensures (eqb-false _ 0 (sym c.if-is_empty.ensures)) c.saturating_add.ensures c.loop-bytes.invariant))
