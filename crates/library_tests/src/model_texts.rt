@@ -1,7 +1,7 @@
 //! Tables of texts and their faults.
 use base::VecSink;
 use btor2::PushFault;
-use btor2text::{Why, are_basic, read, read_basic, write};
+use btor2text::{Why, read, write};
 use std::alloc::Global;
 use std::test::Fail;
 
