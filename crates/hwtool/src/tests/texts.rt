@@ -20,7 +20,11 @@ fn shown(alloc: Global, text: &str) -> Result<(u8, Vec<u8>, Vec<u8>), Fail> {
 #[test]
 fn shown_models_and_costs(rt: HostRuntime) -> Result<(), Fail> {
     let rows = [
-        ("show", "", "; 0 items, 0 inputs, 0 states, 0 bad, 0 constraints\n"),
+        (
+            "show",
+            "",
+            "; 0 items, 0 inputs, 0 states, 0 bad, 0 constraints\n",
+        ),
         (
             "show",
             "; t\n1 sort  bitvec 1 ; bit\n\n2 input 1 a\n3 not 1 2\n4 output 3\n",
@@ -66,7 +70,11 @@ fn shown_models_and_costs(rt: HostRuntime) -> Result<(), Fail> {
     for (command, text, wanted) in rows {
         let (status, written, told) = answered(rt.alloc(), command, text)?;
         assert_eq!(rt; status, 0, "{command} of {text}");
-        assert_eq!(rt; written.as_slice(), wanted.as_bytes(), "{command} of {text}");
+        assert_eq!(rt;
+            written.as_slice(),
+            wanted.as_bytes(),
+            "{command} of {text}"
+        );
         assert_eq!(rt; told.len(), 0, "{command} of {text}");
     }
     Ok(())
