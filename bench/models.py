@@ -1,9 +1,11 @@
 #!/usr/bin/env python3
-"""Writes large models of the forms that are lowered today, the same every time.
+"""Writes large models, the same every time.
 
-Each model has sorts of widths 1 to 64, inputs and states (half of them with an init), one chain of `and` and `not`
+A model `chain` has sorts of widths 1 to 64, inputs and states (half of them with an init), one chain of `and` and `not`
 for each width, a next for every state, and 16 bad properties and 16 constraints. An `and` takes the chain's end and
-a leaf, so that no gate has a constant operand and hardly any operand pair comes twice. Files that are there are kept.
+a leaf, so that no gate has a constant operand and hardly any operand pair comes twice. A model `every` has all line
+forms that are lowered, with all operators at all widths; of these there are two, of 1,000 and of 5,000 lines, since
+products and quotients take thousands of gates each. Files that are there are kept.
 
     python3 bench/models.py FOLDER
     python3 bench/models.py FOLDER 5000 50000
@@ -23,6 +25,7 @@ TESTS = "eq neq ugt ugte ult ulte sgt sgte slt slte uaddo saddo usubo ssubo umul
 TWO_OPERANDS = "and nand or nor xor xnor rol ror sll srl sra add sub mul udiv sdiv urem srem smod".split()
 OF_BITS = "iff implies".split()
 OBSERVATIONS = "bad constraint fair output justice".split()
+LOWERED = "bad constraint output".split()
 
 
 def model(lines, seed=1):
@@ -68,8 +71,8 @@ def model(lines, seed=1):
     return "\n".join(text) + "\n"
 
 
-def mixed(count, seed=1):
-    """So many items of all line forms: of each its word, its numbers and the number of its name, or 0.
+def mixed(count, seed=1, observations=OBSERVATIONS):
+    """So many items of all line forms, of the observed lines of these: of each its word, its numbers and the number of its name, or 0.
 
     An item's id is its place from 1. The numbers are those of its line, but that of a constant's digits stand how many
     they are and their value. One in twenty of the nodes is an input or a state, half of the states have an init, and
@@ -152,7 +155,7 @@ def mixed(count, seed=1):
         elif kind < 0.1:
             constant(width, CONSTANTS[len(items) % len(CONSTANTS)])
         elif kind < 0.12:
-            word = draw.choice(OBSERVATIONS)
+            word = draw.choice(observations)
             operands = [pick(1) for _ in range(draw.randint(1, 4) if word == "justice" else 1)]
             item(word, *([len(operands)] if word == "justice" else []), *operands, name=len(items) + 1)
         else:
@@ -199,11 +202,13 @@ def main():
                    "help": "how many lines a model has; without any 10,000, 100,000 and 1,000,000"}),
     )
     os.makedirs(given.folder, exist_ok=True)
-    for lines in given.sizes:
-        path = os.path.join(given.folder, f"chain{lines}.btor2")
+    kinds = [("chain", lines, model) for lines in given.sizes]
+    kinds += [("every", lines, lambda lines: text_of(mixed(lines, observations=LOWERED))) for lines in (1_000, 5_000)]
+    for kind, lines, written in kinds:
+        path = os.path.join(given.folder, f"{kind}{lines}.btor2")
         if not os.path.exists(path):
             with open(path, "w") as out:
-                out.write(model(lines))
+                out.write(written(lines))
         print(path)
 
 
