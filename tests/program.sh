@@ -43,6 +43,13 @@ expect_line() {
 "$program" lower model.btor2 >out 2>err; status=$?
 expect "lower" 0 ""
 expect_line "lower" out "aag 1 0 1 0 0 1"
+"$program" lower --binary model.btor2 >out 2>err; status=$?
+expect "lower --binary" 0 ""
+expect_line "lower --binary" out "aig 1 0 1 0 0 1"
+"$program" cost - <model.btor2 >out 2>err; status=$?
+expect "cost" 0 ""
+expect_line "cost" out "gates 0"
+expect_line "cost" out "variables 1"
 "$program" <model.btor2 >out 2>err; status=$?
 expect "no words" 0 ""
 expect_line "no words" out "aag 1 0 1 0 0 1"
