@@ -104,7 +104,7 @@ unknown =
       gates = record { lhs = 4; rhs0 = 2; rhs1 = 7 } ∷ [];
     }
 
--- a gate of which no other has the variable, one that has its own variable in both operands, and one between them
+-- a gate of which no other has the variable, one whose first operand is of its own variable, and one between them
 abbrev pub led : Loose
 led =
     record empty_loose {
