@@ -2,5 +2,5 @@
 use Rattle.std.proofs.KnownBytes.{Appends-trans}
 use Rattle.hwtool.proofs.running.tell_model.Goals as goal
 
-pub returns-in-Ok-write_all-clause-shown : goal.returns-in-Ok-write_all-clause-shown
-returns-in-Ok-write_all-clause-shown g c = λ _. Appends-trans _ _ _ _ _ c.in-Ok-write.ensures.ok (rw (c.as_bytes.ensures.value, c.in-Ok.ensures) at c.in-Ok-write_all.ensures.ok)
+pub returns-clause-shown : goal.returns-clause-shown
+returns-clause-shown g c = λ done. Appends-trans _ _ _ _ _ c.in-Ok-write.ensures.ok (rw (c.as_bytes.ensures.value, c.in-Ok.ensures) at c.write_result.ensures.written done)
