@@ -5,15 +5,11 @@
 #[cfg(test)]
 mod bit_runs;
 #[cfg(test)]
-mod bit_witnesses;
-#[cfg(test)]
 mod circuit_texts;
 #[cfg(test)]
 mod circuits;
 #[cfg(test)]
 mod gate_makers;
-#[cfg(test)]
-mod lowerings;
 #[cfg(test)]
 mod model_texts;
 #[cfg(test)]
