@@ -15,3 +15,7 @@ mod LooseTraceLemmas
 mod NumbersLemmas
 mod UndefinedLemmas
 mod CompleteLemmas
+mod StraightLemmas
+mod FlatNameLemmas
+mod PlacedNameLemmas
+mod FreshLemmas

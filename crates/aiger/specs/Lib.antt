@@ -4,6 +4,7 @@ pub mod Net
 pub mod Refusal
 pub mod Names
 pub mod Justice
+pub mod FlatNames
 pub mod Circuit
 pub mod Loose
 pub mod LooseTrace
@@ -14,4 +15,5 @@ pub mod LooseView
 pub mod Trace
 pub mod Readiness
 pub mod Numbering
+pub mod Straight
 pub mod Worked

@@ -4,6 +4,7 @@ ghost use Rattle.aiger.specs.Refusal.{RefusesBy};
 ghost use Rattle.aiger.specs.Circuit.{count_refusal};
 
 mod renumbered;
+mod straight;
 
 use crate::fault::CircuitFault;
 use crate::justice::JusticeList;

@@ -108,6 +108,15 @@ impl JusticeList {
         Ok(JusticeList { literals, ends })
     }
 
+    /// The same properties again.
+    pub fn copy(&self, alloc: Global) -> Result<JusticeList, AllocError>
+        ensures { IfOk result (λ j. j ≡ self.now) }
+    {
+        let literals = self.literals.to_vec(alloc)?;
+        let ends = self.ends.to_vec(alloc)?;
+        Ok(JusticeList { literals, ends })
+    }
+
     /// The literals of one.
     pub fn literals(&self, i: usize) -> &[Lit]
         requires { i < length self.now }
@@ -120,7 +129,7 @@ impl JusticeList {
 }
 
 /// Where the list at a position begins: at the end of the one before.
-fn start_of(ends: &[usize], i: usize) -> usize
+pub(crate) fn start_of(ends: &[usize], i: usize) -> usize
     requires { i < length ends.now }
     ensures { result ≡ start_at 0 ends.now i }
 {

@@ -3,6 +3,7 @@
 
 mod circuit;
 mod fault;
+mod flat_names;
 mod justice;
 pub mod laws;
 mod literal;
@@ -11,6 +12,7 @@ mod names;
 mod numbering;
 mod numbers;
 mod readiness;
+mod straight;
 mod undefined;
 
 pub use circuit::{Circuit, GREATEST_COUNT, Gate, Latch, Reset, Section};

@@ -1,16 +1,18 @@
 //! The lists of a file as a circuit: their variables get the numbers of a circuit.
-ghost use Rattle.std.specs.Prelude.{◌≡◌, ◌+◌, ◌≤◌, length, not, None, IfOk};
+ghost use Rattle.std.specs.Prelude.{◌≡◌, ◌+◌, ◌≤◌, length, not, None, IfOk, IfSome};
 ghost use Rattle.std.specs.List.{position};
 ghost use Rattle.aiger.specs.Limits.{greatest_count};
 ghost use Rattle.aiger.specs.Loose.{IsLoose, defined_variables};
 ghost use Rattle.aiger.specs.Renumbering.{AnswersNumber, first_undefined};
 ghost use Rattle.aiger.specs.Numbering.{slots_of, IsReadyOrder};
+ghost use Rattle.aiger.specs.Straight.{IsStraight};
 
 use crate::circuit::Circuit;
 use crate::fault::LooseFault;
 use crate::loose::Loose;
 use crate::numbers::Numbers;
 use crate::readiness::order_of_readiness;
+use crate::undefined::Known;
 use std::alloc::{AllocError, Global};
 
 impl Loose {
@@ -29,10 +31,35 @@ impl Loose {
     pub fn number(&self, alloc: Global) -> Result<Circuit, LooseFault>
         ensures { AnswersNumber self.now result }
     {
-        match self.undefined_line() {
+        let greatest = self.straight_greatest();
+        match Known::new(self, greatest).undefined_line() {
             Some(line) => Err(LooseFault::Undefined(line)),
+            None => self.number_by(alloc, greatest),
+        }
+    }
+
+    /// The circuit that the lists are where each variable that they use is defined: as they stand
+    /// where they are in order, as a greatest variable tells.
+    fn number_by(&self, alloc: Global, greatest: Option<u32>) -> Result<Circuit, LooseFault>
+        requires known { first_undefined self.now ≡ None }
+        requires straight { IfSome greatest (λ m. IsStraight self.now) }
+        requires valid { IsLoose self.now }
+        ensures { AnswersNumber self.now result }
+    {
+        match greatest {
+            Some(_) => self.number_straight(alloc),
             None => self.number_known(alloc),
         }
+    }
+
+    /// The circuit of lists that are in order.
+    fn number_straight(&self, alloc: Global) -> Result<Circuit, LooseFault>
+        requires known { first_undefined self.now ≡ None }
+        requires straight { IsStraight self.now }
+        requires valid { IsLoose self.now }
+        ensures { AnswersNumber self.now result }
+    {
+        Ok(Circuit::as_it_stands(alloc, self)?)
     }
 
     /// The circuit that the lists are where each variable that they use is defined.

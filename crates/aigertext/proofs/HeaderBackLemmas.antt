@@ -12,6 +12,8 @@ use Rattle.aiger.specs.Limits.{greatest_count}
 use Rattle.aigertext.specs.declared.counts.Counts.{Counts}
 use Rattle.aigertext.specs.declared.forms.Form.{Form}
 use Rattle.aigertext.specs.declared.forms.Form.TheVariants.{Ascii, Binary}
+use Rattle.aigertext.specs.Ascii.{form_word}
+use Rattle.aigertext.specs.Counts.{Fits}
 use Rattle.aigertext.proofs.FieldLemmas.{joined}
 use Rattle.aigertext.proofs.LatchBackLemmas.{spaced, fields-back}
 use Rattle.aigertext.proofs.NameBackLemmas.{same_bytes}
@@ -213,41 +215,46 @@ spaced-joined [] = refl
 spaced-joined (n ∷ []) = refl
 spaced-joined (n ∷ m ∷ ns) = ap (λ (l : List ℕ). decimal n ++ 32 ∷ l) (spaced-joined (m ∷ ns))
 
--- what a header line of the binary form is
-pub record HeaderBack (line : List ℕ) (h : Counts) : Type 0 where
+-- what a header line of a form is
+pub record HeaderBack (form : Form) (line : List ℕ) (h : Counts) : Type 0 where
   pub kept : List ℕ
   pub dropped : ℕ
   pub counts : kept ++ replicate dropped 0 ≡ last_of_counts h
-  pub line_is : line ≡ codes "aig" ++ 32 ∷ joined (first_of_counts h ++ kept)
-  pub fits : h.variables ≡ h.inputs + h.latches + h.gates
+  pub line_is : line ≡ form_word form ++ 32 ∷ joined (first_of_counts h ++ kept)
+  pub fits : Fits form h
   pub few_first : AreCounts (first_of_counts h)
   pub few_last : AreCounts (last_of_counts h)
 
-form-back : (word : List ℕ) → form_of word ≡ Ok Binary → word ≡ codes "aig"
+form-back : (word : List ℕ) (form : Form) → form_of word ≡ Ok form → word ≡ form_word form
 unfolding form_of
-form-back word e =
-    elim (chosen (bytes_eq word (codes "aag")) (Ok Ascii) (if bytes_eq word (codes "aig") then Ok Binary else Err why.BadHeader) (Ok Binary) e) [
-      | inl wrong ↦ absurd (ascii_not wrong.1)
+form-back word form e =
+    elim (chosen (bytes_eq word (codes "aag")) (Ok Ascii) (if bytes_eq word (codes "aig") then Ok Binary else Err why.BadHeader) (Ok form) e) [
+      | inl ascii ↦ subst (λ (f : Form). word ≡ form_word f) (form_same Ascii form ascii.1) (same_bytes word (codes "aag") ascii.0)
       | inr other ↦
-          elim (chosen (bytes_eq word (codes "aig")) (Ok Binary) (Err why.BadHeader) (Ok Binary) other.1) [
-            | inl good ↦ same_bytes word (codes "aig") good.0
+          elim (chosen (bytes_eq word (codes "aig")) (Ok Binary) (Err why.BadHeader) (Ok form) other.1) [
+            | inl good ↦ subst (λ (f : Form). word ≡ form_word f) (form_same Binary form good.1) (same_bytes word (codes "aig") good.0)
             | inr wrong ↦ absurd (not_err _ _ wrong.1)
           ]
     ]
   where
-    ascii_not : ◌≡◌ {A = Result Form Why} (Ok Ascii) (Ok Binary) → ⊥
-    ascii_not e = cc
+    form_same : (f g : Form) → ◌≡◌ {A = Result Form Why} (Ok f) (Ok g) → f ≡ g
+    form_same f g e = ok_same f g e
 
-fitting-back : (h g : Counts) → fitting Binary h ≡ Ok g → (h ≡ g) × (h.variables ≡ h.inputs + h.latches + h.gates)
+fitting-back : (form : Form) (h g : Counts) → fitting form h ≡ Ok g → (h ≡ g) × Fits form h
 unfolding fitting
-fitting-back h g e =
+fitting-back Ascii h g e =
+    elim (chosen (nat_lt h.variables (h.inputs + h.latches + h.gates)) (Err why.CountsDisagree) (Ok h) (Ok g) e) [
+      | inl wrong ↦ absurd (not_err _ _ wrong.1)
+      | inr good ↦ (ok_same h g good.1, ltb-false h.variables (h.inputs + h.latches + h.gates) good.0)
+    ]
+fitting-back Binary h g e =
     elim (chosen (h.variables == h.inputs + h.latches + h.gates) (Ok h) (Err why.CountsDisagree) (Ok g) e) [
       | inl good ↦ (ok_same h g good.1, eqb-true h.variables (h.inputs + h.latches + h.gates) good.0)
       | inr wrong ↦ absurd (not_err _ _ wrong.1)
     ]
 
-module _ (word : List ℕ) (rest : List (List ℕ)) (x : (ℕ × ℕ × ℕ × ℕ × ℕ) × List (List ℕ)) (y : ℕ × ℕ × ℕ × ℕ) (h : Counts)
-    (named : word ≡ codes "aig") (first : FirstBack rest x.0 x.1) (last : LeavesOut x.1 (four y)) (c : CountsBack x.0 y h) (fits : h.variables ≡ h.inputs + h.latches + h.gates) where
+module _ (form : Form) (word : List ℕ) (rest : List (List ℕ)) (x : (ℕ × ℕ × ℕ × ℕ × ℕ) × List (List ℕ)) (y : ℕ × ℕ × ℕ × ℕ) (h : Counts)
+    (named : word ≡ form_word form) (first : FirstBack rest x.0 x.1) (last : LeavesOut x.1 (four y)) (c : CountsBack x.0 y h) (fits : Fits form h) where
   kept_few : AreCounts last.kept
   kept_few = counts_front last.kept (replicate last.dropped 0) (subst AreCounts (sym (last.counts ∙ c.last)) c.few_last)
 
@@ -259,34 +266,33 @@ module _ (word : List ℕ) (rest : List (List ℕ)) (x : (ℕ × ℕ × ℕ × �
       first.parts ∙ ap (λ (gs : List (List ℕ)). gs ++ x.1) front_is
       ∙ ap (λ (gs : List (List ℕ)). map decimal (first_of_counts h) ++ gs) (write-decimals x.1 last.kept kept_few last.written)
 
-  header-shape : HeaderBack (spaced (word ∷ rest)) h
+  header-shape : HeaderBack form (spaced (word ∷ rest)) h
   header-shape = record {
     kept = last.kept;
     dropped = last.dropped;
     counts = last.counts ∙ c.last;
     line_is =
-        ap (λ (w : List ℕ). spaced (w ∷ rest)) named ∙ ap (λ (gs : List (List ℕ)). spaced (codes "aig" ∷ gs)) rest_is
-        ∙ ap (λ (l : List ℕ). codes "aig" ++ 32 ∷ l) (spaced-joined (first_of_counts h ++ last.kept));
+        ap (λ (w : List ℕ). spaced (w ∷ rest)) named ∙ ap (λ (gs : List (List ℕ)). spaced (form_word form ∷ gs)) rest_is
+        ∙ ap (λ (l : List ℕ). form_word form ++ 32 ∷ l) (spaced-joined (first_of_counts h ++ last.kept));
     fits = fits;
     few_first = c.few_first;
     few_last = c.few_last;
   }
 
-fields_by : (fs : List (List ℕ)) (h : Counts) → header_fields fs ≡ Ok (Binary, h) → HeaderBack (spaced fs) h
+fields_by : (fs : List (List ℕ)) (f : Form) (h : Counts) → header_fields fs ≡ Ok (f, h) → HeaderBack f (spaced fs) h
 unfolding header_fields
-fields_by [] h e = absurd (not_err _ _ e)
-fields_by (word ∷ rest) h e =
-    let form = bind-back (form_of word) _ (Binary, h) e in
-    let x = bind-back (first_five rest) _ (Binary, h) form.then' in
-    let y = bind-back (last_four x.value.1) _ (Binary, h) x.then' in
-    let g = bind-back (counts_of x.value.0 y.value) _ (Binary, h) y.then' in
-    let fit = bind-back (fitting form.value g.value) _ (Binary, h) g.then' in
-    let is : ◌≡◌ {A = Form × Counts} (form.value, fit.value) (Binary, h) = ok_same _ _ fit.then' in
-    let binary : form.value ≡ Binary = ap (λ (p : Form × Counts). p.0) is in
-    let same : fit.value ≡ h = ap (λ (p : Form × Counts). p.1) is in
-    let fits = fitting-back g.value fit.value (subst (λ (f : Form). fitting f g.value ≡ Ok fit.value) binary fit.was) in
-    subst (HeaderBack (spaced (word ∷ rest))) (fits.0 ∙ same)
-    (header-shape word rest x.value y.value g.value (form-back word (form.was ∙ ap (λ (f : Form). Ok f) binary)) (first-back rest x.value.0 x.value.1 x.was) (last-back x.value.1 y.value y.was) (counts-back x.value.0 y.value g.value g.was) fits.1)
+fields_by [] f h e = absurd (not_err _ _ e)
+fields_by (word ∷ rest) f h e =
+    let form = bind-back (form_of word) _ (f, h) e in
+    let x = bind-back (first_five rest) _ (f, h) form.then' in
+    let y = bind-back (last_four x.value.1) _ (f, h) x.then' in
+    let g = bind-back (counts_of x.value.0 y.value) _ (f, h) y.then' in
+    let fit = bind-back (fitting form.value g.value) _ (f, h) g.then' in
+    let is : ◌≡◌ {A = Form × Counts} (form.value, fit.value) (f, h) = ok_same _ _ fit.then' in
+    let fits = fitting-back form.value g.value fit.value fit.was in
+    subst (λ (p : Form × Counts). HeaderBack p.0 (spaced (word ∷ rest)) p.1) is
+    (subst (HeaderBack form.value (spaced (word ∷ rest))) fits.0
+    (header-shape form.value word rest x.value y.value g.value (form-back word form.value form.was) (first-back rest x.value.0 x.value.1 x.was) (last-back x.value.1 y.value y.was) (counts-back x.value.0 y.value g.value g.was) fits.1))
 
-pub header-back : (line : List ℕ) (h : Counts) → header_of line ≡ Ok (Binary, h) → HeaderBack line h
-header-back line h e = subst (λ (l : List ℕ). HeaderBack l h) (fields-back line) (fields_by (fields line) h e)
+pub header-back : (line : List ℕ) (form : Form) (h : Counts) → header_of line ≡ Ok (form, h) → HeaderBack form line h
+header-back line form h e = subst (λ (l : List ℕ). HeaderBack form l h) (fields-back line) (fields_by (fields line) form h e)

@@ -28,3 +28,7 @@ mod SectionReadLemmas
 mod WhyLemmas
 mod AnswerLemmas
 mod FileLemmas
+mod UseLemmas
+mod PassOverLemmas
+mod HeaderSmallLemmas
+mod OneAnswerLemmas

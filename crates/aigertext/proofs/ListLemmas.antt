@@ -8,7 +8,7 @@ use Rattle.std.proofs.lemmas.List.Sums.{sum_by-append, sum_by-cons}
 use Rattle.aiger.specs.Limits.{greatest_count}
 use Rattle.aiger.specs.Literal.{variable}
 use Rattle.aiger.specs.Net.{Net, variables}
-use Rattle.aiger.specs.Circuit.{Circuit, net, with_justice, justice_refusal, are_defined}
+use Rattle.aiger.specs.Circuit.{Circuit, net, justice_refusal, size_refusal, are_defined}
 use Rattle.aigertext.specs.declared.fault.Stop.{Stop}
 use Rattle.aigertext.specs.declared.fault.Why.TheVariants as why
 use Rattle.aigertext.specs.Reading.{line_at, literal_of, literals_at, size_of, sizes_at, lists_of}
@@ -113,22 +113,22 @@ lists-together greatest before (suc n) sizes text ns rest e =
         let left : lists_at greatest before (suc n) sizes text ≡ Err w = rw (one, two) refl in
         left ∙ ap (in_lists (size ∷ others)) (sym right)
 
--- ---- on a circuit
+-- ---- onto a value
 
-pub record ListsPushed (greatest count index total : ℕ) (before now : Circuit) (sizes sizes_rest text rest : List ℕ) : Type 0 where
+pub record ListsPushed {C : Type 0} (add : C → List (List ℕ) → C) (greatest count index total : ℕ) (before now : C) (sizes sizes_rest text rest : List ℕ) : Type 0 where
   pub lists : List (List ℕ)
-  pub is : now ≡ with_lists before lists
+  pub is : now ≡ add before lists
   pub many : length lists ≡ index
   pub sums : total ≡ sum_by length lists
   pub small : total ≤ 1073741824
   pub read : onto lists (lists_at greatest total (count - index) sizes_rest rest) ≡ lists_at greatest 0 count sizes text
 
-pub lists_begin : (greatest count : ℕ) (c : Circuit) (sizes text : List ℕ) → ListsPushed greatest count 0 0 c c sizes sizes text text
-lists_begin greatest count c sizes text =
+pub lists_begin : {C : Type 0} (add : C → List (List ℕ) → C) (greatest count : ℕ) (c : C) (sizes text : List ℕ) → c ≡ add c [] → ListsPushed add greatest count 0 0 c c sizes sizes text text
+lists_begin add greatest count c sizes text none =
     let same : count - 0 ≡ count = omega arith in
     record {
       lists = [];
-      is = ap (λ (ls : List (List ℕ)). record c { justice = ls }) (sym (append-nil c.justice));
+      is = none;
       many = refl;
       sums = refl;
       small = omega arith;
@@ -139,6 +139,12 @@ lists_begin greatest count c sizes text =
     onto_none (Ok x) = refl
     onto_none (Err e) = refl
 
+pub with_no_lists : (c : Circuit) → c ≡ with_lists c []
+with_no_lists c = ap (λ (ls : List (List ℕ)). record c { justice = ls }) (sym (append-nil c.justice))
+
+pub with_more_lists : (c : Circuit) (ls ms : List (List ℕ)) → with_lists (with_lists c ls) ms ≡ with_lists c (ls ++ ms)
+with_more_lists c ls ms = ap (λ (l : List (List ℕ)). record c { justice = l }) (append_assoc c.justice ls ms)
+
 all_defined : (n : Net) (greatest : ℕ) (ls : List ℕ) → greatest ≡ 2 * variables n + 1 → AllByRecursion (λ l. l ≤ greatest) ls → are_defined n ls ≡ true
 all_defined n greatest [] is small = refl
 all_defined n greatest (l ∷ ls) is small =
@@ -146,14 +152,15 @@ all_defined n greatest (l ∷ ls) is small =
     let first : nat_le (variable l) (variables n) ≡ true = grind (arith, nat_tests) in
     and_from (nat_le (variable l) (variables n)) (are_defined n ls) first (all_defined n greatest ls is small.1)
 
-module _ (greatest count index total : ℕ) (before now : Circuit) (sizes sizes_rest text rest : List ℕ) (p : ListsPushed greatest count index total before now sizes sizes_rest text rest) (more : index < count) where
-  pub list_step : (size : ℕ) (sizes_after ls after : List ℕ) (next : Circuit) → line_at (size_of total) sizes_rest ≡ Ok (size, sizes_after) → literals_at greatest size rest ≡ Ok (ls, after) → next ≡ with_justice now ls → total + size ≤ 1073741824
-      → ListsPushed greatest count (index + 1) (total + size) before next sizes sizes_after text after
-  list_step size sizes_after ls after next one two is small' =
+module _ {C : Type 0} (add : C → List (List ℕ) → C) (greatest count index total : ℕ) (before now : C) (sizes sizes_rest text rest : List ℕ) (p : ListsPushed add greatest count index total before now sizes sizes_rest text rest) (more : index < count) where
+  pub list_step : (size : ℕ) (sizes_after ls after : List ℕ) (next : C) → ((c : C) (ls ms : List (List ℕ)) → add (add c ls) ms ≡ add c (ls ++ ms))
+      → line_at (size_of total) sizes_rest ≡ Ok (size, sizes_after) → literals_at greatest size rest ≡ Ok (ls, after) → next ≡ add now (ls ∷ []) → total + size ≤ 1073741824
+      → ListsPushed add greatest count (index + 1) (total + size) before next sizes sizes_after text after
+  list_step size sizes_after ls after next joins one two is small' =
       let length_is : length ls ≡ size = (literals_small greatest size rest ls after two).many in
       record {
         lists = p.lists ++ ls ∷ [];
-        is = is ∙ ap (λ (c : Circuit). with_justice c ls) p.is ∙ ap (λ (l : List (List ℕ)). record before { justice = l }) (append_assoc before.justice p.lists (ls ∷ []));
+        is = is ∙ ap (λ (c : C). add c (ls ∷ [])) p.is ∙ joins before p.lists (ls ∷ []);
         many = length-append p.lists (ls ∷ []) ∙ ap (λ (k : ℕ). k + 1) p.many;
         sums = sym (sum_by-append length p.lists (ls ∷ []) ∙ omega (arith, p.sums, length_is, sum_by-cons length ls []));
         small = small';
@@ -167,18 +174,25 @@ module _ (greatest count index total : ℕ) (before now : Circuit) (sizes sizes_
   list_no_literal size sizes_after e one two =
       lists_no_literal greatest total (count - index) (count - (index + 1)) sizes_rest rest (omega arith) p.lists size sizes_after e (lists_at greatest 0 count sizes text) one two p.read
 
-  pub list_accepts : (size : ℕ) (ls after : List ℕ) → literals_at greatest size rest ≡ Ok (ls, after) → total + size ≤ 1073741824 → greatest ≡ 2 * variables (net before) + 1 → before.justice ≡ [] → count ≤ 1073741824 → justice_refusal now ls ≡ None
-  list_accepts size ls after two small is none few =
+  -- lists are few and short enough for one more
+  pub list_fits : (justice : List (List ℕ)) (size : ℕ) (ls after : List ℕ) → justice ≡ p.lists → literals_at greatest size rest ≡ Ok (ls, after) → total + size ≤ 1073741824 → count ≤ 1073741824 → size_refusal justice (length ls) ≡ None
+  list_fits justice size ls after same two small few =
       let k = literals_small greatest size rest ls after two in
-      let justice : now.justice ≡ p.lists = ap (λ (c : Circuit). c.justice) p.is ∙ ap (λ (l : List (List ℕ)). l ++ p.lists) none in
-      let same : net now ≡ net before = ap net p.is in
-      let defined : are_defined (net now) ls ≡ true = ap (λ (n : Net). are_defined n ls) same ∙ all_defined (net before) greatest ls is k.small in
-      let room : length now.justice < greatest_count = omega (arith, ap (length {A = List ℕ}) justice, p.many, more, few) in
-      let fits : sum_by length now.justice + length ls ≤ greatest_count = omega (arith, ap (sum_by (length {A = ℕ})) justice, p.sums, k.many, small) in
-      let free : nat_le greatest_count (length now.justice) ≡ false = grind (arith, nat_tests) in
-      let short : nat_lt greatest_count (sum_by length now.justice + length ls) ≡ false = grind (arith, nat_tests) in
-      rw (defined, free, short) refl
+      let room : length justice < greatest_count = omega (arith, ap (length {A = List ℕ}) same, p.many, more, few) in
+      let fits : sum_by length justice + length ls ≤ greatest_count = omega (arith, ap (sum_by (length {A = ℕ})) same, p.sums, k.many, small) in
+      let free : nat_le greatest_count (length justice) ≡ false = grind (arith, nat_tests) in
+      let short : nat_lt greatest_count (sum_by length justice + length ls) ≡ false = grind (arith, nat_tests) in
+      rw (free, short) refl
 
-pub lists_are_done : (greatest count index total : ℕ) (before now : Circuit) (sizes sizes_rest text rest : List ℕ) (p : ListsPushed greatest count index total before now sizes sizes_rest text rest) → count ≤ index → lists_at greatest 0 count sizes text ≡ Ok (p.lists, rest)
-lists_are_done greatest count index total before now sizes sizes_rest text rest p all =
+pub list_accepts : (greatest count index total : ℕ) (before now : Circuit) (sizes sizes_rest text rest : List ℕ) (p : ListsPushed with_lists greatest count index total before now sizes sizes_rest text rest) (more : index < count)
+    → (size : ℕ) (ls after : List ℕ) → literals_at greatest size rest ≡ Ok (ls, after) → total + size ≤ 1073741824 → greatest ≡ 2 * variables (net before) + 1 → before.justice ≡ [] → count ≤ 1073741824 → justice_refusal now ls ≡ None
+list_accepts greatest count index total before now sizes sizes_rest text rest p more size ls after two small is none few =
+    let k = literals_small greatest size rest ls after two in
+    let justice : now.justice ≡ p.lists = ap (λ (c : Circuit). c.justice) p.is ∙ ap (λ (l : List (List ℕ)). l ++ p.lists) none in
+    let same : net now ≡ net before = ap net p.is in
+    let defined : are_defined (net now) ls ≡ true = ap (λ (n : Net). are_defined n ls) same ∙ all_defined (net before) greatest ls is k.small in
+    rw defined (list_fits with_lists greatest count index total before now sizes sizes_rest text rest p more now.justice size ls after justice two small few)
+
+pub lists_are_done : {C : Type 0} (add : C → List (List ℕ) → C) (greatest count index total : ℕ) (before now : C) (sizes sizes_rest text rest : List ℕ) (p : ListsPushed add greatest count index total before now sizes sizes_rest text rest) → count ≤ index → lists_at greatest 0 count sizes text ≡ Ok (p.lists, rest)
+lists_are_done add greatest count index total before now sizes sizes_rest text rest p all =
     lists_done greatest total (count - index) sizes_rest rest p.lists (lists_at greatest 0 count sizes text) (omega arith) p.read

@@ -9,20 +9,18 @@ use Rattle.aiger.specs.declared.circuit.Section.TheVariants as section
 use Rattle.aiger.specs.Limits.{greatest_count}
 use Rattle.aiger.specs.Circuit.{Circuit, IsCircuit, with_name}
 use Rattle.aigertext.specs.declared.counts.Counts.{Counts}
-use Rattle.aigertext.specs.declared.forms.Form.{Form}
-use Rattle.aigertext.specs.declared.forms.Form.TheVariants.{Ascii, Binary}
+use Rattle.aigertext.specs.declared.forms.Form.TheVariants.{Binary}
 use Rattle.aigertext.specs.Ascii.{numbers_line, literal_lines, size_lines, property_lines, first_counts, last_counts}
 use Rattle.aigertext.specs.Binary.{gate_deltas}
 use Rattle.aigertext.specs.Spelling.{AreNextLines, GiveNames, Given, IsEnd, IsBinaryText}
-use Rattle.aigertext.specs.Reading.{Properties, lists_of, line_at, literals_at, sizes_at, nexts_at, gates_at, properties_at, nameless, binary_at, body_at, text_on, header_of}
-use Rattle.aigertext.proofs.BackLemmas.{ok_same, not_err, bind-back, literals-back, sizes-back, SaysAt, line-back}
+use Rattle.aigertext.specs.Reading.{Properties, lists_of, line_at, literals_at, sizes_at, nexts_at, gates_at, properties_at, nameless, binary_at, header_of}
+use Rattle.aigertext.proofs.BackLemmas.{ok_same, bind-back, literals-back, sizes-back, SaysAt, line-back}
 use Rattle.aigertext.proofs.FieldLemmas.{joined, numbers_line-joined}
 use Rattle.aigertext.proofs.GateBackLemmas.{AreBytes, bytes_behind, AreGatesAt, gates-back}
 use Rattle.aigertext.proofs.HeaderBackLemmas.{HeaderBack, header-back, AreCounts, first_of_counts, last_of_counts, list_of_five, list_of_four}
 use Rattle.aigertext.proofs.LatchBackLemmas.{AreLatchesAt, nexts-back}
 use Rattle.aigertext.proofs.NameBackLemmas.{names-back}
 use Rattle.aigertext.proofs.NameReadLemmas.{HasFewPositions}
-use Rattle.aigertext.specs.Passes.{unread}
 use Rattle.aigertext.proofs.StandsLemmas.{property_text}
 
 -- ---- lists of given sizes
@@ -199,7 +197,7 @@ binary-back h text c few_first few_last fits bytes e =
 -- ---- the text
 
 -- a text with a header of the binary form
-with_header : (text : List ℕ) (c : Circuit) (h : Counts) (rest : List ℕ) → IsCircuit c → (s : SaysAt header_of text (Binary, h) rest) → HeaderBack s.line h → BinaryBack h rest c → IsBinaryText text c
+with_header : (text : List ℕ) (c : Circuit) (h : Counts) (rest : List ℕ) → IsCircuit c → (s : SaysAt header_of text (Binary, h) rest) → HeaderBack Binary s.line h → BinaryBack h rest c → IsBinaryText text c
 with_header text c h rest valid s k b =
     let numbers = first_counts c ++ k.kept in
     let line : s.line ++ 10 ∷ [] ≡ codes "aig" ++ 32 ∷ numbers_line (first_counts c ++ k.kept) =
@@ -216,16 +214,9 @@ with_header text c h rest valid s k b =
       whole = s.parts ∙ sym (append_assoc s.line (10 ∷ []) rest) ∙ ap (λ (l : List ℕ). (s.line ++ 10 ∷ []) ++ l) b.body.whole;
     }
 
-form_by : (text : List ℕ) (c : Circuit) (form : Form) (h : Counts) (rest : List ℕ) → AreBytes text → IsCircuit c → line_at header_of text ≡ Ok ((form, h), rest) → body_at unread form h rest ≡ Ok c → IsBinaryText text c
-form_by text c Ascii h rest bytes valid was then' = absurd (not_err _ _ then')
-form_by text c Binary h rest bytes valid was then' =
+pub binary-stands : (text : List ℕ) (c : Circuit) (h : Counts) (rest : List ℕ) → AreBytes text → IsCircuit c → line_at header_of text ≡ Ok ((Binary, h), rest) → binary_at h rest ≡ Ok c → IsBinaryText text c
+binary-stands text c h rest bytes valid was then' =
     let s = line-back header_of text (Binary, h) rest was in
-    let k = header-back s.line h s.said in
+    let k = header-back s.line Binary h s.said in
     let behind : AreBytes (10 ∷ rest) = bytes_after s.line (10 ∷ rest) text bytes s.parts in
     with_header text c h rest valid s k (binary-back h rest c k.few_first k.few_last k.fits behind.1 then')
-
-pub read-stands : (text : List ℕ) (c : Circuit) → AreBytes text → IsCircuit c → text_on unread text ≡ Ok c → IsBinaryText text c
-unfolding text_on
-read-stands text c bytes valid e =
-    let h = bind-back (line_at header_of text) _ c e in
-    form_by text c h.value.0.0 h.value.0.1 h.value.1 bytes valid h.was h.then'

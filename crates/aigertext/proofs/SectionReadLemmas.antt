@@ -68,19 +68,10 @@ module _ (h : Counts) (text t1 t2 t3 t4 : List ℕ) (os bs cs : List ℕ) (n : �
       let together = lists-together (2 * h.variables + 1) 0 h.justice t3 t4 seen.sizes t4 seen.was in
       not_listed h text t1 t2 t3 t4 [] os bs cs seen.sizes o b c seen.was e (no_lists seen.sizes (literals_at (2 * h.variables + 1) (sum seen.sizes) t4) e (sym together ∙ l))
 
-  module _ (lists : List (List ℕ)) (t5 : List ℕ) (l : lists_at (2 * h.variables + 1) 0 h.justice t3 t4 ≡ Ok (lists, t5)) (c0 c1 c2 c3 c4 c5 : Circuit) (none : HasNoProperties c0)
-      (is1 : c1 ≡ with_literals Output c0 os) (is2 : c2 ≡ with_literals Bad c1 bs) (is3 : c3 ≡ with_literals Constraint c2 cs) (is4 : c4 ≡ with_lists c3 lists) where
-    made : (fs ns ls : List ℕ) → lists ≡ lists_of ns ls → c5 ≡ with_literals Fair c4 fs → c5 ≡ with_properties c0 (record { outputs = os; bads = bs; constraints = cs; sizes = ns; listed = ls; fair = fs })
-    made fs ns ls lists_are is5 =
-        is5 ∙ ap (λ (x : Circuit). with_literals Fair x fs) (is4 ∙ ap (λ (x : Circuit). with_lists x lists) (is3 ∙ ap (λ (x : Circuit). with_literals Constraint x cs) (is2 ∙ ap (λ (x : Circuit). with_literals Bad x bs) is1)))
-        ∙ ap (λ (x : List ℕ). record c0 { outputs = x ++ os; bads = c0.bads ++ bs; constraints = c0.constraints ++ cs; justice = c0.justice ++ lists; fair = c0.fair ++ fs }) none.outputs
-        ∙ ap (λ (x : List ℕ). record c0 { outputs = os; bads = x ++ bs; constraints = c0.constraints ++ cs; justice = c0.justice ++ lists; fair = c0.fair ++ fs }) none.bads
-        ∙ ap (λ (x : List ℕ). record c0 { outputs = os; bads = bs; constraints = x ++ cs; justice = c0.justice ++ lists; fair = c0.fair ++ fs }) none.constraints
-        ∙ ap (λ (x : List (List ℕ)). record c0 { outputs = os; bads = bs; constraints = cs; justice = x ++ lists; fair = c0.fair ++ fs }) none.justice
-        ∙ ap (λ (x : List ℕ). record c0 { outputs = os; bads = bs; constraints = cs; justice = lists; fair = x ++ fs }) none.fair
-        ∙ ap (λ (x : List (List ℕ)). record c0 { outputs = os; bads = bs; constraints = cs; justice = x; fair = fs }) lists_are
-
-    pub properties_taken : {X : Type 0} (view : X → List ℕ) (r : Result X Stop) → Takes view r (with_literals Fair c4) c5 (literals_at (2 * h.variables + 1) h.fair t5) → Takes view r (with_properties c0) c5 (properties_at h text)
+  -- with these lists and fairness constraints a value has all properties
+  module _ {C : Type 0} (add : C → List ℕ → C) (whole : Properties → C) (lists : List (List ℕ)) (t5 : List ℕ) (l : lists_at (2 * h.variables + 1) 0 h.justice t3 t4 ≡ Ok (lists, t5)) (before now : C)
+      (made : (fs ns ls : List ℕ) → lists ≡ lists_of ns ls → now ≡ add before fs → now ≡ whole (record { outputs = os; bads = bs; constraints = cs; sizes = ns; listed = ls; fair = fs })) where
+    pub properties_taken : {X : Type 0} (view : X → List ℕ) (r : Result X Stop) → Takes view r (add before) now (literals_at (2 * h.variables + 1) h.fair t5) → Takes view r whole now (properties_at h text)
     properties_taken view (Ok x) t =
         let seen = sizes_seen 0 n t4 (sizes_at 0 h.justice t3) s in
         let together = lists-together (2 * h.variables + 1) 0 h.justice t3 t4 seen.sizes t4 seen.was in
@@ -94,6 +85,18 @@ module _ (h : Counts) (text t1 t2 t3 t4 : List ℕ) (os bs cs : List ℕ) (n : �
         let together = lists-together (2 * h.variables + 1) 0 h.justice t3 t4 seen.sizes t4 seen.was in
         let listed = lists_seen seen.sizes (literals_at (2 * h.variables + 1) (sum seen.sizes) t4) lists t5 (sym together ∙ l) in
         inr (not_fair h text t1 t2 t3 t4 t5 os bs cs seen.sizes o b c seen.was listed.listed e listed.was read)
+
+-- a circuit that had no properties has those that were read
+pub circuit_made : (os bs cs : List ℕ) (lists : List (List ℕ)) (c0 c1 c2 c3 c4 c5 : Circuit) → HasNoProperties c0 → c1 ≡ with_literals Output c0 os → c2 ≡ with_literals Bad c1 bs → c3 ≡ with_literals Constraint c2 cs → c4 ≡ with_lists c3 lists
+    → (fs ns ls : List ℕ) → lists ≡ lists_of ns ls → c5 ≡ with_literals Fair c4 fs → c5 ≡ with_properties c0 (record { outputs = os; bads = bs; constraints = cs; sizes = ns; listed = ls; fair = fs })
+circuit_made os bs cs lists c0 c1 c2 c3 c4 c5 none is1 is2 is3 is4 fs ns ls lists_are is5 =
+    is5 ∙ ap (λ (x : Circuit). with_literals Fair x fs) (is4 ∙ ap (λ (x : Circuit). with_lists x lists) (is3 ∙ ap (λ (x : Circuit). with_literals Constraint x cs) (is2 ∙ ap (λ (x : Circuit). with_literals Bad x bs) is1)))
+    ∙ ap (λ (x : List ℕ). record c0 { outputs = x ++ os; bads = c0.bads ++ bs; constraints = c0.constraints ++ cs; justice = c0.justice ++ lists; fair = c0.fair ++ fs }) none.outputs
+    ∙ ap (λ (x : List ℕ). record c0 { outputs = os; bads = x ++ bs; constraints = c0.constraints ++ cs; justice = c0.justice ++ lists; fair = c0.fair ++ fs }) none.bads
+    ∙ ap (λ (x : List ℕ). record c0 { outputs = os; bads = bs; constraints = x ++ cs; justice = c0.justice ++ lists; fair = c0.fair ++ fs }) none.constraints
+    ∙ ap (λ (x : List (List ℕ)). record c0 { outputs = os; bads = bs; constraints = cs; justice = x ++ lists; fair = c0.fair ++ fs }) none.justice
+    ∙ ap (λ (x : List ℕ). record c0 { outputs = os; bads = bs; constraints = cs; justice = lists; fair = x ++ fs }) none.fair
+    ∙ ap (λ (x : List (List ℕ)). record c0 { outputs = os; bads = bs; constraints = cs; justice = x; fair = fs }) lists_are
 
 -- ---- the circuit before its names
 

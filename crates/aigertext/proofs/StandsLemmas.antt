@@ -1,5 +1,5 @@
 -- A binary text that stands for a circuit is read as it, and what is written stands for what was written.
-use Rattle.std.proofs.Common.{◌≡◌, ℕ, suc, ◌+◌, ◌*◌, ◌^◌, ◌<◌, ◌≤◌, List, [], ◌∷◌, ◌++◌, length, map, Result, Ok, refl, ap, ◌∙◌, append_assoc, arith, Err, subst}
+use Rattle.std.proofs.Common.{◌≡◌, ℕ, suc, ◌+◌, ◌*◌, ◌^◌, ◌<◌, ◌≤◌, List, [], ◌∷◌, ◌++◌, length, map, Result, Ok, refl, sym, ap, ◌∙◌, append_assoc, arith, Err, subst}
 use Rattle.std.specs.Prelude.{All}
 use Rattle.std.specs.List.{concat}
 use Rattle.std.proofs.lemmas.List.Elements.{All-weaker, All-nil, All-head, All-tail, All-append}
@@ -14,7 +14,9 @@ use Rattle.aigertext.specs.declared.fault.Stop.{Stop}
 use Rattle.aigertext.specs.Ascii.{property_lines, literal_lines, size_lines}
 use Rattle.aigertext.specs.Binary.{gate_deltas}
 use Rattle.aigertext.specs.Spelling.{IsBinaryText}
-use Rattle.aigertext.specs.Reading.{Properties, properties_at, nameless, binary_at, text_on, names_at}
+use Rattle.aigertext.specs.Reading.{Properties, properties_at, nameless, binary_at, names_at, line_at, header_of}
+use Rattle.aigertext.specs.AsciiReading.{AnswersHeader, AnswersText}
+use Rattle.aigertext.specs.declared.forms.Form.{Form}
 use Rattle.aigertext.proofs.GateLemmas.{gates-read}
 use Rattle.aigertext.proofs.HeaderLemmas.{counts_in, header-read}
 use Rattle.aigertext.proofs.NameReadLemmas.{HasFewPositions, names-read}
@@ -101,12 +103,12 @@ body-read c text t =
     ∙ names-read (record c { names = [] }) t.is_end.given c t.is_end.comment (few_in c valid) t.is_end.names t.is_end.is_comment in
     rw (nexts, properties, gates) names
 
-pub stands-read : (ascii : Counts → List ℕ → Result Circuit Stop) (text : List ℕ) (c : Circuit) → IsBinaryText text c → text_on ascii text ≡ Ok c
-unfolding text_on
-stands-read ascii text c t =
+pub stands-read : (text : List ℕ) (c : Circuit) → IsBinaryText text c → AnswersText text (Ok c)
+unfolding AnswersText
+stands-read text c t =
     let behind = t.latches ++ (property_lines c ++ (gate_deltas (suc (c.inputs + length c.latches)) c.gates ++ t.end)) in
-    let header = header-read c t.header behind t.is_header t.valid in
-    ap (text_on ascii) t.whole ∙ (rw header (body-read c text t))
+    let header = ap (line_at header_of) t.whole ∙ header-read c t.header behind t.is_header t.valid in
+    subst (λ (r : Result ((Form × Counts) × List ℕ) Stop). AnswersHeader r (Ok c)) (sym header) (sym (body-read c text t))
 
 -- two circuits that are read are the same, and none is a stop
 abbrev circuit_or : Circuit → Result Circuit Stop → Circuit

@@ -39,22 +39,26 @@ less_nothing n = omega arith
 
 -- ---- literals of a section
 
-pub record Pushed (section : LiteralSection) (greatest count index : ℕ) (before now : Circuit) (text rest : List ℕ) : Type 0 where
+pub record Pushed {C : Type 0} (add : C → List ℕ → C) (greatest count index : ℕ) (before now : C) (text rest : List ℕ) : Type 0 where
   pub literals : List ℕ
-  pub is : now ≡ with_literals section before literals
+  pub is : now ≡ add before literals
   pub many : length literals ≡ index
   pub read : onto literals (literals_at greatest (count - index) rest) ≡ literals_at greatest count text
 
-pub push_begins : (section : LiteralSection) (greatest count : ℕ) (c : Circuit) (text : List ℕ) → Pushed section greatest count 0 c c text text
-push_begins section greatest count c text = record { literals = []; is = same section; many = refl; read = ap (λ (k : ℕ). onto [] (literals_at greatest k text)) (less_nothing count) ∙ onto_nothing (literals_at greatest count text) }
-  where
-    same : (section : LiteralSection) → c ≡ with_literals section c []
-    same Output = ap (λ (ls : List ℕ). record c { outputs = ls }) (sym (append-nil c.outputs))
-    same Bad = ap (λ (ls : List ℕ). record c { bads = ls }) (sym (append-nil c.bads))
-    same Constraint = ap (λ (ls : List ℕ). record c { constraints = ls }) (sym (append-nil c.constraints))
-    same Fair = ap (λ (ls : List ℕ). record c { fair = ls }) (sym (append-nil c.fair))
+pub push_begins : {C : Type 0} (add : C → List ℕ → C) (greatest count : ℕ) (c : C) (text : List ℕ) → c ≡ add c [] → Pushed add greatest count 0 c c text text
+push_begins add greatest count c text same = record { literals = []; is = same; many = refl; read = ap (λ (k : ℕ). onto [] (literals_at greatest k text)) (less_nothing count) ∙ onto_nothing (literals_at greatest count text) }
 
-with_more : (section : LiteralSection) (c : Circuit) (ls ms : List ℕ) → with_literals section (with_literals section c ls) ms ≡ with_literals section c (ls ++ ms)
+-- a list with more literals behind it
+abbrev pub behind_list : List ℕ → List ℕ → List ℕ
+behind_list before ls = before ++ ls
+
+pub with_none : (section : LiteralSection) (c : Circuit) → c ≡ with_literals section c []
+with_none Output c = ap (λ (ls : List ℕ). record c { outputs = ls }) (sym (append-nil c.outputs))
+with_none Bad c = ap (λ (ls : List ℕ). record c { bads = ls }) (sym (append-nil c.bads))
+with_none Constraint c = ap (λ (ls : List ℕ). record c { constraints = ls }) (sym (append-nil c.constraints))
+with_none Fair c = ap (λ (ls : List ℕ). record c { fair = ls }) (sym (append-nil c.fair))
+
+pub with_more : (section : LiteralSection) (c : Circuit) (ls ms : List ℕ) → with_literals section (with_literals section c ls) ms ≡ with_literals section c (ls ++ ms)
 with_more Output c ls ms = ap (λ (l : List ℕ). record c { outputs = l }) (append_assoc c.outputs ls ms)
 with_more Bad c ls ms = ap (λ (l : List ℕ). record c { bads = l }) (append_assoc c.bads ls ms)
 with_more Constraint c ls ms = ap (λ (l : List ℕ). record c { constraints = l }) (append_assoc c.constraints ls ms)
@@ -72,11 +76,11 @@ many_now Bad c ls = length-append c.bads ls
 many_now Constraint c ls = length-append c.constraints ls
 many_now Fair c ls = length-append c.fair ls
 
-module _ (section : LiteralSection) (greatest count index : ℕ) (before now : Circuit) (text rest : List ℕ) (p : Pushed section greatest count index before now text rest) (more : index < count) where
-  pub push_step : (l : ℕ) (after : List ℕ) (next : Circuit) → line_at (literal_of greatest) rest ≡ Ok (l, after) → next ≡ with_literals section now (l ∷ []) → Pushed section greatest count (index + 1) before next text after
-  push_step l after next one is = record {
+module _ {C : Type 0} (add : C → List ℕ → C) (greatest count index : ℕ) (before now : C) (text rest : List ℕ) (p : Pushed add greatest count index before now text rest) (more : index < count) where
+  pub push_step : (l : ℕ) (after : List ℕ) (next : C) → ((c : C) (ls ms : List ℕ) → add (add c ls) ms ≡ add c (ls ++ ms)) → line_at (literal_of greatest) rest ≡ Ok (l, after) → next ≡ add now (l ∷ []) → Pushed add greatest count (index + 1) before next text after
+  push_step l after next joins one is = record {
     literals = p.literals ++ l ∷ [];
-    is = is ∙ ap (λ (c : Circuit). with_literals section c (l ∷ [])) p.is ∙ with_more section before p.literals (l ∷ []);
+    is = is ∙ ap (λ (c : C). add c (l ∷ [])) p.is ∙ joins before p.literals (l ∷ []);
     many = length-append p.literals (l ∷ []) ∙ ap (λ (k : ℕ). k + 1) p.many;
     read =
         onto_step literal_of (λ g l. g) greatest (count - index) (count - (index + 1)) rest (omega arith) p.literals l after greatest (literals_at greatest count text) refl one p.read;
@@ -85,18 +89,19 @@ module _ (section : LiteralSection) (greatest count index : ℕ) (before now : C
   pub push_stop : (e : Stop) → line_at (literal_of greatest) rest ≡ Err e → literals_at greatest count text ≡ Err e
   push_stop e one = onto_stop literal_of (λ g l. g) greatest (count - index) (count - (index + 1)) rest (omega arith) p.literals e (literals_at greatest count text) one p.read
 
-  pub push_accepts : (l : ℕ) → l ≤ greatest → greatest ≡ 2 * variables (net before) + 1 → length (literals_of section before) + count ≤ 1073741824 → property_refusal now (length (literals_of section now)) l ≡ None
-  push_accepts l small is few =
-      let same : variables (net now) ≡ variables (net before) = ap (λ (c : Circuit). variables (net c)) p.is ∙ same_net section before p.literals in
-      let defined : nat_lt (variables (net now)) (variable l) ≡ false = ap (λ (v : ℕ). nat_lt v (variable l)) same ∙ in_range greatest (variables (net before)) l is small in
-      let many : length (literals_of section now) ≡ length (literals_of section before) + index =
-      ap (λ (c : Circuit). length (literals_of section c)) p.is ∙ many_now section before p.literals ∙ ap (λ (k : ℕ). length (literals_of section before) + k) p.many in
-      let room : length (literals_of section now) < greatest_count = omega (arith, many, more, few) in
-      let free : nat_le greatest_count (length (literals_of section now)) ≡ false = grind (arith, nat_tests) in
-      rw (defined, free) refl
+pub push_accepts : (section : LiteralSection) (greatest count index : ℕ) (before now : Circuit) (text rest : List ℕ) (p : Pushed (with_literals section) greatest count index before now text rest) (more : index < count)
+    → (l : ℕ) → l ≤ greatest → greatest ≡ 2 * variables (net before) + 1 → length (literals_of section before) + count ≤ 1073741824 → property_refusal now (length (literals_of section now)) l ≡ None
+push_accepts section greatest count index before now text rest p more l small is few =
+    let same : variables (net now) ≡ variables (net before) = ap (λ (c : Circuit). variables (net c)) p.is ∙ same_net section before p.literals in
+    let defined : nat_lt (variables (net now)) (variable l) ≡ false = ap (λ (v : ℕ). nat_lt v (variable l)) same ∙ in_range greatest (variables (net before)) l is small in
+    let many : length (literals_of section now) ≡ length (literals_of section before) + index =
+    ap (λ (c : Circuit). length (literals_of section c)) p.is ∙ many_now section before p.literals ∙ ap (λ (k : ℕ). length (literals_of section before) + k) p.many in
+    let room : length (literals_of section now) < greatest_count = omega (arith, many, more, few) in
+    let free : nat_le greatest_count (length (literals_of section now)) ≡ false = grind (arith, nat_tests) in
+    rw (defined, free) refl
 
-pub push_done : (section : LiteralSection) (greatest count index : ℕ) (before now : Circuit) (text rest : List ℕ) (p : Pushed section greatest count index before now text rest) → count ≤ index → literals_at greatest count text ≡ Ok (p.literals, rest)
-push_done section greatest count index before now text rest p all =
+pub push_done : {C : Type 0} (add : C → List ℕ → C) (greatest count index : ℕ) (before now : C) (text rest : List ℕ) (p : Pushed add greatest count index before now text rest) → count ≤ index → literals_at greatest count text ≡ Ok (p.literals, rest)
+push_done add greatest count index before now text rest p all =
     onto_done literal_of (λ g l. g) greatest (count - index) rest (omega arith) p.literals (literals_at greatest count text) p.read
 
 -- ---- latches
@@ -207,35 +212,3 @@ module _ (first count index : ℕ) (before now : Circuit) (text rest : List ℕ)
 
 pub gates_are_done : (first count index : ℕ) (before now : Circuit) (text rest : List ℕ) (p : ArePushed first count index before now text rest) → count ≤ index → gates_at first count text ≡ Ok (p.gates, rest)
 gates_are_done first count index before now text rest p all = gates_done (first + 2 * index) (count - index) rest p.gates (gates_at first count text) (omega arith) p.read
-
--- ---- a list of literals
-
-pub record Collected (greatest count index : ℕ) (before now : List ℕ) (text rest : List ℕ) : Type 0 where
-  pub literals : List ℕ
-  pub is : now ≡ before ++ literals
-  pub many : length literals ≡ index
-  pub read : onto literals (literals_at greatest (count - index) rest) ≡ literals_at greatest count text
-
-pub collect_begins : (greatest count : ℕ) (before text : List ℕ) → Collected greatest count 0 before before text text
-collect_begins greatest count before text = record {
-  literals = [];
-  is = sym (append-nil before);
-  many = refl;
-  read = ap (λ (k : ℕ). onto [] (literals_at greatest k text)) (less_nothing count) ∙ onto_nothing (literals_at greatest count text);
-}
-
-module _ (greatest count index : ℕ) (before now text rest : List ℕ) (p : Collected greatest count index before now text rest) (more : index < count) where
-  pub collect_step : (l : ℕ) (after next : List ℕ) → line_at (literal_of greatest) rest ≡ Ok (l, after) → next ≡ now ++ l ∷ [] → Collected greatest count (index + 1) before next text after
-  collect_step l after next one is = record {
-    literals = p.literals ++ l ∷ [];
-    is = is ∙ ap (λ (ls : List ℕ). ls ++ l ∷ []) p.is ∙ append_assoc before p.literals (l ∷ []);
-    many = length-append p.literals (l ∷ []) ∙ ap (λ (k : ℕ). k + 1) p.many;
-    read = onto_step literal_of (λ g l. g) greatest (count - index) (count - (index + 1)) rest (omega arith) p.literals l after greatest (literals_at greatest count text) refl one p.read;
-  }
-
-  pub collect_stop : (e : Stop) → line_at (literal_of greatest) rest ≡ Err e → literals_at greatest count text ≡ Err e
-  collect_stop e one = onto_stop literal_of (λ g l. g) greatest (count - index) (count - (index + 1)) rest (omega arith) p.literals e (literals_at greatest count text) one p.read
-
-pub collect_done : (greatest count index : ℕ) (before now text rest : List ℕ) (p : Collected greatest count index before now text rest) → count ≤ index → literals_at greatest count text ≡ Ok (p.literals, rest)
-collect_done greatest count index before now text rest p all =
-    onto_done literal_of (λ g l. g) greatest (count - index) rest (omega arith) p.literals (literals_at greatest count text) p.read

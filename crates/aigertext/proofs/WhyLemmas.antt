@@ -1,5 +1,5 @@
 -- Where reading stops, the why is one of the text: never the device or memory.
-use Rattle.std.proofs.Common.{ℕ, zero, suc, ◌+◌, ◌-◌, ◌*◌, ◌==◌, ◌||◌, nat_lt, nat_le, Bool, true, false, cond, List, [], ◌∷◌, ◌++◌, Option, Some, None, Result, Ok, Err, codes}
+use Rattle.std.proofs.Common.{ℕ, zero, suc, ◌+◌, ◌-◌, ◌*◌, ◌==◌, ◌||◌, nat_lt, nat_le, Bool, true, false, cond, List, [], ◌∷◌, ◌++◌, Option, Some, None, Result, Ok, Err, codes, ◌≡◌, ◌&&◌, not, sym, subst, inl, inr}
 use Rattle.std.specs.Str.{bytes_eq}
 use Rattle.std.specs.List.{sum}
 use Rattle.base.specs.Lines.{whole_lines, unfinished, text_of_lines}
@@ -15,8 +15,11 @@ use Rattle.aigertext.specs.declared.fault.Why.{Why}
 use Rattle.aigertext.specs.declared.fault.Why.TheVariants as why
 use Rattle.aigertext.specs.declared.forms.Form.{Form}
 use Rattle.aigertext.specs.declared.forms.Form.TheVariants.{Ascii, Binary}
-use Rattle.aigertext.specs.Reading.{◌>>=◌, at, some_or, cut, fields, line_at, cut_line, lines_at, number_at, last_at, no_more, last_four, first_five, count_of, counts_of, fitting, form_of, header_fields, header_of, within, literal_of, reset_of, next_fields, next_of, size_within, size_of, nexts_at, literals_at, sizes_at, more_digits, delta_at, below, at_or_below, gate_at, gates_at, section_of, accepted, named_by, name_on, names_on, properties_at, binary_at, body_at, text_on}
-use Rattle.aigertext.specs.Passes.{unread}
+use Rattle.aigertext.specs.Reading.{◌>>=◌, at, some_or, cut, fields, line_at, cut_line, lines_at, number_at, last_at, no_more, last_four, first_five, count_of, counts_of, fitting, form_of, header_fields, header_of, within, literal_of, reset_of, next_fields, next_of, size_within, size_of, nexts_at, literals_at, sizes_at, more_digits, delta_at, below, at_or_below, gate_at, gates_at, section_of, accepted, named_by, name_on, names_on, names_at, properties_at, binary_at}
+use Rattle.aiger.specs.Literal.{variable}
+use Rattle.aiger.specs.Loose.{Loose, empty_loose, is_defined, is_defining, with_input_line, with_latch_line, with_gate_line}
+use Rattle.aigertext.specs.AsciiReading.{defining, input_by, input_of, own_by, latch_fields, latch_of, gate_fields, gate_of, onto_lists, with_properties_of, lists_of_file, AnswersLists, AnswersBody, AnswersHeader, AnswersText}
+use Rattle.aigertext.proofs.BackLemmas.{not_err}
 
 -- a why of a text
 abbrev pub IsOfText : Why → Type 0
@@ -211,10 +214,81 @@ binary_stops h text =
     stops_bind (nexts_at (2 * h.variables + 1) (2 * suc h.inputs) h.latches text) _ (lines_stop (next_of (2 * h.variables + 1)) (λ o l. o + 2) (λ o line. next_told (2 * h.variables + 1) o (fields line)) (2 * suc h.inputs) h.latches text)
     (λ l. stops_bind (properties_at h l.1) _ (properties_stop h l.1) (λ p. stops_bind (gates_at (2 * suc (h.inputs + h.latches)) h.gates p.1) _ (gates_stop (2 * suc (h.inputs + h.latches)) h.gates p.1) (λ g. names_stop _ (whole_lines g.1) (unfinished g.1))))
 
-pub text_stops : (text : List ℕ) → Stops (text_on unread text)
-unfolding text_on
-text_stops text = stops_bind (line_at header_of text) _ (line_stops header_of text (λ line. header_told (fields line))) (λ h. by h.0.0 h.0.1 h.1)
+-- ---- the ascii form
+
+defining_told : (w : Why) (greatest : ℕ) (l : Loose) (n : ℕ) → IsOfText w → Told (defining w greatest l n)
+defining_told w greatest l n h = told_if (nat_le n greatest && (is_defining n && not (is_defined l (variable n)))) (Ok n) (Err w) tt h
+
+input_told : (greatest : ℕ) (l : Loose) (line : List ℕ) → Told (input_of greatest l line)
+unfolding input_of
+input_told greatest l line = by (number_of line)
   where
-    by : (form : Form) (h : Counts) (rest : List ℕ) → Stops (body_at unread form h rest)
-    by Ascii h rest = tt
-    by Binary h rest = binary_stops h rest
+    by : (o : Option ℕ) → Told (input_by greatest l o)
+    by None = tt
+    by (Some n) = defining_told why.BadNumber greatest l n tt
+
+own_told : (greatest : ℕ) (l : Loose) (o : Option ℕ) → Told (own_by greatest l o)
+own_told greatest l None = tt
+own_told greatest l (Some n) = defining_told why.BadLatch greatest l n tt
+
+latch_told : (greatest : ℕ) (l : Loose) (fs : List (List ℕ)) → Told (latch_fields greatest l fs)
+unfolding latch_fields
+latch_told greatest l [] = tt
+latch_told greatest l (current ∷ []) = tt
+latch_told greatest l (current ∷ next ∷ []) =
+    told_bind (own_by greatest l (number_of current)) _ (own_told greatest l (number_of current)) (λ own. told_bind (within why.BadLatch greatest (number_of next)) _ (within_told why.BadLatch greatest (number_of next) tt) (λ n. tt))
+latch_told greatest l (current ∷ next ∷ begins ∷ []) =
+    told_bind (own_by greatest l (number_of current)) _ (own_told greatest l (number_of current)) (λ own. told_bind (within why.BadLatch greatest (number_of next)) _ (within_told why.BadLatch greatest (number_of next) tt) (λ n. told_bind (reset_of own (number_of begins)) _ (reset_told own (number_of begins)) (λ r. tt)))
+latch_told greatest l (current ∷ next ∷ begins ∷ more ∷ others) = tt
+
+gate_told : (greatest : ℕ) (l : Loose) (fs : List (List ℕ)) → Told (gate_fields greatest l fs)
+unfolding gate_fields
+gate_told greatest l [] = tt
+gate_told greatest l (lhs ∷ []) = tt
+gate_told greatest l (lhs ∷ rhs0 ∷ []) = tt
+gate_told greatest l (lhs ∷ rhs0 ∷ rhs1 ∷ []) =
+    told_bind (some_or why.BadNumber (number_of lhs)) _ (some_told why.BadNumber (number_of lhs) tt) (λ own. told_bind (within why.BadNumber greatest (number_of rhs0)) _ (within_told why.BadNumber greatest (number_of rhs0) tt) (λ a. told_bind (within why.BadNumber greatest (number_of rhs1)) _ (within_told why.BadNumber greatest (number_of rhs1) tt)
+    (λ b. told_bind (defining why.GateOrder greatest l own) _ (defining_told why.GateOrder greatest l own tt) (λ new. tt))))
+gate_told greatest l (lhs ∷ rhs0 ∷ rhs1 ∷ more ∷ others) = tt
+
+onto_stops : {A : Type 0} (says : Loose → List ℕ → Result A Why) (with' : Loose → A → Loose) (h : (l : Loose) (line : List ℕ) → Told (says l line)) (l : Loose) (n : ℕ) (text : List ℕ) → Stops (onto_lists says with' l n text)
+onto_stops says with' h l zero text = tt
+onto_stops says with' h l (suc n) text = stops_bind (line_at (says l) text) _ (line_stops (says l) text (h l)) (λ x. onto_stops says with' h (with' l x.0) n x.1)
+
+lists_stop : (h : Counts) (text : List ℕ) → Stops (lists_of_file h text)
+unfolding lists_of_file
+lists_stop h text =
+    stops_bind (onto_lists (input_of (2 * h.variables + 1)) with_input_line empty_loose h.inputs text) _ (onto_stops (input_of (2 * h.variables + 1)) with_input_line (input_told (2 * h.variables + 1)) empty_loose h.inputs text)
+    (λ i. stops_bind (onto_lists (latch_of (2 * h.variables + 1)) with_latch_line i.0 h.latches i.1) _ (onto_stops (latch_of (2 * h.variables + 1)) with_latch_line (λ l line. latch_told (2 * h.variables + 1) l (fields line)) i.0 h.latches i.1)
+    (λ l. stops_bind (properties_at h l.1) _ (properties_stop h l.1)
+    (λ p. onto_stops (gate_of (2 * h.variables + 1)) with_gate_line (λ m line. gate_told (2 * h.variables + 1) m (fields line)) (with_properties_of l.0 p.0) h.gates p.1)))
+
+-- ---- whole texts
+
+stops_as : {A : Type 0} (r : Result A Stop) (e : Stop) → Stops r → r ≡ Err e → IsOfText e.why
+stops_as (Ok x) e h is = absurd (not_err e x (sym is))
+stops_as (Err w) e h is = subst (λ (x : Stop). IsOfText x.why) (err_same w e is) h
+  where
+    err_same : {A : Type 0} (w e : Stop) → ◌≡◌ {A = Result A Stop} (Err w) (Err e) → w ≡ e
+    err_same w e is = cc
+
+same_stop : (e w : Stop) → ◌≡◌ {A = Result Circuit Stop} (Err e) (Err w) → w ≡ e
+same_stop e w is = cc
+
+lists_answer : (h : Counts) (text : List ℕ) (r : Result (Loose × List ℕ) Stop) (e : Stop) → Stops r → AnswersLists h text r (Err e) → IsOfText e.why
+lists_answer h text (Err w) e s is = subst (λ (x : Stop). IsOfText x.why) (same_stop e w is) s
+lists_answer h text (Ok x) e s (valid, inl named) = stops_as (names_at named.circuit x.1) e (names_stop named.circuit (whole_lines x.1) (unfinished x.1)) (sym named.is)
+lists_answer h text (Ok x) e s (valid, inr (inl undefined)) = subst (λ (y : Stop). IsOfText y.why) (same_stop e _ undefined.is) tt
+lists_answer h text (Ok x) e s (valid, inr (inr cycle)) = subst (λ (y : Stop). IsOfText y.why) (same_stop e _ cycle.is) tt
+
+pub text_stops : (text : List ℕ) (e : Stop) → AnswersText text (Err e) → IsOfText e.why
+unfolding AnswersText
+text_stops text e answers = by (line_at header_of text) (line_stops header_of text (λ line. header_told (fields line))) answers
+  where
+    body : (form : Form) (h : Counts) (rest : List ℕ) → AnswersBody form h rest (Err e) → IsOfText e.why
+    body Ascii h rest a = lists_answer h rest (lists_of_file h rest) e (lists_stop h rest) a
+    body Binary h rest a = stops_as (binary_at h rest) e (binary_stops h rest) (sym a)
+
+    by : (r : Result ((Form × Counts) × List ℕ) Stop) → Stops r → AnswersHeader r (Err e) → IsOfText e.why
+    by (Ok x) s a = body x.0.0 x.0.1 x.1 a
+    by (Err w) s a = subst (λ (x : Stop). IsOfText x.why) (same_stop e w a) s

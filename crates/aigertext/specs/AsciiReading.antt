@@ -1,4 +1,4 @@
--- Reading a circuit's ascii text from left to right ("AIGER 1.9 and Beyond", ascii format), with the first fault that is met: the lists of the file, then the circuit that they are, then its names.
+-- Reading a circuit's ascii text from left to right ("AIGER 1.9 and Beyond", ascii format), with the first fault that is met: the lists of the file, then the circuit that they are, then its names; and reading a text of either form.
 use Rattle.std.specs.Prelude.{◌≡◌, ℕ, zero, suc, ◌+◌, ◌-◌, ◌*◌, ◌≤◌, ◌&&◌, true, not, List, [], ◌∷◌, length, Option, Some, None, Result, Ok, Err, nat_lt, nat_le, ◌⊎◌, if◌then◌else◌}
 use Rattle.base.specs.Decimals.{number_of}
 use Rattle.aiger.specs.declared.circuit.Reset.TheVariants as reset
@@ -6,13 +6,17 @@ use Rattle.aiger.specs.declared.loose.GateLine.{GateLine}
 use Rattle.aiger.specs.declared.loose.LatchLine.{LatchLine}
 use Rattle.aiger.specs.Circuit.{Circuit}
 use Rattle.aiger.specs.Literal.{variable}
-use Rattle.aiger.specs.Loose.{Loose, empty_loose, is_defined, is_defining, with_input_line, with_latch_line, with_gate_line}
+use Rattle.aiger.specs.Loose.{Loose, IsLoose, empty_loose, is_defined, is_defining, with_input_line, with_latch_line, with_gate_line}
 use Rattle.aiger.specs.Renumbering.{IsRenumbered, used_lines, first_undefined, IsFirstCyclic}
 use Rattle.aigertext.specs.declared.counts.Counts.{Counts}
 use Rattle.aigertext.specs.declared.fault.Stop.{Stop}
 use Rattle.aigertext.specs.declared.fault.Why.{Why}
 use Rattle.aigertext.specs.declared.fault.Why.TheVariants as why
-use Rattle.aigertext.specs.Reading.{◌>>=◌, stop, cut, fields, line_at, some_or, within, reset_of, lists_of, Properties, properties_at, names_at}
+use Rattle.aigertext.specs.Reading.{◌>>=◌, stop, cut, fields, line_at, some_or, within, reset_of, header_of, lists_of, Properties, properties_at, names_at, binary_at, fault_of}
+use Rattle.aigertext.specs.declared.forms.Form.{Form}
+use Rattle.aigertext.specs.declared.forms.Form.TheVariants.{Ascii, Binary}
+use Rattle.aigertext.specs.declared.fault.ReadFault.{ReadFault}
+use Rattle.aigertext.specs.Spelling.{IsBinaryText}
 
 -- ---- lines
 
@@ -141,11 +145,43 @@ pub record AnswersCycle (h : Counts) (text : List ℕ) (l : Loose) (answer : Res
   pub cyclic : IsFirstCyclic l gate
   pub is : answer ≡ Err (stop_behind text (lines_before h (use_of_gate l gate)) why.Cycle)
 
--- what the lists of a file, or where reading them stops, have for an answer
+-- what the lists of a file, which keep what such lists keep, or where reading them stops, have for an answer
 abbrev pub AnswersLists : Counts → List ℕ → Result (Loose × List ℕ) Stop → Result Circuit Stop → Type 0
-AnswersLists h text (Ok x) answer = AnswersNamed x.0 x.1 answer ⊎ (AnswersUndefined h text x.0 answer ⊎ AnswersCycle h text x.0 answer)
+AnswersLists h text (Ok x) answer =
+    IsLoose x.0 × (AnswersNamed x.0 x.1 answer ⊎ (AnswersUndefined h text x.0 answer ⊎ AnswersCycle h text x.0 answer))
 AnswersLists h text (Err e) answer = answer ≡ Err e
 
 -- reading what stands behind a header of the ascii form: the circuit that it spells, or where reading stops
 abbrev pub AnswersAscii : Counts → List ℕ → Result Circuit Stop → Type 0
 AnswersAscii h text answer = AnswersLists h text (lists_of_file h text) answer
+
+-- ---- both forms
+
+-- what stands behind a header of a form has for an answer
+abbrev pub AnswersBody : Form → Counts → List ℕ → Result Circuit Stop → Type 0
+AnswersBody Ascii h text answer = AnswersAscii h text answer
+AnswersBody Binary h text answer = answer ≡ binary_at h text
+
+-- what a header and the text behind it, or where reading a header stops, have for an answer
+abbrev pub AnswersHeader : Result ((Form × Counts) × List ℕ) Stop → Result Circuit Stop → Type 0
+AnswersHeader (Ok x) answer = AnswersBody x.0.0 x.0.1 x.1 answer
+AnswersHeader (Err e) answer = answer ≡ Err e
+
+-- reading a text: the circuit that it spells, or where reading stops; the first word decides the form
+unfoldable pub AnswersText : List ℕ → Result Circuit Stop → Type 0
+AnswersText text answer = AnswersHeader (line_at header_of text) answer
+
+-- a text with a header of the binary form stands for a circuit in that form
+abbrev pub StandsIfBinary : List ℕ → Circuit → Type 0
+StandsIfBinary text c = (h : Counts) (rest : List ℕ) → line_at header_of text ≡ Ok ((Binary, h), rest) → IsBinaryText text c
+
+-- reading a text stops with this fault
+pub record IsFaultOf (text : List ℕ) (e : ReadFault) : Type 0 where
+  pub stop : Stop
+  pub stops : AnswersText text (Err stop)
+  pub is : e ≡ fault_of text stop
+
+-- a text that spells a circuit was read as it, where neither the device failed nor memory ran out
+abbrev pub GivesCircuit : Result Circuit ReadFault → Circuit → Type 0
+GivesCircuit (Ok d) c = d ≡ c
+GivesCircuit (Err e) c = (e.why ≡ why.Device) ⊎ (e.why ≡ why.NoMemory)

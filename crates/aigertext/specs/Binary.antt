@@ -3,8 +3,9 @@ use Rattle.std.specs.Prelude.{ℕ, suc, zero, ◌+◌, ◌-◌, ◌*◌, ◌/◌
 use Rattle.aiger.specs.declared.circuit.Gate.{Gate}
 use Rattle.aiger.specs.declared.circuit.Latch.{Latch}
 use Rattle.aiger.specs.Circuit.{Circuit}
-use Rattle.aigertext.specs.declared.forms.Form.TheVariants.{Binary}
-use Rattle.aigertext.specs.Ascii.{header, numbers_line, reset_numbers, property_lines, all_names}
+use Rattle.aigertext.specs.declared.forms.Form.{Form}
+use Rattle.aigertext.specs.declared.forms.Form.TheVariants.{Ascii, Binary}
+use Rattle.aigertext.specs.Ascii.{ascii_text, header, numbers_line, reset_numbers, property_lines, all_names}
 
 -- the digits of a number to base 128, lowest first: all but the last have the top bit; there are so many more than one at most
 abbrev pub digits_128 : ℕ → ℕ → List ℕ
@@ -30,3 +31,8 @@ abbrev pub binary_text : Circuit → List ℕ
 binary_text c =
     header Binary c ++ (next_lines (suc c.inputs) c.latches ++ (property_lines c
     ++ (gate_deltas (suc (c.inputs + length c.latches)) c.gates ++ all_names c)))
+
+-- the text of a circuit in a form
+abbrev pub circuit_text : Form → Circuit → List ℕ
+circuit_text Ascii c = ascii_text c
+circuit_text Binary c = binary_text c

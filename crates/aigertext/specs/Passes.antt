@@ -1,9 +1,12 @@
 -- Words between the parts of the reader, which goes over a text twice: what stands behind the lines that were looked at, and what a circuit has of those that were read.
-use Rattle.std.specs.Prelude.{◌≡◌, ℕ, zero, suc, ◌+◌, List, [], ◌∷◌, ◌++◌, length, Result, Ok, Err, ◌⊎◌}
+use Rattle.std.specs.Prelude.{◌≡◌, ℕ, zero, suc, ◌+◌, List, [], ◌∷◌, ◌++◌, Result, Ok, Err, ◌⊎◌}
 use Rattle.std.specs.List.{sum}
 use Rattle.aiger.specs.declared.circuit.Gate.{Gate}
 use Rattle.aiger.specs.declared.circuit.Latch.{Latch}
 use Rattle.aiger.specs.Circuit.{Circuit}
+use Rattle.aiger.specs.Loose.{Loose}
+use Rattle.aiger.specs.Renumbering.{IsRenumbered}
+use Rattle.aigertext.specs.AsciiReading.{AnswersUndefined, AnswersCycle, AnswersText, IsFaultOf}
 use Rattle.aigertext.specs.declared.counts.Counts.{Counts}
 use Rattle.aigertext.specs.declared.fault.ReadFault.{ReadFault}
 use Rattle.aigertext.specs.declared.fault.Stop.{Stop}
@@ -11,7 +14,7 @@ use Rattle.aigertext.specs.declared.fault.Why.{Why}
 use Rattle.aigertext.specs.declared.fault.Why.TheVariants as why
 use Rattle.aigertext.specs.declared.literals.LiteralSection.{LiteralSection}
 use Rattle.aigertext.specs.declared.literals.LiteralSection.TheVariants.{Output, Bad, Constraint, Fair}
-use Rattle.aigertext.specs.Reading.{◌>>=◌, line_at, size_of, literals_at, delta_at, below, at_or_below, Properties, lists_of, text_on, fault_of}
+use Rattle.aigertext.specs.Reading.{◌>>=◌, line_at, size_of, literals_at, delta_at, below, at_or_below, Properties, lists_of}
 
 -- ---- the first pass: only what stands behind the lines
 
@@ -68,6 +71,22 @@ with_latches c ls = record c { latches = ls }
 abbrev pub with_lists : Circuit → List (List ℕ) → Circuit
 with_lists c lists = record c { justice = c.justice ++ lists }
 
+-- the same of the lists of a file
+abbrev pub uses_of : LiteralSection → Loose → List ℕ
+uses_of Output l = l.outputs
+uses_of Bad l = l.bads
+uses_of Constraint l = l.constraints
+uses_of Fair l = l.fair
+
+abbrev pub with_uses : LiteralSection → Loose → List ℕ → Loose
+with_uses Output l ls = record l { outputs = l.outputs ++ ls }
+with_uses Bad l ls = record l { bads = l.bads ++ ls }
+with_uses Constraint l ls = record l { constraints = l.constraints ++ ls }
+with_uses Fair l ls = record l { fair = l.fair ++ ls }
+
+abbrev pub with_use_lists : Loose → List (List ℕ) → Loose
+with_use_lists l lists = record l { justice = l.justice ++ lists }
+
 -- so many justice properties, each by its size's line in the first text and its literals' lines in the second
 abbrev pub lists_at : ℕ → ℕ → ℕ → List ℕ → List ℕ → Result (List (List ℕ) × List ℕ) Stop
 lists_at greatest before zero sizes text = Ok ([], text)
@@ -92,6 +111,21 @@ abbrev pub ReadsAs : Result Circuit Stop → Result Circuit Stop → Type 0
 ReadsAs (Ok c) read = read ≡ Ok c
 ReadsAs (Err e) read = (e.why ≡ why.NoMemory) ⊎ (read ≡ Err e)
 
+-- the lists of a file were read, and the text behind them, unless memory ran out
+abbrev pub ReadsLists : {X : Type 0} → (X → Loose × List ℕ) → Result X Stop → Result (Loose × List ℕ) Stop → Type 0
+ReadsLists view (Ok x) read = read ≡ Ok (view x)
+ReadsLists view (Err e) read = (e.why ≡ why.NoMemory) ⊎ (read ≡ Err e)
+
+-- lists were numbered, or reading stops at one of their lines, or memory ran out
+abbrev pub Numbers : Counts → List ℕ → Loose → Result Circuit Stop → Type 0
+Numbers h text l (Ok c) = IsRenumbered l c
+Numbers h text l (Err e) = (e.why ≡ why.NoMemory) ⊎ (AnswersUndefined h text l (Err e) ⊎ AnswersCycle h text l (Err e))
+
+-- an answer is one that is to be given, unless memory ran out
+abbrev pub ReadsBy : Result Circuit Stop → (Result Circuit Stop → Type 0) → Type 0
+ReadsBy (Ok c) Answers = Answers (Ok c)
+ReadsBy (Err e) Answers = (e.why ≡ why.NoMemory) ⊎ Answers (Err e)
+
 -- no properties stand on a circuit yet
 pub record HasNoProperties (c : Circuit) : Type 0 where
   pub outputs : c.outputs ≡ []
@@ -100,6 +134,14 @@ pub record HasNoProperties (c : Circuit) : Type 0 where
   pub justice : c.justice ≡ []
   pub fair : c.fair ≡ []
 
+-- no properties stand on the lists of a file yet
+pub record HasNoUses (l : Loose) : Type 0 where
+  pub outputs : l.outputs ≡ []
+  pub bads : l.bads ≡ []
+  pub constraints : l.constraints ≡ []
+  pub justice : l.justice ≡ []
+  pub fair : l.fair ≡ []
+
 -- the circuit with all properties that were read
 abbrev pub with_properties : Circuit → Properties → Circuit
 with_properties c p =
@@ -107,22 +149,7 @@ with_properties c p =
 
 -- ---- whole texts
 
--- a text of the ascii form, where only the binary form is read
-abbrev pub unread : Counts → List ℕ → Result Circuit Stop
-unread h text = Err (record { left = length text; why = why.BadHeader })
-
--- reading a text of the binary form stops with this fault
-pub record IsFaultOf (text : List ℕ) (e : ReadFault) : Type 0 where
-  pub stop : Stop
-  pub stops : text_on unread text ≡ Err stop
-  pub is : e ≡ fault_of text stop
-
 -- a text was read as a circuit or has the fault, unless memory ran out
 abbrev pub ReadsText : List ℕ → Result Circuit ReadFault → Type 0
-ReadsText text (Ok c) = text_on unread text ≡ Ok c
+ReadsText text (Ok c) = AnswersText text (Ok c)
 ReadsText text (Err e) = (e ≡ record { place = 0; why = why.NoMemory }) ⊎ IsFaultOf text e
-
--- a text that stands for a circuit was read as it, where neither the device failed nor memory ran out
-abbrev pub GivesCircuit : Result Circuit ReadFault → Circuit → Type 0
-GivesCircuit (Ok d) c = d ≡ c
-GivesCircuit (Err e) c = (e.why ≡ why.Device) ⊎ (e.why ≡ why.NoMemory)

@@ -347,17 +347,6 @@ binary_at h text = do
   g ← gates_at (2 * suc (h.inputs + h.latches)) h.gates p.1
   names_at (nameless h.inputs l.0 p.0 g.0) g.1
 
--- what stands behind a header of a form
-abbrev pub body_at : (Counts → List ℕ → Result Circuit Stop) → Form → Counts → List ℕ → Result Circuit Stop
-body_at ascii Ascii h text = ascii h text
-body_at ascii Binary h text = binary_at h text
-
--- the circuit that a text spells, or where reading it stops; what stands behind a header of the ascii form is read by the first function
-unfoldable pub text_on : (Counts → List ℕ → Result Circuit Stop) → List ℕ → Result Circuit Stop
-text_on ascii text = do
-  h ← line_at header_of text
-  body_at ascii h.0.0 h.0.1 h.1
-
 -- the place of a fault, in bytes from 0
 abbrev pub fault_of : List ℕ → Stop → ReadFault
 fault_of text s = record { place = length text - s.left; why = s.why }

@@ -72,3 +72,18 @@ all_kinds =
       fair = 1 ∷ [];
       names = ((rank Output, 1), codes "y") ∷ ((rank Justice, 1), codes "j") ∷ ((rank Fair, 0), codes "f") ∷ [];
     }
+
+-- a circuit of nothing
+abbrev pub nothing : Circuit
+nothing =
+    record {
+      inputs = 0;
+      latches = [];
+      gates = [];
+      outputs = [];
+      bads = [];
+      constraints = [];
+      justice = [];
+      fair = [];
+      names = [];
+    }

@@ -3,15 +3,18 @@ ghost use Rattle.std.specs.Prelude.{◌≡◌, ℕ, ◌<◌, All, List, [], ◌�
 ghost use Rattle.aiger.specs.Circuit.{Circuit, IsCircuit};
 ghost use Rattle.aigertext.specs.Ascii.{numbers_line, without_zero_tail, name_line, ascii_text};
 ghost use Rattle.aigertext.specs.Binary.{delta, binary_text};
-ghost use Rattle.aigertext.specs.Reading.{text_on};
+ghost use Rattle.aigertext.specs.Reading.{line_at, header_of};
+ghost use Rattle.aigertext.specs.declared.forms.Form.TheVariants as form;
 ghost use Rattle.aigertext.specs.Spelling.{IsBinaryText};
 ghost use Rattle.aiger.specs.Loose.{empty_loose};
 ghost use Rattle.aiger.specs.declared.circuit.Reset.TheVariants as reset;
-ghost use Rattle.aigertext.specs.AsciiReading.{lists_of_file, lines_before, stop_behind};
+ghost use Rattle.aigertext.specs.AsciiReading.{lists_of_file, lines_before, stop_behind, AnswersText};
 ghost use Rattle.aigertext.specs.declared.counts.Counts.{Counts};
 ghost use Rattle.aigertext.specs.declared.fault.Stop.{Stop};
 ghost use Rattle.aigertext.specs.declared.fault.Why.TheVariants as why;
-ghost use Rattle.aigertext.specs.Worked.{toggler, free_state, one_gate, one_output, all_kinds};
+ghost use Rattle.aigertext.specs.Worked.{toggler, free_state, one_gate, one_output, all_kinds, nothing};
+
+use aiger::laws::one_renumbering;
 
 /// Worked rows: the texts of a latch that toggles, of a latch with no initial value, of a gate, and of
 /// properties of each kind.
@@ -53,78 +56,61 @@ pub fn worked_binary_texts()
 
 /// Worked rows: binary texts that are read, in the writer's spelling and in others.
 pub fn worked_binary_readings()
-    ensures toggler { (ascii : Counts → List ℕ → Result Circuit Stop)
-        → text_on ascii (codes "aig 1 0 1 0 0 1\n3\n2\nl0 t[0]\n") ≡ Ok toggler }
-    ensures spelled_out { (ascii : Counts → List ℕ → Result Circuit Stop)
-        → text_on ascii (codes "aig 1 0 1 0 0 1 0 0 0\n3 0\n2\nl0 t[0]\nc\nany") ≡ Ok toggler }
-    ensures free_state { (ascii : Counts → List ℕ → Result Circuit Stop)
-        → text_on ascii (codes "aig 1 0 1 0 0 1\n2 2\n2\nl0 t[0]\n") ≡ Ok free_state }
-    ensures one_output { (ascii : Counts → List ℕ → Result Circuit Stop)
-        → text_on ascii (codes "aig 3 2 0 1 1\n6\n" ++ 2 ∷ 2 ∷ []) ≡ Ok one_output }
-    ensures any_order { (ascii : Counts → List ℕ → Result Circuit Stop)
-        → text_on ascii (codes "aig 3 2 0 0 1 0 1\n6\n" ++ 2 ∷ 2 ∷ codes "c0 both\ni0 a\n") ≡ Ok one_gate }
-    ensures all_kinds { (ascii : Counts → List ℕ → Result Circuit Stop)
-        → text_on ascii (codes "aig 1 1 0 2 0 0 0 2 1\n2\n3\n2\n0\n2\n3\n1\no1 y\nj1 j\nf0 f\n") ≡ Ok all_kinds }
+    ensures toggler { AnswersText ((codes "aig 1 0 1 0 0 1\n3\n2\nl0 t[0]\n")) (Ok toggler) }
+    ensures spelled_out { AnswersText ((codes "aig 1 0 1 0 0 1 0 0 0\n3 0\n2\nl0 t[0]\nc\nany")) (Ok toggler) }
+    ensures free_state { AnswersText ((codes "aig 1 0 1 0 0 1\n2 2\n2\nl0 t[0]\n")) (Ok free_state) }
+    ensures one_output { AnswersText ((codes "aig 3 2 0 1 1\n6\n" ++ 2 ∷ 2 ∷ [])) (Ok one_output) }
+    ensures any_order { AnswersText ((codes "aig 3 2 0 0 1 0 1\n6\n" ++ 2 ∷ 2 ∷ codes "c0 both\ni0 a\n")) (Ok one_gate) }
+    ensures all_kinds { AnswersText ((codes "aig 1 1 0 2 0 0 0 2 1\n2\n3\n2\n0\n2\n3\n1\no1 y\nj1 j\nf0 f\n")) (Ok all_kinds) }
 {}
 
 /// Worked rows: where reading a binary text stops, in bytes before the end, and why.
 pub fn worked_binary_faults()
-    ensures header { (ascii : Counts → List ℕ → Result Circuit Stop)
-        → text_on ascii (codes "aig 1 1 0 0\n") ≡ Err (record { left = 12; why = why.BadHeader }) }
-    ensures two_spaces { (ascii : Counts → List ℕ → Result Circuit Stop)
-        → text_on ascii (codes "aig 0  0 0 0 0\n") ≡ Err (record { left = 15; why = why.BadHeader }) }
-    ensures ten_numbers { (ascii : Counts → List ℕ → Result Circuit Stop)
-        → text_on ascii (codes "aig 0 0 0 0 0 0 0 0 0 0\n") ≡ Err (record { left = 24; why = why.BadHeader }) }
-    ensures too_big { (ascii : Counts → List ℕ → Result Circuit Stop)
-        → text_on ascii (codes "aig 1073741825 0 0 0 0\n") ≡ Err (record { left = 23; why = why.TooBig }) }
-    ensures counts { (ascii : Counts → List ℕ → Result Circuit Stop)
-        → text_on ascii (codes "aig 2 1 0 0 0\n") ≡ Err (record { left = 14; why = why.CountsDisagree }) }
-    ensures cut_header { (ascii : Counts → List ℕ → Result Circuit Stop)
-        → text_on ascii (codes "aig 3 2 0 1 1") ≡ Err (record { left = 13; why = why.Truncated }) }
-    ensures no_latch { (ascii : Counts → List ℕ → Result Circuit Stop)
-        → text_on ascii (codes "aig 1073741824 0 1073741824 0 0\n") ≡ Err (record { left = 0; why = why.Truncated }) }
-    ensures literal { (ascii : Counts → List ℕ → Result Circuit Stop)
-        → text_on ascii (codes "aig 1 1 0 1 0\n4\n") ≡ Err (record { left = 2; why = why.BadNumber }) }
-    ensures reset { (ascii : Counts → List ℕ → Result Circuit Stop)
-        → text_on ascii (codes "aig 1 0 1 0 0\n2 3\n") ≡ Err (record { left = 4; why = why.BadLatch }) }
-    ensures own_literal { (ascii : Counts → List ℕ → Result Circuit Stop)
-        → text_on ascii (codes "aig 1 0 1 0 0\n2 3 0\n") ≡ Err (record { left = 6; why = why.BadLatch }) }
-    ensures sizes { (ascii : Counts → List ℕ → Result Circuit Stop)
-        → text_on ascii (codes "aig 0 0 0 0 0 0 0 2\n1073741824\n1\n") ≡ Err (record { left = 2; why = why.TooBig }) }
-    ensures not_shortest { (ascii : Counts → List ℕ → Result Circuit Stop)
-        → text_on ascii (codes "aig 3 2 0 1 1\n6\n" ++ 130 ∷ 0 ∷ 2 ∷ []) ≡ Err (record { left = 3; why = why.DeltaNotShortest }) }
-    ensures zero_in_two { (ascii : Counts → List ℕ → Result Circuit Stop)
-        → text_on ascii (codes "aig 3 2 0 1 1\n6\n" ++ 2 ∷ 128 ∷ 0 ∷ []) ≡ Err (record { left = 2; why = why.DeltaNotShortest }) }
-    ensures no_delta { (ascii : Counts → List ℕ → Result Circuit Stop)
-        → text_on ascii (codes "aig 3 2 0 1 1\n6\n" ++ 2 ∷ []) ≡ Err (record { left = 0; why = why.Truncated }) }
-    ensures of_itself { (ascii : Counts → List ℕ → Result Circuit Stop)
-        → text_on ascii (codes "aig 3 2 0 1 1\n6\n" ++ 0 ∷ 2 ∷ []) ≡ Err (record { left = 2; why = why.GateOrder }) }
-    ensures too_long { (ascii : Counts → List ℕ → Result Circuit Stop)
-        → text_on ascii (codes "aig 3 2 0 1 1\n6\n" ++ 255 ∷ 255 ∷ 255 ∷ 255 ∷ 255 ∷ []) ≡ Err (record { left = 5; why = why.DeltaTooLong }) }
-    ensures second_name { (ascii : Counts → List ℕ → Result Circuit Stop)
-        → text_on ascii (codes "aig 1 1 0 0 0\ni0 x\ni0 y\n") ≡ Err (record { left = 5; why = why.BadSymbol }) }
-    ensures cut_comment { (ascii : Counts → List ℕ → Result Circuit Stop)
-        → text_on ascii (codes "aig 0 0 0 0 0\nc") ≡ Err (record { left = 1; why = why.Truncated }) }
+    ensures header { AnswersText ((codes "aig 1 1 0 0\n")) (Err (record { left = 12; why = why.BadHeader })) }
+    ensures two_spaces { AnswersText ((codes "aig 0  0 0 0 0\n")) (Err (record { left = 15; why = why.BadHeader })) }
+    ensures ten_numbers { AnswersText ((codes "aig 0 0 0 0 0 0 0 0 0 0\n")) (Err (record { left = 24; why = why.BadHeader })) }
+    ensures too_big { AnswersText ((codes "aig 1073741825 0 0 0 0\n")) (Err (record { left = 23; why = why.TooBig })) }
+    ensures counts { AnswersText ((codes "aig 2 1 0 0 0\n")) (Err (record { left = 14; why = why.CountsDisagree })) }
+    ensures cut_header { AnswersText ((codes "aig 3 2 0 1 1")) (Err (record { left = 13; why = why.Truncated })) }
+    ensures no_latch { AnswersText ((codes "aig 1073741824 0 1073741824 0 0\n")) (Err (record { left = 0; why = why.Truncated })) }
+    ensures literal { AnswersText ((codes "aig 1 1 0 1 0\n4\n")) (Err (record { left = 2; why = why.BadNumber })) }
+    ensures reset { AnswersText ((codes "aig 1 0 1 0 0\n2 3\n")) (Err (record { left = 4; why = why.BadLatch })) }
+    ensures own_literal { AnswersText ((codes "aig 1 0 1 0 0\n2 3 0\n")) (Err (record { left = 6; why = why.BadLatch })) }
+    ensures sizes { AnswersText ((codes "aig 0 0 0 0 0 0 0 2\n1073741824\n1\n")) (Err (record { left = 2; why = why.TooBig })) }
+    ensures not_shortest { AnswersText ((codes "aig 3 2 0 1 1\n6\n" ++ 130 ∷ 0 ∷ 2 ∷ [])) (Err (record { left = 3; why = why.DeltaNotShortest })) }
+    ensures zero_in_two { AnswersText ((codes "aig 3 2 0 1 1\n6\n" ++ 2 ∷ 128 ∷ 0 ∷ [])) (Err (record { left = 2; why = why.DeltaNotShortest })) }
+    ensures no_delta { AnswersText ((codes "aig 3 2 0 1 1\n6\n" ++ 2 ∷ [])) (Err (record { left = 0; why = why.Truncated })) }
+    ensures of_itself { AnswersText ((codes "aig 3 2 0 1 1\n6\n" ++ 0 ∷ 2 ∷ [])) (Err (record { left = 2; why = why.GateOrder })) }
+    ensures too_long { AnswersText ((codes "aig 3 2 0 1 1\n6\n" ++ 255 ∷ 255 ∷ 255 ∷ 255 ∷ 255 ∷ [])) (Err (record { left = 5; why = why.DeltaTooLong })) }
+    ensures second_name { AnswersText ((codes "aig 1 1 0 0 0\ni0 x\ni0 y\n")) (Err (record { left = 5; why = why.BadSymbol })) }
+    ensures cut_comment { AnswersText ((codes "aig 0 0 0 0 0\nc")) (Err (record { left = 1; why = why.Truncated })) }
 {}
 
 /// What is written in the binary form stands for the circuit that was written, and is read again as it.
 pub fn binary_read_back()
     ensures stands { (c : Circuit) → IsCircuit c → IsBinaryText (binary_text c) c }
-    ensures read { (ascii : Counts → List ℕ → Result Circuit Stop) (c : Circuit) → IsCircuit c → text_on ascii (binary_text c) ≡ Ok c }
+    ensures read { (c : Circuit) → IsCircuit c → AnswersText (binary_text c) (Ok c) }
 {}
+
+/// A text has at most one answer: it is read as one circuit alone, or reading it stops at one fault alone.
+pub fn one_answer()
+    ensures { (text : List ℕ) (a b : Result Circuit Stop) → AnswersText text a → AnswersText text b → a ≡ b }
+{
+    one_renumbering();
+}
 
 /// A binary text stands for at most one circuit: each that it stands for is the one that reading it gives.
 pub fn one_binary_circuit()
-    ensures read { (ascii : Counts → List ℕ → Result Circuit Stop) (text : List ℕ) (c : Circuit)
-        → IsBinaryText text c → text_on ascii text ≡ Ok c }
+    ensures read { (text : List ℕ) (c : Circuit) → IsBinaryText text c → AnswersText text (Ok c) }
     ensures same { (text : List ℕ) (c d : Circuit) → IsBinaryText text c → IsBinaryText text d → c ≡ d }
-{}
+{
+    one_answer();
+}
 
-/// A circuit that a text is read as, whatever texts of the ascii form are read as, is one that it stands for in the
-/// binary form.
+/// A circuit that a text with a header of the binary form is read as is one that it stands for in that form.
 pub fn binary_text_that_is_read()
-    ensures { (text : List ℕ) (c : Circuit) → All (λ b. b < 256) text → IsCircuit c
-        → ((ascii : Counts → List ℕ → Result Circuit Stop) → text_on ascii text ≡ Ok c) → IsBinaryText text c }
+    ensures { (text : List ℕ) (c : Circuit) (h : Counts) (rest : List ℕ) → All (λ b. b < 256) text → IsCircuit c
+        → line_at header_of text ≡ Ok ((form.Binary, h), rest) → AnswersText text (Ok c) → IsBinaryText text c }
 {}
 
 /// Worked rows: a binary text with its whole header and a comment stands for a circuit; without its byte 10, with
@@ -150,3 +136,15 @@ pub fn worked_ascii_lists()
     ensures undefined { stop_behind (codes "2\n4 4 2\n6 8 2\n") (lines_before (record { variables = 4; inputs = 1; latches = 0; outputs = 0; gates = 2; bads = 0; constraints = 0; justice = 0; fair = 0 }) 1) why.Undefined
         ≡ record { left = 6; why = why.Undefined } }
 {}
+
+/// Worked rows: a text of the ascii form that is read, and where reading others stops and why.
+pub fn worked_ascii_readings()
+    ensures nothing { AnswersText (codes "aag 0 0 0 0 0\nc\nany") (Ok nothing) }
+    ensures no_fault { ¬ AnswersText (codes "aag 0 0 0 0 0\nc\nany") (Err (record { left = 0; why = why.Truncated })) }
+    ensures header { AnswersText (codes "aag 1 1 0 0\n") (Err (record { left = 12; why = why.BadHeader })) }
+    ensures counts { AnswersText (codes "aag 0 1 0 0 0\n2\n") (Err (record { left = 16; why = why.CountsDisagree })) }
+    ensures no_input { AnswersText (codes "aag 1 1 0 0 0\n") (Err (record { left = 0; why = why.Truncated })) }
+    ensures gate { AnswersText (codes "aag 2 1 0 0 1\n2\n2 1 1\n") (Err (record { left = 6; why = why.GateOrder })) }
+{
+    one_answer();
+}

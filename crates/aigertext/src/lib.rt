@@ -4,6 +4,8 @@
 mod ascii;
 mod ascii_lines;
 mod ascii_lists;
+mod ascii_literals;
+mod ascii_reading;
 mod binary;
 mod binary_reading;
 mod checks;
@@ -29,8 +31,11 @@ mod numbers;
 mod properties;
 mod reading;
 mod sections;
+mod writing;
 
 pub use ascii::write_ascii;
 pub use binary::write_binary;
 pub use fault::{ReadFault, Why};
 pub use forms::Form;
+pub use reading::read;
+pub use writing::write;

@@ -12,7 +12,7 @@ use aiger::{Circuit, Lit};
 use std::alloc::Global;
 
 /// Puts the literals of so many lines behind those of a list, and answers the text behind the lines.
-fn collect_literals<'a>(
+pub(crate) fn collect_literals<'a>(
     list: &mut Vec<Lit>,
     text: &'a [u8],
     greatest: u32,

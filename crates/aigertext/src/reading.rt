@@ -1,30 +1,32 @@
 //! Reading circuits.
-ghost use Rattle.std.specs.Prelude.{◌≡◌, ◌⊎◌, ℕ, List, Some, IfOk, IfErr, IfSome, OnOk};
+ghost use Rattle.std.specs.Prelude.{◌≡◌, ◌⊎◌, ℕ, List, Some, Ok, IfOk, IfErr, IfSome, OnOk};
 ghost use Rattle.std.specs.Io.KnownBytes.{IsAtEnd};
 ghost use Rattle.base.specs.Device.{HasRisen};
 ghost use Rattle.aiger.specs.Circuit.{Circuit as CircuitValue, IsCircuit};
-ghost use Rattle.aigertext.specs.Reading.{text_on, fault_of};
-ghost use Rattle.aigertext.specs.Spelling.{IsBinaryText};
-ghost use Rattle.aigertext.specs.Passes.{ReadsAs, ReadsText, GivesCircuit, IsFaultOf, unread};
+ghost use Rattle.aigertext.specs.Reading.{fault_of};
+ghost use Rattle.aigertext.specs.AsciiReading.{AnswersText, StandsIfBinary, IsFaultOf, GivesCircuit};
+ghost use Rattle.aigertext.specs.Passes.{ReadsBy, ReadsText};
 ghost use Rattle.aigertext.specs.declared.fault.Why.TheVariants as why;
 
+use crate::ascii_reading::read_file;
 use crate::binary_reading::read_sections;
 use crate::fault::{ReadFault, Stop, Why};
 use crate::forms::Form;
-use crate::front::{header_line, stop};
+use crate::front::header_line;
+use crate::laws::one_answer;
 use aiger::Circuit;
 use base::{ReadAllFault, Source, read_all};
 use std::alloc::Global;
 
-/// The circuit that a text of the binary form spells; one of the ascii form is not read.
-#[tactic(auto, unfolding(crate::specs::Reading::text_on))]
+/// The circuit that a text spells; its first word decides the form.
+#[tactic(auto, unfolding(crate::specs::AsciiReading::AnswersText))]
 fn read_known(alloc: Global, text: &[u8]) -> Result<Circuit, Stop>
-    ensures reads { ReadsAs result (text_on unread text.now) }
+    ensures reads { ReadsBy result (AnswersText text.now) }
     ensures valid { IfOk result (λ c. IsCircuit c) }
 {
     match header_line(text) {
         Ok(((Form::Binary, counts), rest)) => read_sections(alloc, &counts, rest),
-        Ok(((Form::Ascii, _), rest)) => Err(stop(rest, Why::BadHeader)),
+        Ok(((Form::Ascii, counts), rest)) => read_file(alloc, &counts, rest),
         Err(stop) => Err(stop),
     }
 }
@@ -46,10 +48,10 @@ fn fault(text: &[u8], stop: Stop) -> ReadFault
     }
 }
 
-/// The circuit that a text of the binary form spells, or its fault.
+/// The circuit that a text spells, or its fault.
 fn read_text(alloc: Global, text: &[u8]) -> Result<Circuit, ReadFault>
     ensures reads { ReadsText text.now result }
-    ensures stands { IfOk result (λ c. IsBinaryText text.now c) }
+    ensures binary { IfOk result (λ c. StandsIfBinary text.now c) }
 {
     match read_known(alloc, text) {
         Ok(circuit) => Ok(circuit),
@@ -57,15 +59,18 @@ fn read_text(alloc: Global, text: &[u8]) -> Result<Circuit, ReadFault>
     }
 }
 
-/// The circuit that a source's bytes spell in the binary form.
+/// The circuit that a source's bytes spell; the first word decides the form ("AIGER 1.9 and Beyond", ascii and binary
+/// format). The source is read to its end first.
 ///
 /// Errors: `Device` where the source failed in this call and `NoMemory` where a growth was refused, with place 0;
 /// else the first why of the first line or delta that has one, at its place.
-pub(crate) fn read_binary<S: Source>(alloc: Global, source: &mut S) -> Result<Circuit, ReadFault>
+pub fn read<S: Source>(alloc: Global, source: &mut S) -> Result<Circuit, ReadFault>
     // the text stands for what is read
-    ensures found { IfOk result (λ c. IfSome (S.to_come source.old) (λ text. IsBinaryText text c)) }
+    ensures found { IfOk result (λ c. IfSome (S.to_come source.old) (λ text. AnswersText text (Ok c))) }
+    // and where it has a header of the binary form, it stands for that circuit by the spellings of that form
+    ensures binary { IfOk result (λ c. IfSome (S.to_come source.old) (λ text. StandsIfBinary text c)) }
     // every text that stands for a circuit is read as it, want of memory and device faults apart
-    ensures only { (text : List ℕ) (c : CircuitValue) → S.to_come source.old ≡ Some text → IsBinaryText text c → GivesCircuit result c }
+    ensures only { (text : List ℕ) (c : CircuitValue) → S.to_come source.old ≡ Some text → AnswersText text (Ok c) → GivesCircuit result c }
     // a fault that is neither is where reading stops
     ensures fault { IfErr result (λ e. IfSome (S.to_come source.old) (λ text. (e.why ≡ why.Device) ⊎ ((e.why ≡ why.NoMemory) ⊎ IsFaultOf text e))) }
     ensures end { OnOk result (IsAtEnd (S.to_come source.new)) }
@@ -74,6 +79,7 @@ pub(crate) fn read_binary<S: Source>(alloc: Global, source: &mut S) -> Result<Ci
     ensures unfailed { IfErr result (λ e. ¬ (e.why ≡ why.Device) → S.failures source.new ≡ S.failures source.old) }
     ensures place { IfErr result (λ e. (e.why ≡ why.Device) ⊎ (e.why ≡ why.NoMemory) → e.place ≡ 0) }
 {
+    one_answer();
     match read_all(alloc, source) {
         Ok(text) => read_text(alloc, text.as_slice()),
         Err(ReadAllFault::Device) => Err(ReadFault {

@@ -14,4 +14,5 @@ pub mod ShiftLaws
 pub mod OverflowLaws
 pub mod CutLemmas
 pub mod LineLemmas
+pub mod HeldLemmas
 pub mod DecimalLemmas

@@ -5,5 +5,7 @@ pub mod Widths
 pub mod Steps
 pub mod Device
 pub mod Lines
+pub mod Held
 pub mod Decimals
 pub mod Pieces
+pub mod Trials

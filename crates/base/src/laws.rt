@@ -5,7 +5,9 @@ ghost use Rattle.base.specs.Signed.{signed, wrapped, truncated, floored, overflo
 ghost use Rattle.base.specs.Widths.{unary_width, binary_width};
 ghost use Rattle.base.specs.Word.{bit, bits, word};
 ghost use Rattle.base.specs.Lines.{text_of_lines, IsLine, whole_lines, unfinished};
+ghost use Rattle.base.specs.Held.{Advances};
 ghost use Rattle.base.specs.Decimals.{number_of};
+ghost use Rattle.base.specs.Trials.{is_due, one_later, all_failures};
 
 use crate::operators::{Binary, Unary};
 
@@ -173,6 +175,17 @@ pub fn worked_lines()
     ensures text { text_of_lines (codes "a" ∷ [] ∷ []) ≡ codes "a\n\n" }
 {}
 
+/// Worked rows, with no code: steps of a reader of lines that hold or give bytes, and what is none: a rest that is dropped,
+/// a line that is given twice, and a whole line that is taken as unfinished.
+pub fn worked_steps()
+    ensures held { Advances (Ok true) (record { line = []; rest = codes "a\nb" }) (record { line = codes "a"; rest = codes "b" }) (Some (codes "c\n")) (Some (codes "c\n")) }
+    ensures read { Advances (Ok true) (record { line = []; rest = codes "a" }) (record { line = codes "ab"; rest = codes "c" }) (Some (codes "b\nc\n")) (Some (codes "\n")) }
+    ensures last { Advances (Ok false) (record { line = codes "x"; rest = codes "a" }) (record { line = []; rest = codes "ab" }) (Some (codes "b")) (Some []) }
+    ensures dropped { ¬ Advances (Ok true) (record { line = []; rest = codes "a\nb" }) (record { line = codes "a"; rest = [] }) (Some []) (Some []) }
+    ensures twice { ¬ Advances (Ok true) (record { line = []; rest = codes "a\nb" }) (record { line = codes "a"; rest = codes "a\nb" }) (Some []) (Some []) }
+    ensures whole { ¬ Advances (Ok false) (record { line = []; rest = codes "a\n" }) (record { line = []; rest = codes "a\n" }) (Some []) (Some []) }
+{}
+
 /// Worked rows, with no code: decimals, and what is none.
 pub fn worked_decimals()
     ensures zero { number_of (codes "0") ≡ Some 0 }
@@ -183,6 +196,19 @@ pub fn worked_decimals()
     ensures empty { number_of [] ≡ None }
     ensures greatest { number_of (codes "18446744073709551615") ≡ Some 18446744073709551615 }
     ensures above { number_of (codes "18446744073709551616") ≡ Some 18446744073709551615 }
+{}
+
+/// Worked rows, with no code: the call of a device for trials that fails, as calls are counted down, and its failure.
+pub fn worked_trials()
+    ensures at_the_call { is_due (Some 0) ≡ true }
+    ensures before_the_call { is_due (Some 1) ≡ false }
+    ensures behind_the_call { is_due None ≡ false }
+    ensures one_call_less { one_later (Some 2) ≡ Some 1 }
+    ensures made { one_later (Some 0) ≡ None }
+    ensures stays_made { one_later None ≡ None }
+    ensures failures_before { all_failures (Some 0) 7 ≡ 7 }
+    ensures failures_behind { all_failures None 7 ≡ 8 }
+    ensures greatest { all_failures None (2 ^ 128 - 1) ≡ 2 ^ 128 - 1 }
 {}
 
 /// Worked rows, with no code: words of width 8 where no other stands, and the bits of a word.

@@ -140,3 +140,15 @@ pub fn read_all<S: Source>(alloc: Global, source: &mut S) -> Result<Vec<u8>, Rea
         }
     }
 }
+
+/// Reads a source to its end and keeps nothing.
+///
+/// Errors: the source's own.
+pub fn skip_all<S: Source>(source: &mut S) -> Result<(), DeviceFault>
+    ensures end { OnOk result (IsAtEnd (S.to_come source.new)) }
+    ensures failures { CountsFaults result (S.failures source.old) (S.failures source.new) }
+{
+    let mut chunk = [0u8; CHUNK];
+    while source.read(&mut chunk)? > 0 {}
+    Ok(())
+}

@@ -3,6 +3,7 @@ use Rattle.std.specs.Prelude.{◌≡◌, ℕ, List, Option, Some, IfSome, Result
 use Rattle.std.specs.Io.KnownBytes.{Appends}
 use Rattle.base.specs.Device.{AppendsBeginning, HasRisen}
 use Rattle.btor2.specs.declared.item.Item.{Item}
+use Rattle.btor2.specs.Check.{IsWellFormed}
 use Rattle.btor2text.specs.declared.fault.ReadFault.{ReadFault}
 use Rattle.btor2text.specs.declared.fault.Why.{Why}
 use Rattle.btor2text.specs.declared.fault.Why.TheVariants as why
@@ -10,19 +11,12 @@ use Rattle.btor2text.specs.FirstFault.{IsFaultOf}
 use Rattle.btor2text.specs.Spelling.{StandsFor}
 use Rattle.aiger.specs.Circuit.{Circuit}
 use Rattle.aigertext.specs.declared.forms.Form.{Form}
-use Rattle.aigertext.specs.declared.forms.Form.TheVariants.{Ascii, Binary}
-use Rattle.aigertext.specs.Ascii.{ascii_text}
-use Rattle.aigertext.specs.Binary.{binary_text}
+use Rattle.aigertext.specs.Binary.{circuit_text}
 use Rattle.blast.specs.declared.fault.LowerFault.{LowerFault}
 use Rattle.blast.specs.declared.fault.ConvertFault.{ConvertFault}
 use Rattle.blast.specs.declared.fault.ConvertFault.TheVariants as fault
 use Rattle.blast.specs.Lowering.{Lowers}
 use Rattle.blast.specs.Refusal.{AnswersLowering, lowering_refusal}
-
--- the writer's text of a circuit in a form
-abbrev pub circuit_text : Form → Circuit → List ℕ
-circuit_text Ascii c = ascii_text c
-circuit_text Binary c = binary_text c
 
 -- the bytes of a source, where it knows them, are a text of some items
 abbrev pub IsTextOf : Option (List ℕ) → List Item → Type 0
@@ -47,6 +41,7 @@ pub record BeginsToConvert (known written now : Option (List ℕ)) (form : Form)
 -- the text is of some model, whose lowering is refused for this reason
 pub record RefusesModel (known : Option (List ℕ)) (e : LowerFault) : Type 0 where
   pub items : List Item
+  pub well_formed : IsWellFormed items
   pub text : IsTextOf known items
   pub answer : AnswersLowering {T = Circuit} (Err e) (lowering_refusal items)
 

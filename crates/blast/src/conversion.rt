@@ -1,30 +1,17 @@
 //! From a model's text to a circuit's text.
-ghost use Rattle.std.specs.Prelude.{◌≡◌, ◌≤◌, IfErr, OnOk, OnErr};
-ghost use Rattle.std.specs.Io.KnownBytes.{Appends, IsAtEnd};
-ghost use Rattle.base.specs.Device.{HasRisen, CountsFaults, AppendsBeginning};
+ghost use Rattle.std.specs.Prelude.{◌≡◌, ◌≤◌, IfErr, OnOk};
+ghost use Rattle.std.specs.Io.KnownBytes.{IsAtEnd};
+ghost use Rattle.base.specs.Device.{HasRisen};
 ghost use Rattle.btor2text.specs.declared.fault.Why.TheVariants as why;
 ghost use Rattle.blast.specs.declared.fault.ConvertFault.TheVariants as fault;
-ghost use Rattle.blast.specs.Conversion.{AnswersConversion, TellsFirstFault, HasNoLine, IsBeforeWriting, circuit_text, RaisesFailures};
+ghost use Rattle.blast.specs.Conversion.{AnswersConversion, TellsFirstFault, HasNoLine, IsBeforeWriting, RaisesFailures};
 
 use crate::fault::ConvertFault;
 use crate::lowering::lower;
-use aiger::Circuit;
-use aigertext::{Form, write_ascii, write_binary};
-use base::{DeviceFault, Sink, Source};
+use aigertext::{Form, write};
+use base::{Sink, Source};
 use btor2text::read;
 use std::alloc::Global;
-
-/// Writes the text of a circuit in a form.
-fn write<K: Sink>(circuit: &Circuit, sink: &mut K, form: Form) -> Result<(), DeviceFault>
-    ensures ok { OnOk result (Appends (K.written sink.old) (K.written sink.new) (circuit_text form circuit.now)) }
-    ensures err { OnErr result (AppendsBeginning (K.written sink.old) (K.written sink.new) (circuit_text form circuit.now)) }
-    ensures failures { CountsFaults result (K.failures sink.old) (K.failures sink.new) }
-{
-    match form {
-        Form::Ascii => write_ascii(circuit, sink),
-        Form::Binary => write_binary(circuit, sink),
-    }
-}
 
 /// Reads the text of a model to its end, lowers the model and writes the text of the circuit.
 ///
@@ -51,7 +38,7 @@ pub fn convert<S: Source, K: Sink>(
         Ok(circuit) => circuit,
         Err(fault) => return Err(ConvertFault::Lower(fault)),
     };
-    match write(&circuit, sink, form) {
+    match write(&circuit, form, sink) {
         Ok(()) => Ok(()),
         Err(fault) => Err(ConvertFault::Write(fault)),
     }

@@ -1,84 +1,91 @@
--- From what a text gives to what is promised of reading a source.
-use Rattle.std.proofs.Common.{◌≡◌, ℕ, List, Option, Some, None, Result, Ok, Err, sym, ap, subst, ◌∙◌, inl, inr, ◌⊎◌}
-use Rattle.std.specs.Prelude.{IfOk, IfErr, IfSome}
+-- From how the reading of a source's lines ends to what is promised of reading a source.
+use Rattle.std.proofs.Common.{◌≡◌, ◌≢◌, ℕ, List, [], Option, Some, None, Ok, Err, refl, sym, ap, subst, ◌∙◌, inl, inr, ◌⊎◌}
+use Rattle.std.specs.Prelude.{IfSome}
+use Rattle.std.specs.Io.KnownBytes.{IsAtEnd}
+use Rattle.base.specs.Device.{HasRisen}
+use Rattle.base.specs.Lines.{whole_lines, unfinished}
 use Rattle.btor2.specs.declared.item.Item.{Item}
 use Rattle.btor2text.specs.declared.fault.Why.{Why}
 use Rattle.btor2text.specs.declared.fault.Why.TheVariants as why
 use Rattle.btor2text.specs.declared.fault.ReadFault.{ReadFault}
 use Rattle.btor2text.specs.Spelling.{StandsFor}
-use Rattle.btor2text.specs.Reading.{text_on, ReadsText, ReadsAs}
+use Rattle.btor2text.specs.Reading.{fault_at, lines_on, text_on, ReadsAs}
+use Rattle.btor2text.specs.Stopping.{Stops, TextFails}
 use Rattle.btor2text.specs.FirstFault.{IsFaultOf}
 use Rattle.btor2text.proofs.FaultLemmas.{not_failed, text_fails}
 use Rattle.btor2text.proofs.StandsLemmas.{ok_items, read_stands, stands_read}
-use Rattle.btor2text.proofs.WhyLemmas.{IsOfText, TextTold, text_told}
 
--- a model that was read stands for the known bytes
-stands_known : (known : Option (List ℕ)) (text : List ℕ) (items : List Item) → IfSome known (λ all. text ≡ all) → StandsFor text items → IfSome known (λ all. StandsFor all items)
-stands_known None text items same stands = tt
-stands_known (Some all) text items same stands = rw (← same) stands
+-- what holds of known bytes
+if_some : (known : Option (List ℕ)) (P : List ℕ → Type 0) → ((text : List ℕ) → known ≡ Some text → P text) → IfSome known P
+if_some None P h = tt
+if_some (Some text) P h = h text refl
 
-pub found : (known : Option (List ℕ)) (text : List ℕ) (r : Result (List Item) ReadFault) → IfSome known (λ all. text ≡ all) → ReadsText r (text_on text) → IfOk r (λ items. IfSome known (λ all. StandsFor all items))
-found known text (Ok items) same gives = stands_known known text items same (read_stands text items gives)
-found known text (Err e) same gives = tt
+at_some : (known : Option (List ℕ)) (P : List ℕ → Type 0) → IfSome known P → (text : List ℕ) → known ≡ Some text → P text
+at_some None P h text is = absurd cc
+at_some (Some other) P h text is =
+    let same : other ≡ text = cc in
+    subst P same h
 
--- known bytes that stand for items are read as them
-known_is : (text all : List ℕ) (known : Option (List ℕ)) → known ≡ Some all → IfSome known (λ other. text ≡ other) → text ≡ all
-known_is text all None is same = absurd cc
-known_is text all (Some other) is same = same ∙ cc
+-- the text that is known gives these items
+abbrev pub GivesItems : Option (List ℕ) → List Item → Type 0
+GivesItems known items = IfSome known (λ text. lines_on 0 [] (whole_lines text) (unfinished text) ≡ Ok items)
 
-reads : (text : List ℕ) (r : Result (List Item) ReadFault) (items : List Item) → text_on text ≡ Ok items → ReadsText r (text_on text) → ReadsAs r items
-reads text (Ok model) items is gives = ok_items model items (sym gives ∙ is)
-reads text (Err e) items is (inl full) = inr (ap (λ (f : ReadFault). f.why) full)
-reads text (Err e) items is (inr gives) = absurd (not_failed items e (sym is ∙ gives))
+gives_items : (known : Option (List ℕ)) (items : List Item) → GivesItems known items → (text : List ℕ) → known ≡ Some text → text_on text ≡ Ok items
+unfolding text_on
+gives_items known items h text is = at_some known (λ text. lines_on 0 [] (whole_lines text) (unfinished text) ≡ Ok items) h text is
 
-pub only : (known : Option (List ℕ)) (text : List ℕ) (r : Result (List Item) ReadFault) → IfSome known (λ all. text ≡ all) → ReadsText r (text_on text) → (all : List ℕ) (items : List Item) → known ≡ Some all → StandsFor all items → ReadsAs r items
-only known text r same gives all items is stands =
-    let stands-here : StandsFor text items = rw (known_is text all known is same) stands in
-    reads text r items (stands_read text items stands-here) gives
+pub found : (known : Option (List ℕ)) (items : List Item) → GivesItems known items → IfSome known (λ text. StandsFor text items)
+found known items h = if_some known (λ text. StandsFor text items) (λ text is. read_stands text items (gives_items known items h text is))
 
--- a fault of the text is none of the device, and want of memory has no line
-not_device : (w : Why) → IsOfText w → w ≡ why.Device → ⊥
-not_device w h is = subst IsOfText is h
+pub only : (known : Option (List ℕ)) (model : List Item) → GivesItems known model → (text : List ℕ) (items : List Item) → known ≡ Some text → StandsFor text items → model ≡ items
+only known model h text items is stands = ok_items model items (sym (gives_items known model h text is) ∙ stands_read text items stands)
 
-not_memory : (w : Why) → IsOfText w → w ≡ why.NoMemory → ⊥
-not_memory w h is = subst IsOfText is h
-
-no_device_or_memory : (w : Why) → IsOfText w → (w ≡ why.Device) ⊎ (w ≡ why.NoMemory) → ⊥
-no_device_or_memory w h (inl is) = not_device w h is
-no_device_or_memory w h (inr is) = not_memory w h is
-
-told_at : (text : List ℕ) (e : ReadFault) → text_on text ≡ Err e → IsOfText e.why
-told_at text e is = subst TextTold is (text_told text)
-
-memory_is_no_device : why.NoMemory ≡ why.Device → ⊥
+-- the reading stopped
+memory_is_no_device : why.NoMemory ≢ why.Device
 memory_is_no_device e = cc
 
-pub no_device : (text : List ℕ) (r : Result (List Item) ReadFault) → ReadsText r (text_on text) → IfErr r (λ e. e.why ≡ why.Device → ⊥)
-no_device text (Ok items) gives = tt
-no_device text (Err e) (inl full) = λ is. memory_is_no_device (sym (ap (λ (f : ReadFault). f.why) full) ∙ is)
-no_device text (Err e) (inr gives) = λ is. not_device e.why (told_at text e gives) is
+why_is : (e : ReadFault) (w : Why) → e ≡ fault_at 0 w → e.why ≡ w
+why_is e w is = ap (λ (f : ReadFault). f.why) is
 
-pub place : (text : List ℕ) (r : Result (List Item) ReadFault) → ReadsText r (text_on text) → IfErr r (λ e. (e.why ≡ why.Device) ⊎ (e.why ≡ why.NoMemory) → e.line ≡ 0)
-place text (Ok items) gives = tt
-place text (Err e) (inl full) = λ is. ap (λ (f : ReadFault). f.line) full
-place text (Err e) (inr gives) = λ is. absurd (no_device_or_memory e.why (told_at text e gives) is)
+line_is : (e : ReadFault) (w : Why) → e ≡ fault_at 0 w → e.line ≡ 0
+line_is e w is = ap (λ (f : ReadFault). f.line) is
 
--- any other fault is that of the text's first faulty line
-abbrev pub Explained : Option (List ℕ) → ReadFault → Type 0
-Explained known e = IfSome known (λ text. (e.why ≡ why.Device) ⊎ ((e.why ≡ why.NoMemory) ⊎ IsFaultOf text e))
+gives_fault : (known after : Option (List ℕ)) (e : ReadFault) → TextFails known after [] e → (text : List ℕ) → known ≡ Some text → text_on text ≡ Err e
+unfolding text_on
+gives_fault known after e h text is = at_some known (λ text. lines_on 0 [] (whole_lines text) (unfinished text) ≡ Err e) h.is text is
 
-explained : (known : Option (List ℕ)) (text : List ℕ) (e : ReadFault) → IfSome known (λ all. text ≡ all) → (e.why ≡ why.NoMemory) ⊎ IsFaultOf text e → Explained known e
-explained None text e same h = tt
-explained (Some all) text e same h = rw (← same) (inr h)
+module _ (known after : Option (List ℕ)) (e : ReadFault) (old new : ℕ) where
+  -- it is the device, memory or the fault of the text
+  told : Stops e old new (TextFails known after [] e) → (text : List ℕ) → known ≡ Some text → (e.why ≡ why.Device) ⊎ ((e.why ≡ why.NoMemory) ⊎ IsFaultOf text e)
+  told (inl failed) text is = inl (why_is e why.Device failed.0)
+  told (inr (inl full, same)) text is = inr (inl (why_is e why.NoMemory full))
+  told (inr (inr fails, same)) text is = inr (inr (text_fails text e (gives_fault known after e fails text is)))
 
-told_fault : (text : List ℕ) (e : ReadFault) → ReadsText (Err e) (text_on text) → (e.why ≡ why.NoMemory) ⊎ IsFaultOf text e
-told_fault text e (inl full) = inl (ap (λ (f : ReadFault). f.why) full)
-told_fault text e (inr gives) = inr (text_fails text e gives)
+  pub fault : Stops e old new (TextFails known after [] e) → IfSome known (λ text. (e.why ≡ why.Device) ⊎ ((e.why ≡ why.NoMemory) ⊎ IsFaultOf text e))
+  fault s = if_some known (λ text. (e.why ≡ why.Device) ⊎ ((e.why ≡ why.NoMemory) ⊎ IsFaultOf text e)) (told s)
 
-pub fault : (known : Option (List ℕ)) (text : List ℕ) (r : Result (List Item) ReadFault) → IfSome known (λ all. text ≡ all) → ReadsText r (text_on text) → IfErr r (Explained known)
-fault known text (Ok items) same gives = tt
-fault known text (Err e) same gives = explained known text e same (told_fault text e gives)
+  pub not_read : Stops e old new (TextFails known after [] e) → (text : List ℕ) (items : List Item) → known ≡ Some text → StandsFor text items → ReadsAs (Err e) items
+  not_read (inl failed) text items is stands = inl (why_is e why.Device failed.0)
+  not_read (inr (inl full, same)) text items is stands = inr (why_is e why.NoMemory full)
+  not_read (inr (inr fails, same)) text items is stands =
+      absurd (not_failed items e (sym (stands_read text items stands) ∙ gives_fault known after e fails text is))
 
-pub device : (text : List ℕ) (r : Result (List Item) ReadFault) (Risen : Type 0) → ReadsText r (text_on text) → IfErr r (λ e. e.why ≡ why.Device → Risen)
-device text (Ok items) Risen gives = tt
-device text (Err e) Risen gives = λ is. absurd (no_device text (Err e) gives is)
+  pub device : Stops e old new (TextFails known after [] e) → e.why ≡ why.Device → HasRisen old new
+  device (inl failed) is = failed.1
+  device (inr (inl full, same)) is = absurd (memory_is_no_device (sym (why_is e why.NoMemory full) ∙ is))
+  device (inr (inr fails, same)) is = absurd (fails.no_device is)
+
+  pub unfailed : Stops e old new (TextFails known after [] e) → (e.why ≡ why.Device → ⊥) → new ≡ old
+  unfailed (inl failed) not = absurd (not (why_is e why.Device failed.0))
+  unfailed (inr (other, same)) not = same
+
+  pub read_on : Stops e old new (TextFails known after [] e) → (e.why ≡ why.Device → ⊥) → (e.why ≡ why.NoMemory → ⊥) → IsAtEnd after
+  read_on (inl failed) not nor = absurd (not (why_is e why.Device failed.0))
+  read_on (inr (inl full, same)) not nor = absurd (nor (why_is e why.NoMemory full))
+  read_on (inr (inr fails, same)) not nor = fails.end
+
+  pub place : Stops e old new (TextFails known after [] e) → (e.why ≡ why.Device) ⊎ (e.why ≡ why.NoMemory) → e.line ≡ 0
+  place (inl failed) is = line_is e why.Device failed.0
+  place (inr (inl full, same)) is = line_is e why.NoMemory full
+  place (inr (inr fails, same)) (inl is) = absurd (fails.no_device is)
+  place (inr (inr fails, same)) (inr is) = absurd (fails.no_memory is)

@@ -9,6 +9,7 @@ pub mod ItemLemmas
 pub mod OperandLemmas
 pub mod PlaceLemmas
 pub mod StandsLemmas
+pub mod StoppingLemmas
 pub mod TextLemmas
 pub mod TokenLemmas
 pub mod WhyLemmas

@@ -1,8 +1,7 @@
 -- What is wrong with a text is never the device or memory.
-use Rattle.std.proofs.Common.{ℕ, zero, suc, ◌-◌, ◌^◌, ◌==◌, Bool, true, false, cond, List, [], ◌∷◌, Option, Some, None, Result, Ok, Err}
+use Rattle.std.proofs.Common.{◌≡◌, subst, ℕ, zero, suc, ◌-◌, ◌^◌, ◌==◌, Bool, true, false, cond, List, [], ◌∷◌, Option, Some, None, Result, Ok, Err}
 use Rattle.std.specs.Str.{bytes_eq}
 use Rattle.std.specs.Prelude.{codes, ◌||◌}
-use Rattle.base.specs.Lines.{whole_lines, unfinished}
 use Rattle.base.specs.Decimals.{number_of}
 use Rattle.btor2.specs.declared.item.Item.{Item}
 use Rattle.btor2.specs.declared.item.Body.TheVariants as body
@@ -12,7 +11,6 @@ use Rattle.btor2.specs.Symbols.{is_symbol}
 use Rattle.btor2.specs.Check.{refusal}
 use Rattle.btor2text.specs.declared.fault.Why.{Why}
 use Rattle.btor2text.specs.declared.fault.Why.TheVariants as why
-use Rattle.btor2text.specs.declared.fault.ReadFault.{ReadFault}
 use Rattle.btor2text.specs.declared.forms.Form.{Form}
 use Rattle.btor2text.specs.declared.forms.Form.TheVariants as form
 use Rattle.btor2text.specs.declared.forms.Constant.{Constant}
@@ -20,7 +18,7 @@ use Rattle.btor2text.specs.declared.forms.Constant.TheVariants as constant
 use Rattle.btor2text.specs.Tokens.{tokens}
 use Rattle.btor2text.specs.Words.{form_named, no_form, known_form, form_of}
 use Rattle.btor2text.specs.Digits.{number_in, signed_number}
-use Rattle.btor2text.specs.Reading.{◌>>=◌, Tokens, is_negative, some_of, operand_of, plain, operand, plain_at, kept_id, sort_at, operand_at, width_at, pair_at, triple_at, digits_at, signed_at, operands_at, counted_at, constant_at, extension_body, form_at, body_at, symbol_end, symbol_at, item_at, refused, accepted, line_after, then_lines, line_on, lines_on, text_on}
+use Rattle.btor2text.specs.Reading.{◌>>=◌, Tokens, is_negative, some_of, operand_of, plain, operand, plain_at, kept_id, sort_at, operand_at, width_at, pair_at, triple_at, digits_at, signed_at, operands_at, counted_at, constant_at, extension_body, form_at, body_at, symbol_end, symbol_at, item_at, refused, accepted, line_on}
 
 -- a why of a text
 abbrev pub IsOfText : Why → Type 0
@@ -28,8 +26,12 @@ IsOfText why.Device = ⊥
 IsOfText why.NoMemory = ⊥
 IsOfText w = Unit {0}
 
+-- it is none of the device
+pub not_device : (w : Why) → IsOfText w → w ≡ why.Device → ⊥
+not_device w h is = subst IsOfText is h
+
 -- a step that answers only such whys
-abbrev Told : {A : Type 0} → Result A Why → Type 0
+abbrev pub Told : {A : Type 0} → Result A Why → Type 0
 Told (Ok x) = Unit {0}
 Told (Err w) = IsOfText w
 
@@ -183,28 +185,7 @@ accepted_told : (before : List Item) (x : Item) (r : Option PushFault) → Told 
 accepted_told before x None = tt
 accepted_told before x (Some f) = refused_told f
 
-line_on_told : (before : List Item) (line : Tokens) → Told (line_on before line)
+pub line_on_told : (before : List Item) (line : Tokens) → Told (line_on before line)
 unfolding line_on
 line_on_told before [] = tt
 line_on_told before (first ∷ rest) = told_bind (item_at first rest) _ (item_at_told first rest) (λ x. accepted_told before x (refusal before x))
-
--- ---- texts
-
-abbrev pub TextTold : Result (List Item) ReadFault → Type 0
-TextTold (Ok items) = Unit {0}
-TextTold (Err e) = IsOfText e.why
-
-then_told : (n : ℕ) (r : Result (List Item) Why) (others : List Item → Result (List Item) ReadFault) → Told r → ((mid : List Item) → TextTold (others mid)) → TextTold (then_lines n r others)
-then_told n (Ok mid) others h k = k mid
-then_told n (Err w) others h k = h
-
-lines_told : (n : ℕ) (before : List Item) (lines : List (List ℕ)) (last : List ℕ) → TextTold (lines_on n before lines last)
-unfolding lines_on
-lines_told n before [] [] = tt
-lines_told n before [] (b ∷ bs) = tt
-lines_told n before (line ∷ lines) last =
-    then_told (line_after n) (line_on before (tokens line)) _ (line_on_told before (tokens line)) (λ mid. lines_told (line_after n) mid lines last)
-
-pub text_told : (text : List ℕ) → TextTold (text_on text)
-unfolding text_on
-text_told text = lines_told 0 [] (whole_lines text) (unfinished text)

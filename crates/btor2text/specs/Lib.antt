@@ -2,6 +2,7 @@ pub mod Digits
 pub mod FirstFault
 pub mod Tokens
 pub mod Reading
+pub mod Stopping
 pub mod Spelling
 pub mod Whys
 pub mod Words

@@ -287,11 +287,6 @@ line_after n = min (n + 1) (2 ^ 64 - 1)
 abbrev pub fault_at : ℕ → Why → ReadFault
 fault_at n e = record { line = n; why = e }
 
--- a why at a line, where want of memory is told without a line
-abbrev pub fault_of : ℕ → Why → ReadFault
-fault_of n why.NoMemory = fault_at 0 why.NoMemory
-fault_of n e = fault_at n e
-
 -- what a line gave, and then the lines behind it; its fault is told with its number
 abbrev pub then_lines : ℕ → Result (List Item) Why → (List Item → Result (List Item) ReadFault) → Result (List Item) ReadFault
 then_lines n (Ok items) others = others items
@@ -311,16 +306,6 @@ text_on text = lines_on 0 [] (whole_lines text) (unfinished text)
 abbrev pub ReadsLine : Result (Unit {0}) Why → List Item → Result (List Item) Why → Type 0
 ReadsLine (Ok u) items read = read ≡ Ok items
 ReadsLine (Err e) items read = (e ≡ why.NoMemory) ⊎ (read ≡ Err e)
-
--- lines were read onto a model, unless memory ran out
-abbrev pub ReadsLines : Result (Unit {0}) ReadFault → List Item → Result (List Item) ReadFault → Type 0
-ReadsLines (Ok u) items read = read ≡ Ok items
-ReadsLines (Err e) items read = (e ≡ fault_at 0 why.NoMemory) ⊎ (read ≡ Err e)
-
--- a text was read as a model, unless memory ran out
-abbrev pub ReadsText : Result (List Item) ReadFault → Result (List Item) ReadFault → Type 0
-ReadsText (Ok items) read = read ≡ Ok items
-ReadsText (Err e) read = (e ≡ fault_at 0 why.NoMemory) ⊎ (read ≡ Err e)
 
 -- a text that stands for items was read as them, where neither the device failed nor memory ran out
 abbrev pub ReadsAs : Result (List Item) ReadFault → List Item → Type 0

@@ -1,6 +1,7 @@
 //! That what is written is read again, and worked rows of lines, items and faults, as functions with no code.
 ghost use Rattle.std.specs.Prelude.{◌≡◌, ℕ, List, [], ◌∷◌, ◌++◌, codes, negsuc};
 ghost use Rattle.base.specs.declared.operators.Unary.TheVariants as unary;
+ghost use Rattle.base.specs.declared.operators.Binary.TheVariants as binary;
 ghost use Rattle.btor2.specs.declared.item.Body.TheVariants as body;
 ghost use Rattle.btor2.specs.declared.fault.PushFault.TheVariants as push;
 ghost use Rattle.btor2.specs.declared.item.Item.{Item};
@@ -10,6 +11,7 @@ ghost use Rattle.btor2.specs.Worked.{line};
 ghost use Rattle.btor2text.specs.declared.fault.Why.TheVariants as why;
 ghost use Rattle.btor2text.specs.Tokens.{tokens};
 ghost use Rattle.btor2text.specs.Whys.{number_of};
+ghost use Rattle.btor2text.specs.Words.{unary_of, binary_of};
 ghost use Rattle.btor2text.specs.Spelling.{Spells, StandsFor};
 ghost use Rattle.btor2text.specs.Writing.{written};
 ghost use Rattle.btor2text.specs.FirstFault.{IsFaultOf};
@@ -48,6 +50,17 @@ pub fn worked_items()
     ensures text { StandsFor (codes "1 sort bitvec 1\n") (line 1 (body.Sort 1) ∷ []) }
     ensures unended { ¬ StandsFor (codes "1 sort bitvec 1") (line 1 (body.Sort 1) ∷ []) }
     ensures empty { StandsFor [] [] }
+{}
+
+/// Worked rows: words that name operators, and words that name none.
+#[tactic(auto, unfolding(crate::specs::Words::unary_of, crate::specs::Words::binary_of))]
+pub fn worked_operators()
+    ensures one_operand { unary_of (codes "redxor") ≡ Some unary.Redxor }
+    ensures not_of_one { unary_of (codes "sub") ≡ None }
+    ensures two_operands { binary_of (codes "smod") ≡ Some binary.Smod }
+    ensures overflow { binary_of (codes "sdivo") ≡ Some binary.Sdivo }
+    ensures beginning { binary_of (codes "sdiv") ≡ Some binary.Sdiv }
+    ensures unknown { binary_of (codes "udivo") ≡ None }
 {}
 
 /// Worked rows: what is wrong with lines that are read behind no item.

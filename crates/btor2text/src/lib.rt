@@ -14,5 +14,6 @@ mod tokens;
 mod writing;
 
 pub use fault::{ReadFault, Why};
+pub use operators::{binary_of, unary_of};
 pub use reading::read;
 pub use writing::write;

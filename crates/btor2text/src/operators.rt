@@ -74,9 +74,10 @@ pub(crate) fn binary_name(operator: Binary) -> &'static [u8]
     }
 }
 
-/// The operator of one operand that a word names.
+/// The operator of one operand that a word names, as a line does; nothing where it names none ("Btor2, BtorMC
+/// and Boolector 3.0", table of operators).
 #[tactic(auto, unfolding(crate::specs::Words::unary_of))]
-pub(crate) fn unary_of(word: &[u8]) -> Option<Unary>
+pub fn unary_of(word: &[u8]) -> Option<Unary>
     ensures { result ≡ unary_of word.now }
 {
     if is_word(word, b"not") {
@@ -219,9 +220,10 @@ fn overflow_of(word: &[u8]) -> Option<Binary>
     }
 }
 
-/// The operator of two operands that a word names.
+/// The operator of two operands that a word names, as a line does; nothing where it names none ("Btor2, BtorMC
+/// and Boolector 3.0", table of operators).
 #[tactic(auto, unfolding(crate::specs::Words::binary_of))]
-pub(crate) fn binary_of(word: &[u8]) -> Option<Binary>
+pub fn binary_of(word: &[u8]) -> Option<Binary>
     ensures { result ≡ binary_of word.now }
 {
     if let Some(operator) = test_of(word) {

@@ -2,18 +2,18 @@
 ghost use Rattle.std.specs.Prelude.{◌≡◌, ◌⊎◌, ℕ, List, Some, IfOk, IfErr, IfSome, OnOk};
 ghost use Rattle.std.specs.Io.KnownBytes.{IsAtEnd};
 ghost use Rattle.base.specs.Device.{HasRisen};
-ghost use Rattle.base.specs.Lines.{whole_lines, unfinished};
 ghost use Rattle.btor2.specs.declared.item.Item.{Item};
 ghost use Rattle.btor2.specs.Check.{refusal};
 ghost use Rattle.btor2text.specs.Tokens.{tokens};
 ghost use Rattle.btor2text.specs.FirstFault.{IsFaultOf};
 ghost use Rattle.btor2text.specs.Spelling.{StandsFor};
-ghost use Rattle.btor2text.specs.Reading.{accepted, fault_of, line_on, lines_on, text_on, ReadsLine, ReadsLines, ReadsText, ReadsAs};
+ghost use Rattle.btor2text.specs.Reading.{accepted, line_on, ReadsLine, ReadsAs};
+ghost use Rattle.btor2text.specs.Stopping.{unread_fault, Stops, IsOfLine, Ends, ReadsLines};
 
 use crate::fault::{ReadFault, Why};
 use crate::items::item;
 use crate::tokens::next_token;
-use base::{ReadAllFault, Source, next_line, read_all};
+use base::{DeviceFault, LineReader, ReadAllFault, Source, skip_all};
 use btor2::{Item, Model, PushFault};
 use std::alloc::Global;
 
@@ -26,16 +26,6 @@ fn push(model: &mut Model, item: Item) -> Result<(), Why>
         Err(PushFault::NoMemory) => Err(Why::NoMemory),
         Err(PushFault::ConstantDoesNotFit) => Err(Why::ConstantDoesNotFit),
         Err(fault) => Err(Why::Refused(fault)),
-    }
-}
-
-/// What is wrong at a line; want of memory has line 0.
-fn fault(line: u64, why: Why) -> ReadFault
-    ensures { result ≡ fault_of line why }
-{
-    match why {
-        Why::NoMemory => ReadFault { line: 0, why },
-        _ => ReadFault { line, why },
     }
 }
 
@@ -53,38 +43,64 @@ fn read_line(alloc: Global, line: &[u8], model: &mut Model) -> Result<(), Why>
     }
 }
 
-/// Reads the lines of a text onto a model.
-fn read_lines(alloc: Global, text: &[u8], model: &mut Model) -> Result<(), ReadFault>
-    ensures { ReadsLines result model.new (lines_on 0 model.old (whole_lines text.now) (unfinished text.now)) }
+/// What is wrong where a source could not be read to its end.
+fn unread(cause: ReadAllFault) -> ReadFault
+    ensures { result ≡ unread_fault cause }
 {
-    let mut rest = text;
-    let mut line: u64 = 0;
-    while let Some((bytes, after)) = next_line(rest) {
-        line = line.saturating_add(1);
-        match read_line(alloc, bytes, model) {
-            Ok(()) => {}
-            Err(why) => return Err(fault(line, why)),
-        }
-        rest = after;
+    let why = match cause {
+        ReadAllFault::Device => Why::Device,
+        ReadAllFault::NoMemory => Why::NoMemory,
+    };
+    ReadFault { line: 0, why }
+}
+
+/// The fault of a line. The rest of the source is read first, since a failure of the device comes before it.
+fn line_fault<S: Source>(source: &mut S, line: u64, why: Why) -> ReadFault
+    ensures { Stops result (S.failures source.old) (S.failures source.new) (IsOfLine (S.to_come source.new) line why result) }
+{
+    if let Why::NoMemory = why {
+        return unread(ReadAllFault::NoMemory);
     }
+    match skip_all(source) {
+        Ok(()) => ReadFault { line, why },
+        Err(DeviceFault::Failed) => unread(ReadAllFault::Device),
+    }
+}
+
+/// What follows the last whole line: nothing, or an unfinished line.
+fn ended(line: u64, rest: &[u8]) -> Result<(), ReadFault>
+    ensures { Ends result line rest.now }
+{
     if rest.is_empty() {
-        Ok(())
-    } else {
-        Err(fault(line.saturating_add(1), Why::Unfinished))
+        return Ok(());
+    }
+    Err(ReadFault {
+        line: line.saturating_add(1),
+        why: Why::Unfinished,
+    })
+}
+
+/// Reads the lines of a source onto a model.
+fn read_lines<S: Source>(alloc: Global, source: &mut S, model: &mut Model) -> Result<(), ReadFault>
+    ensures { ReadsLines result model.old model.new (S.to_come source.old) (S.to_come source.new) (S.failures source.old) (S.failures source.new) }
+{
+    let mut lines = LineReader::new(alloc);
+    let mut line: u64 = 0;
+    loop {
+        match lines.advance(source) {
+            Ok(true) => {}
+            Ok(false) => return ended(line, lines.rest()),
+            Err(cause) => return Err(unread(cause)),
+        }
+        line = line.saturating_add(1);
+        match read_line(alloc, lines.line(), model) {
+            Ok(()) => {}
+            Err(why) => return Err(line_fault(source, line, why)),
+        }
     }
 }
 
-/// The model that a text stands for.
-#[tactic(auto, unfolding(crate::specs::Reading::text_on))]
-fn read_text(alloc: Global, text: &[u8]) -> Result<Model, ReadFault>
-    ensures gives { ReadsText result (text_on text.now) }
-{
-    let mut model = Model::new(alloc);
-    read_lines(alloc, text, &mut model)?;
-    Ok(model)
-}
-
-/// The model that a source's bytes stand for.
+/// The model that a source's bytes stand for. Of its text one line is held, and what a piece of the source gives behind it.
 ///
 /// Errors: `Device` where the source failed in this call and `NoMemory` where a growth was refused, with line 0;
 /// else the first of a line's whys, at the first line that has one.
@@ -99,11 +115,13 @@ pub fn read<S: Source>(alloc: Global, source: &mut S) -> Result<Model, ReadFault
     ensures counted { OnOk result (S.failures source.new ≡ S.failures source.old) }
     ensures device { IfErr result (λ e. e.why ≡ Why.Device → HasRisen (S.failures source.old) (S.failures source.new)) }
     ensures unfailed { IfErr result (λ e. ¬ (e.why ≡ Why.Device) → S.failures source.new ≡ S.failures source.old) }
+    // a fault of a line is told after the source was read to its end
+    ensures read_on { IfErr result (λ e. ¬ (e.why ≡ Why.Device) → ¬ (e.why ≡ Why.NoMemory) → IsAtEnd (S.to_come source.new)) }
     ensures place { IfErr result (λ e. (e.why ≡ Why.Device) ⊎ (e.why ≡ Why.NoMemory) → e.line ≡ 0) }
 {
-    match read_all(alloc, source) {
-        Ok(text) => read_text(alloc, text.as_slice()),
-        Err(ReadAllFault::Device) => Err(fault(0, Why::Device)),
-        Err(ReadAllFault::NoMemory) => Err(fault(0, Why::NoMemory)),
+    let mut model = Model::new(alloc);
+    match read_lines(alloc, source, &mut model) {
+        Ok(()) => Ok(model),
+        Err(fault) => Err(fault),
     }
 }

@@ -11,7 +11,7 @@ pub mod OverflowLemmas
 pub mod CarryLemmas
 pub mod QuotientLemmas
 pub mod LostLemmas
-pub mod WideProductLemmas
+pub mod SizeLemmas
 pub mod SignedDivisionLemmas
 pub mod SignedModuloLemmas
 pub mod SharedLemmas

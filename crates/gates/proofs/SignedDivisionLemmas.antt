@@ -1,5 +1,5 @@
 -- Quotients and remainders of signed numbers by those of their sizes, and the gates that make them.
-use Rattle.std.proofs.Common.{◌≡◌, ◌≢◌, ℕ, zero, suc, ◌+◌, ◌-◌, ◌*◌, ◌/◌, ◌%◌, ◌^◌, ◌<◌, ◌≤◌, Bool, true, false, ◌==◌, if◌then◌else◌, List, length, get_or, subst, ℤ, pos, negsuc, neg_ℤ, ◌-ℤ◌, int_lt, int_div, int_rem, unsigned_abs, refl, sym, ap, ap₂, ◌∙◌, arith}
+use Rattle.std.proofs.Common.{◌≡◌, ◌≢◌, ℕ, zero, suc, ◌+◌, ◌-◌, ◌*◌, ◌/◌, ◌%◌, ◌^◌, ◌<◌, ◌≤◌, Bool, true, false, ◌==◌, if◌then◌else◌, List, length, get_or, subst, ℤ, pos, negsuc, int_lt, int_div, int_rem, unsigned_abs, refl, sym, ap, ap₂, ◌∙◌, arith}
 use Rattle.std.proofs.Math.Nat.{mod-eq_of_lt, mod-eq-sub-mul-div, mod-lt, div-le_self}
 use Rattle.std.proofs.lemmas.Nat.{pow_pos}
 use Rattle.std.proofs.lemmas.Bool.{ne_eqb, cond-false}
@@ -9,8 +9,7 @@ use Rattle.base.specs.declared.operators.Unary.TheVariants as unary
 use Rattle.base.specs.Operator.{ones, unary_value, udiv, urem, sdiv, srem}
 use Rattle.base.specs.Signed.{signed, wrapped}
 use Rattle.base.proofs.DivisionLemmas.{truncated_rest}
-use Rattle.base.proofs.SignedLaws.{half, signed_low, signed_high, signed_is}
-use Rattle.base.proofs.WrapLemmas.{wrapped_is}
+use Rattle.base.proofs.SignedLaws.{half, signed_low, signed_is}
 use Rattle.aiger.specs.Literal.{Valuation, literal_value}
 use Rattle.aiger.specs.Net.{Net}
 use Rattle.gates.specs.Connect.{differ}
@@ -19,36 +18,7 @@ use Rattle.gates.specs.Made.{Grows, MakesLiteral, MakesWord, word_value}
 use Rattle.gates.proofs.GrowthLemmas.{Grows-weaker, Grows-trans, Satisfies-earlier, All-defined-grown}
 use Rattle.gates.proofs.BitListLemmas.{MakesWord-same, MakesWord-weaker, MakesWord-of_word, word_value-below}
 use Rattle.gates.proofs.WindowLemmas.{sign-zero, sign-one}
-
--- whether a number is below 0
-abbrev pub is_negative : ℤ → Bool
-is_negative (pos a) = false
-is_negative (negsuc a) = true
-
--- a number of a sign and a size
-abbrev pub with_sign : Bool → ℕ → ℤ
-with_sign t k = if t then neg_ℤ (pos k) else pos k
-
--- the highest bit of a word is the sign of its number
-pub sign_is : (n a : ℕ) (x : Bool) → a < 2 ^ n → (x ≡ false → a < 2 ^ (n - 1)) → (x ≡ true → 2 ^ (n - 1) ≤ a) → is_negative (signed n a) ≡ x
-sign_is n a true below low high =
-    let e : pos a -ℤ pos (2 ^ n) ≡ negsuc (2 ^ n - 1 - a) = omega (arith, ints) in
-    ap is_negative (signed_high n a (high refl) ∙ e)
-sign_is n a false below low high = ap is_negative (signed_low n a (low refl))
-
--- a word negated
-negated_word : (n k m : ℕ) → m < 2 ^ n → m + k ≡ 2 ^ n → unary_value unary.Neg n k ≡ m
-negated_word n k m below is = wrapped_is n (pos 0 -ℤ pos k) 1 m (omega (arith, ints)) ∙ mod-eq_of_lt below
-
--- the size of a word's number is the word, negated where its highest bit is 1
-pub size_is : (n a : ℕ) (x : Bool) → 1 ≤ n → a < 2 ^ n → (x ≡ false → a < 2 ^ (n - 1)) → (x ≡ true → 2 ^ (n - 1) ≤ a)
-    → (if x then unary_value unary.Neg n a else a) ≡ unsigned_abs (signed n a)
-size_is n a true some below low high =
-    let least = high refl in
-    let p = pow_pos (n - 1) in
-    let size : unsigned_abs (pos a -ℤ pos (2 ^ n)) ≡ 2 ^ n - a = omega (arith, ints) in
-    negated_word n a (2 ^ n - a) (omega arith) (omega arith) ∙ sym (ap unsigned_abs (signed_high n a least) ∙ size)
-size_is n a false some below low high = sym (ap unsigned_abs (signed_low n a (low refl)))
+use Rattle.gates.proofs.SizeLemmas.{is_negative, with_sign, sign_is, negated_word, size_is, size_below}
 
 -- the word of a number of a sign and a size is the size, negated where the sign is
 wrapped-with_sign : (n k : ℕ) (t : Bool) → k < 2 ^ n → (if t then unary_value unary.Neg n k else k) ≡ wrapped n (with_sign t k)
@@ -67,10 +37,6 @@ remainder_signs (pos a) (pos b) = refl
 remainder_signs (pos a) (negsuc b) = refl
 remainder_signs (negsuc a) (pos b) = refl
 remainder_signs (negsuc a) (negsuc b) = refl
-
--- sizes are words
-pub size_below : (n a : ℕ) → 1 ≤ n → a < 2 ^ n → unsigned_abs (signed n a) < 2 ^ n
-size_below n a some below = omega (arith, ints, half n some, signed_is n a some below, pow_pos (n - 1))
 
 -- only zero has the size zero
 pub size_some : (n b : ℕ) → 1 ≤ n → b < 2 ^ n → b ≢ 0 → 0 < unsigned_abs (signed n b)
@@ -151,26 +117,6 @@ remainder_signed n a (suc b) x some a_below b_below low_a high_a =
     ∙ wrapped-with_sign n (p % q) x below
     ∙ ap (wrapped n) (sym (truncated_rest (signed n a) (signed n (suc b)) ∙ signs))
     ∙ sym (cond-false (suc b == 0) _ _ (ne_eqb (suc b) 0 (λ is. absurd (omega arith))))
-
--- a word negated where a literal is true
-pub MakesWord-negated_where : (old mid new : Net) (n negative : ℕ) (a negated bits : List ℕ) → MakesWord old mid (9 * n) n (λ v. unary_value unary.Neg n (word_value v a)) negated
-    → MakesWord mid new (3 * length negated) (length negated) (λ v. if literal_value v negative then word_value v negated else word_value v a) bits
-    → MakesWord old new (12 * n) n (λ v. if literal_value v negative then unary_value unary.Neg n (word_value v a) else word_value v a) bits
-MakesWord-negated_where old mid new n negative a negated bits first chosen =
-    let second : MakesWord mid new (3 * n) n (λ v. if literal_value v negative then word_value v negated else word_value v a) bits =
-    subst (λ (k : ℕ). MakesWord mid new (3 * k) k (λ v. if literal_value v negative then word_value v negated else word_value v a) bits) first.wide chosen
-    in
-    MakesWord-weaker old new (9 * n + 3 * n) (12 * n) n _ bits (omega arith)
-    (MakesWord-of_word old mid new (9 * n) (3 * n) n n (λ v. unary_value unary.Neg n (word_value v a)) (λ v w. if literal_value v negative then w else word_value v a) negated bits first second)
-
--- the size of a word's number
-pub MakesWord-size : (old new : Net) (n sign : ℕ) (a bits : List ℕ) → 1 ≤ n → length a ≡ n → sign ≡ get_or a (n - 1) sign
-    → MakesWord old new (12 * n) n (λ v. if literal_value v sign then unary_value unary.Neg n (word_value v a) else word_value v a) bits
-    → MakesWord old new (12 * n) n (λ v. unsigned_abs (signed n (word_value v a))) bits
-MakesWord-size old new n sign a bits some wide is makes =
-    MakesWord-same old new (12 * n) n _ _ bits
-    (λ v. size_is n (word_value v a) (literal_value v sign) some (word_value-below v a n wide) (sign-zero v a n sign some wide is) (sign-one v a n sign some wide is))
-    makes
 
 -- the quotient and the remainder of two words that were made before
 pub MakesWord-quotient : (n0 n1 n2 n3 : Net) (n : ℕ) (p q quotient remainder : List ℕ) (f h : Valuation → ℕ)

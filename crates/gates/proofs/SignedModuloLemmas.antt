@@ -21,7 +21,8 @@ use Rattle.gates.proofs.GrowthLemmas.{Grows-weaker, Grows-trans, Satisfies-earli
 use Rattle.gates.proofs.LiteralLemmas.{MakesLiteral-and, MakesLiteral-join, MakesLiteral-same}
 use Rattle.gates.proofs.BitListLemmas.{MakesWord-weaker, MakesWord-of_word, word_value-below}
 use Rattle.gates.proofs.WindowLemmas.{sign-zero, sign-one}
-use Rattle.gates.proofs.SignedDivisionLemmas.{is_negative, sign_is, size_some}
+use Rattle.gates.proofs.SizeLemmas.{is_negative, sign_is}
+use Rattle.gates.proofs.SignedDivisionLemmas.{size_some}
 
 -- whether a number is below 0
 below_zero : (z : ℤ) → int_lt z (pos 0) ≡ is_negative z

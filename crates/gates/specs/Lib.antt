@@ -2,6 +2,7 @@ pub mod Bound
 pub mod Connect
 pub mod Division
 pub mod Made
+pub mod Places
 pub mod Moves
 pub mod Operands
 pub mod Shared

@@ -1,5 +1,5 @@
-//! Lists of literals that take no gate: negated, of one literal, of one literal many times, longer, without the low ones, and without the high ones.
-ghost use Rattle.std.specs.Prelude.{◌≡◌, ◌+◌, ◌≤◌, [], ◌∷◌, ◌++◌, length, map, take, drop, replicate};
+//! Lists of literals that take no gate: negated, of one literal, of one literal many times, longer, and without the high ones.
+ghost use Rattle.std.specs.Prelude.{◌≡◌, ◌+◌, ◌≤◌, [], ◌∷◌, ◌++◌, length, map, take, replicate};
 ghost use Rattle.aiger.specs.Literal.{negation};
 
 use crate::maker::Bits;
@@ -45,28 +45,6 @@ pub(crate) fn append(bits: &mut Bits, more: &[Lit])
 {
     let added = bits.try_extend_from_slice(more);
     prove!(added.is_ok());
-}
-
-/// The literals of a word, and above them one literal as many times.
-pub(crate) fn doubled(a: &Bits, above: Lit) -> Bits
-    requires { length a.now.items ≤ 64 }
-    ensures { result.items ≡ a.now.items ++ replicate (length a.now.items) above }
-{
-    let mut bits = Bits::new();
-    append(&mut bits, a.as_slice());
-    append(&mut bits, repeated(above, a.len()).as_slice());
-    bits
-}
-
-/// The literals of a word from a place on.
-pub(crate) fn high_bits(a: &Bits, from: usize) -> Bits
-    requires most { length a.now.items ≤ 128 }
-    requires inside { from ≤ length a.now.items }
-    ensures { result.items ≡ drop from a.now.items }
-{
-    let mut bits = Bits::new();
-    append(&mut bits, &a.as_slice()[from..]);
-    bits
 }
 
 /// The lowest literals of a word, so many.

@@ -16,10 +16,12 @@ mod literals;
 mod maker;
 mod multiplication;
 mod overflows;
+mod pair;
 mod plain;
 mod shared;
 mod shifts;
 mod signed_division;
+mod sizes;
 
 pub use adders::{Added, add};
 pub use bitwise::equal;

@@ -1,6 +1,6 @@
 //! Whether the result of an operation in whole numbers is one of the width.
-ghost use Rattle.std.specs.Prelude.{◌≡◌, ◌+◌, ◌*◌, ◌%◌, ◌^◌, ◌≤◌, true, nat_le, pos, ◌+ℤ◌, [], ◌∷◌, length, take, All, IfOk, IfErr, if◌then◌else◌};
-ghost use Rattle.base.specs.Operator.{ones, binary_value};
+ghost use Rattle.std.specs.Prelude.{◌≡◌, ◌+◌, ◌*◌, ◌%◌, ◌^◌, ◌≤◌, true, nat_le, pos, neg_ℤ, unsigned_abs, ◌+ℤ◌, [], ◌∷◌, length, take, All, IfOk, IfErr, if◌then◌else◌};
+ghost use Rattle.base.specs.Operator.{binary_value};
 ghost use Rattle.base.specs.Signed.{signed, overflows};
 ghost use Rattle.aiger.specs.Literal.{literal_value};
 ghost use Rattle.aiger.specs.Net.{IsDefined};
@@ -10,13 +10,14 @@ ghost use Rattle.gates.specs.Made.{MakesLiteral, MakesWord, Refuses, word_value}
 ghost use Rattle.gates.specs.Sums.{literal_number};
 ghost use Rattle.gates.specs.Tests.{is_overflow};
 
-use crate::bit_lists::{doubled, high_bits, negation, repeated};
-use crate::bitwise::{Connective, connect_bits, equal};
+use crate::bit_lists::negation;
+use crate::bitwise::{Connective, connect_bits};
 use crate::comparisons::{less, less_column, top_negated};
 use crate::fault::GateFault;
-use crate::literals::{conjunction, xor};
+use crate::literals::{conjunction, disjunction, xor};
 use crate::maker::{Bits, Gates};
-use crate::multiplication::{mul, whole_product};
+use crate::multiplication::{Product, whole_product};
+use crate::sizes::size;
 use aiger::Lit;
 use base::Binary;
 
@@ -127,23 +128,6 @@ fn sdivo<G: Gates>(g: &mut G, a: &Bits, b: &Bits) -> Result<Lit, GateFault>
     conjunction(g, is_least, is_minus_one)
 }
 
-/// The product of two words, each with a literal above it as many times as it has bits. None of it is lost.
-fn wide_product<G: Gates>(
-    g: &mut G,
-    a: &Bits,
-    above_a: Lit,
-    b: &Bits,
-    above_b: Lit,
-) -> Result<Bits, GateFault>
-    requires operands { AreOperands (G.made g.old) 64 a.now.items b.now.items }
-    requires left { IsDefined (G.made g.old) above_a }
-    requires right { IsDefined (G.made g.old) above_b }
-    ensures ok { IfOk result (λ bits. let n = length a.now.items in MakesWord (G.made g.old) (G.made g.new) (40 * (n * n)) (2 * n) (λ v. (word_value v a.now.items + 2 ^ n * (if literal_value v above_a then ones n else 0)) * (word_value v b.now.items + 2 ^ n * (if literal_value v above_b then ones n else 0)) % 2 ^ (2 * n)) bits.items) }
-    ensures refused { IfErr result (let n = length a.now.items in Refuses (G.made g.old) (G.made g.new) (40 * (n * n))) }
-{
-    mul(g, &doubled(a, above_a), &doubled(b, above_b))
-}
-
 /// Whether the product of words as whole numbers is no word.
 fn umulo<G: Gates>(g: &mut G, a: &Bits, b: &Bits) -> Result<Lit, GateFault>
     requires { AreOperands (G.made g.old) 64 a.now.items b.now.items }
@@ -154,15 +138,43 @@ fn umulo<G: Gates>(g: &mut G, a: &Bits, b: &Bits) -> Result<Lit, GateFault>
     Ok(product.lost)
 }
 
-/// Whether the product of signed numbers is none of the width: a bit of its upper half is not the sign of its lower half.
+/// The product of the sizes of two signed numbers, and whether it is no word of the width.
+fn size_product<G: Gates>(g: &mut G, a: &Bits, b: &Bits) -> Result<Product, GateFault>
+    requires { AreOperands (G.made g.old) 64 a.now.items b.now.items }
+    ensures bits { IfOk result (λ product. let n = length a.now.items in MakesWord (G.made g.old) (G.made g.new) (12 * (n * n) + 24 * n) n (λ v. unsigned_abs (signed n (word_value v a.now.items)) * unsigned_abs (signed n (word_value v b.now.items)) % 2 ^ n) product.bits.items) }
+    ensures lost { IfOk result (λ product. let n = length a.now.items in MakesLiteral (G.made g.old) (G.made g.new) (12 * (n * n) + 24 * n) (λ v. nat_le (2 ^ n) (unsigned_abs (signed n (word_value v a.now.items)) * unsigned_abs (signed n (word_value v b.now.items)))) product.lost) }
+    ensures refused { IfErr result (let n = length a.now.items in Refuses (G.made g.old) (G.made g.new) (12 * (n * n) + 24 * n)) }
+{
+    let first = size(g, a)?;
+    let second = size(g, b)?;
+    whole_product(g, &first, &second)
+}
+
+/// Whether the number of a sign and a size is none of the width: the size has its highest bit, and is not that of the
+/// least number or the sign is not.
+fn size_overflow<G: Gates>(g: &mut G, negative: Lit, size: &Bits) -> Result<Lit, GateFault>
+    requires some { 1 ≤ length size.now.items }
+    requires most { length size.now.items ≤ 64 }
+    requires literal { IsDefined (G.made g.old) negative }
+    requires defined { All (IsDefined (G.made g.old)) size.now.items }
+    ensures ok { IfOk result (let n = length size.now.items in MakesLiteral (G.made g.old) (G.made g.new) (n + 1) (λ v. overflows n (if literal_value v negative then neg_ℤ (pos (word_value v size.now.items)) else pos (word_value v size.now.items)))) }
+    ensures refused { IfErr result (Refuses (G.made g.old) (G.made g.new) (length size.now.items + 1)) }
+{
+    let top = size.len() - 1;
+    let below = connect_bits(g, Connective::Or, &size.as_slice()[..top])?;
+    let other = disjunction(g, below, negative.not())?;
+    conjunction(g, size[top], other)
+}
+
+/// Whether the product of signed numbers is none of the width, by the product of their sizes.
 fn smulo<G: Gates>(g: &mut G, a: &Bits, b: &Bits) -> Result<Lit, GateFault>
     requires { AreOperands (G.made g.old) 64 a.now.items b.now.items }
     ensures ok { IfOk result (λ l. let n = length a.now.items in MakesWord (G.made g.old) (G.made g.new) (40 * (n * n) + 4 * n) 1 (λ v. binary_value Binary.Smulo n (word_value v a.now.items) (word_value v b.now.items)) (l ∷ [])) }
     ensures refused { IfErr result (let n = length a.now.items in Refuses (G.made g.old) (G.made g.new) (40 * (n * n) + 4 * n)) }
 {
     let top = a.len() - 1;
-    let product = wide_product(g, a, a[top], b, b[top])?;
-    let high = high_bits(&product, a.len());
-    let fits = equal(g, &high, &repeated(product[top], a.len()))?;
-    Ok(fits.not())
+    let product = size_product(g, a, b)?;
+    let negative = xor(g, a[top], b[top])?;
+    let above = size_overflow(g, negative, &product.bits)?;
+    disjunction(g, product.lost, above)
 }

@@ -1,8 +1,6 @@
 //! The gate maker that makes no gate twice.
 ghost use Rattle.std.specs.Prelude.{◌≡◌, ℕ, ◌+◌, ◌*◌, ◌<◌, ◌≤◌, ◌==◌, ◌&&◌, ◌↔◌, [], ◌∷◌, ◌++◌, None, Some, Ok, is_some, position, length, max, min, if◌then◌else◌, IfOk, IfErr, OnErr, IsErrOf};
 ghost use Rattle.std.specs.Option.{option_map};
-ghost use Rattle.std.proofs.Common.{rules};
-ghost use Rattle.std.specs.Cmp.Rules.{hashing};
 ghost use Rattle.aiger.specs.Limits.{greatest_count};
 ghost use Rattle.aiger.specs.Net.{variables, IsDefined};
 ghost use Rattle.aiger.specs.declared.circuit.Gate.{Gate};
@@ -14,49 +12,22 @@ use crate::fault::GateFault;
 use crate::folding::folded;
 use crate::laws::gates_have_valuations;
 use crate::maker::Gates;
+use crate::pair::{LastBytes, Pair};
 use crate::plain::push;
 use aiger::{Circuit, CircuitFault, GREATEST_COUNT, Lit};
 use indexmap::IndexSet;
 use std::alloc::Global;
-use std::hash::{Hash, Hasher};
+use std::hash::BuildHasherDefault;
 use std::marker::Model;
 
-/// The operands of a gate, the greater one first.
-#[derive(Clone, Copy, Debug, PartialEq, Eq)]
-struct Pair {
-    greater: u32,
-    smaller: u32,
-}
-
-impl Hash for Pair {
-    ghost use Rattle.std.specs.Prelude.{◌+◌, ◌*◌, ◌^◌};
-    ghost use Rattle.std.specs.Hash.{u64 as words};
-
-    ghost hash_input = { λ pair. words (pair.rhs0 * 2 ^ 32 + pair.rhs1) };
-
-    ghost respects_eq = { Prim.search (hashing, rules) };
-
-    /// Both operands as one number, which takes half the time of one after the other.
-    fn hash<H: Hasher>(&self, state: &mut H) {
-        state.write_u64(self.greater as u64 * 0x1_0000_0000 + self.smaller as u64);
-    }
-}
-
-impl Model for Pair {
-    ghost use Rattle.aiger.specs.declared.circuit.Gate.{Gate};
-
-    ghost Value = { Gate };
-
-    ghost view = { λ p. record { rhs0 = p.greater; rhs1 = p.smaller } };
-
-    ghost inverse = { λ g. record { greater = g.rhs0; smaller = g.rhs1 } };
-}
+/// The pairs of the gates, in their order.
+type Pairs = IndexSet<Pair, BuildHasherDefault<LastBytes>>;
 
 /// A gate maker that makes a gate of two operands once, and none where the and is one of them or a constant.
 #[derive(Drop)]
 pub struct HashGates {
     circuit: Circuit,
-    pairs: IndexSet<Pair>,
+    pairs: Pairs,
 }
 
 impl Model for HashGates {
@@ -87,7 +58,7 @@ fn pair_of(a: Lit, b: Lit) -> Pair
 /// Where a pair stands. A pair that does not stand is put behind the others, and the answer is then none.
 ///
 /// The pair is looked up once, and takes no memory where it stands.
-fn place_or_add(pairs: &mut IndexSet<Pair>, pair: Pair) -> Result<Option<usize>, GateFault>
+fn place_or_add(pairs: &mut Pairs, pair: Pair) -> Result<Option<usize>, GateFault>
     ensures place { IfOk result (λ place. place ≡ position (λ g. pair.rhs0 == g.rhs0 && pair.rhs1 == g.rhs1) pairs.old.keys) }
     ensures keys { IfOk result (λ place. pairs.new.keys ≡ (if is_some place then pairs.old.keys else pairs.old.keys ++ pair ∷ [])) }
     ensures err { IfErr result (λ e. (e ≡ GateFault.NoMemory) × (pairs.new.keys ≡ pairs.old.keys)) }
@@ -110,11 +81,7 @@ fn gate_at(circuit: &Circuit, place: usize) -> Lit
 }
 
 /// Adds the gate of the last pair. Where it is refused, the pair is taken back.
-fn push_pair(
-    circuit: &mut Circuit,
-    pairs: &mut IndexSet<Pair>,
-    pair: Pair,
-) -> Result<Lit, GateFault>
+fn push_pair(circuit: &mut Circuit, pairs: &mut Pairs, pair: Pair) -> Result<Lit, GateFault>
     requires last { pairs.old.keys ≡ circuit.old.gates ++ pair ∷ [] }
     requires order { pair.rhs1 ≤ pair.rhs0 }
     requires defined { IsDefined (net circuit.old) pair.rhs0 }
@@ -141,7 +108,7 @@ impl HashGates {
         match Circuit::new(alloc, inputs, latches) {
             Ok(circuit) => Ok(HashGates {
                 circuit,
-                pairs: IndexSet::new(alloc),
+                pairs: IndexSet::with_hasher(alloc, BuildHasherDefault::new()),
             }),
             Err(CircuitFault::TooBig) => Err(GateFault::TooBig),
             Err(_) => Err(GateFault::NoMemory),

@@ -1,6 +1,6 @@
 //! Division of words as signed numbers: the sizes of both are divided, and what that gives has its sign put back.
 ghost use Rattle.std.specs.Prelude.{◌≡◌, ◌+◌, ◌-◌, ◌*◌, ◌^◌, ◌≤◌, ◌%◌, ◌&&◌, ◌==◌, not, length, All, IfOk, IfErr, if◌then◌else◌, unsigned_abs};
-ghost use Rattle.base.specs.Operator.{unary_value, binary_value, udiv, urem};
+ghost use Rattle.base.specs.Operator.{binary_value, udiv, urem};
 ghost use Rattle.base.specs.Signed.{signed};
 ghost use Rattle.aiger.specs.Literal.{literal_value};
 ghost use Rattle.aiger.specs.Net.{IsDefined};
@@ -9,40 +9,16 @@ ghost use Rattle.gates.specs.Made.{MakesLiteral, MakesWord, Refuses, word_value}
 ghost use Rattle.gates.specs.Sums.{literal_number};
 ghost use Rattle.gates.specs.Connect.{differ};
 
-use crate::adders::{add_bits, neg_bits};
+use crate::adders::add_bits;
 use crate::bitwise::{Connective, connect_bits};
-use crate::choices::choose;
 use crate::division::{Divided, divide};
 use crate::fault::GateFault;
 use crate::literals::{conjunction, xor};
 use crate::maker::{Bits, Gates};
 use crate::multiplication::masked;
+use crate::sizes::{negated_where, size};
 use aiger::Lit;
-use base::{Binary, Unary};
-
-/// The bits of the word of a word's negated number where a literal is true, and else those of the word.
-fn negated_where<G: Gates>(g: &mut G, negative: Lit, a: &Bits) -> Result<Bits, GateFault>
-    requires some { 1 ≤ length a.now.items }
-    requires most { length a.now.items ≤ 64 }
-    requires literal { IsDefined (G.made g.old) negative }
-    requires defined { All (IsDefined (G.made g.old)) a.now.items }
-    ensures ok { IfOk result (λ bits. let n = length a.now.items in MakesWord (G.made g.old) (G.made g.new) (12 * n) n (λ v. if literal_value v negative then unary_value Unary.Neg n (word_value v a.now.items) else word_value v a.now.items) bits.items) }
-    ensures refused { IfErr result (Refuses (G.made g.old) (G.made g.new) (12 * length a.now.items)) }
-{
-    let negated = neg_bits(g, a)?;
-    choose(g, negative, &negated, a)
-}
-
-/// The bits of the size of the signed number that a word stands for.
-fn size<G: Gates>(g: &mut G, a: &Bits) -> Result<Bits, GateFault>
-    requires some { 1 ≤ length a.now.items }
-    requires most { length a.now.items ≤ 64 }
-    requires defined { All (IsDefined (G.made g.old)) a.now.items }
-    ensures ok { IfOk result (λ bits. let n = length a.now.items in MakesWord (G.made g.old) (G.made g.new) (12 * n) n (λ v. unsigned_abs (signed n (word_value v a.now.items))) bits.items) }
-    ensures refused { IfErr result (Refuses (G.made g.old) (G.made g.new) (12 * length a.now.items)) }
-{
-    negated_where(g, a[a.len() - 1], a)
-}
+use base::Binary;
 
 /// The quotient and the remainder of the sizes of two signed numbers.
 fn divide_sizes<G: Gates>(g: &mut G, a: &Bits, b: &Bits) -> Result<Divided, GateFault>

@@ -1,5 +1,5 @@
 -- What the exit statuses 0 and 1 of a command say.
-use Rattle.std.specs.Prelude.{◌≡◌, ℕ, List, [], ◌∷◌, ◌++◌, length, Option, None, IfSome, codes, decimal}
+use Rattle.std.specs.Prelude.{◌≡◌, ℕ, List, [], ◌∷◌, ◌++◌, length, Option, None, IfSome, Ok, codes, decimal}
 use Rattle.std.specs.Io.KnownBytes.{Appends}
 use Rattle.btor2.specs.declared.item.Item.{Item}
 use Rattle.btor2.specs.Items.{is_input, is_state, is_bad, is_constraint}
@@ -7,13 +7,20 @@ use Rattle.btor2.specs.Check.{IsWellFormed}
 use Rattle.btor2.specs.Lists.{places, first_init_without_next}
 use Rattle.btor2text.specs.Spelling.{StandsFor}
 use Rattle.btor2text.specs.Writing.{written}
+use Rattle.aiger.specs.Circuit.{Circuit, IsCircuit}
 use Rattle.aigertext.specs.declared.forms.Form.{Form}
+use Rattle.aigertext.specs.AsciiReading.{AnswersText}
+use Rattle.aigertext.specs.Binary.{circuit_text}
 use Rattle.blast.specs.Conversion.{Converts}
 use Rattle.blast.specs.Cost.{cost, bound}
 use Rattle.witness.specs.declared.judgement.Judgement.{Judgement}
 use Rattle.witness.specs.declared.judgement.Judgement.TheVariants as judgement
 use Rattle.witness.specs.Judgements.{Judges}
+use Rattle.witness.specs.BitJudgements.{BitJudges}
+use Rattle.blast.specs.Lowering.{Lowers}
+use Rattle.lift.specs.Lifted.{lifted_text}
 use Rattle.witness.specs.Printed.{judgement_text}
+use Rattle.hwtool.specs.Vectors.{Agree, Differ}
 use Rattle.hwtool.specs.declared.orders.Task.{Task}
 use Rattle.hwtool.specs.declared.orders.Task.TheVariants as task
 
@@ -39,16 +46,37 @@ pub record IsJudged (model witness before now : Option (List ℕ)) (verdict : Ju
   pub judged : IfSome witness (λ text. Judges items text verdict)
   pub line : Appends before now (judgement_line verdict)
 
--- the second text is accepted over the model of the first, and what was written says so
-pub record Accepts (model witness before now : Option (List ℕ)) : Type 0 where
+-- the bytes of a source, where it knows them, are a text of a circuit
+abbrev pub IsCircuitText : Option (List ℕ) → Circuit → Type 0
+IsCircuitText known circuit = IfSome known (λ text. AnswersText text (Ok circuit))
+
+-- The first text is of a circuit; the second is judged so over it; and what was written is the line of that judgement.
+pub record IsJudgedOver (circuit witness before now : Option (List ℕ)) (verdict : Judgement) : Type 0 where
+  pub value : Circuit
+  pub is_circuit : IsCircuit value
+  pub text : IsCircuitText circuit value
+  pub judged : IfSome witness (λ text. BitJudges value text verdict)
+  pub line : Appends before now (judgement_line verdict)
+
+-- The first text is of a model, which a circuit lowers; the second is judged so over that circuit; and what was written is what it is lifted to.
+pub record IsLifted (model witness before now : Option (List ℕ)) (verdict : Judgement) : Type 0 where
+  pub items : List Item
+  pub circuit : Circuit
+  pub text : IsModelOf model items
+  pub lowers : Lowers items circuit
+  pub judged : IfSome witness (λ text. BitJudges circuit text verdict)
+  pub lifted : IfSome witness (λ text. Appends before now (lifted_text items circuit text))
+
+-- a witness is judged so, and accepted, and what was written says so
+pub record Accepts (IsJudgedSo : Judgement → Type 0) : Type 0 where
   pub verdict : Judgement
-  pub is_judged : IsJudged model witness before now verdict
+  pub is_judged : IsJudgedSo verdict
   pub accepted : IsAccepted verdict
 
--- the second text has another judgement over the model of the first, and what was written says which
-pub record AcceptsNot (model witness before now : Option (List ℕ)) : Type 0 where
+-- a witness has another judgement, and what was written says which
+pub record AcceptsNot (IsJudgedSo : Judgement → Type 0) : Type 0 where
   pub verdict : Judgement
-  pub is_judged : IsJudged model witness before now verdict
+  pub is_judged : IsJudgedSo verdict
   pub not_accepted : ¬ IsAccepted verdict
 
 -- the line that tells how many items, inputs, states, bad properties and constraints a model has
@@ -79,14 +107,28 @@ pub record TellsCost (known before now : Option (List ℕ)) : Type 0 where
   pub well_formed : IsWellFormed items
   pub appends : Appends before now (cost_lines items)
 
--- the conversion is done, or the witness is accepted, or the model is shown, or its cost is told
+-- all that was to come is a text of some circuit, and what was written is the writer's text of it in a form
+pub record Rewrites (known before now : Option (List ℕ)) (form : Form) : Type 0 where
+  pub circuit : Circuit
+  pub is_circuit : IsCircuit circuit
+  pub text : IsCircuitText known circuit
+  pub appends : Appends before now (circuit_text form circuit)
+
+-- the conversion is done, or the witness is accepted, or the model is shown, or its cost is told, or the circuit is written, or the witness is lifted and accepted, or the vectors agree
 abbrev pub IsDone : Task → Form → Option (List ℕ) → Option (List ℕ) → Option (List ℕ) → Option (List ℕ) → Type 0
 IsDone task.Lower form first second before now = Converts first before now form
-IsDone task.CheckBtor form first second before now = Accepts first second before now
+IsDone task.CheckBtor form first second before now = Accepts (IsJudged first second before now)
 IsDone task.Show form first second before now = Shows first before now
 IsDone task.Cost form first second before now = TellsCost first before now
+IsDone task.AigConvert form first second before now = Rewrites first before now form
+IsDone task.CheckAig form first second before now = Accepts (IsJudgedOver first second before now)
+IsDone task.Lift form first second before now = Accepts (IsLifted first second before now)
+IsDone task.Vectors form first second before now = Agree first before now
 
--- a witness is judged, and not accepted
+-- a witness is judged, and not accepted, or vectors differ
 abbrev pub IsNotAccepted : Task → Option (List ℕ) → Option (List ℕ) → Option (List ℕ) → Option (List ℕ) → Type 0
-IsNotAccepted task.CheckBtor first second before now = AcceptsNot first second before now
+IsNotAccepted task.CheckBtor first second before now = AcceptsNot (IsJudged first second before now)
+IsNotAccepted task.CheckAig first second before now = AcceptsNot (IsJudgedOver first second before now)
+IsNotAccepted task.Lift first second before now = AcceptsNot (IsLifted first second before now)
+IsNotAccepted task.Vectors first second before now = Differ first before now
 IsNotAccepted _ first second before now = ⊥

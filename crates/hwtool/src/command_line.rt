@@ -23,8 +23,8 @@ pub const VERSION: &str = "0.1.0\nrattle-kit-13b logic dac8208d650f15bf";
 const STATUSES: &str = "The file - is standard input.
 
 Exit statuses:
-  0  the command is done, the witness is accepted, or help or the version is shown
-  1  the witness is not accepted
+  0  the command is done, the witness is accepted, all vectors agree, or help or the version is shown
+  1  the witness is not accepted, or a vector differs
   2  the input is refused
   3  a device failed, or memory was wanting
   4  the words of the command line are refused";
@@ -33,6 +33,14 @@ Exit statuses:
 const MODEL: &str = "The file of a BTOR2 model, or - for standard input";
 
 const WITNESS: &str = "The file of a BTOR2 witness, or - for standard input";
+
+/// What help says of a file of a circuit, and of one of its witness.
+const CIRCUIT: &str = "The file of an AIGER circuit of either form, or - for standard input";
+
+const AIGER_WITNESS: &str = "The file of an AIGER witness, or - for standard input";
+
+/// What help says of a file of vectors.
+const VECTOR_LINES: &str = "The file of vector lines, or - for standard input";
 
 /// What is told of words that are no text.
 const NO_TEXT: &str = "words: not UTF-8\n";
@@ -57,6 +65,17 @@ const SHOW: &str = "show";
 /// The word of the command that tells the cost of a lowering.
 const COST: &str = "cost";
 
+/// The word of the command that writes a circuit in a form.
+const AIG_CONVERT: &str = "aig-convert";
+
+/// The word of the command that judges a witness over a circuit.
+const CHECK_AIG: &str = "check-aig";
+
+/// The word of the command that lifts a witness.
+const LIFT: &str = "lift";
+/// The word of the command that judges vectors.
+const VECTORS: &str = "vectors";
+
 /// A word that names a file.
 fn file_name<'a>(alloc: Global, name: &'a str, help: &'a str) -> Arg<'a> {
     Arg::new(alloc, name)
@@ -65,8 +84,13 @@ fn file_name<'a>(alloc: Global, name: &'a str, help: &'a str) -> Arg<'a> {
         .help(help)
 }
 
-/// The words of `lower`.
-fn lower<'a>(alloc: Global) -> Result<Command<'a>, AllocError> {
+/// A command that writes a circuit in a form, which a flag chooses.
+fn writes_circuit<'a>(
+    alloc: Global,
+    command: &'a str,
+    about: &'a str,
+    file: Arg<'a>,
+) -> Result<Command<'a>, AllocError> {
     let ascii = Arg::new(alloc, ASCII)
         .long(ASCII)
         .action(ArgAction::SetTrue)
@@ -75,12 +99,44 @@ fn lower<'a>(alloc: Global) -> Result<Command<'a>, AllocError> {
         .long(BINARY)
         .action(ArgAction::SetTrue)
         .help("Write the binary form");
-    Command::new(alloc, "lower")
-        .about("Lower a BTOR2 model to an AIGER circuit on standard output")
+    Command::new(alloc, command)
+        .about(about)
         .after_help(STATUSES)
         .arg(ascii)?
         .arg(binary)?
-        .arg(file_name(alloc, "MODEL", MODEL))
+        .arg(file)
+}
+
+/// The words of `lower`.
+fn lower<'a>(alloc: Global) -> Result<Command<'a>, AllocError> {
+    let about = "Lower a BTOR2 model to an AIGER circuit on standard output";
+    writes_circuit(alloc, "lower", about, file_name(alloc, "MODEL", MODEL))
+}
+
+/// The words of `aig-convert`.
+fn aig_convert<'a>(alloc: Global) -> Result<Command<'a>, AllocError> {
+    let about =
+        "Write an AIGER circuit of either form in one, its variables numbered as in the binary form";
+    let file = file_name(alloc, "CIRCUIT", CIRCUIT);
+    writes_circuit(alloc, AIG_CONVERT, about, file)
+}
+
+/// The words of `check-aig`.
+fn check_aig<'a>(alloc: Global) -> Result<Command<'a>, AllocError> {
+    Command::new(alloc, CHECK_AIG)
+        .about("Judge an AIGER witness over a circuit")
+        .after_help(STATUSES)
+        .arg(file_name(alloc, "CIRCUIT", CIRCUIT))?
+        .arg(file_name(alloc, "WITNESS", AIGER_WITNESS))
+}
+
+/// The words of `lift`.
+fn lift<'a>(alloc: Global) -> Result<Command<'a>, AllocError> {
+    Command::new(alloc, LIFT)
+        .about("Lift an AIGER witness of a model's circuit to a BTOR2 witness on standard output")
+        .after_help(STATUSES)
+        .arg(file_name(alloc, "MODEL", MODEL))?
+        .arg(file_name(alloc, "WITNESS", AIGER_WITNESS))
 }
 
 /// The words of `check-btor`.
@@ -108,6 +164,16 @@ fn cost<'a>(alloc: Global) -> Result<Command<'a>, AllocError> {
         .arg(file_name(alloc, "MODEL", MODEL))
 }
 
+/// The words of `vectors`.
+fn vectors<'a>(alloc: Global) -> Result<Command<'a>, AllocError> {
+    Command::new(alloc, VECTORS)
+        .about(
+            "Compare what operators give, in the evaluator and in a circuit, with lines of vectors",
+        )
+        .after_help(STATUSES)
+        .arg(file_name(alloc, "FILE", VECTOR_LINES))
+}
+
 /// The commands and their words.
 fn commands<'a>(alloc: Global) -> Result<Command<'a>, AllocError> {
     Command::new(alloc, PROGRAM)
@@ -121,7 +187,11 @@ fn commands<'a>(alloc: Global) -> Result<Command<'a>, AllocError> {
         .subcommand(lower(alloc)?)?
         .subcommand(check_btor(alloc)?)?
         .subcommand(show(alloc)?)?
-        .subcommand(cost(alloc)?)
+        .subcommand(cost(alloc)?)?
+        .subcommand(aig_convert(alloc)?)?
+        .subcommand(check_aig(alloc)?)?
+        .subcommand(lift(alloc)?)?
+        .subcommand(vectors(alloc)?)
 }
 
 /// The task of a command's word.
@@ -132,6 +202,14 @@ fn task_of(command: &str) -> Task {
         Task::Show
     } else if command == COST {
         Task::Cost
+    } else if command == AIG_CONVERT {
+        Task::AigConvert
+    } else if command == CHECK_AIG {
+        Task::CheckAig
+    } else if command == LIFT {
+        Task::Lift
+    } else if command == VECTORS {
+        Task::Vectors
     } else {
         Task::Lower
     }
@@ -147,7 +225,10 @@ fn order_of<'a>(matches: &ArgMatches<'a>) -> Option<Order<'a>> {
         } else {
             Form::Ascii
         },
-        first: words.get_str("MODEL")?,
+        first: words
+            .get_str("MODEL")
+            .or(words.get_str("CIRCUIT"))
+            .or(words.get_str("FILE"))?,
         second: words.get_str("WITNESS"),
     })
 }

@@ -1,12 +1,17 @@
 //! `hwtool`: word-level BTOR2 models to AIGER circuits, and judgements of their witnesses.
 #![tactic(auto)]
 
+pub mod circuits;
 pub mod command_line;
 pub mod files;
+pub mod lifting;
 pub mod orders;
 pub mod running;
 pub mod statuses;
 pub mod telling;
+pub mod vector_circuits;
+pub mod vector_lines;
+pub mod vectors;
 
 use base::{FromReader, Sink, Source, ToWriter};
 use command_line::{given_words, order};

@@ -20,6 +20,14 @@ pub enum Task {
     Show,
     /// Tells how many gates and variables the lowering of a model has at most.
     Cost,
+    /// Writes a circuit in a form.
+    AigConvert,
+    /// Judges a witness over a circuit.
+    CheckAig,
+    /// Lifts a witness of a model's circuit to one of the model.
+    Lift,
+    /// Judges vectors of operators.
+    Vectors,
 }
 
 /// A command, the form of the circuits that it writes, and the names of its files.

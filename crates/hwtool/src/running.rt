@@ -4,11 +4,14 @@ ghost use Rattle.std.specs.Prelude.{◌≡◌, ◌≢◌, ◌≤◌, ◌⊎◌, 
 ghost use Rattle.std.specs.Io.KnownBytes.{Appends};
 ghost use Rattle.btor2text.specs.Writing.{written};
 ghost use Rattle.std.specs.String.{string_bytes};
-ghost use Rattle.hwtool.specs.Done.{IsDone, IsNotAccepted, Accepts, AcceptsNot, IsAccepted, Shows, TellsCost, counts_line, cost_lines, judgement_line};
+ghost use Rattle.hwtool.specs.Done.{IsDone, IsNotAccepted, Accepts, AcceptsNot, IsJudged, IsAccepted, Shows, TellsCost, counts_line, cost_lines, judgement_line};
 
+use crate::circuits::{check_circuit, convert_circuit};
+use crate::lifting::lift_witness;
 use crate::orders::{Order, STANDARD_INPUT, Task};
 use crate::statuses::{DEVICE, DONE, NOT_ACCEPTED, REFUSED};
 use crate::telling::say;
+use crate::vectors::check_vectors;
 use base::{Sink, Source, write_all};
 use blast::{ConvertFault, LowerFault, bound, convert, cost};
 use btor2::Model;
@@ -20,9 +23,11 @@ use witness::{JudgeFault, Judgement, judge_words};
 /// memory.
 ///
 /// Results go to `out`, refusals to `err`, a line each; where `err` fails the status is 3. Only a command of two files
-/// reads the second source. The status is 0 only where all of the circuit's text was written, the witness is accepted
-/// and the line that says so was written, all of the model's text and the line of its counts were written, or both
-/// lines of its cost. It is 1 only where the witness is judged, not accepted, and the line of its judgement was written.
+/// reads the second source. The status is 0 only where all of the circuit's text was written (that of a lowering of the
+/// model, or of the circuit that was read), the witness is accepted and the line that says so was written, all of the
+/// model's text and the line of its counts were written, or both lines of its cost, or the lifted text of a witness that
+/// is accepted, or that all vectors agree. It is 1 only where the witness is judged, not accepted, and the line of its
+/// judgement, or what it is lifted to, was written, or where the lines of vectors that differ were.
 pub fn run<A: Source, B: Source, O: Sink, E: Sink>(
     alloc: Global,
     order: &Order<'_>,
@@ -43,6 +48,10 @@ pub fn run<A: Source, B: Source, O: Sink, E: Sink>(
         Task::CheckBtor => check(alloc, order, first, second, out, err),
         Task::Show => show(alloc, order, first, out, err),
         Task::Cost => tell_cost(alloc, order, first, out, err),
+        Task::AigConvert => convert_circuit(alloc, order, first, out, err),
+        Task::CheckAig => check_circuit(alloc, order, first, second, out, err),
+        Task::Lift => lift_witness(alloc, order, first, second, out, err),
+        Task::Vectors => check_vectors(alloc, order, first, out, err),
     }
 }
 
@@ -55,8 +64,8 @@ fn check<A: Source, B: Source, O: Sink, E: Sink>(
     out: &mut O,
     err: &mut E,
 ) -> u8
-    ensures accepted { result ≡ 0 → Accepts (A.to_come first.old) (B.to_come second.old) (O.written out.old) (O.written out.new) }
-    ensures not_accepted { result ≡ 1 → AcceptsNot (A.to_come first.old) (B.to_come second.old) (O.written out.old) (O.written out.new) }
+    ensures accepted { result ≡ 0 → Accepts (IsJudged (A.to_come first.old) (B.to_come second.old) (O.written out.old) (O.written out.new)) }
+    ensures not_accepted { result ≡ 1 → AcceptsNot (IsJudged (A.to_come first.old) (B.to_come second.old) (O.written out.old) (O.written out.new)) }
     ensures statuses { result ≤ 3 }
 {
     let model = match read(alloc, first) {
@@ -159,7 +168,12 @@ fn write_result<O: Sink, E: Sink>(out: &mut O, text: &[u8], err: &mut E) -> u8
 }
 
 /// Writes the line of a judgement, and answers the exit status: 0 accepted, 1 not accepted, 3 where it can't be written.
-fn tell<O: Sink, E: Sink>(alloc: Global, judgement: &Judgement, out: &mut O, err: &mut E) -> u8
+pub(crate) fn tell<O: Sink, E: Sink>(
+    alloc: Global,
+    judgement: &Judgement,
+    out: &mut O,
+    err: &mut E,
+) -> u8
     ensures told { result ≢ 3 → Appends (O.written out.old) (O.written out.new) (judgement_line judgement.now) }
     ensures accepted { result ≡ 0 → IsAccepted judgement.now }
     ensures not_accepted { result ≡ 1 → ¬ IsAccepted judgement.now }
@@ -179,7 +193,12 @@ fn tell<O: Sink, E: Sink>(alloc: Global, judgement: &Judgement, out: &mut O, err
 }
 
 /// Writes the line of a witness that is not judged, and answers the exit status, 2 or 3.
-fn refuse_witness<E: Sink>(alloc: Global, order: &Order<'_>, fault: &JudgeFault, err: &mut E) -> u8
+pub(crate) fn refuse_witness<E: Sink>(
+    alloc: Global,
+    order: &Order<'_>,
+    fault: &JudgeFault,
+    err: &mut E,
+) -> u8
     ensures { (2 ≤ result) × (result ≤ 3) }
 {
     let file = order.first;
@@ -200,7 +219,7 @@ fn refuse_witness<E: Sink>(alloc: Global, order: &Order<'_>, fault: &JudgeFault,
 }
 
 /// Writes the line of a refused conversion, and answers the exit status, 2 or 3.
-fn refuse<E: Sink>(alloc: Global, file: &str, fault: &ConvertFault, err: &mut E) -> u8
+pub(crate) fn refuse<E: Sink>(alloc: Global, file: &str, fault: &ConvertFault, err: &mut E) -> u8
     ensures { (2 ≤ result) × (result ≤ 3) }
 {
     match refusal_line(alloc, file, fault) {

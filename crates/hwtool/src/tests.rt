@@ -9,8 +9,11 @@ use std::alloc::Global;
 use std::process::Abort;
 use std::test::Fail;
 
+mod circuit_files;
 mod devices;
+mod lifting;
 mod texts;
+mod vectors;
 mod witnesses;
 mod words;
 
@@ -31,9 +34,18 @@ fn ran<B: Source>(
     first: &str,
     second: &mut B,
 ) -> Result<(u8, Vec<u8>, Vec<u8>), Fail> {
+    ran_on_bytes(alloc, words, first.as_bytes(), second)
+}
+
+/// The same, where the first file is bytes.
+fn ran_on_bytes<B: Source>(
+    alloc: Global,
+    words: &[&str],
+    mut first: &[u8],
+    second: &mut B,
+) -> Result<(u8, Vec<u8>, Vec<u8>), Fail> {
     match order(alloc, words) {
         Ok(order) => {
-            let mut first = first.as_bytes();
             let mut out = VecSink::new(alloc);
             let mut err = VecSink::new(alloc);
             let status = run(alloc, &order, &mut first, second, &mut out, &mut err);

@@ -5,11 +5,19 @@
 #[cfg(test)]
 mod bit_runs;
 #[cfg(test)]
+mod bit_witnesses;
+#[cfg(test)]
+mod circuit_reading;
+#[cfg(test)]
 mod circuit_texts;
 #[cfg(test)]
 mod circuits;
 #[cfg(test)]
+mod devices;
+#[cfg(test)]
 mod gate_makers;
+#[cfg(test)]
+mod lowerings;
 #[cfg(test)]
 mod model_texts;
 #[cfg(test)]

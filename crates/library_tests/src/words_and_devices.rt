@@ -414,5 +414,6 @@ fn laws_are_called(_rt: HostRuntime) {
     laws::words_stand_for_numbers();
     laws::worked_decimals();
     laws::worked_lines();
+    laws::worked_trials();
     laws::worked_words();
 }

@@ -1,7 +1,7 @@
 -- What is kept of a line byte by byte is what its bytes say.
-use Rattle.std.proofs.Common.{◌≡◌, ℕ, ◌+◌, ◌-◌, ◌*◌, ◌<◌, ◌≤◌, ◌^◌, ◌==◌, min, nat_lt, nat_le, Bool, true, false, not, ◌&&◌, ◌||◌, List, [], ◌∷◌, ◌++◌, Some, None, Ok, Err, length, take, get_or, length-append, refl, sym, ap, ap₂, ◌∙◌, arith, inl, inr}
+use Rattle.std.proofs.Common.{◌≡◌, ℕ, ◌+◌, ◌-◌, ◌*◌, ◌≤◌, ◌^◌, ◌==◌, min, nat_lt, nat_le, Bool, true, false, not, ◌&&◌, ◌||◌, List, [], ◌∷◌, ◌++◌, Some, None, Err, length, take, get_or, length-append, refl, sym, ap, ap₂, ◌∙◌, arith, inl, inr}
 use Rattle.std.specs.List.{list_any, list_all}
-use Rattle.std.proofs.lemmas.Bool.{cases_Bool, and_parts, and_from, eqb-true, eqb-false, ne_eqb, le-leb, le-ltb, lt-ltb}
+use Rattle.std.proofs.lemmas.Bool.{cases_Bool, and_parts, and_from, eqb-true, eqb-false, ne_eqb, le-leb, lt-ltb}
 use Rattle.std.proofs.lemmas.List.Folds.{list_any-append, list_all-append}
 use Rattle.std.proofs.Math.Seq.{take-append_seam, take-length}
 use Rattle.base.specs.Decimals.{is_digit, are_digits, is_decimal, capped_value, number_of}
@@ -200,3 +200,16 @@ claims_decimal s [] bads h holds =
 claims_decimal s (a ∷ tail) bads h holds =
     let is : s.first ≡ a = h.first in
     ap (λ (f : ℕ). claimed f s.number bads) is ∙ claims_by_first a s.number bads tail (number_kept s a tail h holds)
+
+-- ---- the number behind the first byte
+
+pub number_behind : (s : Scan) (line : List ℕ) → Scans s line → has_decimal s ≡ true → Some s.number ≡ number_of (behind_first line)
+number_behind s [] h holds =
+    let none : s.count ≡ 0 = h.count in
+    absurd (cc (rw none at holds))
+number_behind s (a ∷ tail) h holds = sym (number_kept s a tail h holds)
+
+pub nothing_behind : (s : Scan) (line : List ℕ) → Scans s line → has_decimal s ≡ false → None ≡ number_of (behind_first line)
+unfolding number_of is_decimal
+nothing_behind s [] h fails = refl
+nothing_behind s (a ∷ tail) h fails = sym (no_number s a tail h fails)

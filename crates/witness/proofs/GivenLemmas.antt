@@ -183,7 +183,7 @@ next_cases items f g None (Some v) alone = ap (λ (x : Option ℕ). unwrap_or x 
 next_cases items f g (Some u) n alone = ap (λ (x : Option ℕ). unwrap_or x (unwrap_or (option_map f n) 0)) (alone refl)
 
 -- what is named as a state is found
-state_there : (items : List Item) (id : ℕ) → names_state items id ≡ true → (y : Item) × ((find_item items id ≡ Some y) × (is_state y.body ≡ true))
+pub state_there : (items : List Item) (id : ℕ) → names_state items id ≡ true → (y : Item) × ((find_item items id ≡ Some y) × (is_state y.body ≡ true))
 state_there items id named = by (find_item items id) refl named
   where
     by_kind : (y : Item) (b : Bool) → is_some (cond b (Some y) None) ≡ true → b ≡ true

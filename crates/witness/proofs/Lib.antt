@@ -26,3 +26,12 @@ pub mod BitReaderLemmas
 pub mod BitJudgeLemmas
 pub mod BitFinishLemmas
 pub mod BitFeedLemmas
+pub mod WordScanLemmas
+pub mod FieldScanLemmas
+pub mod ClaimScanLemmas
+pub mod LineScanLemmas
+pub mod WordPlayLemmas
+pub mod WordAssignLemmas
+pub mod WordReadingLemmas
+pub mod WordGivenLemmas
+pub mod WordReaderLemmas

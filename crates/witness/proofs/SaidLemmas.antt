@@ -141,7 +141,7 @@ behind_end shape claims frames line next h = cc
 -- ---- parts and frames with one more
 
 -- a number that is none of some distinct ones, behind them
-distinct_with : (xs : List ℕ) (y : ℕ) → are_distinct xs ≡ true → list_any (λ x. x == y) xs ≡ false → are_distinct (xs ++ y ∷ []) ≡ true
+pub distinct_with : (xs : List ℕ) (y : ℕ) → are_distinct xs ≡ true → list_any (λ x. x == y) xs ≡ false → are_distinct (xs ++ y ∷ []) ≡ true
 distinct_with [] y distinct new = refl
 distinct_with (x ∷ xs) y distinct new =
     let parts = and_parts (not (list_any (λ z. z == x) xs)) (are_distinct xs) distinct in

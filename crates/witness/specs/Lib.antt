@@ -14,3 +14,10 @@ pub mod BitJudgements
 pub mod BitScans
 pub mod BitPlays
 pub mod BitStands
+pub mod WordScans
+pub mod WordClaims
+pub mod WordValues
+pub mod WordPlays
+pub mod WordStands
+pub mod WordReadings
+pub mod WordAssigns

@@ -1,5 +1,5 @@
 -- Reading a witness without its names: what the lines so far give, as pairs of an index and a word.
-use Rattle.std.specs.Prelude.{◌≡◌, ℕ, suc, ◌+◌, Bool, true, false, not, ◌&&◌, ◌==◌, nat_lt, nat_le, List, [], ◌∷◌, ◌++◌, Option, Some, None, Result, Ok, Err, codes, decimal, length, slice_index, slice_index_or, if◌then◌else◌}
+use Rattle.std.specs.Prelude.{◌≡◌, ℕ, suc, ◌+◌, Bool, true, false, not, ◌&&◌, ◌==◌, nat_lt, nat_le, List, [], ◌∷◌, ◌++◌, Option, Some, None, Result, Ok, Err, codes, length, slice_index, slice_index_or, if◌then◌else◌}
 use Rattle.std.specs.List.{list_any}
 use Rattle.std.specs.Str.{bytes_eq}
 use Rattle.base.specs.Decimals.{number_of}
@@ -14,7 +14,7 @@ use Rattle.witness.specs.declared.place.Place.{Place}
 use Rattle.witness.specs.declared.place.Place.TheVariants as place
 use Rattle.witness.specs.Texts.{Shape, has_free, is_comment, most_lines}
 use Rattle.witness.specs.Admits.{cut_at_space, claims_at, value_of, names_free, begins_part, opens_frame, opens_states, Fault, fault_at, is_nothing}
-use Rattle.witness.specs.Judgements.{FrameWords, Words}
+use Rattle.witness.specs.Judgements.{Words}
 
 -- ---- the indices of a part
 

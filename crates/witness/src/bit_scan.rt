@@ -1,10 +1,10 @@
 //! A line of a witness of a circuit, byte by byte.
-ghost use Rattle.std.specs.Prelude.{◌≡◌, ℕ, ◌<◌, ◌-◌, ◌^◌, min, List, [], ◌∷◌, ◌++◌, MatchResult, Ok, Err, map, length};
+ghost use Rattle.std.specs.Prelude.{◌≡◌, ℕ, ◌<◌, ◌-◌, ◌^◌, min, List, [], ◌∷◌, ◌++◌, MatchResult, Ok, Err, map, length, slice_index_or};
 ghost use Rattle.std.specs.Str.{bytes_eq};
-ghost use Rattle.base.specs.Decimals.{is_digit};
+ghost use Rattle.base.specs.Decimals.{is_digit, number_of};
 ghost use Rattle.witness.specs.Admits.{is_value_byte, is_nothing};
 ghost use Rattle.witness.specs.BitAdmits.{claim_at, bits_at};
-ghost use Rattle.witness.specs.BitScans.{Scans, number_more, scan_more, has_decimal, claimed, is_one_bit};
+ghost use Rattle.witness.specs.BitScans.{behind_first, Scans, number_more, scan_more, has_decimal, claimed, is_one_bit};
 
 use crate::why::Why;
 
@@ -140,6 +140,24 @@ impl Scan {
         ensures { result ≡ has_decimal self }
     {
         self.count > 1 && self.digits && (!self.zero || self.count == 2)
+    }
+
+    /// The first byte, where there is one, and else 0.
+    pub(crate) fn first(self) -> u8
+        ensures { (line : List ℕ) → Scans self line → result ≡ slice_index_or line 0 0 }
+    {
+        self.first
+    }
+
+    /// The number that the bytes behind the first write, at most 2^64 - 1, where they are a decimal.
+    pub(crate) fn number(self) -> Option<u64>
+        ensures { (line : List ℕ) → Scans self line → result ≡ number_of (behind_first line) }
+    {
+        if self.has_decimal() {
+            Some(self.number)
+        } else {
+            None
+        }
     }
 
     /// The index that the line claims, of so many bad properties, or why it claims none.

@@ -22,6 +22,15 @@ mod reading;
 mod shape;
 mod verdicts;
 mod why;
+mod word_assign;
+mod word_claims;
+mod word_fields;
+mod word_line;
+mod word_name;
+mod word_play;
+mod word_reader;
+mod word_status;
+mod word_value;
 mod words;
 
 pub use bit_judge::BitJudge;

@@ -80,7 +80,7 @@ fn differs_from_init(model: &Model, run: &WordRun<'_>, k: usize) -> bool
 }
 
 /// The first state whose word is not that of its init line.
-fn first_different(model: &Model, run: &WordRun<'_>) -> Option<u64>
+pub(crate) fn first_different(model: &Model, run: &WordRun<'_>) -> Option<u64>
     requires same { run.now.items ≡ model.now }
     requires well_formed { IsWellFormed model.now }
     requires settled { run.now.settled ≡ true }
@@ -95,7 +95,7 @@ fn first_different(model: &Model, run: &WordRun<'_>) -> Option<u64>
 }
 
 /// The first constraint that does not hold.
-fn first_violated(model: &Model, run: &WordRun<'_>) -> Option<u64>
+pub(crate) fn first_violated(model: &Model, run: &WordRun<'_>) -> Option<u64>
     requires same { run.now.items ≡ model.now }
     requires settled { run.now.settled ≡ true }
     ensures { (f : Frame) → IsNow run.now f → result ≡ first_violated model.now f }
@@ -109,7 +109,7 @@ fn first_violated(model: &Model, run: &WordRun<'_>) -> Option<u64>
 }
 
 /// Sets the flags of the bad properties that rise.
-fn note_rises(run: &WordRun<'_>, rose: &mut [bool])
+pub(crate) fn note_rises(run: &WordRun<'_>, rose: &mut [bool])
     requires many { length rose.old ≡ length (places is_bad 0 run.now.items) }
     requires settled { run.now.settled ≡ true }
     ensures { (f : Frame) → IsNow run.now f → RisesIn (nodes_of is_bad run.now.items) f rose.old rose.new }
@@ -202,7 +202,7 @@ fn note_claims(claims: &[u64], claimed: &mut [bool])
 }
 
 /// The first bad property that is claimed and does not rise, by two flags for each.
-fn first_unreached(claimed: &[bool], rose: &[bool]) -> Option<u64>
+pub(crate) fn first_unreached(claimed: &[bool], rose: &[bool]) -> Option<u64>
     requires many { length claimed.now ≡ length rose.now }
     ensures { (claims nodes : List ℕ) (fs : List Frame) (none : List Bool) → AreClaimed claimed.now claims → length nodes ≡ length rose.now → NoneIsSet none → RisesAmong nodes fs none rose.now → result ≡ unreached_from claims fs 0 nodes }
 {

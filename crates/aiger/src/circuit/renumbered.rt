@@ -87,7 +87,7 @@ fn new_gates(
 }
 
 /// A gate of two operands, the greater one first.
-fn ordered(a: Lit, b: Lit) -> Gate
+pub(crate) fn ordered(a: Lit, b: Lit) -> Gate
     ensures { result ≡ ordered_gate a b }
 {
     if a.number() < b.number() {

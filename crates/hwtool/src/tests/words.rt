@@ -17,7 +17,7 @@ fn stopped(alloc: Global, words: &[&str]) -> Option<Stop> {
 
 #[test]
 fn orders(rt: HostRuntime) -> Result<(), Fail> {
-    let rows: [(&[&str], Task, Form, &str, &str); 9] = [
+    let rows: [(&[&str], Task, Form, &str, &str); 13] = [
         (&[], Task::Lower, Form::Ascii, "-", ""),
         (
             &["lower", "--ascii", "a"],
@@ -36,6 +36,28 @@ fn orders(rt: HostRuntime) -> Result<(), Fail> {
         (&["lower", "-"], Task::Lower, Form::Ascii, "-", ""),
         (&["show", "a"], Task::Show, Form::Ascii, "a", ""),
         (&["cost", "a"], Task::Cost, Form::Ascii, "a", ""),
+        (
+            &["aig-convert", "a"],
+            Task::AigConvert,
+            Form::Ascii,
+            "a",
+            "",
+        ),
+        (
+            &["aig-convert", "--binary", "-"],
+            Task::AigConvert,
+            Form::Binary,
+            "-",
+            "",
+        ),
+        (&["lift", "a", "b"], Task::Lift, Form::Ascii, "a", "b"),
+        (
+            &["check-aig", "a", "b"],
+            Task::CheckAig,
+            Form::Ascii,
+            "a",
+            "b",
+        ),
         (
             &["check-btor", "a", "b"],
             Task::CheckBtor,

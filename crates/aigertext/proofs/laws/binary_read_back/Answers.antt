@@ -7,4 +7,4 @@ pub returns-clause-stands : goal.returns-clause-stands
 returns-clause-stands c = written_stands
 
 pub returns-clause-read : goal.returns-clause-read
-returns-clause-read c = λ ascii circuit valid. stands-read ascii (binary_text circuit) circuit (written_stands circuit valid)
+returns-clause-read c = λ circuit valid. stands-read (binary_text circuit) circuit (written_stands circuit valid)

@@ -1,8 +1,10 @@
-use Rattle.std.proofs.Common.{◌<◌}
+use Rattle.std.proofs.Common.{◌<◌, Ok, sym, subst}
 use Rattle.std.proofs.lemmas.List.Elements.{recursion_from_All}
-use Rattle.aigertext.proofs.ReadStandsLemmas.{read-stands}
-use Rattle.aigertext.specs.Passes.{unread}
+use Rattle.aigertext.specs.AsciiReading.{AnswersHeader, AnswersText}
+use Rattle.aigertext.proofs.ReadStandsLemmas.{binary-stands}
 use Rattle.aigertext.proofs.laws.binary_text_that_is_read.Goals as goal
 
 pub returns : goal.returns
-returns c = λ text circuit bytes valid read. read-stands text circuit (recursion_from_All (λ b. b < 256) text bytes) valid (read unread)
+unfolding AnswersText
+returns c = λ text circuit h rest bytes valid header answers.
+    binary-stands text circuit h rest (recursion_from_All (λ b. b < 256) text bytes) valid header (sym (subst (λ r. AnswersHeader r (Ok circuit)) header answers))

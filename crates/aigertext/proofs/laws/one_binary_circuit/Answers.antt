@@ -1,5 +1,4 @@
-use Rattle.std.proofs.Common.{sym, ◌∙◌}
-use Rattle.aigertext.specs.Passes.{unread}
+use Rattle.std.proofs.Common.{Ok}
 use Rattle.aigertext.proofs.StandsLemmas.{stands-read, ok_circuit}
 use Rattle.aigertext.proofs.laws.one_binary_circuit.Goals as goal
 
@@ -7,4 +6,4 @@ pub returns-clause-read : goal.returns-clause-read
 returns-clause-read c = stands-read
 
 pub returns-clause-same : goal.returns-clause-same
-returns-clause-same c = λ text x y s t. ok_circuit x y (sym (stands-read unread text x s) ∙ stands-read unread text y t)
+returns-clause-same c = λ text x y s t. ok_circuit x y (c.one_answer.ensures text (Ok x) (Ok y) (stands-read text x s) (stands-read text y t))

@@ -1,18 +1,19 @@
 use Rattle.std.proofs.Common.{inr}
-use Rattle.aigertext.proofs.TakeLemmas.{push_begins, push_step, push_stop, push_accepts, push_done, only_memory}
+use Rattle.aigertext.proofs.TakeLemmas.{push_begins, push_step, push_stop, push_accepts, push_done, only_memory, with_none, with_more}
+use Rattle.aigertext.specs.Passes.{with_literals}
 use Rattle.aigertext.proofs.literals.push_literals.Goals as goal
 
 pub loop-index-init : goal.loop-index-init
-loop-index-init c = push_begins c.args.section c.args.greatest c.args.count c.args.circuit.now c.args.text.now
+loop-index-init c = push_begins (with_literals c.args.section) c.args.greatest c.args.count c.args.circuit.now c.args.text.now (with_none c.args.section c.args.circuit.now)
 
 pub returns-in-Err : goal.returns-in-Err
 returns-in-Err c =
-    inr (push_stop c.args.section c.args.greatest c.args.count c.loop-index._index c.args.circuit.now c.loop-index.circuit c.args.text.now c.loop-index.rest.now c.loop-index.invariant c.loop-index-test.true c.in-Err.stop c.in-Err.ensures.gives)
+    inr (push_stop (with_literals c.args.section) c.args.greatest c.args.count c.loop-index._index c.args.circuit.now c.loop-index.circuit c.args.text.now c.loop-index.rest.now c.loop-index.invariant c.loop-index-test.true c.in-Err.stop c.in-Err.ensures.gives)
 
 pub loop-index-preserved : goal.loop-index-preserved
 loop-index-preserved c =
-    push_step c.args.section c.args.greatest c.args.count c.loop-index._index c.args.circuit.now c.loop-index.circuit c.args.text.now c.loop-index.rest.now c.loop-index.invariant c.loop-index-test.true
-    c.in-Ok.found.0 c.in-Ok.found.1.now c.push.new.circuit c.in-Ok.ensures.gives c.in-Ok-push.ensures.ok
+    push_step (with_literals c.args.section) c.args.greatest c.args.count c.loop-index._index c.args.circuit.now c.loop-index.circuit c.args.text.now c.loop-index.rest.now c.loop-index.invariant c.loop-index-test.true
+    c.in-Ok.found.0 c.in-Ok.found.1.now c.push.new.circuit (with_more c.args.section) c.in-Ok.ensures.gives c.in-Ok-push.ensures.ok
 
 pub want_of_memory-requires : goal.want_of_memory-requires
 want_of_memory-requires c =
@@ -25,7 +26,7 @@ pub returns : goal.returns
 returns c = (
   c.loop-index.invariant.literals,
   (
-    push_done c.args.section c.args.greatest c.args.count c.loop-index._index c.args.circuit.now c.loop-index.circuit c.args.text.now c.loop-index.rest.now c.loop-index.invariant c.loop-index-test.false,
+    push_done (with_literals c.args.section) c.args.greatest c.args.count c.loop-index._index c.args.circuit.now c.loop-index.circuit c.args.text.now c.loop-index.rest.now c.loop-index.invariant c.loop-index-test.false,
     c.loop-index.invariant.is,
   ),
 )

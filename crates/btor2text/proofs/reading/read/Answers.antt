@@ -1,17 +1,30 @@
-use Rattle.btor2text.proofs.AnswerLemmas.{found, only, fault, device, place}
+use Rattle.btor2text.proofs.AnswerLemmas.{GivesItems, found, only, fault, not_read, device, unfailed, read_on, place}
 use Rattle.btor2text.proofs.reading.read.Goals as goal
 
 pub returns-in-Ok-clause-found : goal.returns-in-Ok-clause-found
-returns-in-Ok-clause-found g c = found (g.S.Source.to_come c.args.source.now) c.in-Ok.text.items c.read_text.result c.in-Ok.ensures.bytes (rw c.as_slice.ensures.value at c.read_text.ensures.gives)
+returns-in-Ok-clause-found g c =
+    let gives : GivesItems (g.S.Source.to_come c.args.source.now) c.read_lines.new.model = rw c.new-model.ensures at c.in-Ok.ensures.1 in
+    found (g.S.Source.to_come c.args.source.now) c.read_lines.new.model gives
 
 pub returns-in-Ok-clause-only : goal.returns-in-Ok-clause-only
-returns-in-Ok-clause-only g c = only (g.S.Source.to_come c.args.source.now) c.in-Ok.text.items c.read_text.result c.in-Ok.ensures.bytes (rw c.as_slice.ensures.value at c.read_text.ensures.gives)
+returns-in-Ok-clause-only g c =
+    let gives : GivesItems (g.S.Source.to_come c.args.source.now) c.read_lines.new.model = rw c.new-model.ensures at c.in-Ok.ensures.1 in
+    only (g.S.Source.to_come c.args.source.now) c.read_lines.new.model gives
 
-pub returns-in-Ok-clause-device : goal.returns-in-Ok-clause-device
-returns-in-Ok-clause-device g c = device c.as_slice.result.now c.read_text.result _ c.read_text.ensures.gives
+pub returns-in-Err-clause-only : goal.returns-in-Err-clause-only
+returns-in-Err-clause-only g c = not_read (g.S.Source.to_come c.args.source.now) (g.S.Source.to_come c.read_lines.new.source) c.in-Err.fault _ _ (rw c.new-model.ensures at c.in-Err.ensures)
 
-pub returns-in-Ok-clause-place : goal.returns-in-Ok-clause-place
-returns-in-Ok-clause-place g c = place c.as_slice.result.now c.read_text.result c.read_text.ensures.gives
+pub returns-in-Err-clause-fault : goal.returns-in-Err-clause-fault
+returns-in-Err-clause-fault g c = fault (g.S.Source.to_come c.args.source.now) (g.S.Source.to_come c.read_lines.new.source) c.in-Err.fault _ _ (rw c.new-model.ensures at c.in-Err.ensures)
 
-pub returns-in-Ok-clause-fault : goal.returns-in-Ok-clause-fault
-returns-in-Ok-clause-fault g c = fault (g.S.Source.to_come c.args.source.now) c.in-Ok.text.items c.read_text.result c.in-Ok.ensures.bytes (rw c.as_slice.ensures.value at c.read_text.ensures.gives)
+pub returns-in-Err-clause-device : goal.returns-in-Err-clause-device
+returns-in-Err-clause-device g c = device (g.S.Source.to_come c.args.source.now) (g.S.Source.to_come c.read_lines.new.source) c.in-Err.fault _ _ (rw c.new-model.ensures at c.in-Err.ensures)
+
+pub returns-in-Err-clause-unfailed : goal.returns-in-Err-clause-unfailed
+returns-in-Err-clause-unfailed g c = unfailed (g.S.Source.to_come c.args.source.now) (g.S.Source.to_come c.read_lines.new.source) c.in-Err.fault _ _ (rw c.new-model.ensures at c.in-Err.ensures)
+
+pub returns-in-Err-clause-read_on : goal.returns-in-Err-clause-read_on
+returns-in-Err-clause-read_on g c = read_on (g.S.Source.to_come c.args.source.now) (g.S.Source.to_come c.read_lines.new.source) c.in-Err.fault _ _ (rw c.new-model.ensures at c.in-Err.ensures)
+
+pub returns-in-Err-clause-place : goal.returns-in-Err-clause-place
+returns-in-Err-clause-place g c = place (g.S.Source.to_come c.args.source.now) (g.S.Source.to_come c.read_lines.new.source) c.in-Err.fault _ _ (rw c.new-model.ensures at c.in-Err.ensures)

@@ -1,0 +1,35 @@
+-- How names are kept: those that come in the order of their places one after another in one list of bytes, the others in a map of their own.
+use Rattle.std.specs.Prelude.{◌≡◌, ℕ, ◌+◌, ◌*◌, ◌/◌, ◌%◌, List, [], ◌∷◌, map, length}
+use Rattle.std.specs.List.Sorted.{IsStrictlySortedBy}
+use Rattle.std.specs.Ordering.{nat_cmp}
+use Rattle.std.specs.BTreeMap.{insert_entry}
+use Rattle.aiger.specs.Names.{Place, NameMap, place_cmp}
+use Rattle.aiger.specs.Justice.{AreEnds}
+
+-- a place of a position below 2^32 as one number, and the place of such a number
+abbrev pub key_of : Place → ℕ
+key_of p = p.0 * 4294967296 + p.1
+
+abbrev pub place_of : ℕ → Place
+place_of key = (key / 4294967296, key % 4294967296)
+
+-- keys with their names
+abbrev pub named_keys : List ℕ → List (List ℕ) → List (ℕ × List ℕ)
+named_keys [] names = []
+named_keys (key ∷ keys) [] = []
+named_keys (key ∷ keys) (name ∷ names) = (key, name) ∷ named_keys keys names
+
+-- keys that rise, as many ends of names, and so many bytes
+pub record AreFlat (keys ends : List ℕ) (count : ℕ) : Type 0 where
+  pub ended : AreEnds 0 ends count
+  pub as_many : length keys ≡ length ends
+  pub rising : IsStrictlySortedBy nat_cmp keys
+
+-- names by their keys at their places
+abbrev pub at_places : List (ℕ × List ℕ) → NameMap
+at_places names = map (λ e. (place_of e.0, e.1)) names
+
+-- names with others, each put in at its place
+abbrev pub with_names : NameMap → NameMap → NameMap
+with_names names [] = names
+with_names names (e ∷ others) = insert_entry place_cmp (with_names names others) e.0 e.1

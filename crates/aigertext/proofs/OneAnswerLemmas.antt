@@ -1,0 +1,60 @@
+-- A text has at most one answer.
+use Rattle.std.proofs.Common.{◌≡◌, ℕ, ◌<◌, List, length, Some, None, Result, Ok, Err, sym, ap, ◌∙◌, inl, inr, ◌⊎◌, arith}
+use Rattle.aiger.specs.Circuit.{Circuit}
+use Rattle.aiger.specs.Loose.{Loose, IsLoose}
+use Rattle.aiger.specs.Renumbering.{IsRenumbered, IsFirstCyclic, LeadsToCycle, first_undefined}
+use Rattle.aigertext.specs.declared.counts.Counts.{Counts}
+use Rattle.aigertext.specs.declared.fault.Stop.{Stop}
+use Rattle.aigertext.specs.declared.fault.Why.TheVariants as why
+use Rattle.aigertext.specs.declared.forms.Form.{Form}
+use Rattle.aigertext.specs.declared.forms.Form.TheVariants.{Ascii, Binary}
+use Rattle.aigertext.specs.Reading.{line_at, header_of, names_at}
+use Rattle.aigertext.specs.AsciiReading.{lists_of_file, lines_before, use_of_gate, stop_behind, AnswersNamed, AnswersUndefined, AnswersCycle, AnswersLists, AnswersBody, AnswersHeader, AnswersText}
+use Rattle.aigertext.proofs.PassOverLemmas.{cyclic_within}
+
+-- the laws of renumbering
+abbrev pub OneCircuit : Type 0
+OneCircuit = (l : Loose) (c d : Circuit) → IsRenumbered l c → IsRenumbered l d → c ≡ d
+
+abbrev pub NoCycle : Type 0
+NoCycle = (l : Loose) (c : Circuit) (j : ℕ) → IsLoose l → IsRenumbered l c → j < length l.gates → ¬ LeadsToCycle l j
+
+same_first : (l : Loose) (i j : ℕ) → IsFirstCyclic l i → IsFirstCyclic l j → i ≡ j
+same_first l i j one two =
+    let not_below : ¬ (i < j) = λ h. two.first i h one.leads in
+    let not_above : ¬ (j < i) = λ h. one.first j h two.leads in
+    omega (arith, not_below, not_above)
+
+undefined_not : (l : Loose) (k : ℕ) → first_undefined l ≡ Some k → first_undefined l ≡ None → ⊥
+undefined_not l k some none = cc
+
+same_line : (l : Loose) (k m : ℕ) → first_undefined l ≡ Some k → first_undefined l ≡ Some m → k ≡ m
+same_line l k m one two = cc
+
+module _ (same_circuit : OneCircuit) (no_cycle : NoCycle) (h : Counts) (text : List ℕ) (l : Loose) (valid : IsLoose l) (names : List ℕ) (a b : Result Circuit Stop) where
+  one_of_lists : AnswersNamed l names a ⊎ (AnswersUndefined h text l a ⊎ AnswersCycle h text l a) → AnswersNamed l names b ⊎ (AnswersUndefined h text l b ⊎ AnswersCycle h text l b) → a ≡ b
+  one_of_lists (inl x) (inl y) = x.is ∙ ap (λ (c : Circuit). names_at c names) (same_circuit l x.circuit y.circuit x.is_renumbered y.is_renumbered) ∙ sym y.is
+  one_of_lists (inl x) (inr (inl y)) = absurd (undefined_not l y.line y.undefined x.is_renumbered.known)
+  one_of_lists (inl x) (inr (inr y)) = absurd (no_cycle l x.circuit y.gate valid x.is_renumbered (cyclic_within l y.gate y.cyclic.leads) y.cyclic.leads)
+  one_of_lists (inr (inl x)) (inl y) = absurd (undefined_not l x.line x.undefined y.is_renumbered.known)
+  one_of_lists (inr (inl x)) (inr (inl y)) = x.is ∙ ap (λ (k : ℕ). Err (stop_behind text (lines_before h k) why.Undefined)) (same_line l x.line y.line x.undefined y.undefined) ∙ sym y.is
+  one_of_lists (inr (inl x)) (inr (inr y)) = absurd (undefined_not l x.line x.undefined y.known)
+  one_of_lists (inr (inr x)) (inl y) = absurd (no_cycle l y.circuit x.gate valid y.is_renumbered (cyclic_within l x.gate x.cyclic.leads) x.cyclic.leads)
+  one_of_lists (inr (inr x)) (inr (inl y)) = absurd (undefined_not l y.line y.undefined x.known)
+  one_of_lists (inr (inr x)) (inr (inr y)) = x.is ∙ ap (λ (k : ℕ). Err (stop_behind text (lines_before h (use_of_gate l k)) why.Cycle)) (same_first l x.gate y.gate x.cyclic y.cyclic) ∙ sym y.is
+
+pub one_answer : OneCircuit → NoCycle → (text : List ℕ) (a b : Result Circuit Stop) → AnswersText text a → AnswersText text b → a ≡ b
+unfolding AnswersText
+one_answer same_circuit no_cycle text a b = by (line_at header_of text)
+  where
+    lists : (h : Counts) (rest : List ℕ) → (r : Result (Loose × List ℕ) Stop) → AnswersLists h rest r a → AnswersLists h rest r b → a ≡ b
+    lists h rest (Ok x) p q = one_of_lists same_circuit no_cycle h rest x.0 p.0 x.1 a b p.1 q.1
+    lists h rest (Err w) p q = p ∙ sym q
+
+    body : (form : Form) (h : Counts) (rest : List ℕ) → AnswersBody form h rest a → AnswersBody form h rest b → a ≡ b
+    body Ascii h rest p q = lists h rest (lists_of_file h rest) p q
+    body Binary h rest p q = p ∙ sym q
+
+    by : (r : Result ((Form × Counts) × List ℕ) Stop) → AnswersHeader r a → AnswersHeader r b → a ≡ b
+    by (Ok x) p q = body x.0.0 x.0.1 x.1 p q
+    by (Err w) p q = p ∙ sym q

@@ -1,0 +1,25 @@
+use Rattle.std.proofs.Common.{inl, inr}
+use Rattle.aigertext.specs.declared.literals.LiteralSection.TheVariants.{Fair}
+use Rattle.aigertext.specs.Passes.{with_uses}
+use Rattle.aigertext.specs.AsciiReading.{with_properties_of}
+use Rattle.aigertext.proofs.SectionReadLemmas.{properties_no_list, properties_taken}
+use Rattle.aigertext.proofs.UseLemmas.{lists_made}
+use Rattle.aigertext.proofs.ascii_literals.push_file_properties.Goals as goal
+
+pub returns-in-Err : goal.returns-in-Err
+returns-in-Err c =
+    elim c.in-Err.ensures [
+      | inl full ↦ inl full
+      | inr read ↦
+          inr (properties_no_list c.args.counts.now c.args.text.now c.in_ok-rest.rest.now c.in_ok-rest-2.rest.now c.in_ok-sizes.sizes.now c.in_ok-listed.listed.now _ _ _ c.in_ok-listed.field-0-0
+          c.in_ok-rest.ensures.1.0 c.in_ok-rest-2.ensures.1.0 c.in_ok-sizes.ensures.1.0 c.in_ok-listed.ensures c.in-Err.stop read)
+    ]
+
+pub returns : goal.returns
+returns c =
+    properties_taken c.args.counts.now c.args.text.now c.in_ok-rest.rest.now c.in_ok-rest-2.rest.now c.in_ok-sizes.sizes.now c.in_ok-listed.listed.now _ _ _ c.in_ok-listed.field-0-0
+    c.in_ok-rest.ensures.1.0 c.in_ok-rest-2.ensures.1.0 c.in_ok-sizes.ensures.1.0 c.in_ok-listed.ensures
+    (with_uses Fair) (with_properties_of c.args.lists.now) _ c.in-Ok.rest.now c.in-Ok.ensures.1.0 c.push_use_lists.new.lists c.push_uses-4.new.lists
+    (lists_made _ _ _ _ c.args.lists.now c.push_uses.new.lists c.push_uses-2.new.lists c.push_uses-3.new.lists c.push_use_lists.new.lists c.push_uses-4.new.lists c.requires.none
+    c.in_ok-rest.ensures.1.1 c.in_ok-rest-2.ensures.1.1 c.in_ok-sizes.ensures.1.1 c.in-Ok.ensures.1.1)
+    (λ x. x.now) c.push_uses-4.result c.push_uses-4.ensures

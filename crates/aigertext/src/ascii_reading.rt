@@ -1,0 +1,142 @@
+//! Reading what stands behind the header of an ascii text.
+ghost use Rattle.std.specs.Prelude.{◌≡◌, ◌-◌, ◌≤◌, ◌<◌, length, IfOk};
+ghost use Rattle.std.specs.List.{sum_by};
+ghost use Rattle.aiger.specs.Circuit.{IsCircuit};
+ghost use Rattle.aiger.specs.Loose.{IsLoose};
+ghost use Rattle.aiger.specs.Renumbering.{used_lines};
+ghost use Rattle.aigertext.specs.declared.forms.Form.TheVariants as form;
+ghost use Rattle.aigertext.specs.AsciiReading.{lists_of_file, behind_line, behind_lines, lines_before, AnswersAscii};
+ghost use Rattle.aigertext.specs.Passes.{ReadsLists, Numbers, ReadsBy};
+ghost use Rattle.aigertext.specs.Reading.{cut};
+ghost use Rattle.aigertext.specs.Counts.{AreSmall, Fits};
+
+use crate::ascii_lists::{push_gate_lines, push_inputs, push_latches};
+use crate::ascii_literals::push_file_properties;
+use crate::counts::Counts;
+use crate::fault::{Stop, Why};
+use crate::front::stop;
+use crate::naming::give_names;
+use aiger::{Circuit, Loose, LooseFault};
+use base::next_line;
+use std::alloc::Global;
+
+/// The lists of a file, and the text behind them.
+#[tactic(auto, unfolding(crate::specs::AsciiReading::lists_of_file))]
+fn read_lists<'a>(alloc: Global, counts: &Counts, text: &'a [u8]) -> Result<(Loose, &'a [u8]), Stop>
+    requires small { AreSmall counts.now }
+    requires fits { Fits form.Ascii counts.now }
+    ensures read { ReadsLists (λ x. (x.0, x.1.now)) result (lists_of_file counts.now text.now) }
+    ensures valid { IfOk result (λ x. IsLoose x.0) }
+{
+    let greatest = 2 * counts.variables + 1;
+    let mut lists = Loose::new(alloc);
+    let latches = push_inputs(&mut lists, text, greatest, counts.inputs)?;
+    let properties = push_latches(&mut lists, latches, greatest, counts.latches)?;
+    let gates = push_file_properties(alloc, &mut lists, properties, counts)?;
+    let names = push_gate_lines(&mut lists, gates, greatest, counts.gates)?;
+    let _valid = lists.inputs();
+    Ok((lists, names))
+}
+
+/// The text behind its first line.
+fn skip_line(text: &[u8]) -> &[u8]
+    ensures { result.now ≡ behind_line text.now (cut 10 text.now) }
+{
+    match next_line(text) {
+        None => text,
+        Some((_, behind)) => behind,
+    }
+}
+
+/// The text behind so many lines.
+fn skip_lines(text: &[u8], count: usize) -> &[u8]
+    ensures { result.now ≡ behind_lines count text.now }
+{
+    let mut rest = text;
+    for _index in 0..count {
+        rest = skip_line(rest);
+    }
+    rest
+}
+
+/// The text from the line that is k-th of those that use literals, where the first text stands behind the header.
+fn from_use<'a>(text: &'a [u8], counts: &Counts, k: usize) -> &'a [u8]
+    requires { AreSmall counts.now }
+    ensures { result.now ≡ behind_lines (lines_before counts.now k) text.now }
+{
+    let before_sizes = counts.latches + counts.outputs;
+    let before_sizes = before_sizes as usize + counts.bads as usize + counts.constraints as usize;
+    let inputs = counts.inputs as usize;
+    if k < before_sizes {
+        skip_lines(skip_lines(text, inputs), k)
+    } else {
+        skip_lines(skip_lines(text, inputs + counts.justice as usize), k)
+    }
+}
+
+/// How many literals the justice properties have.
+fn justice_literals(lists: &Loose) -> usize
+    ensures sum { result ≡ sum_by length lists.now.justice }
+    ensures small { result ≤ 1073741824 }
+{
+    let mut sum = 0;
+    for index in 0..lists.justice_count() {
+        sum += lists.justice(index).len();
+    }
+    sum
+}
+
+/// How many lines that use literals stand before the gates.
+fn uses_before_gates(lists: &Loose) -> usize
+    ensures count { result ≡ length (used_lines lists.now) - length lists.now.gates }
+    ensures small { result ≤ 6442450944 }
+    ensures few { length lists.now.gates ≤ 1073741824 }
+{
+    lists.latches().len()
+        + lists.outputs().len()
+        + lists.bads().len()
+        + lists.constraints().len()
+        + justice_literals(lists)
+        + lists.fair().len()
+}
+
+/// The circuit that the lists of a file are; else reading stops at the first line that uses a variable that none
+/// defines, or at the first gate that leads to a cycle.
+fn numbered(alloc: Global, lists: &Loose, counts: &Counts, text: &[u8]) -> Result<Circuit, Stop>
+    requires { AreSmall counts.now }
+    ensures { Numbers counts.now text.now lists.now result }
+{
+    match lists.number(alloc) {
+        Ok(circuit) => Ok(circuit),
+        Err(LooseFault::Undefined(k)) => Err(stop(from_use(text, counts, k), Why::Undefined)),
+        Err(LooseFault::Cycle(gate)) => {
+            let k = uses_before_gates(lists) + gate;
+            Err(stop(from_use(text, counts, k), Why::Cycle))
+        }
+        Err(LooseFault::NoMemory) => Err(stop(text, Why::NoMemory)),
+    }
+}
+
+/// The circuit behind a header of the ascii form. No list is made by a number of the header.
+pub fn read_file(alloc: Global, counts: &Counts, text: &[u8]) -> Result<Circuit, Stop>
+    requires small { AreSmall counts.now }
+    requires fits { Fits form.Ascii counts.now }
+    ensures reads { ReadsBy result (AnswersAscii counts.now text.now) }
+    ensures valid { IfOk result (λ c. IsCircuit c) }
+{
+    let (lists, names) = match read_lists(alloc, counts, text) {
+        Ok(read) => read,
+        Err(stop) => return Err(stop),
+    };
+    let mut circuit = match numbered(alloc, &lists, counts, text) {
+        Ok(circuit) => circuit,
+        Err(stop) => return Err(stop),
+    };
+    match give_names(&mut circuit, names) {
+        Ok(()) => {
+            let _valid = circuit.inputs();
+            Ok(circuit)
+        }
+        Err(stop) => Err(stop),
+    }
+}

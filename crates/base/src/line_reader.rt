@@ -1,0 +1,170 @@
+//! The lines of a source, one after the other, without holding all of its bytes.
+ghost use Rattle.std.specs.Prelude.{vec_len, vec_capacity, ◌≡◌, ℕ, ◌+◌, ◌-◌, ◌*◌, ◌<◌, ◌≤◌, Bool, true, false, List, [], ◌∷◌, ◌++◌, length, take, drop, if◌then◌else◌, IfOk, OnOk, OnErr, IsErrOf};
+ghost use Rattle.std.specs.Io.KnownBytes.{prepend_known, Keeps, IsAtEnd};
+ghost use Rattle.base.specs.Device.{HasRisen, CountsFaults};
+ghost use Rattle.base.specs.Lines.{IsLine};
+ghost use Rattle.base.specs.Held.{Held, Advances, lines_left};
+
+use crate::device::DeviceFault;
+use crate::lines::next_line;
+use crate::sources::{ReadAllFault, Source};
+use std::alloc::Global;
+use std::marker::Model;
+
+/// How many bytes one call of a source is asked for.
+const PIECE: usize = 32768;
+
+/// The lines of a source, one after the other. Bytes are read in pieces of 32768 into one buffer, which grows only where
+/// a piece does not fit behind the part of a line that is held.
+///
+/// Clauses see the line that was found last and the bytes that were read behind it.
+#[derive(Drop)]
+pub struct LineReader {
+    bytes: Vec<u8>,
+    start: usize,
+    end: usize,
+    next: usize,
+}
+
+impl Model for LineReader {
+    ghost Value = { Held };
+
+    ghost view = { λ r. record { line = drop r.start (take r.end r.bytes.items); rest = drop r.next r.bytes.items } };
+
+    ghost invariant = { λ r. (r.start ≤ r.end) × ((r.end ≤ r.next) × (r.next ≤ length r.bytes.items)) };
+}
+
+impl LineReader {
+    /// A reader that holds nothing.
+    pub fn new(alloc: Global) -> LineReader
+        ensures { result ≡ record { line = []; rest = [] } }
+    {
+        LineReader {
+            bytes: Vec::new(alloc),
+            start: 0,
+            end: 0,
+            next: 0,
+        }
+    }
+
+    /// The line that was found last, without its byte 10; no bytes where the last step found none.
+    pub fn line(&self) -> &[u8]
+        ensures { result.now ≡ self.now.line }
+    {
+        let (front, _) = self.bytes.as_slice().split_at(self.end);
+        let (_, line) = front.split_at(self.start);
+        line
+    }
+
+    /// The bytes behind that line that were read already; where the source has no line more, what is unfinished.
+    pub fn rest(&self) -> &[u8]
+        ensures { result.now ≡ self.now.rest }
+    {
+        let (_, rest) = self.bytes.as_slice().split_at(self.next);
+        rest
+    }
+
+    /// Goes on to the next line, and answers whether there is one. Where there is none, the source was read to its end.
+    ///
+    /// Errors: `Device` where the source failed in this call, `NoMemory` where a growth was refused. No byte is lost
+    /// then: a further call goes on.
+    pub fn advance<S: Source>(&mut self, source: &mut S) -> Result<bool, ReadAllFault>
+        ensures bytes { Advances result self.old self.new (S.to_come source.old) (S.to_come source.new) }
+        ensures ends { result ≡ Ok true → lines_left self.new.rest (S.calls_left source.new) < lines_left self.old.rest (S.calls_left source.old) }
+        ensures counted { OnOk result (S.failures source.new ≡ S.failures source.old) }
+        ensures device { IsErrOf result ReadAllFault.Device → HasRisen (S.failures source.old) (S.failures source.new) }
+        ensures memory { IsErrOf result ReadAllFault.NoMemory → S.failures source.new ≡ S.failures source.old }
+    {
+        if self.cut(0) {
+            return Ok(true);
+        }
+        self.compact();
+        loop {
+            let seen = self.bytes.len() - self.next;
+            if self.fill(source)? == 0 {
+                return Ok(false);
+            }
+            if self.cut(seen) {
+                return Ok(true);
+            }
+        }
+    }
+
+    /// Cuts the next line off what is held, and answers whether there is one. The first `seen` of the bytes have no byte 10.
+    fn cut(&mut self, seen: usize) -> bool
+        requires within { seen ≤ length self.old.rest }
+        requires none { IsLine (take seen self.old.rest) }
+        ensures found { result ≡ true → IsLine self.new.line × (self.old.rest ≡ self.new.line ++ 10 ∷ self.new.rest) }
+        ensures none { result ≡ false → IsLine self.old.rest × (self.new ≡ self.old) }
+    {
+        let from = self.next + seen;
+        let (_, unseen) = self.bytes.as_slice().split_at(from);
+        match next_line(unseen) {
+            None => false,
+            Some((line, _)) => {
+                let end = from + line.len();
+                self.start = self.next;
+                self.end = end;
+                self.next = end + 1;
+                true
+            }
+        }
+    }
+
+    /// Moves what is held to the front of the buffer, over what is behind the reader.
+    fn compact(&mut self)
+        ensures { self.new ≡ record { line = []; rest = self.old.rest } }
+    {
+        let next = self.next;
+        self.start = 0;
+        self.end = 0;
+        self.next = 0;
+        remove_front(&mut self.bytes, next);
+    }
+
+    /// Reads a piece behind what is held, and answers how many bytes; none at the end.
+    fn fill<S: Source>(&mut self, source: &mut S) -> Result<usize, ReadAllFault>
+        ensures line { self.new.line ≡ self.old.line }
+        ensures front { take (length self.old.rest) self.new.rest ≡ self.old.rest }
+        ensures bytes { Keeps (prepend_known self.old.rest (S.to_come source.old)) (prepend_known self.new.rest (S.to_come source.new)) }
+        ensures count { IfOk result (λ n. length self.new.rest ≡ length self.old.rest + n) }
+        ensures within { IfOk result (λ n. n ≤ 32768) }
+        ensures end { result ≡ Ok 0 → IsAtEnd (S.to_come source.new) }
+        ensures ends { IfOk result (λ n. 0 < n → S.calls_left source.new < S.calls_left source.old) }
+        ensures counted { OnOk result (S.failures source.new ≡ S.failures source.old) }
+        ensures device { IsErrOf result ReadAllFault.Device → HasRisen (S.failures source.old) (S.failures source.new) }
+        ensures memory { IsErrOf result ReadAllFault.NoMemory → S.failures source.new ≡ S.failures source.old }
+    {
+        if self.bytes.reserve(PIECE).is_err() {
+            return Err(ReadAllFault::NoMemory);
+        }
+        let mut piece = [0u8; PIECE];
+        match source.read(&mut piece) {
+            Err(DeviceFault::Failed) => Err(ReadAllFault::Device),
+            Ok(count) => {
+                append(&mut self.bytes, &piece[..count]);
+                Ok(count)
+            }
+        }
+    }
+}
+
+/// Drops the first n bytes of a buffer.
+fn remove_front(bytes: &mut Vec<u8>, n: usize)
+    requires { n ≤ length bytes.old.items }
+    ensures { bytes.new.items ≡ drop n bytes.old.items }
+{
+    let len = bytes.len();
+    bytes.as_mut_slice().copy_within(n..len, 0);
+    bytes.truncate(len - n);
+}
+
+/// Puts a piece behind a buffer that has room for it.
+fn append(bytes: &mut Vec<u8>, piece: &[u8])
+    requires { vec_len bytes.old + length piece.now ≤ vec_capacity bytes.old }
+    ensures { bytes.new.items ≡ bytes.old.items ++ piece.now }
+{
+    let Ok(()) = bytes.extend_from_slice(piece) else {
+        unreachable!()
+    };
+}

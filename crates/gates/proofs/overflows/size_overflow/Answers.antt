@@ -1,0 +1,29 @@
+use Rattle.std.proofs.Common.{◌≡◌, ◌+◌, ◌-◌, ◌≤◌, length, take, get_or, refl, arith}
+use Rattle.std.proofs.lemmas.Result.{IfOk-weaker, IfErr-weaker}
+use Rattle.std.proofs.lemmas.List.{length-take-le}
+use Rattle.gates.proofs.LiteralLemmas.{Refuses-behind}
+use Rattle.gates.proofs.GrowthLemmas.{Grows-trans}
+use Rattle.gates.proofs.SizeLemmas.{MakesLiteral-size_overflow}
+use Rattle.gates.proofs.overflows.size_overflow.Goals as goal
+
+pub returns-clause-ok : goal.returns-clause-ok
+returns-clause-ok g c =
+    let size = c.args.size.now.items in
+    let n = length size in
+    let x = c.index-deref-top.result in
+    let x_is : x ≡ get_or size (n - 1) x = rw (← c.len-top.ensures.value, ← c.deref.ensures.0) c.index-deref-top.is in
+    IfOk-weaker c.conjunction.result _ _
+    (λ l makes. MakesLiteral-size_overflow _ _ _ _ size (take (n - 1) size) c.args.negative c.not.result c.in_ok-below.below c.in_ok-other.other x l c.requires.some refl x_is c.not.ensures
+    (rw (c.len-top.ensures.value, c.as_slice.ensures.value) at c.in_ok-below.ensures.ok) c.in_ok-other.ensures.ok makes)
+    c.conjunction.ensures.ok
+
+pub returns-clause-refused : goal.returns-clause-refused
+returns-clause-refused g c =
+    let size = c.args.size.now.items in
+    let n = length size in
+    let front : length (take (n - 1) size) ≡ n - 1 = length-take-le (n - 1) size (omega arith) in
+    let few : length (take (n - 1) size) + 1 + 1 ≤ n + 1 = omega (arith, front) in
+    let below = rw (c.len-top.ensures.value, c.as_slice.ensures.value) at c.in_ok-below.ensures.ok in
+    IfErr-weaker c.conjunction.result _ _
+    (λ e refused. Refuses-behind _ _ _ (length (take (n - 1) size) + 1) 1 (n + 1) e few (Grows-trans _ _ _ (length (take (n - 1) size)) 1 below.grows c.in_ok-other.ensures.ok.grows) refused)
+    c.conjunction.ensures.refused

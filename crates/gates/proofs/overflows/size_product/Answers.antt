@@ -1,0 +1,34 @@
+use Rattle.std.proofs.Common.{◌*◌, ℕ, length, subst, unsigned_abs}
+use Rattle.std.proofs.lemmas.Result.{IfOk-weaker}
+use Rattle.base.specs.Signed.{signed}
+use Rattle.gates.specs.Made.{MakesWord, word_value}
+use Rattle.gates.proofs.SizeLemmas.{MakesWord-size_product, MakesLiteral-size_product}
+use Rattle.gates.proofs.overflows.size_product.Goals as goal
+
+pub returns-clause-bits : goal.returns-clause-bits
+returns-clause-bits g c =
+    let mid = g.G.Gates.made c.size.new.g in
+    let end = g.G.Gates.made c.size-2.new.g in
+    let b = c.args.b.now.items in
+    let n = length c.args.a.now.items in
+    let second : MakesWord mid end (12 * n) n (λ v. unsigned_abs (signed n (word_value v b))) c.in_ok-second.second.items =
+    subst (λ (k : ℕ). MakesWord mid end (12 * k) k (λ v. unsigned_abs (signed k (word_value v b))) c.in_ok-second.second.items) c.requires.equal c.in_ok-second.ensures.ok
+    in
+    IfOk-weaker c.whole_product.result _ _
+    (λ product makes. MakesWord-size_product (g.G.Gates.made c.args.g.now) mid end (g.G.Gates.made c.whole_product.new.g) n c.in_ok-first.first.items c.in_ok-second.second.items product.bits.items
+    (λ v. unsigned_abs (signed n (word_value v c.args.a.now.items))) (λ v. unsigned_abs (signed n (word_value v b))) c.in_ok-first.ensures.ok second makes)
+    c.whole_product.ensures.bits
+
+pub returns-clause-lost : goal.returns-clause-lost
+returns-clause-lost g c =
+    let mid = g.G.Gates.made c.size.new.g in
+    let end = g.G.Gates.made c.size-2.new.g in
+    let b = c.args.b.now.items in
+    let n = length c.args.a.now.items in
+    let second : MakesWord mid end (12 * n) n (λ v. unsigned_abs (signed n (word_value v b))) c.in_ok-second.second.items =
+    subst (λ (k : ℕ). MakesWord mid end (12 * k) k (λ v. unsigned_abs (signed k (word_value v b))) c.in_ok-second.second.items) c.requires.equal c.in_ok-second.ensures.ok
+    in
+    IfOk-weaker c.whole_product.result _ _
+    (λ product makes. MakesLiteral-size_product (g.G.Gates.made c.args.g.now) mid end (g.G.Gates.made c.whole_product.new.g) n c.in_ok-first.first.items c.in_ok-second.second.items product.lost
+    (λ v. unsigned_abs (signed n (word_value v c.args.a.now.items))) (λ v. unsigned_abs (signed n (word_value v b))) c.in_ok-first.ensures.ok second makes)
+    c.whole_product.ensures.lost

@@ -1,0 +1,82 @@
+-- Vectors of operators: the lines that write them, and which of them are right.
+use Rattle.std.specs.Prelude.{◌≡◌, ◌≢◌, ℕ, ◌≤◌, ◌<◌, ◌^◌, ◌-◌, true, List, [], ◌∷◌, ◌++◌, length, Option, Some, IfSome, flat_map, decimal, codes}
+use Rattle.std.specs.List.{All}
+use Rattle.std.specs.Io.KnownBytes.{Appends}
+use Rattle.base.specs.Lines.{text_of_lines}
+use Rattle.base.specs.Widths.{is_of_bits, unary_width, binary_width}
+use Rattle.base.specs.Operator.{unary_value, binary_value}
+use Rattle.btor2text.specs.Words.{unary_of, binary_of}
+use Rattle.hwtool.specs.declared.vector_lines.Vector.{Vector}
+use Rattle.hwtool.specs.declared.vector_lines.Vector.TheVariants as vector
+
+-- the numbers of a vector fit their widths: the operands are of the vector's width, which is 1 to 64, or 1 where the operator takes single bits; the result is of the operator's width
+abbrev pub IsVector : Vector → Type 0
+IsVector (vector.Unary op n a r) = (1 ≤ n) × (n ≤ 64) × (a < 2 ^ n) × (r < 2 ^ unary_width op n)
+IsVector (vector.Binary op n a b r) = (1 ≤ n) × (n ≤ 64) × (is_of_bits op ≡ true → n ≡ 1) × (a < 2 ^ n) × (b < 2 ^ n) × (r < 2 ^ binary_width op n)
+
+-- a word names the operator of a vector
+abbrev pub NamesOperator : List ℕ → Vector → Type 0
+NamesOperator word (vector.Unary op n a r) = unary_of word ≡ Some op
+NamesOperator word (vector.Binary op n a b r) = binary_of word ≡ Some op
+
+-- the width, the operands and the result as decimals, one space between
+abbrev pub numbers : Vector → List ℕ
+numbers (vector.Unary op n a r) = decimal n ++ 32 ∷ (decimal a ++ 32 ∷ decimal r)
+numbers (vector.Binary op n a b r) = decimal n ++ 32 ∷ (decimal a ++ 32 ∷ (decimal b ++ 32 ∷ decimal r))
+
+-- a line, without its byte 10, writes a vector: the operator's word, a space, and the numbers, which fit
+pub record Writes (line : List ℕ) (v : Vector) : Type 0 where
+  pub word : List ℕ
+  pub named : NamesOperator word v
+  pub is : line ≡ word ++ 32 ∷ numbers v
+  pub fits : IsVector v
+
+-- lines write as many vectors, each its own
+abbrev pub WriteAll : List (List ℕ) → List Vector → Type 0
+WriteAll [] [] = Unit {0}
+WriteAll [] (v ∷ vs) = ⊥
+WriteAll (line ∷ lines) [] = ⊥
+WriteAll (line ∷ lines) (v ∷ vs) = Writes line v × WriteAll lines vs
+
+-- a text is the lines of some vectors, each with its byte 10
+pub record AreVectorsOf (text : List ℕ) (vectors : List Vector) : Type 0 where
+  pub lines : List (List ℕ)
+  pub is : text ≡ text_of_lines lines
+  pub written : WriteAll lines vectors
+
+-- the word that a vector says to come
+abbrev pub said : Vector → ℕ
+said (vector.Unary op n a r) = r
+said (vector.Binary op n a b r) = r
+
+-- the word that a vector's operator gives for its operands
+abbrev pub value_of : Vector → ℕ
+value_of (vector.Unary op n a r) = unary_value op n a
+value_of (vector.Binary op n a b r) = binary_value op n a b
+
+-- a vector is right: its operator gives the word that it says
+abbrev pub IsRight : Vector → Type 0
+IsRight v = value_of v ≡ said v
+
+-- the line of a vector that differs, by its number
+abbrev pub differs_line : ℕ → List ℕ
+differs_line k = codes "line " ++ (decimal k ++ codes ": differs\n")
+
+-- what is told of some vectors: a line for each that differs, and how many agree
+abbrev pub report : List ℕ → ℕ → List ℕ
+report differing n = flat_map differs_line differing ++ (decimal (n - length differing) ++ (codes " of " ++ (decimal n ++ codes " vectors agree\n")))
+
+-- all that was to come is a text of some vectors, each of which is right, and what was written is that all of them agree
+pub record Agree (known before now : Option (List ℕ)) : Type 0 where
+  pub vectors : List Vector
+  pub text : IfSome known (λ text. AreVectorsOf text vectors)
+  pub right : All IsRight vectors
+  pub appends : Appends before now (report [] (length vectors))
+
+-- all that was to come is a text of some vectors, and what was written names lines that differ, at least one
+pub record Differ (known before now : Option (List ℕ)) : Type 0 where
+  pub vectors : List Vector
+  pub text : IfSome known (λ text. AreVectorsOf text vectors)
+  pub differing : List ℕ
+  pub some : differing ≢ []
+  pub appends : Appends before now (report differing (length vectors))

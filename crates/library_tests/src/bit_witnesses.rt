@@ -1,0 +1,201 @@
+//! Witnesses of small circuits, judged in pieces: each text is cut at every place, and fed byte by byte.
+use aiger::{Circuit, CircuitFault, Lit, Reset};
+use std::alloc::Global;
+use std::test::Fail;
+use witness::{BitJudge, Judgement, Why};
+
+/// A circuit of which witnesses speak.
+#[derive(Clone, Copy, Debug)]
+enum Sample {
+    /// A latch that begins with 0 and toggles; it is bad where the latch is 1.
+    Toggler,
+    /// Two latches that keep their bits and have no initial value; it is bad where the second is 1.
+    Kept,
+    /// An input; it is bad where the input is 1.
+    Input,
+}
+
+/// Sets a latch, where it is there.
+fn set_latch(circuit: &mut Circuit, k: usize, next: u32, reset: Reset) -> Result<(), CircuitFault> {
+    if k < circuit.latches().len() {
+        circuit.set_latch(k, Lit::new(next), reset)?;
+    }
+    Ok(())
+}
+
+/// The circuit of a sample.
+fn circuit_of(alloc: Global, sample: Sample) -> Result<Circuit, CircuitFault> {
+    let (inputs, latches, bad) = match sample {
+        Sample::Toggler => (0, 1, 2),
+        Sample::Kept => (0, 2, 4),
+        Sample::Input => (1, 0, 2),
+    };
+    let mut circuit = Circuit::new(alloc, inputs, latches)?;
+    match sample {
+        Sample::Toggler => set_latch(&mut circuit, 0, 3, Reset::Zero)?,
+        Sample::Kept => {
+            set_latch(&mut circuit, 0, 2, Reset::Free)?;
+            set_latch(&mut circuit, 1, 4, Reset::Free)?;
+        }
+        Sample::Input => {}
+    }
+    circuit.push_bad(Lit::new(bad))?;
+    Ok(circuit)
+}
+
+/// The judgement of a text in two pieces.
+fn judged(alloc: Global, circuit: &Circuit, text: &[u8], cut: usize) -> Result<Judgement, Fail> {
+    let mut judge = BitJudge::new(alloc, circuit)?;
+    let (first, second) = text.split_at(cut.min(text.len()));
+    judge.feed(first);
+    judge.feed(second);
+    Ok(judge.finish())
+}
+
+/// The judgement of a text that is fed byte by byte.
+fn judged_by_bytes(alloc: Global, circuit: &Circuit, text: &[u8]) -> Result<Judgement, Fail> {
+    let mut judge = BitJudge::new(alloc, circuit)?;
+    for byte in text {
+        judge.feed(&[*byte]);
+    }
+    Ok(judge.finish())
+}
+
+/// What is told of a text with a fault.
+fn malformed(line: u64, why: Why) -> Judgement {
+    Judgement::Malformed { line, why }
+}
+
+#[test]
+fn judgements_of_texts_cut_at_any_byte(rt: HostRuntime) -> Result<(), Fail> {
+    let rows = [
+        (
+            Sample::Toggler,
+            "1\nb0\n0\n\n\n.\n",
+            Judgement::Accepted { frames: 2 },
+        ),
+        (
+            Sample::Toggler,
+            "1\nb0\n0\n\n\n.",
+            malformed(6, Why::Truncated),
+        ),
+        (
+            Sample::Toggler,
+            "1\nb0\n0\n\n\n.\nx",
+            malformed(7, Why::Trailing),
+        ),
+        (Sample::Toggler, "", malformed(1, Why::Truncated)),
+        (Sample::Toggler, "3\n", malformed(1, Why::BadHeader)),
+        (
+            Sample::Toggler,
+            "1\nb0\nx\n",
+            malformed(3, Why::Undetermined),
+        ),
+        (Sample::Toggler, "1\nj0\n", malformed(2, Why::JusticeClaim)),
+        (Sample::Toggler, "1\nj01\n", malformed(2, Why::BadClaim)),
+        (Sample::Toggler, "1\nb0 j0\n", malformed(2, Why::BadClaim)),
+        (
+            Sample::Toggler,
+            "1\nb18446744073709551616\n",
+            malformed(2, Why::BadClaim),
+        ),
+        (Sample::Toggler, "1\nb0\n.\n", malformed(3, Why::BadValue)),
+        (
+            Sample::Toggler,
+            "1\nb0\n0\n.\n",
+            malformed(4, Why::FrameOrder),
+        ),
+        (
+            Sample::Toggler,
+            "1\nb0\n1\n\n.\n",
+            Judgement::InitDiffers { index: 0 },
+        ),
+        (
+            Sample::Toggler,
+            "1\nb0\n0\n\n.\n",
+            Judgement::NotReached { claim: 0 },
+        ),
+        (Sample::Toggler, "2\n", Judgement::NoClaim),
+        (Sample::Toggler, "0\nx", Judgement::NoClaim),
+        (
+            Sample::Kept,
+            "1\nb0\n01\n\n.\n",
+            Judgement::Accepted { frames: 1 },
+        ),
+        (Sample::Kept, "1\nb0\n01\nz\n", malformed(4, Why::BadValue)),
+        (Sample::Kept, "1\nb0\nx\n", malformed(3, Why::BadValue)),
+        (
+            Sample::Input,
+            "1\nb0\n\n0\n1\n.\n",
+            Judgement::Accepted { frames: 2 },
+        ),
+        (
+            Sample::Input,
+            "1\nb0\n\n1\n\n.\n",
+            malformed(5, Why::BadValue),
+        ),
+        (Sample::Input, "1\nb0\n\n.\n", malformed(4, Why::FrameOrder)),
+    ];
+    for (sample, text, wanted) in rows {
+        let circuit = circuit_of(rt.alloc(), sample)?;
+        let bytes = text.as_bytes();
+        for cut in 0..bytes.len().saturating_add(1) {
+            let judgement = judged(rt.alloc(), &circuit, bytes, cut)?;
+            assert_eq!(rt; judgement, wanted, "{sample:?} at {cut}: {text}");
+        }
+        assert_eq!(rt;
+            judged_by_bytes(rt.alloc(), &circuit, bytes)?,
+            wanted,
+            "{sample:?}: {text}"
+        );
+    }
+    Ok(())
+}
+
+/// A text of so many frames without inputs.
+fn empty_frames(alloc: Global, count: usize) -> Result<Vec<u8>, Fail> {
+    let mut text = Vec::from_slice(alloc, b"1\nb0\n0\n")?;
+    for _ in 0..count {
+        text.push(b'\n')?;
+    }
+    text.extend_from_slice(b".\n")?;
+    Ok(text)
+}
+
+/// What a judge that was fed a text in pieces of so many bytes holds and has counted, and its judgement.
+fn counted(
+    alloc: Global,
+    circuit: &Circuit,
+    text: &[u8],
+    size: usize,
+) -> Result<(u64, u128, u64, u64, Judgement), Fail> {
+    let mut judge = BitJudge::new(alloc, circuit)?;
+    for piece in text.chunks(size.max(1)) {
+        judge.feed(piece);
+    }
+    let held = judge.held();
+    let steps = judge.steps();
+    let frames = judge.closed_frames();
+    let lines = judge.admitted_lines();
+    Ok((held, steps, frames, lines, judge.finish()))
+}
+
+#[test]
+fn two_hundred_thousand_frames(rt: HostRuntime) -> Result<(), Fail> {
+    let circuit = circuit_of(rt.alloc(), Sample::Toggler)?;
+    let text = empty_frames(rt.alloc(), 200_000)?;
+    for size in [1, 4096] {
+        let (held, steps, frames, lines, judgement) = counted(
+            rt.alloc(),
+            &circuit,
+            text.as_slice(),
+            size,
+        )?;
+        assert_eq!(rt; held, 3);
+        assert_eq!(rt; steps, 200_000);
+        assert_eq!(rt; frames, 200_000);
+        assert_eq!(rt; lines, 200_004);
+        assert_eq!(rt; judgement, Judgement::Accepted { frames: 200_000 });
+    }
+    Ok(())
+}

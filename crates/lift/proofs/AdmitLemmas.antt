@@ -1,0 +1,189 @@
+-- A line that is admitted: its place, what it is by it, and that its piece is that of what is kept of it.
+use Rattle.std.proofs.Common.{◌≡◌, ℕ, zero, suc, ◌+◌, ◌<◌, ◌≤◌, ◌^◌, ◌==◌, nat_le, Bool, true, false, cond, List, [], ◌∷◌, ◌++◌, Option, Some, None, Result, Ok, Err, codes, decimal, length, get_or, refl, sym, ap, subst, ◌∙◌, arith, inl, inr}
+use Rattle.std.specs.Str.{bytes_eq}
+use Rattle.std.proofs.lemmas.Bool.{cases_Bool}
+use Rattle.std.proofs.lemmas.List.{length-map}
+use Rattle.std.proofs.lemmas.Slice.Eq.{bytes_eq-Decides}
+use Rattle.base.specs.Decimals.{capped_value, is_decimal, number_of}
+use Rattle.base.proofs.DecimalLemmas.{chosen, number_of-decimal}
+use Rattle.btor2.specs.declared.item.Item.{Item}
+use Rattle.aiger.specs.Circuit.{Circuit}
+use Rattle.witness.specs.declared.why.Why.{Why}
+use Rattle.witness.specs.declared.why.Why.TheVariants as why
+use Rattle.witness.specs.Texts.{digit, claim, most_lines}
+use Rattle.witness.specs.BitTexts.{bit_line}
+use Rattle.witness.specs.BitAdmits.{claim_at, bits_at, BitPlace, AtHeader, AtClaim, AtInitial, AtFirst, AtLater, AtDone, BitRead, BitReading, nothing_admitted, one_more_line, after_claim, after_initial, after_frame, bit_admit_at, bit_admit, next_line, lines_behind}
+use Rattle.witness.proofs.BitReadLemmas.{bits_are_line, claim_is_line}
+use Rattle.witness.proofs.PieceLemmas.{decimal_digits}
+use Rattle.lift.specs.Lifted.{piece, line_bits, initial_piece, frame_piece}
+use Rattle.lift.specs.Kept.{KeptLine, Keeps, kept_frame, kept_piece, IsFrameOrEnd, IsAdmitted}
+use Rattle.lift.proofs.KeptLemmas.{kept_line_bits}
+
+-- ---- the place of the next line, by how many lines are admitted
+
+abbrev PlaceAt : ℕ → BitPlace → Type 0
+PlaceAt n AtHeader = n ≡ 0
+PlaceAt n AtClaim = n ≡ 1
+PlaceAt n AtInitial = n ≡ 2
+PlaceAt n AtFirst = n ≡ 3
+PlaceAt n AtLater = 4 ≤ n
+PlaceAt n AtDone = 5 ≤ n
+
+after_claim_at : (n : ℕ) (r next : BitRead) (o : Result ℕ Why) → n ≡ 1 → after_claim r o ≡ Ok next → PlaceAt (n + 1) next.place
+after_claim_at n r next (Ok i) at h =
+    let e : record r { place = AtInitial; claim = i } ≡ next = cc in
+    subst (λ (x : BitRead). PlaceAt (n + 1) x.place) e (omega (arith, at))
+after_claim_at n r next (Err w) at h = absurd cc
+
+after_initial_at : (n : ℕ) (r next : BitRead) (o : Result (List Bool) Why) → n ≡ 2 → after_initial r o ≡ Ok next → PlaceAt (n + 1) next.place
+after_initial_at n r next (Ok bits) at h =
+    let e : record r { place = AtFirst; initial = bits } ≡ next = cc in
+    subst (λ (x : BitRead). PlaceAt (n + 1) x.place) e (omega (arith, at))
+after_initial_at n r next (Err w) at h = absurd cc
+
+after_frame_at : (n : ℕ) (r next : BitRead) (o : Result (List Bool) Why) → 3 ≤ n → after_frame r o ≡ Ok next → PlaceAt (n + 1) next.place
+after_frame_at n r next (Ok bits) at h =
+    let e : record r { place = AtLater; frames = r.frames ++ bits ∷ [] } ≡ next = cc in
+    subst (λ (x : BitRead). PlaceAt (n + 1) x.place) e (omega (arith, at))
+after_frame_at n r next (Err w) at h = absurd cc
+
+place_step : (c : Circuit) (n : ℕ) (r next : BitRead) (line : List ℕ) (place : BitPlace) → PlaceAt n place → bit_admit_at c r line place ≡ Ok next → PlaceAt (n + 1) next.place
+place_step c n r next line AtHeader at h =
+    elim (chosen (bytes_eq line (codes "1")) (Ok (record r { place = AtClaim })) (Err why.BadHeader) (Ok next) h) [
+      | inl e ↦
+          let is : record r { place = AtClaim } ≡ next = cc (e.1) in
+          subst (λ (x : BitRead). PlaceAt (n + 1) x.place) is (omega (arith, at))
+      | inr e ↦ absurd (cc (e.1))
+    ]
+place_step c n r next line AtClaim at h = after_claim_at n r next (claim_at (length c.bads) line) at h
+place_step c n r next line AtInitial at h = after_initial_at n r next (bits_at (length c.latches) line) at h
+place_step c n r next line AtFirst at h =
+    elim (chosen (bytes_eq line (codes ".")) (Err why.FrameOrder) (after_frame r (bits_at c.inputs line)) (Ok next) h) [
+      | inl e ↦ absurd (cc (e.1))
+      | inr e ↦ after_frame_at n r next (bits_at c.inputs line) (omega (arith, at)) e.1
+    ]
+place_step c n r next line AtLater at h =
+    elim (chosen (bytes_eq line (codes ".")) (Ok (record r { place = AtDone })) (after_frame r (bits_at c.inputs line)) (Ok next) h) [
+      | inl e ↦
+          let is : record r { place = AtDone } ≡ next = cc (e.1) in
+          subst (λ (x : BitRead). PlaceAt (n + 1) x.place) is (omega (arith, at))
+      | inr e ↦ after_frame_at n r next (bits_at c.inputs line) (omega (arith, at)) e.1
+    ]
+place_step c n r next line AtDone at h = absurd cc
+
+abbrev Placed : BitReading → ℕ → Type 0
+Placed g n = g.refused ≡ None → PlaceAt n g.read.place
+
+placed_read : (c : Circuit) (g : BitReading) (n : ℕ) (line : List ℕ) (o : Result BitRead Why) → bit_admit c g.read line ≡ o → g.refused ≡ None → Placed g n → Placed (one_more_line g o) (n + 1)
+unfolding bit_admit
+placed_read c g n line (Ok r) is none h e = place_step c n g.read r line g.read.place (h none) is
+placed_read c g n line (Err w) is none h e = absurd cc
+
+placed_line : (c : Circuit) (g : BitReading) (n : ℕ) (line : List ℕ) (o : Option Why) → g.refused ≡ o → Placed g n → Placed (next_line c g line) (n + 1)
+unfolding next_line
+placed_line c g n line (Some w) is h = rw is (λ e. absurd cc)
+placed_line c g n line None is h =
+    elim (cases_Bool (nat_le most_lines g.admitted)) [
+      | inl many ↦ rw (is, many) (λ e. absurd cc)
+      | inr few ↦ rw (is, few) (placed_read c g n line (bit_admit c g.read line) refl is h)
+    ]
+
+placed_from : (c : Circuit) (g : BitReading) (n : ℕ) (lines : List (List ℕ)) → Placed g n → Placed (lines_behind c g lines) (n + length lines)
+placed_from c g n [] h = let same : n + 0 ≡ n = omega arith in subst (Placed g) (sym same) h
+placed_from c g n (line ∷ lines) h =
+    let same : n + 1 + length lines ≡ n + suc (length lines) = omega arith in
+    subst (Placed (lines_behind c (next_line c g line) lines)) same (placed_from c (next_line c g line) (n + 1) lines (placed_line c g n line g.refused refl h))
+
+nothing_placed : Placed nothing_admitted 0
+nothing_placed e = refl
+
+place_of_lines : (c : Circuit) (lines : List (List ℕ)) → (lines_behind c nothing_admitted lines).refused ≡ None → PlaceAt (length lines) (lines_behind c nothing_admitted lines).read.place
+place_of_lines c lines none =
+    let same : 0 + length lines ≡ length lines = omega arith in
+    subst (λ (n : ℕ). PlaceAt n (lines_behind c nothing_admitted lines).read.place) same (placed_from c nothing_admitted 0 lines nothing_placed none)
+
+-- ---- what the line is
+
+not_a_dot : (bits : List Bool) → (get_or (bit_line bits) 0 0 == 46) ≡ false
+not_a_dot [] = refl
+not_a_dot (true ∷ bits) = refl
+not_a_dot (false ∷ bits) = refl
+
+frame_line : (c : Circuit) (r next : BitRead) (line : List ℕ) (o : Result (List Bool) Why) → bits_at c.inputs line ≡ o → after_frame r o ≡ Ok next → IsFrameOrEnd c line false
+frame_line c r next line (Ok bits) is h =
+    let are = bits_are_line c.inputs line bits is in
+    (ap length are.spelled ∙ (length-map bits digit ∙ are.many), ap (λ (l : List ℕ). get_or l 0 0 == 46) are.spelled ∙ not_a_dot bits)
+frame_line c r next line (Err w) is h = absurd cc
+
+later_line : (c : Circuit) (n : ℕ) (line : List ℕ) (b : Bool) → 3 ≤ n → bytes_eq line (codes ".") ≡ b → IsFrameOrEnd c line b → IsAdmitted c n line
+later_line c zero line b le is h = absurd (omega (arith, le))
+later_line c (suc zero) line b le is h = absurd (omega (arith, le))
+later_line c (suc (suc zero)) line b le is h = absurd (omega (arith, le))
+later_line c (suc (suc (suc n))) line b le is h = subst (IsFrameOrEnd c line) (sym is) h
+
+initial_line : (c : Circuit) (r next : BitRead) (line : List ℕ) (o : Result (List Bool) Why) → bits_at (length c.latches) line ≡ o → after_initial r o ≡ Ok next → length line ≡ length c.latches
+initial_line c r next line (Ok bits) is h =
+    let are = bits_are_line (length c.latches) line bits is in
+    ap length are.spelled ∙ (length-map bits digit ∙ are.many)
+initial_line c r next line (Err w) is h = absurd cc
+
+claim_line : (c : Circuit) (r next : BitRead) (line : List ℕ) (o : Result ℕ Why) → length c.bads < 2 ^ 64 → claim_at (length c.bads) line ≡ o → after_claim r o ≡ Ok next → (i : ℕ) × ((line ≡ claim i) × (i < length c.bads))
+claim_line c r next line (Ok i) small is h =
+    let found = claim_is_line (length c.bads) line i small is in
+    (i, (found.spelled, found.below))
+claim_line c r next line (Err w) small is h = absurd cc
+
+admitted_at : (c : Circuit) (n : ℕ) (r next : BitRead) (line : List ℕ) (place : BitPlace) → length c.bads < 2 ^ 64 → PlaceAt n place → bit_admit_at c r line place ≡ Ok next → IsAdmitted c n line
+admitted_at c n r next line AtHeader small at h = subst (λ (k : ℕ). IsAdmitted c k line) (sym at) tt
+admitted_at c n r next line AtClaim small at h = subst (λ (k : ℕ). IsAdmitted c k line) (sym at) (claim_line c r next line (claim_at (length c.bads) line) small refl h)
+admitted_at c n r next line AtInitial small at h = subst (λ (k : ℕ). IsAdmitted c k line) (sym at) (initial_line c r next line (bits_at (length c.latches) line) refl h)
+admitted_at c n r next line AtFirst small at h =
+    elim (chosen (bytes_eq line (codes ".")) (Err why.FrameOrder) (after_frame r (bits_at c.inputs line)) (Ok next) h) [
+      | inl e ↦ absurd (cc (e.1))
+      | inr e ↦ later_line c n line false (omega (arith, at)) e.0 (frame_line c r next line (bits_at c.inputs line) refl e.1)
+    ]
+admitted_at c n r next line AtLater small at h =
+    elim (chosen (bytes_eq line (codes ".")) (Ok (record r { place = AtDone })) (after_frame r (bits_at c.inputs line)) (Ok next) h) [
+      | inl e ↦ later_line c n line true (omega (arith, at)) e.0 tt
+      | inr e ↦ later_line c n line false (omega (arith, at)) e.0 (frame_line c r next line (bits_at c.inputs line) refl e.1)
+    ]
+admitted_at c n r next line AtDone small at h = absurd cc
+
+pub is_admitted : (c : Circuit) (lines : List (List ℕ)) (next : BitRead) (line : List ℕ) → length c.bads < 2 ^ 64 → (lines_behind c nothing_admitted lines).refused ≡ None
+    → bit_admit c (lines_behind c nothing_admitted lines).read line ≡ Ok next → IsAdmitted c (length lines) line
+unfolding bit_admit
+is_admitted c lines next line small none h =
+    admitted_at c (length lines) (lines_behind c nothing_admitted lines).read next line (lines_behind c nothing_admitted lines).read.place small (place_of_lines c lines none) h
+
+-- ---- its piece
+
+value_of_decimal : (n : ℕ) → n < 2 ^ 64 → capped_value (decimal n) ≡ n
+unfolding number_of
+value_of_decimal n small =
+    elim (chosen (is_decimal (decimal n)) (Some (capped_value (decimal n))) None (Some n) (number_of-decimal n small)) [
+      | inl e ↦ cc (e.1)
+      | inr e ↦ absurd (cc (e.1))
+    ]
+
+kept_claim : (k : KeptLine) (line : List ℕ) (i : ℕ) → i < 2 ^ 64 → line ≡ claim i → Keeps k line → claim k.number ∷ [] ≡ line ∷ []
+kept_claim k line i small is h =
+    let said : Keeps k (claim i) = subst (Keeps k) is h in
+    let number : k.number ≡ i = said.number (decimal_digits i small) ∙ value_of_decimal i small in
+    ap (λ (n : ℕ). claim n ∷ []) number ∙ ap (λ (l : List ℕ). l ∷ []) (sym is)
+
+kept_frame_is : (items : List Item) (c : Circuit) (n : ℕ) (line : List ℕ) (k : KeptLine) (b : Bool) → bytes_eq line (codes ".") ≡ b → IsFrameOrEnd c line b → Keeps k line → c.inputs ≤ length k.bits
+    → kept_frame items n k ≡ cond b (line ∷ []) (frame_piece items n (line_bits line))
+kept_frame_is items c n line k true is h keeps fits =
+    let dot : line ≡ codes "." = (bytes_eq-Decides line (codes ".")).0 is in
+    let first : (k.first == 46) ≡ true = ap (λ (b : ℕ). b == 46) (keeps.first ∙ ap (λ (l : List ℕ). get_or l 0 0) dot) in
+    rw first (ap (λ (l : List ℕ). l ∷ []) (sym dot))
+kept_frame_is items c n line k false is h keeps fits =
+    let first : (k.first == 46) ≡ false = ap (λ (b : ℕ). b == 46) keeps.first ∙ h.1 in
+    rw first (ap (frame_piece items n) (kept_line_bits k line keeps (omega (arith, h.0, fits))))
+
+pub kept_is_piece : (items : List Item) (c : Circuit) (n : ℕ) (line : List ℕ) (k : KeptLine) → length c.bads < 2 ^ 64 → IsAdmitted c n line → Keeps k line → length c.latches ≤ length k.bits → c.inputs ≤ length k.bits
+    → kept_piece items n k ≡ piece items n line
+kept_is_piece items c zero line k small is keeps latches inputs = refl
+kept_is_piece items c (suc zero) line k small is keeps latches inputs = kept_claim k line is.0 (omega (arith, small, is.1.1)) is.1.0 keeps
+kept_is_piece items c (suc (suc zero)) line k small is keeps latches inputs = ap (initial_piece items) (kept_line_bits k line keeps (omega (arith, is, latches)))
+kept_is_piece items c (suc (suc (suc n))) line k small is keeps latches inputs = kept_frame_is items c n line k (bytes_eq line (codes ".")) refl is keeps inputs

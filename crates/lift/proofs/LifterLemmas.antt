@@ -1,0 +1,183 @@
+-- What a lifter puts for the bytes that it takes.
+use Rattle.std.proofs.Common.{◌≡◌, ℕ, ◌+◌, ◌<◌, ◌^◌, ◌==◌, Bool, true, false, not, cond, List, [], ◌∷◌, ◌++◌, Option, Result, Ok, Err, MatchResult, length, refl, sym, ap, ap₂, subst, ◌∙◌, append_assoc, append-nil, arith, inl, inr}
+use Rattle.std.proofs.lemmas.Bool.{or_from, ne_eqb, eq-eqb}
+use Rattle.std.proofs.lemmas.List.Concat.{flat_map-append}
+use Rattle.std.proofs.lemmas.List.Folds.{list_any-append}
+use Rattle.base.specs.Device.{Sent, AppendsBeginning}
+use Rattle.base.specs.Lines.{IsLine, text_of_lines, whole_lines, unfinished}
+use Rattle.base.specs.Pieces.{Puts}
+use Rattle.base.proofs.DeviceLemmas.{sent_on, sent_then_beginning, beginning_longer}
+use Rattle.base.proofs.LineLemmas.{parts_of_text, unfinished-lines, unfinished-last, unfinished_is_line, whole_lines-last}
+use Rattle.btor2.specs.declared.item.Item.{Item}
+use Rattle.aiger.specs.Circuit.{Circuit, IsCircuit}
+use Rattle.witness.specs.BitAdmits.{nothing_admitted, lines_behind, bit_reading, admitted_lines}
+use Rattle.witness.specs.BitStands.{StandsFor}
+use Rattle.witness.proofs.BitJudgeLemmas.{whole_lines-end, unfinished-end}
+use Rattle.lift.specs.Lifted.{piece, lifted_text}
+use Rattle.lift.specs.Kept.{KeptLine, Keeps, kept_piece}
+use Rattle.lift.specs.Stands.{Lifter, Lifts, admitted_piece}
+use Rattle.lift.proofs.LineLemmas.{lifted_of, line_more, lines_behind_text, lifted_by_lines, lifted_begins}
+use Rattle.lift.proofs.AdmitLemmas.{is_admitted, kept_is_piece}
+
+-- ---- bytes that end no line
+
+still_a_line : (text bytes : List ℕ) → IsLine bytes → IsLine (unfinished text ++ bytes)
+still_a_line text bytes is = list_any-append (λ c. c == 10) (unfinished text) bytes ∙ or_from _ _ (unfinished_is_line text) is
+
+rest_longer : (text bytes : List ℕ) → IsLine bytes → unfinished (text ++ bytes) ≡ unfinished text ++ bytes
+rest_longer text bytes is =
+    let behind : text ++ bytes ≡ text_of_lines (whole_lines text) ++ (unfinished text ++ bytes) =
+    ap (λ (t : List ℕ). t ++ bytes) (sym (parts_of_text text)) ∙ append_assoc (text_of_lines (whole_lines text)) (unfinished text) bytes in
+    ap unfinished behind ∙ unfinished-lines (whole_lines text) (unfinished text ++ bytes) ∙ unfinished-last (unfinished text ++ bytes) (still_a_line text bytes is)
+
+same_lines : (text bytes : List ℕ) → IsLine bytes → whole_lines (text ++ bytes) ≡ whole_lines text
+same_lines text bytes is =
+    lines_behind_text text bytes ∙ ap (λ (ls : List (List ℕ)). whole_lines text ++ ls) (whole_lines-last (unfinished text ++ bytes) (still_a_line text bytes is)) ∙ append-nil (whole_lines text)
+
+pub same_lifted : (items : List Item) (c : Circuit) (text bytes : List ℕ) → IsLine bytes → lifted_text items c (text ++ bytes) ≡ lifted_text items c text
+same_lifted items c text bytes is =
+    lifted_by_lines items c (text ++ bytes) ∙ ap (λ (ls : List (List ℕ)). text_of_lines (lifted_of items c ls)) (same_lines text bytes is) ∙ sym (lifted_by_lines items c text)
+
+pub lifts_bytes : (items : List Item) (c : Circuit) (text bytes : List ℕ) (before after : Lifter) → IsLine bytes → Lifts items c before text → after.items ≡ before.items
+    → StandsFor c after.judge (text ++ bytes) → ((line : List ℕ) → Keeps before.kept line → Keeps after.kept (line ++ bytes)) → length after.kept.bits ≡ length before.kept.bits → Lifts items c after (text ++ bytes)
+lifts_bytes items c text bytes before after is h same stands keeps room =
+    record {
+      circuit = h.circuit;
+      model = same ∙ h.model;
+      judge = stands;
+      kept = subst (Keeps after.kept) (sym (rest_longer text bytes is)) (keeps (unfinished text) h.kept);
+      latches = omega (arith, h.latches, room);
+      inputs = omega (arith, h.inputs, room);
+    }
+
+pub lifts_end : (items : List Item) (c : Circuit) (text : List ℕ) (before after : Lifter) → Lifts items c before text → after.items ≡ before.items
+    → StandsFor c after.judge (text ++ 10 ∷ []) → Keeps after.kept [] → length after.kept.bits ≡ length before.kept.bits → Lifts items c after (text ++ 10 ∷ [])
+lifts_end items c text before after h same stands keeps room =
+    record {
+      circuit = h.circuit;
+      model = same ∙ h.model;
+      judge = stands;
+      kept = subst (Keeps after.kept) (sym (unfinished-end text)) keeps;
+      latches = omega (arith, h.latches, room);
+      inputs = omega (arith, h.inputs, room);
+    }
+
+-- ---- the end of a line
+
+few_bads : (c : Circuit) → IsCircuit c → length c.bads < 2 ^ 64
+few_bads c valid = omega (arith, valid.few.bads)
+
+admitted_by_lines : (c : Circuit) (text : List ℕ) → admitted_lines c text ≡ (lines_behind c nothing_admitted (whole_lines text)).admitted
+unfolding bit_reading
+admitted_by_lines c text = refl
+
+lifted_end_by_lines : (items : List Item) (c : Circuit) (text : List ℕ) → lifted_text items c (text ++ 10 ∷ []) ≡ text_of_lines (lifted_of items c (whole_lines text ++ unfinished text ∷ []))
+lifted_end_by_lines items c text = lifted_by_lines items c (text ++ 10 ∷ []) ∙ ap (λ (ls : List (List ℕ)). text_of_lines (lifted_of items c ls)) (whole_lines-end text)
+
+admitted_end : (c : Circuit) (text : List ℕ) → admitted_lines c (text ++ 10 ∷ []) ≡ (lines_behind c nothing_admitted (whole_lines text ++ unfinished text ∷ [])).admitted
+admitted_end c text = admitted_by_lines c (text ++ 10 ∷ []) ∙ ap (λ (ls : List (List ℕ)). (lines_behind c nothing_admitted ls).admitted) (whole_lines-end text)
+
+-- the piece that is put is what is lifted of the line
+pub lifted_end : (items : List Item) (c : Circuit) (text : List ℕ) (l : Lifter) → Lifts items c l text
+    → lifted_text items c (text ++ 10 ∷ []) ≡ lifted_text items c text ++ text_of_lines (admitted_piece (not (admitted_lines c (text ++ 10 ∷ []) == admitted_lines c text)) l (admitted_lines c text))
+lifted_end items c text l h =
+    let old : ℕ = admitted_lines c text in
+    let new : ℕ = admitted_lines c (text ++ 10 ∷ []) in
+    elim (line_more items c (whole_lines text) (unfinished text)) [
+      | inl p ↦
+          let same : (new == old) ≡ true = eq-eqb new old (admitted_end c text ∙ p.count ∙ sym (admitted_by_lines c text)) in
+          lifted_end_by_lines items c text ∙ ap text_of_lines p.lifted ∙ sym (lifted_by_lines items c text)
+          ∙ sym (append-nil (lifted_text items c text)) ∙ ap (λ (b : Bool). lifted_text items c text ++ text_of_lines (admitted_piece (not b) l old)) (sym same)
+      | inr a ↦
+          let number : old ≡ length (whole_lines text) = admitted_by_lines c text ∙ a.before in
+          let count : new ≡ length (whole_lines text) + 1 = admitted_end c text ∙ a.count in
+          let other : (new == old) ≡ false = ne_eqb new old (λ e. omega (arith, number, count, e)) in
+          let is : kept_piece items (length (whole_lines text)) l.kept ≡ piece items (length (whole_lines text)) (unfinished text) =
+          kept_is_piece items c (length (whole_lines text)) (unfinished text) l.kept (few_bads c h.circuit) (is_admitted c (whole_lines text) a.next (unfinished text) (few_bads c h.circuit) a.going a.reads) h.kept h.latches h.inputs in
+          let put : admitted_piece (not (new == old)) l old ≡ piece items (length (whole_lines text)) (unfinished text) =
+          ap (λ (b : Bool). admitted_piece (not b) l old) other ∙ ap₂ (λ (xs : List Item) (n : ℕ). kept_piece xs n l.kept) h.model number ∙ is in
+          lifted_end_by_lines items c text ∙ ap text_of_lines a.lifted
+          ∙ flat_map-append (λ line. line ++ 10 ∷ []) (lifted_of items c (whole_lines text)) (piece items (length (whole_lines text)) (unfinished text))
+          ∙ ap₂ (λ (x y : List ℕ). x ++ y) (sym (lifted_by_lines items c text)) (ap text_of_lines (sym put))
+    ]
+
+put_takes : {T E : Type 0} (r : Result T E) (items : List Item) (c : Circuit) (after : Lifter) (text whole more : List ℕ) (start old new : Option (List ℕ)) (kept left : List ℕ)
+    → Sent start old (lifted_text items c text) kept → lifted_text items c text ++ more ≡ lifted_text items c whole → Puts r old new kept left more → Lifts items c after whole
+    → MatchResult r (λ x. Lifts items c after whole × Sent start new (lifted_text items c whole) left) (λ e. AppendsBeginning start new (lifted_text items c whole))
+put_takes (Ok x) items c after text whole more start old new kept left sent same put lifts =
+    (lifts, subst (λ (t : List ℕ). Sent start new t left) same (sent_on start old new (lifted_text items c text) kept more left sent put))
+put_takes (Err x) items c after text whole more start old new kept left sent same put lifts =
+    subst (AppendsBeginning start new) same (sent_then_beginning start old new (lifted_text items c text) kept more sent put)
+
+pub end_takes : {T E : Type 0} (r : Result T E) (items : List Item) (c : Circuit) (text : List ℕ) (start old new : Option (List ℕ)) (kept left : List ℕ) (before mid after : Lifter) (number now : ℕ)
+    → Lifts items c before text → Sent start old (lifted_text items c text) kept → mid.items ≡ before.items → mid.kept ≡ before.kept → number ≡ admitted_lines c text → now ≡ admitted_lines c (text ++ 10 ∷ [])
+    → Puts r old new kept left (text_of_lines (admitted_piece (not (now == number)) mid number)) → Lifts items c after (text ++ 10 ∷ [])
+    → MatchResult r (λ x. Lifts items c after (text ++ 10 ∷ []) × Sent start new (lifted_text items c (text ++ 10 ∷ [])) left) (λ e. AppendsBeginning start new (lifted_text items c (text ++ 10 ∷ [])))
+end_takes r items c text start old new kept left before mid after number now h sent same_items same_kept n m put lifts =
+    let piece : text_of_lines (admitted_piece (not (now == number)) mid number) ≡ text_of_lines (admitted_piece (not (admitted_lines c (text ++ 10 ∷ []) == admitted_lines c text)) before (admitted_lines c text)) =
+    ap₂ (λ (a b : ℕ). text_of_lines (admitted_piece (not (a == b)) mid b)) m n
+    ∙ ap₂ (λ (xs : List Item) (k : KeptLine). text_of_lines (cond (not (admitted_lines c (text ++ 10 ∷ []) == admitted_lines c text)) (kept_piece xs (admitted_lines c text) k) [])) same_items same_kept in
+    let whole : lifted_text items c text ++ text_of_lines (admitted_piece (not (now == number)) mid number) ≡ lifted_text items c (text ++ 10 ∷ []) =
+    ap (λ (l : List ℕ). lifted_text items c text ++ l) piece ∙ sym (lifted_end items c text before h) in
+    put_takes r items c after text (text ++ 10 ∷ []) (text_of_lines (admitted_piece (not (now == number)) mid number)) start old new kept left sent whole put lifts
+
+-- ---- a piece of the witness
+
+-- a front of some bytes was taken, and this rest is left
+pub record Took (old now : Option (List ℕ)) (kept left : List ℕ) (before after : Lifter) (bytes rest : List ℕ) : Type 0 where
+  pub done : List ℕ
+  pub all : done ++ rest ≡ bytes
+  pub takes : (items : List Item) (c : Circuit) (text : List ℕ) (start : Option (List ℕ)) → Lifts items c before text → Sent start old (lifted_text items c text) kept
+      → Lifts items c after (text ++ done) × Sent start now (lifted_text items c (text ++ done)) left
+
+pub took_none : (old : Option (List ℕ)) (kept : List ℕ) (l : Lifter) (bytes : List ℕ) → Took old old kept kept l l bytes bytes
+took_none old kept l bytes = record {
+  done = [];
+  all = refl;
+  takes = λ items c text start h s. subst (λ (t : List ℕ). Lifts items c l t × Sent start old (lifted_text items c t) kept) (sym (append-nil text)) (h, s);
+}
+
+abbrev TakesBytes : Lifter → Lifter → List ℕ → Type 0
+TakesBytes before after bytes = (items : List Item) (c : Circuit) (text : List ℕ) → IsLine bytes → Lifts items c before text → Lifts items c after (text ++ bytes)
+
+took_bytes : (items : List Item) (c : Circuit) (text : List ℕ) (start now : Option (List ℕ)) (left : List ℕ) (mid next : Lifter) (line : List ℕ) → IsLine line → TakesBytes mid next line
+    → Lifts items c mid text × Sent start now (lifted_text items c text) left → Lifts items c next (text ++ line) × Sent start now (lifted_text items c (text ++ line)) left
+took_bytes items c text start now left mid next line is takes h =
+    (takes items c text is h.0, subst (λ (t : List ℕ). Sent start now t left) (sym (same_lifted items c text line is)) h.1)
+
+line_joined : (text done line : List ℕ) → ((text ++ done) ++ line) ++ 10 ∷ [] ≡ text ++ (done ++ (line ++ 10 ∷ []))
+line_joined text done line = append_assoc (text ++ done) line (10 ∷ []) ∙ append_assoc text done (line ++ 10 ∷ [])
+
+pub took_line : (old mid new : Option (List ℕ)) (kept mid_kept left : List ℕ) (before l1 l2 after : Lifter) (bytes rest line behind : List ℕ)
+    → Took old mid kept mid_kept before l1 bytes rest → rest ≡ line ++ 10 ∷ behind → IsLine line → TakesBytes l1 l2 line
+    → ((items : List Item) (c : Circuit) (text : List ℕ) (start : Option (List ℕ)) → Lifts items c l2 text → Sent start mid (lifted_text items c text) mid_kept → Lifts items c after (text ++ 10 ∷ []) × Sent start new (lifted_text items c (text ++ 10 ∷ [])) left)
+    → Took old new kept left before after bytes behind
+took_line old mid new kept mid_kept left before l1 l2 after bytes rest line behind t cut is takes ends = record {
+  done = t.done ++ (line ++ 10 ∷ []);
+  all = append_assoc t.done (line ++ 10 ∷ []) behind ∙ ap (λ (l : List ℕ). t.done ++ l) (append_assoc line (10 ∷ []) behind ∙ sym cut) ∙ t.all;
+  takes = λ items c text start h s.
+      let one = took_bytes items c (text ++ t.done) start mid mid_kept l1 l2 line is takes (t.takes items c text start h s) in
+      subst (λ (x : List ℕ). Lifts items c after x × Sent start new (lifted_text items c x) left) (line_joined text t.done line) (ends items c ((text ++ t.done) ++ line) start one.0 one.1);
+}
+
+pub line_fails : (old mid new : Option (List ℕ)) (kept mid_kept : List ℕ) (before l1 l2 : Lifter) (bytes rest line behind : List ℕ)
+    → Took old mid kept mid_kept before l1 bytes rest → rest ≡ line ++ 10 ∷ behind → IsLine line → TakesBytes l1 l2 line
+    → ((items : List Item) (c : Circuit) (text : List ℕ) (start : Option (List ℕ)) → Lifts items c l2 text → Sent start mid (lifted_text items c text) mid_kept → AppendsBeginning start new (lifted_text items c (text ++ 10 ∷ [])))
+    → (items : List Item) (c : Circuit) (text : List ℕ) (start : Option (List ℕ)) → Lifts items c before text → Sent start old (lifted_text items c text) kept → AppendsBeginning start new (lifted_text items c (text ++ bytes))
+line_fails old mid new kept mid_kept before l1 l2 bytes rest line behind t cut is takes ends items c text start h s =
+    let one = took_bytes items c (text ++ t.done) start mid mid_kept l1 l2 line is takes (t.takes items c text start h s) in
+    let failed = ends items c ((text ++ t.done) ++ line) start one.0 one.1 in
+    let front : List ℕ = text ++ (t.done ++ (line ++ 10 ∷ [])) in
+    let begun : AppendsBeginning start new (lifted_text items c front) = subst (λ (x : List ℕ). AppendsBeginning start new (lifted_text items c x)) (line_joined text t.done line) failed in
+    let all : front ++ behind ≡ text ++ bytes =
+    append_assoc text (t.done ++ (line ++ 10 ∷ [])) behind
+    ∙ ap (λ (l : List ℕ). text ++ l) (append_assoc t.done (line ++ 10 ∷ []) behind ∙ ap (λ (l : List ℕ). t.done ++ l) (append_assoc line (10 ∷ []) behind ∙ sym cut) ∙ t.all) in
+    let more = lifted_begins items c front behind in
+    subst (AppendsBeginning start new) (more.1 ∙ ap (lifted_text items c) all) (beginning_longer start new (lifted_text items c front) more.0 begun)
+
+pub took_all : (old now : Option (List ℕ)) (kept left : List ℕ) (before l1 after : Lifter) (bytes rest : List ℕ)
+    → Took old now kept left before l1 bytes rest → IsLine rest → TakesBytes l1 after rest
+    → (items : List Item) (c : Circuit) (text : List ℕ) (start : Option (List ℕ)) → Lifts items c before text → Sent start old (lifted_text items c text) kept → Lifts items c after (text ++ bytes) × Sent start now (lifted_text items c (text ++ bytes)) left
+took_all old now kept left before l1 after bytes rest t is takes items c text start h s =
+    let one = took_bytes items c (text ++ t.done) start now left l1 after rest is takes (t.takes items c text start h s) in
+    subst (λ (x : List ℕ). Lifts items c after x × Sent start now (lifted_text items c x) left) (append_assoc text t.done rest ∙ ap (λ (l : List ℕ). text ++ l) t.all) one

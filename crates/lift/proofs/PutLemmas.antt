@@ -1,0 +1,126 @@
+-- The parts of pieces, as they are put.
+use Rattle.std.proofs.Common.{◌≡◌, ℕ, zero, suc, ◌+◌, ◌-◌, ◌<◌, ◌≤◌, ◌||◌, Bool, true, false, List, [], ◌∷◌, ◌++◌, length, map, reverse, take, drop, get_or, codes, decimal, refl, sym, ap, subst, ◌∙◌, append_assoc, append-nil, drop-cons, add-one, arith}
+use Rattle.std.specs.List.{list_any}
+use Rattle.std.proofs.Math.Seq.{take_all}
+use Rattle.std.proofs.lemmas.Bool.{or_from, or_right}
+use Rattle.std.proofs.lemmas.List.{reverse-append}
+use Rattle.std.proofs.lemmas.List.Folds.{list_any-append}
+use Rattle.std.proofs.lemmas.List.Concat.{flat_map-append}
+use Rattle.std.proofs.lemmas.Grind.{take_at_read}
+use Rattle.base.specs.Lines.{text_of_lines}
+use Rattle.btor2.specs.declared.item.Item.{Item}
+use Rattle.btor2.specs.Items.{is_state}
+use Rattle.btor2.specs.Lists.{places, is_free_at}
+use Rattle.btor2.specs.Check.{IsWellFormed}
+use Rattle.blast.specs.Cost.{input_width}
+use Rattle.witness.specs.Texts.{digit, shape_of, has_free}
+use Rattle.witness.proofs.ShapeLemmas.{free_at_places}
+use Rattle.lift.specs.Lifted.{word_line, initial_piece, free_piece, frame_piece, input_lines}
+use Rattle.lift.specs.declared.leaves.Leaves.{Leaves}
+use Rattle.lift.specs.declared.leaves.Leaves.TheVariants as leaves
+use Rattle.lift.specs.Kept.{KeptLine, kept_bits, kept_frame, kept_piece, leaf_places, leaf_takes, taken_width, taken_line, placed_lines, leaf_lines}
+use Rattle.lift.proofs.LeafLemmas.{inputs_placed, carried_placed, free_placed}
+
+-- the digits of a word, of which the highest is left
+pub digits_left : (bits : List Bool) (left : ℕ) (b d : Bool) → left < length bits → b ≡ get_or bits left d
+    → map digit (reverse (take (left + 1) bits)) ≡ (digit b ∷ []) ++ map digit (reverse (take left bits))
+digits_left bits left b d lt at =
+    ap (λ (l : List Bool). map digit (reverse l)) ((take_at_read bits left d lt).1 ∙ ap (λ (x : Bool). take left bits ++ x ∷ []) (sym at))
+    ∙ ap (map digit) (reverse-append (take left bits) (b ∷ []))
+
+-- the leaves behind some others
+pub leaves_left : (l : Leaves) (items : List Item) (index p d : ℕ) (ps : List ℕ) (bits : List Bool) → index < length ps → p ≡ get_or ps index d
+    → placed_lines l items index (drop index ps) bits ≡ taken_line (leaf_takes l items p) index (take (taken_width l items p) bits) ++ placed_lines l items (index + 1) (drop (index + 1) ps) (drop (taken_width l items p) bits)
+leaves_left l items index p d ps bits lt at =
+    subst (λ (x : ℕ). placed_lines l items index (drop index ps) bits ≡ taken_line (leaf_takes l items x) index (take (taken_width l items x) bits) ++ placed_lines l items (index + 1) (drop (index + 1) ps) (drop (taken_width l items x) bits))
+    (sym at) (rw (drop-cons ps index d lt, add-one index) refl)
+
+-- the pieces
+pub word_parts : (index : ℕ) (bits : List Bool) → word_line index bits ++ 10 ∷ [] ≡ decimal index ++ ((32 ∷ []) ++ (map digit (reverse bits) ++ 10 ∷ []))
+word_parts index bits = append_assoc (decimal index) (32 ∷ map digit (reverse bits)) (10 ∷ [])
+
+pub initial_parts : (items : List Item) (bits : List Bool) → IsWellFormed items → text_of_lines (initial_piece items bits) ≡ codes "#0\n" ++ leaf_lines leaves.Carried items bits
+initial_parts items bits w = ap (λ (l : List ℕ). codes "#0\n" ++ l) (sym (carried_placed items bits w))
+
+pub first_free : (items : List Item) (frame : ℕ) (bits : List Bool) → IsWellFormed items → frame ≡ 0 → text_of_lines (free_piece items frame bits) ≡ leaf_lines leaves.Free items bits
+first_free items frame bits w e = ap (λ (k : ℕ). text_of_lines (free_piece items k bits)) e ∙ sym (free_placed items bits w)
+
+pub later_free : (items : List Item) (frame : ℕ) (bits : List Bool) → IsWellFormed items → (frame ≡ 0 → ⊥) → has_free (shape_of items) ≡ true
+    → text_of_lines (free_piece items frame bits) ≡ ((35 ∷ []) ++ (decimal frame ++ 10 ∷ [])) ++ leaf_lines leaves.Free items bits
+later_free items zero bits w some free = absurd (some refl)
+later_free items (suc k) bits w some free = rw free (ap (λ (l : List ℕ). ((35 ∷ decimal (suc k)) ++ 10 ∷ []) ++ l) (sym (free_placed items bits w)))
+
+pub no_free : (items : List Item) (frame : ℕ) (bits : List Bool) → (frame ≡ 0 → ⊥) → has_free (shape_of items) ≡ false → text_of_lines (free_piece items frame bits) ≡ []
+no_free items zero bits some none = absurd (some refl)
+no_free items (suc k) bits some none = rw none refl
+
+pub frame_parts : (items : List Item) (frame : ℕ) (bits free : List Bool) → IsWellFormed items → free ≡ drop (input_width items) bits
+    → text_of_lines (frame_piece items frame bits) ≡ text_of_lines (free_piece items frame free) ++ (((64 ∷ []) ++ (decimal frame ++ 10 ∷ [])) ++ leaf_lines leaves.Inputs items bits)
+frame_parts items frame bits free w e =
+    flat_map-append (λ line. line ++ 10 ∷ []) (free_piece items frame (drop (input_width items) bits)) ((64 ∷ decimal frame) ∷ input_lines items bits)
+    ∙ ap (λ (l : List ℕ). text_of_lines (free_piece items frame (drop (input_width items) bits)) ++ (((64 ∷ decimal frame) ++ 10 ∷ []) ++ l)) (sym (inputs_placed items bits w))
+    ∙ ap (λ (bs : List Bool). text_of_lines (free_piece items frame bs) ++ (((64 ∷ []) ++ (decimal frame ++ 10 ∷ [])) ++ leaf_lines leaves.Inputs items bits)) (sym e)
+
+-- the piece by the number of the line
+pub piece_of_header : (items : List Item) (n : ℕ) (k : KeptLine) → n ≡ 0 → text_of_lines (kept_piece items n k) ≡ codes "sat\n"
+piece_of_header items n k e = ap (λ (m : ℕ). text_of_lines (kept_piece items m k)) e
+
+pub piece_of_claim : (items : List Item) (n : ℕ) (k : KeptLine) → n ≡ 1 → text_of_lines (kept_piece items n k) ≡ (98 ∷ []) ++ (decimal k.number ++ 10 ∷ [])
+piece_of_claim items n k e = ap (λ (m : ℕ). text_of_lines (kept_piece items m k)) e ∙ append-nil ((98 ∷ decimal k.number) ++ 10 ∷ [])
+
+pub piece_of_initial : (items : List Item) (n : ℕ) (k : KeptLine) → n ≡ 2 → text_of_lines (kept_piece items n k) ≡ text_of_lines (initial_piece items (kept_bits k))
+piece_of_initial items n k e = ap (λ (m : ℕ). text_of_lines (kept_piece items m k)) e
+
+pub piece_of_frame : (items : List Item) (n : ℕ) (k : KeptLine) → (n ≡ 0 → ⊥) → (n ≡ 1 → ⊥) → (n ≡ 2 → ⊥) → text_of_lines (kept_piece items n k) ≡ text_of_lines (kept_frame items (n - 3) k)
+piece_of_frame items zero k a b d = absurd (a refl)
+piece_of_frame items (suc zero) k a b d = absurd (b refl)
+piece_of_frame items (suc (suc zero)) k a b d = absurd (d refl)
+piece_of_frame items (suc (suc (suc n))) k a b d =
+    let same : suc (suc (suc n)) - 3 ≡ n = omega arith in
+    ap (λ (m : ℕ). text_of_lines (kept_frame items m k)) (sym same)
+
+-- the digits, in a loop
+pub digits_step : (bits : List Bool) (done : ℕ) (put : List ℕ) (d : Bool) → done < length bits → put ≡ digit (get_or bits (length bits - done - 1) d) ∷ []
+    → map digit (reverse (take (length bits - done) bits)) ≡ put ++ map digit (reverse (take (length bits - (done + 1)) bits))
+digits_step bits done put d lt e =
+    let left : ℕ = length bits - (done + 1) in
+    let more : length bits - done ≡ left + 1 = omega (arith, lt) in
+    let at : length bits - done - 1 ≡ left = omega (arith, lt) in
+    let is : put ≡ digit (get_or bits left d) ∷ [] = e ∙ ap (λ (k : ℕ). digit (get_or bits k d) ∷ []) at in
+    ap (λ (k : ℕ). map digit (reverse (take k bits))) more ∙ digits_left bits left (get_or bits left d) d (omega (arith, lt)) refl
+    ∙ ap (λ (l : List ℕ). l ++ map digit (reverse (take left bits))) (sym is)
+
+-- the leaves, in a loop
+pub leaves_step : (l : Leaves) (items : List Item) (index d w : ℕ) (t : Bool) (bits word behind : List Bool) → index < length (leaf_places l items)
+    → w ≡ taken_width l items (get_or (leaf_places l items) index d) → t ≡ leaf_takes l items (get_or (leaf_places l items) index d) → word ≡ take w bits → behind ≡ drop w bits
+    → placed_lines l items index (drop index (leaf_places l items)) bits ≡ taken_line t index word ++ placed_lines l items (index + 1) (drop (index + 1) (leaf_places l items)) behind
+leaves_step l items index d w t bits word behind lt width takes front rest =
+    leaves_left l items index (get_or (leaf_places l items) index d) d (leaf_places l items) bits lt refl
+    ∙ ap (λ (n : ℕ). taken_line (leaf_takes l items (get_or (leaf_places l items) index d)) index (take n bits) ++ placed_lines l items (index + 1) (drop (index + 1) (leaf_places l items)) (drop n bits)) (sym width)
+    ∙ ap (λ (b : Bool). taken_line b index (take w bits) ++ placed_lines l items (index + 1) (drop (index + 1) (leaf_places l items)) (drop w bits)) (sym takes)
+    ∙ ap (λ (bs : List Bool). taken_line t index bs ++ placed_lines l items (index + 1) (drop (index + 1) (leaf_places l items)) (drop w bits)) (sym front)
+    ∙ ap (λ (bs : List Bool). taken_line t index word ++ placed_lines l items (index + 1) (drop (index + 1) (leaf_places l items)) bs) (sym rest)
+
+-- ---- whether there is a free state
+
+any_of_map : (f : ℕ → Bool) (ps : List ℕ) → list_any (λ (b : Bool). b) (map f ps) ≡ list_any f ps
+any_of_map f [] = refl
+any_of_map f (p ∷ ps) = ap (λ (b : Bool). f p || b) (any_of_map f ps)
+
+free_by_places : (items : List Item) → has_free (shape_of items) ≡ list_any (is_free_at items) (places is_state 0 items)
+free_by_places items = ap (list_any (λ (b : Bool). b)) (sym (free_at_places items)) ∙ any_of_map (is_free_at items) (places is_state 0 items)
+
+pub any_step : (f : ℕ → Bool) (ps : List ℕ) (k d : ℕ) → k < length ps → f (get_or ps k d) ≡ false → list_any f (take k ps) ≡ false → list_any f (take (k + 1) ps) ≡ false
+any_step f ps k d lt not h =
+    ap (list_any f) (take_at_read ps k d lt).1 ∙ list_any-append f (take k ps) (get_or ps k d ∷ []) ∙ or_from (list_any f (take k ps)) (list_any f (get_or ps k d ∷ [])) h (or_from (f (get_or ps k d)) false not refl)
+
+any_found : (f : ℕ → Bool) (ps : List ℕ) (k d : ℕ) → k < length ps → f (get_or ps k d) ≡ true → list_any f ps ≡ true
+any_found f [] k d lt h = absurd (omega (arith, lt))
+any_found f (p ∷ ps) zero d lt h = rw h refl
+any_found f (p ∷ ps) (suc k) d lt h = or_right (f p) (list_any f ps) (any_found f ps k d (omega (arith, lt)) h)
+
+pub free_found : (items : List Item) (k d : ℕ) → k < length (places is_state 0 items) → is_free_at items (get_or (places is_state 0 items) k d) ≡ true → true ≡ has_free (shape_of items)
+free_found items k d lt h = sym (free_by_places items ∙ any_found (is_free_at items) (places is_state 0 items) k d lt h)
+
+pub none_free : (items : List Item) (k : ℕ) → length (places is_state 0 items) ≤ k → list_any (is_free_at items) (take k (places is_state 0 items)) ≡ false → false ≡ has_free (shape_of items)
+none_free items k le h = sym (free_by_places items ∙ ap (list_any (is_free_at items)) (sym (take_all k (places is_state 0 items) le)) ∙ h)

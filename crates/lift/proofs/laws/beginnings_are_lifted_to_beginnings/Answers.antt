@@ -1,0 +1,5 @@
+use Rattle.lift.proofs.LineLemmas.{lifted_begins}
+use Rattle.lift.proofs.laws.beginnings_are_lifted_to_beginnings.Goals as goal
+
+pub returns : goal.returns
+returns c items circuit front rest = lifted_begins items circuit front rest

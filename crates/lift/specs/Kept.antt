@@ -1,0 +1,100 @@
+-- What is kept of a line of a witness that is not yet admitted.
+use Rattle.std.specs.Prelude.{◌≡◌, ℕ, zero, suc, ◌<◌, ◌+◌, ◌≤◌, ◌==◌, nat_lt, min, Bool, true, false, List, [], ◌∷◌, codes, ◌++◌, if◌then◌else◌, not, length, take, drop, unwrap_or, slice_index_or, slice_set}
+use Rattle.std.specs.Str.{bytes_eq}
+use Rattle.base.specs.Decimals.{are_digits, capped_value}
+use Rattle.btor2.specs.declared.item.Item.{Item}
+use Rattle.btor2.specs.Items.{is_input, is_state}
+use Rattle.btor2.specs.Lists.{places, width_at, is_free_at}
+use Rattle.aiger.specs.Circuit.{Circuit}
+use Rattle.witness.specs.Texts.{claim}
+use Rattle.witness.specs.BitScans.{behind_first, number_more}
+use Rattle.lift.specs.Lifted.{word_line, line_bits, initial_piece, frame_piece}
+use Rattle.lift.specs.declared.leaves.Leaves.{Leaves}
+use Rattle.lift.specs.declared.leaves.Leaves.TheVariants as leaves
+
+-- as many bits as fit, how many bytes there are, at most one more than fit, the first of them, and the number that the others write
+pub record KeptLine : Type 0 where
+  pub bits : List Bool
+  pub count : ℕ
+  pub first : ℕ
+  pub number : ℕ
+
+-- it is kept of these bytes
+pub record Keeps (k : KeptLine) (line : List ℕ) : Type 0 where
+  pub bits : length line ≤ length k.bits → take (length line) k.bits ≡ line_bits line
+  pub count : k.count ≡ min (length line) (length k.bits + 1)
+  pub first : k.first ≡ slice_index_or line 0 0
+  pub number : are_digits (behind_first line) ≡ true → k.number ≡ capped_value (behind_first line)
+
+-- the same with a byte more
+abbrev pub kept_more : KeptLine → ℕ → KeptLine
+kept_more k byte =
+    record {
+      bits = if nat_lt k.count (length k.bits) then slice_set k.bits k.count (byte == 49) else k.bits;
+      count = if nat_lt k.count (length k.bits) then k.count + 1 else length k.bits + 1;
+      first = if k.count == 0 then byte else k.first;
+      number = if k.count == 0 then k.number else number_more k.number byte;
+    }
+
+-- as many of the bits as there are bytes
+abbrev pub kept_bits : KeptLine → List Bool
+kept_bits k = take k.count k.bits
+
+-- the piece of the line that is kept, where it is that of a frame, or the end
+abbrev pub kept_frame : List Item → ℕ → KeptLine → List (List ℕ)
+kept_frame items n k = if k.first == 46 then codes "." ∷ [] else frame_piece items n (kept_bits k)
+
+-- the piece of the line that is kept, where it is admitted behind so many others
+abbrev pub kept_piece : List Item → ℕ → KeptLine → List (List ℕ)
+kept_piece items zero k = codes "sat" ∷ []
+kept_piece items (suc zero) k = claim k.number ∷ []
+kept_piece items (suc (suc zero)) k = initial_piece items (kept_bits k)
+kept_piece items (suc (suc (suc n))) k = kept_frame items n k
+
+-- a line in the place of a frame is the end, or has as many bytes as there are inputs, of which the first is no `.`
+abbrev pub IsFrameOrEnd : Circuit → List ℕ → Bool → Type 0
+IsFrameOrEnd c line true = Unit {0}
+IsFrameOrEnd c line false = (length line ≡ c.inputs) × ((slice_index_or line 0 0 == 46) ≡ false)
+
+-- what a line is that is admitted behind so many others
+abbrev pub IsAdmitted : Circuit → ℕ → List ℕ → Type 0
+IsAdmitted c zero line = Unit {0}
+IsAdmitted c (suc zero) line = (i : ℕ) × ((line ≡ claim i) × (i < length c.bads))
+IsAdmitted c (suc (suc zero)) line = length line ≡ length c.latches
+IsAdmitted c (suc (suc (suc n))) line = IsFrameOrEnd c line (bytes_eq line (codes "."))
+
+-- ---- the leaves, by their places in the model
+
+-- a kind of leaves of a model: the places of those of which the indices count, and whether the one at a place takes bits
+abbrev pub leaf_places : Leaves → List Item → List ℕ
+leaf_places leaves.Inputs items = places is_input 0 items
+leaf_places leaves.Carried items = places is_state 0 items
+leaf_places leaves.Free items = places is_state 0 items
+
+abbrev pub leaf_takes : Leaves → List Item → ℕ → Bool
+leaf_takes leaves.Inputs items place = true
+leaf_takes leaves.Carried items place = not (is_free_at items place)
+leaf_takes leaves.Free items place = is_free_at items place
+
+-- so many bits does it take
+abbrev pub taken_width : Leaves → List Item → ℕ → ℕ
+taken_width l items place = if leaf_takes l items place then unwrap_or (width_at items place) 0 else 0
+
+-- the line of a leaf that takes bits
+abbrev pub taken_line : Bool → ℕ → List Bool → List ℕ
+taken_line takes index bits = if takes then word_line index bits ++ 10 ∷ [] else []
+
+-- the lines of the leaves at some places, of which the first has this index
+abbrev pub placed_lines : Leaves → List Item → ℕ → List ℕ → List Bool → List ℕ
+placed_lines l items index [] bits = []
+placed_lines l items index (p ∷ ps) bits =
+    taken_line (leaf_takes l items p) index (take (taken_width l items p) bits) ++ placed_lines l items (suc index) ps (drop (taken_width l items p) bits)
+
+-- the lines of all leaves of a kind
+abbrev pub leaf_lines : Leaves → List Item → List Bool → List ℕ
+leaf_lines l items bits = placed_lines l items 0 (leaf_places l items) bits
+
+-- the bits behind those that the leaves at some places take
+abbrev pub bits_behind : Leaves → List Item → List ℕ → List Bool → List Bool
+bits_behind l items [] bits = bits
+bits_behind l items (p ∷ ps) bits = bits_behind l items ps (drop (taken_width l items p) bits)

@@ -1,0 +1,6 @@
+-- The definitions of lifted texts.
+pub mod Lifted
+pub mod Kept
+pub mod Stands
+pub mod Answers
+pub mod Worked

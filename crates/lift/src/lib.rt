@@ -1,0 +1,13 @@
+//! Lifting witnesses of circuits to witnesses of the models that they lower.
+#![tactic(auto)]
+
+mod fault;
+mod kept;
+pub mod laws;
+mod leaves;
+mod lifter;
+mod lifting;
+mod pieces;
+
+pub use fault::LiftFault;
+pub use lifting::lift;

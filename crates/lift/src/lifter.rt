@@ -1,0 +1,140 @@
+//! A lifter of a witness that comes piece by piece.
+ghost use Rattle.std.specs.Prelude.{◌≡◌, ℕ, List, [], ◌∷◌, ◌++◌, IfOk, ◌≤◌, length};
+ghost use Rattle.base.specs.Device.{CountsFaults};
+ghost use Rattle.base.specs.Lines.{IsLine, text_of_lines};
+ghost use Rattle.base.specs.Pieces.{Puts};
+ghost use Rattle.btor2.specs.declared.item.Item.{Item};
+ghost use Rattle.aiger.specs.Circuit.{Circuit};
+ghost use Rattle.witness.specs.BitJudgements.{BitJudges};
+ghost use Rattle.witness.specs.Texts.{shape_of, has_free};
+ghost use Rattle.lift.specs.Stands.{Lifts, Takes, admitted_piece};
+
+use crate::kept::KeptLine;
+use crate::pieces::{has_free, put_piece};
+use aiger::Circuit;
+use base::{DeviceFault, Outbox, Sink, next_line};
+use std::alloc::{AllocError, Global};
+use std::marker::Model;
+use witness::BitJudge;
+
+/// A lifter of witnesses of a circuit over the model that it was made of. It is fed a witness in pieces, and puts the piece
+/// of a line when the judge has admitted it. Beside the judge it holds the bits of one line and a few words.
+#[derive(Drop)]
+pub(crate) struct Lifter<'a> {
+    model: &'a btor2::Model,
+    // the model has a free state
+    some_free: bool,
+    judge: BitJudge<'a>,
+    // the bytes of the line that has not ended
+    kept: KeptLine,
+}
+
+impl<'a> Model for Lifter<'a> {
+    ghost use Rattle.std.specs.Prelude.{◌≡◌};
+    ghost use Rattle.witness.specs.Texts.{shape_of, has_free};
+    ghost use Rattle.lift.specs.Stands.{Lifter as LifterValue};
+
+    ghost Value = { LifterValue };
+
+    ghost view = { λ l. record { items = l.model.now; some_free = l.some_free; judge = l.judge; kept = l.kept } };
+
+    ghost invariant = { λ l. l.some_free ≡ has_free (shape_of l.model.now) };
+}
+
+/// The most bits of a line of a witness of a circuit.
+fn most_bits(circuit: &Circuit) -> usize
+    ensures inputs { circuit.now.inputs ≤ result }
+    ensures latches { length circuit.now.latches ≤ result }
+{
+    circuit.latches().len().max(circuit.inputs() as usize)
+}
+
+impl<'a> Lifter<'a> {
+    /// A lifter of the empty text.
+    ///
+    /// Error: where a growth was refused.
+    pub(crate) fn new(
+        alloc: Global,
+        model: &'a btor2::Model,
+        circuit: &'a Circuit,
+    ) -> Result<Lifter<'a>, AllocError>
+        ensures { IfOk result (λ l. Lifts model.now circuit.now l []) }
+    {
+        let kept = KeptLine::new(alloc, most_bits(circuit))?;
+        match BitJudge::new(alloc, circuit) {
+            Ok(judge) => Ok(Lifter {
+                model,
+                some_free: has_free(model),
+                judge,
+                kept,
+            }),
+            Err(_) => Err(AllocError),
+        }
+    }
+
+    /// Puts the piece of the line that is kept, where it is admitted behind so many others.
+    fn put_admitted<K: Sink>(
+        &self,
+        outbox: &mut Outbox,
+        sink: &mut K,
+        admitted: bool,
+        number: u64,
+    ) -> Result<(), DeviceFault>
+        ensures puts { Puts result (K.written sink.old) (K.written sink.new) outbox.old outbox.new (text_of_lines (admitted_piece admitted self.now number)) }
+        ensures failures { CountsFaults result (K.failures sink.old) (K.failures sink.new) }
+    {
+        if admitted {
+            put_piece(outbox, sink, self.model, self.some_free, number, &self.kept)
+        } else {
+            Ok(())
+        }
+    }
+
+    /// Takes bytes that end no line.
+    fn take_bytes(&mut self, bytes: &[u8])
+        ensures { (items : List Item) (c : Circuit) (text : List ℕ) → IsLine bytes.now → Lifts items c self.old text → Lifts items c self.new (text ++ bytes.now) }
+    {
+        self.kept.take(bytes);
+        self.judge.feed(bytes);
+    }
+
+    /// Takes the end of a line.
+    fn end_line<K: Sink>(&mut self, outbox: &mut Outbox, sink: &mut K) -> Result<(), DeviceFault>
+        ensures takes { Takes result (K.written sink.old) (K.written sink.new) outbox.old outbox.new self.old self.new (10 ∷ []) }
+        ensures failures { CountsFaults result (K.failures sink.old) (K.failures sink.new) }
+    {
+        let number = self.judge.admitted_lines();
+        self.judge.feed(b"\n");
+        let admitted = self.judge.admitted_lines() != number;
+        let put = self.put_admitted(outbox, sink, admitted, number);
+        self.kept.clear();
+        put
+    }
+
+    /// Takes a piece of the witness behind those before.
+    pub(crate) fn take<K: Sink>(
+        &mut self,
+        outbox: &mut Outbox,
+        sink: &mut K,
+        bytes: &[u8],
+    ) -> Result<(), DeviceFault>
+        ensures takes { Takes result (K.written sink.old) (K.written sink.new) outbox.old outbox.new self.old self.new bytes.now }
+        ensures failures { CountsFaults result (K.failures sink.old) (K.failures sink.new) }
+    {
+        let mut rest = bytes;
+        while let Some((line, behind)) = next_line(rest) {
+            self.take_bytes(line);
+            self.end_line(outbox, sink)?;
+            rest = behind;
+        }
+        self.take_bytes(rest);
+        Ok(())
+    }
+
+    /// The judgement of the text.
+    pub(crate) fn finish(self) -> witness::Judgement
+        ensures { (items : List Item) (c : Circuit) (text : List ℕ) → Lifts items c self.entry text → BitJudges c text result }
+    {
+        self.judge.finish()
+    }
+}

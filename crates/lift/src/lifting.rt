@@ -1,0 +1,136 @@
+//! Lifting whole sources.
+ghost use Rattle.std.specs.Prelude.{◌≡◌, IfErr, IfOk, IfSome, IsErrOf, OnErr, OnOk};
+ghost use Rattle.std.specs.Io.KnownBytes.{Appends, IsAtEnd};
+ghost use Rattle.base.specs.Device.{AppendsBeginning, CountsFaults};
+ghost use Rattle.blast.specs.Lowering.{Lowers};
+ghost use Rattle.witness.specs.BitJudgements.{BitJudges};
+ghost use Rattle.lift.specs.Answers.{CountsLift};
+ghost use Rattle.lift.specs.Lifted.{lifted_text};
+ghost use Rattle.lift.specs.Stands.{Takes, LiftsAll};
+
+use crate::fault::LiftFault;
+use crate::lifter::Lifter;
+use aiger::Circuit;
+use base::{Outbox, Sink, Source};
+use btor2::Model;
+use std::alloc::Global;
+use witness::Judgement;
+
+/// How many bytes one call of a source is asked for.
+const CHUNK: usize = 65536;
+
+/// Takes a piece of the witness.
+///
+/// Errors: the sink's own.
+fn take_piece<K: Sink>(
+    lifter: &mut Lifter<'_>,
+    outbox: &mut Outbox,
+    sink: &mut K,
+    bytes: &[u8],
+) -> Result<(), LiftFault>
+    ensures takes { Takes result (K.written sink.old) (K.written sink.new) outbox.old outbox.new lifter.old lifter.new bytes.now }
+    ensures fault { IfErr result (λ e. e ≡ LiftFault.Write) }
+    ensures failures { CountsFaults result (K.failures sink.old) (K.failures sink.new) }
+{
+    match lifter.take(outbox, sink, bytes) {
+        Ok(()) => Ok(()),
+        Err(_) => Err(LiftFault::Write),
+    }
+}
+
+/// Reads a source to its end, and puts what its text is lifted to.
+///
+/// Errors: the source's own, and the sink's.
+fn lift_all<S: Source, K: Sink>(
+    lifter: &mut Lifter<'_>,
+    outbox: &mut Outbox,
+    source: &mut S,
+    sink: &mut K,
+) -> Result<(), LiftFault>
+    ensures takes { IfSome (S.to_come source.old) (Takes result (K.written sink.old) (K.written sink.new) outbox.old outbox.new lifter.old lifter.new) }
+    ensures end { OnOk result (IsAtEnd (S.to_come source.new)) }
+    ensures fault { IfErr result (λ e. e ≡ LiftFault.NoMemory → ⊥) }
+    ensures counted { CountsLift result (S.failures source.old) (S.failures source.new) (K.failures sink.old) (K.failures sink.new) }
+{
+    let mut chunk = [0u8; CHUNK];
+    loop {
+        match source.read(&mut chunk) {
+            Ok(0) => return Ok(()),
+            Ok(count) => take_piece(lifter, outbox, sink, &chunk[..count])?,
+            Err(_) => return Err(LiftFault::Read),
+        }
+    }
+}
+
+/// Writes what the outbox keeps.
+///
+/// Errors: the sink's own.
+fn write_rest<K: Sink>(outbox: &mut Outbox, sink: &mut K) -> Result<(), LiftFault>
+    ensures ok { OnOk result (Appends (K.written sink.old) (K.written sink.new) outbox.old) }
+    ensures err { OnErr result (AppendsBeginning (K.written sink.old) (K.written sink.new) outbox.old) }
+    ensures fault { IfErr result (λ e. e ≡ LiftFault.Write) }
+    ensures failures { CountsFaults result (K.failures sink.old) (K.failures sink.new) }
+{
+    match outbox.flush(sink) {
+        Ok(()) => Ok(()),
+        Err(_) => Err(LiftFault::Write),
+    }
+}
+
+/// Reads a source to its end, and writes what its text is lifted to.
+///
+/// Errors: the source's own, and the sink's.
+fn lift_through<S: Source, K: Sink>(
+    lifter: &mut Lifter<'_>,
+    source: &mut S,
+    sink: &mut K,
+) -> Result<(), LiftFault>
+    ensures lifts { LiftsAll result (S.to_come source.old) (K.written sink.old) (K.written sink.new) lifter.old lifter.new }
+    ensures end { OnOk result (IsAtEnd (S.to_come source.new)) }
+    ensures fault { IfErr result (λ e. e ≡ LiftFault.NoMemory → ⊥) }
+    ensures counted { CountsLift result (S.failures source.old) (S.failures source.new) (K.failures sink.old) (K.failures sink.new) }
+{
+    let mut outbox = Outbox::new();
+    match lift_all(lifter, &mut outbox, source, sink) {
+        Ok(()) => write_rest(&mut outbox, sink),
+        Err(fault) => Err(fault),
+    }
+}
+
+/// Reads a witness of a circuit to its end, judges it over the circuit, and writes what it is lifted to: the witness of the
+/// model that says the same. Of a malformed witness the pieces of the lines before the faulty one are written, and where no
+/// claim is made nothing is. Of the text only what one call of the source gives is held at a time, and beside it what the
+/// judge holds, the bits of one line, and what one call of the sink takes.
+///
+/// Condition: the circuit is a lowering of the model.
+///
+/// Errors: `NoMemory` where a growth was refused, and then nothing was read or written; `Read` where the source failed in
+/// this call, and `Write` where the sink did, once. After both a beginning of the lifted text was written.
+pub fn lift<S: Source, K: Sink>(
+    alloc: Global,
+    model: &Model,
+    circuit: &Circuit,
+    source: &mut S,
+    sink: &mut K,
+) -> Result<Judgement, LiftFault>
+    requires { Lowers model.now circuit.now }
+    // the judgement is that of the whole text over the circuit
+    ensures judged { IfOk result (λ judgement. IfSome (S.to_come source.old) (λ text. BitJudges circuit.now text judgement)) }
+    // what is written is the lifted text, and after a fault a beginning of it
+    ensures written { OnOk result (IfSome (S.to_come source.old) (λ text. Appends (K.written sink.old) (K.written sink.new) (lifted_text model.now circuit.now text))) }
+    ensures beginning { OnErr result (IfSome (S.to_come source.old) (λ text. AppendsBeginning (K.written sink.old) (K.written sink.new) (lifted_text model.now circuit.now text))) }
+    ensures unread { IsErrOf result LiftFault.NoMemory → source.new ≡ source.old }
+    ensures unwritten { IsErrOf result LiftFault.NoMemory → sink.new ≡ sink.old }
+    ensures end { OnOk result (IsAtEnd (S.to_come source.new)) }
+    // the source failed once where that is answered, the sink where that is, and else neither
+    ensures counted { CountsLift result (S.failures source.old) (S.failures source.new) (K.failures sink.old) (K.failures sink.new) }
+{
+    let mut lifter = match Lifter::new(alloc, model, circuit) {
+        Ok(lifter) => lifter,
+        Err(_) => return Err(LiftFault::NoMemory),
+    };
+    match lift_through(&mut lifter, source, sink) {
+        Ok(()) => Ok(lifter.finish()),
+        Err(fault) => Err(fault),
+    }
+}

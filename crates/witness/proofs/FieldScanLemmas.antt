@@ -1,0 +1,151 @@
+-- What is kept of an assignment byte by byte: its index, its value and its name.
+use Rattle.std.proofs.Common.{◌≡◌, ℕ, ◌==◌, Bool, true, false, cond, List, [], ◌∷◌, ◌++◌, Option, Some, None, Result, Ok, Err, refl, sym, ap, subst, ◌∙◌, if◌then◌else◌}
+use Rattle.std.proofs.lemmas.Bool.{ne_eqb}
+use Rattle.base.specs.Decimals.{number_of}
+use Rattle.btor2.specs.Symbols.{is_symbol}
+use Rattle.witness.specs.declared.bit_scan.Scan.{Scan}
+use Rattle.witness.specs.declared.word_name.NameScan.{NameScan}
+use Rattle.witness.specs.declared.word_fields.Field.{Field}
+use Rattle.witness.specs.declared.word_fields.Field.TheVariants as field
+use Rattle.witness.specs.declared.word_fields.FieldScan.{FieldScan}
+use Rattle.witness.specs.declared.why.Why.{Why}
+use Rattle.witness.specs.declared.why.Why.TheVariants as why
+use Rattle.witness.specs.Admits.{Cut, to_front, cut_at_space, value_of}
+use Rattle.witness.specs.BitScans.{Scans}
+use Rattle.witness.specs.WordValues.{ValueScan, Values}
+use Rattle.witness.specs.WordScans.{Names, IndexAlone, WithValue, WithName, FieldsAt, AreFields, word_with, word_behind}
+
+-- ---- a byte behind a line that is cut at its first space
+
+abbrev after_parts : List ℕ → Option (List ℕ) → ℕ → Cut
+after_parts front None b = if b == 32 then (front, Some []) else (front ++ b ∷ [], None)
+after_parts front (Some rest) b = (front, Some (rest ++ b ∷ []))
+
+to_front-after : (x : ℕ) (front : List ℕ) (rest : Option (List ℕ)) (b : ℕ) → to_front x (after_parts front rest b) ≡ after_parts (x ∷ front) rest b
+to_front-after x front None b =
+    elim (b == 32) as (λ t. to_front x (cond t (front, Some []) (front ++ b ∷ [], None)) ≡ cond t (x ∷ front, Some []) (x ∷ (front ++ b ∷ []), None)) [
+      | true ↦ refl
+      | false ↦ refl
+    ]
+to_front-after x front (Some rest) b = refl
+
+cut_more : (line : List ℕ) (b : ℕ) → cut_at_space (line ++ b ∷ []) ≡ after_parts (cut_at_space line).0 (cut_at_space line).1 b
+cut_more [] b = refl
+cut_more (x ∷ xs) b =
+    let later : to_front x (cut_at_space (xs ++ b ∷ [])) ≡ after_parts (x ∷ (cut_at_space xs).0) (cut_at_space xs).1 b =
+    ap (to_front x) (cut_more xs b) ∙ to_front-after x (cut_at_space xs).0 (cut_at_space xs).1 b in
+    elim (x == 32) as (λ t. cond t ([], Some (xs ++ b ∷ [])) (to_front x (cut_at_space (xs ++ b ∷ []))) ≡ after_parts (cond t ([], Some xs) (to_front x (cut_at_space xs))).0 (cond t ([], Some xs) (to_front x (cut_at_space xs))).1 b) [
+      | true ↦ refl
+      | false ↦ later
+    ]
+
+cut_behind : (line : List ℕ) (b : ℕ) (front : List ℕ) (rest : Option (List ℕ)) → cut_at_space line ≡ (front, rest) → cut_at_space (line ++ b ∷ []) ≡ after_parts front rest b
+cut_behind line b front rest is = cut_more line b ∙ ap (λ (c : Cut). after_parts c.0 c.1 b) is
+
+cut_byte : (line : List ℕ) (b : ℕ) → (b ≡ 32 → ⊥) → cut_at_space line ≡ (line, None) → cut_at_space (line ++ b ∷ []) ≡ (line ++ b ∷ [], None)
+cut_byte line b other is = cut_behind line b line None is ∙ rw (ne_eqb b 32 other) refl
+
+cut_space : (line : List ℕ) → cut_at_space line ≡ (line, None) → cut_at_space (line ++ 32 ∷ []) ≡ (line, Some [])
+cut_space line is = cut_behind line 32 line None is
+
+-- ---- the fields with a byte more
+
+pub index_byte : (s t : Scan) (line : List ℕ) (b : ℕ) → (b ≡ 32 → ⊥) → Scans t ((48 ∷ line) ++ b ∷ []) → IndexAlone s line → IndexAlone t (line ++ b ∷ [])
+index_byte s t line b other scans h = record { cut = cut_byte line b other h.cut; scans = scans }
+
+pub value_byte : (s : Scan) (v w : ValueScan) (line : List ℕ) (b : ℕ) → (b ≡ 32 → ⊥) → ((bytes : List ℕ) → Values v bytes → Values w (bytes ++ b ∷ [])) → WithValue s v line → WithValue s w (line ++ b ∷ [])
+value_byte s v w line b other more h =
+    record {
+      token = h.token;
+      digits = h.digits ++ b ∷ [];
+      cut = cut_behind line b h.token (Some h.digits) h.cut;
+      rest = cut_byte h.digits b other h.rest;
+      scans = h.scans;
+      values = more h.digits h.values;
+    }
+
+pub name_byte : (s : Scan) (v : ValueScan) (n m : NameScan) (line : List ℕ) (b : ℕ) → ((bytes : List ℕ) → Names n bytes → Names m (bytes ++ b ∷ [])) → WithName s v n line → WithName s v m (line ++ b ∷ [])
+name_byte s v n m line b more h =
+    record {
+      token = h.token;
+      behind = h.behind ++ b ∷ [];
+      digits = h.digits;
+      bytes = h.bytes ++ b ∷ [];
+      cut = cut_behind line b h.token (Some h.behind) h.cut;
+      rest = cut_behind h.behind b h.digits (Some h.bytes) h.rest;
+      scans = h.scans;
+      values = h.values;
+      names = more h.bytes h.names;
+    }
+
+pub index_space : (s : Scan) (v : ValueScan) (line : List ℕ) → Values v [] → IndexAlone s line → WithValue s v (line ++ 32 ∷ [])
+index_space s v line new h =
+    record { token = line; digits = []; cut = cut_space line h.cut; rest = refl; scans = h.scans; values = new }
+
+pub value_space : (s : Scan) (v : ValueScan) (n : NameScan) (line : List ℕ) → Names n [] → WithValue s v line → WithName s v n (line ++ 32 ∷ [])
+value_space s v n line new h =
+    record {
+      token = h.token;
+      behind = h.digits ++ 32 ∷ [];
+      digits = h.digits;
+      bytes = [];
+      cut = cut_behind line 32 h.token (Some h.digits) h.cut;
+      rest = cut_space h.digits h.rest;
+      scans = h.scans;
+      values = h.values;
+      names = new;
+    }
+
+-- ---- what the fields say
+
+pub index_of_alone : (s : Scan) (line : List ℕ) (found : Option ℕ) → ((l : List ℕ) → Scans s (48 ∷ l) → found ≡ number_of l) → IndexAlone s line → found ≡ number_of (cut_at_space line).0
+index_of_alone s line found is h = is line h.scans ∙ ap (λ (c : Cut). number_of c.0) (sym h.cut)
+
+pub index_of_value : (s : Scan) (v : ValueScan) (line : List ℕ) (found : Option ℕ) → ((l : List ℕ) → Scans s (48 ∷ l) → found ≡ number_of l) → WithValue s v line → found ≡ number_of (cut_at_space line).0
+index_of_value s v line found is h = is h.token h.scans ∙ ap (λ (c : Cut). number_of c.0) (sym h.cut)
+
+pub index_of_name : (s : Scan) (v : ValueScan) (n : NameScan) (line : List ℕ) (found : Option ℕ) → ((l : List ℕ) → Scans s (48 ∷ l) → found ≡ number_of l) → WithName s v n line → found ≡ number_of (cut_at_space line).0
+index_of_name s v n line found is h = is h.token h.scans ∙ ap (λ (c : Cut). number_of c.0) (sym h.cut)
+
+pub no_value : (s : Scan) (line : List ℕ) (width : ℕ) → IndexAlone s line → word_behind width (cut_at_space line).1 ≡ Err why.BadValue
+no_value s line width h = ap (λ (c : Cut). word_behind width c.1) h.cut
+
+with_nothing : (r : Result ℕ Why) → word_with None r ≡ r
+with_nothing (Ok x) = refl
+with_nothing (Err w) = refl
+
+pub value_alone : (s : Scan) (v : ValueScan) (line : List ℕ) (width : ℕ) (r : Result ℕ Why) → ((bytes : List ℕ) → Values v bytes → value_of width bytes ≡ r) → WithValue s v line → word_behind width (cut_at_space line).1 ≡ r
+value_alone s v line width r is h =
+    ap (λ (c : Cut). word_behind width c.1) h.cut
+    ∙ (ap (λ (c : Cut). word_with c.1 (value_of width c.0)) h.rest ∙ (with_nothing (value_of width h.digits) ∙ is h.digits h.values))
+
+-- a word, where the name behind it is a symbol
+abbrev pub named : Result ℕ Why → Bool → Result ℕ Why
+named (Err w) b = Err w
+named (Ok x) b = if b then Ok x else Err why.BadSymbol
+
+pub value_named : (s : Scan) (v : ValueScan) (n : NameScan) (line : List ℕ) (width : ℕ) (r : Result ℕ Why) (b : Bool) → ((bytes : List ℕ) → Values v bytes → value_of width bytes ≡ r) → ((bytes : List ℕ) → Names n bytes → b ≡ is_symbol bytes) → WithName s v n line
+    → word_behind width (cut_at_space line).1 ≡ named r b
+value_named s v n line width r b is symbol h =
+    ap (λ (c : Cut). word_behind width c.1) h.cut
+    ∙ (ap (λ (c : Cut). word_with c.1 (value_of width c.0)) h.rest ∙ (ap (word_with (Some h.bytes)) (is h.digits h.values) ∙ by_test r))
+  where
+    by_test : (r : Result ℕ Why) → word_with (Some h.bytes) r ≡ named r b
+    by_test (Ok x) = ap (λ (t : Bool). cond t (Ok x) (Err why.BadSymbol)) (sym (symbol h.bytes h.names))
+    by_test (Err w) = refl
+
+-- ---- by the field that goes on
+
+pub fields_at : (s : FieldScan) (line : List ℕ) (f : Field) → s.field ≡ f → AreFields s line → FieldsAt s.index s.value s.name line f
+fields_at s line f is h = subst (FieldsAt s.index s.value s.name line) is h
+
+pub fields_from : (s : FieldScan) (line : List ℕ) (f : Field) → s.field ≡ f → FieldsAt s.index s.value s.name line f → AreFields s line
+fields_from s line f is h = subst (FieldsAt s.index s.value s.name line) (sym is) h
+
+index_by : (s : Scan) (v : ValueScan) (n : NameScan) (line : List ℕ) (found : Option ℕ) (f : Field) → ((l : List ℕ) → Scans s (48 ∷ l) → found ≡ number_of l) → FieldsAt s v n line f → found ≡ number_of (cut_at_space line).0
+index_by s v n line found field.Index is h = index_of_alone s line found is h
+index_by s v n line found field.Value is h = index_of_value s v line found is h
+index_by s v n line found field.Name is h = index_of_name s v n line found is h
+
+pub index_is : (s : FieldScan) (line : List ℕ) (found : Option ℕ) → ((l : List ℕ) → Scans s.index (48 ∷ l) → found ≡ number_of l) → AreFields s line → found ≡ number_of (cut_at_space line).0
+index_is s line found is h = index_by s.index s.value s.name line found s.field is h

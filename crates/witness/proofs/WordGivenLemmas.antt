@@ -1,0 +1,170 @@
+-- A word more in the open part of a witness over a model.
+use Rattle.std.proofs.Common.{◌≡◌, ℕ, ◌<◌, ◌^◌, ◌==◌, Bool, true, false, ◌||◌, List, [], ◌∷◌, ◌++◌, Ok, All, map, length, set, refl, sym, ap, subst, ◌∙◌, inl, inr}
+use Rattle.std.specs.List.{list_any}
+use Rattle.std.proofs.lemmas.Bool.{cases_eq, eq-eqb, ne_eqb}
+use Rattle.std.proofs.lemmas.List.{map-append, get_or-set_same, get_or-set_other}
+use Rattle.std.proofs.lemmas.List.Elements.{All-nil, All-cons, All-head, All-tail, All-push}
+use Rattle.std.proofs.lemmas.List.Folds.{list_any-append}
+use Rattle.base.specs.Decimals.{number_of}
+use Rattle.btor2.specs.declared.item.Item.{Item}
+use Rattle.btor2.specs.Check.{IsWellFormed}
+use Rattle.runs.specs.Run.{zeros}
+use Rattle.witness.specs.Texts.{Shape, Assignment, is_free_index, shape_of, are_distinct}
+use Rattle.witness.specs.Admits.{cut_at_space, names_free, assignment_at, free_assignment_at}
+use Rattle.witness.specs.Reading.{is_set, IsFlagged}
+use Rattle.witness.specs.Judgements.{FrameWords, pairs_of}
+use Rattle.witness.specs.Fits.{PairFits, PartFits, LaterFits, FramesFit, words_put}
+use Rattle.witness.specs.WordPlays.{WordPlay, Traced, TracedBy, Plays, MayGive, state_given, input_given}
+use Rattle.witness.proofs.AssignmentLemmas.{IsAssigned, assignment_is_line, free_assignment_is_line}
+use Rattle.witness.proofs.SaidLemmas.{distinct_with}
+use Rattle.witness.proofs.ReadLemmas.{IsSmall}
+use Rattle.witness.proofs.FitLemmas.{shape_is_small}
+
+-- ---- a pair behind others
+
+put_more : (words : List ℕ) (list : List (ℕ × ℕ)) (i x : ℕ) → words_put words (list ++ (i, x) ∷ []) ≡ set (words_put words list) i x
+put_more words [] i x = refl
+put_more words (p ∷ list) i x = put_more (set words p.0 p.1) list i x
+
+flag_more : (flags : List Bool) (list : List (ℕ × ℕ)) (i x : ℕ) → i < length flags → IsFlagged flags list → IsFlagged (set flags i true) (list ++ (i, x) ∷ [])
+flag_more flags list i x inside flagged k =
+    sym
+    (list_any-append (λ (p : ℕ × ℕ). p.0 == k) list ((i, x) ∷ [])
+    ∙ elim (cases_eq k i) [
+      | inl same ↦ rw (eq-eqb i k (sym same)) (or_true (list_any (λ (p : ℕ × ℕ). p.0 == k) list) ∙ sym (ap (is_set (set flags i true)) same ∙ get_or-set_same flags i true false inside))
+      | inr other ↦
+          rw (ne_eqb i k (λ e. other (sym e)))
+          (or_false (list_any (λ (p : ℕ × ℕ). p.0 == k) list) ∙ (sym (flagged k) ∙ sym (get_or-set_other flags i k true false other)))
+    ])
+  where
+    or_true : (b : Bool) → (b || true) ≡ true
+    or_true true = refl
+    or_true false = refl
+
+    or_false : (b : Bool) → (b || false) ≡ b
+    or_false true = refl
+    or_false false = refl
+
+-- ---- words that fit
+
+among : (list : List Assignment) (i : ℕ) → list_any (λ x. x == i) (map (λ (p : ℕ × ℕ). p.0) (pairs_of list)) ≡ list_any (λ a. a.index == i) list
+among [] i = refl
+among (a ∷ list) i = ap (λ (b : Bool). (a.index == i) || b) (among list i)
+
+pairs_more : (before : List Assignment) (a : Assignment) → pairs_of (before ++ a ∷ []) ≡ pairs_of before ++ (a.index, a.word) ∷ []
+pairs_more before a = map-append (λ (b : Assignment). (b.index, b.word)) before (a ∷ [])
+
+part_behind : (widths : List ℕ) (before : List Assignment) (line : List ℕ) (list : List Assignment) → IsAssigned widths before line list → PartFits widths (pairs_of before) → PartFits widths (pairs_of list)
+part_behind widths before line list h fits =
+    let a = h.assignment in
+    let pairs : pairs_of list ≡ pairs_of before ++ (a.index, a.word) ∷ [] = ap pairs_of h.all ∙ pairs_more before a in
+    subst (PartFits widths) (sym pairs)
+    (record {
+      each = All-push (PairFits widths) (pairs_of before) (a.index, a.word) fits.each (record { index = h.valid.index; word = h.valid.word });
+      distinct =
+          ap are_distinct (map-append (λ (p : ℕ × ℕ). p.0) (pairs_of before) ((a.index, a.word) ∷ []))
+          ∙ distinct_with (map (λ (p : ℕ × ℕ). p.0) (pairs_of before)) a.index fits.distinct (among before a.index ∙ h.new);
+    })
+
+last_changed : (shape : Shape) (frames : List FrameWords) (here next : FrameWords) → (LaterFits shape here → LaterFits shape next) → All (LaterFits shape) (frames ++ here ∷ []) → All (LaterFits shape) (frames ++ next ∷ [])
+last_changed shape [] here next change fit = All-cons (LaterFits shape) next [] (change (All-head (LaterFits shape) here [] fit)) (All-nil (LaterFits shape))
+last_changed shape (x ∷ frames) here next change fit =
+    All-cons (LaterFits shape) x (frames ++ next ∷ []) (All-head (LaterFits shape) x (frames ++ here ∷ []) fit)
+    (last_changed shape frames here next change (All-tail (LaterFits shape) x (frames ++ here ∷ []) fit))
+
+abbrev states_alone : List Assignment → FrameWords
+states_alone list = record { states = pairs_of list; inputs = [] }
+
+abbrev with_inputs : List (ℕ × ℕ) → List Assignment → FrameWords
+with_inputs states list = record { states = states; inputs = pairs_of list }
+
+free_behind : (shape : Shape) (before : List Assignment) (line : List ℕ) (list : List Assignment) → length shape.states < 2 ^ 64 → names_free shape (number_of (cut_at_space line).0) ≡ true → assignment_at shape.states before line ≡ Ok list
+    → All (λ p. is_free_index shape p.0 ≡ true) (pairs_of before) → All (λ p. is_free_index shape p.0 ≡ true) (pairs_of list)
+unfolding free_assignment_at
+free_behind shape before line list small free is fits =
+    let h = free_assignment_is_line shape before line list small (rw free is) in
+    let a = h.assigned.assignment in
+    subst (λ (l : List (ℕ × ℕ)). All (λ p. is_free_index shape p.0 ≡ true) l) (sym (ap pairs_of h.assigned.all ∙ pairs_more before a))
+    (All-push (λ (p : ℕ × ℕ). is_free_index shape p.0 ≡ true) (pairs_of before) (a.index, a.word) fits h.free)
+
+state_fits : (items : List Item) (frames : List FrameWords) (before : List Assignment) (line : List ℕ) (list : List Assignment) → IsSmall (shape_of items) → MayGive items frames line → assignment_at (shape_of items).states before line ≡ Ok list
+    → FramesFit (shape_of items) (frames ++ states_alone before ∷ []) → FramesFit (shape_of items) (frames ++ states_alone list ∷ [])
+state_fits items [] before line list small may is fit =
+    let h = assignment_is_line (shape_of items).states before line list small.states is in
+    (record { states = part_behind (shape_of items).states before line list h fit.0.states; inputs = fit.0.inputs }, fit.1)
+state_fits items (x ∷ frames) before line list small may is fit =
+    let h = assignment_is_line (shape_of items).states before line list small.states is in (
+      fit.0,
+      last_changed (shape_of items) frames (states_alone before) (states_alone list)
+          (λ (last : LaterFits (shape_of items) (states_alone before)).
+          record {
+            states = part_behind (shape_of items).states before line list h last.states;
+            free = free_behind (shape_of items) before line list small.states may is last.free;
+            inputs = last.inputs;
+          }) fit.1,
+    )
+
+input_fits : (items : List Item) (frames : List FrameWords) (states : List (ℕ × ℕ)) (before : List Assignment) (line : List ℕ) (list : List Assignment) → IsSmall (shape_of items) → assignment_at (shape_of items).inputs before line ≡ Ok list
+    → FramesFit (shape_of items) (frames ++ with_inputs states before ∷ []) → FramesFit (shape_of items) (frames ++ with_inputs states list ∷ [])
+input_fits items [] states before line list small is fit =
+    let h = assignment_is_line (shape_of items).inputs before line list small.inputs is in
+    (record { states = fit.0.states; inputs = part_behind (shape_of items).inputs before line list h fit.0.inputs }, fit.1)
+input_fits items (x ∷ frames) states before line list small is fit =
+    let h = assignment_is_line (shape_of items).inputs before line list small.inputs is in (
+      fit.0,
+      last_changed (shape_of items) frames (with_inputs states before) (with_inputs states list)
+          (λ (last : LaterFits (shape_of items) (with_inputs states before)). record { states = last.states; free = last.free; inputs = part_behind (shape_of items).inputs before line list h last.inputs }) fit.1,
+    )
+
+-- ---- a word more
+
+still_traced : (items : List Item) (base : List ℕ) (p q : WordPlay) (frames : List FrameWords) → q.breach ≡ p.breach → q.rose ≡ p.rose → q.differs ≡ p.differs → TracedBy items base p frames → TracedBy items base q frames
+still_traced items base p q [] breach rose differs t = record { states = t.states; breach = breach ∙ t.breach; rose = λ i. ap (λ (l : List Bool). is_set l i) rose ∙ t.rose i }
+still_traced items base p q (x ∷ xs) breach rose differs t = λ fs trace.
+    let was : Traced items (x ∷ xs) base p fs = t fs trace in
+    record {
+      last = was.last;
+      states = was.states;
+      carried = was.carried;
+      differs = differs ∙ was.differs;
+      breach = breach ∙ was.breach;
+      rose = λ none clear i h. ap (λ (l : List Bool). is_set l i) rose ∙ was.rose none clear i h;
+    }
+
+pub state_plays : (items : List Item) (frames : List FrameWords) (before list : List Assignment) (line : List ℕ) (p : WordPlay) (a : Assignment) → IsWellFormed items → assignment_at (shape_of items).states before line ≡ Ok list
+    → list ≡ before ++ a ∷ [] → a.index < length p.states_given → MayGive items frames line → Plays items frames (states_alone before) p → Plays items frames (states_alone list) (state_given p a.index a.word)
+state_plays items frames before list line p a w is all inside may plays =
+    let pairs : pairs_of list ≡ pairs_of before ++ (a.index, a.word) ∷ [] = ap pairs_of all ∙ pairs_more before a in
+    record {
+      items_are = plays.items_are;
+      run = plays.run;
+      fit = state_fits items frames before line list (shape_is_small items w) may is plays.fit;
+      states_flagged = subst (IsFlagged (set p.states_given a.index true)) (sym pairs) (flag_more p.states_given (pairs_of before) a.index a.word inside plays.states_flagged);
+      inputs_flagged = plays.inputs_flagged;
+      base = plays.base;
+      many = plays.many;
+      states = ap (λ (l : List ℕ). set l a.index a.word) plays.states ∙ (sym (put_more plays.base (pairs_of before) a.index a.word) ∙ ap (words_put plays.base) (sym pairs));
+      inputs = plays.inputs;
+      count = plays.count;
+      steps = plays.steps;
+      traced = still_traced items plays.base p (state_given p a.index a.word) frames refl refl refl plays.traced;
+    }
+
+pub input_plays : (items : List Item) (frames : List FrameWords) (states : List (ℕ × ℕ)) (before list : List Assignment) (line : List ℕ) (p : WordPlay) (a : Assignment) → IsWellFormed items → assignment_at (shape_of items).inputs before line ≡ Ok list
+    → list ≡ before ++ a ∷ [] → a.index < length p.inputs_given → Plays items frames (with_inputs states before) p → Plays items frames (with_inputs states list) (input_given p a.index a.word)
+input_plays items frames states before list line p a w is all inside plays =
+    let pairs : pairs_of list ≡ pairs_of before ++ (a.index, a.word) ∷ [] = ap pairs_of all ∙ pairs_more before a in
+    record {
+      items_are = plays.items_are;
+      run = plays.run;
+      fit = input_fits items frames states before line list (shape_is_small items w) is plays.fit;
+      states_flagged = plays.states_flagged;
+      inputs_flagged = subst (IsFlagged (set p.inputs_given a.index true)) (sym pairs) (flag_more p.inputs_given (pairs_of before) a.index a.word inside plays.inputs_flagged);
+      base = plays.base;
+      many = plays.many;
+      states = plays.states;
+      inputs = ap (λ (l : List ℕ). set l a.index a.word) plays.inputs ∙ (sym (put_more (zeros items) (pairs_of before) a.index a.word) ∙ ap (words_put (zeros items)) (sym pairs));
+      count = plays.count;
+      steps = plays.steps;
+      traced = still_traced items plays.base p (input_given p a.index a.word) frames refl refl refl plays.traced;
+    }

@@ -1,0 +1,258 @@
+-- Frames of a witness over a model, closed one after the other.
+use Rattle.std.proofs.Common.{◌≡◌, ℕ, zero, suc, ◌+◌, ◌*◌, ◌<◌, ◌≤◌, ◌-◌, ◌^◌, ◌==◌, min, Bool, true, false, not, cond, ◌&&◌, ◌||◌, List, [], ◌∷◌, ◌++◌, Option, Some, None, All, map, length, get_or, set, unwrap_or, length-append, refl, sym, ap, ap₂, subst, ◌∙◌, arith, inl, inr}
+use Rattle.std.specs.Option.{option_or}
+use Rattle.std.proofs.lemmas.Bool.{cases_lt, cases_eq, ne_eqb, eq-eqb}
+use Rattle.std.proofs.lemmas.List.{length-map, map-append, get_or-set_same, get_or-set_other}
+use Rattle.std.proofs.lemmas.List.Elements.{All-nil, All-cons, All-head, All-tail, All-push}
+use Rattle.std.proofs.lemmas.List.Folds.{list_all-append}
+use Rattle.btor2.specs.declared.item.Item.{Item}
+use Rattle.btor2.specs.Items.{is_state, is_bad}
+use Rattle.btor2.specs.Check.{IsWellFormed}
+use Rattle.btor2.specs.Trace.{Frame, IsFrame, IsTrace, next_state}
+use Rattle.runs.specs.Frames.{ids_of}
+use Rattle.runs.specs.Frames.{given as given_at}
+use Rattle.runs.specs.Run.{Run, IsNow, zeros, first_word, node_count, state_count, more_steps}
+use Rattle.runs.proofs.BitRunLemmas.{more_steps-sum}
+use Rattle.witness.specs.Texts.{Shape, shape_of}
+use Rattle.witness.specs.Reading.{is_set}
+use Rattle.witness.specs.Judgements.{FrameWords, Violation, violated_at, violation_from, never_rises, nodes_of, first_different, first_violated, given_to, initial_words, given_words}
+use Rattle.witness.specs.Fits.{PartFits, FirstFits, LaterFits, FramesFit, StandsAt, words_put, RisesIn, RisesAmong, NoneIsSet}
+use Rattle.witness.specs.WordPlays.{WordPlay, frame_steps, steps_of, frames_alone, carried_behind, Fresh, Traced, TracedBy, Plays, nothing_given}
+use Rattle.witness.proofs.GivenLemmas.{put_given, words_of_kind, state_there, states_given, first_stands, next_stands}
+use Rattle.witness.proofs.FrameLemmas.{different_of}
+use Rattle.witness.proofs.VerdictLemmas.{settled_now}
+
+-- ---- flags
+
+past : (flags : List Bool) (i : ℕ) → length flags ≤ i → is_set flags i ≡ false
+past [] i h = refl
+past (b ∷ flags) zero h = absurd (omega (arith, h))
+past (b ∷ flags) (suc i) h = past flags i (omega (arith, h))
+
+pub none_is_set : (flags : List Bool) (k : ℕ) → length flags ≤ k → ((i : ℕ) → i < k → is_set flags i ≡ false) → NoneIsSet flags
+none_is_set flags k whole none i =
+    elim (cases_lt i k) [
+      | inl below ↦ none i below
+      | inr above ↦ past flags i (omega (arith, whole, above))
+    ]
+
+pub clear_more : (flags : List Bool) (k : ℕ) → ((i : ℕ) → i < k → is_set flags i ≡ false) → k < length flags → (i : ℕ) → i < k + 1 → is_set (set flags k false) i ≡ false
+clear_more flags k none inside i below =
+    elim (cases_eq i k) [
+      | inl same ↦ ap (is_set (set flags k false)) same ∙ get_or-set_same flags k false false inside
+      | inr other ↦ get_or-set_other flags k i false false other ∙ none i (omega (arith, below, other))
+    ]
+
+-- ---- a frame behind others
+
+record SplitTrace (items : List Item) (carried : Frame) (inputs : List Frame) (last : Frame) (fs : List Frame) : Type 0 where
+  front : List Frame
+  f : Frame
+  is : fs ≡ front ++ f ∷ []
+  trace : IsTrace items carried inputs front
+  frame : IsFrame items (carried_behind items carried front) last f
+  many : length front ≡ length inputs
+
+-- the last frame of a trace, and those before
+split_trace : (items : List Item) (carried : Frame) (inputs : List Frame) (last : Frame) (fs : List Frame) → IsTrace items carried (inputs ++ last ∷ []) fs → SplitTrace items carried inputs last fs
+split_trace items carried [] last [] t = absurd t
+split_trace items carried [] last (f ∷ []) t = record { front = []; f = f; is = refl; trace = tt; frame = t.0; many = refl }
+split_trace items carried [] last (f ∷ g ∷ fs) t = absurd t.1
+split_trace items carried (input ∷ inputs) last [] t = absurd t
+split_trace items carried (input ∷ inputs) last (f ∷ fs) t =
+    let rest = split_trace items (next_state items f) inputs last fs t.1 in
+    record { front = f ∷ rest.front; f = rest.f; is = ap (λ (gs : List Frame). f ∷ gs) rest.is; trace = (t.0, rest.trace); frame = rest.frame; many = ap suc rest.many }
+
+carried_more : (items : List Item) (carried : Frame) (fs : List Frame) (f : Frame) → carried_behind items carried (fs ++ f ∷ []) ≡ next_state items f
+carried_more items carried [] f = refl
+carried_more items carried (g ∷ fs) f = carried_more items (next_state items g) fs f
+
+violation_more : (items : List Item) (k : ℕ) (fs : List Frame) (f : Frame) → violation_from items k (fs ++ f ∷ []) ≡ option_or (violation_from items k fs) (violated_at (k + length fs) (first_violated items f) None)
+violation_more items k [] f = ap (λ (n : ℕ). violated_at n (first_violated items f) None) (omega arith)
+violation_more items k (g ∷ fs) f =
+    let rest = violation_more items (suc k) fs f in
+    elim (first_violated items g) as (λ o. violated_at k o (violation_from items (suc k) (fs ++ f ∷ [])) ≡ option_or (violated_at k o (violation_from items (suc k) fs)) (violated_at (k + suc (length fs)) (first_violated items f) None)) [
+      | Some i ↦ refl
+      | None ↦ rest ∙ ap (λ (n : ℕ). option_or (violation_from items (suc k) fs) (violated_at n (first_violated items f) None)) (omega arith)
+    ]
+
+never_more : (fs : List Frame) (f : Frame) (a : ℕ) → never_rises (fs ++ f ∷ []) a ≡ (never_rises fs a && not (f a == 1))
+never_more fs f a = list_all-append (λ (g : Frame). not (g a == 1)) fs (f ∷ []) ∙ ap (λ (b : Bool). never_rises fs a && b) (and-true (not (f a == 1)))
+  where
+    and-true : (b : Bool) → (b && true) ≡ b
+    and-true true = refl
+    and-true false = refl
+
+rises_behind : (nodes : List ℕ) (fs : List Frame) (f : Frame) (none rose after : List Bool) → RisesAmong nodes fs none rose → RisesIn nodes f rose after → RisesAmong nodes (fs ++ f ∷ []) none after
+rises_behind nodes fs f none rose after was one i h =
+    one i h
+    ∙ (ap (λ (b : Bool). b || (f (get_or nodes i 0) == 1)) (was i h)
+    ∙ (or_cases (is_set none i) (never_rises fs (get_or nodes i 0)) (f (get_or nodes i 0) == 1) ∙ ap (λ (b : Bool). is_set none i || not b) (sym (never_more fs f (get_or nodes i 0)))))
+  where
+    or_cases : (b n r : Bool) → ((b || not n) || r) ≡ (b || not (n && not r))
+    or_cases true n r = refl
+    or_cases false false r = refl
+    or_cases false true true = refl
+    or_cases false true false = refl
+
+-- ---- where the run stands
+
+-- before the first frame
+start_stands : (items : List Item) (here : FrameWords) (base : List ℕ) → PartFits (shape_of items).states here.states → base ≡ map (first_word items) (ids_of is_state items)
+    → StandsAt items (initial_words items (frames_alone (here ∷ []))) here (given_at is_state items base)
+start_stands items here base fits is = λ id named.
+    let w = frames_alone (here ∷ []) in
+    let there = state_there items id named in
+    let y : Item = there.0 in
+    let many : length base ≡ length (ids_of is_state items) = ap length is ∙ length-map (ids_of is_state items) (first_word items) in
+    let put = put_given is_state items base here.states many fits.distinct id y there.1.0 there.1.1 in
+    let initial = states_given items w fits.distinct id y there.1.0 there.1.1 in
+    let stands = first_stands items w (initial_words items w) (here ∷ []) refl (λ id y found is. refl) id named in
+    sym put
+    ∙ (ap (λ (l : List ℕ). given_at is_state items (words_put l here.states) id) is
+    ∙ (initial ∙ (once (given_to is_state items here.states id) _ ∙ stands)))
+  where
+    once : (g o : Option ℕ) → unwrap_or (option_or g o) 0 ≡ unwrap_or g (unwrap_or (option_or g o) 0)
+    once None o = refl
+    once (Some x) o = refl
+
+-- before a later one
+later_stands_at : (items : List Item) (last : Frame) (here : FrameWords) (base : List ℕ) → LaterFits (shape_of items) here → base ≡ map (next_state items last) (ids_of is_state items)
+    → StandsAt items (next_state items last) here (given_at is_state items base)
+later_stands_at items last here base fits is =
+    next_stands items last (given_at is_state items base) (here ∷ []) (All-cons (LaterFits (shape_of items)) here [] fits (All-nil (LaterFits (shape_of items))))
+    (λ id y found kind. ap (λ (l : List ℕ). given_at is_state items l id) is ∙ words_of_kind is_state items (next_state items last) id y found kind)
+
+-- ---- words that fit
+
+later_last : (shape : Shape) (frames : List FrameWords) (here : FrameWords) → All (LaterFits shape) (frames ++ here ∷ []) → LaterFits shape here
+later_last shape [] here fit = All-head (LaterFits shape) here [] fit
+later_last shape (x ∷ frames) here fit = later_last shape frames here (All-tail (LaterFits shape) x (frames ++ here ∷ []) fit)
+
+last_fits : (shape : Shape) (frames : List FrameWords) (here : FrameWords) → FramesFit shape (frames ++ here ∷ []) → FirstFits shape here
+last_fits shape [] here fit = fit.0
+last_fits shape (x ∷ frames) here fit =
+    let last = later_last shape frames here fit.1 in
+    record { states = last.states; inputs = last.inputs }
+
+nothing_fits : (shape : Shape) → LaterFits shape nothing_given
+nothing_fits shape =
+    record {
+      states = record { each = All-nil _; distinct = refl };
+      free = All-nil _;
+      inputs = record { each = All-nil _; distinct = refl };
+    }
+
+fits_more : (shape : Shape) (frames : List FrameWords) (here : FrameWords) → FramesFit shape (frames ++ here ∷ []) → FramesFit shape ((frames ++ here ∷ []) ++ nothing_given ∷ [])
+fits_more shape [] here fit = (fit.0, All-push (LaterFits shape) [] nothing_given fit.1 (nothing_fits shape))
+fits_more shape (x ∷ frames) here fit = (fit.0, All-push (LaterFits shape) (frames ++ here ∷ []) nothing_given fit.1 (nothing_fits shape))
+
+-- ---- a frame is closed
+
+run_by : (r : Run) (items : List Item) (states inputs : List ℕ) (steps : ℕ) → r.items ≡ items → r.states ≡ states → r.inputs ≡ inputs
+    → record r { settled = true; steps = steps } ≡ record { items = items; states = states; inputs = inputs; settled = true; steps = steps }
+run_by r items states inputs steps e d g = rw (e, d, g) refl
+
+-- what is kept once a frame is closed, by the run that was settled in it
+pub record Closes (items : List Item) (settled : Run) (old new : WordPlay) : Type 0 where
+  pub same : new.items ≡ items
+  pub differs : (f : Frame) → IsNow settled f → new.differs ≡ cond (old.frames == 0) (first_different items f) old.differs
+  pub frames : new.frames ≡ min (old.frames + 1) (2 ^ 64 - 1)
+  pub run : new.run ≡ record settled { states = new.run.states; inputs = zeros items; settled = false; steps = more_steps (state_count items) settled.steps }
+  pub states : (f : Frame) → IsNow settled f → new.run.states ≡ map (next_state items f) (ids_of is_state items)
+  pub many : length new.run.states ≡ length (ids_of is_state items)
+  pub breach : (f : Frame) → IsNow settled f → new.breach ≡ option_or old.breach (violated_at old.frames (first_violated items f) None)
+  pub rose : (f : Frame) → IsNow settled f → RisesIn (nodes_of is_bad items) f old.rose new.rose
+  pub states_clear : NoneIsSet new.states_given
+  pub inputs_clear : NoneIsSet new.inputs_given
+
+module _ (items : List Item) (here : FrameWords) (old new : WordPlay) (settled : Run) (w : IsWellFormed items)
+    (done : settled ≡ record old.run { settled = true; steps = more_steps (node_count old.run.items) old.run.steps }) (closes : Closes items settled old new) where
+  now_in : (frames : List FrameWords) (plays : Plays items frames here old) (carried f : Frame) → StandsAt items carried here (given_at is_state items plays.base) → IsFrame items carried (given_words items here) f → IsNow settled f
+  now_in frames plays carried f stands h =
+      let steps : ℕ = more_steps (node_count old.run.items) old.run.steps in
+      let r : Run = record { items = items; states = plays.base; inputs = zeros items; settled = false; steps = 0 } in
+      let r' : Run = record { items = items; states = words_put plays.base here.states; inputs = zeros items; settled = false; steps = 0 } in
+      let r'' : Run = record { items = items; states = words_put plays.base here.states; inputs = words_put (zeros items) here.inputs; settled = false; steps = 0 } in
+      settled_now items r r' r'' settled here w refl plays.many refl (last_fits (shape_of items) frames here plays.fit) here.states here.inputs refl refl refl refl steps
+      (done ∙ run_by old.run items (words_put plays.base here.states) (words_put (zeros items) here.inputs) steps plays.run plays.states plays.inputs) carried f stands h
+
+  steps_more : (frames : List FrameWords) → Plays items frames here old → new.run.steps ≡ steps_of items (length (frames ++ here ∷ []))
+  steps_more frames plays =
+      let n = length frames in
+      let long : length (frames ++ here ∷ []) ≡ n + 1 = length-append frames (here ∷ []) in
+      ap (λ (r : Run). r.steps) closes.run
+      ∙ (ap (λ (r : Run). more_steps (state_count items) r.steps) done
+      ∙ (ap₂ (λ (l : List Item) (s : ℕ). more_steps (state_count items) (more_steps (node_count l) s)) plays.run plays.steps
+      ∙ (ap (λ (s : ℕ). more_steps (state_count items) s) (more_steps-sum (n * frame_steps items) (node_count items) 0)
+      ∙ (more_steps-sum (n * frame_steps items + node_count items) (state_count items) 0
+      ∙ ap (λ (m : ℕ). more_steps m 0) (product n (node_count items) (state_count items) ∙ ap (λ (m : ℕ). m * frame_steps items) (sym long))))))
+    where
+      product : (n s l : ℕ) → n * (s + l) + s + l ≡ (n + 1) * (s + l)
+      product n s l = omega arith
+
+  first_closed : (plays : Plays items [] here old) → TracedBy items new.run.states new (here ∷ [])
+  first_closed plays [] t = absurd t
+  first_closed plays (f ∷ g ∷ fs) t = absurd t.1
+  first_closed plays (f ∷ []) t =
+      let carried = initial_words items (frames_alone (here ∷ [])) in
+      let fresh : Fresh items plays.base old = plays.traced in
+      let first : (old.frames == 0) ≡ true = eq-eqb old.frames 0 plays.count in
+      let now = now_in [] plays carried f (start_stands items here plays.base plays.fit.0.states fresh.states) t.0 in
+      record {
+        last = f;
+        states = closes.states f now;
+        carried = refl;
+        differs = closes.differs f now ∙ (ap (λ (b : Bool). cond b (first_different items f) old.differs) first ∙ different_of items carried (given_words items here) f t.0);
+        breach = closes.breach f now ∙ ap₂ (λ (o : Option Violation) (n : ℕ). option_or o (violated_at n (first_violated items f) None)) fresh.breach plays.count;
+        rose = λ none clear. rises_behind (nodes_of is_bad items) [] f none old.rose new.rose (λ i h. fresh.rose i ∙ sym (ap (λ (b : Bool). b || false) (clear i))) (closes.rose f now);
+      }
+
+  later_closed : (x : FrameWords) (xs : List FrameWords) (plays : Plays items (x ∷ xs) here old) → TracedBy items new.run.states new (x ∷ (xs ++ here ∷ []))
+  later_closed x xs plays fs t =
+      let carried = initial_words items (frames_alone (x ∷ xs)) in
+      let s = split_trace items carried (map (given_words items) (x ∷ xs)) (given_words items here) fs (subst (λ (l : List Frame). IsTrace items carried l fs) (map-append (given_words items) (x ∷ xs) (here ∷ [])) t) in
+      let was : Traced items (x ∷ xs) plays.base old s.front = plays.traced s.front s.trace in
+      let fits = later_last (shape_of items) xs here plays.fit.1 in
+      let frame = subst (λ (c : Frame). IsFrame items c (given_words items here) s.f) was.carried s.frame in
+      let now = now_in (x ∷ xs) plays (next_state items was.last) s.f (later_stands_at items was.last here plays.base fits was.states) frame in
+      let count = plays.count in
+      let later : (old.frames == 0) ≡ false = ne_eqb old.frames 0 (λ e. omega (arith, count, e)) in
+      let number : old.frames ≡ 0 + length s.front = count ∙ (sym (length-map (x ∷ xs) (given_words items)) ∙ (sym s.many ∙ omega arith)) in
+      record {
+        last = s.f;
+        states = closes.states s.f now;
+        carried = ap (carried_behind items carried) s.is ∙ carried_more items carried s.front s.f;
+        differs = closes.differs s.f now ∙ (ap (λ (b : Bool). cond b (first_different items s.f) old.differs) later ∙ was.differs);
+        breach =
+            closes.breach s.f now
+            ∙ (ap₂ (λ (o : Option Violation) (n : ℕ). option_or o (violated_at n (first_violated items s.f) None)) was.breach number
+            ∙ (sym (violation_more items 0 s.front s.f) ∙ ap (violation_from items 0) (sym s.is)));
+        rose = λ none clear.
+            subst (λ (l : List Frame). RisesAmong (nodes_of is_bad items) l none new.rose) (sym s.is)
+            (rises_behind (nodes_of is_bad items) s.front s.f none old.rose new.rose (was.rose none clear) (closes.rose s.f now));
+      }
+
+  closed_by : (frames : List FrameWords) → Plays items frames here old → TracedBy items new.run.states new (frames ++ here ∷ [])
+  closed_by [] plays = first_closed plays
+  closed_by (x ∷ xs) plays = later_closed x xs plays
+
+  -- a frame more is closed
+  pub plays_more : (frames : List FrameWords) → Plays items frames here old → length frames < 2 ^ 62 → Plays items (frames ++ here ∷ []) nothing_given new
+  plays_more frames plays few =
+      let count = plays.count in
+      let long = length-append frames (here ∷ []) in
+      record {
+        items_are = closes.same;
+        run = ap (λ (r : Run). r.items) closes.run ∙ (ap (λ (r : Run). r.items) done ∙ plays.run);
+        fit = fits_more (shape_of items) frames here plays.fit;
+        states_flagged = closes.states_clear;
+        inputs_flagged = closes.inputs_clear;
+        base = new.run.states;
+        many = closes.many;
+        states = refl;
+        inputs = ap (λ (r : Run). r.inputs) closes.run;
+        count = closes.frames ∙ omega (arith, count, few, long);
+        steps = steps_more frames plays;
+        traced = closed_by frames plays;
+      }

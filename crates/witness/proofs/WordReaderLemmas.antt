@@ -1,0 +1,337 @@
+-- Lines of a witness over a model, admitted one after the other by what is kept of them.
+use Rattle.std.proofs.Common.{◌≡◌, ℕ, zero, suc, ◌*◌, ◌<◌, ◌≤◌, Bool, true, false, ◌&&◌, ◌||◌, List, [], ◌∷◌, ◌++◌, Option, Result, Ok, Err, codes, map, length, unwrap_or, slice_index, slice_index_or, arith, refl, sym, ap, subst, ◌∙◌}
+use Rattle.std.specs.Str.{bytes_eq}
+use Rattle.base.specs.Decimals.{number_of}
+use Rattle.btor2.specs.declared.item.Item.{Item}
+use Rattle.witness.specs.declared.why.Why.{Why}
+use Rattle.witness.specs.declared.why.Why.TheVariants as why
+use Rattle.witness.specs.declared.place.Place.{Place as CodePlace}
+use Rattle.witness.specs.declared.place.Place.TheVariants as code
+use Rattle.witness.specs.Texts.{Assignment, is_free_index, has_free, shape_of, is_comment}
+use Rattle.witness.specs.Admits.{Place, AtClaims, AtParts, InStates, InFree, InFrame, AtEnd, Read, nothing_read, cut_at_space, names_free, claims_at, opens_frame, opens_states, begins_part, states_closed, frame_closed, free_assignment_at, admit}
+use Rattle.witness.specs.Judgements.{FrameWords, pairs_of, frame_words}
+use Rattle.witness.specs.Fits.{AreClaimed}
+use Rattle.std.specs.List.{list_any}
+use Rattle.btor2.specs.Items.{is_state, is_bad}
+use Rattle.btor2.specs.Lists.{places, is_free_at}
+use Rattle.witness.specs.declared.word_claims.ClaimScan.{ClaimScan}
+use Rattle.witness.specs.WordClaims.{AreClaims}
+use Rattle.witness.proofs.ShapeLemmas.{free_at_places, length-places}
+use Rattle.witness.specs.WordPlays.{WordPlay, IsStart, Plays, frame_steps, MayGive, GivesState, GivesInput, nothing_given}
+use Rattle.witness.specs.WordStands.{WordReader, place_of, here_of, NoFrame, SaidAt, ClaimsAt, Reads, GivesLine}
+use Rattle.std.proofs.lemmas.List.{map-append, length-map}
+use Rattle.std.proofs.lemmas.List.Elements.{All-nil}
+use Rattle.runs.specs.Frames.{ids_of}
+use Rattle.runs.specs.Run.{Run, first_word, more_steps}
+
+-- a line is admitted
+abbrev pub Passes : List Item → Read → List ℕ → WordReader → Type 0
+Passes items r line q = (next : Read) × ((admit (shape_of items) r line ≡ Ok next) × Reads items q next [])
+
+-- another place than that of the claims
+abbrev pub IsOther : CodePlace → Type 0
+IsOther code.Claims = ⊥
+IsOther _ = Unit {0}
+
+same_claims : (q : WordReader) (r : Read) (line next : List ℕ) (x : CodePlace) → IsOther x → ClaimsAt q r line (place_of x) → ClaimsAt q r next (place_of x)
+same_claims q r line next code.Claims other h = absurd other
+same_claims q r line next code.Status other h = h
+same_claims q r line next code.Parts other h = h
+same_claims q r line next code.States other h = h
+same_claims q r line next code.Free other h = h
+same_claims q r line next code.Frame other h = h
+same_claims q r line next code.End other h = h
+
+module _ (items : List Item) (r : Read) (line : List ℕ) (q : WordReader) (reads : Reads items q r line) where
+  is_at : (x : CodePlace) → q.place ≡ x → r.place ≡ place_of x
+  is_at x e = sym reads.place ∙ ap place_of e
+
+  said_at : (x : CodePlace) → q.place ≡ x → SaidAt r (place_of x)
+  said_at x e = subst (SaidAt r) (is_at x e) reads.said
+
+  pub claims_there : (x : CodePlace) → q.place ≡ x → ClaimsAt q r line (place_of x)
+  claims_there x e = subst (ClaimsAt q r line) (is_at x e) reads.claims
+
+  pub plays_at : (x : CodePlace) → q.place ≡ x → Plays items (map frame_words r.closed) (here_of r (place_of x)) q.play
+  plays_at x e = subst (λ (p : Place). Plays items (map frame_words r.closed) (here_of r p) q.play) (is_at x e) reads.play
+
+  -- ---- the status and the claims
+
+  pub comment_admitted : q.place ≡ code.Status → is_comment line ≡ true → Passes items r line q
+  unfolding admit
+  comment_admitted e is =
+      let at = is_at code.Status e in
+      (r, (rw (at, is) refl, record { free = reads.free; many = reads.many; place = reads.place; said = reads.said; claims = subst (ClaimsAt q r []) (sym at) (claims_there code.Status e); play = reads.play }))
+
+  pub sat_admitted : q.place ≡ code.Status → is_comment line ≡ false → bytes_eq line (codes "sat") ≡ true → Passes items r line (record q { place = code.Claims })
+  unfolding admit
+  sat_admitted e other is =
+      let said : NoFrame r = said_at code.Status e in (
+        record r { place = AtClaims },
+        (
+          rw (is_at code.Status e, other, is) refl,
+          record { free = reads.free; many = reads.many; place = refl; said = record { closed = said.closed; states = said.states; open_part = said.open_part }; claims = claims_there code.Status e; play = plays_at code.Status e },
+        ),
+      )
+
+  pub header_refused : q.place ≡ code.Status → is_comment line ≡ false → bytes_eq line (codes "sat") ≡ false → admit (shape_of items) r line ≡ Err why.BadHeader
+  unfolding admit
+  header_refused e other fails = rw (is_at code.Status e, other, fails) refl
+
+  pub claims_refused : (w : Why) → q.place ≡ code.Claims → claims_at (shape_of items).bads line ≡ Err w → admit (shape_of items) r line ≡ Err w
+  unfolding admit
+  claims_refused w e is = rw (is_at code.Claims e, is) refl
+
+  pub claims_admitted : (flags : List Bool) (list : List ℕ) → q.place ≡ code.Claims → claims_at (shape_of items).bads line ≡ Ok list → AreClaimed flags list → length flags ≡ length q.claimed → Passes items r line (record q { place = code.Parts; claimed = flags })
+  unfolding admit
+  claims_admitted flags list e is claimed many =
+      let said : NoFrame r = said_at code.Claims e in (
+        record r { place = AtParts; claims = list },
+        (
+          rw (is_at code.Claims e, is) refl,
+          record { free = reads.free; many = many ∙ reads.many; place = refl; said = record { closed = said.closed; states = said.states; open_part = said.open_part }; claims = claimed; play = plays_at code.Claims e },
+        ),
+      )
+
+  -- ---- the line behind them
+
+  pub states_opened : q.place ≡ code.Parts → opens_states 0 line ≡ true → Passes items r line (record q { place = code.States })
+  unfolding admit
+  states_opened e is =
+      let said : NoFrame r = said_at code.Parts e in
+      let play = subst (λ (l : List Assignment). Plays items (map frame_words r.closed) (record { states = pairs_of l; inputs = [] }) q.play) (sym said.open_part) (plays_at code.Parts e) in
+      (record r { place = InStates }, (rw (is_at code.Parts e, is) refl, record { free = reads.free; many = reads.many; place = refl; said = said.closed; claims = claims_there code.Parts e; play = play }))
+
+  pub frame_opened : q.place ≡ code.Parts → opens_states 0 line ≡ false → opens_frame 0 line ≡ true → Passes items r line (record q { place = code.Frame })
+  unfolding admit
+  frame_opened e other is =
+      let said : NoFrame r = said_at code.Parts e in
+      let inputs = subst (λ (l : List Assignment). Plays items (map frame_words r.closed) (record { states = []; inputs = pairs_of l }) q.play) (sym said.open_part) (plays_at code.Parts e) in
+      let play = subst (λ (o : Option (List Assignment)). Plays items (map frame_words r.closed) (record { states = pairs_of (unwrap_or o []); inputs = pairs_of r.open_part }) q.play) (sym said.states) inputs in
+      (record r { place = InFrame }, (rw (is_at code.Parts e, other, is) refl, record { free = reads.free; many = reads.many; place = refl; said = tt; claims = claims_there code.Parts e; play = play }))
+
+  pub parts_refused : q.place ≡ code.Parts → opens_states 0 line ≡ false → opens_frame 0 line ≡ false → admit (shape_of items) r line ≡ Err why.FrameOrder
+  unfolding admit
+  parts_refused e other fails = rw (is_at code.Parts e, other, fails) refl
+
+  -- ---- a part of states
+
+  pub may_give_first : q.place ≡ code.States → MayGive items (map frame_words r.closed) line
+  may_give_first e = subst (λ (l : _). MayGive items (map frame_words l) line) (sym (said_at code.States e)) tt
+
+  pub states_done : q.place ≡ code.States → opens_frame 0 line ≡ true → Passes items r line (record q { place = code.Frame })
+  unfolding admit
+  states_done e is = (states_closed r, (rw (is_at code.States e, is) refl, record { free = reads.free; many = reads.many; place = refl; said = tt; claims = claims_there code.States e; play = plays_at code.States e }))
+
+  pub states_refused : q.place ≡ code.States → opens_frame 0 line ≡ false → begins_part line ≡ true → admit (shape_of items) r line ≡ Err why.FrameOrder
+  unfolding admit
+  states_refused e other begins = rw (is_at code.States e, other, begins) refl
+
+  pub state_more : (p : WordPlay) (result : Result (Unit {0}) Why) → q.place ≡ code.States → opens_frame 0 line ≡ false → begins_part line ≡ false → GivesState items (map frame_words r.closed) r.open_part line p result → GivesLine items r line (record q { play = p }) result
+  unfolding admit
+  state_more p (Err w) e other plain gives = rw (is_at code.States e, other, plain, gives) refl
+  state_more p (Ok u) e other plain gives =
+      let at = is_at code.States e in
+      let next : Read = record r { open_part = gives.0 } in (
+        next,
+        (
+          rw (at, other, plain, gives.1.0) refl,
+          record {
+            free = reads.free;
+            many = reads.many;
+            place = reads.place;
+            said = subst (SaidAt next) (sym at) (said_at code.States e);
+            claims = subst (ClaimsAt (record q { play = p }) next []) (sym at) (claims_there code.States e);
+            play = subst (λ (x : Place). Plays items (map frame_words r.closed) (here_of next x) p) (sym at) gives.1.1;
+          },
+        ),
+      )
+
+  pub may_give_free : (closed : List FrameWords) → names_free (shape_of items) (number_of (cut_at_space line).0) ≡ true → MayGive items closed line
+  may_give_free [] free = tt
+  may_give_free (x ∷ closed) free = free
+
+  pub free_done : q.place ≡ code.Free → opens_frame (length r.closed) line ≡ true → Passes items r line (record q { place = code.Frame })
+  unfolding admit
+  free_done e is = (states_closed r, (rw (is_at code.Free e, is) refl, record { free = reads.free; many = reads.many; place = refl; said = tt; claims = claims_there code.Free e; play = plays_at code.Free e }))
+
+  pub free_refused : q.place ≡ code.Free → opens_frame (length r.closed) line ≡ false → begins_part line ≡ true → admit (shape_of items) r line ≡ Err why.FrameOrder
+  unfolding admit
+  free_refused e other begins = rw (is_at code.Free e, other, begins) refl
+
+  pub not_free_refused : q.place ≡ code.Free → opens_frame (length r.closed) line ≡ false → begins_part line ≡ false → names_free (shape_of items) (number_of (cut_at_space line).0) ≡ false → admit (shape_of items) r line ≡ Err why.BadIndex
+  unfolding admit free_assignment_at
+  not_free_refused e other plain fails = rw (is_at code.Free e, other, plain, fails) refl
+
+  pub free_more : (p : WordPlay) (result : Result (Unit {0}) Why) → q.place ≡ code.Free → opens_frame (length r.closed) line ≡ false → begins_part line ≡ false → names_free (shape_of items) (number_of (cut_at_space line).0) ≡ true
+      → GivesState items (map frame_words r.closed) r.open_part line p result → GivesLine items r line (record q { play = p }) result
+  unfolding admit free_assignment_at
+  free_more p (Err w) e other plain free gives = rw (is_at code.Free e, other, plain, free, gives) refl
+  free_more p (Ok u) e other plain free gives =
+      let at = is_at code.Free e in
+      let next : Read = record r { open_part = gives.0 } in (
+        next,
+        (
+          rw (at, other, plain, free, gives.1.0) refl,
+          record {
+            free = reads.free;
+            many = reads.many;
+            place = reads.place;
+            said = subst (SaidAt next) (sym at) tt;
+            claims = subst (ClaimsAt (record q { play = p }) next []) (sym at) (claims_there code.Free e);
+            play = subst (λ (x : Place). Plays items (map frame_words r.closed) (here_of next x) p) (sym at) gives.1.1;
+          },
+        ),
+      )
+
+  -- ---- a frame
+
+  closed_plays : (p : WordPlay) → Plays items (map frame_words r.closed ++ here_of r InFrame ∷ []) nothing_given p → Plays items (map frame_words (r.closed ++ record { states = r.states; inputs = r.open_part } ∷ [])) nothing_given p
+  closed_plays p plays = subst (λ (l : List FrameWords). Plays items l nothing_given p) (sym (map-append frame_words r.closed (record { states = r.states; inputs = r.open_part } ∷ []))) plays
+
+  pub next_frame : (p : WordPlay) → q.place ≡ code.Frame → opens_frame (suc (length r.closed)) line ≡ true → Plays items (map frame_words r.closed ++ here_of r InFrame ∷ []) nothing_given p → Passes items r line (record q { play = p })
+  unfolding admit
+  next_frame p e is plays = (frame_closed InFrame r, (rw (is_at code.Frame e, is) refl, record { free = reads.free; many = reads.many; place = ap place_of e; said = tt; claims = claims_there code.Frame e; play = closed_plays p plays }))
+
+  pub next_states : (p : WordPlay) → q.place ≡ code.Frame → opens_frame (suc (length r.closed)) line ≡ false → (opens_states (suc (length r.closed)) line && q.has_free) ≡ true → Plays items (map frame_words r.closed ++ here_of r InFrame ∷ []) nothing_given p
+      → Passes items r line (record q { play = p; place = code.Free })
+  unfolding admit
+  next_states p e other is plays =
+      let some = ap (λ (b : Bool). opens_states (suc (length r.closed)) line && b) (sym reads.free) ∙ is in
+      (frame_closed InFree r, (rw (is_at code.Frame e, other, some) refl, record { free = reads.free; many = reads.many; place = refl; said = tt; claims = claims_there code.Frame e; play = closed_plays p plays }))
+
+  -- no line of states follows
+  abbrev pub NoStates : Type 0
+  NoStates = (opens_states (suc (length r.closed)) line && q.has_free) ≡ false
+
+  pub the_end : (p : WordPlay) → q.place ≡ code.Frame → opens_frame (suc (length r.closed)) line ≡ false → NoStates → bytes_eq line (codes ".") ≡ true → Plays items (map frame_words r.closed ++ here_of r InFrame ∷ []) nothing_given p
+      → Passes items r line (record q { play = p; place = code.End })
+  unfolding admit
+  the_end p e other none is plays =
+      let no = ap (λ (b : Bool). opens_states (suc (length r.closed)) line && b) (sym reads.free) ∙ none in
+      (frame_closed AtEnd r, (rw (is_at code.Frame e, other, no, is) refl, record { free = reads.free; many = reads.many; place = refl; said = tt; claims = claims_there code.Frame e; play = closed_plays p plays }))
+
+  pub frame_refused : q.place ≡ code.Frame → opens_frame (suc (length r.closed)) line ≡ false → NoStates → bytes_eq line (codes ".") ≡ false → begins_part line ≡ true → admit (shape_of items) r line ≡ Err why.FrameOrder
+  unfolding admit
+  frame_refused e other none fails begins =
+      let no = ap (λ (b : Bool). opens_states (suc (length r.closed)) line && b) (sym reads.free) ∙ none in
+      rw (is_at code.Frame e, other, no, fails, begins) refl
+
+  pub input_more : (p : WordPlay) (result : Result (Unit {0}) Why) → q.place ≡ code.Frame → opens_frame (suc (length r.closed)) line ≡ false → NoStates → bytes_eq line (codes ".") ≡ false → begins_part line ≡ false
+      → GivesInput items (map frame_words r.closed) (pairs_of (unwrap_or r.states [])) r.open_part line p result → GivesLine items r line (record q { play = p }) result
+  unfolding admit
+  input_more p (Err w) e other none fails plain gives =
+      let no = ap (λ (b : Bool). opens_states (suc (length r.closed)) line && b) (sym reads.free) ∙ none in
+      rw (is_at code.Frame e, other, no, fails, plain, gives) refl
+  input_more p (Ok u) e other none fails plain gives =
+      let at = is_at code.Frame e in
+      let no = ap (λ (b : Bool). opens_states (suc (length r.closed)) line && b) (sym reads.free) ∙ none in
+      let next : Read = record r { open_part = gives.0 } in (
+        next,
+        (
+          rw (at, other, no, fails, plain, gives.1.0) refl,
+          record {
+            free = reads.free;
+            many = reads.many;
+            place = reads.place;
+            said = subst (SaidAt next) (sym at) tt;
+            claims = subst (ClaimsAt (record q { play = p }) next []) (sym at) (claims_there code.Frame e);
+            play = subst (λ (x : Place). Plays items (map frame_words r.closed) (here_of next x) p) (sym at) gives.1.1;
+          },
+        ),
+      )
+
+  pub trailing_refused : q.place ≡ code.End → admit (shape_of items) r line ≡ Err why.Trailing
+  unfolding admit
+  trailing_refused e = rw (is_at code.End e) refl
+
+  -- ---- a byte more
+
+  pub claim_byte : (s : ClaimScan) (flags : List Bool) (byte : ℕ) → q.place ≡ code.Claims → AreClaims s flags (line ++ byte ∷ []) → length flags ≡ length q.claimed → Reads items (record q { claims = s; claimed = flags }) r (line ++ byte ∷ [])
+  claim_byte s flags byte e are many =
+      record {
+        free = reads.free;
+        many = many ∙ reads.many;
+        place = reads.place;
+        said = reads.said;
+        claims = subst (ClaimsAt (record q { claims = s; claimed = flags }) r (line ++ byte ∷ [])) (sym (is_at code.Claims e)) are;
+        play = reads.play;
+      }
+
+  pub other_byte : (x : CodePlace) (byte : ℕ) → q.place ≡ x → IsOther x → Reads items q r (line ++ byte ∷ [])
+  other_byte x byte e other =
+      record {
+        free = reads.free;
+        many = reads.many;
+        place = reads.place;
+        said = reads.said;
+        claims = subst (ClaimsAt q r (line ++ byte ∷ [])) (sym (is_at x e)) (same_claims q r line (line ++ byte ∷ []) x other (claims_there x e));
+        play = reads.play;
+      }
+
+-- ---- free states
+
+free_there : (items : List Item) (list : List ℕ) (i : ℕ) → i < length list → slice_index_or (map (is_free_at items) list) i false ≡ is_free_at items (slice_index list i)
+free_there items [] i h = absurd (omega (arith, h))
+free_there items (x ∷ list) zero h = refl
+free_there items (x ∷ list) (suc i) h = free_there items list i (omega (arith, h))
+
+free_past : (items : List Item) (list : List ℕ) (i : ℕ) → length list ≤ i → slice_index_or (map (is_free_at items) list) i false ≡ false
+free_past items [] i h = refl
+free_past items (x ∷ list) zero h = absurd (omega (arith, h))
+free_past items (x ∷ list) (suc i) h = free_past items list i (omega (arith, h))
+
+pub free_index : (items : List Item) (i : ℕ) → i < length (places is_state 0 items) → is_free_index (shape_of items) i ≡ is_free_at items (slice_index (places is_state 0 items) i)
+free_index items i h = ap (λ (l : List Bool). slice_index_or l i false) (sym (free_at_places items)) ∙ free_there items (places is_state 0 items) i h
+
+pub no_free_index : (items : List Item) (i : ℕ) → length (places is_state 0 items) ≤ i → is_free_index (shape_of items) i ≡ false
+no_free_index items i h = ap (λ (l : List Bool). slice_index_or l i false) (sym (free_at_places items)) ∙ free_past items (places is_state 0 items) i h
+
+-- one of the states is free, or none is
+any_there : (items : List Item) (list : List ℕ) (i : ℕ) → i < length list → is_free_at items (slice_index list i) ≡ true → list_any (λ b. b) (map (is_free_at items) list) ≡ true
+any_there items [] i h is = absurd (omega (arith, h))
+any_there items (x ∷ list) zero h is = rw is refl
+any_there items (x ∷ list) (suc i) h is = rw (any_there items list i (omega (arith, h)) is) (or_true (is_free_at items x))
+  where
+    or_true : (b : Bool) → (b || true) ≡ true
+    or_true true = refl
+    or_true false = refl
+
+none_there : (items : List Item) (list : List ℕ) → ((i : ℕ) → i < length list → is_free_at items (slice_index list i) ≡ false) → list_any (λ b. b) (map (is_free_at items) list) ≡ false
+none_there items [] none = refl
+none_there items (x ∷ list) none = rw (none 0 (omega arith)) (none_there items list (λ i h. none (suc i) (omega (arith, h))))
+
+pub some_free : (items : List Item) (i : ℕ) → i < length (places is_state 0 items) → is_free_at items (slice_index (places is_state 0 items) i) ≡ true → has_free (shape_of items) ≡ true
+some_free items i h is = ap (list_any (λ b. b)) (sym (free_at_places items)) ∙ any_there items (places is_state 0 items) i h is
+
+pub none_free : (items : List Item) → ((i : ℕ) → i < length (places is_state 0 items) → is_free_at items (slice_index (places is_state 0 items) i) ≡ false) → has_free (shape_of items) ≡ false
+none_free items none = ap (list_any (λ b. b)) (sym (free_at_places items)) ∙ none_there items (places is_state 0 items) none
+
+-- ---- before any line
+
+plays_start : (items : List Item) (p : WordPlay) → IsStart items p → Plays items [] nothing_given p
+plays_start items p h =
+    record {
+      items_are = h.items_are;
+      run = ap (λ (r : Run). r.items) h.run;
+      fit = (record { states = record { each = All-nil _; distinct = refl }; inputs = record { each = All-nil _; distinct = refl } }, All-nil _);
+      states_flagged = h.states;
+      inputs_flagged = h.inputs;
+      base = p.run.states;
+      many = ap (λ (r : Run). length r.states) h.run ∙ length-map (ids_of is_state items) (first_word items);
+      states = refl;
+      inputs = ap (λ (r : Run). r.inputs) h.run;
+      count = h.frames;
+      steps = ap (λ (r : Run). r.steps) h.run ∙ no_steps (frame_steps items);
+      traced = record { states = ap (λ (r : Run). r.states) h.run; breach = h.breach; rose = h.rose };
+    }
+  where
+    no_steps : (n : ℕ) → 0 ≡ more_steps (0 * n) 0
+    no_steps n =
+        let none : 0 * n ≡ 0 = omega arith in
+        rw none refl
+
+pub reads_start : (items : List Item) (p : WordPlay) (s : ClaimScan) (flags : List Bool) (free : Bool) → IsStart items p → AreClaims s flags [] → length flags ≡ length (places is_bad 0 items) → free ≡ has_free (shape_of items)
+    → Reads items (record { play = p; place = code.Status; claims = s; claimed = flags; has_free = free }) nothing_read []
+reads_start items p s flags free start are many is =
+    record { free = is; many = many ∙ length-places is_bad 0 items; place = refl; said = record { closed = refl; states = refl; open_part = refl }; claims = are; play = plays_start items p start }

@@ -1,0 +1,31 @@
+use Rattle.std.proofs.Common.{◌≡◌, ◌<◌, ℕ, [], ◌∷◌, ◌++◌, Result, length, refl, sym, ap, ap₂, subst, ◌∙◌, arith}
+use Rattle.btor2.specs.Check.{IsWellFormed}
+use Rattle.btor2.specs.Lists.{places}
+use Rattle.btor2.specs.Items.{is_input}
+use Rattle.witness.specs.declared.why.Why.{Why}
+use Rattle.witness.specs.Texts.{widths_of}
+use Rattle.witness.specs.Admits.{assignment_at}
+use Rattle.witness.specs.Judgements.{pairs_of}
+use Rattle.witness.specs.WordPlays.{WordPlay, Plays, input_given}
+use Rattle.witness.proofs.WordAssignLemmas.{Tells, assigned_tells}
+use Rattle.witness.proofs.WordGivenLemmas.{input_plays}
+use Rattle.witness.proofs.word_play.WordPlay.assign_input.Goals as goal
+
+pub returns-in-Ok-clause-line : goal.returns-in-Ok-clause-line
+returns-in-Ok-clause-line c frames states before line plays fields =
+    let p : WordPlay = c.args.self.now in
+    let widths = widths_of is_input p.items in
+    let told = subst (λ (o : Result (ℕ × ℕ) Why). Tells before o (assignment_at widths before line)) (c.in-Ok.ensures.is line fields) (assigned_tells widths p.inputs_given before line plays.inputs_flagged) in
+    let a = told.0 in
+    let index : c.index.result ≡ a.index = c.index.ensures ∙ sym (ap (λ (q : ℕ × ℕ). q.0) told.1.1) in
+    let word : c.word.result ≡ a.word = c.word.ensures ∙ sym (ap (λ (q : ℕ × ℕ). q.1) told.1.1) in
+    let many : length p.inputs_given ≡ length (places is_input 0 p.items) = subst (λ (q : WordPlay). length q.inputs_given ≡ length (places is_input 0 q.items)) c.self.view_is c.self.invariant.2 in
+    let there : a.index < length (places is_input 0 p.items) = subst (λ (q : ℕ × ℕ). q.0 < length (places is_input 0 p.items)) (sym told.1.1) c.in-Ok.ensures.inside in
+    let well_formed = subst (λ (q : WordPlay). IsWellFormed q.items) c.self.view_is c.items-items.ensures.well_formed in
+    let more = input_plays p.items frames states before (before ++ a ∷ []) line p a well_formed told.1.0 refl (omega (arith, many, there)) plays in
+    (before ++ a ∷ [], (told.1.0, subst (λ (q : WordPlay). Plays p.items frames (record { states = states; inputs = pairs_of (before ++ a ∷ []) }) q) (sym (c.give_input.ensures ∙ ap₂ (input_given p) index word)) more))
+
+pub returns-in-Err-clause-line : goal.returns-in-Err-clause-line
+returns-in-Err-clause-line c frames states before line plays fields =
+    let widths = widths_of is_input c.args.self.now.items in
+    subst (λ (o : Result (ℕ × ℕ) Why). Tells before o (assignment_at widths before line)) (c.in-Err.ensures.is line fields) (assigned_tells widths c.args.self.now.inputs_given before line plays.inputs_flagged)

@@ -1,0 +1,266 @@
+//! The frames of a witness over a model, played while its lines are read.
+ghost use Rattle.std.specs.Prelude.{◌≡◌, ℕ, ◌<◌, ◌+◌, ◌^◌, ◌==◌, true, false, Option, List, [], ◌∷◌, ◌++◌, if◌then◌else◌, IfErr, IfOk, IfSome, OnErr, length, slice_index, slice_index_or};
+ghost use Rattle.btor2.specs.Items.{is_input, is_state, is_bad};
+ghost use Rattle.btor2.specs.Check.{IsWellFormed};
+ghost use Rattle.btor2.specs.Lists.{places, width_at, first_init_without_next};
+ghost use Rattle.btor2.specs.Trace.{Frame};
+ghost use Rattle.runs.specs.Run.{IsNow, node_count, state_count};
+ghost use Rattle.runs.specs.Refusal.{AnswersNew};
+ghost use Rattle.witness.specs.Judgements.{FrameWords, pairs_of, first_different};
+ghost use Rattle.witness.specs.Texts.{Assignment, widths_of};
+ghost use Rattle.witness.specs.Reading.{Gives};
+ghost use Rattle.witness.specs.Fits.{NoneIsSet};
+ghost use Rattle.witness.specs.WordScans.{AreFields};
+ghost use Rattle.witness.specs.WordAssigns.{assigned};
+ghost use Rattle.witness.specs.WordPlays.{IsStart, Plays, MayGive, GivesState, GivesInput, state_given, input_given, nothing_given};
+
+use crate::verdicts::{Breach, earlier, first_different, first_violated, note_rises};
+use crate::why::Why;
+use crate::word_assign::assigned;
+use crate::word_fields::FieldScan;
+use crate::words::Given;
+use btor2::Model;
+use runs::{NewFault, WordRun};
+use std::alloc::{AllocError, Global};
+
+/// The frames of a witness over a model that are closed, and the words that are given in the open one.
+#[derive(Drop)]
+pub(crate) struct WordPlay<'a> {
+    model: &'a Model,
+    run: WordRun<'a>,
+    // for each state, and for each input, whether it has a word in the part that is open
+    states_given: Vec<bool>,
+    inputs_given: Vec<bool>,
+    // the first state whose initial word is not that of its init line, once the first frame is closed
+    differs: Option<u64>,
+    frames: u64,
+    // the first constraint that did not hold in a closed frame
+    breach: Option<Breach>,
+    // for each bad property whether it rose in a closed frame
+    rose: Vec<bool>,
+}
+
+impl<'a> std::marker::Model for WordPlay<'a> {
+    ghost use Rattle.std.specs.Prelude.{◌≡◌, length};
+    ghost use Rattle.btor2.specs.Items.{is_input, is_state, is_bad};
+    ghost use Rattle.btor2.specs.Lists.{places};
+    ghost use Rattle.witness.specs.WordPlays.{WordPlay as WordPlayValue};
+
+    ghost Value = { WordPlayValue };
+
+    ghost view = { λ p. record { items = p.model.now; run = p.run; states_given = p.states_given.items; inputs_given = p.inputs_given.items; differs = p.differs; frames = p.frames; breach = p.breach; rose = p.rose.items } };
+
+    ghost invariant = { λ p. (p.run.items ≡ p.model.now) × (length p.states_given.items ≡ length (places is_state 0 p.model.now)) × (length p.inputs_given.items ≡ length (places is_input 0 p.model.now)) × (length p.rose.items ≡ length (places is_bad 0 p.model.now)) };
+}
+
+/// So many flags, none of them set.
+pub(crate) fn no_flags(alloc: Global, count: usize) -> Result<Vec<bool>, NewFault>
+    ensures many { IfOk result (λ flags. length flags.items ≡ count) }
+    ensures none { IfOk result (λ flags. NoneIsSet flags.items) }
+    ensures fault { IfErr result (λ fault. fault ≡ NewFault.NoMemory) }
+{
+    match vec![in alloc; false; count] {
+        Ok(flags) => Ok(flags),
+        Err(AllocError) => Err(NewFault::NoMemory),
+    }
+}
+
+/// Takes all flags back.
+fn clear(flags: &mut [bool])
+    ensures many { length flags.new ≡ length flags.old }
+    ensures none { NoneIsSet flags.new }
+{
+    for k in 0..flags.len() {
+        flags[k] = false;
+    }
+}
+
+/// The first state with another word than that of its init line, in the first frame.
+fn differing(model: &Model, run: &WordRun<'_>, frames: u64, found: Option<u64>) -> Option<u64>
+    requires same { run.now.items ≡ model.now }
+    requires well_formed { IsWellFormed model.now }
+    requires settled { run.now.settled ≡ true }
+    ensures { (f : Frame) → IsNow run.now f → result ≡ (if frames == 0 then first_different model.now f else found) }
+{
+    if frames == 0 {
+        first_different(model, run)
+    } else {
+        found
+    }
+}
+
+impl<'a> WordPlay<'a> {
+    /// Of a model, before any line.
+    ///
+    /// Errors: `NoNext` with the first state in file order that has an init and no next; else `NoMemory`.
+    pub(crate) fn new(alloc: Global, model: &'a Model) -> Result<WordPlay<'a>, NewFault>
+        ensures ok { IfOk result (λ p. IsStart model.now p) }
+        ensures answer { AnswersNew result (first_init_without_next model.now model.now) }
+    {
+        let _items = model.items();
+        let run = WordRun::new(alloc, model)?;
+        let states_given = no_flags(alloc, model.states().len())?;
+        let inputs_given = no_flags(alloc, model.inputs().len())?;
+        let rose = no_flags(alloc, model.bads().len())?;
+        Ok(WordPlay {
+            model,
+            run,
+            states_given,
+            inputs_given,
+            differs: None,
+            frames: 0,
+            breach: None,
+            rose,
+        })
+    }
+
+    /// The model.
+    pub(crate) fn model(&self) -> &'a Model
+        ensures { result.now ≡ self.now.items }
+    {
+        self.model
+    }
+
+    /// The closed frames.
+    pub(crate) fn frames(&self) -> u64
+        ensures { result ≡ self.now.frames }
+    {
+        self.frames
+    }
+
+    /// The word that a line gives to a state in the open part, or why it gives none.
+    fn state_word(&self, fields: &FieldScan) -> Result<Given, Why>
+        ensures is { (line : List ℕ) → AreFields fields.now line → Gives (λ p. p) result (assigned (widths_of is_state self.now.items) self.now.states_given line) }
+        ensures inside { IfOk result (λ p. p.0 < length (places is_state 0 self.now.items)) }
+        ensures fits { IfOk result (λ p. IfSome (width_at self.now.items (slice_index (places is_state 0 self.now.items) p.0)) (λ n. p.1 < 2 ^ n)) }
+    {
+        let _items = self.model.items();
+        assigned(
+            self.model,
+            self.model.states(),
+            self.states_given.as_slice(),
+            fields,
+        )
+    }
+
+    /// The word that a line gives to an input in the open frame, or why it gives none.
+    fn input_word(&self, fields: &FieldScan) -> Result<Given, Why>
+        ensures is { (line : List ℕ) → AreFields fields.now line → Gives (λ p. p) result (assigned (widths_of is_input self.now.items) self.now.inputs_given line) }
+        ensures inside { IfOk result (λ p. p.0 < length (places is_input 0 self.now.items)) }
+        ensures fits { IfOk result (λ p. IfSome (width_at self.now.items (slice_index (places is_input 0 self.now.items) p.0)) (λ n. p.1 < 2 ^ n)) }
+    {
+        let _items = self.model.items();
+        assigned(
+            self.model,
+            self.model.inputs(),
+            self.inputs_given.as_slice(),
+            fields,
+        )
+    }
+
+    /// Gives a state a word in the open part.
+    fn give_state(&mut self, index: usize, word: u64)
+        requires there { index < length (places is_state 0 self.old.items) }
+        requires fits { IfSome (width_at self.old.items (slice_index (places is_state 0 self.old.items) index)) (λ n. word < 2 ^ n) }
+        ensures { self.new ≡ state_given self.old index word }
+    {
+        self.run.set_state(index, word);
+        self.states_given[index] = true;
+    }
+
+    /// Gives an input a word in the open part.
+    fn give_input(&mut self, index: usize, word: u64)
+        requires there { index < length (places is_input 0 self.old.items) }
+        requires fits { IfSome (width_at self.old.items (slice_index (places is_input 0 self.old.items) index)) (λ n. word < 2 ^ n) }
+        ensures { self.new ≡ input_given self.old index word }
+    {
+        self.run.set_input(index, word);
+        self.inputs_given[index] = true;
+    }
+
+    /// Gives a state the word of a line in the open part, or answers why the line gives none.
+    pub(crate) fn assign_state(&mut self, fields: &FieldScan) -> Result<(), Why>
+        ensures line { (frames : List FrameWords) (before : List Assignment) (line : List ℕ) → Plays self.old.items frames (record { states = pairs_of before; inputs = [] }) self.old → AreFields fields.now line → MayGive self.old.items frames line → GivesState self.old.items frames before line self.new result }
+        ensures same { self.new.items ≡ self.old.items }
+        ensures err { OnErr result (self.new ≡ self.old) }
+    {
+        let _items = self.model.items();
+        match self.state_word(fields) {
+            Ok(given) => {
+                self.give_state(given.index() as usize, given.word());
+                Ok(())
+            }
+            Err(why) => Err(why),
+        }
+    }
+
+    /// Gives an input the word of a line in the open part, or answers why the line gives none.
+    pub(crate) fn assign_input(&mut self, fields: &FieldScan) -> Result<(), Why>
+        ensures line { (frames : List FrameWords) (states : List (ℕ × ℕ)) (before : List Assignment) (line : List ℕ) → Plays self.old.items frames (record { states = states; inputs = pairs_of before }) self.old → AreFields fields.now line → GivesInput self.old.items frames states before line self.new result }
+        ensures same { self.new.items ≡ self.old.items }
+        ensures err { OnErr result (self.new ≡ self.old) }
+    {
+        let _items = self.model.items();
+        match self.input_word(fields) {
+            Ok(given) => {
+                self.give_input(given.index() as usize, given.word());
+                Ok(())
+            }
+            Err(why) => Err(why),
+        }
+    }
+
+    /// Closes the open frame: settles it, looks at its constraints and at the bad properties, and moves on.
+    pub(crate) fn close(&mut self)
+        ensures more { (frames : List FrameWords) (here : FrameWords) → Plays self.old.items frames here self.old → length frames < 2 ^ 62 → Plays self.old.items (frames ++ here ∷ []) nothing_given self.new }
+        ensures same { self.new.items ≡ self.old.items }
+    {
+        let _items = self.model.items();
+        self.run.settle();
+        let differs = differing(self.model, &self.run, self.frames, self.differs);
+        let violated = first_violated(self.model, &self.run);
+        let breach = earlier(self.breach, self.frames, violated);
+        note_rises(&self.run, self.rose.as_mut_slice());
+        self.run.advance();
+        clear(self.states_given.as_mut_slice());
+        clear(self.inputs_given.as_mut_slice());
+        self.differs = differs;
+        self.breach = breach;
+        self.frames = self.frames.saturating_add(1);
+    }
+
+    /// How many words the run holds.
+    pub(crate) fn held(&self) -> u64
+        ensures { result ≡ node_count self.now.items + state_count self.now.items }
+    {
+        self.run.held()
+    }
+
+    /// The steps that it has taken.
+    pub(crate) fn steps(&self) -> u128
+        ensures { result ≡ self.now.run.steps }
+    {
+        self.run.steps()
+    }
+
+    /// The first state whose initial word is not that of its init line.
+    pub(crate) fn differs(&self) -> Option<u64>
+        ensures { result ≡ self.now.differs }
+    {
+        self.differs
+    }
+
+    /// The first breach in a closed frame.
+    pub(crate) fn breach(&self) -> Option<Breach>
+        ensures { result ≡ self.now.breach }
+    {
+        self.breach
+    }
+
+    /// For each bad property whether it rose in a closed frame.
+    pub(crate) fn rose(&self) -> &[bool]
+        ensures { result.now ≡ self.now.rose }
+    {
+        self.rose.as_slice()
+    }
+}

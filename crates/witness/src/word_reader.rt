@@ -1,0 +1,248 @@
+//! The lines of a witness over a model, admitted one after the other.
+ghost use Rattle.std.specs.Prelude.{◌≡◌, ℕ, ◌&&◌, ◌<◌, ◌-◌, ◌^◌, List, [], ◌∷◌, ◌++◌, IfOk, OnErr, length};
+ghost use Rattle.btor2.specs.declared.item.Item.{Item};
+ghost use Rattle.btor2.specs.Lists.{first_init_without_next};
+ghost use Rattle.runs.specs.Refusal.{AnswersNew};
+ghost use Rattle.witness.specs.Texts.{has_free, shape_of};
+ghost use Rattle.witness.specs.Admits.{Read, nothing_read, opens_states, names_free, cut_at_space};
+ghost use Rattle.base.specs.Decimals.{number_of};
+ghost use Rattle.witness.specs.declared.place.Place.TheVariants as place;
+ghost use Rattle.witness.specs.WordScans.{AreFields, IsScanned};
+ghost use Rattle.witness.specs.WordStands.{Reads, GivesLine};
+
+use crate::place::Place;
+use crate::why::Why;
+use crate::word_claims::ClaimScan;
+use crate::word_fields::FieldScan;
+use crate::word_line::LineScan;
+use crate::word_play::{WordPlay, no_flags};
+use btor2::Model;
+use runs::NewFault;
+use std::alloc::Global;
+
+/// What the admitted lines of a witness over a model say.
+#[derive(Drop)]
+pub(crate) struct WordReader<'a> {
+    play: WordPlay<'a>,
+    place: Place,
+    // the line of claims, and for each bad property whether it is claimed
+    claims: ClaimScan,
+    claimed: Vec<bool>,
+    // there is a free state
+    has_free: bool,
+}
+
+impl<'a> std::marker::Model for WordReader<'a> {
+    ghost use Rattle.std.specs.Prelude.{◌≡◌, length};
+    ghost use Rattle.btor2.specs.Items.{is_bad};
+    ghost use Rattle.btor2.specs.Lists.{places};
+    ghost use Rattle.witness.specs.WordStands.{WordReader as WordReaderValue};
+
+    ghost Value = { WordReaderValue };
+
+    ghost view = { λ q. record { play = q.play; place = q.place; claims = q.claims; claimed = q.claimed.items; has_free = q.has_free } };
+
+    ghost invariant = { λ q. length q.claimed.items ≡ length (places is_bad 0 q.play.items) };
+}
+
+/// Whether a state of a model is free.
+fn has_free(model: &Model) -> bool
+    ensures { result ≡ has_free (shape_of model.now) }
+{
+    for k in 0..model.states().len() {
+        if model.is_free(k) {
+            return true;
+        }
+    }
+    false
+}
+
+impl<'a> WordReader<'a> {
+    /// Of a model, before any line.
+    ///
+    /// Errors: `NoNext` with the first state in file order that has an init and no next; else `NoMemory`.
+    pub(crate) fn new(alloc: Global, model: &'a Model) -> Result<WordReader<'a>, NewFault>
+        ensures ok { IfOk result (λ q. Reads model.now q nothing_read []) }
+        ensures answer { AnswersNew result (first_init_without_next model.now model.now) }
+    {
+        let play = WordPlay::new(alloc, model)?;
+        let claimed = no_flags(alloc, model.bads().len())?;
+        Ok(WordReader {
+            play,
+            place: Place::Status,
+            claims: ClaimScan::new(),
+            claimed,
+            has_free: has_free(model),
+        })
+    }
+
+    /// The frames.
+    pub(crate) fn play(&self) -> &WordPlay<'a>
+        ensures { result.now ≡ self.now.play }
+    {
+        &self.play
+    }
+
+    /// Which line comes next.
+    pub(crate) fn place(&self) -> Place
+        ensures { result ≡ self.now.place }
+    {
+        self.place
+    }
+
+    /// Takes a byte of the next line.
+    pub(crate) fn take(&mut self, byte: u8)
+        ensures { (items : List Item) (r : Read) (line : List ℕ) → Reads items self.old r line → Reads items self.new r (line ++ byte ∷ []) }
+    {
+        match self.place {
+            Place::Claims => self.claims.push(byte, self.claimed.as_mut_slice()),
+            Place::Status
+            | Place::Parts
+            | Place::States
+            | Place::Free
+            | Place::Frame
+            | Place::End => {}
+        }
+    }
+
+    /// Whether an assignment is one of a free state.
+    fn names_free(&self, fields: &FieldScan) -> bool
+        ensures { (line : List ℕ) → AreFields fields.now line → result ≡ names_free (shape_of self.now.play.items) (number_of (cut_at_space line).0) }
+    {
+        let model = self.play.model();
+        match fields.index() {
+            Some(index) => {
+                let k = index as usize;
+                k < model.states().len() && model.is_free(k)
+            }
+            None => false,
+        }
+    }
+
+    /// Whether a line begins the part of states of a frame, where there is a free state.
+    fn begins_states(&self, line: &LineScan, frame: u64) -> bool
+        ensures { (bytes : List ℕ) → IsScanned line.now bytes → frame < 2 ^ 64 - 1 → result ≡ (opens_states frame bytes && self.now.has_free) }
+    {
+        line.is_numbered(b'#', frame) && self.has_free
+    }
+
+    /// A comment or the status has ended.
+    fn admit_status(&mut self, line: &LineScan) -> Result<(), Why>
+        ensures line { (items : List Item) (r : Read) (bytes : List ℕ) → Reads items self.old r bytes → IsScanned line.now bytes → self.old.place ≡ place.Status → GivesLine items r bytes self.new result }
+        ensures err { OnErr result (self.new.play ≡ self.old.play) }
+    {
+        if line.is_comment() {
+            return Ok(());
+        }
+        if line.is_sat() {
+            self.place = Place::Claims;
+            return Ok(());
+        }
+        Err(Why::BadHeader)
+    }
+
+    /// The line of claims has ended.
+    fn admit_claims(&mut self) -> Result<(), Why>
+        ensures line { (items : List Item) (r : Read) (bytes : List ℕ) → Reads items self.old r bytes → self.old.place ≡ place.Claims → GivesLine items r bytes self.new result }
+        ensures err { OnErr result (self.new.play ≡ self.old.play) }
+    {
+        match self.claims.end(self.claimed.as_mut_slice()) {
+            Ok(()) => {
+                self.place = Place::Parts;
+                Ok(())
+            }
+            Err(why) => Err(why),
+        }
+    }
+
+    /// The line behind the claims has ended.
+    fn admit_parts(&mut self, line: &LineScan) -> Result<(), Why>
+        ensures line { (items : List Item) (r : Read) (bytes : List ℕ) → Reads items self.old r bytes → IsScanned line.now bytes → self.old.place ≡ place.Parts → GivesLine items r bytes self.new result }
+        ensures err { OnErr result (self.new.play ≡ self.old.play) }
+    {
+        if line.is_numbered(b'#', 0) {
+            self.place = Place::States;
+            return Ok(());
+        }
+        if line.is_numbered(b'@', 0) {
+            self.place = Place::Frame;
+            return Ok(());
+        }
+        Err(Why::FrameOrder)
+    }
+
+    /// A line of the states' part of the first frame has ended, or the one behind it.
+    fn admit_states(&mut self, line: &LineScan) -> Result<(), Why>
+        ensures line { (items : List Item) (r : Read) (bytes : List ℕ) → Reads items self.old r bytes → IsScanned line.now bytes → self.old.place ≡ place.States → GivesLine items r bytes self.new result }
+        ensures err { OnErr result (self.new.play ≡ self.old.play) }
+    {
+        if line.is_numbered(b'@', 0) {
+            self.place = Place::Frame;
+            return Ok(());
+        }
+        if line.begins_part() {
+            return Err(Why::FrameOrder);
+        }
+        self.play.assign_state(line.fields())
+    }
+
+    /// The same of a later frame.
+    fn admit_free(&mut self, line: &LineScan) -> Result<(), Why>
+        ensures line { (items : List Item) (r : Read) (bytes : List ℕ) → Reads items self.old r bytes → IsScanned line.now bytes → self.old.place ≡ place.Free → length r.closed < 2 ^ 62 → GivesLine items r bytes self.new result }
+        ensures err { OnErr result (self.new.play ≡ self.old.play) }
+    {
+        if line.is_numbered(b'@', self.play.frames()) {
+            self.place = Place::Frame;
+            return Ok(());
+        }
+        if line.begins_part() {
+            return Err(Why::FrameOrder);
+        }
+        if !self.names_free(line.fields()) {
+            return Err(Why::BadIndex);
+        }
+        self.play.assign_state(line.fields())
+    }
+
+    /// A line behind that which opens a frame has ended.
+    fn admit_frame(&mut self, line: &LineScan) -> Result<(), Why>
+        ensures line { (items : List Item) (r : Read) (bytes : List ℕ) → Reads items self.old r bytes → IsScanned line.now bytes → self.old.place ≡ place.Frame → length r.closed < 2 ^ 62 → GivesLine items r bytes self.new result }
+        ensures err { OnErr result (self.new.play ≡ self.old.play) }
+    {
+        let next = self.play.frames().saturating_add(1);
+        if line.is_numbered(b'@', next) {
+            self.play.close();
+            return Ok(());
+        }
+        if self.begins_states(line, next) {
+            self.play.close();
+            self.place = Place::Free;
+            return Ok(());
+        }
+        if line.is_end() {
+            self.play.close();
+            self.place = Place::End;
+            return Ok(());
+        }
+        if line.begins_part() {
+            return Err(Why::FrameOrder);
+        }
+        self.play.assign_input(line.fields())
+    }
+
+    /// The line has ended: it is admitted, or why it is not.
+    pub(crate) fn admit(&mut self, line: &LineScan) -> Result<(), Why>
+        ensures line { (items : List Item) (r : Read) (bytes : List ℕ) → Reads items self.old r bytes → IsScanned line.now bytes → length r.closed < 2 ^ 62 → GivesLine items r bytes self.new result }
+        ensures err { OnErr result (self.new.play ≡ self.old.play) }
+    {
+        match self.place {
+            Place::Status => self.admit_status(line),
+            Place::Claims => self.admit_claims(),
+            Place::Parts => self.admit_parts(line),
+            Place::States => self.admit_states(line),
+            Place::Free => self.admit_free(line),
+            Place::Frame => self.admit_frame(line),
+            Place::End => Err(Why::Trailing),
+        }
+    }
+}

@@ -1,0 +1,104 @@
+//! The value of an assignment, byte by byte.
+ghost use Rattle.std.specs.Prelude.{◌≡◌, ℕ, ◌<◌, ◌≤◌, ◌^◌, ◌&&◌, ◌==◌, List, [], ◌∷◌, ◌++◌, IfOk, Ok, Err};
+ghost use Rattle.witness.specs.Admits.{is_value_byte, value_of};
+ghost use Rattle.witness.specs.Reading.{Gives};
+ghost use Rattle.witness.specs.WordValues.{Values, word_more, value_more};
+
+use crate::why::Why;
+use base::Width;
+use std::marker::Model;
+
+/// What the digits of a value say, of which more may follow: the highest is first.
+#[derive(Clone, Copy)]
+pub(crate) struct ValueScan {
+    // how many bytes, at most 2^64 - 1
+    count: u64,
+    // each byte is `0`, `1` or `x`
+    values: bool,
+    // one byte is `x`
+    unknown: bool,
+    // the word that they write, at most 2^64 - 1
+    word: u64,
+}
+
+impl Model for ValueScan {
+    ghost use Rattle.std.specs.Prelude.{◌≤◌, ◌<◌, ◌^◌};
+    ghost use Rattle.witness.specs.WordValues.{ValueScan};
+
+    ghost Value = { ValueScan };
+
+    ghost view = { λ v. record { count = v.count; values = v.values; unknown = v.unknown; word = v.word } };
+
+    ghost inverse = { λ v. record { count = v.count; values = v.values; unknown = v.unknown; word = v.word } };
+
+    ghost invariant = { λ v. v.count ≤ 64 → v.word < 2 ^ v.count };
+}
+
+/// Whether a byte is `0`, `1` or `x`.
+fn is_value_byte(byte: u8) -> bool
+    ensures { result ≡ is_value_byte byte }
+{
+    byte == b'0' || (byte == b'1' || byte == b'x')
+}
+
+/// A word with a bit more, at most 2^64 - 1.
+fn word_more(word: u64, byte: u8) -> u64
+    ensures { result ≡ word_more word byte }
+{
+    let bit: u64 = if byte == b'1' { 1 } else { 0 };
+    word.saturating_mul(2).saturating_add(bit)
+}
+
+/// Whether so many bytes are a value of so many bits.
+fn is_value(count: u64, bits: u64, values: bool) -> bool
+    ensures { result ≡ ((count == bits) && values) }
+{
+    count == bits && values
+}
+
+impl ValueScan {
+    /// A value with no digit yet.
+    pub(crate) fn new() -> ValueScan
+        ensures { Values result [] }
+    {
+        ValueScan {
+            count: 0,
+            values: true,
+            unknown: false,
+            word: 0,
+        }
+    }
+
+    /// The same with a byte behind it.
+    fn with(self, byte: u8) -> ValueScan
+        ensures { result ≡ value_more self byte }
+    {
+        ValueScan {
+            count: self.count.saturating_add(1),
+            values: self.values && is_value_byte(byte),
+            unknown: self.unknown || byte == b'x',
+            word: word_more(self.word, byte),
+        }
+    }
+
+    /// Takes a byte behind the others.
+    pub(crate) fn push(&mut self, byte: u8)
+        ensures { (bytes : List ℕ) → Values self.old bytes → Values self.new (bytes ++ byte ∷ []) }
+    {
+        *self = self.with(byte);
+    }
+
+    /// The word of so many bits that the digits write, or why they write none.
+    pub(crate) fn word(self, width: Width) -> Result<u64, Why>
+        ensures is { (bytes : List ℕ) → Values self bytes → Gives (λ w. w) result (value_of width bytes) }
+        ensures fits { IfOk result (λ w. w < 2 ^ width) }
+    {
+        if !is_value(self.count, width.bits(), self.values) {
+            return Err(Why::BadValue);
+        }
+        if self.unknown {
+            return Err(Why::Undetermined);
+        }
+        Ok(self.word)
+    }
+}
