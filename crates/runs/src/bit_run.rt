@@ -41,8 +41,13 @@ impl<'a> std::marker::Model for BitRun<'a> {
 }
 
 impl<'a> BitRun<'a> {
-    /// The run of a circuit, or that there is no memory.
-    fn of_circuit(alloc: Global, circuit: &'a Circuit) -> Result<BitRun<'a>, AllocError>
+    /// The run of a circuit, which counts its steps by a tally that has none yet.
+    fn of_circuit(
+        alloc: Global,
+        circuit: &'a Circuit,
+        tally: Tally,
+    ) -> Result<BitRun<'a>, AllocError>
+        requires { tally ≡ 0 }
         ensures { IfOk result (λ run. run ≡ circuit_start circuit.now) }
     {
         let mut bits = vec![in alloc; false; circuit.variables() as usize + 1]?;
@@ -54,7 +59,7 @@ impl<'a> BitRun<'a> {
             bits,
             next_bits,
             settled: false,
-            tally: Tally::new(),
+            tally,
         })
     }
 
@@ -66,7 +71,7 @@ impl<'a> BitRun<'a> {
         ensures ok { IfOk result (λ run. run ≡ circuit_start circuit.now) }
         ensures err { IfErr result (λ fault. fault ≡ NewFault.NoMemory) }
     {
-        match BitRun::of_circuit(alloc, circuit) {
+        match BitRun::of_circuit(alloc, circuit, Tally::new()) {
             Ok(run) => Ok(run),
             Err(_) => Err(NewFault::NoMemory),
         }

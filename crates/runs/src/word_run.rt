@@ -55,9 +55,10 @@ impl<'a> std::marker::Model for WordRun<'a> {
 }
 
 impl<'a> WordRun<'a> {
-    /// The run of a model, of which a state without a next begins each frame at 0.
-    fn resolved(alloc: Global, model: &'a Model) -> Result<WordRun<'a>, AllocError>
+    /// The run of a model, which counts its steps by a tally that has none yet.
+    fn resolved(alloc: Global, model: &'a Model, tally: Tally) -> Result<WordRun<'a>, AllocError>
         requires well_formed { IsWellFormed model.now }
+        requires none { tally ≡ 0 }
         ensures { IfOk result (λ run. run ≡ start model.now) }
     {
         let slots = node_slots(alloc, model)?;
@@ -82,7 +83,7 @@ impl<'a> WordRun<'a> {
             values,
             next_values,
             settled: false,
-            tally: Tally::new(),
+            tally,
         })
     }
 
@@ -99,7 +100,7 @@ impl<'a> WordRun<'a> {
         let _ = model.items();
         match model.first_init_without_next() {
             Some(id) => Err(NewFault::NoNext(id)),
-            None => match WordRun::resolved(alloc, model) {
+            None => match WordRun::resolved(alloc, model, Tally::new()) {
                 Ok(run) => Ok(run),
                 Err(_) => Err(NewFault::NoMemory),
             },

@@ -18,4 +18,4 @@ returns c =
     (c.take_first_bits.ensures.as_many ∙ ap length (c.deref_mut.ensures.value ∙ c.in_ok-next_bits.ensures.items_if_clones_equal (λ y same. same)) ∙ length-replicate (length c.latches.result.now) false ∙ ap length c.latches.ensures.items)
     (subst (λ (l : List Bool). (j : ℕ) → j < length l → get_or c.put_bits.new.bits (1 + c.inputs.result + j) false ≡ get_or l j false) given c.put_bits.ensures.put)
     (λ p h. c.put_bits.ensures.others p h ∙ ap (λ (l : List Bool). get_or l p false) blank) (c.put_bits.ensures.as_many ∙ ap length blank) in
-    circuit_run_same _ _ _ _ _ _ _ _ (ap (latches_in circuit) same ∙ begin.latches) (ap (inputs_in circuit) same ∙ begin.inputs) c.new.ensures
+    circuit_run_same _ _ _ _ _ _ _ _ (ap (latches_in circuit) same ∙ begin.latches) (ap (inputs_in circuit) same ∙ begin.inputs) c.requires

@@ -67,4 +67,4 @@ invariant_of-result c = (begun (goal.at.invariant_of-result c).After-put_words (
 pub returns : goal.returns
 returns c =
     let begin = begun (goal.at.returns c).After-put_words (new_lists (goal.at.returns c).After-deref_mut) in
-    run_same _ _ _ _ _ _ _ _ begin.first_words begin.no_inputs c.new.ensures
+    run_same _ _ _ _ _ _ _ _ begin.first_words begin.no_inputs c.requires.none
