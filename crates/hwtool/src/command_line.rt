@@ -73,14 +73,59 @@ const CHECK_AIG: &str = "check-aig";
 
 /// The word of the command that lifts a witness.
 const LIFT: &str = "lift";
+
 /// The word of the command that judges vectors.
 const VECTORS: &str = "vectors";
+
+/// The tasks, in the order in which help lists their commands.
+const TASKS: [Task; 8] = [
+    Task::Lower,
+    Task::CheckBtor,
+    Task::Show,
+    Task::Cost,
+    Task::AigConvert,
+    Task::CheckAig,
+    Task::Lift,
+    Task::Vectors,
+];
 
 /// A word that names a file.
 fn file_name<'a>(alloc: Global, name: &'a str, help: &'a str) -> Arg<'a> {
     Arg::new(alloc, name)
         .required(true)
         .action(ArgAction::Set)
+        .help(help)
+}
+
+/// A command that reads a file.
+fn reads_file<'a>(
+    alloc: Global,
+    command: &'a str,
+    about: &'a str,
+    file: Arg<'a>,
+) -> Result<Command<'a>, AllocError> {
+    Command::new(alloc, command)
+        .about(about)
+        .after_help(STATUSES)
+        .arg(file)
+}
+
+/// A command that reads a file and a witness.
+fn reads_witness<'a>(
+    alloc: Global,
+    command: &'a str,
+    about: &'a str,
+    file: Arg<'a>,
+    witness: &'a str,
+) -> Result<Command<'a>, AllocError> {
+    reads_file(alloc, command, about, file)?.arg(file_name(alloc, "WITNESS", witness))
+}
+
+/// A flag that chooses a form.
+fn form_flag<'a>(alloc: Global, form: &'a str, help: &'a str) -> Arg<'a> {
+    Arg::new(alloc, form)
+        .long(form)
+        .action(ArgAction::SetTrue)
         .help(help)
 }
 
@@ -91,20 +136,9 @@ fn writes_circuit<'a>(
     about: &'a str,
     file: Arg<'a>,
 ) -> Result<Command<'a>, AllocError> {
-    let ascii = Arg::new(alloc, ASCII)
-        .long(ASCII)
-        .action(ArgAction::SetTrue)
-        .help("Write the ascii form (the default)");
-    let binary = Arg::new(alloc, BINARY)
-        .long(BINARY)
-        .action(ArgAction::SetTrue)
-        .help("Write the binary form");
-    Command::new(alloc, command)
-        .about(about)
-        .after_help(STATUSES)
-        .arg(ascii)?
-        .arg(binary)?
-        .arg(file)
+    reads_file(alloc, command, about, file)?
+        .arg(form_flag(alloc, ASCII, "Write the ascii form (the default)"))?
+        .arg(form_flag(alloc, BINARY, "Write the binary form"))
 }
 
 /// The words of `lower`.
@@ -123,75 +157,77 @@ fn aig_convert<'a>(alloc: Global) -> Result<Command<'a>, AllocError> {
 
 /// The words of `check-aig`.
 fn check_aig<'a>(alloc: Global) -> Result<Command<'a>, AllocError> {
-    Command::new(alloc, CHECK_AIG)
-        .about("Judge an AIGER witness over a circuit")
-        .after_help(STATUSES)
-        .arg(file_name(alloc, "CIRCUIT", CIRCUIT))?
-        .arg(file_name(alloc, "WITNESS", AIGER_WITNESS))
+    let about = "Judge an AIGER witness over a circuit";
+    let file = file_name(alloc, "CIRCUIT", CIRCUIT);
+    reads_witness(alloc, CHECK_AIG, about, file, AIGER_WITNESS)
 }
 
 /// The words of `lift`.
 fn lift<'a>(alloc: Global) -> Result<Command<'a>, AllocError> {
-    Command::new(alloc, LIFT)
-        .about("Lift an AIGER witness of a model's circuit to a BTOR2 witness on standard output")
-        .after_help(STATUSES)
-        .arg(file_name(alloc, "MODEL", MODEL))?
-        .arg(file_name(alloc, "WITNESS", AIGER_WITNESS))
+    let about = "Lift an AIGER witness of a model's circuit to a BTOR2 witness on standard output";
+    let file = file_name(alloc, "MODEL", MODEL);
+    reads_witness(alloc, LIFT, about, file, AIGER_WITNESS)
 }
 
 /// The words of `check-btor`.
 fn check_btor<'a>(alloc: Global) -> Result<Command<'a>, AllocError> {
-    Command::new(alloc, CHECK_BTOR)
-        .about("Judge a BTOR2 witness over a model")
-        .after_help(STATUSES)
-        .arg(file_name(alloc, "MODEL", MODEL))?
-        .arg(file_name(alloc, "WITNESS", WITNESS))
+    let about = "Judge a BTOR2 witness over a model";
+    let file = file_name(alloc, "MODEL", MODEL);
+    reads_witness(alloc, CHECK_BTOR, about, file, WITNESS)
 }
 
 /// The words of `show`.
 fn show<'a>(alloc: Global) -> Result<Command<'a>, AllocError> {
-    Command::new(alloc, SHOW)
-        .about("Write a BTOR2 model in the one spelling that this program gives")
-        .after_help(STATUSES)
-        .arg(file_name(alloc, "MODEL", MODEL))
+    let about = "Write a BTOR2 model in the one spelling that this program gives";
+    reads_file(alloc, SHOW, about, file_name(alloc, "MODEL", MODEL))
 }
 
 /// The words of `cost`.
 fn cost<'a>(alloc: Global) -> Result<Command<'a>, AllocError> {
-    Command::new(alloc, COST)
-        .about("Tell how many gates and variables the circuit of a BTOR2 model has at most")
-        .after_help(STATUSES)
-        .arg(file_name(alloc, "MODEL", MODEL))
+    let about = "Tell how many gates and variables the circuit of a BTOR2 model has at most";
+    reads_file(alloc, COST, about, file_name(alloc, "MODEL", MODEL))
 }
 
 /// The words of `vectors`.
 fn vectors<'a>(alloc: Global) -> Result<Command<'a>, AllocError> {
-    Command::new(alloc, VECTORS)
-        .about(
-            "Compare what operators give, in the evaluator and in a circuit, with lines of vectors",
-        )
-        .after_help(STATUSES)
-        .arg(file_name(alloc, "FILE", VECTOR_LINES))
+    let about =
+        "Compare what operators give, in the evaluator and in a circuit, with lines of vectors";
+    reads_file(
+        alloc,
+        VECTORS,
+        about,
+        file_name(alloc, "FILE", VECTOR_LINES),
+    )
+}
+
+/// The words of a task's command.
+fn command_of<'a>(alloc: Global, task: Task) -> Result<Command<'a>, AllocError> {
+    match task {
+        Task::Lower => lower(alloc),
+        Task::CheckBtor => check_btor(alloc),
+        Task::Show => show(alloc),
+        Task::Cost => cost(alloc),
+        Task::AigConvert => aig_convert(alloc),
+        Task::CheckAig => check_aig(alloc),
+        Task::Lift => lift(alloc),
+        Task::Vectors => vectors(alloc),
+    }
 }
 
 /// The commands and their words.
 fn commands<'a>(alloc: Global) -> Result<Command<'a>, AllocError> {
-    Command::new(alloc, PROGRAM)
+    let mut commands = Command::new(alloc, PROGRAM)
         .bin_name(PROGRAM)?
         .version(VERSION)
         .after_help(STATUSES)
         .about(
             "Word-level BTOR2 models to AIGER circuits, and their witnesses. Without any word: lower standard input.",
         )
-        .subcommand_required(true)
-        .subcommand(lower(alloc)?)?
-        .subcommand(check_btor(alloc)?)?
-        .subcommand(show(alloc)?)?
-        .subcommand(cost(alloc)?)?
-        .subcommand(aig_convert(alloc)?)?
-        .subcommand(check_aig(alloc)?)?
-        .subcommand(lift(alloc)?)?
-        .subcommand(vectors(alloc)?)
+        .subcommand_required(true);
+    for task in TASKS {
+        commands = commands.subcommand(command_of(alloc, task)?)?;
+    }
+    Ok(commands)
 }
 
 /// The task of a command's word.
