@@ -24,8 +24,9 @@ pub mod BitScanLemmas
 pub mod BitPlayLemmas
 pub mod BitReaderLemmas
 pub mod BitJudgeLemmas
+pub mod LastLineLemmas
 pub mod BitFinishLemmas
-pub mod BitFeedLemmas
+pub mod FeedLemmas
 pub mod WordScanLemmas
 pub mod FieldScanLemmas
 pub mod ClaimScanLemmas
@@ -35,3 +36,5 @@ pub mod WordAssignLemmas
 pub mod WordReadingLemmas
 pub mod WordGivenLemmas
 pub mod WordReaderLemmas
+pub mod WordJudgeLemmas
+pub mod WordFinishLemmas

@@ -1,5 +1,5 @@
 //! The judgement of the words of a witness, by a run of the model.
-ghost use Rattle.std.specs.Prelude.{◌≡◌, ℕ, ◌<◌, Bool, List, IfSome, All, length, map, false, true, slice_get};
+ghost use Rattle.std.specs.Prelude.{◌≡◌, ℕ, ◌<◌, ◌||◌, Bool, List, IfSome, All, length, map, false, true, slice_get};
 ghost use Rattle.std.specs.Option.{option_or};
 ghost use Rattle.btor2.specs.Items.{is_input, is_state, is_bad, is_constraint};
 ghost use Rattle.btor2.specs.Check.{IsWellFormed};
@@ -150,6 +150,13 @@ fn judge_frame(
     note_rises(run, rose);
     run.advance();
     violated
+}
+
+/// Whether one of two holds.
+pub(crate) fn either(one: bool, other: bool) -> bool
+    ensures { result ≡ (one || other) }
+{
+    one || other
 }
 
 /// A breach that was found, or else one of a constraint in a frame.

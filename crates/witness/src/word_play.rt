@@ -259,7 +259,8 @@ impl<'a> WordPlay<'a> {
 
     /// For each bad property whether it rose in a closed frame.
     pub(crate) fn rose(&self) -> &[bool]
-        ensures { result.now ≡ self.now.rose }
+        ensures is { result.now ≡ self.now.rose }
+        ensures many { length result.now ≡ length (places is_bad 0 self.now.items) }
     {
         self.rose.as_slice()
     }
