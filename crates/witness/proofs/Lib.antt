@@ -8,10 +8,6 @@ pub mod ReadLemmas
 pub mod WholeLemmas
 pub mod SaidLemmas
 pub mod ToldLemmas
-pub mod ClaimLineLemmas
-pub mod LineLemmas
-pub mod PlainLemmas
-pub mod TextLemmas
 pub mod GivenLemmas
 pub mod FrameLemmas
 pub mod VerdictLemmas

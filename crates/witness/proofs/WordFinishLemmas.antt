@@ -1,5 +1,5 @@
 -- The judgement of a text by what a judge of witnesses over a model holds.
-use Rattle.std.proofs.Common.{◌≡◌, ℕ, zero, suc, ◌+◌, ◌-◌, ◌^◌, min, Bool, true, false, List, [], ◌∷◌, Option, Some, None, Result, Ok, Err, map, refl, sym, ap, subst, ◌∙◌, arith}
+use Rattle.std.proofs.Common.{◌≡◌, ℕ, ◌+◌, ◌-◌, ◌^◌, min, Bool, true, false, List, [], ◌∷◌, Option, Some, None, Result, Ok, Err, map, length, refl, sym, ap, subst, ◌∙◌, arith}
 use Rattle.base.specs.Lines.{whole_lines, unfinished}
 use Rattle.btor2.specs.declared.item.Item.{Item}
 use Rattle.btor2.specs.Items.{is_bad}
@@ -9,12 +9,13 @@ use Rattle.witness.specs.declared.judgement.Judgement.{Judgement}
 use Rattle.witness.specs.declared.judgement.Judgement.TheVariants as judgement
 use Rattle.witness.specs.LastLines.{last_refusal}
 use Rattle.witness.specs.Texts.{shape_of, Parts}
-use Rattle.witness.specs.Admits.{Place, AtEnd, Read, is_at_end, is_nothing, Fault, fault_at, read_text, witness_of}
-use Rattle.witness.specs.Judgements.{FrameWords, frame_words, words_of, initial_words, given_words, nodes_of, unreached_from, JudgesRead, JudgesText, JudgesWords, Judges}
+use Rattle.witness.specs.Admits.{Place, AtEnd, Read, is_at_end, is_nothing, Fault, fault_at, witness_of}
+use Rattle.witness.specs.Judgements.{FrameWords, frame_words, words_of, Words, initial_words, given_words, given_frames, nodes_of, first_different, violation_from, unreached_from, when_reached, when_kept, when_begun, verdict, JudgesRead, JudgesText, Judges}
 use Rattle.witness.specs.Fits.{AreClaimed, NoneIsSet, RisesAmong}
 use Rattle.witness.specs.WordPlays.{WordPlay, Plays, Traced, TracedBy, frames_alone, nothing_given}
 use Rattle.witness.specs.WordReadings.{Reading, nothing_admitted, lines_behind, read_or_fault}
-use Rattle.witness.specs.WordStands.{place_of, WordReader, Reads, ClaimsAt, here_of, WordJudge, StandsFor}
+use Rattle.witness.specs.WordStands.{place_of, WordReader, Reads, ClaimsAt, here_of, WordJudge, StandsFor, with_unreached, with_breach, with_differing, judgement_of}
+use Rattle.witness.proofs.VerdictLemmas.{as_many_frames}
 use Rattle.witness.proofs.LastLineLemmas.{RefusedFor, refusal_is, whole_is}
 use Rattle.witness.proofs.WordReadingLemmas.{text_as_admitted}
 
@@ -32,23 +33,42 @@ traced_by items base p (x ∷ frames) fs some by t = by fs t
 no_flag : NoneIsSet []
 no_flag i = refl
 
-module _ (items : List Item) (q : WordReader) (r : Read) (line : List ℕ) (reads : Reads items q r line) (at : r.place ≡ AtEnd) where
-  pub whole_plays : Plays items (map frame_words r.closed) nothing_given q.play
-  whole_plays = subst (λ (p : Place). Plays items (map frame_words r.closed) (here_of r p) q.play) at reads.play
+module _ (items : List Item) (q : WordReader) (r : Read) (line : List ℕ) (reads : Reads items q r line) (at : r.place ≡ AtEnd) (some : r.closed ≡ [] → ⊥) (fs : List Frame)
+    (trace : IsTrace items (initial_words items (words_of (witness_of r))) (given_frames items (words_of (witness_of r))) fs) where
+  abbrev w : Words
+  w = words_of (witness_of r)
 
-  whole_claims : AreClaimed q.claimed r.claims
-  whole_claims = subst (ClaimsAt q r line) at reads.claims
+  plays : Plays items w.frames nothing_given q.play
+  plays = subst (λ (p : Place). Plays items w.frames (here_of r p) q.play) at reads.play
 
-  pub whole_traced : (r.closed ≡ [] → ⊥) → (fs : List Frame) → IsTrace items (initial_words items (frames_alone (map frame_words r.closed))) (map (given_words items) (map frame_words r.closed)) fs
-      → Traced items (map frame_words r.closed) whole_plays.base q.play fs
-  whole_traced some fs t = traced_by items whole_plays.base q.play (map frame_words r.closed) fs (λ e. some (no_words r.closed e)) whole_plays.traced t
+  claimed : AreClaimed q.claimed r.claims
+  claimed = subst (ClaimsAt q r line) at reads.claims
+
+  traced : Traced items w.frames plays.base q.play fs
+  traced = traced_by items plays.base q.play w.frames fs (λ e. some (no_words r.closed e)) plays.traced trace
 
   -- the first claim that is not reached
-  pub whole_unreached : (r.closed ≡ [] → ⊥) → (fs : List Frame) → IsTrace items (initial_words items (frames_alone (map frame_words r.closed))) (map (given_words items) (map frame_words r.closed)) fs → (o : Option ℕ)
+  unreached : (o : Option ℕ)
       → ((claims : List ℕ) (gs : List Frame) (none : List Bool) → AreClaimed q.claimed claims → NoneIsSet none → RisesAmong (nodes_of is_bad q.play.items) gs none q.play.rose → o ≡ unreached_from claims gs 0 (nodes_of is_bad q.play.items))
       → o ≡ unreached_from r.claims fs 0 (nodes_of is_bad items)
-  whole_unreached some fs t o says =
-      subst (λ (l : List Item). RisesAmong (nodes_of is_bad l) fs [] q.play.rose → o ≡ unreached_from r.claims fs 0 (nodes_of is_bad l)) whole_plays.items_are (λ rises. says r.claims fs [] whole_claims no_flag rises) ((whole_traced some fs t).rose [] no_flag)
+  unreached o says =
+      subst (λ (l : List Item). RisesAmong (nodes_of is_bad l) fs [] q.play.rose → o ≡ unreached_from r.claims fs 0 (nodes_of is_bad l)) plays.items_are (λ rises. says r.claims fs [] claimed no_flag rises) (traced.rose [] no_flag)
+
+  reached : (o : Option ℕ) → o ≡ unreached_from r.claims fs 0 (nodes_of is_bad items) → with_unreached q.play o ≡ when_reached (length fs) (unreached_from r.claims fs 0 (nodes_of is_bad items))
+  reached o e =
+      let count : q.play.frames ≡ length fs = plays.count ∙ as_many_frames items w fs trace in
+      ap (with_unreached q.play) e
+      ∙ elim (unreached_from r.claims fs 0 (nodes_of is_bad items)) as (λ u. with_unreached q.play u ≡ when_reached (length fs) u) [ Some i ↦ refl | None ↦ ap (λ (n : ℕ). judgement.Accepted n) count ]
+
+  kept : (o : Option ℕ) → o ≡ unreached_from r.claims fs 0 (nodes_of is_bad items) → with_breach q.play o q.play.breach ≡ when_kept items w fs (violation_from items 0 fs)
+  kept o e =
+      ap (with_breach q.play o) traced.breach
+      ∙ elim (violation_from items 0 fs) as (λ v. with_breach q.play o v ≡ when_kept items w fs v) [ Some v ↦ refl | None ↦ reached o e ]
+
+  judged_whole : (o : Option ℕ) → o ≡ unreached_from r.claims fs 0 (nodes_of is_bad items) → judgement_of q.play o ≡ verdict items w fs
+  judged_whole o e =
+      ap (with_differing q.play o) traced.differs
+      ∙ elim (first_different items (initial_words items w)) as (λ d. with_differing q.play o d ≡ when_begun items w fs d) [ Some k ↦ refl | None ↦ kept o e ]
 
 -- ---- the judgement
 
@@ -90,14 +110,16 @@ module _ (items : List Item) (text : List ℕ) (j : WordJudge) (stands : StandsF
       (ap (read_or_fault so_far (unfinished text)) (sym stands.lines.refused ∙ none) ∙ read)
       (ap (λ (n : ℕ). judgement.Malformed n w) (number n is))
 
-  -- what is judged of a whole witness by what is kept of it is judged of the text
-  pub whole_text : (result : Judgement) → j.no_claim ≡ false → j.refused ≡ None → last_refusal (is_at_end (place_of j.reader.place)) j.admitted (is_nothing (unfinished text)) ≡ None
-      → ((r : Read) (line : List ℕ) → Reads items j.reader r line → r.place ≡ AtEnd → (r.closed ≡ [] → ⊥) → JudgesWords items (words_of (witness_of r)) result) → Judges items text result
-  whole_text result e none last judged =
+  pub whole_text : (o : Option ℕ) → j.no_claim ≡ false → j.refused ≡ None → last_refusal (is_at_end (place_of j.reader.place)) j.admitted (is_nothing (unfinished text)) ≡ None
+      → ((claims : List ℕ) (gs : List Frame) (none : List Bool) → AreClaimed j.reader.claimed claims → NoneIsSet none → RisesAmong (nodes_of is_bad j.reader.play.items) gs none j.reader.play.rose
+      → o ≡ unreached_from claims gs 0 (nodes_of is_bad j.reader.play.items))
+      → Judges items text (judgement_of j.reader.play o)
+  whole_text o e none last says =
       let reads = stands.lines.reads none in
       let whole = whole_is (is_at_end (place_of j.reader.place)) j.admitted (is_nothing (unfinished text)) last in
       let at : so_far.read.place ≡ AtEnd = sym reads.place ∙ ended (place_of j.reader.place) whole.0 in
       let read : read_or_fault so_far (unfinished text) None ≡ Ok so_far.read = rw (at, whole.1) refl in
-      judged_read result (Ok so_far.read) e
+      let some = stands.lines.whole at in
+      judged_read (judgement_of j.reader.play o) (Ok so_far.read) e
       (ap (read_or_fault so_far (unfinished text)) (sym stands.lines.refused ∙ none) ∙ read)
-      (judged so_far.read (unfinished text) reads at (stands.lines.whole at))
+      (λ fs t. judged_whole items j.reader so_far.read (unfinished text) reads at some fs t o (unreached items j.reader so_far.read (unfinished text) reads at some fs t o says))

@@ -3,7 +3,6 @@ pub mod Numbers
 pub mod Texts
 pub mod Admits
 pub mod Judgements
-pub mod Reading
 pub mod Worked
 pub mod Fits
 pub mod Answers

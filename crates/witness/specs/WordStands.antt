@@ -1,15 +1,17 @@
 -- What a judge of witnesses over a model holds, and which texts it stands for.
-use Rattle.std.specs.Prelude.{◌≡◌, ℕ, ◌≤◌, ◌^◌, Bool, true, false, List, [], Option, None, Result, Ok, Err, length, map}
+use Rattle.std.specs.Prelude.{◌≡◌, ℕ, ◌≤◌, ◌^◌, Bool, true, false, List, [], Option, Some, None, Result, Ok, Err, length, map}
 use Rattle.base.specs.Lines.{whole_lines, unfinished}
 use Rattle.btor2.specs.declared.item.Item.{Item}
 use Rattle.witness.specs.declared.why.Why.{Why}
+use Rattle.witness.specs.declared.judgement.Judgement.{Judgement}
+use Rattle.witness.specs.declared.judgement.Judgement.TheVariants as judgement
 use Rattle.witness.specs.declared.place.Place.{Place as CodePlace}
 use Rattle.witness.specs.declared.place.Place.TheVariants as code
 use Rattle.witness.specs.declared.word_claims.ClaimScan.{ClaimScan}
 use Rattle.witness.specs.declared.word_line.LineScan.{LineScan}
 use Rattle.witness.specs.Texts.{has_free, shape_of}
 use Rattle.witness.specs.Admits.{Place, AtStatus, AtClaims, AtParts, InStates, InFree, InFrame, AtEnd, Read, admit}
-use Rattle.witness.specs.Judgements.{FrameWords, pairs_of, frame_words, makes_no_claim}
+use Rattle.witness.specs.Judgements.{FrameWords, pairs_of, frame_words, Violation, makes_no_claim}
 use Rattle.witness.specs.Fits.{AreClaimed}
 use Rattle.witness.specs.WordClaims.{AreClaims}
 use Rattle.witness.specs.WordScans.{IsScanned}
@@ -111,3 +113,19 @@ pub record IsOfLines (items : List Item) (j : WordJudge) (lines : List (List ℕ
 pub record StandsFor (items : List Item) (j : WordJudge) (text : List ℕ) : Type 0 where
   pub lines : IsOfLines items j (whole_lines text) (unfinished text)
   pub line : IsScanned j.line (unfinished text)
+
+-- what is judged by what is kept of all frames, and by the first claim that is not reached, where there is one
+abbrev pub with_unreached : WordPlay → Option ℕ → Judgement
+with_unreached p (Some claim) = judgement.NotReached claim
+with_unreached p None = judgement.Accepted p.frames
+
+abbrev pub with_breach : WordPlay → Option ℕ → Option Violation → Judgement
+with_breach p unreached (Some v) = judgement.Violated v.frame v.constraint
+with_breach p unreached None = with_unreached p unreached
+
+abbrev pub with_differing : WordPlay → Option ℕ → Option ℕ → Judgement
+with_differing p unreached (Some k) = judgement.InitDiffers k
+with_differing p unreached None = with_breach p unreached p.breach
+
+abbrev pub judgement_of : WordPlay → Option ℕ → Judgement
+judgement_of p unreached = with_differing p unreached p.differs

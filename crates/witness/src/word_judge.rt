@@ -6,12 +6,12 @@ ghost use Rattle.btor2.specs.Lists.{first_init_without_next};
 ghost use Rattle.runs.specs.Refusal.{AnswersNew};
 ghost use Rattle.runs.specs.Run.{node_count, state_count};
 ghost use Rattle.witness.specs.Texts.{shape_of};
-ghost use Rattle.witness.specs.Admits.{AtEnd, Read, is_at_end, witness_of};
-ghost use Rattle.witness.specs.Judgements.{Judges, JudgesWords, words_of};
+ghost use Rattle.witness.specs.Admits.{is_at_end};
+ghost use Rattle.witness.specs.Judgements.{Judges};
 ghost use Rattle.witness.specs.WordPlays.{steps_of};
 ghost use Rattle.witness.specs.WordReadings.{admitted_word_lines, closed_word_frames};
 ghost use Rattle.witness.specs.WordScans.{IsScanned};
-ghost use Rattle.witness.specs.WordStands.{IsOfLines, Reads, StandsFor, is_status, place_of};
+ghost use Rattle.witness.specs.WordStands.{IsOfLines, StandsFor, is_status, judgement_of, place_of};
 
 use crate::judgement::Judgement;
 use crate::last_line::{MOST_LINES, last_refusal};
@@ -19,6 +19,7 @@ use crate::place::Place;
 use crate::verdicts::either;
 use crate::why::Why;
 use crate::word_line::LineScan;
+use crate::word_play::WordPlay;
 use crate::word_reader::WordReader;
 use btor2::Model;
 use runs::NewFault;
@@ -56,12 +57,8 @@ fn says_no_claim(place: Place, line: &LineScan) -> bool
 {
     match place {
         Place::Status => line.is_unsat() || line.is_unknown(),
-        Place::Claims
-        | Place::Parts
-        | Place::States
-        | Place::Free
-        | Place::Frame
-        | Place::End => false,
+        Place::Claims | Place::Parts | Place::States | Place::Free | Place::Frame | Place::End =>
+            false,
     }
 }
 
@@ -71,33 +68,29 @@ fn has_ended(place: Place) -> bool
 {
     match place {
         Place::End => true,
-        Place::Status
-        | Place::Claims
-        | Place::Parts
-        | Place::States
-        | Place::Free
-        | Place::Frame => false,
+        Place::Status | Place::Claims | Place::Parts | Place::States | Place::Free | Place::Frame =>
+            false,
     }
 }
 
-/// What is judged of a whole witness by its frames and claims.
-fn judgement_of(reader: &WordReader<'_>) -> Judgement
-    ensures { (items : List Item) (r : Read) (line : List ℕ) → Reads items reader.now r line → r.place ≡ AtEnd → (r.closed ≡ [] → ⊥) → JudgesWords items (words_of (witness_of r)) result }
+/// What is judged of a whole witness by its frames, and by the first claim that is not reached.
+fn judgement_of(play: &WordPlay<'_>, unreached: Option<u64>) -> Judgement
+    ensures { result ≡ judgement_of play.now unreached }
 {
-    if let Some(index) = reader.play().differs() {
+    if let Some(index) = play.differs() {
         return Judgement::InitDiffers { index };
     }
-    if let Some(breach) = reader.play().breach() {
+    if let Some(breach) = play.breach() {
         return Judgement::Violated {
             frame: breach.frame,
             constraint: breach.constraint,
         };
     }
-    if let Some(claim) = reader.unreached() {
+    if let Some(claim) = unreached {
         return Judgement::NotReached { claim };
     }
     Judgement::Accepted {
-        frames: reader.play().frames(),
+        frames: play.frames(),
     }
 }
 
@@ -199,7 +192,7 @@ impl<'a> WordJudge<'a> {
         if let Some(why) = last_refusal(ended, self.admitted, self.line.is_empty()) {
             return Judgement::Malformed { line, why };
         }
-        judgement_of(&self.reader)
+        judgement_of(self.reader.play(), self.reader.unreached())
     }
 
     /// How many words the judge's run holds: one for each node with a value, and one for each state.
