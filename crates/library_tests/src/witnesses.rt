@@ -1,7 +1,8 @@
-//! What texts say, their faults, and what is printed of faults.
+//! Witnesses over small models, judged in pieces, and what is printed of faults.
 use btor2::{Body, Item, Model};
 use std::alloc::Global;
-use witness::{JudgeFault, Shape, WitnessFault, claims_nothing, read_words};
+use std::test::Fail;
+use witness::{JudgeFault, Judgement, WordJudge};
 
 /// A model of which witnesses speak.
 #[derive(Clone, Copy)]
@@ -45,8 +46,8 @@ fn follower_body(id: u64) -> Body {
     }
 }
 
-/// The shape of one of these models.
-fn shape(alloc: Global, sample: Sample) -> Option<Shape> {
+/// One of these models.
+fn model_of(alloc: Global, sample: Sample) -> Option<Model> {
     let mut model = Model::new(alloc);
     let end = match sample {
         Sample::Wide => 10,
@@ -66,25 +67,43 @@ fn shape(alloc: Global, sample: Sample) -> Option<Shape> {
             return None;
         }
     }
-    match Shape::new(alloc, &model) {
-        Ok(shape) => Some(shape),
-        Err(_) => None,
+    Some(model)
+}
+
+/// The judgement of a text in two pieces.
+fn judged(alloc: Global, model: &Model, text: &[u8], cut: usize) -> Result<Judgement, Fail> {
+    let mut judge = WordJudge::new(alloc, model)?;
+    let (first, second) = text.split_at(cut.min(text.len()));
+    judge.feed(first);
+    judge.feed(second);
+    Ok(judge.finish())
+}
+
+/// The judgement of a text that is fed byte by byte.
+fn judged_by_bytes(alloc: Global, model: &Model, text: &[u8]) -> Result<Judgement, Fail> {
+    let mut judge = WordJudge::new(alloc, model)?;
+    for byte in text {
+        judge.feed(&[*byte]);
     }
+    Ok(judge.finish())
 }
 
 /// The line and the number of a text's fault, none of a witness.
-fn fault(alloc: Global, shape: &Shape, text: &[u8]) -> (u64, u32) {
-    match read_words(alloc, shape, text) {
-        Ok(_) => (0, 0),
-        Err(WitnessFault::Malformed { line, why }) => (line, why.number()),
-        Err(WitnessFault::NoMemory) => (0, 1),
+fn fault(judgement: Judgement) -> (u64, u32) {
+    match judgement {
+        Judgement::Malformed { line, why } => (line, why.number()),
+        Judgement::Accepted { .. }
+        | Judgement::NotReached { .. }
+        | Judgement::Violated { .. }
+        | Judgement::InitDiffers { .. }
+        | Judgement::NoClaim => (0, 0),
     }
 }
 
 #[test]
-fn faults(rt: HostRuntime) {
-    let Some(shape) = shape(rt.alloc(), Sample::Wide) else {
-        panic!(rt; "no shape");
+fn faults_of_texts_cut_at_any_byte(rt: HostRuntime) -> Result<(), Fail> {
+    let Some(model) = model_of(rt.alloc(), Sample::Wide) else {
+        panic!(rt; "no model");
     };
     let table = [
         ("", 1, 118),
@@ -123,62 +142,93 @@ fn faults(rt: HostRuntime) {
         ("sat\nb0\n@0\n#1\n@1\n#2\n0 1\n@2\n.\n", 0, 0),
     ];
     for (text, line, number) in table {
-        assert_eq!(rt;
-            fault(rt.alloc(), &shape, text.as_bytes()),
-            (line, number),
-            "{text}"
-        );
+        let bytes = text.as_bytes();
+        for cut in 0..bytes.len().saturating_add(1) {
+            let judgement = judged(rt.alloc(), &model, bytes, cut)?;
+            assert_eq!(rt; fault(judgement), (line, number), "at {cut}: {text}");
+        }
+        let judgement = judged_by_bytes(rt.alloc(), &model, bytes)?;
+        assert_eq!(rt; fault(judgement), (line, number), "{text}");
     }
+    Ok(())
 }
 
 #[test]
-fn words(rt: HostRuntime) {
-    let Some(shape) = shape(rt.alloc(), Sample::Wide) else {
-        panic!(rt; "no shape");
+fn judgements_of_texts_cut_at_any_byte(rt: HostRuntime) -> Result<(), Fail> {
+    let Some(model) = model_of(rt.alloc(), Sample::Follower) else {
+        panic!(rt; "no model");
     };
-    let text = "; c\nsat\nb1 b0\n#0\n1 110 n\n0 1\n@0\n#1\n0 1\n@1\n0 10\n.\n";
-    let words = read_words(rt.alloc(), &shape, text.as_bytes()).expect(&rt, "a witness");
-    assert_eq!(rt; words.claims(), [1, 0].as_slice());
-    let [first, second] = words.frames() else {
-        panic!(rt; "two frames");
-    };
-    let initial = first.states().given();
-    assert_eq!(rt; initial.len(), 2);
-    for (given, (index, word)) in initial.iter().zip([(1, 6), (0, 1)]) {
-        assert_eq!(rt; (given.index(), given.word()), (index, word));
+    let rows = [
+        (
+            "sat\nb0\n#0\n1 0\n0 1\n@0\n0 0\n#1\n0 0\n@1\n0 0\n.\n",
+            Judgement::Accepted { frames: 2 },
+        ),
+        (
+            "sat\nb0\n#0\n0 1\n@0\n@1\n@2\n.\n",
+            Judgement::Accepted { frames: 3 },
+        ),
+        (
+            "; c\nsat\nb0\n@0\n0 1\n#1\n0 1\n@1\n.\n",
+            Judgement::NotReached { claim: 0 },
+        ),
+        ("; x\nunsat\n", Judgement::NoClaim),
+        ("unknown\nx", Judgement::NoClaim),
+    ];
+    for (text, wanted) in rows {
+        let bytes = text.as_bytes();
+        for cut in 0..bytes.len().saturating_add(1) {
+            assert_eq!(rt; judged(rt.alloc(), &model, bytes, cut)?, wanted, "at {cut}: {text}");
+        }
+        assert_eq!(rt; judged_by_bytes(rt.alloc(), &model, bytes)?, wanted, "{text}");
     }
-    assert_eq!(rt; first.inputs().given().len(), 0);
-    assert_eq!(rt; second.states().given().len(), 1);
-    assert_eq!(rt; second.inputs().given().len(), 1);
-    for given in second.states().given() {
-        assert_eq!(rt; (given.index(), given.word()), (0, 1));
-    }
-    for given in second.inputs().given() {
-        assert_eq!(rt; (given.index(), given.word()), (0, 2));
-    }
+    Ok(())
 }
 
 #[test]
-fn a_witness_cut_after_any_byte(rt: HostRuntime) {
-    let Some(shape) = shape(rt.alloc(), Sample::Follower) else {
-        panic!(rt; "no shape");
+fn a_witness_cut_after_any_byte(rt: HostRuntime) -> Result<(), Fail> {
+    let Some(model) = model_of(rt.alloc(), Sample::Follower) else {
+        panic!(rt; "no model");
     };
     let text = b"sat\nb0\n#0\n1 0\n0 1\n@0\n0 0\n#1\n0 0\n@1\n0 0\n.\n";
-    assert_eq!(rt; fault(rt.alloc(), &shape, text), (0, 0));
     for end in 0..text.len() {
         let (front, _) = text.split_at(end);
         let lines = front.iter().filter(|b| **b == b'\n').count() as u64;
         let line = lines.wrapping_add(1);
-        assert_eq!(rt; fault(rt.alloc(), &shape, front), (line, 118), "{end}");
+        let judgement = judged(rt.alloc(), &model, front, 0)?;
+        assert_eq!(rt; fault(judgement), (line, 118), "{end}");
     }
+    Ok(())
+}
+
+/// What a judge that was fed a text has counted: what it holds, its steps, closed frames and admitted lines.
+fn counted(alloc: Global, model: &Model, text: &[u8]) -> Result<(u64, u128, u64, u64), Fail> {
+    let mut judge = WordJudge::new(alloc, model)?;
+    judge.feed(text);
+    Ok((
+        judge.held(),
+        judge.steps(),
+        judge.closed_frames(),
+        judge.admitted_lines(),
+    ))
 }
 
 #[test]
-fn no_claims(rt: HostRuntime) {
-    assert!(rt; claims_nothing(b"; x\nunsat\n"));
-    assert!(rt; claims_nothing(b"unknown\nx"));
-    assert!(rt; !claims_nothing(b"unsat"));
-    assert!(rt; !claims_nothing(b"sat\nunsat\n"));
+fn counts(rt: HostRuntime) -> Result<(), Fail> {
+    let Some(model) = model_of(rt.alloc(), Sample::Follower) else {
+        panic!(rt; "no model");
+    };
+    let rows = [
+        ("", (5, 0, 0, 0)),
+        ("sat\nb0\n@0\n@1", (5, 0, 0, 3)),
+        ("sat\nb0\n@0\n@1\n", (5, 5, 1, 4)),
+        ("sat\nb0\n@0\n#1\n@1\n.\n", (5, 10, 2, 6)),
+        ("sat\nb0\n@0\n@2\n@1\n", (5, 0, 0, 3)),
+        ("unsat\n", (5, 0, 0, 0)),
+    ];
+    for (text, wanted) in rows {
+        assert_eq!(rt; counted(rt.alloc(), &model, text.as_bytes())?, wanted, "{text}");
+    }
+    Ok(())
 }
 
 #[test]

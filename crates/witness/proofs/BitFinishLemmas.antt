@@ -1,22 +1,20 @@
 -- The judgement of a text by what a judge of witnesses of a circuit holds.
-use Rattle.std.proofs.Common.{◌≡◌, ℕ, suc, ◌+◌, ◌-◌, ◌^◌, min, nat_le, Bool, true, false, cond, not, ◌&&◌, List, [], ◌∷◌, Some, None, Result, Ok, Err, length, refl, sym, ap, subst, ◌∙◌, arith}
+use Rattle.std.proofs.Common.{◌≡◌, ℕ, suc, ◌+◌, ◌-◌, ◌^◌, min, Bool, true, false, List, [], ◌∷◌, Some, None, Result, Ok, Err, length, refl, sym, ap, subst, ◌∙◌, arith}
 use Rattle.base.specs.Lines.{whole_lines, unfinished}
 use Rattle.aiger.specs.Circuit.{Circuit}
 use Rattle.aiger.specs.Literal.{Valuation}
 use Rattle.aiger.specs.Trace.{IsTrace, next_state}
 use Rattle.witness.specs.declared.why.Why.{Why}
-use Rattle.witness.specs.declared.why.Why.TheVariants as why
 use Rattle.witness.specs.declared.judgement.Judgement.{Judgement}
 use Rattle.witness.specs.declared.judgement.Judgement.TheVariants as judgement
-use Rattle.witness.specs.declared.bit_place.BitPlace.{BitPlace as CodePlace}
-use Rattle.witness.specs.declared.bit_place.BitPlace.TheVariants as code
-use Rattle.witness.specs.Texts.{most_lines}
 use Rattle.witness.specs.Admits.{is_nothing, Fault, fault_at}
+use Rattle.witness.specs.LastLines.{last_refusal}
 use Rattle.witness.specs.BitTexts.{BitWitness}
 use Rattle.witness.specs.BitAdmits.{BitPlace, AtDone, BitRead, BitReading, nothing_admitted, lines_behind, bit_reading, is_done, read_or_fault, read_bit_text, bit_witness_of}
 use Rattle.witness.specs.BitJudgements.{first_reset_differing, bit_violation_from, bit_rises, when_risen, when_unbroken, when_reset, bit_verdict, JudgesBitRead, JudgesBitText, BitJudges}
 use Rattle.witness.specs.BitPlays.{BitPlay, Plays, Traced}
-use Rattle.witness.specs.BitStands.{place_of, PlaysAt, BitJudge, StandsFor, last_refusal, with_rise, with_breach, with_differing, judgement_of}
+use Rattle.witness.proofs.LastLineLemmas.{RefusedFor, refusal_is, whole_is}
+use Rattle.witness.specs.BitStands.{place_of, PlaysAt, BitJudge, StandsFor, with_rise, with_breach, with_differing, judgement_of}
 
 -- ---- the verdict
 
@@ -46,51 +44,11 @@ module _ (c : Circuit) (w : BitWitness) (p : BitPlay) (vs : List Valuation) (pla
       ap (with_differing p w.claim) plays.differs
       ∙ elim (first_reset_differing 0 c.latches w.initial) as (λ o. with_differing p w.claim o ≡ when_reset c w vs o) [ Some k ↦ refl | None ↦ unbroken ]
 
--- ---- why the line behind the last whole one is refused
-
-done_refusal : (empty many : Bool) (w : Why) → cond empty None (cond many (Some why.TooLong) (Some why.Trailing)) ≡ Some w
-    → ((true && empty) ≡ false) × (cond (many && not empty) why.TooLong (cond (true && not empty) why.Trailing why.Truncated) ≡ w)
-done_refusal true true w h = absurd cc
-done_refusal true false w h = absurd cc
-done_refusal false true w h = (refl, cc)
-done_refusal false false w h = (refl, cc)
-
-other_refusal : (empty many : Bool) (w : Why) → cond (many && not empty) (Some why.TooLong) (Some why.Truncated) ≡ Some w
-    → ((false && empty) ≡ false) × (cond (many && not empty) why.TooLong (cond (false && not empty) why.Trailing why.Truncated) ≡ w)
-other_refusal true true w h = (refl, cc)
-other_refusal true false w h = (refl, cc)
-other_refusal false true w h = (refl, cc)
-other_refusal false false w h = (refl, cc)
-
-abbrev RefusedFor : BitPlace → ℕ → List ℕ → Why → Type 0
-RefusedFor at n last w =
-    ((is_done at && is_nothing last) ≡ false) × (cond (nat_le most_lines n && not (is_nothing last)) why.TooLong (cond (is_done at && not (is_nothing last)) why.Trailing why.Truncated) ≡ w)
-
-refusal_is : (x : CodePlace) (n : ℕ) (last : List ℕ) (w : Why) → last_refusal x n (is_nothing last) ≡ Some w → RefusedFor (place_of x) n last w
-refusal_is code.Done n last w h = done_refusal (is_nothing last) (nat_le most_lines n) w h
-refusal_is code.Header n last w h = other_refusal (is_nothing last) (nat_le most_lines n) w h
-refusal_is code.Claim n last w h = other_refusal (is_nothing last) (nat_le most_lines n) w h
-refusal_is code.Initial n last w h = other_refusal (is_nothing last) (nat_le most_lines n) w h
-refusal_is code.First n last w h = other_refusal (is_nothing last) (nat_le most_lines n) w h
-refusal_is code.Later n last w h = other_refusal (is_nothing last) (nat_le most_lines n) w h
-
-some_or : (b : Bool) (u v : Why) → cond b (Some u) (Some v) ≡ None → ⊥
-some_or true u v h = cc
-some_or false u v h = cc
-
-whole_done : (empty many : Bool) → cond empty None (cond many (Some why.TooLong) (Some why.Trailing)) ≡ None → empty ≡ true
-whole_done true many h = refl
-whole_done false many h = absurd (some_or many why.TooLong why.Trailing h)
-
-whole_is : (x : CodePlace) (n : ℕ) (last : List ℕ) → last_refusal x n (is_nothing last) ≡ None → (place_of x ≡ AtDone) × (is_nothing last ≡ true)
-whole_is code.Done n last h = (refl, whole_done (is_nothing last) (nat_le most_lines n) h)
-whole_is code.Header n last h = absurd (some_or _ _ _ h)
-whole_is code.Claim n last h = absurd (some_or _ _ _ h)
-whole_is code.Initial n last h = absurd (some_or _ _ _ h)
-whole_is code.First n last h = absurd (some_or _ _ _ h)
-whole_is code.Later n last h = absurd (some_or _ _ _ h)
-
 -- ---- the judgement
+
+done : (at : BitPlace) → is_done at ≡ true → at ≡ AtDone
+done AtDone h = refl
+done _ h = absurd cc
 
 module _ (c : Circuit) (text : List ℕ) (j : BitJudge) (stands : StandsFor c j text) where
   abbrev so_far : BitReading
@@ -115,24 +73,25 @@ module _ (c : Circuit) (text : List ℕ) (j : BitJudge) (stands : StandsFor c j 
       (ap (read_or_fault so_far (unfinished text)) (sym stands.lines.refused ∙ refused))
       (ap (λ (n : ℕ). judgement.Malformed n w) (number n is))
 
-  pub refused_last : (w : Why) (n : ℕ) → j.no_claim ≡ false → j.refused ≡ None → last_refusal j.reader.place j.admitted (is_nothing (unfinished text)) ≡ Some w → n ≡ min (j.admitted + 1) (2 ^ 64 - 1) → BitJudges c text (judgement.Malformed n w)
+  pub refused_last : (w : Why) (n : ℕ) → j.no_claim ≡ false → j.refused ≡ None → last_refusal (is_done (place_of j.reader.place)) j.admitted (is_nothing (unfinished text)) ≡ Some w → n ≡ min (j.admitted + 1) (2 ^ 64 - 1) → BitJudges c text (judgement.Malformed n w)
   unfolding bit_reading
   refused_last w n e none last is =
       let reads = stands.lines.reads none in
-      let h : RefusedFor so_far.read.place so_far.admitted (unfinished text) w =
-      subst (λ (at : BitPlace). RefusedFor at so_far.admitted (unfinished text) w) reads.place
-      (subst (λ (m : ℕ). RefusedFor (place_of j.reader.place) m (unfinished text) w) stands.lines.admitted (refusal_is j.reader.place j.admitted (unfinished text) w last)) in
-      let read : read_or_fault so_far (unfinished text) None ≡ Err (fault_at so_far.admitted w) = rw h.0 (ap (λ (w : Why). Err (fault_at so_far.admitted w)) h.1) in
+      let h : RefusedFor (is_done so_far.read.place) so_far.admitted (is_nothing (unfinished text)) w =
+      refusal_is (is_done so_far.read.place) so_far.admitted (is_nothing (unfinished text)) w
+      (subst (λ (at : BitPlace). last_refusal (is_done at) so_far.admitted (is_nothing (unfinished text)) ≡ Some w) reads.place
+      (subst (λ (m : ℕ). last_refusal (is_done (place_of j.reader.place)) m (is_nothing (unfinished text)) ≡ Some w) stands.lines.admitted last)) in
+      let read : read_or_fault so_far (unfinished text) None ≡ Err (fault_at so_far.admitted w) = rw h.refused (ap (λ (w : Why). Err (fault_at so_far.admitted w)) h.is) in
       judged_read (judgement.Malformed n w) (Err (fault_at so_far.admitted w)) e
       (ap (read_or_fault so_far (unfinished text)) (sym stands.lines.refused ∙ none) ∙ read)
       (ap (λ (n : ℕ). judgement.Malformed n w) (number n is))
 
-  pub whole_text : j.no_claim ≡ false → j.refused ≡ None → last_refusal j.reader.place j.admitted (is_nothing (unfinished text)) ≡ None → BitJudges c text (judgement_of j.reader.play j.reader.claim)
+  pub whole_text : j.no_claim ≡ false → j.refused ≡ None → last_refusal (is_done (place_of j.reader.place)) j.admitted (is_nothing (unfinished text)) ≡ None → BitJudges c text (judgement_of j.reader.play j.reader.claim)
   unfolding bit_reading
   whole_text e none last =
       let reads = stands.lines.reads none in
-      let whole = whole_is j.reader.place j.admitted (unfinished text) last in
-      let at : so_far.read.place ≡ AtDone = sym reads.place ∙ whole.0 in
+      let whole = whole_is (is_done (place_of j.reader.place)) j.admitted (is_nothing (unfinished text)) last in
+      let at : so_far.read.place ≡ AtDone = sym reads.place ∙ done (place_of j.reader.place) whole.0 in
       let plays : PlaysAt c so_far.read j.reader.play (unfinished text) AtDone = subst (PlaysAt c so_far.read j.reader.play (unfinished text)) at reads.play in
       let read : read_or_fault so_far (unfinished text) None ≡ Ok so_far.read = rw (at, whole.1) refl in
       judged_read (judgement_of j.reader.play j.reader.claim) (Ok so_far.read) e

@@ -122,7 +122,7 @@ code_of_first code.First e = absurd cc
 code_of_first code.Later e = absurd cc
 code_of_first code.Done e = absurd cc
 
-or-false : (b : Bool) → (b || false) ≡ b
+pub or-false : (b : Bool) → (b || false) ≡ b
 or-false true = refl
 or-false false = refl
 

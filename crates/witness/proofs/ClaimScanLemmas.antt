@@ -1,7 +1,7 @@
 -- What is kept of a line of claims byte by byte is what its pieces claim.
-use Rattle.std.proofs.Common.{◌≡◌, ℕ, ◌<◌, ◌==◌, nat_lt, Bool, true, false, cond, ◌&&◌, ◌||◌, List, [], ◌∷◌, ◌++◌, Option, Some, None, Ok, Err, length, map, get_or, set, refl, sym, ap, ap₂, subst, ◌∙◌, ◌⊎◌, inl, inr}
+use Rattle.std.proofs.Common.{◌≡◌, ℕ, ◌<◌, ◌==◌, nat_lt, Bool, true, false, not, cond, ◌&&◌, ◌||◌, List, [], ◌∷◌, ◌++◌, Option, Some, None, Ok, Err, length, map, get_or, set, refl, sym, ap, ap₂, subst, ◌∙◌, ◌⊎◌, inl, inr}
 use Rattle.std.specs.List.{list_any, list_all}
-use Rattle.std.proofs.lemmas.Bool.{cases_Bool, and_parts, and_from, and_left, and_right, or_parts, or_from, or_left, or_right, eqb-true, eqb-false, ne_eqb, lt-ltb, false_from_ne_true, ltb-true, not-true, false≢true}
+use Rattle.std.proofs.lemmas.Bool.{cases_Bool, and_parts, and_from, and_left, and_right, or_parts, or_from, or_left, or_right, eqb-true, eqb-false, eq-eqb, ne_eqb, lt-ltb, false_from_ne_true, ltb-true, not-true, false≢true}
 use Rattle.std.proofs.lemmas.List.{length-set, get_or-set_same, get_or-set_other}
 use Rattle.std.proofs.lemmas.List.Folds.{list_any-append, list_all-append}
 use Rattle.base.specs.Decimals.{is_decimal, number_of}
@@ -14,11 +14,9 @@ use Rattle.witness.specs.declared.word_claims.ClaimScan.{ClaimScan}
 use Rattle.witness.specs.Texts.{are_distinct}
 use Rattle.witness.specs.Admits.{to_first, between_spaces, Claim, claim_of, with_claim, claims_of, judged_claims, claims_at}
 use Rattle.witness.specs.BitScans.{behind_first, Scans}
-use Rattle.witness.specs.Reading.{is_set}
-use Rattle.witness.specs.Fits.{NoneIsSet, AreClaimed}
+use Rattle.witness.specs.Fits.{is_set, NoneIsSet, AreClaimed}
 use Rattle.witness.specs.WordClaims.{piece_of, claimed_by, and_claim, AreFine, AreUnfit, HaveJustice, IsKind, AreClaims}
 use Rattle.witness.proofs.PieceLemmas.{some_piece}
-use Rattle.witness.proofs.ClaimLineLemmas.{distinct-more, distinct-twice}
 
 and-true : (b : Bool) → (b && true) ≡ b
 and-true true = refl
@@ -27,6 +25,38 @@ and-true false = refl
 or-false : (b : Bool) → (b || false) ≡ b
 or-false true = refl
 or-false false = refl
+
+-- ---- numbers that stand twice
+
+-- a number that is not among others, behind them
+differs-swapped : (x y : ℕ) → (x == y) ≡ false → (y == x) ≡ false
+differs-swapped x y h = false_from_ne_true (y == x) (λ e. eqb-false x y h (sym (eqb-true y x e)))
+
+distinct-more : (xs : List ℕ) (x : ℕ) → are_distinct xs ≡ true → list_any (λ y. y == x) xs ≡ false → are_distinct (xs ++ x ∷ []) ≡ true
+distinct-more [] x h none = refl
+distinct-more (y ∷ ys) x h none =
+    let parts = and_parts (not (list_any (λ z. z == y) ys)) (are_distinct ys) h in
+    let others = or_parts (y == x) (list_any (λ z. z == x) ys) none in
+    let fresh : list_any (λ z. z == y) ys ≡ false = not-true _ parts.0 in
+    let all : list_any (λ z. z == y) (ys ++ x ∷ []) ≡ false = list_any-append (λ z. z == y) ys (x ∷ []) ∙ or_from _ _ fresh (or_from _ _ (differs-swapped y x others.0) refl) in
+    rw all (distinct-more ys x parts.1 others.1)
+
+and-false : (b : Bool) → (b && false) ≡ false
+and-false true = refl
+and-false false = refl
+
+distinct-twice : (xs : List ℕ) (x : ℕ) (rest : List ℕ) → list_any (λ y. y == x) xs ≡ true → are_distinct (xs ++ x ∷ rest) ≡ false
+distinct-twice [] x rest h = absurd cc
+distinct-twice (y ∷ ys) x rest h =
+    elim (cases_Bool (y == x)) [
+      | inl e ↦
+          let one : (x == y) ≡ true = eq-eqb x y (sym (eqb-true y x e)) in
+          let some : list_any (λ z. z == y) (ys ++ x ∷ rest) ≡ true = list_any-append (λ z. z == y) ys (x ∷ rest) ∙ or_right _ _ (or_left _ _ one) in
+          rw some refl
+      | inr e ↦
+          let later : list_any (λ z. z == x) ys ≡ true = rw e at h in
+          rw (distinct-twice ys x rest later) (and-false (not (list_any (λ z. z == y) (ys ++ x ∷ rest))))
+    ]
 
 -- ---- pieces
 

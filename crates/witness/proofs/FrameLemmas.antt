@@ -1,7 +1,6 @@
 -- Frames of a run, one after another.
-use Rattle.std.proofs.Common.{◌≡◌, ℕ, suc, ◌+◌, ◌<◌, ◌≤◌, Bool, true, false, cond, not, ◌&&◌, ◌||◌, nat_eq, List, [], ◌∷◌, ◌++◌, length, map, get_or, drop, flat_map, slice_get, Option, Some, None, IfSome, All, is_none, option_and_then, refl, sym, ap, ap₂, subst, ◌∙◌, append_assoc, arith}
+use Rattle.std.proofs.Common.{◌≡◌, ℕ, suc, ◌+◌, ◌<◌, ◌≤◌, Bool, true, false, cond, ◌&&◌, nat_eq, List, [], ◌∷◌, ◌++◌, length, map, get_or, drop, flat_map, slice_get, Option, Some, None, IfSome, is_none, option_and_then, refl, sym, ap, ap₂, subst, ◌∙◌, append_assoc, arith}
 use Rattle.std.specs.List.{position_from}
-use Rattle.std.specs.Option.{option_or}
 use Rattle.std.proofs.Math.Seq.{drop-cons}
 use Rattle.std.proofs.lemmas.List.{length-map, drop_all}
 use Rattle.btor2.specs.declared.item.Item.{Item}
@@ -16,11 +15,8 @@ use Rattle.runs.specs.Run.{property_id, is_one}
 use Rattle.runs.proofs.RankLemmas.{nth, length-places}
 use Rattle.runs.proofs.PlaceLemmas.{map_read}
 use Rattle.runs.proofs.StateLemmas.{nth-get}
-use Rattle.witness.specs.Texts.{shape_of}
-use Rattle.witness.specs.Judgements.{FrameWords, given_words, Violation, of_kind, nodes_of, init_constant, differs, first_different, first_violated, violated_at, violation_from, never_rises}
-use Rattle.witness.specs.Reading.{is_set}
-use Rattle.witness.specs.Fits.{LaterFits, StandsAt, StandsBefore, RisesIn, RisesAmong}
-use Rattle.witness.proofs.GivenLemmas.{SameAt, next_stands}
+use Rattle.witness.specs.Judgements.{of_kind, nodes_of, init_constant, differs, first_different}
+use Rattle.witness.proofs.GivenLemmas.{SameAt}
 
 -- ---- frames from words that agree
 
@@ -120,81 +116,6 @@ property_at kind items i f b names h says =
     own ∙ ap (λ (a : ℕ). nat_eq (f a) 1) (sym node)
 
 -- ---- the frames of a trace
-
--- What is left of a trace, from the words that are carried on, where a run stands before it: with what was found and what rose so far it gives what the
--- whole trace does.
-pub record Stands (items : List Item) (frames : List FrameWords) (none : List Bool) (fs : List Frame) (k : ℕ) (words : Frame) (found : Option Violation) (rose : List Bool) : Type 0 where
-  pub carried : Frame
-  pub stands : StandsBefore items carried frames words
-  pub rest : List Frame
-  pub is_trace : IsTrace items carried (map (given_words items) frames) rest
-  pub violation : option_or found (violation_from items k rest) ≡ violation_from items 0 fs
-  pub rises : (after : List Bool) → RisesAmong (nodes_of is_bad items) rest rose after → RisesAmong (nodes_of is_bad items) fs none after
-
-or_cases : (b c d : Bool) → ((b || c) || not d) ≡ (b || not (not c && d))
-or_cases true c d = refl
-or_cases false true d = refl
-or_cases false false d = refl
-
-rises_more : (nodes : List ℕ) (f : Frame) (rest : List Frame) (rose rose' after : List Bool) → RisesIn nodes f rose rose' → RisesAmong nodes rest rose' after → RisesAmong nodes (f ∷ rest) rose after
-rises_more nodes f rest rose rose' after one more i h =
-    more i h ∙ ap (λ (b : Bool). b || not (never_rises rest (get_or nodes i 0))) (one i h) ∙ or_cases (is_set rose i) (nat_eq (f (get_or nodes i 0)) 1) (never_rises rest (get_or nodes i 0))
-
-found_more : (found : Option Violation) (k : ℕ) (o : Option ℕ) (later : Option Violation) → option_or (option_or found (violated_at k o None)) later ≡ option_or found (violated_at k o later)
-found_more (Some v) k o later = refl
-found_more None k None later = refl
-found_more None k (Some i) later = refl
-
--- what a run says of a frame before which it stands, by its words before and behind the frame
-pub record Judged (items : List Item) (frame : FrameWords) (words next : Frame) (violated : Option ℕ) (rose rose' : List Bool) : Type 0 where
-  pub first : (carried f : Frame) → StandsAt items carried frame words → IsFrame items carried (given_words items frame) f → violated ≡ first_violated items f
-  pub rises : (carried f : Frame) → StandsAt items carried frame words → IsFrame items carried (given_words items frame) f → RisesIn (nodes_of is_bad items) f rose rose'
-  pub next_words : (carried f : Frame) → StandsAt items carried frame words → IsFrame items carried (given_words items frame) f → SameAt is_state items next (next_state items f)
-
-pub Stands-more : (items : List Item) (frame : FrameWords) (later : List FrameWords) (none : List Bool) (fs : List Frame) (k : ℕ) (words next : Frame) (found found' : Option Violation) (rose rose' : List Bool) (violated : Option ℕ)
-    → All (LaterFits (shape_of items)) later → Judged items frame words next violated rose rose' → found' ≡ option_or found (violated_at k violated None)
-    → Stands items (frame ∷ later) none fs k words found rose → Stands items later none fs (k + 1) next found' rose'
-Stands-more items frame later none fs k words next found found' rose rose' violated fit judged e s = by s.rest s.is_trace s.violation s.rises
-  where
-    by : (rest : List Frame) → IsTrace items s.carried (map (given_words items) (frame ∷ later)) rest → option_or found (violation_from items k rest) ≡ violation_from items 0 fs
-        → ((after : List Bool) → RisesAmong (nodes_of is_bad items) rest rose after → RisesAmong (nodes_of is_bad items) fs none after)
-        → Stands items later none fs (k + 1) next found' rose'
-    by [] h v r = absurd h
-    by (f ∷ more) h v r =
-        let one : k + 1 ≡ suc k = omega arith in
-        record {
-          carried = next_state items f;
-          stands = next_stands items f next later fit (judged.next_words s.carried f s.stands h.0);
-          rest = more;
-          is_trace = h.1;
-          violation = rw (one, e) (found_more found k violated (violation_from items (suc k) more)
-              ∙ ap (λ (o : Option ℕ). option_or found (violated_at k o (violation_from items (suc k) more))) (judged.first s.carried f s.stands h.0) ∙ v);
-          rises = λ after above. r after (rises_more (nodes_of is_bad items) f more rose rose' after (judged.rises s.carried f s.stands h.0) above);
-        }
-
--- at the end nothing is left
-pub record Ends (items : List Item) (none : List Bool) (fs : List Frame) (found : Option Violation) (rose : List Bool) : Type 0 where
-  pub violation : found ≡ violation_from items 0 fs
-  pub rises : RisesAmong (nodes_of is_bad items) fs none rose
-
-found_all : (o : Option Violation) → option_or o None ≡ o
-found_all None = refl
-found_all (Some v) = refl
-
-or_none : (b : Bool) → b ≡ (b || false)
-or_none true = refl
-or_none false = refl
-
-pub Stands-end : (items : List Item) (frames : List FrameWords) (none : List Bool) (fs : List Frame) (k : ℕ) (words : Frame) (found : Option Violation) (rose : List Bool) → frames ≡ []
-    → Stands items frames none fs k words found rose → Ends items none fs found rose
-Stands-end items frames none fs k words found rose e s =
-    by s.rest (subst (λ (l : List FrameWords). IsTrace items s.carried (map (given_words items) l) s.rest) e s.is_trace) s.violation s.rises
-  where
-    by : (rest : List Frame) → IsTrace items s.carried [] rest → option_or found (violation_from items k rest) ≡ violation_from items 0 fs
-        → ((after : List Bool) → RisesAmong (nodes_of is_bad items) rest rose after → RisesAmong (nodes_of is_bad items) fs none after)
-        → Ends items none fs found rose
-    by [] h v r = record { violation = sym (found_all found) ∙ v; rises = r rose (λ i l. or_none (is_set rose i)) }
-    by (f ∷ more) h v r = absurd h
 
 pub trace_length : (items : List Item) (state : Frame) (inputs fs : List Frame) → IsTrace items state inputs fs → length fs ≡ length inputs
 trace_length items state [] [] h = refl

@@ -1,5 +1,5 @@
 -- What a run's words are after those of a part were given.
-use Rattle.std.proofs.Common.{◌≡◌, ◌≢◌, ℕ, suc, ◌+◌, ◌<◌, ◌^◌, Bool, true, false, cond, not, ◌&&◌, ◌||◌, nat_eq, eq-eqb, eqb-true, List, [], ◌∷◌, length, map, get_or, set, filter, find, Option, Some, None, IfSome, All, is_none, is_some, option_map, option_and_then, unwrap_or, refl, sym, ap, subst, ◌∙◌, arith}
+use Rattle.std.proofs.Common.{◌≡◌, ◌≢◌, ℕ, suc, ◌+◌, ◌<◌, Bool, true, false, cond, not, ◌&&◌, ◌||◌, nat_eq, eq-eqb, eqb-true, List, [], ◌∷◌, length, map, get_or, set, filter, find, Option, Some, None, All, is_none, is_some, option_map, option_and_then, unwrap_or, refl, sym, ap, ◌∙◌, arith}
 use Rattle.std.specs.List.{position_from, list_any, AllByRecursion}
 use Rattle.std.proofs.lemmas.List.Elements.{All-head, recursion_from_All}
 use Rattle.std.specs.Option.{option_or}
@@ -10,33 +10,16 @@ use Rattle.btor2.specs.declared.item.Item.{Item}
 use Rattle.btor2.specs.declared.item.Body.{Body}
 use Rattle.btor2.specs.declared.item.Body.TheVariants as body
 use Rattle.btor2.specs.Items.{find_item, is_input, is_state, names_state, init_value, next_value, constant_of, is_free}
-use Rattle.btor2.specs.Check.{IsWellFormed}
-use Rattle.btor2.specs.Lists.{places, width_at}
-use Rattle.btor2.specs.Trace.{Frame, bits_of, next_state}
+use Rattle.btor2.specs.Trace.{Frame, next_state}
 use Rattle.runs.specs.Frames.{ids_of, rank}
 use Rattle.runs.specs.Frames.{given as given_at}
 use Rattle.runs.specs.Run.{first_word, zeros}
 use Rattle.runs.proofs.RankLemmas.{rank-below, ids-rank, length-ids}
-use Rattle.witness.specs.Texts.{Shape, shape_of, is_free_index, widths_of, are_distinct}
+use Rattle.witness.specs.Texts.{Shape, shape_of, is_free_index, are_distinct}
 use Rattle.witness.specs.Judgements.{FrameWords, Words, of_kind, index_of, given, given_to, init_constant, initial_part, initial_words, given_words}
-use Rattle.witness.specs.Fits.{PairFits, LaterFits, StandsAt, StandsBefore, words_put}
-use Rattle.witness.proofs.ShapeLemmas.{widths_at_places, length-places}
+use Rattle.witness.specs.Fits.{LaterFits, StandsAt, StandsBefore, words_put}
 
 -- ---- words that fit
-
-pub pair_index : (kind : Body → Bool) (items : List Item) (p : ℕ × ℕ) → PairFits (widths_of kind items) p → p.0 < length (places kind 0 items)
-pair_index kind items p h =
-    omega (arith, h.index, length-map (filter (λ (x : Item). kind x.body) items) (λ (x : Item). bits_of items x.id), length-places kind 0 items)
-
-fits_some : (o : Option ℕ) (word n : ℕ) → n ≡ unwrap_or o 0 → word < 2 ^ n → IfSome o (λ k. word < 2 ^ k)
-fits_some None word n e h = tt
-fits_some (Some k) word n e h = subst (λ (m : ℕ). word < 2 ^ m) e h
-
-pub pair_word : (kind : Body → Bool) (items : List Item) (p : ℕ × ℕ) → IsWellFormed items → PairFits (widths_of kind items) p → IfSome (width_at items (get_or (places kind 0 items) p.0 0)) (λ n. p.1 < 2 ^ n)
-pair_word kind items p w h =
-    fits_some (width_at items (get_or (places kind 0 items) p.0 0)) p.1 (get_or (widths_of kind items) p.0 0)
-    (ap (λ (l : List ℕ). get_or l p.0 0) (sym (widths_at_places kind items w))
-    ∙ get_or-map (λ (k : ℕ). unwrap_or (width_at items k) 0) (places kind 0 items) p.0 0 0 (pair_index kind items p h)) h.word
 
 -- ---- words put into a list
 
@@ -107,10 +90,6 @@ put_given kind items words list many d id y found is =
     let r : ℕ = rank kind items id in
     let below : r < length words = omega (arith, many, rank-below kind items id y found is, length-ids kind items) in
     put-at words list r below d ∙ ap (λ (o : Option ℕ). unwrap_or (option_and_then (given list) o) (get_or words r 0)) (sym (index-rank kind items id y found is))
-
-pub length-put : (words : List ℕ) (list : List (ℕ × ℕ)) → length (words_put words list) ≡ length words
-length-put words [] = refl
-length-put words (p ∷ ps) = length-put (set words p.0 p.1) ps ∙ length-set words p.0 p.1
 
 or_else : (o p : Option ℕ) → unwrap_or o (unwrap_or p 0) ≡ unwrap_or (option_or o p) 0
 or_else None p = refl

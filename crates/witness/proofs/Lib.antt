@@ -8,10 +8,6 @@ pub mod ReadLemmas
 pub mod WholeLemmas
 pub mod SaidLemmas
 pub mod ToldLemmas
-pub mod ClaimLineLemmas
-pub mod LineLemmas
-pub mod PlainLemmas
-pub mod TextLemmas
 pub mod GivenLemmas
 pub mod FrameLemmas
 pub mod VerdictLemmas
@@ -24,8 +20,9 @@ pub mod BitScanLemmas
 pub mod BitPlayLemmas
 pub mod BitReaderLemmas
 pub mod BitJudgeLemmas
+pub mod LastLineLemmas
 pub mod BitFinishLemmas
-pub mod BitFeedLemmas
+pub mod FeedLemmas
 pub mod WordScanLemmas
 pub mod FieldScanLemmas
 pub mod ClaimScanLemmas
@@ -35,3 +32,5 @@ pub mod WordAssignLemmas
 pub mod WordReadingLemmas
 pub mod WordGivenLemmas
 pub mod WordReaderLemmas
+pub mod WordJudgeLemmas
+pub mod WordFinishLemmas

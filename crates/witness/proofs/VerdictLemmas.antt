@@ -1,13 +1,12 @@
 -- What one frame of a run says, in the words of judgements.
-use Rattle.std.proofs.Common.{◌≡◌, ◌≢◌, ◌&&◌, ◌||◌, set, ⊎_elim, ℕ, suc, ◌+◌, ◌<◌, ◌≤◌, Bool, true, false, List, [], ◌∷◌, length, map, get_or, drop, nat_eq, not, cond, slice_get, Option, Some, None, IfSome, All, unwrap_or, option_and_then, refl, sym, ap, ap₂, subst, ◌∙◌, arith}
+use Rattle.std.proofs.Common.{◌≡◌, ◌≢◌, ◌&&◌, ◌||◌, set, ⊎_elim, ℕ, suc, ◌+◌, ◌<◌, ◌≤◌, Bool, true, false, List, length, map, get_or, drop, nat_eq, not, cond, slice_get, Option, Some, None, IfSome, unwrap_or, option_and_then, refl, sym, ap, ap₂, subst, ◌∙◌, arith}
 use Rattle.std.proofs.Math.Seq.{drop-cons}
 use Rattle.std.proofs.lemmas.List.{drop_all, length-map, get_or-set_same, get_or-set_other}
 use Rattle.std.proofs.lemmas.Bool.{cases_eq}
-use Rattle.std.proofs.lemmas.List.Elements.{All-cons, All-weaker, All-drop}
 use Rattle.std.proofs.lemmas.Option.{get_or_from_slice_get}
 use Rattle.std.specs.List.{position_from, list_any}
 use Rattle.btor2.specs.declared.item.Item.{Item}
-use Rattle.btor2.specs.Items.{find_item, position_of, init_value, is_free, is_state, is_bad, is_constraint}
+use Rattle.btor2.specs.Items.{find_item, position_of, init_value, is_free, is_state, is_constraint}
 use Rattle.btor2.specs.Lists.{places, init_place, constant_at}
 use Rattle.btor2.proofs.LookUps.{found}
 use Rattle.btor2.specs.Check.{IsWellFormed}
@@ -15,16 +14,14 @@ use Rattle.btor2.specs.Trace.{Frame, state_word, IsFrame, IsTrace, next_state}
 use Rattle.btor2.proofs.TraceLemmas.{frame_exists}
 use Rattle.runs.specs.Frames.{ids_of, given_leaves}
 use Rattle.runs.specs.Frames.{given as given_at}
-use Rattle.runs.specs.Run.{Run, IsNow, state_words, leaf_words, zeros, is_one, start, first_word}
+use Rattle.runs.specs.Run.{Run, IsNow, state_words, leaf_words, zeros, is_one}
 use Rattle.runs.proofs.RankLemmas.{IsNth, nth, length-ids, length-places, state_leaf, input_leaf, either_word}
 use Rattle.runs.proofs.StateLemmas.{nth-get, init_at}
-use Rattle.witness.specs.Texts.{Shape, shape_of, widths_of}
-use Rattle.witness.specs.Reading.{is_set}
-use Rattle.witness.specs.declared.judgement.Judgement.TheVariants as judgement
-use Rattle.witness.specs.Judgements.{FrameWords, of_kind, nodes_of, init_constant, differs, given_to, initial_part, initial_words, given_words, given_frames, first_different, Words, Violation, violation_from, never_rises, unreached_from, when_reached, when_kept, when_begun, verdict}
-use Rattle.witness.specs.Fits.{PartFits, FirstFits, LaterFits, FramesFit, StandsAt, StandsBefore, RisesAmong, NoneIsSet, words_put}
-use Rattle.witness.proofs.GivenLemmas.{SameAt, words_of_kind, put_given, length-put, named_state, states_given, inputs_given, first_stands}
-use Rattle.witness.proofs.FrameLemmas.{frame_agrees, different_of, trace_length, first_step, constraint_names, length-nodes, property_at}
+use Rattle.witness.specs.Texts.{shape_of}
+use Rattle.witness.specs.Fits.{is_set, FirstFits, StandsAt, RisesAmong, NoneIsSet, words_put}
+use Rattle.witness.specs.Judgements.{FrameWords, of_kind, nodes_of, init_constant, differs, given_to, initial_words, given_words, given_frames, Words, never_rises, unreached_from}
+use Rattle.witness.proofs.GivenLemmas.{put_given, named_state, inputs_given}
+use Rattle.witness.proofs.FrameLemmas.{frame_agrees, trace_length, first_step, constraint_names, length-nodes, property_at}
 use Rattle.btor2.proofs.LookUps.{init_some, init_none}
 
 -- a run by its parts
@@ -67,34 +64,12 @@ module _ (items : List Item) (r r' r'' settled : Run) (frame : FrameWords) (w : 
       ∙ sym (either_word (is_free items id) (given_at is_state items states id) (given_leaves items states inputs id) (given_at is_state items states id) refl (state_leaf items states inputs id y found is)))
       (λ id y found is. sym (inputs_given items frame fits.inputs.distinct id y found is) ∙ sym (input_leaf items states inputs id y found is)) h)
 
--- the states of the next frame
-pub next_agrees : (items : List Item) (r : Run) (f : Frame) → r.items ≡ items → r.states ≡ map (next_state items f) (ids_of is_state items) → SameAt is_state items (state_words r) (next_state items f)
-next_agrees items r f e d id y found is =
-    ap (λ (l : List Item). given_at is_state l r.states id) e ∙ ap (λ (l : List ℕ). given_at is_state items l id) d ∙ words_of_kind is_state items (next_state items f) id y found is
-
 -- as many words as there are states, whatever the frame was
 pub advanced_many : (items : List Item) (settled after : Run) → IsWellFormed items → settled.items ≡ items → ((f : Frame) → IsNow settled f → after.states ≡ map (next_state settled.items f) (ids_of is_state settled.items))
     → length after.states ≡ length (ids_of is_state items)
 advanced_many items settled after w same says =
     let some = frame_exists settled.items (state_words settled) (leaf_words settled) (subst IsWellFormed (sym same) w) in
     ap length (says some.0 some.1) ∙ length-map (ids_of is_state settled.items) (next_state settled.items some.0) ∙ ap (λ (l : List Item). length (ids_of is_state l)) same
-
--- the frames from one on
-pub frames_step : (frames : List FrameWords) (k : ℕ) (x : FrameWords) → k < length frames → x ≡ get_or frames k x → drop k frames ≡ x ∷ drop (k + 1) frames
-frames_step frames k x h d =
-    let one : suc k ≡ k + 1 = omega arith in
-    drop-cons frames k x h ∙ ap₂ (λ (y : FrameWords) (j : ℕ). y ∷ drop j frames) (sym d) one
-
-pub each_fits : (shape : Shape) (frames : List FrameWords) → FramesFit shape frames → All (FirstFits shape) frames
-each_fits shape [] fit = absurd fit
-each_fits shape (first ∷ more) fit =
-    All-cons (FirstFits shape) first more fit.0 (All-weaker (LaterFits shape) (FirstFits shape) (λ frame later. record { states = later.states; inputs = later.inputs }) more fit.1)
-
-pub later_fit : (shape : Shape) (frames : List FrameWords) (k : ℕ) → FramesFit shape frames → All (LaterFits shape) (drop (k + 1) frames)
-later_fit shape [] k fit = absurd fit
-later_fit shape (first ∷ more) k fit =
-    let one : suc k ≡ k + 1 = omega arith in
-    subst (λ (j : ℕ). All (LaterFits shape) (drop j (first ∷ more))) one (All-drop (LaterFits shape) k more fit.1)
 
 -- ---- the first of a list
 
@@ -245,62 +220,6 @@ pub unreached_end : (claims nodes : List ℕ) (fs : List Frame) (i : ℕ) (whole
 unreached_end claims nodes fs i whole h e = sym (ap (unreached_from claims fs i) (drop_all i nodes h)) ∙ e
 
 -- ---- the judgement
-
--- the words of the first frame fit
-pub initial_fits : (items : List Item) (frames : List FrameWords) → FramesFit (shape_of items) frames → PartFits (widths_of is_state items) (initial_part frames)
-initial_fits items [] fits = absurd fits
-initial_fits items (first ∷ more) fits = fits.0.states
-
--- A run that begins with the words that a witness gives to the states.
-pub record Begun (items : List Item) (w : Words) (s : Run) : Type 0 where
-  pub items_same : s.items ≡ items
-  pub none : s.inputs ≡ zeros items
-  pub many : length s.states ≡ length (ids_of is_state items)
-  pub states : SameAt is_state items (state_words s) (initial_words items w)
-
-pub begun : (items : List Item) (w : Words) (r r' s : Run) (list : List (ℕ × ℕ)) (steps : ℕ) → FramesFit (shape_of items) w.frames → r ≡ start items → list ≡ initial_part w.frames
-    → r' ≡ record r { states = words_put r.states list; settled = r'.settled } → s ≡ record r' { settled = true; steps = steps } → Begun items w s
-begun items w r r' s list steps fits starts own put done =
-    let part : List (ℕ × ℕ) = initial_part w.frames in
-    let firsts : List ℕ = map (first_word items) (ids_of is_state items) in
-    let same : s.items ≡ items = ap (λ (x : Run). x.items) done ∙ ap (λ (x : Run). x.items) put ∙ ap (λ (x : Run). x.items) starts in
-    let words : s.states ≡ words_put firsts part =
-    ap (λ (x : Run). x.states) done ∙ ap (λ (x : Run). x.states) put ∙ ap₂ words_put (ap (λ (x : Run). x.states) starts) own in
-    record {
-      items_same = same;
-      none = ap (λ (x : Run). x.inputs) done ∙ ap (λ (x : Run). x.inputs) put ∙ ap (λ (x : Run). x.inputs) starts;
-      many = ap length words ∙ length-put firsts part ∙ length-map (ids_of is_state items) (first_word items);
-      states = λ id y found is. ap (λ (l : List Item). given_at is_state l s.states id) same ∙ ap (λ (l : List ℕ). given_at is_state items l id) words ∙ states_given items w (initial_fits items w.frames fits).distinct id y found is;
-    }
-
-pub begun_different : (items : List Item) (w : Words) (s : Run) (o : Option ℕ) → IsWellFormed items → Begun items w s → ((f : Frame) → IsNow s f → o ≡ first_different items f)
-    → o ≡ first_different items (initial_words items w)
-begun_different items w s o wf b says =
-    let some = frame_exists s.items (state_words s) (leaf_words s) (subst IsWellFormed (sym b.items_same) wf) in
-    let frame : IsFrame items (state_words s) (leaf_words s) some.0 = subst (λ (l : List Item). IsFrame l (state_words s) (leaf_words s) some.0) b.items_same some.1 in
-    says some.0 some.1
-    ∙ different_of items (initial_words items w) (leaf_words s) some.0
-    (frame_agrees items (state_words s) (initial_words items w) (leaf_words s) (leaf_words s) some.0 wf
-    (λ id y found is. ap (λ (v : ℕ). cond (is_free items id) (leaf_words s id) v) (b.states id y found is)) (λ id y found is. refl) frame)
-
-pub begun_stands : (items : List Item) (w : Words) (s : Run) (frames : List FrameWords) → Begun items w s → frames ≡ w.frames → StandsBefore items (initial_words items w) frames (state_words s)
-begun_stands items w s frames b e = first_stands items w (state_words s) frames (sym e) b.states
-
-pub begun_trace : (items : List Item) (w : Words) (fs : List Frame) (frames : List FrameWords) → frames ≡ w.frames
-    → IsTrace items (initial_words items w) (given_frames items w) fs → IsTrace items (initial_words items w) (map (given_words items) frames) fs
-begun_trace items w fs frames e h = subst (λ (l : List FrameWords). IsTrace items (initial_words items w) (map (given_words items) l) fs) (sym e) h
-
-pub verdict_init : (items : List Item) (w : Words) (fs : List Frame) (o : Option ℕ) (i : ℕ) → o ≡ first_different items (initial_words items w) → o ≡ Some i → judgement.InitDiffers i ≡ verdict items w fs
-verdict_init items w fs o i e is = ap (when_begun items w fs) (sym is ∙ e)
-
-pub verdict_violated : (items : List Item) (w : Words) (fs : List Frame) (o : Option ℕ) (p : Option Violation) (v : Violation) → o ≡ first_different items (initial_words items w) → o ≡ None
-    → p ≡ violation_from items 0 fs → p ≡ Some v → judgement.Violated v.frame v.constraint ≡ verdict items w fs
-verdict_violated items w fs o p v e is d at = ap (when_kept items w fs) (sym at ∙ d) ∙ ap (when_begun items w fs) (sym is ∙ e)
-
-pub verdict_reached : (items : List Item) (w : Words) (fs : List Frame) (o n : Option ℕ) (p : Option Violation) → o ≡ first_different items (initial_words items w) → o ≡ None
-    → p ≡ violation_from items 0 fs → p ≡ None → n ≡ unreached_from w.claims fs 0 (nodes_of is_bad items) → when_reached (length fs) n ≡ verdict items w fs
-verdict_reached items w fs o n p e is d at u =
-    ap (when_reached (length fs)) u ∙ ap (when_kept items w fs) (sym at ∙ d) ∙ ap (when_begun items w fs) (sym is ∙ e)
 
 pub as_many_frames : (items : List Item) (w : Words) (fs : List Frame) → IsTrace items (initial_words items w) (given_frames items w) fs → length w.frames ≡ length fs
 as_many_frames items w fs h = sym (trace_length items (initial_words items w) (given_frames items w) fs h ∙ length-map w.frames (given_words items))

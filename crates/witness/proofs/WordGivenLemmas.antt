@@ -11,9 +11,8 @@ use Rattle.btor2.specs.Check.{IsWellFormed}
 use Rattle.runs.specs.Run.{zeros}
 use Rattle.witness.specs.Texts.{Shape, Assignment, is_free_index, shape_of, are_distinct}
 use Rattle.witness.specs.Admits.{cut_at_space, names_free, assignment_at, free_assignment_at}
-use Rattle.witness.specs.Reading.{is_set, IsFlagged}
+use Rattle.witness.specs.Fits.{is_set, IsFlagged, PairFits, PartFits, LaterFits, FramesFit, words_put}
 use Rattle.witness.specs.Judgements.{FrameWords, pairs_of}
-use Rattle.witness.specs.Fits.{PairFits, PartFits, LaterFits, FramesFit, words_put}
 use Rattle.witness.specs.WordPlays.{WordPlay, Traced, TracedBy, Plays, MayGive, state_given, input_given}
 use Rattle.witness.proofs.AssignmentLemmas.{IsAssigned, assignment_is_line, free_assignment_is_line}
 use Rattle.witness.proofs.SaidLemmas.{distinct_with}

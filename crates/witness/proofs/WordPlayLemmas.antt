@@ -14,9 +14,8 @@ use Rattle.runs.specs.Frames.{given as given_at}
 use Rattle.runs.specs.Run.{Run, IsNow, zeros, first_word, node_count, state_count, more_steps}
 use Rattle.runs.proofs.BitRunLemmas.{more_steps-sum}
 use Rattle.witness.specs.Texts.{Shape, shape_of}
-use Rattle.witness.specs.Reading.{is_set}
+use Rattle.witness.specs.Fits.{is_set, PartFits, FirstFits, LaterFits, FramesFit, StandsAt, words_put, RisesIn, RisesAmong, NoneIsSet}
 use Rattle.witness.specs.Judgements.{FrameWords, Violation, violated_at, violation_from, never_rises, nodes_of, first_different, first_violated, given_to, initial_words, given_words}
-use Rattle.witness.specs.Fits.{PartFits, FirstFits, LaterFits, FramesFit, StandsAt, words_put, RisesIn, RisesAmong, NoneIsSet}
 use Rattle.witness.specs.WordPlays.{WordPlay, frame_steps, steps_of, frames_alone, carried_behind, Fresh, Traced, TracedBy, Plays, nothing_given}
 use Rattle.witness.proofs.GivenLemmas.{put_given, words_of_kind, state_there, states_given, first_stands, next_stands}
 use Rattle.witness.proofs.FrameLemmas.{different_of}

@@ -1,15 +1,13 @@
 -- What a judge of witnesses of a circuit holds, and which texts it stands for.
-use Rattle.std.specs.Prelude.{◌≡◌, ℕ, ◌<◌, ◌≤◌, ◌^◌, Bool, true, false, not, ◌&&◌, nat_le, List, [], Option, Some, None, Result, Ok, Err, length, if◌then◌else◌}
+use Rattle.std.specs.Prelude.{◌≡◌, ℕ, ◌<◌, ◌≤◌, ◌^◌, Bool, true, false, List, [], Option, Some, None, Result, Ok, Err, length}
 use Rattle.base.specs.Lines.{whole_lines, unfinished}
 use Rattle.aiger.specs.Circuit.{Circuit}
 use Rattle.witness.specs.declared.why.Why.{Why}
-use Rattle.witness.specs.declared.why.Why.TheVariants as why
 use Rattle.witness.specs.declared.judgement.Judgement.{Judgement}
 use Rattle.witness.specs.declared.judgement.Judgement.TheVariants as judgement
 use Rattle.witness.specs.declared.bit_place.BitPlace.{BitPlace as CodePlace}
 use Rattle.witness.specs.declared.bit_place.BitPlace.TheVariants as code
 use Rattle.witness.specs.declared.bit_scan.Scan.{Scan}
-use Rattle.witness.specs.Texts.{most_lines}
 use Rattle.witness.specs.Judgements.{Violation}
 use Rattle.witness.specs.BitAdmits.{BitPlace, AtHeader, AtClaim, AtInitial, AtFirst, AtLater, AtDone, BitRead, bit_admit, nothing_admitted, lines_behind}
 use Rattle.witness.specs.BitJudgements.{makes_no_bit_claim}
@@ -87,11 +85,6 @@ pub record StandsFor (c : Circuit) (j : BitJudge) (text : List ℕ) : Type 0 whe
 abbrev pub is_first : CodePlace → Bool
 is_first code.Header = true
 is_first _ = false
-
--- why the line is refused that follows so many whole lines and does not end
-abbrev pub last_refusal : CodePlace → ℕ → Bool → Option Why
-last_refusal code.Done n empty = if empty then None else (if nat_le most_lines n then Some why.TooLong else Some why.Trailing)
-last_refusal _ n empty = if nat_le most_lines n && not empty then Some why.TooLong else Some why.Truncated
 
 -- what is judged by what is kept of all frames
 abbrev pub with_rise : BitPlay → ℕ → Bool → Judgement

@@ -1,12 +1,11 @@
 -- Words that fit a model, and what a run makes of them.
-use Rattle.std.specs.Prelude.{◌≡◌, ℕ, ◌<◌, ◌^◌, Bool, true, false, not, ◌||◌, ◌==◌, List, [], ◌∷◌, map, length, All, unwrap_or, slice_index, slice_set}
+use Rattle.std.specs.Prelude.{◌≡◌, ℕ, ◌<◌, ◌^◌, Bool, true, false, not, ◌||◌, ◌==◌, List, [], ◌∷◌, map, length, All, unwrap_or, slice_index, slice_index_or, slice_set}
 use Rattle.std.specs.List.{list_any}
 use Rattle.btor2.specs.declared.item.Item.{Item}
-use Rattle.btor2.specs.Items.{is_state, is_bad, names_state}
+use Rattle.btor2.specs.Items.{is_state, names_state}
 use Rattle.btor2.specs.Trace.{Frame, state_word}
-use Rattle.witness.specs.Texts.{Shape, is_free_index, are_distinct, shape_of}
-use Rattle.witness.specs.Reading.{is_set}
-use Rattle.witness.specs.Judgements.{FrameWords, Words, given_to, given_words, nodes_of, never_rises}
+use Rattle.witness.specs.Texts.{Shape, is_free_index, are_distinct}
+use Rattle.witness.specs.Judgements.{FrameWords, given_to, given_words, never_rises}
 
 -- ---- words that fit
 
@@ -34,11 +33,6 @@ abbrev pub FramesFit : Shape → List FrameWords → Type 0
 FramesFit shape [] = ⊥
 FramesFit shape (first ∷ later) = FirstFits shape first × All (LaterFits shape) later
 
--- the words of a witness over a model
-pub record WordsFit (items : List Item) (w : Words) : Type 0 where
-  pub claims : All (λ i. i < length (nodes_of is_bad items)) w.claims
-  pub frames : FramesFit (shape_of items) w.frames
-
 -- ---- what a run makes of them
 
 -- a list of words with those of a part at their indices
@@ -58,6 +52,10 @@ abbrev pub StandsBefore : List Item → Frame → List FrameWords → Frame → 
 StandsBefore items carried [] words = Unit {0}
 StandsBefore items carried (frame ∷ later) words = StandsAt items carried frame words
 
+-- a number is in the set that flags stand for
+abbrev pub is_set : List Bool → ℕ → Bool
+is_set flags k = slice_index_or flags k false
+
 -- a flag for each of some nodes is set where it was set before, or where the node is 1 in a frame
 abbrev pub RisesIn : List ℕ → Frame → List Bool → List Bool → Type 0
 RisesIn nodes f before after = (i : ℕ) → i < length nodes → is_set after i ≡ (is_set before i || (f (slice_index nodes i) == 1))
@@ -69,6 +67,10 @@ RisesAmong nodes fs before after = (i : ℕ) → i < length nodes → is_set aft
 -- no flag is set
 abbrev pub NoneIsSet : List Bool → Type 0
 NoneIsSet flags = (i : ℕ) → is_set flags i ≡ false
+
+-- flags are set at the indices of some pairs, and at no others
+abbrev pub IsFlagged : List Bool → List (ℕ × ℕ) → Type 0
+IsFlagged flags list = (k : ℕ) → is_set flags k ≡ list_any (λ p. p.0 == k) list
 
 -- flags are set at the numbers that are claimed, and at no others
 abbrev pub AreClaimed : List Bool → List ℕ → Type 0

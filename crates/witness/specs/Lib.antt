@@ -3,11 +3,11 @@ pub mod Numbers
 pub mod Texts
 pub mod Admits
 pub mod Judgements
-pub mod Reading
 pub mod Worked
 pub mod Fits
 pub mod Answers
 pub mod Printed
+pub mod LastLines
 pub mod BitTexts
 pub mod BitAdmits
 pub mod BitJudgements

@@ -6,7 +6,7 @@ use Rattle.btor2.specs.Lists.{width_at}
 use Rattle.witness.specs.declared.why.Why.{Why}
 use Rattle.witness.specs.declared.why.Why.TheVariants as why
 use Rattle.witness.specs.Admits.{cut_at_space}
-use Rattle.witness.specs.Reading.{is_set}
+use Rattle.witness.specs.Fits.{is_set}
 use Rattle.witness.specs.WordScans.{word_behind}
 
 -- the widths of the nodes at some places

@@ -9,9 +9,8 @@ use Rattle.runs.specs.Run.{Run, start, first_word, zeros, node_count, state_coun
 use Rattle.witness.specs.declared.why.Why.{Why}
 use Rattle.witness.specs.Texts.{Assignment, shape_of}
 use Rattle.witness.specs.Admits.{cut_at_space, names_free, assignment_at}
-use Rattle.witness.specs.Reading.{IsFlagged}
+use Rattle.witness.specs.Fits.{IsFlagged, FramesFit, words_put, RisesAmong, NoneIsSet}
 use Rattle.witness.specs.Judgements.{FrameWords, Words, pairs_of, initial_words, given_words, nodes_of, Violation, violation_from, first_different}
-use Rattle.witness.specs.Fits.{FramesFit, words_put, RisesAmong, NoneIsSet}
 
 -- a run of the model; which states and inputs have a word in the frame that is open; the first state whose initial word is not that of its init line; how many
 -- frames are closed, the first constraint that did not hold in them, and which bad properties rose

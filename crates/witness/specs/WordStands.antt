@@ -1,16 +1,22 @@
--- What is kept of the admitted lines of a witness over a model, and of the bytes of the next.
-use Rattle.std.specs.Prelude.{◌≡◌, ℕ, Bool, List, [], None, Result, Ok, Err, length, map}
+-- What a judge of witnesses over a model holds, and which texts it stands for.
+use Rattle.std.specs.Prelude.{◌≡◌, ℕ, ◌≤◌, ◌^◌, Bool, true, false, List, [], Option, Some, None, Result, Ok, Err, length, map}
+use Rattle.base.specs.Lines.{whole_lines, unfinished}
 use Rattle.btor2.specs.declared.item.Item.{Item}
 use Rattle.witness.specs.declared.why.Why.{Why}
+use Rattle.witness.specs.declared.judgement.Judgement.{Judgement}
+use Rattle.witness.specs.declared.judgement.Judgement.TheVariants as judgement
 use Rattle.witness.specs.declared.place.Place.{Place as CodePlace}
 use Rattle.witness.specs.declared.place.Place.TheVariants as code
 use Rattle.witness.specs.declared.word_claims.ClaimScan.{ClaimScan}
+use Rattle.witness.specs.declared.word_line.LineScan.{LineScan}
 use Rattle.witness.specs.Texts.{has_free, shape_of}
 use Rattle.witness.specs.Admits.{Place, AtStatus, AtClaims, AtParts, InStates, InFree, InFrame, AtEnd, Read, admit}
-use Rattle.witness.specs.Judgements.{FrameWords, pairs_of, frame_words}
+use Rattle.witness.specs.Judgements.{FrameWords, pairs_of, frame_words, Violation, makes_no_claim}
 use Rattle.witness.specs.Fits.{AreClaimed}
 use Rattle.witness.specs.WordClaims.{AreClaims}
-use Rattle.witness.specs.WordPlays.{WordPlay, Plays, nothing_given}
+use Rattle.witness.specs.WordScans.{IsScanned}
+use Rattle.witness.specs.WordPlays.{WordPlay, Plays, nothing_given, steps_of}
+use Rattle.witness.specs.WordReadings.{nothing_admitted, lines_behind}
 
 -- which line comes next, as the code has it
 abbrev pub place_of : CodePlace → Place
@@ -71,3 +77,55 @@ pub record Reads (items : List Item) (q : WordReader) (r : Read) (line : List �
 abbrev pub GivesLine : List Item → Read → List ℕ → WordReader → Result (Unit {0}) Why → Type 0
 GivesLine items r line q (Ok u) = (next : Read) × ((admit (shape_of items) r line ≡ Ok next) × Reads items q next [])
 GivesLine items r line q (Err w) = admit (shape_of items) r line ≡ Err w
+
+-- the next line is a comment or the status
+abbrev pub is_status : Place → Bool
+is_status AtStatus = true
+is_status _ = false
+
+-- the frames that are closed, and the steps that they took
+pub record Counts (items : List Item) (p : WordPlay) (r : Read) : Type 0 where
+  pub items_are : p.items ≡ items
+  pub frames : p.frames ≡ length r.closed
+  pub steps : p.run.steps ≡ steps_of items (length r.closed)
+
+-- what a judge holds: what is kept of the admitted lines, what the bytes of the line say that has not ended, how many lines are admitted, why the next whole line
+-- was refused, where there was one, and whether the status says that there is no claim
+pub record WordJudge : Type 0 where
+  pub reader : WordReader
+  pub line : LineScan
+  pub admitted : ℕ
+  pub refused : Option Why
+  pub no_claim : Bool
+
+-- it is of these whole lines, and of these bytes behind them
+pub record IsOfLines (items : List Item) (j : WordJudge) (lines : List (List ℕ)) (line : List ℕ) : Type 0 where
+  pub admitted : j.admitted ≡ (lines_behind (shape_of items) nothing_admitted lines).admitted
+  pub refused : j.refused ≡ (lines_behind (shape_of items) nothing_admitted lines).refused
+  pub no_claim : j.no_claim ≡ makes_no_claim 0 lines
+  pub few : j.admitted ≤ 2 ^ 62
+  pub frames : length (lines_behind (shape_of items) nothing_admitted lines).read.closed ≤ j.admitted
+  pub whole : (lines_behind (shape_of items) nothing_admitted lines).read.place ≡ AtEnd → (lines_behind (shape_of items) nothing_admitted lines).read.closed ≡ [] → ⊥
+  pub counts : Counts items j.reader.play (lines_behind (shape_of items) nothing_admitted lines).read
+  pub reads : j.refused ≡ None → Reads items j.reader (lines_behind (shape_of items) nothing_admitted lines).read line
+
+-- it stands for a text
+pub record StandsFor (items : List Item) (j : WordJudge) (text : List ℕ) : Type 0 where
+  pub lines : IsOfLines items j (whole_lines text) (unfinished text)
+  pub line : IsScanned j.line (unfinished text)
+
+-- what is judged by what is kept of all frames, and by the first claim that is not reached, where there is one
+abbrev pub with_unreached : WordPlay → Option ℕ → Judgement
+with_unreached p (Some claim) = judgement.NotReached claim
+with_unreached p None = judgement.Accepted p.frames
+
+abbrev pub with_breach : WordPlay → Option ℕ → Option Violation → Judgement
+with_breach p unreached (Some v) = judgement.Violated v.frame v.constraint
+with_breach p unreached None = with_unreached p unreached
+
+abbrev pub with_differing : WordPlay → Option ℕ → Option ℕ → Judgement
+with_differing p unreached (Some k) = judgement.InitDiffers k
+with_differing p unreached None = with_breach p unreached p.breach
+
+abbrev pub judgement_of : WordPlay → Option ℕ → Judgement
+judgement_of p unreached = with_differing p unreached p.differs

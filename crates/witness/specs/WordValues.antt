@@ -1,7 +1,8 @@
 -- What is kept of the digits of a value of a witness over a model, of which more may follow.
-use Rattle.std.specs.Prelude.{◌≡◌, ℕ, ◌+◌, ◌-◌, ◌*◌, ◌≤◌, ◌^◌, min, Bool, ◌&&◌, ◌||◌, ◌==◌, List, map, length, reverse}
+use Rattle.std.specs.Prelude.{◌≡◌, ℕ, ◌+◌, ◌-◌, ◌*◌, ◌≤◌, ◌^◌, min, Bool, ◌&&◌, ◌||◌, ◌==◌, List, Result, Ok, Err, map, length, reverse}
 use Rattle.std.specs.List.{list_any, list_all}
 use Rattle.base.specs.Word.{word, bit_number}
+use Rattle.witness.specs.declared.why.Why.{Why}
 use Rattle.witness.specs.Admits.{is_value_byte}
 
 pub record ValueScan : Type 0 where
@@ -32,3 +33,8 @@ value_more v byte =
       unknown = v.unknown || (byte == 120);
       word = word_more v.word byte;
     }
+
+-- what a function returned, seen by view, is what reading gives
+abbrev pub Gives : {X Y : Type 0} → (X → Y) → Result X Why → Result Y Why → Type 0
+Gives view (Ok x) read = read ≡ Ok (view x)
+Gives view (Err e) read = read ≡ Err e

@@ -3,25 +3,24 @@ ghost use Rattle.std.specs.Prelude.{◌≡◌, ℕ, ◌&&◌, ◌||◌, List, []
 ghost use Rattle.std.specs.Str.{bytes_eq};
 ghost use Rattle.aiger.specs.Circuit.{Circuit};
 ghost use Rattle.runs.specs.CircuitRun.{circuit_held};
-ghost use Rattle.witness.specs.BitAdmits.{admitted_lines, closed_frames};
+ghost use Rattle.witness.specs.BitAdmits.{admitted_lines, closed_frames, is_done};
 ghost use Rattle.witness.specs.BitJudgements.{BitJudges};
 ghost use Rattle.witness.specs.BitScans.{Scans};
 ghost use Rattle.witness.specs.BitPlays.{steps_of};
-ghost use Rattle.witness.specs.BitStands.{IsOfLines, StandsFor, is_first, last_refusal, judgement_of};
+ghost use Rattle.witness.specs.BitStands.{IsOfLines, StandsFor, is_first, judgement_of, place_of};
 
 use crate::bit_place::BitPlace;
 use crate::bit_play::BitPlay;
 use crate::bit_reader::BitReader;
 use crate::bit_scan::Scan;
 use crate::judgement::Judgement;
+use crate::last_line::{MOST_LINES, last_refusal};
+use crate::verdicts::either;
 use crate::why::Why;
 use aiger::Circuit;
 use runs::NewFault;
 use std::alloc::Global;
 use std::marker::Model;
-
-/// The most lines of a witness.
-const MOST_LINES: u64 = 1 << 62;
 
 /// A judge of witnesses of a circuit, which it borrows: it is fed a text piece by piece, and keeps none of it. Beside the
 /// values of one run of the circuit it holds a fixed number of words; neither feeding nor finishing takes memory or
@@ -60,38 +59,17 @@ fn says_no_claim(place: BitPlace, line: Scan) -> bool
     }
 }
 
-/// Whether one of two holds.
-fn either(one: bool, other: bool) -> bool
-    ensures { result ≡ (one || other) }
-{
-    one || other
-}
-
-/// Why the line is refused that follows so many whole lines and does not end, if it is.
-fn last_refusal(place: BitPlace, admitted: u64, empty: bool) -> Option<Why>
-    ensures { result ≡ last_refusal place admitted empty }
+/// Whether the last line of a witness is admitted.
+fn has_ended(place: BitPlace) -> bool
+    ensures { result ≡ is_done (place_of place) }
 {
     match place {
-        BitPlace::Done => {
-            if empty {
-                None
-            } else if admitted >= MOST_LINES {
-                Some(Why::TooLong)
-            } else {
-                Some(Why::Trailing)
-            }
-        }
+        BitPlace::Done => true,
         BitPlace::Header
         | BitPlace::Claim
         | BitPlace::Initial
         | BitPlace::First
-        | BitPlace::Later => {
-            if admitted >= MOST_LINES && !empty {
-                Some(Why::TooLong)
-            } else {
-                Some(Why::Truncated)
-            }
-        }
+        | BitPlace::Later => false,
     }
 }
 
@@ -212,7 +190,8 @@ impl<'a> BitJudge<'a> {
         if let Some(why) = self.refused {
             return Judgement::Malformed { line, why };
         }
-        if let Some(why) = last_refusal(self.reader.place(), self.admitted, self.line.is_empty()) {
+        let ended = has_ended(self.reader.place());
+        if let Some(why) = last_refusal(ended, self.admitted, self.line.is_empty()) {
             return Judgement::Malformed { line, why };
         }
         judgement_of(self.reader.play(), self.reader.claim())

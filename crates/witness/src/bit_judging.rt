@@ -15,7 +15,7 @@ use base::{DeviceFault, Source};
 use std::alloc::Global;
 
 /// How many bytes one call of a source is asked for.
-const CHUNK: usize = 65536;
+pub(crate) const CHUNK: usize = 65536;
 
 /// Reads a source to its end and feeds a judge with all that it gives.
 ///

@@ -8,7 +8,7 @@ ghost use Rattle.witness.specs.BitScans.{is_one_bit};
 ghost use Rattle.witness.specs.BitJudgements.{differs_from_reset, first_bit_violated};
 ghost use Rattle.witness.specs.BitPlays.{Begins, Plays, play_start, differing, latch_given};
 
-use crate::verdicts::{Breach, earlier};
+use crate::verdicts::{Breach, earlier, either};
 use aiger::{Circuit, Reset};
 use runs::{BitRun, NewFault};
 use std::alloc::Global;
@@ -58,13 +58,6 @@ fn differing(found: Option<u64>, k: u64, differs: bool) -> Option<u64>
         Some(first) => Some(first),
         None => { if differs { Some(k) } else { None } }
     }
-}
-
-/// Whether one of two holds.
-fn either(one: bool, other: bool) -> bool
-    ensures { result ≡ (one || other) }
-{
-    one || other
 }
 
 /// The first constraint that does not hold.

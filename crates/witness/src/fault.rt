@@ -1,29 +1,8 @@
-//! Why a text gives no words, or is not judged.
+//! Why a text is not judged.
 ghost use Rattle.std.specs.Prelude.{◌≡◌};
 ghost use Rattle.witness.specs.Answers.{judge_number, judge_name};
 
-use crate::why::Why;
 use thiserror::Error;
-
-/// Why a line was not taken.
-#[derive(Clone, Copy)]
-pub(crate) enum Stop {
-    /// It is refused.
-    Refused(Why),
-    /// A growth was refused.
-    NoMemory,
-}
-
-/// Why no witness was read.
-#[derive(Clone, Copy, Debug, PartialEq, Eq, Error)]
-pub enum WitnessFault {
-    /// The text is no witness: this line, counted from 1, is the first that is refused, for this.
-    #[error("line {line}: {why}")]
-    Malformed { line: u64, why: Why },
-    /// A growth was refused.
-    #[error("no memory")]
-    NoMemory,
-}
 
 /// Why a text is not judged.
 #[derive(Clone, Copy, Debug, PartialEq, Eq, Error)]

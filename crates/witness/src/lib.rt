@@ -1,7 +1,6 @@
 //! Judges of witnesses: texts that claim that bad properties rise.
 #![tactic(auto)]
 
-mod assignment;
 mod bit_judge;
 mod bit_judging;
 pub mod bit_laws;
@@ -9,36 +8,29 @@ mod bit_place;
 mod bit_play;
 mod bit_reader;
 mod bit_scan;
-mod claims;
 mod fault;
-mod flags;
 mod judgement;
 mod judging;
+mod last_line;
 pub mod laws;
-mod line;
-mod open_part;
 mod place;
-mod reading;
-mod shape;
 mod verdicts;
 mod why;
 mod word_assign;
 mod word_claims;
 mod word_fields;
+mod word_judge;
 mod word_line;
 mod word_name;
 mod word_play;
 mod word_reader;
 mod word_status;
 mod word_value;
-mod words;
 
 pub use bit_judge::BitJudge;
 pub use bit_judging::judge_bits;
-pub use fault::{JudgeFault, WitnessFault};
+pub use fault::JudgeFault;
 pub use judgement::Judgement;
 pub use judging::judge_words;
-pub use reading::{claims_nothing, read_words};
-pub use shape::Shape;
 pub use why::Why;
-pub use words::{FrameWords, Given, Part, Words};
+pub use word_judge::WordJudge;

@@ -2,13 +2,12 @@
 ghost use Rattle.std.specs.Prelude.{◌≡◌, ℕ, ◌<◌, ◌^◌, true, All, List, IfOk, IfSome, Some, is_some, length, slice_index};
 ghost use Rattle.btor2.specs.Lists.{width_at};
 ghost use Rattle.witness.specs.Admits.{cut_at_space};
-ghost use Rattle.witness.specs.Reading.{Gives};
+ghost use Rattle.witness.specs.WordValues.{Gives};
 ghost use Rattle.witness.specs.WordScans.{AreFields};
 ghost use Rattle.witness.specs.WordAssigns.{widths_by, assigned_number, assigned};
 
 use crate::why::Why;
 use crate::word_fields::FieldScan;
-use crate::words::Given;
 use base::Width;
 use btor2::Model;
 
@@ -31,7 +30,7 @@ fn assigned_number(
     given: &[bool],
     index: u64,
     fields: &FieldScan,
-) -> Result<Given, Why>
+) -> Result<(u64, u64), Why>
     requires many { length given.now ≡ length places.now }
     requires there { All (λ k. k < length model.now) places.now }
     requires some { All (λ k. is_some (width_at model.now k) ≡ true) places.now }
@@ -47,7 +46,7 @@ fn assigned_number(
         return Err(Why::IndexTwice);
     }
     match fields.word(width_at(model, places[k])) {
-        Ok(word) => Ok(Given::new(index, word)),
+        Ok(word) => Ok((index, word)),
         Err(why) => Err(why),
     }
 }
@@ -59,7 +58,7 @@ pub(crate) fn assigned(
     places: &[usize],
     given: &[bool],
     fields: &FieldScan,
-) -> Result<Given, Why>
+) -> Result<(u64, u64), Why>
     requires many { length given.now ≡ length places.now }
     requires there { All (λ k. k < length model.now) places.now }
     requires some { All (λ k. is_some (width_at model.now k) ≡ true) places.now }

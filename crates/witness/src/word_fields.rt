@@ -2,7 +2,7 @@
 ghost use Rattle.std.specs.Prelude.{◌≡◌, ℕ, ◌<◌, ◌^◌, List, [], ◌∷◌, ◌++◌, IfOk, Some, None};
 ghost use Rattle.base.specs.Decimals.{number_of};
 ghost use Rattle.witness.specs.Admits.{cut_at_space};
-ghost use Rattle.witness.specs.Reading.{Gives};
+ghost use Rattle.witness.specs.WordValues.{Gives};
 ghost use Rattle.witness.specs.WordScans.{AreFields, word_behind};
 
 use crate::bit_scan::Scan;

@@ -8,7 +8,7 @@ ghost use Rattle.runs.specs.Run.{IsNow, node_count, state_count};
 ghost use Rattle.runs.specs.Refusal.{AnswersNew};
 ghost use Rattle.witness.specs.Judgements.{FrameWords, pairs_of, first_different};
 ghost use Rattle.witness.specs.Texts.{Assignment, widths_of};
-ghost use Rattle.witness.specs.Reading.{Gives};
+ghost use Rattle.witness.specs.WordValues.{Gives};
 ghost use Rattle.witness.specs.Fits.{NoneIsSet};
 ghost use Rattle.witness.specs.WordScans.{AreFields};
 ghost use Rattle.witness.specs.WordAssigns.{assigned};
@@ -18,7 +18,6 @@ use crate::verdicts::{Breach, earlier, first_different, first_violated, note_ris
 use crate::why::Why;
 use crate::word_assign::assigned;
 use crate::word_fields::FieldScan;
-use crate::words::Given;
 use btor2::Model;
 use runs::{NewFault, WordRun};
 use std::alloc::{AllocError, Global};
@@ -129,7 +128,7 @@ impl<'a> WordPlay<'a> {
     }
 
     /// The word that a line gives to a state in the open part, or why it gives none.
-    fn state_word(&self, fields: &FieldScan) -> Result<Given, Why>
+    fn state_word(&self, fields: &FieldScan) -> Result<(u64, u64), Why>
         ensures is { (line : List ℕ) → AreFields fields.now line → Gives (λ p. p) result (assigned (widths_of is_state self.now.items) self.now.states_given line) }
         ensures inside { IfOk result (λ p. p.0 < length (places is_state 0 self.now.items)) }
         ensures fits { IfOk result (λ p. IfSome (width_at self.now.items (slice_index (places is_state 0 self.now.items) p.0)) (λ n. p.1 < 2 ^ n)) }
@@ -144,7 +143,7 @@ impl<'a> WordPlay<'a> {
     }
 
     /// The word that a line gives to an input in the open frame, or why it gives none.
-    fn input_word(&self, fields: &FieldScan) -> Result<Given, Why>
+    fn input_word(&self, fields: &FieldScan) -> Result<(u64, u64), Why>
         ensures is { (line : List ℕ) → AreFields fields.now line → Gives (λ p. p) result (assigned (widths_of is_input self.now.items) self.now.inputs_given line) }
         ensures inside { IfOk result (λ p. p.0 < length (places is_input 0 self.now.items)) }
         ensures fits { IfOk result (λ p. IfSome (width_at self.now.items (slice_index (places is_input 0 self.now.items) p.0)) (λ n. p.1 < 2 ^ n)) }
@@ -187,7 +186,7 @@ impl<'a> WordPlay<'a> {
         let _items = self.model.items();
         match self.state_word(fields) {
             Ok(given) => {
-                self.give_state(given.index() as usize, given.word());
+                self.give_state(given.0 as usize, given.1);
                 Ok(())
             }
             Err(why) => Err(why),
@@ -203,7 +202,7 @@ impl<'a> WordPlay<'a> {
         let _items = self.model.items();
         match self.input_word(fields) {
             Ok(given) => {
-                self.give_input(given.index() as usize, given.word());
+                self.give_input(given.0 as usize, given.1);
                 Ok(())
             }
             Err(why) => Err(why),
@@ -259,7 +258,8 @@ impl<'a> WordPlay<'a> {
 
     /// For each bad property whether it rose in a closed frame.
     pub(crate) fn rose(&self) -> &[bool]
-        ensures { result.now ≡ self.now.rose }
+        ensures is { result.now ≡ self.now.rose }
+        ensures many { length result.now ≡ length (places is_bad 0 self.now.items) }
     {
         self.rose.as_slice()
     }

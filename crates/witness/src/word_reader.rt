@@ -1,16 +1,21 @@
 //! The lines of a witness over a model, admitted one after the other.
-ghost use Rattle.std.specs.Prelude.{◌≡◌, ℕ, ◌&&◌, ◌<◌, ◌-◌, ◌^◌, List, [], ◌∷◌, ◌++◌, IfOk, OnErr, length};
+ghost use Rattle.std.specs.Prelude.{◌≡◌, ℕ, ◌&&◌, ◌<◌, ◌-◌, ◌^◌, Bool, List, [], ◌∷◌, ◌++◌, IfOk, OnErr, length};
 ghost use Rattle.btor2.specs.declared.item.Item.{Item};
+ghost use Rattle.btor2.specs.Items.{is_bad};
 ghost use Rattle.btor2.specs.Lists.{first_init_without_next};
+ghost use Rattle.btor2.specs.Trace.{Frame};
 ghost use Rattle.runs.specs.Refusal.{AnswersNew};
 ghost use Rattle.witness.specs.Texts.{has_free, shape_of};
 ghost use Rattle.witness.specs.Admits.{Read, nothing_read, opens_states, names_free, cut_at_space};
 ghost use Rattle.base.specs.Decimals.{number_of};
+ghost use Rattle.witness.specs.Judgements.{nodes_of, unreached_from};
+ghost use Rattle.witness.specs.Fits.{NoneIsSet, RisesAmong, AreClaimed};
 ghost use Rattle.witness.specs.declared.place.Place.TheVariants as place;
 ghost use Rattle.witness.specs.WordScans.{AreFields, IsScanned};
 ghost use Rattle.witness.specs.WordStands.{Reads, GivesLine};
 
 use crate::place::Place;
+use crate::verdicts::first_unreached;
 use crate::why::Why;
 use crate::word_claims::ClaimScan;
 use crate::word_fields::FieldScan;
@@ -88,6 +93,13 @@ impl<'a> WordReader<'a> {
         ensures { result ≡ self.now.place }
     {
         self.place
+    }
+
+    /// The first bad property that is claimed and rose in no closed frame.
+    pub(crate) fn unreached(&self) -> Option<u64>
+        ensures { (claims : List ℕ) (fs : List Frame) (none : List Bool) → AreClaimed self.now.claimed claims → NoneIsSet none → RisesAmong (nodes_of is_bad self.now.play.items) fs none self.now.play.rose → result ≡ unreached_from claims fs 0 (nodes_of is_bad self.now.play.items) }
+    {
+        first_unreached(self.claimed.as_slice(), self.play.rose())
     }
 
     /// Takes a byte of the next line.

@@ -1,8 +1,7 @@
 //! The value of an assignment, byte by byte.
 ghost use Rattle.std.specs.Prelude.{◌≡◌, ℕ, ◌<◌, ◌≤◌, ◌^◌, ◌&&◌, ◌==◌, List, [], ◌∷◌, ◌++◌, IfOk, Ok, Err};
 ghost use Rattle.witness.specs.Admits.{is_value_byte, value_of};
-ghost use Rattle.witness.specs.Reading.{Gives};
-ghost use Rattle.witness.specs.WordValues.{Values, word_more, value_more};
+ghost use Rattle.witness.specs.WordValues.{Gives, Values, word_more, value_more};
 
 use crate::why::Why;
 use base::Width;

@@ -1,7 +1,7 @@
 use Rattle.std.proofs.Common.{List, ℕ, []}
 use Rattle.witness.specs.BitJudgements.{BitJudges}
 use Rattle.witness.specs.BitStands.{StandsFor}
-use Rattle.witness.proofs.BitFeedLemmas.{if_some_then}
+use Rattle.witness.proofs.FeedLemmas.{if_some_then}
 use Rattle.witness.proofs.bit_judging.judge_bits.Goals as goal
 
 pub returns-in-Ok-feed_all-clause-judged : goal.returns-in-Ok-feed_all-clause-judged

@@ -1,5 +1,5 @@
 use Rattle.std.proofs.Common.{◌≡◌, ℕ, ◌<◌, false, length}
-use Rattle.witness.specs.Reading.{is_set}
+use Rattle.witness.specs.Fits.{is_set}
 use Rattle.witness.proofs.word_play.clear.Given as goal
 
 -- those before are taken back

@@ -1,7 +1,7 @@
 use Rattle.std.proofs.Common.{◌≡◌, ℕ, Bool, List, ap, subst, ◌∙◌}
 use Rattle.btor2.specs.Items.{is_state}
 use Rattle.witness.specs.Texts.{widths_of}
-use Rattle.witness.specs.Reading.{Gives}
+use Rattle.witness.specs.WordValues.{Gives}
 use Rattle.witness.specs.WordAssigns.{widths_by, assigned}
 use Rattle.witness.specs.WordPlays.{WordPlay}
 use Rattle.witness.proofs.ShapeLemmas.{states_have_bits, each_has_width, widths_at_places}

@@ -1,0 +1,383 @@
+-- What a judge of witnesses over a model holds, line by line and byte by byte.
+use Rattle.std.proofs.Common.{◌≡◌, ℕ, suc, ◌+◌, ◌<◌, ◌≤◌, nat_le, ◌^◌, Bool, true, false, not, cond, ◌&&◌, ◌||◌, List, [], ◌∷◌, ◌++◌, Some, None, is_some, Result, Ok, Err, codes, length, map, length-append, refl, sym, ap, ap₂, subst, ◌∙◌, arith, inl, inr}
+use Rattle.std.specs.Str.{bytes_eq}
+use Rattle.std.proofs.lemmas.Bool.{cases_Bool, le-leb, leb-true, eqb-true, false_from_ne_true}
+use Rattle.std.proofs.lemmas.List.{length-map}
+use Rattle.base.specs.Lines.{whole_lines, unfinished}
+use Rattle.base.proofs.DecimalLemmas.{chosen}
+use Rattle.btor2.specs.declared.item.Item.{Item}
+use Rattle.witness.specs.declared.why.Why.{Why}
+use Rattle.witness.specs.declared.why.Why.TheVariants as why
+use Rattle.witness.specs.declared.word_line.LineScan.{LineScan}
+use Rattle.witness.specs.Texts.{Shape, Assignment, Parts, has_free, is_comment, shape_of, most_lines}
+use Rattle.witness.specs.Admits.{claims_at, assignment_at, free_assignment_at, Place, AtStatus, AtClaims, AtParts, InStates, InFree, InFrame, AtEnd, Read, nothing_read, states_closed, frame_closed, opens_frame, opens_states, begins_part, after_claims, after_assignment, in_part, admit_at, admit}
+use Rattle.witness.specs.Judgements.{frame_words, makes_no_claim}
+use Rattle.witness.specs.WordScans.{IsScanned}
+use Rattle.witness.specs.WordPlays.{WordPlay, steps_of}
+use Rattle.witness.specs.WordReadings.{Reading, nothing_admitted, one_more_line, next_line_of, lines_behind}
+use Rattle.witness.specs.WordStands.{place_of, WordReader, Reads, GivesLine, is_status, Counts, WordJudge, IsOfLines, StandsFor}
+use Rattle.witness.proofs.WordReadingLemmas.{stays, lines_append}
+use Rattle.witness.proofs.BitJudgeLemmas.{or-false, whole_lines-byte, unfinished-byte, whole_lines-end, unfinished-end}
+
+-- ---- what an admitted line changes
+
+record Moves (r next : Read) : Type 0 where
+  status : is_status next.place ≡ true → is_status r.place ≡ true
+  frames : length next.closed ≤ length r.closed + 1
+  whole : next.place ≡ AtEnd → next.closed ≡ [] → ⊥
+
+none_behind : (frames : List Parts) (last : Parts) → frames ++ last ∷ [] ≡ [] → ⊥
+none_behind [] last e = cc
+none_behind (x ∷ frames) last e = cc
+
+-- to another place, with the same frames
+moves_to : (r next : Read) (at : Place) → next.place ≡ at → is_status at ≡ false → (at ≡ AtEnd → ⊥) → next.closed ≡ r.closed → Moves r next
+moves_to r next at there other inside same =
+    record {
+      status = λ e. absurd (cc (e, ap is_status there, other));
+      frames = omega (arith, ap length same);
+      whole = λ e none. inside (sym there ∙ e);
+    }
+
+-- at the same place
+stays_at : (r next : Read) → (r.place ≡ AtEnd → ⊥) → next.place ≡ r.place → next.closed ≡ r.closed → Moves r next
+stays_at r next inside there same =
+    record {
+      status = λ e. sym (ap is_status there) ∙ e;
+      frames = omega (arith, ap length same);
+      whole = λ e none. inside (sym there ∙ e);
+    }
+
+claims_move : (r next : Read) (o : Result (List ℕ) Why) → after_claims r o ≡ Ok next → Moves r next
+claims_move r next (Ok claims) h =
+    let e : record r { place = AtParts; claims = claims } ≡ next = cc in
+    moves_to r next AtParts (ap (λ (x : Read). x.place) (sym e)) refl (λ e. cc) (ap (λ (x : Read). x.closed) (sym e))
+claims_move r next (Err w) h = absurd cc
+
+assigned_moves : (r next : Read) (o : Result (List Assignment) Why) → (r.place ≡ AtEnd → ⊥) → after_assignment r o ≡ Ok next → Moves r next
+assigned_moves r next (Ok list) inside h =
+    let e : record r { open_part = list } ≡ next = cc in
+    stays_at r next inside (ap (λ (x : Read). x.place) (sym e)) (ap (λ (x : Read). x.closed) (sym e))
+assigned_moves r next (Err w) inside h = absurd cc
+
+part_moves : (r next : Read) (line : List ℕ) (o : Result (List Assignment) Why) → (r.place ≡ AtEnd → ⊥) → in_part r line o ≡ Ok next → Moves r next
+part_moves r next line o inside h =
+    elim (chosen (begins_part line) (Err why.FrameOrder) (after_assignment r o) (Ok next) h) [
+      | inl e ↦ absurd (cc (e.1))
+      | inr e ↦ assigned_moves r next o inside e.1
+    ]
+
+abbrev says : Read → Result Read Why
+says r = Ok r
+
+states_move : (r next : Read) → says (states_closed r) ≡ Ok next → Moves r next
+states_move r next h =
+    let e : states_closed r ≡ next = cc in
+    moves_to r next InFrame (ap (λ (x : Read). x.place) (sym e)) refl (λ e. cc) (ap (λ (x : Read). x.closed) (sym e))
+
+frame_moves : (r next : Read) (at : Place) → is_status at ≡ false → says (frame_closed at r) ≡ Ok next → Moves r next
+frame_moves r next at other h =
+    let e : frame_closed at r ≡ next = cc in
+    let last : Parts = record { states = r.states; inputs = r.open_part } in
+    subst (Moves r) e (record { status = λ s. absurd (cc (s, other)); frames = omega (arith, length-append r.closed (last ∷ [])); whole = λ there. none_behind r.closed last })
+
+line_moves : (shape : Shape) (r next : Read) (line : List ℕ) (at : Place) → r.place ≡ at → admit_at shape r line at ≡ Ok next → Moves r next
+line_moves shape r next line AtStatus at h =
+    elim (chosen (is_comment line) (Ok r) (cond (bytes_eq line (codes "sat")) (Ok (record r { place = AtClaims })) (Err why.BadHeader)) (Ok next) h) [
+      | inl e ↦
+          let is : r ≡ next = cc (e.1) in
+          stays_at r next (λ end. cc (at, end)) (ap (λ (x : Read). x.place) (sym is)) (ap (λ (x : Read). x.closed) (sym is))
+      | inr e ↦
+          elim (chosen (bytes_eq line (codes "sat")) (Ok (record r { place = AtClaims })) (Err why.BadHeader) (Ok next) e.1) [
+            | inl d ↦
+                let is : record r { place = AtClaims } ≡ next = cc (d.1) in
+                moves_to r next AtClaims (ap (λ (x : Read). x.place) (sym is)) refl (λ e. cc) (ap (λ (x : Read). x.closed) (sym is))
+            | inr d ↦ absurd (cc (d.1))
+          ]
+    ]
+line_moves shape r next line AtClaims at h = claims_move r next (claims_at shape.bads line) h
+line_moves shape r next line AtParts at h =
+    elim (chosen (opens_states 0 line) (Ok (record r { place = InStates })) (cond (opens_frame 0 line) (Ok (record r { place = InFrame })) (Err why.FrameOrder)) (Ok next) h) [
+      | inl e ↦
+          let is : record r { place = InStates } ≡ next = cc (e.1) in
+          moves_to r next InStates (ap (λ (x : Read). x.place) (sym is)) refl (λ e. cc) (ap (λ (x : Read). x.closed) (sym is))
+      | inr e ↦
+          elim (chosen (opens_frame 0 line) (Ok (record r { place = InFrame })) (Err why.FrameOrder) (Ok next) e.1) [
+            | inl d ↦
+                let is : record r { place = InFrame } ≡ next = cc (d.1) in
+                moves_to r next InFrame (ap (λ (x : Read). x.place) (sym is)) refl (λ e. cc) (ap (λ (x : Read). x.closed) (sym is))
+            | inr d ↦ absurd (cc (d.1))
+          ]
+    ]
+line_moves shape r next line InStates at h =
+    elim (chosen (opens_frame 0 line) (Ok (states_closed r)) (in_part r line (assignment_at shape.states r.open_part line)) (Ok next) h) [
+      | inl e ↦ states_move r next e.1
+      | inr e ↦ part_moves r next line (assignment_at shape.states r.open_part line) (λ end. cc (at, end)) e.1
+    ]
+line_moves shape r next line InFree at h =
+    elim (chosen (opens_frame (length r.closed) line) (Ok (states_closed r)) (in_part r line (free_assignment_at shape r.open_part line)) (Ok next) h) [
+      | inl e ↦ states_move r next e.1
+      | inr e ↦ part_moves r next line (free_assignment_at shape r.open_part line) (λ end. cc (at, end)) e.1
+    ]
+line_moves shape r next line InFrame at h =
+    let inputs : Result Read Why = in_part r line (assignment_at shape.inputs r.open_part line) in
+    let ends : Result Read Why = cond (bytes_eq line (codes ".")) (Ok (frame_closed AtEnd r)) inputs in
+    elim (chosen (opens_frame (suc (length r.closed)) line) (Ok (frame_closed InFrame r)) (cond (opens_states (suc (length r.closed)) line && has_free shape) (Ok (frame_closed InFree r)) ends) (Ok next) h) [
+      | inl e ↦ frame_moves r next InFrame refl e.1
+      | inr e ↦
+          elim (chosen (opens_states (suc (length r.closed)) line && has_free shape) (Ok (frame_closed InFree r)) ends (Ok next) e.1) [
+            | inl d ↦ frame_moves r next InFree refl d.1
+            | inr d ↦
+                elim (chosen (bytes_eq line (codes ".")) (Ok (frame_closed AtEnd r)) inputs (Ok next) d.1) [
+                  | inl f ↦ frame_moves r next AtEnd refl f.1
+                  | inr f ↦ part_moves r next line (assignment_at shape.inputs r.open_part line) (λ end. cc (at, end)) f.1
+                ]
+          ]
+    ]
+line_moves shape r next line AtEnd at h = absurd cc
+
+admitted_moves : (shape : Shape) (r next : Read) (line : List ℕ) → admit shape r line ≡ Ok next → Moves r next
+unfolding admit
+admitted_moves shape r next line h = line_moves shape r next line r.place refl h
+
+-- ---- whether there is a claim
+
+abbrev says_none : List ℕ → Bool
+says_none line = bytes_eq line (codes "unsat") || bytes_eq line (codes "unknown")
+
+-- the next line may be the status
+abbrev awaits : Reading → Bool
+awaits g = not (is_some g.refused) && (not (nat_le most_lines g.admitted) && is_status g.read.place)
+
+abbrev so_far : ℕ → Read → Reading
+so_far n r = record { admitted = n; read = r; refused = None }
+
+is_awaited : (at : Place) → is_status at ≡ true → at ≡ AtStatus
+is_awaited AtStatus h = refl
+is_awaited _ h = absurd cc
+
+-- a comment says nothing of a claim
+silent : (line : List ℕ) → is_comment line ≡ true → says_none line ≡ false
+silent [] h = absurd cc
+silent (b ∷ bs) h = subst (λ (x : ℕ). says_none (x ∷ bs) ≡ false) (sym (eqb-true b 59 h)) refl
+
+-- behind the status none is awaited
+moved_by : (shape : Shape) (n : ℕ) (r : Read) (lines : List (List ℕ)) (o : Result Read Why) → ((next : Read) → o ≡ Ok next → is_status next.place ≡ false)
+    → ((next : Read) → is_status next.place ≡ false → awaits (lines_behind shape (so_far (n + 1) next) lines) ≡ false) → awaits (lines_behind shape (one_more_line (so_far n r) o) lines) ≡ false
+moved_by shape n r lines (Ok next) moved rest = rest next (moved next refl)
+moved_by shape n r lines (Err w) moved rest = ap awaits (stays shape n r w lines)
+
+none_awaited : (n : ℕ) (r : Read) → is_status r.place ≡ false → awaits (so_far n r) ≡ false
+none_awaited n r e = elim (nat_le most_lines n) as (λ b. (not b && is_status r.place) ≡ false) [ true ↦ refl | false ↦ e ]
+
+moved : (shape : Shape) (n : ℕ) (r : Read) (lines : List (List ℕ)) → is_status r.place ≡ false → awaits (lines_behind shape (so_far n r) lines) ≡ false
+moved shape n r [] e = none_awaited n r e
+moved shape n r (line ∷ lines) e =
+    elim (nat_le most_lines n) as (λ b. awaits (lines_behind shape (cond b (record { admitted = n; read = r; refused = Some why.TooLong }) (one_more_line (so_far n r) (admit shape r line))) lines) ≡ false) [
+      | true ↦ ap awaits (stays shape n r why.TooLong lines)
+      | false ↦
+          moved_by shape n r lines (admit shape r line)
+          (λ next a. false_from_ne_true (is_status next.place) (λ s. absurd (cc ((admitted_moves shape r next line a).status s, e))))
+          (λ next s. moved shape (n + 1) next lines s)
+    ]
+
+-- a first line that is no comment
+status_moves : (shape : Shape) (r next : Read) (line : List ℕ) → r.place ≡ AtStatus → is_comment line ≡ false → admit shape r line ≡ Ok next → is_status next.place ≡ false
+unfolding admit
+status_moves shape r next line at other h =
+    let said : cond (bytes_eq line (codes "sat")) (Ok (record r { place = AtClaims })) (Err why.BadHeader) ≡ Ok next = sym (rw (at, other) refl) ∙ h in
+    elim (chosen (bytes_eq line (codes "sat")) (Ok (record r { place = AtClaims })) (Err why.BadHeader) (Ok next) said) [
+      | inl d ↦
+          let is : record r { place = AtClaims } ≡ next = cc (d.1) in
+          ap (λ (x : Read). is_status x.place) (sym is)
+      | inr d ↦ absurd (cc (d.1))
+    ]
+
+comment_stays : (shape : Shape) (r : Read) (line : List ℕ) → r.place ≡ AtStatus → is_comment line ≡ true → admit shape r line ≡ Ok r
+unfolding admit
+comment_stays shape r line at is = rw (at, is) refl
+
+-- whether there is a claim, behind a line more
+claim_more : (shape : Shape) (n : ℕ) (r : Read) (lines : List (List ℕ)) (line : List ℕ) → is_status r.place ≡ true
+    → makes_no_claim n (lines ++ line ∷ []) ≡ (makes_no_claim n lines || (awaits (lines_behind shape (so_far n r) lines) && says_none line))
+claim_more shape n r [] line at =
+    rw at (elim (nat_le most_lines n) as (λ b. cond b false (cond (is_comment line) false (says_none line)) ≡ ((not b && true) && says_none line)) [
+      | true ↦ refl
+      | false ↦
+          elim (cases_Bool (is_comment line)) [
+            | inl e ↦ rw e (sym (silent line e))
+            | inr e ↦ rw e refl
+          ]
+    ])
+claim_more shape n r (l ∷ lines) line at =
+    elim (nat_le most_lines n) as (λ b. cond b false (cond (is_comment l) (makes_no_claim (n + 1) (lines ++ line ∷ [])) (says_none l))
+    ≡ (cond b false (cond (is_comment l) (makes_no_claim (n + 1) lines) (says_none l)) || (awaits (lines_behind shape (cond b (record { admitted = n; read = r; refused = Some why.TooLong }) (one_more_line (so_far n r) (admit shape r l))) lines) && says_none line))) [
+      | true ↦ sym (ap (λ (g : Reading). awaits g && says_none line) (stays shape n r why.TooLong lines))
+      | false ↦
+          elim (cases_Bool (is_comment l)) [
+            | inl e ↦ rw (e, comment_stays shape r l (is_awaited r.place at) e) (claim_more shape (n + 1) r lines line at)
+            | inr e ↦
+                let none : awaits (lines_behind shape (one_more_line (so_far n r) (admit shape r l)) lines) ≡ false =
+                moved_by shape n r lines (admit shape r l) (λ next a. status_moves shape r next l (is_awaited r.place at) e a) (λ next s. moved shape (n + 1) next lines s) in
+                rw (e, none) (sym (or-false (says_none l)))
+          ]
+    ]
+
+-- ---- what is held behind a line
+
+pub counts_of : (items : List Item) (q : WordReader) (r : Read) (line : List ℕ) → Reads items q r line → Counts items q.play r
+counts_of items q r line reads =
+    let many : length (map frame_words r.closed) ≡ length r.closed = length-map r.closed frame_words in
+    record { items_are = reads.play.items_are; frames = reads.play.count ∙ many; steps = reads.play.steps ∙ ap (steps_of items) many }
+
+module _ (items : List Item) (lines : List (List ℕ)) (line : List ℕ) (j : WordJudge) (is : IsOfLines items j lines line) where
+  abbrev now : Reading
+  now = lines_behind (shape_of items) nothing_admitted lines
+
+  claim_with : (awaited : Bool) → awaits now ≡ awaited → (j.no_claim || (awaited && says_none line)) ≡ makes_no_claim 0 (lines ++ line ∷ [])
+  claim_with awaited e =
+      ap₂ (λ (b c : Bool). b || (c && says_none line)) is.no_claim (sym e) ∙ sym (claim_more (shape_of items) 0 nothing_read lines line refl)
+
+  claim_stays : awaits now ≡ false → j.no_claim ≡ makes_no_claim 0 (lines ++ line ∷ [])
+  claim_stays e = sym (or-false j.no_claim) ∙ claim_with false e
+
+  -- it is refused
+  refused_then : (q : WordReader) (w : Why) (no_claim : Bool) → next_line_of (shape_of items) now line now.refused ≡ record now { refused = Some w } → no_claim ≡ makes_no_claim 0 (lines ++ line ∷ []) → q.play ≡ j.reader.play
+      → IsOfLines items (record j { reader = q; refused = Some w; no_claim = no_claim }) (lines ++ line ∷ []) []
+  refused_then q w no_claim next claims same =
+      let g : lines_behind (shape_of items) nothing_admitted (lines ++ line ∷ []) ≡ record now { refused = Some w } = lines_append (shape_of items) nothing_admitted lines (line ∷ []) ∙ next in
+      let counts : Counts items q.play now.read = subst (λ (p : WordPlay). Counts items p now.read) (sym same) is.counts in
+      record {
+        admitted = is.admitted ∙ ap (λ (g : Reading). g.admitted) (sym g);
+        refused = ap (λ (g : Reading). g.refused) (sym g);
+        no_claim = claims;
+        few = is.few;
+        frames = subst (λ (g : Reading). length g.read.closed ≤ j.admitted) (sym g) is.frames;
+        whole = subst (λ (g : Reading). g.read.place ≡ AtEnd → g.read.closed ≡ [] → ⊥) (sym g) is.whole;
+        counts = subst (λ (g : Reading). Counts items q.play g.read) (sym g) counts;
+        reads = λ e. absurd cc;
+      }
+
+  -- behind a refused line nothing changes
+  pub stays_refused : (w : Why) → j.refused ≡ Some w → (s : LineScan) → IsOfLines items (record j { line = s }) (lines ++ line ∷ []) []
+  stays_refused w refused s =
+      let was : now.refused ≡ Some w = sym is.refused ∙ refused in
+      let g : lines_behind (shape_of items) nothing_admitted (lines ++ line ∷ []) ≡ now = lines_append (shape_of items) nothing_admitted lines (line ∷ []) ∙ ap (next_line_of (shape_of items) now line) was in
+      record {
+        admitted = is.admitted ∙ ap (λ (g : Reading). g.admitted) (sym g);
+        refused = is.refused ∙ ap (λ (g : Reading). g.refused) (sym g);
+        no_claim = claim_stays (rw was refl);
+        few = is.few;
+        frames = subst (λ (g : Reading). length g.read.closed ≤ j.admitted) (sym g) is.frames;
+        whole = subst (λ (g : Reading). g.read.place ≡ AtEnd → g.read.closed ≡ [] → ⊥) (sym g) is.whole;
+        counts = subst (λ (g : Reading). Counts items j.reader.play g.read) (sym g) is.counts;
+        reads = λ none. absurd (cc (none, refused));
+      }
+
+  module _ (none : j.refused ≡ None) where
+    not_refused : now.refused ≡ None
+    not_refused = sym is.refused ∙ none
+
+    pub too_many : most_lines ≤ j.admitted → IsOfLines items (record j { refused = Some why.TooLong }) (lines ++ line ∷ []) []
+    too_many many =
+        let full : nat_le most_lines now.admitted ≡ true = ap (nat_le most_lines) (sym is.admitted) ∙ le-leb most_lines j.admitted many in
+        refused_then j.reader why.TooLong j.no_claim (rw (not_refused, full) refl) (claim_stays (rw (not_refused, full) refl)) refl
+
+    module _ (few : j.admitted < most_lines) where
+      room : nat_le most_lines now.admitted ≡ false
+      room = ap (nat_le most_lines) (sym is.admitted) ∙ false_from_ne_true (nat_le most_lines j.admitted) (λ e. absurd (omega (arith, leb-true most_lines j.admitted e, few)))
+
+      claim_now : (no_claim : Bool) → no_claim ≡ (j.no_claim || (is_status (place_of j.reader.place) && says_none line)) → no_claim ≡ makes_no_claim 0 (lines ++ line ∷ [])
+      claim_now no_claim e =
+          e ∙ claim_with (is_status (place_of j.reader.place)) (rw (not_refused, room) (ap is_status (sym (is.reads none).place)))
+
+      pub few_frames : length now.read.closed < 2 ^ 62
+      few_frames = omega (arith, is.frames, few)
+
+      pub not_admitted : (q : WordReader) (w : Why) (no_claim : Bool) → q.play ≡ j.reader.play → admit (shape_of items) now.read line ≡ Err w → no_claim ≡ (j.no_claim || (is_status (place_of j.reader.place) && says_none line))
+          → IsOfLines items (record j { reader = q; refused = Some w; no_claim = no_claim }) (lines ++ line ∷ []) []
+      not_admitted q w no_claim same refuses claims = refused_then q w no_claim (rw (not_refused, room, refuses) refl) (claim_now no_claim claims) same
+
+      pub line_admitted : (q : WordReader) (no_claim : Bool) → GivesLine items now.read line q (Ok tt) → no_claim ≡ (j.no_claim || (is_status (place_of j.reader.place) && says_none line))
+          → IsOfLines items (record j { reader = q; admitted = j.admitted + 1; no_claim = no_claim }) (lines ++ line ∷ []) []
+      line_admitted q no_claim gives claims =
+          let next : Read = gives.0 in
+          let one : next_line_of (shape_of items) now line now.refused ≡ so_far (now.admitted + 1) next = rw (not_refused, room, gives.1.0) refl in
+          let g : lines_behind (shape_of items) nothing_admitted (lines ++ line ∷ []) ≡ so_far (now.admitted + 1) next = lines_append (shape_of items) nothing_admitted lines (line ∷ []) ∙ one in
+          let moves = admitted_moves (shape_of items) now.read next line gives.1.0 in
+          let grown = moves.frames in
+          let before = is.frames in
+          record {
+            admitted = ap (λ (n : ℕ). n + 1) is.admitted ∙ ap (λ (g : Reading). g.admitted) (sym g);
+            refused = none ∙ ap (λ (g : Reading). g.refused) (sym g);
+            no_claim = claim_now no_claim claims;
+            few = omega (arith, few);
+            frames = subst (λ (g : Reading). length g.read.closed ≤ j.admitted + 1) (sym g) (omega (arith, grown, before));
+            whole = subst (λ (g : Reading). g.read.place ≡ AtEnd → g.read.closed ≡ [] → ⊥) (sym g) moves.whole;
+            counts = subst (λ (g : Reading). Counts items q.play g.read) (sym g) (counts_of items q next [] gives.1.1);
+            reads = λ e. subst (λ (g : Reading). Reads items q g.read []) (sym g) gives.1.1;
+          }
+
+-- ---- what is held behind a byte
+
+-- a byte more
+pub byte_more : (items : List Item) (text : List ℕ) (j : WordJudge) (byte : ℕ) (s : LineScan) (q : WordReader) → (byte ≡ 10 → ⊥) → StandsFor items j text → IsScanned s (unfinished text ++ byte ∷ [])
+    → Counts items q.play (lines_behind (shape_of items) nothing_admitted (whole_lines text)).read
+    → (j.refused ≡ None → Reads items q (lines_behind (shape_of items) nothing_admitted (whole_lines text)).read (unfinished text ++ byte ∷ []))
+    → StandsFor items (record j { reader = q; line = s }) (text ++ byte ∷ [])
+byte_more items text j byte s q other stands scans counts reads =
+    let is = stands.lines in
+    let new : WordJudge = record j { reader = q; line = s } in
+    let lines : IsOfLines items new (whole_lines text) (unfinished text ++ byte ∷ []) = record {
+      admitted = is.admitted;
+      refused = is.refused;
+      no_claim = is.no_claim;
+      few = is.few;
+      frames = is.frames;
+      whole = is.whole;
+      counts = counts;
+      reads = reads;
+    } in
+    record {
+      lines = subst (λ (ls : List (List ℕ)). IsOfLines items new ls (unfinished (text ++ byte ∷ []))) (sym (whole_lines-byte text byte other)) (subst (IsOfLines items new (whole_lines text)) (sym (unfinished-byte text byte other)) lines);
+      line = subst (IsScanned s) (sym (unfinished-byte text byte other)) scans;
+    }
+
+-- the end of a line
+pub end_more : (items : List Item) (text : List ℕ) (j : WordJudge) → IsOfLines items j (whole_lines text ++ unfinished text ∷ []) [] → IsScanned j.line [] → StandsFor items j (text ++ 10 ∷ [])
+end_more items text j lines scans =
+    record {
+      lines = subst (λ (ls : List (List ℕ)). IsOfLines items j ls (unfinished (text ++ 10 ∷ []))) (sym (whole_lines-end text)) (subst (IsOfLines items j (whole_lines text ++ unfinished text ∷ [])) (sym (unfinished-end text)) lines);
+      line = subst (IsScanned j.line) (sym (unfinished-end text)) scans;
+    }
+
+-- the line in hand is another field
+pub with_line : (items : List Item) (lines : List (List ℕ)) (line : List ℕ) (j : WordJudge) (s : LineScan) → IsOfLines items j lines line → IsOfLines items (record j { line = s }) lines line
+with_line items lines line j s is =
+    record {
+      admitted = is.admitted;
+      refused = is.refused;
+      no_claim = is.no_claim;
+      few = is.few;
+      frames = is.frames;
+      whole = is.whole;
+      counts = is.counts;
+      reads = is.reads;
+    }
+
+-- before any byte
+pub stands_at_first : (items : List Item) (q : WordReader) (s : LineScan) → Reads items q nothing_read [] → IsScanned s [] → StandsFor items (record { reader = q; line = s; admitted = 0; refused = None; no_claim = false }) []
+stands_at_first items q s reads scans =
+    record {
+      lines = record {
+        admitted = refl;
+        refused = refl;
+        no_claim = refl;
+        few = omega arith;
+        frames = omega arith;
+        whole = λ at none. cc;
+        counts = counts_of items q nothing_read [] reads;
+        reads = λ none. reads;
+      };
+      line = scans;
+    }
