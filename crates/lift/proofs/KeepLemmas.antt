@@ -34,8 +34,8 @@ use Rattle.lift.specs.Lifted.{lifted_lines, lifted_text}
 use Rattle.lift.specs.Verdicts.{IsSameVerdict, KeepsVerdict}
 use Rattle.lift.proofs.LineLemmas.{counted}
 use Rattle.lift.proofs.AssignedLemmas.{lifted_witness}
-use Rattle.lift.proofs.LiftedWitness.{AreGiven, lines_are_witness, lifted_is_witness}
-use Rattle.lift.proofs.LiftedWords.{AreWide, words_lifted, given_again, initial_again, constant_fits, initial_below, initial_fits, given_fit}
+use Rattle.lift.proofs.LiftedWitness.{AreWide, lines_are_witness, lifted_is_witness}
+use Rattle.lift.proofs.LiftedWords.{words_lifted, given_again, initial_again, constant_fits, initial_below, initial_fits, given_fit}
 use Rattle.lift.proofs.DifferLemmas.{latch_belongs, inits_hold}
 use Rattle.lift.proofs.SameLemmas.{same_verdict}
 
@@ -109,10 +109,6 @@ bads_count items c l = sym (length-section_names section.Bad c) ∙ (ap length l
 latches_count : (items : List Item) (c : Circuit) → Lowers items c → length c.latches ≡ carried_width items
 latches_count items c l = sym (length-map c.latches (λ latch. latch.reset)) ∙ (ap length l.resets ∙ length-state_resets items items)
 
-enough : (items : List Item) (frames : List (List Bool)) → AreWide items frames → AreGiven items frames
-enough items [] h = tt
-enough items (bits ∷ more) h = (omega (arith, h.0), enough items more h.1)
-
 -- ---- the lifted witness
 
 module _ (items : List Item) (c : Circuit) (text : List ℕ) (b : BitWitness) (l : Lowers items c) (says : BitSays c text b) where
@@ -133,7 +129,7 @@ module _ (items : List Item) (c : Circuit) (text : List ℕ) (b : BitWitness) (l
       let whole : whole_lines text ≡ bit_witness_lines b = ap whole_lines says.whole ∙ lines_of_text (bit_witness_lines b) (source_lines b small) in
       let all : take (admitted_lines c text) (whole_lines text) ≡ bit_witness_lines b = ap (λ (n : ℕ). take n (whole_lines text)) (all_admitted c text r read) ∙ (take-length (whole_lines text) ∙ whole) in
       ap (λ (lines : List (List ℕ)). text_of_lines (lifted_lines items 0 lines)) all
-      ∙ ap text_of_lines (lines_are_witness items b says.valid.some_frame (omega (arith, initial_wide)) (enough items b.frames frames_wide))
+      ∙ ap text_of_lines (lines_are_witness items b says.valid.some_frame initial_wide frames_wide)
 
   -- it says the lifted witness
   says_lifted : (r : BitRead) → read_bit_text c text ≡ Ok r → length (whole_lines (lifted_text items c text)) ≤ most_lines → Says (shape_of items) (lifted_text items c text) (lifted_witness items b)
@@ -145,7 +141,7 @@ module _ (items : List Item) (c : Circuit) (text : List ℕ) (b : BitWitness) (l
         lines = All-nil IsLine;
         marked = All-nil (λ line. is_comment line ≡ true);
         whole = is;
-        valid = lifted_is_witness items b claim_inside says.valid.some_frame (omega (arith, initial_wide)) (enough items b.frames frames_wide);
+        valid = lifted_is_witness items b claim_inside says.valid.some_frame initial_wide frames_wide;
         few = omega (arith, few, at_least lines, ap (λ (t : List ℕ). length (whole_lines t)) is);
       }
 

@@ -45,27 +45,27 @@ pub wide_carried : (items : List Item) → carried_width items ≡ wide items (t
 wide_carried items = wide_of_kind items is_state (takes_carried items) (is_carried_state items) (λ x. refl) items
 
 -- the bits of a frame are enough for its leaves
-inputs_enough : (items : List Item) (bs : List Bool) → given_width items ≤ length bs → wide items any_leaf (leaves_of is_input items) ≤ length bs
+inputs_enough : (items : List Item) (bs : List Bool) → length bs ≡ given_width items → wide items any_leaf (leaves_of is_input items) ≤ length bs
 inputs_enough items bs h = omega (arith, h, wide_inputs items)
 
-free_enough : (items : List Item) (bs : List Bool) → given_width items ≤ length bs → wide items (takes_free items) (leaves_of is_state items) ≤ length (drop (input_width items) bs)
+free_enough : (items : List Item) (bs : List Bool) → length bs ≡ given_width items → wide items (takes_free items) (leaves_of is_state items) ≤ length (drop (input_width items) bs)
 free_enough items bs h = omega (arith, h, wide_free items, length-drop (input_width items) bs)
 
-carried_enough : (items : List Item) (bs : List Bool) → carried_width items ≤ length bs → wide items (takes_carried items) (leaves_of is_state items) ≤ length bs
+carried_enough : (items : List Item) (bs : List Bool) → length bs ≡ carried_width items → wide items (takes_carried items) (leaves_of is_state items) ≤ length bs
 carried_enough items bs h = omega (arith, h, wide_carried items)
 
-abbrev pub AreGiven : List Item → List (List Bool) → Type 0
-AreGiven items frames = AllByRecursion (λ bs. given_width items ≤ length bs) frames
+abbrev pub AreWide : List Item → List (List Bool) → Type 0
+AreWide items frames = AllByRecursion (λ bs. length bs ≡ given_width items) frames
 
 -- ---- the lines of words
 
-inputs_written : (items : List Item) (bs : List Bool) → given_width items ≤ length bs → assignment_lines (shape_of items).inputs (assigned_inputs items bs) ≡ input_lines items bs
+inputs_written : (items : List Item) (bs : List Bool) → length bs ≡ given_width items → assignment_lines (shape_of items).inputs (assigned_inputs items bs) ≡ input_lines items bs
 inputs_written items bs h = assigned_lines items any_leaf (shape_of items).inputs [] 0 (leaves_of is_input items) bs (refl, refl) (inputs_enough items bs h)
 
-free_written : (items : List Item) (bs : List Bool) → given_width items ≤ length bs → assignment_lines (shape_of items).states (assigned_free items (drop (input_width items) bs)) ≡ free_lines items (drop (input_width items) bs)
+free_written : (items : List Item) (bs : List Bool) → length bs ≡ given_width items → assignment_lines (shape_of items).states (assigned_free items (drop (input_width items) bs)) ≡ free_lines items (drop (input_width items) bs)
 free_written items bs h = assigned_lines items (takes_free items) (shape_of items).states [] 0 (leaves_of is_state items) (drop (input_width items) bs) (refl, refl) (free_enough items bs h)
 
-carried_written : (items : List Item) (bs : List Bool) → carried_width items ≤ length bs → assignment_lines (shape_of items).states (assigned_carried items bs) ≡ carried_lines items bs
+carried_written : (items : List Item) (bs : List Bool) → length bs ≡ carried_width items → assignment_lines (shape_of items).states (assigned_carried items bs) ≡ carried_lines items bs
 carried_written items bs h = assigned_lines items (takes_carried items) (shape_of items).states [] 0 (leaves_of is_state items) bs (refl, refl) (carried_enough items bs h)
 
 -- ---- the lines of frames
@@ -78,7 +78,7 @@ no_end (false ∷ bs) = refl
 frame_is : (items : List Item) (k : ℕ) (bs : List Bool) → piece items (suc (suc (suc k))) (bit_line bs) ≡ frame_piece items k bs
 frame_is items k bs = ap (λ (b : Bool). if b then bit_line bs ∷ [] else frame_piece items k (line_bits (bit_line bs))) (no_end bs) ∙ ap (frame_piece items k) (bits_of_digits bs)
 
-later_states : (items : List Item) (k : ℕ) (bs : List Bool) → given_width items ≤ length bs → states_lines (shape_of items).states (suc k) (later_parts items bs).states ≡ free_piece items (suc k) (drop (input_width items) bs)
+later_states : (items : List Item) (k : ℕ) (bs : List Bool) → length bs ≡ given_width items → states_lines (shape_of items).states (suc k) (later_parts items bs).states ≡ free_piece items (suc k) (drop (input_width items) bs)
 later_states items k bs h = by (has_free (shape_of items))
   where
     by : (b : Bool) → states_lines (shape_of items).states (suc k) (if b then Some (assigned_free items (drop (input_width items) bs)) else None) ≡ (if b then (35 ∷ decimal (suc k)) ∷ free_lines items (drop (input_width items) bs) else [])
@@ -88,7 +88,7 @@ later_states items k bs h = by (has_free (shape_of items))
 regroup : {A : Type 0} (m : A) (s i r e : List A) → (s ++ m ∷ i) ++ (r ++ e) ≡ (s ++ m ∷ (i ++ r)) ++ e
 regroup m s i r e = append_assoc s (m ∷ i) (r ++ e) ∙ (ap (λ l. s ++ m ∷ l) (sym (append_assoc i r e)) ∙ sym (append_assoc s (m ∷ (i ++ r)) e))
 
-later_lines : (items : List Item) (k : ℕ) (frames : List (List Bool)) → AreGiven items frames
+later_lines : (items : List Item) (k : ℕ) (frames : List (List Bool)) → AreWide items frames
     → lifted_lines items (suc (suc (suc (suc k)))) (map bit_line frames ++ codes "." ∷ []) ≡ frame_lines (shape_of items) (suc k) (map (later_parts items) frames) ++ codes "." ∷ []
 later_lines items k [] h = refl
 later_lines items k (bs ∷ more) h =
@@ -106,7 +106,7 @@ hash : (35 ∷ decimal 0) ≡ codes "#0"
 unfolding digits
 hash = refl
 
-first_lines : (items : List Item) (initial bs : List Bool) (more : List (List Bool)) → carried_width items ≤ length initial → AreGiven items (bs ∷ more)
+first_lines : (items : List Item) (initial bs : List Bool) (more : List (List Bool)) → length initial ≡ carried_width items → AreWide items (bs ∷ more)
     → lifted_lines items 2 (bit_line initial ∷ (map bit_line (bs ∷ more) ++ codes "." ∷ [])) ≡ frame_lines (shape_of items) 0 (lifted_frames items initial (bs ∷ more)) ++ codes "." ∷ []
 first_lines items initial bs more few h =
     let shape : Shape = shape_of items in
@@ -121,30 +121,30 @@ first_lines items initial bs more few h =
     ∙ regroup_first (35 ∷ decimal 0) carried free ((64 ∷ decimal 0) ∷ (inputs ++ later)) end
     ∙ ap (λ (l : List (List ℕ)). (((35 ∷ decimal 0) ∷ l) ++ (64 ∷ decimal 0) ∷ (inputs ++ later)) ++ end) (sym (map-append (assignment_line shape.states) (assigned_carried items initial) (assigned_free items (drop (input_width items) bs))))
 
-pub lines_are_witness : (items : List Item) (w : BitWitness) → w.frames ≢ [] → carried_width items ≤ length w.initial → AreGiven items w.frames
+pub lines_are_witness : (items : List Item) (w : BitWitness) → w.frames ≢ [] → length w.initial ≡ carried_width items → AreWide items w.frames
     → lifted_lines items 0 (bit_witness_lines w) ≡ witness_lines (shape_of items) [] (lifted_witness items w)
 lines_are_witness items w some few given = by w.frames some given
   where
-    by : (frames : List (List Bool)) → frames ≢ [] → AreGiven items frames
+    by : (frames : List (List Bool)) → frames ≢ [] → AreWide items frames
         → codes "sat" ∷ (claim w.claim ∷ lifted_lines items 2 (bit_line w.initial ∷ (map bit_line frames ++ codes "." ∷ []))) ≡ codes "sat" ∷ (claim w.claim ∷ (frame_lines (shape_of items) 0 (lifted_frames items w.initial frames) ++ codes "." ∷ []))
     by [] some given = absurd (some refl)
     by (bs ∷ more) some given = ap (λ (l : List (List ℕ)). codes "sat" ∷ (claim w.claim ∷ l)) (first_lines items w.initial bs more few given)
 
 -- ---- it is a witness over the model
 
-inputs_part : (items : List Item) (bs : List Bool) → given_width items ≤ length bs → IsPart (shape_of items).inputs (assigned_inputs items bs)
+inputs_part : (items : List Item) (bs : List Bool) → length bs ≡ given_width items → IsPart (shape_of items).inputs (assigned_inputs items bs)
 inputs_part items bs h =
     record {
       each = All-from_recursion (IsAssignment (shape_of items).inputs) (assigned_inputs items bs) (assigned_fit items any_leaf (shape_of items).inputs [] 0 (leaves_of is_input items) bs (refl, refl) (inputs_enough items bs h));
       distinct = assigned_distinct items any_leaf 0 (leaves_of is_input items) bs;
     }
 
-free_each : (items : List Item) (bs : List Bool) → given_width items ≤ length bs → All (IsAssignment (shape_of items).states) (assigned_free items (drop (input_width items) bs))
+free_each : (items : List Item) (bs : List Bool) → length bs ≡ given_width items → All (IsAssignment (shape_of items).states) (assigned_free items (drop (input_width items) bs))
 free_each items bs h =
     All-from_recursion (IsAssignment (shape_of items).states) (assigned_free items (drop (input_width items) bs))
     (assigned_fit items (takes_free items) (shape_of items).states [] 0 (leaves_of is_state items) (drop (input_width items) bs) (refl, refl) (free_enough items bs h))
 
-free_part : (items : List Item) (bs : List Bool) → given_width items ≤ length bs → IsPart (shape_of items).states (assigned_free items (drop (input_width items) bs))
+free_part : (items : List Item) (bs : List Bool) → length bs ≡ given_width items → IsPart (shape_of items).states (assigned_free items (drop (input_width items) bs))
 free_part items bs h = record { each = free_each items bs h; distinct = assigned_distinct items (takes_free items) 0 (leaves_of is_state items) (drop (input_width items) bs) }
 
 -- no state is free and carried
@@ -155,7 +155,7 @@ apart items initial bs i h =
     (λ e. let free : is_free_index (shape_of items) i ≡ true = flag_of_index (shape_of items).free true (assigned_free items bs) i (free_flags items bs) e in
     absurd (true≢false (sym free ∙ carried)))
 
-first_states : (items : List Item) (initial bs : List Bool) → carried_width items ≤ length initial → given_width items ≤ length bs → IsPart (shape_of items).states (assigned_carried items initial ++ assigned_free items (drop (input_width items) bs))
+first_states : (items : List Item) (initial bs : List Bool) → length initial ≡ carried_width items → length bs ≡ given_width items → IsPart (shape_of items).states (assigned_carried items initial ++ assigned_free items (drop (input_width items) bs))
 first_states items initial bs few h =
     let behind : List Bool = drop (input_width items) bs in
     let carried = All-from_recursion (IsAssignment (shape_of items).states) (assigned_carried items initial) (assigned_fit items (takes_carried items) (shape_of items).states [] 0 (leaves_of is_state items) initial (refl, refl) (carried_enough items initial few)) in
@@ -166,18 +166,18 @@ first_states items initial bs few h =
           ∙ both_distinct (indices (assigned_carried items initial)) (indices (assigned_free items behind)) (assigned_distinct items (takes_carried items) 0 (leaves_of is_state items) initial) (assigned_distinct items (takes_free items) 0 (leaves_of is_state items) behind) (apart items initial behind);
     }
 
-later_is : (items : List Item) (bs : List Bool) → given_width items ≤ length bs → IsLater (shape_of items) (later_parts items bs)
+later_is : (items : List Item) (bs : List Bool) → length bs ≡ given_width items → IsLater (shape_of items) (later_parts items bs)
 later_is items bs h = record { states = by (has_free (shape_of items)) refl; inputs = inputs_part items bs h }
   where
     by : (b : Bool) → has_free (shape_of items) ≡ b → IfSome (if b then Some (assigned_free items (drop (input_width items) bs)) else None) (IsFreePart (shape_of items))
     by true some = record { some = some; part = free_part items bs h; free = All-from_recursion (λ (a : Assignment). is_free_index (shape_of items) a.index ≡ true) (assigned_free items (drop (input_width items) bs)) (free_flags items (drop (input_width items) bs)) }
     by false none = tt
 
-all_later : (items : List Item) (frames : List (List Bool)) → AreGiven items frames → All (IsLater (shape_of items)) (map (later_parts items) frames)
+all_later : (items : List Item) (frames : List (List Bool)) → AreWide items frames → All (IsLater (shape_of items)) (map (later_parts items) frames)
 all_later items [] h = All-nil (IsLater (shape_of items))
 all_later items (bs ∷ more) h = All-cons (IsLater (shape_of items)) (later_parts items bs) (map (later_parts items) more) (later_is items bs h.0) (all_later items more h.1)
 
-pub lifted_is_witness : (items : List Item) (w : BitWitness) → w.claim < (shape_of items).bads → w.frames ≢ [] → carried_width items ≤ length w.initial → AreGiven items w.frames → IsWitness (shape_of items) (lifted_witness items w)
+pub lifted_is_witness : (items : List Item) (w : BitWitness) → w.claim < (shape_of items).bads → w.frames ≢ [] → length w.initial ≡ carried_width items → AreWide items w.frames → IsWitness (shape_of items) (lifted_witness items w)
 lifted_is_witness items w below some few given =
     record {
       some_claim = λ e. absurd (cc);
@@ -186,6 +186,6 @@ lifted_is_witness items w below some few given =
       frames = by w.frames some given;
     }
   where
-    by : (frames : List (List Bool)) → frames ≢ [] → AreGiven items frames → AreFrames (shape_of items) (lifted_frames items w.initial frames)
+    by : (frames : List (List Bool)) → frames ≢ [] → AreWide items frames → AreFrames (shape_of items) (lifted_frames items w.initial frames)
     by [] some given = absurd (some refl)
     by (bs ∷ more) some given = (record { states = first_states items w.initial bs few given.0; inputs = inputs_part items bs given.0 }, all_later items more given.1)

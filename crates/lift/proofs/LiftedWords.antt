@@ -19,6 +19,7 @@ use Rattle.witness.specs.Texts.{shape_of, has_free}
 use Rattle.witness.specs.Judgements.{FrameWords, Words, index_of, pairs_of, frame_words, words_of, given_to, init_constant, initial_part, initial_words, given_words, given_frames}
 use Rattle.witness.specs.BitTexts.{BitWitness}
 use Rattle.lift.proofs.AssignedLemmas.{assign, assigned, leaves_of, any_leaf, takes_free, takes_carried, assigned_inputs, assigned_carried, assigned_free, first_parts, later_parts, lifted_frames, lifted_witness}
+use Rattle.lift.proofs.LiftedWitness.{AreWide}
 use Rattle.lift.proofs.GivenWords.{word_for, word_fits, word_test, Has, carried_bits, given_bits, looked_up, both_given}
 
 -- ---- which leaf has an id
@@ -128,9 +129,6 @@ later_bits items bs w long =
     (given_state items (frame_words (later_parts items bs)) (drop (input_width items) bs) w (λ id v e. later_given items bs id ∙ e))
 
 -- ---- all frames
-
-abbrev pub AreWide : List Item → List (List Bool) → Type 0
-AreWide items frames = AllByRecursion (λ bs. length bs ≡ given_width items) frames
 
 all_later_bits : (items : List Item) (frames : List (List Bool)) → IsWellFormed items → AreWide items frames → map (input_bits items) (map (given_words items) (map frame_words (map (later_parts items) frames))) ≡ frames
 all_later_bits items [] w h = refl
