@@ -6,3 +6,10 @@ pub mod PutLemmas
 pub mod AdmitLemmas
 pub mod LifterLemmas
 pub mod LiftingLemmas
+pub mod AssignedLemmas
+pub mod LiftedWitness
+pub mod GivenWords
+pub mod LiftedWords
+pub mod DifferLemmas
+pub mod SameLemmas
+pub mod KeepLemmas

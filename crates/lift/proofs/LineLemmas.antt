@@ -17,9 +17,9 @@ use Rattle.lift.specs.Lifted.{piece, lifted_lines, lifted_text}
 -- ---- lines that are admitted
 
 -- how many lines are admitted of so many
-record Counted (g : BitReading) (n : ℕ) : Type 0 where
-  few : g.admitted ≤ n
-  all : g.refused ≡ None → g.admitted ≡ n
+pub record Counted (g : BitReading) (n : ℕ) : Type 0 where
+  pub few : g.admitted ≤ n
+  pub all : g.refused ≡ None → g.admitted ≡ n
 
 counted_read : (g : BitReading) (n : ℕ) (o : Result BitRead Why) → Counted g n → g.refused ≡ None → Counted (one_more_line g o) (n + 1)
 counted_read g n (Ok r) h none = record { few = omega (arith, h.few); all = λ e. ap (λ (k : ℕ). k + 1) (h.all none) }
@@ -40,7 +40,7 @@ counted_from c g n (line ∷ lines) h =
     let same : n + 1 + length lines ≡ n + suc (length lines) = omega arith in
     subst (Counted (lines_behind c (next_line c g line) lines)) same (counted_from c (next_line c g line) (n + 1) lines (counted_line c g n line g.refused refl h))
 
-counted : (c : Circuit) (lines : List (List ℕ)) → Counted (lines_behind c nothing_admitted lines) (length lines)
+pub counted : (c : Circuit) (lines : List (List ℕ)) → Counted (lines_behind c nothing_admitted lines) (length lines)
 counted c lines =
     let same : 0 + length lines ≡ length lines = omega arith in
     subst (Counted (lines_behind c nothing_admitted lines)) same (counted_from c nothing_admitted 0 lines (record { few = omega arith; all = λ e. refl }))

@@ -3,4 +3,5 @@ pub mod Lifted
 pub mod Kept
 pub mod Stands
 pub mod Answers
+pub mod Verdicts
 pub mod Worked

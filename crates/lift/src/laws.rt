@@ -1,14 +1,18 @@
 //! Laws of lifted texts, and worked rows, as functions with no code.
-ghost use Rattle.std.specs.Prelude.{◌≡◌, ℕ, true, List, [], ◌++◌, codes};
+ghost use Rattle.std.specs.Prelude.{◌≡◌, ℕ, true, List, [], ◌∷◌, ◌++◌, codes};
 ghost use Rattle.base.specs.Device.{BeginsWith};
 ghost use Rattle.base.specs.Lines.{whole_lines};
 ghost use Rattle.btor2.specs.declared.item.Item.{Item};
 ghost use Rattle.btor2.specs.Worked.{toggler};
 ghost use Rattle.aiger.specs.Circuit.{Circuit};
 ghost use Rattle.aiger.specs.Worked.{toggler as toggling_circuit};
+ghost use Rattle.blast.specs.Lowering.{Lowers};
 ghost use Rattle.blast.specs.Worked.{named_keeper, keeper_circuit, named_follower, follower_circuit};
-ghost use Rattle.witness.specs.BitJudgements.{makes_no_bit_claim};
+ghost use Rattle.witness.specs.declared.judgement.Judgement.{Judgement};
+ghost use Rattle.witness.specs.declared.judgement.Judgement.TheVariants as judgement;
+ghost use Rattle.witness.specs.BitJudgements.{makes_no_bit_claim, BitJudges};
 ghost use Rattle.lift.specs.Lifted.{lifted_text};
+ghost use Rattle.lift.specs.Verdicts.{latch_states, IsSameVerdict, KeepsVerdict};
 ghost use Rattle.lift.specs.Worked.{high_bit, high_bit_circuit};
 
 /// A law: the lifted text of a beginning of a source is a beginning of the source's lifted text.
@@ -23,6 +27,20 @@ pub fn no_claim_is_lifted_to_nothing()
         → makes_no_bit_claim (whole_lines text) ≡ true → lifted_text items c text ≡ [] }
 {}
 
+/// A law: lifting keeps the verdict. Where a circuit lowers a model, what is judged of a witness of the circuit is judged of
+/// its lifted text over the model, if that has no more lines than a witness may have: it makes the same claim, and has as
+/// many frames, or breaks the same constraint first in the same frame, or does not reach the claim; where an initial bit
+/// differs from its latch's reset, the word of the state that the latch belongs to differs from its init line.
+pub fn lifting_keeps_the_verdict()
+    ensures { (items : List Item) (c : Circuit) (text : List ℕ) (j : Judgement)
+        → Lowers items c → BitJudges c text j → KeepsVerdict items c text j }
+{
+    aiger::laws::exactly_one_trace();
+    btor2::laws::exactly_one_trace();
+    witness::bit_laws::bit_texts_read();
+    witness::laws::texts_read();
+}
+
 /// Worked rows: of a state of one bit, of a state of two bits whose word is written the highest first, of a faulty line, of
 /// which no piece is lifted, of an input of three bits, and of a free state, which has a part of its own in each frame.
 pub fn worked_liftings()
@@ -33,4 +51,17 @@ pub fn worked_liftings()
     ensures free { lifted_text named_follower follower_circuit (codes "1\nb0\n0\n01\n00\n.\n") ≡ codes "sat\nb0\n#0\n1 0\n0 1\n@0\n0 0\n#1\n0 0\n@1\n0 0\n.\n" }
     ensures no_claim { lifted_text high_bit high_bit_circuit (codes "2\njunk\n") ≡ [] }
     ensures unended { lifted_text named_keeper keeper_circuit (codes "1\nb0\n01") ≡ codes "sat\nb0\n" }
+{}
+
+/// Worked rows: which state a latch belongs to, in a model whose first state is free and has none, and in one of a state of
+/// two bits, which has two; and which judgements are the same verdict.
+pub fn worked_verdicts()
+    ensures behind_free { latch_states named_follower ≡ 1 ∷ [] }
+    ensures two_bits { latch_states named_keeper ≡ 0 ∷ 0 ∷ [] }
+    ensures state { IsSameVerdict named_follower (judgement.InitDiffers 0) (judgement.InitDiffers 1) }
+    ensures not_its_number { ¬ IsSameVerdict named_follower (judgement.InitDiffers 0) (judgement.InitDiffers 0) }
+    ensures no_latch { ¬ IsSameVerdict named_follower (judgement.InitDiffers 1) (judgement.InitDiffers 1) }
+    ensures accepted { IsSameVerdict named_keeper (judgement.Accepted 2) (judgement.Accepted 2) }
+    ensures fewer_frames { ¬ IsSameVerdict named_keeper (judgement.Accepted 2) (judgement.Accepted 1) }
+    ensures not_violated { ¬ IsSameVerdict named_keeper (judgement.NotReached 0) (judgement.Violated 0 0) }
 {}

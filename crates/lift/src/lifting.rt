@@ -7,8 +7,10 @@ ghost use Rattle.witness.specs.BitJudgements.{BitJudges};
 ghost use Rattle.lift.specs.Answers.{CountsLift};
 ghost use Rattle.lift.specs.Lifted.{lifted_text};
 ghost use Rattle.lift.specs.Stands.{Takes, LiftsAll};
+ghost use Rattle.lift.specs.Verdicts.{KeepsVerdict};
 
 use crate::fault::LiftFault;
+use crate::laws::lifting_keeps_the_verdict;
 use crate::lifter::Lifter;
 use aiger::Circuit;
 use base::{Outbox, Sink, Source};
@@ -116,6 +118,8 @@ pub fn lift<S: Source, K: Sink>(
     requires { Lowers model.now circuit.now }
     // the judgement is that of the whole text over the circuit
     ensures judged { IfOk result (λ judgement. IfSome (S.to_come source.old) (λ text. BitJudges circuit.now text judgement)) }
+    // what is judged of the lifted text over the model is the same verdict
+    ensures kept { IfOk result (λ judgement. IfSome (S.to_come source.old) (λ text. KeepsVerdict model.now circuit.now text judgement)) }
     // what is written is the lifted text, and after a fault a beginning of it
     ensures written { OnOk result (IfSome (S.to_come source.old) (λ text. Appends (K.written sink.old) (K.written sink.new) (lifted_text model.now circuit.now text))) }
     ensures beginning { OnErr result (IfSome (S.to_come source.old) (λ text. AppendsBeginning (K.written sink.old) (K.written sink.new) (lifted_text model.now circuit.now text))) }
@@ -125,6 +129,7 @@ pub fn lift<S: Source, K: Sink>(
     // the source failed once where that is answered, the sink where that is, and else neither
     ensures counted { CountsLift result (S.failures source.old) (S.failures source.new) (K.failures sink.old) (K.failures sink.new) }
 {
+    lifting_keeps_the_verdict();
     let mut lifter = match Lifter::new(alloc, model, circuit) {
         Ok(lifter) => lifter,
         Err(_) => return Err(LiftFault::NoMemory),

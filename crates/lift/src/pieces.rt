@@ -1,5 +1,5 @@
 //! The pieces that lines of a witness are lifted to.
-ghost use Rattle.std.specs.Prelude.{◌≡◌, true, ◌++◌, ◌∷◌, [], ◌<◌, codes, decimal, length, map, reverse, slice_index, if◌then◌else◌, take, drop};
+ghost use Rattle.std.specs.Prelude.{◌≡◌, true, false, ◌++◌, ◌∷◌, [], ◌-◌, ◌<◌, codes, decimal, length, map, reverse, slice_index_or, if◌then◌else◌, take, drop};
 ghost use Rattle.base.specs.Device.{CountsFaults};
 ghost use Rattle.base.specs.Pieces.{Puts};
 ghost use Rattle.base.specs.Lines.{text_of_lines};
@@ -52,14 +52,21 @@ fn digit(bit: bool) -> &'static [u8]
     if bit { b"1" } else { b"0" }
 }
 
+/// The digit at a place of a word, of which the highest is the first.
+fn digit_at(bits: &[bool], place: usize) -> &'static [u8]
+    requires { place < length bits.now }
+    ensures { result.now ≡ digit (slice_index_or bits.now (length bits.now - place - 1) false) ∷ [] }
+{
+    digit(bits[bits.len() - place - 1])
+}
+
 /// Puts the digits of a word, the highest first.
 fn put_digits<K: Sink>(outbox: &mut Outbox, sink: &mut K, bits: &[bool]) -> Result<(), DeviceFault>
     ensures puts { Puts result (K.written sink.old) (K.written sink.new) outbox.old outbox.new (map digit (reverse bits.now)) }
     ensures failures { CountsFaults result (K.failures sink.old) (K.failures sink.new) }
 {
-    for done in 0..bits.len() {
-        let left = bits.len() - done;
-        put_bytes(outbox, sink, digit(bits[left - 1]))?;
+    for place in 0..bits.len() {
+        put_bytes(outbox, sink, digit_at(bits, place))?;
     }
     Ok(())
 }

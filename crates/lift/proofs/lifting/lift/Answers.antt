@@ -4,6 +4,7 @@ use Rattle.witness.specs.BitJudgements.{BitJudges}
 use Rattle.witness.proofs.BitFeedLemmas.{if_some_then}
 use Rattle.lift.specs.Lifted.{lifted_text}
 use Rattle.lift.specs.Stands.{Lifts}
+use Rattle.lift.specs.Verdicts.{KeepsVerdict}
 use Rattle.lift.proofs.LiftingLemmas.{first_of_both, second_of_both}
 use Rattle.lift.proofs.lifting.lift.Goals as goal
 
@@ -12,6 +13,11 @@ returns-in-Ok-lift_through-clause-judged g c =
     if_some_then _ (λ (text : List ℕ). Lifts c.args.model.now c.args.circuit.now c.lift_through.new.lifter text) (λ (text : List ℕ). BitJudges c.args.circuit.now text c.finish.result) (c.finish.ensures c.args.model.now c.args.circuit.now)
     (first_of_both _ (λ (text : List ℕ). Lifts c.args.model.now c.args.circuit.now c.lift_through.new.lifter text) (λ (text : List ℕ). Appends (g.K.Sink.written c.args.sink.now) (g.K.Sink.written c.lift_through.new.sink) (lifted_text c.args.model.now c.args.circuit.now text))
     (c.in-Ok-lift_through.ensures.lifts c.args.model.now c.args.circuit.now c.in-Ok.ensures))
+
+pub returns-in-Ok-lift_through-clause-kept : goal.returns-in-Ok-lift_through-clause-kept
+returns-in-Ok-lift_through-clause-kept g c =
+    if_some_then _ (λ (text : List ℕ). BitJudges c.args.circuit.now text c.finish.result) (λ (text : List ℕ). KeepsVerdict c.args.model.now c.args.circuit.now text c.finish.result)
+    (λ text h. c.lifting_keeps_the_verdict.ensures c.args.model.now c.args.circuit.now text c.finish.result c.requires h) (returns-in-Ok-lift_through-clause-judged g c)
 
 pub returns-in-Ok-lift_through-clause-written : goal.returns-in-Ok-lift_through-clause-written
 returns-in-Ok-lift_through-clause-written g c =
