@@ -32,3 +32,7 @@ mod UseLemmas
 mod PassOverLemmas
 mod HeaderSmallLemmas
 mod OneAnswerLemmas
+mod OntoLemmas
+mod FileReadLemmas
+mod FileBackLemmas
+mod AsciiStandsLemmas
