@@ -16,6 +16,7 @@ mod NumbersLemmas
 mod UndefinedLemmas
 mod CompleteLemmas
 mod StraightLemmas
+mod OwnLemmas
 mod FlatNameLemmas
 mod PlacedNameLemmas
 mod FreshLemmas

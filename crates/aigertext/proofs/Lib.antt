@@ -36,3 +36,4 @@ mod OntoLemmas
 mod FileReadLemmas
 mod FileBackLemmas
 mod AsciiStandsLemmas
+mod AsciiWrittenLemmas

@@ -36,7 +36,7 @@ lists_below n [] h = All-nil (λ l. l ≤ 2 * variables n + 1)
 lists_below n (ls ∷ lists) h =
     All-append (λ l. l ≤ 2 * variables n + 1) ls (concat lists) (all_below n ls (All-head (All (IsDefined n)) ls lists h)) (lists_below n lists (All-tail (All (IsDefined n)) ls lists h))
 
-nexts_below : (n : Net) (ls : List Latch) → All (λ l. IsDefined n l.next) ls → All (λ l. l.next ≤ 2 * variables n + 1) ls
+pub nexts_below : (n : Net) (ls : List Latch) → All (λ l. IsDefined n l.next) ls → All (λ l. l.next ≤ 2 * variables n + 1) ls
 nexts_below n ls h = All-weaker (λ l. IsDefined n l.next) (λ l. l.next ≤ 2 * variables n + 1) (λ l d. defined_below n l.next d) ls h
 
 -- the properties of a circuit
@@ -86,7 +86,7 @@ properties-read variables inputs latches gates c rest few below few_literals =
     ap (properties_at (record { variables = variables; inputs = inputs; latches = latches; outputs = length c.outputs; gates = gates; bads = length c.bads; constraints = length c.constraints; justice = length c.justice; fair = length c.fair })) (property_text c rest)
     ∙ (rw (outputs, bads, constraints, sizes, length-concat c.justice, listed, fair) refl)
 
-circuit_up_to : (c : Circuit) → IsCircuit c → HasUpTo (2 * variables (net c) + 1) c
+pub circuit_up_to : (c : Circuit) → IsCircuit c → HasUpTo (2 * variables (net c) + 1) c
 circuit_up_to c valid = record {
   outputs = all_below (net c) c.outputs valid.defined.outputs;
   bads = all_below (net c) c.bads valid.defined.bads;

@@ -33,7 +33,7 @@ written_header form c =
     let tail = zero_tail (last_counts c) in
     record { kept = without_zero_tail (last_counts c); dropped = tail.0; counts = tail.1; spelled = refl }
 
-written_reset : (own : ℕ) (r : Reset) → IsReset own r (reset_numbers own r)
+pub written_reset : (own : ℕ) (r : Reset) → IsReset own r (reset_numbers own r)
 written_reset own Zero = inl refl
 written_reset own One = refl
 written_reset own Free = refl
@@ -55,7 +55,7 @@ written_nexts first (l ∷ ls) = (
   ),
 )
 
-written_end : (c : Circuit) → IsCircuit c → IsEnd c (all_names c)
+pub written_end : (c : Circuit) → IsCircuit c → IsEnd c (all_names c)
 written_end c valid =
     let named = recursion_from_All (IsNamed c) c.names valid.names.named in
     record {

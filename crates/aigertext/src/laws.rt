@@ -2,8 +2,9 @@
 ghost use Rattle.std.specs.Prelude.{◌≡◌, ℕ, ◌<◌, All, List, [], ◌∷◌, ◌++◌, Result, Ok, Err, codes};
 ghost use Rattle.aiger.specs.Circuit.{Circuit, IsCircuit};
 ghost use Rattle.aigertext.specs.Ascii.{numbers_line, without_zero_tail, name_line, ascii_text};
-ghost use Rattle.aigertext.specs.Binary.{delta, binary_text};
+ghost use Rattle.aigertext.specs.Binary.{delta, binary_text, circuit_text};
 ghost use Rattle.aigertext.specs.Reading.{line_at, header_of};
+ghost use Rattle.aigertext.specs.declared.forms.Form.{Form};
 ghost use Rattle.aigertext.specs.declared.forms.Form.TheVariants as form;
 ghost use Rattle.aigertext.specs.Spelling.{IsAsciiText, IsBinaryText};
 ghost use Rattle.aiger.specs.Loose.{empty_loose};
@@ -14,7 +15,7 @@ ghost use Rattle.aigertext.specs.declared.fault.Stop.{Stop};
 ghost use Rattle.aigertext.specs.declared.fault.Why.TheVariants as why;
 ghost use Rattle.aigertext.specs.Worked.{toggler, free_state, one_gate, one_output, all_kinds, nothing, one_input};
 
-use aiger::laws::one_renumbering;
+use aiger::laws::{one_renumbering, own_numbers};
 
 /// Worked rows: the texts of a latch that toggles, of a latch with no initial value, of a gate, and of
 /// properties of each kind.
@@ -86,11 +87,15 @@ pub fn worked_binary_faults()
     ensures cut_comment { AnswersText ((codes "aig 0 0 0 0 0\nc")) (Err (record { left = 1; why = why.Truncated })) }
 {}
 
-/// What is written in the binary form stands for the circuit that was written, and is read again as it.
-pub fn binary_read_back()
-    ensures stands { (c : Circuit) → IsCircuit c → IsBinaryText (binary_text c) c }
-    ensures read { (c : Circuit) → IsCircuit c → AnswersText (binary_text c) (Ok c) }
-{}
+/// What is written in a form stands in that form for the circuit that was written, and is read again as it.
+pub fn read_back()
+    ensures ascii { (c : Circuit) → IsCircuit c → IsAsciiText (ascii_text c) c }
+    ensures binary { (c : Circuit) → IsCircuit c → IsBinaryText (binary_text c) c }
+    ensures read { (form : Form) (c : Circuit) → IsCircuit c → AnswersText (circuit_text form c) (Ok c) }
+{
+    own_numbers();
+    one_renumbering();
+}
 
 /// A text has at most one answer: it is read as one circuit alone, or reading it stops at one fault alone.
 pub fn one_answer()
