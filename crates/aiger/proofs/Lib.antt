@@ -10,7 +10,7 @@ mod OrderLemmas
 mod KnownLemmas
 mod ReadinessLemmas
 mod NumberingLemmas
-mod PlacesLemmas
+pub mod PlacesLemmas
 mod LooseTraceLemmas
 mod NumbersLemmas
 mod UndefinedLemmas

@@ -20,6 +20,7 @@ use Rattle.aigertext.proofs.FileReadLemmas.{lists-read}
 use Rattle.aigertext.proofs.GateBackLemmas.{AreBytes}
 use Rattle.aigertext.proofs.HeaderBackLemmas.{HeaderBack, header-back}
 use Rattle.aigertext.proofs.HeaderLemmas.{header-read}
+use Rattle.aigertext.proofs.HeaderSmallLemmas.{header_small}
 use Rattle.aigertext.proofs.NameBackLemmas.{names-back}
 use Rattle.aigertext.proofs.NameReadLemmas.{names-read}
 use Rattle.aigertext.proofs.ReadStandsLemmas.{names_alone, header_spelled, binary-stands}
@@ -100,7 +101,7 @@ ascii-stands circuit text c h rest header answers = by (lists_of_file h rest) re
     k = header-back s.line Ascii h s.said
 
     named : (l : Loose) (end : List ℕ) → lists_of_file h rest ≡ Ok (l, end) → IsLoose l → AnswersNamed l end (Ok c) ⊎ (AnswersUndefined h rest l (Ok c) ⊎ AnswersCycle h rest l (Ok c)) → IsAsciiText text c
-    named l end e valid (inl n) = of_lists circuit text c h rest l end valid s k (lists-back h rest l end k.few_first.0 e) n
+    named l end e valid (inl n) = of_lists circuit text c h rest l end valid s k (lists-back h rest l end (header_small text rest Ascii h header).small k.fits e) n
     named l end e valid (inr (inl u)) = absurd (not_stopped c _ u.is)
     named l end e valid (inr (inr u)) = absurd (not_stopped c _ u.is)
 

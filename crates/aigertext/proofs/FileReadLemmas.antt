@@ -114,19 +114,19 @@ gates_onto l [] = ap (λ (xs : List GateLine). record l { gates = xs }) (sym (ap
 gates_onto l (x ∷ lines) = gates_onto (with_gate_line l x) lines ∙ ap (λ (xs : List GateLine). record l { gates = xs }) (append_assoc l.gates (x ∷ []) lines)
 
 -- no latches and no gates, or no gates
-abbrev HasInputs : Loose → Type 0
+abbrev pub HasInputs : Loose → Type 0
 HasInputs l = (l.latches ≡ []) × (l.gates ≡ [])
 
-input_grows : (l : Loose) (n : ℕ) → HasInputs l → HasInputs (with_input_line l n) × (defined_variables (with_input_line l n) ≡ defined_variables l ++ variable n ∷ [])
+pub input_grows : (l : Loose) (n : ℕ) → HasInputs l → HasInputs (with_input_line l n) × (defined_variables (with_input_line l n) ≡ defined_variables l ++ variable n ∷ [])
 input_grows l n ready = (ready, rw (ready.0, ready.1) (simp (append-nil, map-append)))
 
-abbrev HasLeaves : Loose → Type 0
+abbrev pub HasLeaves : Loose → Type 0
 HasLeaves l = l.gates ≡ []
 
-latch_grows : (l : Loose) (x : LatchLine) → HasLeaves l → HasLeaves (with_latch_line l x) × (defined_variables (with_latch_line l x) ≡ defined_variables l ++ latch_variable x ∷ [])
+pub latch_grows : (l : Loose) (x : LatchLine) → HasLeaves l → HasLeaves (with_latch_line l x) × (defined_variables (with_latch_line l x) ≡ defined_variables l ++ latch_variable x ∷ [])
 latch_grows l x ready = (ready, rw ready (simp (append-nil, map-append, append_assoc)))
 
-gate_grows : (l : Loose) (x : GateLine) → Unit {0} → Unit {0} × (defined_variables (with_gate_line l x) ≡ defined_variables l ++ gate_variable x ∷ [])
+pub gate_grows : (l : Loose) (x : GateLine) → Unit {0} → Unit {0} × (defined_variables (with_gate_line l x) ≡ defined_variables l ++ gate_variable x ∷ [])
 gate_grows l x ready = (tt, simp (map-append, append_assoc))
 
 -- the variables that are defined, as they were when the latches began, and when the gates did

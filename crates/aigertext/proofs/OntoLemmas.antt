@@ -1,11 +1,10 @@
 -- Lines that define variables, one after the other onto the lists of a file: they are read where they stand for things, and back.
-use Rattle.std.proofs.Common.{◌≡◌, ℕ, zero, suc, ◌+◌, Bool, true, false, ◌||◌, List, [], ◌∷◌, ◌++◌, map, length, All, nat_eq, cond, Result, Ok, refl, sym, ap, subst, ◌∙◌, append_assoc, arith}
-use Rattle.std.specs.List.{list_any, count_by}
-use Rattle.std.proofs.lemmas.Bool.{eq-eqb}
+use Rattle.std.proofs.Common.{◌≡◌, ℕ, zero, suc, false, List, [], ◌∷◌, ◌++◌, map, length, All, nat_eq, Result, Ok, refl, sym, ap, subst, ◌∙◌, append_assoc, append-nil, arith}
+use Rattle.std.specs.List.{list_any}
 use Rattle.std.proofs.lemmas.List.Elements.{All-nil, All-cons, All-head, All-tail}
-use Rattle.std.proofs.lemmas.List.Sums.{sum_by-append, sum_by-cons}
 use Rattle.aiger.specs.Loose.{Loose, defined_variables, is_defined}
 use Rattle.aiger.specs.Numbering.{IsOnce}
+use Rattle.aiger.proofs.PlacesLemmas.{once_front, not_yet, once_more}
 use Rattle.aigertext.specs.declared.fault.Why.{Why}
 use Rattle.aigertext.specs.Reading.{line_at}
 use Rattle.aigertext.specs.AsciiReading.{onto_lists}
@@ -17,28 +16,11 @@ abbrev pub all_onto : {A : Type 0} → (Loose → A → Loose) → Loose → Lis
 all_onto with' l [] = l
 all_onto with' l (x ∷ xs) = all_onto with' (with' l x) xs
 
--- a number that stands once is not before itself
-once_new : (xs : List ℕ) (v : ℕ) (ys : List ℕ) → IsOnce (xs ++ v ∷ ys) → list_any (nat_eq v) xs ≡ false
-once_new [] v ys once = refl
-once_new (x ∷ xs) v ys once = by (nat_eq v x) refl (λ o. once_new xs v ys o)
-  where
-    first : (w : ℕ) → count_by (nat_eq w) (x ∷ (xs ++ v ∷ ys)) ≡ cond (nat_eq w x) 1 0 + count_by (nat_eq w) (xs ++ v ∷ ys)
-    first w = sum_by-cons (λ (y : ℕ). cond (nat_eq w y) 1 0) x (xs ++ v ∷ ys)
-
-    parts : count_by (nat_eq v) (xs ++ v ∷ ys) ≡ count_by (nat_eq v) xs + count_by (nat_eq v) (v ∷ ys)
-    parts = sum_by-append (λ (y : ℕ). cond (nat_eq v y) 1 0) xs (v ∷ ys)
-
-    here : count_by (nat_eq v) (v ∷ ys) ≡ 1 + count_by (nat_eq v) ys
-    here = sum_by-cons (λ (y : ℕ). cond (nat_eq v y) 1 0) v ys ∙ ap (λ (b : Bool). cond b 1 0 + count_by (nat_eq v) ys) (eq-eqb v v refl)
-
-    rest : IsOnce (xs ++ v ∷ ys)
-    rest w = omega (arith, once w, first w)
-
-    by : (b : Bool) → nat_eq v x ≡ b → (IsOnce (xs ++ v ∷ ys) → list_any (nat_eq v) xs ≡ false) → (nat_eq v x || list_any (nat_eq v) xs) ≡ false
-    by true e again =
-        let one : ◌≡◌ {A = ℕ} (cond (nat_eq v x) 1 0) 1 = ap (λ (b : Bool). cond b 1 0) e in
-        absurd (omega (arith, once v, first v, parts, here, one))
-    by false e again = ap (λ (b : Bool). b || list_any (nat_eq v) xs) e ∙ again rest
+-- what comes next is not before itself
+once_new : {A : Type 0} (own : A → ℕ) (front : List ℕ) (x : A) (xs : List A) (later : List ℕ) → IsOnce (front ++ (map own (x ∷ xs) ++ later)) → list_any (nat_eq (own x)) front ≡ false
+once_new own front x xs later once =
+    subst (λ (ns : List ℕ). list_any (nat_eq (own x)) ns ≡ false) (append-nil front)
+    (not_yet own front (x ∷ xs) 0 x (once_front (front ++ map own (x ∷ xs)) later (subst IsOnce (sym (append_assoc front (map own (x ∷ xs)) later)) once)) (omega arith) refl)
 
 -- lines that stand for things are read onto lists that define none of their variables yet
 module _ {A : Type 0} (says : Loose → List ℕ → Result A Why) (with' : Loose → A → Loose) (own : A → ℕ) (IsLine : A → List ℕ → Type 0) (IsGood : A → Type 0) (IsReady : Loose → Type 0)
@@ -54,8 +36,7 @@ module _ {A : Type 0} (says : Loose → List ℕ → Result A Why) (with' : Loos
       let line = are.0 in
       let more = are.1.0 in
       let g = grows l x ready in
-      let behind = map own xs ++ later in
-      let one = reads l x line (more ++ rest) (All-head IsGood x xs good) (once_new (defined_variables l) (own x) (map own xs ++ later) once) are.1.1.1 in
+      let one = reads l x line (more ++ rest) (All-head IsGood x xs good) (once_new own (defined_variables l) x xs later once) are.1.1.1 in
       let again : defined_variables l ++ (own x ∷ (map own xs ++ later)) ≡ defined_variables (with' l x) ++ (map own xs ++ later) =
       sym (append_assoc (defined_variables l) (own x ∷ []) (map own xs ++ later)) ∙ ap (λ (ns : List ℕ). ns ++ (map own xs ++ later)) (sym g.1) in
       let others = onto-read (with' l x) xs later more rest g.0 (subst IsOnce again once) (All-tail IsGood x xs good) are.1.1.2 in
@@ -63,12 +44,13 @@ module _ {A : Type 0} (says : Loose → List ℕ → Result A Why) (with' : Loos
       ap (onto_lists says with' l (suc (length xs))) text
       ∙ onto_step l (all_onto with' (with' l x) xs) (length xs) (line ++ (more ++ rest)) (more ++ rest) rest x one others
 
--- things that were read onto lists, and their lines
-pub record OntoBack {A : Type 0} (with' : Loose → A → Loose) (IsLine : A → List ℕ → Type 0) (IsGood : A → Type 0) (l m : Loose) (n : ℕ) (text rest : List ℕ) : Type 0 where
+-- things that were read onto lists, and their lines: each variable still stands once
+pub record OntoBack {A : Type 0} (with' : Loose → A → Loose) (IsLine : A → List ℕ → Type 0) (IsGood : A → Type 0) (IsReady : Loose → Type 0) (l m : Loose) (n : ℕ) (text rest : List ℕ) : Type 0 where
   pub things : List A
   pub is : m ≡ all_onto with' l things
   pub many : length things ≡ n
   pub good : All IsGood things
+  pub keeps : IsReady l → IsOnce (defined_variables l) → IsReady m × IsOnce (defined_variables m)
   pub bytes : List ℕ
   pub lines : AreLines IsLine things bytes
   pub parts : text ≡ bytes ++ rest
@@ -76,13 +58,14 @@ pub record OntoBack {A : Type 0} (with' : Loose → A → Loose) (IsLine : A →
 before_rest : (line bytes rest : List ℕ) → line ++ 10 ∷ (bytes ++ rest) ≡ ((line ++ 10 ∷ []) ++ bytes) ++ rest
 before_rest line bytes rest = simp append_assoc
 
-module _ {A : Type 0} (says : Loose → List ℕ → Result A Why) (with' : Loose → A → Loose) (IsLine : A → List ℕ → Type 0) (IsGood : A → Type 0)
-    (said : (l : Loose) (x : A) (line : List ℕ) → says l line ≡ Ok x → IsLine x (line ++ 10 ∷ []) × IsGood x) where
-  pub onto-back : (l m : Loose) (n : ℕ) (text rest : List ℕ) → onto_lists says with' l n text ≡ Ok (m, rest) → OntoBack with' IsLine IsGood l m n text rest
+module _ {A : Type 0} (says : Loose → List ℕ → Result A Why) (with' : Loose → A → Loose) (own : A → ℕ) (IsLine : A → List ℕ → Type 0) (IsGood : A → Type 0) (IsReady : Loose → Type 0)
+    (grows : (l : Loose) (x : A) → IsReady l → IsReady (with' l x) × (defined_variables (with' l x) ≡ defined_variables l ++ own x ∷ []))
+    (said : (l : Loose) (x : A) (line : List ℕ) → says l line ≡ Ok x → IsLine x (line ++ 10 ∷ []) × IsGood x × (is_defined l (own x) ≡ false)) where
+  pub onto-back : (l m : Loose) (n : ℕ) (text rest : List ℕ) → onto_lists says with' l n text ≡ Ok (m, rest) → OntoBack with' IsLine IsGood IsReady l m n text rest
   onto-back l m zero text rest e =
       let is : ◌≡◌ {A = Loose × List ℕ} (l, text) (m, rest) = ok_same (l, text) (m, rest) e in
-      subst (λ (p : Loose × List ℕ). OntoBack with' IsLine IsGood l p.0 0 text p.1) is
-      (record { things = []; is = refl; many = refl; good = All-nil IsGood; bytes = []; lines = refl; parts = refl })
+      subst (λ (p : Loose × List ℕ). OntoBack with' IsLine IsGood IsReady l p.0 0 text p.1) is
+      (record { things = []; is = refl; many = refl; good = All-nil IsGood; keeps = λ ready once. (ready, once); bytes = []; lines = refl; parts = refl })
   onto-back l m (suc n) text rest e =
       let b = bind-back (line_at (says l) text) _ (m, rest) e in
       let s = line-back (says l) text b.value.0 b.value.1 b.was in
@@ -93,6 +76,7 @@ module _ {A : Type 0} (says : Loose → List ℕ → Result A Why) (with' : Loos
         is = o.is;
         many = ap suc o.many;
         good = All-cons IsGood b.value.0 o.things g.1 o.good;
+        keeps = λ ready once. let r = grows l b.value.0 ready in o.keeps r.0 (subst IsOnce (sym r.1) (once_more (defined_variables l) (own b.value.0) once g.2));
         bytes = (s.line ++ 10 ∷ []) ++ o.bytes;
         lines = (s.line ++ 10 ∷ [], (o.bytes, (refl, g.0, o.lines)));
         parts = s.parts ∙ ap (λ (t : List ℕ). s.line ++ 10 ∷ t) o.parts ∙ before_rest s.line o.bytes rest;

@@ -97,9 +97,10 @@ pub fn read_back()
     one_renumbering();
 }
 
-/// A text has at most one answer: it is read as one circuit alone, or reading it stops at one fault alone.
+/// A text has exactly one answer: it is read as one circuit alone, or reading it stops at one fault alone.
 pub fn one_answer()
-    ensures { (text : List ℕ) (a b : Result Circuit Stop) → AnswersText text a → AnswersText text b → a ≡ b }
+    ensures exists { (text : List ℕ) → (a : Result Circuit Stop) × AnswersText text a }
+    ensures unique { (text : List ℕ) (a b : Result Circuit Stop) → AnswersText text a → AnswersText text b → a ≡ b }
 {
     one_renumbering();
 }

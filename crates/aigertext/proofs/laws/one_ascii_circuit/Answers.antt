@@ -8,4 +8,4 @@ returns-clause-read c = ascii-read c.one_renumbering.ensures.circuit
 
 pub returns-clause-same : goal.returns-clause-same
 returns-clause-same c = λ text x y s t.
-    ok_circuit x y (c.one_answer.ensures text (Ok x) (Ok y) (ascii-read c.one_renumbering.ensures.circuit text x s) (ascii-read c.one_renumbering.ensures.circuit text y t))
+    ok_circuit x y (c.one_answer.ensures.unique text (Ok x) (Ok y) (ascii-read c.one_renumbering.ensures.circuit text x s) (ascii-read c.one_renumbering.ensures.circuit text y t))

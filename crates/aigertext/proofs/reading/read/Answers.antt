@@ -9,11 +9,11 @@ pub returns-in-Ok-clause-spells : goal.returns-in-Ok-clause-spells
 returns-in-Ok-clause-spells g c = spells (g.S.Source.to_come c.args.source.now) c.in-Ok.text.items c.read_text.result c.in-Ok.ensures.bytes (rw c.as_slice.ensures.value at c.read_text.ensures.spells)
 
 pub returns-in-Ok-clause-only : goal.returns-in-Ok-clause-only
-returns-in-Ok-clause-only g c = only c.one_answer.ensures (g.S.Source.to_come c.args.source.now) c.in-Ok.text.items c.read_text.result c.in-Ok.ensures.bytes (rw c.as_slice.ensures.value at c.read_text.ensures.reads)
+returns-in-Ok-clause-only g c = only c.one_answer.ensures.unique (g.S.Source.to_come c.args.source.now) c.in-Ok.text.items c.read_text.result c.in-Ok.ensures.bytes (rw c.as_slice.ensures.value at c.read_text.ensures.reads)
 
 pub returns-in-Ok-clause-each : goal.returns-in-Ok-clause-each
 returns-in-Ok-clause-each g c = λ text circuit known is.
-    only c.one_answer.ensures (g.S.Source.to_come c.args.source.now) c.in-Ok.text.items c.read_text.result c.in-Ok.ensures.bytes (rw c.as_slice.ensures.value at c.read_text.ensures.reads) text circuit known
+    only c.one_answer.ensures.unique (g.S.Source.to_come c.args.source.now) c.in-Ok.text.items c.read_text.result c.in-Ok.ensures.bytes (rw c.as_slice.ensures.value at c.read_text.ensures.reads) text circuit known
     (spells-read c.one_renumbering.ensures.circuit text circuit is)
 
 pub returns-in-Ok-clause-fault : goal.returns-in-Ok-clause-fault
