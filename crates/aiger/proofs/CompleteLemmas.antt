@@ -1,17 +1,17 @@
 -- Orders: none is longer than the file has gates, there is one that cannot go on, and without cycles it is complete.
-use Rattle.std.proofs.Common.{◌≡◌, ℕ, zero, suc, ◌+◌, ◌<◌, ◌≤◌, Bool, true, false, not, List, [], ◌∷◌, ◌++◌, length, replicate, ◌⊎◌, inl, inr, None, nat_eq, slice_index_or, slice_set, sym, ◌∙◌, subst, refl, arith, length-append, ⊎_elim}
+use Rattle.std.proofs.Common.{◌≡◌, ℕ, zero, suc, ◌+◌, ◌<◌, ◌≤◌, Bool, true, false, not, ◌&&◌, nat_lt, List, [], ◌∷◌, ◌++◌, length, replicate, ◌⊎◌, inl, inr, None, nat_eq, slice_index_or, slice_set, sym, ◌∙◌, subst, refl, arith, length-append, ⊎_elim}
 use Rattle.std.proofs.lemmas.Bool.Decides.{nat_tests}
-use Rattle.std.proofs.lemmas.Bool.{cases_order}
+use Rattle.std.proofs.lemmas.Bool.{cases_order, and_parts, ltb-true}
 use Rattle.std.proofs.lemmas.List.{length-set, get_or-set_other, length-replicate}
 use Rattle.std.proofs.lemmas.List.Folds.{list_any-append}
 use Rattle.std.proofs.lemmas.List.Sums.{count_by-le-length}
 use Rattle.std.specs.List.{list_any, count_by}
 use Rattle.aiger.specs.Circuit.{Circuit, IsCircuit}
 use Rattle.aiger.specs.Loose.{Loose, IsLoose}
-use Rattle.aiger.specs.Renumbering.{first_undefined, is_ready, AreInTurn, IsOrder, IsRenumbered, LeadsToCycle, renumbered}
+use Rattle.aiger.specs.Renumbering.{first_undefined, is_ready, AreInTurn, IsOrder, IsRenumbered, LeadsToCycle, IsFirstCyclic, renumbered}
 use Rattle.aiger.proofs.OrderLemmas.{ready_parts, false_unless, AreInTurn-push}
 use Rattle.aiger.proofs.KnownLemmas.{all_known}
-use Rattle.aiger.proofs.NumberingLemmas.{mark_more, none_marked, leads_to_cycle, IsCircuit-renumbered}
+use Rattle.aiger.proofs.NumberingLemmas.{mark_more, none_marked, leads_to_cycle, first_cyclic, IsCircuit-renumbered}
 
 -- gates in turn are no more than those that are not marked
 few_in_turn : (l : Loose) (done js : List ℕ) (marks : List Bool) → AreInTurn l done js → length marks ≡ length l.gates
@@ -90,3 +90,24 @@ has_renumbering l known free =
     by : (b : Bool) → (b ≡ false → ⊥) → b ≡ true
     by true h = refl
     by false h = absurd (h refl)
+
+-- a gate that has no number in an order
+abbrev is_left : Loose → List ℕ → ℕ → Bool
+is_left l order j = nat_lt j (length l.gates) && not (list_any (nat_eq j) order)
+
+-- lists without undefined variables are a circuit as numbered, or a gate is the first that leads to a cycle
+pub numbered_or_cyclic : (l : Loose) → IsLoose l → first_undefined l ≡ None → ((c : Circuit) × IsRenumbered l c) ⊎ ((j : ℕ) × IsFirstCyclic l j)
+numbered_or_cyclic l valid known =
+    let ends : Ends l = goes_on l (length l.gates) [] tt (omega arith) in
+    ⊎_elim
+    (λ (f : (j : ℕ) × ((is_left l ends.0 j ≡ true) × ((i : ℕ) → i < j → is_left l ends.0 i ≡ false))).
+    let left = and_parts (nat_lt f.0 (length l.gates)) (not (list_any (nat_eq f.0) ends.0)) f.1.0 in
+    let low : f.0 < length l.gates = ltb-true f.0 (length l.gates) left.0 in
+    let new : list_any (nat_eq f.0) ends.0 ≡ false = grind (arith, nat_tests, left.1) in
+    inr (f.0, first_cyclic l ends.0 f.0 valid (all_known l known) ends.1.0 ends.1.1 low new (λ i h. in_order l ends.0 i (omega (arith, h, low)) (f.1.1 i h))))
+    (λ (none : (i : ℕ) → i < length l.gates → is_left l ends.0 i ≡ false).
+    inl (renumbered l ends.0, record { known = known; order = ends.0; is_order = record { in_turn = ends.1.0; all = λ j low. in_order l ends.0 j low (none j low) }; circuit = refl }))
+    (least_below (is_left l ends.0) (length l.gates))
+  where
+    in_order : (l : Loose) (order : List ℕ) (i : ℕ) → i < length l.gates → is_left l order i ≡ false → list_any (nat_eq i) order ≡ true
+    in_order l order i low e = grind (arith, nat_tests, e)

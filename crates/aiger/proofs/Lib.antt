@@ -10,12 +10,13 @@ mod OrderLemmas
 mod KnownLemmas
 mod ReadinessLemmas
 mod NumberingLemmas
-mod PlacesLemmas
+pub mod PlacesLemmas
 mod LooseTraceLemmas
 mod NumbersLemmas
 mod UndefinedLemmas
 mod CompleteLemmas
 mod StraightLemmas
+mod OwnLemmas
 mod FlatNameLemmas
 mod PlacedNameLemmas
 mod FreshLemmas

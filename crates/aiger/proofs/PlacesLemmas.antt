@@ -60,7 +60,7 @@ absent_count v (x ∷ xs) t =
     omega (arith, sum_by-cons (λ (y : ℕ). cond (nat_eq v y) 1 0) x xs, z, absent_count v xs r)
 
 -- with a new variable more each still stands once
-once_more : (xs : List ℕ) (x : ℕ) → IsOnce xs → list_any (nat_eq x) xs ≡ false → IsOnce (xs ++ x ∷ [])
+pub once_more : (xs : List ℕ) (x : ℕ) → IsOnce xs → list_any (nat_eq x) xs ≡ false → IsOnce (xs ++ x ∷ [])
 once_more xs x once new v = by (nat_eq v x) refl
   where
     pushed : count_by (nat_eq v) (xs ++ x ∷ []) ≡ count_by (nat_eq v) xs + cond (nat_eq v x) 1 0

@@ -21,7 +21,7 @@ use Rattle.aiger.proofs.KnownLemmas.{IsKnown, AllKnown}
 use Rattle.aiger.proofs.OrderLemmas.{name_at_place}
 
 -- a number is among those in turn where it is between their bounds
-in_range : (v a n : ℕ) → list_any (nat_eq v) (range_with_len a n) ≡ (nat_le a v && nat_lt v (a + n))
+pub in_range : (v a n : ℕ) → list_any (nat_eq v) (range_with_len a n) ≡ (nat_le a v && nat_lt v (a + n))
 in_range v a zero =
     ⊎_elim (λ (h : v < a). grind (arith, nat_tests)) (λ (h : a ≤ v). grind (arith, nat_tests)) (cases_lt v a)
 in_range v a (suc n) =
@@ -104,7 +104,7 @@ numbered_in_turn l k is few =
     ∙ (ap (λ (xs : List ℕ). range_with_len 1 (length l.inputs + length l.latches) ++ xs) gates ∙ range_joined 1 (length l.inputs + length l.latches) k)
 
 -- the variables that are defined
-defined_in_turn : (l : Loose) → IsStraight l → defined_variables l ≡ range_with_len 1 (defined_count l)
+pub defined_in_turn : (l : Loose) → IsStraight l → defined_variables l ≡ range_with_len 1 (defined_count l)
 defined_in_turn l is =
     ap (λ (xs : List ℕ). xs ++ map gate_variable l.gates) (leaves_in_turn l is)
     ∙ (ap (λ (xs : List ℕ). range_with_len 1 (length l.inputs + length l.latches) ++ xs) is.gates ∙ range_joined 1 (length l.inputs + length l.latches) (length l.gates))
@@ -113,7 +113,7 @@ defined_in_turn l is =
 number_up_to : (lit n : ℕ) → has_number (range_with_len 1 n) lit ≡ nat_le (variable lit) n
 number_up_to lit n = let r = in_range (variable lit) 1 n in grind (arith, nat_tests, r)
 
-knows_up_to : (l : Loose) → IsStraight l → KnowsUpTo l (defined_count l)
+pub knows_up_to : (l : Loose) → IsStraight l → KnowsUpTo l (defined_count l)
 knows_up_to l is lit = ap (λ (names : List ℕ). variable lit == 0 || list_any (nat_eq (variable lit)) names) (defined_in_turn l is) ∙ number_up_to lit (defined_count l)
 
 -- and so where a greatest variable is told only of lists that are in order

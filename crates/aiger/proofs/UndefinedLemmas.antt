@@ -4,7 +4,8 @@ use Rattle.std.proofs.lemmas.Bool.Decides.{nat_tests}
 use Rattle.std.proofs.lemmas.List.Sums.{sum_by-cons}
 use Rattle.aiger.specs.Limits.{greatest_count}
 use Rattle.std.specs.Option.{option_map}
-use Rattle.std.specs.List.{position, position_or_len, concat, sum_by}
+use Rattle.std.specs.List.{list_any, position, position_or_len, concat, sum_by}
+use Rattle.std.proofs.lemmas.Bool.{or_parts}
 use Rattle.aiger.specs.declared.loose.GateLine.{GateLine}
 use Rattle.aiger.specs.declared.loose.LatchLine.{LatchLine}
 use Rattle.aiger.specs.Loose.{Loose, IsLoose}
@@ -33,6 +34,13 @@ place_no p x xs e = step (nat_lt (position_or_len p xs) (length xs)) refl
     step false t =
         let u : nat_lt (suc (position_or_len p xs)) (suc (length xs)) ≡ false = grind (arith, nat_tests) in
         here ∙ (ap (λ (b : Bool). cond b (Some (suc (position_or_len p xs))) None) u ∙ sym (ap (λ (b : Bool). option_map suc (cond b (Some (position_or_len p xs)) None)) t))
+
+-- where none passes there is no place
+pub none_passes : {X : Type 0} (p : X → Bool) (xs : List X) → list_any p xs ≡ false → position p xs ≡ None
+none_passes p [] t = refl
+none_passes p (x ∷ xs) t =
+    let parts = or_parts (p x) (list_any p xs) t in
+    place_no p x xs parts.0 ∙ ap (option_map suc) (none_passes p xs parts.1)
 
 -- a place that is found in the front is the place in the whole
 pub place_in_front : {X : Type 0} (p : X → Bool) (xs ys : List X) (k : ℕ) → position p xs ≡ Some k → position p (xs ++ ys) ≡ Some k

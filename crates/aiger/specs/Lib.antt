@@ -16,4 +16,5 @@ pub mod Trace
 pub mod Readiness
 pub mod Numbering
 pub mod Straight
+pub mod OwnLists
 pub mod Worked

@@ -1,5 +1,5 @@
 //! Laws of circuits and their traces, and worked rows: functions that do nothing, whose contracts are the laws.
-ghost use Rattle.std.specs.Prelude.{◌≡◌, ℕ, ◌+◌, ◌*◌, ◌<◌, ◌↔◌, List, [], ◌∷◌, Bool, true, false, not, ◌&&◌, All, length, map, None, Some};
+ghost use Rattle.std.specs.Prelude.{◌≡◌, ℕ, ◌+◌, ◌*◌, ◌<◌, ◌↔◌, ◌⊎◌, List, [], ◌∷◌, Bool, true, false, not, ◌&&◌, All, length, map, None, Some};
 ghost use Rattle.aiger.specs.Literal.{Valuation, literal_value, negation};
 ghost use Rattle.aiger.specs.Net.{Satisfies, AreOrdered};
 ghost use Rattle.aiger.specs.Circuit.{Circuit, IsCircuit, NameMap, name_in, name_of};
@@ -10,6 +10,7 @@ ghost use Rattle.aiger.specs.Loose.{Loose, IsLoose, HasDefinitions, empty_loose,
 ghost use Rattle.aiger.specs.LooseTrace.{IsLooseTrace};
 ghost use Rattle.aiger.specs.LooseObserved.{AllShowSame};
 ghost use Rattle.aiger.specs.Renumbering.{IsRenumbered, IsOrder, LeadsToCycle, DependsOn, IsFirstCyclic, first_undefined, renumbered};
+ghost use Rattle.aiger.specs.OwnLists.{own_lists};
 ghost use Rattle.aiger.specs.Worked.{toggler, off, on, one_gate, crossed, backwards, straight, looped, led, far, of_each, of_each_numbered, toggler_of_any, unknown, named_toggler, named_off, named_on};
 
 use crate::literal::Lit;
@@ -54,10 +55,20 @@ pub fn renumbered_traces()
         → map (λ latch. latch.reset) c.latches ≡ map (λ line. line.reset) l.latches }
 {}
 
+/// The lists that an ascii file of a circuit has in the circuit's own numbers are lists of a file with
+/// as many inputs, latches and gates, and the circuit is these lists as numbered. It does nothing: its
+/// contract is the law.
+pub fn own_numbers()
+    ensures many { (c : Circuit) → (length (own_lists c).inputs ≡ c.inputs) × (length (own_lists c).latches ≡ length c.latches) × (length (own_lists c).gates ≡ length c.gates) }
+    ensures valid { (c : Circuit) → IsCircuit c → IsLoose (own_lists c) }
+    ensures numbered { (c : Circuit) → IsCircuit c → IsRenumbered (own_lists c) c }
+{}
+
 /// A file is a circuit as numbered exactly where each variable that it uses is defined and none of
 /// its gates leads to a cycle, and then it is one alone. It does nothing: its contract is the law.
 pub fn one_renumbering()
     ensures exists { (l : Loose) → first_undefined l ≡ None → ((j : ℕ) → j < length l.gates → ¬ LeadsToCycle l j) → (c : Circuit) × IsRenumbered l c }
+    ensures either { (l : Loose) → IsLoose l → first_undefined l ≡ None → ((c : Circuit) × IsRenumbered l c) ⊎ ((j : ℕ) × IsFirstCyclic l j) }
     ensures circuit { (l : Loose) (c : Circuit) → IsLoose l → IsRenumbered l c → IsCircuit c }
     ensures unique { (l : Loose) (c d : Circuit) → IsRenumbered l c → IsRenumbered l d → c ≡ d }
     ensures no_cycle { (l : Loose) (c : Circuit) (j : ℕ) → IsLoose l → IsRenumbered l c → j < length l.gates → ¬ LeadsToCycle l j }
@@ -111,6 +122,8 @@ pub fn worked_renumbering()
     ensures far { (renumbered far []).outputs ≡ 2 ∷ [] }
     ensures alone { renumbered named_toggler [] ≡ toggler_of_any }
     ensures of_each { IsRenumbered of_each of_each_numbered }
+    // The lists of a circuit in its own numbers.
+    ensures own { ((own_lists straight).inputs ≡ 2 ∷ 4 ∷ []) × ((own_lists straight).gates ≡ record { lhs = 6; rhs0 = 5; rhs1 = 2 } ∷ record { lhs = 8; rhs0 = 6; rhs1 = 3 } ∷ []) }
     // A variable that is defined twice, and a defining literal that is odd.
     ensures twice { ¬ HasDefinitions (with_input_line (with_input_line empty_loose 4) 4) }
     ensures odd { line_refusal empty_loose 5 [] ≡ Some LiteralOutOfRange }

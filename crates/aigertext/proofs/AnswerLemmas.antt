@@ -2,16 +2,15 @@
 use Rattle.std.proofs.Common.{◌≡◌, ℕ, suc, List, [], ◌∷◌, get_or, Fits, w8, arith, Option, Some, None, Result, Ok, Err, sym, ap, subst, ◌∙◌, inl, inr, ◌⊎◌}
 use Rattle.std.specs.Prelude.{IfOk, IfErr, IfSome}
 use Rattle.aiger.specs.Circuit.{Circuit, IsCircuit}
-use Rattle.aigertext.specs.declared.counts.Counts.{Counts}
 use Rattle.aigertext.specs.declared.fault.Stop.{Stop}
 use Rattle.aigertext.specs.declared.fault.Why.TheVariants as why
 use Rattle.aigertext.specs.declared.fault.ReadFault.{ReadFault}
-use Rattle.aigertext.specs.declared.forms.Form.{Form}
-use Rattle.aigertext.specs.AsciiReading.{AnswersHeader, AnswersText, StandsIfBinary, IsFaultOf, GivesCircuit}
+use Rattle.aigertext.specs.AsciiReading.{AnswersText, IsFaultOf, GivesCircuit}
 use Rattle.aigertext.specs.Passes.{ReadsText}
+use Rattle.aigertext.specs.Spelling.{Spells}
+use Rattle.aigertext.proofs.AsciiStandsLemmas.{IsCircuitLaw, read-spells}
 use Rattle.aigertext.proofs.BackLemmas.{ok_same}
 use Rattle.aigertext.proofs.GateBackLemmas.{AreBytes}
-use Rattle.aigertext.proofs.ReadStandsLemmas.{binary-stands}
 use Rattle.aigertext.proofs.StandsLemmas.{not_stopped}
 use Rattle.aigertext.proofs.WhyLemmas.{IsOfText, text_stops}
 
@@ -21,10 +20,8 @@ bytes_of : (text : List ℕ) → ((i : ℕ) → Fits w8 (get_or text i 0)) → A
 bytes_of [] h = tt
 bytes_of (b ∷ bs) h = (omega (arith, h 0), bytes_of bs (λ i. h (suc i)))
 
-pub text_stands : (text : List ℕ) (c : Circuit) → ((i : ℕ) → Fits w8 (get_or text i 0)) → IsCircuit c → AnswersText text (Ok c) → StandsIfBinary text c
-unfolding AnswersText
-text_stands text c bytes valid answers h rest header =
-    binary-stands text c h rest (bytes_of text bytes) valid header (sym (subst (λ (r : Result ((Form × Counts) × List ℕ) Stop). AnswersHeader r (Ok c)) header answers))
+pub text_spells : IsCircuitLaw → (text : List ℕ) (c : Circuit) → ((i : ℕ) → Fits w8 (get_or text i 0)) → IsCircuit c → AnswersText text (Ok c) → Spells text c
+text_spells circuit text c bytes valid answers = read-spells circuit text c (bytes_of text bytes) valid answers
 
 -- ---- where reading stopped
 
@@ -38,10 +35,10 @@ found None text (Ok c) same read = tt
 found (Some all) text (Ok c) same read = subst (λ (t : List ℕ). AnswersText t (Ok c)) same read
 found known text (Err e) same read = tt
 
-pub stands : (known : Option (List ℕ)) (text : List ℕ) (r : Result Circuit ReadFault) → IfSome known (λ all. text ≡ all) → IfOk r (λ c. StandsIfBinary text c) → IfOk r (λ c. IfSome known (λ all. StandsIfBinary all c))
-stands None text (Ok c) same is = tt
-stands (Some all) text (Ok c) same is = subst (λ (t : List ℕ). StandsIfBinary t c) same is
-stands known text (Err e) same is = tt
+pub spells : (known : Option (List ℕ)) (text : List ℕ) (r : Result Circuit ReadFault) → IfSome known (λ all. text ≡ all) → IfOk r (λ c. Spells text c) → IfOk r (λ c. IfSome known (λ all. Spells all c))
+spells None text (Ok c) same is = tt
+spells (Some all) text (Ok c) same is = subst (λ (t : List ℕ). Spells t c) same is
+spells known text (Err e) same is = tt
 
 known_is : (text all : List ℕ) (known : Option (List ℕ)) → known ≡ Some all → IfSome known (λ other. text ≡ other) → text ≡ all
 known_is text all None is same = absurd cc

@@ -13,7 +13,7 @@ use Rattle.aigertext.specs.declared.counts.Counts.{Counts}
 use Rattle.aigertext.specs.declared.forms.Form.{Form}
 use Rattle.aigertext.specs.declared.forms.Form.TheVariants.{Ascii, Binary}
 use Rattle.aigertext.specs.Ascii.{form_word}
-use Rattle.aigertext.specs.Counts.{Fits}
+use Rattle.aigertext.specs.Counts.{Fits, first_of_counts, last_of_counts}
 use Rattle.aigertext.proofs.FieldLemmas.{joined}
 use Rattle.aigertext.proofs.LatchBackLemmas.{spaced, fields-back}
 use Rattle.aigertext.proofs.NameBackLemmas.{same_bytes}
@@ -149,12 +149,6 @@ count-back n m e =
       | inl wrong ↦ absurd (not_err _ _ wrong.1)
       | inr good ↦ (sym (ok_same n m good.1), ltb-false greatest_count n good.0)
     ]
-
-abbrev pub first_of_counts : Counts → List ℕ
-first_of_counts h = h.variables ∷ h.inputs ∷ h.latches ∷ h.outputs ∷ h.gates ∷ []
-
-abbrev pub last_of_counts : Counts → List ℕ
-last_of_counts h = h.bads ∷ h.constraints ∷ h.justice ∷ h.fair ∷ []
 
 pub record CountsBack (x : ℕ × ℕ × ℕ × ℕ × ℕ) (y : ℕ × ℕ × ℕ × ℕ) (h : Counts) : Type 0 where
   pub first : five x ≡ first_of_counts h

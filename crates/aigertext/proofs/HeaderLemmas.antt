@@ -1,15 +1,17 @@
 -- The header is read again, however much of its zero tail it keeps.
-use Rattle.std.proofs.Common.{◌≡◌, ℕ, zero, suc, ◌≤◌, false, nat_lt, List, [], ◌∷◌, ◌++◌, length, map, get_or, replicate, decimal, Ok, codes, refl, sym, ap, ◌∙◌, append_assoc, length-append, arith}
+use Rattle.std.proofs.Common.{◌≡◌, ℕ, zero, suc, ◌+◌, ◌≤◌, false, nat_lt, List, [], ◌∷◌, ◌++◌, length, map, get_or, replicate, decimal, Ok, refl, sym, ap, ◌∙◌, append_assoc, length-append, arith}
 use Rattle.std.proofs.lemmas.Bool.{eq-eqb}
 use Rattle.std.proofs.lemmas.Bool.Decides.{nat_tests}
-use Rattle.base.specs.Lines.{IsLine}
+use Rattle.base.specs.Lines.{HasNone, IsLine}
 use Rattle.base.proofs.DecimalLemmas.{number_of-decimal}
 use Rattle.aiger.specs.Limits.{greatest_count}
-use Rattle.aiger.specs.Net.{variables}
-use Rattle.aiger.specs.Circuit.{Circuit, IsCircuit, net}
+use Rattle.aiger.specs.Circuit.{Circuit, IsCircuit}
 use Rattle.aigertext.specs.declared.counts.Counts.{Counts}
-use Rattle.aigertext.specs.declared.forms.Form.TheVariants.{Binary}
-use Rattle.aigertext.specs.Ascii.{numbers_line, first_counts, last_counts}
+use Rattle.aigertext.specs.declared.forms.Form.{Form}
+use Rattle.aigertext.specs.declared.forms.Form.TheVariants.{Ascii, Binary}
+use Rattle.aigertext.specs.Ascii.{numbers_line, form_word}
+use Rattle.aigertext.specs.Counts as counts
+use Rattle.aigertext.specs.Counts.{Fits, first_of_counts, last_of_counts, counts_in}
 use Rattle.aigertext.specs.Spelling.{IsHeader}
 use Rattle.aigertext.specs.Reading.{fields, line_at, number_at, last_at, last_four, first_five, count_of, counts_of, fitting, form_of, header_fields, header_of}
 use Rattle.aigertext.proofs.FieldLemmas.{joined, AreSmall, fields-joined, fields-more, joined_is_line, none_of_both, numbers_line-joined, line_read}
@@ -49,92 +51,102 @@ count-read n le =
     let small : nat_lt greatest_count n ≡ false = grind (arith, nat_tests) in
     rw small refl
 
--- the counts of a circuit
-abbrev pub counts_in : Circuit → Counts
-counts_in c =
-    record {
-      variables = variables (net c);
-      inputs = c.inputs;
-      latches = length c.latches;
-      outputs = length c.outputs;
-      gates = length c.gates;
-      bads = length c.bads;
-      constraints = length c.constraints;
-      justice = length c.justice;
-      fair = length c.fair;
-    }
-
-counts-read : (c : Circuit) → IsCircuit c
-    → counts_of (variables (net c), c.inputs, length c.latches, length c.outputs, length c.gates) (length c.bads, length c.constraints, length c.justice, length c.fair) ≡ Ok (counts_in c)
+counts-read : (h : Counts) → counts.AreSmall h → counts_of (h.variables, h.inputs, h.latches, h.outputs, h.gates) (h.bads, h.constraints, h.justice, h.fair) ≡ Ok h
 unfolding counts_of
-counts-read c valid =
-    let m = count-read (variables (net c)) valid.small in
-    let i = count-read c.inputs (omega (arith, valid.small)) in
-    let l = count-read (length c.latches) (omega (arith, valid.small)) in
-    let o = count-read (length c.outputs) valid.few.outputs in
-    let a = count-read (length c.gates) (omega (arith, valid.small)) in
-    let b = count-read (length c.bads) valid.few.bads in
-    let k = count-read (length c.constraints) valid.few.constraints in
-    let j = count-read (length c.justice) valid.few.justice in
-    let f = count-read (length c.fair) valid.few.fair in
-    rw (m, i, l, o, a, b, k, j, f) refl
+counts-read h small =
+    rw (
+      count-read h.variables small.variables,
+      count-read h.inputs small.inputs,
+      count-read h.latches small.latches,
+      count-read h.outputs small.outputs,
+      count-read h.gates small.gates,
+      count-read h.bads small.bads,
+      count-read h.constraints small.constraints,
+      count-read h.justice small.justice,
+      count-read h.fair small.fair,
+    ) refl
 
-fitting-read : (c : Circuit) → fitting Binary (counts_in c) ≡ Ok (counts_in c)
+fitting-read : (form : Form) (h : Counts) → Fits form h → fitting form h ≡ Ok h
 unfolding fitting
-fitting-read c = rw (eq-eqb (variables (net c)) (variables (net c)) refl) refl
+fitting-read Ascii h fits =
+    let enough : nat_lt h.variables (h.inputs + h.latches + h.gates) ≡ false = grind (arith, nat_tests) in
+    rw enough refl
+fitting-read Binary h fits = rw (eq-eqb h.variables (h.inputs + h.latches + h.gates) fits) refl
+
+form-read : (form : Form) → form_of (form_word form) ≡ Ok form
+unfolding form_of
+form-read Ascii = refl
+form-read Binary = refl
+
+-- a form's word has no space and no byte 10
+word_has_none : (form : Form) → HasNone 32 (form_word form) × IsLine (form_word form)
+word_has_none Ascii = (refl, refl)
+word_has_none Binary = (refl, refl)
 
 -- the numbers are small
 small_front : (xs ys : List ℕ) → AreSmall (xs ++ ys) → AreSmall xs
 small_front [] ys small = tt
 small_front (x ∷ xs) ys small = (small.0, small_front xs ys small.1)
 
-last_small : (c : Circuit) → IsCircuit c → AreSmall (last_counts c)
-last_small c valid = (omega (arith, valid.few.bads), (omega (arith, valid.few.constraints), (omega (arith, valid.few.justice), (omega (arith, valid.few.fair), tt))))
+-- the numbers of a circuit
+pub circuit_counts : (c : Circuit) → IsCircuit c → counts.AreSmall (counts_in c)
+circuit_counts c valid = record {
+  variables = valid.small;
+  inputs = omega (arith, valid.small);
+  latches = omega (arith, valid.small);
+  outputs = valid.few.outputs;
+  gates = omega (arith, valid.small);
+  bads = valid.few.bads;
+  constraints = valid.few.constraints;
+  justice = valid.few.justice;
+  fair = valid.few.fair;
+}
+
+last_small : (h : Counts) → counts.AreSmall h → AreSmall (last_of_counts h)
+last_small h small = (omega (arith, small.bads), (omega (arith, small.constraints), (omega (arith, small.justice), (omega (arith, small.fair), tt))))
+
+put_together : (word numbers rest : List ℕ) → (word ++ 32 ∷ (numbers ++ 10 ∷ [])) ++ rest ≡ (word ++ 32 ∷ numbers) ++ 10 ∷ rest
+put_together word numbers rest = simp append_assoc
 
 -- the fields of a header
-module _ (c : Circuit) (kept : List ℕ) (dropped : ℕ) (counts : kept ++ replicate dropped 0 ≡ last_counts c) (valid : IsCircuit c) where
+module _ (form : Form) (h : Counts) (kept : List ℕ) (dropped : ℕ) (told : kept ++ replicate dropped 0 ≡ last_of_counts h) (small : counts.AreSmall h) (fits : Fits form h) where
   kept_small : AreSmall kept
-  kept_small = small_front kept (replicate dropped 0) (rw counts (last_small c valid))
+  kept_small = small_front kept (replicate dropped 0) (rw told (last_small h small))
 
   kept_few : length kept ≤ 4
-  kept_few = omega (arith, length-append kept (replicate dropped 0), ap (length {A = ℕ}) counts)
+  kept_few = omega (arith, length-append kept (replicate dropped 0), ap (length {A = ℕ}) told)
 
-  all_small : AreSmall (first_counts c ++ kept)
-  all_small = (omega (arith, valid.small), (omega (arith, valid.small), (omega (arith, valid.small), (omega (arith, valid.few.outputs), (omega (arith, valid.small), kept_small)))))
+  all_small : AreSmall (first_of_counts h ++ kept)
+  all_small = (omega (arith, small.variables), (omega (arith, small.inputs), (omega (arith, small.latches), (omega (arith, small.outputs), (omega (arith, small.gates), kept_small)))))
 
-  kept_is : (i : ℕ) → get_or kept i 0 ≡ get_or (last_counts c) i 0
-  kept_is i = sym (kept_at kept dropped i) ∙ ap (λ (l : List ℕ). get_or l i 0) counts
+  kept_is : (i : ℕ) → get_or kept i 0 ≡ get_or (last_of_counts h) i 0
+  kept_is i = sym (kept_at kept dropped i) ∙ ap (λ (l : List ℕ). get_or l i 0) told
 
-  last_is : last_four (map decimal kept) ≡ Ok (length c.bads, length c.constraints, length c.justice, length c.fair)
+  last_is : last_four (map decimal kept) ≡ Ok (h.bads, h.constraints, h.justice, h.fair)
   last_is = last-read kept kept_small kept_few ∙ (rw (kept_is 0, kept_is 1, kept_is 2, kept_is 3) refl)
 
-  fields-read : header_fields (codes "aig" ∷ map decimal (first_counts c ++ kept)) ≡ Ok (Binary, counts_in c)
-  unfolding header_fields form_of
+  fields-read : header_fields (form_word form ∷ map decimal (first_of_counts h ++ kept)) ≡ Ok (form, h)
+  unfolding header_fields
   fields-read =
-      let five = first-read (variables (net c)) c.inputs (length c.latches) (length c.outputs) (length c.gates) kept all_small in
-      let all = counts-read c valid in
-      rw (five, last_is, all, fitting-read c) refl
+      let five = first-read h.variables h.inputs h.latches h.outputs h.gates kept all_small in
+      rw (form-read form, five, last_is, counts-read h small, fitting-read form h fits) refl
 
-  header_line : List ℕ
-  header_line = codes "aig" ++ 32 ∷ joined (first_counts c ++ kept)
-
-  line-says : header_of (codes "aig" ++ 32 ∷ joined (first_counts c ++ kept)) ≡ Ok (Binary, counts_in c)
+  line-says : header_of (form_word form ++ 32 ∷ joined (first_of_counts h ++ kept)) ≡ Ok (form, h)
   line-says =
-      let cut : fields (codes "aig" ++ 32 ∷ joined (first_counts c ++ kept)) ≡ codes "aig" ∷ map decimal (first_counts c ++ kept) =
-      fields-more (codes "aig") (joined (first_counts c ++ kept)) refl
-      ∙ ap (λ (l : List (List ℕ)). codes "aig" ∷ l) (fields-joined (variables (net c)) (c.inputs ∷ length c.latches ∷ length c.outputs ∷ length c.gates ∷ kept) all_small) in
+      let cut : fields (form_word form ++ 32 ∷ joined (first_of_counts h ++ kept)) ≡ form_word form ∷ map decimal (first_of_counts h ++ kept) =
+      fields-more (form_word form) (joined (first_of_counts h ++ kept)) (word_has_none form).0
+      ∙ ap (λ (l : List (List ℕ)). form_word form ∷ l) (fields-joined h.variables (h.inputs ∷ h.latches ∷ h.outputs ∷ h.gates ∷ kept) all_small) in
       ap header_fields cut ∙ fields-read
 
-  is_line : IsLine (codes "aig" ++ 32 ∷ joined (first_counts c ++ kept))
-  is_line = none_of_both 10 (codes "aig ") (joined (first_counts c ++ kept)) refl (joined_is_line (first_counts c ++ kept) all_small)
+  is_line : IsLine (form_word form ++ 32 ∷ joined (first_of_counts h ++ kept))
+  is_line = none_of_both 10 (form_word form) (32 ∷ joined (first_of_counts h ++ kept)) (word_has_none form).1 (joined_is_line (first_of_counts h ++ kept) all_small)
 
-  at-read : (rest : List ℕ) → line_at header_of ((codes "aig" ++ 32 ∷ numbers_line (first_counts c ++ kept)) ++ rest) ≡ Ok ((Binary, counts_in c), rest)
+  at-read : (rest : List ℕ) → line_at header_of ((form_word form ++ 32 ∷ numbers_line (first_of_counts h ++ kept)) ++ rest) ≡ Ok ((form, h), rest)
   at-read rest =
-      let text : (codes "aig" ++ 32 ∷ numbers_line (first_counts c ++ kept)) ++ rest ≡ (codes "aig" ++ 32 ∷ joined (first_counts c ++ kept)) ++ 10 ∷ rest =
-      ap (λ (l : List ℕ). (codes "aig" ++ 32 ∷ l) ++ rest) (numbers_line-joined (first_counts c ++ kept))
-      ∙ ap (λ (l : List ℕ). codes "aig " ++ l) (append_assoc (joined (first_counts c ++ kept)) (10 ∷ []) rest) in
+      let text : (form_word form ++ 32 ∷ numbers_line (first_of_counts h ++ kept)) ++ rest ≡ (form_word form ++ 32 ∷ joined (first_of_counts h ++ kept)) ++ 10 ∷ rest =
+      ap (λ (l : List ℕ). (form_word form ++ 32 ∷ l) ++ rest) (numbers_line-joined (first_of_counts h ++ kept)) ∙ put_together (form_word form) (joined (first_of_counts h ++ kept)) rest in
       ap (line_at header_of) text
-      ∙ line_read header_of (codes "aig" ++ 32 ∷ joined (first_counts c ++ kept)) rest (Binary, counts_in c) is_line line-says
+      ∙ line_read header_of (form_word form ++ 32 ∷ joined (first_of_counts h ++ kept)) rest (form, h) is_line line-says
 
-pub header-read : (c : Circuit) (bytes rest : List ℕ) → IsHeader Binary c bytes → IsCircuit c → line_at header_of (bytes ++ rest) ≡ Ok ((Binary, counts_in c), rest)
-header-read c bytes rest h valid = ap (λ (l : List ℕ). line_at header_of (l ++ rest)) h.spelled ∙ at-read c h.kept h.dropped h.counts valid rest
+pub header-read : (form : Form) (h : Counts) (bytes rest : List ℕ) → IsHeader form h bytes → counts.AreSmall h → Fits form h → line_at header_of (bytes ++ rest) ≡ Ok ((form, h), rest)
+header-read form h bytes rest is small fits = ap (λ (l : List ℕ). line_at header_of (l ++ rest)) is.spelled ∙ at-read form h is.kept is.dropped is.counts small fits rest

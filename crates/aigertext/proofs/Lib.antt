@@ -32,3 +32,8 @@ mod UseLemmas
 mod PassOverLemmas
 mod HeaderSmallLemmas
 mod OneAnswerLemmas
+mod OntoLemmas
+mod FileReadLemmas
+mod FileBackLemmas
+mod AsciiStandsLemmas
+mod AsciiWrittenLemmas

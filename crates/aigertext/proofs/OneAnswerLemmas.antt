@@ -1,5 +1,5 @@
--- A text has at most one answer.
-use Rattle.std.proofs.Common.{◌≡◌, ℕ, ◌<◌, List, length, Some, None, Result, Ok, Err, sym, ap, ◌∙◌, inl, inr, ◌⊎◌, arith}
+-- A text has exactly one answer.
+use Rattle.std.proofs.Common.{◌≡◌, ℕ, ◌<◌, List, length, Option, Some, None, Result, Ok, Err, refl, sym, ap, ◌∙◌, inl, inr, ◌⊎◌, arith}
 use Rattle.aiger.specs.Circuit.{Circuit}
 use Rattle.aiger.specs.Loose.{Loose, IsLoose}
 use Rattle.aiger.specs.Renumbering.{IsRenumbered, IsFirstCyclic, LeadsToCycle, first_undefined}
@@ -8,8 +8,11 @@ use Rattle.aigertext.specs.declared.fault.Stop.{Stop}
 use Rattle.aigertext.specs.declared.fault.Why.TheVariants as why
 use Rattle.aigertext.specs.declared.forms.Form.{Form}
 use Rattle.aigertext.specs.declared.forms.Form.TheVariants.{Ascii, Binary}
-use Rattle.aigertext.specs.Reading.{line_at, header_of, names_at}
+use Rattle.aigertext.specs.Counts.{AreSmall, Fits}
+use Rattle.aigertext.specs.Reading.{line_at, header_of, names_at, binary_at}
 use Rattle.aigertext.specs.AsciiReading.{lists_of_file, lines_before, use_of_gate, stop_behind, AnswersNamed, AnswersUndefined, AnswersCycle, AnswersLists, AnswersBody, AnswersHeader, AnswersText}
+use Rattle.aigertext.proofs.FileBackLemmas.{lists-back}
+use Rattle.aigertext.proofs.HeaderSmallLemmas.{IsHeaderOf, header_small}
 use Rattle.aigertext.proofs.PassOverLemmas.{cyclic_within}
 
 -- the laws of renumbering
@@ -58,3 +61,32 @@ one_answer same_circuit no_cycle text a b = by (line_at header_of text)
     by : (r : Result ((Form × Counts) × List ℕ) Stop) → AnswersHeader r a → AnswersHeader r b → a ≡ b
     by (Ok x) p q = body x.0.0 x.0.1 x.1 p q
     by (Err w) p q = p ∙ sym q
+
+-- ---- there is one
+
+abbrev pub EitherLaw : Type 0
+EitherLaw = (l : Loose) → IsLoose l → first_undefined l ≡ None → ((c : Circuit) × IsRenumbered l c) ⊎ ((j : ℕ) × IsFirstCyclic l j)
+
+pub some_answer : EitherLaw → (text : List ℕ) → (a : Result Circuit Stop) × AnswersText text a
+unfolding AnswersText
+some_answer either text = by (line_at header_of text) refl
+  where
+    defined : (h : Counts) (rest : List ℕ) (l : Loose) (end : List ℕ) → IsLoose l → first_undefined l ≡ None → ((c : Circuit) × IsRenumbered l c) ⊎ ((j : ℕ) × IsFirstCyclic l j) → (a : Result Circuit Stop) × AnswersLists h rest (Ok (l, end)) a
+    defined h rest l end valid known (inl c) = (names_at c.0 end, (valid, inl (record { circuit = c.0; is_renumbered = c.1; is = refl })))
+    defined h rest l end valid known (inr j) = (Err (stop_behind rest (lines_before h (use_of_gate l j.0)) why.Cycle), (valid, inr (inr (record { gate = j.0; known = known; cyclic = j.1; is = refl }))))
+
+    lists_by : (h : Counts) (rest : List ℕ) (l : Loose) (end : List ℕ) → IsLoose l → (r : Option ℕ) → first_undefined l ≡ r → (a : Result Circuit Stop) × AnswersLists h rest (Ok (l, end)) a
+    lists_by h rest l end valid (Some k) e = (Err (stop_behind rest (lines_before h k) why.Undefined), (valid, inr (inl (record { line = k; undefined = e; is = refl }))))
+    lists_by h rest l end valid None e = defined h rest l end valid e (either l valid e)
+
+    lists : (h : Counts) (rest : List ℕ) → AreSmall h → Fits Ascii h → (r : Result (Loose × List ℕ) Stop) → lists_of_file h rest ≡ r → (a : Result Circuit Stop) × AnswersLists h rest r a
+    lists h rest small fits (Ok x) e = lists_by h rest x.0 x.1 (lists-back h rest x.0 x.1 small fits e).valid (first_undefined x.0) refl
+    lists h rest small fits (Err w) e = (Err w, refl)
+
+    body : (form : Form) (h : Counts) (rest : List ℕ) → IsHeaderOf form h → (a : Result Circuit Stop) × AnswersBody form h rest a
+    body Ascii h rest is = lists h rest is.small is.fits (lists_of_file h rest) refl
+    body Binary h rest is = (binary_at h rest, refl)
+
+    by : (r : Result ((Form × Counts) × List ℕ) Stop) → line_at header_of text ≡ r → (a : Result Circuit Stop) × AnswersHeader r a
+    by (Ok x) e = body x.0.0 x.0.1 x.1 (header_small text x.1 x.0.0 x.0.1 e)
+    by (Err w) e = (Err w, refl)

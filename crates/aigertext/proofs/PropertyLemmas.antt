@@ -1,5 +1,5 @@
 -- The lines of latches and properties are read again.
-use Rattle.std.proofs.Common.{◌≡◌, ◌≢◌, ℕ, suc, ◌+◌, ◌-◌, ◌*◌, ◌^◌, ◌<◌, ◌≤◌, List, [], ◌∷◌, ◌++◌, length, map, decimal, Some, Ok, refl, sym, ap, ◌∙◌, append_assoc, length-append, inl, inr, arith}
+use Rattle.std.proofs.Common.{◌≡◌, ◌≢◌, ℕ, suc, ◌+◌, ◌-◌, ◌*◌, ◌^◌, ◌<◌, ◌≤◌, List, [], ◌∷◌, ◌++◌, length, map, decimal, Some, Ok, refl, sym, ap, ◌∙◌, append_assoc, length-append, inl, inr, ◌⊎◌, arith}
 use Rattle.std.specs.List.{All, concat, sum, sum_by}
 use Rattle.std.proofs.lemmas.Bool.{ne_eqb, eq-eqb, le-leb}
 use Rattle.std.proofs.lemmas.List.Elements.{All-head, All-tail}
@@ -20,7 +20,7 @@ use Rattle.aigertext.proofs.FieldLemmas.{joined, fields-joined, numbers_read, li
 
 -- ---- literals
 
-within-read : (w : Why) (greatest n : ℕ) → n ≤ greatest → greatest < 2 ^ 64 → within w greatest (number_of (decimal n)) ≡ Ok n
+pub within-read : (w : Why) (greatest n : ℕ) → n ≤ greatest → greatest < 2 ^ 64 → within w greatest (number_of (decimal n)) ≡ Ok n
 within-read w greatest n le small = rw (number_of-decimal n (omega arith), le-leb n greatest le) refl
 
 literal-read : (greatest l : ℕ) → l ≤ greatest → greatest < 2 ^ 64 → literal_of greatest (decimal l) ≡ Ok l
@@ -75,6 +75,19 @@ lists_of-concat (ls ∷ lists) = rw (take-append_seam ls (concat lists), drop-ap
 
 -- ---- latches
 
+-- the numbers that say how a latch begins: none, or one that is read as it
+abbrev pub IsTold : ℕ → Reset → List ℕ → Type 0
+IsTold own r numbers = ((numbers ≡ []) × (r ≡ Zero)) ⊎ ((n : ℕ) × ((numbers ≡ n ∷ []) × (n < 2 ^ 64) × (reset_of own (Some n) ≡ Ok r)))
+
+pub reset-told : (own : ℕ) (r : Reset) (numbers : List ℕ) → 2 ≤ own → own < 2 ^ 64 → IsReset own r numbers → IsTold own r numbers
+reset-told own Zero numbers above small (inl none) = inl (none, refl)
+reset-told own Zero numbers above small (inr zero') = inr (0, (zero', omega arith, refl))
+reset-told own One numbers above small one = inr (1, (one, omega arith, refl))
+reset-told own Free numbers above small free =
+    let some : own ≢ 0 = omega arith in
+    let more : own ≢ 1 = omega arith in
+    inr (own, (free, small, rw (ne_eqb own 0 some, ne_eqb own 1 more, eq-eqb own own refl) refl))
+
 -- a latch with this next literal that begins so
 module _ (greatest own next : ℕ) (le : next ≤ greatest) (small : greatest < 2 ^ 64) (above : 2 ≤ own) (own_small : own < 2 ^ 64) where
   only_next : next_of greatest own (joined (next ∷ [])) ≡ Ok (record { next = next; reset = Zero })
@@ -89,21 +102,12 @@ module _ (greatest own next : ℕ) (le : next ≤ greatest) (small : greatest < 
       let f = fields-joined next (n ∷ []) (omega arith, (n_small, tt)) in
       rw (f, within-read why.BadLatch greatest next le small, number_of-decimal n n_small, e) refl
 
-  own_is_free : reset_of own (Some own) ≡ Ok Free
-  own_is_free =
-      let some : own ≢ 0 = omega arith in
-      let more : own ≢ 1 = omega arith in
-      rw (ne_eqb own 0 some, ne_eqb own 1 more, eq-eqb own own refl) refl
-
   reset-read : (r : Reset) (numbers rest : List ℕ) → IsReset own r numbers → line_at (next_of greatest own) (numbers_line (next ∷ numbers) ++ rest) ≡ Ok (record { next = next; reset = r }, rest)
-  reset-read Zero numbers rest (inl none) =
-      rw none (numbers_read (next_of greatest own) (next ∷ []) rest (record { next = next; reset = Zero }) (omega arith, tt) only_next)
-  reset-read Zero numbers rest (inr zero') =
-      rw zero' (numbers_read (next_of greatest own) (next ∷ 0 ∷ []) rest (record { next = next; reset = Zero }) (omega arith, (omega arith, tt)) (with_reset 0 Zero (omega arith) refl))
-  reset-read One numbers rest one =
-      rw one (numbers_read (next_of greatest own) (next ∷ 1 ∷ []) rest (record { next = next; reset = One }) (omega arith, (omega arith, tt)) (with_reset 1 One (omega arith) refl))
-  reset-read Free numbers rest free =
-      rw free (numbers_read (next_of greatest own) (next ∷ own ∷ []) rest (record { next = next; reset = Free }) (omega arith, (own_small, tt)) (with_reset own Free own_small own_is_free))
+  reset-read r numbers rest is = by (reset-told own r numbers above own_small is)
+    where
+      by : IsTold own r numbers → line_at (next_of greatest own) (numbers_line (next ∷ numbers) ++ rest) ≡ Ok (record { next = next; reset = r }, rest)
+      by (inl x) = rw (x.0, x.1) (numbers_read (next_of greatest own) (next ∷ []) rest (record { next = next; reset = Zero }) (omega arith, tt) only_next)
+      by (inr x) = rw (x.1.0) (numbers_read (next_of greatest own) (next ∷ x.0 ∷ []) rest (record { next = next; reset = r }) (omega arith, (x.1.1, tt)) (with_reset x.0 r x.1.1 x.1.2))
 
 pub nexts-read : (greatest own : ℕ) (ls : List Latch) (bytes rest : List ℕ) → AreNextLines own ls bytes → All (λ l. l.next ≤ greatest) ls → greatest < 2 ^ 64 → 2 ≤ own → own + 2 * length ls < 2 ^ 64
     → nexts_at greatest own (length ls) (bytes ++ rest) ≡ Ok (ls, rest)

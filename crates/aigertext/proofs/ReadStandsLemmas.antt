@@ -1,27 +1,35 @@
 -- What reading gives stands for the text.
-use Rattle.std.proofs.Common.{◌≡◌, ℕ, suc, ◌+◌, ◌-◌, ◌*◌, ◌^◌, ◌<◌, ◌≤◌, List, [], ◌∷◌, ◌++◌, length, map, take, drop, codes, Ok, refl, sym, ap, subst, ◌∙◌, append_assoc, arith}
+use Rattle.std.proofs.Common.{◌≡◌, ℕ, zero, suc, ◌+◌, ◌-◌, ◌*◌, ◌^◌, ◌<◌, ◌≤◌, List, [], ◌∷◌, ◌++◌, length, map, take, drop, All, nat_le, Option, Some, None, Ok, Err, inl, inr, refl, sym, ap, subst, ◌∙◌, append_assoc, arith}
 use Rattle.std.specs.List.{concat, sum}
 use Rattle.std.proofs.lemmas.List.{length-take-le, take-append-drop, length-drop}
-use Rattle.std.proofs.lemmas.List.Sums.{sum-map, sum_by-cons}
+use Rattle.std.proofs.lemmas.List.Elements.{All-from_recursion}
 use Rattle.aiger.specs.declared.circuit.Latch.{Latch}
 use Rattle.aiger.specs.declared.circuit.Gate.{Gate}
 use Rattle.aiger.specs.declared.circuit.Section.TheVariants as section
 use Rattle.aiger.specs.Limits.{greatest_count}
 use Rattle.aiger.specs.Circuit.{Circuit, IsCircuit, with_name}
+use Rattle.base.specs.Decimals.{number_of}
+use Rattle.base.proofs.DecimalLemmas.{chosen}
+use Rattle.std.proofs.lemmas.Bool.{leb-true}
 use Rattle.aigertext.specs.declared.counts.Counts.{Counts}
+use Rattle.aigertext.specs.declared.fault.Why.TheVariants as why
+use Rattle.aigertext.specs.declared.forms.Form.{Form}
 use Rattle.aigertext.specs.declared.forms.Form.TheVariants.{Binary}
-use Rattle.aigertext.specs.Ascii.{numbers_line, literal_lines, size_lines, property_lines, first_counts, last_counts}
+use Rattle.aigertext.specs.Ascii.{form_word, numbers_line, literal_lines, size_lines, property_lines}
+use Rattle.aigertext.specs.Counts.{first_of_counts, last_of_counts, counts_in}
 use Rattle.aigertext.specs.Binary.{gate_deltas}
-use Rattle.aigertext.specs.Spelling.{AreNextLines, GiveNames, Given, IsEnd, IsBinaryText}
-use Rattle.aigertext.specs.Reading.{Properties, lists_of, line_at, literals_at, sizes_at, nexts_at, gates_at, properties_at, nameless, binary_at, header_of}
-use Rattle.aigertext.proofs.BackLemmas.{ok_same, bind-back, literals-back, sizes-back, SaysAt, line-back}
+use Rattle.aigertext.specs.Spelling.{IsHeader, AreNextLines, GiveNames, Given, IsEnd, IsBinaryText}
+use Rattle.aigertext.specs.Reading.{Properties, lists_of, line_at, size_within, size_of, literals_at, sizes_at, nexts_at, gates_at, properties_at, nameless, binary_at, header_of}
+use Rattle.aigertext.proofs.BackLemmas.{ok_same, not_err, bind-back, lines-back, literals-back, sizes-back, SaysAt, line-back}
 use Rattle.aigertext.proofs.FieldLemmas.{joined, numbers_line-joined}
 use Rattle.aigertext.proofs.GateBackLemmas.{AreBytes, bytes_behind, AreGatesAt, gates-back}
-use Rattle.aigertext.proofs.HeaderBackLemmas.{HeaderBack, header-back, AreCounts, first_of_counts, last_of_counts, list_of_five, list_of_four}
+use Rattle.aigertext.proofs.HeaderBackLemmas.{HeaderBack, header-back, AreCounts}
 use Rattle.aigertext.proofs.LatchBackLemmas.{AreLatchesAt, nexts-back}
 use Rattle.aigertext.proofs.NameBackLemmas.{names-back}
 use Rattle.aigertext.proofs.NameReadLemmas.{HasFewPositions}
-use Rattle.aigertext.proofs.StandsLemmas.{property_text}
+use Rattle.aigertext.proofs.ListLemmas.{literals_small}
+use Rattle.aigertext.proofs.PassLemmas.{sum_of_cons}
+use Rattle.aigertext.proofs.StandsLemmas.{HasUpTo, property_text}
 
 -- ---- lists of given sizes
 
@@ -29,17 +37,8 @@ fits_front : (n : ℕ) (ns literals : List ℕ) → length literals ≡ sum (n �
 fits_front n ns literals e =
     let whole : sum (n ∷ ns) ≡ n + sum ns = sum_of_cons n ns in
     (omega (arith, e, whole), omega (arith, e, whole, length-drop n literals))
-  where
-    same_map : (ns : List ℕ) → map (λ (n : ℕ). n) ns ≡ ns
-    same_map [] = refl
-    same_map (n ∷ ns) = ap (λ (l : List ℕ). n ∷ l) (same_map ns)
 
-    sum_of_cons : (n : ℕ) (ns : List ℕ) → sum (n ∷ ns) ≡ n + sum ns
-    sum_of_cons n ns =
-        ap sum (sym (same_map (n ∷ ns))) ∙ sum-map (λ (m : ℕ). m) (n ∷ ns) ∙ sum_by-cons (λ (m : ℕ). m) n ns
-        ∙ ap (λ (k : ℕ). n + k) (sym (sum-map (λ (m : ℕ). m) ns) ∙ ap sum (same_map ns))
-
-sizes_of_lists : (ns literals : List ℕ) → length literals ≡ sum ns → map length (lists_of ns literals) ≡ ns
+pub sizes_of_lists : (ns literals : List ℕ) → length literals ≡ sum ns → map length (lists_of ns literals) ≡ ns
 sizes_of_lists [] literals e = refl
 sizes_of_lists (n ∷ ns) literals e =
     let fits = fits_front n ns literals e in
@@ -62,6 +61,29 @@ size_lines-is (ls ∷ lists) = ap (λ (l : List ℕ). numbers_line (length ls �
 
 -- ---- properties
 
+-- all sizes together are within the limit
+size_fits : (before n : ℕ) (line : List ℕ) → size_of before line ≡ Ok n → n ≤ greatest_count - before
+unfolding size_of
+size_fits before n line e = by (number_of line) e
+  where
+    by : (r : Option ℕ) → size_within before r ≡ Ok n → n ≤ greatest_count - before
+    by None g = absurd (not_err _ _ g)
+    by (Some m) g =
+        elim (chosen (nat_le m (greatest_count - before)) (Ok m) (Err why.TooBig) (Ok n) g) [
+          | inl fits ↦ subst (λ (k : ℕ). k ≤ greatest_count - before) (ok_same m n fits.1) (leb-true m (greatest_count - before) fits.0)
+          | inr wrong ↦ absurd (not_err _ _ wrong.1)
+        ]
+
+sizes_total : (before n : ℕ) (text ls rest : List ℕ) → before ≤ greatest_count → sizes_at before n text ≡ Ok (ls, rest) → before + sum ls ≤ greatest_count
+sizes_total before zero text ls rest few e =
+    let none : [] ≡ ls = ap (λ (p : List ℕ × List ℕ). p.0) (ok_same ([], text) (ls, rest) e) in
+    subst (λ (ns : List ℕ). before + sum ns ≤ greatest_count) none (omega (arith, few))
+sizes_total before (suc n) text ls rest few e =
+    let b = lines-back size_of (λ b size. b + size) before n text ls rest e in
+    let fits = size_fits before b.first b.one.line b.one.said in
+    let others = sizes_total (before + b.first) n b.after b.others rest (omega (arith, fits, few)) b.more in
+    subst (λ (ns : List ℕ). before + sum ns ≤ greatest_count) (sym b.all) (omega (arith, others, sum_of_cons b.first b.others))
+
 pub record PropertiesBack (h : Counts) (text : List ℕ) (p : Properties) (rest : List ℕ) : Type 0 where
   pub parts : text ≡ literal_lines p.outputs ++ (literal_lines p.bads ++ (literal_lines p.constraints ++ (literal_lines p.sizes ++ (literal_lines p.listed ++ (literal_lines p.fair ++ rest)))))
   pub outputs : length p.outputs ≡ h.outputs
@@ -70,6 +92,8 @@ pub record PropertiesBack (h : Counts) (text : List ℕ) (p : Properties) (rest 
   pub sizes : length p.sizes ≡ h.justice
   pub listed : length p.listed ≡ sum p.sizes
   pub fair : length p.fair ≡ h.fair
+  pub total : sum p.sizes ≤ greatest_count
+  pub up_to : HasUpTo (2 * h.variables + 1) (nameless 0 [] p [])
 
 six_parts : (t a b c d e a' b' c' d' e' f r : List ℕ) → t ≡ a ++ a' → a' ≡ b ++ b' → b' ≡ c ++ c' → c' ≡ d ++ d' → d' ≡ e ++ e' → e' ≡ f ++ r → t ≡ a ++ (b ++ (c ++ (d ++ (e ++ (f ++ r)))))
 six_parts t a b c d e a' b' c' d' e' f r p q s u v w =
@@ -102,12 +126,23 @@ properties-back h text p rest few e =
       sizes = s'.count;
       listed = j'.count;
       fair = f'.count;
+      total = omega (arith, sizes_total 0 h.justice c.value.1 s.value.0 s.value.1 (omega arith) s.was);
+      up_to = record {
+        outputs = below h.outputs text o.value.0 o.value.1 o.was;
+        bads = below h.bads o.value.1 b.value.0 b.value.1 b.was;
+        constraints = below h.constraints b.value.1 c.value.0 c.value.1 c.was;
+        justice = subst (All (λ n. n ≤ 2 * h.variables + 1)) (sym (concat_of_lists s.value.0 j.value.0 j'.count)) (below (sum s.value.0) s.value.1 j.value.0 j.value.1 j.was);
+        fair = below h.fair j.value.1 f.value.0 f.value.1 f.was;
+      };
     })
+  where
+    below : (n : ℕ) (text ls rest : List ℕ) → literals_at (2 * h.variables + 1) n text ≡ Ok (ls, rest) → All (λ l. l ≤ 2 * h.variables + 1) ls
+    below n text ls rest e = All-from_recursion (λ l. l ≤ 2 * h.variables + 1) ls (literals_small (2 * h.variables + 1) n text ls rest e).small
 
 -- ---- the circuit
 
 -- names change nothing else
-names_alone : (c : Circuit) (gs : List Given) (d : Circuit) → GiveNames c gs d → ◌≡◌ {A = Circuit} (record c { names = [] }) (record d { names = [] })
+pub names_alone : (c : Circuit) (gs : List Given) (d : Circuit) → GiveNames c gs d → ◌≡◌ {A = Circuit} (record c { names = [] }) (record d { names = [] })
 names_alone c [] d e = ap (λ (x : Circuit). record x { names = [] }) e
 names_alone c (g ∷ gs) d e = names_alone (with_name c g.section g.position g.name) gs d e.1
 
@@ -116,14 +151,13 @@ pub record IsBody (h : Counts) (text : List ℕ) (end : List ℕ) (c : Circuit) 
   pub latches : List ℕ
   pub are_latches : AreNextLines (2 * suc c.inputs) c.latches latches
   pub whole : text ≡ latches ++ (property_lines c ++ (gate_deltas (suc (c.inputs + length c.latches)) c.gates ++ end))
-  pub first : first_of_counts h ≡ first_counts c
-  pub last : last_of_counts h ≡ last_counts c
+  pub counts : h ≡ counts_in c
 
-length_lists : (ns literals : List ℕ) → length (lists_of ns literals) ≡ length ns
+pub length_lists : (ns literals : List ℕ) → length (lists_of ns literals) ≡ length ns
 length_lists [] literals = refl
 length_lists (n ∷ ns) literals = ap suc (length_lists ns (drop n literals))
 
-property_is : (inputs : ℕ) (ls : List Latch) (p : Properties) (gs : List Gate) (rest : List ℕ) → length p.listed ≡ sum p.sizes
+pub property_is : (inputs : ℕ) (ls : List Latch) (p : Properties) (gs : List Gate) (rest : List ℕ) → length p.listed ≡ sum p.sizes
     → property_lines (nameless inputs ls p gs) ++ rest
     ≡ literal_lines p.outputs ++ (literal_lines p.bads ++ (literal_lines p.constraints ++ (literal_lines p.sizes ++ (literal_lines p.listed ++ (literal_lines p.fair ++ rest)))))
 property_is inputs ls p gs rest e =
@@ -158,8 +192,7 @@ module _ (h : Counts) (text : List ℕ) (c : Circuit) (ls : List Latch) (after :
         ∙ ap (λ (t : List ℕ). l.bytes ++ t) (q.parts ∙ sym (property_is h.inputs ls p gs behind q.listed))
         ∙ ap (λ (t : List ℕ). l.bytes ++ (property_lines (nameless h.inputs ls p gs) ++ t))
         (g.parts ∙ ap (λ (n : ℕ). gate_deltas (suc (h.inputs + n)) gs ++ end) (sym l.count));
-    first = list_of_five h.variables h.inputs h.latches h.outputs h.gates (h.inputs + length ls + length gs) h.inputs (length ls) (length p.outputs) (length gs) (omega (arith, l.count, g.count, fits)) refl l.count q.outputs g.count;
-    last = list_of_four h.bads h.constraints h.justice h.fair (length p.bads) (length p.constraints) (length (lists_of p.sizes p.listed)) (length p.fair) q.bads q.constraints (length_lists p.sizes p.listed ∙ q.sizes) q.fair;
+    counts = rw (fits, l.count, q.outputs, g.count, q.bads, q.constraints, length_lists p.sizes p.listed ∙ q.sizes, q.fair) refl;
   }
 
 -- the sections and the end of a circuit's text
@@ -192,20 +225,28 @@ binary-back h text c few_first few_last fits bytes e =
     }
   where
     body_of : (h : Counts) (text end : List ℕ) (c : Circuit) → IsBody h text end (record c { names = [] }) → IsBody h text end c
-    body_of h text end c b = record { latches = b.latches; are_latches = b.are_latches; whole = b.whole; first = b.first; last = b.last }
+    body_of h text end c b = record { latches = b.latches; are_latches = b.are_latches; whole = b.whole; counts = b.counts }
 
 -- ---- the text
+
+-- the line of a header is one of the format
+pub header_spelled : (form : Form) (line : List ℕ) (h : Counts) → HeaderBack form line h → IsHeader form h (line ++ 10 ∷ [])
+header_spelled form line h k =
+    record {
+      kept = k.kept;
+      dropped = k.dropped;
+      counts = k.counts;
+      spelled =
+          ap (λ (l : List ℕ). l ++ 10 ∷ []) k.line_is ∙ append_assoc (form_word form) (32 ∷ joined (first_of_counts h ++ k.kept)) (10 ∷ [])
+          ∙ ap (λ (l : List ℕ). form_word form ++ 32 ∷ l) (sym (numbers_line-joined (first_of_counts h ++ k.kept)));
+    }
 
 -- a text with a header of the binary form
 with_header : (text : List ℕ) (c : Circuit) (h : Counts) (rest : List ℕ) → IsCircuit c → (s : SaysAt header_of text (Binary, h) rest) → HeaderBack Binary s.line h → BinaryBack h rest c → IsBinaryText text c
 with_header text c h rest valid s k b =
-    let numbers = first_counts c ++ k.kept in
-    let line : s.line ++ 10 ∷ [] ≡ codes "aig" ++ 32 ∷ numbers_line (first_counts c ++ k.kept) =
-    ap (λ (l : List ℕ). l ++ 10 ∷ []) (k.line_is ∙ ap (λ (ns : List ℕ). codes "aig" ++ 32 ∷ joined (ns ++ k.kept)) b.body.first)
-    ∙ ap (λ (l : List ℕ). codes "aig " ++ l) (sym (numbers_line-joined (first_counts c ++ k.kept))) in
     record {
       header = s.line ++ 10 ∷ [];
-      is_header = record { kept = k.kept; dropped = k.dropped; counts = k.counts ∙ b.body.last; spelled = line };
+      is_header = subst (λ (g : Counts). IsHeader Binary g (s.line ++ 10 ∷ [])) b.body.counts (header_spelled Binary s.line h k);
       latches = b.body.latches;
       are_latches = b.body.are_latches;
       end = b.end;

@@ -1,7 +1,7 @@
 -- A binary text that stands for a circuit is read as it, and what is written stands for what was written.
 use Rattle.std.proofs.Common.{◌≡◌, ℕ, suc, ◌+◌, ◌*◌, ◌^◌, ◌<◌, ◌≤◌, List, [], ◌∷◌, ◌++◌, length, map, Result, Ok, refl, sym, ap, ◌∙◌, append_assoc, arith, Err, subst}
 use Rattle.std.specs.Prelude.{All}
-use Rattle.std.specs.List.{concat}
+use Rattle.std.specs.List.{concat, sum_by}
 use Rattle.std.proofs.lemmas.List.Elements.{All-weaker, All-nil, All-head, All-tail, All-append}
 use Rattle.aiger.specs.declared.circuit.Latch.{Latch}
 use Rattle.aiger.specs.declared.circuit.Section.TheVariants as section
@@ -11,14 +11,16 @@ use Rattle.aiger.specs.Circuit.{Circuit, IsCircuit, net}
 use Rattle.aiger.proofs.SectionNameLemmas.{few_positions}
 use Rattle.aigertext.specs.declared.counts.Counts.{Counts}
 use Rattle.aigertext.specs.declared.fault.Stop.{Stop}
+use Rattle.aigertext.specs.Counts.{counts_in}
 use Rattle.aigertext.specs.Ascii.{property_lines, literal_lines, size_lines}
 use Rattle.aigertext.specs.Binary.{gate_deltas}
 use Rattle.aigertext.specs.Spelling.{IsBinaryText}
 use Rattle.aigertext.specs.Reading.{Properties, properties_at, nameless, binary_at, names_at, line_at, header_of}
 use Rattle.aigertext.specs.AsciiReading.{AnswersHeader, AnswersText}
 use Rattle.aigertext.specs.declared.forms.Form.{Form}
+use Rattle.aigertext.specs.declared.forms.Form.TheVariants.{Binary}
 use Rattle.aigertext.proofs.GateLemmas.{gates-read}
-use Rattle.aigertext.proofs.HeaderLemmas.{counts_in, header-read}
+use Rattle.aigertext.proofs.HeaderLemmas.{circuit_counts, header-read}
 use Rattle.aigertext.proofs.NameReadLemmas.{HasFewPositions, names-read}
 use Rattle.aigertext.proofs.PropertyLemmas.{literals-read, sizes-read, list_lines-concat, length-concat, lists_of-concat, nexts-read}
 
@@ -34,7 +36,7 @@ lists_below n [] h = All-nil (λ l. l ≤ 2 * variables n + 1)
 lists_below n (ls ∷ lists) h =
     All-append (λ l. l ≤ 2 * variables n + 1) ls (concat lists) (all_below n ls (All-head (All (IsDefined n)) ls lists h)) (lists_below n lists (All-tail (All (IsDefined n)) ls lists h))
 
-nexts_below : (n : Net) (ls : List Latch) → All (λ l. IsDefined n l.next) ls → All (λ l. l.next ≤ 2 * variables n + 1) ls
+pub nexts_below : (n : Net) (ls : List Latch) → All (λ l. IsDefined n l.next) ls → All (λ l. l.next ≤ 2 * variables n + 1) ls
 nexts_below n ls h = All-weaker (λ l. IsDefined n l.next) (λ l. l.next ≤ 2 * variables n + 1) (λ l d. defined_below n l.next d) ls h
 
 -- the properties of a circuit
@@ -53,24 +55,45 @@ pub property_text : (c : Circuit) (rest : List ℕ)
     → property_lines c ++ rest ≡ literal_lines c.outputs ++ (literal_lines c.bads ++ (literal_lines c.constraints ++ (size_lines c.justice ++ (literal_lines (concat c.justice) ++ (literal_lines c.fair ++ rest)))))
 property_text c rest = rw (← list_lines-concat c.justice) (simp append_assoc)
 
-properties-read : (c : Circuit) (rest : List ℕ) → IsCircuit c → properties_at (counts_in c) (property_lines c ++ rest) ≡ Ok (properties_in c, rest)
+-- the properties of a circuit are at most the greatest literal
+pub record HasUpTo (greatest : ℕ) (c : Circuit) : Type 0 where
+  pub outputs : All (λ l. l ≤ greatest) c.outputs
+  pub bads : All (λ l. l ≤ greatest) c.bads
+  pub constraints : All (λ l. l ≤ greatest) c.constraints
+  pub justice : All (λ l. l ≤ greatest) (concat c.justice)
+  pub fair : All (λ l. l ≤ greatest) c.fair
+
+-- the properties of a circuit are read again, whatever the other numbers of the header are
+pub properties-read : (variables inputs latches gates : ℕ) (c : Circuit) (rest : List ℕ) → variables ≤ greatest_count → HasUpTo (2 * variables + 1) c → sum_by length c.justice ≤ greatest_count
+    → properties_at
+    (record { variables = variables; inputs = inputs; latches = latches; outputs = length c.outputs; gates = gates; bads = length c.bads; constraints = length c.constraints; justice = length c.justice; fair = length c.fair })
+    (property_lines c ++ rest)
+    ≡ Ok (properties_in c, rest)
 unfolding properties_at
-properties-read c rest valid =
-    let g : ℕ = 2 * variables (net c) + 1 in
-    let small : g < 2 ^ 64 = omega (arith, valid.small) in
+properties-read variables inputs latches gates c rest few below few_literals =
+    let small : 2 * variables + 1 < 2 ^ 64 = omega (arith, few) in
     let five = literal_lines c.fair ++ rest in
     let four = literal_lines (concat c.justice) ++ five in
     let three = size_lines c.justice ++ four in
     let two = literal_lines c.constraints ++ three in
     let one = literal_lines c.bads ++ two in
-    let outputs = literals-read (2 * variables (net c) + 1) c.outputs one (all_below (net c) c.outputs valid.defined.outputs) small in
-    let bads = literals-read (2 * variables (net c) + 1) c.bads two (all_below (net c) c.bads valid.defined.bads) small in
-    let constraints = literals-read (2 * variables (net c) + 1) c.constraints three (all_below (net c) c.constraints valid.defined.constraints) small in
-    let sizes = sizes-read 0 c.justice four (omega (arith, valid.few.justice_literals)) in
-    let listed = literals-read (2 * variables (net c) + 1) (concat c.justice) five (lists_below (net c) c.justice valid.defined.justice) small in
-    let fair = literals-read (2 * variables (net c) + 1) c.fair rest (all_below (net c) c.fair valid.defined.fair) small in
-    ap (properties_at (counts_in c)) (property_text c rest)
+    let outputs = literals-read (2 * variables + 1) c.outputs one below.outputs small in
+    let bads = literals-read (2 * variables + 1) c.bads two below.bads small in
+    let constraints = literals-read (2 * variables + 1) c.constraints three below.constraints small in
+    let sizes = sizes-read 0 c.justice four (omega (arith, few_literals)) in
+    let listed = literals-read (2 * variables + 1) (concat c.justice) five below.justice small in
+    let fair = literals-read (2 * variables + 1) c.fair rest below.fair small in
+    ap (properties_at (record { variables = variables; inputs = inputs; latches = latches; outputs = length c.outputs; gates = gates; bads = length c.bads; constraints = length c.constraints; justice = length c.justice; fair = length c.fair })) (property_text c rest)
     ∙ (rw (outputs, bads, constraints, sizes, length-concat c.justice, listed, fair) refl)
+
+pub circuit_up_to : (c : Circuit) → IsCircuit c → HasUpTo (2 * variables (net c) + 1) c
+circuit_up_to c valid = record {
+  outputs = all_below (net c) c.outputs valid.defined.outputs;
+  bads = all_below (net c) c.bads valid.defined.bads;
+  constraints = all_below (net c) c.constraints valid.defined.constraints;
+  justice = lists_below (net c) c.justice valid.defined.justice;
+  fair = all_below (net c) c.fair valid.defined.fair;
+}
 
 -- the circuit without its names
 nameless_is : (c : Circuit) → nameless c.inputs c.latches (properties_in c) c.gates ≡ record c { names = [] }
@@ -95,7 +118,7 @@ body-read c text t =
     let third = gate_deltas (suc (c.inputs + length c.latches)) c.gates ++ t.end in
     let second = property_lines c ++ third in
     let nexts = nexts-read (2 * variables (net c) + 1) (2 * suc c.inputs) c.latches t.latches second t.are_latches (nexts_below (net c) c.latches valid.defined.nexts) (omega (arith, few)) (omega arith) (omega (arith, few)) in
-    let properties = properties-read c third valid in
+    let properties = properties-read (variables (net c)) c.inputs (length c.latches) (length c.gates) c third valid.small (circuit_up_to c valid) valid.few.justice_literals in
     let gates = gates-read (suc (c.inputs + length c.latches)) c.gates t.end valid.ordered (omega (arith, few)) in
     let names : names_at (nameless c.inputs c.latches (properties_in c) c.gates) t.end ≡ Ok c =
     ap (λ (d : Circuit). names_at d t.end) (nameless_is c)
@@ -107,7 +130,7 @@ pub stands-read : (text : List ℕ) (c : Circuit) → IsBinaryText text c → An
 unfolding AnswersText
 stands-read text c t =
     let behind = t.latches ++ (property_lines c ++ (gate_deltas (suc (c.inputs + length c.latches)) c.gates ++ t.end)) in
-    let header = ap (line_at header_of) t.whole ∙ header-read c t.header behind t.is_header t.valid in
+    let header = ap (line_at header_of) t.whole ∙ header-read Binary (counts_in c) t.header behind t.is_header (circuit_counts c t.valid) refl in
     subst (λ (r : Result ((Form × Counts) × List ℕ) Stop). AnswersHeader r (Ok c)) (sym header) (sym (body-read c text t))
 
 -- two circuits that are read are the same, and none is a stop

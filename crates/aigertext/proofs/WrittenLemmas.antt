@@ -5,9 +5,11 @@ use Rattle.aiger.specs.declared.circuit.Latch.{Latch}
 use Rattle.aiger.specs.declared.circuit.Reset.{Reset}
 use Rattle.aiger.specs.declared.circuit.Reset.TheVariants.{Zero, One, Free}
 use Rattle.aiger.specs.Circuit.{Circuit, IsCircuit, IsNamed}
+use Rattle.aigertext.specs.declared.forms.Form.{Form}
 use Rattle.aigertext.specs.declared.forms.Form.TheVariants.{Binary}
 use Rattle.aigertext.specs.Ascii.{header, without_zero_tail, before_kept, last_counts, reset_numbers, all_names}
 use Rattle.aigertext.specs.Binary.{next_lines, binary_text}
+use Rattle.aigertext.specs.Counts.{counts_in}
 use Rattle.aigertext.specs.Spelling.{IsHeader, IsReset, AreNextLines, IsEnd, IsBinaryText}
 use Rattle.aigertext.proofs.NameTextLemmas.{given_of, give_names, all_names-given}
 use Rattle.aigertext.proofs.PlaceLemmas.{all_behind_none}
@@ -26,12 +28,12 @@ zero_tail : (ns : List ℕ) → ZeroTail ns
 zero_tail [] = (0, refl)
 zero_tail (n ∷ ns) = let rest = zero_tail ns in tail_by n (without_zero_tail ns) ns rest.0 rest.1
 
-pub written_header : (c : Circuit) → IsHeader Binary c (header Binary c)
-written_header c =
+pub written_header : (form : Form) (c : Circuit) → IsHeader form (counts_in c) (header form c)
+written_header form c =
     let tail = zero_tail (last_counts c) in
     record { kept = without_zero_tail (last_counts c); dropped = tail.0; counts = tail.1; spelled = refl }
 
-written_reset : (own : ℕ) (r : Reset) → IsReset own r (reset_numbers own r)
+pub written_reset : (own : ℕ) (r : Reset) → IsReset own r (reset_numbers own r)
 written_reset own Zero = inl refl
 written_reset own One = refl
 written_reset own Free = refl
@@ -53,7 +55,7 @@ written_nexts first (l ∷ ls) = (
   ),
 )
 
-written_end : (c : Circuit) → IsCircuit c → IsEnd c (all_names c)
+pub written_end : (c : Circuit) → IsCircuit c → IsEnd c (all_names c)
 written_end c valid =
     let named = recursion_from_All (IsNamed c) c.names valid.names.named in
     record {
@@ -68,7 +70,7 @@ pub written_stands : (c : Circuit) → IsCircuit c → IsBinaryText (binary_text
 written_stands c valid =
     record {
       header = header Binary c;
-      is_header = written_header c;
+      is_header = written_header Binary c;
       latches = next_lines (suc c.inputs) c.latches;
       are_latches = written_nexts (suc c.inputs) c.latches;
       end = all_names c;

@@ -16,7 +16,6 @@ use Rattle.aigertext.specs.Reading.{◌>>=◌, stop, cut, fields, line_at, some_
 use Rattle.aigertext.specs.declared.forms.Form.{Form}
 use Rattle.aigertext.specs.declared.forms.Form.TheVariants.{Ascii, Binary}
 use Rattle.aigertext.specs.declared.fault.ReadFault.{ReadFault}
-use Rattle.aigertext.specs.Spelling.{IsBinaryText}
 
 -- ---- lines
 
@@ -170,10 +169,6 @@ AnswersHeader (Err e) answer = answer ≡ Err e
 -- reading a text: the circuit that it spells, or where reading stops; the first word decides the form
 unfoldable pub AnswersText : List ℕ → Result Circuit Stop → Type 0
 AnswersText text answer = AnswersHeader (line_at header_of text) answer
-
--- a text with a header of the binary form stands for a circuit in that form
-abbrev pub StandsIfBinary : List ℕ → Circuit → Type 0
-StandsIfBinary text c = (h : Counts) (rest : List ℕ) → line_at header_of text ≡ Ok ((Binary, h), rest) → IsBinaryText text c
 
 -- reading a text stops with this fault
 pub record IsFaultOf (text : List ℕ) (e : ReadFault) : Type 0 where

@@ -1,6 +1,9 @@
--- What holds of the numbers of a header that is read.
-use Rattle.std.specs.Prelude.{◌≡◌, ◌+◌, ◌≤◌}
+-- The numbers of a header: of which circuit or file they are, and what holds of those that are read.
+use Rattle.std.specs.Prelude.{◌≡◌, ℕ, ◌+◌, ◌≤◌, List, [], ◌∷◌, length}
 use Rattle.aiger.specs.Limits.{greatest_count}
+use Rattle.aiger.specs.Net.{variables}
+use Rattle.aiger.specs.Circuit.{Circuit, net}
+use Rattle.aiger.specs.Loose.{Loose}
 use Rattle.aigertext.specs.declared.counts.Counts.{Counts}
 use Rattle.aigertext.specs.declared.forms.Form.{Form}
 use Rattle.aigertext.specs.declared.forms.Form.TheVariants.{Ascii, Binary}
@@ -21,3 +24,40 @@ pub record AreSmall (h : Counts) : Type 0 where
 abbrev pub Fits : Form → Counts → Type 0
 Fits Ascii h = h.inputs + h.latches + h.gates ≤ h.variables
 Fits Binary h = h.variables ≡ h.inputs + h.latches + h.gates
+
+-- the first five numbers of a header, and the last four
+abbrev pub first_of_counts : Counts → List ℕ
+first_of_counts h = h.variables ∷ h.inputs ∷ h.latches ∷ h.outputs ∷ h.gates ∷ []
+
+abbrev pub last_of_counts : Counts → List ℕ
+last_of_counts h = h.bads ∷ h.constraints ∷ h.justice ∷ h.fair ∷ []
+
+-- the numbers of a circuit
+abbrev pub counts_in : Circuit → Counts
+counts_in c =
+    record {
+      variables = variables (net c);
+      inputs = c.inputs;
+      latches = length c.latches;
+      outputs = length c.outputs;
+      gates = length c.gates;
+      bads = length c.bads;
+      constraints = length c.constraints;
+      justice = length c.justice;
+      fair = length c.fair;
+    }
+
+-- the numbers of the lists of a file with this greatest variable
+abbrev pub counts_of_file : ℕ → Loose → Counts
+counts_of_file greatest l =
+    record {
+      variables = greatest;
+      inputs = length l.inputs;
+      latches = length l.latches;
+      outputs = length l.outputs;
+      gates = length l.gates;
+      bads = length l.bads;
+      constraints = length l.constraints;
+      justice = length l.justice;
+      fair = length l.fair;
+    }

@@ -1,22 +1,30 @@
--- Which binary texts stand for which circuits ("AIGER 1.9 and Beyond", the binary format): all spellings that the format allows.
-use Rattle.std.specs.Prelude.{◌≡◌, ℕ, suc, ◌+◌, ◌*◌, List, [], ◌∷◌, ◌++◌, length, replicate, None, flat_map, decimal, ◌⊎◌}
+-- Which texts stand for which circuits ("AIGER 1.9 and Beyond", the binary and the ascii format): all spellings that the format allows.
+use Rattle.std.specs.Prelude.{◌≡◌, ℕ, suc, ◌+◌, ◌*◌, ◌≤◌, List, [], ◌∷◌, ◌++◌, length, replicate, None, flat_map, decimal, ◌⊎◌, All}
+use Rattle.std.specs.List.{concat}
 use Rattle.aiger.specs.declared.circuit.Latch.{Latch}
 use Rattle.aiger.specs.declared.circuit.Reset.{Reset}
 use Rattle.aiger.specs.declared.circuit.Reset.TheVariants.{Zero, One, Free}
 use Rattle.aiger.specs.declared.circuit.Section.{Section}
 use Rattle.aiger.specs.declared.circuit.Section.TheVariants as section
+use Rattle.aiger.specs.declared.loose.GateLine.{GateLine}
+use Rattle.aiger.specs.declared.loose.LatchLine.{LatchLine}
 use Rattle.aiger.specs.Circuit.{Circuit, IsCircuit, with_name, name_refusal}
+use Rattle.aiger.specs.Limits.{greatest_count}
+use Rattle.aiger.specs.Loose.{Loose, IsLoose, defined_count}
+use Rattle.aiger.specs.Renumbering.{IsRenumbered}
+use Rattle.aigertext.specs.declared.counts.Counts.{Counts}
 use Rattle.aigertext.specs.declared.forms.Form.{Form}
-use Rattle.aigertext.specs.declared.forms.Form.TheVariants.{Binary}
-use Rattle.aigertext.specs.Ascii.{numbers_line, form_word, first_counts, last_counts, property_lines}
+use Rattle.aigertext.specs.declared.forms.Form.TheVariants.{Ascii, Binary}
+use Rattle.aigertext.specs.Ascii.{numbers_line, form_word, literal_lines, justice_lines, property_lines}
 use Rattle.aigertext.specs.Binary.{gate_deltas}
+use Rattle.aigertext.specs.Counts.{first_of_counts, last_of_counts, counts_in, counts_of_file}
 
--- a header: the form's word, the first counts and a front of the last ones, behind which all are 0
-pub record IsHeader (form : Form) (c : Circuit) (bytes : List ℕ) : Type 0 where
+-- a header: the form's word, the first five numbers and a front of the last four, behind which all are 0
+pub record IsHeader (form : Form) (h : Counts) (bytes : List ℕ) : Type 0 where
   pub kept : List ℕ
   pub dropped : ℕ
-  pub counts : kept ++ replicate dropped 0 ≡ last_counts c
-  pub spelled : bytes ≡ form_word form ++ 32 ∷ numbers_line (first_counts c ++ kept)
+  pub counts : kept ++ replicate dropped 0 ≡ last_of_counts h
+  pub spelled : bytes ≡ form_word form ++ 32 ∷ numbers_line (first_of_counts h ++ kept)
 
 -- the numbers that say how a latch begins: 0 may be left out, and its own literal stands for no initial value
 abbrev pub IsReset : ℕ → Reset → List ℕ → Type 0
@@ -77,7 +85,7 @@ pub record IsEnd (c : Circuit) (bytes : List ℕ) : Type 0 where
 -- a binary text stands for a circuit: header, latches, properties, gates, names and comment
 pub record IsBinaryText (text : List ℕ) (c : Circuit) : Type 0 where
   pub header : List ℕ
-  pub is_header : IsHeader Binary c header
+  pub is_header : IsHeader Binary (counts_in c) header
   pub latches : List ℕ
   pub are_latches : AreNextLines (2 * suc c.inputs) c.latches latches
   pub end : List ℕ
@@ -85,3 +93,68 @@ pub record IsBinaryText (text : List ℕ) (c : Circuit) : Type 0 where
   pub valid : IsCircuit c
   pub whole :
       text ≡ header ++ (latches ++ (property_lines c ++ (gate_deltas (suc (c.inputs + length c.latches)) c.gates ++ end)))
+
+-- ---- the ascii form
+
+-- a line for each thing of a section
+abbrev pub AreLines : {A : Type 0} → (A → List ℕ → Type 0) → List A → List ℕ → Type 0
+AreLines IsLine [] bytes = bytes ≡ []
+AreLines IsLine (x ∷ xs) bytes =
+    (line : List ℕ) × ((rest : List ℕ) × ((bytes ≡ line ++ rest) × IsLine x line × AreLines IsLine xs rest))
+
+-- the line of an input: its literal
+abbrev pub IsInputLine : ℕ → List ℕ → Type 0
+IsInputLine lit bytes = bytes ≡ numbers_line (lit ∷ [])
+
+-- the line of a latch: its literal, its next literal, and how it begins
+pub record IsLatchLine (l : LatchLine) (bytes : List ℕ) : Type 0 where
+  pub reset : List ℕ
+  pub is_reset : IsReset l.current l.reset reset
+  pub spelled : bytes ≡ numbers_line (l.current ∷ l.next ∷ reset)
+
+-- the line of a gate: its literal and its operands
+abbrev pub IsGateLine : GateLine → List ℕ → Type 0
+IsGateLine g bytes = bytes ≡ numbers_line (g.lhs ∷ g.rhs0 ∷ g.rhs1 ∷ [])
+
+-- the lines of outputs, bad properties, constraints, justice properties and fairness constraints
+abbrev pub use_lines : Loose → List ℕ
+use_lines l =
+    literal_lines l.outputs ++ (literal_lines l.bads ++ (literal_lines l.constraints
+    ++ (justice_lines l.justice ++ literal_lines l.fair)))
+
+-- each literal of the lists of a file is at most the greatest
+pub record AreUpTo (greatest : ℕ) (l : Loose) : Type 0 where
+  pub inputs : All (λ n. n ≤ greatest) l.inputs
+  pub latches : All (λ line. (line.current ≤ greatest) × (line.next ≤ greatest)) l.latches
+  pub outputs : All (λ n. n ≤ greatest) l.outputs
+  pub bads : All (λ n. n ≤ greatest) l.bads
+  pub constraints : All (λ n. n ≤ greatest) l.constraints
+  pub justice : All (λ n. n ≤ greatest) (concat l.justice)
+  pub fair : All (λ n. n ≤ greatest) l.fair
+  pub gates : All (λ line. (line.lhs ≤ greatest) × (line.rhs0 ≤ greatest) × (line.rhs1 ≤ greatest)) l.gates
+
+-- an ascii text stands for a circuit: header, inputs, latches, properties, gates, names and comment, where the circuit is the lists of the file with the numbers of a circuit, whose greatest variable the header tells
+pub record IsAsciiText (text : List ℕ) (c : Circuit) : Type 0 where
+  pub lists : Loose
+  pub valid : IsLoose lists
+  pub unnamed : lists.names ≡ []
+  pub greatest : ℕ
+  pub small : greatest ≤ greatest_count
+  pub enough : defined_count lists ≤ greatest
+  pub literals : AreUpTo (2 * greatest + 1) lists
+  pub header : List ℕ
+  pub is_header : IsHeader Ascii (counts_of_file greatest lists) header
+  pub inputs : List ℕ
+  pub are_inputs : AreLines IsInputLine lists.inputs inputs
+  pub latches : List ℕ
+  pub are_latches : AreLines IsLatchLine lists.latches latches
+  pub gates : List ℕ
+  pub are_gates : AreLines IsGateLine lists.gates gates
+  pub end : List ℕ
+  pub is_end : IsEnd c end
+  pub is_renumbered : IsRenumbered lists (record c { names = [] })
+  pub whole : text ≡ header ++ (inputs ++ (latches ++ (use_lines lists ++ (gates ++ end))))
+
+-- a text spells a circuit: it stands for it in the ascii form or in the binary form
+abbrev pub Spells : List ℕ → Circuit → Type 0
+Spells text c = IsAsciiText text c ⊎ IsBinaryText text c

@@ -87,3 +87,7 @@ nothing =
       fair = [];
       names = [];
     }
+
+-- an input, whose negation is an output
+abbrev pub one_input : Circuit
+one_input = record nothing { inputs = 1; outputs = 3 ∷ [] }

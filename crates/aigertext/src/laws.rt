@@ -2,19 +2,20 @@
 ghost use Rattle.std.specs.Prelude.{◌≡◌, ℕ, ◌<◌, All, List, [], ◌∷◌, ◌++◌, Result, Ok, Err, codes};
 ghost use Rattle.aiger.specs.Circuit.{Circuit, IsCircuit};
 ghost use Rattle.aigertext.specs.Ascii.{numbers_line, without_zero_tail, name_line, ascii_text};
-ghost use Rattle.aigertext.specs.Binary.{delta, binary_text};
+ghost use Rattle.aigertext.specs.Binary.{delta, binary_text, circuit_text};
 ghost use Rattle.aigertext.specs.Reading.{line_at, header_of};
+ghost use Rattle.aigertext.specs.declared.forms.Form.{Form};
 ghost use Rattle.aigertext.specs.declared.forms.Form.TheVariants as form;
-ghost use Rattle.aigertext.specs.Spelling.{IsBinaryText};
+ghost use Rattle.aigertext.specs.Spelling.{IsAsciiText, IsBinaryText};
 ghost use Rattle.aiger.specs.Loose.{empty_loose};
 ghost use Rattle.aiger.specs.declared.circuit.Reset.TheVariants as reset;
 ghost use Rattle.aigertext.specs.AsciiReading.{lists_of_file, lines_before, stop_behind, AnswersText};
 ghost use Rattle.aigertext.specs.declared.counts.Counts.{Counts};
 ghost use Rattle.aigertext.specs.declared.fault.Stop.{Stop};
 ghost use Rattle.aigertext.specs.declared.fault.Why.TheVariants as why;
-ghost use Rattle.aigertext.specs.Worked.{toggler, free_state, one_gate, one_output, all_kinds, nothing};
+ghost use Rattle.aigertext.specs.Worked.{toggler, free_state, one_gate, one_output, all_kinds, nothing, one_input};
 
-use aiger::laws::one_renumbering;
+use aiger::laws::{one_renumbering, own_numbers};
 
 /// Worked rows: the texts of a latch that toggles, of a latch with no initial value, of a gate, and of
 /// properties of each kind.
@@ -86,15 +87,20 @@ pub fn worked_binary_faults()
     ensures cut_comment { AnswersText ((codes "aig 0 0 0 0 0\nc")) (Err (record { left = 1; why = why.Truncated })) }
 {}
 
-/// What is written in the binary form stands for the circuit that was written, and is read again as it.
-pub fn binary_read_back()
-    ensures stands { (c : Circuit) → IsCircuit c → IsBinaryText (binary_text c) c }
-    ensures read { (c : Circuit) → IsCircuit c → AnswersText (binary_text c) (Ok c) }
-{}
+/// What is written in a form stands in that form for the circuit that was written, and is read again as it.
+pub fn read_back()
+    ensures ascii { (c : Circuit) → IsCircuit c → IsAsciiText (ascii_text c) c }
+    ensures binary { (c : Circuit) → IsCircuit c → IsBinaryText (binary_text c) c }
+    ensures read { (form : Form) (c : Circuit) → IsCircuit c → AnswersText (circuit_text form c) (Ok c) }
+{
+    own_numbers();
+    one_renumbering();
+}
 
-/// A text has at most one answer: it is read as one circuit alone, or reading it stops at one fault alone.
+/// A text has exactly one answer: it is read as one circuit alone, or reading it stops at one fault alone.
 pub fn one_answer()
-    ensures { (text : List ℕ) (a b : Result Circuit Stop) → AnswersText text a → AnswersText text b → a ≡ b }
+    ensures exists { (text : List ℕ) → (a : Result Circuit Stop) × AnswersText text a }
+    ensures unique { (text : List ℕ) (a b : Result Circuit Stop) → AnswersText text a → AnswersText text b → a ≡ b }
 {
     one_renumbering();
 }
@@ -113,6 +119,23 @@ pub fn binary_text_that_is_read()
         → line_at header_of text ≡ Ok ((form.Binary, h), rest) → AnswersText text (Ok c) → IsBinaryText text c }
 {}
 
+/// An ascii text stands for at most one circuit: each that it stands for is the one that reading it gives.
+pub fn one_ascii_circuit()
+    ensures read { (text : List ℕ) (c : Circuit) → IsAsciiText text c → AnswersText text (Ok c) }
+    ensures same { (text : List ℕ) (c d : Circuit) → IsAsciiText text c → IsAsciiText text d → c ≡ d }
+{
+    one_answer();
+    one_renumbering();
+}
+
+/// A circuit that a text with a header of the ascii form is read as is one that it stands for in that form.
+pub fn ascii_text_that_is_read()
+    ensures { (text : List ℕ) (c : Circuit) (h : Counts) (rest : List ℕ)
+        → line_at header_of text ≡ Ok ((form.Ascii, h), rest) → AnswersText text (Ok c) → IsAsciiText text c }
+{
+    one_renumbering();
+}
+
 /// Worked rows: a binary text with its whole header and a comment stands for a circuit; without its byte 10, with
 /// a delta of too many bytes or with the ascii form's word it does not.
 pub fn worked_binary_spellings()
@@ -121,6 +144,15 @@ pub fn worked_binary_spellings()
     ensures too_long { ¬ IsBinaryText (codes "aig 3 2 0 1 1\n6\n" ++ 130 ∷ 0 ∷ 2 ∷ []) one_output }
     ensures ascii { ¬ IsBinaryText (codes "aag 3 2 0 1 1\n2\n4\n6\n6 4 2\n") one_output }
 {}
+
+/// Worked rows: an ascii text in numbers of its own, with a greatest variable that is above all of them, stands for a
+/// circuit; with a greatest variable that is below the number of variables it does not.
+pub fn worked_ascii_spellings()
+    ensures any_number { IsAsciiText (codes "aag 9 1 0 1 0\n8\n9\n") one_input }
+    ensures too_many { ¬ IsAsciiText (codes "aag 0 1 0 1 0\n2\n3\n") one_input }
+{
+    one_ascii_circuit();
+}
 
 /// Worked rows: the lists of an ascii file in any numbering and order, where reading them stops, and at which line a
 /// variable that no line defines is used.

@@ -4,7 +4,8 @@ ghost use Rattle.std.specs.Io.KnownBytes.{IsAtEnd};
 ghost use Rattle.base.specs.Device.{HasRisen};
 ghost use Rattle.aiger.specs.Circuit.{Circuit as CircuitValue, IsCircuit};
 ghost use Rattle.aigertext.specs.Reading.{fault_of};
-ghost use Rattle.aigertext.specs.AsciiReading.{AnswersText, StandsIfBinary, IsFaultOf, GivesCircuit};
+ghost use Rattle.aigertext.specs.AsciiReading.{AnswersText, IsFaultOf, GivesCircuit};
+ghost use Rattle.aigertext.specs.Spelling.{Spells};
 ghost use Rattle.aigertext.specs.Passes.{ReadsBy, ReadsText};
 ghost use Rattle.aigertext.specs.declared.fault.Why.TheVariants as why;
 
@@ -15,6 +16,7 @@ use crate::forms::Form;
 use crate::front::header_line;
 use crate::laws::one_answer;
 use aiger::Circuit;
+use aiger::laws::one_renumbering;
 use base::{ReadAllFault, Source, read_all};
 use std::alloc::Global;
 
@@ -51,8 +53,9 @@ fn fault(text: &[u8], stop: Stop) -> ReadFault
 /// The circuit that a text spells, or its fault.
 fn read_text(alloc: Global, text: &[u8]) -> Result<Circuit, ReadFault>
     ensures reads { ReadsText text.now result }
-    ensures binary { IfOk result (λ c. StandsIfBinary text.now c) }
+    ensures spells { IfOk result (λ c. Spells text.now c) }
 {
+    one_renumbering();
     match read_known(alloc, text) {
         Ok(circuit) => Ok(circuit),
         Err(stop) => Err(fault(text, stop)),
@@ -67,10 +70,12 @@ fn read_text(alloc: Global, text: &[u8]) -> Result<Circuit, ReadFault>
 pub fn read<S: Source>(alloc: Global, source: &mut S) -> Result<Circuit, ReadFault>
     // the text stands for what is read
     ensures found { IfOk result (λ c. IfSome (S.to_come source.old) (λ text. AnswersText text (Ok c))) }
-    // and where it has a header of the binary form, it stands for that circuit by the spellings of that form
-    ensures binary { IfOk result (λ c. IfSome (S.to_come source.old) (λ text. StandsIfBinary text c)) }
+    // and it spells that circuit by the sections of its form
+    ensures spells { IfOk result (λ c. IfSome (S.to_come source.old) (λ text. Spells text c)) }
     // every text that stands for a circuit is read as it, want of memory and device faults apart
     ensures only { (text : List ℕ) (c : CircuitValue) → S.to_come source.old ≡ Some text → AnswersText text (Ok c) → GivesCircuit result c }
+    // and so is each that spells one
+    ensures each { (text : List ℕ) (c : CircuitValue) → S.to_come source.old ≡ Some text → Spells text c → GivesCircuit result c }
     // a fault that is neither is where reading stops
     ensures fault { IfErr result (λ e. IfSome (S.to_come source.old) (λ text. (e.why ≡ why.Device) ⊎ ((e.why ≡ why.NoMemory) ⊎ IsFaultOf text e))) }
     ensures end { OnOk result (IsAtEnd (S.to_come source.new)) }
@@ -80,6 +85,7 @@ pub fn read<S: Source>(alloc: Global, source: &mut S) -> Result<Circuit, ReadFau
     ensures place { IfErr result (λ e. (e.why ≡ why.Device) ⊎ (e.why ≡ why.NoMemory) → e.place ≡ 0) }
 {
     one_answer();
+    one_renumbering();
     match read_all(alloc, source) {
         Ok(text) => read_text(alloc, text.as_slice()),
         Err(ReadAllFault::Device) => Err(ReadFault {

@@ -1,7 +1,7 @@
 use Rattle.std.proofs.Common.{[], ap, sym, ◌∙◌}
 use Rattle.aiger.specs.Renumbering.{renumbered}
 use Rattle.aiger.proofs.OrderLemmas.{same_order, no_cycle}
-use Rattle.aiger.proofs.CompleteLemmas.{has_renumbering, is_circuit}
+use Rattle.aiger.proofs.CompleteLemmas.{has_renumbering, numbered_or_cyclic, is_circuit}
 use Rattle.aiger.proofs.laws.one_renumbering.Goals as goal
 
 pub returns-clause-unique : goal.returns-clause-unique
@@ -16,3 +16,6 @@ returns-clause-exists x = has_renumbering
 
 pub returns-clause-circuit : goal.returns-clause-circuit
 returns-clause-circuit x = is_circuit
+
+pub returns-clause-either : goal.returns-clause-either
+returns-clause-either x = numbered_or_cyclic

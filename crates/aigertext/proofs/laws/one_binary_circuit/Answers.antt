@@ -6,4 +6,4 @@ pub returns-clause-read : goal.returns-clause-read
 returns-clause-read c = stands-read
 
 pub returns-clause-same : goal.returns-clause-same
-returns-clause-same c = λ text x y s t. ok_circuit x y (c.one_answer.ensures text (Ok x) (Ok y) (stands-read text x s) (stands-read text y t))
+returns-clause-same c = λ text x y s t. ok_circuit x y (c.one_answer.ensures.unique text (Ok x) (Ok y) (stands-read text x s) (stands-read text y t))

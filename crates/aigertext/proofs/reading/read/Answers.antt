@@ -1,14 +1,20 @@
-use Rattle.aigertext.proofs.AnswerLemmas.{found, stands, only, fault, device, place}
+use Rattle.aigertext.proofs.AnswerLemmas.{found, spells, only, fault, device, place}
+use Rattle.aigertext.proofs.AsciiStandsLemmas.{spells-read}
 use Rattle.aigertext.proofs.reading.read.Goals as goal
 
 pub returns-in-Ok-clause-found : goal.returns-in-Ok-clause-found
 returns-in-Ok-clause-found g c = found (g.S.Source.to_come c.args.source.now) c.in-Ok.text.items c.read_text.result c.in-Ok.ensures.bytes (rw c.as_slice.ensures.value at c.read_text.ensures.reads)
 
-pub returns-in-Ok-clause-binary : goal.returns-in-Ok-clause-binary
-returns-in-Ok-clause-binary g c = stands (g.S.Source.to_come c.args.source.now) c.in-Ok.text.items c.read_text.result c.in-Ok.ensures.bytes (rw c.as_slice.ensures.value at c.read_text.ensures.binary)
+pub returns-in-Ok-clause-spells : goal.returns-in-Ok-clause-spells
+returns-in-Ok-clause-spells g c = spells (g.S.Source.to_come c.args.source.now) c.in-Ok.text.items c.read_text.result c.in-Ok.ensures.bytes (rw c.as_slice.ensures.value at c.read_text.ensures.spells)
 
 pub returns-in-Ok-clause-only : goal.returns-in-Ok-clause-only
-returns-in-Ok-clause-only g c = only c.one_answer.ensures (g.S.Source.to_come c.args.source.now) c.in-Ok.text.items c.read_text.result c.in-Ok.ensures.bytes (rw c.as_slice.ensures.value at c.read_text.ensures.reads)
+returns-in-Ok-clause-only g c = only c.one_answer.ensures.unique (g.S.Source.to_come c.args.source.now) c.in-Ok.text.items c.read_text.result c.in-Ok.ensures.bytes (rw c.as_slice.ensures.value at c.read_text.ensures.reads)
+
+pub returns-in-Ok-clause-each : goal.returns-in-Ok-clause-each
+returns-in-Ok-clause-each g c = λ text circuit known is.
+    only c.one_answer.ensures.unique (g.S.Source.to_come c.args.source.now) c.in-Ok.text.items c.read_text.result c.in-Ok.ensures.bytes (rw c.as_slice.ensures.value at c.read_text.ensures.reads) text circuit known
+    (spells-read c.one_renumbering.ensures.circuit text circuit is)
 
 pub returns-in-Ok-clause-fault : goal.returns-in-Ok-clause-fault
 returns-in-Ok-clause-fault g c = fault (g.S.Source.to_come c.args.source.now) c.in-Ok.text.items c.read_text.result c.in-Ok.ensures.bytes (rw c.as_slice.ensures.value at c.read_text.ensures.reads)

@@ -1,5 +1,5 @@
-use Rattle.aigertext.proofs.AnswerLemmas.{text_stands}
+use Rattle.aigertext.proofs.AnswerLemmas.{text_spells}
 use Rattle.aigertext.proofs.reading.read_text.Goals as goal
 
-pub returns-in-Ok-clause-binary : goal.returns-in-Ok-clause-binary
-returns-in-Ok-clause-binary c = text_stands c.args.text.now c.in-Ok.circuit c.type_inv.text c.in-Ok.ensures.valid c.in-Ok.ensures.reads
+pub returns-in-Ok-clause-spells : goal.returns-in-Ok-clause-spells
+returns-in-Ok-clause-spells c = text_spells c.one_renumbering.ensures.circuit c.args.text.now c.in-Ok.circuit c.type_inv.text c.in-Ok.ensures.valid c.in-Ok.ensures.reads

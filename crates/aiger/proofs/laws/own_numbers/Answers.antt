@@ -1,0 +1,11 @@
+use Rattle.aiger.proofs.OwnLemmas.{as_many, own_valid, own_renumbered}
+use Rattle.aiger.proofs.laws.own_numbers.Goals as goal
+
+pub returns-clause-valid : goal.returns-clause-valid
+returns-clause-valid x = own_valid
+
+pub returns-clause-numbered : goal.returns-clause-numbered
+returns-clause-numbered x = own_renumbered
+
+pub returns-clause-many : goal.returns-clause-many
+returns-clause-many x = as_many

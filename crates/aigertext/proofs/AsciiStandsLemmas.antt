@@ -1,0 +1,128 @@
+-- An ascii text that stands for a circuit is read as it, and what is read stands for the text.
+use Rattle.std.proofs.Common.{◌≡◌, ℕ, ◌≤◌, List, [], ◌∷◌, ◌++◌, Result, Ok, Err, refl, sym, ap, subst, ◌∙◌, append_assoc, inl, inr, ◌⊎◌, arith}
+use Rattle.aiger.specs.declared.circuit.Section.{Section}
+use Rattle.aiger.specs.Circuit.{Circuit, IsCircuit, NameMap}
+use Rattle.aiger.specs.Limits.{greatest_count}
+use Rattle.aiger.specs.Loose.{Loose, IsLoose}
+use Rattle.aiger.specs.Renumbering.{IsRenumbered}
+use Rattle.aiger.proofs.SectionNameLemmas.{few_positions}
+use Rattle.aigertext.specs.declared.counts.Counts.{Counts}
+use Rattle.aigertext.specs.declared.fault.Stop.{Stop}
+use Rattle.aigertext.specs.declared.forms.Form.{Form}
+use Rattle.aigertext.specs.declared.forms.Form.TheVariants.{Ascii, Binary}
+use Rattle.aigertext.specs.Counts.{AreSmall, Fits, counts_of_file}
+use Rattle.aigertext.specs.Spelling.{GiveNames, IsHeader, IsAsciiText, Spells, use_lines}
+use Rattle.aigertext.specs.Reading.{line_at, header_of, names_at}
+use Rattle.aigertext.specs.AsciiReading.{lists_of_file, AnswersNamed, AnswersUndefined, AnswersCycle, AnswersLists, AnswersAscii, AnswersBody, AnswersHeader, AnswersText}
+use Rattle.aigertext.proofs.BackLemmas.{SaysAt, line-back}
+use Rattle.aigertext.proofs.FileBackLemmas.{ListsBack, lists-back}
+use Rattle.aigertext.proofs.FileReadLemmas.{lists-read}
+use Rattle.aigertext.proofs.GateBackLemmas.{AreBytes}
+use Rattle.aigertext.proofs.HeaderBackLemmas.{HeaderBack, header-back}
+use Rattle.aigertext.proofs.HeaderLemmas.{header-read}
+use Rattle.aigertext.proofs.HeaderSmallLemmas.{header_small}
+use Rattle.aigertext.proofs.NameBackLemmas.{names-back}
+use Rattle.aigertext.proofs.NameReadLemmas.{names-read}
+use Rattle.aigertext.proofs.ReadStandsLemmas.{names_alone, header_spelled, binary-stands}
+use Rattle.aigertext.proofs.StandsLemmas.{not_stopped, stands-read}
+
+-- the law that lists as numbered are a circuit
+abbrev pub IsCircuitLaw : Type 0
+IsCircuitLaw = (l : Loose) (c : Circuit) → IsLoose l → IsRenumbered l c → IsCircuit c
+
+-- the numbers of such a text are small
+file_small : (l : Loose) (greatest : ℕ) → IsLoose l → greatest ≤ greatest_count → AreSmall (counts_of_file greatest l)
+file_small l greatest valid small = record {
+  variables = small;
+  inputs = omega (arith, valid.few.defined);
+  latches = omega (arith, valid.few.defined);
+  outputs = valid.few.outputs;
+  gates = omega (arith, valid.few.defined);
+  bads = valid.few.bads;
+  constraints = valid.few.constraints;
+  justice = valid.few.justice;
+  fair = valid.few.fair;
+}
+
+pub ascii-read : IsCircuitLaw → (text : List ℕ) (c : Circuit) → IsAsciiText text c → AnswersText text (Ok c)
+unfolding AnswersText
+ascii-read circuit text c t =
+    let behind = t.inputs ++ (t.latches ++ (use_lines t.lists ++ (t.gates ++ t.end))) in
+    let header = ap (line_at header_of) t.whole ∙ header-read Ascii (counts_of_file t.greatest t.lists) t.header behind t.is_header (file_small t.lists t.greatest t.valid t.small) t.enough in
+    let lists = lists-read t.greatest t.lists t.valid t.unnamed t.small t.literals t.inputs t.latches t.gates t.end t.are_inputs t.are_latches t.are_gates in
+    let few = λ (s : Section). few_positions s (record c { names = [] }) (circuit t.lists (record c { names = [] }) t.valid t.is_renumbered) in
+    let names : names_at (record c { names = [] }) t.end ≡ Ok c =
+    ap (names_at (record c { names = [] })) t.is_end.spelled ∙ names-read (record c { names = [] }) t.is_end.given c t.is_end.comment few t.is_end.names t.is_end.is_comment in
+    let answers : AnswersNamed t.lists t.end (Ok c) = record { circuit = record c { names = [] }; is_renumbered = t.is_renumbered; is = sym names } in
+    let file : AnswersAscii (counts_of_file t.greatest t.lists) behind (Ok c) =
+    subst (λ (r : Result (Loose × List ℕ) Stop). AnswersLists (counts_of_file t.greatest t.lists) behind r (Ok c)) (sym lists) (t.valid, inl answers) in
+    subst (λ (r : Result ((Form × Counts) × List ℕ) Stop). AnswersHeader r (Ok c)) (sym header) file
+
+-- ---- and back
+
+-- the lists of a file that were read, and the circuit that they are, as a text of it
+module _ (circuit : IsCircuitLaw) (text : List ℕ) (c : Circuit) (h : Counts) (rest : List ℕ) (l : Loose) (end : List ℕ) (valid : IsLoose l) (s : SaysAt header_of text (Ascii, h) rest) (k : HeaderBack Ascii s.line h)
+    (b : ListsBack h rest l end) (n : AnswersNamed l end (Ok c)) where
+  of_lists : IsAsciiText text c
+  of_lists =
+      let few = λ (s : Section). few_positions s n.circuit (circuit l n.circuit valid n.is_renumbered) in
+      let names = names-back n.circuit end c few (sym n.is) in
+      let bare : n.circuit.names ≡ [] = ap (λ (d : Circuit). d.names) n.is_renumbered.circuit ∙ b.unnamed in
+      let same : n.circuit ≡ record c { names = [] } = ap (λ (ns : NameMap). record n.circuit { names = ns }) bare ∙ names_alone n.circuit names.given c names.names in
+      record {
+        lists = l;
+        valid = valid;
+        unnamed = b.unnamed;
+        greatest = h.variables;
+        small = k.few_first.0;
+        enough = subst (Fits Ascii) b.counts k.fits;
+        literals = b.up_to;
+        header = s.line ++ 10 ∷ [];
+        is_header = subst (λ (g : Counts). IsHeader Ascii g (s.line ++ 10 ∷ [])) b.counts (header_spelled Ascii s.line h k);
+        inputs = b.inputs;
+        are_inputs = b.are_inputs;
+        latches = b.latches;
+        are_latches = b.are_latches;
+        gates = b.gates;
+        are_gates = b.are_gates;
+        end = end;
+        is_end = record { given = names.given; names = subst (λ (d : Circuit). GiveNames d names.given c) same names.names; comment = names.comment; is_comment = names.is_comment; spelled = names.parts };
+        is_renumbered = subst (IsRenumbered l) same n.is_renumbered;
+        whole = s.parts ∙ sym (append_assoc s.line (10 ∷ []) rest) ∙ ap (λ (t : List ℕ). (s.line ++ 10 ∷ []) ++ t) b.whole;
+      }
+
+pub ascii-stands : IsCircuitLaw → (text : List ℕ) (c : Circuit) (h : Counts) (rest : List ℕ) → line_at header_of text ≡ Ok ((Ascii, h), rest) → AnswersAscii h rest (Ok c) → IsAsciiText text c
+ascii-stands circuit text c h rest header answers = by (lists_of_file h rest) refl answers
+  where
+    s : SaysAt header_of text (Ascii, h) rest
+    s = line-back header_of text (Ascii, h) rest header
+
+    k : HeaderBack Ascii s.line h
+    k = header-back s.line Ascii h s.said
+
+    named : (l : Loose) (end : List ℕ) → lists_of_file h rest ≡ Ok (l, end) → IsLoose l → AnswersNamed l end (Ok c) ⊎ (AnswersUndefined h rest l (Ok c) ⊎ AnswersCycle h rest l (Ok c)) → IsAsciiText text c
+    named l end e valid (inl n) = of_lists circuit text c h rest l end valid s k (lists-back h rest l end (header_small text rest Ascii h header).small k.fits e) n
+    named l end e valid (inr (inl u)) = absurd (not_stopped c _ u.is)
+    named l end e valid (inr (inr u)) = absurd (not_stopped c _ u.is)
+
+    by : (r : Result (Loose × List ℕ) Stop) → lists_of_file h rest ≡ r → AnswersLists h rest r (Ok c) → IsAsciiText text c
+    by (Ok x) e a = named x.0 x.1 e a.0 a.1
+    by (Err w) e a = absurd (not_stopped c w a)
+
+-- ---- either form
+
+pub spells-read : IsCircuitLaw → (text : List ℕ) (c : Circuit) → Spells text c → AnswersText text (Ok c)
+spells-read circuit text c (inl ascii) = ascii-read circuit text c ascii
+spells-read circuit text c (inr binary) = stands-read text c binary
+
+pub read-spells : IsCircuitLaw → (text : List ℕ) (c : Circuit) → AreBytes text → IsCircuit c → AnswersText text (Ok c) → Spells text c
+unfolding AnswersText
+read-spells circuit text c bytes valid answers = by (line_at header_of text) refl answers
+  where
+    body : (form : Form) (h : Counts) (rest : List ℕ) → line_at header_of text ≡ Ok ((form, h), rest) → AnswersBody form h rest (Ok c) → Spells text c
+    body Ascii h rest e a = inl (ascii-stands circuit text c h rest e a)
+    body Binary h rest e a = inr (binary-stands text c h rest bytes valid e (sym a))
+
+    by : (r : Result ((Form × Counts) × List ℕ) Stop) → line_at header_of text ≡ r → AnswersHeader r (Ok c) → Spells text c
+    by (Ok x) e a = body x.0.0 x.0.1 x.1 e a
+    by (Err w) e a = absurd (not_stopped c w a)

@@ -1,0 +1,280 @@
+-- From the lists of a file that reading gives back to the text.
+use Rattle.std.proofs.Common.{◌≡◌, ℕ, ◌+◌, ◌-◌, ◌*◌, ◌%◌, ◌^◌, ◌<◌, ◌≤◌, ◌==◌, ◌&&◌, true, false, not, nat_le, List, [], ◌∷◌, ◌++◌, length, decimal, All, Option, Some, None, Ok, Err, refl, sym, ap, subst, ◌∙◌, append_assoc, inl, inr, arith}
+use Rattle.std.specs.List.{concat, sum, sum_by}
+use Rattle.std.specs.List.Sorted.{IsStrictlySortedBy}
+use Rattle.std.proofs.lemmas.Bool.{and_parts, eqb-true, leb-true}
+use Rattle.std.proofs.lemmas.Bool.Decides.{nat_tests}
+use Rattle.std.proofs.lemmas.List.Elements.{All-weaker, All-nil, All-cons, All-head, All-tail}
+use Rattle.std.proofs.lemmas.List.Sums.{sum-map}
+use Rattle.base.specs.Decimals.{number_of}
+use Rattle.base.proofs.DecimalLemmas.{chosen, number_is_decimal}
+use Rattle.aiger.specs.declared.circuit.Reset.TheVariants.{Zero}
+use Rattle.aiger.specs.declared.loose.GateLine.{GateLine}
+use Rattle.aiger.specs.declared.loose.LatchLine.{LatchLine}
+use Rattle.aiger.specs.Limits.{greatest_count}
+use Rattle.aiger.specs.Literal.{variable}
+use Rattle.aiger.specs.Loose.{Loose, IsLoose, IsDefining, IsSmall, IsNamedLine, empty_loose, latch_variable, gate_variable, defined_variables, is_defining, is_defined, with_input_line, with_latch_line, with_gate_line}
+use Rattle.aiger.specs.Numbering.{IsOnce}
+use Rattle.aigertext.specs.declared.counts.Counts.{Counts}
+use Rattle.aigertext.specs.declared.fault.Why.{Why}
+use Rattle.aigertext.specs.declared.fault.Why.TheVariants as why
+use Rattle.aigertext.specs.declared.forms.Form.TheVariants.{Ascii}
+use Rattle.aigertext.specs.Ascii.{property_lines}
+use Rattle.aigertext.specs.Counts.{AreSmall, Fits, counts_of_file}
+use Rattle.aigertext.specs.Spelling.{AreLines, IsInputLine, IsLatchLine, IsGateLine, use_lines, AreUpTo}
+use Rattle.aigertext.specs.Reading.{some_or, fields, within, reset_of, Properties, lists_of, nameless, properties_at}
+use Rattle.aigertext.specs.AsciiReading.{defining, input_by, input_of, own_by, latch_fields, latch_of, gate_fields, gate_of, onto_lists, with_properties_of, lists_of_file}
+use Rattle.aigertext.proofs.BackLemmas.{ok_same, not_err, bind-back, within-back}
+use Rattle.aigertext.proofs.FileReadLemmas.{inputs_onto, latches_onto, gates_onto, HasInputs, HasLeaves, input_grows, latch_grows, gate_grows}
+use Rattle.aigertext.proofs.LatchBackLemmas.{spaced, fields-back, reset-back}
+use Rattle.aigertext.proofs.OntoLemmas.{onto-back}
+use Rattle.aigertext.proofs.ReadStandsLemmas.{properties-back, property_is, length_lists, sizes_of_lists}
+
+-- ---- lines
+
+-- a literal of a line is new: up to the greatest, it may define a variable, and no line does
+abbrev IsNewLiteral : ℕ → Loose → ℕ → Type 0
+IsNewLiteral greatest l n = ((n ≤ greatest) × IsDefining n) × (is_defined l (variable n) ≡ false)
+
+defining-back : (w : Why) (greatest : ℕ) (l : Loose) (m n : ℕ) → defining w greatest l m ≡ Ok n → (m ≡ n) × IsNewLiteral greatest l n
+defining-back w greatest l m n e =
+    elim (chosen (nat_le m greatest && (is_defining m && not (is_defined l (variable m)))) (Ok m) (Err w) (Ok n) e) [
+      | inl new ↦
+          let is : m ≡ n = ok_same m n new.1 in
+          (is, subst (IsNewLiteral greatest l) is (of_test (new.0)))
+      | inr wrong ↦ absurd (not_err _ _ wrong.1)
+    ]
+  where
+    of_test : (nat_le m greatest && (is_defining m && not (is_defined l (variable m)))) ≡ true → IsNewLiteral greatest l m
+    of_test t =
+        let p = and_parts (nat_le m greatest) (is_defining m && not (is_defined l (variable m))) t in
+        let q = and_parts (is_defining m) (not (is_defined l (variable m))) p.1 in
+        let r = and_parts (nat_le 2 m) (m % 2 == 0) q.0 in
+        ((leb-true m greatest p.0, record { even = eqb-true (m % 2) 0 r.1; least = leb-true 2 m r.0 }), grind (arith, nat_tests, q.1))
+
+-- a field that is the decimal of a number up to the greatest
+abbrev IsDecimal : ℕ → List ℕ → ℕ → Type 0
+IsDecimal greatest field n = (field ≡ decimal n) × (n ≤ greatest)
+
+module _ (greatest : ℕ) (small : greatest < 2 ^ 64 - 1) where
+  field_is : (field : List ℕ) (m n : ℕ) → number_of field ≡ Some m → m ≡ n → n ≤ greatest → field ≡ decimal n
+  field_is field m n e is le = number_is_decimal field m e (omega (arith, is, le)) ∙ ap decimal is
+
+  within-is : (w : Why) (field : List ℕ) (n : ℕ) → within w greatest (number_of field) ≡ Ok n → IsDecimal greatest field n
+  within-is w field n e =
+      let p = within-back w greatest n (number_of field) e in
+      (field_is field n n p.0 refl p.1, p.1)
+
+  -- a field of a new literal
+  abbrev IsOwnField : Loose → List ℕ → ℕ → Type 0
+  IsOwnField l field n = (field ≡ decimal n) × IsNewLiteral greatest l n
+
+  own_field : (l : Loose) (field : List ℕ) (m n : ℕ) → number_of field ≡ Some m → (m ≡ n) × IsNewLiteral greatest l n → IsOwnField l field n
+  own_field l field m n f d = (field_is field m n f d.0 d.1.0.0, d.1)
+
+  input-is : (l : Loose) (field : List ℕ) (n : ℕ) (r : Option ℕ) → number_of field ≡ r → input_by greatest l r ≡ Ok n → IsOwnField l field n
+  input-is l field n None f e = absurd (not_err _ _ e)
+  input-is l field n (Some m) f e = own_field l field m n f (defining-back why.BadNumber greatest l m n e)
+
+  own-is : (l : Loose) (field : List ℕ) (n : ℕ) (r : Option ℕ) → number_of field ≡ r → own_by greatest l r ≡ Ok n → IsOwnField l field n
+  own-is l field n None f e = absurd (not_err _ _ e)
+  own-is l field n (Some m) f e = own_field l field m n f (defining-back why.BadLatch greatest l m n e)
+
+  some-is : (l : Loose) (field : List ℕ) (m n : ℕ) (r : Option ℕ) → number_of field ≡ r → some_or why.BadNumber r ≡ Ok m → (m ≡ n) × IsNewLiteral greatest l n → IsOwnField l field n
+  some-is l field m n None f e d = absurd (not_err _ _ e)
+  some-is l field m n (Some k) f e d = own_field l field k n f (ok_same k m e ∙ d.0, d.1)
+
+  input-back : (l : Loose) (n : ℕ) (line : List ℕ) → input_of greatest l line ≡ Ok n → IsInputLine n (line ++ 10 ∷ []) × ((n ≤ greatest) × IsDefining n) × (is_defined l (variable n) ≡ false)
+  unfolding input_of
+  input-back l n line e =
+      let d = input-is l line n (number_of line) refl e in
+      (ap (λ (t : List ℕ). t ++ 10 ∷ []) d.0, d.1.0, d.1.1)
+
+  -- a latch
+  abbrev IsLatchBack : Loose → LatchLine → List ℕ → Type 0
+  IsLatchBack l x line = IsLatchLine x (line ++ 10 ∷ []) × (((x.current ≤ greatest) × (x.next ≤ greatest)) × IsDefining x.current) × (is_defined l (latch_variable x) ≡ false)
+
+  two_fields : (a b : List ℕ) → (a ++ 32 ∷ b) ++ 10 ∷ [] ≡ a ++ 32 ∷ (b ++ 10 ∷ [])
+  two_fields a b = simp append_assoc
+
+  three_fields : (a b c : List ℕ) → (a ++ 32 ∷ (b ++ 32 ∷ c)) ++ 10 ∷ [] ≡ a ++ 32 ∷ (b ++ 32 ∷ (c ++ 10 ∷ []))
+  three_fields a b c = simp append_assoc
+
+  latch_by : (l : Loose) (x : LatchLine) (fs : List (List ℕ)) → latch_fields greatest l fs ≡ Ok x → IsLatchBack l x (spaced fs)
+  unfolding latch_fields
+  latch_by l x [] e = absurd (not_err _ _ e)
+  latch_by l x (current ∷ []) e = absurd (not_err _ _ e)
+  latch_by l x (current ∷ next ∷ []) e =
+      let own = bind-back (own_by greatest l (number_of current)) _ x e in
+      let n = bind-back (within why.BadLatch greatest (number_of next)) _ x own.then' in
+      let is : ◌≡◌ {A = LatchLine} (record { current = own.value; next = n.value; reset = Zero }) x = ok_same _ x n.then' in
+      let c = own-is l current own.value (number_of current) refl own.was in
+      let d = within-is why.BadLatch next n.value n.was in
+      subst (λ (y : LatchLine). IsLatchBack l y (current ++ 32 ∷ next)) is
+      (record { reset = []; is_reset = inl refl; spelled = two_fields current next ∙ ap (λ (t : List ℕ). t ++ 32 ∷ (next ++ 10 ∷ [])) c.0 ∙ ap (λ (t : List ℕ). decimal own.value ++ 32 ∷ (t ++ 10 ∷ [])) d.0 }, ((c.1.0.0, d.1), c.1.0.1), c.1.1)
+  latch_by l x (current ∷ next ∷ begins ∷ []) e =
+      let own = bind-back (own_by greatest l (number_of current)) _ x e in
+      let n = bind-back (within why.BadLatch greatest (number_of next)) _ x own.then' in
+      let r = bind-back (reset_of own.value (number_of begins)) _ x n.then' in
+      let is : ◌≡◌ {A = LatchLine} (record { current = own.value; next = n.value; reset = r.value }) x = ok_same _ x r.then' in
+      let c = own-is l current own.value (number_of current) refl own.was in
+      let d = within-is why.BadLatch next n.value n.was in
+      let b = reset-back own.value r.value begins (omega (arith, c.1.0.0)) r.was in
+      subst (λ (y : LatchLine). IsLatchBack l y (current ++ 32 ∷ (next ++ 32 ∷ begins))) is (
+        record {
+          reset = b.0 ∷ [];
+          is_reset = b.1.1;
+          spelled =
+              three_fields current next begins ∙ ap (λ (t : List ℕ). t ++ 32 ∷ (next ++ 32 ∷ (begins ++ 10 ∷ []))) c.0 ∙ ap (λ (t : List ℕ). decimal own.value ++ 32 ∷ (t ++ 32 ∷ (begins ++ 10 ∷ []))) d.0
+              ∙ ap (λ (t : List ℕ). decimal own.value ++ 32 ∷ (decimal n.value ++ 32 ∷ (t ++ 10 ∷ []))) b.1.0;
+        },
+        ((c.1.0.0, d.1), c.1.0.1),
+        c.1.1,
+      )
+  latch_by l x (current ∷ next ∷ begins ∷ more ∷ others) e = absurd (not_err _ _ e)
+
+  latch-back : (l : Loose) (x : LatchLine) (line : List ℕ) → latch_of greatest l line ≡ Ok x → IsLatchBack l x line
+  latch-back l x line e = subst (IsLatchBack l x) (fields-back line) (latch_by l x (fields line) e)
+
+  -- a gate
+  abbrev IsGateBack : Loose → GateLine → List ℕ → Type 0
+  IsGateBack l x line = IsGateLine x (line ++ 10 ∷ []) × (((x.lhs ≤ greatest) × (x.rhs0 ≤ greatest) × (x.rhs1 ≤ greatest)) × IsDefining x.lhs) × (is_defined l (gate_variable x) ≡ false)
+
+  gate_by : (l : Loose) (x : GateLine) (fs : List (List ℕ)) → gate_fields greatest l fs ≡ Ok x → IsGateBack l x (spaced fs)
+  unfolding gate_fields
+  gate_by l x [] e = absurd (not_err _ _ e)
+  gate_by l x (f ∷ []) e = absurd (not_err _ _ e)
+  gate_by l x (f ∷ g ∷ []) e = absurd (not_err _ _ e)
+  gate_by l x (lhs ∷ rhs0 ∷ rhs1 ∷ []) e =
+      let own = bind-back (some_or why.BadNumber (number_of lhs)) _ x e in
+      let a = bind-back (within why.BadNumber greatest (number_of rhs0)) _ x own.then' in
+      let b = bind-back (within why.BadNumber greatest (number_of rhs1)) _ x a.then' in
+      let new = bind-back (defining why.GateOrder greatest l own.value) _ x b.then' in
+      let is : ◌≡◌ {A = GateLine} (record { lhs = new.value; rhs0 = a.value; rhs1 = b.value }) x = ok_same _ x new.then' in
+      let c = some-is l lhs own.value new.value (number_of lhs) refl own.was (defining-back why.GateOrder greatest l own.value new.value new.was) in
+      let d = within-is why.BadNumber rhs0 a.value a.was in
+      let f = within-is why.BadNumber rhs1 b.value b.was in
+      subst (λ (y : GateLine). IsGateBack l y (lhs ++ 32 ∷ (rhs0 ++ 32 ∷ rhs1))) is (
+        three_fields lhs rhs0 rhs1 ∙ ap (λ (t : List ℕ). t ++ 32 ∷ (rhs0 ++ 32 ∷ (rhs1 ++ 10 ∷ []))) c.0 ∙ ap (λ (t : List ℕ). decimal new.value ++ 32 ∷ (t ++ 32 ∷ (rhs1 ++ 10 ∷ []))) d.0
+            ∙ ap (λ (t : List ℕ). decimal new.value ++ 32 ∷ (decimal a.value ++ 32 ∷ (t ++ 10 ∷ []))) f.0,
+        ((c.1.0.0, d.1, f.1), c.1.0.1),
+        c.1.1,
+      )
+  gate_by l x (f ∷ g ∷ h ∷ i ∷ more) e = absurd (not_err _ _ e)
+
+  gate-back : (l : Loose) (x : GateLine) (line : List ℕ) → gate_of greatest l line ≡ Ok x → IsGateBack l x line
+  gate-back l x line e = subst (IsGateBack l x) (fields-back line) (gate_by l x (fields line) e)
+
+-- ---- all sections
+
+pub record ListsBack (h : Counts) (text : List ℕ) (l : Loose) (end : List ℕ) : Type 0 where
+  pub valid : IsLoose l
+  pub unnamed : l.names ≡ []
+  pub up_to : AreUpTo (2 * h.variables + 1) l
+  pub counts : h ≡ counts_of_file h.variables l
+  pub inputs : List ℕ
+  pub are_inputs : AreLines IsInputLine l.inputs inputs
+  pub latches : List ℕ
+  pub are_latches : AreLines IsLatchLine l.latches latches
+  pub gates : List ℕ
+  pub are_gates : AreLines IsGateLine l.gates gates
+  pub whole : text ≡ inputs ++ (latches ++ (use_lines l ++ (gates ++ end)))
+
+-- lists of these things
+abbrev made : List ℕ → List LatchLine → Properties → List GateLine → Loose
+made is ls p gs = record (with_properties_of (record empty_loose { inputs = is; latches = ls }) p) { gates = gs }
+
+-- literals up to the greatest are small
+small_literal : (h : Counts) → AreSmall h → (n : ℕ) → n ≤ 2 * h.variables + 1 → IsSmall n
+small_literal h small n le = omega (arith, le, small.variables)
+
+front_holds : (P : ℕ → Type 0) (xs ys : List ℕ) → All P (xs ++ ys) → All P xs × All P ys
+front_holds P [] ys h = (All-nil P, h)
+front_holds P (x ∷ xs) ys h =
+    let rest = front_holds P xs ys (All-tail P x (xs ++ ys) h) in
+    (All-cons P x xs (All-head P x (xs ++ ys) h) rest.0, rest.1)
+
+lists_hold : (P : ℕ → Type 0) (lists : List (List ℕ)) → All P (concat lists) → All (All P) lists
+lists_hold P [] h = All-nil (All P)
+lists_hold P (ls ∷ lists) h =
+    let parts = front_holds P ls (concat lists) h in
+    All-cons (All P) ls lists parts.0 (lists_hold P lists parts.1)
+
+pub lists-back : (h : Counts) (text : List ℕ) (l : Loose) (end : List ℕ) → AreSmall h → Fits Ascii h → lists_of_file h text ≡ Ok (l, end) → ListsBack h text l end
+unfolding lists_of_file IsStrictlySortedBy
+lists-back h text l end few fits e =
+    let small : 2 * h.variables + 1 < 2 ^ 64 - 1 = omega (arith, few.variables) in
+    let i = bind-back (onto_lists (input_of (2 * h.variables + 1)) with_input_line empty_loose h.inputs text) _ (l, end) e in
+    let k = bind-back (onto_lists (latch_of (2 * h.variables + 1)) with_latch_line i.value.0 h.latches i.value.1) _ (l, end) i.then' in
+    let p = bind-back (properties_at h k.value.1) _ (l, end) k.then' in
+    let i' = onto-back (input_of (2 * h.variables + 1)) with_input_line variable IsInputLine (λ n. (n ≤ 2 * h.variables + 1) × IsDefining n) HasInputs input_grows (input-back (2 * h.variables + 1) small) empty_loose i.value.0 h.inputs text i.value.1 i.was in
+    let k' = onto-back (latch_of (2 * h.variables + 1)) with_latch_line latch_variable IsLatchLine (λ x. ((x.current ≤ 2 * h.variables + 1) × (x.next ≤ 2 * h.variables + 1)) × IsDefining x.current) HasLeaves latch_grows (latch-back (2 * h.variables + 1) small) i.value.0 k.value.0 h.latches i.value.1 k.value.1 k.was in
+    let q = properties-back h k.value.1 p.value.0 p.value.1 few.variables p.was in
+    let g' = onto-back (gate_of (2 * h.variables + 1)) with_gate_line gate_variable IsGateLine (λ x. ((x.lhs ≤ 2 * h.variables + 1) × (x.rhs0 ≤ 2 * h.variables + 1) × (x.rhs1 ≤ 2 * h.variables + 1)) × IsDefining x.lhs) (λ m. Unit {0}) gate_grows (gate-back (2 * h.variables + 1) small) (with_properties_of k.value.0 p.value.0) l h.gates p.value.1 end p.then' in
+    let inputs_are : i.value.0 ≡ record empty_loose { inputs = i'.things } = i'.is ∙ inputs_onto empty_loose i'.things in
+    let leaves_are : k.value.0 ≡ record empty_loose { inputs = i'.things; latches = k'.things } =
+    k'.is ∙ latches_onto i.value.0 k'.things ∙ ap (λ (m : Loose). record m { latches = m.latches ++ k'.things }) inputs_are in
+    let all_are : l ≡ made i'.things k'.things p.value.0 g'.things =
+    g'.is ∙ gates_onto (with_properties_of k.value.0 p.value.0) g'.things ∙ ap (λ (m : Loose). record (with_properties_of m p.value.0) { gates = m.gates ++ g'.things }) leaves_are in
+    let one = i'.keeps (refl, refl) (λ v. omega arith) in
+    let two = k'.keeps one.0.1 one.1 in
+    let once : IsOnce (defined_variables (made i'.things k'.things p.value.0 g'.things)) = subst (λ (m : Loose). IsOnce (defined_variables m)) all_are (g'.keeps tt two.1).1 in
+    let smaller = λ (lits : List ℕ) (b : All (λ n. n ≤ 2 * h.variables + 1) lits). All-weaker (λ n. n ≤ 2 * h.variables + 1) IsSmall (small_literal h few) lits b in
+    let lists : List (List ℕ) = lists_of p.value.0.sizes p.value.0.listed in
+    let total : sum_by length lists ≤ greatest_count = subst (λ (n : ℕ). n ≤ greatest_count) (ap sum (sym (sizes_of_lists p.value.0.sizes p.value.0.listed q.listed)) ∙ sum-map length lists) q.total in
+    subst (λ (m : Loose). ListsBack h text m end) (sym all_are)
+    (record {
+      valid = record {
+        definitions = record {
+          inputs = All-weaker (λ n. (n ≤ 2 * h.variables + 1) × IsDefining n) IsDefining (λ n x. x.1) i'.things i'.good;
+          latches = All-weaker (λ x. ((x.current ≤ 2 * h.variables + 1) × (x.next ≤ 2 * h.variables + 1)) × IsDefining x.current) (λ x. IsDefining x.current) (λ x y. y.1) k'.things k'.good;
+          gates = All-weaker (λ x. ((x.lhs ≤ 2 * h.variables + 1) × (x.rhs0 ≤ 2 * h.variables + 1) × (x.rhs1 ≤ 2 * h.variables + 1)) × IsDefining x.lhs) (λ x. IsDefining x.lhs) (λ x y. y.1) g'.things g'.good;
+          once = once;
+        };
+        small = record {
+          inputs = All-weaker (λ n. (n ≤ 2 * h.variables + 1) × IsDefining n) IsSmall (λ n x. small_literal h few n x.0) i'.things i'.good;
+          latches = All-weaker (λ x. ((x.current ≤ 2 * h.variables + 1) × (x.next ≤ 2 * h.variables + 1)) × IsDefining x.current) (λ x. IsSmall x.current) (λ x y. small_literal h few x.current y.0.0) k'.things k'.good;
+          nexts = All-weaker (λ x. ((x.current ≤ 2 * h.variables + 1) × (x.next ≤ 2 * h.variables + 1)) × IsDefining x.current) (λ x. IsSmall x.next) (λ x y. small_literal h few x.next y.0.1) k'.things k'.good;
+          gates = All-weaker (λ x. ((x.lhs ≤ 2 * h.variables + 1) × (x.rhs0 ≤ 2 * h.variables + 1) × (x.rhs1 ≤ 2 * h.variables + 1)) × IsDefining x.lhs) (λ x. IsSmall x.lhs) (λ x y. small_literal h few x.lhs y.0.0) g'.things g'.good;
+          first_operands = All-weaker (λ x. ((x.lhs ≤ 2 * h.variables + 1) × (x.rhs0 ≤ 2 * h.variables + 1) × (x.rhs1 ≤ 2 * h.variables + 1)) × IsDefining x.lhs) (λ x. IsSmall x.rhs0) (λ x y. small_literal h few x.rhs0 y.0.1) g'.things g'.good;
+          second_operands = All-weaker (λ x. ((x.lhs ≤ 2 * h.variables + 1) × (x.rhs0 ≤ 2 * h.variables + 1) × (x.rhs1 ≤ 2 * h.variables + 1)) × IsDefining x.lhs) (λ x. IsSmall x.rhs1) (λ x y. small_literal h few x.rhs1 y.0.2) g'.things g'.good;
+          outputs = smaller p.value.0.outputs q.up_to.outputs;
+          bads = smaller p.value.0.bads q.up_to.bads;
+          constraints = smaller p.value.0.constraints q.up_to.constraints;
+          justice = lists_hold IsSmall lists (smaller (concat lists) q.up_to.justice);
+          fair = smaller p.value.0.fair q.up_to.fair;
+        };
+        few = record {
+          defined = omega (arith, i'.many, k'.many, g'.many, fits, few.variables);
+          outputs = omega (arith, q.outputs, few.outputs);
+          bads = omega (arith, q.bads, few.bads);
+          constraints = omega (arith, q.constraints, few.constraints);
+          justice = omega (arith, length_lists p.value.0.sizes p.value.0.listed, q.sizes, few.justice);
+          justice_literals = total;
+          fair = omega (arith, q.fair, few.fair);
+        };
+        names = record { sorted = tt; named = All-nil (IsNamedLine (made i'.things k'.things p.value.0 g'.things)) };
+      };
+      unnamed = refl;
+      up_to = record {
+        inputs = All-weaker (λ n. (n ≤ 2 * h.variables + 1) × IsDefining n) (λ n. n ≤ 2 * h.variables + 1) (λ n x. x.0) i'.things i'.good;
+        latches = All-weaker (λ x. ((x.current ≤ 2 * h.variables + 1) × (x.next ≤ 2 * h.variables + 1)) × IsDefining x.current) (λ x. (x.current ≤ 2 * h.variables + 1) × (x.next ≤ 2 * h.variables + 1)) (λ x y. y.0) k'.things k'.good;
+        outputs = q.up_to.outputs;
+        bads = q.up_to.bads;
+        constraints = q.up_to.constraints;
+        justice = q.up_to.justice;
+        fair = q.up_to.fair;
+        gates = All-weaker (λ x. ((x.lhs ≤ 2 * h.variables + 1) × (x.rhs0 ≤ 2 * h.variables + 1) × (x.rhs1 ≤ 2 * h.variables + 1)) × IsDefining x.lhs) (λ x. (x.lhs ≤ 2 * h.variables + 1) × (x.rhs0 ≤ 2 * h.variables + 1) × (x.rhs1 ≤ 2 * h.variables + 1)) (λ x y. y.0) g'.things g'.good;
+      };
+      counts = rw (i'.many, k'.many, g'.many, q.outputs, q.bads, q.constraints, length_lists p.value.0.sizes p.value.0.listed ∙ q.sizes, q.fair) refl;
+      inputs = i'.bytes;
+      are_inputs = i'.lines;
+      latches = k'.bytes;
+      are_latches = k'.lines;
+      gates = g'.bytes;
+      are_gates = g'.lines;
+      whole =
+          i'.parts ∙ ap (λ (t : List ℕ). i'.bytes ++ t) k'.parts
+          ∙ ap (λ (t : List ℕ). i'.bytes ++ (k'.bytes ++ t)) (q.parts ∙ sym (property_is 0 [] p.value.0 [] p.value.1 q.listed))
+          ∙ ap (λ (t : List ℕ). i'.bytes ++ (k'.bytes ++ (property_lines (nameless 0 [] p.value.0 []) ++ t))) g'.parts;
+    })
