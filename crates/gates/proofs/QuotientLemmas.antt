@@ -14,7 +14,7 @@ use Rattle.aiger.specs.Net.{Net, IsDefined, Satisfies}
 use Rattle.aiger.proofs.NetLemmas.{IsDefined-false, literal_value-negation}
 use Rattle.gates.specs.Made.{MakesAnd, MakesLiteral, MakesWord, word_value}
 use Rattle.gates.specs.Sums.{literal_number, MakesSum}
-use Rattle.gates.specs.Division.{reduced, MakesQuotientRow, MakesRows, MakesDivision}
+use Rattle.gates.specs.Division.{reduced, MakesQuotientRow, MakesRows}
 use Rattle.gates.proofs.GrowthLemmas.{Grows-refl, Grows-weaker, Grows-trans, Satisfies-earlier, IsDefined-grown, All-defined-grown, word_value-negation}
 use Rattle.base.proofs.BitLemmas.{two_more}
 use Rattle.gates.proofs.BitListLemmas.{word_value-below}
@@ -177,18 +177,4 @@ MakesRows-step old mid new most more all a b quotient remainder next bit left le
           let before = Satisfies-earlier mid new more row.grows v s in
           row.left v s ∙ ap (λ r. reduced (literal_number v next + 2 * r) (word_value v b)) (so_far.remainder_means v before)
           ∙ sym (remainder_more (word_value v a) (word_value v b) (literal_value v next));
-    }
-
--- the rows of a dividend as wide as the divisor are its division
-pub MakesDivision-rows : (old new : Net) (few most : ℕ) (a b quotient remainder : List ℕ) → length b ≡ length a → few ≤ most
-    → MakesRows old new few a b quotient remainder → MakesDivision old new most a b quotient remainder
-MakesDivision-rows old new few most a b quotient remainder same le rows =
-    record {
-      grows = Grows-weaker old new few most le rows.grows;
-      quotient_wide = rows.quotient_wide;
-      remainder_wide = rows.remainder_wide ∙ sym same;
-      quotient_defined = rows.quotient_defined;
-      remainder_defined = rows.remainder_defined;
-      quotient_means = rows.quotient_means;
-      remainder_means = rows.remainder_means;
     }

@@ -53,15 +53,6 @@ AreShared-push gs a b shared needed absent = record {
   once = all_pairs_push (λ g h. ¬ AreSame g.rhs0 g.rhs1 h.rhs0 h.rhs1) gs (gate_of a b) shared.once (λ k d h. differs (get_or gs k d) a b (shared.needed k d h) (none_passes (is_gate_of a b) gs absent k d h));
 }
 
--- where nothing stands for an and, it is not folded and no gate is that of the two
-pub standing-none : (n : Net) (a b : ℕ) → standing_and n a b ≡ None → (folded_and a b ≡ None) × (position (is_gate_of a b) n.gates ≡ None)
-standing-none n a b none = by (folded_and a b) (position (is_gate_of a b) n.gates) refl refl
-  where
-    by : (f p : Option ℕ) → folded_and a b ≡ f → position (is_gate_of a b) n.gates ≡ p → (f ≡ None) × (p ≡ None)
-    by None None e h = (refl, refl)
-    by None (Some k) e h = absurd (search rules)
-    by (Some l) p e h = absurd (search rules)
-
 -- the greater and the smaller one of two literals are the two
 pub gate_of-same : (a b : ℕ) → AreSame a b (gate_of a b).rhs0 (gate_of a b).rhs1
 gate_of-same a b =

@@ -5,7 +5,7 @@ use Rattle.std.proofs.lemmas.Nat.{pow_pos, mul-le}
 use Rattle.std.proofs.lemmas.Bool.Decides.{nat_tests}
 use Rattle.std.proofs.lemmas.Int.{ints}
 use Rattle.std.proofs.lemmas.List.{length_push, length-take-le, take_all}
-use Rattle.std.proofs.lemmas.List.Elements.{All-nil, All-push}
+use Rattle.std.proofs.lemmas.List.Elements.{All-push}
 use Rattle.base.specs.Word.{bit_number}
 use Rattle.base.specs.declared.operators.Unary.TheVariants as unary
 use Rattle.base.specs.declared.operators.Binary.TheVariants as binary
@@ -16,11 +16,11 @@ use Rattle.base.proofs.SignedLaws.{half, signed_low, signed_high, signed_is, ove
 use Rattle.base.proofs.WrapLemmas.{wrapped_is}
 use Rattle.aiger.specs.Literal.{Valuation, literal_value, negation}
 use Rattle.aiger.specs.Net.{Net, IsDefined}
-use Rattle.aiger.proofs.NetLemmas.{IsDefined-false, literal_value-negation}
+use Rattle.aiger.proofs.NetLemmas.{literal_value-negation}
 use Rattle.gates.specs.Connect.{differ}
 use Rattle.gates.specs.Made.{Grows, MakesAnd, MakesLiteral, MakesWord, word_value}
 use Rattle.gates.specs.Sums.{literal_number}
-use Rattle.gates.proofs.GrowthLemmas.{Grows-refl, Grows-weaker, Grows-trans, Satisfies-earlier, IsDefined-grown, All-defined-grown}
+use Rattle.gates.proofs.GrowthLemmas.{Grows-weaker, Grows-trans, Satisfies-earlier, IsDefined-grown, All-defined-grown}
 use Rattle.gates.proofs.BitListLemmas.{MakesWord-same, MakesWord-weaker, word_value-below, word_value-more}
 use Rattle.gates.proofs.SumLemmas.{word_value-push}
 use Rattle.gates.proofs.WindowLemmas.{sign-zero, sign-one}
@@ -106,20 +106,6 @@ negated_whole n (suc w) true below =
 pub record IsNegatedRow (old new : Net) (i negative : ℕ) (a bits : List ℕ) (flips : ℕ) : Type 0 where
   pub word : MakesWord old new (5 * i) i (λ v. negated_if (literal_value v negative) (2 ^ i) (word_value v (take i a))) bits
   pub above : MakesLiteral old new (5 * i) (λ v. flips_above (literal_value v negative) (word_value v (take i a))) flips
-
-pub IsNegatedRow-none : (n : Net) (negative : ℕ) (a : List ℕ) → IsNegatedRow n n 0 negative a [] 0
-IsNegatedRow-none n negative a = record {
-  word = record { grows = Grows-refl n 0; wide = refl; defined = All-nil (IsDefined n); means = λ v s. none (literal_value v negative) };
-  above = record { grows = Grows-refl n 0; defined = IsDefined-false n; means = λ v s. flips (literal_value v negative) };
-}
-  where
-    none : (t : Bool) → 0 ≡ negated_if t 1 0
-    none true = refl
-    none false = refl
-
-    flips : (t : Bool) → false ≡ flips_above t 0
-    flips true = refl
-    flips false = refl
 
 pub IsNegatedRow-push : (n0 n1 n2 n3 n4 : Net) (i negative : ℕ) (a bits : List ℕ) (x flips bit some l : ℕ) → i < length a → x ≡ get_or a i x → IsNegatedRow n0 n1 i negative a bits flips
     → MakesLiteral n1 n2 3 (λ v. differ (literal_value v x) (literal_value v flips)) bit → MakesLiteral n2 n3 1 (λ v. literal_value v x || literal_value v flips) some → MakesAnd n3 n4 negative some l

@@ -237,10 +237,6 @@ pub word_value-zeros : (v : Valuation) (n : ℕ) → word_value v (replicate n 0
 word_value-zeros v zero = refl
 word_value-zeros v (suc n) = omega (arith, word_value-zeros v n)
 
-pub word_value-ones : (v : Valuation) (n : ℕ) → word_value v (replicate n 1) ≡ 2 ^ n - 1
-word_value-ones v zero = refl
-word_value-ones v (suc n) = omega (arith, word_value-ones v n, two_more n, pow_pos n)
-
 pub MakesWord-added : (old new : Net) (a b bits : List ℕ)
     → MakesWord old new (9 * length a) (length a) (λ v. (word_value v a + word_value v b + literal_number v 0) % 2 ^ length a) bits
     → MakesWord old new (9 * length a) (length a) (λ v. binary_value binary.Add (length a) (word_value v a) (word_value v b)) bits

@@ -16,7 +16,7 @@ use crate::comparisons::comparison;
 use crate::division::divide;
 use crate::fault::GateFault;
 use crate::maker::{Bits, Gates};
-use crate::multiplication::mul;
+use crate::multiplication::mul_bits;
 use crate::overflows::overflow;
 use crate::shifts::{rotate, shift};
 use crate::signed_division::{sdiv, smod, srem};
@@ -79,7 +79,7 @@ pub fn binary_bits<G: Gates>(g: &mut G, op: Binary, a: &Bits, b: &Bits) -> Resul
         Binary::Sll | Binary::Srl | Binary::Sra => shift(g, op, a, b),
         Binary::Add => add_bits(g, a, b),
         Binary::Sub => sub_bits(g, a, b),
-        Binary::Mul => mul(g, a, b),
+        Binary::Mul => mul_bits(g, a, b),
         Binary::Udiv => Ok(divide(g, a, b)?.quotient),
         Binary::Urem => Ok(divide(g, a, b)?.remainder),
         Binary::Sdiv => sdiv(g, a, b),

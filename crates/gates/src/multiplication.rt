@@ -1,5 +1,6 @@
 //! Products of words: a row for each bit of the second operand, added up.
 ghost use Rattle.std.specs.Prelude.{◌≡◌, ◌+◌, ◌*◌, ◌%◌, ◌^◌, ◌<◌, ◌≤◌, ◌||◌, nat_le, length, All, IfOk, IfErr};
+ghost use Rattle.base.specs.Operator.{binary_value};
 ghost use Rattle.aiger.specs.Literal.{Valuation, literal_value};
 ghost use Rattle.aiger.specs.Net.{Net, IsDefined};
 ghost use Rattle.gates.specs.Operands.{AreOperands};
@@ -12,6 +13,7 @@ use crate::fault::GateFault;
 use crate::literals::{conjunction, disjunction};
 use crate::maker::{Bits, Gates};
 use aiger::Lit;
+use base::Binary;
 
 /// A word where a literal is true, and else none of its bits: its product with the literal.
 pub(crate) fn masked<G: Gates>(g: &mut G, a: &Bits, lit: Lit) -> Result<Bits, GateFault>
@@ -79,6 +81,15 @@ pub fn mul<G: Gates>(g: &mut G, a: &Bits, b: &Bits) -> Result<Bits, GateFault>
         product = with_row(g, &product, a, place, b[place])?;
     }
     Ok(product)
+}
+
+/// The bits of the product of two words of an operator's width.
+pub(crate) fn mul_bits<G: Gates>(g: &mut G, a: &Bits, b: &Bits) -> Result<Bits, GateFault>
+    requires { AreOperands (G.made g.old) 64 a.now.items b.now.items }
+    ensures ok { IfOk result (λ bits. let n = length a.now.items in MakesWord (G.made g.old) (G.made g.new) (10 * (n * n)) n (λ v. binary_value Binary.Mul n (word_value v a.now.items) (word_value v b.now.items)) bits.items) }
+    ensures refused { IfErr result (let n = length a.now.items in Refuses (G.made g.old) (G.made g.new) (10 * (n * n))) }
+{
+    mul(g, a, b)
 }
 
 /// A product within its width, and whether a part of it is above.

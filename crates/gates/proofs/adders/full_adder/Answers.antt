@@ -1,6 +1,9 @@
-use Rattle.std.proofs.Common.{rules}
+use Rattle.std.proofs.Common.{rules, arith}
 use Rattle.std.proofs.lemmas.Result.{IfOk-weaker}
 use Rattle.gates.proofs.SumLemmas.{MakesColumn-full, MakesColumn-with_true}
+use Rattle.gates.specs.Made.{Refuses}
+use Rattle.gates.proofs.LiteralLemmas.{Refuses-behind}
+use Rattle.gates.proofs.GrowthLemmas.{Grows-trans}
 use Rattle.gates.proofs.adders.full_adder.Goals as goal
 
 pub returns-clause-ok : goal.returns-clause-ok
@@ -11,3 +14,9 @@ returns-clause-ok g c =
 
 pub returns-then-eq-clause-ok : goal.returns-then-eq-clause-ok
 returns-then-eq-clause-ok g c = IfOk-weaker c.adder_with_one.result _ _ (λ column makes. MakesColumn-with_true _ _ c.args.a c.args.b c.args.c column.sum column.carry (search rules) makes) c.adder_with_one.ensures.ok
+
+pub returns-in_err-carry-clause-refused : goal.returns-in_err-carry-clause-refused
+returns-in_err-carry-clause-refused g c =
+    let refused : Refuses (g.G.Gates.made c.args.g.now) (g.G.Gates.made c.disjunction.new.g) (7) c.in_err-carry.field-0.0 =
+    Refuses-behind _ _ _ _ _ (7) _ (omega arith) (Grows-trans _ _ _ _ _ c.in_ok-first.ensures.ok.grows c.in_ok-second.ensures.ok.grows) c.in_err-carry.ensures.refused
+    in search rules

@@ -1,6 +1,9 @@
-use Rattle.std.proofs.Common.{rules}
-use Rattle.std.proofs.lemmas.Result.{IfOk-weaker}
+use Rattle.std.proofs.Common.{rules, arith}
+use Rattle.std.proofs.lemmas.Result.{IfOk-weaker, IfErr-weaker}
 use Rattle.gates.proofs.OrderLemmas.{MakesLiteral-column, MakesLiteral-lowest}
+use Rattle.gates.specs.Made.{Refuses}
+use Rattle.gates.proofs.LiteralLemmas.{Refuses-behind}
+use Rattle.gates.proofs.GrowthLemmas.{Grows-trans}
 use Rattle.gates.proofs.comparisons.less_column.Goals as goal
 
 pub returns-clause-ok : goal.returns-clause-ok
@@ -13,3 +16,14 @@ returns-clause-ok g c =
 pub returns-then-eq-clause-ok : goal.returns-then-eq-clause-ok
 returns-then-eq-clause-ok g c =
     MakesLiteral-lowest _ _ c.args.a c.args.b c.args.below c.in_ok-less.less (search rules) (rw c.not.ensures at c.in_ok-less.ensures.ok)
+
+pub returns-in_err-rest-clause-refused : goal.returns-in_err-rest-clause-refused
+returns-in_err-rest-clause-refused g c =
+    let refused : Refuses (g.G.Gates.made c.args.g.now) (g.G.Gates.made c.conjunction-3.new.g) (4) c.in_err-rest.field-0.0 =
+    Refuses-behind _ _ _ _ _ (4) _ (omega arith) (Grows-trans _ _ _ _ _ c.in_ok-less.ensures.ok.grows c.in_ok-greater.ensures.ok.grows) c.in_err-rest.ensures.refused
+    in search rules
+
+pub returns-clause-refused : goal.returns-clause-refused
+returns-clause-refused g c =
+    let before = Grows-trans _ _ _ _ _ c.in_ok-less.ensures.ok.grows (Grows-trans _ _ _ _ _ c.in_ok-greater.ensures.ok.grows c.in_ok-rest.ensures.ok.grows) in
+    IfErr-weaker c.disjunction.result _ _ (λ e refused. Refuses-behind _ _ _ _ 1 4 e (omega arith) before refused) c.disjunction.ensures.refused

@@ -1,6 +1,9 @@
-use Rattle.std.proofs.Common.{◌≡◌, ℕ, ◌+◌, ◌-◌, ◌*◌, ◌∷◌, List, [], length, drop, get_or, sym, ap₂, ◌∙◌, arith}
+use Rattle.std.proofs.Common.{◌≡◌, ℕ, ◌+◌, ◌-◌, ◌*◌, ◌∷◌, List, [], length, drop, get_or, sym, ap₂, ◌∙◌, arith, rules}
 use Rattle.std.proofs.lemmas.List.{drop_more, drop_all}
 use Rattle.gates.proofs.QuotientLemmas.{MakesRows-start, MakesRows-step}
+use Rattle.gates.specs.Made.{Refuses}
+use Rattle.gates.proofs.LiteralLemmas.{Refuses-behind}
+use Rattle.std.proofs.lemmas.Nat.{mul-le}
 use Rattle.gates.proofs.division.divide.Goals as goal
 
 pub loop-done-init : goal.loop-done-init
@@ -24,3 +27,11 @@ loop-done-preserved g c =
     rw (longer, c.insert-in-loop-done.ensures.items)
     (MakesRows-step _ _ _ ((12 * length b + 9) * done) (12 * length b + 9) ((12 * length b + 9) * (done + 1)) (drop (length a - done) a) b c.loop-done.quotient.items c.loop-done.remainder.items next row.bit row.remainder.items
     (omega arith) c.loop-done.invariant (rw c.insert.ensures.items at c.in_ok-row.ensures.ok))
+
+pub returns-in_err-row-clause-refused : goal.returns-in_err-row-clause-refused
+returns-in_err-row-clause-refused g c =
+    let n = length c.args.a.now.items in
+    let m = 12 * length c.args.b.now.items + 9 in
+    let refused : Refuses (g.G.Gates.made c.args.g.now) (g.G.Gates.made c.next_row.new.g) (12 * (n * n) + 12 * n) c.in_err-row.field-0.0 =
+    Refuses-behind _ _ _ (m * c.loop-done.done) m (12 * (n * n) + 12 * n) _ (omega (arith, c.requires.equal, mul-le m (c.loop-done.done + 1) (12 * n + 9) n (omega (arith, c.requires.equal)) (omega (arith, c.len-width.ensures.value)))) c.loop-done.invariant.grows c.in_err-row.ensures.refused
+    in search rules

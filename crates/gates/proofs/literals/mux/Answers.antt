@@ -1,8 +1,9 @@
 use Rattle.std.proofs.Common.{◌≡◌, Bool, true, false, not, ◌&&◌, ◌||◌, refl, arith, if◌then◌else◌}
-use Rattle.std.proofs.lemmas.Result.{IfOk-weaker}
+use Rattle.std.proofs.lemmas.Result.{IfOk-weaker, IfErr-weaker}
 use Rattle.aiger.specs.Literal.{literal_value}
 use Rattle.aiger.proofs.NetLemmas.{literal_value-negation}
-use Rattle.gates.proofs.LiteralLemmas.{MakesLiteral-and, MakesLiteral-join, MakesLiteral-same}
+use Rattle.gates.proofs.LiteralLemmas.{MakesLiteral-and, MakesLiteral-join, MakesLiteral-same, Refuses-behind}
+use Rattle.gates.proofs.GrowthLemmas.{Grows-trans}
 use Rattle.gates.proofs.literals.mux.Goals as goal
 
 -- what is chosen
@@ -23,3 +24,8 @@ returns-clause-ok g c =
     let joined = MakesLiteral-join _ _ _ _ 1 1 1 _ _ l _ _ (λ x y. x || y) first second m in
     MakesLiteral-same _ _ 3 3 l _ (λ v. if literal_value v condition then literal_value v t else literal_value v e) (omega arith) (λ v. chosen (literal_value v condition) (literal_value v t) (literal_value v e)) joined)
     c.disjunction.ensures.ok
+
+pub returns-clause-refused : goal.returns-clause-refused
+returns-clause-refused g c =
+    let before = Grows-trans _ _ _ _ _ c.in_ok-first.ensures.ok.grows c.in_ok-second.ensures.ok.grows in
+    IfErr-weaker c.disjunction.result _ _ (λ e refused. Refuses-behind _ _ _ _ _ (3) e (omega arith) before refused) c.disjunction.ensures.refused

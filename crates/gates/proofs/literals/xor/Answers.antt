@@ -1,9 +1,10 @@
 use Rattle.std.proofs.Common.{◌≡◌, Bool, true, false, not, ◌&&◌, refl, arith}
-use Rattle.std.proofs.lemmas.Result.{IfOk-weaker}
+use Rattle.std.proofs.lemmas.Result.{IfOk-weaker, IfErr-weaker}
 use Rattle.aiger.specs.Literal.{literal_value}
 use Rattle.aiger.proofs.NetLemmas.{literal_value-negation}
 use Rattle.gates.specs.Connect.{differ}
-use Rattle.gates.proofs.LiteralLemmas.{MakesLiteral-and, MakesLiteral-join, MakesLiteral-same}
+use Rattle.gates.proofs.LiteralLemmas.{MakesLiteral-and, MakesLiteral-join, MakesLiteral-same, Refuses-behind}
+use Rattle.gates.proofs.GrowthLemmas.{Grows-trans}
 use Rattle.gates.proofs.literals.xor.Goals as goal
 
 -- neither both nor neither
@@ -25,3 +26,8 @@ returns-clause-ok g c =
     let joined = MakesLiteral-join _ _ _ _ 1 1 1 _ _ l _ _ (λ x y. not x && not y) first second third in
     MakesLiteral-same _ _ 3 3 l _ (λ v. differ (literal_value v a) (literal_value v b)) (omega arith) (λ v. just_one (literal_value v a) (literal_value v b)) joined)
     c.conjunction-3.ensures.ok
+
+pub returns-clause-refused : goal.returns-clause-refused
+returns-clause-refused g c =
+    let before = Grows-trans _ _ _ _ _ c.in_ok-both.ensures.ok.grows c.in_ok-neither.ensures.ok.grows in
+    IfErr-weaker c.conjunction-3.result _ _ (λ e refused. Refuses-behind _ _ _ _ _ (3) e (omega arith) before refused) c.conjunction-3.ensures.refused

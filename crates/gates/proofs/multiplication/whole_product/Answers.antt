@@ -1,7 +1,10 @@
-use Rattle.std.proofs.Common.{◌*◌, length, refl, arith}
+use Rattle.std.proofs.Common.{◌*◌, length, refl, arith, rules, ◌+◌}
 use Rattle.gates.proofs.BitListLemmas.{MakesWord-weaker}
 use Rattle.gates.proofs.ProductLemmas.{MakesWord-first_row}
 use Rattle.gates.proofs.LostLemmas.{MakesLiteral-first_row, MakesWord-next_whole_row, MakesLiteral-next_row}
+use Rattle.gates.specs.Made.{Refuses}
+use Rattle.gates.proofs.LiteralLemmas.{Refuses-behind}
+use Rattle.std.proofs.lemmas.Nat.{mul-le}
 use Rattle.gates.proofs.multiplication.whole_product.Goals as goal
 
 pub loop-place-init : goal.loop-place-init
@@ -24,3 +27,10 @@ loop-place-preserved g c =
       lost = MakesLiteral-next_row _ _ _ _ c.loop-place.place c.index-deref-place.result so_far.lost next.lost c.args.a.now.items c.args.b.now.items so_far.bits.items
           c.requires.equal (omega arith) (cc) c.loop-place.invariant.bits c.loop-place.invariant.lost c.in_ok-product.ensures.lost;
     }
+
+pub returns-in_err-product-clause-refused : goal.returns-in_err-product-clause-refused
+returns-in_err-product-clause-refused g c =
+    let n = length c.args.a.now.items in
+    let refused : Refuses (g.G.Gates.made c.args.g.now) (g.G.Gates.made c.with_whole_row.new.g) (12 * (n * n)) c.in_err-product.field-0.0 =
+    Refuses-behind _ _ _ _ _ (12 * (n * n)) _ (omega (arith, mul-le n (c.loop-place.place + 1) n n (omega arith) (omega (arith, c.len-place-end.ensures.value, c.requires.equal)))) c.loop-place.invariant.bits.grows c.in_err-product.ensures.refused
+    in search rules

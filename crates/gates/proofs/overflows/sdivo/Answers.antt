@@ -1,10 +1,11 @@
-use Rattle.std.proofs.Common.{◌≡◌, ◌≤◌, length, map, arith}
-use Rattle.std.proofs.lemmas.Result.{IfOk-weaker}
+use Rattle.std.proofs.Common.{◌≡◌, ◌≤◌, length, map, arith, ap, ◌∙◌, ◌*◌}
+use Rattle.std.proofs.lemmas.Result.{IfOk-weaker, IfErr-weaker}
 use Rattle.aiger.specs.Literal.{negation}
 use Rattle.gates.specs.Tests.{with_top_negated}
-use Rattle.gates.proofs.GrowthLemmas.{MakesWord-not}
+use Rattle.gates.proofs.GrowthLemmas.{MakesWord-not, Grows-trans}
 use Rattle.gates.proofs.OrderLemmas.{All-top_negated, length-top_negated}
 use Rattle.gates.proofs.OverflowLemmas.{MakesWord-sdivo}
+use Rattle.gates.proofs.LiteralLemmas.{Refuses-behind}
 use Rattle.gates.proofs.overflows.sdivo.Goals as goal
 
 pub connect_bits-requires : goal.connect_bits-requires
@@ -23,3 +24,13 @@ returns-clause-ok g c =
     (λ l makes. MakesWord-sdivo _ _ _ _ c.args.a.now.items c.args.b.now.items c.top_negated-as_least.result.items c.in_ok-is_least.is_least c.in_ok-is_minus_one.is_minus_one l
     c.requires.some c.requires.equal as_least (rw c.as_slice.ensures.value at c.in_ok-is_least.ensures.ok) (rw c.as_slice-2.ensures.value at c.in_ok-is_minus_one.ensures.ok) makes)
     c.conjunction.ensures.ok
+
+pub returns-clause-refused : goal.returns-clause-refused
+returns-clause-refused g c =
+    let a = c.args.a.now.items in
+    let n = length a in
+    let negated = MakesWord-not _ a c.negation.result.items c.requires.left c.negation.ensures in
+    let some : 1 ≤ length c.negation.result.items = omega (arith, negated.wide) in
+    let wide : length c.as_slice.result.now ≡ n = ap length (c.as_slice.ensures.value ∙ c.top_negated-as_least.ensures) ∙ length-top_negated c.negation.result.items some ∙ negated.wide in
+    let before = Grows-trans _ _ _ _ _ c.in_ok-is_least.ensures.ok.grows c.in_ok-is_minus_one.ensures.ok.grows in
+    IfErr-weaker c.conjunction.result _ _ (λ e refused. Refuses-behind _ _ _ _ _ (3 * n) e (omega (arith, wide, ap length c.as_slice-2.ensures.value, c.requires.equal, c.requires.some)) before refused) c.conjunction.ensures.refused

@@ -1,8 +1,10 @@
-use Rattle.std.proofs.Common.{◌*◌, ℕ, length, subst, unsigned_abs}
-use Rattle.std.proofs.lemmas.Result.{IfOk-weaker}
+use Rattle.std.proofs.Common.{◌*◌, ℕ, length, subst, unsigned_abs, ◌+◌, arith}
+use Rattle.std.proofs.lemmas.Result.{IfOk-weaker, IfErr-weaker}
 use Rattle.base.specs.Signed.{signed}
 use Rattle.gates.specs.Made.{MakesWord, word_value}
 use Rattle.gates.proofs.SizeLemmas.{MakesWord-size_product, MakesLiteral-size_product}
+use Rattle.gates.proofs.LiteralLemmas.{Refuses-behind}
+use Rattle.gates.proofs.GrowthLemmas.{Grows-trans}
 use Rattle.gates.proofs.overflows.size_product.Goals as goal
 
 pub returns-clause-bits : goal.returns-clause-bits
@@ -32,3 +34,9 @@ returns-clause-lost g c =
     (λ product makes. MakesLiteral-size_product (g.G.Gates.made c.args.g.now) mid end (g.G.Gates.made c.whole_product.new.g) n c.in_ok-first.first.items c.in_ok-second.second.items product.lost
     (λ v. unsigned_abs (signed n (word_value v c.args.a.now.items))) (λ v. unsigned_abs (signed n (word_value v b))) c.in_ok-first.ensures.ok second makes)
     c.whole_product.ensures.lost
+
+pub returns-clause-refused : goal.returns-clause-refused
+returns-clause-refused g c =
+    let n = length c.args.a.now.items in
+    let before = Grows-trans _ _ _ _ _ c.in_ok-first.ensures.ok.grows c.in_ok-second.ensures.ok.grows in
+    IfErr-weaker c.whole_product.result _ _ (λ e refused. Refuses-behind _ _ _ _ _ (12 * (n * n) + 24 * n) e (omega (arith, c.requires.equal)) before (rw c.in_ok-first.ensures.ok.wide at refused)) c.whole_product.ensures.refused

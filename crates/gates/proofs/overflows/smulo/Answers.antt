@@ -1,6 +1,6 @@
-use Rattle.std.proofs.Common.{◌≡◌, ℕ, ◌+◌, ◌-◌, ◌*◌, ◌≤◌, length, get_or, subst, arith}
+use Rattle.std.proofs.Common.{◌≡◌, ℕ, ◌+◌, ◌-◌, ◌*◌, ◌≤◌, length, get_or, subst, arith, rules}
 use Rattle.std.proofs.lemmas.Result.{IfOk-weaker, IfErr-weaker}
-use Rattle.gates.specs.Made.{Grows}
+use Rattle.gates.specs.Made.{Grows, Refuses}
 use Rattle.gates.proofs.LiteralLemmas.{Refuses-behind}
 use Rattle.gates.proofs.GrowthLemmas.{Grows-trans}
 use Rattle.gates.proofs.SizeLemmas.{MakesWord-smulo, few_enough}
@@ -33,3 +33,10 @@ returns-clause-refused g c =
     in
     let few : m + (3 + (n + 1)) + 1 ≤ 40 * (n * n) + 4 * n = omega (arith, few_enough n c.requires.some) in
     IfErr-weaker c.disjunction.result _ _ (λ e refused. Refuses-behind _ third _ (m + (3 + (n + 1))) 1 (40 * (n * n) + 4 * n) e few before refused) c.disjunction.ensures.refused
+
+pub returns-in_err-above-clause-refused : goal.returns-in_err-above-clause-refused
+returns-in_err-above-clause-refused g c =
+    let n = length c.args.a.now.items in
+    let refused : Refuses (g.G.Gates.made c.args.g.now) (g.G.Gates.made c.size_overflow.new.g) (40 * (n * n) + 4 * n) c.in_err-above.field-0.0 =
+    Refuses-behind _ _ _ _ _ (40 * (n * n) + 4 * n) _ (omega (arith, c.in_ok-product.ensures.bits.wide, few_enough n c.requires.some)) (Grows-trans _ _ _ _ _ c.in_ok-product.ensures.bits.grows c.in_ok-negative.ensures.ok.grows) c.in_err-above.ensures.refused
+    in search rules

@@ -1,8 +1,10 @@
-use Rattle.std.proofs.Common.{◌*◌, ℕ, length, subst, unsigned_abs}
-use Rattle.std.proofs.lemmas.Result.{IfOk-weaker}
+use Rattle.std.proofs.Common.{◌*◌, ℕ, length, subst, unsigned_abs, ◌+◌, arith}
+use Rattle.std.proofs.lemmas.Result.{IfOk-weaker, IfErr-weaker}
 use Rattle.base.specs.Signed.{signed}
 use Rattle.gates.specs.Made.{MakesWord, word_value}
 use Rattle.gates.proofs.SignedDivisionLemmas.{MakesWord-quotient, MakesWord-remainder}
+use Rattle.gates.proofs.LiteralLemmas.{Refuses-behind}
+use Rattle.gates.proofs.GrowthLemmas.{Grows-trans}
 use Rattle.gates.proofs.signed_division.divide_sizes.Goals as goal
 
 pub returns-clause-quotient : goal.returns-clause-quotient
@@ -34,3 +36,9 @@ returns-clause-remainder g c =
     (λ d makes. MakesWord-remainder (g.G.Gates.made c.args.g.now) first second (g.G.Gates.made c.divide.new.g) n c.in_ok-dividend.dividend.items c.in_ok-divisor.divisor.items d.quotient.items d.remainder.items
     (λ v. unsigned_abs (signed n (word_value v a))) (λ v. unsigned_abs (signed n (word_value v b))) c.in_ok-dividend.ensures.ok divisor makes)
     c.divide.ensures.ok
+
+pub returns-clause-refused : goal.returns-clause-refused
+returns-clause-refused g c =
+    let n = length c.args.a.now.items in
+    let before = Grows-trans _ _ _ _ _ c.in_ok-dividend.ensures.ok.grows c.in_ok-divisor.ensures.ok.grows in
+    IfErr-weaker c.divide.result _ _ (λ e refused. Refuses-behind _ _ _ _ _ (12 * (n * n) + 36 * n) e (omega (arith, c.requires.equal)) before (rw c.in_ok-dividend.ensures.ok.wide at refused)) c.divide.ensures.refused

@@ -1,6 +1,8 @@
-use Rattle.std.proofs.Common.{◌≡◌, ◌-◌, length, get_or, refl}
-use Rattle.std.proofs.lemmas.Result.{IfOk-weaker}
+use Rattle.std.proofs.Common.{◌≡◌, ◌-◌, length, get_or, refl, ◌*◌, ◌+◌, arith}
+use Rattle.std.proofs.lemmas.Result.{IfOk-weaker, IfErr-weaker}
 use Rattle.gates.proofs.SignedDivisionLemmas.{MakesWord-sdiv}
+use Rattle.gates.proofs.LiteralLemmas.{Refuses-behind}
+use Rattle.gates.proofs.GrowthLemmas.{Grows-trans}
 use Rattle.gates.proofs.signed_division.sdiv.Goals as goal
 
 pub returns-clause-ok : goal.returns-clause-ok
@@ -15,3 +17,9 @@ returns-clause-ok g c =
     (λ bits makes. MakesWord-sdiv (g.G.Gates.made c.args.g.now) (g.G.Gates.made c.divide_sizes.new.g) (g.G.Gates.made c.xor.new.g) (g.G.Gates.made c.negated_where.new.g) (length a) x y c.in_ok-negative.negative a b
     c.in_ok-divided.divided.quotient.items bits.items c.requires.some refl c.requires.equal x_is y_is c.in_ok-divided.ensures.quotient c.in_ok-negative.ensures.ok makes)
     c.negated_where.ensures.ok
+
+pub returns-clause-refused : goal.returns-clause-refused
+returns-clause-refused g c =
+    let n = length c.args.a.now.items in
+    let before = Grows-trans _ _ _ _ _ c.in_ok-divided.ensures.quotient.grows c.in_ok-negative.ensures.ok.grows in
+    IfErr-weaker c.negated_where.result _ _ (λ e refused. Refuses-behind _ _ _ _ _ (12 * (n * n) + 51 * n) e (omega (arith, c.in_ok-divided.ensures.quotient.wide, c.requires.some)) before refused) c.negated_where.ensures.refused

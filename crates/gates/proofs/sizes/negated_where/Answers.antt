@@ -1,5 +1,8 @@
-use Rattle.std.proofs.Common.{length, refl, arith}
+use Rattle.std.proofs.Common.{length, refl, arith, rules, ◌*◌}
 use Rattle.gates.proofs.SizeLemmas.{IsNegatedRow-push, MakesWord-negated_where}
+use Rattle.gates.specs.Made.{Refuses}
+use Rattle.gates.proofs.LiteralLemmas.{Refuses-behind}
+use Rattle.gates.proofs.GrowthLemmas.{Grows-trans}
 use Rattle.gates.proofs.sizes.negated_where.Goals as goal
 
 pub loop-i-preserved : goal.loop-i-preserved
@@ -10,3 +13,17 @@ loop-i-preserved g c =
 
 pub returns-clause-ok : goal.returns-clause-ok
 returns-clause-ok g c = MakesWord-negated_where _ _ (length c.args.a.now.items) c.loop-i.i c.args.negative c.args.a.now.items c.loop-i.bits.items c.loop-i.flips refl (omega arith) c.loop-i.invariant
+
+pub returns-in_err-some-clause-refused : goal.returns-in_err-some-clause-refused
+returns-in_err-some-clause-refused g c =
+    let n = length c.args.a.now.items in
+    let refused : Refuses (g.G.Gates.made c.args.g.now) (g.G.Gates.made c.disjunction.new.g) (12 * n) c.in_err-some.field-0.0 =
+    Refuses-behind _ _ _ _ _ (12 * n) _ (omega arith) (Grows-trans _ _ _ _ _ c.loop-i.invariant.word.grows c.in_ok-xor.ensures.ok.grows) c.in_err-some.ensures.refused
+    in search rules
+
+pub returns-in_err-flips-clause-refused : goal.returns-in_err-flips-clause-refused
+returns-in_err-flips-clause-refused g c =
+    let n = length c.args.a.now.items in
+    let refused : Refuses (g.G.Gates.made c.args.g.now) (g.G.Gates.made c.conjunction.new.g) (12 * n) c.in_err-flips.field-0.0 =
+    Refuses-behind _ _ _ _ _ (12 * n) _ (omega arith) (Grows-trans _ _ _ _ _ c.loop-i.invariant.word.grows (Grows-trans _ _ _ _ _ c.in_ok-xor.ensures.ok.grows c.in_ok-some.ensures.ok.grows)) c.in_err-flips.ensures.refused
+    in search rules
