@@ -1,7 +1,8 @@
 //! What texts say, their faults, and what is printed of faults.
 use btor2::{Body, Item, Model};
 use std::alloc::Global;
-use witness::{JudgeFault, Shape, WitnessFault, claims_nothing, read_words};
+use std::test::Fail;
+use witness::{Given, JudgeFault, Shape, WitnessFault, Words, claims_nothing, read_words};
 
 /// A model of which witnesses speak.
 #[derive(Clone, Copy)]
@@ -81,96 +82,106 @@ fn fault(alloc: Global, shape: &Shape, text: &[u8]) -> (u64, u32) {
     }
 }
 
+/// Texts, and the line and the number of their fault, 0 for none.
+const FAULTS: [(&str, u64, u32); 34] = [
+    ("", 1, 118),
+    ("; x\nunsat\n", 2, 110),
+    ("sat\nb0 b2\n", 2, 111),
+    ("sat\nb1 b0 b1\n", 2, 111),
+    ("sat\nb0  b1\n", 2, 111),
+    ("sat\nb0 j7 b9\n", 2, 112),
+    ("sat\nb0 j7 x\n", 2, 111),
+    ("sat\nb0\n@1\n", 3, 113),
+    ("sat\nb0\n@0\n@2\n", 4, 113),
+    ("sat\nb0\n#0\n.\n", 4, 113),
+    ("sat\nb0\n#0\n2 1\n", 4, 114),
+    ("sat\nb0\n#0\n01 1\n", 4, 114),
+    ("sat\nb0\n#0\n18446744073709551616 1\n", 4, 114),
+    ("sat\nb0\n#0\n0 1\n1 000\n0 y\n", 6, 115),
+    ("sat\nb0\n#0\n1 00\n", 4, 116),
+    ("sat\nb0\n#0\n1 0020\n", 4, 116),
+    ("sat\nb0\n#0\n1\n", 4, 116),
+    ("sat\nb0\n#0\n1 0x0 \n", 4, 117),
+    ("sat\nb0\n#0\n1 000 \n", 4, 121),
+    ("sat\nb0\n@0\n0 01\n@1\n0 01\n", 7, 118),
+    ("sat\nb0\n@0\n.\n\n", 5, 119),
+    ("sat\nb0\n@0\n.", 4, 118),
+    ("sat\nb0\n@0\n0 01\n@1\n0 01\n.\n", 0, 0),
+    ("sat\nb0\n@0\n#1\n1 000\n", 5, 114),
+    ("sat\nb0\n@0\n#1\n2 1\n", 5, 114),
+    ("sat\nb0\n@0\n#1\n0 1\n0 y\n", 6, 115),
+    ("sat\nb0\n@0\n#1\n0 11\n", 5, 116),
+    ("sat\nb0\n@0\n#1\n0 x\n", 5, 117),
+    ("sat\nb0\n@0\n#1\n0 1 ;\n", 5, 121),
+    ("sat\nb0\n@0\n#1\n#1\n", 5, 113),
+    ("sat\nb0\n@0\n#1\n.\n", 5, 113),
+    ("sat\nb0\n@0\n@1\n#1\n", 5, 113),
+    ("sat\nb0\n@0\n#1\n@2\n", 5, 113),
+    ("sat\nb0\n@0\n#1\n@1\n#2\n0 1\n@2\n.\n", 0, 0),
+];
+
 #[test]
-fn faults(rt: HostRuntime) {
-    let Some(shape) = shape(rt.alloc(), Sample::Wide) else {
-        panic!(rt; "no shape");
-    };
-    let table = [
-        ("", 1, 118),
-        ("; x\nunsat\n", 2, 110),
-        ("sat\nb0 b2\n", 2, 111),
-        ("sat\nb1 b0 b1\n", 2, 111),
-        ("sat\nb0  b1\n", 2, 111),
-        ("sat\nb0 j7 b9\n", 2, 112),
-        ("sat\nb0 j7 x\n", 2, 111),
-        ("sat\nb0\n@1\n", 3, 113),
-        ("sat\nb0\n@0\n@2\n", 4, 113),
-        ("sat\nb0\n#0\n.\n", 4, 113),
-        ("sat\nb0\n#0\n2 1\n", 4, 114),
-        ("sat\nb0\n#0\n01 1\n", 4, 114),
-        ("sat\nb0\n#0\n18446744073709551616 1\n", 4, 114),
-        ("sat\nb0\n#0\n0 1\n1 000\n0 y\n", 6, 115),
-        ("sat\nb0\n#0\n1 00\n", 4, 116),
-        ("sat\nb0\n#0\n1 0020\n", 4, 116),
-        ("sat\nb0\n#0\n1\n", 4, 116),
-        ("sat\nb0\n#0\n1 0x0 \n", 4, 117),
-        ("sat\nb0\n#0\n1 000 \n", 4, 121),
-        ("sat\nb0\n@0\n0 01\n@1\n0 01\n", 7, 118),
-        ("sat\nb0\n@0\n.\n\n", 5, 119),
-        ("sat\nb0\n@0\n.", 4, 118),
-        ("sat\nb0\n@0\n0 01\n@1\n0 01\n.\n", 0, 0),
-        ("sat\nb0\n@0\n#1\n1 000\n", 5, 114),
-        ("sat\nb0\n@0\n#1\n2 1\n", 5, 114),
-        ("sat\nb0\n@0\n#1\n0 1\n0 y\n", 6, 115),
-        ("sat\nb0\n@0\n#1\n0 11\n", 5, 116),
-        ("sat\nb0\n@0\n#1\n0 x\n", 5, 117),
-        ("sat\nb0\n@0\n#1\n0 1 ;\n", 5, 121),
-        ("sat\nb0\n@0\n#1\n#1\n", 5, 113),
-        ("sat\nb0\n@0\n#1\n.\n", 5, 113),
-        ("sat\nb0\n@0\n@1\n#1\n", 5, 113),
-        ("sat\nb0\n@0\n#1\n@2\n", 5, 113),
-        ("sat\nb0\n@0\n#1\n@1\n#2\n0 1\n@2\n.\n", 0, 0),
-    ];
-    for (text, line, number) in table {
-        assert_eq!(rt;
-            fault(rt.alloc(), &shape, text.as_bytes()),
-            (line, number),
+fn faults(rt: HostRuntime) -> Result<(), Fail> {
+    let shape = shape(rt.alloc(), Sample::Wide).ok_or("no shape")?;
+    for (text, line, number) in &FAULTS {
+        assert!(rt;
+            fault(rt.alloc(), &shape, text.as_bytes()) == (*line, *number),
             "{text}"
         );
     }
+    Ok(())
 }
 
-#[test]
-fn words(rt: HostRuntime) {
-    let Some(shape) = shape(rt.alloc(), Sample::Wide) else {
-        panic!(rt; "no shape");
-    };
-    let text = "; c\nsat\nb1 b0\n#0\n1 110 n\n0 1\n@0\n#1\n0 1\n@1\n0 10\n.\n";
-    let words = read_words(rt.alloc(), &shape, text.as_bytes()).expect(&rt, "a witness");
-    assert_eq!(rt; words.claims(), [1, 0].as_slice());
+/// Whether given words have these indices and words.
+fn are(given: &[Given], wanted: &[(u64, u64)]) -> bool {
+    if given.len() != wanted.len() {
+        return false;
+    }
+    for (one, (index, word)) in given.iter().zip(wanted) {
+        if one.index() != *index || one.word() != *word {
+            return false;
+        }
+    }
+    true
+}
+
+/// Whether a witness claims both properties and has two frames of these words.
+fn has_both_frames(words: &Words) -> bool {
     let [first, second] = words.frames() else {
-        panic!(rt; "two frames");
+        return false;
     };
-    let initial = first.states().given();
-    assert_eq!(rt; initial.len(), 2);
-    for (given, (index, word)) in initial.iter().zip([(1, 6), (0, 1)]) {
-        assert_eq!(rt; (given.index(), given.word()), (index, word));
-    }
-    assert_eq!(rt; first.inputs().given().len(), 0);
-    assert_eq!(rt; second.states().given().len(), 1);
-    assert_eq!(rt; second.inputs().given().len(), 1);
-    for given in second.states().given() {
-        assert_eq!(rt; (given.index(), given.word()), (0, 1));
-    }
-    for given in second.inputs().given() {
-        assert_eq!(rt; (given.index(), given.word()), (0, 2));
-    }
+    words.claims() == [1, 0].as_slice()
+        && are(first.states().given(), &[(1, 6), (0, 1)])
+        && are(first.inputs().given(), &[])
+        && are(second.states().given(), &[(0, 1)])
+        && are(second.inputs().given(), &[(0, 2)])
 }
 
 #[test]
-fn a_witness_cut_after_any_byte(rt: HostRuntime) {
-    let Some(shape) = shape(rt.alloc(), Sample::Follower) else {
-        panic!(rt; "no shape");
-    };
+fn words(rt: HostRuntime) -> Result<(), Fail> {
+    let shape = shape(rt.alloc(), Sample::Wide).ok_or("no shape")?;
+    let text = "; c\nsat\nb1 b0\n#0\n1 110 n\n0 1\n@0\n#1\n0 1\n@1\n0 10\n.\n";
+    let words = read_words(rt.alloc(), &shape, text.as_bytes())?;
+    assert!(rt; has_both_frames(&words));
+    Ok(())
+}
+
+/// Whether a witness cut after so many bytes is told as cut in its last line.
+fn is_told_as_cut(alloc: Global, shape: &Shape, text: &[u8], end: usize) -> bool {
+    let (front, _) = text.split_at(end.min(text.len()));
+    let lines = front.iter().filter(|b| **b == b'\n').count() as u64;
+    fault(alloc, shape, front) == (lines.wrapping_add(1), 118)
+}
+
+#[test]
+fn a_witness_cut_after_any_byte(rt: HostRuntime) -> Result<(), Fail> {
+    let shape = shape(rt.alloc(), Sample::Follower).ok_or("no shape")?;
     let text = b"sat\nb0\n#0\n1 0\n0 1\n@0\n0 0\n#1\n0 0\n@1\n0 0\n.\n";
-    assert_eq!(rt; fault(rt.alloc(), &shape, text), (0, 0));
+    assert!(rt; fault(rt.alloc(), &shape, text) == (0, 0));
     for end in 0..text.len() {
-        let (front, _) = text.split_at(end);
-        let lines = front.iter().filter(|b| **b == b'\n').count() as u64;
-        let line = lines.wrapping_add(1);
-        assert_eq!(rt; fault(rt.alloc(), &shape, front), (line, 118), "{end}");
+        assert!(rt; is_told_as_cut(rt.alloc(), &shape, text, end), "{end}");
     }
+    Ok(())
 }
 
 #[test]
@@ -181,15 +192,18 @@ fn no_claims(rt: HostRuntime) {
     assert!(rt; !claims_nothing(b"sat\nunsat\n"));
 }
 
+/// Faults, and what is printed of them.
+const PRINTED: [(JudgeFault, &str); 3] = [
+    (JudgeFault::Device, "100 Device"),
+    (JudgeFault::NoMemory, "101 NoMemory"),
+    (JudgeFault::NoNext(3), "item 3: 70 NoNext"),
+];
+
 #[test]
-fn printed_faults(rt: HostRuntime) {
-    let table = [
-        (JudgeFault::Device, "100 Device"),
-        (JudgeFault::NoMemory, "101 NoMemory"),
-        (JudgeFault::NoNext(3), "item 3: 70 NoNext"),
-    ];
-    for (fault, text) in table {
-        let line = format!(in rt.alloc(); "{fault}").expect(&rt, "memory");
-        assert_eq!(rt; line.as_str(), text);
+fn printed_faults(rt: HostRuntime) -> Result<(), Fail> {
+    for (fault, text) in &PRINTED {
+        let line = format!(in rt.alloc(); "{fault}")?;
+        assert!(rt; line.as_str() == *text, "{text}");
     }
+    Ok(())
 }
