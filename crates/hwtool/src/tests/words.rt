@@ -186,6 +186,14 @@ fn is_told(alloc: Global, stop: &Stop, status: u8, shown: &str, told: &str) -> b
         && err.bytes().starts_with(told.as_bytes())
 }
 
+/// Whether want of memory ends with status 3, and its line is told.
+fn want_of_memory_is_told(alloc: Global) -> bool {
+    let mut out = VecSink::new(alloc);
+    let mut err = VecSink::new(alloc);
+    end(&Stop::no_memory(alloc), &mut out, &mut err) == 3
+        && err.bytes() == b"no memory\n".as_slice()
+}
+
 /// What stands in place of an order.
 fn stopped(alloc: Global, words: &[&str]) -> Result<Stop, Fail> {
     Ok(order(alloc, words).err().ok_or("an order")?)
@@ -198,7 +206,7 @@ fn told_stops(rt: HostRuntime) -> Result<(), Fail> {
     let refusal = "error: unrecognized subcommand 'frobnicate'";
     assert!(rt; is_told(alloc, &stopped(alloc, &["--version"])?, 0, version, ""));
     assert!(rt; is_told(alloc, &stopped(alloc, &["frobnicate"])?, 4, "", refusal));
-    assert!(rt; is_told(alloc, &Stop::no_memory(alloc), 3, "", "no memory\n"));
+    assert!(rt; want_of_memory_is_told(alloc));
     Ok(())
 }
 
