@@ -61,93 +61,173 @@ fn judged_by_bytes(alloc: Global, circuit: &Circuit, text: &[u8]) -> Result<Judg
     Ok(judge.finish())
 }
 
-/// What is told of a text with a fault.
-fn malformed(line: u64, why: Why) -> Judgement {
-    Judgement::Malformed { line, why }
+/// Circuits, texts and their judgements.
+const ROWS: [(Sample, &str, Judgement); 22] = [
+    (
+        Sample::Toggler,
+        "1\nb0\n0\n\n\n.\n",
+        Judgement::Accepted { frames: 2 },
+    ),
+    (
+        Sample::Toggler,
+        "1\nb0\n0\n\n\n.",
+        Judgement::Malformed {
+            line: 6,
+            why: Why::Truncated,
+        },
+    ),
+    (
+        Sample::Toggler,
+        "1\nb0\n0\n\n\n.\nx",
+        Judgement::Malformed {
+            line: 7,
+            why: Why::Trailing,
+        },
+    ),
+    (
+        Sample::Toggler,
+        "",
+        Judgement::Malformed {
+            line: 1,
+            why: Why::Truncated,
+        },
+    ),
+    (
+        Sample::Toggler,
+        "3\n",
+        Judgement::Malformed {
+            line: 1,
+            why: Why::BadHeader,
+        },
+    ),
+    (
+        Sample::Toggler,
+        "1\nb0\nx\n",
+        Judgement::Malformed {
+            line: 3,
+            why: Why::Undetermined,
+        },
+    ),
+    (
+        Sample::Toggler,
+        "1\nj0\n",
+        Judgement::Malformed {
+            line: 2,
+            why: Why::JusticeClaim,
+        },
+    ),
+    (
+        Sample::Toggler,
+        "1\nj01\n",
+        Judgement::Malformed {
+            line: 2,
+            why: Why::BadClaim,
+        },
+    ),
+    (
+        Sample::Toggler,
+        "1\nb0 j0\n",
+        Judgement::Malformed {
+            line: 2,
+            why: Why::BadClaim,
+        },
+    ),
+    (
+        Sample::Toggler,
+        "1\nb18446744073709551616\n",
+        Judgement::Malformed {
+            line: 2,
+            why: Why::BadClaim,
+        },
+    ),
+    (
+        Sample::Toggler,
+        "1\nb0\n.\n",
+        Judgement::Malformed {
+            line: 3,
+            why: Why::BadValue,
+        },
+    ),
+    (
+        Sample::Toggler,
+        "1\nb0\n0\n.\n",
+        Judgement::Malformed {
+            line: 4,
+            why: Why::FrameOrder,
+        },
+    ),
+    (
+        Sample::Toggler,
+        "1\nb0\n1\n\n.\n",
+        Judgement::InitDiffers { index: 0 },
+    ),
+    (
+        Sample::Toggler,
+        "1\nb0\n0\n\n.\n",
+        Judgement::NotReached { claim: 0 },
+    ),
+    (Sample::Toggler, "2\n", Judgement::NoClaim),
+    (Sample::Toggler, "0\nx", Judgement::NoClaim),
+    (
+        Sample::Kept,
+        "1\nb0\n01\n\n.\n",
+        Judgement::Accepted { frames: 1 },
+    ),
+    (
+        Sample::Kept,
+        "1\nb0\n01\nz\n",
+        Judgement::Malformed {
+            line: 4,
+            why: Why::BadValue,
+        },
+    ),
+    (
+        Sample::Kept,
+        "1\nb0\nx\n",
+        Judgement::Malformed {
+            line: 3,
+            why: Why::BadValue,
+        },
+    ),
+    (
+        Sample::Input,
+        "1\nb0\n\n0\n1\n.\n",
+        Judgement::Accepted { frames: 2 },
+    ),
+    (
+        Sample::Input,
+        "1\nb0\n\n1\n\n.\n",
+        Judgement::Malformed {
+            line: 5,
+            why: Why::BadValue,
+        },
+    ),
+    (
+        Sample::Input,
+        "1\nb0\n\n.\n",
+        Judgement::Malformed {
+            line: 4,
+            why: Why::FrameOrder,
+        },
+    ),
+];
+
+/// Whether a text has a judgement, cut at any place and fed byte by byte.
+fn is_judged(alloc: Global, sample: Sample, text: &[u8], wanted: &Judgement) -> Result<bool, Fail> {
+    let circuit = circuit_of(alloc, sample)?;
+    for cut in 0..text.len().saturating_add(1) {
+        if judged(alloc, &circuit, text, cut)? != *wanted {
+            return Ok(false);
+        }
+    }
+    Ok(judged_by_bytes(alloc, &circuit, text)? == *wanted)
 }
 
 #[test]
 fn judgements_of_texts_cut_at_any_byte(rt: HostRuntime) -> Result<(), Fail> {
-    let rows = [
-        (
-            Sample::Toggler,
-            "1\nb0\n0\n\n\n.\n",
-            Judgement::Accepted { frames: 2 },
-        ),
-        (
-            Sample::Toggler,
-            "1\nb0\n0\n\n\n.",
-            malformed(6, Why::Truncated),
-        ),
-        (
-            Sample::Toggler,
-            "1\nb0\n0\n\n\n.\nx",
-            malformed(7, Why::Trailing),
-        ),
-        (Sample::Toggler, "", malformed(1, Why::Truncated)),
-        (Sample::Toggler, "3\n", malformed(1, Why::BadHeader)),
-        (
-            Sample::Toggler,
-            "1\nb0\nx\n",
-            malformed(3, Why::Undetermined),
-        ),
-        (Sample::Toggler, "1\nj0\n", malformed(2, Why::JusticeClaim)),
-        (Sample::Toggler, "1\nj01\n", malformed(2, Why::BadClaim)),
-        (Sample::Toggler, "1\nb0 j0\n", malformed(2, Why::BadClaim)),
-        (
-            Sample::Toggler,
-            "1\nb18446744073709551616\n",
-            malformed(2, Why::BadClaim),
-        ),
-        (Sample::Toggler, "1\nb0\n.\n", malformed(3, Why::BadValue)),
-        (
-            Sample::Toggler,
-            "1\nb0\n0\n.\n",
-            malformed(4, Why::FrameOrder),
-        ),
-        (
-            Sample::Toggler,
-            "1\nb0\n1\n\n.\n",
-            Judgement::InitDiffers { index: 0 },
-        ),
-        (
-            Sample::Toggler,
-            "1\nb0\n0\n\n.\n",
-            Judgement::NotReached { claim: 0 },
-        ),
-        (Sample::Toggler, "2\n", Judgement::NoClaim),
-        (Sample::Toggler, "0\nx", Judgement::NoClaim),
-        (
-            Sample::Kept,
-            "1\nb0\n01\n\n.\n",
-            Judgement::Accepted { frames: 1 },
-        ),
-        (Sample::Kept, "1\nb0\n01\nz\n", malformed(4, Why::BadValue)),
-        (Sample::Kept, "1\nb0\nx\n", malformed(3, Why::BadValue)),
-        (
-            Sample::Input,
-            "1\nb0\n\n0\n1\n.\n",
-            Judgement::Accepted { frames: 2 },
-        ),
-        (
-            Sample::Input,
-            "1\nb0\n\n1\n\n.\n",
-            malformed(5, Why::BadValue),
-        ),
-        (Sample::Input, "1\nb0\n\n.\n", malformed(4, Why::FrameOrder)),
-    ];
-    for (sample, text, wanted) in rows {
-        let circuit = circuit_of(rt.alloc(), sample)?;
-        let bytes = text.as_bytes();
-        for cut in 0..bytes.len().saturating_add(1) {
-            let judgement = judged(rt.alloc(), &circuit, bytes, cut)?;
-            assert_eq!(rt; judgement, wanted, "{sample:?} at {cut}: {text}");
-        }
-        assert_eq!(rt;
-            judged_by_bytes(rt.alloc(), &circuit, bytes)?,
-            wanted,
-            "{sample:?}: {text}"
-        );
+    for (sample, text, wanted) in &ROWS {
+        let is_judged = is_judged(rt.alloc(), *sample, text.as_bytes(), wanted)?;
+        assert!(rt; is_judged, "{sample:?}: {text}");
     }
     Ok(())
 }
@@ -184,18 +264,10 @@ fn counted(
 fn two_hundred_thousand_frames(rt: HostRuntime) -> Result<(), Fail> {
     let circuit = circuit_of(rt.alloc(), Sample::Toggler)?;
     let text = empty_frames(rt.alloc(), 200_000)?;
-    for size in [1, 4096] {
-        let (held, steps, frames, lines, judgement) = counted(
-            rt.alloc(),
-            &circuit,
-            text.as_slice(),
-            size,
-        )?;
-        assert_eq!(rt; held, 3);
-        assert_eq!(rt; steps, 200_000);
-        assert_eq!(rt; frames, 200_000);
-        assert_eq!(rt; lines, 200_004);
-        assert_eq!(rt; judgement, Judgement::Accepted { frames: 200_000 });
-    }
+    let wanted = Judgement::Accepted { frames: 200_000 };
+    let by_bytes = counted(rt.alloc(), &circuit, text.as_slice(), 1)?;
+    assert!(rt; by_bytes == (3, 200_000, 200_000, 200_004, wanted));
+    let by_pieces = counted(rt.alloc(), &circuit, text.as_slice(), 4096)?;
+    assert!(rt; by_pieces == (3, 200_000, 200_000, 200_004, wanted));
     Ok(())
 }

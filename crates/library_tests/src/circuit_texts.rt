@@ -38,52 +38,40 @@ fn all_kinds(alloc: Global) -> Option<Circuit> {
     Some(circuit)
 }
 
+/// Whether there is a circuit, and its text in the ascii form is this one.
+fn is_spelled(alloc: Global, circuit: Option<Circuit>, text: &str) -> bool {
+    let mut sink = VecSink::new(alloc);
+    match circuit {
+        Some(circuit) => {
+            write_ascii(&circuit, &mut sink).is_ok() && sink.bytes() == text.as_bytes()
+        }
+        None => false,
+    }
+}
+
+/// Whether there is a circuit, and its text in the binary form is this one.
+fn is_binary(alloc: Global, circuit: Option<Circuit>, text: &str) -> bool {
+    let mut sink = VecSink::new(alloc);
+    match circuit {
+        Some(circuit) => {
+            write_binary(&circuit, &mut sink).is_ok() && sink.bytes() == text.as_bytes()
+        }
+        None => false,
+    }
+}
+
 #[test]
 fn spellings(rt: HostRuntime) {
-    let mut sink = VecSink::new(rt.alloc());
-    match toggler(rt.alloc()) {
-        Some(circuit) => assert!(rt; write_ascii(&circuit, &mut sink).is_ok()),
-        None => assert!(rt; false),
-    }
-    assert_eq!(rt;
-        sink.bytes(),
-        b"aag 1 0 1 0 0 1\n2 3\n2\nl0 t[0]\n".as_slice()
-    );
-    let mut sink = VecSink::new(rt.alloc());
-    match gate(rt.alloc()) {
-        Some(circuit) => assert!(rt; write_ascii(&circuit, &mut sink).is_ok()),
-        None => assert!(rt; false),
-    }
-    assert_eq!(rt;
-        sink.bytes(),
-        b"aag 3 2 0 0 1 0 1\n2\n4\n6\n6 4 2\n".as_slice()
-    );
-    let mut sink = VecSink::new(rt.alloc());
-    match all_kinds(rt.alloc()) {
-        Some(circuit) => assert!(rt; write_ascii(&circuit, &mut sink).is_ok()),
-        None => assert!(rt; false),
-    }
-    assert_eq!(rt;
-        sink.bytes(),
-        b"aag 1 1 0 2 0 0 0 2 1\n2\n2\n3\n2\n0\n2\n3\n1\no1 y\nf0 f\n".as_slice()
-    );
+    let alloc = rt.alloc();
+    let listed = "aag 1 1 0 2 0 0 0 2 1\n2\n2\n3\n2\n0\n2\n3\n1\no1 y\nf0 f\n";
+    assert!(rt; is_spelled(alloc, toggler(alloc), "aag 1 0 1 0 0 1\n2 3\n2\nl0 t[0]\n"));
+    assert!(rt; is_spelled(alloc, gate(alloc), "aag 3 2 0 0 1 0 1\n2\n4\n6\n6 4 2\n"));
+    assert!(rt; is_spelled(alloc, all_kinds(alloc), listed));
 }
 
 #[test]
 fn binary_spellings(rt: HostRuntime) {
-    let mut sink = VecSink::new(rt.alloc());
-    match toggler(rt.alloc()) {
-        Some(circuit) => assert!(rt; write_binary(&circuit, &mut sink).is_ok()),
-        None => assert!(rt; false),
-    }
-    assert_eq!(rt;
-        sink.bytes(),
-        b"aig 1 0 1 0 0 1\n3\n2\nl0 t[0]\n".as_slice()
-    );
-    let mut sink = VecSink::new(rt.alloc());
-    match gate(rt.alloc()) {
-        Some(circuit) => assert!(rt; write_binary(&circuit, &mut sink).is_ok()),
-        None => assert!(rt; false),
-    }
-    assert_eq!(rt; sink.bytes(), b"aig 3 2 0 0 1 0 1\n6\n\x02\x02".as_slice());
+    let alloc = rt.alloc();
+    assert!(rt; is_binary(alloc, toggler(alloc), "aig 1 0 1 0 0 1\n3\n2\nl0 t[0]\n"));
+    assert!(rt; is_binary(alloc, gate(alloc), "aig 3 2 0 0 1 0 1\n6\n\x02\x02"));
 }

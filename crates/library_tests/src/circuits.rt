@@ -1,357 +1,461 @@
 //! Each call once with ample memory, and the first fault of each.
-use aiger::{
-    Circuit, CircuitFault, Gate, GateLine, Latch, LatchLine, Lit, Loose, LooseFault, Reset, Section,
-};
-use std::alloc::Global;
+use aiger::{Circuit, CircuitFault, Gate, Latch, Lit, Loose, LooseFault, Reset, Section};
+use std::alloc::{AllocError, Global};
 use std::test::Fail;
 
-/// Two inputs, a latch, the gate 8 of the literals 5 and 2, a bad property and a constraint.
-fn small(alloc: Global) -> Result<Circuit, CircuitFault> {
-    let mut circuit = Circuit::new(alloc, 2, 1)?;
-    let gate = circuit.push_gate(Lit::new(5), Lit::new(2))?;
-    circuit.push_bad(gate)?;
-    circuit.push_constraint(Lit::TRUE)?;
+/// A call on a circuit, with the numbers of literals.
+#[derive(Clone, Copy, Debug)]
+enum Call {
+    /// The latch at a position is set, where there is one.
+    Latch(usize, u32, Reset),
+    /// A gate is pushed, and answered with the first number.
+    Gate(u32, u32, u32),
+    Output(u32),
+    Bad(u32),
+    Constraint(u32),
+    Justice(&'static [u32]),
+    Fair(u32),
+    /// A name is given to a position of a section, which it is then the name of.
+    Name(Section, usize, &'static [u8]),
+}
+
+/// The literals of some numbers.
+fn literals(alloc: Global, numbers: &[u32]) -> Result<Vec<Lit>, AllocError> {
+    let mut list = Vec::new(alloc);
+    for number in numbers {
+        list.push(Lit::new(*number))?;
+    }
+    Ok(list)
+}
+
+/// Whether literals have these numbers.
+fn are(list: &[Lit], numbers: &[u32]) -> bool {
+    if list.len() != numbers.len() {
+        return false;
+    }
+    for (lit, number) in list.iter().zip(numbers) {
+        if lit.number() != *number {
+            return false;
+        }
+    }
+    true
+}
+
+/// Does a call.
+fn done(alloc: Global, circuit: &mut Circuit, call: Call) -> Result<(), CircuitFault> {
+    match call {
+        Call::Latch(position, next, reset) => {
+            if position >= circuit.latches().len() {
+                return Err(CircuitFault::NoSuchPosition);
+            }
+            circuit.set_latch(position, Lit::new(next), reset)
+        }
+        Call::Gate(lhs, rhs0, rhs1) => {
+            match circuit.push_gate(Lit::new(rhs0), Lit::new(rhs1)) {
+                Ok(lit) if lit.number() != lhs => Err(CircuitFault::NoSuchPosition),
+                Ok(_) => Ok(()),
+                Err(fault) => Err(fault),
+            }
+        }
+        Call::Output(lit) => circuit.push_output(Lit::new(lit)),
+        Call::Bad(lit) => circuit.push_bad(Lit::new(lit)),
+        Call::Constraint(lit) => circuit.push_constraint(Lit::new(lit)),
+        Call::Justice(numbers) => match literals(alloc, numbers) {
+            Ok(list) => circuit.push_justice(list.as_slice()),
+            Err(_) => Err(CircuitFault::NoMemory),
+        },
+        Call::Fair(lit) => circuit.push_fair(Lit::new(lit)),
+        Call::Name(section, position, name) => circuit.set_name(section, position, name),
+    }
+}
+
+/// The circuit of some inputs and latches and some calls.
+fn circuit_of(
+    alloc: Global,
+    inputs: u32,
+    latches: u32,
+    calls: &[Call],
+) -> Result<Circuit, CircuitFault> {
+    let mut circuit = Circuit::new(alloc, inputs, latches)?;
+    for call in calls {
+        done(alloc, &mut circuit, *call)?;
+    }
     Ok(circuit)
 }
 
-/// Whether a name was given, and is then the position's name.
-fn takes_name(circuit: &mut Circuit, section: Section, position: usize, name: &[u8]) -> bool {
-    circuit.set_name(section, position, name).is_ok()
-        && circuit.name(section, position) == Some(name)
-}
+/// Literals, their variables and their negations.
+const LITERALS: [(u32, u32, u32); 4] = [(0, 0, 1), (1, 0, 0), (6, 3, 7), (7, 3, 6)];
 
-/// The fault of a name for a position.
-fn name_fault(
-    circuit: &mut Circuit,
-    section: Section,
-    position: usize,
-    name: &[u8],
-) -> Option<CircuitFault> {
-    circuit.set_name(section, position, name).err()
+/// Whether a literal has a variable and a negation.
+fn is_literal(number: u32, variable: u32, negation: u32) -> bool {
+    let lit = Lit::new(number);
+    lit.number() == number && lit.var() == variable && lit.not().number() == negation
 }
 
 #[test]
 fn literals_of_variables(rt: HostRuntime) {
-    // number, variable, negation
-    for (number, variable, negation) in [(0, 0, 1), (1, 0, 0), (6, 3, 7), (7, 3, 6)] {
-        let lit = Lit::new(number);
-        assert_eq!(rt; lit.number(), number);
-        assert_eq!(rt; lit.var(), variable, "of {number}");
-        assert_eq!(rt; lit.not().number(), negation, "of {number}");
+    for (number, variable, negation) in &LITERALS {
+        assert!(rt; is_literal(*number, *variable, *negation), "{number}");
     }
-    assert_eq!(rt; Lit::FALSE.number(), 0);
-    assert_eq!(rt; Lit::TRUE.number(), 1);
+    assert!(rt; Lit::FALSE.number() == 0 && Lit::TRUE.number() == 1);
 }
 
-#[test]
-fn gates_and_properties_are_kept(rt: HostRuntime) -> Result<(), Fail> {
-    let circuit = small(rt.alloc())?;
-    assert_eq!(rt; circuit.inputs(), 2);
-    assert_eq!(rt; circuit.variables(), 4);
-    let operands = Gate {
+/// A latch, the gate 8 of the literals 5 and 2, properties of each kind and names, in any order.
+const CALLS: [Call; 18] = [
+    Call::Gate(8, 5, 2),
+    Call::Bad(8),
+    Call::Constraint(1),
+    Call::Latch(0, 9, Reset::Free),
+    Call::Name(Section::Input, 1, b"b"),
+    Call::Name(Section::Latch, 0, b"q[0]"),
+    Call::Name(Section::Bad, 0, b"~"),
+    Call::Name(Section::Constraint, 0, b" "),
+    Call::Name(Section::Input, 0, b"a"),
+    Call::Output(8),
+    Call::Output(8),
+    Call::Justice(&[8, 3]),
+    Call::Justice(&[]),
+    Call::Justice(&[1]),
+    Call::Fair(5),
+    Call::Name(Section::Output, 0, b"o"),
+    Call::Name(Section::Justice, 0, b"j"),
+    Call::Name(Section::Fair, 0, b"f"),
+];
+
+/// What names a circuit of these calls has.
+const NAMES: [(Section, usize, Option<&[u8]>); 9] = [
+    (Section::Input, 0, Some(b"a")),
+    (Section::Input, 1, Some(b"b")),
+    (Section::Latch, 0, Some(b"q[0]")),
+    (Section::Latch, 1, None),
+    (Section::Bad, 0, Some(b"~")),
+    (Section::Constraint, 0, Some(b" ")),
+    (Section::Output, 0, Some(b"o")),
+    (Section::Justice, 0, Some(b"j")),
+    (Section::Fair, 0, Some(b"f")),
+];
+
+/// Whether a circuit of these calls has its gate and its latch.
+fn has_its_gate_and_latch(circuit: &Circuit) -> bool {
+    let gate = Gate {
         rhs0: Lit::new(5),
         rhs1: Lit::new(2),
     };
-    assert!(rt; circuit.gates() == [operands].as_slice());
-    assert!(rt; circuit.bads() == [Lit::new(8)].as_slice());
-    assert!(rt; circuit.constraints() == [Lit::TRUE].as_slice());
-    Ok(())
-}
-
-#[test]
-fn a_latch_is_set(rt: HostRuntime) -> Result<(), Fail> {
-    let mut circuit = small(rt.alloc())?;
     let latch = Latch {
         next: Lit::new(9),
         reset: Reset::Free,
     };
-    assert_eq!(rt; circuit.latches().len(), 1);
-    circuit.set_latch(0, latch.next, latch.reset)?;
-    assert!(rt; circuit.latches() == [latch].as_slice());
-    Ok(())
+    circuit.inputs() == 2
+        && circuit.variables() == 4
+        && circuit.gates() == [gate].as_slice()
+        && circuit.latches() == [latch].as_slice()
+}
+
+/// Whether a circuit of these calls has its properties.
+fn has_its_properties(circuit: &Circuit) -> bool {
+    are(circuit.bads(), &[8])
+        && are(circuit.constraints(), &[1])
+        && are(circuit.outputs(), &[8, 8])
+        && are(circuit.fair(), &[5])
+        && circuit.justice_count() == 3
+        && are(circuit.justice(0), &[8, 3])
+        && are(circuit.justice(1), &[])
+        && are(circuit.justice(2), &[1])
 }
 
 #[test]
-fn names_are_given(rt: HostRuntime) -> Result<(), Fail> {
-    let mut circuit = small(rt.alloc())?;
-    assert!(rt; takes_name(&mut circuit, Section::Input, 1, b"b"));
-    assert!(rt; takes_name(&mut circuit, Section::Latch, 0, b"q[0]"));
-    assert!(rt; takes_name(&mut circuit, Section::Bad, 0, b"~"));
-    assert!(rt; takes_name(&mut circuit, Section::Constraint, 0, b" "));
-    assert!(rt; takes_name(&mut circuit, Section::Input, 0, b"a"));
-    assert!(rt; circuit.name(Section::Input, 1) == Some(b"b".as_slice()));
-    assert!(rt; circuit.name(Section::Latch, 1).is_none());
-    circuit.push_output(Lit::new(8))?;
-    circuit.push_justice(&[])?;
-    circuit.push_fair(Lit::TRUE)?;
-    assert!(rt; takes_name(&mut circuit, Section::Output, 0, b"o"));
-    assert!(rt; takes_name(&mut circuit, Section::Justice, 0, b"j"));
-    assert!(rt; takes_name(&mut circuit, Section::Fair, 0, b"f"));
+fn all_that_is_added_is_kept(rt: HostRuntime) -> Result<(), Fail> {
+    let circuit = circuit_of(rt.alloc(), 2, 1, &CALLS)?;
+    assert!(rt; has_its_gate_and_latch(&circuit));
+    assert!(rt; has_its_properties(&circuit));
+    for (section, position, name) in &NAMES {
+        assert!(rt;
+            circuit.name(*section, *position) == *name,
+            "{section:?} {position}"
+        );
+    }
     Ok(())
 }
 
-#[test]
-fn outputs_justice_and_fairness_are_kept(rt: HostRuntime) -> Result<(), Fail> {
-    let mut circuit = small(rt.alloc())?;
-    let listed = [Lit::new(8), Lit::new(3)];
-    circuit.push_output(Lit::new(8))?;
-    circuit.push_output(Lit::new(8))?;
-    circuit.push_justice(&listed)?;
-    circuit.push_justice(&[])?;
-    circuit.push_justice(&[Lit::TRUE])?;
-    circuit.push_fair(Lit::new(5))?;
-    assert!(rt; circuit.outputs() == [Lit::new(8), Lit::new(8)].as_slice());
-    assert!(rt; circuit.justice_count() == 3);
-    assert!(rt; circuit.justice(0) == listed.as_slice());
-    assert!(rt; circuit.justice(1).is_empty());
-    assert!(rt; circuit.justice(2) == [Lit::TRUE].as_slice());
-    assert!(rt; circuit.fair() == [Lit::new(5)].as_slice());
-    Ok(())
-}
+/// Numbers of inputs and of latches that are too many together.
+const TOO_MANY: [(u32, u32); 3] = [(1_073_741_825, 0), (1_073_741_824, 1), (u32::MAX, u32::MAX)];
 
 #[test]
 fn too_many_variables(rt: HostRuntime) {
-    for (inputs, latches) in [(1_073_741_825, 0), (1_073_741_824, 1), (u32::MAX, u32::MAX)] {
-        let fault = Circuit::new(rt.alloc(), inputs, latches).err();
-        assert_eq!(rt; fault, Some(CircuitFault::TooBig));
+    for (inputs, latches) in &TOO_MANY {
+        let fault = Circuit::new(rt.alloc(), *inputs, *latches).err();
+        assert!(rt; fault == Some(CircuitFault::TooBig), "{inputs} {latches}");
     }
 }
 
+/// Calls that are refused on a circuit of an input with a name and a latch, and their faults.
+const REFUSED: [(Call, CircuitFault); 16] = [
+    (Call::Gate(6, 6, 7), CircuitFault::LiteralOutOfRange),
+    (Call::Gate(6, 5, 6), CircuitFault::LiteralOutOfRange),
+    (Call::Gate(6, 4, 5), CircuitFault::OrderBroken),
+    (Call::Bad(6), CircuitFault::LiteralOutOfRange),
+    (Call::Constraint(7), CircuitFault::LiteralOutOfRange),
+    (Call::Output(6), CircuitFault::LiteralOutOfRange),
+    (Call::Fair(6), CircuitFault::LiteralOutOfRange),
+    (Call::Justice(&[5, 6]), CircuitFault::LiteralOutOfRange),
+    (
+        Call::Latch(0, 6, Reset::One),
+        CircuitFault::LiteralOutOfRange,
+    ),
+    (
+        Call::Name(Section::Input, 1, b""),
+        CircuitFault::NoSuchPosition,
+    ),
+    (
+        Call::Name(Section::Bad, 0, b"y"),
+        CircuitFault::NoSuchPosition,
+    ),
+    (Call::Name(Section::Input, 0, b""), CircuitFault::NameTaken),
+    (Call::Name(Section::Latch, 0, b""), CircuitFault::BadName),
+    (
+        Call::Name(Section::Latch, 0, b"\x1f"),
+        CircuitFault::BadName,
+    ),
+    (
+        Call::Name(Section::Latch, 0, b"\x7f"),
+        CircuitFault::BadName,
+    ),
+    (
+        Call::Name(Section::Latch, 0, &[b'x'; 301]),
+        CircuitFault::BadName,
+    ),
+];
+
 #[test]
-fn the_first_fault_of_a_gate(rt: HostRuntime) -> Result<(), Fail> {
-    let mut circuit = Circuit::new(rt.alloc(), 1, 1)?;
-    for (rhs0, rhs1, fault) in [
-        (6, 7, CircuitFault::LiteralOutOfRange),
-        (5, 6, CircuitFault::LiteralOutOfRange),
-        (4, 5, CircuitFault::OrderBroken),
-    ] {
-        let answer = circuit.push_gate(Lit::new(rhs0), Lit::new(rhs1)).err();
-        assert_eq!(rt; answer, Some(fault), "of {rhs0} and {rhs1}");
+fn the_first_fault_of_a_call(rt: HostRuntime) -> Result<(), Fail> {
+    let named = [Call::Name(Section::Input, 0, b"x")];
+    let mut circuit = circuit_of(rt.alloc(), 1, 1, &named)?;
+    for (call, fault) in &REFUSED {
+        let answer = done(rt.alloc(), &mut circuit, *call).err();
+        assert!(rt; answer == Some(*fault), "{call:?}");
     }
+    done(
+        rt.alloc(),
+        &mut circuit,
+        Call::Name(Section::Latch, 0, &[b'x'; 300]),
+    )?;
     Ok(())
 }
 
-#[test]
-fn literals_out_of_range(rt: HostRuntime) -> Result<(), Fail> {
-    let mut circuit = Circuit::new(rt.alloc(), 1, 1)?;
-    let fault = Some(CircuitFault::LiteralOutOfRange);
-    assert_eq!(rt; circuit.push_bad(Lit::new(6)).err(), fault);
-    assert_eq!(rt; circuit.push_constraint(Lit::new(7)).err(), fault);
-    assert_eq!(rt; circuit.push_output(Lit::new(6)).err(), fault);
-    assert_eq!(rt; circuit.push_fair(Lit::new(6)).err(), fault);
-    assert_eq!(rt;
-        circuit.push_justice(&[Lit::new(5), Lit::new(6)]).err(),
-        fault
-    );
-    assert_eq!(rt; circuit.latches().len(), 1);
-    assert_eq!(rt; circuit.set_latch(0, Lit::new(6), Reset::One).err(), fault);
-    Ok(())
-}
+/// Faults of calls, and what is printed of them.
+const PRINTED: [(CircuitFault, &str); 7] = [
+    (CircuitFault::LiteralOutOfRange, "40 LiteralOutOfRange"),
+    (CircuitFault::OrderBroken, "41 OrderBroken"),
+    (CircuitFault::TooBig, "42 TooBig"),
+    (CircuitFault::NoMemory, "43 NoMemory"),
+    (CircuitFault::NoSuchPosition, "44 NoSuchPosition"),
+    (CircuitFault::NameTaken, "45 NameTaken"),
+    (CircuitFault::BadName, "46 BadName"),
+];
 
-#[test]
-fn the_first_fault_of_a_name(rt: HostRuntime) -> Result<(), Fail> {
-    let mut circuit = Circuit::new(rt.alloc(), 1, 1)?;
-    circuit.set_name(Section::Input, 0, b"x")?;
-    for (section, position, name, fault) in [
-        (
-            Section::Input,
-            1,
-            b"".as_slice(),
-            CircuitFault::NoSuchPosition,
-        ),
-        (
-            Section::Bad,
-            0,
-            b"y".as_slice(),
-            CircuitFault::NoSuchPosition,
-        ),
-        (Section::Input, 0, b"".as_slice(), CircuitFault::NameTaken),
-        (Section::Latch, 0, b"".as_slice(), CircuitFault::BadName),
-        (Section::Latch, 0, b"\x1f".as_slice(), CircuitFault::BadName),
-        (Section::Latch, 0, b"\x7f".as_slice(), CircuitFault::BadName),
-    ] {
-        let answer = name_fault(&mut circuit, section, position, name);
-        assert_eq!(rt; answer, Some(fault), "{section:?} {position}");
-    }
-    Ok(())
-}
-
-#[test]
-fn names_have_300_bytes_at_most(rt: HostRuntime) -> Result<(), Fail> {
-    let mut circuit = Circuit::new(rt.alloc(), 1, 1)?;
-    let long = [b'x'; 301];
-    let (name, _) = long.split_at(300);
-    assert_eq!(rt;
-        name_fault(&mut circuit, Section::Latch, 0, &long),
-        Some(CircuitFault::BadName)
-    );
-    assert_eq!(rt; name_fault(&mut circuit, Section::Latch, 0, name), None);
-    Ok(())
-}
+/// Faults of numbering, and what is printed of them.
+const PRINTED_OF_NUMBERING: [(LooseFault, &str); 3] = [
+    (LooseFault::Undefined(3), "63 Undefined"),
+    (LooseFault::Cycle(0), "62 Cycle"),
+    (LooseFault::NoMemory, "43 NoMemory"),
+];
 
 #[test]
 fn faults_are_printed(rt: HostRuntime) -> Result<(), Fail> {
-    for (fault, text) in [
-        (CircuitFault::LiteralOutOfRange, "40 LiteralOutOfRange"),
-        (CircuitFault::OrderBroken, "41 OrderBroken"),
-        (CircuitFault::TooBig, "42 TooBig"),
-        (CircuitFault::NoMemory, "43 NoMemory"),
-        (CircuitFault::NoSuchPosition, "44 NoSuchPosition"),
-        (CircuitFault::NameTaken, "45 NameTaken"),
-        (CircuitFault::BadName, "46 BadName"),
-    ] {
-        assert_eq!(rt; format!(in rt.alloc(); "{fault}")?.as_str(), text);
+    for (fault, text) in &PRINTED {
+        let printed = format!(in rt.alloc(); "{fault}")?;
+        assert!(rt; printed.as_str() == *text, "{text}");
+    }
+    for (fault, text) in &PRINTED_OF_NUMBERING {
+        let printed = format!(in rt.alloc(); "{fault}")?;
+        assert!(rt; printed.as_str() == *text, "{text}");
     }
     Ok(())
 }
 
-/// An input 6, a latch 4, the gate 10 of the literals 13 and 6, and a property of each kind.
-fn loose(alloc: Global) -> Result<Loose, CircuitFault> {
+/// A line of a file in the ascii form, with the numbers of literals.
+#[derive(Clone, Copy, Debug)]
+enum Line {
+    Input(u32),
+    Latch(u32, u32, Reset),
+    Gate(u32, u32, u32),
+    Output(u32),
+    Bad(u32),
+    Constraint(u32),
+    Justice(&'static [u32]),
+    Fair(u32),
+    Name(Section, usize, &'static [u8]),
+}
+
+/// Adds a line.
+fn added(alloc: Global, lines: &mut Loose, line: Line) -> Result<(), CircuitFault> {
+    match line {
+        Line::Input(lit) => lines.push_input(Lit::new(lit)),
+        Line::Latch(lit, next, reset) => lines.push_latch(Lit::new(lit), Lit::new(next), reset),
+        Line::Gate(lhs, rhs0, rhs1) => {
+            lines.push_gate(Lit::new(lhs), Lit::new(rhs0), Lit::new(rhs1))
+        }
+        Line::Output(lit) => lines.push_output(Lit::new(lit)),
+        Line::Bad(lit) => lines.push_bad(Lit::new(lit)),
+        Line::Constraint(lit) => lines.push_constraint(Lit::new(lit)),
+        Line::Justice(numbers) => match literals(alloc, numbers) {
+            Ok(list) => lines.push_justice(list.as_slice()),
+            Err(_) => Err(CircuitFault::NoMemory),
+        },
+        Line::Fair(lit) => lines.push_fair(Lit::new(lit)),
+        Line::Name(section, position, name) => lines.set_name(section, position, name),
+    }
+}
+
+/// The lists of some lines.
+fn lists_of(alloc: Global, list: &[Line]) -> Result<Loose, CircuitFault> {
     let mut lines = Loose::new(alloc);
-    lines.push_input(Lit::new(6))?;
-    lines.push_gate(Lit::new(10), Lit::new(13), Lit::new(6))?;
-    lines.push_latch(Lit::new(4), Lit::new(11), Reset::Free)?;
-    lines.push_output(Lit::new(6))?;
-    lines.push_bad(Lit::new(7))?;
-    lines.push_constraint(Lit::TRUE)?;
-    lines.push_justice(&[Lit::new(6)])?;
-    lines.push_fair(Lit::new(7))?;
-    lines.set_name(Section::Input, 0, b"a")?;
+    for line in list {
+        added(alloc, &mut lines, *line)?;
+    }
     Ok(lines)
 }
 
-#[test]
-fn lines_are_kept(rt: HostRuntime) -> Result<(), Fail> {
-    let lines = loose(rt.alloc())?;
-    let latch = LatchLine {
-        current: Lit::new(4),
-        next: Lit::new(11),
-        reset: Reset::Free,
+/// An input 6 with a name and a property of each kind, and then a latch 4 and the gate 10 of the literals 13 and 6.
+const LINES: [Line; 9] = [
+    Line::Input(6),
+    Line::Output(6),
+    Line::Bad(7),
+    Line::Constraint(1),
+    Line::Justice(&[6]),
+    Line::Fair(7),
+    Line::Name(Section::Input, 0, b"a"),
+    Line::Gate(10, 13, 6),
+    Line::Latch(4, 11, Reset::Free),
+];
+
+/// How many of these lines have no variable but the input's.
+const WITHOUT_GATE: usize = 7;
+
+/// Whether the lists have the gate and the latch of these lines.
+fn have_their_gate_and_latch(lines: &Loose) -> bool {
+    let ([latch], [gate]) = (lines.latches(), lines.gates()) else {
+        return false;
     };
-    let gate = GateLine {
-        lhs: Lit::new(10),
-        rhs0: Lit::new(13),
-        rhs1: Lit::new(6),
-    };
-    assert!(rt; lines.inputs() == [Lit::new(6)].as_slice());
-    assert!(rt; lines.latches() == [latch].as_slice());
-    assert!(rt; lines.gates() == [gate].as_slice());
-    assert!(rt; lines.outputs() == [Lit::new(6)].as_slice());
-    assert!(rt; lines.bads() == [Lit::new(7)].as_slice());
-    assert!(rt; lines.constraints() == [Lit::TRUE].as_slice());
-    assert!(rt; lines.justice_count() == 1);
-    assert!(rt; lines.justice(0) == [Lit::new(6)].as_slice());
-    assert!(rt; lines.fair() == [Lit::new(7)].as_slice());
-    assert!(rt; lines.name(Section::Input, 0) == Some(b"a".as_slice()));
-    assert!(rt; lines.name(Section::Latch, 0).is_none());
-    Ok(())
+    are(&[latch.current, latch.next], &[4, 11])
+        && latch.reset == Reset::Free
+        && are(&[gate.lhs, gate.rhs0, gate.rhs1], &[10, 13, 6])
 }
+
+/// Whether the lists have the other lines.
+fn have_the_others(lines: &Loose) -> bool {
+    are(lines.inputs(), &[6])
+        && are(lines.outputs(), &[6])
+        && are(lines.bads(), &[7])
+        && are(lines.constraints(), &[1])
+        && lines.justice_count() == 1
+        && are(lines.justice(0), &[6])
+        && are(lines.fair(), &[7])
+        && lines.name(Section::Input, 0) == Some(b"a".as_slice())
+        && lines.name(Section::Latch, 0).is_none()
+}
+
+/// Lines that are refused behind these, and their faults.
+const REFUSED_LINES: [(Line, CircuitFault); 7] = [
+    (Line::Input(1), CircuitFault::LiteralOutOfRange),
+    (Line::Input(9), CircuitFault::LiteralOutOfRange),
+    (Line::Input(10), CircuitFault::LiteralOutOfRange),
+    (Line::Input(2_147_483_650), CircuitFault::TooBig),
+    (Line::Input(2_147_483_651), CircuitFault::LiteralOutOfRange),
+    (Line::Gate(8, 2, 2_147_483_650), CircuitFault::TooBig),
+    (Line::Output(2_147_483_650), CircuitFault::TooBig),
+];
 
 #[test]
-fn the_first_fault_of_a_defining_literal(rt: HostRuntime) -> Result<(), Fail> {
-    let mut lines = loose(rt.alloc())?;
-    for (number, fault) in [
-        (1, CircuitFault::LiteralOutOfRange),
-        (9, CircuitFault::LiteralOutOfRange),
-        (10, CircuitFault::LiteralOutOfRange),
-        (2_147_483_650, CircuitFault::TooBig),
-        (2_147_483_651, CircuitFault::LiteralOutOfRange),
-    ] {
-        assert_eq!(rt;
-            lines.push_input(Lit::new(number)).err(),
-            Some(fault),
-            "of {number}"
-        );
-    }
-    let big = Lit::new(2_147_483_650);
-    assert_eq!(rt;
-        lines.push_gate(Lit::new(8), Lit::new(2), big).err(),
-        Some(CircuitFault::TooBig)
-    );
-    assert_eq!(rt; lines.push_output(big).err(), Some(CircuitFault::TooBig));
-    Ok(())
-}
-
-#[test]
-fn faults_of_numbering_are_printed(rt: HostRuntime) -> Result<(), Fail> {
-    for (fault, text) in [
-        (LooseFault::Undefined(3), "63 Undefined"),
-        (LooseFault::Cycle(0), "62 Cycle"),
-        (LooseFault::NoMemory, "43 NoMemory"),
-    ] {
-        assert_eq!(rt; format!(in rt.alloc(); "{fault}")?.as_str(), text);
+fn lines_are_kept_and_others_refused(rt: HostRuntime) -> Result<(), Fail> {
+    let mut lines = lists_of(rt.alloc(), &LINES)?;
+    assert!(rt; have_their_gate_and_latch(&lines) && have_the_others(&lines));
+    for (line, fault) in &REFUSED_LINES {
+        let answer = added(rt.alloc(), &mut lines, *line).err();
+        assert!(rt; answer == Some(*fault), "{line:?}");
     }
     Ok(())
-}
-
-/// An input 2, two justice properties with one literal in all, and gate lines.
-fn gate_lists(alloc: Global, gates: &[[u32; 3]]) -> Result<Loose, CircuitFault> {
-    let mut lines = Loose::new(alloc);
-    lines.push_input(Lit::new(2))?;
-    lines.push_justice(&[])?;
-    lines.push_justice(&[Lit::TRUE])?;
-    for [lhs, rhs0, rhs1] in gates {
-        lines.push_gate(Lit::new(*lhs), Lit::new(*rhs0), Lit::new(*rhs1))?;
-    }
-    Ok(lines)
-}
-
-#[test]
-fn gates_are_numbered(rt: HostRuntime) -> Result<(), Fail> {
-    // gates in reverse order, one that leads to the cycle of another, and one of an undefined variable
-    for (gates, fault) in [
-        ([[4, 6, 2], [6, 8, 2], [8, 2, 3]], None),
-        (
-            [[8, 6, 2], [4, 4, 2], [6, 4, 2]],
-            Some(LooseFault::Cycle(0)),
-        ),
-        (
-            [[4, 6, 2], [6, 3, 2], [8, 4, 10]],
-            Some(LooseFault::Undefined(3)),
-        ),
-    ] {
-        let lines = gate_lists(rt.alloc(), &gates)?;
-        assert!(rt; lines.number(rt.alloc()).err() == fault);
-    }
-    let lines = gate_lists(rt.alloc(), &[[4, 6, 2], [6, 8, 2], [8, 2, 3]])?;
-    let circuit = lines.number(rt.alloc())?;
-    for (gate, [rhs0, rhs1]) in circuit.gates().iter().zip([[3, 2], [4, 2], [6, 2]]) {
-        assert_eq!(rt; gate.rhs0.number(), rhs0);
-        assert_eq!(rt; gate.rhs1.number(), rhs1);
-    }
-    assert_eq!(rt; circuit.gates().len(), 3);
-    Ok(())
-}
-
-/// Input 6 with the name `a`, and in each section of properties a literal of it, or true.
-fn one_of_each(alloc: Global) -> Result<Loose, CircuitFault> {
-    let mut lines = Loose::new(alloc);
-    lines.push_input(Lit::new(6))?;
-    lines.push_output(Lit::new(6))?;
-    lines.push_bad(Lit::new(7))?;
-    lines.push_constraint(Lit::TRUE)?;
-    lines.push_justice(&[Lit::new(6)])?;
-    lines.push_fair(Lit::new(7))?;
-    lines.set_name(Section::Input, 0, b"a")?;
-    Ok(lines)
 }
 
 /// Whether a circuit has one input with the name `a`, and the same literals of it.
 fn has_one_of_each(circuit: &Circuit) -> bool {
     circuit.inputs() == 1
-        && circuit.outputs() == [Lit::new(2)].as_slice()
-        && circuit.bads() == [Lit::new(3)].as_slice()
-        && circuit.constraints() == [Lit::TRUE].as_slice()
+        && are(circuit.outputs(), &[2])
+        && are(circuit.bads(), &[3])
+        && are(circuit.constraints(), &[1])
         && circuit.justice_count() == 1
-        && circuit.justice(0) == [Lit::new(2)].as_slice()
-        && circuit.fair() == [Lit::new(3)].as_slice()
+        && are(circuit.justice(0), &[2])
+        && are(circuit.fair(), &[3])
         && circuit.name(Section::Input, 0) == Some(b"a".as_slice())
 }
 
 #[test]
 fn each_section_is_numbered(rt: HostRuntime) -> Result<(), Fail> {
-    let lines = one_of_each(rt.alloc())?;
-    let circuit = lines.number(rt.alloc())?;
+    let circuit = numbered(rt.alloc(), &LINES[..WITHOUT_GATE])??;
     assert!(rt; has_one_of_each(&circuit));
+    Ok(())
+}
+
+/// An input 2, two justice properties with one literal in all, and gates in reverse order.
+const IN_REVERSE: [Line; 6] = [
+    Line::Input(2),
+    Line::Justice(&[]),
+    Line::Justice(&[1]),
+    Line::Gate(4, 6, 2),
+    Line::Gate(6, 8, 2),
+    Line::Gate(8, 2, 3),
+];
+
+/// The same with a gate that leads to the cycle of another.
+const CYCLE: [Line; 6] = [
+    Line::Input(2),
+    Line::Justice(&[]),
+    Line::Justice(&[1]),
+    Line::Gate(8, 6, 2),
+    Line::Gate(4, 4, 2),
+    Line::Gate(6, 4, 2),
+];
+
+/// The same with a gate of an undefined variable.
+const UNDEFINED: [Line; 6] = [
+    Line::Input(2),
+    Line::Justice(&[]),
+    Line::Justice(&[1]),
+    Line::Gate(4, 6, 2),
+    Line::Gate(6, 3, 2),
+    Line::Gate(8, 4, 10),
+];
+
+/// The circuit of some lines, or the fault of their numbering.
+fn numbered(alloc: Global, list: &[Line]) -> Result<Result<Circuit, LooseFault>, CircuitFault> {
+    Ok(lists_of(alloc, list)?.number(alloc))
+}
+
+/// Whether gates have these operands.
+fn are_gates(list: &[Gate], operands: &[[u32; 2]]) -> bool {
+    if list.len() != operands.len() {
+        return false;
+    }
+    for (gate, wanted) in list.iter().zip(operands) {
+        if [gate.rhs0.number(), gate.rhs1.number()] != *wanted {
+            return false;
+        }
+    }
+    true
+}
+
+#[test]
+fn gates_are_numbered(rt: HostRuntime) -> Result<(), Fail> {
+    let circuit = numbered(rt.alloc(), &IN_REVERSE)??;
+    assert!(rt; are_gates(circuit.gates(), &[[3, 2], [4, 2], [6, 2]]));
+    Ok(())
+}
+
+#[test]
+fn faults_of_numbering(rt: HostRuntime) -> Result<(), Fail> {
+    let cycle = numbered(rt.alloc(), &CYCLE)?.err();
+    let undefined = numbered(rt.alloc(), &UNDEFINED)?.err();
+    assert!(rt; cycle == Some(LooseFault::Cycle(0)));
+    assert!(rt; undefined == Some(LooseFault::Undefined(3)));
     Ok(())
 }

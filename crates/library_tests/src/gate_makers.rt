@@ -7,31 +7,39 @@ use gates::{GateFault, Gates, HashGates, Op, PlainGates, gate_bound};
 use std::alloc::Global;
 use std::test::Fail;
 
-#[test]
-fn bounds_and_limits(rt: HostRuntime) {
-    assert_eq!(rt; gate_bound(Op::Unary(Unary::Not), 64), 0);
-    assert_eq!(rt; gate_bound(Op::Binary(Binary::And), 64), 64);
-    assert!(rt;
-        matches!(
-            PlainGates::new(rt.alloc(), 1073741824, 1),
-            Err(GateFault::TooBig)
-        )
-    );
-    match PlainGates::new(rt.alloc(), 2, 1) {
-        Ok(gates) => assert_eq!(rt; gates.finish().inputs(), 2),
-        Err(_) => assert!(rt; false),
-    }
+/// Whether a plain maker of so many inputs and latches is refused as too big.
+fn is_too_big(alloc: Global, inputs: u32, latches: u32) -> bool {
+    matches!(
+        PlainGates::new(alloc, inputs, latches),
+        Err(GateFault::TooBig)
+    )
+}
+
+/// How many inputs the circuit of a plain maker of two inputs and a latch has.
+fn inputs_of_a_maker(alloc: Global) -> Option<u32> {
+    Some(PlainGates::new(alloc, 2, 1).ok()?.finish().inputs())
 }
 
 #[test]
+fn bounds_and_limits(rt: HostRuntime) {
+    assert!(rt; gate_bound(Op::Unary(Unary::Not), 64) == 0);
+    assert!(rt; gate_bound(Op::Binary(Binary::And), 64) == 64);
+    assert!(rt; is_too_big(rt.alloc(), 1073741824, 1));
+    assert!(rt; inputs_of_a_maker(rt.alloc()) == Some(2));
+}
+
+/// Refusals, and what is printed of them.
+const PRINTED: [(GateFault, &str); 2] = [
+    (GateFault::TooBig, "80 TooBig"),
+    (GateFault::NoMemory, "81 NoMemory"),
+];
+
+#[test]
 fn refusals_are_printed(rt: HostRuntime) -> Result<(), Fail> {
-    let too_big = GateFault::TooBig;
-    let no_memory = GateFault::NoMemory;
-    assert_eq!(rt; format!(in rt.alloc(); "{too_big}")?.as_str(), "80 TooBig");
-    assert_eq!(rt;
-        format!(in rt.alloc(); "{no_memory}")?.as_str(),
-        "81 NoMemory"
-    );
+    for (fault, text) in &PRINTED {
+        let printed = format!(in rt.alloc(); "{fault}")?;
+        assert!(rt; printed.as_str() == *text);
+    }
     Ok(())
 }
 
@@ -49,20 +57,21 @@ fn answers<G: Gates>(g: &mut G) -> Result<[u32; 6], GateFault>
     Ok([both, with_true, with_negation, again, other, with_itself].map(|lit| lit.number()))
 }
 
+/// Whether a sharing maker answers six ands so, and has made two gates.
+fn makes_two_gates(alloc: Global) -> Option<bool> {
+    let mut gates = HashGates::new(alloc, 2, 0).ok()?;
+    let are_answered = answers(&mut gates) == Ok([6, 6, 0, 6, 8, 8]);
+    let circuit = gates.finish();
+    let wanted = [(4, 2), (4, 3)].map(|(a, b)| Gate {
+        rhs0: Lit::new(a),
+        rhs1: Lit::new(b),
+    });
+    Some(are_answered && circuit.gates() == wanted.as_slice())
+}
+
 #[test]
 fn a_gate_is_made_once(rt: HostRuntime) {
-    match HashGates::new(rt.alloc(), 2, 0) {
-        Ok(mut gates) => {
-            let got = answers(&mut gates);
-            assert!(rt; got == Ok([6, 6, 0, 6, 8, 8]));
-            let want = [(4, 2), (4, 3)].map(|(a, b)| Gate {
-                rhs0: Lit::new(a),
-                rhs1: Lit::new(b),
-            });
-            assert!(rt; gates.finish().gates() == want.as_slice());
-        }
-        Err(_) => assert!(rt; false),
-    }
+    assert!(rt; makes_two_gates(rt.alloc()) == Some(true));
 }
 
 /// What a sharing maker with as many inputs as there may be answers to the and of an input with true, and of two inputs.

@@ -14,28 +14,24 @@ fn answer(alloc: Global, text: &str) -> Result<usize, (u64, u32)> {
     }
 }
 
+/// Texts, and how many items they have, or the line and the number of their fault.
+const TEXTS: [(&str, Result<usize, (u64, u32)>); 6] = [
+    (
+        "1 sort bitvec 1\n2 zero 1\n3 state 1 t\n4 init 1 3 2\n5 not 1 3\n6 next 1 3 5\n7 bad 3\n",
+        Ok(7),
+    ),
+    ("; t\n\n1 sort\tbitvec  1 ; bit\n2 input 1 a;b\n", Ok(2)),
+    ("1 sort bitvec 1\n2 input 1;b\n", Err((2, 20))),
+    ("1 sort foo\n", Err((1, 20))),
+    ("1 sort bitvec -1\n", Err((1, 20))),
+    ("1 sort bitvec 18446744073709551617\n", Err((1, 27))),
+];
+
 #[test]
 fn texts(rt: HostRuntime) {
-    let toggler =
-        "1 sort bitvec 1\n2 zero 1\n3 state 1 t\n4 init 1 3 2\n5 not 1 3\n6 next 1 3 5\n7 bad 3\n";
-    assert_eq!(rt; answer(rt.alloc(), toggler), Ok(7));
-    assert_eq!(rt;
-        answer(
-            rt.alloc(),
-            "; t\n\n1 sort\tbitvec  1 ; bit\n2 input 1 a;b\n"
-        ),
-        Ok(2)
-    );
-    assert_eq!(rt;
-        answer(rt.alloc(), "1 sort bitvec 1\n2 input 1;b\n"),
-        Err((2, 20))
-    );
-    assert_eq!(rt; answer(rt.alloc(), "1 sort foo\n"), Err((1, 20)));
-    assert_eq!(rt; answer(rt.alloc(), "1 sort bitvec -1\n"), Err((1, 20)));
-    assert_eq!(rt;
-        answer(rt.alloc(), "1 sort bitvec 18446744073709551617\n"),
-        Err((1, 27))
-    );
+    for (text, wanted) in &TEXTS {
+        assert!(rt; answer(rt.alloc(), text) == *wanted, "{text}");
+    }
 }
 
 /// Texts, and what is printed of their faults. Each refusal that a text can meet stands here, since a reader that told
@@ -90,34 +86,47 @@ const REFUSED: [(&str, &str); 20] = [
     ("1 sort bitvec 1", "line 1: 28 Unfinished"),
 ];
 
+/// Whether reading a text stops, and this is printed of its fault.
+fn is_told(alloc: Global, text: &str, wanted: &str) -> Result<bool, Fail> {
+    let mut source = text.as_bytes();
+    match read(alloc, &mut source) {
+        Ok(_) => Ok(false),
+        Err(fault) => Ok(format!(in alloc; "{fault}")?.as_str() == wanted),
+    }
+}
+
 #[test]
 fn each_refusal_is_told_by_its_own_number(rt: HostRuntime) -> Result<(), Fail> {
-    for (text, want) in REFUSED {
-        let mut source = text.as_bytes();
-        let printed = match read(rt.alloc(), &mut source) {
-            Ok(_) => format!(in rt.alloc(); "read")?,
-            Err(fault) => format!(in rt.alloc(); "{fault}")?,
-        };
-        assert_eq!(rt; printed.as_str(), want);
+    for (text, wanted) in &REFUSED {
+        let is_told = is_told(rt.alloc(), text, wanted)?;
+        assert!(rt; is_told, "{wanted}");
     }
-    let refused = Why::Refused(PushFault::SecondInit);
-    assert_eq!(rt; (refused.number(), refused.printed_number()), (27, 9));
-    assert_eq!(rt; refused.name(), "SecondInit");
-    let devices = format!(in rt.alloc(); "{}, {}", Why::Device, Why::NoMemory)?;
-    assert_eq!(rt; devices.as_str(), "29 Device, 30 NoMemory");
     Ok(())
 }
 
 #[test]
-fn a_model_is_written_as_it_was_read(rt: HostRuntime) -> Result<(), Fail> {
+fn faults_have_numbers_and_names(rt: HostRuntime) -> Result<(), Fail> {
+    let refused = Why::Refused(PushFault::SecondInit);
+    assert!(rt; refused.number() == 27 && refused.printed_number() == 9);
+    assert!(rt; refused.name() == "SecondInit");
+    let devices = format!(in rt.alloc(); "{}, {}", Why::Device, Why::NoMemory)?;
+    assert!(rt; devices.as_str() == "29 Device, 30 NoMemory");
+    Ok(())
+}
+
+/// Whether a text is read as a model that is written as it.
+fn is_written_again(alloc: Global, text: &str) -> bool {
+    let mut source = text.as_bytes();
+    let mut sink = VecSink::new(alloc);
+    match read(alloc, &mut source) {
+        Ok(model) => write(&model, &mut sink).is_ok() && sink.bytes() == text.as_bytes(),
+        Err(_) => false,
+    }
+}
+
+#[test]
+fn a_model_is_written_as_it_was_read(rt: HostRuntime) {
     let text =
         "1 sort bitvec 1\n2 zero 1\n3 state 1 t\n4 init 1 3 2\n5 justice 2 3 2\n6 sort bitvec 8\n7 consth 6 0f\n";
-    let mut source = text.as_bytes();
-    let mut sink = VecSink::new(rt.alloc());
-    match read(rt.alloc(), &mut source) {
-        Ok(model) => write(&model, &mut sink)?,
-        Err(fault) => assert!(rt; false, "{fault}"),
-    }
-    assert_eq!(rt; sink.bytes(), text.as_bytes());
-    Ok(())
+    assert!(rt; is_written_again(rt.alloc(), text));
 }

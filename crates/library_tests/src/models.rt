@@ -392,17 +392,25 @@ fn word_at(model: &Model, node: usize) -> u64 {
     model.constant(node).unwrap_or(100)
 }
 
+/// Whether the toggler's lists, positions, widths and words are told.
+fn is_toggler(model: &Model) -> bool {
+    lists_are(model, 7, 2, 6, 9)
+        && model.position(50) == Some(4)
+        && model.position(4).is_none()
+        && values_of_first_state(model) == (1, 4)
+        && bits_at(model, 8) == 1
+        && bits_at(model, 9) == 0
+        && word_at(model, 1) == 0
+        && word_at(model, 2) == 100
+}
+
 #[test]
 fn a_model_is_read_as_it_was_pushed(rt: HostRuntime) -> Result<(), Fail> {
     let model = model_of(rt.alloc(), TOGGLER, toggler_line)?;
-    assert!(rt; lists_are(&model, 7, 2, 6, 9));
-    assert!(rt; model.position(50) == Some(4) && model.position(4).is_none());
-    assert!(rt; values_of_first_state(&model) == (1, 4));
-    assert!(rt; bits_at(&model, 8) == 1 && bits_at(&model, 9) == 0);
-    assert!(rt; word_at(&model, 1) == 0 && word_at(&model, 2) == 100);
+    assert!(rt; is_toggler(&model));
     let mixed = model_of(rt.alloc(), MIXED, line_of_mixed_ids)?;
-    for (id, position) in MIXED_POSITIONS {
-        assert!(rt; mixed.position(id) == position);
+    for (id, position) in &MIXED_POSITIONS {
+        assert!(rt; mixed.position(*id) == *position, "{id}");
     }
     assert!(rt; bits_at(&mixed, 1) == 1 && bits_at(&mixed, 2) == 1);
     Ok(())
@@ -423,12 +431,22 @@ const FRONTS: [(usize, bool, Option<u64>); 3] = [
     (TOGGLER, false, None),
 ];
 
+/// Whether the first lines of the toggling model have such a first state, and such a state with an init alone.
+fn is_front(
+    alloc: Global,
+    lines: usize,
+    free: bool,
+    init_alone: Option<u64>,
+) -> Result<bool, PushFault> {
+    let model = model_of(alloc, lines, toggler_line)?;
+    Ok(first_is_free(&model) == free && model.first_init_without_next() == init_alone)
+}
+
 #[test]
 fn states_that_lack_a_line_are_told(rt: HostRuntime) -> Result<(), Fail> {
-    for (lines, free, init_alone) in FRONTS {
-        let model = model_of(rt.alloc(), lines, toggler_line)?;
-        assert!(rt; first_is_free(&model) == free, "{lines}");
-        assert!(rt; model.first_init_without_next() == init_alone, "{lines}");
+    for (lines, free, init_alone) in &FRONTS {
+        let is_front = is_front(rt.alloc(), *lines, *free, *init_alone)?;
+        assert!(rt; is_front, "{lines}");
     }
     Ok(())
 }
@@ -444,7 +462,7 @@ fn a_second_line_of_a_state_is_refused(rt: HostRuntime) -> Result<(), Fail> {
 fn a_refused_item_leaves_the_others(rt: HostRuntime) -> Result<(), Fail> {
     let mut nibble = model_of(rt.alloc(), 2, line_of_each_form)?;
     assert!(rt; all_refused(&mut nibble, AFTER_NIBBLE, line_after_nibble));
-    assert_eq!(rt; fault_of_justice(rt.alloc(), &mut nibble, &[]), 13);
+    assert!(rt; fault_of_justice(rt.alloc(), &mut nibble, &[]) == 13);
     Ok(())
 }
 
@@ -456,14 +474,19 @@ fn fault_of_justice(alloc: Global, model: &mut Model, ids: &[u32]) -> u32 {
     }
 }
 
+/// Whether the words, the widths and the first state of a model with each form are told.
+fn has_each_form(model: &Model) -> bool {
+    [word_at(model, 6), word_at(model, 7), word_at(model, 8)] == [15, 10, 8]
+        && [bits_at(model, 12), bits_at(model, 15), bits_at(model, 18)] == [6, 1, 5]
+        && values_of_first_state(model) == (8, 19)
+}
+
 #[test]
 fn each_form_is_accepted(rt: HostRuntime) -> Result<(), Fail> {
     let mut model = model_of(rt.alloc(), FORMS, line_of_each_form)?;
-    assert!(rt; word_at(&model, 6) == 15 && word_at(&model, 7) == 10 && word_at(&model, 8) == 8);
-    assert!(rt; bits_at(&model, 12) == 6 && bits_at(&model, 15) == 1 && bits_at(&model, 18) == 5);
-    assert!(rt; values_of_first_state(&model) == (8, 19));
-    assert_eq!(rt; fault_of_justice(rt.alloc(), &mut model, &[]), 13);
-    assert_eq!(rt; fault_of_justice(rt.alloc(), &mut model, &[16, 15]), 0);
+    assert!(rt; has_each_form(&model));
+    assert!(rt; fault_of_justice(rt.alloc(), &mut model, &[]) == 13);
+    assert!(rt; fault_of_justice(rt.alloc(), &mut model, &[16, 15]) == 0);
     Ok(())
 }
 
@@ -474,37 +497,46 @@ fn operands_are_kept(rt: HostRuntime) -> Result<(), Fail> {
     Ok(())
 }
 
+/// Texts, and whether they are symbols.
+const SYMBOLS: [(&[u8], bool); 9] = [
+    (b"", false),
+    (b";a", false),
+    (b"a;b", true),
+    (b"a b", false),
+    (b"!~", true),
+    (&[b'a'; 14], true),
+    (&[b'a'; 15], true),
+    (&[b'a'; 255], true),
+    (&[b'a'; 256], false),
+];
+
+/// Whether a text is a symbol, or is told as none.
+fn is_told(alloc: Global, bytes: &[u8], allowed: bool) -> bool {
+    let is_right = match Symbol::new(alloc, bytes) {
+        Ok(symbol) => allowed && symbol.bytes() == bytes,
+        Err(fault) => !allowed && fault.number() == 16,
+    };
+    is_right && Symbol::is_symbol(bytes) == allowed
+}
+
 #[test]
-fn symbols_are_1_to_255_printed_bytes(rt: HostRuntime) -> Result<(), Fail> {
-    let long = [b'a'; 256];
-    for (bytes, allowed) in [
-        (b"".as_slice(), false),
-        (b";a".as_slice(), false),
-        (b"a;b".as_slice(), true),
-        (b"a b".as_slice(), false),
-        (b"!~".as_slice(), true),
-        (&long[..14], true),
-        (&long[..15], true),
-        (&long[..255], true),
-        (long.as_slice(), false),
-    ] {
-        assert!(rt; Symbol::is_symbol(bytes) == allowed);
-        match Symbol::new(rt.alloc(), bytes) {
-            Ok(symbol) => assert!(rt; allowed && symbol.bytes() == bytes),
-            Err(fault) => assert!(rt; !allowed && fault.number() == 16),
-        }
+fn symbols_are_1_to_255_printed_bytes(rt: HostRuntime) {
+    for (bytes, allowed) in &SYMBOLS {
+        assert!(rt; is_told(rt.alloc(), bytes, *allowed), "{bytes:?}");
     }
-    Ok(())
 }
 
 #[test]
 fn faults_print_their_numbers_and_names(rt: HostRuntime) -> Result<(), Fail> {
-    for (fault, number, text) in FAULTS {
-        assert_eq!(rt; fault.number(), number);
-        assert_eq!(rt; format!(in rt.alloc(); "{fault}")?.as_str(), text);
+    for (fault, number, text) in &FAULTS {
+        let printed = format!(in rt.alloc(); "{fault}")?;
+        assert!(rt;
+            fault.number() == *number && printed.as_str() == *text,
+            "{text}"
+        );
     }
     let both = format!(in rt.alloc(); "{}, {}", SymbolFault::BadBytes, SymbolFault::NoMemory)?;
-    assert_eq!(rt; both.as_str(), "16 BadBytes, 17 NoMemory");
+    assert!(rt; both.as_str() == "16 BadBytes, 17 NoMemory");
     Ok(())
 }
 

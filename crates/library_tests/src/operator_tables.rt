@@ -269,9 +269,8 @@ fn is_right(alloc: Global, op: Op, width: u32) -> Option<bool>
 fn every_operand_of_every_operator(rt: HostRuntime) {
     for op in OPERATORS {
         for width in 1..widest(op) + 1 {
-            assert_eq!(rt;
-                is_right(rt.alloc(), op, width),
-                Some(true),
+            assert!(rt;
+                is_right(rt.alloc(), op, width) == Some(true),
                 "{op:?} at {width}"
             );
         }
@@ -329,7 +328,10 @@ fn is_right_at_64(alloc: Global, op: Op, all: &[Operands]) -> Option<bool> {
 fn a_thousand_operands_of_every_operator(rt: HostRuntime) -> Result<(), Fail> {
     let all = stored_operands(rt.alloc())?;
     for op in OPERATORS {
-        assert_eq!(rt; is_right_at_64(rt.alloc(), op, &all), Some(true), "{op:?}");
+        assert!(rt;
+            is_right_at_64(rt.alloc(), op, &all) == Some(true),
+            "{op:?}"
+        );
     }
     Ok(())
 }
@@ -376,25 +378,33 @@ fn rotation_gates(alloc: Global) -> Option<usize> {
     Some(g.finish().gates().len())
 }
 
+/// How many gates exclusive ors of literals take.
+fn gates_of_xors(alloc: Global) -> [Option<usize>; 4] {
+    let (x, y) = (Lit::new(2), Lit::new(4));
+    [
+        xor_gates(alloc, x, y),
+        xor_gates(alloc, x, x),
+        xor_gates(alloc, x, x.not()),
+        xor_gates(alloc, x, Lit::TRUE),
+    ]
+}
+
+/// How many gates choices between literals take.
+fn gates_of_choices(alloc: Global) -> [Option<usize>; 4] {
+    let (x, y, z) = (Lit::new(2), Lit::new(4), Lit::new(6));
+    [
+        mux_gates(alloc, x, y, z),
+        mux_gates(alloc, x, y, y),
+        mux_gates(alloc, Lit::TRUE, y, z),
+        mux_gates(alloc, x, y, Lit::FALSE),
+    ]
+}
+
 #[test]
 fn constants_and_equal_operands_take_no_gate(rt: HostRuntime) {
-    let (x, y, z) = (Lit::new(2), Lit::new(4), Lit::new(6));
-    for (a, b, want) in [(x, y, 3), (x, x, 0), (x, x.not(), 0), (x, Lit::TRUE, 0)] {
-        assert_eq!(rt; xor_gates(rt.alloc(), a, b), Some(want), "{a:?} and {b:?}");
-    }
-    for (c, t, e, want) in [
-        (x, y, z, 3),
-        (x, y, y, 0),
-        (Lit::TRUE, y, z, 0),
-        (x, y, Lit::FALSE, 1),
-    ] {
-        assert_eq!(rt;
-            mux_gates(rt.alloc(), c, t, e),
-            Some(want),
-            "{c:?}, {t:?} and {e:?}"
-        );
-    }
-    assert_eq!(rt; equal_gates(rt.alloc()), Some(7));
-    assert_eq!(rt; shift_gates(rt.alloc()), Some(6));
-    assert_eq!(rt; rotation_gates(rt.alloc()), Some(6));
+    assert!(rt; gates_of_xors(rt.alloc()) == [Some(3), Some(0), Some(0), Some(0)]);
+    assert!(rt; gates_of_choices(rt.alloc()) == [Some(3), Some(0), Some(0), Some(1)]);
+    assert!(rt; equal_gates(rt.alloc()) == Some(7));
+    assert!(rt; shift_gates(rt.alloc()) == Some(6));
+    assert!(rt; rotation_gates(rt.alloc()) == Some(6));
 }

@@ -144,46 +144,50 @@ fn bad_word(run: &WordRun, model: &Model, node: usize) -> (u64, bool)
     (run.value(node), run.bad(0))
 }
 
+/// Settles and advances a run: the word of a node, and whether its only property holds.
+fn counted(run: &mut WordRun, model: &Model, node: usize) -> (u64, bool)
+    requires same { run.old.items ≡ model.now }
+    ensures same { run.new.items ≡ run.old.items }
+{
+    run.settle();
+    let shown = bad_word(run, model, node);
+    run.advance();
+    shown
+}
+
 #[test]
 fn a_counter_counts(rt: HostRuntime) -> Result<(), Fail> {
     let model = model_of(rt.alloc(), COUNTER, counter_line).ok_or("refused")?;
     let mut run = WordRun::new(rt.alloc(), &model)?;
     assert!(rt; !run.is_settled());
-    run.settle();
-    assert_eq!(rt; bad_word(&run, &model, 3), (0, false));
-    run.advance();
-    run.settle();
-    assert_eq!(rt; bad_word(&run, &model, 3), (1, false));
-    run.advance();
-    run.settle();
-    assert_eq!(rt; bad_word(&run, &model, 3), (2, false));
-    run.advance();
+    let first = counted(&mut run, &model, 3);
+    let second = counted(&mut run, &model, 3);
+    let third = counted(&mut run, &model, 3);
+    assert!(rt; [first, second, third] == [(0, false), (1, false), (2, false)]);
     assert!(rt; !run.is_settled());
     run.settle();
-    assert_eq!(rt; bad_word(&run, &model, 3), (3, true));
-    assert_eq!(rt; run.held(), 6);
-    assert_eq!(rt; run.steps(), 23);
+    assert!(rt; bad_word(&run, &model, 3) == (3, true));
+    assert!(rt; run.held() == 6 && run.steps() == 23);
     Ok(())
+}
+
+/// Whether the model whose state has no next is refused by a fault that prints so.
+fn stuck_is_told(alloc: Global, text: &str) -> Result<bool, Fail> {
+    let model = model_of(alloc, 4, stuck_line).ok_or("refused")?;
+    match WordRun::new(alloc, &model) {
+        Ok(_) => Ok(false),
+        Err(fault) => {
+            let printed = format!(in alloc; "{fault}")?;
+            Ok(fault == NewFault::NoNext(2) && printed.as_str() == text)
+        }
+    }
 }
 
 #[test]
 fn a_state_with_an_init_alone_is_told(rt: HostRuntime) -> Result<(), Fail> {
-    let model = model_of(rt.alloc(), 4, stuck_line).ok_or("refused")?;
-    match WordRun::new(rt.alloc(), &model) {
-        Ok(_) => assert!(rt; false),
-        Err(fault) => {
-            assert_eq!(rt; fault, NewFault::NoNext(2));
-            assert_eq!(rt;
-                format!(in rt.alloc(); "{fault}")?.as_str(),
-                "item 2: 70 NoNext"
-            );
-        }
-    }
-    let no_memory = NewFault::NoMemory;
-    assert_eq!(rt;
-        format!(in rt.alloc(); "{no_memory}")?.as_str(),
-        "71 NoMemory"
-    );
+    let is_told = stuck_is_told(rt.alloc(), "item 2: 70 NoNext")?;
+    let printed = format!(in rt.alloc(); "{}", NewFault::NoMemory)?;
+    assert!(rt; is_told && printed.as_str() == "71 NoMemory");
     Ok(())
 }
 
@@ -231,19 +235,39 @@ fn set_both(run: &mut WordRun, model: &Model, state: u64, input: u64) -> bool
     }
 }
 
+/// Gives the first state and the first input words, settles a run and advances it: the words of two nodes, and whether
+/// its only constraint holds; none where the words were not given.
+fn played(
+    run: &mut WordRun,
+    model: &Model,
+    given: (u64, u64),
+    first: usize,
+    second: usize,
+) -> Option<(u64, u64, bool)>
+    requires same { run.old.items ≡ model.now }
+    requires state { given.0 < 16 }
+    requires input { given.1 < 16 }
+    ensures same { run.new.items ≡ run.old.items }
+{
+    if !set_both(run, model, given.0, given.1) || run.is_settled() {
+        return None;
+    }
+    run.settle();
+    let words = two_words(run, model, first, second);
+    run.advance();
+    Some(words)
+}
+
 #[test]
 fn words_that_are_set_are_read_back(rt: HostRuntime) -> Result<(), Fail> {
     let model = model_of(rt.alloc(), REGISTER, register_line).ok_or("refused")?;
     let mut run = WordRun::new(rt.alloc(), &model)?;
     run.settle();
-    assert_eq!(rt; two_words(&run, &model, 2, 3), (5, 0, false));
-    assert!(rt; set_both(&mut run, &model, 9, 12));
-    assert!(rt; !run.is_settled());
+    assert!(rt; two_words(&run, &model, 2, 3) == (5, 0, false));
+    let words = played(&mut run, &model, (9, 12), 2, 3);
+    assert!(rt; words == Some((9, 12, true)));
     run.settle();
-    assert_eq!(rt; two_words(&run, &model, 2, 3), (9, 12, true));
-    run.advance();
-    run.settle();
-    assert_eq!(rt; two_words(&run, &model, 2, 3), (12, 0, false));
+    assert!(rt; two_words(&run, &model, 2, 3) == (12, 0, false));
     Ok(())
 }
 
@@ -251,13 +275,10 @@ fn words_that_are_set_are_read_back(rt: HostRuntime) -> Result<(), Fail> {
 fn a_free_state_has_the_word_that_is_set(rt: HostRuntime) -> Result<(), Fail> {
     let model = model_of(rt.alloc(), FOLLOWER, follower_line).ok_or("refused")?;
     let mut run = WordRun::new(rt.alloc(), &model)?;
-    assert!(rt; set_both(&mut run, &model, 9, 12));
+    let words = played(&mut run, &model, (9, 12), 1, 2);
+    assert!(rt; words == Some((9, 0, true)));
     run.settle();
-    assert_eq!(rt; two_words(&run, &model, 1, 2), (9, 0, true));
-    run.advance();
-    run.settle();
-    assert_eq!(rt; two_words(&run, &model, 1, 2), (0, 9, false));
-    assert_eq!(rt; run.held(), 6);
-    assert_eq!(rt; run.steps(), 10);
+    assert!(rt; two_words(&run, &model, 1, 2) == (0, 9, false));
+    assert!(rt; run.held() == 6 && run.steps() == 10);
     Ok(())
 }

@@ -6,6 +6,7 @@ use base::{
     VecSink, Width, binary, concat, cut_at, decimal, gate, ite, laws, next_line, ones, read_all,
     sext, slice, take, uext, unary, write_all,
 };
+use std::alloc::Global;
 use std::collections::VecDeque;
 use std::io::{self, ErrorKind, Read, Write};
 use std::test::Fail;
@@ -103,150 +104,181 @@ fn word(w: Width, x: u64) -> u64
     x.min(ones(w))
 }
 
+/// Numbers of bits, and those of their width.
+const WIDTHS: [(u64, Option<u64>); 4] = [(0, None), (1, Some(1)), (64, Some(64)), (65, None)];
+
+/// How many bits the width of a number has.
+fn bits_of(number: u64) -> Option<u64> {
+    match Width::new(number) {
+        Some(width) => Some(width.bits()),
+        None => None,
+    }
+}
+
 #[test]
 fn widths_are_1_to_64(rt: HostRuntime) {
-    for (bits, want) in [(0, None), (1, Some(1)), (64, Some(64)), (65, None)] {
-        assert_eq!(rt; Width::new(bits).map(|w| w.bits()), want, "at {bits}");
+    for (number, wanted) in &WIDTHS {
+        assert!(rt; bits_of(*number) == *wanted, "{number}");
     }
+}
+
+/// Whether operators, gates and moves are a step each.
+fn count_steps(width: Width) -> bool {
+    let mut tally = Tally::new();
+    let inverse = unary(Unary::Not, width, 200, &mut tally);
+    let first = tally.steps();
+    let both = binary(Binary::And, width, 12, 10, &mut tally);
+    let second = tally.steps();
+    let gates = [gate(true, true, &mut tally), gate(true, false, &mut tally)];
+    let taken = take('x', &mut tally);
+    inverse == 55
+        && both == 8
+        && gates == [true, false]
+        && taken == 'x'
+        && [first, second, tally.steps()] == [1, 2, 5]
 }
 
 #[test]
 fn each_operator_is_a_step(rt: HostRuntime) -> Result<(), Fail> {
-    let mut tally = Tally::new();
     let width = Width::new(8).ok_or("8 is a width")?;
-    assert_eq!(rt; unary(Unary::Not, width, 200, &mut tally), 55);
-    assert_eq!(rt; tally.steps(), 1);
-    assert_eq!(rt; binary(Binary::And, width, 12, 10, &mut tally), 8);
-    assert_eq!(rt; tally.steps(), 2);
-    assert!(rt; gate(true, true, &mut tally) && !gate(true, false, &mut tally));
-    assert_eq!(rt; take('x', &mut tally), 'x');
-    assert_eq!(rt; tally.steps(), 5);
+    assert!(rt; count_steps(width));
     Ok(())
 }
 
+/// Operators, a width, two operands and the word that they give.
+const OF_TWO_OPERANDS: [(Binary, u64, u64, u64, u64); 71] = [
+    (Binary::Udiv, 8, 200, 0, 255),
+    (Binary::Udiv, 8, 200, 7, 28),
+    (Binary::Urem, 8, 200, 0, 200),
+    (Binary::Urem, 8, 200, 7, 4),
+    (Binary::Sdiv, 8, 200, 0, 1),
+    (Binary::Sdiv, 8, 100, 0, 255),
+    (Binary::Srem, 8, 200, 0, 200),
+    (Binary::Smod, 8, 200, 0, 200),
+    (Binary::Sdiv, 8, 128, 255, 128),
+    (Binary::Sdivo, 8, 128, 255, 1),
+    (Binary::Sdivo, 8, 128, 254, 0),
+    (Binary::Sdiv, 1, 1, 1, 1),
+    (Binary::Sdivo, 1, 1, 1, 1),
+    (Binary::Smulo, 1, 1, 1, 1),
+    (Binary::Sdiv, 8, 249, 3, 254),
+    (Binary::Srem, 8, 249, 3, 255),
+    (Binary::Smod, 8, 249, 3, 2),
+    (Binary::Sdiv, 8, 7, 253, 254),
+    (Binary::Srem, 8, 7, 253, 1),
+    (Binary::Smod, 8, 7, 253, 254),
+    (Binary::Srem, 8, 128, 255, 0),
+    (Binary::Ror, 8, 1, 1, 128),
+    (Binary::Ror, 8, 1, 8, 1),
+    (Binary::Rol, 3, 6, 5, 3),
+    (Binary::Sll, 8, 1, 8, 0),
+    (Binary::Sll, 8, 200, 1, 144),
+    (Binary::Srl, 8, 200, 3, 25),
+    (Binary::Srl, 8, 200, 8, 0),
+    (Binary::Sra, 8, 128, 200, 255),
+    (Binary::Sra, 8, 200, 1, 228),
+    (Binary::Sra, 8, 100, 2, 25),
+    (Binary::Uaddo, 8, 255, 1, 1),
+    (Binary::Uaddo, 8, 254, 1, 0),
+    (Binary::Saddo, 8, 127, 1, 1),
+    (Binary::Saddo, 8, 128, 127, 0),
+    (Binary::Usubo, 8, 0, 1, 1),
+    (Binary::Usubo, 8, 1, 1, 0),
+    (Binary::Ssubo, 8, 128, 1, 1),
+    (Binary::Ssubo, 8, 128, 128, 0),
+    (Binary::Umulo, 8, 15, 17, 0),
+    (Binary::Umulo, 8, 16, 16, 1),
+    (Binary::Smulo, 8, 16, 8, 1),
+    (Binary::Smulo, 8, 240, 8, 0),
+    (Binary::Mul, 64, u64::MAX, u64::MAX, 1),
+    (Binary::Umulo, 64, u64::MAX, u64::MAX, 1),
+    (Binary::Smulo, 64, u64::MAX, u64::MAX, 0),
+    (Binary::Sdivo, 64, 1 << 63, u64::MAX, 1),
+    (Binary::Iff, 1, 0, 0, 1),
+    (Binary::Iff, 1, 1, 0, 0),
+    (Binary::Implies, 1, 1, 0, 0),
+    (Binary::Implies, 1, 0, 1, 1),
+    (Binary::Eq, 8, 7, 7, 1),
+    (Binary::Eq, 8, 7, 8, 0),
+    (Binary::Neq, 8, 7, 8, 1),
+    (Binary::Ugt, 8, 200, 100, 1),
+    (Binary::Ugte, 8, 100, 100, 1),
+    (Binary::Ult, 8, 200, 100, 0),
+    (Binary::Ulte, 8, 100, 100, 1),
+    (Binary::Sgt, 8, 200, 100, 0),
+    (Binary::Sgte, 8, 200, 200, 1),
+    (Binary::Slt, 8, 200, 100, 1),
+    (Binary::Slte, 8, 100, 200, 0),
+    (Binary::And, 8, 12, 10, 8),
+    (Binary::Nand, 8, 12, 10, 247),
+    (Binary::Or, 8, 12, 10, 14),
+    (Binary::Nor, 8, 12, 10, 241),
+    (Binary::Xor, 8, 12, 10, 6),
+    (Binary::Xnor, 8, 12, 10, 249),
+    (Binary::Add, 8, 200, 100, 44),
+    (Binary::Sub, 8, 100, 200, 156),
+    (Binary::Mul, 8, 200, 3, 88),
+];
+
+/// What an operator gives of two operands at a width; none where it is no width.
+fn binary_word(op: Binary, bits: u64, a: u64, b: u64) -> Option<u64> {
+    let w = Width::new(bits)?;
+    Some(binary(op, w, word(w, a), word(w, b), &mut Tally::new()))
+}
+
 #[test]
-fn words_of_two_operands(rt: HostRuntime) -> Result<(), Fail> {
-    const ONES: u64 = u64::MAX;
-    const TOP: u64 = 1 << 63;
-    let mut tally = Tally::new();
-    for (op, bits, a, b, want) in [
-        (Binary::Udiv, 8, 200, 0, 255),
-        (Binary::Udiv, 8, 200, 7, 28),
-        (Binary::Urem, 8, 200, 0, 200),
-        (Binary::Urem, 8, 200, 7, 4),
-        (Binary::Sdiv, 8, 200, 0, 1),
-        (Binary::Sdiv, 8, 100, 0, 255),
-        (Binary::Srem, 8, 200, 0, 200),
-        (Binary::Smod, 8, 200, 0, 200),
-        (Binary::Sdiv, 8, 128, 255, 128),
-        (Binary::Sdivo, 8, 128, 255, 1),
-        (Binary::Sdivo, 8, 128, 254, 0),
-        (Binary::Sdiv, 1, 1, 1, 1),
-        (Binary::Sdivo, 1, 1, 1, 1),
-        (Binary::Smulo, 1, 1, 1, 1),
-        (Binary::Sdiv, 8, 249, 3, 254),
-        (Binary::Srem, 8, 249, 3, 255),
-        (Binary::Smod, 8, 249, 3, 2),
-        (Binary::Sdiv, 8, 7, 253, 254),
-        (Binary::Srem, 8, 7, 253, 1),
-        (Binary::Smod, 8, 7, 253, 254),
-        (Binary::Srem, 8, 128, 255, 0),
-        (Binary::Ror, 8, 1, 1, 128),
-        (Binary::Ror, 8, 1, 8, 1),
-        (Binary::Rol, 3, 6, 5, 3),
-        (Binary::Sll, 8, 1, 8, 0),
-        (Binary::Sll, 8, 200, 1, 144),
-        (Binary::Srl, 8, 200, 3, 25),
-        (Binary::Srl, 8, 200, 8, 0),
-        (Binary::Sra, 8, 128, 200, 255),
-        (Binary::Sra, 8, 200, 1, 228),
-        (Binary::Sra, 8, 100, 2, 25),
-        (Binary::Uaddo, 8, 255, 1, 1),
-        (Binary::Uaddo, 8, 254, 1, 0),
-        (Binary::Saddo, 8, 127, 1, 1),
-        (Binary::Saddo, 8, 128, 127, 0),
-        (Binary::Usubo, 8, 0, 1, 1),
-        (Binary::Usubo, 8, 1, 1, 0),
-        (Binary::Ssubo, 8, 128, 1, 1),
-        (Binary::Ssubo, 8, 128, 128, 0),
-        (Binary::Umulo, 8, 15, 17, 0),
-        (Binary::Umulo, 8, 16, 16, 1),
-        (Binary::Smulo, 8, 16, 8, 1),
-        (Binary::Smulo, 8, 240, 8, 0),
-        (Binary::Mul, 64, ONES, ONES, 1),
-        (Binary::Umulo, 64, ONES, ONES, 1),
-        (Binary::Smulo, 64, ONES, ONES, 0),
-        (Binary::Sdivo, 64, TOP, ONES, 1),
-        (Binary::Iff, 1, 0, 0, 1),
-        (Binary::Iff, 1, 1, 0, 0),
-        (Binary::Implies, 1, 1, 0, 0),
-        (Binary::Implies, 1, 0, 1, 1),
-        (Binary::Eq, 8, 7, 7, 1),
-        (Binary::Eq, 8, 7, 8, 0),
-        (Binary::Neq, 8, 7, 8, 1),
-        (Binary::Ugt, 8, 200, 100, 1),
-        (Binary::Ugte, 8, 100, 100, 1),
-        (Binary::Ult, 8, 200, 100, 0),
-        (Binary::Ulte, 8, 100, 100, 1),
-        (Binary::Sgt, 8, 200, 100, 0),
-        (Binary::Sgte, 8, 200, 200, 1),
-        (Binary::Slt, 8, 200, 100, 1),
-        (Binary::Slte, 8, 100, 200, 0),
-        (Binary::And, 8, 12, 10, 8),
-        (Binary::Nand, 8, 12, 10, 247),
-        (Binary::Or, 8, 12, 10, 14),
-        (Binary::Nor, 8, 12, 10, 241),
-        (Binary::Xor, 8, 12, 10, 6),
-        (Binary::Xnor, 8, 12, 10, 249),
-        (Binary::Add, 8, 200, 100, 44),
-        (Binary::Sub, 8, 100, 200, 156),
-        (Binary::Mul, 8, 200, 3, 88),
-    ] {
-        let w = Width::new(bits).ok_or("no width")?;
-        assert_eq!(rt;
-            binary(op, w, word(w, a), word(w, b), &mut tally),
-            want,
+fn words_of_two_operands(rt: HostRuntime) {
+    for (op, bits, a, b, wanted) in &OF_TWO_OPERANDS {
+        let given = binary_word(*op, *bits, *a, *b);
+        assert!(rt;
+            given == Some(*wanted),
             "{op:?} of {a} and {b} at width {bits}"
         );
     }
-    Ok(())
+}
+
+/// Operators, an operand of eight bits and the word that they give.
+const OF_ONE_OPERAND: [(Unary, u64, u64); 11] = [
+    (Unary::Not, 200, 55),
+    (Unary::Inc, 255, 0),
+    (Unary::Dec, 0, 255),
+    (Unary::Neg, 3, 253),
+    (Unary::Neg, 0, 0),
+    (Unary::Redand, 255, 1),
+    (Unary::Redand, 127, 0),
+    (Unary::Redor, 16, 1),
+    (Unary::Redor, 0, 0),
+    (Unary::Redxor, 7, 1),
+    (Unary::Redxor, 5, 0),
+];
+
+/// What an operator gives of an operand of eight bits.
+fn unary_word(op: Unary, a: u64) -> Option<u64> {
+    let w = Width::new(8)?;
+    Some(unary(op, w, word(w, a), &mut Tally::new()))
+}
+
+/// Two choices, a part of a word, three wider words and two words in one.
+fn parts() -> Option<[u64; 7]> {
+    let mut tally = Tally::new();
+    let (w3, w4, w8) = (Width::new(3)?, Width::new(4)?, Width::new(8)?);
+    Some([
+        ite(w8, 1, 200, 100, &mut tally),
+        ite(w8, 0, 200, 100, &mut tally),
+        slice(w8, 180, 5, 2, &mut tally),
+        uext(w4, 9, 4, &mut tally),
+        sext(w4, 9, 4, &mut tally),
+        sext(w4, 7, 60, &mut tally),
+        concat(w4, 10, w3, 5, &mut tally),
+    ])
 }
 
 #[test]
-fn words_of_one_operand_and_parts(rt: HostRuntime) -> Result<(), Fail> {
-    let mut tally = Tally::new();
-    let [w3, w4, w8] = [
-        Width::new(3).ok_or("3")?,
-        Width::new(4).ok_or("4")?,
-        Width::new(8).ok_or("8")?,
-    ];
-    for (op, a, want) in [
-        (Unary::Not, 200, 55),
-        (Unary::Inc, 255, 0),
-        (Unary::Dec, 0, 255),
-        (Unary::Neg, 3, 253),
-        (Unary::Neg, 0, 0),
-        (Unary::Redand, 255, 1),
-        (Unary::Redand, 127, 0),
-        (Unary::Redor, 16, 1),
-        (Unary::Redor, 0, 0),
-        (Unary::Redxor, 7, 1),
-        (Unary::Redxor, 5, 0),
-    ] {
-        assert_eq!(rt;
-            unary(op, w8, word(w8, a), &mut tally),
-            want,
-            "{op:?} of {a}"
-        );
+fn words_of_one_operand_and_parts(rt: HostRuntime) {
+    for (op, a, wanted) in &OF_ONE_OPERAND {
+        assert!(rt; unary_word(*op, *a) == Some(*wanted), "{op:?} of {a}");
     }
-    assert_eq!(rt; ite(w8, 1, 200, 100, &mut tally), 200);
-    assert_eq!(rt; ite(w8, 0, 200, 100, &mut tally), 100);
-    assert_eq!(rt; slice(w8, 180, 5, 2, &mut tally), 13);
-    assert_eq!(rt; uext(w4, 9, 4, &mut tally), 9);
-    assert_eq!(rt; sext(w4, 9, 4, &mut tally), 249);
-    assert_eq!(rt; sext(w4, 7, 60, &mut tally), 7);
-    assert_eq!(rt; concat(w4, 10, w3, 5, &mut tally), 85);
-    Ok(())
+    assert!(rt; parts() == Some([200, 100, 13, 9, 249, 7, 85]));
 }
 
 #[test]
@@ -255,42 +287,68 @@ fn bytes_reach_a_sink(rt: HostRuntime) -> Result<(), Fail> {
     write_all(&mut kept, b"one ")?;
     write_all(&mut kept, b"")?;
     write_all(&mut kept, b"two")?;
-    assert_eq!(rt; kept.bytes(), b"one two".as_slice());
+    assert!(rt; kept.bytes() == b"one two".as_slice());
     let mut through = ToWriter::new(VecDeque::new(rt.alloc()));
     write_all(&mut through, b"three")?;
-    let mut dripping = Dripping {
-        sink: VecSink::new(rt.alloc()),
-        room: 3,
-        failures: 0,
-    };
-    assert_eq!(rt; write_all(&mut dripping, b"four"), Err(DeviceFault::Failed));
-    assert_eq!(rt; dripping.sink.bytes(), b"fou".as_slice());
+    assert!(rt; drips(rt.alloc()));
     Ok(())
 }
 
-#[test]
-fn a_source_is_read_to_its_end(rt: HostRuntime) -> Result<(), Fail> {
-    let long = [7u8; 70_000];
-    let mut slice: &[u8] = &long;
-    assert_eq!(rt;
-        read_all(rt.alloc(), &mut slice)?.as_slice(),
-        long.as_slice()
-    );
-    let mut reader = FromReader::new(long.as_slice());
-    assert_eq!(rt;
-        read_all(rt.alloc(), &mut reader)?.as_slice(),
-        long.as_slice()
-    );
+/// Whether writing four bytes to a sink of room for three fails, and writes three.
+fn drips(alloc: Global) -> bool {
+    let mut dripping = Dripping {
+        sink: VecSink::new(alloc),
+        room: 3,
+        failures: 0,
+    };
+    write_all(&mut dripping, b"four") == Err(DeviceFault::Failed)
+        && dripping.sink.bytes() == b"fou".as_slice()
+}
+
+/// Whether reading a source gives these bytes.
+fn reads<S: Source>(alloc: Global, source: &mut S, wanted: &[u8]) -> bool {
+    match read_all(alloc, source) {
+        Ok(given) => given.as_slice() == wanted,
+        Err(_) => false,
+    }
+}
+
+/// How many reads failed where a source fails at its second; none where reading it does not.
+fn failed_reads(alloc: Global) -> Option<u128> {
     let mut failing = FailsSecond {
         left: 1,
         failures: 0,
     };
-    assert_eq!(rt;
-        read_all(rt.alloc(), &mut failing).err(),
-        Some(ReadAllFault::Device)
-    );
-    assert_eq!(rt; failing.failures, 1);
-    Ok(())
+    match read_all(alloc, &mut failing) {
+        Err(ReadAllFault::Device) => Some(failing.failures),
+        _ => None,
+    }
+}
+
+#[test]
+fn a_source_is_read_to_its_end(rt: HostRuntime) {
+    let long = [7u8; 70_000];
+    assert!(rt; reads(rt.alloc(), &mut long.as_slice(), &long));
+    assert!(rt; reads(rt.alloc(), &mut FromReader::new(long.as_slice()), &long));
+    assert!(rt; failed_reads(rt.alloc()) == Some(1));
+}
+
+/// Whether a read that failed is not tried again, and the next one goes on: a second try would find the two bytes behind
+/// the failure.
+fn is_read_once(alloc: Global, kind: ErrorKind) -> Result<bool, Fail> {
+    let mut source = FromReader::new(FailsOnce { calls: 0, kind });
+    let fault = read_all(alloc, &mut source).err();
+    let rest = read_all(alloc, &mut source)?;
+    Ok(fault == Some(ReadAllFault::Device) && rest.as_slice() == b"\x07\x07".as_slice())
+}
+
+/// Whether a write that failed is not tried again, and the next one goes on: a second try would take the second byte and
+/// the third. The last takes nothing more, which is a fault too.
+fn is_written_once(kind: ErrorKind) -> bool {
+    let mut sink = ToWriter::new(FailsOnce { calls: 0, kind });
+    write_all(&mut sink, b"abc") == Err(DeviceFault::Failed)
+        && write_all(&mut sink, b"bc") == Ok(())
+        && write_all(&mut sink, b"d") == Err(DeviceFault::Failed)
 }
 
 #[test]
@@ -300,98 +358,113 @@ fn a_call_that_failed_is_not_tried_again(rt: HostRuntime) -> Result<(), Fail> {
         ErrorKind::WouldBlock,
         ErrorKind::BrokenPipe,
     ] {
-        // A second try would find the two bytes behind the failure.
-        let mut source = FromReader::new(FailsOnce { calls: 0, kind });
-        assert_eq!(rt;
-            read_all(rt.alloc(), &mut source).err(),
-            Some(ReadAllFault::Device)
-        );
-        assert_eq!(rt;
-            read_all(rt.alloc(), &mut source)?.as_slice(),
-            b"\x07\x07".as_slice()
-        );
-        // A second try would take the second byte and the third.
-        let mut sink = ToWriter::new(FailsOnce { calls: 0, kind });
-        assert_eq!(rt; write_all(&mut sink, b"abc"), Err(DeviceFault::Failed));
-        assert_eq!(rt; write_all(&mut sink, b"bc"), Ok(()));
-        // It takes nothing more, which is a fault too.
-        assert_eq!(rt; write_all(&mut sink, b"d"), Err(DeviceFault::Failed));
+        let is_read_once = is_read_once(rt.alloc(), kind)?;
+        assert!(rt; is_read_once && is_written_once(kind), "{kind:?}");
     }
     Ok(())
 }
 
+/// What is said of operators: widths, and what kind they are of.
+fn are_told() -> bool {
+    Unary::Not.width(8) == 8
+        && Unary::Redor.width(8) == 1
+        && Binary::Add.width(8) == 8
+        && Binary::Ult.width(8) == 1
+        && Unary::Redxor.is_reduction()
+        && !Unary::Neg.is_reduction()
+        && Binary::Iff.is_of_bits()
+        && !Binary::Xnor.is_of_bits()
+        && Binary::Sdivo.is_test()
+        && !Binary::Sdiv.is_test()
+}
+
 #[test]
 fn operators_give_widths(rt: HostRuntime) {
-    assert_eq!(rt; (Unary::Not.width(8), Unary::Redor.width(8)), (8, 1));
-    assert_eq!(rt; (Binary::Add.width(8), Binary::Ult.width(8)), (8, 1));
-    assert!(rt; Unary::Redxor.is_reduction() && !Unary::Neg.is_reduction());
-    assert!(rt; Binary::Iff.is_of_bits() && !Binary::Xnor.is_of_bits());
-    assert!(rt; Binary::Sdivo.is_test() && !Binary::Sdiv.is_test());
+    assert!(rt; are_told());
+}
+
+/// Puts pieces into an outbox over a sink, long ones among them, and flushes it.
+fn puts_pieces<S: Sink>(
+    outbox: &mut Outbox,
+    sink: &mut S,
+    long: &[u8; 40_000],
+) -> Result<(), DeviceFault> {
+    outbox.put(sink, b"a small piece")?;
+    outbox.put(sink, long)?;
+    outbox.put(sink, b"")?;
+    outbox.put(sink, &long[..20_000])?;
+    outbox.put(sink, &long[..20_000])?;
+    outbox.put(sink, b"end")?;
+    outbox.flush(sink)
+}
+
+/// The same pieces, written at once.
+fn pieces(alloc: Global, long: &[u8; 40_000]) -> Result<VecSink, DeviceFault> {
+    let mut direct = VecSink::new(alloc);
+    write_all(&mut direct, b"a small piece")?;
+    write_all(&mut direct, long)?;
+    write_all(&mut direct, long)?;
+    write_all(&mut direct, b"end")?;
+    Ok(direct)
 }
 
 #[test]
 fn an_outbox_writes_what_it_was_given(rt: HostRuntime) -> Result<(), Fail> {
+    let long = [1u8; 40_000];
+    let direct = pieces(rt.alloc(), &long)?;
     let mut whole = VecSink::new(rt.alloc());
+    puts_pieces(&mut Outbox::new(), &mut whole, &long)?;
+    assert!(rt; whole.bytes() == direct.bytes());
+    Ok(())
+}
+
+#[test]
+fn an_outbox_over_a_sink_of_one_byte_a_call(rt: HostRuntime) -> Result<(), Fail> {
+    let long = [1u8; 40_000];
+    let direct = pieces(rt.alloc(), &long)?;
     let mut outbox = Outbox::new();
-    let mut direct = VecSink::new(rt.alloc());
     let mut dripping = Dripping {
         sink: VecSink::new(rt.alloc()),
         room: 200_000,
         failures: 0,
     };
-    let mut second = Outbox::new();
-    let long = [1u8; 40_000];
-    for piece in [
-        b"a small piece".as_slice(),
-        long.as_slice(),
-        b"".as_slice(),
-        &long[..20_000],
-        &long[..20_000],
-        b"end".as_slice(),
-    ] {
-        write_all(&mut direct, piece)?;
-        outbox.put(&mut whole, piece)?;
-        second.put(&mut dripping, piece)?;
-    }
-    outbox.flush(&mut whole)?;
-    second.flush(&mut dripping)?;
-    assert_eq!(rt; whole.bytes(), direct.bytes());
-    assert_eq!(rt; dripping.sink.bytes(), direct.bytes());
+    puts_pieces(&mut outbox, &mut dripping, &long)?;
+    assert!(rt; dripping.sink.bytes() == direct.bytes());
     dripping.room = 2;
-    second.put(&mut dripping, b"xyz")?;
-    assert_eq!(rt; second.flush(&mut dripping), Err(DeviceFault::Failed));
-    assert_eq!(rt; dripping.sink.bytes().len(), 80_018);
+    outbox.put(&mut dripping, b"xyz")?;
+    let answer = outbox.flush(&mut dripping);
+    assert!(rt; answer == Err(DeviceFault::Failed) && dripping.sink.bytes().len() == 80_018);
     Ok(())
 }
 
 #[test]
 fn faults_print_their_names(rt: HostRuntime) -> Result<(), Fail> {
-    assert_eq!(rt;
-        format!(in rt.alloc();
-            "{} {} {}",
-            DeviceFault::Failed,
-            ReadAllFault::Device,
-            ReadAllFault::NoMemory
-        )?
-        .as_str(),
-        "device device no memory"
+    let (first, second, third) = (
+        DeviceFault::Failed,
+        ReadAllFault::Device,
+        ReadAllFault::NoMemory,
     );
+    let printed = format!(in rt.alloc(); "{first} {second} {third}")?;
+    assert!(rt; printed.as_str() == "device device no memory");
     Ok(())
+}
+
+/// Whether a text is cut into these two parts, or not at all.
+fn is_cut(parts: Option<(&[u8], &[u8])>, wanted: Option<(&[u8], &[u8])>) -> bool {
+    match (parts, wanted) {
+        (Some((front, rest)), Some((first, second))) => front == first && rest == second,
+        (None, None) => true,
+        _ => false,
+    }
 }
 
 #[test]
 fn lines_and_decimals(rt: HostRuntime) {
-    assert_eq!(rt;
-        next_line(b"a b\n\nc"),
-        Some((b"a b".as_slice(), b"\nc".as_slice()))
-    );
-    assert_eq!(rt; next_line(b"c"), None);
-    assert_eq!(rt;
-        cut_at(b"b0 j1", b' '),
-        Some((b"b0".as_slice(), b"j1".as_slice()))
-    );
-    assert_eq!(rt; decimal(b"18446744073709551616"), Some(u64::MAX));
-    assert_eq!(rt; decimal(b"042"), None);
+    assert!(rt; is_cut(next_line(b"a b\n\nc"), Some((b"a b", b"\nc"))));
+    assert!(rt; is_cut(next_line(b"c"), None));
+    assert!(rt; is_cut(cut_at(b"b0 j1", b' '), Some((b"b0", b"j1"))));
+    assert!(rt; decimal(b"18446744073709551616") == Some(u64::MAX));
+    assert!(rt; decimal(b"042").is_none());
 }
 
 #[test]

@@ -1,6 +1,6 @@
 //! Devices that fail: the status is 3, a line says which, and nothing is tried again.
 
-use super::TOGGLER;
+use super::{TOGGLER, ends};
 use crate::command_line::order;
 use crate::files::NoFile;
 use crate::orders::Stop;
@@ -102,13 +102,7 @@ fn fails<A: Source, B: Source>(
     second: &mut B,
     line: &str,
 ) -> bool {
-    let Ok(order) = order(alloc, words) else {
-        return false;
-    };
-    let mut out = VecSink::new(alloc);
-    let mut err = VecSink::new(alloc);
-    let status = run(alloc, &order, first, second, &mut out, &mut err);
-    status == 3 && out.bytes().is_empty() && err.bytes() == line.as_bytes()
+    ends(alloc, words, first, second, (3, b"", line.as_bytes()))
 }
 
 /// Whether a command on two texts ends with status 3 where standard output is such a sink, and tells the line of it.
@@ -123,122 +117,118 @@ fn fails_to_write<O: Sink>(alloc: Global, words: &[&str], out: &mut O) -> bool {
     status == 3 && err.bytes() == b"output: device\n".as_slice()
 }
 
-/// Each command, and the file of it that is the model.
+/// Commands whose first file is a model, of which the last reads a witness too.
 const COMMANDS: [&[&str]; 3] = [
     &["lower", "model"],
     &["show", "model"],
     &["check-btor", "model", "witness"],
 ];
 
+/// The last of them.
+const JUDGE: [&str; 3] = ["check-btor", "model", "witness"];
+
+/// Whether each command fails where there is no model, and the last where there is no witness.
+fn missing_files_fail(alloc: Global) -> bool {
+    for words in &COMMANDS {
+        let second = &mut RISES.as_bytes();
+        if !fails(alloc, words, &mut NoFile::new(), second, "model: device\n") {
+            return false;
+        }
+    }
+    let first = &mut TOGGLER.as_bytes();
+    fails(
+        alloc,
+        &JUDGE,
+        first,
+        &mut NoFile::new(),
+        "witness: device\n",
+    )
+}
+
 #[test]
 fn files_that_are_not_there(rt: HostRuntime) {
-    for words in COMMANDS {
-        let mut first = NoFile::new();
-        let mut second = RISES.as_bytes();
-        assert!(rt;
-            fails(
-                rt.alloc(),
-                words,
-                &mut first,
-                &mut second,
-                "model: device\n"
-            )
-        );
+    assert!(rt; missing_files_fail(rt.alloc()));
+}
+
+/// Whether each command fails where the model is interrupted after so many reads.
+fn interrupted_models_fail(alloc: Global, reads: u64) -> bool {
+    for words in &COMMANDS {
+        let mut first = interrupted(TOGGLER, reads);
+        let second = &mut RISES.as_bytes();
+        if !fails(alloc, words, &mut first, second, "model: device\n") {
+            return false;
+        }
     }
-    let words = ["check-btor", "model", "witness"];
-    let mut first = TOGGLER.as_bytes();
-    let mut second = NoFile::new();
-    assert!(rt;
-        fails(
-            rt.alloc(),
-            words.as_slice(),
-            &mut first,
-            &mut second,
-            "witness: device\n"
-        )
-    );
+    true
+}
+
+/// Whether a judgement fails where the witness is interrupted after so many reads.
+fn interrupted_witness_fails(alloc: Global, reads: u64) -> bool {
+    let first = &mut TOGGLER.as_bytes();
+    let mut second = interrupted(RISES, reads);
+    fails(alloc, &JUDGE, first, &mut second, "witness: device\n")
 }
 
 #[test]
 fn interrupted_sources_are_not_read_again(rt: HostRuntime) {
     for reads in [0, 1, 3, 16] {
-        for words in COMMANDS {
-            let mut first = interrupted(TOGGLER, reads);
-            let mut second = RISES.as_bytes();
-            assert!(rt;
-                fails(
-                    rt.alloc(),
-                    words,
-                    &mut first,
-                    &mut second,
-                    "model: device\n"
-                )
-            );
+        assert!(rt; interrupted_models_fail(rt.alloc(), reads), "{reads}");
+    }
+    for reads in [0, 1, 4] {
+        assert!(rt; interrupted_witness_fails(rt.alloc(), reads), "{reads}");
+    }
+}
+
+/// Whether each command fails to write to a full sink, at once and after some bytes, and to a busy one.
+fn full_outputs_fail(alloc: Global) -> bool {
+    for words in &COMMANDS {
+        let mut busy = ToWriter::new(BusyOnce { is_busy: true });
+        if !fails_to_write(alloc, words, &mut Full::new(0))
+            || !fails_to_write(alloc, words, &mut Full::new(7))
+            || !fails_to_write(alloc, words, &mut busy)
+        {
+            return false;
         }
     }
-    let words = ["check-btor", "model", "witness"];
-    for reads in [0, 1, 4] {
-        let mut first = TOGGLER.as_bytes();
-        let mut second = interrupted(RISES, reads);
-        assert!(rt;
-            fails(
-                rt.alloc(),
-                words.as_slice(),
-                &mut first,
-                &mut second,
-                "witness: device\n"
-            )
-        );
-    }
+    true
 }
 
 #[test]
 fn full_outputs(rt: HostRuntime) {
-    for words in COMMANDS {
-        // at once, and after some bytes
-        for room in [0, 7] {
-            assert!(rt; fails_to_write(rt.alloc(), words, &mut Full::new(room)));
-        }
-        let mut busy = ToWriter::new(BusyOnce { is_busy: true });
-        assert!(rt; fails_to_write(rt.alloc(), words, &mut busy));
-    }
+    assert!(rt; full_outputs_fail(rt.alloc()));
+}
+
+/// The status of a lowering that is refused where standard error is full.
+fn refused_without_a_word(alloc: Global) -> Option<u8> {
+    let order = order(alloc, &["lower", "model"]).ok()?;
+    let mut out = VecSink::new(alloc);
+    let mut first = "1 sort bitvec 65\n".as_bytes();
+    let mut second = NoFile::new();
+    let mut full = Full::new(0);
+    Some(run(alloc, &order, &mut first, &mut second, &mut out, &mut full))
+}
+
+/// Whether help that cannot be shown ends with status 3, and a line says so.
+fn help_fails(alloc: Global) -> Result<bool, Fail> {
+    let help = String::from_str(alloc, "help\n")?;
+    let mut err = VecSink::new(alloc);
+    let status = end(&Stop::shown(help), &mut Full::new(2), &mut err);
+    Ok(status == 3 && err.bytes() == b"output: device\n".as_slice())
+}
+
+/// Whether what cannot be told ends with status 3, and nothing is shown in its place.
+fn is_not_told(alloc: Global, stop: &Stop) -> bool {
+    let mut out = VecSink::new(alloc);
+    end(stop, &mut out, &mut Full::new(0)) == 3 && out.bytes().is_empty()
 }
 
 #[test]
 fn full_standard_errors(rt: HostRuntime) -> Result<(), Fail> {
-    let words = ["lower", "model"];
-    let order = order(rt.alloc(), words.as_slice()).map_err(|_| "an order")?;
-    let mut out = VecSink::new(rt.alloc());
-    let mut first = "1 sort bitvec 65\n".as_bytes();
-    let mut second = NoFile::new();
-    let status = run(
-        rt.alloc(),
-        &order,
-        &mut first,
-        &mut second,
-        &mut out,
-        &mut Full::new(0),
-    );
-    assert_eq!(rt; status, 3);
-    Ok(())
-}
-
-#[test]
-fn stops_that_are_not_told(rt: HostRuntime) -> Result<(), Fail> {
-    let help = String::from_str(rt.alloc(), "help\n")?;
-    let mut err = VecSink::new(rt.alloc());
-    assert_eq!(rt; end(&Stop::shown(help), &mut Full::new(2), &mut err), 3);
-    assert_eq!(rt; err.bytes(), b"output: device\n".as_slice());
     let refusal = String::from_str(rt.alloc(), "words\n")?;
-    let mut out = VecSink::new(rt.alloc());
-    assert_eq!(rt;
-        end(&Stop::refused(refusal), &mut out, &mut Full::new(0)),
-        3
-    );
-    assert_eq!(rt;
-        end(&Stop::no_memory(rt.alloc()), &mut out, &mut Full::new(0)),
-        3
-    );
-    assert_eq!(rt; out.bytes().len(), 0);
+    let help_fails = help_fails(rt.alloc())?;
+    assert!(rt; refused_without_a_word(rt.alloc()) == Some(3));
+    assert!(rt; help_fails);
+    assert!(rt; is_not_told(rt.alloc(), &Stop::refused(refusal)));
+    assert!(rt; is_not_told(rt.alloc(), &Stop::no_memory(rt.alloc())));
     Ok(())
 }

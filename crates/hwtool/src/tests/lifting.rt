@@ -1,7 +1,6 @@
 //! Witnesses lifted through the program.
 
-use super::{TOGGLER, ran};
-use crate::files::NoFile;
+use super::{Row, TOGGLER, answers, each_answers, ends};
 use std::alloc::Global;
 use std::test::Fail;
 
@@ -17,114 +16,109 @@ const HIGHEST: &str =
 const FOLLOWS: &str =
     "1 sort bitvec 1\n2 state 1 f\n3 state 1 s\n4 input 1 x\n5 next 1 3 2\n6 bad 3\n";
 
+/// Models, witnesses of their circuits, the status, what is written, and the line that is told.
+const LIFTED: [(&str, &str, u8, &str, &str); 8] = [
+    (
+        TOGGLER,
+        "1\nb0\n0\n\n\n.\n",
+        0,
+        "sat\nb0\n#0\n0 0\n@0\n@1\n.\n",
+        "accepted 2 frames\n",
+    ),
+    (
+        KEEPS,
+        "1\nb0\n01\n\n.\n",
+        0,
+        "sat\nb0\n#0\n0 10\n@0\n.\n",
+        "accepted 1 frames\n",
+    ),
+    (
+        KEEPS,
+        "1\nb0\n01\nz\n",
+        1,
+        "sat\nb0\n#0\n0 10\n",
+        "malformed line 4: 116 BadValue\n",
+    ),
+    (
+        HIGHEST,
+        "1\nb0\n0\n001\n000\n.\n",
+        0,
+        "sat\nb0\n#0\n0 0\n@0\n0 100\n@1\n0 000\n.\n",
+        "accepted 2 frames\n",
+    ),
+    (
+        FOLLOWS,
+        "1\nb0\n0\n01\n00\n.\n",
+        0,
+        "sat\nb0\n#0\n1 0\n0 1\n@0\n0 0\n#1\n0 0\n@1\n0 0\n.\n",
+        "accepted 2 frames\n",
+    ),
+    (TOGGLER, "2\njunk", 1, "", "no claim\n"),
+    (
+        TOGGLER,
+        "1\nb0\n1\n\n.\n",
+        1,
+        "sat\nb0\n#0\n0 1\n@0\n.\n",
+        "initial value differs at 0\n",
+    ),
+    (
+        TOGGLER,
+        "1\nb0\n0\n\n.\nx",
+        1,
+        "sat\nb0\n#0\n0 0\n@0\n.\n",
+        "malformed line 6: 119 Trailing\n",
+    ),
+];
+
 /// Whether `lift` of a witness ends with a status, writes a text and tells a line, and where it is accepted the written
 /// text is accepted over the model.
-fn lifts(alloc: Global, model: &str, row: (&str, u8, &str, &str)) -> Result<bool, Fail> {
-    let (witness, status, text, line) = row;
-    let words = ["lift", "m", "w"];
-    let (given, written, told) = ran(alloc, words.as_slice(), model, &mut witness.as_bytes())?;
-    let line = format!(in alloc; "{line}\n")?;
-    let is_so = given == status
-        && written.as_slice() == text.as_bytes()
-        && told.as_slice() == line.as_bytes();
-    let words = ["check-btor", "m", "w"];
-    let (again, verdict, _) = ran(alloc, words.as_slice(), model, &mut text.as_bytes())?;
-    Ok(is_so && (status != 0 || (again == 0 && verdict.as_slice() == line.as_bytes())))
+fn lifts(alloc: Global, model: &str, witness: &str, wanted: (u8, &str, &str)) -> bool {
+    let (status, text, line) = wanted;
+    ends(
+        alloc,
+        &["lift", "m", "w"],
+        &mut model.as_bytes(),
+        &mut witness.as_bytes(),
+        (status, text.as_bytes(), line.as_bytes()),
+    ) && (status != 0
+        || answers(
+            alloc,
+            &["check-btor", "m", "w"],
+            model.as_bytes(),
+            Some(text),
+            0,
+            line,
+        ))
 }
 
 #[test]
 fn lifted_witnesses(rt: HostRuntime) -> Result<(), Fail> {
-    let rows = [
-        (
-            TOGGLER,
-            (
-                "1\nb0\n0\n\n\n.\n",
-                0,
-                "sat\nb0\n#0\n0 0\n@0\n@1\n.\n",
-                "accepted 2 frames",
-            ),
-        ),
-        (
-            KEEPS,
-            (
-                "1\nb0\n01\n\n.\n",
-                0,
-                "sat\nb0\n#0\n0 10\n@0\n.\n",
-                "accepted 1 frames",
-            ),
-        ),
-        (
-            KEEPS,
-            (
-                "1\nb0\n01\nz\n",
-                1,
-                "sat\nb0\n#0\n0 10\n",
-                "malformed line 4: 116 BadValue",
-            ),
-        ),
-        (
-            HIGHEST,
-            (
-                "1\nb0\n0\n001\n000\n.\n",
-                0,
-                "sat\nb0\n#0\n0 0\n@0\n0 100\n@1\n0 000\n.\n",
-                "accepted 2 frames",
-            ),
-        ),
-        (
-            FOLLOWS,
-            (
-                "1\nb0\n0\n01\n00\n.\n",
-                0,
-                "sat\nb0\n#0\n1 0\n0 1\n@0\n0 0\n#1\n0 0\n@1\n0 0\n.\n",
-                "accepted 2 frames",
-            ),
-        ),
-        (TOGGLER, ("2\njunk", 1, "", "no claim")),
-        (
-            TOGGLER,
-            (
-                "1\nb0\n1\n\n.\n",
-                1,
-                "sat\nb0\n#0\n0 1\n@0\n.\n",
-                "initial value differs at 0",
-            ),
-        ),
-        (
-            TOGGLER,
-            (
-                "1\nb0\n0\n\n.\nx",
-                1,
-                "sat\nb0\n#0\n0 0\n@0\n.\n",
-                "malformed line 6: 119 Trailing",
-            ),
-        ),
-    ];
-    for (model, row) in rows {
-        if !lifts(rt.alloc(), model, row)? {
-            Err(row.3)?;
+    for (model, witness, status, text, line) in &LIFTED {
+        if !lifts(rt.alloc(), model, witness, (*status, text, line)) {
+            Err(*witness)?;
         }
     }
     Ok(())
 }
 
+/// Models whose witnesses are not lifted, and what is told; the witness of the last is not there.
+const REFUSED: [Row<'static>; 3] = [
+    (
+        "1 sort bitvec 1\n2 input 1\n3 fair 2\n",
+        None,
+        2,
+        "m: item 3: 91 Fair\n",
+    ),
+    (
+        "1 sort bitvec 65\n",
+        None,
+        2,
+        "m: line 1: 5 WidthOutOfRange\n",
+    ),
+    (TOGGLER, None, 3, "w: device\n"),
+];
+
 #[test]
 fn refused_liftings(rt: HostRuntime) -> Result<(), Fail> {
-    let rows = [
-        (
-            "1 sort bitvec 1\n2 input 1\n3 fair 2\n",
-            2,
-            "m: item 3: 91 Fair\n",
-        ),
-        ("1 sort bitvec 65\n", 2, "m: line 1: 5 WidthOutOfRange\n"),
-        (TOGGLER, 3, "w: device\n"),
-    ];
-    let words = ["lift", "m", "w"];
-    for (model, status, line) in rows {
-        let (given, written, told) = ran(rt.alloc(), words.as_slice(), model, &mut NoFile::new())?;
-        if given != status || !written.is_empty() || told.as_slice() != line.as_bytes() {
-            Err(line)?;
-        }
-    }
-    Ok(())
+    each_answers(rt.alloc(), &["lift", "m", "w"], &REFUSED)
 }

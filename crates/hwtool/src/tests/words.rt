@@ -10,192 +10,203 @@ use std::env::{Env, FillError};
 use std::process::Abort;
 use std::test::Fail;
 
-/// What stands in place of an order.
-fn stopped(alloc: Global, words: &[&str]) -> Option<Stop> {
-    order(alloc, words).err()
-}
+/// Words, the command that they ask for, its form and its files; no second one is written as an empty name.
+const ORDERS: [(&[&str], Task, Form, &str, &str); 13] = [
+    (&[], Task::Lower, Form::Ascii, "-", ""),
+    (
+        &["lower", "--ascii", "a"],
+        Task::Lower,
+        Form::Ascii,
+        "a",
+        "",
+    ),
+    (
+        &["lower", "--binary", "a"],
+        Task::Lower,
+        Form::Binary,
+        "a",
+        "",
+    ),
+    (&["lower", "-"], Task::Lower, Form::Ascii, "-", ""),
+    (&["show", "a"], Task::Show, Form::Ascii, "a", ""),
+    (&["cost", "a"], Task::Cost, Form::Ascii, "a", ""),
+    (
+        &["aig-convert", "a"],
+        Task::AigConvert,
+        Form::Ascii,
+        "a",
+        "",
+    ),
+    (
+        &["aig-convert", "--binary", "-"],
+        Task::AigConvert,
+        Form::Binary,
+        "-",
+        "",
+    ),
+    (&["lift", "a", "b"], Task::Lift, Form::Ascii, "a", "b"),
+    (
+        &["check-aig", "a", "b"],
+        Task::CheckAig,
+        Form::Ascii,
+        "a",
+        "b",
+    ),
+    (
+        &["check-btor", "a", "b"],
+        Task::CheckBtor,
+        Form::Ascii,
+        "a",
+        "b",
+    ),
+    (
+        &["check-btor", "-", "b"],
+        Task::CheckBtor,
+        Form::Ascii,
+        "-",
+        "b",
+    ),
+    (
+        &["check-btor", "a", "-"],
+        Task::CheckBtor,
+        Form::Ascii,
+        "a",
+        "-",
+    ),
+];
 
-#[test]
-fn orders(rt: HostRuntime) -> Result<(), Fail> {
-    let rows: [(&[&str], Task, Form, &str, &str); 13] = [
-        (&[], Task::Lower, Form::Ascii, "-", ""),
-        (
-            &["lower", "--ascii", "a"],
-            Task::Lower,
-            Form::Ascii,
-            "a",
-            "",
-        ),
-        (
-            &["lower", "--binary", "a"],
-            Task::Lower,
-            Form::Binary,
-            "a",
-            "",
-        ),
-        (&["lower", "-"], Task::Lower, Form::Ascii, "-", ""),
-        (&["show", "a"], Task::Show, Form::Ascii, "a", ""),
-        (&["cost", "a"], Task::Cost, Form::Ascii, "a", ""),
-        (
-            &["aig-convert", "a"],
-            Task::AigConvert,
-            Form::Ascii,
-            "a",
-            "",
-        ),
-        (
-            &["aig-convert", "--binary", "-"],
-            Task::AigConvert,
-            Form::Binary,
-            "-",
-            "",
-        ),
-        (&["lift", "a", "b"], Task::Lift, Form::Ascii, "a", "b"),
-        (
-            &["check-aig", "a", "b"],
-            Task::CheckAig,
-            Form::Ascii,
-            "a",
-            "b",
-        ),
-        (
-            &["check-btor", "a", "b"],
-            Task::CheckBtor,
-            Form::Ascii,
-            "a",
-            "b",
-        ),
-        (
-            &["check-btor", "-", "b"],
-            Task::CheckBtor,
-            Form::Ascii,
-            "-",
-            "b",
-        ),
-        (
-            &["check-btor", "a", "-"],
-            Task::CheckBtor,
-            Form::Ascii,
-            "a",
-            "-",
-        ),
-    ];
-    for (words, task, form, first, second) in rows {
-        match order(rt.alloc(), words) {
-            Ok(order) => {
-                assert_eq!(rt; order.task, task);
-                assert_eq!(rt; order.form, form);
-                assert_eq!(rt; order.first, first);
-                assert_eq!(rt; order.second.unwrap_or(""), second);
-            }
-            Err(_) => assert!(rt; false),
+/// Whether words ask for a command.
+fn asks(alloc: Global, words: &[&str], task: Task, form: Form, files: (&str, &str)) -> bool {
+    match order(alloc, words) {
+        Ok(order) => {
+            order.task == task
+                && order.form == form
+                && order.first == files.0
+                && order.second.unwrap_or("") == files.1
         }
+        Err(_) => false,
     }
-    Ok(())
 }
 
 #[test]
-fn refused_words(rt: HostRuntime) -> Result<(), Fail> {
-    let rows: [(&[&str], &str); 9] = [
-        (&["frobnicate"], "\n\nUsage: hwtool <COMMAND>\n"),
-        (&["lower"], "\n\nUsage: hwtool lower <MODEL>\n"),
-        (
-            &["lower", "a", "b"],
-            "\n\nUsage: hwtool lower [OPTIONS] <MODEL>\n",
-        ),
-        (
-            &["lower", "--both", "a"],
-            "\n\nUsage: hwtool lower [OPTIONS] <MODEL>\n",
-        ),
-        (
-            &["lower", "--ascii", "--binary", "a"],
-            "words: choose one form\n",
-        ),
-        (
-            &["lower", "--binary", "--ascii", "--both", "a"],
-            "error: unexpected argument '--both' found\n",
-        ),
-        (
-            &["show", "--binary", "a"],
-            "error: unexpected argument '--binary' found\n",
-        ),
-        (
-            &["check-btor", "a"],
-            "\n\nUsage: hwtool check-btor <MODEL> <WITNESS>\n",
-        ),
-        (
-            &["check-btor", "-", "-"],
-            "words: standard input is read once, so - stands for one file\n",
-        ),
-    ];
-    for (words, part) in rows {
-        let stop = stopped(rt.alloc(), words).ok_or("refused words")?;
-        assert_eq!(rt; stop.status, 4, "{part}");
-        let text = stop.text.as_str();
-        assert!(rt; text.contains(part), "{part}: {text}");
+fn orders(rt: HostRuntime) {
+    for (words, task, form, first, second) in &ORDERS {
+        assert!(rt;
+            asks(rt.alloc(), words, *task, *form, (first, second)),
+            "{words:?}"
+        );
     }
-    Ok(())
+}
+
+/// Words that ask for no command, the status, and a part of the text that stands in place of one.
+const STOPS: [(&[&str], u8, &str); 15] = [
+    (&["frobnicate"], 4, "\n\nUsage: hwtool <COMMAND>\n"),
+    (&["lower"], 4, "\n\nUsage: hwtool lower <MODEL>\n"),
+    (
+        &["lower", "a", "b"],
+        4,
+        "\n\nUsage: hwtool lower [OPTIONS] <MODEL>\n",
+    ),
+    (
+        &["lower", "--both", "a"],
+        4,
+        "\n\nUsage: hwtool lower [OPTIONS] <MODEL>\n",
+    ),
+    (
+        &["lower", "--ascii", "--binary", "a"],
+        4,
+        "words: choose one form\n",
+    ),
+    (
+        &["lower", "--binary", "--ascii", "--both", "a"],
+        4,
+        "error: unexpected argument '--both' found\n",
+    ),
+    (
+        &["show", "--binary", "a"],
+        4,
+        "error: unexpected argument '--binary' found\n",
+    ),
+    (
+        &["check-btor", "a"],
+        4,
+        "\n\nUsage: hwtool check-btor <MODEL> <WITNESS>\n",
+    ),
+    (
+        &["check-btor", "-", "-"],
+        4,
+        "words: standard input is read once, so - stands for one file\n",
+    ),
+    (&["--help"], 0, "Usage: hwtool <COMMAND>\n"),
+    (
+        &["lower", "--help"],
+        0,
+        "Usage: hwtool lower [OPTIONS] <MODEL>\n",
+    ),
+    (
+        &["check-btor", "--help"],
+        0,
+        "Usage: hwtool check-btor <MODEL> <WITNESS>\n",
+    ),
+    (&["show", "--help"], 0, "or - for standard input"),
+    (
+        &["--help"],
+        0,
+        "\n  3  a device failed, or memory was wanting\n",
+    ),
+    (
+        &["--version"],
+        0,
+        "hwtool 0.1.0\nrattle-kit-13b logic dac8208d650f15bf\n",
+    ),
+];
+
+/// Whether words ask for no command, and a text with this part stands in place of one.
+fn stops(alloc: Global, words: &[&str], status: u8, part: &str) -> bool {
+    match order(alloc, words) {
+        Ok(_) => false,
+        Err(stop) => stop.status == status && stop.text.as_str().contains(part),
+    }
 }
 
 #[test]
-fn shown_texts(rt: HostRuntime) -> Result<(), Fail> {
-    let rows: [(&[&str], &str); 6] = [
-        (&["--help"], "Usage: hwtool <COMMAND>\n"),
-        (
-            &["lower", "--help"],
-            "Usage: hwtool lower [OPTIONS] <MODEL>\n",
-        ),
-        (
-            &["check-btor", "--help"],
-            "Usage: hwtool check-btor <MODEL> <WITNESS>\n",
-        ),
-        (&["show", "--help"], "or - for standard input"),
-        (
-            &["--help"],
-            "\n  3  a device failed, or memory was wanting\n",
-        ),
-        (
-            &["--version"],
-            "hwtool 0.1.0\nrattle-kit-13b logic dac8208d650f15bf\n",
-        ),
-    ];
-    for (words, part) in rows {
-        let stop = stopped(rt.alloc(), words).ok_or("a text")?;
-        assert_eq!(rt; stop.status, 0, "{part}");
-        let text = stop.text.as_str();
-        assert!(rt; text.contains(part), "{part}: {text}");
+fn refused_words_and_shown_texts(rt: HostRuntime) {
+    for (words, status, part) in &STOPS {
+        assert!(rt; stops(rt.alloc(), words, *status, part), "{part}");
     }
-    Ok(())
+}
+
+/// Whether what stands in place of a command ends with a status, is shown and is told; of what is told this is the
+/// beginning.
+fn is_told(alloc: Global, stop: &Stop, status: u8, shown: &str, told: &str) -> bool {
+    let mut out = VecSink::new(alloc);
+    let mut err = VecSink::new(alloc);
+    end(stop, &mut out, &mut err) == status
+        && out.bytes() == shown.as_bytes()
+        && err.bytes().starts_with(told.as_bytes())
+}
+
+/// Whether want of memory ends with status 3, and its line is told.
+fn want_of_memory_is_told(alloc: Global) -> bool {
+    let mut out = VecSink::new(alloc);
+    let mut err = VecSink::new(alloc);
+    end(&Stop::no_memory(alloc), &mut out, &mut err) == 3
+        && err.bytes() == b"no memory\n".as_slice()
+}
+
+/// What stands in place of an order.
+fn stopped(alloc: Global, words: &[&str]) -> Result<Stop, Fail> {
+    Ok(order(alloc, words).err().ok_or("an order")?)
 }
 
 #[test]
 fn told_stops(rt: HostRuntime) -> Result<(), Fail> {
-    let rows = [
-        (
-            &["--version"],
-            0,
-            "hwtool 0.1.0\nrattle-kit-13b logic dac8208d650f15bf\n",
-            "",
-        ),
-        (
-            &["frobnicate"],
-            4,
-            "",
-            "error: unrecognized subcommand 'frobnicate'",
-        ),
-    ];
-    for (words, status, shown, told) in rows {
-        let stop = stopped(rt.alloc(), words.as_slice()).ok_or("a text")?;
-        let mut out = VecSink::new(rt.alloc());
-        let mut err = VecSink::new(rt.alloc());
-        assert_eq!(rt; end(&stop, &mut out, &mut err), status);
-        assert_eq!(rt; out.bytes(), shown.as_bytes());
-        assert!(rt; err.bytes().starts_with(told.as_bytes()), "{told}");
-    }
-    let mut out = VecSink::new(rt.alloc());
-    let mut err = VecSink::new(rt.alloc());
-    assert_eq!(rt; end(&Stop::no_memory(rt.alloc()), &mut out, &mut err), 3);
-    assert_eq!(rt; err.bytes(), b"no memory\n".as_slice());
+    let alloc = rt.alloc();
+    let version = "hwtool 0.1.0\nrattle-kit-13b logic dac8208d650f15bf\n";
+    let refusal = "error: unrecognized subcommand 'frobnicate'";
+    assert!(rt; is_told(alloc, &stopped(alloc, &["--version"])?, 0, version, ""));
+    assert!(rt; is_told(alloc, &stopped(alloc, &["frobnicate"])?, 4, "", refusal));
+    assert!(rt; want_of_memory_is_told(alloc));
     Ok(())
 }
 
@@ -228,25 +239,33 @@ impl Env for Words {
     }
 }
 
+/// Whether the words behind the program's name are two, and these.
+fn gives(alloc: Global, words: [&'static [u8]; 3], wanted: (&str, &str)) -> bool {
+    match given_words(&(Words { words }, alloc)) {
+        Ok(given) => match given.as_slice() {
+            [first, second] => first.as_str() == wanted.0 && second.as_str() == wanted.1,
+            _ => false,
+        },
+        Err(_) => false,
+    }
+}
+
+/// Whether the words behind the program's name are refused, with status 4 and this text.
+fn refuses(alloc: Global, words: [&'static [u8]; 3], text: &str) -> bool {
+    match given_words(&(Words { words }, alloc)) {
+        Ok(_) => false,
+        Err(stop) => stop.status == 4 && stop.text.as_str() == text,
+    }
+}
+
 #[test]
-fn words_of_a_command_line(rt: HostRuntime) -> Result<(), Fail> {
-    let words = [b"hwtool".as_slice(), b"show", b"a b"];
-    match given_words(&(Words { words }, rt.alloc())) {
-        Ok(given) => {
-            assert_eq!(rt; given.len(), 2);
-            for (word, wanted) in given.iter().zip(["show", "a b"]) {
-                assert_eq!(rt; word.as_str(), wanted);
-            }
-        }
-        Err(_) => assert!(rt; false),
-    }
-    let words = [b"hwtool".as_slice(), b"show", b"a\xff"];
-    match given_words(&(Words { words }, rt.alloc())) {
-        Ok(_) => assert!(rt; false),
-        Err(stop) => {
-            assert_eq!(rt; stop.status, 4);
-            assert_eq!(rt; stop.text.as_str(), "words: not UTF-8\n");
-        }
-    }
-    Ok(())
+fn words_of_a_command_line(rt: HostRuntime) {
+    assert!(rt; gives(rt.alloc(), [b"hwtool", b"show", b"a b"], ("show", "a b")));
+    assert!(rt;
+        refuses(
+            rt.alloc(),
+            [b"hwtool", b"show", b"a\xff"],
+            "words: not UTF-8\n"
+        )
+    );
 }
