@@ -1,5 +1,5 @@
 -- What the exit statuses 0 and 1 of a command say.
-use Rattle.std.specs.Prelude.{◌≡◌, ℕ, List, [], ◌∷◌, ◌++◌, length, Option, None, IfSome, Ok, codes, decimal}
+use Rattle.std.specs.Prelude.{◌≡◌, ℕ, List, [], ◌∷◌, ◌++◌, length, Option, None, IfSome, codes, decimal}
 use Rattle.std.specs.Io.KnownBytes.{Appends}
 use Rattle.btor2.specs.declared.item.Item.{Item}
 use Rattle.btor2.specs.Items.{is_input, is_state, is_bad, is_constraint}
@@ -9,7 +9,7 @@ use Rattle.btor2text.specs.Spelling.{StandsFor}
 use Rattle.btor2text.specs.Writing.{written}
 use Rattle.aiger.specs.Circuit.{Circuit, IsCircuit}
 use Rattle.aigertext.specs.declared.forms.Form.{Form}
-use Rattle.aigertext.specs.AsciiReading.{AnswersText}
+use Rattle.aigertext.specs.Spelling.{Spells}
 use Rattle.aigertext.specs.Binary.{circuit_text}
 use Rattle.blast.specs.Conversion.{Converts}
 use Rattle.blast.specs.Cost.{cost, bound}
@@ -19,6 +19,7 @@ use Rattle.witness.specs.Judgements.{Judges}
 use Rattle.witness.specs.BitJudgements.{BitJudges}
 use Rattle.blast.specs.Lowering.{Lowers}
 use Rattle.lift.specs.Lifted.{lifted_text}
+use Rattle.lift.specs.Verdicts.{KeepsVerdict}
 use Rattle.witness.specs.Printed.{judgement_text}
 use Rattle.hwtool.specs.Vectors.{Agree, Differ}
 use Rattle.hwtool.specs.declared.orders.Task.{Task}
@@ -46,9 +47,9 @@ pub record IsJudged (model witness before now : Option (List ℕ)) (verdict : Ju
   pub judged : IfSome witness (λ text. Judges items text verdict)
   pub line : Appends before now (judgement_line verdict)
 
--- the bytes of a source, where it knows them, are a text of a circuit
+-- the bytes of a source, where it knows them, are a text of a circuit, of either form
 abbrev pub IsCircuitText : Option (List ℕ) → Circuit → Type 0
-IsCircuitText known circuit = IfSome known (λ text. AnswersText text (Ok circuit))
+IsCircuitText known circuit = IfSome known (λ text. Spells text circuit)
 
 -- The first text is of a circuit; the second is judged so over it; and what was written is the line of that judgement.
 pub record IsJudgedOver (circuit witness before now : Option (List ℕ)) (verdict : Judgement) : Type 0 where
@@ -58,7 +59,7 @@ pub record IsJudgedOver (circuit witness before now : Option (List ℕ)) (verdic
   pub judged : IfSome witness (λ text. BitJudges value text verdict)
   pub line : Appends before now (judgement_line verdict)
 
--- The first text is of a model, which a circuit lowers; the second is judged so over that circuit; and what was written is what it is lifted to.
+-- The first text is of a model, which a circuit lowers; the second is judged so over that circuit; and what was written is what it is lifted to, of which the same verdict is judged over the model.
 pub record IsLifted (model witness before now : Option (List ℕ)) (verdict : Judgement) : Type 0 where
   pub items : List Item
   pub circuit : Circuit
@@ -66,6 +67,7 @@ pub record IsLifted (model witness before now : Option (List ℕ)) (verdict : Ju
   pub lowers : Lowers items circuit
   pub judged : IfSome witness (λ text. BitJudges circuit text verdict)
   pub lifted : IfSome witness (λ text. Appends before now (lifted_text items circuit text))
+  pub kept : IfSome witness (λ text. KeepsVerdict items circuit text verdict)
 
 -- a witness is judged so, and accepted, and what was written says so
 pub record Accepts (IsJudgedSo : Judgement → Type 0) : Type 0 where
