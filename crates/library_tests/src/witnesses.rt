@@ -177,9 +177,17 @@ fn judgements_of_texts_cut_at_any_byte(rt: HostRuntime) -> Result<(), Fail> {
     for (text, wanted) in rows {
         let bytes = text.as_bytes();
         for cut in 0..bytes.len().saturating_add(1) {
-            assert_eq!(rt; judged(rt.alloc(), &model, bytes, cut)?, wanted, "at {cut}: {text}");
+            assert_eq!(rt;
+                judged(rt.alloc(), &model, bytes, cut)?,
+                wanted,
+                "at {cut}: {text}"
+            );
         }
-        assert_eq!(rt; judged_by_bytes(rt.alloc(), &model, bytes)?, wanted, "{text}");
+        assert_eq!(rt;
+            judged_by_bytes(rt.alloc(), &model, bytes)?,
+            wanted,
+            "{text}"
+        );
     }
     Ok(())
 }
@@ -226,7 +234,11 @@ fn counts(rt: HostRuntime) -> Result<(), Fail> {
         ("unsat\n", (5, 0, 0, 0)),
     ];
     for (text, wanted) in rows {
-        assert_eq!(rt; counted(rt.alloc(), &model, text.as_bytes())?, wanted, "{text}");
+        assert_eq!(rt;
+            counted(rt.alloc(), &model, text.as_bytes())?,
+            wanted,
+            "{text}"
+        );
     }
     Ok(())
 }
