@@ -3,6 +3,7 @@ use Rattle.std.proofs.Common.{◌≡◌, ℕ, suc, ◌+◌, ◌<◌, ◌≤◌, 
 use Rattle.std.specs.Str.{bytes_eq}
 use Rattle.std.proofs.lemmas.Bool.{cases_Bool, le-leb, leb-true, eqb-true, false_from_ne_true}
 use Rattle.std.proofs.lemmas.List.{length-map}
+use Rattle.std.proofs.lemmas.Slice.Eq.{bytes_eq-Decides}
 use Rattle.base.specs.Lines.{whole_lines, unfinished}
 use Rattle.base.proofs.DecimalLemmas.{chosen}
 use Rattle.btor2.specs.declared.item.Item.{Item}
@@ -14,7 +15,7 @@ use Rattle.witness.specs.Admits.{claims_at, assignment_at, free_assignment_at, P
 use Rattle.witness.specs.Judgements.{frame_words, makes_no_claim}
 use Rattle.witness.specs.WordScans.{IsScanned}
 use Rattle.witness.specs.WordPlays.{WordPlay, steps_of}
-use Rattle.witness.specs.WordReadings.{Reading, nothing_admitted, one_more_line, next_line_of, lines_behind}
+use Rattle.witness.specs.WordReadings.{Reading, nothing_admitted, one_more_line, next_line_of, lines_behind, closed_word_frames}
 use Rattle.witness.specs.WordStands.{place_of, WordReader, Reads, GivesLine, is_status, Counts, WordJudge, IsOfLines, StandsFor}
 use Rattle.witness.proofs.WordReadingLemmas.{stays, lines_append}
 use Rattle.witness.proofs.BitJudgeLemmas.{or-false, whole_lines-byte, unfinished-byte, whole_lines-end, unfinished-end}
@@ -222,6 +223,34 @@ claim_more shape n r (l ∷ lines) line at =
                 rw (e, none) (sym (or-false (says_none l)))
           ]
     ]
+
+-- a line that says that there is no claim is no status of a witness
+says_not : (line : List ℕ) → says_none line ≡ true → bytes_eq line (codes "sat") ≡ false
+says_not line h = false_from_ne_true (bytes_eq line (codes "sat")) (λ e. absurd (cc (h, ap says_none ((bytes_eq-Decides line (codes "sat")).0 e))))
+
+none_is_refused : (shape : Shape) (r : Read) (line : List ℕ) → r.place ≡ AtStatus → is_comment line ≡ false → says_none line ≡ true → admit shape r line ≡ Err why.BadHeader
+unfolding admit
+none_is_refused shape r line at other none = rw (at, other, says_not line none) refl
+
+-- so nothing is read then
+nothing_said : (shape : Shape) (n : ℕ) (r : Read) (lines : List (List ℕ)) → r.place ≡ AtStatus → makes_no_claim n lines ≡ true → (lines_behind shape (so_far n r) lines).read ≡ r
+nothing_said shape n r [] at h = absurd cc
+nothing_said shape n r (line ∷ lines) at h =
+    elim (chosen (nat_le most_lines n) false (cond (is_comment line) (makes_no_claim (n + 1) lines) (says_none line)) true h) [
+      | inl e ↦ absurd (cc (e.1))
+      | inr e ↦
+          elim (chosen (is_comment line) (makes_no_claim (n + 1) lines) (says_none line) true e.1) [
+            | inl d ↦
+                let next : next_line_of shape (so_far n r) line None ≡ so_far (n + 1) r = rw (e.0, comment_stays shape r line at d.0) refl in
+                ap (λ (g : Reading). (lines_behind shape g lines).read) next ∙ nothing_said shape (n + 1) r lines at d.1
+            | inr d ↦
+                let next : next_line_of shape (so_far n r) line None ≡ record (so_far n r) { refused = Some why.BadHeader } = rw (e.0, none_is_refused shape r line at d.0 d.1) refl in
+                ap (λ (g : Reading). (lines_behind shape g lines).read) next ∙ ap (λ (g : Reading). g.read) (stays shape n r why.BadHeader lines)
+          ]
+    ]
+
+pub closes_nothing : (shape : Shape) (text : List ℕ) → makes_no_claim 0 (whole_lines text) ≡ true → closed_word_frames shape text ≡ 0
+closes_nothing shape text h = ap (λ (r : Read). length r.closed) (nothing_said shape 0 nothing_read (whole_lines text) refl h)
 
 -- ---- what is held behind a line
 

@@ -1,5 +1,6 @@
 //! Laws of witnesses, and worked rows, as functions with no code.
 ghost use Rattle.std.specs.Prelude.{◌≡◌, ℕ, true, false, List, [], ◌∷◌, ◌++◌, All, None, Some, Ok, Err, codes, map};
+ghost use Rattle.base.specs.Lines.{whole_lines};
 ghost use Rattle.btor2.specs.declared.item.Item.{Item};
 ghost use Rattle.btor2.specs.Check.{IsWellFormed};
 ghost use Rattle.btor2.specs.Lists.{HaveNexts};
@@ -9,7 +10,8 @@ ghost use Rattle.witness.specs.declared.judgement.Judgement.{Judgement};
 ghost use Rattle.witness.specs.declared.judgement.Judgement.TheVariants as judgement;
 ghost use Rattle.witness.specs.Texts.{Shape, shape_of, has_free, Parts, Witness, AreFrames, Says};
 ghost use Rattle.witness.specs.Admits.{Read, read_text, witness_of};
-ghost use Rattle.witness.specs.Judgements.{words_of, given_frames, Judges};
+ghost use Rattle.witness.specs.Judgements.{words_of, given_frames, makes_no_claim, Judges};
+ghost use Rattle.witness.specs.WordReadings.{admitted_word_lines, closed_word_frames};
 ghost use Rattle.witness.specs.Worked.{constrained, wide, nothing_given, rises, follows};
 
 /// A law: over a well-formed model, a text that says a witness is read as it, and a text that is read says what it is
@@ -40,6 +42,11 @@ pub fn exactly_one_judgement()
     ensures exists { (items : List Item) (text : List ℕ) → IsWellFormed items → (j : Judgement) × Judges items text j }
     ensures unique { (items : List Item) (text : List ℕ) (j k : Judgement) → IsWellFormed items → Judges items text j
         → Judges items text k → j ≡ k }
+{}
+
+/// A law: a text that says that there is no claim closes no frame.
+pub fn no_claim_closes_no_frame()
+    ensures { (shape : Shape) (text : List ℕ) → makes_no_claim 0 (whole_lines text) ≡ true → closed_word_frames shape text ≡ 0 }
 {}
 
 /// Worked rows: the faults of texts over a model of one bit that toggles.
@@ -96,6 +103,14 @@ pub fn worked_witnesses()
     ensures said { Says (shape_of toggler) (codes "; note\nsat\nb0\n#0\n0 0 t\n@0\n@1\n.\n") rises }
     ensures wide_is_model { IsWellFormed wide }
     ensures words { (r : Read) × ((read_text (shape_of wide) (codes "sat\nb0\n@0\n0 100\n@1\n.\n") ≡ Ok r) × (map (λ f. f 2) (given_frames wide (words_of (witness_of r))) ≡ 4 ∷ 0 ∷ [])) }
+{}
+
+/// Worked rows: how many lines of texts are admitted, and how many frames they close.
+pub fn worked_readings()
+    ensures whole { (admitted_word_lines (shape_of toggler) (codes "sat\nb0\n#0\n0 0\n@0\n@1\n.\n") ≡ 7) × (closed_word_frames (shape_of toggler) (codes "sat\nb0\n#0\n0 0\n@0\n@1\n.\n") ≡ 2) }
+    ensures unended { (admitted_word_lines (shape_of toggler) (codes "sat\nb0\n@0\n@1\n.") ≡ 4) × (closed_word_frames (shape_of toggler) (codes "sat\nb0\n@0\n@1\n.") ≡ 1) }
+    ensures behind_fault { (admitted_word_lines (shape_of toggler) (codes "sat\nb0\n@0\n@2\n.\n") ≡ 3) × (closed_word_frames (shape_of toggler) (codes "sat\nb0\n@0\n@2\n.\n") ≡ 0) }
+    ensures states_behind { (admitted_word_lines (shape_of follower) (codes "sat\nb0\n@0\n#1\n0 1\n") ≡ 5) × (closed_word_frames (shape_of follower) (codes "sat\nb0\n@0\n#1\n0 1\n") ≡ 1) }
 {}
 
 /// Worked rows: judgements of texts over the model of one bit that toggles, over it with a constraint, and over the model

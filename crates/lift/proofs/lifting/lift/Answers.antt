@@ -1,7 +1,7 @@
 use Rattle.std.proofs.Common.{List, ℕ}
 use Rattle.std.specs.Io.KnownBytes.{Appends}
 use Rattle.witness.specs.BitJudgements.{BitJudges}
-use Rattle.witness.proofs.BitFeedLemmas.{if_some_then}
+use Rattle.witness.proofs.FeedLemmas.{if_some_then}
 use Rattle.lift.specs.Lifted.{lifted_text}
 use Rattle.lift.specs.Stands.{Lifts}
 use Rattle.lift.specs.Verdicts.{KeepsVerdict}
