@@ -107,7 +107,7 @@ fn faults_of_texts_cut_at_any_byte(rt: HostRuntime) -> Result<(), Fail> {
     };
     let table = [
         ("", 1, 118),
-        ("; x\nunsat\n", 2, 110),
+        ("; x\nsatt\n", 2, 110),
         ("sat\nb0 b2\n", 2, 111),
         ("sat\nb1 b0 b1\n", 2, 111),
         ("sat\nb0  b1\n", 2, 111),
