@@ -2,7 +2,7 @@
 ghost use Rattle.std.specs.Prelude.{◌≡◌, ℕ, ◌+◌, ◌*◌, ◌<◌, ◌↔◌, ◌⊎◌, List, [], ◌∷◌, Bool, true, false, not, ◌&&◌, All, length, map, None, Some};
 ghost use Rattle.aiger.specs.Literal.{Valuation, literal_value, negation};
 ghost use Rattle.aiger.specs.Net.{Satisfies, AreOrdered};
-ghost use Rattle.aiger.specs.Circuit.{Circuit, IsCircuit, NameMap, name_in, name_of};
+ghost use Rattle.aiger.specs.Circuit.{Circuit, IsCircuit, NameMap, name_in, name_of, with_name, name_refusal};
 ghost use Rattle.aiger.specs.declared.circuit.Section.{Section};
 ghost use Rattle.aiger.specs.Trace.{IsTrace, SameTrace, AreInitial};
 ghost use Rattle.aiger.specs.declared.fault.CircuitFault.TheVariants.{LiteralOutOfRange, TooBig};
@@ -35,6 +35,11 @@ pub fn exactly_one_trace()
 pub fn names_in_any_order()
     ensures { (c : Circuit) (names : NameMap) → IsCircuit c → IsCircuit (record c { names = names })
         → ((s : Section) (k : ℕ) → name_in names s k ≡ name_of c s k) → record c { names = names } ≡ c }
+{}
+
+/// A circuit with a name more that it takes is one. It does nothing: its contract is the law.
+pub fn circuit_with_a_name()
+    ensures { (c : Circuit) (s : Section) (k : ℕ) (name : List ℕ) → IsCircuit c → name_refusal c s k name ≡ None → IsCircuit (with_name c s k name) }
 {}
 
 /// A file and the circuit that it is as numbered: from the same inputs and first bits both have the

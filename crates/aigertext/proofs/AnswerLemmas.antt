@@ -1,7 +1,7 @@
 -- From what a text gives to what is promised of reading a source.
 use Rattle.std.proofs.Common.{◌≡◌, ℕ, suc, List, [], ◌∷◌, get_or, Fits, w8, arith, Option, Some, None, Result, Ok, Err, sym, ap, subst, ◌∙◌, inl, inr, ◌⊎◌}
 use Rattle.std.specs.Prelude.{IfOk, IfErr, IfSome}
-use Rattle.aiger.specs.Circuit.{Circuit, IsCircuit}
+use Rattle.aiger.specs.Circuit.{Circuit}
 use Rattle.aigertext.specs.declared.fault.Stop.{Stop}
 use Rattle.aigertext.specs.declared.fault.Why.TheVariants as why
 use Rattle.aigertext.specs.declared.fault.ReadFault.{ReadFault}
@@ -9,6 +9,7 @@ use Rattle.aigertext.specs.AsciiReading.{AnswersText, IsFaultOf, GivesCircuit}
 use Rattle.aigertext.specs.Passes.{ReadsText}
 use Rattle.aigertext.specs.Spelling.{Spells}
 use Rattle.aigertext.proofs.AsciiStandsLemmas.{IsCircuitLaw, read-spells}
+use Rattle.aigertext.proofs.ReadStandsLemmas.{NameLaw}
 use Rattle.aigertext.proofs.BackLemmas.{ok_same}
 use Rattle.aigertext.proofs.GateBackLemmas.{AreBytes}
 use Rattle.aigertext.proofs.StandsLemmas.{not_stopped}
@@ -20,8 +21,8 @@ bytes_of : (text : List ℕ) → ((i : ℕ) → Fits w8 (get_or text i 0)) → A
 bytes_of [] h = tt
 bytes_of (b ∷ bs) h = (omega (arith, h 0), bytes_of bs (λ i. h (suc i)))
 
-pub text_spells : IsCircuitLaw → (text : List ℕ) (c : Circuit) → ((i : ℕ) → Fits w8 (get_or text i 0)) → IsCircuit c → AnswersText text (Ok c) → Spells text c
-text_spells circuit text c bytes valid answers = read-spells circuit text c (bytes_of text bytes) valid answers
+pub text_spells : IsCircuitLaw → NameLaw → (text : List ℕ) (c : Circuit) → ((i : ℕ) → Fits w8 (get_or text i 0)) → AnswersText text (Ok c) → Spells text c
+text_spells circuit law text c bytes answers = read-spells circuit law text c (bytes_of text bytes) answers
 
 -- ---- where reading stopped
 

@@ -23,7 +23,7 @@ use Rattle.aigertext.proofs.HeaderLemmas.{header-read}
 use Rattle.aigertext.proofs.HeaderSmallLemmas.{header_small}
 use Rattle.aigertext.proofs.NameBackLemmas.{names-back}
 use Rattle.aigertext.proofs.NameReadLemmas.{names-read}
-use Rattle.aigertext.proofs.ReadStandsLemmas.{names_alone, header_spelled, binary-stands}
+use Rattle.aigertext.proofs.ReadStandsLemmas.{NameLaw, names_valid, names_alone, header_spelled, binary-stands}
 use Rattle.aigertext.proofs.StandsLemmas.{not_stopped, stands-read}
 
 -- the law that lists as numbered are a circuit
@@ -57,6 +57,10 @@ ascii-read circuit text c t =
     let file : AnswersAscii (counts_of_file t.greatest t.lists) behind (Ok c) =
     subst (λ (r : Result (Loose × List ℕ) Stop). AnswersLists (counts_of_file t.greatest t.lists) behind r (Ok c)) (sym lists) (t.valid, inl answers) in
     subst (λ (r : Result ((Form × Counts) × List ℕ) Stop). AnswersHeader r (Ok c)) (sym header) file
+
+-- it is a circuit
+pub ascii-valid : IsCircuitLaw → NameLaw → (text : List ℕ) (c : Circuit) → IsAsciiText text c → IsCircuit c
+ascii-valid circuit law text c t = names_valid law (record c { names = [] }) t.is_end.given c (circuit t.lists (record c { names = [] }) t.valid t.is_renumbered) t.is_end.names
 
 -- ---- and back
 
@@ -115,13 +119,13 @@ pub spells-read : IsCircuitLaw → (text : List ℕ) (c : Circuit) → Spells te
 spells-read circuit text c (inl ascii) = ascii-read circuit text c ascii
 spells-read circuit text c (inr binary) = stands-read text c binary
 
-pub read-spells : IsCircuitLaw → (text : List ℕ) (c : Circuit) → AreBytes text → IsCircuit c → AnswersText text (Ok c) → Spells text c
+pub read-spells : IsCircuitLaw → NameLaw → (text : List ℕ) (c : Circuit) → AreBytes text → AnswersText text (Ok c) → Spells text c
 unfolding AnswersText
-read-spells circuit text c bytes valid answers = by (line_at header_of text) refl answers
+read-spells circuit law text c bytes answers = by (line_at header_of text) refl answers
   where
     body : (form : Form) (h : Counts) (rest : List ℕ) → line_at header_of text ≡ Ok ((form, h), rest) → AnswersBody form h rest (Ok c) → Spells text c
     body Ascii h rest e a = inl (ascii-stands circuit text c h rest e a)
-    body Binary h rest e a = inr (binary-stands text c h rest bytes valid e (sym a))
+    body Binary h rest e a = inr (binary-stands law text c h rest bytes e (sym a))
 
     by : (r : Result ((Form × Counts) × List ℕ) Stop) → line_at header_of text ≡ r → AnswersHeader r (Ok c) → Spells text c
     by (Ok x) e a = body x.0.0 x.0.1 x.1 e a

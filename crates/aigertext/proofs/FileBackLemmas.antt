@@ -1,17 +1,15 @@
 -- From the lists of a file that reading gives back to the text.
-use Rattle.std.proofs.Common.{◌≡◌, ℕ, ◌+◌, ◌-◌, ◌*◌, ◌%◌, ◌^◌, ◌<◌, ◌≤◌, ◌==◌, ◌&&◌, true, false, not, nat_le, List, [], ◌∷◌, ◌++◌, length, decimal, All, Option, Some, None, Ok, Err, refl, sym, ap, subst, ◌∙◌, append_assoc, inl, inr, arith}
-use Rattle.std.specs.List.{concat, sum, sum_by}
+use Rattle.std.proofs.Common.{◌≡◌, ℕ, ◌+◌, ◌-◌, ◌*◌, ◌%◌, ◌^◌, ◌<◌, ◌≤◌, ◌==◌, ◌&&◌, true, false, not, nat_le, List, [], ◌∷◌, ◌++◌, decimal, All, Option, Some, None, Ok, Err, refl, sym, ap, subst, ◌∙◌, append_assoc, inl, inr, arith}
+use Rattle.std.specs.List.{concat}
 use Rattle.std.specs.List.Sorted.{IsStrictlySortedBy}
 use Rattle.std.proofs.lemmas.Bool.{and_parts, eqb-true, leb-true}
 use Rattle.std.proofs.lemmas.Bool.Decides.{nat_tests}
-use Rattle.std.proofs.lemmas.List.Elements.{All-weaker, All-nil, All-cons, All-head, All-tail}
-use Rattle.std.proofs.lemmas.List.Sums.{sum-map}
+use Rattle.std.proofs.lemmas.List.Elements.{All-weaker, All-nil}
 use Rattle.base.specs.Decimals.{number_of}
 use Rattle.base.proofs.DecimalLemmas.{chosen, number_is_decimal}
 use Rattle.aiger.specs.declared.circuit.Reset.TheVariants.{Zero}
 use Rattle.aiger.specs.declared.loose.GateLine.{GateLine}
 use Rattle.aiger.specs.declared.loose.LatchLine.{LatchLine}
-use Rattle.aiger.specs.Limits.{greatest_count}
 use Rattle.aiger.specs.Literal.{variable}
 use Rattle.aiger.specs.Loose.{Loose, IsLoose, IsDefining, IsSmall, IsNamedLine, empty_loose, latch_variable, gate_variable, defined_variables, is_defining, is_defined, with_input_line, with_latch_line, with_gate_line}
 use Rattle.aiger.specs.Numbering.{IsOnce}
@@ -28,7 +26,7 @@ use Rattle.aigertext.proofs.BackLemmas.{ok_same, not_err, bind-back, within-back
 use Rattle.aigertext.proofs.FileReadLemmas.{inputs_onto, latches_onto, gates_onto, HasInputs, HasLeaves, input_grows, latch_grows, gate_grows}
 use Rattle.aigertext.proofs.LatchBackLemmas.{spaced, fields-back, reset-back}
 use Rattle.aigertext.proofs.OntoLemmas.{onto-back}
-use Rattle.aigertext.proofs.ReadStandsLemmas.{properties-back, property_is, length_lists, sizes_of_lists}
+use Rattle.aigertext.proofs.ReadStandsLemmas.{properties-back, property_is, length_lists, lists_hold, lists_total}
 
 -- ---- lines
 
@@ -188,18 +186,6 @@ made is ls p gs = record (with_properties_of (record empty_loose { inputs = is; 
 small_literal : (h : Counts) → AreSmall h → (n : ℕ) → n ≤ 2 * h.variables + 1 → IsSmall n
 small_literal h small n le = omega (arith, le, small.variables)
 
-front_holds : (P : ℕ → Type 0) (xs ys : List ℕ) → All P (xs ++ ys) → All P xs × All P ys
-front_holds P [] ys h = (All-nil P, h)
-front_holds P (x ∷ xs) ys h =
-    let rest = front_holds P xs ys (All-tail P x (xs ++ ys) h) in
-    (All-cons P x xs (All-head P x (xs ++ ys) h) rest.0, rest.1)
-
-lists_hold : (P : ℕ → Type 0) (lists : List (List ℕ)) → All P (concat lists) → All (All P) lists
-lists_hold P [] h = All-nil (All P)
-lists_hold P (ls ∷ lists) h =
-    let parts = front_holds P ls (concat lists) h in
-    All-cons (All P) ls lists parts.0 (lists_hold P lists parts.1)
-
 pub lists-back : (h : Counts) (text : List ℕ) (l : Loose) (end : List ℕ) → AreSmall h → Fits Ascii h → lists_of_file h text ≡ Ok (l, end) → ListsBack h text l end
 unfolding lists_of_file IsStrictlySortedBy
 lists-back h text l end few fits e =
@@ -221,7 +207,7 @@ lists-back h text l end few fits e =
     let once : IsOnce (defined_variables (made i'.things k'.things p.value.0 g'.things)) = subst (λ (m : Loose). IsOnce (defined_variables m)) all_are (g'.keeps tt two.1).1 in
     let smaller = λ (lits : List ℕ) (b : All (λ n. n ≤ 2 * h.variables + 1) lits). All-weaker (λ n. n ≤ 2 * h.variables + 1) IsSmall (small_literal h few) lits b in
     let lists : List (List ℕ) = lists_of p.value.0.sizes p.value.0.listed in
-    let total : sum_by length lists ≤ greatest_count = subst (λ (n : ℕ). n ≤ greatest_count) (ap sum (sym (sizes_of_lists p.value.0.sizes p.value.0.listed q.listed)) ∙ sum-map length lists) q.total in
+    let total = lists_total p.value.0.sizes p.value.0.listed q.listed q.total in
     subst (λ (m : Loose). ListsBack h text m end) (sym all_are)
     (record {
       valid = record {

@@ -4,6 +4,7 @@ use Rattle.std.specs.List.{AllByRecursion}
 use Rattle.std.proofs.lemmas.Bool.{eqb-false, ltb-true, ltb-false, or_parts}
 use Rattle.base.proofs.DecimalLemmas.{chosen}
 use Rattle.aiger.specs.declared.circuit.Gate.{Gate}
+use Rattle.aiger.specs.Net.{AreOrderedFrom}
 use Rattle.aigertext.specs.declared.fault.Stop.{Stop}
 use Rattle.aigertext.specs.declared.fault.Why.{Why}
 use Rattle.aigertext.specs.declared.fault.Why.TheVariants as why
@@ -86,46 +87,50 @@ delta-back (b ∷ bs) n rest bytes e =
 taken_twice : (a d : ℕ) → d ≤ a → a - (a - d) ≡ d
 taken_twice a d h = omega arith
 
-below-back : (own : ℕ) (text : List ℕ) (x : ℕ × List ℕ) (r : Result (ℕ × List ℕ) Why) → AreBytes text → delta_at text ≡ r → ◌>>=◌ {A = ℕ × List ℕ} {B = ℕ × List ℕ} {E = Why} r (below own) ≡ Ok x → text ≡ delta (own - x.0) ++ x.1
+below-back : (own : ℕ) (text : List ℕ) (x : ℕ × List ℕ) (r : Result (ℕ × List ℕ) Why) → AreBytes text → delta_at text ≡ r → ◌>>=◌ {A = ℕ × List ℕ} {B = ℕ × List ℕ} {E = Why} r (below own) ≡ Ok x → (text ≡ delta (own - x.0) ++ x.1) × (x.0 < own)
 below-back own text x (Err w) bytes f e = absurd (not_err _ _ e)
 below-back own text x (Ok d) bytes f e =
     elim (chosen ((d.0 == 0) || nat_lt own d.0) (Err why.GateOrder) (Ok (own - d.0, d.1)) (Ok x) e) [
       | inl wrong ↦ absurd (not_err _ _ wrong.1)
       | inr good ↦
-          let le : d.0 ≤ own = ltb-false own d.0 (or_parts (d.0 == 0) (nat_lt own d.0) good.0).1 in
-          subst (λ (p : ℕ × List ℕ). text ≡ delta (own - p.0) ++ p.1) (ok_same (own - d.0, d.1) x good.1)
-          (delta-back text d.0 d.1 bytes f ∙ ap (λ (k : ℕ). delta k ++ d.1) (sym (taken_twice own d.0 le)))
+          let parts = or_parts (d.0 == 0) (nat_lt own d.0) good.0 in
+          let le : d.0 ≤ own = ltb-false own d.0 parts.1 in
+          subst (λ (p : ℕ × List ℕ). (text ≡ delta (own - p.0) ++ p.1) × (p.0 < own)) (ok_same (own - d.0, d.1) x good.1)
+          (delta-back text d.0 d.1 bytes f ∙ ap (λ (k : ℕ). delta k ++ d.1) (sym (taken_twice own d.0 le)), omega (arith, le, eqb-false d.0 0 parts.0))
     ]
 
-at_or_below-back : (first : ℕ) (text : List ℕ) (x : ℕ × List ℕ) (r : Result (ℕ × List ℕ) Why) → AreBytes text → delta_at text ≡ r → ◌>>=◌ {A = ℕ × List ℕ} {B = ℕ × List ℕ} {E = Why} r (at_or_below first) ≡ Ok x → text ≡ delta (first - x.0) ++ x.1
+at_or_below-back : (first : ℕ) (text : List ℕ) (x : ℕ × List ℕ) (r : Result (ℕ × List ℕ) Why) → AreBytes text → delta_at text ≡ r → ◌>>=◌ {A = ℕ × List ℕ} {B = ℕ × List ℕ} {E = Why} r (at_or_below first) ≡ Ok x → (text ≡ delta (first - x.0) ++ x.1) × (x.0 ≤ first)
 at_or_below-back first text x (Err w) bytes f e = absurd (not_err _ _ e)
 at_or_below-back first text x (Ok d) bytes f e =
     elim (chosen (nat_lt first d.0) (Err why.GateOrder) (Ok (first - d.0, d.1)) (Ok x) e) [
       | inl wrong ↦ absurd (not_err _ _ wrong.1)
       | inr good ↦
           let le : d.0 ≤ first = ltb-false first d.0 good.0 in
-          subst (λ (p : ℕ × List ℕ). text ≡ delta (first - p.0) ++ p.1) (ok_same (first - d.0, d.1) x good.1)
-          (delta-back text d.0 d.1 bytes f ∙ ap (λ (k : ℕ). delta k ++ d.1) (sym (taken_twice first d.0 le)))
+          subst (λ (p : ℕ × List ℕ). (text ≡ delta (first - p.0) ++ p.1) × (p.0 ≤ first)) (ok_same (first - d.0, d.1) x good.1)
+          (delta-back text d.0 d.1 bytes f ∙ ap (λ (k : ℕ). delta k ++ d.1) (sym (taken_twice first d.0 le)), omega arith)
     ]
 
--- a gate at the front of a text
+-- a gate at the front of a text, whose operands are below it, the greater one first
+abbrev IsGateAt : ℕ → List ℕ → Gate → List ℕ → Type 0
+IsGateAt own text g rest = (text ≡ (delta (own - g.rhs0) ++ delta (g.rhs0 - g.rhs1)) ++ rest) × (g.rhs0 < own) × (g.rhs1 ≤ g.rhs0)
+
 module _ (own : ℕ) (text : List ℕ) (g : Gate) (rest : List ℕ) (bytes : AreBytes text) where
-  second_by : (x : ℕ × List ℕ) (r : Result (ℕ × List ℕ) Why) → text ≡ delta (own - x.0) ++ x.1 → ◌>>=◌ {A = ℕ × List ℕ} {B = ℕ × List ℕ} {E = Why} (delta_at x.1) (at_or_below x.0) ≡ r
-      → ◌>>=◌ {A = ℕ × List ℕ} {B = Gate × List ℕ} {E = Stop} (at x.1 r) (λ y. Ok (record { rhs0 = x.0; rhs1 = y.0 }, y.1)) ≡ Ok (g, rest) → text ≡ (delta (own - g.rhs0) ++ delta (g.rhs0 - g.rhs1)) ++ rest
+  second_by : (x : ℕ × List ℕ) (r : Result (ℕ × List ℕ) Why) → (text ≡ delta (own - x.0) ++ x.1) × (x.0 < own) → ◌>>=◌ {A = ℕ × List ℕ} {B = ℕ × List ℕ} {E = Why} (delta_at x.1) (at_or_below x.0) ≡ r
+      → ◌>>=◌ {A = ℕ × List ℕ} {B = Gate × List ℕ} {E = Stop} (at x.1 r) (λ y. Ok (record { rhs0 = x.0; rhs1 = y.0 }, y.1)) ≡ Ok (g, rest) → IsGateAt own text g rest
   second_by x (Err w) first f e = absurd (not_err _ _ e)
   second_by x (Ok y) first f e =
       let is : (record { rhs0 = x.0; rhs1 = y.0 }, y.1) ≡ (g, rest) = ok_same (record { rhs0 = x.0; rhs1 = y.0 }, y.1) (g, rest) e in
-      let second : x.1 ≡ delta (x.0 - y.0) ++ y.1 = at_or_below-back x.0 x.1 y (delta_at x.1) (bytes_behind (delta (own - x.0)) x.1 (subst AreBytes first bytes)) refl f in
-      subst (λ (p : Gate × List ℕ). text ≡ (delta (own - p.0.rhs0) ++ delta (p.0.rhs0 - p.0.rhs1)) ++ p.1) is
-      (first ∙ ap (λ (l : List ℕ). delta (own - x.0) ++ l) second ∙ sym (append_assoc (delta (own - x.0)) (delta (x.0 - y.0)) y.1))
+      let second = at_or_below-back x.0 x.1 y (delta_at x.1) (bytes_behind (delta (own - x.0)) x.1 (subst AreBytes first.0 bytes)) refl f in
+      subst (λ (p : Gate × List ℕ). IsGateAt own text p.0 p.1) is
+      (first.0 ∙ ap (λ (l : List ℕ). delta (own - x.0) ++ l) second.0 ∙ sym (append_assoc (delta (own - x.0)) (delta (x.0 - y.0)) y.1), first.1, second.1)
 
   first_by : (r : Result (ℕ × List ℕ) Why) → ◌>>=◌ {A = ℕ × List ℕ} {B = ℕ × List ℕ} {E = Why} (delta_at text) (below own) ≡ r
       → ◌>>=◌ {A = ℕ × List ℕ} {B = Gate × List ℕ} {E = Stop} (at text r) (λ x. ◌>>=◌ {A = ℕ × List ℕ} {B = Gate × List ℕ} {E = Stop} (at x.1 (◌>>=◌ {A = ℕ × List ℕ} {B = ℕ × List ℕ} {E = Why} (delta_at x.1) (at_or_below x.0))) (λ y. Ok (record { rhs0 = x.0; rhs1 = y.0 }, y.1))) ≡ Ok (g, rest)
-      → text ≡ (delta (own - g.rhs0) ++ delta (g.rhs0 - g.rhs1)) ++ rest
+      → IsGateAt own text g rest
   first_by (Err w) f e = absurd (not_err _ _ e)
   first_by (Ok x) f e = second_by x (◌>>=◌ {A = ℕ × List ℕ} {B = ℕ × List ℕ} {E = Why} (delta_at x.1) (at_or_below x.0)) (below-back own text x (delta_at text) bytes refl f) refl e
 
-  gate-back : gate_at own text ≡ Ok (g, rest) → text ≡ (delta (own - g.rhs0) ++ delta (g.rhs0 - g.rhs1)) ++ rest
+  gate-back : gate_at own text ≡ Ok (g, rest) → IsGateAt own text g rest
   unfolding gate_at
   gate-back e = first_by (◌>>=◌ {A = ℕ × List ℕ} {B = ℕ × List ℕ} {E = Why} (delta_at text) (below own)) refl e
 
@@ -133,9 +138,10 @@ module _ (own : ℕ) (text : List ℕ) (g : Gate) (rest : List ℕ) (bytes : Are
 pub record AreGatesAt (first n : ℕ) (text : List ℕ) (gs : List Gate) (rest : List ℕ) : Type 0 where
   pub parts : text ≡ gate_deltas first gs ++ rest
   pub count : length gs ≡ n
+  pub ordered : AreOrderedFrom first gs
 
 gates_by : (first n : ℕ) (text : List ℕ) (gs : List Gate) (rest : List ℕ) (x : Gate × List ℕ) (r : Result (List Gate × List ℕ) Stop)
-    → text ≡ (delta (2 * first - x.0.rhs0) ++ delta (x.0.rhs0 - x.0.rhs1)) ++ x.1 → ((hs : List Gate) (after : List ℕ) → r ≡ Ok (hs, after) → AreGatesAt (suc first) n x.1 hs after)
+    → IsGateAt (2 * first) text x.0 x.1 → ((hs : List Gate) (after : List ℕ) → r ≡ Ok (hs, after) → AreGatesAt (suc first) n x.1 hs after)
     → ◌>>=◌ {A = List Gate × List ℕ} {B = List Gate × List ℕ} {E = Stop} r (λ ys. Ok (x.0 ∷ ys.0, ys.1)) ≡ Ok (gs, rest) → AreGatesAt first (suc n) text gs rest
 gates_by first n text gs rest x (Err w) one others e = absurd (not_err _ _ e)
 gates_by first n text gs rest x (Ok ys) one others e =
@@ -143,15 +149,16 @@ gates_by first n text gs rest x (Ok ys) one others e =
     let o = others ys.0 ys.1 refl in
     subst (λ (p : List Gate × List ℕ). AreGatesAt first (suc n) text p.0 p.1) is
     (record {
-      parts = one ∙ ap (λ (l : List ℕ). (delta (2 * first - x.0.rhs0) ++ delta (x.0.rhs0 - x.0.rhs1)) ++ l) o.parts
+      parts = one.0 ∙ ap (λ (l : List ℕ). (delta (2 * first - x.0.rhs0) ++ delta (x.0.rhs0 - x.0.rhs1)) ++ l) o.parts
           ∙ sym (append_assoc (delta (2 * first - x.0.rhs0) ++ delta (x.0.rhs0 - x.0.rhs1)) (gate_deltas (suc first) ys.0) ys.1);
       count = ap suc o.count;
+      ordered = (one.1, one.2, o.ordered);
     })
 
 pub gates-back : (first n : ℕ) (text : List ℕ) (gs : List Gate) (rest : List ℕ) → AreBytes text → gates_at (2 * first) n text ≡ Ok (gs, rest) → AreGatesAt first n text gs rest
 gates-back first zero text gs rest bytes e =
     let is : ([], text) ≡ (gs, rest) = ok_same ([], text) (gs, rest) e in
-    subst (λ (p : List Gate × List ℕ). AreGatesAt first 0 text p.0 p.1) is (record { parts = refl; count = refl })
+    subst (λ (p : List Gate × List ℕ). AreGatesAt first 0 text p.0 p.1) is (record { parts = refl; count = refl; ordered = tt })
 gates-back first (suc n) text gs rest bytes e = by (gate_at (2 * first) text) refl e (λ x. gates-back (suc first) n x)
   where
     by : (r : Result (Gate × List ℕ) Stop) → gate_at (2 * first) text ≡ r
@@ -161,6 +168,6 @@ gates-back first (suc n) text gs rest bytes e = by (gate_at (2 * first) text) re
     by (Err w) f g again = absurd (not_err _ _ g)
     by (Ok x) f g again =
         let one = gate-back (2 * first) text x.0 x.1 bytes f in
-        let after : AreBytes x.1 = bytes_behind (delta (2 * first - x.0.rhs0) ++ delta (x.0.rhs0 - x.0.rhs1)) x.1 (subst AreBytes one bytes) in
+        let after : AreBytes x.1 = bytes_behind (delta (2 * first - x.0.rhs0) ++ delta (x.0.rhs0 - x.0.rhs1)) x.1 (subst AreBytes one.0 bytes) in
         gates_by first n text gs rest x (gates_at (2 * first + 2) n x.1) one
         (λ hs end h. again x.1 hs end after (ap (λ (own : ℕ). gates_at own n x.1) (sym (next_literal first)) ∙ h)) g

@@ -1,6 +1,7 @@
 -- From what reading gives back to the text: fields and latches.
-use Rattle.std.proofs.Common.{◌≡◌, ◌≢◌, ℕ, zero, suc, ◌+◌, ◌-◌, ◌*◌, ◌^◌, ◌<◌, ◌≤◌, true, ◌==◌, List, [], ◌∷◌, ◌++◌, length, decimal, Option, Some, None, Result, Ok, Err, refl, sym, ap, subst, ◌∙◌, append_assoc, inl, inr, if◌then◌else◌, arith}
+use Rattle.std.proofs.Common.{◌≡◌, ◌≢◌, ℕ, zero, suc, ◌+◌, ◌-◌, ◌*◌, ◌^◌, ◌<◌, ◌≤◌, true, ◌==◌, List, [], ◌∷◌, ◌++◌, length, decimal, All, Option, Some, None, Result, Ok, Err, refl, sym, ap, subst, ◌∙◌, append_assoc, inl, inr, if◌then◌else◌, arith}
 use Rattle.std.proofs.lemmas.Bool.{eqb-true}
+use Rattle.std.proofs.lemmas.List.Elements.{All-nil, All-cons}
 use Rattle.base.specs.Lines.{onto_first}
 use Rattle.base.specs.Decimals.{number_of}
 use Rattle.base.proofs.DecimalLemmas.{chosen, number_is_decimal}
@@ -85,22 +86,25 @@ reset-back own r field small e = by (number_of field) refl e
               ]
         ]
 
--- a latch's line, which ends with byte 10
-latch_by : (greatest own : ℕ) (l : Latch) (fs : List (List ℕ)) → greatest < 2 ^ 64 - 1 → own < 2 ^ 64 - 1 → next_fields greatest own fs ≡ Ok l → IsNextLine own l (spaced fs ++ 10 ∷ [])
+-- a latch's line, which ends with byte 10; its next literal is at most the greatest
+abbrev IsLatchAt : ℕ → ℕ → Latch → List ℕ → Type 0
+IsLatchAt greatest own l bytes = IsNextLine own l bytes × (l.next ≤ greatest)
+
+latch_by : (greatest own : ℕ) (l : Latch) (fs : List (List ℕ)) → greatest < 2 ^ 64 - 1 → own < 2 ^ 64 - 1 → next_fields greatest own fs ≡ Ok l → IsLatchAt greatest own l (spaced fs ++ 10 ∷ [])
 unfolding next_fields
 latch_by greatest own l [] g_small o_small e = absurd (not_err _ _ e)
 latch_by greatest own l (next ∷ []) g_small o_small e = by (within why.BadLatch greatest (number_of next)) refl e
   where
-    by : (r : Result ℕ Why) → within why.BadLatch greatest (number_of next) ≡ r → ◌>>=◌ {A = ℕ} {B = Latch} {E = Why} r (λ n. Ok (record { next = n; reset = Zero })) ≡ Ok l → IsNextLine own l (next ++ 10 ∷ [])
+    by : (r : Result ℕ Why) → within why.BadLatch greatest (number_of next) ≡ r → ◌>>=◌ {A = ℕ} {B = Latch} {E = Why} r (λ n. Ok (record { next = n; reset = Zero })) ≡ Ok l → IsLatchAt greatest own l (next ++ 10 ∷ [])
     by (Err w) f g = absurd (not_err _ _ g)
     by (Ok n) f g =
         let p = within-back why.BadLatch greatest n (number_of next) f in
-        subst (λ (x : Latch). IsNextLine own x (next ++ 10 ∷ [])) (ok_same (record { next = n; reset = Zero }) l g)
-        (record { reset = []; is_reset = inl refl; spelled = ap (λ (t : List ℕ). t ++ 10 ∷ []) (number_is_decimal next n p.0 (omega (arith, p.1))) })
+        subst (λ (x : Latch). IsLatchAt greatest own x (next ++ 10 ∷ [])) (ok_same (record { next = n; reset = Zero }) l g)
+        (record { reset = []; is_reset = inl refl; spelled = ap (λ (t : List ℕ). t ++ 10 ∷ []) (number_is_decimal next n p.0 (omega (arith, p.1))) }, p.1)
 latch_by greatest own l (next ∷ begins ∷ []) g_small o_small e = by (within why.BadLatch greatest (number_of next)) refl e
   where
     then' : (n : ℕ) (r : Result Reset Why) → number_of next ≡ Some n → n ≤ greatest → reset_of own (number_of begins) ≡ r
-        → ◌>>=◌ {A = Reset} {B = Latch} {E = Why} r (λ x. Ok (record { next = n; reset = x })) ≡ Ok l → IsNextLine own l ((next ++ 32 ∷ begins) ++ 10 ∷ [])
+        → ◌>>=◌ {A = Reset} {B = Latch} {E = Why} r (λ x. Ok (record { next = n; reset = x })) ≡ Ok l → IsLatchAt greatest own l ((next ++ 32 ∷ begins) ++ 10 ∷ [])
     then' n (Err w) d le f g = absurd (not_err _ _ g)
     then' n (Ok x) d le f g =
         let b = reset-back own x begins o_small f in
@@ -108,41 +112,43 @@ latch_by greatest own l (next ∷ begins ∷ []) g_small o_small e = by (within 
         append_assoc next (32 ∷ begins) (10 ∷ [])
         ∙ ap (λ (t : List ℕ). t ++ 32 ∷ (begins ++ 10 ∷ [])) (number_is_decimal next n d (omega (arith, le)))
         ∙ ap (λ (t : List ℕ). decimal n ++ 32 ∷ (t ++ 10 ∷ [])) b.1.0 in
-        subst (λ (y : Latch). IsNextLine own y ((next ++ 32 ∷ begins) ++ 10 ∷ [])) (ok_same (record { next = n; reset = x }) l g)
-        (record { reset = b.0 ∷ []; is_reset = b.1.1; spelled = text })
+        subst (λ (y : Latch). IsLatchAt greatest own y ((next ++ 32 ∷ begins) ++ 10 ∷ [])) (ok_same (record { next = n; reset = x }) l g)
+        (record { reset = b.0 ∷ []; is_reset = b.1.1; spelled = text }, le)
 
     by : (r : Result ℕ Why) → within why.BadLatch greatest (number_of next) ≡ r
-        → ◌>>=◌ {A = ℕ} {B = Latch} {E = Why} r (λ n. ◌>>=◌ {A = Reset} {B = Latch} {E = Why} (reset_of own (number_of begins)) (λ x. Ok (record { next = n; reset = x }))) ≡ Ok l → IsNextLine own l ((next ++ 32 ∷ begins) ++ 10 ∷ [])
+        → ◌>>=◌ {A = ℕ} {B = Latch} {E = Why} r (λ n. ◌>>=◌ {A = Reset} {B = Latch} {E = Why} (reset_of own (number_of begins)) (λ x. Ok (record { next = n; reset = x }))) ≡ Ok l → IsLatchAt greatest own l ((next ++ 32 ∷ begins) ++ 10 ∷ [])
     by (Err w) f g = absurd (not_err _ _ g)
     by (Ok n) f g = let p = within-back why.BadLatch greatest n (number_of next) f in then' n (reset_of own (number_of begins)) p.0 p.1 refl g
 latch_by greatest own l (next ∷ begins ∷ more ∷ others) g_small o_small e = absurd (not_err _ _ e)
 
-latch-back : (greatest own : ℕ) (l : Latch) (line : List ℕ) → greatest < 2 ^ 64 - 1 → own < 2 ^ 64 - 1 → next_of greatest own line ≡ Ok l → IsNextLine own l (line ++ 10 ∷ [])
-latch-back greatest own l line g_small o_small e = subst (λ (t : List ℕ). IsNextLine own l (t ++ 10 ∷ [])) (fields-back line) (latch_by greatest own l (fields line) g_small o_small e)
+latch-back : (greatest own : ℕ) (l : Latch) (line : List ℕ) → greatest < 2 ^ 64 - 1 → own < 2 ^ 64 - 1 → next_of greatest own line ≡ Ok l → IsLatchAt greatest own l (line ++ 10 ∷ [])
+latch-back greatest own l line g_small o_small e = subst (λ (t : List ℕ). IsLatchAt greatest own l (t ++ 10 ∷ [])) (fields-back line) (latch_by greatest own l (fields line) g_small o_small e)
 
 -- so many latches
-pub record AreLatchesAt (own n : ℕ) (text : List ℕ) (ls : List Latch) (rest : List ℕ) : Type 0 where
+pub record AreLatchesAt (greatest own n : ℕ) (text : List ℕ) (ls : List Latch) (rest : List ℕ) : Type 0 where
   pub bytes : List ℕ
   pub lines : AreNextLines own ls bytes
   pub parts : text ≡ bytes ++ rest
   pub count : length ls ≡ n
+  pub below : All (λ l. l.next ≤ greatest) ls
 
-pub nexts-back : (greatest own n : ℕ) (text : List ℕ) (ls : List Latch) (rest : List ℕ) → greatest < 2 ^ 64 - 1 → own + 2 * n < 2 ^ 64 - 1 → nexts_at greatest own n text ≡ Ok (ls, rest) → AreLatchesAt own n text ls rest
+pub nexts-back : (greatest own n : ℕ) (text : List ℕ) (ls : List Latch) (rest : List ℕ) → greatest < 2 ^ 64 - 1 → own + 2 * n < 2 ^ 64 - 1 → nexts_at greatest own n text ≡ Ok (ls, rest) → AreLatchesAt greatest own n text ls rest
 nexts-back greatest own zero text ls rest g_small o_small e =
     let is : ([], text) ≡ (ls, rest) = ok_same ([], text) (ls, rest) e in
-    subst (λ (p : List Latch × List ℕ). AreLatchesAt own 0 text p.0 p.1) is (record { bytes = []; lines = refl; parts = refl; count = refl })
+    subst (λ (p : List Latch × List ℕ). AreLatchesAt greatest own 0 text p.0 p.1) is (record { bytes = []; lines = refl; parts = refl; count = refl; below = All-nil (λ l. l.next ≤ greatest) })
 nexts-back greatest own (suc n) text ls rest g_small o_small e =
     let b = lines-back (next_of greatest) (λ o l. o + 2) own n text ls rest e in
     let others = nexts-back greatest (own + 2) n b.after b.others rest g_small (omega (arith, o_small)) b.more in
     let line = latch-back greatest own b.first b.one.line g_small (omega (arith, o_small)) b.one.said in
     let whole : text ≡ ((b.one.line ++ 10 ∷ []) ++ others.bytes) ++ rest =
     b.one.parts ∙ ap (λ (t : List ℕ). b.one.line ++ 10 ∷ t) others.parts ∙ joined b.one.line others.bytes rest in
-    subst (λ (all : List Latch). AreLatchesAt own (suc n) text all rest) (sym b.all)
+    subst (λ (all : List Latch). AreLatchesAt greatest own (suc n) text all rest) (sym b.all)
     (record {
       bytes = (b.one.line ++ 10 ∷ []) ++ others.bytes;
-      lines = (b.one.line ++ 10 ∷ [], (others.bytes, (refl, line, others.lines)));
+      lines = (b.one.line ++ 10 ∷ [], (others.bytes, (refl, line.0, others.lines)));
       parts = whole;
       count = ap suc others.count;
+      below = All-cons (λ l. l.next ≤ greatest) b.first b.others line.1 others.below;
     })
   where
     joined : (line bytes rest : List ℕ) → line ++ 10 ∷ (bytes ++ rest) ≡ ((line ++ 10 ∷ []) ++ bytes) ++ rest

@@ -1,16 +1,21 @@
 -- What reading gives stands for the text.
 use Rattle.std.proofs.Common.{◌≡◌, ℕ, zero, suc, ◌+◌, ◌-◌, ◌*◌, ◌^◌, ◌<◌, ◌≤◌, List, [], ◌∷◌, ◌++◌, length, map, take, drop, All, nat_le, Option, Some, None, Ok, Err, inl, inr, refl, sym, ap, subst, ◌∙◌, append_assoc, arith}
-use Rattle.std.specs.List.{concat, sum}
+use Rattle.std.specs.List.{concat, sum, sum_by}
+use Rattle.std.specs.List.Sorted.{IsStrictlySortedBy}
 use Rattle.std.proofs.lemmas.List.{length-take-le, take-append-drop, length-drop}
-use Rattle.std.proofs.lemmas.List.Elements.{All-from_recursion}
+use Rattle.std.proofs.lemmas.List.Elements.{All-from_recursion, All-weaker, All-nil, All-cons, All-head, All-tail}
 use Rattle.aiger.specs.declared.circuit.Latch.{Latch}
 use Rattle.aiger.specs.declared.circuit.Gate.{Gate}
+use Rattle.aiger.specs.declared.circuit.Section.{Section}
 use Rattle.aiger.specs.declared.circuit.Section.TheVariants as section
 use Rattle.aiger.specs.Limits.{greatest_count}
-use Rattle.aiger.specs.Circuit.{Circuit, IsCircuit, with_name}
+use Rattle.aiger.specs.Literal.{variable}
+use Rattle.aiger.specs.Net.{AreOrderedFrom}
+use Rattle.aiger.specs.Circuit.{Circuit, IsCircuit, IsNamed, with_name, name_refusal}
 use Rattle.base.specs.Decimals.{number_of}
 use Rattle.base.proofs.DecimalLemmas.{chosen}
 use Rattle.std.proofs.lemmas.Bool.{leb-true}
+use Rattle.std.proofs.lemmas.List.Sums.{sum-map}
 use Rattle.aigertext.specs.declared.counts.Counts.{Counts}
 use Rattle.aigertext.specs.declared.fault.Why.TheVariants as why
 use Rattle.aigertext.specs.declared.forms.Form.{Form}
@@ -38,7 +43,7 @@ fits_front n ns literals e =
     let whole : sum (n ∷ ns) ≡ n + sum ns = sum_of_cons n ns in
     (omega (arith, e, whole), omega (arith, e, whole, length-drop n literals))
 
-pub sizes_of_lists : (ns literals : List ℕ) → length literals ≡ sum ns → map length (lists_of ns literals) ≡ ns
+sizes_of_lists : (ns literals : List ℕ) → length literals ≡ sum ns → map length (lists_of ns literals) ≡ ns
 sizes_of_lists [] literals e = refl
 sizes_of_lists (n ∷ ns) literals e =
     let fits = fits_front n ns literals e in
@@ -141,6 +146,21 @@ properties-back h text p rest few e =
 
 -- ---- the circuit
 
+front_holds : (P : ℕ → Type 0) (xs ys : List ℕ) → All P (xs ++ ys) → All P xs × All P ys
+front_holds P [] ys h = (All-nil P, h)
+front_holds P (x ∷ xs) ys h =
+    let rest = front_holds P xs ys (All-tail P x (xs ++ ys) h) in
+    (All-cons P x xs (All-head P x (xs ++ ys) h) rest.0, rest.1)
+
+pub lists_hold : (P : ℕ → Type 0) (lists : List (List ℕ)) → All P (concat lists) → All (All P) lists
+lists_hold P [] h = All-nil (All P)
+lists_hold P (ls ∷ lists) h =
+    let parts = front_holds P ls (concat lists) h in
+    All-cons (All P) ls lists parts.0 (lists_hold P lists parts.1)
+
+pub lists_total : (ns literals : List ℕ) → length literals ≡ sum ns → sum ns ≤ greatest_count → sum_by length (lists_of ns literals) ≤ greatest_count
+lists_total ns literals e few = subst (λ (n : ℕ). n ≤ greatest_count) (ap sum (sym (sizes_of_lists ns literals e)) ∙ sum-map length (lists_of ns literals)) few
+
 -- names change nothing else
 pub names_alone : (c : Circuit) (gs : List Given) (d : Circuit) → GiveNames c gs d → ◌≡◌ {A = Circuit} (record c { names = [] }) (record d { names = [] })
 names_alone c [] d e = ap (λ (x : Circuit). record x { names = [] }) e
@@ -170,7 +190,7 @@ property_is inputs ls p gs rest e =
 -- what stands behind a header is the circuit's sections
 module _ (h : Counts) (text : List ℕ) (c : Circuit) (ls : List Latch) (after : List ℕ) (p : Properties) (behind : List ℕ) (gs : List Gate) (end : List ℕ)
     (few_first : AreCounts (first_of_counts h)) (few_last : AreCounts (last_of_counts h)) (fits : h.variables ≡ h.inputs + h.latches + h.gates)
-    (l : AreLatchesAt (2 * suc h.inputs) h.latches text ls after) (q : PropertiesBack h after p behind) (g : AreGatesAt (suc (h.inputs + h.latches)) h.gates behind gs end) where
+    (l : AreLatchesAt (2 * h.variables + 1) (2 * suc h.inputs) h.latches text ls after) (q : PropertiesBack h after p behind) (g : AreGatesAt (suc (h.inputs + h.latches)) h.gates behind gs end) where
   bare : Circuit
   bare = nameless h.inputs ls p gs
 
@@ -195,18 +215,54 @@ module _ (h : Counts) (text : List ℕ) (c : Circuit) (ls : List Latch) (after :
     counts = rw (fits, l.count, q.outputs, g.count, q.bads, q.constraints, length_lists p.sizes p.listed ∙ q.sizes, q.fair) refl;
   }
 
+  bare_valid : IsCircuit (nameless h.inputs ls p gs)
+  unfolding IsStrictlySortedBy
+  bare_valid =
+      let many : h.inputs + length ls + length gs ≡ h.variables = omega (arith, l.count, g.count, fits) in
+      let defined = λ (lits : List ℕ) (b : All (λ n. n ≤ 2 * h.variables + 1) lits). All-weaker (λ n. n ≤ 2 * h.variables + 1) (λ n. variable n ≤ h.inputs + length ls + length gs) (λ n le. omega (arith, le, many)) lits b in
+      record {
+        small = omega (arith, many, few_first.0);
+        few = record {
+          outputs = omega (arith, q.outputs, few_first.1.1.1.0);
+          bads = omega (arith, q.bads, few_last.0);
+          constraints = omega (arith, q.constraints, few_last.1.0);
+          justice = omega (arith, length_lists p.sizes p.listed, q.sizes, few_last.1.1.0);
+          justice_literals = lists_total p.sizes p.listed q.listed q.total;
+          fair = omega (arith, q.fair, few_last.1.1.1.0);
+        };
+        ordered = subst (λ (n : ℕ). AreOrderedFrom (suc (h.inputs + n)) gs) (sym l.count) g.ordered;
+        defined = record {
+          nexts = All-weaker (λ x. x.next ≤ 2 * h.variables + 1) (λ x. variable x.next ≤ h.inputs + length ls + length gs) (λ x le. omega (arith, le, many)) ls l.below;
+          outputs = defined p.outputs q.up_to.outputs;
+          bads = defined p.bads q.up_to.bads;
+          constraints = defined p.constraints q.up_to.constraints;
+          justice = lists_hold (λ n. variable n ≤ h.inputs + length ls + length gs) (lists_of p.sizes p.listed) (defined (concat (lists_of p.sizes p.listed)) q.up_to.justice);
+          fair = defined p.fair q.up_to.fair;
+        };
+        names = record { sorted = tt; named = All-nil (IsNamed (nameless h.inputs ls p gs)) };
+      }
+
+-- the law that a circuit with a name more that it takes is one
+abbrev pub NameLaw : Type 0
+NameLaw = (c : Circuit) (s : Section) (k : ℕ) (name : List ℕ) → IsCircuit c → name_refusal c s k name ≡ None → IsCircuit (with_name c s k name)
+
+pub names_valid : NameLaw → (c : Circuit) (gs : List Given) (d : Circuit) → IsCircuit c → GiveNames c gs d → IsCircuit d
+names_valid law c [] d valid e = subst IsCircuit e valid
+names_valid law c (g ∷ gs) d valid e = names_valid law (with_name c g.section g.position g.name) gs d (law c g.section g.position g.name valid e.0) e.1
+
 -- the sections and the end of a circuit's text
 pub record BinaryBack (h : Counts) (text : List ℕ) (c : Circuit) : Type 0 where
   pub end : List ℕ
   pub body : IsBody h text end c
   pub is_end : IsEnd c end
+  pub valid : IsCircuit c
 
 bytes_after : (front rest text : List ℕ) → AreBytes text → text ≡ front ++ rest → AreBytes rest
 bytes_after front rest text bytes e = bytes_behind front rest (subst AreBytes e bytes)
 
-pub binary-back : (h : Counts) (text : List ℕ) (c : Circuit) → AreCounts (first_of_counts h) → AreCounts (last_of_counts h) → h.variables ≡ h.inputs + h.latches + h.gates → AreBytes text → binary_at h text ≡ Ok c → BinaryBack h text c
+binary-back : NameLaw → (h : Counts) (text : List ℕ) (c : Circuit) → AreCounts (first_of_counts h) → AreCounts (last_of_counts h) → h.variables ≡ h.inputs + h.latches + h.gates → AreBytes text → binary_at h text ≡ Ok c → BinaryBack h text c
 unfolding binary_at
-binary-back h text c few_first few_last fits bytes e =
+binary-back law h text c few_first few_last fits bytes e =
     let l = bind-back (nexts_at (2 * h.variables + 1) (2 * suc h.inputs) h.latches text) _ c e in
     let p = bind-back (properties_at h l.value.1) _ c l.then' in
     let g = bind-back (gates_at (2 * suc (h.inputs + h.latches)) h.gates p.value.1) _ c p.then' in
@@ -221,6 +277,7 @@ binary-back h text c few_first few_last fits bytes e =
     record {
       end = g.value.1;
       body = body_of h text g.value.1 c (subst (IsBody h text g.value.1) alone (body-is h text c l.value.0 l.value.1 p.value.0 p.value.1 g.value.0 g.value.1 few_first few_last fits l' p' g'));
+      valid = names_valid law (nameless h.inputs l.value.0 p.value.0 g.value.0) n.given c (bare_valid h text c l.value.0 l.value.1 p.value.0 p.value.1 g.value.0 g.value.1 few_first few_last fits l' p' g') n.names;
       is_end = record { given = n.given; names = subst (λ (d : Circuit). GiveNames d n.given c) alone n.names; comment = n.comment; is_comment = n.is_comment; spelled = n.parts };
     }
   where
@@ -242,8 +299,8 @@ header_spelled form line h k =
     }
 
 -- a text with a header of the binary form
-with_header : (text : List ℕ) (c : Circuit) (h : Counts) (rest : List ℕ) → IsCircuit c → (s : SaysAt header_of text (Binary, h) rest) → HeaderBack Binary s.line h → BinaryBack h rest c → IsBinaryText text c
-with_header text c h rest valid s k b =
+with_header : (text : List ℕ) (c : Circuit) (h : Counts) (rest : List ℕ) → (s : SaysAt header_of text (Binary, h) rest) → HeaderBack Binary s.line h → BinaryBack h rest c → IsBinaryText text c
+with_header text c h rest s k b =
     record {
       header = s.line ++ 10 ∷ [];
       is_header = subst (λ (g : Counts). IsHeader Binary g (s.line ++ 10 ∷ [])) b.body.counts (header_spelled Binary s.line h k);
@@ -251,13 +308,13 @@ with_header text c h rest valid s k b =
       are_latches = b.body.are_latches;
       end = b.end;
       is_end = b.is_end;
-      valid = valid;
+      valid = b.valid;
       whole = s.parts ∙ sym (append_assoc s.line (10 ∷ []) rest) ∙ ap (λ (l : List ℕ). (s.line ++ 10 ∷ []) ++ l) b.body.whole;
     }
 
-pub binary-stands : (text : List ℕ) (c : Circuit) (h : Counts) (rest : List ℕ) → AreBytes text → IsCircuit c → line_at header_of text ≡ Ok ((Binary, h), rest) → binary_at h rest ≡ Ok c → IsBinaryText text c
-binary-stands text c h rest bytes valid was then' =
+pub binary-stands : NameLaw → (text : List ℕ) (c : Circuit) (h : Counts) (rest : List ℕ) → AreBytes text → line_at header_of text ≡ Ok ((Binary, h), rest) → binary_at h rest ≡ Ok c → IsBinaryText text c
+binary-stands law text c h rest bytes was then' =
     let s = line-back header_of text (Binary, h) rest was in
     let k = header-back s.line Binary h s.said in
     let behind : AreBytes (10 ∷ rest) = bytes_after s.line (10 ∷ rest) text bytes s.parts in
-    with_header text c h rest valid s k (binary-back h rest c k.few_first k.few_last k.fits behind.1 then')
+    with_header text c h rest s k (binary-back law h rest c k.few_first k.few_last k.fits behind.1 then')

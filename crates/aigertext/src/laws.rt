@@ -15,7 +15,7 @@ ghost use Rattle.aigertext.specs.declared.fault.Stop.{Stop};
 ghost use Rattle.aigertext.specs.declared.fault.Why.TheVariants as why;
 ghost use Rattle.aigertext.specs.Worked.{toggler, free_state, one_gate, one_output, all_kinds, nothing, one_input};
 
-use aiger::laws::{one_renumbering, own_numbers};
+use aiger::laws::{circuit_with_a_name, one_renumbering, own_numbers};
 
 /// Worked rows: the texts of a latch that toggles, of a latch with no initial value, of a gate, and of
 /// properties of each kind.
@@ -115,17 +115,21 @@ pub fn one_binary_circuit()
 
 /// A circuit that a text with a header of the binary form is read as is one that it stands for in that form.
 pub fn binary_text_that_is_read()
-    ensures { (text : List ℕ) (c : Circuit) (h : Counts) (rest : List ℕ) → All (λ b. b < 256) text → IsCircuit c
+    ensures { (text : List ℕ) (c : Circuit) (h : Counts) (rest : List ℕ) → All (λ b. b < 256) text
         → line_at header_of text ≡ Ok ((form.Binary, h), rest) → AnswersText text (Ok c) → IsBinaryText text c }
-{}
+{
+    circuit_with_a_name();
+}
 
 /// An ascii text stands for at most one circuit: each that it stands for is the one that reading it gives.
 pub fn one_ascii_circuit()
     ensures read { (text : List ℕ) (c : Circuit) → IsAsciiText text c → AnswersText text (Ok c) }
     ensures same { (text : List ℕ) (c d : Circuit) → IsAsciiText text c → IsAsciiText text d → c ≡ d }
+    ensures valid { (text : List ℕ) (c : Circuit) → IsAsciiText text c → IsCircuit c }
 {
     one_answer();
     one_renumbering();
+    circuit_with_a_name();
 }
 
 /// A circuit that a text with a header of the ascii form is read as is one that it stands for in that form.

@@ -2,7 +2,7 @@
 ghost use Rattle.std.specs.Prelude.{◌≡◌, ◌⊎◌, ℕ, List, Some, Ok, IfOk, IfErr, IfSome, OnOk};
 ghost use Rattle.std.specs.Io.KnownBytes.{IsAtEnd};
 ghost use Rattle.base.specs.Device.{HasRisen};
-ghost use Rattle.aiger.specs.Circuit.{Circuit as CircuitValue, IsCircuit};
+ghost use Rattle.aiger.specs.Circuit.{Circuit as CircuitValue};
 ghost use Rattle.aigertext.specs.Reading.{fault_of};
 ghost use Rattle.aigertext.specs.AsciiReading.{AnswersText, IsFaultOf, GivesCircuit};
 ghost use Rattle.aigertext.specs.Spelling.{Spells};
@@ -16,15 +16,14 @@ use crate::forms::Form;
 use crate::front::header_line;
 use crate::laws::one_answer;
 use aiger::Circuit;
-use aiger::laws::one_renumbering;
+use aiger::laws::{circuit_with_a_name, one_renumbering};
 use base::{ReadAllFault, Source, read_all};
 use std::alloc::Global;
 
 /// The circuit that a text spells; its first word decides the form.
 #[tactic(auto, unfolding(crate::specs::AsciiReading::AnswersText))]
 fn read_known(alloc: Global, text: &[u8]) -> Result<Circuit, Stop>
-    ensures reads { ReadsBy result (AnswersText text.now) }
-    ensures valid { IfOk result (λ c. IsCircuit c) }
+    ensures { ReadsBy result (AnswersText text.now) }
 {
     match header_line(text) {
         Ok(((Form::Binary, counts), rest)) => read_sections(alloc, &counts, rest),
@@ -56,6 +55,7 @@ fn read_text(alloc: Global, text: &[u8]) -> Result<Circuit, ReadFault>
     ensures spells { IfOk result (λ c. Spells text.now c) }
 {
     one_renumbering();
+    circuit_with_a_name();
     match read_known(alloc, text) {
         Ok(circuit) => Ok(circuit),
         Err(stop) => Err(fault(text, stop)),

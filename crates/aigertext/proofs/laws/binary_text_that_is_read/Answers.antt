@@ -6,5 +6,5 @@ use Rattle.aigertext.proofs.laws.binary_text_that_is_read.Goals as goal
 
 pub returns : goal.returns
 unfolding AnswersText
-returns c = λ text circuit h rest bytes valid header answers.
-    binary-stands text circuit h rest (recursion_from_All (λ b. b < 256) text bytes) valid header (sym (subst (λ r. AnswersHeader r (Ok circuit)) header answers))
+returns c = λ text circuit h rest bytes header answers.
+    binary-stands c.circuit_with_a_name.ensures text circuit h rest (recursion_from_All (λ b. b < 256) text bytes) header (sym (subst (λ r. AnswersHeader r (Ok circuit)) header answers))
