@@ -125,9 +125,15 @@ fn widths_are_1_to_64(rt: HostRuntime) {
 /// Whether operators, gates and moves are a step each.
 fn count_steps(width: Width) -> bool {
     let mut tally = Tally::new();
-    let inverse = unary(Unary::Not, width, 200, &mut tally);
+    let inverse = unary(Unary::Not, width, word(width, 200), &mut tally);
     let first = tally.steps();
-    let both = binary(Binary::And, width, 12, 10, &mut tally);
+    let both = binary(
+        Binary::And,
+        width,
+        word(width, 12),
+        word(width, 10),
+        &mut tally,
+    );
     let second = tally.steps();
     let gates = [gate(true, true, &mut tally), gate(true, false, &mut tally)];
     let taken = take('x', &mut tally);
