@@ -246,35 +246,66 @@ fn all_operands(alloc: Global, width: u32) -> Result<Vec<Operands>, AllocError>
     Ok(all)
 }
 
-/// Whether an operator's circuits agree with the operator, the plain one has few enough gates and the shared one no more,
-/// or it is none of this width; none where they could not be made.
-fn is_right(alloc: Global, op: Op, width: u32) -> Option<bool>
+/// How many gates a circuit has whose literals read as what an operator gives for these operands; none where they do not.
+fn gates_if_right(alloc: Global, made: &Made, op: Op, w: Width, all: &[Operands]) -> Option<u64> {
+    match agrees(alloc, made, op, w, all) {
+        Ok(true) => Some(made.circuit.gates().len() as u64),
+        _ => None,
+    }
+}
+
+/// How many gates an operator takes over the plain maker, where they are right at these operands; 0 where the operator is
+/// not one of this width.
+fn plain_gates(alloc: Global, op: Op, width: u32, w: Width, all: &[Operands]) -> Option<u64>
     requires some { 1 ≤ width }
-    requires most { width ≤ 5 }
+    requires most { width ≤ 64 }
 {
-    let w = Width::new(u64::from(width))?;
-    let (Some(plain), Some(shared)) = (plain(alloc, op, width)?, shared(alloc, op, width)?) else {
-        return Some(true);
+    match plain(alloc, op, width) {
+        Some(Some(made)) => gates_if_right(alloc, &made, op, w, all),
+        Some(None) => Some(0),
+        None => None,
+    }
+}
+
+/// How many gates an operator takes over the sharing maker, likewise.
+fn shared_gates(alloc: Global, op: Op, width: u32, w: Width, all: &[Operands]) -> Option<u64>
+    requires some { 1 ≤ width }
+    requires most { width ≤ 64 }
+{
+    match shared(alloc, op, width) {
+        Some(Some(made)) => gates_if_right(alloc, &made, op, w, all),
+        Some(None) => Some(0),
+        None => None,
+    }
+}
+
+/// Whether an operator's circuits agree with the operator at these operands, the plain one has few enough gates and the
+/// shared one no more.
+fn is_right(alloc: Global, op: Op, width: u32, all: &[Operands]) -> bool
+    requires some { 1 ≤ width }
+    requires most { width ≤ 64 }
+{
+    let Some(w) = Width::new(u64::from(width)) else {
+        return false;
     };
-    let all = all_operands(alloc, width).ok()?;
-    let most = gate_bound(op, u64::from(width));
-    let is_small = plain.circuit.gates().len() as u64 <= most;
-    let is_smaller = shared.circuit.gates().len() <= plain.circuit.gates().len();
-    let is_plain_right = agrees(alloc, &plain, op, w, &all).ok()?;
-    let is_shared_right = agrees(alloc, &shared, op, w, &all).ok()?;
-    Some(is_small && is_smaller && is_plain_right && is_shared_right)
+    let plain = plain_gates(alloc, op, width, w, all);
+    match (plain, shared_gates(alloc, op, width, w, all)) {
+        (Some(plain), Some(shared)) => {
+            shared <= plain && plain <= gate_bound(op, u64::from(width))
+        }
+        _ => false,
+    }
 }
 
 #[test]
-fn every_operand_of_every_operator(rt: HostRuntime) {
+fn every_operand_of_every_operator(rt: HostRuntime) -> Result<(), Fail> {
     for op in OPERATORS {
         for width in 1..widest(op) + 1 {
-            assert!(rt;
-                is_right(rt.alloc(), op, width) == Some(true),
-                "{op:?} at {width}"
-            );
+            let all = all_operands(rt.alloc(), width)?;
+            assert!(rt; is_right(rt.alloc(), op, width, &all), "{op:?} at {width}");
         }
     }
+    Ok(())
 }
 
 /// A number's place in a list that looks like no order (Steele, Lea and Flood, "Fast splittable pseudorandom number
@@ -313,25 +344,22 @@ fn stored_operands(alloc: Global) -> Result<Vec<Operands>, AllocError> {
     Ok(all)
 }
 
-/// Whether an operator's circuit at width 64 agrees with the operator at some operands and has few enough gates, or it is
-/// none of this width; none where it could not be made.
-fn is_right_at_64(alloc: Global, op: Op, all: &[Operands]) -> Option<bool> {
-    let w = Width::new(64)?;
-    let Some(plain) = plain(alloc, op, 64)? else {
-        return Some(true);
+/// Whether an operator's circuit at width 64 agrees with the operator at these operands and has few enough gates.
+fn is_right_at_64(alloc: Global, op: Op, all: &[Operands]) -> bool {
+    let Some(w) = Width::new(64) else {
+        return false;
     };
-    let is_small = plain.circuit.gates().len() as u64 <= gate_bound(op, 64);
-    Some(is_small && agrees(alloc, &plain, op, w, all).ok()?)
+    match plain_gates(alloc, op, 64, w, all) {
+        Some(gates) => gates <= gate_bound(op, 64),
+        None => false,
+    }
 }
 
 #[test]
 fn a_thousand_operands_of_every_operator(rt: HostRuntime) -> Result<(), Fail> {
     let all = stored_operands(rt.alloc())?;
     for op in OPERATORS {
-        assert!(rt;
-            is_right_at_64(rt.alloc(), op, &all) == Some(true),
-            "{op:?}"
-        );
+        assert!(rt; is_right_at_64(rt.alloc(), op, &all), "{op:?}");
     }
     Ok(())
 }
