@@ -5,7 +5,7 @@ use std::test::Fail;
 use witness::{BitJudge, Judgement, Why};
 
 /// A circuit of which witnesses speak.
-#[derive(Clone, Copy, Debug)]
+#[derive(Clone, Copy)]
 enum Sample {
     /// A latch that begins with 0 and toggles; it is bad where the latch is 1.
     Toggler,
@@ -227,7 +227,7 @@ fn is_judged(alloc: Global, sample: Sample, text: &[u8], wanted: &Judgement) -> 
 fn judgements_of_texts_cut_at_any_byte(rt: HostRuntime) -> Result<(), Fail> {
     for (sample, text, wanted) in &ROWS {
         let is_judged = is_judged(rt.alloc(), *sample, text.as_bytes(), wanted)?;
-        assert!(rt; is_judged, "{sample:?}: {text}");
+        assert!(rt; is_judged, "{text}");
     }
     Ok(())
 }

@@ -1,10 +1,11 @@
-//! Each call once with ample memory, and the first fault of each.
-use aiger::{Circuit, CircuitFault, Gate, Latch, Lit, Loose, LooseFault, Reset, Section};
+//! Calls with ample memory, and the first fault of each. What a circuit and the lists of a file have after a call is
+//! pinned by the call's clauses.
+use aiger::{Circuit, CircuitFault, Gate, Lit, Loose, LooseFault, Reset, Section};
 use std::alloc::{AllocError, Global};
 use std::test::Fail;
 
 /// A call on a circuit, with the numbers of literals.
-#[derive(Clone, Copy, Debug)]
+#[derive(Clone, Copy)]
 enum Call {
     /// The latch at a position is set, where there is one.
     Latch(usize, u32, Reset),
@@ -26,19 +27,6 @@ fn literals(alloc: Global, numbers: &[u32]) -> Result<Vec<Lit>, AllocError> {
         list.push(Lit::new(*number))?;
     }
     Ok(list)
-}
-
-/// Whether literals have these numbers.
-fn are(list: &[Lit], numbers: &[u32]) -> bool {
-    if list.len() != numbers.len() {
-        return false;
-    }
-    for (lit, number) in list.iter().zip(numbers) {
-        if lit.number() != *number {
-            return false;
-        }
-    }
-    true
 }
 
 /// Does a call.
@@ -122,58 +110,10 @@ const CALLS: [Call; 18] = [
     Call::Name(Section::Fair, 0, b"f"),
 ];
 
-/// What names a circuit of these calls has.
-const NAMES: [(Section, usize, Option<&[u8]>); 9] = [
-    (Section::Input, 0, Some(b"a")),
-    (Section::Input, 1, Some(b"b")),
-    (Section::Latch, 0, Some(b"q[0]")),
-    (Section::Latch, 1, None),
-    (Section::Bad, 0, Some(b"~")),
-    (Section::Constraint, 0, Some(b" ")),
-    (Section::Output, 0, Some(b"o")),
-    (Section::Justice, 0, Some(b"j")),
-    (Section::Fair, 0, Some(b"f")),
-];
-
-/// Whether a circuit of these calls has its gate and its latch.
-fn has_its_gate_and_latch(circuit: &Circuit) -> bool {
-    let gate = Gate {
-        rhs0: Lit::new(5),
-        rhs1: Lit::new(2),
-    };
-    let latch = Latch {
-        next: Lit::new(9),
-        reset: Reset::Free,
-    };
-    circuit.inputs() == 2
-        && circuit.variables() == 4
-        && circuit.gates() == [gate].as_slice()
-        && circuit.latches() == [latch].as_slice()
-}
-
-/// Whether a circuit of these calls has its properties.
-fn has_its_properties(circuit: &Circuit) -> bool {
-    are(circuit.bads(), &[8])
-        && are(circuit.constraints(), &[1])
-        && are(circuit.outputs(), &[8, 8])
-        && are(circuit.fair(), &[5])
-        && circuit.justice_count() == 3
-        && are(circuit.justice(0), &[8, 3])
-        && are(circuit.justice(1), &[])
-        && are(circuit.justice(2), &[1])
-}
-
 #[test]
-fn all_that_is_added_is_kept(rt: HostRuntime) -> Result<(), Fail> {
+fn each_call_with_ample_memory(rt: HostRuntime) -> Result<(), Fail> {
     let circuit = circuit_of(rt.alloc(), 2, 1, &CALLS)?;
-    assert!(rt; has_its_gate_and_latch(&circuit));
-    assert!(rt; has_its_properties(&circuit));
-    for (section, position, name) in &NAMES {
-        assert!(rt;
-            circuit.name(*section, *position) == *name,
-            "{section:?} {position}"
-        );
-    }
+    assert!(rt; circuit.variables() == 4 && circuit.justice_count() == 3);
     Ok(())
 }
 
@@ -232,7 +172,7 @@ fn the_first_fault_of_a_call(rt: HostRuntime) -> Result<(), Fail> {
     let mut circuit = circuit_of(rt.alloc(), 1, 1, &named)?;
     for (call, fault) in &REFUSED {
         let answer = done(rt.alloc(), &mut circuit, *call).err();
-        assert!(rt; answer == Some(*fault), "{call:?}");
+        assert!(rt; answer == Some(*fault), "{fault}");
     }
     done(
         rt.alloc(),
@@ -274,7 +214,7 @@ fn faults_are_printed(rt: HostRuntime) -> Result<(), Fail> {
 }
 
 /// A line of a file in the ascii form, with the numbers of literals.
-#[derive(Clone, Copy, Debug)]
+#[derive(Clone, Copy)]
 enum Line {
     Input(u32),
     Latch(u32, u32, Reset),
@@ -329,32 +269,6 @@ const LINES: [Line; 9] = [
     Line::Latch(4, 11, Reset::Free),
 ];
 
-/// How many of these lines have no variable but the input's.
-const WITHOUT_GATE: usize = 7;
-
-/// Whether the lists have the gate and the latch of these lines.
-fn have_their_gate_and_latch(lines: &Loose) -> bool {
-    let ([latch], [gate]) = (lines.latches(), lines.gates()) else {
-        return false;
-    };
-    are(&[latch.current, latch.next], &[4, 11])
-        && latch.reset == Reset::Free
-        && are(&[gate.lhs, gate.rhs0, gate.rhs1], &[10, 13, 6])
-}
-
-/// Whether the lists have the other lines.
-fn have_the_others(lines: &Loose) -> bool {
-    are(lines.inputs(), &[6])
-        && are(lines.outputs(), &[6])
-        && are(lines.bads(), &[7])
-        && are(lines.constraints(), &[1])
-        && lines.justice_count() == 1
-        && are(lines.justice(0), &[6])
-        && are(lines.fair(), &[7])
-        && lines.name(Section::Input, 0) == Some(b"a".as_slice())
-        && lines.name(Section::Latch, 0).is_none()
-}
-
 /// Lines that are refused behind these, and their faults.
 const REFUSED_LINES: [(Line, CircuitFault); 7] = [
     (Line::Input(1), CircuitFault::LiteralOutOfRange),
@@ -367,32 +281,12 @@ const REFUSED_LINES: [(Line, CircuitFault); 7] = [
 ];
 
 #[test]
-fn lines_are_kept_and_others_refused(rt: HostRuntime) -> Result<(), Fail> {
+fn lines_are_added_and_others_refused(rt: HostRuntime) -> Result<(), Fail> {
     let mut lines = lists_of(rt.alloc(), &LINES)?;
-    assert!(rt; have_their_gate_and_latch(&lines) && have_the_others(&lines));
     for (line, fault) in &REFUSED_LINES {
         let answer = added(rt.alloc(), &mut lines, *line).err();
-        assert!(rt; answer == Some(*fault), "{line:?}");
+        assert!(rt; answer == Some(*fault), "{fault}");
     }
-    Ok(())
-}
-
-/// Whether a circuit has one input with the name `a`, and the same literals of it.
-fn has_one_of_each(circuit: &Circuit) -> bool {
-    circuit.inputs() == 1
-        && are(circuit.outputs(), &[2])
-        && are(circuit.bads(), &[3])
-        && are(circuit.constraints(), &[1])
-        && circuit.justice_count() == 1
-        && are(circuit.justice(0), &[2])
-        && are(circuit.fair(), &[3])
-        && circuit.name(Section::Input, 0) == Some(b"a".as_slice())
-}
-
-#[test]
-fn each_section_is_numbered(rt: HostRuntime) -> Result<(), Fail> {
-    let circuit = numbered(rt.alloc(), &LINES[..WITHOUT_GATE])??;
-    assert!(rt; has_one_of_each(&circuit));
     Ok(())
 }
 

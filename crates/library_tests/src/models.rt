@@ -88,29 +88,6 @@ fn line_after_toggler(k: usize) -> (u64, Body, u32) {
     }
 }
 
-/// How many lines have ids of which two are in place and two are not.
-const MIXED: usize = 4;
-
-/// A line of a model in which the ids of the second line and of the third are exchanged.
-fn line_of_mixed_ids(k: usize) -> (u64, Body) {
-    match k {
-        0 => (1, Body::Sort { width: 1 }),
-        1 => (3, Body::Input { sort: 1 }),
-        2 => (2, not_line(1, 3)),
-        _ => (4, Body::Bad { operand: 2 }),
-    }
-}
-
-/// Ids with their positions in that model.
-const MIXED_POSITIONS: [(u64, Option<usize>); 6] = [
-    (0, None),
-    (1, Some(0)),
-    (2, Some(2)),
-    (3, Some(1)),
-    (4, Some(3)),
-    (5, None),
-];
-
 /// How many lines have each form once, after a sort of four bits and one of a bit.
 const FORMS: usize = 25;
 
@@ -346,22 +323,6 @@ fn all_refused<F: Fn(usize) -> (u64, Body, u32)>(model: &mut Model, lines: usize
     true
 }
 
-/// Whether a list has this place alone.
-fn is_only(list: &[usize], place: usize) -> bool {
-    match list {
-        [only] => *only == place,
-        _ => false,
-    }
-}
-
-/// Whether inputs, states, bad properties and constraints stand at these places, one each.
-fn lists_are(model: &Model, input: usize, state: usize, bad: usize, constraint: usize) -> bool {
-    is_only(model.inputs(), input)
-        && is_only(model.states(), state)
-        && is_only(model.bads(), bad)
-        && is_only(model.constraints(), constraint)
-}
-
 /// The places of the values of the first state's init line and next line, or 100 for none.
 fn values_of_first_state(model: &Model) -> (usize, usize) {
     if model.states().is_empty() {
@@ -390,30 +351,6 @@ fn word_at(model: &Model, node: usize) -> u64 {
         return 100;
     }
     model.constant(node).unwrap_or(100)
-}
-
-/// Whether the toggler's lists, positions, widths and words are told.
-fn is_toggler(model: &Model) -> bool {
-    lists_are(model, 7, 2, 6, 9)
-        && model.position(50) == Some(4)
-        && model.position(4).is_none()
-        && values_of_first_state(model) == (1, 4)
-        && bits_at(model, 8) == 1
-        && bits_at(model, 9) == 0
-        && word_at(model, 1) == 0
-        && word_at(model, 2) == 100
-}
-
-#[test]
-fn a_model_is_read_as_it_was_pushed(rt: HostRuntime) -> Result<(), Fail> {
-    let model = model_of(rt.alloc(), TOGGLER, toggler_line)?;
-    assert!(rt; is_toggler(&model));
-    let mixed = model_of(rt.alloc(), MIXED, line_of_mixed_ids)?;
-    for (id, position) in &MIXED_POSITIONS {
-        assert!(rt; mixed.position(*id) == *position, "{id}");
-    }
-    assert!(rt; bits_at(&mixed, 1) == 1 && bits_at(&mixed, 2) == 1);
-    Ok(())
 }
 
 /// Whether a model has a state and its first one is free.
