@@ -47,6 +47,19 @@ whole_lines-end text = lines_behind_text text (10 ∷ []) ∙ ap (λ (ls : List 
 pub unfinished-end : (text : List ℕ) → unfinished (text ++ 10 ∷ []) ≡ []
 unfinished-end text = rest_behind_text text (10 ∷ []) ∙ unfinished-line (unfinished text) []
 
+-- a line and its end
+module _ (text line : List ℕ) where
+  joined : unfinished text ++ (line ++ 10 ∷ []) ≡ (unfinished text ++ line) ++ 10 ∷ []
+  joined = sym (append_assoc (unfinished text) line (10 ∷ []))
+
+  pub whole_lines-line_end : IsLine line → whole_lines (text ++ (line ++ 10 ∷ [])) ≡ whole_lines text ++ (unfinished text ++ line) ∷ []
+  whole_lines-line_end is =
+      let one : IsLine (unfinished text ++ line) = list_any-append (λ c. c == 10) (unfinished text) line ∙ or_from _ _ (unfinished_is_line text) is in
+      lines_behind_text text (line ++ 10 ∷ []) ∙ ap (λ (ls : List (List ℕ)). whole_lines text ++ ls) (ap whole_lines joined ∙ whole_lines-line (unfinished text ++ line) [] one)
+
+  pub unfinished-line_end : unfinished (text ++ (line ++ 10 ∷ [])) ≡ []
+  unfinished-line_end = rest_behind_text text (line ++ 10 ∷ []) ∙ (ap unfinished joined ∙ unfinished-line (unfinished text ++ line) [])
+
 -- ---- a line behind others
 
 pub lines_more : (c : Circuit) (g : BitReading) (lines : List (List ℕ)) (line : List ℕ) → lines_behind c g (lines ++ line ∷ []) ≡ next_line c (lines_behind c g lines) line

@@ -1,7 +1,9 @@
 -- What is kept of an assignment byte by byte: its index, its value and its name.
 use Rattle.std.proofs.Common.{◌≡◌, ℕ, ◌==◌, Bool, true, false, cond, List, [], ◌∷◌, ◌++◌, Option, Some, None, Result, Ok, Err, refl, sym, ap, subst, ◌∙◌, if◌then◌else◌}
 use Rattle.std.proofs.lemmas.Bool.{ne_eqb}
+use Rattle.std.proofs.lemmas.List.{append-nil}
 use Rattle.base.specs.Decimals.{number_of}
+use Rattle.base.specs.Lines.{HasNone}
 use Rattle.btor2.specs.Symbols.{is_symbol}
 use Rattle.witness.specs.declared.bit_scan.Scan.{Scan}
 use Rattle.witness.specs.declared.word_name.NameScan.{NameScan}
@@ -13,6 +15,7 @@ use Rattle.witness.specs.declared.why.Why.TheVariants as why
 use Rattle.witness.specs.Admits.{Cut, to_front, cut_at_space, value_of}
 use Rattle.witness.specs.BitScans.{Scans}
 use Rattle.witness.specs.WordValues.{ValueScan, Values}
+use Rattle.witness.proofs.PieceLemmas.{cut_at_space-parts}
 use Rattle.witness.specs.WordScans.{Names, IndexAlone, WithValue, WithName, FieldsAt, AreFields, word_with, word_behind}
 
 -- ---- a byte behind a line that is cut at its first space
@@ -47,6 +50,10 @@ cut_byte line b other is = cut_behind line b line None is ∙ rw (ne_eqb b 32 ot
 
 cut_space : (line : List ℕ) → cut_at_space line ≡ (line, None) → cut_at_space (line ++ 32 ∷ []) ≡ (line, Some [])
 cut_space line is = cut_behind line 32 line None is
+
+-- no space
+pub cut_alone : (line : List ℕ) → HasNone 32 line → cut_at_space line ≡ (line, None)
+cut_alone line none = ap cut_at_space (sym (append-nil line)) ∙ cut_at_space-parts line None none
 
 -- ---- the fields with a byte more
 

@@ -28,9 +28,15 @@ itself : (x : List ℕ) → bytes_eq x x ≡ true
 itself [] = refl
 itself (a ∷ x) = and_from (a == a) (bytes_eq x x) (eq-eqb a a refl) (itself x)
 
-pub numbered_other : (line : List ℕ) (first byte n : ℕ) → first ≡ get_or line 0 0 → (first ≡ byte → ⊥) → false ≡ bytes_eq line (byte ∷ decimal n)
-numbered_other [] first byte n is other = refl
-numbered_other (a ∷ tail) first byte n is other = sym (and_left (a == byte) (bytes_eq tail (decimal n)) (ne_eqb a byte (λ e. other (is ∙ e))))
+-- a line with another first byte
+pub other_first : (line rest : List ℕ) (first byte : ℕ) → first ≡ get_or line 0 0 → (first ≡ byte → ⊥) → false ≡ bytes_eq line (byte ∷ rest)
+other_first [] rest first byte is other = refl
+other_first (a ∷ tail) rest first byte is other = sym (and_left (a == byte) (bytes_eq tail rest) (ne_eqb a byte (λ e. other (is ∙ e))))
+
+-- a line whose first byte opens or ends a part
+pub begun_part : (line : List ℕ) (first byte : ℕ) → first ≡ get_or line 0 0 → first ≡ byte → begins_part (byte ∷ []) ≡ true → begins_part line ≡ true
+begun_part line first byte is same h =
+    sym (first_opens line first is) ∙ (ap (λ (b : ℕ). (b == 35) || ((b == 64) || (b == 46))) same ∙ (first_opens (byte ∷ []) byte refl ∙ h))
 
 pub numbered_some : (line : List ℕ) (first byte n found : ℕ) → n < 2 ^ 64 - 1 → first ≡ get_or line 0 0 → first ≡ byte → Some found ≡ number_of (behind_first line) → (found == n) ≡ bytes_eq line (byte ∷ decimal n)
 unfolding number_of is_decimal

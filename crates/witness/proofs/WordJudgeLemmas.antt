@@ -11,14 +11,14 @@ use Rattle.witness.specs.declared.why.Why.{Why}
 use Rattle.witness.specs.declared.why.Why.TheVariants as why
 use Rattle.witness.specs.declared.word_line.LineScan.{LineScan}
 use Rattle.witness.specs.Texts.{Shape, Assignment, Parts, has_free, is_comment, shape_of, most_lines}
-use Rattle.witness.specs.Admits.{claims_at, assignment_at, free_assignment_at, Place, AtStatus, AtClaims, AtParts, InStates, InFree, InFrame, AtEnd, Read, nothing_read, states_closed, frame_closed, opens_frame, opens_states, begins_part, after_claims, after_assignment, in_part, admit_at, admit}
+use Rattle.witness.specs.Admits.{claims_at, assignment_at, free_assignment_at, is_nothing, Place, AtStatus, AtClaims, AtParts, InStates, InFree, InFrame, AtEnd, Read, nothing_read, states_closed, frame_closed, opens_frame, opens_states, begins_part, after_claims, after_assignment, in_part, admit_at, admit}
 use Rattle.witness.specs.Judgements.{frame_words, makes_no_claim}
 use Rattle.witness.specs.WordScans.{IsScanned}
 use Rattle.witness.specs.WordPlays.{WordPlay, steps_of}
 use Rattle.witness.specs.WordReadings.{Reading, nothing_admitted, one_more_line, next_line_of, lines_behind, closed_word_frames}
 use Rattle.witness.specs.WordStands.{place_of, WordReader, Reads, GivesLine, is_status, Counts, WordJudge, IsOfLines, StandsFor}
 use Rattle.witness.proofs.WordReadingLemmas.{stays, lines_append}
-use Rattle.witness.proofs.BitJudgeLemmas.{or-false, whole_lines-byte, unfinished-byte, whole_lines-end, unfinished-end}
+use Rattle.witness.proofs.BitJudgeLemmas.{or-false, whole_lines-byte, unfinished-byte}
 
 -- ---- what an admitted line changes
 
@@ -372,12 +372,30 @@ byte_more items text j byte s q other stands scans counts reads =
       line = subst (IsScanned s) (sym (unfinished-byte text byte other)) scans;
     }
 
--- the end of a line
-pub end_more : (items : List Item) (text : List ℕ) (j : WordJudge) → IsOfLines items j (whole_lines text ++ unfinished text ∷ []) [] → IsScanned j.line [] → StandsFor items j (text ++ 10 ∷ [])
-end_more items text j lines scans =
+pub nothing_there : (line : List ℕ) → is_nothing line ≡ true → line ≡ []
+nothing_there [] h = refl
+nothing_there (b ∷ line) h = absurd (cc h)
+
+-- behind the end of a line
+pub line_ended : (items : List Item) (text : List ℕ) (lines : List (List ℕ)) (j : WordJudge) → whole_lines text ≡ lines → unfinished text ≡ [] → IsOfLines items j lines [] → IsScanned j.line [] → StandsFor items j text
+line_ended items text lines j whole none is scans =
     record {
-      lines = subst (λ (ls : List (List ℕ)). IsOfLines items j ls (unfinished (text ++ 10 ∷ []))) (sym (whole_lines-end text)) (subst (IsOfLines items j (whole_lines text ++ unfinished text ∷ [])) (sym (unfinished-end text)) lines);
-      line = subst (IsScanned j.line) (sym (unfinished-end text)) scans;
+      lines = subst (λ (ls : List (List ℕ)). IsOfLines items j ls (unfinished text)) (sym whole) (subst (IsOfLines items j lines) (sym none) is);
+      line = subst (IsScanned j.line) (sym none) scans;
+    }
+
+-- the bytes behind the lines are others
+pub with_bytes : (items : List Item) (lines : List (List ℕ)) (line next : List ℕ) (j : WordJudge) → IsOfLines items j lines line → (j.refused ≡ None → Reads items j.reader (lines_behind (shape_of items) nothing_admitted lines).read next) → IsOfLines items j lines next
+with_bytes items lines line next j is reads =
+    record {
+      admitted = is.admitted;
+      refused = is.refused;
+      no_claim = is.no_claim;
+      few = is.few;
+      frames = is.frames;
+      whole = is.whole;
+      counts = is.counts;
+      reads = reads;
     }
 
 -- the line in hand is another field

@@ -11,7 +11,7 @@ use Rattle.witness.specs.declared.word_line.LineScan.{LineScan}
 use Rattle.witness.specs.declared.word_fields.Field.TheVariants as field
 use Rattle.witness.specs.declared.why.Why.{Why}
 use Rattle.witness.specs.declared.why.Why.TheVariants as why
-use Rattle.witness.specs.Admits.{value_of, cut_at_space}
+use Rattle.witness.specs.Admits.{value_of, cut_at_space, begins_part}
 use Rattle.witness.specs.BitScans.{Scans}
 use Rattle.witness.specs.WordValues.{ValueScan, Values}
 
@@ -97,3 +97,9 @@ pub record IsScanned (s : LineScan) (line : List ℕ) : Type 0 where
   pub scans : Scans s.line line
   pub status : Starts s.status line
   pub fields : AreFields s.fields line
+
+-- what is kept is that of this line, where parts stand: a line that opens or ends one, or an assignment
+pub record IsOfPart (s : LineScan) (line : List ℕ) : Type 0 where
+  pub first : s.line.first ≡ slice_index_or line 0 0
+  pub marked : begins_part line ≡ true → Scans s.line line
+  pub fields : begins_part line ≡ false → AreFields s.fields line

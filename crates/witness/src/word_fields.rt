@@ -1,7 +1,9 @@
 //! An assignment, byte by byte: an index, a value and a name, with a space between.
 ghost use Rattle.std.specs.Prelude.{◌≡◌, ℕ, ◌<◌, ◌^◌, List, [], ◌∷◌, ◌++◌, IfOk, Some, None};
 ghost use Rattle.base.specs.Decimals.{number_of};
+ghost use Rattle.base.specs.Lines.{HasNone};
 ghost use Rattle.witness.specs.Admits.{cut_at_space};
+ghost use Rattle.witness.specs.BitScans.{Scans};
 ghost use Rattle.witness.specs.WordValues.{Gives};
 ghost use Rattle.witness.specs.WordScans.{AreFields, word_behind};
 
@@ -9,7 +11,7 @@ use crate::bit_scan::Scan;
 use crate::why::Why;
 use crate::word_name::NameScan;
 use crate::word_value::ValueScan;
-use base::Width;
+use base::{Width, cut_at};
 
 /// Which field of an assignment goes on.
 #[derive(Clone, Copy)]
@@ -32,7 +34,51 @@ pub(crate) struct FieldScan {
     name: NameScan,
 }
 
+/// What the bytes of an index say, behind a byte `0`.
+fn index_of(token: &[u8]) -> Scan
+    ensures { Scans result (48 ∷ token.now) }
+{
+    let mut index = Scan::new();
+    index.push(b'0');
+    index.with_all(token)
+}
+
+/// That of a whole line with this index and these bytes behind the first space.
+fn with_value(index: Scan, behind: &[u8]) -> FieldScan
+    ensures { (token : List ℕ) → HasNone 32 token → Scans index (48 ∷ token) → AreFields result (token ++ 32 ∷ behind.now) }
+{
+    match cut_at(behind, b' ') {
+        None => FieldScan {
+            field: Field::Value,
+            index,
+            value: ValueScan::of(behind),
+            name: NameScan::new(),
+        },
+        Some((digits, name)) => FieldScan {
+            field: Field::Name,
+            index,
+            value: ValueScan::of(digits),
+            name: NameScan::of(name),
+        },
+    }
+}
+
 impl FieldScan {
+    /// That of a whole line.
+    pub(crate) fn of(line: &[u8]) -> FieldScan
+        ensures { AreFields result line.now }
+    {
+        match cut_at(line, b' ') {
+            None => FieldScan {
+                field: Field::Index,
+                index: index_of(line),
+                value: ValueScan::new(),
+                name: NameScan::new(),
+            },
+            Some((token, behind)) => with_value(index_of(token), behind),
+        }
+    }
+
     /// A line with no byte yet.
     pub(crate) fn new() -> FieldScan
         ensures { AreFields result [] }

@@ -1,5 +1,5 @@
 //! The judge of witnesses over a model.
-ghost use Rattle.std.specs.Prelude.{◌≡◌, ℕ, ◌+◌, ◌&&◌, ◌||◌, List, [], ◌∷◌, ◌++◌, IfOk, None, codes};
+ghost use Rattle.std.specs.Prelude.{◌≡◌, ℕ, ◌+◌, ◌&&◌, ◌||◌, true, List, [], ◌∷◌, ◌++◌, IfOk, None, codes};
 ghost use Rattle.std.specs.Str.{bytes_eq};
 ghost use Rattle.btor2.specs.declared.item.Item.{Item};
 ghost use Rattle.btor2.specs.Lists.{first_init_without_next};
@@ -10,8 +10,9 @@ ghost use Rattle.witness.specs.Admits.{is_at_end};
 ghost use Rattle.witness.specs.Judgements.{Judges};
 ghost use Rattle.witness.specs.WordPlays.{steps_of};
 ghost use Rattle.witness.specs.WordReadings.{admitted_word_lines, closed_word_frames};
+ghost use Rattle.base.specs.Lines.{IsLine, unfinished};
 ghost use Rattle.witness.specs.WordScans.{IsScanned};
-ghost use Rattle.witness.specs.WordStands.{IsOfLines, StandsFor, is_status, judgement_of, place_of};
+ghost use Rattle.witness.specs.WordStands.{IsOfLines, StandsFor, Tells, is_in_parts, is_status, judgement_of, place_of};
 
 use crate::judgement::Judgement;
 use crate::last_line::{MOST_LINES, last_refusal};
@@ -21,6 +22,7 @@ use crate::why::Why;
 use crate::word_line::LineScan;
 use crate::word_play::WordPlay;
 use crate::word_reader::WordReader;
+use base::next_line;
 use btor2::Model;
 use runs::NewFault;
 use std::alloc::Global;
@@ -51,12 +53,19 @@ impl<'a> std::marker::Model for WordJudge<'a> {
     ghost view = { λ j. record { reader = j.reader; line = j.line; admitted = j.admitted; refused = j.refused; no_claim = j.no_claim } };
 }
 
+/// Whether a line says that there is no claim.
+fn is_no_claim(line: &LineScan) -> bool
+    ensures { (bytes : List ℕ) → IsScanned line.now bytes → result ≡ (bytes_eq bytes (codes "unsat") || bytes_eq bytes (codes "unknown")) }
+{
+    line.is_unsat() || line.is_unknown()
+}
+
 /// Whether a line says that there is no claim, where it may be the status.
 fn says_no_claim(place: Place, line: &LineScan) -> bool
-    ensures { (bytes : List ℕ) → IsScanned line.now bytes → result ≡ (is_status (place_of place) && (bytes_eq bytes (codes "unsat") || bytes_eq bytes (codes "unknown"))) }
+    ensures { (bytes : List ℕ) → Tells (place_of place) line.now bytes → result ≡ (is_status (place_of place) && (bytes_eq bytes (codes "unsat") || bytes_eq bytes (codes "unknown"))) }
 {
     match place {
-        Place::Status => line.is_unsat() || line.is_unknown(),
+        Place::Status => is_no_claim(line),
         Place::Claims | Place::Parts | Place::States | Place::Free | Place::Frame | Place::End =>
             false,
     }
@@ -113,16 +122,16 @@ impl<'a> WordJudge<'a> {
     }
 
     /// A line has ended behind the whole lines, none of which was refused.
-    fn judge_line(&mut self, line: LineScan)
-        ensures lines { (items : List Item) (lines : List (List ℕ)) (bytes : List ℕ) → IsOfLines items self.old lines bytes → IsScanned line bytes → self.old.refused ≡ None → IsOfLines items self.new (lines ++ bytes ∷ []) [] }
+    fn judge_line(&mut self, line: &LineScan)
+        ensures lines { (items : List Item) (lines : List (List ℕ)) (bytes : List ℕ) → IsOfLines items self.old lines bytes → Tells (place_of self.old.reader.place) line.now bytes → self.old.refused ≡ None → IsOfLines items self.new (lines ++ bytes ∷ []) [] }
         ensures line { self.new.line ≡ self.old.line }
     {
         if self.admitted >= MOST_LINES {
             self.refused = Some(Why::TooLong);
             return;
         }
-        self.no_claim = either(self.no_claim, says_no_claim(self.reader.place(), &line));
-        match self.reader.admit(&line) {
+        self.no_claim = either(self.no_claim, says_no_claim(self.reader.place(), line));
+        match self.reader.admit(line) {
             Ok(()) => self.admitted += 1,
             Err(why) => self.refused = Some(why),
         }
@@ -135,7 +144,7 @@ impl<'a> WordJudge<'a> {
         let line = self.line;
         self.line = LineScan::new();
         if self.refused.is_none() {
-            self.judge_line(line);
+            self.judge_line(&line);
         }
     }
 
@@ -169,12 +178,44 @@ impl<'a> WordJudge<'a> {
         }
     }
 
+    /// Whether a line that begins is judged by its bytes alone.
+    fn takes_whole_lines(&self) -> bool
+        ensures parts { result ≡ true → is_in_parts (place_of self.now.reader.place) ≡ true }
+        ensures begins { (items : List Item) (text : List ℕ) → StandsFor items self.now text → result ≡ true → unfinished text ≡ [] }
+    {
+        if !self.reader.takes_whole_lines() {
+            return false;
+        }
+        self.line.is_empty()
+    }
+
+    /// Takes the rest of a line and its end.
+    fn take_line(&mut self, bytes: &[u8])
+        ensures { (items : List Item) (text : List ℕ) → IsLine bytes.now → StandsFor items self.old text → StandsFor items self.new (text ++ (bytes.now ++ 10 ∷ [])) }
+    {
+        if self.refused.is_some() {
+            self.line = LineScan::new();
+            return;
+        }
+        if self.takes_whole_lines() {
+            self.judge_line(&LineScan::of_part(bytes));
+            return;
+        }
+        self.take_all(bytes);
+        self.end_line();
+    }
+
     /// Takes a piece of the text behind those before: a judge that stood for a text stands for that text with the piece
     /// behind it.
     pub fn feed(&mut self, bytes: &[u8])
         ensures { (items : List Item) (text : List ℕ) → StandsFor items self.old text → StandsFor items self.new (text ++ bytes.now) }
     {
-        self.take_all(bytes);
+        let mut rest = bytes;
+        while let Some((line, behind)) = next_line(rest) {
+            self.take_line(line);
+            rest = behind;
+        }
+        self.take_all(rest);
     }
 
     /// The judgement of the text: of every one that the judge stands for.

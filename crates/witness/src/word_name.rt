@@ -55,6 +55,17 @@ impl NameScan {
         *self = self.with(byte);
     }
 
+    /// That of a whole name.
+    pub(crate) fn of(bytes: &[u8]) -> NameScan
+        ensures { Names result bytes.now }
+    {
+        let mut name = NameScan::new();
+        for byte in bytes {
+            name.push(*byte);
+        }
+        name
+    }
+
     /// Whether the bytes are a symbol.
     pub(crate) fn is_symbol(self) -> bool
         ensures { (bytes : List ℕ) → Names self bytes → result ≡ is_symbol bytes }

@@ -11,8 +11,8 @@ ghost use Rattle.base.specs.Decimals.{number_of};
 ghost use Rattle.witness.specs.Judgements.{nodes_of, unreached_from};
 ghost use Rattle.witness.specs.Fits.{NoneIsSet, RisesAmong, AreClaimed};
 ghost use Rattle.witness.specs.declared.place.Place.TheVariants as place;
-ghost use Rattle.witness.specs.WordScans.{AreFields, IsScanned};
-ghost use Rattle.witness.specs.WordStands.{Reads, GivesLine};
+ghost use Rattle.witness.specs.WordScans.{AreFields, IsOfPart, IsScanned};
+ghost use Rattle.witness.specs.WordStands.{Reads, GivesLine, Tells, is_in_parts, place_of};
 
 use crate::place::Place;
 use crate::verdicts::first_unreached;
@@ -62,6 +62,16 @@ fn has_free(model: &Model) -> bool
     false
 }
 
+/// Whether the next line stands where parts do, or behind them.
+fn is_in_parts(place: Place) -> bool
+    ensures { result ≡ is_in_parts (place_of place) }
+{
+    match place {
+        Place::Status | Place::Claims => false,
+        Place::Parts | Place::States | Place::Free | Place::Frame | Place::End => true,
+    }
+}
+
 impl<'a> WordReader<'a> {
     /// Of a model, before any line.
     ///
@@ -93,6 +103,13 @@ impl<'a> WordReader<'a> {
         ensures { result ≡ self.now.place }
     {
         self.place
+    }
+
+    /// Whether the next line is admitted without its bytes having been taken: one of the parts, or behind them.
+    pub(crate) fn takes_whole_lines(&self) -> bool
+        ensures { result ≡ is_in_parts (place_of self.now.place) }
+    {
+        is_in_parts(self.place)
     }
 
     /// The first bad property that is claimed and rose in no closed frame.
@@ -133,7 +150,7 @@ impl<'a> WordReader<'a> {
 
     /// Whether a line begins the part of states of a frame, where there is a free state.
     fn begins_states(&self, line: &LineScan, frame: u64) -> bool
-        ensures { (bytes : List ℕ) → IsScanned line.now bytes → frame < 2 ^ 64 - 1 → result ≡ (opens_states frame bytes && self.now.has_free) }
+        ensures { (bytes : List ℕ) → IsOfPart line.now bytes → frame < 2 ^ 64 - 1 → result ≡ (opens_states frame bytes && self.now.has_free) }
     {
         line.is_numbered(b'#', frame) && self.has_free
     }
@@ -169,7 +186,7 @@ impl<'a> WordReader<'a> {
 
     /// The line behind the claims has ended.
     fn admit_parts(&mut self, line: &LineScan) -> Result<(), Why>
-        ensures line { (items : List Item) (r : Read) (bytes : List ℕ) → Reads items self.old r bytes → IsScanned line.now bytes → self.old.place ≡ place.Parts → GivesLine items r bytes self.new result }
+        ensures line { (items : List Item) (r : Read) (bytes : List ℕ) → Reads items self.old r bytes → IsOfPart line.now bytes → self.old.place ≡ place.Parts → GivesLine items r bytes self.new result }
         ensures err { OnErr result (self.new.play ≡ self.old.play) }
     {
         if line.is_numbered(b'#', 0) {
@@ -185,7 +202,7 @@ impl<'a> WordReader<'a> {
 
     /// A line of the states' part of the first frame has ended, or the one behind it.
     fn admit_states(&mut self, line: &LineScan) -> Result<(), Why>
-        ensures line { (items : List Item) (r : Read) (bytes : List ℕ) → Reads items self.old r bytes → IsScanned line.now bytes → self.old.place ≡ place.States → GivesLine items r bytes self.new result }
+        ensures line { (items : List Item) (r : Read) (bytes : List ℕ) → Reads items self.old r bytes → IsOfPart line.now bytes → self.old.place ≡ place.States → GivesLine items r bytes self.new result }
         ensures err { OnErr result (self.new.play ≡ self.old.play) }
     {
         if line.is_numbered(b'@', 0) {
@@ -200,7 +217,7 @@ impl<'a> WordReader<'a> {
 
     /// The same of a later frame.
     fn admit_free(&mut self, line: &LineScan) -> Result<(), Why>
-        ensures line { (items : List Item) (r : Read) (bytes : List ℕ) → Reads items self.old r bytes → IsScanned line.now bytes → self.old.place ≡ place.Free → length r.closed < 2 ^ 62 → GivesLine items r bytes self.new result }
+        ensures line { (items : List Item) (r : Read) (bytes : List ℕ) → Reads items self.old r bytes → IsOfPart line.now bytes → self.old.place ≡ place.Free → length r.closed < 2 ^ 62 → GivesLine items r bytes self.new result }
         ensures err { OnErr result (self.new.play ≡ self.old.play) }
     {
         if line.is_numbered(b'@', self.play.frames()) {
@@ -218,7 +235,7 @@ impl<'a> WordReader<'a> {
 
     /// A line behind that which opens a frame has ended.
     fn admit_frame(&mut self, line: &LineScan) -> Result<(), Why>
-        ensures line { (items : List Item) (r : Read) (bytes : List ℕ) → Reads items self.old r bytes → IsScanned line.now bytes → self.old.place ≡ place.Frame → length r.closed < 2 ^ 62 → GivesLine items r bytes self.new result }
+        ensures line { (items : List Item) (r : Read) (bytes : List ℕ) → Reads items self.old r bytes → IsOfPart line.now bytes → self.old.place ≡ place.Frame → length r.closed < 2 ^ 62 → GivesLine items r bytes self.new result }
         ensures err { OnErr result (self.new.play ≡ self.old.play) }
     {
         let next = self.play.frames().saturating_add(1);
@@ -244,7 +261,7 @@ impl<'a> WordReader<'a> {
 
     /// The line has ended: it is admitted, or why it is not.
     pub(crate) fn admit(&mut self, line: &LineScan) -> Result<(), Why>
-        ensures line { (items : List Item) (r : Read) (bytes : List ℕ) → Reads items self.old r bytes → IsScanned line.now bytes → length r.closed < 2 ^ 62 → GivesLine items r bytes self.new result }
+        ensures line { (items : List Item) (r : Read) (bytes : List ℕ) → Reads items self.old r bytes → Tells (place_of self.old.place) line.now bytes → length r.closed < 2 ^ 62 → GivesLine items r bytes self.new result }
         ensures err { OnErr result (self.new.play ≡ self.old.play) }
     {
         match self.place {

@@ -1,7 +1,8 @@
 //! The value of an assignment, byte by byte.
 ghost use Rattle.std.specs.Prelude.{◌≡◌, ℕ, ◌<◌, ◌≤◌, ◌^◌, ◌&&◌, ◌==◌, List, [], ◌∷◌, ◌++◌, IfOk, Ok, Err};
 ghost use Rattle.witness.specs.Admits.{is_value_byte, value_of};
-ghost use Rattle.witness.specs.WordValues.{Gives, Values, word_more, value_more};
+ghost use Rattle.witness.specs.WordValues.{Gives, Values, is_one, word_more, value_more};
+ghost use Rattle.base.specs.Word.{bit_number};
 
 use crate::why::Why;
 use base::Width;
@@ -37,15 +38,28 @@ impl Model for ValueScan {
 fn is_value_byte(byte: u8) -> bool
     ensures { result ≡ is_value_byte byte }
 {
-    byte == b'0' || (byte == b'1' || byte == b'x')
+    (b'0' <= byte && byte <= b'1') || byte == b'x'
+}
+
+/// The least word whose double is above 2^64 - 1.
+const HALF: u64 = 1 << 63;
+
+/// The bit that a byte writes.
+fn bit_of(byte: u8) -> u64
+    ensures is { result ≡ bit_number (is_one byte) }
+    ensures most { result ≤ 1 }
+{
+    if byte == b'1' { 1 } else { 0 }
 }
 
 /// A word with a bit more, at most 2^64 - 1.
 fn word_more(word: u64, byte: u8) -> u64
     ensures { result ≡ word_more word byte }
 {
-    let bit: u64 = if byte == b'1' { 1 } else { 0 };
-    word.saturating_mul(2).saturating_add(bit)
+    if word >= HALF {
+        return u64::MAX;
+    }
+    word * 2 + bit_of(byte)
 }
 
 /// Whether so many bytes are a value of so many bits.
@@ -85,6 +99,17 @@ impl ValueScan {
         ensures { (bytes : List ℕ) → Values self.old bytes → Values self.new (bytes ++ byte ∷ []) }
     {
         *self = self.with(byte);
+    }
+
+    /// That of a whole value.
+    pub(crate) fn of(bytes: &[u8]) -> ValueScan
+        ensures { Values result bytes.now }
+    {
+        let mut value = ValueScan::new();
+        for byte in bytes {
+            value.push(*byte);
+        }
+        value
     }
 
     /// The word of so many bits that the digits write, or why they write none.
