@@ -1,9 +1,12 @@
 -- Which tokens a line has, from its front.
-use Rattle.std.proofs.Common.{◌≡◌, ℕ, zero, suc, ◌<◌, Bool, true, false, not, ◌||◌, ◌==◌, cond, List, [], ◌∷◌, ◌++◌, length, get_or, take, drop, filter, refl, sym, ap, ◌∙◌, arith}
-use Rattle.std.specs.List.{list_any}
-use Rattle.std.proofs.lemmas.Bool.{or_parts, not-true, not-false, both_ways, or_left}
+use Rattle.std.proofs.Common.{◌≡◌, ℕ, zero, suc, ◌<◌, Bool, true, false, not, ◌||◌, ◌==◌, cond, Some, None, nat_lt, List, [], ◌∷◌, ◌++◌, length, get_or, take, drop, filter, refl, sym, ap, ◌∙◌, arith}
+use Rattle.std.specs.List.{list_any, position, position_or_len}
+use Rattle.std.proofs.lemmas.Bool.{or_parts, or_from, not-true, not-false, both_ways, or_left}
 use Rattle.std.proofs.lemmas.Bool.Decides.{nat_tests}
-use Rattle.std.proofs.lemmas.List.{drop_more, take_all, drop_all}
+use Rattle.std.proofs.lemmas.List.{drop_more, take_all, drop_all, take-append-drop}
+use Rattle.std.proofs.lemmas.List.Quantifiers.{position-Some}
+use Rattle.std.proofs.lemmas.List.Sums.{fails_before_first}
+use Rattle.base.proofs.CutLemmas.{IsCut, none_passes}
 use Rattle.bstr.specs.Bytes.{is_in, not_in}
 use Rattle.btor2text.specs.Tokens.{is_blank, to_first, pieces, is_some_bytes, before_comment, tokens, begins_blank, begins_token}
 
@@ -15,15 +18,30 @@ pub is_in-blanks : (b : ℕ) → is_in blanks b ≡ is_blank b
 unfolding is_in
 is_in-blanks b = grind (arith, nat_tests)
 
-list_any_same : (t u : ℕ → Bool) → ((b : ℕ) → t b ≡ u b) → (bytes : List ℕ) → list_any t bytes ≡ list_any u bytes
-list_any_same t u same [] = refl
-list_any_same t u same (b ∷ bs) = rw (same b, list_any_same t u same bs) refl
+-- the first blank of a line cuts it, and where there is none no byte of it is a blank
+is_no_place : (b : Bool) (n : ℕ) → cond b (Some n) None ≡ None → b ≡ false
+is_no_place true n h = absurd cc
+is_no_place false n h = refl
 
-pub no_blank : (bytes : List ℕ) → list_any (is_in blanks) bytes ≡ false → list_any is_blank bytes ≡ false
-no_blank bytes h = sym (list_any_same (is_in blanks) is_blank is_in-blanks bytes) ∙ h
+pub no_blank : (line : List ℕ) → position is_blank line ≡ None → list_any is_blank line ≡ false
+no_blank line h =
+    let past : nat_lt (position_or_len is_blank line) (length line) ≡ false = is_no_place _ _ h in
+    none_passes is_blank line (λ k lt e. both_ways _ (fails_before_first is_blank line k 0 (grind (arith, nat_tests))) e)
 
-pub is_blank_in : (b : ℕ) → is_in blanks b ≡ true → is_blank b ≡ true
-is_blank_in b h = sym (is_in-blanks b) ∙ h
+none_before : (line : List ℕ) (n : ℕ) → ((k : ℕ) → k < n → is_blank (get_or line k 0) ≡ false) → list_any is_blank (take n line) ≡ false
+none_before line zero h = refl
+none_before [] (suc n) h = refl
+none_before (b ∷ bs) (suc n) h = or_from _ _ (h 0 (omega arith)) (none_before bs n (λ k lt. h (suc k) (omega arith)))
+
+pub cut_at_blank : (line : List ℕ) (at : ℕ) → position is_blank line ≡ Some at → IsCut is_blank line at
+cut_at_blank line at h =
+    let first = position-Some is_blank line at 0 h in
+    record {
+      before = none_before line at first.2;
+      passes = first.1;
+      parts = sym (take-append-drop at line) ∙ ap (λ (rest : List ℕ). take at line ++ rest) (drop_more line at 0 first.0);
+      inside = first.0;
+    }
 
 pub is_blank_not : (b : ℕ) → not_in blanks b ≡ true → is_blank b ≡ false
 is_blank_not b h = sym (is_in-blanks b) ∙ not-true (is_in blanks b) h

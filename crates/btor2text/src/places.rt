@@ -11,6 +11,7 @@ use base::decimal;
 use std::alloc::Global;
 
 /// The number of a token in a plain place.
+#[inline(always)]
 #[tactic(auto, unfolding(crate::specs::Reading::plain))]
 pub(crate) fn plain(token: &[u8]) -> Result<u64, Why>
     ensures { Gives (λ n. n) result (plain token.now) }
@@ -33,6 +34,7 @@ fn is_negative(token: &[u8]) -> bool
 }
 
 /// The number of a token in an operand's place.
+#[inline(always)]
 #[tactic(auto, unfolding(crate::specs::Reading::operand))]
 fn operand(token: &[u8]) -> Result<u64, Why>
     ensures { Gives (λ n. n) result (operand token.now) }
@@ -45,6 +47,7 @@ fn operand(token: &[u8]) -> Result<u64, Why>
 }
 
 /// A number in a plain place, and the line behind it.
+#[inline(always)]
 #[tactic(auto, unfolding(crate::specs::Reading::plain_at))]
 pub(crate) fn plain_at(line: &[u8]) -> Result<(u64, &[u8]), Why>
     ensures { Gives (λ x. (x.0, tokens x.1.now)) result (plain_at (tokens line.now)) }
@@ -59,6 +62,7 @@ pub(crate) fn plain_at(line: &[u8]) -> Result<(u64, &[u8]), Why>
 }
 
 /// The id that an item keeps of a number: ids have 32 bits, and what is above is kept as 0, which no item has.
+#[inline(always)]
 #[tactic(auto, unfolding(crate::specs::Reading::kept_id))]
 fn kept_id(number: u64) -> u32
     ensures { result ≡ kept_id number }
@@ -67,6 +71,7 @@ fn kept_id(number: u64) -> u32
 }
 
 /// The id of a sort, and the line behind it.
+#[inline(always)]
 #[tactic(auto, unfolding(crate::specs::Reading::sort_at))]
 pub(crate) fn sort_at(line: &[u8]) -> Result<(u32, &[u8]), Why>
     ensures { Gives (λ x. (x.0, tokens x.1.now)) result (sort_at (tokens line.now)) }
@@ -76,6 +81,7 @@ pub(crate) fn sort_at(line: &[u8]) -> Result<(u32, &[u8]), Why>
 }
 
 /// The id of an operand, and the line behind it.
+#[inline(always)]
 #[tactic(auto, unfolding(crate::specs::Reading::operand_at))]
 pub(crate) fn operand_at(line: &[u8]) -> Result<(u32, &[u8]), Why>
     ensures { Gives (λ x. (x.0, tokens x.1.now)) result (operand_at (tokens line.now)) }

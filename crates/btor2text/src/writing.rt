@@ -57,6 +57,7 @@ fn put_item<K: Sink>(outbox: &mut Outbox, sink: &mut K, item: &Item) -> Result<(
 }
 
 /// Puts bytes.
+#[inline(always)]
 fn put_bytes<K: Sink>(outbox: &mut Outbox, sink: &mut K, bytes: &[u8]) -> Result<(), DeviceFault>
     ensures puts { Puts result (K.written sink.old) (K.written sink.new) outbox.old outbox.new (bytes.now) }
     ensures failures { CountsFaults result (K.failures sink.old) (K.failures sink.new) }
@@ -65,6 +66,7 @@ fn put_bytes<K: Sink>(outbox: &mut Outbox, sink: &mut K, bytes: &[u8]) -> Result
 }
 
 /// Puts a token behind a space.
+#[inline(always)]
 fn put_token<K: Sink>(outbox: &mut Outbox, sink: &mut K, token: &[u8]) -> Result<(), DeviceFault>
     ensures puts { Puts result (K.written sink.old) (K.written sink.new) outbox.old outbox.new (32 ∷ token.now) }
     ensures failures { CountsFaults result (K.failures sink.old) (K.failures sink.new) }

@@ -1,9 +1,10 @@
 //! The tests by which a model refuses an item, one for each row of the table, and the first that applies.
-ghost use Rattle.std.specs.Prelude.{◌≡◌, ◌≤◌, ◌+◌, ◌-◌, ◌^◌, ◌==◌, not, ◌&&◌, ◌||◌, length, nat_le, nat_lt, pos, neg_ℤ, int_le, int_lt, is_some, unwrap_or, option_and_then};
+ghost use Rattle.std.specs.Prelude.{◌≡◌, [], ◌∷◌, drop, ◌≤◌, ◌+◌, ◌-◌, ◌^◌, ◌==◌, not, ◌&&◌, ◌||◌, length, nat_le, nat_lt, pos, neg_ℤ, int_le, int_lt, is_some, unwrap_or, option_and_then};
 ghost use Rattle.std.specs.List.{list_all};
 ghost use Rattle.base.specs.Widths.{binary_width, is_of_bits};
 ghost use Rattle.btor2.specs.Items.{named_sort, node_width, sort_width};
-ghost use Rattle.btor2.specs.Check.{most_items, refusal, id_is_out_of_range, id_is_taken, sort_is_missing, operand_is_missing, state_is_none, width_is_out_of_range, slice_is_out_of_range, widths_differ, constant_fits, constant_does_not_fit, init_is_not_constant, is_second_init, is_second_next, justice_is_empty};
+ghost use Rattle.btor2.specs.declared.item.Body.TheVariants as body;
+ghost use Rattle.btor2.specs.Check.{most_items, first_row, table, refusal, id_is_out_of_range, id_is_taken, sort_is_missing, operand_is_missing, state_is_none, width_is_out_of_range, slice_is_out_of_range, widths_differ, constant_fits, constant_does_not_fit, init_is_not_constant, is_second_init, is_second_next, justice_is_empty};
 
 use crate::fault::PushFault;
 use crate::item::{Body, Item, all_ones};
@@ -330,7 +331,12 @@ impl Model {
     fn constant_does_not_fit(&self, body: &Body) -> bool
         ensures { result ≡ constant_does_not_fit self.now body.now }
     {
-        !constant_fits(self.named_bits(body), body)
+        match body {
+            Body::Const { .. } | Body::Constd { .. } | Body::Consth { .. } => {
+                !constant_fits(self.named_bits(body), body)
+            }
+            _ => false,
+        }
     }
 
     /// Whether a justice line names no node.
@@ -377,20 +383,39 @@ impl Model {
         }
     }
 
-    /// Why an item is refused after those here, if it is: the first row of the table that applies.
-    #[tactic(auto, unfolding(crate::specs::Check::refusal))]
-    pub(crate) fn refusal(&self, item: &Item) -> Option<PushFault>
-        ensures { result ≡ refusal self.now item.now }
+    /// Why an operator of two operands is refused behind the rows of its own id, if it is. Most lines are one, so each id is
+    /// looked up once.
+    #[tactic(auto, unfolding(crate::specs::Check::sort_is_missing, crate::specs::Check::operand_is_missing, crate::specs::Check::widths_differ))]
+    fn binary_refusal(
+        &self,
+        operator: Binary,
+        sort: u32,
+        left: u32,
+        right: u32,
+    ) -> Option<PushFault>
+        ensures { result ≡ first_row ((sort_is_missing self.now (body.Binary operator sort left right), PushFault.NoSuchSort)
+            ∷ (operand_is_missing self.now (body.Binary operator sort left right), PushFault.NoSuchNode)
+            ∷ (widths_differ self.now (body.Binary operator sort left right), PushFault.SortMismatch) ∷ []) }
     {
-        if self.is_full() {
-            return Some(PushFault::TooManyItems);
+        match self.sort_width(sort) {
+            None => Some(PushFault::NoSuchSort),
+            Some(width) => match self.node_width(left) {
+                None => Some(PushFault::NoSuchNode),
+                Some(first) => match self.node_width(right) {
+                    None => Some(PushFault::NoSuchNode),
+                    Some(second) if binary_differs(operator, width, first, second) => {
+                        Some(PushFault::SortMismatch)
+                    }
+                    Some(_) => None,
+                },
+            },
         }
-        if self.id_is_out_of_range(item) {
-            return Some(PushFault::IdOutOfRange);
-        }
-        if self.id_is_taken(item) {
-            return Some(PushFault::IdTaken);
-        }
+    }
+
+    /// Why what an item says is refused, if it is: the first row of the table behind those of its own id that applies.
+    fn said_refusal(&self, item: &Item) -> Option<PushFault>
+        ensures { result ≡ first_row (drop 3 (table self.now item.now)) }
+    {
         if self.sort_is_missing(&item.body) {
             return Some(PushFault::NoSuchSort);
         }
@@ -425,5 +450,38 @@ impl Model {
             return Some(PushFault::JusticeEmpty);
         }
         None
+    }
+
+    /// The same. An operator of two operands has a way of its own.
+    #[tactic(auto, unfolding(crate::specs::Check::state_is_none, crate::specs::Check::width_is_out_of_range, crate::specs::Check::slice_is_out_of_range, crate::specs::Check::constant_does_not_fit, crate::specs::Check::init_is_not_constant, crate::specs::Check::is_second_init, crate::specs::Check::is_second_next, crate::specs::Check::justice_is_empty))]
+    fn later_refusal(&self, item: &Item) -> Option<PushFault>
+        ensures { result ≡ first_row (drop 3 (table self.now item.now)) }
+    {
+        match &item.body {
+            Body::Binary {
+                operator,
+                sort,
+                left,
+                right,
+            } => self.binary_refusal(*operator, *sort, *left, *right),
+            _ => self.said_refusal(item),
+        }
+    }
+
+    /// Why an item is refused after those here, if it is: the first row of the table that applies.
+    #[tactic(auto, unfolding(crate::specs::Check::refusal))]
+    pub(crate) fn refusal(&self, item: &Item) -> Option<PushFault>
+        ensures { result ≡ refusal self.now item.now }
+    {
+        if self.is_full() {
+            return Some(PushFault::TooManyItems);
+        }
+        if self.id_is_out_of_range(item) {
+            return Some(PushFault::IdOutOfRange);
+        }
+        if self.id_is_taken(item) {
+            return Some(PushFault::IdTaken);
+        }
+        self.later_refusal(item)
     }
 }

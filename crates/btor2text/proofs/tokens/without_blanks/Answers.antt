@@ -1,7 +1,7 @@
 use Rattle.bstr.specs.Bytes.{not_in}
 use Rattle.base.proofs.CutLemmas.{cut_at_first, none_at_all}
 use Rattle.btor2text.proofs.TokenLemmas.{blanks, tokens-drop, all_blanks, begins_blank-drop, is_blank_not}
-use Rattle.btor2text.proofs.tokens.skip_blanks.Goals as goal
+use Rattle.btor2text.proofs.tokens.without_blanks.Goals as goal
 
 pub returns-in-None-clause-same : goal.returns-in-None-clause-same
 returns-in-None-clause-same c =
