@@ -8,7 +8,6 @@ use Rattle.std.proofs.lemmas.List.Sums.{sum_by-append, sum_by-cons}
 use Rattle.std.specs.List.{list_any, list_all, sum_by, count_by}
 use Rattle.std.specs.List.Sorted.{IsStrictlySortedBy}
 use Rattle.std.specs.Map.{keys_of}
-use Rattle.std.specs.HashSet.{HashSet, contains, Updates, IsUnchanged}
 use Rattle.aiger.specs.declared.loose.GateLine.{GateLine}
 use Rattle.aiger.specs.declared.loose.LatchLine.{LatchLine}
 use Rattle.aiger.specs.declared.circuit.Section.{Section}
@@ -372,11 +371,6 @@ may_define_here l d lit e t = subst (λ (x : Loose). (is_defining lit && not (is
 pub small_from_test : (lit : ℕ) → true ≡ is_small lit → IsSmall lit
 small_from_test lit t = grind (arith, nat_tests)
 
--- what a set has after an insertion that was done or refused
-pub set_after : {S : Type 0} (r : Result (Unit {0}) CircuitFault) (old new : HashSet ℕ S) (x y : ℕ) → x ≡ y → OnOk r (Updates nat_eq old new x true) → OnOk r ((v : ℕ) → contains nat_eq new v ≡ cond (nat_eq y v) true (contains nat_eq old v))
-set_after (Ok u) old new x y e h = λ v. h.0 v ∙ ap (λ (k : ℕ). cond (nat_eq k v) true (contains nat_eq old v)) e
-set_after (Err u) old new x y e h = tt
-
-pub set_kept : {S : Type 0} (r : Result (Unit {0}) CircuitFault) (old new : HashSet ℕ S) → OnErr r (IsUnchanged old new) → OnErr r ((v : ℕ) → contains nat_eq new v ≡ contains nat_eq old v)
-set_kept (Ok u) old new h = tt
-set_kept (Err u) old new h = λ v. ap (list_any (nat_eq v)) h
+-- what a set has after an insertion that was done or refused, by another word for the variable
+pub set_after : (r : Result (Unit {0}) CircuitFault) (had has : ℕ → Bool) (x y : ℕ) → x ≡ y → OnOk r ((v : ℕ) → has v ≡ cond (nat_eq x v) true (had v)) → OnOk r ((v : ℕ) → has v ≡ cond (nat_eq y v) true (had v))
+set_after r had has x y e h = subst (λ (k : ℕ). OnOk r ((v : ℕ) → has v ≡ cond (nat_eq k v) true (had v))) e h

@@ -1,6 +1,6 @@
 -- The fields of the lists of a file as contracts see them.
-use Rattle.std.specs.Prelude.{◌≡◌, ℕ, nat_eq}
-use Rattle.std.specs.HashSet.{contains}
+use Rattle.std.specs.Prelude.{◌≡◌, ℕ}
+use Rattle.aiger.specs.Definitions.{has_variable}
 use Rattle.aiger.specs.Loose.{Loose, is_defined}
 use Rattle.aiger.specs.declared.loose.Loose.TheInside.{Inside}
 
@@ -20,4 +20,4 @@ loose_of l =
 
 -- the set has the variables that lines define, and no others
 abbrev pub HasDefinedSet : Inside → Type 0
-HasDefinedSet l = (v : ℕ) → contains nat_eq l.defined v ≡ is_defined (loose_of l) v
+HasDefinedSet l = (v : ℕ) → has_variable l.defined v ≡ is_defined (loose_of l) v

@@ -2,6 +2,7 @@
 #![tactic(auto)]
 
 mod circuit;
+mod definitions;
 mod fault;
 mod flat_names;
 mod justice;

@@ -1,19 +1,19 @@
 //! The lists of an ascii file as it names them: variables in any numbering, gates in any order.
-ghost use Rattle.std.specs.Prelude.{◌≡◌, ◌<◌, true, [], ◌∷◌, ◌++◌, length, None, Some, OnOk, OnErr, option_copied, slice_get, nat_le, nat_eq, ◌&&◌, not};
+ghost use Rattle.std.specs.Prelude.{◌≡◌, ℕ, ◌<◌, true, [], ◌∷◌, ◌++◌, length, None, Some, OnOk, OnErr, option_copied, slice_get, nat_le, nat_eq, cond, ◌&&◌, not};
 ghost use Rattle.std.specs.List.{list_all, concat};
-ghost use Rattle.std.specs.HashSet.{IsUnchanged, Updates};
+ghost use Rattle.aiger.specs.Definitions.{has_variable};
 ghost use Rattle.aiger.specs.Literal.{variable};
 ghost use Rattle.aiger.specs.Refusal.{RefusesBy};
 ghost use Rattle.aiger.specs.Limits.{greatest_count};
 ghost use Rattle.aiger.specs.Loose.{is_defining, is_small};
 
 use crate::circuit::{GREATEST_COUNT, Reset, Section, push_counted};
+use crate::definitions::Definitions;
 use crate::fault::CircuitFault;
 use crate::justice::JusticeList;
 use crate::literal::Lit;
 use crate::names::{NameKeeper, is_good_name};
 use std::alloc::Global;
-use std::collections::HashSet;
 use std::marker::Model;
 
 /// A latch line: the literal that it defines, the literal whose bit it takes in the next frame,
@@ -57,7 +57,7 @@ pub struct Loose {
     fair: Vec<Lit>,
     names: NameKeeper,
     // the variables that the inputs, latches and gates define
-    defined: HashSet<u32>,
+    defined: Definitions,
 }
 
 impl Model for Loose {
@@ -89,7 +89,7 @@ impl Loose {
             justice: JusticeList::new(alloc),
             fair: Vec::new(alloc),
             names: NameKeeper::new(alloc),
-            defined: HashSet::new(alloc),
+            defined: Definitions::new(alloc),
         }
     }
 
@@ -277,7 +277,7 @@ impl Loose {
         ensures defined { result ≡ is_defined self.now variable }
         ensures valid { IsLoose self.now }
     {
-        self.defined.contains(&variable)
+        self.defined.has(variable)
     }
 
     /// Whether there are fewer than 2^30 definitions.
@@ -431,25 +431,22 @@ fn are_within(lits: &[Lit]) -> bool
 /// Adds a line that defines a variable, which no line defines yet. The error is want of memory, and
 /// nothing has changed then.
 fn define<T: Copy>(
-    defined: &mut HashSet<u32>,
+    defined: &mut Definitions,
     lines: &mut Vec<T>,
     variable: u32,
     line: T,
 ) -> Result<(), CircuitFault>
     ensures lines { OnOk result (lines.new.items ≡ lines.old.items ++ line ∷ []) }
-    ensures defined { OnOk result (Updates nat_eq defined.old defined.new variable true) }
+    ensures defined { OnOk result ((v : ℕ) → has_variable defined.new v ≡ cond (nat_eq variable v) true (has_variable defined.old v)) }
     ensures refused { RefusesBy result None }
     ensures lines_kept { OnErr result (lines.new.items ≡ lines.old.items) }
-    ensures defined_kept { OnErr result (IsUnchanged defined.old defined.new) }
+    ensures defined_kept { OnErr result ((v : ℕ) → has_variable defined.new v ≡ has_variable defined.old v) }
 {
     match lines.reserve(1) {
         Ok(()) => {}
         Err(_) => return Err(CircuitFault::NoMemory),
     }
-    match defined.insert(variable) {
-        Ok(_) => {}
-        Err(_) => return Err(CircuitFault::NoMemory),
-    }
+    defined.add(variable)?;
     match lines.push(line) {
         Ok(()) => Ok(()),
         Err(_) => unreachable!(),

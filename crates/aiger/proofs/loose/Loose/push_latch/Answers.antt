@@ -1,8 +1,7 @@
-use Rattle.std.proofs.Common.{nat_eq}
-use Rattle.std.specs.HashSet.{contains}
+use Rattle.aiger.specs.Definitions.{has_variable}
 use Rattle.aiger.specs.declared.loose.LatchLine.{LatchLine}
 use Rattle.aiger.specs.LooseView.{loose_of}
-use Rattle.aiger.proofs.LooseLemmas.{IsLoose-latch, HasSet-latch, may_define_here, small_from_test, room_from_test, set_after, set_kept}
+use Rattle.aiger.proofs.LooseLemmas.{IsLoose-latch, HasSet-latch, may_define_here, small_from_test, room_from_test, set_after}
 use Rattle.aiger.proofs.loose.Loose.push_latch.Goals as goal
 
 pub invariant_of-self : goal.invariant_of-self
@@ -11,7 +10,7 @@ invariant_of-self c =
       IsLoose-latch (loose_of c.self.inside) line c.define.new.lines.items c.define.result c.self.invariant.0
           (may_define_here (loose_of c.self.inside) c.args.self.now c.args.current c.self.view_is c.if-not-may_define.ensures) (small_from_test c.args.current c.if-not-is_within.ensures) (small_from_test c.args.next c.if-not-is_within-2.ensures)
           (room_from_test (loose_of c.self.inside) c.args.self.now c.self.view_is c.if-not-has_room.ensures) c.define.ensures.lines c.define.ensures.lines_kept,
-      HasSet-latch (loose_of c.self.inside) line c.define.new.lines.items c.define.result (contains nat_eq c.define.new.defined) (contains nat_eq c.self.inside.defined) c.self.invariant.1
-          (set_after c.define.result c.self.inside.defined c.define.new.defined _ _ c.var.ensures c.define.ensures.defined) (set_kept c.define.result c.self.inside.defined c.define.new.defined c.define.ensures.defined_kept)
+      HasSet-latch (loose_of c.self.inside) line c.define.new.lines.items c.define.result (has_variable c.define.new.defined) (has_variable c.self.inside.defined) c.self.invariant.1
+          (set_after c.define.result (has_variable c.self.inside.defined) (has_variable c.define.new.defined) _ _ c.var.ensures c.define.ensures.defined) c.define.ensures.defined_kept
           c.define.ensures.lines c.define.ensures.lines_kept,
     )
