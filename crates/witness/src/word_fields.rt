@@ -1,4 +1,4 @@
-//! An assignment, byte by byte: an index, a value and a name, with a space between.
+//! An assignment, byte by byte or at once: an index, a value and a name, with a space between.
 ghost use Rattle.std.specs.Prelude.{◌≡◌, ℕ, ◌<◌, ◌^◌, List, [], ◌∷◌, ◌++◌, IfOk, Some, None};
 ghost use Rattle.base.specs.Decimals.{number_of};
 ghost use Rattle.base.specs.Lines.{HasNone};

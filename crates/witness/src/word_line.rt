@@ -1,4 +1,4 @@
-//! A line of a witness over a model, byte by byte.
+//! A line of a witness over a model, byte by byte or at once.
 ghost use Rattle.std.specs.Prelude.{◌≡◌, ℕ, ◌==◌, ◌||◌, ◌<◌, ◌-◌, ◌^◌, min, true, false, List, [], ◌∷◌, ◌++◌, codes, decimal, length, slice_index_or};
 ghost use Rattle.std.specs.Str.{bytes_eq};
 ghost use Rattle.witness.specs.Texts.{is_comment};

@@ -1,4 +1,4 @@
-//! The name behind an assignment, byte by byte.
+//! The name behind an assignment, byte by byte or at once.
 ghost use Rattle.std.specs.Prelude.{◌≡◌, ℕ, ◌&&◌, nat_lt, nat_le, List, [], ◌∷◌, ◌++◌};
 ghost use Rattle.btor2.specs.Symbols.{is_symbol};
 ghost use Rattle.witness.specs.WordScans.{Names, name_more};

@@ -1,4 +1,4 @@
-//! The value of an assignment, byte by byte.
+//! The value of an assignment, byte by byte or at once.
 ghost use Rattle.std.specs.Prelude.{◌≡◌, ℕ, ◌<◌, ◌≤◌, ◌^◌, ◌&&◌, ◌==◌, List, [], ◌∷◌, ◌++◌, IfOk, Ok, Err};
 ghost use Rattle.witness.specs.Admits.{is_value_byte, value_of};
 ghost use Rattle.witness.specs.WordValues.{Gives, Values, is_one, word_more, value_more};
