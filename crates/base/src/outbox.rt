@@ -42,6 +42,7 @@ impl Outbox {
     ///
     /// Errors: the sink's own; a beginning of the kept bytes and these was written then, and the
     /// outbox is empty.
+    #[inline(always)]
     pub fn put<K: Sink>(&mut self, sink: &mut K, bytes: &[u8]) -> Result<(), DeviceFault>
         ensures ok { OnOk result (Appends (append_known (K.written sink.old) self.old) (append_known (K.written sink.new) self.new) bytes.now) }
         ensures sent { OnOk result (Sent (K.written sink.old) (K.written sink.new) (self.old ++ bytes.now) self.new) }
@@ -53,6 +54,20 @@ impl Outbox {
             self.keep(bytes);
             return Ok(());
         }
+        self.flush_and_put(sink, bytes)
+    }
+
+    /// Writes all that is kept, and puts bytes behind it. `put` is made a part of its callers, and this is not: it is
+    /// called once in many puts.
+    #[cold]
+    #[inline(never)]
+    fn flush_and_put<K: Sink>(&mut self, sink: &mut K, bytes: &[u8]) -> Result<(), DeviceFault>
+        ensures ok { OnOk result (Appends (append_known (K.written sink.old) self.old) (append_known (K.written sink.new) self.new) bytes.now) }
+        ensures sent { OnOk result (Sent (K.written sink.old) (K.written sink.new) (self.old ++ bytes.now) self.new) }
+        ensures err { OnErr result (AppendsBeginning (K.written sink.old) (K.written sink.new) (self.old ++ bytes.now)) }
+        ensures empty { OnErr result (self.new ≡ []) }
+        ensures failures { CountsFaults result (K.failures sink.old) (K.failures sink.new) }
+    {
         self.flush(sink)?;
         self.put_first(sink, bytes)
     }
@@ -81,6 +96,7 @@ impl Outbox {
     }
 
     /// Keeps bytes that fit.
+    #[inline(always)]
     fn keep(&mut self, bytes: &[u8])
         requires { length self.old + length bytes.now ≤ 32768 }
         ensures { self.new ≡ self.old ++ bytes.now }
@@ -107,6 +123,7 @@ impl Outbox {
 }
 
 /// Copies bytes into a buffer, from a place on.
+#[inline(always)]
 fn copy_at(buffer: &mut [u8], at: usize, bytes: &[u8])
     requires { at + length bytes.now ≤ length buffer.old }
     ensures { take (at + length bytes.now) buffer.new ≡ take at buffer.old ++ bytes.now }

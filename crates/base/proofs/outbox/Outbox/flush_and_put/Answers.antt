@@ -1,7 +1,7 @@
 use Rattle.std.proofs.Common.{rules}
 use Rattle.std.proofs.lemmas.Result.{on_ok_weaker, err_from_is_err_and}
 use Rattle.base.proofs.DeviceLemmas.{beginning_longer, sent_after}
-use Rattle.base.proofs.outbox.Outbox.put.Goals as goal
+use Rattle.base.proofs.outbox.Outbox.flush_and_put.Goals as goal
 
 pub returns-in_err-flush-clause-err : goal.returns-in_err-flush-clause-err
 returns-in_err-flush-clause-err g c =
