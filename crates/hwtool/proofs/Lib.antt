@@ -1,1 +1,4 @@
 pub mod VectorLemmas
+pub mod OperatorLemmas
+pub mod DifferingLemmas
+pub mod RunLemmas

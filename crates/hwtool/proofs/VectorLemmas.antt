@@ -1,13 +1,12 @@
 -- Lines of vectors that are read one by one.
 use native.Mathlib.Omega.{arith}
-use Rattle.std.proofs.Common.{◌≡◌, ℕ, length, List, [], ◌∷◌, ◌++◌, refl, sym, ap, ◌∙◌, append_assoc}
-use Rattle.std.proofs.lemmas.List.{append-nil, nil_from_length, take-append-drop}
+use Rattle.std.proofs.Common.{◌≡◌, ℕ, ◌+◌, length, List, [], ◌∷◌, ◌++◌, refl, sym, ap, ap₂, ◌∙◌, append_assoc}
+use Rattle.std.proofs.lemmas.List.{append-nil}
 use Rattle.base.specs.Lines.{text_of_lines}
 use Rattle.hwtool.specs.declared.vector_lines.Vector.{Vector}
-use Rattle.std.specs.List.{All}
-use Rattle.std.specs.Prelude.{◌<◌, take, drop, flat_map}
-use Rattle.std.proofs.lemmas.List.Elements.{All-same, All-append}
-use Rattle.hwtool.specs.Vectors.{Writes, WriteAll, AreVectorsOf, IsRight, differs_line}
+use Rattle.std.specs.Prelude.{◌<◌, flat_map}
+use Rattle.hwtool.specs.Vectors.{Writes, WriteAll, AreVectorsOf, NumberedVector, numbered, differs_line}
+use Rattle.hwtool.proofs.DifferingLemmas.{numbered_more, length-numbered}
 
 -- the lines read so far write the vectors read so far, and behind them stands the rest of the text
 pub record ReadSoFar (text rest : List ℕ) (vectors : List Vector) : Type 0 where
@@ -27,25 +26,36 @@ push_written [] (w ∷ ws) line v all one = absurd all
 push_written (l ∷ ls) [] line v all one = absurd all
 push_written (l ∷ ls) (w ∷ ws) line v all one = (all.0, push_written ls ws line v all.1 one)
 
-pub none_read : (text : List ℕ) → ReadSoFar text text []
+none_read : (text : List ℕ) → ReadSoFar text text []
 none_read text = record { lines = []; is = refl; written = tt }
 
-pub one_read : (text rest line after : List ℕ) (vectors more : List Vector) (v : Vector) → ReadSoFar text rest vectors → rest ≡ line ++ 10 ∷ after → Writes line v → more ≡ vectors ++ v ∷ [] → ReadSoFar text after more
+one_read : (text rest line after : List ℕ) (vectors more : List Vector) (v : Vector) → ReadSoFar text rest vectors → rest ≡ line ++ 10 ∷ after → Writes line v → more ≡ vectors ++ v ∷ [] → ReadSoFar text after more
 one_read text rest line after vectors more v r e w m =
     rw m (record { lines = r.lines ++ line ∷ []; is = r.is ∙ (ap (λ (t : List ℕ). text_of_lines r.lines ++ t) e ∙ sym (push_line r.lines line after)); written = push_written r.lines vectors line v r.written w })
 
-pub all_read : (text rest : List ℕ) (vectors : List Vector) → length rest ≡ 0 → ReadSoFar text rest vectors → AreVectorsOf text vectors
+all_read : (text rest : List ℕ) (vectors : List Vector) → length rest ≡ 0 → ReadSoFar text rest vectors → AreVectorsOf text vectors
 all_read text [] vectors e r = record { lines = r.lines; is = r.is ∙ append-nil (text_of_lines r.lines); written = r.written }
 all_read text (b ∷ bs) vectors e r = absurd cc
 
--- vectors of which the first few and the others are right
-pub parts_right : (vectors : List Vector) (k : ℕ) → All IsRight (take k vectors) → All IsRight (drop k vectors) → All IsRight vectors
-parts_right vectors k few more =
-    All-same IsRight vectors (take k vectors ++ drop k vectors) (sym (take-append-drop k vectors)) (All-append IsRight (take k vectors) (drop k vectors) few more)
+-- the same, of vectors that are kept with the numbers of their lines
+pub record NumberedSoFar (text rest : List ℕ) (read : List NumberedVector) : Type 0 where
+  pub vectors : List Vector
+  pub so_far : ReadSoFar text rest vectors
+  pub numbers : read ≡ numbered 1 vectors
 
--- a list as long as an empty one is empty
-pub none_left : (xs ys : List ℕ) → length ys ≡ length xs → ys ≡ [] → xs ≡ []
-none_left xs ys e none = nil_from_length xs (sym e ∙ ap length none)
+pub none_numbered : (text : List ℕ) → NumberedSoFar text text []
+none_numbered text = record { vectors = []; so_far = none_read text; numbers = refl }
+
+pub one_numbered : (text rest line after : List ℕ) (read more : List NumberedVector) (v : Vector) → NumberedSoFar text rest read → rest ≡ line ++ 10 ∷ after → Writes line v → more ≡ read ++ record { line = length read + 1; vector = v } ∷ [] → NumberedSoFar text after more
+one_numbered text rest line after read more v r e w m =
+    record {
+      vectors = r.vectors ++ v ∷ [];
+      so_far = one_read text rest line after r.vectors (r.vectors ++ v ∷ []) v r.so_far e w refl;
+      numbers = m ∙ (ap₂ (λ (ns : List NumberedVector) (l : ℕ). ns ++ record { line = l; vector = v } ∷ []) r.numbers (omega (arith, ap length r.numbers, length-numbered 1 r.vectors)) ∙ sym (numbered_more 1 r.vectors v));
+    }
+
+pub all_numbered : (text rest : List ℕ) (read : List NumberedVector) → length rest ≡ 0 → NumberedSoFar text rest read → (vectors : List Vector) × AreVectorsOf text vectors × (read ≡ numbered 1 vectors)
+all_numbered text rest read e r = (r.vectors, all_read text rest r.vectors e r.so_far, r.numbers)
 
 -- the lines of vectors that differ are all written where no vector is left
 pub none_behind : (written all rest : List ℕ) → written ++ flat_map differs_line rest ≡ all → length rest < 1 → written ≡ all

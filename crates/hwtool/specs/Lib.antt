@@ -2,3 +2,5 @@
 pub mod Done
 pub mod Orders
 pub mod Vectors
+pub mod OperatorModels
+pub mod CircuitRuns

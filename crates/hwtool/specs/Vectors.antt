@@ -1,5 +1,5 @@
 -- Vectors of operators: the lines that write them, and which of them are right.
-use Rattle.std.specs.Prelude.{◌≡◌, ◌≢◌, ℕ, ◌≤◌, ◌<◌, ◌^◌, ◌-◌, true, List, [], ◌∷◌, ◌++◌, length, Option, Some, IfSome, flat_map, decimal, codes}
+use Rattle.std.specs.Prelude.{◌≡◌, ◌≢◌, ℕ, suc, ◌==◌, if◌then◌else◌, ◌≤◌, ◌<◌, ◌^◌, ◌-◌, true, List, [], ◌∷◌, ◌++◌, length, Option, Some, IfSome, flat_map, decimal, codes}
 use Rattle.std.specs.List.{All}
 use Rattle.std.specs.Io.KnownBytes.{Appends}
 use Rattle.base.specs.Lines.{text_of_lines}
@@ -58,13 +58,28 @@ value_of (vector.Binary op n a b r) = binary_value op n a b
 abbrev pub IsRight : Vector → Type 0
 IsRight v = value_of v ≡ said v
 
--- the line of a vector that differs, by its number
+-- a vector and the number of its line
+pub record NumberedVector : Type 0 where
+  pub line : ℕ
+  pub vector : Vector
+
+-- vectors with the numbers of their lines, from a first one on
+abbrev pub numbered : ℕ → List Vector → List NumberedVector
+numbered k [] = []
+numbered k (v ∷ vs) = record { line = k; vector = v } ∷ numbered (suc k) vs
+
+-- the numbers of the lines of those that are not right, in their order
+abbrev pub differing : List NumberedVector → List ℕ
+differing [] = []
+differing (n ∷ ns) = if value_of n.vector == said n.vector then differing ns else n.line ∷ differing ns
+
+-- the line that is told of a vector that differs, by its number
 abbrev pub differs_line : ℕ → List ℕ
 differs_line k = codes "line " ++ (decimal k ++ codes ": differs\n")
 
 -- what is told of some vectors: a line for each that differs, and how many agree
 abbrev pub report : List ℕ → ℕ → List ℕ
-report differing n = flat_map differs_line differing ++ (decimal (n - length differing) ++ (codes " of " ++ (decimal n ++ codes " vectors agree\n")))
+report lines n = flat_map differs_line lines ++ (decimal (n - length lines) ++ (codes " of " ++ (decimal n ++ codes " vectors agree\n")))
 
 -- all that was to come is a text of some vectors, each of which is right, and what was written is that all of them agree
 pub record Agree (known before now : Option (List ℕ)) : Type 0 where
@@ -73,10 +88,9 @@ pub record Agree (known before now : Option (List ℕ)) : Type 0 where
   pub right : All IsRight vectors
   pub appends : Appends before now (report [] (length vectors))
 
--- all that was to come is a text of some vectors, and what was written names lines that differ, at least one
+-- all that was to come is a text of some vectors, at least one of which is not right, and what was written names the lines of exactly those
 pub record Differ (known before now : Option (List ℕ)) : Type 0 where
   pub vectors : List Vector
   pub text : IfSome known (λ text. AreVectorsOf text vectors)
-  pub differing : List ℕ
-  pub some : differing ≢ []
-  pub appends : Appends before now (report differing (length vectors))
+  pub some : differing (numbered 1 vectors) ≢ []
+  pub appends : Appends before now (report (differing (numbered 1 vectors)) (length vectors))

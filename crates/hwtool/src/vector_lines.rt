@@ -3,7 +3,9 @@
 ghost use Rattle.std.specs.Prelude.{◌≡◌, ◌<◌, ◌^◌, ◌++◌, ◌∷◌, List, ℕ, Some, true, IfOk, IfSome, decimal};
 ghost use Rattle.base.specs.Widths.{is_of_bits};
 ghost use Rattle.btor2text.specs.Words.{unary_of, binary_of};
-ghost use Rattle.hwtool.specs.Vectors.{IsVector, NamesOperator, numbers, Writes, AreVectorsOf};
+ghost use Rattle.hwtool.specs.declared.vector_lines.Vector.{Vector};
+ghost use Rattle.hwtool.specs.OperatorModels.{items_of};
+ghost use Rattle.hwtool.specs.Vectors.{IsVector, NamesOperator, numbers, Writes, AreVectorsOf, numbered};
 
 use base::{Binary, Unary, Width, cut_at, decimal, next_line, ones};
 use btor2text::{binary_of, unary_of};
@@ -41,7 +43,7 @@ pub enum Vector {
 
 /// A vector whose numbers fit their widths, and the number of its line, from 1.
 ///
-/// Clauses see the vector.
+/// Clauses see both.
 #[derive(Drop)]
 pub(crate) struct Numbered {
     line: u64,
@@ -49,29 +51,61 @@ pub(crate) struct Numbered {
 }
 
 impl Model for Numbered {
-    ghost use Rattle.hwtool.specs.declared.vector_lines.Vector.{Vector};
+    ghost use Rattle.hwtool.specs.Vectors.{NumberedVector, IsVector};
 
-    ghost Value = { Vector };
+    ghost Value = { NumberedVector };
 
-    ghost use Rattle.hwtool.specs.Vectors.{IsVector};
-
-    ghost view = { λ n. n.vector };
+    ghost view = { λ n. record { line = n.line; vector = n.vector } };
 
     ghost invariant = { λ n. IsVector n.vector };
 }
 
 impl Numbered {
     /// The number of its line, from 1.
-    pub(crate) fn line(&self) -> u64 {
+    pub(crate) fn line(&self) -> u64
+        ensures { result ≡ self.now.line }
+    {
         self.line
     }
 
     /// The vector.
     pub(crate) fn vector(&self) -> Vector
-        ensures same { result ≡ self.now }
-        ensures fits { IsVector self.now }
+        ensures same { result ≡ self.now.vector }
+        ensures fits { IsVector self.now.vector }
     {
         self.vector
+    }
+
+    /// Whether another is of the same operator and the same width.
+    pub(crate) fn is_alike(&self, other: &Numbered) -> bool
+        ensures { result ≡ true → items_of self.now.vector ≡ items_of other.now.vector }
+    {
+        match self.vector {
+            Vector::Unary {
+                operator: own,
+                width: bits,
+                ..
+            } => match other.vector {
+                Vector::Unary {
+                    operator,
+                    width,
+                    ..
+                } => operator == own && width == bits,
+                Vector::Binary { .. } => false,
+            },
+            Vector::Binary {
+                operator: own,
+                width: bits,
+                ..
+            } => match other.vector {
+                Vector::Binary {
+                    operator,
+                    width,
+                    ..
+                } => operator == own && width == bits,
+                Vector::Unary { .. } => false,
+            },
+        }
     }
 
     /// A number for its operator and its width, which no other operator or width has.
@@ -277,15 +311,14 @@ pub(crate) fn vector_of(line: &[u8]) -> Option<Vector>
 /// The vectors that the lines of a text write.
 ///
 /// Errors: `Bad` with the first line that writes none or has no byte 10, from 1; `NoMemory`.
-#[tactic(auto, using(crate::proofs::VectorLemmas::one_read))]
+#[tactic(auto, using(crate::proofs::VectorLemmas::all_numbered))]
 pub(crate) fn read_vectors(alloc: Global, text: &[u8]) -> Result<Vec<Numbered>, LinesFault>
-    ensures { IfOk result (λ vectors. AreVectorsOf text.now vectors.items) }
+    ensures { IfOk result (λ read. (vectors : List Vector) × AreVectorsOf text.now vectors × (read.items ≡ numbered 1 vectors)) }
 {
     let mut vectors = Vec::new(alloc);
     let mut rest = text;
-    let mut line: u64 = 0;
     while let Some((front, after)) = next_line(rest) {
-        line = line.saturating_add(1);
+        let line = vectors.len() as u64 + 1;
         match vector_of(front) {
             Some(vector) => match vectors.push(Numbered { line, vector }) {
                 Ok(()) => {}
@@ -298,6 +331,6 @@ pub(crate) fn read_vectors(alloc: Global, text: &[u8]) -> Result<Vec<Numbered>, 
     if rest.is_empty() {
         Ok(vectors)
     } else {
-        Err(LinesFault::Bad(line.saturating_add(1)))
+        Err(LinesFault::Bad(vectors.len() as u64 + 1))
     }
 }

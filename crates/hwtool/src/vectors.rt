@@ -1,14 +1,18 @@
 //! The command on vectors of operators.
 
-ghost use Rattle.std.specs.Prelude.{◌<◌, ◌≡◌, ◌≢◌, ◌≤◌, ◌⊎◌, List, ℕ, [], length, flat_map, IfOk, OnOk, All};
+ghost use Rattle.std.specs.Prelude.{◌≡◌, ◌≢◌, ◌≤◌, ◌⊎◌, ◌++◌, ◌∷◌, List, [], length, flat_map, IfOk, OnOk, All};
 ghost use Rattle.std.specs.Io.KnownBytes.{Appends};
 ghost use Rattle.std.specs.String.{string_bytes};
-ghost use Rattle.hwtool.specs.Vectors.{IsVector, IsRight, Agree, Differ, value_of, said, report, differs_line};
+ghost use Rattle.blast.specs.Lowering.{Lowers};
+ghost use Rattle.hwtool.specs.declared.vector_lines.Vector.{Vector};
+ghost use Rattle.hwtool.specs.Vectors.{IsVector, IsRight, Agree, Differ, value_of, said, report, differs_line, numbered, differing};
+ghost use Rattle.hwtool.specs.OperatorModels.{items_of};
+ghost use Rattle.hwtool.specs.CircuitRuns.{IsRunOf};
 
 use crate::orders::Order;
 use crate::statuses::{DEVICE, DONE, NOT_ACCEPTED, REFUSED};
 use crate::telling::say;
-use crate::vector_circuits::{circuit_word, operator_circuit};
+use crate::vector_circuits::{circuit_word, operator_circuit, operator_run};
 use crate::vector_lines::{LinesFault, Numbered, Vector, read_vectors};
 use aiger::Circuit;
 use base::{ReadAllFault, Sink, Source, Tally, binary, read_all, unary, write_all};
@@ -54,9 +58,10 @@ fn note(
     circuit: &Circuit,
     lines: &mut Vec<u64>,
 ) -> Result<(), AllocError>
-    requires { run.old.circuit ≡ circuit.now }
-    ensures same { run.new.circuit ≡ run.old.circuit }
-    ensures right { OnOk result (lines.new.items ≡ [] → (lines.old.items ≡ []) × IsRight vector.now) }
+    requires lowers { Lowers (items_of vector.now.vector) circuit.now }
+    requires run { IsRunOf circuit.now run.old }
+    ensures same { IsRunOf circuit.now run.new }
+    ensures noted { OnOk result (lines.new.items ≡ lines.old.items ++ differing (vector.now ∷ [])) }
 {
     let said = said(vector.vector());
     if evaluated(vector.vector()) == said && circuit_word(run, circuit, vector.vector()) == said {
@@ -68,67 +73,63 @@ fn note(
     }
 }
 
-/// Notes the lines that differ of vectors, by a run of the circuit of their operator and width.
-fn note_each(
-    vectors: &[Numbered],
+/// Notes the lines that differ of the vectors at the front that are of the operator and width of one, by a run of the
+/// circuit of these, and answers the vectors behind.
+#[tactic(auto, using(crate::proofs::DifferingLemmas::noted_more))]
+fn note_alike<'a>(
+    kind: &Numbered,
+    vectors: &'a [Numbered],
     run: &mut BitRun<'_>,
     circuit: &Circuit,
     lines: &mut Vec<u64>,
-) -> Result<(), AllocError>
-    requires { run.old.circuit ≡ circuit.now }
-    ensures right { OnOk result (lines.new.items ≡ [] → (lines.old.items ≡ []) × All IsRight vectors.now) }
+) -> Result<&'a [Numbered], AllocError>
+    requires lowers { Lowers (items_of kind.now.vector) circuit.now }
+    requires run { IsRunOf circuit.now run.old }
+    ensures noted { IfOk result (λ rest. lines.new.items ++ differing rest.now ≡ lines.old.items ++ differing vectors.now) }
+    ensures behind { IfOk result (λ rest. length rest.now ≤ length vectors.now) }
 {
     let mut rest = vectors;
     while let [vector, behind @ ..] = rest {
+        if !kind.is_alike(vector) {
+            return Ok(rest);
+        }
         note(vector, run, circuit, lines)?;
         rest = behind;
     }
-    Ok(())
+    Ok(rest)
 }
 
-/// Notes the lines that differ of vectors of one operator and width, of which there is one, by one circuit.
-fn note_kind(alloc: Global, vectors: &[Numbered], lines: &mut Vec<u64>) -> Result<(), AllocError>
-    requires { 0 < length vectors.now }
-    ensures right { OnOk result (lines.new.items ≡ [] → (lines.old.items ≡ []) × All IsRight vectors.now) }
+/// Notes the lines that differ of a vector and of those behind it that are of its operator and width, by one circuit, and
+/// answers the vectors behind.
+fn note_kind<'a>(
+    alloc: Global,
+    first: &Numbered,
+    vectors: &'a [Numbered],
+    lines: &mut Vec<u64>,
+) -> Result<&'a [Numbered], AllocError>
+    ensures noted { IfOk result (λ rest. lines.new.items ++ differing rest.now ≡ lines.old.items ++ differing (first.now ∷ vectors.now)) }
+    ensures behind { IfOk result (λ rest. length rest.now ≤ length vectors.now) }
 {
-    let circuit = operator_circuit(alloc, vectors[0].vector())?;
-    let mut run = match BitRun::new(alloc, &circuit) {
-        Ok(run) => run,
-        Err(_) => return Err(AllocError),
-    };
-    note_each(vectors, &mut run, &circuit, lines)
+    let circuit = operator_circuit(alloc, first.vector())?;
+    let mut run = operator_run(alloc, &circuit, first.vector())?;
+    note(first, &mut run, &circuit, lines)?;
+    note_alike(first, vectors, &mut run, &circuit, lines)
 }
 
-/// How many vectors at the front are of the kind of the first, of which there is one.
-fn alike(vectors: &[Numbered]) -> usize
-    requires { 0 < length vectors.now }
-    ensures some { 1 ≤ result }
-    ensures within { result ≤ length vectors.now }
-{
-    let kind = vectors[0].kind();
-    vectors
-        .iter()
-        .position(|vector| vector.kind() != kind)
-        .unwrap_or(vectors.len())
-        .max(1)
-}
-
-/// Notes the lines that differ of vectors that stand together by their kinds.
+/// Notes the lines that differ of vectors, kind by kind where they stand together.
 fn note_all(alloc: Global, vectors: &[Numbered], lines: &mut Vec<u64>) -> Result<(), AllocError>
-    ensures right { OnOk result (lines.new.items ≡ [] → (lines.old.items ≡ []) × All IsRight vectors.now) }
+    ensures { OnOk result (lines.new.items ≡ lines.old.items ++ differing vectors.now) }
 {
     let mut rest = vectors;
-    while !rest.is_empty() {
-        let (front, behind) = rest.split_at(alike(rest));
-        note_kind(alloc, front, lines)?;
-        rest = behind;
+    while let [first, behind @ ..] = rest {
+        rest = note_kind(alloc, first, behind, lines)?;
     }
     Ok(())
 }
 
 /// The lines, in order, of the vectors for which the evaluator or the circuit gives another word than they say.
 fn differing(alloc: Global, vectors: &mut Vec<Numbered>) -> Result<Vec<u64>, AllocError>
-    ensures right { IfOk result (λ lines. lines.items ≡ [] → All IsRight vectors.old.items) }
+    ensures lines { IfOk result (λ lines. (all : List Vector) → vectors.old.items ≡ numbered 1 all → lines.items ≡ differing (numbered 1 all)) }
     ensures kept { length vectors.new.items ≡ length vectors.old.items }
 {
     vectors.sort_unstable_by_key(|vector| vector.kind());
@@ -169,8 +170,8 @@ fn judge<O: Sink, E: Sink>(
     out: &mut O,
     err: &mut E,
 ) -> u8
-    ensures agree { result ≡ 0 → All IsRight vectors.items × Appends (O.written out.old) (O.written out.new) (report [] (length vectors.items)) }
-    ensures differ { result ≡ 1 → (lines : List ℕ) × ((lines ≢ []) × Appends (O.written out.old) (O.written out.new) (report lines (length vectors.items))) }
+    ensures agree { (all : List Vector) → vectors.items ≡ numbered 1 all → result ≡ 0 → All IsRight all × Appends (O.written out.old) (O.written out.new) (report [] (length all)) }
+    ensures differ { (all : List Vector) → vectors.items ≡ numbered 1 all → result ≡ 1 → (differing (numbered 1 all) ≢ []) × Appends (O.written out.old) (O.written out.new) (report (differing (numbered 1 all)) (length all)) }
     ensures statuses { (result ≤ 1) ⊎ (result ≡ 3) }
 {
     let differing = match differing(alloc, &mut vectors) {
