@@ -5,7 +5,6 @@
 use crate::samples::{BOUNDED, COUNTER, Comparing, FOLLOWER, GATE, KEEPER, TOGGLES};
 use aiger::Circuit;
 use aigertext::{Form, Why, read, write};
-use base::Source;
 use blast::{LowerFault, lower};
 use btor2::Model;
 use lift::{LiftFault, lift};
