@@ -10,6 +10,9 @@ trap 'rm -rf "$folder"' EXIT
 cd "$folder" || exit 1
 cp "$top"/examples/toggler.btor2 model.btor2
 cp "$top"/examples/toggler.witness witness
+printf 'aag 1 0 1 0 0 1\n2 3\n2\nl0 t[0]\n' >circuit
+printf '1\nb0\n0\n\n\n.\n' >bits
+printf 'add 8 255 1 0\n' >vectors
 failed=0
 count=0
 
@@ -30,6 +33,15 @@ expect_line() {
     count=$((count + 1))
     if ! grep -qxF -- "$3" "$2"; then
         echo "$1: no line '$3'"
+        failed=$((failed + 1))
+    fi
+}
+
+# expect_nothing NAME FILE: a file is empty
+expect_nothing() {
+    count=$((count + 1))
+    if [ -s "$2" ]; then
+        echo "$1: $2 has '$(cat "$2")'"
         failed=$((failed + 1))
     fi
 }
@@ -69,12 +81,29 @@ expect "refused input" 2 "-: line 1: 5 WidthOutOfRange"
 expect "a missing file" 3 "missing.btor2: device"
 "$program" show "$folder" >out 2>err; status=$?
 expect "a folder" 3 "$folder: device"
+for words in "lower" "lower --binary" "show" "cost" "aig-convert" "vectors"; do
+    # shellcheck disable=SC2086
+    "$program" $words . >out 2>err; status=$?
+    expect "$words of a folder" 3 ".: device"
+    expect_nothing "$words of a folder" out
+done
+for command in check-btor check-aig lift; do
+    first=model.btor2
+    [ "$command" = check-aig ] && first=circuit
+    "$program" "$command" . bits >out 2>err; status=$?
+    expect "$command of a folder" 3 ".: device"
+    "$program" "$command" "$first" . >out 2>err; status=$?
+    expect "$command with a folder in place of a witness" 3 ".: device"
+    expect_nothing "$command with a folder in place of a witness" out
+    "$program" "$command" "$first" missing >out 2>err; status=$?
+    expect "$command with no witness" 3 "missing: device"
+    "$program" "$command" "$first" - <&- >out 2>err; status=$?
+    expect "$command with closed standard input" 3 "-: device"
+done
 "$program" show - <&- >out 2>err; status=$?
 expect "closed standard input" 3 "-: device"
 "$program" check-btor - witness <&- >out 2>err; status=$?
 expect "closed standard input in place of a model" 3 "-: device"
-"$program" check-btor model.btor2 - <&- >out 2>err; status=$?
-expect "closed standard input in place of a witness" 3 "-: device"
 
 # words
 "$program" lower $'model\xff.btor2' >out 2>err; status=$?
@@ -99,13 +128,27 @@ if command -v rt >/dev/null; then
 fi
 
 # full and closed devices
-for words in "--help" "--version" "lower model.btor2" "show model.btor2" "check-btor model.btor2 witness"; do
+for words in "--help" "--version" "lower model.btor2" "lower --binary model.btor2" "show model.btor2" "cost model.btor2" \
+    "aig-convert circuit" "aig-convert --binary circuit" "check-btor model.btor2 witness" "check-aig circuit bits" \
+    "lift model.btor2 bits" "vectors vectors"; do
     # shellcheck disable=SC2086
     "$program" $words >/dev/full 2>err; status=$?
     expect "$words onto a full device" 3 "output: device"
     # shellcheck disable=SC2086
     "$program" $words >&- 2>err; status=$?
     expect "$words onto closed standard output" 3 "output: device"
+done
+
+# a pipe that nothing reads any more, whose signal is ignored: the write fails
+mkfifo pipe
+for words in "--help" "lower model.btor2" "lift model.btor2 bits" "check-aig circuit bits"; do
+    : <pipe &
+    exec 3>pipe
+    wait $!
+    # shellcheck disable=SC2086
+    (trap '' PIPE; exec "$program" $words >&3 2>err); status=$?
+    exec 3>&-
+    expect "$words onto a closed pipe" 3 "output: device"
 done
 : >err
 "$program" frobnicate >out 2>/dev/full; status=$?

@@ -23,7 +23,11 @@ mod model_texts;
 #[cfg(test)]
 mod models;
 #[cfg(test)]
+mod no_memory_left;
+#[cfg(test)]
 mod operator_tables;
+#[cfg(test)]
+mod samples;
 #[cfg(test)]
 mod witnesses;
 #[cfg(test)]
