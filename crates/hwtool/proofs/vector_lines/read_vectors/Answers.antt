@@ -1,5 +1,4 @@
 use Rattle.std.proofs.Common.{◌≡◌, ℕ, ◌+◌, ◌++◌, ◌∷◌, [], ap, ◌∙◌, rules}
-use Rattle.hwtool.specs.Vectors.{NumberedVector}
 use Rattle.hwtool.proofs.VectorLemmas.{one_numbered}
 use Rattle.hwtool.proofs.vector_lines.read_vectors.Goals as goal
 
