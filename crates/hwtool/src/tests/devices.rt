@@ -1,12 +1,12 @@
 //! Devices that fail: the status is 3, a line says which, and nothing is tried again.
 
-use super::{TOGGLER, ends};
+use super::TOGGLER;
 use crate::command_line::order;
 use crate::files::NoFile;
 use crate::orders::Stop;
 use crate::running::run;
 use crate::telling::end;
-use base::{DeviceFault, FromReader, Sink, Source, ToWriter, VecSink};
+use base::{Chop, DeviceFault, FailAt, FromReader, Sink, Source, ToWriter, VecSink};
 use std::alloc::Global;
 use std::io;
 use std::io::{Read, Write};
@@ -15,6 +15,12 @@ use std::test::Fail;
 
 /// A witness of the toggling model that is accepted.
 const RISES: &str = "sat\nb0\n#0\n0 0\n@0\n@1\n.\n";
+
+/// The model's circuit.
+const TOGGLES: &str = "aag 1 0 1 0 0 1\n2 3\n2\nl0 t[0]\n";
+
+/// A witness of the circuit, which is lifted to the one of the model.
+const BITS: &str = "1\nb0\n0\n\n\n.\n";
 
 /// A sink that takes so many bytes, and then fails.
 #[derive(Drop)]
@@ -94,108 +100,196 @@ impl Write for BusyOnce {
     }
 }
 
-/// Whether a command on two sources ends with status 3, writes nothing and tells this line.
-fn fails<A: Source, B: Source>(
+/// A command on two files, their texts, of which the second is empty where the command reads one, and what it writes.
+type Command<'a> = (&'a [&'a str], &'a str, &'a str, &'a str);
+
+/// Each command, where it is done.
+const COMMANDS: [Command<'static>; 9] = [
+    (
+        &["lower", "first"],
+        TOGGLER,
+        "",
+        "aag 1 0 1 0 0 1\n2 3\n2\nl0 t[0]\n",
+    ),
+    (
+        &["lower", "--binary", "first"],
+        TOGGLER,
+        "",
+        "aig 1 0 1 0 0 1\n3\n2\nl0 t[0]\n",
+    ),
+    (
+        &["show", "first"],
+        "1 sort bitvec 1\n",
+        "",
+        "1 sort bitvec 1\n; 1 items, 0 inputs, 0 states, 0 bad, 0 constraints\n",
+    ),
+    (&["cost", "first"], TOGGLER, "", "gates 0\nvariables 1\n"),
+    (
+        &["aig-convert", "--binary", "first"],
+        TOGGLES,
+        "",
+        "aig 1 0 1 0 0 1\n3\n2\nl0 t[0]\n",
+    ),
+    (
+        &["vectors", "first"],
+        "add 8 255 1 0\n",
+        "",
+        "1 of 1 vectors agree\n",
+    ),
+    (
+        &["check-btor", "first", "second"],
+        TOGGLER,
+        RISES,
+        "accepted 2 frames\n",
+    ),
+    (
+        &["check-aig", "first", "second"],
+        TOGGLES,
+        BITS,
+        "accepted 2 frames\n",
+    ),
+    (&["lift", "first", "second"], TOGGLER, BITS, RISES),
+];
+
+/// How a command on two sources ends, what it writes before, and the line that it tells.
+fn ending<A: Source, B: Source, O: Sink>(
     alloc: Global,
     words: &[&str],
     first: &mut A,
     second: &mut B,
+    out: &mut O,
     line: &str,
 ) -> bool {
-    ends(alloc, words, first, second, (3, b"", line.as_bytes()))
-}
-
-/// Whether a command on two texts ends with status 3 where standard output is such a sink, and tells the line of it.
-fn fails_to_write<O: Sink>(alloc: Global, words: &[&str], out: &mut O) -> bool {
     let Ok(order) = order(alloc, words) else {
         return false;
     };
     let mut err = VecSink::new(alloc);
-    let mut first = TOGGLER.as_bytes();
-    let mut second = RISES.as_bytes();
-    let status = run(alloc, &order, &mut first, &mut second, out, &mut err);
-    status == 3 && err.bytes() == b"output: device\n".as_slice()
+    run(alloc, &order, first, second, out, &mut err) == 3 && err.bytes() == line.as_bytes()
 }
 
-/// Commands whose first file is a model, of which the last reads a witness too.
-const COMMANDS: [&[&str]; 3] = [
-    &["lower", "model"],
-    &["show", "model"],
-    &["check-btor", "model", "witness"],
-];
+/// Whether a command fails with nothing written where its first file is such a source.
+fn fails_first<A: Source>(alloc: Global, command: &Command<'_>, first: &mut A) -> bool {
+    let (words, _, second, _) = command;
+    let mut out = VecSink::new(alloc);
+    let second = &mut second.as_bytes();
+    ending(alloc, words, first, second, &mut out, "first: device\n") && out.bytes().is_empty()
+}
 
-/// The last of them.
-const JUDGE: [&str; 3] = ["check-btor", "model", "witness"];
+/// Whether a command fails where its second file is such a source, with a beginning written of what is written else.
+fn fails_second<B: Source>(alloc: Global, command: &Command<'_>, second: &mut B) -> bool {
+    let (words, first, _, written) = command;
+    let mut out = VecSink::new(alloc);
+    let first = &mut first.as_bytes();
+    ending(alloc, words, first, second, &mut out, "second: device\n")
+        && written.as_bytes().starts_with(out.bytes())
+}
 
-/// Whether each command fails where there is no model, and the last where there is no witness.
-fn missing_files_fail(alloc: Global) -> bool {
-    for words in &COMMANDS {
-        let second = &mut RISES.as_bytes();
-        if !fails(alloc, words, &mut NoFile::new(), second, "model: device\n") {
-            return false;
-        }
-    }
-    let first = &mut TOGGLER.as_bytes();
-    fails(
-        alloc,
-        &JUDGE,
-        first,
-        &mut NoFile::new(),
-        "witness: device\n",
-    )
+/// Whether a command fails where standard output is such a sink.
+fn fails_to_write<O: Sink>(alloc: Global, command: &Command<'_>, out: &mut O) -> bool {
+    let (words, first, second, _) = command;
+    let first = &mut first.as_bytes();
+    let second = &mut second.as_bytes();
+    ending(alloc, words, first, second, out, "output: device\n")
+}
+
+/// Whether a command fails where one of its files is not there.
+fn fails_without_files(alloc: Global, command: &Command<'_>) -> bool {
+    fails_first(alloc, command, &mut NoFile::new())
+        && (command.2.is_empty() || fails_second(alloc, command, &mut NoFile::new()))
 }
 
 #[test]
 fn files_that_are_not_there(rt: HostRuntime) {
-    assert!(rt; missing_files_fail(rt.alloc()));
+    for command in &COMMANDS {
+        assert!(rt; fails_without_files(rt.alloc(), command), "{}", command.3);
+    }
 }
 
-/// Whether each command fails where the model is interrupted after so many reads.
-fn interrupted_models_fail(alloc: Global, reads: u64) -> bool {
-    for words in &COMMANDS {
-        let mut first = interrupted(TOGGLER, reads);
-        let second = &mut RISES.as_bytes();
-        if !fails(alloc, words, &mut first, second, "model: device\n") {
+/// A text that is read three bytes at a time, of which one read fails.
+fn failing(text: &str, k: u64) -> FailAt<Chop<&[u8]>> {
+    FailAt::new(Chop::new(text.as_bytes(), 3), k)
+}
+
+/// How many reads take such a text, the one at its end among them.
+fn reads(text: &str) -> u64 {
+    text.len().div_ceil(3) as u64 + 1
+}
+
+/// Whether a command fails at each read of its first file.
+fn fails_at_each_read(alloc: Global, command: &Command<'_>) -> bool {
+    for k in 0..reads(command.1) {
+        if !fails_first(alloc, command, &mut failing(command.1, k)) {
             return false;
         }
     }
     true
 }
 
-/// Whether a judgement fails where the witness is interrupted after so many reads.
-fn interrupted_witness_fails(alloc: Global, reads: u64) -> bool {
-    let first = &mut TOGGLER.as_bytes();
-    let mut second = interrupted(RISES, reads);
-    fails(alloc, &JUDGE, first, &mut second, "witness: device\n")
+/// Whether a command fails at each read of its second file.
+fn fails_at_each_later_read(alloc: Global, command: &Command<'_>) -> bool {
+    for k in 0..reads(command.2) {
+        if !fails_second(alloc, command, &mut failing(command.2, k)) {
+            return false;
+        }
+    }
+    true
+}
+
+#[test]
+fn failing_sources(rt: HostRuntime) {
+    for command in &COMMANDS {
+        assert!(rt; fails_at_each_read(rt.alloc(), command), "{}", command.3);
+    }
+    for command in &COMMANDS[6..] {
+        assert!(rt;
+            fails_at_each_later_read(rt.alloc(), command),
+            "{}",
+            command.3
+        );
+    }
+}
+
+/// Whether a command fails where a file is interrupted after so many reads: it is not read again.
+fn fails_interrupted(alloc: Global, command: &Command<'_>, reads: u64) -> bool {
+    fails_first(alloc, command, &mut interrupted(command.1, reads))
+        && (command.2.is_empty()
+            || fails_second(alloc, command, &mut interrupted(command.2, reads)))
 }
 
 #[test]
 fn interrupted_sources_are_not_read_again(rt: HostRuntime) {
-    for reads in [0, 1, 3, 16] {
-        assert!(rt; interrupted_models_fail(rt.alloc(), reads), "{reads}");
-    }
-    for reads in [0, 1, 4] {
-        assert!(rt; interrupted_witness_fails(rt.alloc(), reads), "{reads}");
+    for command in &COMMANDS {
+        assert!(rt; fails_interrupted(rt.alloc(), command, 0), "{}", command.3);
+        assert!(rt; fails_interrupted(rt.alloc(), command, 2), "{}", command.3);
     }
 }
 
-/// Whether each command fails to write to a full sink, at once and after some bytes, and to a busy one.
-fn full_outputs_fail(alloc: Global) -> bool {
-    for words in &COMMANDS {
-        let mut busy = ToWriter::new(BusyOnce { is_busy: true });
-        if !fails_to_write(alloc, words, &mut Full::new(0))
-            || !fails_to_write(alloc, words, &mut Full::new(7))
-            || !fails_to_write(alloc, words, &mut busy)
-        {
+/// Whether a command fails at the write number k of three bytes each, and has written those before.
+fn fails_at_write(alloc: Global, command: &Command<'_>, k: usize) -> bool {
+    let mut out = FailAt::new(Chop::new(VecSink::new(alloc), 3), k as u64);
+    fails_to_write(alloc, command, &mut out)
+        && command
+            .3
+            .as_bytes()
+            .starts_with(out.inner().inner().bytes())
+}
+
+/// Whether a command fails at each write.
+fn fails_at_each_write(alloc: Global, command: &Command<'_>) -> bool {
+    for k in 0..command.3.len().div_ceil(3) {
+        if !fails_at_write(alloc, command, k) {
             return false;
         }
     }
-    true
+    let mut busy = ToWriter::new(BusyOnce { is_busy: true });
+    fails_to_write(alloc, command, &mut busy) && fails_to_write(alloc, command, &mut Full::new(7))
 }
 
 #[test]
 fn full_outputs(rt: HostRuntime) {
-    assert!(rt; full_outputs_fail(rt.alloc()));
+    for command in &COMMANDS {
+        assert!(rt; fails_at_each_write(rt.alloc(), command), "{}", command.3);
+    }
 }
 
 /// The status of a lowering that is refused where standard error is full.
