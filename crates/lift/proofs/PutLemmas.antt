@@ -54,12 +54,11 @@ pub no_free : (items : List Item) (frame : ℕ) (bits : List Bool) → (frame �
 no_free items zero bits some none = absurd (some refl)
 no_free items (suc k) bits some none = rw none refl
 
-pub frame_parts : (items : List Item) (frame : ℕ) (bits free : List Bool) → IsWellFormed items → free ≡ drop (input_width items) bits
-    → text_of_lines (frame_piece items frame bits) ≡ text_of_lines (free_piece items frame free) ++ (((64 ∷ []) ++ (decimal frame ++ 10 ∷ [])) ++ leaf_lines leaves.Inputs items bits)
-frame_parts items frame bits free w e =
+pub frame_parts : (items : List Item) (frame : ℕ) (bits : List Bool) → IsWellFormed items
+    → text_of_lines (frame_piece items frame bits) ≡ text_of_lines (free_piece items frame (drop (input_width items) bits)) ++ (((64 ∷ []) ++ (decimal frame ++ 10 ∷ [])) ++ leaf_lines leaves.Inputs items bits)
+frame_parts items frame bits w =
     flat_map-append (λ line. line ++ 10 ∷ []) (free_piece items frame (drop (input_width items) bits)) ((64 ∷ decimal frame) ∷ input_lines items bits)
     ∙ ap (λ (l : List ℕ). text_of_lines (free_piece items frame (drop (input_width items) bits)) ++ (((64 ∷ decimal frame) ++ 10 ∷ []) ++ l)) (sym (inputs_placed items bits w))
-    ∙ ap (λ (bs : List Bool). text_of_lines (free_piece items frame bs) ++ (((64 ∷ []) ++ (decimal frame ++ 10 ∷ [])) ++ leaf_lines leaves.Inputs items bits)) (sym e)
 
 -- the piece by the number of the line
 pub piece_of_header : (items : List Item) (n : ℕ) (k : KeptLine) → n ≡ 0 → text_of_lines (kept_piece items n k) ≡ codes "sat\n"

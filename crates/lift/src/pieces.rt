@@ -3,6 +3,7 @@ ghost use Rattle.std.specs.Prelude.{◌≡◌, true, false, ◌++◌, ◌∷◌,
 ghost use Rattle.base.specs.Device.{CountsFaults};
 ghost use Rattle.base.specs.Pieces.{Puts};
 ghost use Rattle.base.specs.Lines.{text_of_lines};
+ghost use Rattle.blast.specs.Cost.{input_width};
 ghost use Rattle.witness.specs.Texts.{digit, claim, shape_of, has_free};
 ghost use Rattle.lift.specs.Lifted.{word_line, initial_piece, free_piece, frame_piece};
 ghost use Rattle.lift.specs.Kept.{kept_frame, kept_piece, leaf_places, leaf_lines, bits_behind, taken_line};
@@ -197,6 +198,27 @@ fn put_free<K: Sink>(
     put_leaves(outbox, sink, model, Leaves::Free, bits)
 }
 
+/// The same, of all bits of a frame, in which those of the free states stand behind those of the inputs.
+fn put_free_behind<K: Sink>(
+    outbox: &mut Outbox,
+    sink: &mut K,
+    model: &Model,
+    some_free: bool,
+    frame: u64,
+    bits: &[bool],
+) -> Result<(), DeviceFault>
+    requires { some_free ≡ has_free (shape_of model.now) }
+    ensures puts { Puts result (K.written sink.old) (K.written sink.new) outbox.old outbox.new (text_of_lines (free_piece model.now frame (drop (input_width model.now) bits.now))) }
+    ensures failures { CountsFaults result (K.failures sink.old) (K.failures sink.new) }
+{
+    let _items = model.items();
+    if frame != 0 && !some_free {
+        return Ok(());
+    }
+    let free = behind_leaves(model, Leaves::Inputs, bits);
+    put_free(outbox, sink, model, some_free, frame, free)
+}
+
 /// Puts the piece of the bits of a frame.
 fn put_frame<K: Sink>(
     outbox: &mut Outbox,
@@ -211,8 +233,7 @@ fn put_frame<K: Sink>(
     ensures failures { CountsFaults result (K.failures sink.old) (K.failures sink.new) }
 {
     let _items = model.items();
-    let free = behind_leaves(model, Leaves::Inputs, bits);
-    put_free(outbox, sink, model, some_free, frame, free)?;
+    put_free_behind(outbox, sink, model, some_free, frame, bits)?;
     put_mark(outbox, sink, b"@", frame)?;
     put_leaves(outbox, sink, model, Leaves::Inputs, bits)
 }
