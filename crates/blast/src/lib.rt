@@ -19,4 +19,4 @@ mod widths;
 pub use conversion::convert;
 pub use fault::{ConvertFault, LowerFault};
 pub use lowering::lower;
-pub use widths::{bound, cost};
+pub use widths::{bound, cost, cost_and_bound};

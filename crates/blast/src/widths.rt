@@ -121,10 +121,21 @@ pub fn cost(model: &Model) -> u64
     total
 }
 
+/// How many AND gates, and how many variables, the lowering of a model has at most: `cost` and `bound` by one walk of the
+/// items.
+pub fn cost_and_bound(model: &Model) -> (u64, u64)
+    ensures cost { result.0 ≡ cost model.now }
+    ensures bound { result.1 ≡ bound model.now }
+{
+    let _items = model.items();
+    let gates = cost(model);
+    (gates, input_width(model) + state_width(model) + gates)
+}
+
 /// How many variables the lowering of a model has at most: the bits of its inputs and of its states, and its gates.
 pub fn bound(model: &Model) -> u64
     ensures { result ≡ bound model.now }
 {
-    let _items = model.items();
-    input_width(model) + state_width(model) + cost(model)
+    let (_gates, variables) = cost_and_bound(model);
+    variables
 }

@@ -13,7 +13,7 @@ use crate::statuses::{DEVICE, DONE, NOT_ACCEPTED, REFUSED};
 use crate::telling::say;
 use crate::vectors::check_vectors;
 use base::{Sink, Source, write_all};
-use blast::{ConvertFault, LowerFault, bound, convert, cost};
+use blast::{ConvertFault, LowerFault, convert, cost_and_bound};
 use btor2::Model;
 use btor2text::{Why, read, write};
 use std::alloc::{AllocError, Global};
@@ -151,8 +151,7 @@ fn tell_cost<A: Source, O: Sink, E: Sink>(
 fn cost_lines(alloc: Global, model: &Model) -> Result<String, AllocError>
     ensures { IfOk result (λ lines. string_bytes lines ≡ cost_lines model.now) }
 {
-    let gates = cost(model);
-    let variables = bound(model);
+    let (gates, variables) = cost_and_bound(model);
     format!(in alloc; "gates {gates}\nvariables {variables}\n")
 }
 
