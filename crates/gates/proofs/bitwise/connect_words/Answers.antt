@@ -2,6 +2,7 @@ use Rattle.std.proofs.Common.{length, map, refl, arith}
 use Rattle.std.proofs.lemmas.List.{length-map}
 use Rattle.aiger.specs.Literal.{literal_value}
 use Rattle.gates.specs.Connect.{connected, connective_bound}
+use Rattle.gates.proofs.LaterLemmas.{IsDefined-of_word}
 use Rattle.gates.proofs.WordLemmas.{word-connected, words_bound-is}
 use Rattle.gates.proofs.BitListLemmas.{IsRow-push, MakesWord-row}
 use Rattle.gates.proofs.bitwise.connect_words.Goals as goal
@@ -19,3 +20,11 @@ returns-clause-ok g c =
     rw (← words_bound-is by (length a)) (MakesWord-row _ _ (connective_bound by) (length a) c.loop-i.i (λ v. connected by) _ a b c.loop-i.bits.items refl c.requires.equal (omega arith)
     (λ v. word-connected by (map (literal_value v) a) (map (literal_value v) b) (omega (arith, length-map a (literal_value v), length-map b (literal_value v))))
     c.loop-i.invariant)
+
+pub connect-requires-clause-left : goal.connect-requires-clause-left
+connect-requires-clause-left g c =
+    IsDefined-of_word _ _ _ c.args.a.now.items c.loop-i.i c.index-deref-i.result (omega arith) (cc) c.requires.left c.loop-i.invariant.grows
+
+pub connect-requires-clause-right : goal.connect-requires-clause-right
+connect-requires-clause-right g c =
+    IsDefined-of_word _ _ _ c.args.b.now.items c.loop-i.i c.index-deref-i-in-loop-i.result (omega (arith, c.requires.equal)) (cc) c.requires.right c.loop-i.invariant.grows

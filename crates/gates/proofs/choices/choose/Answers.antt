@@ -2,6 +2,8 @@ use Rattle.std.proofs.Common.{◌≡◌, Bool, true, false, List, [], ◌∷◌,
 use Rattle.std.proofs.lemmas.List.{length-map}
 use Rattle.base.specs.Word.{word}
 use Rattle.aiger.specs.Literal.{literal_value}
+use Rattle.gates.proofs.LaterLemmas.{IsDefined-of_word}
+use Rattle.gates.proofs.GrowthLemmas.{IsDefined-grown}
 use Rattle.gates.proofs.WordLemmas.{zip_with}
 use Rattle.gates.proofs.BitListLemmas.{IsRow-push, MakesWord-row}
 use Rattle.gates.proofs.choices.choose.Goals as goal
@@ -35,3 +37,14 @@ returns-clause-ok g c =
     MakesWord-row _ _ 3 (length t) c.loop-i.i (λ v x y. if literal_value v condition then x else y) _ t e c.loop-i.bits.items refl c.requires.equal (omega arith)
     (λ v. chosen_word (literal_value v condition) (map (literal_value v) t) (map (literal_value v) e) (omega (arith, length-map t (literal_value v), length-map e (literal_value v))))
     c.loop-i.invariant
+
+pub mux-requires-clause-condition : goal.mux-requires-clause-condition
+mux-requires-clause-condition g c = IsDefined-grown _ _ _ c.loop-i.invariant.grows _ c.requires.condition
+
+pub mux-requires-clause-then : goal.mux-requires-clause-then
+mux-requires-clause-then g c =
+    IsDefined-of_word _ _ _ c.args.t.now.items c.loop-i.i c.index-deref-i.result (omega arith) (cc) c.requires.then c.loop-i.invariant.grows
+
+pub mux-requires-clause-otherwise : goal.mux-requires-clause-otherwise
+mux-requires-clause-otherwise g c =
+    IsDefined-of_word _ _ _ c.args.e.now.items c.loop-i.i c.index-deref-i-in-loop-i.result (omega (arith, c.requires.equal)) (cc) c.requires.otherwise c.loop-i.invariant.grows
