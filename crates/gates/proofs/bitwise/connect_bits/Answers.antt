@@ -2,6 +2,7 @@ use Rattle.std.proofs.Common.{◌+◌, ◌*◌, take, sym, ap, ◌∙◌, arith,
 use Rattle.aiger.specs.Literal.{literal_value}
 use Rattle.gates.specs.Connect.{connected, connected_bits, connective_bound}
 use Rattle.gates.specs.Made.{word_value}
+use Rattle.gates.proofs.LaterLemmas.{IsDefined-of_word}
 use Rattle.gates.proofs.WordLemmas.{connected_bits-push}
 use Rattle.gates.proofs.LiteralLemmas.{MakesLiteral-then, MakesLiteral-same}
 use Rattle.gates.proofs.BitListLemmas.{word_value-more, word_value-below}
@@ -19,3 +20,10 @@ loop-lit-preserved g c =
     sym (ap (connected_bits by (i + 1)) (word_value-more v a i lit (omega arith) (cc))
     ∙ connected_bits-push by (word_value v (take i a)) i (literal_value v lit) (word_value-below v (take i a) i (omega (arith, length-take i a)))))
     (MakesLiteral-then _ _ _ (cost * i) cost c.loop-lit.all c.in_ok-all.all (λ v. connected_bits by i (word_value v (take i a))) (λ v x. connected by x (literal_value v lit)) c.loop-lit.invariant c.in_ok-all.ensures.ok)
+
+pub connect-requires-clause-left : goal.connect-requires-clause-left
+connect-requires-clause-left g c = c.loop-lit.invariant.defined
+
+pub connect-requires-clause-right : goal.connect-requires-clause-right
+connect-requires-clause-right g c =
+    IsDefined-of_word _ _ _ c.args.a.now c.loop-lit.lit-index c.lit-item.result (omega arith) (cc) c.requires.defined c.loop-lit.invariant.grows

@@ -1,5 +1,7 @@
 use Rattle.std.proofs.Common.{◌&&◌, arith}
 use Rattle.aiger.specs.Literal.{literal_value}
+use Rattle.gates.proofs.LaterLemmas.{IsDefined-of_word}
+use Rattle.gates.proofs.GrowthLemmas.{IsDefined-grown}
 use Rattle.gates.proofs.LiteralLemmas.{MakesLiteral-and}
 use Rattle.gates.proofs.BitListLemmas.{IsRow-push}
 use Rattle.gates.proofs.ProductLemmas.{MakesWord-masked}
@@ -15,3 +17,10 @@ loop-i-preserved g c =
 
 pub returns-clause-ok : goal.returns-clause-ok
 returns-clause-ok g c = MakesWord-masked _ _ c.loop-i.i c.args.lit c.args.a.now.items c.loop-i.bits.items (omega arith) c.loop-i.invariant
+
+pub conjunction-requires-clause-left : goal.conjunction-requires-clause-left
+conjunction-requires-clause-left g c =
+    IsDefined-of_word _ _ _ c.args.a.now.items c.loop-i.i c.index-deref-i.result (omega arith) (cc) c.requires.word c.loop-i.invariant.grows
+
+pub conjunction-requires-clause-right : goal.conjunction-requires-clause-right
+conjunction-requires-clause-right g c = IsDefined-grown _ _ _ c.loop-i.invariant.grows _ c.requires.literal
