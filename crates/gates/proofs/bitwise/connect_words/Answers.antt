@@ -10,7 +10,7 @@ use Rattle.gates.proofs.bitwise.connect_words.Goals as goal
 pub loop-i-preserved : goal.loop-i-preserved
 loop-i-preserved g c =
     let by = c.args.by in
-    rw c.push.ensures.items (IsRow-push _ _ _ (connective_bound by) c.loop-i.i (λ v. connected by) c.args.a.now.items c.args.b.now.items c.loop-i.bits.items c.index-deref-i.result c.index-deref-i-in-loop-i.result c.in_ok-connect.field-0 (omega arith) (omega arith) (cc) (cc) c.loop-i.invariant c.in_ok-connect.ensures.ok)
+    rw c.push.ensures.items (IsRow-push _ _ _ (connective_bound by) c.loop-i.i (λ v. connected by) c.args.a.now.items c.args.b.now.items c.loop-i.bits.items c.index-deref-i.result c.index-deref-i-in-loop-i.result c.in_ok-connect.field-0 (omega arith) (omega arith) (rw (← c.deref.ensures.0) c.index-deref-i.is) (rw (← c.deref-in-loop-i.ensures.0) c.index-deref-i-in-loop-i.is) c.loop-i.invariant c.in_ok-connect.ensures.ok)
 
 pub returns-clause-ok : goal.returns-clause-ok
 returns-clause-ok g c =
@@ -23,8 +23,8 @@ returns-clause-ok g c =
 
 pub connect-requires-clause-left : goal.connect-requires-clause-left
 connect-requires-clause-left g c =
-    IsDefined-of_word _ _ _ c.args.a.now.items c.loop-i.i c.index-deref-i.result (omega arith) (cc) c.requires.left c.loop-i.invariant.grows
+    IsDefined-of_word _ _ _ c.args.a.now.items c.loop-i.i c.index-deref-i.result (omega arith) (rw (← c.deref.ensures.0) c.index-deref-i.is) c.requires.left c.loop-i.invariant.grows
 
 pub connect-requires-clause-right : goal.connect-requires-clause-right
 connect-requires-clause-right g c =
-    IsDefined-of_word _ _ _ c.args.b.now.items c.loop-i.i c.index-deref-i-in-loop-i.result (omega (arith, c.requires.equal)) (cc) c.requires.right c.loop-i.invariant.grows
+    IsDefined-of_word _ _ _ c.args.b.now.items c.loop-i.i c.index-deref-i-in-loop-i.result (omega (arith, c.requires.equal)) (rw (← c.deref-in-loop-i.ensures.0) c.index-deref-i-in-loop-i.is) c.requires.right c.loop-i.invariant.grows

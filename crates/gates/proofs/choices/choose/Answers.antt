@@ -11,7 +11,7 @@ use Rattle.gates.proofs.choices.choose.Goals as goal
 pub loop-i-preserved : goal.loop-i-preserved
 loop-i-preserved g c =
     let condition = c.args.c in
-    rw c.push.ensures.items (IsRow-push _ _ _ 3 c.loop-i.i (λ v x y. if literal_value v condition then x else y) c.args.t.now.items c.args.e.now.items c.loop-i.bits.items c.index-deref-i.result c.index-deref-i-in-loop-i.result c.in_ok-mux.field-0 (omega arith) (omega arith) (cc) (cc) c.loop-i.invariant c.in_ok-mux.ensures.ok)
+    rw c.push.ensures.items (IsRow-push _ _ _ 3 c.loop-i.i (λ v x y. if literal_value v condition then x else y) c.args.t.now.items c.args.e.now.items c.loop-i.bits.items c.index-deref-i.result c.index-deref-i-in-loop-i.result c.in_ok-mux.field-0 (omega arith) (omega arith) (rw (← c.deref.ensures.0) c.index-deref-i.is) (rw (← c.deref-in-loop-i.ensures.0) c.index-deref-i-in-loop-i.is) c.loop-i.invariant c.in_ok-mux.ensures.ok)
 
 -- one of two words, chosen place by place
 chosen_word : (c : Bool) (xs ys : List Bool) → length xs ≡ length ys → word (zip_with (λ x y. if c then x else y) xs ys) ≡ (if c then word xs else word ys)
@@ -43,8 +43,8 @@ mux-requires-clause-condition g c = IsDefined-grown _ _ _ c.loop-i.invariant.gro
 
 pub mux-requires-clause-then : goal.mux-requires-clause-then
 mux-requires-clause-then g c =
-    IsDefined-of_word _ _ _ c.args.t.now.items c.loop-i.i c.index-deref-i.result (omega arith) (cc) c.requires.then c.loop-i.invariant.grows
+    IsDefined-of_word _ _ _ c.args.t.now.items c.loop-i.i c.index-deref-i.result (omega arith) (rw (← c.deref.ensures.0) c.index-deref-i.is) c.requires.then c.loop-i.invariant.grows
 
 pub mux-requires-clause-otherwise : goal.mux-requires-clause-otherwise
 mux-requires-clause-otherwise g c =
-    IsDefined-of_word _ _ _ c.args.e.now.items c.loop-i.i c.index-deref-i-in-loop-i.result (omega (arith, c.requires.equal)) (cc) c.requires.otherwise c.loop-i.invariant.grows
+    IsDefined-of_word _ _ _ c.args.e.now.items c.loop-i.i c.index-deref-i-in-loop-i.result (omega (arith, c.requires.equal)) (rw (← c.deref-in-loop-i.ensures.0) c.index-deref-i-in-loop-i.is) c.requires.otherwise c.loop-i.invariant.grows

@@ -1,8 +1,12 @@
-use Rattle.std.proofs.Common.{◌≡◌, length, take, ap, ◌∙◌, rules, arith, ◌*◌, ◌+◌}
-use Rattle.gates.proofs.QuotientLemmas.{MakesQuotientRow-by_carry}
+use Rattle.std.proofs.lemmas.List.Elements.{All-take}
+use Rattle.std.proofs.lemmas.List.{length-take-le}
+use Rattle.std.proofs.Common.{◌≡◌, length, take, ap, ◌∙◌, rules, arith, ◌*◌, ◌+◌, sym}
+use Rattle.aiger.specs.Net.{IsDefined}
 use Rattle.gates.specs.Made.{Refuses}
+use Rattle.gates.proofs.LaterLemmas.{IsDefined-not, Refuses-weaker}
+use Rattle.gates.proofs.QuotientLemmas.{MakesQuotientRow-by_carry}
 use Rattle.gates.proofs.LiteralLemmas.{Refuses-behind}
-use Rattle.gates.proofs.GrowthLemmas.{Grows-trans}
+use Rattle.gates.proofs.GrowthLemmas.{Grows-trans, IsDefined-grown, All-defined-grown}
 use Rattle.gates.proofs.division.next_row.Goals as goal
 
 pub returns-clause-ok : goal.returns-clause-ok
@@ -33,4 +37,50 @@ returns-in_err-remainder-clause-refused g c =
     let n = length c.args.b.now.items in
     let refused : Refuses (g.G.Gates.made c.args.g.now) (g.G.Gates.made c.choose.new.g) (12 * n + 9) c.in_err-remainder.field-0.0 =
     Refuses-behind _ _ _ _ _ (12 * n + 9) _ (omega (arith, c.len-width.ensures.value, c.requires.inside, c.in_ok-reduced.ensures.ok.wide)) (Grows-trans _ _ _ _ _ c.in_ok-reduced.ensures.ok.grows (Grows-trans _ _ _ _ _ c.in_ok-above.ensures.ok.grows c.in_ok-bit.ensures.ok.grows)) c.in_err-remainder.ensures.refused
+    in search rules
+
+pub difference-requires : goal.difference-requires
+difference-requires g c =
+    let low_count : length c.low_bits.result.items ≡ length c.args.dividend.now.items =
+    ap length c.low_bits.ensures ∙ length-take-le c.len-width.result c.args.b.now.items (omega (arith, c.len-width.ensures.value, c.requires.inside)) ∙ c.len-width.ensures.value
+    in
+    record {
+      some = c.requires.some;
+      most = omega (arith, c.requires.inside, c.requires.most);
+      equal = low_count;
+      left = c.requires.left;
+      right = rw c.low_bits.ensures (All-take (IsDefined (g.G.Gates.made c.args.g.now)) c.len-width.result c.args.b.now.items c.requires.right);
+    }
+
+pub has_bit_from-requires-clause-defined : goal.has_bit_from-requires-clause-defined
+has_bit_from-requires-clause-defined g c = All-defined-grown _ _ _ c.in_ok-reduced.ensures.ok.grows _ c.requires.right
+
+pub conjunction-requires-clause-left : goal.conjunction-requires-clause-left
+conjunction-requires-clause-left g c = IsDefined-grown _ _ _ c.in_ok-above.ensures.ok.grows _ c.in_ok-reduced.ensures.ok.out_defined
+
+pub conjunction-requires-clause-right : goal.conjunction-requires-clause-right
+conjunction-requires-clause-right g c = IsDefined-not _ c.in_ok-above.above _ c.not.ensures c.in_ok-above.ensures.ok.defined
+
+pub choose-requires-clause-most : goal.choose-requires-clause-most
+choose-requires-clause-most g c = omega (arith, c.in_ok-reduced.ensures.ok.wide, c.requires.inside, c.requires.most)
+
+pub choose-requires-clause-equal : goal.choose-requires-clause-equal
+choose-requires-clause-equal g c = sym c.in_ok-reduced.ensures.ok.wide
+
+pub choose-requires-clause-condition : goal.choose-requires-clause-condition
+choose-requires-clause-condition g c = c.in_ok-bit.ensures.ok.defined
+
+pub choose-requires-clause-then : goal.choose-requires-clause-then
+choose-requires-clause-then g c =
+    All-defined-grown _ _ _ (Grows-trans _ _ _ _ _ c.in_ok-above.ensures.ok.grows c.in_ok-bit.ensures.ok.grows) _ c.in_ok-reduced.ensures.ok.sum_defined
+
+pub choose-requires-clause-otherwise : goal.choose-requires-clause-otherwise
+choose-requires-clause-otherwise g c =
+    All-defined-grown _ _ _ (Grows-trans _ _ _ _ _ c.in_ok-reduced.ensures.ok.grows (Grows-trans _ _ _ _ _ c.in_ok-above.ensures.ok.grows c.in_ok-bit.ensures.ok.grows)) _ c.requires.left
+
+pub returns-in_err-reduced-clause-refused : goal.returns-in_err-reduced-clause-refused
+returns-in_err-reduced-clause-refused g c =
+    let n = length c.args.b.now.items in
+    let refused : Refuses (g.G.Gates.made c.args.g.now) (g.G.Gates.made c.difference.new.g) (12 * n + 9) c.in_err-reduced.field-0.0 =
+    Refuses-weaker _ _ _ (12 * n + 9) _ (omega (arith, c.requires.inside)) c.in_err-reduced.ensures.refused
     in search rules

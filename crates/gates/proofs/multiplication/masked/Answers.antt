@@ -13,14 +13,14 @@ loop-i-preserved g c =
     let a = c.args.a.now.items in
     let x = c.index-deref-i.result in
     let both = c.in_ok-conjunction.field-0 in
-    rw c.push.ensures.items (IsRow-push _ _ _ 1 c.loop-i.i (λ v x y. x && literal_value v lit) a a c.loop-i.bits.items x x both (omega arith) (omega arith) (cc) (cc) c.loop-i.invariant (MakesLiteral-and _ _ x lit both c.in_ok-conjunction.ensures.ok))
+    rw c.push.ensures.items (IsRow-push _ _ _ 1 c.loop-i.i (λ v x y. x && literal_value v lit) a a c.loop-i.bits.items x x both (omega arith) (omega arith) (rw (← c.deref.ensures.0) c.index-deref-i.is) (rw (← c.deref.ensures.0) c.index-deref-i.is) c.loop-i.invariant (MakesLiteral-and _ _ x lit both c.in_ok-conjunction.ensures.ok))
 
 pub returns-clause-ok : goal.returns-clause-ok
 returns-clause-ok g c = MakesWord-masked _ _ c.loop-i.i c.args.lit c.args.a.now.items c.loop-i.bits.items (omega arith) c.loop-i.invariant
 
 pub conjunction-requires-clause-left : goal.conjunction-requires-clause-left
 conjunction-requires-clause-left g c =
-    IsDefined-of_word _ _ _ c.args.a.now.items c.loop-i.i c.index-deref-i.result (omega arith) (cc) c.requires.word c.loop-i.invariant.grows
+    IsDefined-of_word _ _ _ c.args.a.now.items c.loop-i.i c.index-deref-i.result (omega arith) (rw (← c.deref.ensures.0) c.index-deref-i.is) c.requires.word c.loop-i.invariant.grows
 
 pub conjunction-requires-clause-right : goal.conjunction-requires-clause-right
 conjunction-requires-clause-right g c = IsDefined-grown _ _ _ c.loop-i.invariant.grows _ c.requires.literal

@@ -1,20 +1,24 @@
-use Rattle.std.proofs.Common.{◌≡◌, ℕ, ◌+◌, ◌*◌, ◌^◌, ◌≤◌, true, not, ◌==◌, nat_le, if◌then◌else◌, length, take, drop, replicate, List, refl, sym, ap, ap₂, subst, ◌∙◌, arith}
+use Rattle.std.proofs.lemmas.List.Elements.{All-take, All-drop, All-replicate}
+use Rattle.std.proofs.Common.{◌≡◌, ℕ, ◌+◌, ◌*◌, ◌^◌, ◌≤◌, true, not, ◌==◌, nat_le, if◌then◌else◌, length, take, drop, replicate, List, refl, sym, ap, ap₂, subst, ◌∙◌, arith, ◌-◌, ◌<◌, get_or, rules, All, Bool, ◌||◌}
 use Rattle.std.proofs.lemmas.Bool.{agree_below_at, leb-true, false≢true}
 use Rattle.std.proofs.lemmas.List.{length-replicate}
 use Rattle.std.proofs.lemmas.Result.{IfOk-weaker, IfErr-weaker}
 use Rattle.base.specs.Operator.{ones, binary_value}
 use Rattle.base.specs.declared.operators.Binary.{Binary}
 use Rattle.base.specs.declared.operators.Binary.TheVariants.{Sll, Srl, Sra}
+use Rattle.aiger.specs.Net.{IsDefined}
+use Rattle.aiger.proofs.NetLemmas.{IsDefined-false}
 use Rattle.aiger.specs.Literal.{literal_value}
 use Rattle.gates.specs.Bound.{log_up, binary_bound}
-use Rattle.gates.specs.Made.{MakesWord, MakesLiteral, word_value}
-use Rattle.gates.specs.Moves.{is_shift}
+use Rattle.gates.specs.Made.{MakesWord, MakesLiteral, word_value, Refuses}
+use Rattle.gates.specs.Moves.{is_shift, is_rotation}
+use Rattle.gates.proofs.LaterLemmas.{IsDefined-of_word, Refuses-weaker}
 use Rattle.gates.proofs.BitListLemmas.{MakesWord-same, MakesWord-weaker, MakesWord-choice}
 use Rattle.gates.proofs.LiteralLemmas.{Refuses-behind}
-use Rattle.gates.proofs.GrowthLemmas.{Grows-trans}
+use Rattle.gates.proofs.GrowthLemmas.{Grows-trans, All-defined-grown}
 use Rattle.gates.proofs.WindowLemmas.{IsFill, IsFill-false, shifted, word_value-replicate}
-use Rattle.gates.proofs.shifts.shift.Goals as goal
 use Rattle.gates.proofs.shifts.shift.Goals.{in-Sra, in_default}
+use Rattle.gates.proofs.shifts.shift.Goals as goal
 
 shift_bound : (op : Binary) (n : ℕ) → is_shift op ≡ true → binary_bound op n ≡ 3 * (n * log_up n) + 4 * n
 shift_bound Sll n is = refl
@@ -83,3 +87,106 @@ returns-clause-refused g c =
     IfErr-weaker c.choose.result _ _
     (λ e r. rw (shift_bound op n c.requires.shifts) (Refuses-behind old second new (3 * (n * length c.split_at.result.0.now) + length c.split_at.result.1.now) (3 * length c.repeated.result.items) (3 * (n * log_up n) + 4 * n) e (omega arith) before r))
     c.choose.ensures.refused
+
+-- that power of two is below the double
+near_enough : (n : ℕ) → 1 ≤ n → n ≤ 64 → 2 ^ log_up n < 2 * n
+near_enough n some most =
+    let place : n - 1 + 1 ≡ n = omega arith in
+    let at : 2 ^ log_up (n - 1 + 1) + 1 ≤ 2 * (n - 1 + 1) = leb-true (2 ^ log_up (n - 1 + 1) + 1) (2 * (n - 1 + 1)) (agree_below_at (λ k. nat_le (2 ^ log_up (k + 1) + 1) (2 * (k + 1))) (λ k. true) 64 (n - 1) refl (omega arith)) in
+    let below : 2 ^ log_up n + 1 ≤ 2 * n = subst (λ (m : ℕ). 2 ^ log_up m + 1 ≤ 2 * m) place at in
+    less (2 ^ log_up n) (2 * n) below
+  where
+    less : (a b : ℕ) → a + 1 ≤ b → a < b
+    less a b le = omega arith
+
+few_stages : (n m k : ℕ) → m ≡ k → 3 * (n * m) ≤ 3 * (n * k) + 4 * n
+few_stages n m k same = omega (arith, ap (λ j. n * j) same)
+
+few_stages_and : (n m k j : ℕ) → m ≡ k → j ≤ 4 * n → 3 * (n * m) + j ≤ 3 * (n * k) + 4 * n
+few_stages_and n m k j same most = omega (arith, ap (λ i. n * i) same)
+
+pub moved_in_turn-requires-clause-moves : goal.moved_in_turn-requires-clause-moves
+moved_in_turn-requires-clause-moves g c = ap (λ (x : Bool). x || is_rotation c.args.op) c.requires.shifts
+
+pub moved_in_turn-requires-clause-places : goal.moved_in_turn-requires-clause-places
+moved_in_turn-requires-clause-places g c = omega (arith, c.split_at.ensures.front_len, c.log_up.ensures.most)
+
+pub moved_in_turn-requires-clause-near : goal.moved_in_turn-requires-clause-near
+moved_in_turn-requires-clause-near g c = λ is.
+    let n = length c.args.a.now.items in
+    let low_count : length c.split_at.result.0.now ≡ log_up n = c.split_at.ensures.front_len ∙ c.log_up.ensures.value ∙ ap log_up c.len-width.ensures.value in
+    subst (λ (k : ℕ). 2 ^ k < 2 * n) (sym low_count) (near_enough n c.requires.operands.some c.requires.operands.most)
+
+pub moved_in_turn-requires-clause-amount : goal.moved_in_turn-requires-clause-amount
+moved_in_turn-requires-clause-amount g c =
+    let old = g.G.Gates.made c.args.g.now in
+    let b = c.args.b.now.items in
+    let low : c.split_at.result.0.now ≡ take c.log_up.result b = c.split_at.ensures.front ∙ ap (λ (ls : List ℕ). take c.log_up.result ls) c.as_slice.ensures.value in
+    subst (λ (ls : List ℕ). All (IsDefined old) ls) (sym low) (All-take (IsDefined old) c.log_up.result b c.requires.operands.right)
+
+pub connect_bits-requires-clause-most : goal.connect_bits-requires-clause-most
+connect_bits-requires-clause-most g c =
+    omega (arith, c.split_at.ensures.back_len, ap length c.as_slice.ensures.value, c.requires.operands.equal, c.requires.operands.most)
+
+pub connect_bits-requires-clause-defined : goal.connect_bits-requires-clause-defined
+connect_bits-requires-clause-defined g c =
+    let old = g.G.Gates.made c.args.g.now in
+    let first = g.G.Gates.made c.moved_in_turn.new.g in
+    let b = c.args.b.now.items in
+    let high : c.split_at.result.1.now ≡ drop c.log_up.result b = c.split_at.ensures.back ∙ ap (λ (ls : List ℕ). drop c.log_up.result ls) c.as_slice.ensures.value in
+    subst (λ (ls : List ℕ). All (IsDefined first) ls) (sym high) (All-drop (IsDefined first) c.log_up.result b (All-defined-grown old first _ c.in_ok-near.ensures.ok.grows b c.requires.operands.right))
+
+pub choose-requires-clause-most : goal.choose-requires-clause-most
+choose-requires-clause-most g c =
+    let count = length-replicate c.len-width.result c.match-op.fill in
+    omega (arith, ap length c.repeated.ensures, count, c.len-width.ensures.value, c.requires.operands.most)
+
+pub choose-requires-clause-equal : goal.choose-requires-clause-equal
+choose-requires-clause-equal g c =
+    let filled_count : length c.repeated.result.items ≡ length c.args.a.now.items = ap length c.repeated.ensures ∙ length-replicate c.len-width.result c.match-op.fill ∙ c.len-width.ensures.value in
+    c.in_ok-near.ensures.ok.wide ∙ sym filled_count
+
+pub choose-requires-clause-condition : goal.choose-requires-clause-condition
+choose-requires-clause-condition g c = c.in_ok-is_far.ensures.ok.defined
+
+pub choose-requires-clause-then : goal.choose-requires-clause-then
+choose-requires-clause-then g c =
+    let second = g.G.Gates.made c.connect_bits.new.g in
+    let a = c.args.a.now.items in
+    let fill = c.match-op.fill in
+    let before = Grows-trans _ _ _ _ _ c.in_ok-near.ensures.ok.grows c.in_ok-is_far.ensures.ok.grows in
+    let defined : IsDefined second fill = elim c.match-op.branch [
+      | in-Sra w ↦ rw w.fill-is (
+          let x = w.index-deref-width.result in
+          let x_is : x ≡ get_or a (length a - 1) x = rw (← c.len-width.ensures.value, ← w.deref.ensures.0) w.index-deref-width.is in
+          IsDefined-of_word _ second _ a (length a - 1) x (omega (arith, c.requires.operands.some)) x_is c.requires.operands.left before)
+      | in_default w ↦ rw w.fill-is (IsDefined-false second)
+    ] in
+    rw c.repeated.ensures (All-replicate (IsDefined second) c.len-width.result fill defined)
+
+pub choose-requires-clause-otherwise : goal.choose-requires-clause-otherwise
+choose-requires-clause-otherwise g c = All-defined-grown _ _ _ c.in_ok-is_far.ensures.ok.grows _ c.in_ok-near.ensures.ok.defined
+
+pub returns-in_err-near-clause-refused : goal.returns-in_err-near-clause-refused
+returns-in_err-near-clause-refused g c =
+    let op = c.args.op in
+    let n = length c.args.a.now.items in
+    let m = length c.split_at.result.0.now in
+    let low_count : m ≡ log_up n = c.split_at.ensures.front_len ∙ c.log_up.ensures.value ∙ ap log_up c.len-width.ensures.value in
+    let within : 3 * (n * m) ≤ 3 * (n * log_up n) + 4 * n = few_stages n m (log_up n) low_count in
+    let refused : Refuses (g.G.Gates.made c.args.g.now) (g.G.Gates.made c.moved_in_turn.new.g) (binary_bound op n) c.in_err-near.field-0.0 =
+    rw (shift_bound op n c.requires.shifts) (Refuses-weaker _ _ (3 * (n * m)) (3 * (n * log_up n) + 4 * n) _ within c.in_err-near.ensures.refused)
+    in search rules
+
+pub returns-in_err-is_far-clause-refused : goal.returns-in_err-is_far-clause-refused
+returns-in_err-is_far-clause-refused g c =
+    let op = c.args.op in
+    let n = length c.args.a.now.items in
+    let m = length c.split_at.result.0.now in
+    let k = length c.split_at.result.1.now in
+    let low_count : m ≡ log_up n = c.split_at.ensures.front_len ∙ c.log_up.ensures.value ∙ ap log_up c.len-width.ensures.value in
+    let most : k ≤ 4 * n = omega (arith, c.split_at.ensures.back_len, ap length c.as_slice.ensures.value, c.requires.operands.equal) in
+    let within : 3 * (n * m) + k ≤ 3 * (n * log_up n) + 4 * n = few_stages_and n m (log_up n) k low_count most in
+    let refused : Refuses (g.G.Gates.made c.args.g.now) (g.G.Gates.made c.connect_bits.new.g) (binary_bound op n) c.in_err-is_far.field-0.0 =
+    rw (shift_bound op n c.requires.shifts) (Refuses-behind _ _ _ (3 * (n * m)) k (3 * (n * log_up n) + 4 * n) _ within c.in_ok-near.ensures.ok.grows c.in_err-is_far.ensures.refused)
+    in search rules

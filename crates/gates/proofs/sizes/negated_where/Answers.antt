@@ -11,7 +11,7 @@ pub loop-i-preserved : goal.loop-i-preserved
 loop-i-preserved g c =
     rw c.push.ensures.items
     (IsNegatedRow-push _ _ _ _ _ c.loop-i.i c.args.negative c.args.a.now.items c.loop-i.bits.items c.index-deref-i.result c.loop-i.flips c.in_ok-xor.field-0 c.in_ok-some.some c.in_ok-flips.flips
-    (omega arith) (cc) c.loop-i.invariant c.in_ok-xor.ensures.ok c.in_ok-some.ensures.ok c.in_ok-flips.ensures.ok)
+    (omega arith) (rw (← c.deref.ensures.0) c.index-deref-i.is) c.loop-i.invariant c.in_ok-xor.ensures.ok c.in_ok-some.ensures.ok c.in_ok-flips.ensures.ok)
 
 pub returns-clause-ok : goal.returns-clause-ok
 returns-clause-ok g c = MakesWord-negated_where _ _ (length c.args.a.now.items) c.loop-i.i c.args.negative c.args.a.now.items c.loop-i.bits.items c.loop-i.flips refl (omega arith) c.loop-i.invariant
@@ -32,7 +32,7 @@ returns-in_err-flips-clause-refused g c =
 
 pub xor-requires-clause-left : goal.xor-requires-clause-left
 xor-requires-clause-left g c =
-    IsDefined-of_word _ _ _ c.args.a.now.items c.loop-i.i c.index-deref-i.result (omega arith) (cc) c.requires.defined c.loop-i.invariant.word.grows
+    IsDefined-of_word _ _ _ c.args.a.now.items c.loop-i.i c.index-deref-i.result (omega arith) (rw (← c.deref.ensures.0) c.index-deref-i.is) c.requires.defined c.loop-i.invariant.word.grows
 
 pub xor-requires-clause-right : goal.xor-requires-clause-right
 xor-requires-clause-right g c = c.loop-i.invariant.above.defined
@@ -40,7 +40,7 @@ xor-requires-clause-right g c = c.loop-i.invariant.above.defined
 pub disjunction-requires-clause-left : goal.disjunction-requires-clause-left
 disjunction-requires-clause-left g c =
     let lit : IsDefined (g.G.Gates.made c.loop-i.g) c.index-deref-i.result =
-    IsDefined-of_word _ _ _ c.args.a.now.items c.loop-i.i c.index-deref-i.result (omega arith) (cc) c.requires.defined c.loop-i.invariant.word.grows
+    IsDefined-of_word _ _ _ c.args.a.now.items c.loop-i.i c.index-deref-i.result (omega arith) (rw (← c.deref.ensures.0) c.index-deref-i.is) c.requires.defined c.loop-i.invariant.word.grows
     in
     IsDefined-grown _ _ _ c.in_ok-xor.ensures.ok.grows _ lit
 
