@@ -1,5 +1,5 @@
 -- The kinds of operators that one builder makes: their bounds and widths.
-use Rattle.std.proofs.Common.{◌≡◌, ℕ, ◌+◌, ◌*◌, true, List, length, refl, ap, ◌∙◌, inl, inr, ◌⊎◌}
+use Rattle.std.proofs.Common.{◌≡◌, ℕ, ◌*◌, true, List, length, refl, ap, ◌∙◌, inl, inr, ◌⊎◌}
 use Rattle.std.proofs.lemmas.Bool.{false≢true}
 use Rattle.base.specs.Operator.{binary_value}
 use Rattle.base.specs.Widths.{binary_width}

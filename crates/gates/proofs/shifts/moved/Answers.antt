@@ -1,4 +1,4 @@
-use Rattle.std.proofs.Common.{◌≡◌, ◌-◌, length, replicate, get_or, refl, ap, ◌∙◌, arith, ℕ, ◌+◌, ◌≤◌, take, drop, sym, List, length-append, length-drop, ◌++◌}
+use Rattle.std.proofs.Common.{◌≡◌, ◌-◌, length, replicate, get_or, refl, ap, ◌∙◌, arith, ℕ, ◌≤◌, take, drop, sym, List, length-append, length-drop, ◌++◌}
 use Rattle.std.proofs.lemmas.List.{length-replicate, length-take-le}
 use Rattle.std.proofs.lemmas.List.Elements.{All-replicate, All-get_or}
 use Rattle.aiger.specs.Net.{IsDefined}
