@@ -16,3 +16,5 @@ pub mod SignedDivisionLemmas
 pub mod SignedModuloLemmas
 pub mod SharedLemmas
 pub mod TopLemmas
+pub mod LaterLemmas
+pub mod OperatorLemmas

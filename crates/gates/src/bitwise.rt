@@ -1,5 +1,5 @@
 //! The bitwise operators, the reductions of a word to one bit, and the tests for equality.
-ghost use Rattle.std.specs.Prelude.{◌≡◌, ◌≤◌, ◌-◌, length, All, IfOk, IfErr, ◌==◌};
+ghost use Rattle.std.specs.Prelude.{◌≡◌, ◌≤◌, ◌-◌, ◌*◌, length, All, IfOk, IfErr, ◌==◌, bit_xor};
 ghost use Rattle.base.specs.declared.operators.Binary.TheVariants as binary;
 ghost use Rattle.base.specs.Operator.{ones, unary_value, binary_value};
 ghost use Rattle.aiger.specs.Net.{IsDefined};
@@ -107,6 +107,15 @@ pub(crate) fn reduction<G: Gates>(g: &mut G, by: Connective, a: &Bits) -> Result
     Ok(one_bit(lit))
 }
 
+/// The places at which two words differ.
+fn differing_bits<G: Gates>(g: &mut G, a: &Bits, b: &Bits) -> Result<Bits, GateFault>
+    requires { AreOperands (G.made g.old) 64 a.now.items b.now.items }
+    ensures ok { IfOk result (λ bits. let n = length a.now.items in MakesWord (G.made g.old) (G.made g.new) (3 * n) n (λ v. bit_xor (word_value v a.now.items) (word_value v b.now.items)) bits.items) }
+    ensures refused { IfErr result (Refuses (G.made g.old) (G.made g.new) (3 * length a.now.items)) }
+{
+    connect_words(g, Connective::Xor, a, b)
+}
+
 /// A literal that is true where two words are equal, with at most 4 gates a bit.
 ///
 /// Conditions: operands of equal length from 1 to 64, all literals defined. Errors: `TooBig` only where the variables so
@@ -116,7 +125,7 @@ pub fn equal<G: Gates>(g: &mut G, a: &Bits, b: &Bits) -> Result<Lit, GateFault>
     ensures ok { IfOk result (MakesLiteral (G.made g.old) (G.made g.new) (binary_bound binary.Eq (length a.now.items)) (λ v. word_value v a.now.items == word_value v b.now.items)) }
     ensures refused { IfErr result (Refuses (G.made g.old) (G.made g.new) (binary_bound binary.Eq (length a.now.items))) }
 {
-    let differing = connect_words(g, Connective::Xor, a, b)?;
+    let differing = differing_bits(g, a, b)?;
     let differ = connect_bits(g, Connective::Or, differing.as_slice())?;
     Ok(differ.not())
 }

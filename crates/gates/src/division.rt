@@ -1,9 +1,10 @@
 //! Division of words: a row of gates for each bit of the dividend, from the highest down. A row is as wide as the bits that
 //! the dividend has given so far.
-ghost use Rattle.std.specs.Prelude.{◌≡◌, ◌+◌, ◌-◌, ◌*◌, ◌≤◌, ◌==◌, not, length, drop, All, IfOk, IfErr};
+ghost use Rattle.std.specs.Prelude.{◌≡◌, ◌+◌, ◌-◌, ◌*◌, ◌≤◌, ◌==◌, not, length, drop, All, IfOk, IfErr, if◌then◌else◌};
+ghost use Rattle.aiger.specs.Literal.{literal_value};
 ghost use Rattle.aiger.specs.Net.{IsDefined};
 ghost use Rattle.gates.specs.Operands.{AreOperands};
-ghost use Rattle.gates.specs.Made.{MakesLiteral, Refuses, word_value};
+ghost use Rattle.gates.specs.Made.{MakesLiteral, MakesWord, Refuses, word_value};
 ghost use Rattle.gates.specs.Division.{MakesQuotientRow, MakesDivision};
 
 use crate::adders::difference;
@@ -51,6 +52,24 @@ pub(crate) fn has_bit_from<G: Gates>(g: &mut G, a: &Bits, from: usize) -> Result
     Ok(some)
 }
 
+/// What is left of a dividend in one row: its difference to the divisor where that goes into it, and else all of it.
+fn left_over<G: Gates>(
+    g: &mut G,
+    goes: Lit,
+    difference: &Bits,
+    dividend: &Bits,
+) -> Result<Bits, GateFault>
+    requires most { length difference.now.items ≤ 64 }
+    requires equal { length dividend.now.items ≡ length difference.now.items }
+    requires goes { IsDefined (G.made g.old) goes }
+    requires then { All (IsDefined (G.made g.old)) difference.now.items }
+    requires otherwise { All (IsDefined (G.made g.old)) dividend.now.items }
+    ensures ok { IfOk result (λ bits. let n = length difference.now.items in MakesWord (G.made g.old) (G.made g.new) (3 * n) n (λ v. if literal_value v goes then word_value v difference.now.items else word_value v dividend.now.items) bits.items) }
+    ensures refused { IfErr result (Refuses (G.made g.old) (G.made g.new) (3 * length difference.now.items)) }
+{
+    choose(g, goes, difference, dividend)
+}
+
 /// One row of a division: the divisor is taken from a dividend that is no wider, where it goes into it.
 ///
 /// It does not where it has a bit above the dividend's; below, their difference tells.
@@ -67,7 +86,7 @@ fn next_row<G: Gates>(g: &mut G, dividend: &Bits, b: &Bits) -> Result<Row, GateF
     let reduced = difference(g, dividend, &low_bits(b, width))?;
     let above = has_bit_from(g, b, width)?;
     let bit = conjunction(g, reduced.out, above.not())?;
-    let remainder = choose(g, bit, &reduced.sum, dividend)?;
+    let remainder = left_over(g, bit, &reduced.sum, dividend)?;
     Ok(Row { bit, remainder })
 }
 

@@ -1,7 +1,7 @@
 //! Shifts and rotations: a row of choices for each bit of the amount.
-ghost use Rattle.std.specs.Prelude.{◌≡◌, ℕ, ◌+◌, ◌*◌, ◌^◌, ◌<◌, ◌≤◌, ◌++◌, length, take, drop, All, IfOk, IfErr, true, false};
+ghost use Rattle.std.specs.Prelude.{◌≡◌, ℕ, ◌+◌, ◌*◌, ◌^◌, ◌<◌, ◌≤◌, ◌++◌, length, take, drop, All, IfOk, IfErr, true, false, if◌then◌else◌};
 ghost use Rattle.base.specs.Operator.{binary_value};
-ghost use Rattle.aiger.specs.Literal.{Valuation};
+ghost use Rattle.aiger.specs.Literal.{Valuation, literal_value};
 ghost use Rattle.aiger.specs.Net.{Net, IsDefined};
 ghost use Rattle.gates.specs.Bound.{binary_bound};
 ghost use Rattle.gates.specs.Operands.{AreOperands};
@@ -77,6 +77,19 @@ fn moved_in_turn<G: Gates>(
     Ok(bits)
 }
 
+/// A word moved by the low bits of an amount, or what is left where the amount has a high bit.
+fn near_or_far<G: Gates>(g: &mut G, is_far: Lit, far: &Bits, near: &Bits) -> Result<Bits, GateFault>
+    requires most { length far.now.items ≤ 64 }
+    requires equal { length near.now.items ≡ length far.now.items }
+    requires condition { IsDefined (G.made g.old) is_far }
+    requires then { All (IsDefined (G.made g.old)) far.now.items }
+    requires otherwise { All (IsDefined (G.made g.old)) near.now.items }
+    ensures ok { IfOk result (λ bits. let n = length far.now.items in MakesWord (G.made g.old) (G.made g.new) (3 * n) n (λ v. if literal_value v is_far then word_value v far.now.items else word_value v near.now.items) bits.items) }
+    ensures refused { IfErr result (Refuses (G.made g.old) (G.made g.new) (3 * length far.now.items)) }
+{
+    choose(g, is_far, far, near)
+}
+
 /// A word shifted by an amount.
 ///
 /// Conditions: the operator is `Sll`, `Srl` or `Sra`; operands of equal length from 1 to 64, all literals defined.
@@ -96,7 +109,7 @@ pub fn shift<G: Gates>(g: &mut G, op: Binary, a: &Bits, b: &Bits) -> Result<Bits
         Binary::Sra => a[width - 1],
         _ => Lit::FALSE,
     };
-    choose(g, is_far, &repeated(fill, width), &near)
+    near_or_far(g, is_far, &repeated(fill, width), &near)
 }
 
 /// A word rotated by an amount, which counts modulo the width.

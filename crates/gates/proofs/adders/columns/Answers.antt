@@ -1,4 +1,6 @@
-use Rattle.std.proofs.Common.{take, length-take, arith}
+use Rattle.std.proofs.Common.{take, length-take, arith, ◌*◌, rules}
+use Rattle.gates.specs.Made.{Refuses}
+use Rattle.gates.proofs.LiteralLemmas.{Refuses-behind}
 use Rattle.gates.proofs.SumLemmas.{MakesSum-start, MakesSum-step, literal_at, front_with}
 use Rattle.gates.proofs.GrowthLemmas.{IsDefined-grown}
 use Rattle.gates.proofs.adders.columns.Goals as goal
@@ -29,3 +31,9 @@ loop-i-preserved g c =
     rw (front_with a c.deref.result.now i x c.deref.ensures.0 (omega arith) c.index-deref-i.is, front_with b c.deref-in-loop-i.result.now i y c.deref-in-loop-i.ensures.0 (omega arith) c.index-deref-i-in-loop-i.is, c.push.ensures.items)
     (MakesSum-step _ _ _ _ _ (take i a) (take i b) c.args.carry c.loop-i.sum.items c.loop-i.into_top c.loop-i.out x y c.in_ok-column.column.sum c.in_ok-column.column.carry
     (omega (arith, length-take i a, length-take i b)) (omega arith) c.loop-i.invariant c.in_ok-column.ensures.ok)
+
+pub returns-in_err-column-clause-refused : goal.returns-in_err-column-clause-refused
+returns-in_err-column-clause-refused g c =
+    let refused : Refuses (g.G.Gates.made c.args.g.now) (g.G.Gates.made c.full_adder.new.g) (7 * c.args.count) c.in_err-column.field-0.0 =
+    Refuses-behind _ _ _ (7 * c.loop-i.i) 7 (7 * c.args.count) _ (omega arith) c.loop-i.invariant.grows c.in_err-column.ensures.refused
+    in search rules

@@ -1,7 +1,8 @@
 use Rattle.std.proofs.Common.{◌≡◌, ◌+◌, ◌-◌, ◌*◌, ◌≤◌, rules, ◌∷◌, [], ◌++◌, length, take, sym, ◌∙◌, arith}
 use Rattle.std.proofs.lemmas.List.{take_all}
 use Rattle.gates.specs.Made.{Refuses}
-use Rattle.gates.proofs.GrowthLemmas.{Grows-trans}
+use Rattle.gates.proofs.LaterLemmas.{IsDefined-of_word, Refuses-weaker}
+use Rattle.gates.proofs.GrowthLemmas.{Grows-trans, IsDefined-grown}
 use Rattle.gates.proofs.LiteralLemmas.{Refuses-behind}
 use Rattle.gates.proofs.SumLemmas.{front_with}
 use Rattle.gates.proofs.TopLemmas.{MakesWord-without_carry}
@@ -48,3 +49,24 @@ returns-in_err-last-clause-refused g c =
     let before = Grows-trans old mid next low 3 c.in_ok-low.ensures.ok.grows c.in_ok-differ.ensures.ok.grows in
     let whole : Refuses old new (9 * n) fault = Refuses-behind old next new (low + 3) 3 (9 * n) fault within before c.in_err-last.ensures.refused in
     search rules
+
+pub xor-requires-clause-left : goal.xor-requires-clause-left
+xor-requires-clause-left g c =
+    IsDefined-of_word _ _ _ c.args.a.now.items (c.len-top.result - 1) c.index-deref-top.result (omega (arith, c.len-top.ensures.value, c.requires.operands.some)) (rw (← c.deref.ensures.0) c.index-deref-top.is) c.requires.operands.left c.in_ok-low.ensures.ok.grows
+
+pub xor-requires-clause-right : goal.xor-requires-clause-right
+xor-requires-clause-right g c =
+    IsDefined-of_word _ _ _ c.args.b.now.items (c.len-top.result - 1) c.index-deref-top-2.result (omega (arith, c.len-top.ensures.value, c.requires.operands.some, c.requires.operands.equal)) (rw (← c.deref-2.ensures.0) c.index-deref-top-2.is) c.requires.operands.right c.in_ok-low.ensures.ok.grows
+
+pub xor-requires-2-clause-left : goal.xor-requires-2-clause-left
+xor-requires-2-clause-left g c = c.in_ok-differ.ensures.ok.defined
+
+pub xor-requires-2-clause-right : goal.xor-requires-2-clause-right
+xor-requires-2-clause-right g c = IsDefined-grown _ _ _ c.in_ok-differ.ensures.ok.grows _ c.in_ok-low.ensures.ok.out_defined
+
+pub returns-in_err-low-clause-refused : goal.returns-in_err-low-clause-refused
+returns-in_err-low-clause-refused g c =
+    let n = length c.args.a.now.items in
+    let refused : Refuses (g.G.Gates.made c.args.g.now) (g.G.Gates.made c.columns.new.g) (9 * n) c.in_err-low.field-0.0 =
+    Refuses-weaker _ _ _ (9 * n) _ (omega (arith, c.len-top.ensures.value)) c.in_err-low.ensures.refused
+    in search rules

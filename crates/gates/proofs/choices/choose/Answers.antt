@@ -1,15 +1,21 @@
-use Rattle.std.proofs.Common.{◌≡◌, Bool, true, false, List, [], ◌∷◌, length, map, if◌then◌else◌, refl, ap, arith}
+use Rattle.std.proofs.lemmas.List.Elements.{All-nil}
+use Rattle.std.proofs.Common.{◌≡◌, Bool, true, false, List, [], ◌∷◌, length, map, if◌then◌else◌, refl, ap, arith, ℕ, ◌*◌, rules}
 use Rattle.std.proofs.lemmas.List.{length-map}
 use Rattle.base.specs.Word.{word}
-use Rattle.aiger.specs.Literal.{literal_value}
+use Rattle.aiger.specs.Net.{IsDefined, Net}
+use Rattle.aiger.specs.Literal.{literal_value, Valuation}
+use Rattle.gates.specs.Made.{Refuses}
+use Rattle.gates.proofs.LiteralLemmas.{Refuses-behind}
+use Rattle.gates.proofs.LaterLemmas.{IsDefined-of_word}
+use Rattle.gates.proofs.GrowthLemmas.{IsDefined-grown, Grows-refl}
 use Rattle.gates.proofs.WordLemmas.{zip_with}
-use Rattle.gates.proofs.BitListLemmas.{IsRow-push, MakesWord-row}
+use Rattle.gates.proofs.BitListLemmas.{IsRow-push, MakesWord-row, IsRow}
 use Rattle.gates.proofs.choices.choose.Goals as goal
 
 pub loop-i-preserved : goal.loop-i-preserved
 loop-i-preserved g c =
     let condition = c.args.c in
-    rw c.push.ensures.items (IsRow-push _ _ _ 3 c.loop-i.i (λ v x y. if literal_value v condition then x else y) c.args.t.now.items c.args.e.now.items c.loop-i.bits.items c.index-deref-i.result c.index-deref-i-in-loop-i.result c.in_ok-mux.field-0 (omega arith) (omega arith) (cc) (cc) c.loop-i.invariant c.in_ok-mux.ensures.ok)
+    rw c.push.ensures.items (IsRow-push _ _ _ 3 c.loop-i.i (λ v x y. if literal_value v condition then x else y) c.args.t.now.items c.args.e.now.items c.loop-i.bits.items c.index-deref-i.result c.index-deref-i-in-loop-i.result c.in_ok-mux.field-0 (omega arith) (omega arith) (rw (← c.deref.ensures.0) c.index-deref-i.is) (rw (← c.deref-in-loop-i.ensures.0) c.index-deref-i-in-loop-i.is) c.loop-i.invariant c.in_ok-mux.ensures.ok)
 
 -- one of two words, chosen place by place
 chosen_word : (c : Bool) (xs ys : List Bool) → length xs ≡ length ys → word (zip_with (λ x y. if c then x else y) xs ys) ≡ (if c then word xs else word ys)
@@ -35,3 +41,28 @@ returns-clause-ok g c =
     MakesWord-row _ _ 3 (length t) c.loop-i.i (λ v x y. if literal_value v condition then x else y) _ t e c.loop-i.bits.items refl c.requires.equal (omega arith)
     (λ v. chosen_word (literal_value v condition) (map (literal_value v) t) (map (literal_value v) e) (omega (arith, length-map t (literal_value v), length-map e (literal_value v))))
     c.loop-i.invariant
+
+pub mux-requires-clause-condition : goal.mux-requires-clause-condition
+mux-requires-clause-condition g c = IsDefined-grown _ _ _ c.loop-i.invariant.grows _ c.requires.condition
+
+pub mux-requires-clause-then : goal.mux-requires-clause-then
+mux-requires-clause-then g c =
+    IsDefined-of_word _ _ _ c.args.t.now.items c.loop-i.i c.index-deref-i.result (omega arith) (rw (← c.deref.ensures.0) c.index-deref-i.is) c.requires.then c.loop-i.invariant.grows
+
+pub mux-requires-clause-otherwise : goal.mux-requires-clause-otherwise
+mux-requires-clause-otherwise g c =
+    IsDefined-of_word _ _ _ c.args.e.now.items c.loop-i.i c.index-deref-i-in-loop-i.result (omega (arith, c.requires.equal)) (rw (← c.deref-in-loop-i.ensures.0) c.index-deref-i-in-loop-i.is) c.requires.otherwise c.loop-i.invariant.grows
+
+-- no place yet
+IsRow-start : (n : Net) (f : Valuation → Bool → Bool → Bool) (a b : List ℕ) → IsRow n n 3 0 f a b []
+IsRow-start n f a b = record { grows = Grows-refl n 0; wide = refl; defined = All-nil (IsDefined n); means = λ v s. refl }
+
+pub loop-i-init : goal.loop-i-init
+loop-i-init g c = let condition = c.args.c in rw c.new-bits.ensures (IsRow-start _ (λ v x y. if literal_value v condition then x else y) c.args.t.now.items c.args.e.now.items)
+
+pub returns-in_err-mux-clause-refused : goal.returns-in_err-mux-clause-refused
+returns-in_err-mux-clause-refused g c =
+    let n = length c.args.t.now.items in
+    let refused : Refuses (g.G.Gates.made c.args.g.now) (g.G.Gates.made c.mux.new.g) (3 * n) c.in_err-mux.field-0.0 =
+    Refuses-behind _ _ _ (3 * c.loop-i.i) 3 (3 * n) _ (omega arith) c.loop-i.invariant.grows c.in_err-mux.ensures.refused
+    in search rules

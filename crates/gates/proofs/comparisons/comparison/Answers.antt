@@ -1,7 +1,9 @@
-use Rattle.std.proofs.Common.{length, ap, refl, arith}
+use Rattle.std.proofs.Common.{length, ap, refl, arith, ℕ, sym, List}
 use Rattle.std.proofs.lemmas.Result.{IfOk-weaker}
 use Rattle.base.specs.Word.{bit_number}
 use Rattle.base.specs.Signed.{signed}
+use Rattle.aiger.specs.Net.{Net}
+use Rattle.gates.specs.Operands.{AreOperands}
 use Rattle.gates.specs.Made.{word_value}
 use Rattle.gates.proofs.OrderLemmas.{MakesWord-test, MakesWord-test_not, not_less, not_less_signed}
 use Rattle.gates.proofs.comparisons.comparison.Goals as goal
@@ -37,3 +39,31 @@ returns-in_ok-signed_less-in-Slte-clause-ok g c =
 pub returns-in_ok-signed_less-in-Sgte-clause-ok : goal.returns-in_ok-signed_less-in-Sgte-clause-ok
 returns-in_ok-signed_less-in-Sgte-clause-ok g c =
     MakesWord-test_not _ _ _ _ _ _ c.in_ok-signed_less-in-Sgte.field-0 c.not-in-Sgte.result c.not-in-Sgte.ensures (omega arith) c.in_ok-signed_less-in-Sgte.ensures.ok (λ v. rw c.in-Sgte.is (ap bit_number (not_less_signed (signed (length c.args.a.now.items) (word_value v c.args.a.now.items)) (signed (length c.args.a.now.items) (word_value v c.args.b.now.items)))))
+
+-- operands in the other order
+AreOperands-exchanged : (n : Net) (greatest : ℕ) (a b : List ℕ) → AreOperands n greatest a b → AreOperands n greatest b a
+AreOperands-exchanged n greatest a b operands = record {
+  some = let e = operands.equal in let k = operands.some in omega arith;
+  most = let e = operands.equal in let k = operands.most in omega arith;
+  equal = sym operands.equal;
+  left = operands.right;
+  right = operands.left;
+}
+
+pub less-requires-in-Ugt : goal.less-requires-in-Ugt
+less-requires-in-Ugt g c = AreOperands-exchanged _ _ _ _ c.requires.operands
+
+pub less-requires-in-Ulte : goal.less-requires-in-Ulte
+less-requires-in-Ulte g c = AreOperands-exchanged _ _ _ _ c.requires.operands
+
+pub signed_less-requires-in-Sgt : goal.signed_less-requires-in-Sgt
+signed_less-requires-in-Sgt g c = AreOperands-exchanged _ _ _ _ c.requires.operands
+
+pub signed_less-requires-in-Slte : goal.signed_less-requires-in-Slte
+signed_less-requires-in-Slte g c = AreOperands-exchanged _ _ _ _ c.requires.operands
+
+pub returns-in-Ugt-clause-refused : goal.returns-in-Ugt-clause-refused
+returns-in-Ugt-clause-refused g c = rw (← c.requires.operands.equal) c.less-in-Ugt.ensures.refused
+
+pub returns-in-Sgt-clause-refused : goal.returns-in-Sgt-clause-refused
+returns-in-Sgt-clause-refused g c = rw (← c.requires.operands.equal) c.signed_less-in-Sgt.ensures.refused

@@ -1,4 +1,6 @@
-use Rattle.std.proofs.Common.{take, length-take, arith}
+use Rattle.std.proofs.Common.{take, length-take, arith, ◌*◌, length, rules}
+use Rattle.gates.specs.Made.{Refuses}
+use Rattle.gates.proofs.LiteralLemmas.{Refuses-behind}
 use Rattle.gates.proofs.SumLemmas.{literal_at, front_with}
 use Rattle.gates.proofs.GrowthLemmas.{IsDefined-grown}
 use Rattle.gates.proofs.OrderLemmas.{MakesLiteral-not_less, MakesLiteral-less_step}
@@ -27,3 +29,13 @@ loop-i-preserved g c =
     rw (front_with a c.deref.result.now i x c.deref.ensures.0 (omega arith) c.index-deref-i.is, front_with b c.deref-in-loop-i.result.now i y c.deref-in-loop-i.ensures.0 (omega arith) c.index-deref-i-in-loop-i.is)
     (MakesLiteral-less_step _ _ _ _ _ (take i a) (take i b) x y c.loop-i.below c.in_ok-below.below
     (omega (arith, length-take i a, length-take i b)) (omega arith) c.loop-i.invariant c.in_ok-below.ensures.ok)
+
+pub less_column-requires-clause-below : goal.less_column-requires-clause-below
+less_column-requires-clause-below g c = c.loop-i.invariant.defined
+
+pub returns-in_err-below-clause-refused : goal.returns-in_err-below-clause-refused
+returns-in_err-below-clause-refused g c =
+    let n = length c.args.a.now.items in
+    let refused : Refuses (g.G.Gates.made c.args.g.now) (g.G.Gates.made c.less_column.new.g) (6 * n) c.in_err-below.field-0.0 =
+    Refuses-behind _ _ _ (4 * c.loop-i.i) 4 (6 * n) _ (omega arith) c.loop-i.invariant.grows c.in_err-below.ensures.refused
+    in search rules

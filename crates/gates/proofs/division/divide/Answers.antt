@@ -1,9 +1,14 @@
-use Rattle.std.proofs.Common.{◌≡◌, ℕ, ◌+◌, ◌-◌, ◌*◌, ◌∷◌, List, [], length, drop, get_or, sym, ap₂, ◌∙◌, arith, rules}
+use Rattle.std.proofs.lemmas.List.Elements.{All-cons}
+use Rattle.std.proofs.Common.{◌≡◌, ℕ, ◌+◌, ◌-◌, ◌*◌, ◌∷◌, List, [], length, drop, get_or, sym, ap₂, ◌∙◌, arith, rules, ◌≤◌, subst, length-drop}
 use Rattle.std.proofs.lemmas.List.{drop_more, drop_all}
-use Rattle.gates.proofs.QuotientLemmas.{MakesRows-start, MakesRows-step}
-use Rattle.gates.specs.Made.{Refuses}
-use Rattle.gates.proofs.LiteralLemmas.{Refuses-behind}
 use Rattle.std.proofs.lemmas.Nat.{mul-le}
+use Rattle.aiger.specs.Net.{IsDefined, Net}
+use Rattle.gates.specs.Division.{MakesRows, MakesDivision}
+use Rattle.gates.specs.Made.{Refuses}
+use Rattle.gates.proofs.LaterLemmas.{IsDefined-of_word}
+use Rattle.gates.proofs.GrowthLemmas.{Grows-weaker, All-defined-grown}
+use Rattle.gates.proofs.QuotientLemmas.{MakesRows-start, MakesRows-step}
+use Rattle.gates.proofs.LiteralLemmas.{Refuses-behind}
 use Rattle.gates.proofs.division.divide.Goals as goal
 
 pub loop-done-init : goal.loop-done-init
@@ -35,3 +40,52 @@ returns-in_err-row-clause-refused g c =
     let refused : Refuses (g.G.Gates.made c.args.g.now) (g.G.Gates.made c.next_row.new.g) (12 * (n * n) + 12 * n) c.in_err-row.field-0.0 =
     Refuses-behind _ _ _ (m * c.loop-done.done) m (12 * (n * n) + 12 * n) _ (omega (arith, c.requires.equal, mul-le m (c.loop-done.done + 1) (12 * n + 9) n (omega (arith, c.requires.equal)) (omega (arith, c.len-width.ensures.value)))) c.loop-done.invariant.grows c.in_err-row.ensures.refused
     in search rules
+
+-- the gates of all rows fit
+few_rows : (n m k : ℕ) → m ≡ n → k ≡ n → (12 * m + 9) * k ≤ 12 * (n * n) + 12 * n
+few_rows n m k same all = rw (same, all) (omega arith)
+
+-- all rows are the division
+MakesDivision-rows : (old new : Net) (a b quotient remainder : List ℕ) (done : ℕ) → length b ≡ length a → done ≡ length a
+    → MakesRows old new ((12 * length b + 9) * done) (drop (length a - done) a) b quotient remainder
+    → MakesDivision old new (12 * (length a * length a) + 12 * length a) a b quotient remainder
+MakesDivision-rows old new a b quotient remainder done same all rows =
+    let none : length a - done ≡ 0 = omega arith in
+    let whole : MakesRows old new ((12 * length b + 9) * done) a b quotient remainder = subst (λ (k : ℕ). MakesRows old new ((12 * length b + 9) * done) (drop k a) b quotient remainder) none rows in
+    record {
+      grows = Grows-weaker old new _ _ (few_rows (length a) (length b) done same all) whole.grows;
+      quotient_wide = whole.quotient_wide;
+      remainder_wide = whole.remainder_wide ∙ sym same;
+      quotient_defined = whole.quotient_defined;
+      remainder_defined = whole.remainder_defined;
+      quotient_means = whole.quotient_means;
+      remainder_means = whole.remainder_means;
+    }
+
+pub next_row-requires-clause-some : goal.next_row-requires-clause-some
+next_row-requires-clause-some g c = rw c.insert.ensures.items (omega arith)
+
+pub next_row-requires-clause-inside : goal.next_row-requires-clause-inside
+next_row-requires-clause-inside g c =
+    let a = c.args.a.now.items in
+    rw c.insert.ensures.items (omega (arith, c.loop-done.invariant.remainder_wide, length-drop (length a - c.loop-done.done) a, c.requires.equal, c.len-width.ensures.value))
+
+pub next_row-requires-clause-most : goal.next_row-requires-clause-most
+next_row-requires-clause-most g c = omega (arith, c.requires.equal, c.requires.most)
+
+pub next_row-requires-clause-left : goal.next_row-requires-clause-left
+next_row-requires-clause-left g c =
+    let a = c.args.a.now.items in
+    let cur = g.G.Gates.made c.loop-done.g in
+    let x = c.index-deref-place.result in
+    let defined : IsDefined cur x =
+    IsDefined-of_word _ cur _ a (c.len-width.result - 1 - c.loop-done.done) x (omega (arith, c.len-width.ensures.value)) (rw (← c.deref.ensures.0) c.index-deref-place.is) c.requires.left c.loop-done.invariant.grows
+    in
+    rw c.insert.ensures.items (All-cons (IsDefined cur) x c.loop-done.remainder.items defined c.loop-done.invariant.remainder_defined)
+
+pub next_row-requires-clause-right : goal.next_row-requires-clause-right
+next_row-requires-clause-right g c = All-defined-grown _ _ _ c.loop-done.invariant.grows _ c.requires.right
+
+pub returns-clause-ok : goal.returns-clause-ok
+returns-clause-ok g c =
+    MakesDivision-rows _ _ c.args.a.now.items c.args.b.now.items c.loop-done.quotient.items c.loop-done.remainder.items c.loop-done.done c.requires.equal (omega (arith, c.len-width.ensures.value)) c.loop-done.invariant

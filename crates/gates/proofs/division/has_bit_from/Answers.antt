@@ -1,5 +1,8 @@
-use Rattle.std.proofs.Common.{◌≡◌, ℕ, ◌+◌, ◌-◌, ◌∷◌, List, [], length, drop, get_or, sym, ap₂, ◌∙◌, arith}
+use Rattle.std.proofs.Common.{◌≡◌, ℕ, ◌+◌, ◌-◌, ◌∷◌, List, [], length, drop, get_or, sym, ap₂, ◌∙◌, arith, rules}
 use Rattle.std.proofs.lemmas.List.{drop_more, drop_all}
+use Rattle.gates.specs.Made.{Refuses}
+use Rattle.gates.proofs.LaterLemmas.{IsDefined-of_word}
+use Rattle.gates.proofs.LiteralLemmas.{Refuses-behind}
 use Rattle.gates.proofs.QuotientLemmas.{MakesLiteral-no_bit, MakesLiteral-bit_more}
 use Rattle.gates.proofs.division.has_bit_from.Goals as goal
 
@@ -18,3 +21,17 @@ loop-above-preserved g c =
     let at : x ≡ get_or a place x = c.index-deref-place.is ∙ ap₂ (λ (ls : List ℕ) (k : ℕ). get_or ls k x) c.deref.ensures.0 (omega (arith, c.len-width.ensures.value)) in
     let longer : drop place a ≡ x ∷ drop (length a - above) a = drop_more a place x (omega arith) ∙ ap₂ (λ (y k : ℕ). y ∷ drop k a) (sym at) (omega arith) in
     rw longer (MakesLiteral-bit_more _ _ _ above (above + 1) (drop (length a - above) a) x c.loop-above.some c.in_ok-some.some (omega arith) c.loop-above.invariant c.in_ok-some.ensures.ok)
+
+pub disjunction-requires-clause-left : goal.disjunction-requires-clause-left
+disjunction-requires-clause-left g c = c.loop-above.invariant.defined
+
+pub disjunction-requires-clause-right : goal.disjunction-requires-clause-right
+disjunction-requires-clause-right g c =
+    IsDefined-of_word _ _ _ c.args.a.now.items (c.len-width.result - 1 - c.loop-above.above) c.index-deref-place.result (omega (arith, c.len-width.ensures.value)) (rw (← c.deref.ensures.0) c.index-deref-place.is) c.requires.defined c.loop-above.invariant.grows
+
+pub returns-in_err-some-clause-refused : goal.returns-in_err-some-clause-refused
+returns-in_err-some-clause-refused g c =
+    let most = length c.args.a.now.items - c.args.from in
+    let refused : Refuses (g.G.Gates.made c.args.g.now) (g.G.Gates.made c.disjunction.new.g) most c.in_err-some.field-0.0 =
+    Refuses-behind _ _ _ c.loop-above.above 1 most _ (omega (arith, c.len-width.ensures.value)) c.loop-above.invariant.grows c.in_err-some.ensures.refused
+    in search rules

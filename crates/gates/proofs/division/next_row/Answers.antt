@@ -1,8 +1,12 @@
-use Rattle.std.proofs.Common.{◌≡◌, length, take, ap, ◌∙◌, rules, arith, ◌*◌, ◌+◌}
-use Rattle.gates.proofs.QuotientLemmas.{MakesQuotientRow-by_carry}
+use Rattle.std.proofs.lemmas.List.Elements.{All-take}
+use Rattle.std.proofs.lemmas.List.{length-take-le}
+use Rattle.std.proofs.Common.{◌≡◌, length, take, ap, ◌∙◌, rules, arith, ◌*◌, ◌+◌, sym}
+use Rattle.aiger.specs.Net.{IsDefined}
 use Rattle.gates.specs.Made.{Refuses}
+use Rattle.gates.proofs.LaterLemmas.{IsDefined-not, Refuses-weaker}
+use Rattle.gates.proofs.QuotientLemmas.{MakesQuotientRow-by_carry}
 use Rattle.gates.proofs.LiteralLemmas.{Refuses-behind}
-use Rattle.gates.proofs.GrowthLemmas.{Grows-trans}
+use Rattle.gates.proofs.GrowthLemmas.{Grows-trans, IsDefined-grown, All-defined-grown}
 use Rattle.gates.proofs.division.next_row.Goals as goal
 
 pub returns-clause-ok : goal.returns-clause-ok
@@ -31,6 +35,52 @@ returns-in_err-bit-clause-refused g c =
 pub returns-in_err-remainder-clause-refused : goal.returns-in_err-remainder-clause-refused
 returns-in_err-remainder-clause-refused g c =
     let n = length c.args.b.now.items in
-    let refused : Refuses (g.G.Gates.made c.args.g.now) (g.G.Gates.made c.choose.new.g) (12 * n + 9) c.in_err-remainder.field-0.0 =
+    let refused : Refuses (g.G.Gates.made c.args.g.now) (g.G.Gates.made c.left_over.new.g) (12 * n + 9) c.in_err-remainder.field-0.0 =
     Refuses-behind _ _ _ _ _ (12 * n + 9) _ (omega (arith, c.len-width.ensures.value, c.requires.inside, c.in_ok-reduced.ensures.ok.wide)) (Grows-trans _ _ _ _ _ c.in_ok-reduced.ensures.ok.grows (Grows-trans _ _ _ _ _ c.in_ok-above.ensures.ok.grows c.in_ok-bit.ensures.ok.grows)) c.in_err-remainder.ensures.refused
+    in search rules
+
+pub difference-requires : goal.difference-requires
+difference-requires g c =
+    let low_count : length c.low_bits.result.items ≡ length c.args.dividend.now.items =
+    ap length c.low_bits.ensures ∙ length-take-le c.len-width.result c.args.b.now.items (omega (arith, c.len-width.ensures.value, c.requires.inside)) ∙ c.len-width.ensures.value
+    in
+    record {
+      some = c.requires.some;
+      most = omega (arith, c.requires.inside, c.requires.most);
+      equal = low_count;
+      left = c.requires.left;
+      right = rw c.low_bits.ensures (All-take (IsDefined (g.G.Gates.made c.args.g.now)) c.len-width.result c.args.b.now.items c.requires.right);
+    }
+
+pub has_bit_from-requires-clause-defined : goal.has_bit_from-requires-clause-defined
+has_bit_from-requires-clause-defined g c = All-defined-grown _ _ _ c.in_ok-reduced.ensures.ok.grows _ c.requires.right
+
+pub conjunction-requires-clause-left : goal.conjunction-requires-clause-left
+conjunction-requires-clause-left g c = IsDefined-grown _ _ _ c.in_ok-above.ensures.ok.grows _ c.in_ok-reduced.ensures.ok.out_defined
+
+pub conjunction-requires-clause-right : goal.conjunction-requires-clause-right
+conjunction-requires-clause-right g c = IsDefined-not _ c.in_ok-above.above _ c.not.ensures c.in_ok-above.ensures.ok.defined
+
+pub left_over-requires-clause-most : goal.left_over-requires-clause-most
+left_over-requires-clause-most g c = omega (arith, c.in_ok-reduced.ensures.ok.wide, c.requires.inside, c.requires.most)
+
+pub left_over-requires-clause-equal : goal.left_over-requires-clause-equal
+left_over-requires-clause-equal g c = sym c.in_ok-reduced.ensures.ok.wide
+
+pub left_over-requires-clause-goes : goal.left_over-requires-clause-goes
+left_over-requires-clause-goes g c = c.in_ok-bit.ensures.ok.defined
+
+pub left_over-requires-clause-then : goal.left_over-requires-clause-then
+left_over-requires-clause-then g c =
+    All-defined-grown _ _ _ (Grows-trans _ _ _ _ _ c.in_ok-above.ensures.ok.grows c.in_ok-bit.ensures.ok.grows) _ c.in_ok-reduced.ensures.ok.sum_defined
+
+pub left_over-requires-clause-otherwise : goal.left_over-requires-clause-otherwise
+left_over-requires-clause-otherwise g c =
+    All-defined-grown _ _ _ (Grows-trans _ _ _ _ _ c.in_ok-reduced.ensures.ok.grows (Grows-trans _ _ _ _ _ c.in_ok-above.ensures.ok.grows c.in_ok-bit.ensures.ok.grows)) _ c.requires.left
+
+pub returns-in_err-reduced-clause-refused : goal.returns-in_err-reduced-clause-refused
+returns-in_err-reduced-clause-refused g c =
+    let n = length c.args.b.now.items in
+    let refused : Refuses (g.G.Gates.made c.args.g.now) (g.G.Gates.made c.difference.new.g) (12 * n + 9) c.in_err-reduced.field-0.0 =
+    Refuses-weaker _ _ _ (12 * n + 9) _ (omega (arith, c.requires.inside)) c.in_err-reduced.ensures.refused
     in search rules

@@ -1,10 +1,12 @@
-use Rattle.std.proofs.Common.{◌≡◌, Bool, true, false, not, ◌&&◌, refl, arith}
+use Rattle.std.proofs.Common.{◌≡◌, Bool, true, false, not, ◌&&◌, refl, arith, rules}
 use Rattle.std.proofs.lemmas.Result.{IfOk-weaker, IfErr-weaker}
 use Rattle.aiger.specs.Literal.{literal_value}
 use Rattle.aiger.proofs.NetLemmas.{literal_value-negation}
+use Rattle.gates.specs.Made.{Refuses}
 use Rattle.gates.specs.Connect.{differ}
+use Rattle.gates.proofs.LaterLemmas.{IsDefined-not, Refuses-weaker}
 use Rattle.gates.proofs.LiteralLemmas.{MakesLiteral-and, MakesLiteral-join, MakesLiteral-same, Refuses-behind}
-use Rattle.gates.proofs.GrowthLemmas.{Grows-trans}
+use Rattle.gates.proofs.GrowthLemmas.{Grows-trans, IsDefined-grown}
 use Rattle.gates.proofs.literals.xor.Goals as goal
 
 -- neither both nor neither
@@ -31,3 +33,25 @@ pub returns-clause-refused : goal.returns-clause-refused
 returns-clause-refused g c =
     let before = Grows-trans _ _ _ _ _ c.in_ok-both.ensures.ok.grows c.in_ok-neither.ensures.ok.grows in
     IfErr-weaker c.conjunction-3.result _ _ (λ e refused. Refuses-behind _ _ _ _ _ (3) e (omega arith) before refused) c.conjunction-3.ensures.refused
+
+pub conjunction-requires-2-clause-left : goal.conjunction-requires-2-clause-left
+conjunction-requires-2-clause-left g c = IsDefined-not _ c.args.a _ c.not.ensures (IsDefined-grown _ _ _ c.in_ok-both.ensures.ok.grows _ c.requires.left)
+
+pub conjunction-requires-2-clause-right : goal.conjunction-requires-2-clause-right
+conjunction-requires-2-clause-right g c = IsDefined-not _ c.args.b _ c.not-2.ensures (IsDefined-grown _ _ _ c.in_ok-both.ensures.ok.grows _ c.requires.right)
+
+pub conjunction-requires-3-clause-left : goal.conjunction-requires-3-clause-left
+conjunction-requires-3-clause-left g c = IsDefined-not _ c.in_ok-both.both _ c.not-3.ensures (IsDefined-grown _ _ _ c.in_ok-neither.ensures.ok.grows _ c.in_ok-both.ensures.ok.defined)
+
+pub conjunction-requires-3-clause-right : goal.conjunction-requires-3-clause-right
+conjunction-requires-3-clause-right g c = IsDefined-not _ c.in_ok-neither.neither _ c.not-4.ensures c.in_ok-neither.ensures.ok.defined
+
+pub returns-in_err-both-clause-refused : goal.returns-in_err-both-clause-refused
+returns-in_err-both-clause-refused g c =
+    let refused : Refuses (g.G.Gates.made c.args.g.now) (g.G.Gates.made c.conjunction.new.g) 3 c.in_err-both.field-0.0 = Refuses-weaker _ _ 1 3 _ (omega arith) c.in_err-both.ensures.refused in
+    search rules
+
+pub returns-in_err-neither-clause-refused : goal.returns-in_err-neither-clause-refused
+returns-in_err-neither-clause-refused g c =
+    let refused : Refuses (g.G.Gates.made c.args.g.now) (g.G.Gates.made c.conjunction-2.new.g) 3 c.in_err-neither.field-0.0 = Refuses-behind _ _ _ 1 1 3 _ (omega arith) c.in_ok-both.ensures.ok.grows c.in_err-neither.ensures.refused in
+    search rules

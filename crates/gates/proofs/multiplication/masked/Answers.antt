@@ -1,7 +1,12 @@
-use Rattle.std.proofs.Common.{◌&&◌, arith}
-use Rattle.aiger.specs.Literal.{literal_value}
-use Rattle.gates.proofs.LiteralLemmas.{MakesLiteral-and}
-use Rattle.gates.proofs.BitListLemmas.{IsRow-push}
+use Rattle.std.proofs.lemmas.List.Elements.{All-nil}
+use Rattle.std.proofs.Common.{[], ◌&&◌, arith, ℕ, ◌*◌, length, refl, rules, List, Bool}
+use Rattle.aiger.specs.Net.{IsDefined, Net}
+use Rattle.aiger.specs.Literal.{literal_value, Valuation}
+use Rattle.gates.specs.Made.{Refuses}
+use Rattle.gates.proofs.LaterLemmas.{IsDefined-of_word}
+use Rattle.gates.proofs.GrowthLemmas.{IsDefined-grown, Grows-refl}
+use Rattle.gates.proofs.LiteralLemmas.{MakesLiteral-and, Refuses-behind}
+use Rattle.gates.proofs.BitListLemmas.{IsRow-push, IsRow}
 use Rattle.gates.proofs.ProductLemmas.{MakesWord-masked}
 use Rattle.gates.proofs.multiplication.masked.Goals as goal
 
@@ -11,7 +16,28 @@ loop-i-preserved g c =
     let a = c.args.a.now.items in
     let x = c.index-deref-i.result in
     let both = c.in_ok-conjunction.field-0 in
-    rw c.push.ensures.items (IsRow-push _ _ _ 1 c.loop-i.i (λ v x y. x && literal_value v lit) a a c.loop-i.bits.items x x both (omega arith) (omega arith) (cc) (cc) c.loop-i.invariant (MakesLiteral-and _ _ x lit both c.in_ok-conjunction.ensures.ok))
+    rw c.push.ensures.items (IsRow-push _ _ _ 1 c.loop-i.i (λ v x y. x && literal_value v lit) a a c.loop-i.bits.items x x both (omega arith) (omega arith) (rw (← c.deref.ensures.0) c.index-deref-i.is) (rw (← c.deref.ensures.0) c.index-deref-i.is) c.loop-i.invariant (MakesLiteral-and _ _ x lit both c.in_ok-conjunction.ensures.ok))
 
 pub returns-clause-ok : goal.returns-clause-ok
 returns-clause-ok g c = MakesWord-masked _ _ c.loop-i.i c.args.lit c.args.a.now.items c.loop-i.bits.items (omega arith) c.loop-i.invariant
+
+pub conjunction-requires-clause-left : goal.conjunction-requires-clause-left
+conjunction-requires-clause-left g c =
+    IsDefined-of_word _ _ _ c.args.a.now.items c.loop-i.i c.index-deref-i.result (omega arith) (rw (← c.deref.ensures.0) c.index-deref-i.is) c.requires.word c.loop-i.invariant.grows
+
+pub conjunction-requires-clause-right : goal.conjunction-requires-clause-right
+conjunction-requires-clause-right g c = IsDefined-grown _ _ _ c.loop-i.invariant.grows _ c.requires.literal
+
+-- no place yet
+IsRow-start : (n : Net) (f : Valuation → Bool → Bool → Bool) (a b : List ℕ) → IsRow n n 1 0 f a b []
+IsRow-start n f a b = record { grows = Grows-refl n 0; wide = refl; defined = All-nil (IsDefined n); means = λ v s. refl }
+
+pub loop-i-init : goal.loop-i-init
+loop-i-init g c = let lit = c.args.lit in rw c.new-bits.ensures (IsRow-start _ (λ v x y. x && literal_value v lit) c.args.a.now.items c.args.a.now.items)
+
+pub returns-in_err-conjunction-clause-refused : goal.returns-in_err-conjunction-clause-refused
+returns-in_err-conjunction-clause-refused g c =
+    let n = length c.args.a.now.items in
+    let refused : Refuses (g.G.Gates.made c.args.g.now) (g.G.Gates.made c.conjunction.new.g) n c.in_err-conjunction.field-0.0 =
+    Refuses-behind _ _ _ (1 * c.loop-i.i) 1 n _ (omega arith) c.loop-i.invariant.grows c.in_err-conjunction.ensures.refused
+    in search rules

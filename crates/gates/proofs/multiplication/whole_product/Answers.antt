@@ -1,10 +1,12 @@
 use Rattle.std.proofs.Common.{◌*◌, length, refl, arith, rules, ◌+◌}
+use Rattle.std.proofs.lemmas.Nat.{mul-le}
+use Rattle.gates.specs.Made.{Refuses}
+use Rattle.gates.proofs.LaterLemmas.{IsDefined-of_word, Refuses-weaker, MakesWord-all_whole_rows, MakesLiteral-all_whole_rows}
+use Rattle.gates.proofs.GrowthLemmas.{Grows-refl, All-defined-grown}
 use Rattle.gates.proofs.BitListLemmas.{MakesWord-weaker}
 use Rattle.gates.proofs.ProductLemmas.{MakesWord-first_row}
 use Rattle.gates.proofs.LostLemmas.{MakesLiteral-first_row, MakesWord-next_whole_row, MakesLiteral-next_row}
-use Rattle.gates.specs.Made.{Refuses}
 use Rattle.gates.proofs.LiteralLemmas.{Refuses-behind}
-use Rattle.std.proofs.lemmas.Nat.{mul-le}
 use Rattle.gates.proofs.multiplication.whole_product.Goals as goal
 
 pub loop-place-init : goal.loop-place-init
@@ -34,3 +36,45 @@ returns-in_err-product-clause-refused g c =
     let refused : Refuses (g.G.Gates.made c.args.g.now) (g.G.Gates.made c.with_whole_row.new.g) (12 * (n * n)) c.in_err-product.field-0.0 =
     Refuses-behind _ _ _ _ _ (12 * (n * n)) _ (omega (arith, mul-le n (c.loop-place.place + 1) n n (omega arith) (omega (arith, c.len-place-end.ensures.value, c.requires.equal)))) c.loop-place.invariant.bits.grows c.in_err-product.ensures.refused
     in search rules
+
+pub masked-requires-clause-most : goal.masked-requires-clause-most
+masked-requires-clause-most g c = omega (arith, c.requires.most)
+
+pub masked-requires-clause-word : goal.masked-requires-clause-word
+masked-requires-clause-word g c = c.requires.left
+
+pub masked-requires-clause-literal : goal.masked-requires-clause-literal
+masked-requires-clause-literal g c =
+    IsDefined-of_word _ _ 0 c.args.b.now.items 0 c.index-deref-0.result (omega (arith, c.requires.some, c.requires.equal)) (cc) c.requires.right (Grows-refl _ 0)
+
+pub with_whole_row-requires-clause-operands : goal.with_whole_row-requires-clause-operands
+with_whole_row-requires-clause-operands g c =
+    record {
+      some = c.requires.some;
+      most = c.requires.most;
+      equal = c.loop-place.invariant.bits.wide;
+      left = All-defined-grown _ _ _ c.loop-place.invariant.bits.grows _ c.requires.left;
+      right = c.loop-place.invariant.bits.defined;
+    }
+
+pub with_whole_row-requires-clause-lost : goal.with_whole_row-requires-clause-lost
+with_whole_row-requires-clause-lost g c = c.loop-place.invariant.lost.defined
+
+pub with_whole_row-requires-clause-literal : goal.with_whole_row-requires-clause-literal
+with_whole_row-requires-clause-literal g c =
+    IsDefined-of_word _ _ _ c.args.b.now.items c.loop-place.place c.index-deref-place.result (omega (arith, c.requires.equal)) (cc) c.requires.right c.loop-place.invariant.bits.grows
+
+pub returns-in_err-bits-clause-refused : goal.returns-in_err-bits-clause-refused
+returns-in_err-bits-clause-refused g c =
+    let n = length c.args.a.now.items in
+    let refused : Refuses (g.G.Gates.made c.args.g.now) (g.G.Gates.made c.masked.new.g) (12 * (n * n)) c.in_err-bits.field-0.0 =
+    Refuses-weaker _ _ _ (12 * (n * n)) _ (omega (arith, mul-le 1 n n n c.requires.some (omega arith))) c.in_err-bits.ensures.refused
+    in search rules
+
+pub returns-clause-bits : goal.returns-clause-bits
+returns-clause-bits g c =
+    MakesWord-all_whole_rows _ _ _ c.loop-place.place c.args.a.now.items c.args.b.now.items c.loop-place.product.bits.items c.requires.equal (omega (arith, c.requires.equal, c.requires.some)) c.loop-place.invariant.bits
+
+pub returns-clause-lost : goal.returns-clause-lost
+returns-clause-lost g c =
+    MakesLiteral-all_whole_rows _ _ _ c.loop-place.place c.loop-place.product.lost c.args.a.now.items c.args.b.now.items c.requires.equal (omega (arith, c.requires.equal, c.requires.some)) c.loop-place.invariant.lost

@@ -1,6 +1,7 @@
-use Rattle.std.proofs.Common.{rules, ◌*◌, length, refl, arith}
+use Rattle.std.proofs.Common.{rules, ◌*◌, length, refl, arith, sym, ◌∙◌}
 use Rattle.gates.specs.Made.{Refuses}
-use Rattle.gates.proofs.GrowthLemmas.{Grows-trans}
+use Rattle.gates.proofs.LaterLemmas.{Refuses-weaker}
+use Rattle.gates.proofs.GrowthLemmas.{Grows-trans, IsDefined-grown, All-defined-grown}
 use Rattle.gates.proofs.LiteralLemmas.{Refuses-behind}
 use Rattle.gates.proofs.LostLemmas.{MakesWord-whole_row, MakesLiteral-whole_row}
 use Rattle.gates.proofs.multiplication.with_whole_row.Goals as goal
@@ -52,3 +53,59 @@ returns-clause-lost g c =
     c.in_ok-sum.sum.into_top c.in_ok-sum.sum.out c.in_ok-above.above c.in_ok-cut.cut c.in_ok-more.more c.in_ok-lost.lost
     c.requires.some c.requires.inside refl c.requires.operands.equal c.raised.ensures.wide c.raised.ensures.means c.in_ok-row.ensures.ok c.in_ok-sum.ensures.ok
     (rw c.len.ensures.value at c.in_ok-above.ensures.ok) c.in_ok-cut.ensures.ok c.in_ok-more.ensures.ok c.in_ok-lost.ensures.ok
+
+pub masked-requires-clause-most : goal.masked-requires-clause-most
+masked-requires-clause-most g c = omega (arith, c.raised.ensures.wide, c.requires.operands.most)
+
+pub masked-requires-clause-word : goal.masked-requires-clause-word
+masked-requires-clause-word g c = c.raised.ensures.defined _ c.requires.operands.left
+
+pub masked-requires-clause-literal : goal.masked-requires-clause-literal
+masked-requires-clause-literal g c = c.requires.literal
+
+pub add-requires-clause-operands : goal.add-requires-clause-operands
+add-requires-clause-operands g c =
+    record {
+      some = omega (arith, c.requires.operands.some, c.requires.operands.equal);
+      most = omega (arith, c.requires.operands.most, c.requires.operands.equal);
+      equal = c.in_ok-row.ensures.ok.wide ∙ c.raised.ensures.wide ∙ sym c.requires.operands.equal;
+      left = All-defined-grown _ _ _ c.in_ok-row.ensures.ok.grows _ c.requires.operands.right;
+      right = c.in_ok-row.ensures.ok.defined;
+    }
+
+pub has_bit_from-requires-clause-most : goal.has_bit_from-requires-clause-most
+has_bit_from-requires-clause-most g c = c.requires.operands.most
+
+pub has_bit_from-requires-clause-inside : goal.has_bit_from-requires-clause-inside
+has_bit_from-requires-clause-inside g c = omega (arith, c.len.ensures.value)
+
+pub has_bit_from-requires-clause-defined : goal.has_bit_from-requires-clause-defined
+has_bit_from-requires-clause-defined g c =
+    All-defined-grown _ _ _ (Grows-trans _ _ _ _ _ c.in_ok-row.ensures.ok.grows c.in_ok-sum.ensures.ok.grows) _ c.requires.operands.left
+
+pub conjunction-requires-clause-left : goal.conjunction-requires-clause-left
+conjunction-requires-clause-left g c = c.in_ok-above.ensures.ok.defined
+
+pub conjunction-requires-clause-right : goal.conjunction-requires-clause-right
+conjunction-requires-clause-right g c =
+    IsDefined-grown _ _ _ (Grows-trans _ _ _ _ _ c.in_ok-row.ensures.ok.grows (Grows-trans _ _ _ _ _ c.in_ok-sum.ensures.ok.grows c.in_ok-above.ensures.ok.grows)) _ c.requires.literal
+
+pub disjunction-requires-clause-left : goal.disjunction-requires-clause-left
+disjunction-requires-clause-left g c = c.in_ok-cut.ensures.ok.defined
+
+pub disjunction-requires-clause-right : goal.disjunction-requires-clause-right
+disjunction-requires-clause-right g c =
+    IsDefined-grown _ _ _ (Grows-trans _ _ _ _ _ c.in_ok-above.ensures.ok.grows c.in_ok-cut.ensures.ok.grows) _ c.in_ok-sum.ensures.ok.out_defined
+
+pub disjunction-requires-2-clause-left : goal.disjunction-requires-2-clause-left
+disjunction-requires-2-clause-left g c =
+    IsDefined-grown _ _ _ (Grows-trans _ _ _ _ _ c.in_ok-row.ensures.ok.grows (Grows-trans _ _ _ _ _ c.in_ok-sum.ensures.ok.grows (Grows-trans _ _ _ _ _ c.in_ok-above.ensures.ok.grows (Grows-trans _ _ _ _ _ c.in_ok-cut.ensures.ok.grows c.in_ok-more.ensures.ok.grows)))) _ c.requires.lost
+
+pub disjunction-requires-2-clause-right : goal.disjunction-requires-2-clause-right
+disjunction-requires-2-clause-right g c = c.in_ok-more.ensures.ok.defined
+
+pub returns-in_err-row-clause-refused : goal.returns-in_err-row-clause-refused
+returns-in_err-row-clause-refused g c =
+    let refused : Refuses (g.G.Gates.made c.args.g.now) (g.G.Gates.made c.masked.new.g) (12 * length c.args.a.now.items) c.in_err-row.field-0.0 =
+    Refuses-weaker _ _ _ (12 * length c.args.a.now.items) _ (omega (arith, c.raised.ensures.wide)) c.in_err-row.ensures.refused
+    in search rules

@@ -1,5 +1,7 @@
-use Rattle.std.proofs.Common.{take, length-take, arith}
+use Rattle.std.proofs.Common.{take, length-take, arith, ◌*◌, rules}
 use Rattle.aiger.proofs.NetLemmas.{IsDefined-negation}
+use Rattle.gates.specs.Made.{Refuses}
+use Rattle.gates.proofs.LiteralLemmas.{Refuses-behind}
 use Rattle.gates.proofs.SumLemmas.{literal_at, front_with}
 use Rattle.gates.proofs.GrowthLemmas.{IsDefined-grown}
 use Rattle.gates.proofs.CarryLemmas.{MakesLiteral-carried, MakesLiteral-carry_step}
@@ -28,3 +30,12 @@ loop-i-preserved g c =
     rw (front_with a c.deref.result.now i x c.deref.ensures.0 (omega arith) c.index-deref-i.is, front_with b c.deref-in-loop-i.result.now i y c.deref-in-loop-i.ensures.0 (omega arith) c.index-deref-i-in-loop-i.is)
     (MakesLiteral-carry_step _ _ _ i _ _ (take i a) (take i b) x y c.not.result c.args.carry c.loop-i.out c.in_ok-out.out
     (omega (arith, length-take i a)) (omega (arith, length-take i b)) (omega arith) c.not.ensures c.loop-i.invariant c.in_ok-out.ensures.ok)
+
+pub less_column-requires-clause-below : goal.less_column-requires-clause-below
+less_column-requires-clause-below g c = c.loop-i.invariant.defined
+
+pub returns-in_err-out-clause-refused : goal.returns-in_err-out-clause-refused
+returns-in_err-out-clause-refused g c =
+    let refused : Refuses (g.G.Gates.made c.args.g.now) (g.G.Gates.made c.less_column.new.g) (4 * c.args.count) c.in_err-out.field-0.0 =
+    Refuses-behind _ _ _ _ _ (4 * c.args.count) _ (omega arith) c.loop-i.invariant.grows c.in_err-out.ensures.refused
+    in search rules

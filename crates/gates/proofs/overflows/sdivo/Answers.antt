@@ -1,8 +1,10 @@
-use Rattle.std.proofs.Common.{◌≡◌, ◌≤◌, length, map, arith, ap, ◌∙◌, ◌*◌}
+use Rattle.std.proofs.Common.{◌≡◌, ◌≤◌, length, map, arith, ap, ◌∙◌, ◌*◌, rules}
 use Rattle.std.proofs.lemmas.Result.{IfOk-weaker, IfErr-weaker}
 use Rattle.aiger.specs.Literal.{negation}
+use Rattle.gates.specs.Made.{Refuses}
 use Rattle.gates.specs.Tests.{with_top_negated}
-use Rattle.gates.proofs.GrowthLemmas.{MakesWord-not, Grows-trans}
+use Rattle.gates.proofs.LaterLemmas.{Refuses-weaker}
+use Rattle.gates.proofs.GrowthLemmas.{MakesWord-not, Grows-trans, IsDefined-grown, All-defined-grown}
 use Rattle.gates.proofs.OrderLemmas.{All-top_negated, length-top_negated}
 use Rattle.gates.proofs.OverflowLemmas.{MakesWord-sdivo}
 use Rattle.gates.proofs.LiteralLemmas.{Refuses-behind}
@@ -34,3 +36,37 @@ returns-clause-refused g c =
     let wide : length c.as_slice.result.now ≡ n = ap length (c.as_slice.ensures.value ∙ c.top_negated-as_least.ensures) ∙ length-top_negated c.negation.result.items some ∙ negated.wide in
     let before = Grows-trans _ _ _ _ _ c.in_ok-is_least.ensures.ok.grows c.in_ok-is_minus_one.ensures.ok.grows in
     IfErr-weaker c.conjunction.result _ _ (λ e refused. Refuses-behind _ _ _ _ _ (3 * n) e (omega (arith, wide, ap length c.as_slice-2.ensures.value, c.requires.equal, c.requires.some)) before refused) c.conjunction.ensures.refused
+
+pub connect_bits-requires-2-clause-most : goal.connect_bits-requires-2-clause-most
+connect_bits-requires-2-clause-most g c = rw c.as_slice-2.ensures.value (omega (arith, c.requires.equal, c.requires.most))
+
+pub connect_bits-requires-2-clause-defined : goal.connect_bits-requires-2-clause-defined
+connect_bits-requires-2-clause-defined g c = rw c.as_slice-2.ensures.value (All-defined-grown _ _ _ c.in_ok-is_least.ensures.ok.grows _ c.requires.right)
+
+pub conjunction-requires-clause-left : goal.conjunction-requires-clause-left
+conjunction-requires-clause-left g c = IsDefined-grown _ _ _ c.in_ok-is_minus_one.ensures.ok.grows _ c.in_ok-is_least.ensures.ok.defined
+
+pub conjunction-requires-clause-right : goal.conjunction-requires-clause-right
+conjunction-requires-clause-right g c = c.in_ok-is_minus_one.ensures.ok.defined
+
+pub returns-in_err-is_least-clause-refused : goal.returns-in_err-is_least-clause-refused
+returns-in_err-is_least-clause-refused g c =
+    let a = c.args.a.now.items in
+    let n = length a in
+    let negated = MakesWord-not _ a c.negation.result.items c.requires.left c.negation.ensures in
+    let some : 1 ≤ length c.negation.result.items = omega (arith, negated.wide) in
+    let wide : length c.as_slice.result.now ≡ n = ap length (c.as_slice.ensures.value ∙ c.top_negated-as_least.ensures) ∙ length-top_negated c.negation.result.items some ∙ negated.wide in
+    let refused : Refuses (g.G.Gates.made c.args.g.now) (g.G.Gates.made c.connect_bits.new.g) (3 * n) c.in_err-is_least.field-0.0 =
+    Refuses-weaker _ _ _ (3 * n) _ (omega (arith, wide)) c.in_err-is_least.ensures.refused
+    in search rules
+
+pub returns-in_err-is_minus_one-clause-refused : goal.returns-in_err-is_minus_one-clause-refused
+returns-in_err-is_minus_one-clause-refused g c =
+    let a = c.args.a.now.items in
+    let n = length a in
+    let negated = MakesWord-not _ a c.negation.result.items c.requires.left c.negation.ensures in
+    let some : 1 ≤ length c.negation.result.items = omega (arith, negated.wide) in
+    let wide : length c.as_slice.result.now ≡ n = ap length (c.as_slice.ensures.value ∙ c.top_negated-as_least.ensures) ∙ length-top_negated c.negation.result.items some ∙ negated.wide in
+    let refused : Refuses (g.G.Gates.made c.args.g.now) (g.G.Gates.made c.connect_bits-2.new.g) (3 * n) c.in_err-is_minus_one.field-0.0 =
+    Refuses-behind _ _ _ _ _ (3 * n) _ (omega (arith, wide, ap length c.as_slice-2.ensures.value, c.requires.equal)) c.in_ok-is_least.ensures.ok.grows c.in_err-is_minus_one.ensures.refused
+    in search rules

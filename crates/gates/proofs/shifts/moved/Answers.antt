@@ -1,5 +1,5 @@
-use Rattle.std.proofs.Common.{◌≡◌, ◌-◌, length, replicate, get_or, refl, ap, ◌∙◌, arith}
-use Rattle.std.proofs.lemmas.List.{length-replicate}
+use Rattle.std.proofs.Common.{◌≡◌, ◌-◌, length, replicate, get_or, refl, ap, ◌∙◌, arith, ℕ, ◌≤◌, take, drop, sym, List, length-append, length-drop, ◌++◌}
+use Rattle.std.proofs.lemmas.List.{length-replicate, length-take-le}
 use Rattle.std.proofs.lemmas.List.Elements.{All-replicate, All-get_or}
 use Rattle.aiger.specs.Net.{IsDefined}
 use Rattle.gates.specs.Made.{word_value}
@@ -64,3 +64,59 @@ returns-in-Ror-clause-means c = λ v.
     let n = length a in
     let by = c.args.by in
     rw (c.in-Ror.is, c.window-in-Ror.ensures) (word_value-window v a a n by refl refl (omega arith) ∙ ror_window n (word_value v a) by c.requires.below)
+
+-- a window is as wide as the words that it is cut from
+length-window : (low high : List ℕ) (n k : ℕ) → length low ≡ n → length high ≡ n → k ≤ n → length (drop k low ++ take k high) ≡ n
+length-window low high n k in_low in_high le = omega (arith, length-append (drop k low) (take k high), length-drop k low, length-take-le k high (omega arith))
+
+pub window-requires-clause-most : goal.window-requires-clause-most
+window-requires-clause-most c =
+    let count : length c.repeated.result.items ≡ length c.args.a.now.items = ap length c.repeated.ensures ∙ length-replicate c.len-width.result 0 ∙ c.len-width.ensures.value in
+    omega (arith, count, c.requires.most)
+
+pub window-requires-clause-equal : goal.window-requires-clause-equal
+window-requires-clause-equal c = sym (ap length c.repeated.ensures ∙ length-replicate c.len-width.result 0 ∙ c.len-width.ensures.value)
+
+pub window-requires-clause-inside : goal.window-requires-clause-inside
+window-requires-clause-inside c =
+    let count : length c.repeated.result.items ≡ length c.args.a.now.items = ap length c.repeated.ensures ∙ length-replicate c.len-width.result 0 ∙ c.len-width.ensures.value in
+    omega (arith, count, c.len-width.ensures.value)
+
+pub returns-in-Sll-clause-wide : goal.returns-in-Sll-clause-wide
+returns-in-Sll-clause-wide c =
+    let count : length c.repeated.result.items ≡ length c.args.a.now.items = ap length c.repeated.ensures ∙ length-replicate c.len-width.result 0 ∙ c.len-width.ensures.value in
+    ap length c.window.ensures ∙ length-window c.repeated.result.items c.args.a.now.items (length c.args.a.now.items) (c.len-width.result - c.args.by) count refl (omega (arith, c.len-width.ensures.value))
+
+pub window-requires-in-Srl-clause-equal : goal.window-requires-in-Srl-clause-equal
+window-requires-in-Srl-clause-equal c = ap length c.repeated-in-Srl.ensures ∙ length-replicate c.len-width.result 0 ∙ c.len-width.ensures.value
+
+pub returns-in-Srl-clause-wide : goal.returns-in-Srl-clause-wide
+returns-in-Srl-clause-wide c =
+    let count : length c.repeated-in-Srl.result.items ≡ length c.args.a.now.items = ap length c.repeated-in-Srl.ensures ∙ length-replicate c.len-width.result 0 ∙ c.len-width.ensures.value in
+    ap length c.window-in-Srl.ensures ∙ length-window c.args.a.now.items c.repeated-in-Srl.result.items (length c.args.a.now.items) c.args.by refl count (omega (arith, c.requires.below))
+
+pub window-requires-in-Sra-clause-equal : goal.window-requires-in-Sra-clause-equal
+window-requires-in-Sra-clause-equal c = ap length c.repeated-in-Sra.ensures ∙ length-replicate c.len-width.result c.index-deref-width.result ∙ c.len-width.ensures.value
+
+pub returns-in-Sra-clause-wide : goal.returns-in-Sra-clause-wide
+returns-in-Sra-clause-wide c =
+    let count : length c.repeated-in-Sra.result.items ≡ length c.args.a.now.items = ap length c.repeated-in-Sra.ensures ∙ length-replicate c.len-width.result c.index-deref-width.result ∙ c.len-width.ensures.value in
+    ap length c.window-in-Sra.ensures ∙ length-window c.args.a.now.items c.repeated-in-Sra.result.items (length c.args.a.now.items) c.args.by refl count (omega (arith, c.requires.below))
+
+pub returns-in-Rol-clause-wide : goal.returns-in-Rol-clause-wide
+returns-in-Rol-clause-wide c =
+    ap length c.window-in-Rol.ensures ∙ length-window c.args.a.now.items c.args.a.now.items (length c.args.a.now.items) (c.len-width.result - c.args.by) refl refl (omega (arith, c.len-width.ensures.value))
+
+pub returns-in-Ror-clause-wide : goal.returns-in-Ror-clause-wide
+returns-in-Ror-clause-wide c =
+    ap length c.window-in-Ror.ensures ∙ length-window c.args.a.now.items c.args.a.now.items (length c.args.a.now.items) c.args.by refl refl (omega (arith, c.requires.below))
+
+pub returns-in-Sll-clause-defined : goal.returns-in-Sll-clause-defined
+returns-in-Sll-clause-defined c = λ net all.
+    let a = c.args.a.now.items in
+    rw (c.window.ensures, c.repeated.ensures, c.len-width.ensures.value) (All-window (IsDefined net) (replicate (length a) 0) a (length a - c.args.by) (All-replicate (IsDefined net) (length a) 0 (omega arith)) all)
+
+pub returns-in-Rol-clause-defined : goal.returns-in-Rol-clause-defined
+returns-in-Rol-clause-defined c = λ net all.
+    let a = c.args.a.now.items in
+    rw (c.window-in-Rol.ensures, c.len-width.ensures.value) (All-window (IsDefined net) a a (length a - c.args.by) all all)

@@ -1,9 +1,12 @@
-use Rattle.std.proofs.Common.{◌≡◌, ℕ, suc, ◌+◌, ◌*◌, ◌%◌, ◌^◌, ◌<◌, ◌≤◌, if◌then◌else◌, length, take, refl, sym, ap, ap₂, subst, ◌∙◌, arith, lit<}
+use Rattle.std.proofs.Common.{◌≡◌, ℕ, suc, ◌+◌, ◌*◌, ◌%◌, ◌^◌, ◌<◌, ◌≤◌, if◌then◌else◌, length, take, refl, sym, ap, ap₂, subst, ◌∙◌, arith, lit<, rules}
 use Rattle.std.proofs.Math.Nat.{pow-suc, pow-le-pow_right}
-use Rattle.std.proofs.lemmas.Nat.{one_shl}
+use Rattle.std.proofs.lemmas.Nat.{one_shl, mul-le}
 use Rattle.base.specs.Operator.{binary_value}
 use Rattle.aiger.specs.Literal.{literal_value}
-use Rattle.gates.specs.Made.{MakesWord, word_value}
+use Rattle.gates.specs.Made.{MakesWord, word_value, Refuses}
+use Rattle.gates.proofs.LaterLemmas.{IsDefined-of_word}
+use Rattle.gates.proofs.LiteralLemmas.{Refuses-behind}
+use Rattle.gates.proofs.GrowthLemmas.{Grows-refl}
 use Rattle.gates.proofs.MoveLemmas.{moved_more}
 use Rattle.gates.proofs.BitListLemmas.{MakesWord-same, MakesWord-weaker, MakesWord-of_word, word_value-below, word_value-more}
 use Rattle.gates.proofs.shifts.moved_in_turn.Goals as goal
@@ -44,3 +47,41 @@ loop-place-preserved g c =
     moved_more op n (word_value v a) (word_value v (take place amount)) (2 ^ place) (literal_value v lit) c.requires.moves (λ is. near_place place (length amount) n (omega arith) (c.requires.near is)) c.requires.some (word_value-below v a n refl)
     ∙ ap (binary_value op n (word_value v a)) (sym (word_value-more v amount place lit (omega arith) c.index-amount-place.is)))
     both)
+
+-- the gates of the stages so far and of one more fit
+few_stages : (n place places k : ℕ) → k ≡ n → place < places → 3 * (n * place) + 3 * k ≤ 3 * (n * places)
+few_stages n place places k same inside = omega (arith, mul-le n (place + 1) n places (omega arith) (omega arith))
+
+pub loop-place-init : goal.loop-place-init
+loop-place-init g c =
+    record {
+      grows = Grows-refl _ (3 * (length c.args.a.now.items * 0));
+      wide = c.moved-bits.ensures.wide;
+      defined = c.moved-bits.ensures.defined _ c.requires.defined;
+      means = λ v s. c.moved-bits.ensures.means v;
+    }
+
+pub choose-requires-clause-most : goal.choose-requires-clause-most
+choose-requires-clause-most g c = omega (arith, c.moved.ensures.wide, c.loop-place.invariant.wide, c.requires.most)
+
+pub choose-requires-clause-equal : goal.choose-requires-clause-equal
+choose-requires-clause-equal g c = sym c.moved.ensures.wide
+
+pub choose-requires-clause-condition : goal.choose-requires-clause-condition
+choose-requires-clause-condition g c =
+    IsDefined-of_word _ _ _ c.args.amount.now c.loop-place.place c.index-amount-place.result (omega arith) c.index-amount-place.is c.requires.amount c.loop-place.invariant.grows
+
+pub choose-requires-clause-then : goal.choose-requires-clause-then
+choose-requires-clause-then g c = c.moved.ensures.defined _ c.loop-place.invariant.defined
+
+pub choose-requires-clause-otherwise : goal.choose-requires-clause-otherwise
+choose-requires-clause-otherwise g c = c.loop-place.invariant.defined
+
+pub returns-in_err-bits-clause-refused : goal.returns-in_err-bits-clause-refused
+returns-in_err-bits-clause-refused g c =
+    let n = length c.args.a.now.items in
+    let places = length c.args.amount.now in
+    let m = length c.moved.result.items in
+    let refused : Refuses (g.G.Gates.made c.args.g.now) (g.G.Gates.made c.choose.new.g) (3 * (n * places)) c.in_err-bits.field-0.0 =
+    Refuses-behind _ _ _ (3 * (n * c.loop-place.place)) (3 * m) (3 * (n * places)) _ (few_stages n c.loop-place.place places m (c.moved.ensures.wide ∙ c.loop-place.invariant.wide) (omega arith)) c.loop-place.invariant.grows c.in_err-bits.ensures.refused
+    in search rules

@@ -1,20 +1,24 @@
-use Rattle.std.proofs.Common.{◌≡◌, ℕ, ◌+◌, ◌*◌, ◌^◌, ◌≤◌, true, not, ◌==◌, nat_le, if◌then◌else◌, length, take, drop, replicate, List, refl, sym, ap, ap₂, subst, ◌∙◌, arith}
+use Rattle.std.proofs.lemmas.List.Elements.{All-take, All-drop, All-replicate}
+use Rattle.std.proofs.Common.{◌≡◌, ℕ, ◌+◌, ◌*◌, ◌^◌, ◌≤◌, true, not, ◌==◌, nat_le, if◌then◌else◌, length, take, drop, replicate, List, refl, sym, ap, ap₂, subst, ◌∙◌, arith, ◌-◌, ◌<◌, get_or, rules, All, Bool, ◌||◌}
 use Rattle.std.proofs.lemmas.Bool.{agree_below_at, leb-true, false≢true}
 use Rattle.std.proofs.lemmas.List.{length-replicate}
 use Rattle.std.proofs.lemmas.Result.{IfOk-weaker, IfErr-weaker}
 use Rattle.base.specs.Operator.{ones, binary_value}
 use Rattle.base.specs.declared.operators.Binary.{Binary}
 use Rattle.base.specs.declared.operators.Binary.TheVariants.{Sll, Srl, Sra}
+use Rattle.aiger.specs.Net.{IsDefined}
+use Rattle.aiger.proofs.NetLemmas.{IsDefined-false}
 use Rattle.aiger.specs.Literal.{literal_value}
 use Rattle.gates.specs.Bound.{log_up, binary_bound}
-use Rattle.gates.specs.Made.{MakesWord, MakesLiteral, word_value}
-use Rattle.gates.specs.Moves.{is_shift}
+use Rattle.gates.specs.Made.{MakesWord, MakesLiteral, word_value, Refuses}
+use Rattle.gates.specs.Moves.{is_shift, is_rotation}
+use Rattle.gates.proofs.LaterLemmas.{IsDefined-of_word, Refuses-weaker}
 use Rattle.gates.proofs.BitListLemmas.{MakesWord-same, MakesWord-weaker, MakesWord-choice}
 use Rattle.gates.proofs.LiteralLemmas.{Refuses-behind}
-use Rattle.gates.proofs.GrowthLemmas.{Grows-trans}
+use Rattle.gates.proofs.GrowthLemmas.{Grows-trans, All-defined-grown}
 use Rattle.gates.proofs.WindowLemmas.{IsFill, IsFill-false, shifted, word_value-replicate}
-use Rattle.gates.proofs.shifts.shift.Goals as goal
 use Rattle.gates.proofs.shifts.shift.Goals.{in-Sra, in_default}
+use Rattle.gates.proofs.shifts.shift.Goals as goal
 
 shift_bound : (op : Binary) (n : ℕ) → is_shift op ≡ true → binary_bound op n ≡ 3 * (n * log_up n) + 4 * n
 shift_bound Sll n is = refl
@@ -31,7 +35,7 @@ returns-clause-ok g c =
     let old = g.G.Gates.made c.args.g.now in
     let first = g.G.Gates.made c.moved_in_turn.new.g in
     let second = g.G.Gates.made c.connect_bits.new.g in
-    let new = g.G.Gates.made c.choose.new.g in
+    let new = g.G.Gates.made c.near_or_far.new.g in
     let op = c.args.op in
     let a = c.args.a.now.items in
     let b = c.args.b.now.items in
@@ -53,7 +57,7 @@ returns-clause-ok g c =
     let test : MakesLiteral first second (length c.split_at.result.1.now) (λ v. not (word_value v (drop places b) == 0)) is_far = rw (← high) c.in_ok-is_far.ensures.ok in
     let filling : c.repeated.result.items ≡ replicate n fill = c.repeated.ensures ∙ ap (λ k. replicate k fill) c.len-width.ensures.value in
     let filled_count : length c.repeated.result.items ≡ n = ap length filling ∙ length-replicate n fill in
-    IfOk-weaker c.choose.result _ _
+    IfOk-weaker c.near_or_far.result _ _
     (λ row m.
     let choice : MakesWord second new (3 * n) n (λ v. if literal_value v is_far then word_value v c.repeated.result.items else word_value v near) row.items =
     subst (λ (k : ℕ). MakesWord second new (3 * k) k (λ v. if literal_value v is_far then word_value v c.repeated.result.items else word_value v near) row.items) filled_count m
@@ -64,14 +68,14 @@ returns-clause-ok g c =
     let whole = MakesWord-choice old first second new (3 * (n * places)) (length c.split_at.result.1.now) (3 * n) n is_far (λ v. binary_value op n (word_value v a) (word_value v (take places b))) (λ v. if literal_value v fill then ones n else 0) (λ v. not (word_value v (drop places b) == 0)) near row.items word test fills in
     rw (shift_bound op n c.requires.shifts) (MakesWord-weaker old new (3 * (n * places) + length c.split_at.result.1.now + 3 * n) (3 * (n * places) + 4 * n) n _ row.items (omega arith)
     (MakesWord-same old new _ n _ (λ v. binary_value op n (word_value v a) (word_value v b)) row.items (λ v. shifted op v a b n fill places c.requires.shifts c.requires.operands.some refl is_fill (omega arith) (log_up_enough n c.requires.operands.most)) whole)))
-    c.choose.ensures.ok
+    c.near_or_far.ensures.ok
 
 pub returns-clause-refused : goal.returns-clause-refused
 returns-clause-refused g c =
     let old = g.G.Gates.made c.args.g.now in
     let first = g.G.Gates.made c.moved_in_turn.new.g in
     let second = g.G.Gates.made c.connect_bits.new.g in
-    let new = g.G.Gates.made c.choose.new.g in
+    let new = g.G.Gates.made c.near_or_far.new.g in
     let op = c.args.op in
     let n = length c.args.a.now.items in
     let count : c.log_up.result ≡ log_up n = c.log_up.ensures.value ∙ ap log_up c.len-width.ensures.value in
@@ -80,6 +84,109 @@ returns-clause-refused g c =
     let filled_count : length c.repeated.result.items ≡ n = ap length c.repeated.ensures ∙ length-replicate c.len-width.result c.match-op.fill ∙ c.len-width.ensures.value in
     let stages : 3 * (n * length c.split_at.result.0.now) ≡ 3 * (n * log_up n) = ap (λ k. 3 * (n * k)) low_count in
     let before = Grows-trans old first second (3 * (n * length c.split_at.result.0.now)) (length c.split_at.result.1.now) c.in_ok-near.ensures.ok.grows c.in_ok-is_far.ensures.ok.grows in
-    IfErr-weaker c.choose.result _ _
+    IfErr-weaker c.near_or_far.result _ _
     (λ e r. rw (shift_bound op n c.requires.shifts) (Refuses-behind old second new (3 * (n * length c.split_at.result.0.now) + length c.split_at.result.1.now) (3 * length c.repeated.result.items) (3 * (n * log_up n) + 4 * n) e (omega arith) before r))
-    c.choose.ensures.refused
+    c.near_or_far.ensures.refused
+
+-- that power of two is below the double
+near_enough : (n : ℕ) → 1 ≤ n → n ≤ 64 → 2 ^ log_up n < 2 * n
+near_enough n some most =
+    let place : n - 1 + 1 ≡ n = omega arith in
+    let at : 2 ^ log_up (n - 1 + 1) + 1 ≤ 2 * (n - 1 + 1) = leb-true (2 ^ log_up (n - 1 + 1) + 1) (2 * (n - 1 + 1)) (agree_below_at (λ k. nat_le (2 ^ log_up (k + 1) + 1) (2 * (k + 1))) (λ k. true) 64 (n - 1) refl (omega arith)) in
+    let below : 2 ^ log_up n + 1 ≤ 2 * n = subst (λ (m : ℕ). 2 ^ log_up m + 1 ≤ 2 * m) place at in
+    less (2 ^ log_up n) (2 * n) below
+  where
+    less : (a b : ℕ) → a + 1 ≤ b → a < b
+    less a b le = omega arith
+
+few_stages : (n m k : ℕ) → m ≡ k → 3 * (n * m) ≤ 3 * (n * k) + 4 * n
+few_stages n m k same = omega (arith, ap (λ j. n * j) same)
+
+few_stages_and : (n m k j : ℕ) → m ≡ k → j ≤ 4 * n → 3 * (n * m) + j ≤ 3 * (n * k) + 4 * n
+few_stages_and n m k j same most = omega (arith, ap (λ i. n * i) same)
+
+pub moved_in_turn-requires-clause-moves : goal.moved_in_turn-requires-clause-moves
+moved_in_turn-requires-clause-moves g c = ap (λ (x : Bool). x || is_rotation c.args.op) c.requires.shifts
+
+pub moved_in_turn-requires-clause-places : goal.moved_in_turn-requires-clause-places
+moved_in_turn-requires-clause-places g c = omega (arith, c.split_at.ensures.front_len, c.log_up.ensures.most)
+
+pub moved_in_turn-requires-clause-near : goal.moved_in_turn-requires-clause-near
+moved_in_turn-requires-clause-near g c = λ is.
+    let n = length c.args.a.now.items in
+    let low_count : length c.split_at.result.0.now ≡ log_up n = c.split_at.ensures.front_len ∙ c.log_up.ensures.value ∙ ap log_up c.len-width.ensures.value in
+    subst (λ (k : ℕ). 2 ^ k < 2 * n) (sym low_count) (near_enough n c.requires.operands.some c.requires.operands.most)
+
+pub moved_in_turn-requires-clause-amount : goal.moved_in_turn-requires-clause-amount
+moved_in_turn-requires-clause-amount g c =
+    let old = g.G.Gates.made c.args.g.now in
+    let b = c.args.b.now.items in
+    let low : c.split_at.result.0.now ≡ take c.log_up.result b = c.split_at.ensures.front ∙ ap (λ (ls : List ℕ). take c.log_up.result ls) c.as_slice.ensures.value in
+    subst (λ (ls : List ℕ). All (IsDefined old) ls) (sym low) (All-take (IsDefined old) c.log_up.result b c.requires.operands.right)
+
+pub connect_bits-requires-clause-most : goal.connect_bits-requires-clause-most
+connect_bits-requires-clause-most g c =
+    omega (arith, c.split_at.ensures.back_len, ap length c.as_slice.ensures.value, c.requires.operands.equal, c.requires.operands.most)
+
+pub connect_bits-requires-clause-defined : goal.connect_bits-requires-clause-defined
+connect_bits-requires-clause-defined g c =
+    let old = g.G.Gates.made c.args.g.now in
+    let first = g.G.Gates.made c.moved_in_turn.new.g in
+    let b = c.args.b.now.items in
+    let high : c.split_at.result.1.now ≡ drop c.log_up.result b = c.split_at.ensures.back ∙ ap (λ (ls : List ℕ). drop c.log_up.result ls) c.as_slice.ensures.value in
+    subst (λ (ls : List ℕ). All (IsDefined first) ls) (sym high) (All-drop (IsDefined first) c.log_up.result b (All-defined-grown old first _ c.in_ok-near.ensures.ok.grows b c.requires.operands.right))
+
+pub near_or_far-requires-clause-most : goal.near_or_far-requires-clause-most
+near_or_far-requires-clause-most g c =
+    let count = length-replicate c.len-width.result c.match-op.fill in
+    omega (arith, ap length c.repeated.ensures, count, c.len-width.ensures.value, c.requires.operands.most)
+
+pub near_or_far-requires-clause-equal : goal.near_or_far-requires-clause-equal
+near_or_far-requires-clause-equal g c =
+    let filled_count : length c.repeated.result.items ≡ length c.args.a.now.items = ap length c.repeated.ensures ∙ length-replicate c.len-width.result c.match-op.fill ∙ c.len-width.ensures.value in
+    c.in_ok-near.ensures.ok.wide ∙ sym filled_count
+
+pub near_or_far-requires-clause-condition : goal.near_or_far-requires-clause-condition
+near_or_far-requires-clause-condition g c = c.in_ok-is_far.ensures.ok.defined
+
+pub near_or_far-requires-clause-then : goal.near_or_far-requires-clause-then
+near_or_far-requires-clause-then g c =
+    let second = g.G.Gates.made c.connect_bits.new.g in
+    let a = c.args.a.now.items in
+    let fill = c.match-op.fill in
+    let before = Grows-trans _ _ _ _ _ c.in_ok-near.ensures.ok.grows c.in_ok-is_far.ensures.ok.grows in
+    let defined : IsDefined second fill = elim c.match-op.branch [
+      | in-Sra w ↦ rw w.fill-is (
+          let x = w.index-deref-width.result in
+          let x_is : x ≡ get_or a (length a - 1) x = rw (← c.len-width.ensures.value, ← w.deref.ensures.0) w.index-deref-width.is in
+          IsDefined-of_word _ second _ a (length a - 1) x (omega (arith, c.requires.operands.some)) x_is c.requires.operands.left before)
+      | in_default w ↦ rw w.fill-is (IsDefined-false second)
+    ] in
+    rw c.repeated.ensures (All-replicate (IsDefined second) c.len-width.result fill defined)
+
+pub near_or_far-requires-clause-otherwise : goal.near_or_far-requires-clause-otherwise
+near_or_far-requires-clause-otherwise g c = All-defined-grown _ _ _ c.in_ok-is_far.ensures.ok.grows _ c.in_ok-near.ensures.ok.defined
+
+pub returns-in_err-near-clause-refused : goal.returns-in_err-near-clause-refused
+returns-in_err-near-clause-refused g c =
+    let op = c.args.op in
+    let n = length c.args.a.now.items in
+    let m = length c.split_at.result.0.now in
+    let low_count : m ≡ log_up n = c.split_at.ensures.front_len ∙ c.log_up.ensures.value ∙ ap log_up c.len-width.ensures.value in
+    let within : 3 * (n * m) ≤ 3 * (n * log_up n) + 4 * n = few_stages n m (log_up n) low_count in
+    let refused : Refuses (g.G.Gates.made c.args.g.now) (g.G.Gates.made c.moved_in_turn.new.g) (binary_bound op n) c.in_err-near.field-0.0 =
+    rw (shift_bound op n c.requires.shifts) (Refuses-weaker _ _ (3 * (n * m)) (3 * (n * log_up n) + 4 * n) _ within c.in_err-near.ensures.refused)
+    in search rules
+
+pub returns-in_err-is_far-clause-refused : goal.returns-in_err-is_far-clause-refused
+returns-in_err-is_far-clause-refused g c =
+    let op = c.args.op in
+    let n = length c.args.a.now.items in
+    let m = length c.split_at.result.0.now in
+    let k = length c.split_at.result.1.now in
+    let low_count : m ≡ log_up n = c.split_at.ensures.front_len ∙ c.log_up.ensures.value ∙ ap log_up c.len-width.ensures.value in
+    let most : k ≤ 4 * n = omega (arith, c.split_at.ensures.back_len, ap length c.as_slice.ensures.value, c.requires.operands.equal) in
+    let within : 3 * (n * m) + k ≤ 3 * (n * log_up n) + 4 * n = few_stages_and n m (log_up n) k low_count most in
+    let refused : Refuses (g.G.Gates.made c.args.g.now) (g.G.Gates.made c.connect_bits.new.g) (binary_bound op n) c.in_err-is_far.field-0.0 =
+    rw (shift_bound op n c.requires.shifts) (Refuses-behind _ _ _ (3 * (n * m)) k (3 * (n * log_up n) + 4 * n) _ within c.in_ok-near.ensures.ok.grows c.in_err-is_far.ensures.refused)
+    in search rules

@@ -1,8 +1,10 @@
 use Rattle.std.proofs.lemmas.Result.{IfOk-weaker, IfErr-weaker}
+use Rattle.std.proofs.Common.{◌+◌, length, ap, arith, rules}
+use Rattle.gates.specs.Made.{Refuses}
+use Rattle.gates.proofs.LaterLemmas.{Refuses-weaker}
 use Rattle.gates.proofs.SignedModuloLemmas.{MakesLiteral-rounded_down}
-use Rattle.std.proofs.Common.{◌+◌, length, ap, arith}
 use Rattle.gates.proofs.LiteralLemmas.{Refuses-behind}
-use Rattle.gates.proofs.GrowthLemmas.{Grows-trans}
+use Rattle.gates.proofs.GrowthLemmas.{Grows-trans, IsDefined-grown}
 use Rattle.gates.proofs.signed_division.is_rounded_down.Goals as goal
 
 pub returns-clause-ok : goal.returns-clause-ok
@@ -16,3 +18,29 @@ pub returns-clause-refused : goal.returns-clause-refused
 returns-clause-refused g c =
     let before = Grows-trans _ _ _ _ _ c.in_ok-some.ensures.ok.grows c.in_ok-other.ensures.ok.grows in
     IfErr-weaker c.conjunction.result _ _ (λ e refused. Refuses-behind _ _ _ _ _ (length c.args.rest.now.items + 4) e (omega (arith, ap length c.as_slice.ensures.value)) before refused) c.conjunction.ensures.refused
+
+pub xor-requires-clause-left : goal.xor-requires-clause-left
+xor-requires-clause-left g c = IsDefined-grown _ _ _ c.in_ok-some.ensures.ok.grows _ c.requires.left
+
+pub xor-requires-clause-right : goal.xor-requires-clause-right
+xor-requires-clause-right g c = IsDefined-grown _ _ _ c.in_ok-some.ensures.ok.grows _ c.requires.right
+
+pub conjunction-requires-clause-left : goal.conjunction-requires-clause-left
+conjunction-requires-clause-left g c = IsDefined-grown _ _ _ c.in_ok-other.ensures.ok.grows _ c.in_ok-some.ensures.ok.defined
+
+pub conjunction-requires-clause-right : goal.conjunction-requires-clause-right
+conjunction-requires-clause-right g c = c.in_ok-other.ensures.ok.defined
+
+pub returns-in_err-some-clause-refused : goal.returns-in_err-some-clause-refused
+returns-in_err-some-clause-refused g c =
+    let n = length c.args.rest.now.items in
+    let refused : Refuses (g.G.Gates.made c.args.g.now) (g.G.Gates.made c.connect_bits.new.g) (n + 4) c.in_err-some.field-0.0 =
+    Refuses-weaker _ _ _ (n + 4) _ (omega (arith, ap length c.as_slice.ensures.value)) c.in_err-some.ensures.refused
+    in search rules
+
+pub returns-in_err-other-clause-refused : goal.returns-in_err-other-clause-refused
+returns-in_err-other-clause-refused g c =
+    let n = length c.args.rest.now.items in
+    let refused : Refuses (g.G.Gates.made c.args.g.now) (g.G.Gates.made c.xor.new.g) (n + 4) c.in_err-other.field-0.0 =
+    Refuses-behind _ _ _ _ _ (n + 4) _ (omega (arith, ap length c.as_slice.ensures.value)) c.in_ok-some.ensures.ok.grows c.in_err-other.ensures.refused
+    in search rules

@@ -1,0 +1,304 @@
+use Rattle.std.proofs.Common.{length, rules, refl, ◌∙◌}
+use Rattle.gates.specs.Bound.{binary_bound}
+use Rattle.gates.specs.Made.{Refuses}
+use Rattle.gates.proofs.OperatorLemmas.{is_comparison-named, is_overflow-named, is_shift-named, is_rotation-named, comparison_bound, comparison_width, overflow_width, shift_width, rotation_width, MakesWord-udiv, MakesWord-urem}
+use Rattle.gates.proofs.builders.binary_bits.Goals as goal
+
+pub comparison-requires-clause-comparison : goal.comparison-requires-clause-comparison
+comparison-requires-clause-comparison g c = is_comparison-named c.args.op c.in-Ugt.is
+
+pub rotate-requires-clause-rotates : goal.rotate-requires-clause-rotates
+rotate-requires-clause-rotates g c = is_rotation-named c.args.op c.in-Rol.is
+
+pub shift-requires-clause-shifts : goal.shift-requires-clause-shifts
+shift-requires-clause-shifts g c = is_shift-named c.args.op c.in-Sll.is
+
+pub overflow-requires-clause-overflow : goal.overflow-requires-clause-overflow
+overflow-requires-clause-overflow g c = is_overflow-named c.args.op c.in-Uaddo.is
+
+pub returns-in_ok-comparison-in-Ugt-clause-ok : goal.returns-in_ok-comparison-in-Ugt-clause-ok
+returns-in_ok-comparison-in-Ugt-clause-ok g c =
+    let op = c.args.op in
+    let n = length c.args.a.now.items in
+    let is = is_comparison-named op c.in-Ugt.is in
+    rw (comparison_bound op n is, comparison_width op n is, c.one_bit.ensures) c.in_ok-comparison-in-Ugt.ensures.ok
+
+pub returns-in_err-comparison-in-Ugt-clause-refused : goal.returns-in_err-comparison-in-Ugt-clause-refused
+returns-in_err-comparison-in-Ugt-clause-refused g c =
+    let op = c.args.op in
+    let n = length c.args.a.now.items in
+    let refused : Refuses (g.G.Gates.made c.args.g.now) (g.G.Gates.made c.comparison.new.g) (binary_bound op n) c.in_err-comparison-in-Ugt.field-0.0 =
+    rw (comparison_bound op n (is_comparison-named op c.in-Ugt.is)) c.in_err-comparison-in-Ugt.ensures.refused
+    in search rules
+
+pub returns-in_ok-overflow-in-Uaddo-clause-ok : goal.returns-in_ok-overflow-in-Uaddo-clause-ok
+returns-in_ok-overflow-in-Uaddo-clause-ok g c =
+    let op = c.args.op in
+    rw (overflow_width op (length c.args.a.now.items) (is_overflow-named op c.in-Uaddo.is), c.one_bit-in-Uaddo.ensures) c.in_ok-overflow-in-Uaddo.ensures.ok
+
+pub returns-in-Rol-clause-ok : goal.returns-in-Rol-clause-ok
+returns-in-Rol-clause-ok g c =
+    let op = c.args.op in
+    rw (rotation_width op (length c.args.a.now.items) (is_rotation-named op c.in-Rol.is)) c.rotate.ensures.ok
+
+pub returns-in-Sll-clause-ok : goal.returns-in-Sll-clause-ok
+returns-in-Sll-clause-ok g c =
+    let op = c.args.op in
+    rw (shift_width op (length c.args.a.now.items) (is_shift-named op c.in-Sll.is)) c.shift.ensures.ok
+
+pub returns-in_ok-divide-in-Udiv-clause-ok : goal.returns-in_ok-divide-in-Udiv-clause-ok
+returns-in_ok-divide-in-Udiv-clause-ok g c =
+    rw c.in-Udiv.is (MakesWord-udiv _ _ _ c.args.a.now.items c.args.b.now.items _ c.in_ok-divide-in-Udiv.field-0.remainder.items c.in_ok-divide-in-Udiv.ensures.ok)
+
+pub returns-in_ok-divide-in-Urem-clause-ok : goal.returns-in_ok-divide-in-Urem-clause-ok
+returns-in_ok-divide-in-Urem-clause-ok g c =
+    rw c.in-Urem.is (MakesWord-urem _ _ _ c.args.a.now.items c.args.b.now.items c.in_ok-divide-in-Urem.field-0.quotient.items _ c.requires.operands.equal c.in_ok-divide-in-Urem.ensures.ok)
+
+pub iff-requires-clause-left_bit : goal.iff-requires-clause-left_bit
+iff-requires-clause-left_bit g c = c.requires.of_bits (rw c.in-Iff.is refl)
+
+pub iff-requires-clause-right_bit : goal.iff-requires-clause-right_bit
+iff-requires-clause-right_bit g c = c.requires.operands.equal ∙ c.requires.of_bits (rw c.in-Iff.is refl)
+
+pub iff-requires-clause-left : goal.iff-requires-clause-left
+iff-requires-clause-left g c = c.requires.operands.left
+
+pub iff-requires-clause-right : goal.iff-requires-clause-right
+iff-requires-clause-right g c = c.requires.operands.right
+
+pub implies-requires-clause-left_bit : goal.implies-requires-clause-left_bit
+implies-requires-clause-left_bit g c = c.requires.of_bits (rw c.in-Implies.is refl)
+
+pub implies-requires-clause-right_bit : goal.implies-requires-clause-right_bit
+implies-requires-clause-right_bit g c = c.requires.operands.equal ∙ c.requires.of_bits (rw c.in-Implies.is refl)
+
+pub implies-requires-clause-left : goal.implies-requires-clause-left
+implies-requires-clause-left g c = c.requires.operands.left
+
+pub implies-requires-clause-right : goal.implies-requires-clause-right
+implies-requires-clause-right g c = c.requires.operands.right
+
+pub eq-requires : goal.eq-requires
+eq-requires g c = c.requires.operands
+
+pub neq-requires : goal.neq-requires
+neq-requires g c = c.requires.operands
+
+pub add_bits-requires : goal.add_bits-requires
+add_bits-requires g c = c.requires.operands
+
+pub sub_bits-requires : goal.sub_bits-requires
+sub_bits-requires g c = c.requires.operands
+
+pub mul_bits-requires : goal.mul_bits-requires
+mul_bits-requires g c = c.requires.operands
+
+pub divide-requires : goal.divide-requires
+divide-requires g c = c.requires.operands
+
+pub sdiv-requires : goal.sdiv-requires
+sdiv-requires g c = c.requires.operands
+
+pub srem-requires : goal.srem-requires
+srem-requires g c = c.requires.operands
+
+pub smod-requires : goal.smod-requires
+smod-requires g c = c.requires.operands
+
+pub divide-requires-in-Urem : goal.divide-requires-in-Urem
+divide-requires-in-Urem g c = c.requires.operands
+
+pub comparison-requires-clause-operands : goal.comparison-requires-clause-operands
+comparison-requires-clause-operands g c = c.requires.operands
+
+pub rotate-requires-clause-operands : goal.rotate-requires-clause-operands
+rotate-requires-clause-operands g c = c.requires.operands
+
+pub shift-requires-clause-operands : goal.shift-requires-clause-operands
+shift-requires-clause-operands g c = c.requires.operands
+
+pub overflow-requires-clause-operands : goal.overflow-requires-clause-operands
+overflow-requires-clause-operands g c = c.requires.operands
+
+pub connect_words-requires-clause-most : goal.connect_words-requires-clause-most
+connect_words-requires-clause-most g c = c.requires.operands.most
+
+pub connect_words-requires-clause-equal : goal.connect_words-requires-clause-equal
+connect_words-requires-clause-equal g c = c.requires.operands.equal
+
+pub connect_words-requires-clause-left : goal.connect_words-requires-clause-left
+connect_words-requires-clause-left g c = c.requires.operands.left
+
+pub connect_words-requires-clause-right : goal.connect_words-requires-clause-right
+connect_words-requires-clause-right g c = c.requires.operands.right
+
+pub connect_words-requires-in-Or-clause-most : goal.connect_words-requires-in-Or-clause-most
+connect_words-requires-in-Or-clause-most g c = c.requires.operands.most
+
+pub connect_words-requires-in-Or-clause-equal : goal.connect_words-requires-in-Or-clause-equal
+connect_words-requires-in-Or-clause-equal g c = c.requires.operands.equal
+
+pub connect_words-requires-in-Or-clause-left : goal.connect_words-requires-in-Or-clause-left
+connect_words-requires-in-Or-clause-left g c = c.requires.operands.left
+
+pub connect_words-requires-in-Or-clause-right : goal.connect_words-requires-in-Or-clause-right
+connect_words-requires-in-Or-clause-right g c = c.requires.operands.right
+
+pub connect_words-requires-in-Xor-clause-most : goal.connect_words-requires-in-Xor-clause-most
+connect_words-requires-in-Xor-clause-most g c = c.requires.operands.most
+
+pub connect_words-requires-in-Xor-clause-equal : goal.connect_words-requires-in-Xor-clause-equal
+connect_words-requires-in-Xor-clause-equal g c = c.requires.operands.equal
+
+pub connect_words-requires-in-Xor-clause-left : goal.connect_words-requires-in-Xor-clause-left
+connect_words-requires-in-Xor-clause-left g c = c.requires.operands.left
+
+pub connect_words-requires-in-Xor-clause-right : goal.connect_words-requires-in-Xor-clause-right
+connect_words-requires-in-Xor-clause-right g c = c.requires.operands.right
+
+pub connect_negated-requires-clause-most : goal.connect_negated-requires-clause-most
+connect_negated-requires-clause-most g c = c.requires.operands.most
+
+pub connect_negated-requires-clause-equal : goal.connect_negated-requires-clause-equal
+connect_negated-requires-clause-equal g c = c.requires.operands.equal
+
+pub connect_negated-requires-clause-left : goal.connect_negated-requires-clause-left
+connect_negated-requires-clause-left g c = c.requires.operands.left
+
+pub connect_negated-requires-clause-right : goal.connect_negated-requires-clause-right
+connect_negated-requires-clause-right g c = c.requires.operands.right
+
+pub connect_negated-requires-in-Nor-clause-most : goal.connect_negated-requires-in-Nor-clause-most
+connect_negated-requires-in-Nor-clause-most g c = c.requires.operands.most
+
+pub connect_negated-requires-in-Nor-clause-equal : goal.connect_negated-requires-in-Nor-clause-equal
+connect_negated-requires-in-Nor-clause-equal g c = c.requires.operands.equal
+
+pub connect_negated-requires-in-Nor-clause-left : goal.connect_negated-requires-in-Nor-clause-left
+connect_negated-requires-in-Nor-clause-left g c = c.requires.operands.left
+
+pub connect_negated-requires-in-Nor-clause-right : goal.connect_negated-requires-in-Nor-clause-right
+connect_negated-requires-in-Nor-clause-right g c = c.requires.operands.right
+
+pub connect_negated-requires-in-Xnor-clause-most : goal.connect_negated-requires-in-Xnor-clause-most
+connect_negated-requires-in-Xnor-clause-most g c = c.requires.operands.most
+
+pub connect_negated-requires-in-Xnor-clause-equal : goal.connect_negated-requires-in-Xnor-clause-equal
+connect_negated-requires-in-Xnor-clause-equal g c = c.requires.operands.equal
+
+pub connect_negated-requires-in-Xnor-clause-left : goal.connect_negated-requires-in-Xnor-clause-left
+connect_negated-requires-in-Xnor-clause-left g c = c.requires.operands.left
+
+pub connect_negated-requires-in-Xnor-clause-right : goal.connect_negated-requires-in-Xnor-clause-right
+connect_negated-requires-in-Xnor-clause-right g c = c.requires.operands.right
+
+pub returns-in-Iff-clause-ok : goal.returns-in-Iff-clause-ok
+returns-in-Iff-clause-ok g c = rw c.in-Iff.is c.iff.ensures.ok
+
+pub returns-in-Iff-clause-refused : goal.returns-in-Iff-clause-refused
+returns-in-Iff-clause-refused g c = rw c.in-Iff.is c.iff.ensures.refused
+
+pub returns-in-Implies-clause-ok : goal.returns-in-Implies-clause-ok
+returns-in-Implies-clause-ok g c = rw c.in-Implies.is c.implies.ensures.ok
+
+pub returns-in-Implies-clause-refused : goal.returns-in-Implies-clause-refused
+returns-in-Implies-clause-refused g c = rw c.in-Implies.is c.implies.ensures.refused
+
+pub returns-in-Eq-clause-ok : goal.returns-in-Eq-clause-ok
+returns-in-Eq-clause-ok g c = rw c.in-Eq.is c.eq.ensures.ok
+
+pub returns-in-Eq-clause-refused : goal.returns-in-Eq-clause-refused
+returns-in-Eq-clause-refused g c = rw c.in-Eq.is c.eq.ensures.refused
+
+pub returns-in-Neq-clause-ok : goal.returns-in-Neq-clause-ok
+returns-in-Neq-clause-ok g c = rw c.in-Neq.is c.neq.ensures.ok
+
+pub returns-in-Neq-clause-refused : goal.returns-in-Neq-clause-refused
+returns-in-Neq-clause-refused g c = rw c.in-Neq.is c.neq.ensures.refused
+
+pub returns-in-And-clause-ok : goal.returns-in-And-clause-ok
+returns-in-And-clause-ok g c = rw c.in-And.is c.connect_words.ensures.ok
+
+pub returns-in-And-clause-refused : goal.returns-in-And-clause-refused
+returns-in-And-clause-refused g c = rw c.in-And.is c.connect_words.ensures.refused
+
+pub returns-in-Nand-clause-ok : goal.returns-in-Nand-clause-ok
+returns-in-Nand-clause-ok g c = rw c.in-Nand.is c.connect_negated.ensures.ok
+
+pub returns-in-Nand-clause-refused : goal.returns-in-Nand-clause-refused
+returns-in-Nand-clause-refused g c = rw c.in-Nand.is c.connect_negated.ensures.refused
+
+pub returns-in-Or-clause-refused : goal.returns-in-Or-clause-refused
+returns-in-Or-clause-refused g c = rw c.in-Or.is c.connect_words-in-Or.ensures.refused
+
+pub returns-in-Nor-clause-ok : goal.returns-in-Nor-clause-ok
+returns-in-Nor-clause-ok g c = rw c.in-Nor.is c.connect_negated-in-Nor.ensures.ok
+
+pub returns-in-Nor-clause-refused : goal.returns-in-Nor-clause-refused
+returns-in-Nor-clause-refused g c = rw c.in-Nor.is c.connect_negated-in-Nor.ensures.refused
+
+pub returns-in-Xor-clause-ok : goal.returns-in-Xor-clause-ok
+returns-in-Xor-clause-ok g c = rw c.in-Xor.is c.connect_words-in-Xor.ensures.ok
+
+pub returns-in-Xor-clause-refused : goal.returns-in-Xor-clause-refused
+returns-in-Xor-clause-refused g c = rw c.in-Xor.is c.connect_words-in-Xor.ensures.refused
+
+pub returns-in-Xnor-clause-ok : goal.returns-in-Xnor-clause-ok
+returns-in-Xnor-clause-ok g c = rw c.in-Xnor.is c.connect_negated-in-Xnor.ensures.ok
+
+pub returns-in-Xnor-clause-refused : goal.returns-in-Xnor-clause-refused
+returns-in-Xnor-clause-refused g c = rw c.in-Xnor.is c.connect_negated-in-Xnor.ensures.refused
+
+pub returns-in-Add-clause-ok : goal.returns-in-Add-clause-ok
+returns-in-Add-clause-ok g c = rw c.in-Add.is c.add_bits.ensures.ok
+
+pub returns-in-Add-clause-refused : goal.returns-in-Add-clause-refused
+returns-in-Add-clause-refused g c = rw c.in-Add.is c.add_bits.ensures.refused
+
+pub returns-in-Sub-clause-ok : goal.returns-in-Sub-clause-ok
+returns-in-Sub-clause-ok g c = rw c.in-Sub.is c.sub_bits.ensures.ok
+
+pub returns-in-Sub-clause-refused : goal.returns-in-Sub-clause-refused
+returns-in-Sub-clause-refused g c = rw c.in-Sub.is c.sub_bits.ensures.refused
+
+pub returns-in-Mul-clause-ok : goal.returns-in-Mul-clause-ok
+returns-in-Mul-clause-ok g c = rw c.in-Mul.is c.mul_bits.ensures.ok
+
+pub returns-in-Mul-clause-refused : goal.returns-in-Mul-clause-refused
+returns-in-Mul-clause-refused g c = rw c.in-Mul.is c.mul_bits.ensures.refused
+
+pub returns-in-Sdiv-clause-ok : goal.returns-in-Sdiv-clause-ok
+returns-in-Sdiv-clause-ok g c = rw c.in-Sdiv.is c.sdiv.ensures.ok
+
+pub returns-in-Sdiv-clause-refused : goal.returns-in-Sdiv-clause-refused
+returns-in-Sdiv-clause-refused g c = rw c.in-Sdiv.is c.sdiv.ensures.refused
+
+pub returns-in-Srem-clause-ok : goal.returns-in-Srem-clause-ok
+returns-in-Srem-clause-ok g c = rw c.in-Srem.is c.srem.ensures.ok
+
+pub returns-in-Srem-clause-refused : goal.returns-in-Srem-clause-refused
+returns-in-Srem-clause-refused g c = rw c.in-Srem.is c.srem.ensures.refused
+
+pub returns-in-Smod-clause-ok : goal.returns-in-Smod-clause-ok
+returns-in-Smod-clause-ok g c = rw c.in-Smod.is c.smod.ensures.ok
+
+pub returns-in-Smod-clause-refused : goal.returns-in-Smod-clause-refused
+returns-in-Smod-clause-refused g c = rw c.in-Smod.is c.smod.ensures.refused
+
+pub returns-in-Rol-clause-refused : goal.returns-in-Rol-clause-refused
+returns-in-Rol-clause-refused g c = c.rotate.ensures.refused
+
+pub returns-in-Sll-clause-refused : goal.returns-in-Sll-clause-refused
+returns-in-Sll-clause-refused g c = c.shift.ensures.refused
+
+pub returns-in_err-divide-in-Udiv-clause-refused : goal.returns-in_err-divide-in-Udiv-clause-refused
+returns-in_err-divide-in-Udiv-clause-refused g c =
+    let refused : Refuses (g.G.Gates.made c.args.g.now) (g.G.Gates.made c.divide.new.g) (binary_bound c.args.op (length c.args.a.now.items)) c.in_err-divide-in-Udiv.field-0.0 =
+    rw c.in-Udiv.is c.in_err-divide-in-Udiv.ensures.refused
+    in search rules
+
+pub returns-in_err-divide-in-Urem-clause-refused : goal.returns-in_err-divide-in-Urem-clause-refused
+returns-in_err-divide-in-Urem-clause-refused g c =
+    let refused : Refuses (g.G.Gates.made c.args.g.now) (g.G.Gates.made c.divide-in-Urem.new.g) (binary_bound c.args.op (length c.args.a.now.items)) c.in_err-divide-in-Urem.field-0.0 =
+    rw c.in-Urem.is c.in_err-divide-in-Urem.ensures.refused
+    in search rules
