@@ -15,7 +15,7 @@ ghost use Rattle.witness.specs.WordScans.{IsOf};
 ghost use Rattle.witness.specs.WordStands.{IsOfLines, StandsFor, is_alone, is_status, judgement_of, place_of};
 
 use crate::judgement::Judgement;
-use crate::last_line::{MOST_LINES, last_refusal};
+use crate::last_line::{are_most, last_refusal};
 use crate::place::Place;
 use crate::verdicts::either;
 use crate::why::Why;
@@ -126,7 +126,7 @@ impl<'a> WordJudge<'a> {
         ensures lines { (items : List Item) (lines : List (List ℕ)) (bytes : List ℕ) → IsOfLines items self.old lines bytes → IsOf line.now bytes → self.old.refused ≡ None → IsOfLines items self.new (lines ++ bytes ∷ []) [] }
         ensures line { self.new.line ≡ self.old.line }
     {
-        if self.admitted >= MOST_LINES {
+        if are_most(self.admitted) {
             self.refused = Some(Why::TooLong);
             return;
         }

@@ -1,8 +1,8 @@
 //! The lines of a witness over a model, admitted one after the other.
-ghost use Rattle.std.specs.Prelude.{◌≡◌, ℕ, ◌&&◌, ◌<◌, ◌-◌, ◌^◌, Bool, List, [], ◌∷◌, ◌++◌, IfOk, OnErr, length};
+ghost use Rattle.std.specs.Prelude.{◌≡◌, ℕ, ◌&&◌, ◌<◌, ◌-◌, ◌^◌, Bool, List, [], ◌∷◌, ◌++◌, IfOk, OnErr, length, slice_index};
 ghost use Rattle.btor2.specs.declared.item.Item.{Item};
-ghost use Rattle.btor2.specs.Items.{is_bad};
-ghost use Rattle.btor2.specs.Lists.{first_init_without_next};
+ghost use Rattle.btor2.specs.Items.{is_state, is_bad};
+ghost use Rattle.btor2.specs.Lists.{places, is_free_at, first_init_without_next};
 ghost use Rattle.btor2.specs.Trace.{Frame};
 ghost use Rattle.runs.specs.Refusal.{AnswersNew};
 ghost use Rattle.witness.specs.Texts.{has_free, shape_of};
@@ -49,12 +49,20 @@ impl<'a> std::marker::Model for WordReader<'a> {
     ghost invariant = { λ q. length q.claimed.items ≡ length (places is_bad 0 q.play.items) };
 }
 
+/// Whether the state of an index is free.
+fn is_free(model: &Model, k: usize) -> bool
+    requires { k < length (places is_state 0 model.now) }
+    ensures { result ≡ is_free_at model.now (slice_index (places is_state 0 model.now) k) }
+{
+    model.is_free(k)
+}
+
 /// Whether a state of a model is free.
 fn has_free(model: &Model) -> bool
     ensures { result ≡ has_free (shape_of model.now) }
 {
     for k in 0..model.states().len() {
-        if model.is_free(k) {
+        if is_free(model, k) {
             return true;
         }
     }
@@ -142,7 +150,7 @@ impl<'a> WordReader<'a> {
         match line.index() {
             Some(index) => {
                 let k = index as usize;
-                k < model.states().len() && model.is_free(k)
+                k < model.states().len() && is_free(model, k)
             }
             None => false,
         }
