@@ -170,8 +170,8 @@ none_more list n bad = list_any-append (λ c. c.justice) list (bad_claim n ∷ [
 with_one : (before : Option (List Claim)) (list : List Claim) (c : Claim) → before ≡ Some list → and_claim before (Some c) ≡ Some (list ++ c ∷ [])
 with_one before list c is = ap (λ o. and_claim o (Some c)) is
 
-pub fine_twice : (flags : List Bool) (before : Option (List Claim)) (n : ℕ) → is_set flags n ≡ true → AreFine flags before → AreUnfit flags (and_claim before (Some (record { justice = false; index = n })))
-fine_twice flags before n flagged h =
+fine_twice : (flags now : List Bool) (before : Option (List Claim)) (n : ℕ) → is_set flags n ≡ true → AreFine flags before → AreUnfit now (and_claim before (Some (record { justice = false; index = n })))
+fine_twice flags now before n flagged h =
     let there : list_any (λ y. y == n) (map (λ c. c.index) h.list) ≡ true = sym (h.claimed n) ∙ flagged in
     let twice : are_distinct (map (λ c. c.index) (h.list ++ bad_claim n ∷ [])) ≡ false = ap are_distinct (numbers_more h.list (bad_claim n)) ∙ distinct-twice (map (λ c. c.index) h.list) n [] there in
     record { list = h.list ++ bad_claim n ∷ []; is = with_one before h.list (bad_claim n) h.is; bad = none_more h.list n h.bad; unfit = and_right _ _ twice }
@@ -183,7 +183,7 @@ fine_outside flags before n outside h =
     list_all-append (λ c. nat_lt c.index (length flags)) h.list (bad_claim n ∷ []) ∙ and_right _ _ (and_left (nat_lt n (length flags)) true test) in
     record { list = h.list ++ bad_claim n ∷ []; is = with_one before h.list (bad_claim n) h.is; bad = none_more h.list n h.bad; unfit = and_left _ _ some }
 
-pub fine_more : (flags : List Bool) (before : Option (List Claim)) (n : ℕ) → n < length flags → is_set flags n ≡ false → AreFine flags before
+fine_more : (flags : List Bool) (before : Option (List Claim)) (n : ℕ) → n < length flags → is_set flags n ≡ false → AreFine flags before
     → AreFine (set flags n true) (and_claim before (Some (record { justice = false; index = n })))
 fine_more flags before n inside clear h =
     let fresh : list_any (λ y. y == n) (map (λ c. c.index) h.list) ≡ false = sym (h.claimed n) ∙ clear in
@@ -217,6 +217,12 @@ distinct-front (y ∷ ys) x h =
     let none : list_any (λ z. z == y) (ys ++ x ∷ []) ≡ false = not-true _ parts.0 in
     let front = or_parts (list_any (λ z. z == y) ys) _ (sym (list_any-append (λ z. z == y) ys (x ∷ [])) ∙ none) in
     rw front.0 (distinct-front ys x parts.1)
+
+-- by whether it is claimed already
+pub fine_once_more : (flags : List Bool) (before : Option (List Claim)) (n : ℕ) (twice : Bool) → n < length flags → is_set flags n ≡ twice → AreFine flags before
+    → IsKind (set flags n true) (and_claim before (Some (record { justice = false; index = n }))) (cond twice kind.Unfit kind.Fine)
+fine_once_more flags before n true inside flagged h = fine_twice flags (set flags n true) before n flagged h
+fine_once_more flags before n false inside clear h = fine_more flags before n inside clear h
 
 pub unfit_more : (flags : List Bool) (before : Option (List Claim)) (n : ℕ) → AreUnfit flags before → AreUnfit flags (and_claim before (Some (record { justice = false; index = n })))
 unfit_more flags before n h =

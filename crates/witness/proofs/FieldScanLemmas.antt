@@ -14,7 +14,7 @@ use Rattle.witness.specs.declared.why.Why.{Why}
 use Rattle.witness.specs.declared.why.Why.TheVariants as why
 use Rattle.witness.specs.Admits.{Cut, to_front, cut_at_space, value_of}
 use Rattle.witness.specs.BitScans.{Scans}
-use Rattle.witness.specs.WordValues.{ValueScan, Values}
+use Rattle.witness.specs.WordValues.{ValueScan, Values, Gives}
 use Rattle.witness.proofs.PieceLemmas.{cut_at_space-parts}
 use Rattle.witness.specs.WordScans.{Names, IndexAlone, WithValue, WithName, FieldsAt, AreFields, word_with, word_behind}
 
@@ -54,6 +54,24 @@ cut_space line is = cut_behind line 32 line None is
 -- no space
 pub cut_alone : (line : List ℕ) → HasNone 32 line → cut_at_space line ≡ (line, None)
 cut_alone line none = ap cut_at_space (sym (append-nil line)) ∙ cut_at_space-parts line None none
+
+with_nothing : (r : Result ℕ Why) → word_with None r ≡ r
+with_nothing (Ok x) = refl
+with_nothing (Err w) = refl
+
+-- a space behind a token
+pub cut_once : (line token behind : List ℕ) → line ≡ token ++ 32 ∷ behind → HasNone 32 token → cut_at_space line ≡ (token, Some behind)
+cut_once line token behind is none = ap cut_at_space is ∙ cut_at_space-parts token (Some behind) none
+
+-- the word behind a token, where a word with a name stands there
+pub word_by_name : (behind digits bytes : List ℕ) (width : ℕ) (r : Result ℕ Why) → behind ≡ digits ++ 32 ∷ bytes → HasNone 32 digits → Gives (λ (w : ℕ). w) r (word_with (Some bytes) (value_of width digits)) → Gives (λ (w : ℕ). w) r (word_behind width (Some behind))
+word_by_name behind digits bytes width r is none h =
+    subst (λ (c : Cut). Gives (λ (w : ℕ). w) r (word_with c.1 (value_of width c.0))) (sym (cut_once behind digits bytes is none)) h
+
+-- the same without a name
+pub word_by_digits : (behind : List ℕ) (width : ℕ) (r : Result ℕ Why) → HasNone 32 behind → Gives (λ (w : ℕ). w) r (value_of width behind) → Gives (λ (w : ℕ). w) r (word_behind width (Some behind))
+word_by_digits behind width r none h =
+    subst (λ (c : Cut). Gives (λ (w : ℕ). w) r (word_with c.1 (value_of width c.0))) (sym (cut_alone behind none)) (subst (Gives (λ (w : ℕ). w) r) (sym (with_nothing (value_of width behind))) h)
 
 -- ---- the fields with a byte more
 
@@ -117,29 +135,16 @@ index_of_name s v n line found is h = is h.token h.scans ∙ ap (λ (c : Cut). n
 pub no_value : (s : Scan) (line : List ℕ) (width : ℕ) → IndexAlone s line → word_behind width (cut_at_space line).1 ≡ Err why.BadValue
 no_value s line width h = ap (λ (c : Cut). word_behind width c.1) h.cut
 
-with_nothing : (r : Result ℕ Why) → word_with None r ≡ r
-with_nothing (Ok x) = refl
-with_nothing (Err w) = refl
-
 pub value_alone : (s : Scan) (v : ValueScan) (line : List ℕ) (width : ℕ) (r : Result ℕ Why) → ((bytes : List ℕ) → Values v bytes → value_of width bytes ≡ r) → WithValue s v line → word_behind width (cut_at_space line).1 ≡ r
 value_alone s v line width r is h =
     ap (λ (c : Cut). word_behind width c.1) h.cut
     ∙ (ap (λ (c : Cut). word_with c.1 (value_of width c.0)) h.rest ∙ (with_nothing (value_of width h.digits) ∙ is h.digits h.values))
 
--- a word, where the name behind it is a symbol
-abbrev pub named : Result ℕ Why → Bool → Result ℕ Why
-named (Err w) b = Err w
-named (Ok x) b = if b then Ok x else Err why.BadSymbol
-
-pub value_named : (s : Scan) (v : ValueScan) (n : NameScan) (line : List ℕ) (width : ℕ) (r : Result ℕ Why) (b : Bool) → ((bytes : List ℕ) → Values v bytes → value_of width bytes ≡ r) → ((bytes : List ℕ) → Names n bytes → b ≡ is_symbol bytes) → WithName s v n line
-    → word_behind width (cut_at_space line).1 ≡ named r b
-value_named s v n line width r b is symbol h =
-    ap (λ (c : Cut). word_behind width c.1) h.cut
-    ∙ (ap (λ (c : Cut). word_with c.1 (value_of width c.0)) h.rest ∙ (ap (word_with (Some h.bytes)) (is h.digits h.values) ∙ by_test r))
-  where
-    by_test : (r : Result ℕ Why) → word_with (Some h.bytes) r ≡ named r b
-    by_test (Ok x) = ap (λ (t : Bool). cond t (Ok x) (Err why.BadSymbol)) (sym (symbol h.bytes h.names))
-    by_test (Err w) = refl
+pub value_named : (s : Scan) (v : ValueScan) (n : NameScan) (line : List ℕ) (width : ℕ) (r : Result ℕ Why) → ((digits bytes : List ℕ) → Values v digits → Names n bytes → Gives (λ (w : ℕ). w) r (word_with (Some bytes) (value_of width digits))) → WithName s v n line
+    → Gives (λ (w : ℕ). w) r (word_behind width (cut_at_space line).1)
+value_named s v n line width r is h =
+    subst (λ (c : Cut). Gives (λ (w : ℕ). w) r (word_behind width c.1)) (sym h.cut)
+    (subst (λ (c : Cut). Gives (λ (w : ℕ). w) r (word_with c.1 (value_of width c.0))) (sym h.rest) (is h.digits h.bytes h.values h.names))
 
 -- ---- by the field that goes on
 

@@ -1,5 +1,5 @@
 -- What is kept of a line byte by byte: how it begins, and whether it is a byte with a number behind it.
-use Rattle.std.proofs.Common.{◌≡◌, ℕ, ◌<◌, ◌-◌, ◌^◌, ◌==◌, true, false, ◌&&◌, ◌||◌, List, [], ◌∷◌, Some, None, decimal, get_or, refl, sym, ap, ap₂, ◌∙◌, arith, inl, inr}
+use Rattle.std.proofs.Common.{◌≡◌, ℕ, ◌<◌, ◌-◌, ◌^◌, ◌==◌, true, false, ◌&&◌, ◌||◌, List, [], ◌∷◌, Some, None, length, decimal, get_or, refl, sym, ap, ap₂, ◌∙◌, arith, inl, inr}
 use Rattle.std.specs.Str.{bytes_eq}
 use Rattle.std.proofs.lemmas.Bool.{cases_Bool, and_parts, and_from, and_left, eqb-true, eqb-false, eq-eqb, ne_eqb, false_from_ne_true}
 use Rattle.base.specs.Decimals.{is_decimal, number_of}
@@ -33,10 +33,11 @@ pub other_first : (line rest : List ℕ) (first byte : ℕ) → first ≡ get_or
 other_first [] rest first byte is other = refl
 other_first (a ∷ tail) rest first byte is other = sym (and_left (a == byte) (bytes_eq tail rest) (ne_eqb a byte (λ e. other (is ∙ e))))
 
--- a line whose first byte opens or ends a part
-pub begun_part : (line : List ℕ) (first byte : ℕ) → first ≡ get_or line 0 0 → first ≡ byte → begins_part (byte ∷ []) ≡ true → begins_part line ≡ true
-begun_part line first byte is same h =
-    sym (first_opens line first is) ∙ (ap (λ (b : ℕ). (b == 35) || ((b == 64) || (b == 46))) same ∙ (first_opens (byte ∷ []) byte refl ∙ h))
+-- no number stands behind no byte
+pub nothing_there : (line : List ℕ) → length line ≡ 0 → None ≡ number_of (behind_first line)
+unfolding number_of is_decimal
+nothing_there [] none = refl
+nothing_there (a ∷ tail) none = absurd (omega (arith, none))
 
 pub numbered_some : (line : List ℕ) (first byte n found : ℕ) → n < 2 ^ 64 - 1 → first ≡ get_or line 0 0 → first ≡ byte → Some found ≡ number_of (behind_first line) → (found == n) ≡ bytes_eq line (byte ∷ decimal n)
 unfolding number_of is_decimal

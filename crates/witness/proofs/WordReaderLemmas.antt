@@ -8,8 +8,6 @@ use Rattle.witness.specs.declared.why.Why.TheVariants as why
 use Rattle.witness.specs.declared.place.Place.{Place as CodePlace}
 use Rattle.witness.specs.declared.place.Place.TheVariants as code
 use Rattle.witness.specs.Texts.{Assignment, is_free_index, has_free, shape_of, is_comment}
-use Rattle.witness.specs.declared.word_line.LineScan.{LineScan}
-use Rattle.witness.specs.WordScans.{IsOfPart, IsScanned}
 use Rattle.witness.specs.Admits.{Place, AtStatus, AtClaims, AtParts, InStates, InFree, InFrame, AtEnd, Read, nothing_read, cut_at_space, names_free, claims_at, opens_frame, opens_states, begins_part, states_closed, frame_closed, free_assignment_at, admit}
 use Rattle.witness.specs.Judgements.{FrameWords, pairs_of, frame_words}
 use Rattle.witness.specs.Fits.{AreClaimed}
@@ -20,36 +18,11 @@ use Rattle.witness.specs.declared.word_claims.ClaimScan.{ClaimScan}
 use Rattle.witness.specs.WordClaims.{AreClaims}
 use Rattle.witness.proofs.ShapeLemmas.{free_at_places, length-places}
 use Rattle.witness.specs.WordPlays.{WordPlay, IsStart, Plays, frame_steps, MayGive, GivesState, GivesInput, nothing_given}
-use Rattle.witness.specs.WordStands.{WordReader, place_of, here_of, NoFrame, SaidAt, ClaimsAt, Reads, GivesLine, Tells, is_in_parts}
+use Rattle.witness.specs.WordStands.{WordReader, place_of, here_of, NoFrame, SaidAt, ClaimsAt, Reads, GivesLine, is_alone}
 use Rattle.std.proofs.lemmas.List.{map-append, length-map}
 use Rattle.std.proofs.lemmas.List.Elements.{All-nil}
 use Rattle.runs.specs.Frames.{ids_of}
 use Rattle.runs.specs.Run.{Run, first_word, more_steps}
-
--- what is kept of a line tells what each place asks for
-pub part_tells : (p : Place) (s : LineScan) (line : List ℕ) → is_in_parts p ≡ true → IsOfPart s line → Tells p s line
-part_tells AtStatus s line parts h = absurd (cc parts)
-part_tells AtClaims s line parts h = h
-part_tells AtParts s line parts h = h
-part_tells InStates s line parts h = h
-part_tells InFree s line parts h = h
-part_tells InFrame s line parts h = h
-part_tells AtEnd s line parts h = h
-
-pub scanned_tells : (p : Place) (s : LineScan) (line : List ℕ) → IsScanned s line → Tells p s line
-scanned_tells p s line h = at p
-  where
-    part : IsOfPart s line
-    part = record { first = h.scans.first; marked = λ begins. h.scans; fields = λ plain. h.fields }
-
-    at : (p : Place) → Tells p s line
-    at AtStatus = h
-    at AtClaims = part
-    at AtParts = part
-    at InStates = part
-    at InFree = part
-    at InFrame = part
-    at AtEnd = part
 
 -- a line is admitted
 abbrev pub Passes : List Item → Read → List ℕ → WordReader → Type 0
@@ -69,8 +42,8 @@ same_claims q r line next code.Free other h = h
 same_claims q r line next code.Frame other h = h
 same_claims q r line next code.End other h = h
 
-is_other : (x : CodePlace) → is_in_parts (place_of x) ≡ true → IsOther x
-is_other code.Status h = absurd (cc h)
+is_other : (x : CodePlace) → is_alone (place_of x) ≡ true → IsOther x
+is_other code.Status h = tt
 is_other code.Claims h = absurd (cc h)
 is_other code.Parts h = tt
 is_other code.States h = tt
@@ -91,15 +64,15 @@ module _ (items : List Item) (r : Read) (line : List ℕ) (q : WordReader) (read
   pub plays_at : (x : CodePlace) → q.place ≡ x → Plays items (map frame_words r.closed) (here_of r (place_of x)) q.play
   plays_at x e = subst (λ (p : Place). Plays items (map frame_words r.closed) (here_of r p) q.play) (is_at x e) reads.play
 
-  -- among the parts nothing is kept of the bytes of the next line
-  pub reads_of_other : (next : List ℕ) → is_in_parts (place_of q.place) ≡ true → Reads items q r next
-  reads_of_other next parts =
+  -- of a line that is judged by its bytes alone nothing is kept
+  pub reads_of_other : (next : List ℕ) → is_alone (place_of q.place) ≡ true → Reads items q r next
+  reads_of_other next alone =
       record {
         free = reads.free;
         many = reads.many;
         place = reads.place;
         said = reads.said;
-        claims = subst (ClaimsAt q r next) reads.place (same_claims q r line next q.place (is_other q.place parts) (claims_there q.place refl));
+        claims = subst (ClaimsAt q r next) reads.place (same_claims q r line next q.place (is_other q.place alone) (claims_there q.place refl));
         play = reads.play;
       }
 

@@ -8,10 +8,12 @@ use Rattle.witness.specs.declared.word_name.NameScan.{NameScan}
 use Rattle.witness.specs.declared.word_fields.Field.{Field}
 use Rattle.witness.specs.declared.word_fields.FieldScan.{FieldScan}
 use Rattle.witness.specs.declared.word_line.LineScan.{LineScan}
+use Rattle.witness.specs.declared.word_line.WholeLine.{WholeLine}
+use Rattle.witness.specs.declared.word_line.WholeLine.TheVariants as whole
 use Rattle.witness.specs.declared.word_fields.Field.TheVariants as field
 use Rattle.witness.specs.declared.why.Why.{Why}
 use Rattle.witness.specs.declared.why.Why.TheVariants as why
-use Rattle.witness.specs.Admits.{value_of, cut_at_space, begins_part}
+use Rattle.witness.specs.Admits.{value_of, cut_at_space}
 use Rattle.witness.specs.BitScans.{Scans}
 use Rattle.witness.specs.WordValues.{ValueScan, Values}
 
@@ -98,8 +100,7 @@ pub record IsScanned (s : LineScan) (line : List ℕ) : Type 0 where
   pub status : Starts s.status line
   pub fields : AreFields s.fields line
 
--- what is kept is that of this line, where parts stand: a line that opens or ends one, or an assignment
-pub record IsOfPart (s : LineScan) (line : List ℕ) : Type 0 where
-  pub first : s.line.first ≡ slice_index_or line 0 0
-  pub marked : begins_part line ≡ true → Scans s.line line
-  pub fields : begins_part line ≡ false → AreFields s.fields line
+-- a whole line is this one: its bytes are these, or what is kept of them is
+abbrev pub IsOf : WholeLine → List ℕ → Type 0
+IsOf (whole.Bytes bytes) line = bytes.now ≡ line
+IsOf (whole.Scanned s) line = IsScanned s.now line

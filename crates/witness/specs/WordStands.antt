@@ -14,7 +14,7 @@ use Rattle.witness.specs.Admits.{Place, AtStatus, AtClaims, AtParts, InStates, I
 use Rattle.witness.specs.Judgements.{FrameWords, pairs_of, frame_words, Violation, makes_no_claim}
 use Rattle.witness.specs.Fits.{AreClaimed}
 use Rattle.witness.specs.WordClaims.{AreClaims}
-use Rattle.witness.specs.WordScans.{IsOfPart, IsScanned}
+use Rattle.witness.specs.WordScans.{IsScanned}
 use Rattle.witness.specs.WordPlays.{WordPlay, Plays, nothing_given, steps_of}
 use Rattle.witness.specs.WordReadings.{nothing_admitted, lines_behind}
 
@@ -73,16 +73,10 @@ pub record Reads (items : List Item) (q : WordReader) (r : Read) (line : List �
   pub claims : ClaimsAt q r line r.place
   pub play : Plays items (map frame_words r.closed) (here_of r r.place) q.play
 
--- what must be kept of a line of a place
-abbrev pub Tells : Place → LineScan → List ℕ → Type 0
-Tells AtStatus s line = IsScanned s line
-Tells _ s line = IsOfPart s line
-
--- the next line stands where parts do, or behind them
-abbrev pub is_in_parts : Place → Bool
-is_in_parts AtStatus = false
-is_in_parts AtClaims = false
-is_in_parts _ = true
+-- the next line is judged by its bytes alone: of that of the claims more is kept
+abbrev pub is_alone : Place → Bool
+is_alone AtClaims = false
+is_alone _ = true
 
 -- what a line behind them gives
 abbrev pub GivesLine : List Item → Read → List ℕ → WordReader → Result (Unit {0}) Why → Type 0

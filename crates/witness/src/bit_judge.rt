@@ -14,7 +14,7 @@ use crate::bit_play::BitPlay;
 use crate::bit_reader::BitReader;
 use crate::bit_scan::Scan;
 use crate::judgement::Judgement;
-use crate::last_line::{MOST_LINES, last_refusal};
+use crate::last_line::{are_most, last_refusal};
 use crate::verdicts::either;
 use crate::why::Why;
 use aiger::Circuit;
@@ -119,7 +119,7 @@ impl<'a> BitJudge<'a> {
         ensures line { self.new.line ≡ self.old.line }
     {
         self.no_claim = either(self.no_claim, says_no_claim(self.reader.place(), line));
-        if self.admitted >= MOST_LINES {
+        if are_most(self.admitted) {
             self.refused = Some(Why::TooLong);
             return;
         }

@@ -121,24 +121,6 @@ impl Scan {
         *self = self.with(byte);
     }
 
-    /// The same with bytes behind it.
-    pub(crate) fn with_all(self, bytes: &[u8]) -> Scan
-        ensures { (line : List ℕ) → Scans self line → Scans result (line ++ bytes.now) }
-    {
-        let mut scan = self;
-        for byte in bytes {
-            scan.push(*byte);
-        }
-        scan
-    }
-
-    /// Of which nothing is known but the first byte.
-    pub(crate) fn begun_by(first: u8) -> Scan
-        ensures { result.first ≡ first }
-    {
-        Scan::new().with(first)
-    }
-
     /// Whether there is no byte.
     pub(crate) fn is_empty(self) -> bool
         ensures { (line : List ℕ) → Scans self line → result ≡ is_nothing line }

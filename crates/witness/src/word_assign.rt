@@ -3,11 +3,11 @@ ghost use Rattle.std.specs.Prelude.{◌≡◌, ℕ, ◌<◌, ◌^◌, true, All,
 ghost use Rattle.btor2.specs.Lists.{width_at};
 ghost use Rattle.witness.specs.Admits.{cut_at_space};
 ghost use Rattle.witness.specs.WordValues.{Gives};
-ghost use Rattle.witness.specs.WordScans.{AreFields};
+ghost use Rattle.witness.specs.WordScans.{IsOf};
 ghost use Rattle.witness.specs.WordAssigns.{widths_by, assigned_number, assigned};
 
 use crate::why::Why;
-use crate::word_fields::FieldScan;
+use crate::word_line::WholeLine;
 use base::Width;
 use btor2::Model;
 
@@ -29,12 +29,12 @@ fn assigned_number(
     places: &[usize],
     given: &[bool],
     index: u64,
-    fields: &FieldScan,
+    line: &WholeLine<'_>,
 ) -> Result<(u64, u64), Why>
     requires many { length given.now ≡ length places.now }
     requires there { All (λ k. k < length model.now) places.now }
     requires some { All (λ k. is_some (width_at model.now k) ≡ true) places.now }
-    ensures is { (line : List ℕ) → AreFields fields.now line → Gives (λ p. p) result (assigned_number (widths_by model.now places.now) given.now (cut_at_space line).1 index) }
+    ensures is { (bytes : List ℕ) → IsOf line.now bytes → Gives (λ p. p) result (assigned_number (widths_by model.now places.now) given.now (cut_at_space bytes).1 index) }
     ensures inside { IfOk result (λ p. p.0 < length places.now) }
     ensures fits { IfOk result (λ p. IfSome (width_at model.now (slice_index places.now p.0)) (λ n. p.1 < 2 ^ n)) }
 {
@@ -45,7 +45,7 @@ fn assigned_number(
     if given[k] {
         return Err(Why::IndexTwice);
     }
-    match fields.word(width_at(model, places[k])) {
+    match line.word(width_at(model, places[k])) {
         Ok(word) => Ok((index, word)),
         Err(why) => Err(why),
     }
@@ -57,17 +57,17 @@ pub(crate) fn assigned(
     model: &Model,
     places: &[usize],
     given: &[bool],
-    fields: &FieldScan,
+    line: &WholeLine<'_>,
 ) -> Result<(u64, u64), Why>
     requires many { length given.now ≡ length places.now }
     requires there { All (λ k. k < length model.now) places.now }
     requires some { All (λ k. is_some (width_at model.now k) ≡ true) places.now }
-    ensures is { (line : List ℕ) → AreFields fields.now line → Gives (λ p. p) result (assigned (widths_by model.now places.now) given.now line) }
+    ensures is { (bytes : List ℕ) → IsOf line.now bytes → Gives (λ p. p) result (assigned (widths_by model.now places.now) given.now bytes) }
     ensures inside { IfOk result (λ p. p.0 < length places.now) }
     ensures fits { IfOk result (λ p. IfSome (width_at model.now (slice_index places.now p.0)) (λ n. p.1 < 2 ^ n)) }
 {
-    match fields.index() {
-        Some(index) => assigned_number(model, places, given, index, fields),
+    match line.index() {
+        Some(index) => assigned_number(model, places, given, index, line),
         None => Err(Why::BadIndex),
     }
 }

@@ -1,6 +1,7 @@
 //! A line of claims, byte by byte.
-ghost use Rattle.std.specs.Prelude.{◌≡◌, ℕ, List, [], ◌∷◌, ◌++◌, Bool, false, Option, Some, MatchResult, Ok, Err, length};
+ghost use Rattle.std.specs.Prelude.{◌≡◌, ℕ, List, [], ◌∷◌, ◌++◌, Bool, false, Option, Some, MatchResult, Ok, Err, length, if◌then◌else◌};
 ghost use Rattle.witness.specs.Admits.{Claim, claims_at, claim_of};
+ghost use Rattle.witness.specs.declared.word_claims.ClaimsKind.TheVariants as kind;
 ghost use Rattle.witness.specs.Fits.{NoneIsSet, AreClaimed};
 ghost use Rattle.witness.specs.BitScans.{Scans};
 ghost use Rattle.witness.specs.WordClaims.{piece_of, claimed_by, and_claim, IsKind, AreClaims};
@@ -63,6 +64,16 @@ fn piece_claim(piece: Scan) -> PieceClaim
     }
 }
 
+/// What claims are with a bad property more that is there, by whether it is claimed already.
+fn once_more(twice: bool) -> ClaimsKind
+    ensures { result ≡ (if twice then kind.Unfit else kind.Fine) }
+{
+    if twice {
+        return ClaimsKind::Unfit;
+    }
+    ClaimsKind::Fine
+}
+
 /// What is claimed with one bad property more, whose flag is set then.
 fn with_bad(kind: ClaimsKind, number: u64, claimed: &mut [bool]) -> ClaimsKind
     ensures kind { (before : Option (List Claim)) → IsKind claimed.old before kind → IsKind claimed.new (and_claim before (Some (record { justice = false; index = number }))) result }
@@ -72,12 +83,9 @@ fn with_bad(kind: ClaimsKind, number: u64, claimed: &mut [bool]) -> ClaimsKind
         ClaimsKind::Fine => {
             let place = number as usize;
             if place < claimed.len() {
-                if claimed[place] {
-                    ClaimsKind::Unfit
-                } else {
-                    claimed[place] = true;
-                    ClaimsKind::Fine
-                }
+                let twice = claimed[place];
+                claimed[place] = true;
+                once_more(twice)
             } else {
                 ClaimsKind::Unfit
             }

@@ -1,17 +1,15 @@
 //! An assignment, byte by byte or at once: an index, a value and a name, with a space between.
 ghost use Rattle.std.specs.Prelude.{◌≡◌, ℕ, ◌<◌, ◌^◌, List, [], ◌∷◌, ◌++◌, IfOk, Some, None};
 ghost use Rattle.base.specs.Decimals.{number_of};
-ghost use Rattle.base.specs.Lines.{HasNone};
-ghost use Rattle.witness.specs.Admits.{cut_at_space};
-ghost use Rattle.witness.specs.BitScans.{Scans};
-ghost use Rattle.witness.specs.WordValues.{Gives};
-ghost use Rattle.witness.specs.WordScans.{AreFields, word_behind};
+ghost use Rattle.witness.specs.Admits.{cut_at_space, value_of};
+ghost use Rattle.witness.specs.WordValues.{Gives, Values};
+ghost use Rattle.witness.specs.WordScans.{AreFields, Names, word_behind, word_with};
 
 use crate::bit_scan::Scan;
 use crate::why::Why;
 use crate::word_name::NameScan;
 use crate::word_value::ValueScan;
-use base::{Width, cut_at};
+use base::{Width, cut_at, decimal};
 
 /// Which field of an assignment goes on.
 #[derive(Clone, Copy)]
@@ -34,51 +32,56 @@ pub(crate) struct FieldScan {
     name: NameScan,
 }
 
-/// What the bytes of an index say, behind a byte `0`.
-fn index_of(token: &[u8]) -> Scan
-    ensures { Scans result (48 ∷ token.now) }
+/// The index that a whole line begins with, where it is a decimal, at most 2^64 - 1.
+pub(crate) fn index_of(line: &[u8]) -> Option<u64>
+    ensures { result ≡ number_of (cut_at_space line.now).0 }
 {
-    let mut index = Scan::new();
-    index.push(b'0');
-    index.with_all(token)
+    match cut_at(line, b' ') {
+        None => decimal(line),
+        Some((token, _behind)) => decimal(token),
+    }
 }
 
-/// That of a whole line with this index and these bytes behind the first space.
-fn with_value(index: Scan, behind: &[u8]) -> FieldScan
-    ensures { (token : List ℕ) → HasNone 32 token → Scans index (48 ∷ token) → AreFields result (token ++ 32 ∷ behind.now) }
+/// The word of so many bits that stands behind the first space, with a name behind it or none, or why there is none.
+fn word_with(behind: &[u8], width: Width) -> Result<u64, Why>
+    ensures is { Gives (λ w. w) result (word_behind width (Some behind.now)) }
+    ensures fits { IfOk result (λ w. w < 2 ^ width) }
 {
     match cut_at(behind, b' ') {
-        None => FieldScan {
-            field: Field::Value,
-            index,
-            value: ValueScan::of(behind),
-            name: NameScan::new(),
-        },
-        Some((digits, name)) => FieldScan {
-            field: Field::Name,
-            index,
-            value: ValueScan::of(digits),
-            name: NameScan::of(name),
-        },
+        None => ValueScan::of(behind).word(width),
+        Some((digits, name)) => named(ValueScan::of(digits), NameScan::of(name), width),
+    }
+}
+
+/// The word of so many bits behind the index of a whole line, or why there is none.
+pub(crate) fn word_of(line: &[u8], width: Width) -> Result<u64, Why>
+    ensures is { Gives (λ w. w) result (word_behind width (cut_at_space line.now).1) }
+    ensures fits { IfOk result (λ w. w < 2 ^ width) }
+{
+    match cut_at(line, b' ') {
+        None => Err(Why::BadValue),
+        Some((_token, behind)) => word_with(behind, width),
+    }
+}
+
+/// The word of so many bits with a name behind it, or why there is none.
+fn named(value: ValueScan, name: NameScan, width: Width) -> Result<u64, Why>
+    ensures is { (digits bytes : List ℕ) → Values value digits → Names name bytes → Gives (λ w. w) result (word_with (Some bytes) (value_of width digits)) }
+    ensures fits { IfOk result (λ w. w < 2 ^ width) }
+{
+    match value.word(width) {
+        Ok(word) => {
+            if name.is_symbol() {
+                Ok(word)
+            } else {
+                Err(Why::BadSymbol)
+            }
+        }
+        Err(why) => Err(why),
     }
 }
 
 impl FieldScan {
-    /// That of a whole line.
-    pub(crate) fn of(line: &[u8]) -> FieldScan
-        ensures { AreFields result line.now }
-    {
-        match cut_at(line, b' ') {
-            None => FieldScan {
-                field: Field::Index,
-                index: index_of(line),
-                value: ValueScan::new(),
-                name: NameScan::new(),
-            },
-            Some((token, behind)) => with_value(index_of(token), behind),
-        }
-    }
-
     /// A line with no byte yet.
     pub(crate) fn new() -> FieldScan
         ensures { AreFields result [] }
@@ -147,16 +150,7 @@ impl FieldScan {
         match self.field {
             Field::Index => Err(Why::BadValue),
             Field::Value => self.value.word(width),
-            Field::Name => match self.value.word(width) {
-                Ok(word) => {
-                    if self.name.is_symbol() {
-                        Ok(word)
-                    } else {
-                        Err(Why::BadSymbol)
-                    }
-                }
-                Err(why) => Err(why),
-            },
+            Field::Name => named(self.value, self.name, width),
         }
     }
 }

@@ -11,15 +11,15 @@ ghost use Rattle.witness.specs.Judgements.{Judges};
 ghost use Rattle.witness.specs.WordPlays.{steps_of};
 ghost use Rattle.witness.specs.WordReadings.{admitted_word_lines, closed_word_frames};
 ghost use Rattle.base.specs.Lines.{IsLine, unfinished};
-ghost use Rattle.witness.specs.WordScans.{IsScanned};
-ghost use Rattle.witness.specs.WordStands.{IsOfLines, StandsFor, Tells, is_in_parts, is_status, judgement_of, place_of};
+ghost use Rattle.witness.specs.WordScans.{IsOf};
+ghost use Rattle.witness.specs.WordStands.{IsOfLines, StandsFor, is_alone, is_status, judgement_of, place_of};
 
 use crate::judgement::Judgement;
-use crate::last_line::{MOST_LINES, last_refusal};
+use crate::last_line::{are_most, last_refusal};
 use crate::place::Place;
 use crate::verdicts::either;
 use crate::why::Why;
-use crate::word_line::LineScan;
+use crate::word_line::{LineScan, WholeLine};
 use crate::word_play::WordPlay;
 use crate::word_reader::WordReader;
 use base::next_line;
@@ -54,15 +54,15 @@ impl<'a> std::marker::Model for WordJudge<'a> {
 }
 
 /// Whether a line says that there is no claim.
-fn is_no_claim(line: &LineScan) -> bool
-    ensures { (bytes : List ℕ) → IsScanned line.now bytes → result ≡ (bytes_eq bytes (codes "unsat") || bytes_eq bytes (codes "unknown")) }
+fn is_no_claim(line: &WholeLine<'_>) -> bool
+    ensures { (bytes : List ℕ) → IsOf line.now bytes → result ≡ (bytes_eq bytes (codes "unsat") || bytes_eq bytes (codes "unknown")) }
 {
     line.is_unsat() || line.is_unknown()
 }
 
 /// Whether a line says that there is no claim, where it may be the status.
-fn says_no_claim(place: Place, line: &LineScan) -> bool
-    ensures { (bytes : List ℕ) → Tells (place_of place) line.now bytes → result ≡ (is_status (place_of place) && (bytes_eq bytes (codes "unsat") || bytes_eq bytes (codes "unknown"))) }
+fn says_no_claim(place: Place, line: &WholeLine<'_>) -> bool
+    ensures { (bytes : List ℕ) → IsOf line.now bytes → result ≡ (is_status (place_of place) && (bytes_eq bytes (codes "unsat") || bytes_eq bytes (codes "unknown"))) }
 {
     match place {
         Place::Status => is_no_claim(line),
@@ -122,11 +122,11 @@ impl<'a> WordJudge<'a> {
     }
 
     /// A line has ended behind the whole lines, none of which was refused.
-    fn judge_line(&mut self, line: &LineScan)
-        ensures lines { (items : List Item) (lines : List (List ℕ)) (bytes : List ℕ) → IsOfLines items self.old lines bytes → Tells (place_of self.old.reader.place) line.now bytes → self.old.refused ≡ None → IsOfLines items self.new (lines ++ bytes ∷ []) [] }
+    fn judge_line(&mut self, line: &WholeLine<'_>)
+        ensures lines { (items : List Item) (lines : List (List ℕ)) (bytes : List ℕ) → IsOfLines items self.old lines bytes → IsOf line.now bytes → self.old.refused ≡ None → IsOfLines items self.new (lines ++ bytes ∷ []) [] }
         ensures line { self.new.line ≡ self.old.line }
     {
-        if self.admitted >= MOST_LINES {
+        if are_most(self.admitted) {
             self.refused = Some(Why::TooLong);
             return;
         }
@@ -144,7 +144,7 @@ impl<'a> WordJudge<'a> {
         let line = self.line;
         self.line = LineScan::new();
         if self.refused.is_none() {
-            self.judge_line(&line);
+            self.judge_line(&WholeLine::Scanned(&line));
         }
     }
 
@@ -180,7 +180,7 @@ impl<'a> WordJudge<'a> {
 
     /// Whether a line that begins is judged by its bytes alone.
     fn takes_whole_lines(&self) -> bool
-        ensures parts { result ≡ true → is_in_parts (place_of self.now.reader.place) ≡ true }
+        ensures alone { result ≡ true → is_alone (place_of self.now.reader.place) ≡ true }
         ensures begins { (items : List Item) (text : List ℕ) → StandsFor items self.now text → result ≡ true → unfinished text ≡ [] }
     {
         if !self.reader.takes_whole_lines() {
@@ -198,7 +198,7 @@ impl<'a> WordJudge<'a> {
             return;
         }
         if self.takes_whole_lines() {
-            self.judge_line(&LineScan::of_part(bytes));
+            self.judge_line(&WholeLine::Bytes(bytes));
             return;
         }
         self.take_all(bytes);

@@ -10,14 +10,14 @@ ghost use Rattle.witness.specs.Judgements.{FrameWords, pairs_of, first_different
 ghost use Rattle.witness.specs.Texts.{Assignment, widths_of};
 ghost use Rattle.witness.specs.WordValues.{Gives};
 ghost use Rattle.witness.specs.Fits.{NoneIsSet};
-ghost use Rattle.witness.specs.WordScans.{AreFields};
+ghost use Rattle.witness.specs.WordScans.{IsOf};
 ghost use Rattle.witness.specs.WordAssigns.{assigned};
 ghost use Rattle.witness.specs.WordPlays.{IsStart, Plays, MayGive, GivesState, GivesInput, state_given, input_given, nothing_given};
 
 use crate::verdicts::{Breach, earlier, first_different, first_violated, note_rises};
 use crate::why::Why;
 use crate::word_assign::assigned;
-use crate::word_fields::FieldScan;
+use crate::word_line::WholeLine;
 use btor2::Model;
 use runs::{NewFault, WordRun};
 use std::alloc::{AllocError, Global};
@@ -128,8 +128,8 @@ impl<'a> WordPlay<'a> {
     }
 
     /// The word that a line gives to a state in the open part, or why it gives none.
-    fn state_word(&self, fields: &FieldScan) -> Result<(u64, u64), Why>
-        ensures is { (line : List ℕ) → AreFields fields.now line → Gives (λ p. p) result (assigned (widths_of is_state self.now.items) self.now.states_given line) }
+    fn state_word(&self, line: &WholeLine<'_>) -> Result<(u64, u64), Why>
+        ensures is { (bytes : List ℕ) → IsOf line.now bytes → Gives (λ p. p) result (assigned (widths_of is_state self.now.items) self.now.states_given bytes) }
         ensures inside { IfOk result (λ p. p.0 < length (places is_state 0 self.now.items)) }
         ensures fits { IfOk result (λ p. IfSome (width_at self.now.items (slice_index (places is_state 0 self.now.items) p.0)) (λ n. p.1 < 2 ^ n)) }
     {
@@ -138,13 +138,13 @@ impl<'a> WordPlay<'a> {
             self.model,
             self.model.states(),
             self.states_given.as_slice(),
-            fields,
+            line,
         )
     }
 
     /// The word that a line gives to an input in the open frame, or why it gives none.
-    fn input_word(&self, fields: &FieldScan) -> Result<(u64, u64), Why>
-        ensures is { (line : List ℕ) → AreFields fields.now line → Gives (λ p. p) result (assigned (widths_of is_input self.now.items) self.now.inputs_given line) }
+    fn input_word(&self, line: &WholeLine<'_>) -> Result<(u64, u64), Why>
+        ensures is { (bytes : List ℕ) → IsOf line.now bytes → Gives (λ p. p) result (assigned (widths_of is_input self.now.items) self.now.inputs_given bytes) }
         ensures inside { IfOk result (λ p. p.0 < length (places is_input 0 self.now.items)) }
         ensures fits { IfOk result (λ p. IfSome (width_at self.now.items (slice_index (places is_input 0 self.now.items) p.0)) (λ n. p.1 < 2 ^ n)) }
     {
@@ -153,7 +153,7 @@ impl<'a> WordPlay<'a> {
             self.model,
             self.model.inputs(),
             self.inputs_given.as_slice(),
-            fields,
+            line,
         )
     }
 
@@ -178,13 +178,13 @@ impl<'a> WordPlay<'a> {
     }
 
     /// Gives a state the word of a line in the open part, or answers why the line gives none.
-    pub(crate) fn assign_state(&mut self, fields: &FieldScan) -> Result<(), Why>
-        ensures line { (frames : List FrameWords) (before : List Assignment) (line : List ℕ) → Plays self.old.items frames (record { states = pairs_of before; inputs = [] }) self.old → AreFields fields.now line → MayGive self.old.items frames line → GivesState self.old.items frames before line self.new result }
+    pub(crate) fn assign_state(&mut self, line: &WholeLine<'_>) -> Result<(), Why>
+        ensures line { (frames : List FrameWords) (before : List Assignment) (bytes : List ℕ) → Plays self.old.items frames (record { states = pairs_of before; inputs = [] }) self.old → IsOf line.now bytes → MayGive self.old.items frames bytes → GivesState self.old.items frames before bytes self.new result }
         ensures same { self.new.items ≡ self.old.items }
         ensures err { OnErr result (self.new ≡ self.old) }
     {
         let _items = self.model.items();
-        match self.state_word(fields) {
+        match self.state_word(line) {
             Ok(given) => {
                 self.give_state(given.0 as usize, given.1);
                 Ok(())
@@ -194,13 +194,13 @@ impl<'a> WordPlay<'a> {
     }
 
     /// Gives an input the word of a line in the open part, or answers why the line gives none.
-    pub(crate) fn assign_input(&mut self, fields: &FieldScan) -> Result<(), Why>
-        ensures line { (frames : List FrameWords) (states : List (ℕ × ℕ)) (before : List Assignment) (line : List ℕ) → Plays self.old.items frames (record { states = states; inputs = pairs_of before }) self.old → AreFields fields.now line → GivesInput self.old.items frames states before line self.new result }
+    pub(crate) fn assign_input(&mut self, line: &WholeLine<'_>) -> Result<(), Why>
+        ensures line { (frames : List FrameWords) (states : List (ℕ × ℕ)) (before : List Assignment) (bytes : List ℕ) → Plays self.old.items frames (record { states = states; inputs = pairs_of before }) self.old → IsOf line.now bytes → GivesInput self.old.items frames states before bytes self.new result }
         ensures same { self.new.items ≡ self.old.items }
         ensures err { OnErr result (self.new ≡ self.old) }
     {
         let _items = self.model.items();
-        match self.input_word(fields) {
+        match self.input_word(line) {
             Ok(given) => {
                 self.give_input(given.0 as usize, given.1);
                 Ok(())

@@ -1,8 +1,8 @@
 //! The lines of a witness over a model, admitted one after the other.
-ghost use Rattle.std.specs.Prelude.{◌≡◌, ℕ, ◌&&◌, ◌<◌, ◌-◌, ◌^◌, Bool, List, [], ◌∷◌, ◌++◌, IfOk, OnErr, length};
+ghost use Rattle.std.specs.Prelude.{◌≡◌, ℕ, ◌&&◌, ◌<◌, ◌-◌, ◌^◌, Bool, List, [], ◌∷◌, ◌++◌, IfOk, OnErr, length, slice_index};
 ghost use Rattle.btor2.specs.declared.item.Item.{Item};
-ghost use Rattle.btor2.specs.Items.{is_bad};
-ghost use Rattle.btor2.specs.Lists.{first_init_without_next};
+ghost use Rattle.btor2.specs.Items.{is_state, is_bad};
+ghost use Rattle.btor2.specs.Lists.{places, is_free_at, first_init_without_next};
 ghost use Rattle.btor2.specs.Trace.{Frame};
 ghost use Rattle.runs.specs.Refusal.{AnswersNew};
 ghost use Rattle.witness.specs.Texts.{has_free, shape_of};
@@ -11,15 +11,14 @@ ghost use Rattle.base.specs.Decimals.{number_of};
 ghost use Rattle.witness.specs.Judgements.{nodes_of, unreached_from};
 ghost use Rattle.witness.specs.Fits.{NoneIsSet, RisesAmong, AreClaimed};
 ghost use Rattle.witness.specs.declared.place.Place.TheVariants as place;
-ghost use Rattle.witness.specs.WordScans.{AreFields, IsOfPart, IsScanned};
-ghost use Rattle.witness.specs.WordStands.{Reads, GivesLine, Tells, is_in_parts, place_of};
+ghost use Rattle.witness.specs.WordScans.{IsOf};
+ghost use Rattle.witness.specs.WordStands.{Reads, GivesLine, is_alone, place_of};
 
 use crate::place::Place;
 use crate::verdicts::first_unreached;
 use crate::why::Why;
 use crate::word_claims::ClaimScan;
-use crate::word_fields::FieldScan;
-use crate::word_line::LineScan;
+use crate::word_line::WholeLine;
 use crate::word_play::{WordPlay, no_flags};
 use btor2::Model;
 use runs::NewFault;
@@ -50,25 +49,34 @@ impl<'a> std::marker::Model for WordReader<'a> {
     ghost invariant = { λ q. length q.claimed.items ≡ length (places is_bad 0 q.play.items) };
 }
 
+/// Whether the state of an index is free.
+fn is_free(model: &Model, k: usize) -> bool
+    requires { k < length (places is_state 0 model.now) }
+    ensures { result ≡ is_free_at model.now (slice_index (places is_state 0 model.now) k) }
+{
+    model.is_free(k)
+}
+
 /// Whether a state of a model is free.
 fn has_free(model: &Model) -> bool
     ensures { result ≡ has_free (shape_of model.now) }
 {
     for k in 0..model.states().len() {
-        if model.is_free(k) {
+        if is_free(model, k) {
             return true;
         }
     }
     false
 }
 
-/// Whether the next line stands where parts do, or behind them.
-fn is_in_parts(place: Place) -> bool
-    ensures { result ≡ is_in_parts (place_of place) }
+/// Whether the next line is judged by its bytes alone.
+fn is_alone(place: Place) -> bool
+    ensures { result ≡ is_alone (place_of place) }
 {
     match place {
-        Place::Status | Place::Claims => false,
-        Place::Parts | Place::States | Place::Free | Place::Frame | Place::End => true,
+        Place::Claims => false,
+        Place::Status | Place::Parts | Place::States | Place::Free | Place::Frame | Place::End =>
+            true,
     }
 }
 
@@ -105,11 +113,11 @@ impl<'a> WordReader<'a> {
         self.place
     }
 
-    /// Whether the next line is admitted without its bytes having been taken: one of the parts, or behind them.
+    /// Whether the next line is admitted without its bytes having been taken: any but that of the claims.
     pub(crate) fn takes_whole_lines(&self) -> bool
-        ensures { result ≡ is_in_parts (place_of self.now.place) }
+        ensures { result ≡ is_alone (place_of self.now.place) }
     {
-        is_in_parts(self.place)
+        is_alone(self.place)
     }
 
     /// The first bad property that is claimed and rose in no closed frame.
@@ -135,29 +143,29 @@ impl<'a> WordReader<'a> {
     }
 
     /// Whether an assignment is one of a free state.
-    fn names_free(&self, fields: &FieldScan) -> bool
-        ensures { (line : List ℕ) → AreFields fields.now line → result ≡ names_free (shape_of self.now.play.items) (number_of (cut_at_space line).0) }
+    fn names_free(&self, line: &WholeLine<'_>) -> bool
+        ensures { (bytes : List ℕ) → IsOf line.now bytes → result ≡ names_free (shape_of self.now.play.items) (number_of (cut_at_space bytes).0) }
     {
         let model = self.play.model();
-        match fields.index() {
+        match line.index() {
             Some(index) => {
                 let k = index as usize;
-                k < model.states().len() && model.is_free(k)
+                k < model.states().len() && is_free(model, k)
             }
             None => false,
         }
     }
 
     /// Whether a line begins the part of states of a frame, where there is a free state.
-    fn begins_states(&self, line: &LineScan, frame: u64) -> bool
-        ensures { (bytes : List ℕ) → IsOfPart line.now bytes → frame < 2 ^ 64 - 1 → result ≡ (opens_states frame bytes && self.now.has_free) }
+    fn begins_states(&self, line: &WholeLine<'_>, frame: u64) -> bool
+        ensures { (bytes : List ℕ) → IsOf line.now bytes → frame < 2 ^ 64 - 1 → result ≡ (opens_states frame bytes && self.now.has_free) }
     {
         line.is_numbered(b'#', frame) && self.has_free
     }
 
     /// A comment or the status has ended.
-    fn admit_status(&mut self, line: &LineScan) -> Result<(), Why>
-        ensures line { (items : List Item) (r : Read) (bytes : List ℕ) → Reads items self.old r bytes → IsScanned line.now bytes → self.old.place ≡ place.Status → GivesLine items r bytes self.new result }
+    fn admit_status(&mut self, line: &WholeLine<'_>) -> Result<(), Why>
+        ensures line { (items : List Item) (r : Read) (bytes : List ℕ) → Reads items self.old r bytes → IsOf line.now bytes → self.old.place ≡ place.Status → GivesLine items r bytes self.new result }
         ensures err { OnErr result (self.new.play ≡ self.old.play) }
     {
         if line.is_comment() {
@@ -185,8 +193,8 @@ impl<'a> WordReader<'a> {
     }
 
     /// The line behind the claims has ended.
-    fn admit_parts(&mut self, line: &LineScan) -> Result<(), Why>
-        ensures line { (items : List Item) (r : Read) (bytes : List ℕ) → Reads items self.old r bytes → IsOfPart line.now bytes → self.old.place ≡ place.Parts → GivesLine items r bytes self.new result }
+    fn admit_parts(&mut self, line: &WholeLine<'_>) -> Result<(), Why>
+        ensures line { (items : List Item) (r : Read) (bytes : List ℕ) → Reads items self.old r bytes → IsOf line.now bytes → self.old.place ≡ place.Parts → GivesLine items r bytes self.new result }
         ensures err { OnErr result (self.new.play ≡ self.old.play) }
     {
         if line.is_numbered(b'#', 0) {
@@ -201,8 +209,8 @@ impl<'a> WordReader<'a> {
     }
 
     /// A line of the states' part of the first frame has ended, or the one behind it.
-    fn admit_states(&mut self, line: &LineScan) -> Result<(), Why>
-        ensures line { (items : List Item) (r : Read) (bytes : List ℕ) → Reads items self.old r bytes → IsOfPart line.now bytes → self.old.place ≡ place.States → GivesLine items r bytes self.new result }
+    fn admit_states(&mut self, line: &WholeLine<'_>) -> Result<(), Why>
+        ensures line { (items : List Item) (r : Read) (bytes : List ℕ) → Reads items self.old r bytes → IsOf line.now bytes → self.old.place ≡ place.States → GivesLine items r bytes self.new result }
         ensures err { OnErr result (self.new.play ≡ self.old.play) }
     {
         if line.is_numbered(b'@', 0) {
@@ -212,12 +220,12 @@ impl<'a> WordReader<'a> {
         if line.begins_part() {
             return Err(Why::FrameOrder);
         }
-        self.play.assign_state(line.fields())
+        self.play.assign_state(line)
     }
 
     /// The same of a later frame.
-    fn admit_free(&mut self, line: &LineScan) -> Result<(), Why>
-        ensures line { (items : List Item) (r : Read) (bytes : List ℕ) → Reads items self.old r bytes → IsOfPart line.now bytes → self.old.place ≡ place.Free → length r.closed < 2 ^ 62 → GivesLine items r bytes self.new result }
+    fn admit_free(&mut self, line: &WholeLine<'_>) -> Result<(), Why>
+        ensures line { (items : List Item) (r : Read) (bytes : List ℕ) → Reads items self.old r bytes → IsOf line.now bytes → self.old.place ≡ place.Free → length r.closed < 2 ^ 62 → GivesLine items r bytes self.new result }
         ensures err { OnErr result (self.new.play ≡ self.old.play) }
     {
         if line.is_numbered(b'@', self.play.frames()) {
@@ -227,15 +235,15 @@ impl<'a> WordReader<'a> {
         if line.begins_part() {
             return Err(Why::FrameOrder);
         }
-        if !self.names_free(line.fields()) {
+        if !self.names_free(line) {
             return Err(Why::BadIndex);
         }
-        self.play.assign_state(line.fields())
+        self.play.assign_state(line)
     }
 
     /// A line behind that which opens a frame has ended.
-    fn admit_frame(&mut self, line: &LineScan) -> Result<(), Why>
-        ensures line { (items : List Item) (r : Read) (bytes : List ℕ) → Reads items self.old r bytes → IsOfPart line.now bytes → self.old.place ≡ place.Frame → length r.closed < 2 ^ 62 → GivesLine items r bytes self.new result }
+    fn admit_frame(&mut self, line: &WholeLine<'_>) -> Result<(), Why>
+        ensures line { (items : List Item) (r : Read) (bytes : List ℕ) → Reads items self.old r bytes → IsOf line.now bytes → self.old.place ≡ place.Frame → length r.closed < 2 ^ 62 → GivesLine items r bytes self.new result }
         ensures err { OnErr result (self.new.play ≡ self.old.play) }
     {
         let next = self.play.frames().saturating_add(1);
@@ -256,12 +264,12 @@ impl<'a> WordReader<'a> {
         if line.begins_part() {
             return Err(Why::FrameOrder);
         }
-        self.play.assign_input(line.fields())
+        self.play.assign_input(line)
     }
 
     /// The line has ended: it is admitted, or why it is not.
-    pub(crate) fn admit(&mut self, line: &LineScan) -> Result<(), Why>
-        ensures line { (items : List Item) (r : Read) (bytes : List ℕ) → Reads items self.old r bytes → Tells (place_of self.old.place) line.now bytes → length r.closed < 2 ^ 62 → GivesLine items r bytes self.new result }
+    pub(crate) fn admit(&mut self, line: &WholeLine<'_>) -> Result<(), Why>
+        ensures line { (items : List Item) (r : Read) (bytes : List ℕ) → Reads items self.old r bytes → IsOf line.now bytes → length r.closed < 2 ^ 62 → GivesLine items r bytes self.new result }
         ensures err { OnErr result (self.new.play ≡ self.old.play) }
     {
         match self.place {

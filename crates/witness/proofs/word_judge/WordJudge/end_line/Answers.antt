@@ -2,10 +2,9 @@ use Rattle.std.proofs.Common.{[], ◌∷◌, ◌++◌, subst, sym}
 use Rattle.base.specs.Lines.{whole_lines, unfinished}
 use Rattle.witness.specs.declared.word_line.LineScan.{LineScan}
 use Rattle.witness.specs.WordScans.{IsScanned}
-use Rattle.witness.specs.WordStands.{WordJudge, StandsFor, place_of}
+use Rattle.witness.specs.WordStands.{WordJudge, StandsFor}
 use Rattle.witness.proofs.BitJudgeLemmas.{whole_lines-end, unfinished-end, no_refusal, some_refusal}
 use Rattle.witness.proofs.WordJudgeLemmas.{line_ended, stays_refused, with_line}
-use Rattle.witness.proofs.WordReaderLemmas.{scanned_tells}
 use Rattle.witness.proofs.word_judge.WordJudge.end_line.Goals as goal
 
 pub returns-then-is_none : goal.returns-then-is_none
@@ -14,7 +13,7 @@ returns-then-is_none c items text stands =
     let now : StandsFor items j text = subst (λ (j : WordJudge). StandsFor items j text) (sym c.self.view_is) stands in
     let none = no_refusal c.self.inside.refused c.if-is_none.ensures in
     line_ended items (text ++ 10 ∷ []) (whole_lines text ++ unfinished text ∷ []) c.judge_line.new.self (whole_lines-end text) (unfinished-end text)
-    (c.judge_line.ensures.lines items (whole_lines text) (unfinished text) (with_line items (whole_lines text) (unfinished text) j c.new-self-inside.result now.lines) (scanned_tells (place_of j.reader.place) j.line (unfinished text) now.line) none)
+    (c.judge_line.ensures.lines items (whole_lines text) (unfinished text) (with_line items (whole_lines text) (unfinished text) j c.new-self-inside.result now.lines) now.line none)
     (subst (λ (s : LineScan). IsScanned s []) (sym c.judge_line.ensures.line) c.new-self-inside.ensures)
 
 pub returns-else-is_none : goal.returns-else-is_none

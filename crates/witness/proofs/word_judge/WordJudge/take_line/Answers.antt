@@ -4,9 +4,9 @@ use Rattle.witness.specs.declared.word_line.LineScan.{LineScan}
 use Rattle.witness.specs.Texts.{shape_of}
 use Rattle.witness.specs.WordReadings.{nothing_admitted, lines_behind}
 use Rattle.witness.specs.WordScans.{IsScanned}
-use Rattle.witness.specs.WordStands.{WordJudge, StandsFor, IsOfLines, Tells, is_in_parts, place_of}
+use Rattle.witness.specs.WordStands.{WordJudge, StandsFor, IsOfLines, is_alone, place_of}
 use Rattle.witness.proofs.BitJudgeLemmas.{whole_lines-line_end, unfinished-line_end, no_refusal, some_refusal}
-use Rattle.witness.proofs.WordReaderLemmas.{part_tells, reads_of_other}
+use Rattle.witness.proofs.WordReaderLemmas.{reads_of_other}
 use Rattle.witness.proofs.WordJudgeLemmas.{line_ended, stays_refused, with_bytes}
 use Rattle.witness.proofs.word_judge.WordJudge.take_line.Goals as goal
 
@@ -25,13 +25,12 @@ returns-then-takes_whole_lines c items text line stands =
     let j : WordJudge = c.args.self.now in
     let bytes : List ℕ = c.args.bytes.now in
     let none = sym (ap (λ (j : WordJudge). j.refused) c.self.view_is) ∙ no_refusal c.self.inside.refused (sym c.if-is_some.ensures) in
-    let parts : is_in_parts (place_of j.reader.place) ≡ true = c.takes_whole_lines.ensures.parts c.if-takes_whole_lines.true in
+    let alone : is_alone (place_of j.reader.place) ≡ true = c.takes_whole_lines.ensures.alone c.if-takes_whole_lines.true in
     let empty : unfinished text ≡ [] = c.takes_whole_lines.ensures.begins items text stands c.if-takes_whole_lines.true in
     let here : IsOfLines items j (whole_lines text) (unfinished text ++ bytes) =
     with_bytes items (whole_lines text) (unfinished text) (unfinished text ++ bytes) j stands.lines
-    (λ none. reads_of_other items (lines_behind (shape_of items) nothing_admitted (whole_lines text)).read (unfinished text) j.reader (stands.lines.reads none) (unfinished text ++ bytes) parts) in
-    let told : Tells (place_of j.reader.place) c.of_part.result (unfinished text ++ bytes) =
-    subst (λ (l : List ℕ). Tells (place_of j.reader.place) c.of_part.result (l ++ bytes)) (sym empty) (part_tells (place_of j.reader.place) c.of_part.result bytes parts c.of_part.ensures) in
+    (λ none. reads_of_other items (lines_behind (shape_of items) nothing_admitted (whole_lines text)).read (unfinished text) j.reader (stands.lines.reads none) (unfinished text ++ bytes) alone) in
+    let told : bytes ≡ unfinished text ++ bytes = ap (λ (l : List ℕ). l ++ bytes) (sym empty) in
     line_ended items (text ++ (bytes ++ 10 ∷ [])) (whole_lines text ++ (unfinished text ++ bytes) ∷ []) c.judge_line.new.self (whole_lines-line_end text bytes line) (unfinished-line_end text bytes)
     (c.judge_line.ensures.lines items (whole_lines text) (unfinished text ++ bytes) here told none)
     (subst (λ (s : LineScan). IsScanned s []) (sym c.judge_line.ensures.line) (subst (IsScanned j.line) empty stands.line))

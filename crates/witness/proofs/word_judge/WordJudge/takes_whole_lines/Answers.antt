@@ -1,11 +1,11 @@
 use Rattle.std.proofs.Common.{subst, sym, ap, ◌∙◌}
 use Rattle.base.specs.Lines.{unfinished}
-use Rattle.witness.specs.WordStands.{WordJudge, StandsFor, is_in_parts, place_of}
+use Rattle.witness.specs.WordStands.{WordJudge, StandsFor, is_alone, place_of}
 use Rattle.witness.proofs.WordJudgeLemmas.{nothing_there}
 use Rattle.witness.proofs.word_judge.WordJudge.takes_whole_lines.Goals as goal
 
-pub returns-clause-parts : goal.returns-clause-parts
-returns-clause-parts c is = ap (λ (j : WordJudge). is_in_parts (place_of j.reader.place)) (sym c.self.view_is) ∙ (sym c.takes_whole_lines.ensures ∙ c.if-not-takes_whole_lines.false)
+pub returns-clause-alone : goal.returns-clause-alone
+returns-clause-alone c is = ap (λ (j : WordJudge). is_alone (place_of j.reader.place)) (sym c.self.view_is) ∙ (sym c.takes_whole_lines.ensures ∙ c.if-not-takes_whole_lines.false)
 
 pub returns-clause-begins : goal.returns-clause-begins
 returns-clause-begins c items text stands is =

@@ -55,5 +55,5 @@ returns-clause-line c items r bytes reads scans there few =
     let at : q.place ≡ code.Frame = ap (λ (q : WordReader). q.place) c.self.view_is ∙ there in
     let plays : Plays items (map frame_words r.closed) (record { states = pairs_of (unwrap_or r.states []); inputs = pairs_of r.open_part }) q.play = plays_at items r bytes q now code.Frame at in
     let count : c.saturating_add-next.result ≡ suc (length r.closed) = c.saturating_add-next.ensures ∙ omega (arith, c.frames.ensures, plays.count, length-map r.closed frame_words, few) in
-    let gives : GivesInput items (map frame_words r.closed) (pairs_of (unwrap_or r.states [])) r.open_part bytes c.assign_input.new.self c.assign_input.result = subst (λ (l : List Item). Plays l (map frame_words r.closed) (record { states = pairs_of (unwrap_or r.states []); inputs = pairs_of r.open_part }) q.play → GivesInput l (map frame_words r.closed) (pairs_of (unwrap_or r.states [])) r.open_part bytes c.assign_input.new.self c.assign_input.result) plays.items_are (λ playing. c.assign_input.ensures.line (map frame_words r.closed) (pairs_of (unwrap_or r.states [])) r.open_part bytes playing (c.fields.ensures bytes scans (sym (c.begins_part.ensures bytes scans) ∙ c.if-begins_part.false))) plays in
+    let gives : GivesInput items (map frame_words r.closed) (pairs_of (unwrap_or r.states [])) r.open_part bytes c.assign_input.new.self c.assign_input.result = subst (λ (l : List Item). Plays l (map frame_words r.closed) (record { states = pairs_of (unwrap_or r.states []); inputs = pairs_of r.open_part }) q.play → GivesInput l (map frame_words r.closed) (pairs_of (unwrap_or r.states [])) r.open_part bytes c.assign_input.new.self c.assign_input.result) plays.items_are (λ playing. c.assign_input.ensures.line (map frame_words r.closed) (pairs_of (unwrap_or r.states [])) r.open_part bytes playing scans) plays in
     input_more items r bytes q now c.assign_input.new.self c.assign_input.result at (ap (λ (n : ℕ). opens_frame n bytes) (sym count) ∙ (sym (c.is_numbered.ensures bytes scans (omega (arith, count, few))) ∙ c.if-is_numbered.false)) (ap (λ (n : ℕ). opens_states n bytes && q.has_free) (sym count) ∙ (ap (λ (w : WordReader). opens_states c.saturating_add-next.result bytes && w.has_free) c.self.view_is ∙ (sym (c.begins_states.ensures bytes scans (omega (arith, count, few))) ∙ c.if-begins_states.false))) (sym (c.is_end.ensures bytes scans) ∙ c.if-is_end.false) (sym (c.begins_part.ensures bytes scans) ∙ c.if-begins_part.false) gives

@@ -36,7 +36,7 @@ returns-then-not-names_free-clause-line c items r bytes reads scans there few =
     let at : q.place ≡ code.Free = ap (λ (q : WordReader). q.place) c.self.view_is ∙ there in
     let plays : Plays items (map frame_words r.closed) (record { states = pairs_of r.open_part; inputs = [] }) q.play = plays_at items r bytes q now code.Free at in
     let count : c.frames.result ≡ length r.closed = c.frames.ensures ∙ (plays.count ∙ length-map r.closed frame_words) in
-    let named : names_free (shape_of items) (number_of (cut_at_space bytes).0) ≡ c.names_free.result = sym (c.names_free.ensures bytes (c.fields.ensures bytes scans (sym (c.begins_part.ensures bytes scans) ∙ c.if-begins_part.false)) ∙ ap (λ (l : List Item). names_free (shape_of l) (number_of (cut_at_space bytes).0)) (plays_at items r bytes c.args.self.now reads code.Free there).items_are) in
+    let named : names_free (shape_of items) (number_of (cut_at_space bytes).0) ≡ c.names_free.result = sym (c.names_free.ensures bytes scans ∙ ap (λ (l : List Item). names_free (shape_of l) (number_of (cut_at_space bytes).0)) (plays_at items r bytes c.args.self.now reads code.Free there).items_are) in
     not_free_refused items r bytes q now at (ap (λ (n : ℕ). opens_frame n bytes) (sym count) ∙ (sym (c.is_numbered.ensures bytes scans (omega (arith, count, few))) ∙ c.if-is_numbered.false)) (sym (c.begins_part.ensures bytes scans) ∙ c.if-begins_part.false) (named ∙ c.if-not-names_free.true)
 
 pub returns-clause-line : goal.returns-clause-line
@@ -46,6 +46,6 @@ returns-clause-line c items r bytes reads scans there few =
     let at : q.place ≡ code.Free = ap (λ (q : WordReader). q.place) c.self.view_is ∙ there in
     let plays : Plays items (map frame_words r.closed) (record { states = pairs_of r.open_part; inputs = [] }) q.play = plays_at items r bytes q now code.Free at in
     let count : c.frames.result ≡ length r.closed = c.frames.ensures ∙ (plays.count ∙ length-map r.closed frame_words) in
-    let named : names_free (shape_of items) (number_of (cut_at_space bytes).0) ≡ c.names_free.result = sym (c.names_free.ensures bytes (c.fields.ensures bytes scans (sym (c.begins_part.ensures bytes scans) ∙ c.if-begins_part.false)) ∙ ap (λ (l : List Item). names_free (shape_of l) (number_of (cut_at_space bytes).0)) (plays_at items r bytes c.args.self.now reads code.Free there).items_are) in
-    let gives : GivesState items (map frame_words r.closed) r.open_part bytes c.assign_state.new.self c.assign_state.result = subst (λ (l : List Item). Plays l (map frame_words r.closed) (record { states = pairs_of r.open_part; inputs = [] }) q.play → MayGive l (map frame_words r.closed) bytes → GivesState l (map frame_words r.closed) r.open_part bytes c.assign_state.new.self c.assign_state.result) plays.items_are (λ playing may. c.assign_state.ensures.line (map frame_words r.closed) r.open_part bytes playing (c.fields-2.ensures bytes scans (sym (c.begins_part.ensures bytes scans) ∙ c.if-begins_part.false)) may) plays (may_give_free items r bytes q now (map frame_words r.closed) (named ∙ c.if-not-names_free.false)) in
+    let named : names_free (shape_of items) (number_of (cut_at_space bytes).0) ≡ c.names_free.result = sym (c.names_free.ensures bytes scans ∙ ap (λ (l : List Item). names_free (shape_of l) (number_of (cut_at_space bytes).0)) (plays_at items r bytes c.args.self.now reads code.Free there).items_are) in
+    let gives : GivesState items (map frame_words r.closed) r.open_part bytes c.assign_state.new.self c.assign_state.result = subst (λ (l : List Item). Plays l (map frame_words r.closed) (record { states = pairs_of r.open_part; inputs = [] }) q.play → MayGive l (map frame_words r.closed) bytes → GivesState l (map frame_words r.closed) r.open_part bytes c.assign_state.new.self c.assign_state.result) plays.items_are (λ playing may. c.assign_state.ensures.line (map frame_words r.closed) r.open_part bytes playing scans may) plays (may_give_free items r bytes q now (map frame_words r.closed) (named ∙ c.if-not-names_free.false)) in
     free_more items r bytes q now c.assign_state.new.self c.assign_state.result at (ap (λ (n : ℕ). opens_frame n bytes) (sym count) ∙ (sym (c.is_numbered.ensures bytes scans (omega (arith, count, few))) ∙ c.if-is_numbered.false)) (sym (c.begins_part.ensures bytes scans) ∙ c.if-begins_part.false) (named ∙ c.if-not-names_free.false) gives

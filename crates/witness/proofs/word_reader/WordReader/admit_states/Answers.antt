@@ -27,5 +27,5 @@ returns-clause-line c items r bytes reads scans there =
     let now : Reads items q r bytes = subst (λ (q : WordReader). Reads items q r bytes) (sym c.self.view_is) reads in
     let at : q.place ≡ code.States = ap (λ (q : WordReader). q.place) c.self.view_is ∙ there in
     let plays : Plays items (map frame_words r.closed) (record { states = pairs_of r.open_part; inputs = [] }) q.play = plays_at items r bytes q now code.States at in
-    let gives : GivesState items (map frame_words r.closed) r.open_part bytes c.assign_state.new.self c.assign_state.result = subst (λ (l : List Item). Plays l (map frame_words r.closed) (record { states = pairs_of r.open_part; inputs = [] }) q.play → MayGive l (map frame_words r.closed) bytes → GivesState l (map frame_words r.closed) r.open_part bytes c.assign_state.new.self c.assign_state.result) plays.items_are (λ playing may. c.assign_state.ensures.line (map frame_words r.closed) r.open_part bytes playing (c.fields.ensures bytes scans (sym (c.begins_part.ensures bytes scans) ∙ c.if-begins_part.false)) may) plays (may_give_first items r bytes q now at) in
+    let gives : GivesState items (map frame_words r.closed) r.open_part bytes c.assign_state.new.self c.assign_state.result = subst (λ (l : List Item). Plays l (map frame_words r.closed) (record { states = pairs_of r.open_part; inputs = [] }) q.play → MayGive l (map frame_words r.closed) bytes → GivesState l (map frame_words r.closed) r.open_part bytes c.assign_state.new.self c.assign_state.result) plays.items_are (λ playing may. c.assign_state.ensures.line (map frame_words r.closed) r.open_part bytes playing scans may) plays (may_give_first items r bytes q now at) in
     state_more items r bytes q now c.assign_state.new.self c.assign_state.result at (sym (c.is_numbered.ensures bytes scans (omega arith)) ∙ c.if-is_numbered.false) (sym (c.begins_part.ensures bytes scans) ∙ c.if-begins_part.false) gives
