@@ -17,6 +17,8 @@ mod devices;
 #[cfg(test)]
 mod gate_makers;
 #[cfg(test)]
+mod hostile_devices;
+#[cfg(test)]
 mod lowerings;
 #[cfg(test)]
 mod model_texts;
