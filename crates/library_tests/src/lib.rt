@@ -29,6 +29,8 @@ mod no_memory_left;
 #[cfg(test)]
 mod operator_tables;
 #[cfg(test)]
+mod refused_memory;
+#[cfg(test)]
 mod samples;
 #[cfg(test)]
 mod witnesses;
