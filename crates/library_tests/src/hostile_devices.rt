@@ -7,6 +7,7 @@ use crate::samples::{BOUNDED, COUNTER, Comparing, FOLLOWER, KEEPER, TOGGLER, TOG
 use aigertext::Form;
 use base::{Chop, DeviceFault, FailAt, Sink, Source};
 use blast::{ConvertFault, convert, lower};
+use btor2::Model;
 use lift::lift;
 use std::alloc::Global;
 use witness::{Judgement, Why, judge_bits, judge_words};
@@ -77,6 +78,14 @@ fn copy_circuit<S: Source, K: Sink>(
     }
 }
 
+/// Judges a witness over a model.
+fn judge_over<S: Source>(alloc: Global, model: &Model, source: &mut S, wanted: Judgement) -> End {
+    match judge_words(alloc, model, source) {
+        Ok(judgement) => end_of_judging(judgement, wanted),
+        Err(fault) => Err(fault.number()),
+    }
+}
+
 /// Judges a witness over the model of a text.
 fn judge_over_model<S: Source>(
     alloc: Global,
@@ -84,13 +93,9 @@ fn judge_over_model<S: Source>(
     source: &mut S,
     wanted: Judgement,
 ) -> End {
-    let model = match btor2text::read(alloc, &mut model.as_bytes()) {
-        Ok(model) => model,
-        Err(_) => return Err(OTHER),
-    };
-    match judge_words(alloc, &model, source) {
-        Ok(judgement) => end_of_judging(judgement, wanted),
-        Err(fault) => Err(fault.number()),
+    match btor2text::read(alloc, &mut model.as_bytes()) {
+        Ok(model) => judge_over(alloc, &model, source, wanted),
+        Err(_) => Err(OTHER),
     }
 }
 
@@ -125,6 +130,24 @@ fn write_circuit<S: Source, K: Sink>(
     }
 }
 
+/// Lifts a witness of a circuit that lowers a model.
+fn lift_over<S: Source, K: Sink>(
+    alloc: Global,
+    model: &Model,
+    source: &mut S,
+    sink: &mut K,
+    wanted: Judgement,
+) -> End {
+    let circuit = match lower(alloc, model) {
+        Ok(circuit) => circuit,
+        Err(_) => return Err(OTHER),
+    };
+    match lift(alloc, model, &circuit, source, sink) {
+        Ok(judgement) => end_of_judging(judgement, wanted),
+        Err(fault) => Err(fault.number()),
+    }
+}
+
 /// Lifts a witness of the circuit of a text's model.
 fn lift_over_model<S: Source, K: Sink>(
     alloc: Global,
@@ -133,17 +156,9 @@ fn lift_over_model<S: Source, K: Sink>(
     sink: &mut K,
     wanted: Judgement,
 ) -> End {
-    let model = match btor2text::read(alloc, &mut model.as_bytes()) {
-        Ok(model) => model,
-        Err(_) => return Err(OTHER),
-    };
-    let circuit = match lower(alloc, &model) {
-        Ok(circuit) => circuit,
-        Err(_) => return Err(OTHER),
-    };
-    match lift(alloc, &model, &circuit, source, sink) {
-        Ok(judgement) => end_of_judging(judgement, wanted),
-        Err(fault) => Err(fault.number()),
+    match btor2text::read(alloc, &mut model.as_bytes()) {
+        Ok(model) => lift_over(alloc, &model, source, sink, wanted),
+        Err(_) => Err(OTHER),
     }
 }
 
