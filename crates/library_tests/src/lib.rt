@@ -13,6 +13,8 @@ mod circuit_texts;
 #[cfg(test)]
 mod circuits;
 #[cfg(test)]
+mod cut_texts;
+#[cfg(test)]
 mod devices;
 #[cfg(test)]
 mod gate_makers;

@@ -114,12 +114,19 @@ fn is_counter(alloc: Global, circuit: &Circuit) -> Result<bool, Fail> {
     Ok(judge_bits(alloc, circuit, &mut witness)? == Judgement::Accepted { frames: 4 })
 }
 
-/// Whether the counter is lowered; or no memory is told.
-fn is_counter_lowered(alloc: Global) -> Result<bool, Fail> {
-    let model = model_of(alloc, COUNTER)?;
-    match lower(alloc, &model) {
+/// Whether a model is lowered as the counter; or no memory is told.
+fn is_lowered_as_counter(alloc: Global, model: &Model) -> Result<bool, Fail> {
+    match lower(alloc, model) {
         Ok(circuit) => is_counter(alloc, &circuit),
         Err(fault) => Ok(fault == LowerFault::NoMemory),
+    }
+}
+
+/// Whether the counter is lowered; or no memory is told.
+fn is_counter_lowered(alloc: Global) -> Result<bool, Fail> {
+    match btor2text::read(alloc, &mut COUNTER.as_bytes()) {
+        Ok(model) => is_lowered_as_counter(alloc, &model),
+        Err(fault) => Ok(fault.why == btor2text::Why::NoMemory),
     }
 }
 

@@ -120,10 +120,16 @@ fn are_all_pushed(alloc: Global, model: &mut Model, items: &[Item]) -> Option<bo
     Some(is_front(model, 13))
 }
 
+/// The same, on a model of their own.
+fn make_a_model(alloc: Global, items: &[Item]) -> Option<bool> {
+    let mut model = Model::new(alloc);
+    are_all_pushed(alloc, &mut model, items)
+}
+
 /// Whether each item of the bounded counter is pushed.
 fn are_pushed(alloc: Global) -> Option<bool> {
     match btor2text::read(alloc, &mut BOUNDED.as_bytes()) {
-        Ok(bounded) => are_all_pushed(alloc, &mut Model::new(alloc), bounded.items()),
+        Ok(bounded) => make_a_model(alloc, bounded.items()),
         Err(_) => None,
     }
 }
