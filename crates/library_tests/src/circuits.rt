@@ -6,7 +6,7 @@ use std::test::Fail;
 
 /// A call on a circuit, with the numbers of literals.
 #[derive(Clone, Copy)]
-enum Call {
+pub(crate) enum Call {
     /// The latch at a position is set, where there is one.
     Latch(usize, u32, Reset),
     /// A gate is pushed, and answered with the first number.
@@ -30,7 +30,7 @@ fn literals(alloc: Global, numbers: &[u32]) -> Result<Vec<Lit>, AllocError> {
 }
 
 /// Does a call.
-fn done(alloc: Global, circuit: &mut Circuit, call: Call) -> Result<(), CircuitFault> {
+pub(crate) fn done(alloc: Global, circuit: &mut Circuit, call: Call) -> Result<(), CircuitFault> {
     match call {
         Call::Latch(position, next, reset) => {
             if position >= circuit.latches().len() {
@@ -215,7 +215,7 @@ fn faults_are_printed(rt: HostRuntime) -> Result<(), Fail> {
 
 /// A line of a file in the ascii form, with the numbers of literals.
 #[derive(Clone, Copy)]
-enum Line {
+pub(crate) enum Line {
     Input(u32),
     Latch(u32, u32, Reset),
     Gate(u32, u32, u32),
@@ -248,7 +248,7 @@ fn added(alloc: Global, lines: &mut Loose, line: Line) -> Result<(), CircuitFaul
 }
 
 /// The lists of some lines.
-fn lists_of(alloc: Global, list: &[Line]) -> Result<Loose, CircuitFault> {
+pub(crate) fn lists_of(alloc: Global, list: &[Line]) -> Result<Loose, CircuitFault> {
     let mut lines = Loose::new(alloc);
     for line in list {
         added(alloc, &mut lines, *line)?;
@@ -291,7 +291,7 @@ fn lines_are_added_and_others_refused(rt: HostRuntime) -> Result<(), Fail> {
 }
 
 /// An input 2, two justice properties with one literal in all, and gates in reverse order.
-const IN_REVERSE: [Line; 6] = [
+pub(crate) const IN_REVERSE: [Line; 6] = [
     Line::Input(2),
     Line::Justice(&[]),
     Line::Justice(&[1]),

@@ -13,9 +13,13 @@ mod circuit_texts;
 #[cfg(test)]
 mod circuits;
 #[cfg(test)]
+mod cut_texts;
+#[cfg(test)]
 mod devices;
 #[cfg(test)]
 mod gate_makers;
+#[cfg(test)]
+mod hostile_devices;
 #[cfg(test)]
 mod lowerings;
 #[cfg(test)]
@@ -26,6 +30,8 @@ mod models;
 mod no_memory_left;
 #[cfg(test)]
 mod operator_tables;
+#[cfg(test)]
+mod refused_memory;
 #[cfg(test)]
 mod samples;
 #[cfg(test)]

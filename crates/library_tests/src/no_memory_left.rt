@@ -2,16 +2,19 @@
 //! later one is; what a test stands on may be refused first, which ends it with that error. What takes no memory answers as
 //! ever, and what takes some tells that none was there, and has read and written nothing then. That there is an answer with
 //! ample memory is shown elsewhere. `tests/refused_memory.py` refuses the allocations.
-use crate::samples::{BOUNDED, COUNTER, Comparing, FOLLOWER, GATE, KEEPER, TOGGLES};
+use crate::samples::{
+    BOUNDED, COUNTER, Comparing, FOLLOWER, GATE, KEEPER, KEEPS, TOGGLER, TOGGLES,
+};
 use aiger::Circuit;
 use aigertext::{Form, Why, read, write};
-use blast::{LowerFault, lower};
+use base::VecSink;
+use blast::{ConvertFault, LowerFault, convert, lower};
 use btor2::Model;
 use lift::{LiftFault, lift};
 use runs::NewFault;
 use std::alloc::Global;
 use std::test::Fail;
-use witness::{BitJudge, Judgement, WordJudge};
+use witness::{BitJudge, Judgement, WordJudge, judge_bits};
 
 /// The model of a text.
 fn model_of(alloc: Global, text: &str) -> Result<Model, Fail> {
@@ -19,8 +22,9 @@ fn model_of(alloc: Global, text: &str) -> Result<Model, Fail> {
 }
 
 /// The circuit of a text.
-fn circuit_of(alloc: Global, text: &str) -> Result<Circuit, Fail> {
-    Ok(read(alloc, &mut text.as_bytes())?)
+fn circuit_of(alloc: Global, text: &[u8]) -> Result<Circuit, Fail> {
+    let mut source = text;
+    Ok(read(alloc, &mut source)?)
 }
 
 /// Whether the text of a model is read, and written again as it is; or no memory is told, of no line.
@@ -84,6 +88,67 @@ fn circuits_are_read_and_written(rt: HostRuntime) {
     for (text, form, spelled) in &CIRCUITS {
         assert!(rt; is_spelled(rt.alloc(), text, *form, spelled));
     }
+}
+
+/// Whether no memory is told before anything was written.
+fn is_want_of_memory(fault: ConvertFault) -> bool {
+    match fault {
+        ConvertFault::Read(fault) => fault.line == 0 && fault.why == btor2text::Why::NoMemory,
+        ConvertFault::Lower(fault) => fault == LowerFault::NoMemory,
+        ConvertFault::Write(_) => false,
+    }
+}
+
+/// Whether the circuit of a model is written so; or no memory is told, and nothing was written.
+fn is_converted(alloc: Global, text: &str, written: &str) -> bool {
+    let mut sink = Comparing::new(written.as_bytes());
+    match convert(alloc, &mut text.as_bytes(), &mut sink, Form::Ascii) {
+        Ok(()) => sink.is_whole(),
+        Err(fault) => sink.is_untouched() && is_want_of_memory(fault),
+    }
+}
+
+/// Whether a circuit's bad property rises in the fourth frame from 0 on, as the counter's does.
+fn is_counter(alloc: Global, circuit: &Circuit) -> Result<bool, Fail> {
+    let mut witness = b"1\nb0\n00\n\n\n\n\n.\n".as_slice();
+    Ok(judge_bits(alloc, circuit, &mut witness)? == Judgement::Accepted { frames: 4 })
+}
+
+/// Whether a model is lowered as the counter; or no memory is told.
+fn is_lowered_as_counter(alloc: Global, model: &Model) -> Result<bool, Fail> {
+    match lower(alloc, model) {
+        Ok(circuit) => is_counter(alloc, &circuit),
+        Err(fault) => Ok(fault == LowerFault::NoMemory),
+    }
+}
+
+/// Whether the counter is lowered; or no memory is told.
+fn is_counter_lowered(alloc: Global) -> Result<bool, Fail> {
+    match btor2text::read(alloc, &mut COUNTER.as_bytes()) {
+        Ok(model) => is_lowered_as_counter(alloc, &model),
+        Err(fault) => Ok(fault.why == btor2text::Why::NoMemory),
+    }
+}
+
+/// Whether the counter's circuit is written to a sink that takes memory; or no memory is told, or that sink's fault, and
+/// nothing was written.
+fn is_counter_kept(alloc: Global) -> Result<bool, Fail> {
+    let mut sink = VecSink::new(alloc);
+    match convert(alloc, &mut COUNTER.as_bytes(), &mut sink, Form::Ascii) {
+        Ok(()) => is_counter(alloc, &circuit_of(alloc, sink.bytes())?),
+        Err(ConvertFault::Write(_)) => Ok(sink.bytes().is_empty()),
+        Err(fault) => Ok(sink.bytes().is_empty() && is_want_of_memory(fault)),
+    }
+}
+
+#[test]
+fn models_are_lowered(rt: HostRuntime) -> Result<(), Fail> {
+    assert!(rt; is_converted(rt.alloc(), KEEPER, KEEPS));
+    assert!(rt; is_converted(rt.alloc(), TOGGLER, TOGGLES));
+    let is_lowered = is_counter_lowered(rt.alloc())?;
+    let is_kept = is_counter_kept(rt.alloc())?;
+    assert!(rt; is_lowered && is_kept);
+    Ok(())
 }
 
 /// Witnesses of the counter, and what a judge that is fed them answers and has counted: words held, steps, closed frames
@@ -159,7 +224,7 @@ fn judges_bits(alloc: Global, circuit: &Circuit) -> bool {
 
 #[test]
 fn witnesses_of_circuits_are_judged(rt: HostRuntime) -> Result<(), Fail> {
-    let circuit = circuit_of(rt.alloc(), TOGGLES)?;
+    let circuit = circuit_of(rt.alloc(), TOGGLES.as_bytes())?;
     assert!(rt; judges_bits(rt.alloc(), &circuit));
     Ok(())
 }

@@ -87,7 +87,7 @@ fn widest(op: Op) -> u32
 const INPUTS: u32 = 192;
 
 /// The literals of so many inputs behind the first ones.
-fn inputs(before: u32, width: u32) -> Bits
+pub(crate) fn inputs(before: u32, width: u32) -> Bits
     requires before { before ≤ 128 }
     requires width { width ≤ 64 }
     ensures wide { length result.items ≡ width }

@@ -1,4 +1,5 @@
 //! Witnesses over small models, judged in pieces: each text is cut at every place, and fed byte by byte.
+use crate::samples::{BOUNDED, COUNTER, TOGGLER};
 use btor2::Model;
 use btor2text::read;
 use std::alloc::Global;
@@ -12,17 +13,8 @@ const WIDE: &str =
 /// A free state, one that follows it a frame later and is bad, and an input, of one bit each.
 const FOLLOWER: &str = "1 sort bitvec 1\n2 state 1\n3 state 1\n4 input 1\n5 next 1 3 2\n6 bad 3\n";
 
-/// A bit that begins with 0 and toggles, and is bad.
-const TOGGLER: &str =
-    "1 sort bitvec 1\n2 zero 1\n3 state 1 t\n4 init 1 3 2\n5 not 1 3\n6 next 1 3 5\n7 bad 3\n";
-
-/// A counter of two bits from 0 on: it is bad that it is 3.
-const COUNTER: &str =
-    "1 sort bitvec 1\n2 sort bitvec 2\n3 zero 2\n4 state 2 c\n5 init 2 4 3\n6 inc 2 4\n7 next 2 4 6\n8 const 2 11\n9 eq 1 4 8\n10 bad 9\n";
-
-/// The same counter: it is bad that it is 1, under the constraint that it is not 2.
-const BOUNDED: &str =
-    "1 sort bitvec 1\n2 sort bitvec 2\n3 zero 2\n4 state 2 c\n5 init 2 4 3\n6 inc 2 4\n7 next 2 4 6\n8 const 2 01\n9 eq 1 4 8\n10 bad 9\n11 const 2 10\n12 neq 1 4 11\n13 constraint 12\n";
+/// A bit that keeps its value, and is bad.
+const KEPT: &str = "1 sort bitvec 1\n2 state 1 t\n3 next 1 2 2\n4 bad 2\n";
 
 /// The model of a text.
 fn model_of(alloc: Global, text: &str) -> Result<Model, Fail> {
@@ -118,7 +110,13 @@ fn faults_of_texts_cut_at_any_byte(rt: HostRuntime) -> Result<(), Fail> {
 }
 
 /// Models, witnesses over them, and their judgements.
-const JUDGEMENTS: [(&str, &str, Judgement); 17] = [
+const JUDGEMENTS: [(&str, &str, Judgement); 19] = [
+    (KEPT, "sat\nb0\n@0\n.\n", Judgement::NotReached { claim: 0 }),
+    (
+        KEPT,
+        "sat\nb0\n#0\n0 1\n@0\n.\n",
+        Judgement::Accepted { frames: 1 },
+    ),
     (
         FOLLOWER,
         "sat\nb0\n#0\n1 0\n0 1\n@0\n0 0\n#1\n0 0\n@1\n0 0\n.\n",
@@ -222,11 +220,23 @@ fn is_judged(alloc: Global, model: &Model, text: &[u8], wanted: &Judgement) -> R
     Ok(judged_by_bytes(alloc, model, text)? == *wanted)
 }
 
+/// The same over the model of a text.
+fn is_judged_over(
+    alloc: Global,
+    model: &str,
+    text: &str,
+    wanted: &Judgement,
+) -> Result<bool, Fail> {
+    match read(alloc, &mut model.as_bytes()) {
+        Ok(model) => is_judged(alloc, &model, text.as_bytes(), wanted),
+        Err(_) => Ok(false),
+    }
+}
+
 #[test]
 fn judgements_of_texts_cut_at_any_byte(rt: HostRuntime) -> Result<(), Fail> {
     for (model, text, wanted) in &JUDGEMENTS {
-        let model = model_of(rt.alloc(), model)?;
-        let is_judged = is_judged(rt.alloc(), &model, text.as_bytes(), wanted)?;
+        let is_judged = is_judged_over(rt.alloc(), model, text, wanted)?;
         assert!(rt; is_judged, "{text}");
     }
     Ok(())
