@@ -18,3 +18,4 @@ pub mod SharedLemmas
 pub mod TopLemmas
 pub mod LaterLemmas
 pub mod OperatorLemmas
+pub mod RowLemmas

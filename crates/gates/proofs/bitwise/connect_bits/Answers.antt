@@ -1,13 +1,12 @@
-use Rattle.std.proofs.lemmas.Nat.{mul-le}
-use Rattle.std.proofs.Common.{◌+◌, ◌*◌, take, sym, ap, ◌∙◌, arith, length-take, ℕ, ◌<◌, ◌≤◌, length, rules}
+use Rattle.std.proofs.Common.{◌+◌, ◌*◌, take, sym, ap, ◌∙◌, arith, length-take, length, rules}
 use Rattle.aiger.specs.Literal.{literal_value}
-use Rattle.gates.specs.declared.bitwise.Connective.{Connective}
 use Rattle.gates.specs.Connect.{connected, connected_bits, connective_bound, words_bound}
 use Rattle.gates.specs.Made.{word_value, Refuses}
 use Rattle.gates.proofs.LaterLemmas.{IsDefined-of_word}
-use Rattle.gates.proofs.WordLemmas.{connected_bits-push, words_bound-is}
+use Rattle.gates.proofs.WordLemmas.{connected_bits-push}
 use Rattle.gates.proofs.LiteralLemmas.{MakesLiteral-then, MakesLiteral-same, Refuses-behind}
 use Rattle.gates.proofs.BitListLemmas.{word_value-more, word_value-below}
+use Rattle.gates.proofs.RowLemmas.{words_bound-more}
 use Rattle.gates.proofs.bitwise.connect_bits.Goals as goal
 
 pub loop-lit-preserved : goal.loop-lit-preserved
@@ -30,14 +29,10 @@ pub connect-requires-clause-right : goal.connect-requires-clause-right
 connect-requires-clause-right g c =
     IsDefined-of_word _ _ _ c.args.a.now c.loop-lit.lit-index c.lit-item.result (omega arith) (cc) c.requires.defined c.loop-lit.invariant.grows
 
--- the gates so far and of one place more fit
-few_places : (by : Connective) (i n : ℕ) → i < n → connective_bound by * i + connective_bound by ≤ words_bound by n
-few_places by i n inside = rw (← words_bound-is by n) (omega (arith, mul-le (connective_bound by) (i + 1) (connective_bound by) n (omega arith) (omega arith)))
-
 pub returns-in_err-all-clause-refused : goal.returns-in_err-all-clause-refused
 returns-in_err-all-clause-refused g c =
     let by = c.args.by in
     let n = length c.args.a.now in
     let refused : Refuses (g.G.Gates.made c.args.g.now) (g.G.Gates.made c.connect.new.g) (words_bound by n) c.in_err-all.field-0.0 =
-    Refuses-behind _ _ _ (connective_bound by * c.loop-lit.lit-index) (connective_bound by) (words_bound by n) _ (few_places by c.loop-lit.lit-index n (omega arith)) c.loop-lit.invariant.grows c.in_err-all.ensures.refused
+    Refuses-behind _ _ _ (connective_bound by * c.loop-lit.lit-index) (connective_bound by) (words_bound by n) _ (words_bound-more by c.loop-lit.lit-index n (omega arith)) c.loop-lit.invariant.grows c.in_err-all.ensures.refused
     in search rules

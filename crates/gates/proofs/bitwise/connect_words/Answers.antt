@@ -1,17 +1,13 @@
-use Rattle.std.proofs.lemmas.List.Elements.{All-nil}
-use Rattle.std.proofs.lemmas.Nat.{mul-le}
-use Rattle.std.proofs.Common.{[], length, map, refl, arith, ℕ, ◌+◌, ◌*◌, ◌<◌, ◌≤◌, rules, List, Bool}
+use Rattle.std.proofs.Common.{length, map, refl, arith, ◌*◌, rules}
 use Rattle.std.proofs.lemmas.List.{length-map}
-use Rattle.aiger.specs.Net.{IsDefined, Net}
-use Rattle.aiger.specs.Literal.{literal_value, Valuation}
+use Rattle.aiger.specs.Literal.{literal_value}
 use Rattle.gates.specs.Made.{Refuses}
-use Rattle.gates.specs.declared.bitwise.Connective.{Connective}
 use Rattle.gates.specs.Connect.{connected, connective_bound, words_bound}
 use Rattle.gates.proofs.LiteralLemmas.{Refuses-behind}
-use Rattle.gates.proofs.GrowthLemmas.{Grows-refl}
 use Rattle.gates.proofs.LaterLemmas.{IsDefined-of_word}
 use Rattle.gates.proofs.WordLemmas.{word-connected, words_bound-is}
-use Rattle.gates.proofs.BitListLemmas.{IsRow-push, MakesWord-row, IsRow}
+use Rattle.gates.proofs.BitListLemmas.{IsRow-push, MakesWord-row}
+use Rattle.gates.proofs.RowLemmas.{IsRow-start, words_bound-more}
 use Rattle.gates.proofs.bitwise.connect_words.Goals as goal
 
 pub loop-i-preserved : goal.loop-i-preserved
@@ -36,14 +32,6 @@ pub connect-requires-clause-right : goal.connect-requires-clause-right
 connect-requires-clause-right g c =
     IsDefined-of_word _ _ _ c.args.b.now.items c.loop-i.i c.index-deref-i-in-loop-i.result (omega (arith, c.requires.equal)) (rw (← c.deref-in-loop-i.ensures.0) c.index-deref-i-in-loop-i.is) c.requires.right c.loop-i.invariant.grows
 
--- no place yet
-IsRow-start : (n : Net) (cost : ℕ) (f : Valuation → Bool → Bool → Bool) (a b : List ℕ) → IsRow n n cost 0 f a b []
-IsRow-start n cost f a b = record { grows = Grows-refl n (cost * 0); wide = refl; defined = All-nil (IsDefined n); means = λ v s. refl }
-
--- the gates so far and of one place more fit
-few_places : (by : Connective) (i n : ℕ) → i < n → connective_bound by * i + connective_bound by ≤ words_bound by n
-few_places by i n inside = rw (← words_bound-is by n) (omega (arith, mul-le (connective_bound by) (i + 1) (connective_bound by) n (omega arith) (omega arith)))
-
 pub loop-i-init : goal.loop-i-init
 loop-i-init g c = let by = c.args.by in rw c.new-bits.ensures (IsRow-start _ (connective_bound by) (λ v. connected by) c.args.a.now.items c.args.b.now.items)
 
@@ -52,5 +40,5 @@ returns-in_err-connect-clause-refused g c =
     let by = c.args.by in
     let n = length c.args.a.now.items in
     let refused : Refuses (g.G.Gates.made c.args.g.now) (g.G.Gates.made c.connect.new.g) (words_bound by n) c.in_err-connect.field-0.0 =
-    Refuses-behind _ _ _ (connective_bound by * c.loop-i.i) (connective_bound by) (words_bound by n) _ (few_places by c.loop-i.i n (omega arith)) c.loop-i.invariant.grows c.in_err-connect.ensures.refused
+    Refuses-behind _ _ _ (connective_bound by * c.loop-i.i) (connective_bound by) (words_bound by n) _ (words_bound-more by c.loop-i.i n (omega arith)) c.loop-i.invariant.grows c.in_err-connect.ensures.refused
     in search rules

@@ -1,15 +1,14 @@
-use Rattle.std.proofs.lemmas.List.Elements.{All-nil}
-use Rattle.std.proofs.Common.{◌≡◌, Bool, true, false, List, [], ◌∷◌, length, map, if◌then◌else◌, refl, ap, arith, ℕ, ◌*◌, rules}
+use Rattle.std.proofs.Common.{◌≡◌, Bool, true, false, List, [], ◌∷◌, length, map, if◌then◌else◌, refl, ap, arith, ◌*◌, rules}
 use Rattle.std.proofs.lemmas.List.{length-map}
 use Rattle.base.specs.Word.{word}
-use Rattle.aiger.specs.Net.{IsDefined, Net}
-use Rattle.aiger.specs.Literal.{literal_value, Valuation}
+use Rattle.aiger.specs.Literal.{literal_value}
 use Rattle.gates.specs.Made.{Refuses}
 use Rattle.gates.proofs.LiteralLemmas.{Refuses-behind}
 use Rattle.gates.proofs.LaterLemmas.{IsDefined-of_word}
-use Rattle.gates.proofs.GrowthLemmas.{IsDefined-grown, Grows-refl}
+use Rattle.gates.proofs.GrowthLemmas.{IsDefined-grown}
 use Rattle.gates.proofs.WordLemmas.{zip_with}
-use Rattle.gates.proofs.BitListLemmas.{IsRow-push, MakesWord-row, IsRow}
+use Rattle.gates.proofs.BitListLemmas.{IsRow-push, MakesWord-row}
+use Rattle.gates.proofs.RowLemmas.{IsRow-start}
 use Rattle.gates.proofs.choices.choose.Goals as goal
 
 pub loop-i-preserved : goal.loop-i-preserved
@@ -53,12 +52,8 @@ pub mux-requires-clause-otherwise : goal.mux-requires-clause-otherwise
 mux-requires-clause-otherwise g c =
     IsDefined-of_word _ _ _ c.args.e.now.items c.loop-i.i c.index-deref-i-in-loop-i.result (omega (arith, c.requires.equal)) (rw (← c.deref-in-loop-i.ensures.0) c.index-deref-i-in-loop-i.is) c.requires.otherwise c.loop-i.invariant.grows
 
--- no place yet
-IsRow-start : (n : Net) (f : Valuation → Bool → Bool → Bool) (a b : List ℕ) → IsRow n n 3 0 f a b []
-IsRow-start n f a b = record { grows = Grows-refl n 0; wide = refl; defined = All-nil (IsDefined n); means = λ v s. refl }
-
 pub loop-i-init : goal.loop-i-init
-loop-i-init g c = let condition = c.args.c in rw c.new-bits.ensures (IsRow-start _ (λ v x y. if literal_value v condition then x else y) c.args.t.now.items c.args.e.now.items)
+loop-i-init g c = let condition = c.args.c in rw c.new-bits.ensures (IsRow-start _ 3 (λ v x y. if literal_value v condition then x else y) c.args.t.now.items c.args.e.now.items)
 
 pub returns-in_err-mux-clause-refused : goal.returns-in_err-mux-clause-refused
 returns-in_err-mux-clause-refused g c =

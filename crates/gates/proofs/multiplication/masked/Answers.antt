@@ -1,13 +1,12 @@
-use Rattle.std.proofs.lemmas.List.Elements.{All-nil}
-use Rattle.std.proofs.Common.{[], ◌&&◌, arith, ℕ, ◌*◌, length, refl, rules, List, Bool}
-use Rattle.aiger.specs.Net.{IsDefined, Net}
-use Rattle.aiger.specs.Literal.{literal_value, Valuation}
+use Rattle.std.proofs.Common.{◌&&◌, arith, ◌*◌, length, rules}
+use Rattle.aiger.specs.Literal.{literal_value}
 use Rattle.gates.specs.Made.{Refuses}
 use Rattle.gates.proofs.LaterLemmas.{IsDefined-of_word}
-use Rattle.gates.proofs.GrowthLemmas.{IsDefined-grown, Grows-refl}
+use Rattle.gates.proofs.GrowthLemmas.{IsDefined-grown}
 use Rattle.gates.proofs.LiteralLemmas.{MakesLiteral-and, Refuses-behind}
-use Rattle.gates.proofs.BitListLemmas.{IsRow-push, IsRow}
+use Rattle.gates.proofs.BitListLemmas.{IsRow-push}
 use Rattle.gates.proofs.ProductLemmas.{MakesWord-masked}
+use Rattle.gates.proofs.RowLemmas.{IsRow-start}
 use Rattle.gates.proofs.multiplication.masked.Goals as goal
 
 pub loop-i-preserved : goal.loop-i-preserved
@@ -28,12 +27,8 @@ conjunction-requires-clause-left g c =
 pub conjunction-requires-clause-right : goal.conjunction-requires-clause-right
 conjunction-requires-clause-right g c = IsDefined-grown _ _ _ c.loop-i.invariant.grows _ c.requires.literal
 
--- no place yet
-IsRow-start : (n : Net) (f : Valuation → Bool → Bool → Bool) (a b : List ℕ) → IsRow n n 1 0 f a b []
-IsRow-start n f a b = record { grows = Grows-refl n 0; wide = refl; defined = All-nil (IsDefined n); means = λ v s. refl }
-
 pub loop-i-init : goal.loop-i-init
-loop-i-init g c = let lit = c.args.lit in rw c.new-bits.ensures (IsRow-start _ (λ v x y. x && literal_value v lit) c.args.a.now.items c.args.a.now.items)
+loop-i-init g c = let lit = c.args.lit in rw c.new-bits.ensures (IsRow-start _ 1 (λ v x y. x && literal_value v lit) c.args.a.now.items c.args.a.now.items)
 
 pub returns-in_err-conjunction-clause-refused : goal.returns-in_err-conjunction-clause-refused
 returns-in_err-conjunction-clause-refused g c =
