@@ -166,14 +166,6 @@ index_of_value s v line found is h = is h.token h.scans ∙ ap (λ (c : Cut). nu
 pub index_of_name : (s : Scan) (v : ValueScan) (n : NameScan) (line : List ℕ) (found : Option ℕ) → ((l : List ℕ) → Scans s (48 ∷ l) → found ≡ number_of l) → WithName s v n line → found ≡ number_of (cut_at_space line).0
 index_of_name s v n line found is h = is h.token h.scans ∙ ap (λ (c : Cut). number_of c.0) (sym h.cut)
 
-pub no_value : (s : Scan) (line : List ℕ) (width : ℕ) → IndexAlone s line → word_behind width (cut_at_space line).1 ≡ Err why.BadValue
-no_value s line width h = ap (λ (c : Cut). word_behind width c.1) h.cut
-
-pub value_alone : (s : Scan) (v : ValueScan) (line : List ℕ) (width : ℕ) (r : Result ℕ Why) → ((bytes : List ℕ) → Values v bytes → value_of width bytes ≡ r) → WithValue s v line → word_behind width (cut_at_space line).1 ≡ r
-value_alone s v line width r is h =
-    ap (λ (c : Cut). word_behind width c.1) h.cut
-    ∙ (ap (λ (c : Cut). word_with c.1 (value_of width c.0)) h.rest ∙ (with_nothing (value_of width h.digits) ∙ is h.digits h.values))
-
 pub value_named : (s : Scan) (v : ValueScan) (n : NameScan) (line : List ℕ) (width : ℕ) (r : Result ℕ Why) → ((digits bytes : List ℕ) → Values v digits → Names n bytes → Gives (λ (w : ℕ). w) r (word_with (Some bytes) (value_of width digits))) → WithName s v n line
     → Gives (λ (w : ℕ). w) r (word_behind width (cut_at_space line).1)
 value_named s v n line width r is h =
