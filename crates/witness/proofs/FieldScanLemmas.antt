@@ -1,7 +1,12 @@
 -- What is kept of an assignment byte by byte: its index, its value and its name.
-use Rattle.std.proofs.Common.{◌≡◌, ℕ, ◌==◌, Bool, true, false, cond, List, [], ◌∷◌, ◌++◌, Option, Some, None, Result, Ok, Err, refl, sym, ap, subst, ◌∙◌, if◌then◌else◌}
-use Rattle.std.proofs.lemmas.Bool.{ne_eqb}
-use Rattle.std.proofs.lemmas.List.{append-nil}
+use Rattle.std.proofs.Common.{◌≡◌, ℕ, zero, suc, ◌<◌, ◌==◌, nat_lt, Bool, true, false, cond, List, [], ◌∷◌, ◌++◌, length, get_or, take, Option, Some, None, Result, Ok, Err, refl, sym, ap, subst, ◌∙◌, arith, if◌then◌else◌}
+use Rattle.std.specs.List.{list_any, position, position_or_len}
+use Rattle.std.proofs.lemmas.Bool.{ne_eqb, or_from, both_ways}
+use Rattle.std.proofs.lemmas.Bool.Decides.{nat_tests}
+use Rattle.std.proofs.lemmas.List.{append-nil, drop_more, take-append-drop}
+use Rattle.std.proofs.lemmas.List.Quantifiers.{position-Some}
+use Rattle.std.proofs.lemmas.List.Sums.{fails_before_first}
+use Rattle.base.proofs.CutLemmas.{IsCut, none_passes}
 use Rattle.base.specs.Decimals.{number_of}
 use Rattle.base.specs.Lines.{HasNone}
 use Rattle.btor2.specs.Symbols.{is_symbol}
@@ -17,6 +22,35 @@ use Rattle.witness.specs.BitScans.{Scans}
 use Rattle.witness.specs.WordValues.{ValueScan, Values, Gives}
 use Rattle.witness.proofs.PieceLemmas.{cut_at_space-parts}
 use Rattle.witness.specs.WordScans.{Names, IndexAlone, WithValue, WithName, FieldsAt, AreFields, word_with, word_behind}
+
+-- ---- where the first space stands
+
+abbrev pub is_space : ℕ → Bool
+is_space b = b == 32
+
+is_no_place : (b : Bool) (n : ℕ) → cond b (Some n) None ≡ None → b ≡ false
+is_no_place true n h = absurd cc
+is_no_place false n h = refl
+
+pub no_space : (line : List ℕ) → position is_space line ≡ None → HasNone 32 line
+no_space line h =
+    let past : nat_lt (position_or_len is_space line) (length line) ≡ false = is_no_place _ _ h in
+    none_passes is_space line (λ k lt e. both_ways _ (fails_before_first is_space line k 0 (grind (arith, nat_tests))) e)
+
+none_before : (line : List ℕ) (n : ℕ) → ((k : ℕ) → k < n → is_space (get_or line k 0) ≡ false) → list_any is_space (take n line) ≡ false
+none_before line zero h = refl
+none_before [] (suc n) h = refl
+none_before (b ∷ bs) (suc n) h = or_from _ _ (h 0 (omega arith)) (none_before bs n (λ k lt. h (suc k) (omega arith)))
+
+pub at_space : (line : List ℕ) (at : ℕ) → position is_space line ≡ Some at → IsCut is_space line at
+at_space line at h =
+    let first = position-Some is_space line at 0 h in
+    record {
+      before = none_before line at first.2;
+      passes = first.1;
+      parts = sym (take-append-drop at line) ∙ ap (λ (rest : List ℕ). take at line ++ rest) (drop_more line at 0 first.0);
+      inside = first.0;
+    }
 
 -- ---- a byte behind a line that is cut at its first space
 
@@ -131,14 +165,6 @@ index_of_value s v line found is h = is h.token h.scans ∙ ap (λ (c : Cut). nu
 
 pub index_of_name : (s : Scan) (v : ValueScan) (n : NameScan) (line : List ℕ) (found : Option ℕ) → ((l : List ℕ) → Scans s (48 ∷ l) → found ≡ number_of l) → WithName s v n line → found ≡ number_of (cut_at_space line).0
 index_of_name s v n line found is h = is h.token h.scans ∙ ap (λ (c : Cut). number_of c.0) (sym h.cut)
-
-pub no_value : (s : Scan) (line : List ℕ) (width : ℕ) → IndexAlone s line → word_behind width (cut_at_space line).1 ≡ Err why.BadValue
-no_value s line width h = ap (λ (c : Cut). word_behind width c.1) h.cut
-
-pub value_alone : (s : Scan) (v : ValueScan) (line : List ℕ) (width : ℕ) (r : Result ℕ Why) → ((bytes : List ℕ) → Values v bytes → value_of width bytes ≡ r) → WithValue s v line → word_behind width (cut_at_space line).1 ≡ r
-value_alone s v line width r is h =
-    ap (λ (c : Cut). word_behind width c.1) h.cut
-    ∙ (ap (λ (c : Cut). word_with c.1 (value_of width c.0)) h.rest ∙ (with_nothing (value_of width h.digits) ∙ is h.digits h.values))
 
 pub value_named : (s : Scan) (v : ValueScan) (n : NameScan) (line : List ℕ) (width : ℕ) (r : Result ℕ Why) → ((digits bytes : List ℕ) → Values v digits → Names n bytes → Gives (λ (w : ℕ). w) r (word_with (Some bytes) (value_of width digits))) → WithName s v n line
     → Gives (λ (w : ℕ). w) r (word_behind width (cut_at_space line).1)

@@ -8,14 +8,6 @@ use Rattle.witness.specs.Texts.{is_comment}
 use Rattle.witness.specs.Admits.{begins_part}
 use Rattle.witness.specs.BitScans.{behind_first}
 
-pub first_comment : (line : List ℕ) (first : ℕ) → first ≡ get_or line 0 0 → (first == 59) ≡ is_comment line
-first_comment [] first is = rw is refl
-first_comment (a ∷ tail) first is = rw is refl
-
-pub first_opens : (line : List ℕ) (first : ℕ) → first ≡ get_or line 0 0 → ((first == 35) || ((first == 64) || (first == 46))) ≡ begins_part line
-first_opens [] first is = rw is refl
-first_opens (a ∷ tail) first is = rw is refl
-
 same_bytes : (x y : List ℕ) → bytes_eq x y ≡ true → x ≡ y
 same_bytes [] [] h = refl
 same_bytes [] (b ∷ y) h = absurd (cc h)
@@ -27,11 +19,6 @@ same_bytes (a ∷ x) (b ∷ y) h =
 itself : (x : List ℕ) → bytes_eq x x ≡ true
 itself [] = refl
 itself (a ∷ x) = and_from (a == a) (bytes_eq x x) (eq-eqb a a refl) (itself x)
-
--- a line with another first byte
-pub other_first : (line rest : List ℕ) (first byte : ℕ) → first ≡ get_or line 0 0 → (first ≡ byte → ⊥) → false ≡ bytes_eq line (byte ∷ rest)
-other_first [] rest first byte is other = refl
-other_first (a ∷ tail) rest first byte is other = sym (and_left (a == byte) (bytes_eq tail rest) (ne_eqb a byte (λ e. other (is ∙ e))))
 
 -- no number stands behind no byte
 pub nothing_there : (line : List ℕ) → length line ≡ 0 → None ≡ number_of (behind_first line)

@@ -1,5 +1,7 @@
 //! An assignment, byte by byte or at once: an index, a value and a name, with a space between.
-ghost use Rattle.std.specs.Prelude.{◌≡◌, ℕ, ◌<◌, ◌^◌, List, [], ◌∷◌, ◌++◌, IfOk, Some, None};
+ghost use Rattle.std.specs.Prelude.{◌≡◌, ℕ, ◌<◌, ◌^◌, List, [], ◌∷◌, ◌++◌, IfOk, MatchOption, Some, None, ◌==◌};
+ghost use Rattle.std.specs.List.{position};
+ghost use Rattle.base.specs.Lines.{HasNone};
 ghost use Rattle.base.specs.Decimals.{number_of};
 ghost use Rattle.witness.specs.Admits.{cut_at_space, value_of};
 ghost use Rattle.witness.specs.WordValues.{Gives, Values};
@@ -9,7 +11,7 @@ use crate::bit_scan::Scan;
 use crate::why::Why;
 use crate::word_name::NameScan;
 use crate::word_value::ValueScan;
-use base::{Width, cut_at, decimal};
+use base::{Width, decimal};
 
 /// Which field of an assignment goes on.
 #[derive(Clone, Copy)]
@@ -32,11 +34,36 @@ pub(crate) struct FieldScan {
     name: NameScan,
 }
 
+/// Where the first space of a line stands. What is before it is short, so this is a plain loop and no search that is made
+/// for long texts.
+#[inline(always)]
+fn first_space(line: &[u8]) -> Option<usize>
+    ensures { result ≡ position (λ b. b == 32) line.now }
+{
+    line.iter().position(|b| *b == b' ')
+}
+
+/// The bytes of a line before the first space, and those behind it; nothing where there is no space.
+#[inline(always)]
+fn cut(line: &[u8]) -> Option<(&[u8], &[u8])>
+    ensures { MatchOption result (HasNone 32 line.now)
+        (λ x. (line.now ≡ x.0.now ++ 32 ∷ x.1.now) × HasNone 32 x.0.now) }
+{
+    match first_space(line) {
+        None => None,
+        Some(at) => {
+            let (front, rest) = line.split_at(at);
+            let (_, behind) = rest.split_at(1);
+            Some((front, behind))
+        }
+    }
+}
+
 /// The index that a whole line begins with, where it is a decimal, at most 2^64 - 1.
 pub(crate) fn index_of(line: &[u8]) -> Option<u64>
     ensures { result ≡ number_of (cut_at_space line.now).0 }
 {
-    match cut_at(line, b' ') {
+    match cut(line) {
         None => decimal(line),
         Some((token, _behind)) => decimal(token),
     }
@@ -47,7 +74,7 @@ fn word_with(behind: &[u8], width: Width) -> Result<u64, Why>
     ensures is { Gives (λ w. w) result (word_behind width (Some behind.now)) }
     ensures fits { IfOk result (λ w. w < 2 ^ width) }
 {
-    match cut_at(behind, b' ') {
+    match cut(behind) {
         None => ValueScan::of(behind).word(width),
         Some((digits, name)) => named(ValueScan::of(digits), NameScan::of(name), width),
     }
@@ -58,7 +85,7 @@ pub(crate) fn word_of(line: &[u8], width: Width) -> Result<u64, Why>
     ensures is { Gives (λ w. w) result (word_behind width (cut_at_space line.now).1) }
     ensures fits { IfOk result (λ w. w < 2 ^ width) }
 {
-    match cut_at(line, b' ') {
+    match cut(line) {
         None => Err(Why::BadValue),
         Some((_token, behind)) => word_with(behind, width),
     }

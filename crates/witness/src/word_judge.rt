@@ -178,6 +178,14 @@ impl<'a> WordJudge<'a> {
         }
     }
 
+    /// Takes the rest of a line byte by byte, and its end.
+    fn take_rest(&mut self, bytes: &[u8])
+        ensures { (items : List Item) (text : List ℕ) → StandsFor items self.old text → StandsFor items self.new ((text ++ bytes.now) ++ 10 ∷ []) }
+    {
+        self.take_all(bytes);
+        self.end_line();
+    }
+
     /// Whether a line that begins is judged by its bytes alone.
     fn takes_whole_lines(&self) -> bool
         ensures alone { result ≡ true → is_alone (place_of self.now.reader.place) ≡ true }
@@ -201,8 +209,7 @@ impl<'a> WordJudge<'a> {
             self.judge_line(&WholeLine::Bytes(bytes));
             return;
         }
-        self.take_all(bytes);
-        self.end_line();
+        self.take_rest(bytes);
     }
 
     /// Takes a piece of the text behind those before: a judge that stood for a text stands for that text with the piece

@@ -36,6 +36,4 @@ returns-then-takes_whole_lines c items text line stands =
     (subst (λ (s : LineScan). IsScanned s []) (sym c.judge_line.ensures.line) (subst (IsScanned j.line) empty stands.line))
 
 pub returns : goal.returns
-returns c items text line stands =
-    let bytes : List ℕ = c.args.bytes.now in
-    subst (StandsFor items c.end_line.new.self) (append_assoc text bytes (10 ∷ [])) (c.end_line.ensures items (text ++ bytes) (c.take_all.ensures items text stands))
+returns c items text line stands = subst (StandsFor items c.take_rest.new.self) (append_assoc text c.args.bytes.now (10 ∷ [])) (c.take_rest.ensures items text stands)
