@@ -9,7 +9,6 @@ use Rattle.std.proofs.lemmas.List.Sums.{fails_before_first}
 use Rattle.base.proofs.CutLemmas.{IsCut, none_passes}
 use Rattle.base.specs.Decimals.{number_of}
 use Rattle.base.specs.Lines.{HasNone}
-use Rattle.btor2.specs.Symbols.{is_symbol}
 use Rattle.witness.specs.declared.bit_scan.Scan.{Scan}
 use Rattle.witness.specs.declared.word_name.NameScan.{NameScan}
 use Rattle.witness.specs.declared.word_fields.Field.{Field}

@@ -1,11 +1,9 @@
 -- What is kept of a line byte by byte: how it begins, and whether it is a byte with a number behind it.
-use Rattle.std.proofs.Common.{◌≡◌, ℕ, ◌<◌, ◌-◌, ◌^◌, ◌==◌, true, false, ◌&&◌, ◌||◌, List, [], ◌∷◌, Some, None, length, decimal, get_or, refl, sym, ap, ap₂, ◌∙◌, arith, inl, inr}
+use Rattle.std.proofs.Common.{◌≡◌, ℕ, ◌<◌, ◌-◌, ◌^◌, ◌==◌, true, false, ◌&&◌, List, [], ◌∷◌, Some, None, length, decimal, get_or, refl, sym, ap, ap₂, ◌∙◌, arith, inl, inr}
 use Rattle.std.specs.Str.{bytes_eq}
-use Rattle.std.proofs.lemmas.Bool.{cases_Bool, and_parts, and_from, and_left, eqb-true, eqb-false, eq-eqb, ne_eqb, false_from_ne_true}
+use Rattle.std.proofs.lemmas.Bool.{cases_Bool, and_parts, and_from, eqb-true, eqb-false, eq-eqb, false_from_ne_true}
 use Rattle.base.specs.Decimals.{is_decimal, number_of}
 use Rattle.base.proofs.DecimalLemmas.{number_is_decimal, number_of-decimal}
-use Rattle.witness.specs.Texts.{is_comment}
-use Rattle.witness.specs.Admits.{begins_part}
 use Rattle.witness.specs.BitScans.{behind_first}
 
 same_bytes : (x y : List ℕ) → bytes_eq x y ≡ true → x ≡ y

@@ -1,5 +1,5 @@
 //! A line of a witness of a circuit, byte by byte.
-ghost use Rattle.std.specs.Prelude.{◌≡◌, ℕ, ◌<◌, ◌-◌, ◌^◌, min, List, [], ◌∷◌, ◌++◌, MatchResult, Ok, Err, map, length, slice_index_or};
+ghost use Rattle.std.specs.Prelude.{◌≡◌, ℕ, ◌<◌, ◌-◌, ◌^◌, min, List, [], ◌∷◌, ◌++◌, MatchResult, Ok, Err, map, length};
 ghost use Rattle.std.specs.Str.{bytes_eq};
 ghost use Rattle.base.specs.Decimals.{is_digit, number_of};
 ghost use Rattle.witness.specs.Admits.{is_value_byte, is_nothing};

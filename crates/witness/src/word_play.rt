@@ -1,5 +1,5 @@
 //! The frames of a witness over a model, played while its lines are read.
-ghost use Rattle.std.specs.Prelude.{◌≡◌, ℕ, ◌<◌, ◌+◌, ◌^◌, ◌==◌, true, false, Option, List, [], ◌∷◌, ◌++◌, if◌then◌else◌, IfErr, IfOk, IfSome, OnErr, length, slice_index, slice_index_or};
+ghost use Rattle.std.specs.Prelude.{◌≡◌, ℕ, ◌<◌, ◌+◌, ◌^◌, ◌==◌, true, false, Option, List, [], ◌∷◌, ◌++◌, if◌then◌else◌, IfErr, IfOk, IfSome, OnErr, length, slice_index};
 ghost use Rattle.btor2.specs.Items.{is_input, is_state, is_bad};
 ghost use Rattle.btor2.specs.Check.{IsWellFormed};
 ghost use Rattle.btor2.specs.Lists.{places, width_at, first_init_without_next};

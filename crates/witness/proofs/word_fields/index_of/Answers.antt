@@ -1,6 +1,6 @@
 use Rattle.std.proofs.Common.{ap, sym, ◌∙◌}
 use Rattle.base.specs.Decimals.{number_of}
-use Rattle.witness.specs.Admits.{Cut, cut_at_space}
+use Rattle.witness.specs.Admits.{Cut}
 use Rattle.witness.proofs.FieldScanLemmas.{cut_alone, cut_once}
 use Rattle.witness.proofs.word_fields.index_of.Goals as goal
 

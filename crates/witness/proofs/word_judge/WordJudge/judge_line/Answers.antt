@@ -1,4 +1,4 @@
-use Rattle.std.proofs.Common.{◌≡◌, Bool, ◌||◌, ◌&&◌, None, codes, ◌<◌, ◌^◌, sym, subst, ap, ◌∙◌, arith}
+use Rattle.std.proofs.Common.{◌≡◌, Bool, ◌||◌, ◌&&◌, None, codes, ◌<◌, ◌^◌, sym, subst, ap, ◌∙◌}
 use Rattle.std.specs.Str.{bytes_eq}
 use Rattle.std.proofs.lemmas.Bool.{leb-true, leb-false}
 use Rattle.witness.specs.declared.place.Place.{Place as CodePlace}
