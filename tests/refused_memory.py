@@ -25,6 +25,8 @@ FILES = {
     "counter": b"1 sort bitvec 1\n2 sort bitvec 2\n3 zero 2\n4 state 2 c\n5 init 2 4 3\n6 inc 2 4\n7 next 2 4 6\n"
     b"8 const 2 11\n9 eq 1 4 8\n10 bad 9\n",
     "follower": b"1 sort bitvec 1\n2 state 1 f\n3 state 1 s\n4 input 1 x\n5 next 1 3 2\n6 bad 3\n",
+    # enough gates that room is made for those to come
+    "sums": b"1 sort bitvec 16\n2 input 1 a\n3 input 1 b\n4 add 1 2 3\n5 sub 1 4 3\n6 mul 1 4 5\n7 udiv 1 6 2\n8 output 7\n",
     "no_next": b"1 sort bitvec 1\n2 zero 1\n3 state 1\n4 init 1 3 2\n",
     "fair": b"1 sort bitvec 1\n2 input 1\n3 fair 2\n",
     "wide": b"1 sort bitvec 65\n",
@@ -56,6 +58,7 @@ COMMANDS = [
     ["check-btor", "-", "-"],
     ["lower", "counter"],
     ["lower", "--binary", "follower"],
+    ["lower", "--binary", "sums"],
     ["lower", "no_next"],
     ["lower", "fair"],
     ["lower", "wide"],

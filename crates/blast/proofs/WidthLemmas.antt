@@ -2,6 +2,7 @@
 use Rattle.std.proofs.Common.{◌≡◌, ℕ, zero, suc, ◌+◌, ◌*◌, ◌^◌, ◌<◌, ◌≤◌, nat_lt, Bool, true, false, cond, nat_eq, List, [], ◌∷◌, ◌++◌, length, Option, Some, None, is_some, unwrap_or, option_and_then, slice_get, take, get_or, All, sum_by, not, ◌&&◌, refl, sym, ap, ap₂, subst, ◌∙◌, append_assoc, length-append, arith}
 use Rattle.std.proofs.Math.Nat.{mul-le-mul_left}
 use Rattle.std.specs.List.{position_from}
+use Rattle.std.proofs.lemmas.Bool.{false≢true}
 use Rattle.std.proofs.lemmas.Option.{none-some, same_Some, slice_get_within, slice_get_read}
 use Rattle.std.proofs.lemmas.List.{take_all}
 use Rattle.std.proofs.lemmas.List.Sums.{count_by-le-length, sum_by-le, sum_by_more, sum_by_more_le, sum_by-cons}
@@ -10,17 +11,18 @@ use Rattle.base.specs.declared.operators.Unary.{Unary}
 use Rattle.base.specs.declared.operators.Unary.TheVariants as unary
 use Rattle.base.specs.declared.operators.Binary.{Binary}
 use Rattle.base.specs.declared.operators.Binary.TheVariants as binary
+use Rattle.base.specs.Widths.{is_reduction, is_test}
 use Rattle.gates.specs.Bound.{log_up, unary_bound, binary_bound}
 use Rattle.btor2.specs.declared.item.Item.{Item}
 use Rattle.btor2.specs.declared.item.Body.{Body}
 use Rattle.btor2.specs.declared.item.Body.TheVariants as body
-use Rattle.btor2.specs.Items.{find_item, position_of, width_of_body, node_width, operands, is_state, is_free, is_free_state, is_carried_state}
+use Rattle.btor2.specs.Items.{find_item, position_of, node_sort, sort_width, width_of_body, node_width, operands, is_state, is_free, is_free_state, is_carried_state}
 use Rattle.btor2.specs.Lists.{width_at, places}
 use Rattle.btor2.specs.Check.{IsWellFormed}
 use Rattle.btor2.specs.Trace.{bits_of}
-use Rattle.btor2.proofs.AppendLemmas.{is_some_from, node_width-append}
-use Rattle.btor2.proofs.AcceptedLemmas.{Each, HasWidth}
-use Rattle.btor2.proofs.ModelLemmas.{IsIn-from_place, IsAccepted-at, node_width-at, node_width-range, few_items}
+use Rattle.btor2.proofs.AppendLemmas.{is_some_from, sort_width-append, node_width-append}
+use Rattle.btor2.proofs.AcceptedLemmas.{Each, HasWidth, BodyIsAccepted}
+use Rattle.btor2.proofs.ModelLemmas.{IsIn, IsIn-from_place, IsAccepted-at, node_width-at, node_width-range, few_items}
 use Rattle.blast.specs.Cost.{line_cost, cost, kind_width, input_width, state_width, given_width, carried_width}
 use Rattle.blast.specs.Leaves.{by_body}
 use Rattle.blast.specs.declared.parts.Part.{Part}
@@ -143,6 +145,50 @@ operands_there items k x w at =
     let there = (IsIn-from_place items k x at).0 in
     subst (λ (l : List Item). All (λ a. is_some (node_width l a) ≡ true) (operands x.body)) (sym there.splits)
     (accepted_operands there.before (x ∷ there.after) (operands x.body) (IsAccepted-at items x w there).nodes)
+
+-- an operand of a line: a node, and as wide as the line where its operator does not change the width
+pub record IsOperandOf (items : List Item) (x : Item) (a : ℕ) (changed : Bool) : Type 0 where
+  pub there : is_some (node_width items a) ≡ true
+  pub kept : changed ≡ false → bits_of items x.id ≡ bits_of items a
+
+-- from what the lines before say of the operand and of the line's sort
+operand_of : (items : List Item) (k : ℕ) (x : Item) (i : IsIn items x) (s a n : ℕ) (changed : Bool) → IsWellFormed items → slice_get items k ≡ Some x → node_sort x.body ≡ Some s
+    → node_width i.before a ≡ Some n → sort_width i.before s ≡ Some (cond changed 1 n) → IsOperandOf items x a changed
+operand_of items k x i s a n changed w at sorted node sort =
+    let read = λ (o : Option ℕ). unwrap_or o 0 in
+    let there : node_width items a ≡ Some n = ap (λ (l : List Item). node_width l a) i.splits ∙ node_width-append i.before (x ∷ i.after) a n node in
+    let wide : sort_width items s ≡ Some (cond changed 1 n) = ap (λ (l : List Item). sort_width l s) i.splits ∙ sort_width-append i.before (x ∷ i.after) s (cond changed 1 n) sort in
+    let own : bits_of items x.id ≡ cond changed 1 n = sym (bits_of-at items k x w at) ∙ ap read (ap (option_and_then (λ (y : Item). width_of_body items y.body)) at ∙ ap (option_and_then (sort_width items)) sorted ∙ wide) in
+    record {
+      there = is_some_from (node_width items a) n there;
+      kept = λ same. own ∙ ap (λ (b : Bool). cond b 1 n) same ∙ sym (ap read there);
+    }
+
+pub unary_operand : (items : List Item) (k : ℕ) (x : Item) (op : Unary) (s a : ℕ) → IsWellFormed items → slice_get items k ≡ Some x → x.body ≡ body.Unary op s a → IsOperandOf items x a (is_reduction op)
+unary_operand items k x op s a w at is =
+    let i = (IsIn-from_place items k x at).0 in
+    let says = subst (BodyIsAccepted i.before) is (IsAccepted-at items x w i).says in
+    operand_of items k x i s a says.0 (is_reduction op) w at (ap node_sort is) says.1 says.2
+
+pub binary_operand : (items : List Item) (k : ℕ) (x : Item) (op : Binary) (s a b : ℕ) → IsWellFormed items → slice_get items k ≡ Some x → x.body ≡ body.Binary op s a b → IsOperandOf items x a (is_test op)
+binary_operand items k x op s a b w at is =
+    let i = (IsIn-from_place items k x at).0 in
+    let says = subst (BodyIsAccepted i.before) is (IsAccepted-at items x w i).says in
+    operand_of items k x i s a says.0 (is_test op) w at (ap node_sort is) says.1 says.3
+
+pub ite_operand : (items : List Item) (k : ℕ) (x : Item) (s c t e : ℕ) → IsWellFormed items → slice_get items k ≡ Some x → x.body ≡ body.Ite s c t e → IsOperandOf items x t false
+ite_operand items k x s c t e w at is =
+    let i = (IsIn-from_place items k x at).0 in
+    let says = subst (BodyIsAccepted i.before) is (IsAccepted-at items x w i).says in
+    operand_of items k x i s t says.0 false w at (ap node_sort is) says.2 says.4
+
+-- the width of a node is at least 1
+pub bits_of-least : (items : List Item) (id : ℕ) → IsWellFormed items → is_some (node_width items id) ≡ true → 1 ≤ bits_of items id
+bits_of-least items id w there = least (node_width items id) refl there
+  where
+    least : (o : Option ℕ) → node_width items id ≡ o → is_some o ≡ true → 1 ≤ unwrap_or o 0
+    least (Some n) e h = (node_width-range items id n w e).0
+    least None e h = absurd (false≢true h)
 
 -- a sum so far, with the next item's part
 pub sum_step : {A : Type 0} (f : A → ℕ) (xs : List A) (i total n : ℕ) (x : A) → i < length xs → x ≡ get_or xs i x → total ≡ sum_by f (take i xs) → n ≡ f x

@@ -16,11 +16,11 @@ ghost use Rattle.blast.specs.Table.{MakesNode, MakesRow, row_of, IsOperand, next
 use crate::items::{bit_count, node_row};
 use crate::placed::{concat_row, constant_row, copy_bits, sext_row, slice_row, uext_row};
 use crate::table::Table;
-use crate::widths::{given_width, input_width};
+use crate::widths::{cost, given_width, input_width, line_cost};
 use aiger::Lit;
 use base::{Binary, Unary};
 use btor2::{Body, Item, Model};
-use gates::{Bits, GateFault, Gates, binary_bits, ite_bits, unary_bits};
+use gates::{Bits, GateFault, Gates, HashGates, binary_bits, ite_bits, unary_bits};
 use std::alloc::Global;
 
 /// What the next leaf has: the variable of the first bit of an input, of a free state and of another state, and the
@@ -258,27 +258,51 @@ fn lower_item<G: Gates>(
     }
 }
 
+/// What the lines up to an item can take at most, from what those before it can. Where they come to an eighth of what all
+/// lines can take, the maker makes room for the gates to come.
+fn foresee(
+    model: &Model,
+    gates: &mut HashGates,
+    place: usize,
+    item: &Item,
+    passed: u64,
+    most: u64,
+) -> u64
+    requires well_formed { IsWellFormed model.now }
+    requires at { slice_get model.now place ≡ Some item.now }
+    ensures { gates.new ≡ gates.old }
+{
+    let now = passed.saturating_add(line_cost(model, place, item));
+    if passed < most / 8 && now >= most / 8 {
+        gates.foresee(now, most);
+    }
+    now
+}
+
 /// The rows of literals of all items, in file order: those of an input and a state are their variables, those of an
 /// constant its bits, those of an operator are made of its operands' rows or placed, and a line without a value has an
 /// empty row.
 ///
 /// Conditions: the maker stands on the bits that are given in each frame and on those that are carried, and has made no
 /// gate; at most 2^30 variables. Errors: `NoMemory`.
-pub(crate) fn lower_nodes<G: Gates>(
+pub(crate) fn lower_nodes(
     alloc: Global,
     model: &Model,
-    gates: &mut G,
+    gates: &mut HashGates,
 ) -> Result<Table, GateFault>
-    requires leaves { G.made gates.old ≡ leaves_only model.now }
+    requires leaves { gates.old ≡ leaves_only model.now }
     requires fits { bound model.now ≤ greatest_count }
-    ensures ok { IfOk result (λ rows. LowersNodes model.now (G.made gates.old) (G.made gates.new) rows) }
+    ensures ok { IfOk result (λ rows. LowersNodes model.now gates.old gates.new rows) }
     ensures memory { IfErr result (λ e. e ≡ GateFault.NoMemory) }
 {
     let items = model.items();
+    let most = cost(model);
+    let mut passed = 0;
     let mut table = Table::new(alloc);
     let mut next = first_leaf(model);
     for (place, item) in items.iter().enumerate() {
         lower_item(model, gates, &mut table, place, item, &mut next)?;
+        passed = foresee(model, gates, place, item, passed, most);
     }
     Ok(table)
 }

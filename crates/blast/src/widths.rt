@@ -1,6 +1,6 @@
 //! How many gates and variables a lowering takes at most.
-ghost use Rattle.std.specs.Prelude.{◌≡◌, ◌≤◌, ◌<◌, ◌^◌, true, All, Some, is_some, length, slice_get, slice_index, if◌then◌else◌};
-ghost use Rattle.btor2.specs.Items.{node_width, operands};
+ghost use Rattle.std.specs.Prelude.{◌≡◌, ◌≤◌, ◌<◌, ◌^◌, true, false, Some, is_some, length, slice_get, slice_index, if◌then◌else◌};
+ghost use Rattle.btor2.specs.Items.{node_width};
 ghost use Rattle.btor2.specs.Check.{IsWellFormed};
 ghost use Rattle.btor2.specs.Lists.{places};
 ghost use Rattle.btor2.specs.Trace.{bits_of};
@@ -58,21 +58,49 @@ fn part_width(model: &Model, part: Part) -> u64
     total
 }
 
-/// The gate bound of an operator, and 0 for another item.
-fn line_cost(model: &Model, body: &Body) -> u64
-    requires { All (λ a. is_some (node_width model.now a) ≡ true) (operands body.now) }
-    ensures { result ≡ line_cost model.now body.now }
+/// The width of an operand of the operator on a line.
+///
+/// Where the operator does not change the width it is the line's own, and the operand, which may lie far away, is not
+/// looked up.
+fn operand_width(model: &Model, place: usize, item: &Item, operand: u32, changed: bool) -> u64
+    requires well_formed { IsWellFormed model.now }
+    requires at { slice_get model.now place ≡ Some item.now }
+    requires there { is_some (node_width model.now operand) ≡ true }
+    requires kept { changed ≡ false → bits_of model.now item.now.id ≡ bits_of model.now operand }
+    ensures value { result ≡ bits_of model.now operand }
+    ensures some { 1 ≤ result }
+    ensures most { result ≤ 64 }
 {
-    match body {
+    if changed {
+        node_bits(model, operand)
+    } else {
+        bit_count(model, place, item)
+    }
+}
+
+/// The gate bound of an operator, and 0 for another item.
+pub(crate) fn line_cost(model: &Model, place: usize, item: &Item) -> u64
+    requires well_formed { IsWellFormed model.now }
+    requires at { slice_get model.now place ≡ Some item.now }
+    ensures { result ≡ line_cost model.now item.now.body }
+{
+    match &item.body {
         Body::Unary {
             operator,
             operand,
             ..
-        } => gate_bound(Op::Unary(*operator), node_bits(model, *operand)),
-        Body::Binary { operator, left, .. } => {
-            gate_bound(Op::Binary(*operator), node_bits(model, *left))
+        } => {
+            let width = operand_width(model, place, item, *operand, operator.is_reduction());
+            gate_bound(Op::Unary(*operator), width)
         }
-        Body::Ite { first, .. } => gate_bound(Op::Ite, node_bits(model, *first)),
+        Body::Binary { operator, left, .. } => {
+            let width = operand_width(model, place, item, *left, operator.is_test());
+            gate_bound(Op::Binary(*operator), width)
+        }
+        Body::Ite { first, .. } => {
+            let width = operand_width(model, place, item, *first, false);
+            gate_bound(Op::Ite, width)
+        }
         _ => 0,
     }
 }
@@ -115,8 +143,8 @@ pub fn cost(model: &Model) -> u64
 {
     let items = model.items();
     let mut total = 0;
-    for item in items {
-        total += line_cost(model, &item.body);
+    for (place, item) in items.iter().enumerate() {
+        total += line_cost(model, place, item);
     }
     total
 }

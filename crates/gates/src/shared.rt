@@ -128,6 +128,19 @@ impl HashGates {
         self.circuit
     }
 
+    /// Makes room for the gates to come, where what was asked for so far could have taken `passed` gates and all can take
+    /// `most`: in proportion to those that stand, and as far as there is memory.
+    ///
+    /// A maker makes the same gates without it; its table grows in fewer steps.
+    pub fn foresee(&mut self, passed: u64, most: u64)
+        ensures { self.new ≡ self.old }
+    {
+        let made = self.pairs.len() as u64;
+        let more = made.saturating_mul(most.saturating_sub(passed)) / passed.max(1);
+        // what is refused here is asked for again when it is needed
+        let _ = self.pairs.reserve(more as usize);
+    }
+
     /// The literal of the gate of two operands, where it stands.
     fn gate(&self, a: Lit, b: Lit) -> Option<Lit>
         ensures { result ≡ option_map (gate_literal self.now) (position (is_gate_of a b) self.now.gates) }

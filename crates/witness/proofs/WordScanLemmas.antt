@@ -12,7 +12,7 @@ use Rattle.btor2.specs.Symbols.{is_printed, is_symbol}
 use Rattle.witness.specs.declared.word_name.NameScan.{NameScan}
 use Rattle.witness.specs.Admits.{is_value_byte, value_of}
 use Rattle.witness.specs.declared.why.Why.TheVariants as why
-use Rattle.witness.specs.WordValues.{is_one, ValueScan, Values, word_more, value_more}
+use Rattle.witness.specs.WordValues.{is_one, ValueScan, Values, IsKnown, word_more, value_more}
 use Rattle.witness.specs.WordScans.{starts, is_next, Names, name_more}
 
 and-true : (b : Bool) → (b && true) ≡ b
@@ -142,6 +142,9 @@ bit_small : (b : Bool) → bit_number b ≤ 1
 bit_small true = omega arith
 bit_small false = omega arith
 
+pub bit_most : (bit b : ℕ) → bit ≡ bit_number (is_one b) → bit ≤ 1
+bit_most bit b is = omega (arith, is, bit_small (is_one b))
+
 -- a word stays below the power of its count
 pub word_room : (w count byte : ℕ) → (count ≤ 64 → w < 2 ^ count) → min (count + 1) (2 ^ 64 - 1) ≤ 64 → word_more w byte < 2 ^ min (count + 1) (2 ^ 64 - 1)
 word_room w count byte room few =
@@ -176,6 +179,42 @@ values_more v bytes b h =
           let was : v.word ≡ word bits = h.word (omega (arith, few, long)) in
           let next : word_more v.word b ≡ bit_number (is_one b) + 2 * word bits = omega (arith, was, bit, below, power) in
           next ∙ (sym (reversed (map is_one bytes) (is_one b)) ∙ ap (λ (l : List Bool). word (reverse l)) (sym (map-more bytes b)));
+    }
+
+-- a byte `0` or `1`
+pub known_digit : (b : ℕ) → 48 ≤ b → b ≤ 49 → (b - 48 ≡ bit_number (is_one b)) × (is_value_byte b ≡ true) × ((b == 120) ≡ false)
+known_digit b least most =
+    elim (cases_Bool (b == 49)) [
+      | inl one ↦ let is : b ≡ 49 = eqb-true b 49 one in rw is (refl, refl, refl)
+      | inr other ↦ let is : b ≡ 48 = omega (arith, least, most, eqb-false b 49 other) in rw is (refl, refl, refl)
+    ]
+
+-- digits that are taken at once
+pub known_nothing : IsKnown 0 []
+known_nothing = record { few = omega arith; small = omega arith; values = values_nothing }
+
+pub known_below : (word : ℕ) (bytes : List ℕ) → length bytes < 64 → IsKnown word bytes → word < 2 ^ 63
+known_below word bytes fewer h =
+    let power : 2 ^ length bytes ≤ 2 ^ 63 = pow-le-pow_right {n = 2} (omega arith) {i = length bytes} {j = 63} (omega (arith, fewer)) in
+    omega (arith, power, h.small)
+
+pub known_more : (word bit : ℕ) (bytes : List ℕ) (b : ℕ) → length bytes < 64 → bit ≡ bit_number (is_one b) → is_value_byte b ≡ true → (b == 120) ≡ false → IsKnown word bytes → IsKnown (word * 2 + bit) (bytes ++ b ∷ [])
+known_more word bit bytes b fewer is value known h =
+    let v : ValueScan = record { count = length bytes; values = true; unknown = false; word = word } in
+    let more = values_more v bytes b h.values in
+    let long : length (bytes ++ b ∷ []) ≡ suc (length bytes) = omega (arith, length-append bytes (b ∷ [])) in
+    let double : 2 ^ length (bytes ++ b ∷ []) ≡ 2 ^ length bytes * 2 = rw long (pow-suc 2 (length bytes)) in
+    let one = bit_small (is_one b) in
+    let next : word * 2 + bit ≡ word_more word b = omega (arith, is, one, known_below word bytes fewer h) in
+    record {
+      few = omega (arith, long, fewer);
+      small = omega (arith, double, is, one, h.small);
+      values = record {
+        count = omega (arith, long, fewer);
+        values = sym value ∙ more.values;
+        unknown = sym known ∙ more.unknown;
+        word = λ few. next ∙ more.word few;
+      };
     }
 
 -- the test of a value

@@ -1,5 +1,5 @@
 -- What is kept of the digits of a value of a witness over a model, of which more may follow.
-use Rattle.std.specs.Prelude.{◌≡◌, ℕ, ◌+◌, ◌-◌, ◌*◌, ◌≤◌, ◌^◌, min, Bool, ◌&&◌, ◌||◌, ◌==◌, List, Result, Ok, Err, map, length, reverse}
+use Rattle.std.specs.Prelude.{◌≡◌, ℕ, ◌+◌, ◌-◌, ◌*◌, ◌<◌, ◌≤◌, ◌^◌, min, Bool, true, false, ◌&&◌, ◌||◌, ◌==◌, List, Result, Ok, Err, map, length, reverse}
 use Rattle.std.specs.List.{list_any, list_all}
 use Rattle.base.specs.Word.{word, bit_number}
 use Rattle.witness.specs.declared.why.Why.{Why}
@@ -20,6 +20,12 @@ pub record Values (v : ValueScan) (bytes : List ℕ) : Type 0 where
   pub values : v.values ≡ list_all is_value_byte bytes
   pub unknown : v.unknown ≡ list_any (λ b. b == 120) bytes
   pub word : length bytes ≤ 64 → v.word ≡ word (reverse (map is_one bytes))
+
+-- a word that a few digits write, none of them `x`
+pub record IsKnown (word : ℕ) (bytes : List ℕ) : Type 0 where
+  pub few : length bytes ≤ 64
+  pub small : word < 2 ^ length bytes
+  pub values : Values (record { count = length bytes; values = true; unknown = false; word = word }) bytes
 
 -- a word with a bit more
 abbrev pub word_more : ℕ → ℕ → ℕ

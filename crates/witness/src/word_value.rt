@@ -1,7 +1,7 @@
 //! The value of an assignment, byte by byte or at once.
-ghost use Rattle.std.specs.Prelude.{◌≡◌, ℕ, ◌<◌, ◌≤◌, ◌^◌, ◌&&◌, ◌==◌, List, [], ◌∷◌, ◌++◌, IfOk, Ok, Err};
+ghost use Rattle.std.specs.Prelude.{◌≡◌, ℕ, ◌<◌, ◌≤◌, ◌^◌, ◌&&◌, ◌==◌, true, false, List, [], ◌∷◌, ◌++◌, IfSome, IfOk, Ok, Err};
 ghost use Rattle.witness.specs.Admits.{is_value_byte, value_of};
-ghost use Rattle.witness.specs.WordValues.{Gives, Values, is_one, word_more, value_more};
+ghost use Rattle.witness.specs.WordValues.{Gives, Values, IsKnown, is_one, word_more, value_more};
 ghost use Rattle.base.specs.Word.{bit_number};
 
 use crate::why::Why;
@@ -69,6 +69,31 @@ fn is_value(count: u64, bits: u64, values: bool) -> bool
     count == bits && values
 }
 
+/// The bit that a byte `0` or `1` writes; none for another byte. No branch asks which of the two it is.
+fn known_bit(byte: u8) -> Option<u64>
+    ensures { IfSome result (λ bit. (bit ≡ bit_number (is_one byte)) × (is_value_byte byte ≡ true) × ((byte == 120) ≡ false)) }
+{
+    if byte < b'0' || byte > b'1' {
+        return None;
+    }
+    Some(u64::from(byte - b'0'))
+}
+
+/// The word that at most 64 bytes write, each of them `0` or `1`; none for other bytes.
+fn known_word(bytes: &[u8]) -> Option<u64>
+    ensures { IfSome result (λ word. IsKnown word bytes.now) }
+{
+    if bytes.len() > 64 {
+        return None;
+    }
+    let mut word = 0;
+    for byte in bytes {
+        let bit = known_bit(*byte)?;
+        word = word * 2 + bit;
+    }
+    Some(word)
+}
+
 impl ValueScan {
     /// A value with no digit yet.
     pub(crate) fn new() -> ValueScan
@@ -101,8 +126,8 @@ impl ValueScan {
         *self = self.with(byte);
     }
 
-    /// That of a whole value.
-    pub(crate) fn of(bytes: &[u8]) -> ValueScan
+    /// That of a whole value, byte by byte.
+    fn by_bytes(bytes: &[u8]) -> ValueScan
         ensures { Values result bytes.now }
     {
         let mut value = ValueScan::new();
@@ -110,6 +135,21 @@ impl ValueScan {
             value.push(*byte);
         }
         value
+    }
+
+    /// That of a whole value, at once where each byte is `0` or `1` and there are few.
+    pub(crate) fn of(bytes: &[u8]) -> ValueScan
+        ensures { Values result bytes.now }
+    {
+        match known_word(bytes) {
+            Some(word) => ValueScan {
+                count: bytes.len() as u64,
+                values: true,
+                unknown: false,
+                word,
+            },
+            None => ValueScan::by_bytes(bytes),
+        }
     }
 
     /// The word of so many bits that the digits write, or why they write none.

@@ -1,6 +1,6 @@
 use Rattle.std.proofs.Common.{take}
 use Rattle.witness.specs.WordValues.{Values}
-use Rattle.witness.proofs.word_value.ValueScan.of.Given as goal
+use Rattle.witness.proofs.word_value.ValueScan.by_bytes.Given as goal
 
 -- the bytes before are taken
 abbrev pub invariant-loop-byte : goal.invariant-loop-byte

@@ -1,7 +1,7 @@
 use Rattle.std.proofs.Common.{take, subst, sym}
 use Rattle.std.proofs.lemmas.List.{take_more}
 use Rattle.witness.specs.WordValues.{Values}
-use Rattle.witness.proofs.word_value.ValueScan.of.Goals as goal
+use Rattle.witness.proofs.word_value.ValueScan.by_bytes.Goals as goal
 
 pub loop-byte-preserved : goal.loop-byte-preserved
 loop-byte-preserved c =
