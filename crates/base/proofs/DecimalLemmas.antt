@@ -1,26 +1,19 @@
 -- Decimals: what a token that is read as a number is, and that the decimal of a number is read as it.
-use Rattle.std.proofs.Common.{nat_le, ◌==◌, ◌⊎◌, ◌≡◌, ℕ, ◌+◌, ◌-◌, ◌*◌, ◌^◌, ◌<◌, ◌≤◌, min, Bool, true, false, cond, ◌&&◌, List, [], ◌∷◌, Some, None, length, get_or, take, inl, inr, refl, sym, arith, decimal}
+use Rattle.std.proofs.Common.{nat_le, ◌==◌, ◌⊎◌, ◌≡◌, ℕ, ◌+◌, ◌-◌, ◌*◌, ◌^◌, ◌<◌, ◌≤◌, min, Bool, true, false, cond, ◌&&◌, ◌||◌, not, List, [], ◌∷◌, Some, None, length, get_or, take, inl, inr, refl, sym, subst, ◌∙◌, arith, decimal}
 use Rattle.std.specs.Str.Parse.{digits_value}
 use Rattle.std.proofs.lemmas.Bool.{cases_Bool, both_ways, leb-true, and_parts, eqb-true, eqb-false, ne_eqb, cases_lt, cases_eq, eq-eqb, le-leb, and_from}
+use Rattle.std.proofs.Math.Bool.{and-false}
 use Rattle.std.proofs.lemmas.Str.{digit_value_digit}
 use Rattle.std.proofs.lemmas.Int.Digits.{digits_value_more}
 use Rattle.std.proofs.lemmas.List.{nil_from_length}
-use Rattle.std.proofs.lemmas.List.Folds.{list_all_at}
+use Rattle.std.proofs.lemmas.List.Folds.{list_all_at, list_all_more}
 use Rattle.std.proofs.lemmas.Str.Parse.{IsNumeralModel, IsDigitsTest, numerals_by_value}
 use Rattle.std.proofs.lemmas.Fmt.{decimal-digits_value, digits_decimal, digits_value-decimal, decimal_nonempty, first_decimal, decimal_digit}
-use Rattle.base.specs.Decimals.{is_digit, are_digits, is_nothing, is_decimal, capped_value, number_of}
+use Rattle.base.specs.Decimals.{is_digit, are_digits, is_nothing, is_decimal, begins_decimal, capped_value, digits_number, number_of}
 
 -- a digit's test tells its range
 pub digit_range : (b : ℕ) → is_digit b ≡ true → (48 ≤ b) × (b ≤ 57)
 digit_range b h = let parts = and_parts _ _ h in (leb-true _ _ parts.0, leb-true _ _ parts.1)
-
--- each of some digits is one
-pub digit_at : (digits : List ℕ) (i : ℕ) → are_digits digits ≡ true → i < length digits → is_digit (get_or digits i 0) ≡ true
-digit_at digits i h lt =
-    elim (cases_Bool (is_digit (get_or digits i 0))) [
-      | inl e ↦ e
-      | inr e ↦ absurd (both_ways _ (list_all_at is_digit digits i 0 lt e) h)
-    ]
 
 -- no digits write 0
 pub capped_value-nil : 0 ≡ capped_value []
@@ -28,14 +21,34 @@ unfolding capped_value
 capped_value-nil = refl
 
 -- one more digit
-pub capped_value_more : (digits : List ℕ) (i : ℕ) → are_digits digits ≡ true → i < length digits
+pub capped_value_more : (digits : List ℕ) (i : ℕ) → i < length digits → (48 ≤ get_or digits i 0) × (get_or digits i 0 ≤ 57)
     → capped_value (take (i + 1) digits) ≡ min (min (capped_value (take i digits) * 10) (2 ^ 64 - 1) + (get_or digits i 0 - 48)) (2 ^ 64 - 1)
 unfolding capped_value
-capped_value_more digits i h lt =
-    let range = digit_range (get_or digits i 0) (digit_at digits i h lt) in
+capped_value_more digits i lt range =
     let more = digits_value_more 10 digits i lt in
     let value = digit_value_digit (get_or digits i 0) range in
     rw more (omega arith)
+
+-- the digits before a byte that is one, and it
+pub digits_more : (digits : List ℕ) (i : ℕ) → i < length digits → (48 ≤ get_or digits i 0) × (get_or digits i 0 ≤ 57)
+    → are_digits (take i digits) ≡ true → are_digits (take (i + 1) digits) ≡ true
+digits_more digits i lt range h =
+    list_all_more is_digit digits i 0 lt
+    ∙ and_from _ _ h (and_from _ _ (le-leb _ _ range.0) (le-leb _ _ range.1))
+
+-- a byte that is no digit
+pub digits_not : (digits : List ℕ) (i : ℕ) → i < length digits → (get_or digits i 0 < 48) ⊎ (57 < get_or digits i 0) → digits_number digits ≡ None
+unfolding digits_number
+digits_not digits i lt outside =
+    elim (cases_Bool (is_digit (get_or digits i 0))) [
+      | inl e ↦ absurd (omega (arith, digit_range (get_or digits i 0) e, outside))
+      | inr e ↦ rw (list_all_at is_digit digits i 0 lt e) refl
+    ]
+
+-- each byte is a digit
+pub digits_all : (digits : List ℕ) → are_digits digits ≡ true → digits_number digits ≡ Some (capped_value digits)
+unfolding digits_number
+digits_all digits h = rw h refl
 
 -- the test for digits is one of std's
 digits_test : IsDigitsTest (λ ds. are_digits ds ≡ true)
@@ -94,6 +107,39 @@ number_is_decimal token n h lt =
       | inr e ↦ absurd cc
     ]
 
+-- a token that begins as a decimal is one where its bytes are digits
+pub begun : (token : List ℕ) → begins_decimal token ≡ true → digits_number token ≡ number_of token
+unfolding begins_decimal digits_number number_of is_decimal
+begun [] h = absurd cc
+begun (b ∷ bs) h =
+    elim (cases_eq b 48) [
+      | inl is ↦
+          let none : is_nothing bs ≡ true = subst (λ t. (not t || is_nothing bs) ≡ true) (eq-eqb b 48 is) h in
+          rw (is, nothing bs none) refl
+      | inr other ↦
+          rw (ne_eqb b 48 other) (
+          elim (cases_Bool (are_digits (b ∷ bs))) [
+            | inl e ↦
+                let range = digit_range b (and_parts _ _ e).0 in
+                let above : 49 ≤ b = omega (arith, other) in
+                rw (e, le-leb 49 b above, le-leb b 57 range.1) refl
+            | inr e ↦ rw (e, and-false (nat_le 49 b && nat_le b 57)) refl
+          ]
+          )
+    ]
+
+-- one that does not is none
+pub not_begun : (token : List ℕ) → begins_decimal token ≡ false → None ≡ number_of token
+unfolding begins_decimal number_of is_decimal
+not_begun [] h = refl
+not_begun (b ∷ bs) h =
+    elim (cases_eq b 48) [
+      | inl is ↦
+          let some : is_nothing bs ≡ false = subst (λ t. (not t || is_nothing bs) ≡ false) (eq-eqb b 48 is) h in
+          rw (eq-eqb b 48 is, some) refl
+      | inr other ↦ absurd (both_ways true (subst (λ t. (not t || is_nothing bs) ≡ false) (ne_eqb b 48 other) h) refl)
+    ]
+
 -- what is no plain text of digits
 plain_is_decimal : (token : List ℕ) → IsPlain token → is_decimal token ≡ true
 unfolding is_decimal
@@ -103,10 +149,10 @@ plain_is_decimal (b ∷ bs) h =
       | inl is ↦
           let none : bs ≡ [] = nil_from_length bs (omega (arith, h.zero is)) in
           rw (eq-eqb b 48 is, none) refl
-      | inr not ↦
+      | inr other ↦
           let range = digit_range b (and_parts _ _ h.digits).0 in
-          let above : 49 ≤ b = omega (arith, not) in
-          rw (ne_eqb b 48 not) (and_from _ _ (and_from _ _ (le-leb 49 b above) (le-leb b 57 range.1)) h.digits)
+          let above : 49 ≤ b = omega (arith, other) in
+          rw (ne_eqb b 48 other) (and_from _ _ (and_from _ _ (le-leb 49 b above) (le-leb b 57 range.1)) h.digits)
     ]
 
 zero_is_one_digit : (n : ℕ) → n < 2 ^ 64 → get_or (decimal n) 0 0 ≡ 48 → length (decimal n) ≡ 1

@@ -1,5 +1,5 @@
 -- Decimals: which bytes write a number, and which number they write.
-use Rattle.std.specs.Prelude.{ℕ, ◌-◌, ◌^◌, min, Bool, true, false, ◌&&◌, List, [], ◌∷◌, Option, Some, None, ◌==◌, nat_le, if◌then◌else◌}
+use Rattle.std.specs.Prelude.{ℕ, ◌-◌, ◌^◌, min, Bool, true, false, ◌&&◌, ◌||◌, not, List, [], ◌∷◌, Option, Some, None, ◌==◌, nat_le, if◌then◌else◌}
 use Rattle.std.specs.List.{list_all}
 use Rattle.std.specs.Str.Parse.{digits_value}
 
@@ -21,9 +21,18 @@ unfoldable pub is_decimal : List ℕ → Bool
 is_decimal [] = false
 is_decimal (b ∷ bs) = if b == 48 then is_nothing bs else (nat_le 49 b && nat_le b 57 && are_digits (b ∷ bs))
 
+-- there is a first byte, and none behind it where that is `0`
+unfoldable pub begins_decimal : List ℕ → Bool
+begins_decimal [] = false
+begins_decimal (b ∷ bs) = not (b == 48) || is_nothing bs
+
 -- the number that digits write; one above 2 ^ 64 - 1 is read as 2 ^ 64 - 1
 unfoldable pub capped_value : List ℕ → ℕ
 capped_value digits = min (digits_value 10 digits) (2 ^ 64 - 1)
+
+-- the number that bytes write, where each is a digit
+unfoldable pub digits_number : List ℕ → Option ℕ
+digits_number bytes = if are_digits bytes then Some (capped_value bytes) else None
 
 -- the number that bytes write, where they are a decimal
 unfoldable pub number_of : List ℕ → Option ℕ

@@ -1,48 +1,53 @@
 //! Numbers as decimals.
-ghost use Rattle.std.specs.Prelude.{◌≡◌, true};
-ghost use Rattle.base.specs.Decimals.{are_digits, is_decimal, capped_value, number_of};
+ghost use Rattle.std.specs.Prelude.{◌≡◌, ◌+◌, ◌-◌, ◌*◌, ◌^◌, ◌≤◌, min};
+ghost use Rattle.base.specs.Decimals.{begins_decimal, digits_number, number_of};
 
-/// Whether each byte is a digit.
-fn all_digits(bytes: &[u8]) -> bool
-    ensures { result ≡ are_digits bytes.now }
-{
-    bytes.iter().all(|b| b'0' <= *b && *b <= b'9')
-}
+/// The greatest number that has room for one more digit, whatever that is.
+const ROOM: u64 = u64::MAX / 10 - 1;
 
-/// The number that digits write, at most 2^64 - 1.
-fn value(digits: &[u8]) -> u64
-    requires { are_digits digits.now ≡ true }
-    ensures { result ≡ capped_value digits.now }
+/// A number with a digit more, at most 2^64 - 1.
+fn with_digit(value: u64, digit: u64) -> u64
+    requires { digit ≤ 9 }
+    ensures { result ≡ min (min (value * 10) (2 ^ 64 - 1) + digit) (2 ^ 64 - 1) }
 {
-    let mut value: u64 = 0;
-    for digit in digits {
-        value = value
-            .saturating_mul(10)
-            .saturating_add(u64::from(*digit - b'0'));
+    if value <= ROOM {
+        return value * 10 + digit;
     }
-    value
+    value.saturating_mul(10).saturating_add(digit)
 }
 
-/// Whether a token is `0`, or a digit from 1 to 9 followed by digits.
-#[tactic(auto, unfolding(crate::specs::Decimals::is_decimal))]
-fn is_decimal(token: &[u8]) -> bool
-    ensures { result ≡ is_decimal token.now }
+/// The number that digits write, at most 2^64 - 1; none where a byte is no digit. Each byte is looked at once.
+fn digits_number(bytes: &[u8]) -> Option<u64>
+    ensures { result ≡ digits_number bytes.now }
+{
+    let mut value = 0;
+    for byte in bytes {
+        if *byte < b'0' || *byte > b'9' {
+            return None;
+        }
+        value = with_digit(value, u64::from(*byte - b'0'));
+    }
+    Some(value)
+}
+
+/// Whether a token has a first byte, and none behind it where that is `0`.
+#[tactic(auto, unfolding(crate::specs::Decimals::begins_decimal))]
+fn begins_decimal(token: &[u8]) -> bool
+    ensures { result ≡ begins_decimal token.now }
 {
     match token {
         [] => false,
-        [b'0', rest @ ..] => rest.is_empty(),
-        [first, ..] => b'1' <= *first && *first <= b'9' && all_digits(token),
+        [first, rest @ ..] => *first != b'0' || rest.is_empty(),
     }
 }
 
 /// The number that a token's bytes write as a decimal: `0`, or a digit from 1 to 9 followed by digits. One above
 /// 2^64 - 1 is read as 2^64 - 1; there is none where the bytes are no decimal.
-#[tactic(auto, unfolding(crate::specs::Decimals::number_of))]
 pub fn decimal(token: &[u8]) -> Option<u64>
     ensures { result ≡ number_of token.now }
 {
-    if is_decimal(token) {
-        Some(value(token))
+    if begins_decimal(token) {
+        digits_number(token)
     } else {
         None
     }
