@@ -17,11 +17,12 @@ value_more : (digits : List ℕ) (b n : ℕ) → are_digits (digits ++ b ∷ [])
 value_more digits b n all is =
     let whole : List ℕ = digits ++ b ∷ [] in
     let long : length whole ≡ length digits + 1 = length-append digits (b ∷ []) in
-    let more = capped_value_more whole (length digits) all (omega (arith, long)) in
     let front : take (length digits) whole ≡ digits = take-append_seam digits (b ∷ []) in
     let full : take (length digits + 1) whole ≡ whole = ap (λ (n : ℕ). take n whole) (sym long) ∙ take-length whole in
     let last : get_or whole (length digits) 0 ≡ b = at_end digits b in
     let digit : is_digit b ≡ true = last_digit digits b all in
+    let range : (48 ≤ get_or whole (length digits) 0) × (get_or whole (length digits) 0 ≤ 57) = rw last (digit_range b digit) in
+    let more = capped_value_more whole (length digits) (omega (arith, long)) range in
     let one : min (min (capped_value digits * 10) (2 ^ 64 - 1) + (b - 48)) (2 ^ 64 - 1) ≡ capped_value whole =
     sym (sym (ap capped_value full) ∙ more ∙ ap₂ (λ (front : List ℕ) (last : ℕ). min (min (capped_value front * 10) (2 ^ 64 - 1) + (last - 48)) (2 ^ 64 - 1)) front last) in
     rw (digit, is) one

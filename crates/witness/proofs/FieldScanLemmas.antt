@@ -8,6 +8,7 @@ use Rattle.std.proofs.lemmas.List.Quantifiers.{position-Some}
 use Rattle.std.proofs.lemmas.List.Sums.{fails_before_first}
 use Rattle.base.proofs.CutLemmas.{IsCut, none_passes}
 use Rattle.base.specs.Decimals.{number_of}
+use Rattle.btor2.specs.Symbols.{is_symbol}
 use Rattle.base.specs.Lines.{HasNone}
 use Rattle.witness.specs.declared.bit_scan.Scan.{Scan}
 use Rattle.witness.specs.declared.word_name.NameScan.{NameScan}
@@ -165,11 +166,11 @@ index_of_value s v line found is h = is h.token h.scans ∙ ap (λ (c : Cut). nu
 pub index_of_name : (s : Scan) (v : ValueScan) (n : NameScan) (line : List ℕ) (found : Option ℕ) → ((l : List ℕ) → Scans s (48 ∷ l) → found ≡ number_of l) → WithName s v n line → found ≡ number_of (cut_at_space line).0
 index_of_name s v n line found is h = is h.token h.scans ∙ ap (λ (c : Cut). number_of c.0) (sym h.cut)
 
-pub value_named : (s : Scan) (v : ValueScan) (n : NameScan) (line : List ℕ) (width : ℕ) (r : Result ℕ Why) → ((digits bytes : List ℕ) → Values v digits → Names n bytes → Gives (λ (w : ℕ). w) r (word_with (Some bytes) (value_of width digits))) → WithName s v n line
+pub value_named : (s : Scan) (v : ValueScan) (n : NameScan) (line : List ℕ) (width : ℕ) (named : Bool) (r : Result ℕ Why) → ((digits bytes : List ℕ) → Values v digits → named ≡ is_symbol bytes → Gives (λ (w : ℕ). w) r (word_with (Some bytes) (value_of width digits))) → ((bytes : List ℕ) → Names n bytes → named ≡ is_symbol bytes) → WithName s v n line
     → Gives (λ (w : ℕ). w) r (word_behind width (cut_at_space line).1)
-value_named s v n line width r is h =
+value_named s v n line width named r is symbol h =
     subst (λ (c : Cut). Gives (λ (w : ℕ). w) r (word_behind width c.1)) (sym h.cut)
-    (subst (λ (c : Cut). Gives (λ (w : ℕ). w) r (word_with c.1 (value_of width c.0))) (sym h.rest) (is h.digits h.bytes h.values h.names))
+    (subst (λ (c : Cut). Gives (λ (w : ℕ). w) r (word_with c.1 (value_of width c.0))) (sym h.rest) (is h.digits h.bytes h.values (symbol h.bytes h.names)))
 
 -- ---- by the field that goes on
 

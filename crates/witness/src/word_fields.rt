@@ -3,6 +3,7 @@ ghost use Rattle.std.specs.Prelude.{◌≡◌, ℕ, ◌<◌, ◌^◌, List, [], 
 ghost use Rattle.std.specs.List.{position};
 ghost use Rattle.base.specs.Lines.{HasNone};
 ghost use Rattle.base.specs.Decimals.{number_of};
+ghost use Rattle.btor2.specs.Symbols.{is_symbol};
 ghost use Rattle.witness.specs.Admits.{cut_at_space, value_of};
 ghost use Rattle.witness.specs.WordValues.{Gives, Values};
 ghost use Rattle.witness.specs.WordScans.{AreFields, Names, word_behind, word_with};
@@ -12,6 +13,7 @@ use crate::why::Why;
 use crate::word_name::NameScan;
 use crate::word_value::ValueScan;
 use base::{Width, decimal};
+use btor2::Symbol;
 
 /// Which field of an assignment goes on.
 #[derive(Clone, Copy)]
@@ -76,7 +78,7 @@ fn word_with(behind: &[u8], width: Width) -> Result<u64, Why>
 {
     match cut(behind) {
         None => ValueScan::of(behind).word(width),
-        Some((digits, name)) => named(ValueScan::of(digits), NameScan::of(name), width),
+        Some((digits, name)) => named(ValueScan::of(digits), Symbol::is_symbol(name), width),
     }
 }
 
@@ -91,14 +93,14 @@ pub(crate) fn word_of(line: &[u8], width: Width) -> Result<u64, Why>
     }
 }
 
-/// The word of so many bits with a name behind it, or why there is none.
-fn named(value: ValueScan, name: NameScan, width: Width) -> Result<u64, Why>
-    ensures is { (digits bytes : List ℕ) → Values value digits → Names name bytes → Gives (λ w. w) result (word_with (Some bytes) (value_of width digits)) }
+/// The word of so many bits that digits write, where what stands behind them is a symbol, or why there is none.
+fn named(value: ValueScan, has_symbol: bool, width: Width) -> Result<u64, Why>
+    ensures is { (digits name : List ℕ) → Values value digits → has_symbol ≡ is_symbol name → Gives (λ w. w) result (word_with (Some name) (value_of width digits)) }
     ensures fits { IfOk result (λ w. w < 2 ^ width) }
 {
     match value.word(width) {
         Ok(word) => {
-            if name.is_symbol() {
+            if has_symbol {
                 Ok(word)
             } else {
                 Err(Why::BadSymbol)
@@ -177,7 +179,7 @@ impl FieldScan {
         match self.field {
             Field::Index => Err(Why::BadValue),
             Field::Value => self.value.word(width),
-            Field::Name => named(self.value, self.name, width),
+            Field::Name => named(self.value, self.name.is_symbol(), width),
         }
     }
 }

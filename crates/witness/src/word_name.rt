@@ -1,4 +1,4 @@
-//! The name behind an assignment, byte by byte or at once.
+//! The name behind an assignment, byte by byte.
 ghost use Rattle.std.specs.Prelude.{◌≡◌, ℕ, ◌&&◌, nat_lt, nat_le, List, [], ◌∷◌, ◌++◌};
 ghost use Rattle.btor2.specs.Symbols.{is_symbol};
 ghost use Rattle.witness.specs.WordScans.{Names, name_more};
@@ -53,17 +53,6 @@ impl NameScan {
         ensures { (bytes : List ℕ) → Names self.old bytes → Names self.new (bytes ++ byte ∷ []) }
     {
         *self = self.with(byte);
-    }
-
-    /// That of a whole name.
-    pub(crate) fn of(bytes: &[u8]) -> NameScan
-        ensures { Names result bytes.now }
-    {
-        let mut name = NameScan::new();
-        for byte in bytes {
-            name.push(*byte);
-        }
-        name
     }
 
     /// Whether the bytes are a symbol.

@@ -7,4 +7,4 @@ returns-in-None-clause-is c = word_by_digits c.args.behind.now c.args.width c.wo
 pub returns-in-Some-clause-is : goal.returns-in-Some-clause-is
 returns-in-Some-clause-is c =
     word_by_name c.args.behind.now c.in-Some.digits.now c.in-Some.name.now c.args.width c.named.result c.in-Some.ensures.0 c.in-Some.ensures.1
-    (c.named.ensures.is c.in-Some.digits.now c.in-Some.name.now c.of-in-Some.ensures c.of-in-Some-2.ensures)
+    (c.named.ensures.is c.in-Some.digits.now c.in-Some.name.now c.of-in-Some.ensures c.is_symbol.ensures)
