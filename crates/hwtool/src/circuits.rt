@@ -62,19 +62,21 @@ pub(crate) fn check_circuit<A: Source, B: Source, O: Sink, E: Sink>(
 fn refuse_circuit<E: Sink>(alloc: Global, file: &str, fault: &ReadFault, err: &mut E) -> u8
     ensures { (2 ≤ result) × (result ≤ 3) }
 {
+    let status = match fault.why {
+        Why::Device => DEVICE,
+        _ => REFUSED,
+    };
     match refusal_line(alloc, file, fault) {
-        Ok((status, line)) => say(err, status, line.as_bytes()),
+        Ok(line) => say(err, status, line.as_bytes()),
         Err(_) => say(err, DEVICE, b"no memory\n"),
     }
 }
 
-/// The exit status of a text that is no circuit, 2 or 3, and its line.
-fn refusal_line(alloc: Global, file: &str, fault: &ReadFault) -> Result<(u8, String), AllocError>
-    ensures { IfOk result (λ told. (2 ≤ told.0) × (told.0 ≤ 3)) }
-{
+/// The line of a text that is no circuit; none where memory was wanting, then or for the line.
+fn refusal_line(alloc: Global, file: &str, fault: &ReadFault) -> Result<String, AllocError> {
     match fault.why {
-        Why::Device => Ok((DEVICE, format!(in alloc; "{file}: device\n")?)),
+        Why::Device => format!(in alloc; "{file}: device\n"),
         Why::NoMemory => Err(AllocError),
-        _ => Ok((REFUSED, format!(in alloc; "{file}: {fault}\n")?)),
+        _ => format!(in alloc; "{file}: {fault}\n"),
     }
 }

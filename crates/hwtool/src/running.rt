@@ -222,26 +222,38 @@ pub(crate) fn refuse<E: Sink>(alloc: Global, file: &str, fault: &ConvertFault, e
     ensures { (2 ≤ result) × (result ≤ 3) }
 {
     match refusal_line(alloc, file, fault) {
-        Ok((status, line)) => say(err, status, line.as_bytes()),
+        Ok(line) => say(err, refusal_status(fault), line.as_bytes()),
         Err(_) => say(err, DEVICE, b"no memory\n"),
     }
 }
 
-/// The exit status of a refused conversion, 2 or 3, and its line.
-fn refusal_line(alloc: Global, file: &str, fault: &ConvertFault) -> Result<(u8, String), AllocError>
-    ensures { IfOk result (λ told. (2 ≤ told.0) × (told.0 ≤ 3)) }
+/// The exit status of a refused conversion, where its line can be made.
+fn refusal_status(fault: &ConvertFault) -> u8
+    ensures { (2 ≤ result) × (result ≤ 3) }
 {
     match fault {
         ConvertFault::Read(fault) => match fault.why {
-            Why::Device => Ok((DEVICE, format!(in alloc; "{file}: device\n")?)),
+            Why::Device => DEVICE,
+            _ => REFUSED,
+        },
+        ConvertFault::Lower(_) => REFUSED,
+        ConvertFault::Write(_) => DEVICE,
+    }
+}
+
+/// The line of a refused conversion; none where memory was wanting, then or for the line.
+fn refusal_line(alloc: Global, file: &str, fault: &ConvertFault) -> Result<String, AllocError> {
+    match fault {
+        ConvertFault::Read(fault) => match fault.why {
+            Why::Device => format!(in alloc; "{file}: device\n"),
             Why::NoMemory => Err(AllocError),
             why => {
                 let line = fault.line;
-                Ok((REFUSED, format!(in alloc; "{file}: line {line}: {why}\n")?))
+                format!(in alloc; "{file}: line {line}: {why}\n")
             }
         },
         ConvertFault::Lower(LowerFault::NoMemory) => Err(AllocError),
-        ConvertFault::Lower(fault) => Ok((REFUSED, format!(in alloc; "{file}: {fault}\n")?)),
-        ConvertFault::Write(_) => Ok((DEVICE, format!(in alloc; "output: device\n")?)),
+        ConvertFault::Lower(fault) => format!(in alloc; "{file}: {fault}\n"),
+        ConvertFault::Write(_) => format!(in alloc; "output: device\n"),
     }
 }
