@@ -1,6 +1,6 @@
 //! Numbers and ids in their places on a line.
 
-ghost use Rattle.std.specs.Prelude.{◌≡◌};
+ghost use Rattle.std.specs.Prelude.{◌≡◌, Ok, IfSome};
 ghost use Rattle.btor2text.specs.Tokens.{tokens};
 ghost use Rattle.btor2text.specs.Reading.{Gives, GivesUnlessFull, is_negative, plain, operand, plain_at, kept_id, sort_at, operand_at, width_at, pair_at, triple_at, operands_at, counted_at};
 
@@ -46,10 +46,42 @@ fn operand(token: &[u8]) -> Result<u64, Why>
     }
 }
 
-/// A number in a plain place, and the line behind it.
+/// The greatest number that has room for one more digit, whatever that is.
+const ROOM: u64 = u64::MAX / 10 - 1;
+
+/// The number that a line begins with, and the line behind it, where the first token begins at once, with a digit from
+/// 1 to 9, is all digits and its number has room below 2^64; else nothing. Each byte is looked at once. Of nothing no
+/// more is said, so a body that always answers it would prove: the callers' contracts pin what is read.
 #[inline(always)]
+fn number_at(line: &[u8]) -> Option<(u64, &[u8])>
+    ensures { IfSome result (λ x. plain_at (tokens line.now) ≡ Ok (x.0, tokens x.1.now)) }
+{
+    let mut value = match line {
+        [first, ..] if *first >= b'1' && *first <= b'9' => u64::from(*first - b'0'),
+        _ => return None,
+    };
+    for at in 1..line.len() {
+        let byte = line[at];
+        if byte < b'0' || byte > b'9' {
+            if byte != b' ' && byte != b'\t' {
+                return None;
+            }
+            let (_, rest) = line.split_at(at + 1);
+            return Some((value, rest));
+        }
+        if value > ROOM {
+            return None;
+        }
+        value = value * 10 + u64::from(byte - b'0');
+    }
+    let (_, rest) = line.split_at(line.len());
+    Some((value, rest))
+}
+
+/// The same as `plain_at`: the first token is cut off, and then read.
+#[inline(never)]
 #[tactic(auto, unfolding(crate::specs::Reading::plain_at))]
-pub(crate) fn plain_at(line: &[u8]) -> Result<(u64, &[u8]), Why>
+fn plain_token_at(line: &[u8]) -> Result<(u64, &[u8]), Why>
     ensures { Gives (λ x. (x.0, tokens x.1.now)) result (plain_at (tokens line.now)) }
 {
     match next_token(line) {
@@ -58,6 +90,17 @@ pub(crate) fn plain_at(line: &[u8]) -> Result<(u64, &[u8]), Why>
             let number = plain(token)?;
             Ok((number, rest))
         }
+    }
+}
+
+/// A number in a plain place, and the line behind it.
+#[inline(always)]
+pub(crate) fn plain_at(line: &[u8]) -> Result<(u64, &[u8]), Why>
+    ensures { Gives (λ x. (x.0, tokens x.1.now)) result (plain_at (tokens line.now)) }
+{
+    match number_at(line) {
+        Some((number, rest)) => Ok((number, rest)),
+        None => plain_token_at(line),
     }
 }
 
@@ -80,10 +123,10 @@ pub(crate) fn sort_at(line: &[u8]) -> Result<(u32, &[u8]), Why>
     Ok((kept_id(number), rest))
 }
 
-/// The id of an operand, and the line behind it.
-#[inline(always)]
+/// The same as `operand_at`: the first token is cut off, and then read.
+#[inline(never)]
 #[tactic(auto, unfolding(crate::specs::Reading::operand_at))]
-pub(crate) fn operand_at(line: &[u8]) -> Result<(u32, &[u8]), Why>
+fn operand_token_at(line: &[u8]) -> Result<(u32, &[u8]), Why>
     ensures { Gives (λ x. (x.0, tokens x.1.now)) result (operand_at (tokens line.now)) }
 {
     match next_token(line) {
@@ -92,6 +135,17 @@ pub(crate) fn operand_at(line: &[u8]) -> Result<(u32, &[u8]), Why>
             let number = operand(token)?;
             Ok((kept_id(number), rest))
         }
+    }
+}
+
+/// The id of an operand, and the line behind it.
+#[inline(always)]
+pub(crate) fn operand_at(line: &[u8]) -> Result<(u32, &[u8]), Why>
+    ensures { Gives (λ x. (x.0, tokens x.1.now)) result (operand_at (tokens line.now)) }
+{
+    match number_at(line) {
+        Some((number, rest)) => Ok((kept_id(number), rest)),
+        None => operand_token_at(line),
     }
 }
 

@@ -1,0 +1,112 @@
+-- A number at the front of a line, in digits up to a blank or the line's end.
+use Rattle.std.proofs.Common.{◌≡◌, ℕ, zero, suc, ◌+◌, ◌-◌, ◌*◌, ◌^◌, ◌<◌, ◌≤◌, min, true, false, List, [], ◌∷◌, ◌++◌, length, get_or, take, drop, Some, Ok, refl, sym, ap, subst, ◌∙◌, arith}
+use Rattle.std.specs.List.{list_any}
+use Rattle.std.proofs.lemmas.Bool.{and_parts, or_from, ne_eqb}
+use Rattle.std.proofs.lemmas.List.{drop_more, take_all, take-append-drop}
+use Rattle.base.specs.Decimals.{are_digits, begins_decimal, capped_value, number_of}
+use Rattle.base.proofs.DecimalLemmas.{digit_range, capped_value-nil, capped_value_more, digits_more, digits_all, begun}
+use Rattle.btor2text.specs.Tokens.{is_blank, tokens, begins_token}
+use Rattle.btor2text.specs.Reading.{Tokens, plain, operand, plain_at, kept_id, operand_at}
+use Rattle.btor2text.proofs.PlaceLemmas.{bind_ok, ok_is, some_read}
+use Rattle.btor2text.proofs.TokenLemmas.{tokens-word_blank, tokens-whole}
+
+-- the first so many bytes of a line, one at least, are digits that write this number
+pub record IsRead (line : List ℕ) (count value : ℕ) : Type 0 where
+  pub some : 0 < count
+  pub digits : are_digits (take count line) ≡ true
+  pub writes : value ≡ capped_value (take count line)
+
+-- a byte is a digit from 0 to 9
+abbrev pub IsDigit : ℕ → Type 0
+IsDigit b = (48 ≤ b) × (b ≤ 57)
+
+-- ---- the digits that are read
+
+-- a number up to this has room for one more digit
+value_more : (before byte after : ℕ) → before ≤ 1844674407370955160 → after ≡ min (min (before * 10) (2 ^ 64 - 1) + (byte - 48)) (2 ^ 64 - 1) → IsDigit byte → before * 10 + (byte - 48) ≡ after
+value_more before byte after room is digit = omega (arith, room, is, digit)
+
+first_value : (byte after : ℕ) → after ≡ min (min (0 * 10) (2 ^ 64 - 1) + (byte - 48)) (2 ^ 64 - 1) → IsDigit byte → byte - 48 ≡ after
+first_value byte after is digit = omega (arith, is, digit)
+
+pub read_first : (line : List ℕ) → 0 < length line → IsDigit (get_or line 0 0) → IsRead line 1 (get_or line 0 0 - 48)
+read_first line lt digit =
+    let more = capped_value_more line 0 lt digit in
+    record {
+      some = omega arith;
+      digits = digits_more line 0 lt digit refl;
+      writes = first_value (get_or line 0 0) (capped_value (take 1 line)) (subst (λ v. capped_value (take 1 line) ≡ min (min (v * 10) (2 ^ 64 - 1) + (get_or line 0 0 - 48)) (2 ^ 64 - 1)) (sym capped_value-nil) more) digit;
+    }
+
+pub read_more : (line : List ℕ) (at value : ℕ) → IsRead line at value → at < length line → IsDigit (get_or line at 0) → value ≤ 1844674407370955160 → IsRead line (at + 1) (value * 10 + (get_or line at 0 - 48))
+read_more line at value read lt digit room =
+    let more = capped_value_more line at lt digit in
+    record {
+      some = omega arith;
+      digits = digits_more line at lt digit read.digits;
+      writes = value_more value (get_or line at 0) (capped_value (take (at + 1) line)) room (subst (λ v. capped_value (take (at + 1) line) ≡ min (min (v * 10) (2 ^ 64 - 1) + (get_or line at 0 - 48)) (2 ^ 64 - 1)) (sym read.writes) more) digit;
+    }
+
+-- ---- the token that they are
+
+digit_is_no_blank : (b : ℕ) → IsDigit b → is_blank b ≡ false
+digit_is_no_blank b digit = or_from _ _ (ne_eqb b 32 (λ e. omega (arith, e, digit))) (ne_eqb b 9 (λ e. omega (arith, e, digit)))
+
+digits_have_no_blank : (digits : List ℕ) → are_digits digits ≡ true → list_any is_blank digits ≡ false
+digits_have_no_blank [] h = refl
+digits_have_no_blank (b ∷ bs) h =
+    let parts = and_parts _ _ h in
+    or_from _ _ (digit_is_no_blank b (digit_range b parts.0)) (digits_have_no_blank bs parts.1)
+
+-- a line whose first byte is a digit other than 0 begins a token, and its front begins a decimal
+begins_a_token : (line : List ℕ) → 0 < length line → (49 ≤ get_or line 0 0) × (get_or line 0 0 ≤ 57) → begins_token line ≡ true
+begins_a_token [] lt first = absurd (omega (arith, lt))
+begins_a_token (b ∷ bs) lt first =
+    let none = digit_is_no_blank b (omega (arith, first.0), first.1) in
+    rw (none, ne_eqb b 59 (λ e. omega (arith, e, first.1))) refl
+
+begins_a_decimal : (line : List ℕ) (at : ℕ) → 0 < length line → 49 ≤ get_or line 0 0 → 0 < at → begins_decimal (take at line) ≡ true
+unfolding begins_decimal
+begins_a_decimal [] at lt first some = absurd (omega (arith, lt))
+begins_a_decimal (b ∷ bs) zero lt first some = absurd (omega (arith, some))
+begins_a_decimal (b ∷ bs) (suc n) lt first some = rw (ne_eqb b 48 (λ e. omega (arith, e, first))) refl
+
+plain_front : (token : List ℕ) (rest : Tokens) (n : ℕ) → number_of token ≡ Some n → plain_at (token ∷ rest) ≡ Ok (n, rest)
+unfolding plain_at plain
+plain_front token rest n is = rw is refl
+
+-- the first byte of a line is a digit from 1 to 9, and these first bytes write this number
+module _ (line : List ℕ) (at value : ℕ) (lt : 0 < length line) (first : (49 ≤ get_or line 0 0) × (get_or line 0 0 ≤ 57)) (read : IsRead line at value) where
+  front_number : number_of (take at line) ≡ Some value
+  front_number =
+      sym (begun (take at line) (begins_a_decimal line at lt first.0 read.some))
+      ∙ (digits_all (take at line) read.digits ∙ ap (λ (v : ℕ). Some v) (sym read.writes))
+
+  pub read_to_blank : at < length line → is_blank (get_or line at 0) ≡ true → plain_at (tokens line) ≡ Ok (value, tokens (drop (at + 1) line))
+  read_to_blank inside blank =
+      let parts : line ≡ take at line ++ get_or line at 0 ∷ drop (at + 1) line = sym (take-append-drop at line) ∙ ap (λ (rest : List ℕ). take at line ++ rest) (drop_more line at 0 inside) in
+      let begins : begins_token (take at line ++ get_or line at 0 ∷ drop (at + 1) line) ≡ true = subst (λ l. begins_token l ≡ true) parts (begins_a_token line lt first) in
+      let token = tokens-word_blank (take at line) (get_or line at 0) (drop (at + 1) line) (digits_have_no_blank (take at line) read.digits) blank begins in
+      ap (λ (l : List ℕ). plain_at (tokens l)) parts ∙ (ap plain_at token ∙ plain_front (take at line) (tokens (drop (at + 1) line)) value front_number)
+
+  pub read_to_end : length line ≤ at → plain_at (tokens line) ≡ Ok (value, tokens (drop (length line) line))
+  read_to_end le =
+      let whole : take at line ≡ line = take_all at line le in
+      let all : take (length line) line ≡ line = take_all (length line) line (omega arith) in
+      let none = digits_have_no_blank line (subst (λ l. are_digits l ≡ true) whole read.digits) in
+      let token = tokens-whole line none (begins_a_token line lt first) in
+      let number : number_of (take (length line) line) ≡ Some value = ap number_of (all ∙ sym whole) ∙ front_number in
+      ap plain_at token ∙ plain_front (take (length line) line) (tokens (drop (length line) line)) value number
+
+-- ---- a plain number in an operand's place
+
+operand_front : (token : List ℕ) (rest : Tokens) (n : ℕ) → plain token ≡ Ok n → operand_at (token ∷ rest) ≡ Ok (kept_id n, rest)
+unfolding operand_at operand plain
+operand_front token rest n is = rw (some_read (number_of token) n is) refl
+
+pub plain_is_operand : (tokens : Tokens) (x : ℕ × Tokens) → plain_at tokens ≡ Ok x → operand_at tokens ≡ Ok (kept_id x.0, x.1)
+unfolding plain_at
+plain_is_operand [] x e = absurd cc
+plain_is_operand (token ∷ rest) x e =
+    let b = bind_ok (plain token) (λ n. Ok (n, rest)) x e in
+    subst (λ (p : ℕ × Tokens). operand_at (token ∷ rest) ≡ Ok (kept_id p.0, p.1)) {x = (b.0, rest)} (ok_is (b.0, rest) x b.2) (operand_front token rest b.0 b.1)
