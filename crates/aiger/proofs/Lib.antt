@@ -13,6 +13,7 @@ mod NumberingLemmas
 pub mod PlacesLemmas
 mod LooseTraceLemmas
 mod NumbersLemmas
+mod VariableNumbersLemmas
 mod UndefinedLemmas
 mod CompleteLemmas
 mod StraightLemmas

@@ -2,12 +2,12 @@
 use Rattle.std.proofs.Common.{◌≡◌, ℕ, zero, suc, ◌+◌, ◌-◌, ◌*◌, ◌<◌, ◌≤◌, Bool, true, false, not, ◌||◌, ◌==◌, List, [], ◌∷◌, ◌++◌, map, length, take, drop, get_or, slice_index_or, All, Some, None, nat_eq, cond, refl, ap, sym, ◌∙◌, subst, arith, if◌then◌else◌, length-append, append-nil, append_assoc}
 use Rattle.std.proofs.lemmas.Bool.Decides.{nat_tests}
 use Rattle.std.proofs.lemmas.List.{length-map, map-append, get_or_append_left, get_or-append_right}
-use Rattle.std.proofs.Math.Seq.{take-append_seam}
 use Rattle.std.proofs.lemmas.List.Elements.{All-cons, All-nil}
 use Rattle.std.proofs.lemmas.List.Folds.{list_any_at}
 use Rattle.std.proofs.lemmas.List.Sums.{sum_by-append, sum_by-cons, sum_by_push, fails_before_first, prefix_len_stops}
 use Rattle.std.specs.List.{list_any, position, position_or_len, count_by}
 use Rattle.aiger.specs.declared.loose.GateLine.{GateLine}
+use Rattle.aiger.specs.Limits.{greatest_count}
 use Rattle.aiger.specs.Literal.{variable}
 use Rattle.aiger.specs.Loose.{Loose, IsLoose, defined_variables, defined_count, latch_variable, gate_variable}
 use Rattle.aiger.specs.Renumbering.{is_known, gate_line, gate_name, numbered, AreInTurn, IsOrder, IsFirstCyclic}
@@ -110,13 +110,6 @@ leaf_count l = length l.inputs + length l.latches
 
 length_leaves : (l : Loose) → length (leaf_names l) ≡ leaf_count l
 length_leaves l = omega (arith, length-append (map variable l.inputs) (map latch_variable l.latches), length-map l.inputs variable, length-map l.latches latch_variable)
-
--- the places of the leaves alone
-pub leaves_kept : (l : Loose) → take (leaf_count l) (defined_variables l) ≡ numbered l []
-leaves_kept l = take-append-at (leaf_names l) (map gate_variable l.gates) (leaf_count l) (length_leaves l) ∙ sym (append-nil (leaf_names l))
-  where
-    take-append-at : (xs ys : List ℕ) (n : ℕ) → length xs ≡ n → take n (xs ++ ys) ≡ xs
-    take-append-at xs ys n e = ap (λ (k : ℕ). take k (xs ++ ys)) (sym e) ∙ take-append_seam xs ys
 
 -- the slot of a literal that is known says what it waits for
 slot_known : (l : Loose) (lit : ℕ) → is_known l lit ≡ true → IsSlotOf l lit (slot_of (defined_variables l) (leaf_count l) lit) × (slot_of (defined_variables l) (leaf_count l) lit ≤ length l.gates)
@@ -245,9 +238,7 @@ name_read [] i d h = absurd (omega arith)
 name_read (y ∷ ys) zero d h = refl
 name_read (y ∷ ys) (suc i) d h = name_read ys i d (omega arith)
 
--- the variables in the order of their numbers, over the places of the leaves
-pub numbered_again : (l : Loose) (order front places : List ℕ) (n : ℕ) (gates : List GateLine) (read : List ℕ)
-    → front ≡ take n places → places ≡ defined_variables l → n ≡ leaf_count l → gates ≡ l.gates → read ≡ order → front ++ map (name_in gates) read ≡ numbered l order
-numbered_again l order front places n gates read a b d e f =
-    let kept : front ≡ numbered l [] = a ∙ (ap (take n) b ∙ (ap (λ (k : ℕ). take k (defined_variables l)) d ∙ leaves_kept l)) in
-    rw (kept, e, f) (sym (numbered-append l [] order))
+-- no more variables have numbers than are defined
+pub numbered_few : (l : Loose) (order : List ℕ) → IsLoose l → length order ≤ length l.gates → length (numbered l order) ≤ greatest_count
+numbered_few l order valid few =
+    omega (arith, length-append (leaf_names l) (map (gate_name l) order), length_leaves l, length-map order (gate_name l), few, valid.few.defined)

@@ -1,6 +1,6 @@
 -- What stands between the parts of numbering: the slots of a file's gates, and their order as far as it goes.
 use Rattle.std.specs.Prelude.{◌≡◌, ℕ, suc, ◌-◌, ◌≤◌, slice_index_or, count_by, Bool, not, false, List, [], ◌∷◌, length, nat_eq, if◌then◌else◌, ◌==◌}
-use Rattle.std.specs.List.{position_or_len, flat_map, list_all}
+use Rattle.std.specs.List.{position_or_len, flat_map, list_all, list_any}
 use Rattle.aiger.specs.declared.loose.GateLine.{GateLine}
 use Rattle.aiger.specs.Literal.{variable}
 use Rattle.aiger.specs.Loose.{Loose, gate_variable}
@@ -18,6 +18,10 @@ IsOnce names = (v : ℕ) → count_by (nat_eq v) names ≤ 1
 -- the variable of the gate line at a position
 abbrev pub name_in : List GateLine → ℕ → ℕ
 name_in lines j = gate_variable (slice_index_or lines j (record { lhs = 0; rhs0 = 0; rhs1 = 0 }))
+
+-- the number of a variable in a list of variables in the order of their numbers, from 1; 0 where it does not stand there
+abbrev pub number_in : List ℕ → ℕ → ℕ
+number_in names v = if list_any (nat_eq v) names then suc (position_or_len (nat_eq v) names) else 0
 
 -- what a literal waits for, by the places of the defined variables, of which so many first ones are no gates
 abbrev pub slot_of : List ℕ → ℕ → ℕ → ℕ

@@ -3,16 +3,16 @@ ghost use Rattle.std.specs.Prelude.{◌≡◌, ℕ, true, false, None, OnOk, OnE
 ghost use Rattle.aiger.specs.Refusal.{RefusesBy};
 
 use crate::fault::CircuitFault;
+use crate::variable_numbers::VariableNumbers;
 use std::alloc::Global;
-use std::collections::HashSet;
 
 /// A set of variables. Those from 1 on that are added in turn take no memory.
 #[derive(Debug, Drop)]
 pub struct Definitions {
     // the variables from 1 to this one are defined
     in_turn: u32,
-    // the variables that were defined out of turn
-    others: HashSet<u32>,
+    // the variables that were defined out of turn have number 1
+    others: VariableNumbers,
 }
 
 impl Definitions {
@@ -24,7 +24,7 @@ impl Definitions {
     {
         Definitions {
             in_turn: 0,
-            others: HashSet::new(alloc),
+            others: VariableNumbers::new(alloc),
         }
     }
 
@@ -32,7 +32,7 @@ impl Definitions {
     pub fn has(&self, variable: u32) -> bool
         ensures { result ≡ has_variable self.now variable }
     {
-        (variable >= 1 && variable <= self.in_turn) || self.others.contains(&variable)
+        (variable >= 1 && variable <= self.in_turn) || self.others.get(variable) != 0
     }
 
     /// Adds a variable. The error is want of memory, and nothing has changed then.
@@ -45,8 +45,8 @@ impl Definitions {
             self.in_turn = variable;
             return Ok(());
         }
-        match self.others.insert(variable) {
-            Ok(_) => Ok(()),
+        match self.others.set(variable, 1) {
+            Ok(()) => Ok(()),
             Err(_) => Err(CircuitFault::NoMemory),
         }
     }

@@ -15,6 +15,7 @@ mod numbers;
 mod readiness;
 mod straight;
 mod undefined;
+mod variable_numbers;
 
 pub use circuit::{Circuit, GREATEST_COUNT, Gate, Latch, Reset, Section};
 pub use fault::{CircuitFault, LooseFault};

@@ -1,10 +1,10 @@
 //! The lists of a file as a circuit: their variables get the numbers of a circuit.
-ghost use Rattle.std.specs.Prelude.{◌≡◌, ◌+◌, ◌≤◌, length, not, None, IfOk, IfSome};
+ghost use Rattle.std.specs.Prelude.{◌≡◌, ◌+◌, ◌<◌, ◌≤◌, length, not, All, None, IfOk, IfSome};
 ghost use Rattle.std.specs.List.{position};
 ghost use Rattle.aiger.specs.Limits.{greatest_count};
 ghost use Rattle.aiger.specs.Loose.{IsLoose, defined_variables};
-ghost use Rattle.aiger.specs.Renumbering.{AnswersNumber, first_undefined};
-ghost use Rattle.aiger.specs.Numbering.{slots_of, IsReadyOrder};
+ghost use Rattle.aiger.specs.Renumbering.{AnswersNumber, first_undefined, numbered};
+ghost use Rattle.aiger.specs.Numbering.{slots_of, IsOnce, IsReadyOrder};
 ghost use Rattle.aiger.specs.Straight.{IsStraight};
 
 use crate::circuit::Circuit;
@@ -67,16 +67,30 @@ impl Loose {
         requires { first_undefined self.now ≡ None }
         ensures { AnswersNumber self.now result }
     {
-        let mut numbers = self.places(alloc)?;
-        let (order, marks) = self.gate_order(alloc, &numbers)?;
+        let (order, marks) = self.gate_order(alloc)?;
         match first_left(&marks) {
             Some(gate) => Err(LooseFault::Cycle(gate)),
             None => {
-                numbers.truncate(self.inputs().len() + self.latches().len());
-                numbers.push_in_order(self.gates(), &order)?;
+                let numbers = self.numbers(alloc, &order)?;
                 Ok(Circuit::renumbered(alloc, self, &numbers, &order)?)
             }
         }
+    }
+
+    /// The variables in the order of their numbers: inputs and latches in file order, and the gates
+    /// in this order.
+    fn numbers(&self, alloc: Global, order: &[u32]) -> Result<Numbers, AllocError>
+        requires within { All (λ j. j < length self.now.gates) order.now }
+        requires once { IsOnce (numbered self.now order.now) }
+        requires few { length (numbered self.now order.now) ≤ greatest_count }
+        ensures { IfOk result (λ n. n ≡ numbered self.now order.now) }
+    {
+        let count = self.inputs().len() + self.latches().len() + order.len();
+        let mut numbers = Numbers::with_room(alloc, count)?;
+        numbers.push_inputs(self.inputs())?;
+        numbers.push_latches(self.latches())?;
+        numbers.push_in_order(self.gates(), order)?;
+        Ok(numbers)
     }
 
     /// The defined variables by their places: inputs, latches and gates, each in file order.
@@ -94,26 +108,22 @@ impl Loose {
 
     /// The gates in the order of readiness, until none is ready, and for each gate whether it is
     /// among them.
-    fn gate_order(
-        &self,
-        alloc: Global,
-        numbers: &Numbers,
-    ) -> Result<(Vec<u32>, Vec<bool>), AllocError>
-        requires known { first_undefined self.now ≡ None }
-        requires numbers { numbers.now ≡ defined_variables self.now }
-        ensures { IfOk result (λ r. IsReadyOrder self.now r.0.items r.1.items) }
+    fn gate_order(&self, alloc: Global) -> Result<(Vec<u32>, Vec<bool>), AllocError>
+        requires { first_undefined self.now ≡ None }
+        ensures order { IfOk result (λ r. IsReadyOrder self.now r.0.items r.1.items) }
+        ensures valid { IsLoose self.now }
     {
-        let gates = self.gates().len();
-        let slots = self.slots(alloc, numbers)?;
-        order_of_readiness(alloc, slots, gates)
+        let slots = self.slots(alloc)?;
+        order_of_readiness(alloc, slots, self.gates().len())
     }
 
     /// For each gate the two slots of its operands: 0 where an operand waits for no gate, or the
     /// position of the gate that it waits for and 1.
-    fn slots(&self, alloc: Global, numbers: &Numbers) -> Result<Vec<u32>, AllocError>
-        requires { length numbers.now ≤ greatest_count }
-        ensures { IfOk result (λ v. v.items ≡ slots_of numbers.now (length self.now.inputs + length self.now.latches) self.now.gates) }
+    fn slots(&self, alloc: Global) -> Result<Vec<u32>, AllocError>
+        ensures slots { IfOk result (λ v. v.items ≡ slots_of (defined_variables self.now) (length self.now.inputs + length self.now.latches) self.now.gates) }
+        ensures valid { IsLoose self.now }
     {
+        let numbers = self.places(alloc)?;
         let leaves = self.inputs().len() + self.latches().len();
         let mut slots = Vec::with_capacity(alloc, 2 * self.gates().len())?;
         for line in self.gates() {

@@ -1,5 +1,5 @@
 //! Variables in the order of their numbers, and the literals that have these numbers.
-ghost use Rattle.std.specs.Prelude.{◌≡◌, ◌<◌, ◌≤◌, false, All, [], ◌∷◌, ◌++◌, map, length, take, nat_eq, IfOk, OnOk};
+ghost use Rattle.std.specs.Prelude.{◌≡◌, ◌<◌, ◌≤◌, ◌+◌, false, All, [], ◌∷◌, ◌++◌, map, length, nat_eq, IfOk, OnOk};
 ghost use Rattle.std.specs.List.{list_any, position_or_len};
 ghost use Rattle.aiger.specs.Limits.{greatest_count};
 ghost use Rattle.aiger.specs.Literal.{variable};
@@ -9,22 +9,28 @@ ghost use Rattle.aiger.specs.Numbering.{IsOnce, name_in, slot_of};
 
 use crate::literal::Lit;
 use crate::loose::{GateLine, LatchLine};
-use indexmap::IndexSet;
+use crate::variable_numbers::VariableNumbers;
 use std::alloc::{AllocError, Global};
 use std::marker::Model;
 
 /// Variables in the order of their numbers, which begin with 1; a variable's place is found by one look-up.
 #[derive(Drop)]
 pub struct Numbers {
-    variables: IndexSet<u32>,
+    variables: Vec<u32>,
+    // the number of each of them
+    numbers: VariableNumbers,
 }
 
 impl Model for Numbers {
-    ghost use Rattle.std.specs.Prelude.{ℕ, List};
+    ghost use Rattle.std.specs.Prelude.{◌≡◌, ℕ, List};
+    ghost use Rattle.aiger.specs.Numbering.{number_in};
+    ghost use Rattle.aiger.specs.VariableNumbers.{number_of};
 
     ghost Value = { List ℕ };
 
-    ghost view = { λ n. n.variables.keys };
+    ghost view = { λ n. n.variables.items };
+
+    ghost invariant = { λ n. (v : ℕ) → number_of n.numbers v ≡ number_in n.variables.items v };
 }
 
 impl Numbers {
@@ -32,22 +38,32 @@ impl Numbers {
     pub fn with_room(alloc: Global, count: usize) -> Result<Numbers, AllocError>
         ensures { IfOk result (λ n. n ≡ []) }
     {
-        let variables = IndexSet::with_capacity(alloc, count)?;
-        Ok(Numbers { variables })
+        let variables = Vec::with_capacity(alloc, count)?;
+        Ok(Numbers {
+            variables,
+            numbers: VariableNumbers::new(alloc),
+        })
     }
 
     /// Gives a variable the next number.
     pub fn push(&mut self, variable: u32) -> Result<(), AllocError>
         requires new { list_any (nat_eq variable) self.old ≡ false }
+        requires few { length self.old < greatest_count }
         ensures { OnOk result (self.new ≡ self.old ++ variable ∷ []) }
     {
-        self.variables.insert_full(variable)?;
-        Ok(())
+        self.variables.reserve(1)?;
+        let number = self.variables.len() as u32 + 1;
+        self.numbers.set(variable, number)?;
+        match self.variables.push(variable) {
+            Ok(()) => Ok(()),
+            Err(_) => unreachable!(),
+        }
     }
 
     /// Gives the variables of input lines the next numbers.
     pub fn push_inputs(&mut self, inputs: &[Lit]) -> Result<(), AllocError>
-        requires { IsOnce (self.old ++ map variable inputs.now) }
+        requires once { IsOnce (self.old ++ map variable inputs.now) }
+        requires few { length self.old + length inputs.now ≤ greatest_count }
         ensures { OnOk result (self.new ≡ self.old ++ map variable inputs.now) }
     {
         for lit in inputs {
@@ -58,7 +74,8 @@ impl Numbers {
 
     /// Gives the variables of latch lines the next numbers.
     pub fn push_latches(&mut self, lines: &[LatchLine]) -> Result<(), AllocError>
-        requires { IsOnce (self.old ++ map latch_variable lines.now) }
+        requires once { IsOnce (self.old ++ map latch_variable lines.now) }
+        requires few { length self.old + length lines.now ≤ greatest_count }
         ensures { OnOk result (self.new ≡ self.old ++ map latch_variable lines.now) }
     {
         for line in lines {
@@ -69,7 +86,8 @@ impl Numbers {
 
     /// Gives the variables of gate lines the next numbers.
     pub fn push_gates(&mut self, lines: &[GateLine]) -> Result<(), AllocError>
-        requires { IsOnce (self.old ++ map gate_variable lines.now) }
+        requires once { IsOnce (self.old ++ map gate_variable lines.now) }
+        requires few { length self.old + length lines.now ≤ greatest_count }
         ensures { OnOk result (self.new ≡ self.old ++ map gate_variable lines.now) }
     {
         for line in lines {
@@ -82,6 +100,7 @@ impl Numbers {
     pub fn push_in_order(&mut self, lines: &[GateLine], order: &[u32]) -> Result<(), AllocError>
         requires within { All (λ j. j < length lines.now) order.now }
         requires once { IsOnce (self.old ++ map (name_in lines.now) order.now) }
+        requires few { length self.old + length order.now ≤ greatest_count }
         ensures { OnOk result (self.new ≡ self.old ++ map (name_in lines.now) order.now) }
     {
         for gate in order {
@@ -90,22 +109,16 @@ impl Numbers {
         Ok(())
     }
 
-    /// Keeps the first so many variables.
-    pub fn truncate(&mut self, count: usize)
-        ensures { self.new ≡ take count self.old }
-    {
-        self.variables.truncate(count);
-    }
-
     /// The place of a variable, from 0, or how many there are where it is not among them.
     pub fn place(&self, variable: u32) -> usize
         ensures place { result ≡ position_or_len (nat_eq variable) self.now }
         ensures within { result ≤ length self.now }
     {
-        match self.variables.get_index_of(&variable) {
-            Some(place) => place,
-            None => self.variables.len(),
+        let number = self.numbers.get(variable) as usize;
+        if number == 0 {
+            return self.variables.len();
         }
+        number - 1
     }
 
     /// What the operands of a gate wait for.

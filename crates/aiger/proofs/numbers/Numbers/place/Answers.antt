@@ -1,9 +1,15 @@
-use Rattle.std.proofs.Common.{◌≡◌, length, sym, arith, nat_eq}
-use Rattle.std.specs.List.{position_or_len}
-use Rattle.aiger.proofs.NumbersLemmas.{place_missed}
+use Rattle.std.proofs.Common.{◌≡◌, ◌∙◌, arith}
+use Rattle.aiger.specs.Numbering.{number_in}
+use Rattle.aiger.proofs.NumbersLemmas.{place_by_none, place_by_number}
 use Rattle.aiger.proofs.numbers.Numbers.place.Goals as goal
 
-pub returns-in-None-clause-place : goal.returns-in-None-clause-place
-returns-in-None-clause-place c =
-    let m : position_or_len (nat_eq c.args.variable) c.self.inside.variables.keys ≡ length c.self.inside.variables.keys = place_missed (nat_eq c.args.variable) c.self.inside.variables.keys (sym c.in-None.ensures.index) in
-    rw (← c.self.view_is) (omega (arith, m, c.len.ensures.len))
+pub returns-then-number-eq0-clause-place : goal.returns-then-number-eq0-clause-place
+returns-then-number-eq0-clause-place c =
+    let none : number_in c.self.inside.variables.items c.args.variable ≡ 0 = omega (arith, c.self.invariant c.args.variable, c.get-number.ensures, c.if-number-eq0.true) in
+    rw (← c.self.view_is) (omega (arith, c.len.ensures, place_by_none c.args.variable c.self.inside.variables.items none))
+
+pub returns : goal.returns
+returns c =
+    let number : c.get-number.result ≡ number_in c.self.inside.variables.items c.args.variable = c.get-number.ensures ∙ c.self.invariant c.args.variable in
+    let p = place_by_number c.args.variable c.self.inside.variables.items (omega (arith, number, c.if-number-eq0.false)) in
+    rw (← c.self.view_is) (record { place = omega (arith, number, p.0); within = omega (arith, number, p.1) })

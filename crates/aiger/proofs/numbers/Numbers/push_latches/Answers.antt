@@ -2,7 +2,7 @@ use Rattle.aiger.specs.Loose.{latch_variable}
 use Rattle.aiger.proofs.PlacesLemmas.{not_yet}
 use Rattle.aiger.proofs.numbers.Numbers.push_latches.Goals as goal
 
-pub push-requires : goal.push-requires
-push-requires c =
-    let new = not_yet latch_variable c.args.self.now c.args.lines.now c.loop-line.line-index c.line-item.result c.requires c.loop-line-test.true c.line-item.is in
-    record { new = rw (c.var.ensures, c.loop-line.invariant) new }
+pub push-requires-clause-new : goal.push-requires-clause-new
+push-requires-clause-new c =
+    let new = not_yet latch_variable c.args.self.now c.args.lines.now c.loop-line.line-index c.line-item.result c.requires.once c.loop-line-test.true c.line-item.is in
+    rw (c.var.ensures, c.loop-line.invariant) new
