@@ -13,7 +13,7 @@ mod NumberingLemmas
 pub mod PlacesLemmas
 mod LooseTraceLemmas
 mod NumbersLemmas
-mod VariableNumbersLemmas
+mod VariablePagesLemmas
 mod UndefinedLemmas
 mod CompleteLemmas
 mod StraightLemmas

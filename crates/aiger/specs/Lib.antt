@@ -7,6 +7,7 @@ pub mod Justice
 pub mod FlatNames
 pub mod Circuit
 pub mod Loose
+pub mod VariablePages
 pub mod VariableNumbers
 pub mod Definitions
 pub mod LooseTrace

@@ -1,13 +1,8 @@
--- Numbers of variables, kept in pages of neighbours.
-use Rattle.std.specs.Prelude.{ℕ, ◌/◌, ◌%◌, List, Option, None, Some, slice_index_or, nat_eq}
-use Rattle.std.specs.HashMap.{get}
+-- Numbers of variables, in a list of the low ones and in pages of the others.
+use Rattle.std.specs.Prelude.{ℕ, length, slice_index_or, nat_lt, if◌then◌else◌}
 use Rattle.aiger.specs.declared.variable_numbers.VariableNumbers.{VariableNumbers}
-
--- the number at a place of a page, if there is the page
-unfoldable pub in_page : Option (List ℕ) → ℕ → ℕ
-in_page None place = 0
-in_page (Some page) place = slice_index_or page place 0
+use Rattle.aiger.specs.VariablePages.{paged_number}
 
 -- the number of a variable, or 0
 abbrev pub number_of : VariableNumbers → ℕ → ℕ
-number_of n v = in_page (get nat_eq n.pages (v / 16)) (v % 16)
+number_of n v = if nat_lt v (length n.low.items) then slice_index_or n.low.items v 0 else paged_number n.others v

@@ -3,7 +3,7 @@ ghost use Rattle.std.specs.Prelude.{◌≡◌, ℕ, true, false, None, OnOk, OnE
 ghost use Rattle.aiger.specs.Refusal.{RefusesBy};
 
 use crate::fault::CircuitFault;
-use crate::variable_numbers::VariableNumbers;
+use crate::variable_pages::VariablePages;
 use std::alloc::Global;
 
 /// A set of variables. Those from 1 on that are added in turn take no memory.
@@ -12,7 +12,7 @@ pub struct Definitions {
     // the variables from 1 to this one are defined
     in_turn: u32,
     // the variables that were defined out of turn have number 1
-    others: VariableNumbers,
+    others: VariablePages,
 }
 
 impl Definitions {
@@ -24,7 +24,7 @@ impl Definitions {
     {
         Definitions {
             in_turn: 0,
-            others: VariableNumbers::new(alloc),
+            others: VariablePages::new(alloc),
         }
     }
 

@@ -16,6 +16,7 @@ mod readiness;
 mod straight;
 mod undefined;
 mod variable_numbers;
+mod variable_pages;
 
 pub use circuit::{Circuit, GREATEST_COUNT, Gate, Latch, Reset, Section};
 pub use fault::{CircuitFault, LooseFault};

@@ -39,10 +39,8 @@ impl Numbers {
         ensures { IfOk result (λ n. n ≡ []) }
     {
         let variables = Vec::with_capacity(alloc, count)?;
-        Ok(Numbers {
-            variables,
-            numbers: VariableNumbers::new(alloc),
-        })
+        let numbers = VariableNumbers::new(alloc, count + 1)?;
+        Ok(Numbers { variables, numbers })
     }
 
     /// Gives a variable the next number.

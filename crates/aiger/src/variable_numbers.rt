@@ -1,43 +1,41 @@
-//! A number for each variable that was given one, kept so that neighbouring variables stand side by side.
-ghost use Rattle.std.specs.Prelude.{◌≡◌, ℕ, ◌/◌, ◌%◌, ◌<◌, ◌≤◌, OnOk, OnErr, nat_eq, cond, slice_set};
+//! A number for each variable that was given one.
+ghost use Rattle.std.specs.Prelude.{◌≡◌, ℕ, OnOk, OnErr, IfOk, nat_eq, cond};
 ghost use Rattle.aiger.specs.VariableNumbers.{number_of};
 
+use crate::variable_pages::VariablePages;
 use std::alloc::{AllocError, Global};
-use std::collections::HashMap;
 
-/// How many neighbouring variables stand side by side.
-const PAGE_SIZE: u32 = 16;
-
-/// The numbers of neighbouring variables, 0 for none.
-type Page = [u32; 16];
-
-/// Numbers of variables: 0 for each at first.
-///
-/// A file's lines name variables near to each other, so a table of pages is as small as the near
-/// caches where a table of variables is not. A page takes 64 bytes, also for a variable alone.
-#[derive(Debug, Drop)]
+/// Numbers of variables: 0 for each at first. Those of low variables stand in a list, and the others
+/// in pages, so that the list is no longer than its maker wants it.
+#[derive(Drop)]
 pub struct VariableNumbers {
-    pages: HashMap<u32, Page>,
+    low: Vec<u32>,
+    others: VariablePages,
 }
 
 impl VariableNumbers {
-    /// No variable has a number yet. It takes no memory.
-    pub fn new(alloc: Global) -> VariableNumbers
-        ensures { (v : ℕ) → number_of result v ≡ 0 }
+    /// No variable has a number yet, and those below this one are low.
+    pub fn new(alloc: Global, low: usize) -> Result<VariableNumbers, AllocError>
+        ensures { IfOk result (λ n. (v : ℕ) → number_of n v ≡ 0) }
     {
-        VariableNumbers {
-            pages: HashMap::new(alloc),
-        }
+        let low = match vec![in alloc; 0u32; low] {
+            Ok(list) => list,
+            Err(_) => return Err(AllocError),
+        };
+        Ok(VariableNumbers {
+            low,
+            others: VariablePages::new(alloc),
+        })
     }
 
     /// The number of a variable, or 0. It takes no memory.
     pub fn get(&self, variable: u32) -> u32
         ensures { result ≡ number_of self.now variable }
     {
-        match self.pages.get(&(variable / PAGE_SIZE)) {
-            Some(page) => page[(variable % PAGE_SIZE) as usize],
-            None => 0,
+        if (variable as usize) < self.low.len() {
+            return self.low[variable as usize];
         }
+        self.others.get(variable)
     }
 
     /// Gives a variable a number. The error is want of memory, and nothing has changed then.
@@ -45,16 +43,10 @@ impl VariableNumbers {
         ensures set { OnOk result ((v : ℕ) → number_of self.new v ≡ cond (nat_eq variable v) number (number_of self.old v)) }
         ensures kept { OnErr result ((v : ℕ) → number_of self.new v ≡ number_of self.old v) }
     {
-        let place = (variable % PAGE_SIZE) as usize;
-        if let Some(page) = self.pages.get_mut(&(variable / PAGE_SIZE)) {
-            page[place] = number;
+        if (variable as usize) < self.low.len() {
+            self.low[variable as usize] = number;
             return Ok(());
         }
-        let mut page = [0; 16];
-        page[place] = number;
-        match self.pages.insert(variable / PAGE_SIZE, page) {
-            Ok(_) => Ok(()),
-            Err(_) => Err(AllocError),
-        }
+        self.others.set(variable, number)
     }
 }

@@ -2,9 +2,9 @@
 use Rattle.std.proofs.Common.{◌≡◌, ℕ, zero, suc, replicate, ◌/◌, ◌%◌, ◌<◌, ◌≢◌, Bool, true, false, List, length, Option, Some, slice_index_or, slice_set, nat_eq, cond, refl, ap, sym, ◌∙◌, arith}
 use Rattle.std.proofs.lemmas.Bool.Decides.{nat_tests}
 use Rattle.std.proofs.lemmas.List.{get_or-set_same, get_or-set_other}
-use Rattle.aiger.specs.VariableNumbers.{in_page}
+use Rattle.aiger.specs.VariablePages.{in_page}
 
--- a page after a number is put at a place
+-- a list after a number is put at a place
 set_at : (page : List ℕ) (place number i : ℕ) → place < length page → slice_index_or (slice_set page place number) i 0 ≡ cond (nat_eq place i) number (slice_index_or page i 0)
 set_at page place number i low = by (nat_eq place i) refl
   where

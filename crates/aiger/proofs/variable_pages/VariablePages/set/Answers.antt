@@ -1,8 +1,8 @@
 use Rattle.std.proofs.Common.{rules, ◌≡◌, ◌/◌, ◌%◌, nat_eq, cond, Some, slice_set, length, replicate, ap, refl, ◌∙◌}
 use Rattle.std.specs.HashMap.{get}
-use Rattle.aiger.specs.VariableNumbers.{in_page}
-use Rattle.aiger.proofs.VariableNumbersLemmas.{after_page, empty_page}
-use Rattle.aiger.proofs.variable_numbers.VariableNumbers.set.Goals as goal
+use Rattle.aiger.specs.VariablePages.{in_page}
+use Rattle.aiger.proofs.VariablePagesLemmas.{after_page, empty_page}
+use Rattle.aiger.proofs.variable_pages.VariablePages.set.Goals as goal
 
 pub returns-in-Some-clause-set : goal.returns-in-Some-clause-set
 unfolding in_page
