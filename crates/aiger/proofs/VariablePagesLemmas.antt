@@ -1,8 +1,57 @@
--- Numbers of variables by their pages.
-use Rattle.std.proofs.Common.{◌≡◌, ℕ, zero, suc, replicate, ◌/◌, ◌%◌, ◌<◌, ◌≢◌, Bool, true, false, List, length, Option, Some, slice_index_or, slice_set, nat_eq, cond, refl, ap, sym, ◌∙◌, arith}
+-- Numbers and marks of variables by the pages of a table.
+use Rattle.std.proofs.Common.{◌≡◌, ℕ, zero, suc, replicate, ◌/◌, ◌%◌, ◌*◌, ◌^◌, ◌<◌, ◌≢◌, Bool, true, false, List, length, Option, Some, slice_index_or, slice_set, nat_eq, cond, refl, ap, sym, ◌∙◌, arith, bit_or, w64}
 use Rattle.std.proofs.lemmas.Bool.Decides.{nat_tests}
 use Rattle.std.proofs.lemmas.List.{get_or-set_same, get_or-set_other}
+use Rattle.std.proofs.lemmas.Nat.Bits.{bit_at_set_same, bit_at_set_other, bit_at-zero}
+use Rattle.std.specs.Int.{bit_at}
+use Rattle.std.specs.Int.Bits.{or_zero_l}
 use Rattle.aiger.specs.VariablePages.{in_page}
+use Rattle.aiger.specs.Definitions.{is_marked}
+
+-- what is read of variables after the page of one was put, in which what is read at its place is new, and nothing else
+after_entry : {P V : Type 0} (read : Option P → ℕ → V) (page place : ℕ → ℕ) (old new : ℕ → Option P) (entry : P) (x : ℕ) (w : V)
+    → ((v : ℕ) → page x ≡ page v → place x ≡ place v → x ≡ v)
+    → ((q : ℕ) → new q ≡ cond (nat_eq (page x) q) (Some entry) (old q))
+    → ((i : ℕ) → read (Some entry) i ≡ cond (nat_eq (place x) i) w (read (old (page x)) i))
+    → (v : ℕ) → read (new (page v)) (place v) ≡ cond (nat_eq x v) w (read (old (page v)) (place v))
+after_entry read page place old new entry x w apart is put v = by (nat_eq (page x) (page v)) refl
+  where
+    by : (b : Bool) → nat_eq (page x) (page v) ≡ b → read (new (page v)) (place v) ≡ cond (nat_eq x v) w (read (old (page v)) (place v))
+    by true e =
+        let same : page x ≡ page v = grind (arith, nat_tests) in
+        let at : new (page v) ≡ Some entry = is (page v) ∙ ap (λ (b : Bool). cond b (Some entry) (old (page v))) e in
+        ap (λ p. read p (place v)) at
+        ∙ (put (place v)
+        ∙ (ap (λ (b : Bool). cond b w (read (old (page x)) (place v))) (tests (nat_eq x v) refl same)
+        ∙ ap (λ (k : ℕ). cond (nat_eq x v) w (read (old k) (place v))) same))
+      where
+        tests : (b : Bool) → nat_eq x v ≡ b → page x ≡ page v → nat_eq (place x) (place v) ≡ nat_eq x v
+        tests true f same =
+            let s : x ≡ v = grind (arith, nat_tests) in
+            let r : place x ≡ place v = ap place s in
+            grind (arith, nat_tests)
+        tests false f same = other (nat_eq (place x) (place v)) refl
+          where
+            other : (b : Bool) → nat_eq (place x) (place v) ≡ b → nat_eq (place x) (place v) ≡ nat_eq x v
+            other true g =
+                let r : place x ≡ place v = grind (arith, nat_tests) in
+                let s : x ≡ v = apart v same r in
+                let t : nat_eq x v ≡ true = grind (arith, nat_tests) in
+                absurd (cc)
+            other false g = g ∙ sym f
+    by false e =
+        let at : new (page v) ≡ old (page v) = is (page v) ∙ ap (λ (b : Bool). cond b (Some entry) (old (page v))) e in
+        ap (λ p. read p (place v)) at ∙ sym (ap (λ (b : Bool). cond b w (read (old (page v)) (place v))) (differ (nat_eq x v) refl))
+      where
+        differ : (b : Bool) → nat_eq x v ≡ b → nat_eq x v ≡ false
+        differ true f =
+            let s : x ≡ v = grind (arith, nat_tests) in
+            let p : page x ≡ page v = ap page s in
+            let t : nat_eq (page x) (page v) ≡ true = grind (arith, nat_tests) in
+            absurd (cc)
+        differ false f = f
+
+-- ---- numbers
 
 -- a list after a number is put at a place
 set_at : (page : List ℕ) (place number i : ℕ) → place < length page → slice_index_or (slice_set page place number) i 0 ≡ cond (nat_eq place i) number (slice_index_or page i 0)
@@ -16,54 +65,14 @@ set_at page place number i low = by (nat_eq place i) refl
         let other : i ≢ place = λ s. let t : nat_eq place i ≡ true = grind (arith, nat_tests) in absurd (cc) in
         get_or-set_other page place i number 0 other
 
--- a variable by its page and its place there
-same_variable : (x v : ℕ) → x / 16 ≡ v / 16 → x % 16 ≡ v % 16 → x ≡ v
-same_variable x v page place = omega (arith, page, place)
-
 -- the numbers after a page with one number put there stands in place of the one before
 pub after_page : (old new : ℕ → Option (List ℕ)) (page : List ℕ) (variable number : ℕ) → ((q : ℕ) → new q ≡ cond (nat_eq (variable / 16) q) (Some (slice_set page (variable % 16) number)) (old q))
     → ((i : ℕ) → slice_index_or page i 0 ≡ in_page (old (variable / 16)) i) → length page ≡ 16
     → (v : ℕ) → in_page (new (v / 16)) (v % 16) ≡ cond (nat_eq variable v) number (in_page (old (v / 16)) (v % 16))
 unfolding in_page
-after_page old new page variable number is before size v = by (nat_eq (variable / 16) (v / 16)) refl
-  where
-    by : (b : Bool) → nat_eq (variable / 16) (v / 16) ≡ b → in_page (new (v / 16)) (v % 16) ≡ cond (nat_eq variable v) number (in_page (old (v / 16)) (v % 16))
-    by true e =
-        let same : variable / 16 ≡ v / 16 = grind (arith, nat_tests) in
-        let at : new (v / 16) ≡ Some (slice_set page (variable % 16) number) = is (v / 16) ∙ ap (λ (b : Bool). cond b (Some (slice_set page (variable % 16) number)) (old (v / 16))) e in
-        let low : variable % 16 < length page = omega (arith, size) in
-        let tests : nat_eq (variable % 16) (v % 16) ≡ nat_eq variable v = here (nat_eq variable v) refl same in
-        ap (λ (p : Option (List ℕ)). in_page p (v % 16)) at
-        ∙ set_at page (variable % 16) number (v % 16) low
-        ∙ ap (λ (b : Bool). cond b number (slice_index_or page (v % 16) 0)) tests
-        ∙ ap (λ (n : ℕ). cond (nat_eq variable v) number n) (before (v % 16) ∙ ap (λ (k : ℕ). in_page (old k) (v % 16)) same)
-      where
-        here : (b : Bool) → nat_eq variable v ≡ b → variable / 16 ≡ v / 16 → nat_eq (variable % 16) (v % 16) ≡ nat_eq variable v
-        here true f same =
-            let s : variable ≡ v = grind (arith, nat_tests) in
-            let r : variable % 16 ≡ v % 16 = ap (λ (k : ℕ). k % 16) s in
-            grind (arith, nat_tests)
-        here false f same = other (nat_eq (variable % 16) (v % 16)) refl
-          where
-            other : (b : Bool) → nat_eq (variable % 16) (v % 16) ≡ b → nat_eq (variable % 16) (v % 16) ≡ nat_eq variable v
-            other true g =
-                let r : variable % 16 ≡ v % 16 = grind (arith, nat_tests) in
-                let s : variable ≡ v = same_variable variable v same r in
-                let t : nat_eq variable v ≡ true = grind (arith, nat_tests) in
-                absurd (cc)
-            other false g = g ∙ sym f
-    by false e =
-        let at : new (v / 16) ≡ old (v / 16) = is (v / 16) ∙ ap (λ (b : Bool). cond b (Some (slice_set page (variable % 16) number)) (old (v / 16))) e in
-        let differ : nat_eq variable v ≡ false = apart (nat_eq variable v) refl in
-        ap (λ (p : Option (List ℕ)). in_page p (v % 16)) at ∙ sym (ap (λ (b : Bool). cond b number (in_page (old (v / 16)) (v % 16))) differ)
-      where
-        apart : (b : Bool) → nat_eq variable v ≡ b → nat_eq variable v ≡ false
-        apart true f =
-            let s : variable ≡ v = grind (arith, nat_tests) in
-            let p : variable / 16 ≡ v / 16 = ap (λ (k : ℕ). k / 16) s in
-            let t : nat_eq (variable / 16) (v / 16) ≡ true = grind (arith, nat_tests) in
-            absurd (cc)
-        apart false f = f
+after_page old new page variable number is before size =
+    after_entry in_page (λ v. v / 16) (λ v. v % 16) old new (slice_set page (variable % 16) number) variable number (λ v p q. omega (arith, p, q)) is
+    (λ i. set_at page (variable % 16) number i (omega (arith, size)) ∙ ap (λ (n : ℕ). cond (nat_eq (variable % 16) i) number n) (before i))
 
 -- no variable of a new page has a number
 pub empty_page : (i : ℕ) → ◌≡◌ {A = ℕ} (slice_index_or (replicate 16 0) i 0) 0
@@ -73,3 +82,34 @@ empty_page i = zeros 16 i
     zeros zero i = refl
     zeros (suc n) zero = refl
     zeros (suc n) (suc i) = zeros n i
+
+-- ---- marks
+
+-- the bits of a number after one was set
+set_bit : (bits place i : ℕ) → place < 64 → nat_eq (bit_at (bit_or bits (1 * 2 ^ place % 2 ^ 64)) i) 1 ≡ cond (nat_eq place i) true (nat_eq (bit_at bits i) 1)
+set_bit bits place i low = by (nat_eq place i) refl
+  where
+    by : (b : Bool) → nat_eq place i ≡ b → nat_eq (bit_at (bit_or bits (1 * 2 ^ place % 2 ^ 64)) i) 1 ≡ cond b true (nat_eq (bit_at bits i) 1)
+    by true e =
+        let same : place ≡ i = grind (arith, nat_tests) in
+        ap (λ (k : ℕ). nat_eq (bit_at (bit_or bits (1 * 2 ^ place % 2 ^ 64)) k) 1) (sym same) ∙ ap (λ (n : ℕ). nat_eq n 1) (bit_at_set_same w64 bits place low)
+    by false e =
+        let other : i ≢ place = λ s. let t : nat_eq place i ≡ true = grind (arith, nat_tests) in absurd (cc) in
+        ap (λ (n : ℕ). nat_eq n 1) (bit_at_set_other w64 bits place low i other)
+
+-- the marks after the bits of a page with one more stand in place of those before
+pub after_mark : (old new : ℕ → Option ℕ) (bits variable : ℕ) → ((q : ℕ) → new q ≡ cond (nat_eq (variable / 64) q) (Some (bit_or bits (1 * 2 ^ (variable % 64) % 2 ^ 64))) (old q))
+    → ((i : ℕ) → nat_eq (bit_at bits i) 1 ≡ is_marked (old (variable / 64)) i)
+    → (v : ℕ) → is_marked (new (v / 64)) (v % 64) ≡ cond (nat_eq variable v) true (is_marked (old (v / 64)) (v % 64))
+unfolding is_marked
+after_mark old new bits variable is before =
+    after_entry is_marked (λ v. v / 64) (λ v. v % 64) old new (bit_or bits (1 * 2 ^ (variable % 64) % 2 ^ 64)) variable true (λ v p q. omega (arith, p, q)) is
+    (λ i. set_bit bits (variable % 64) i (omega arith) ∙ ap (λ (b : Bool). cond (nat_eq (variable % 64) i) true b) (before i))
+
+-- nothing is marked at first
+pub no_mark : (i : ℕ) → nat_eq (bit_at 0 i) 1 ≡ false
+no_mark i = ap (λ (n : ℕ). nat_eq n 1) (bit_at-zero i)
+
+-- the first bit of a word
+pub first_bit : (variable : ℕ) → 1 * 2 ^ (variable % 64) % 2 ^ 64 ≡ bit_or 0 (1 * 2 ^ (variable % 64) % 2 ^ 64)
+first_bit variable = sym (or_zero_l (1 * 2 ^ (variable % 64) % 2 ^ 64))

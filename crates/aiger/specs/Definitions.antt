@@ -1,8 +1,14 @@
--- The variables that the lines of a file define: those up to a count of variables in turn, and others that have a number.
-use Rattle.std.specs.Prelude.{ℕ, Bool, ◌&&◌, ◌||◌, nat_eq, nat_le, not}
-use Rattle.aiger.specs.VariablePages.{paged_number}
+-- The variables that the lines of a file define: those up to a count of variables in turn, and others by a bit for each.
+use Rattle.std.specs.Prelude.{ℕ, ◌/◌, ◌%◌, Bool, false, Option, None, Some, ◌&&◌, ◌||◌, nat_eq, nat_le}
+use Rattle.std.specs.HashMap.{get}
+use Rattle.std.specs.Int.{bit_at}
 use Rattle.aiger.specs.declared.definitions.Definitions.{Definitions}
+
+-- whether a bit of a word is 1, if there is the word
+unfoldable pub is_marked : Option ℕ → ℕ → Bool
+is_marked None place = false
+is_marked (Some bits) place = nat_eq (bit_at bits place) 1
 
 -- whether a variable is among them
 abbrev pub has_variable : Definitions → ℕ → Bool
-has_variable d v = (nat_le 1 v && nat_le v d.in_turn) || not (nat_eq (paged_number d.others v) 0)
+has_variable d v = (nat_le 1 v && nat_le v d.in_turn) || is_marked (get nat_eq d.others (v / 64)) (v % 64)

@@ -1,0 +1,11 @@
+use Rattle.std.proofs.Common.{ap, ◌%◌}
+use Rattle.aiger.specs.Definitions.{is_marked}
+use Rattle.aiger.proofs.definitions.Definitions.has_other.Goals as goal
+
+pub returns-in-Some : goal.returns-in-Some
+unfolding is_marked
+returns-in-Some c = ap (λ bits. is_marked bits (c.args.variable % 64)) c.in-Some.ensures.value
+
+pub returns-in-None : goal.returns-in-None
+unfolding is_marked
+returns-in-None c = ap (λ bits. is_marked bits (c.args.variable % 64)) c.in-None.ensures.value
