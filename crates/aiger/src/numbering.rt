@@ -1,8 +1,9 @@
 //! The lists of a file as a circuit: their variables get the numbers of a circuit.
-ghost use Rattle.std.specs.Prelude.{◌≡◌, ◌+◌, ◌<◌, ◌≤◌, length, not, All, None, IfOk, IfSome};
+ghost use Rattle.std.specs.Prelude.{◌≡◌, ◌+◌, ◌++◌, map, ◌<◌, ◌≤◌, length, not, All, None, IfOk, IfSome};
 ghost use Rattle.std.specs.List.{position};
 ghost use Rattle.aiger.specs.Limits.{greatest_count};
-ghost use Rattle.aiger.specs.Loose.{IsLoose, defined_variables};
+ghost use Rattle.aiger.specs.Literal.{variable};
+ghost use Rattle.aiger.specs.Loose.{IsLoose, defined_variables, latch_variable};
 ghost use Rattle.aiger.specs.Renumbering.{AnswersNumber, first_undefined, numbered};
 ghost use Rattle.aiger.specs.Numbering.{slots_of, IsOnce, IsReadyOrder};
 ghost use Rattle.aiger.specs.Straight.{IsStraight};
@@ -85,11 +86,21 @@ impl Loose {
         requires few { length (numbered self.now order.now) ≤ greatest_count }
         ensures { IfOk result (λ n. n ≡ numbered self.now order.now) }
     {
-        let count = self.inputs().len() + self.latches().len() + order.len();
+        let mut numbers = self.leaf_numbers(alloc, order.len())?;
+        numbers.push_in_order(self.gates(), order)?;
+        Ok(numbers)
+    }
+
+    /// The variables of inputs and latches in file order, with room for those of so many gates.
+    fn leaf_numbers(&self, alloc: Global, gates: usize) -> Result<Numbers, AllocError>
+        requires { gates ≤ greatest_count }
+        ensures numbers { IfOk result (λ n. n ≡ map variable self.now.inputs ++ map latch_variable self.now.latches) }
+        ensures valid { IsLoose self.now }
+    {
+        let count = self.inputs().len() + self.latches().len() + gates;
         let mut numbers = Numbers::with_room(alloc, count)?;
         numbers.push_inputs(self.inputs())?;
         numbers.push_latches(self.latches())?;
-        numbers.push_in_order(self.gates(), order)?;
         Ok(numbers)
     }
 
@@ -98,10 +109,7 @@ impl Loose {
         ensures numbers { IfOk result (λ n. n ≡ defined_variables self.now) }
         ensures valid { IsLoose self.now }
     {
-        let count = self.inputs().len() + self.latches().len() + self.gates().len();
-        let mut numbers = Numbers::with_room(alloc, count)?;
-        numbers.push_inputs(self.inputs())?;
-        numbers.push_latches(self.latches())?;
+        let mut numbers = self.leaf_numbers(alloc, self.gates().len())?;
         numbers.push_gates(self.gates())?;
         Ok(numbers)
     }

@@ -1,32 +1,14 @@
 use Rattle.std.proofs.Common.{◌≡◌, ℕ, ◌++◌, map, List, ap, sym, ◌∙◌, subst}
-use Rattle.aiger.specs.declared.loose.LatchLine.{LatchLine}
 use Rattle.aiger.specs.declared.loose.GateLine.{GateLine}
 use Rattle.aiger.specs.Literal.{variable}
 use Rattle.aiger.specs.Loose.{Loose, latch_variable}
 use Rattle.aiger.specs.Numbering.{IsOnce, name_in}
-use Rattle.aiger.specs.Renumbering.{gate_name, numbered}
-use Rattle.aiger.proofs.PlacesLemmas.{once_front}
+use Rattle.aiger.specs.Renumbering.{numbered}
 use Rattle.aiger.proofs.loose.Loose.numbers.Goals as goal
-
-pub push_inputs-requires-clause-once : goal.push_inputs-requires-clause-once
-push_inputs-requires-clause-once c =
-    let l : Loose = c.args.self.now in
-    let once : IsOnce (map variable l.inputs) = once_front (map variable l.inputs) (map latch_variable l.latches) (once_front (map variable l.inputs ++ map latch_variable l.latches) (map (gate_name l) c.args.order.now) c.requires.once) in
-    let e : c.in_ok-numbers.numbers ++ map variable c.inputs-2.result.now ≡ map variable l.inputs = ap (λ (xs : List ℕ). xs ++ map variable c.inputs-2.result.now) c.in_ok-numbers.ensures ∙ ap (map variable) c.inputs-2.ensures.items in
-    subst IsOnce (sym e) once
-
-pub push_latches-requires-clause-once : goal.push_latches-requires-clause-once
-push_latches-requires-clause-once c =
-    let l : Loose = c.args.self.now in
-    let once : IsOnce (map variable l.inputs ++ map latch_variable l.latches) = once_front (map variable l.inputs ++ map latch_variable l.latches) (map (gate_name l) c.args.order.now) c.requires.once in
-    let e : c.in_ok-numbers.numbers ++ map variable c.inputs-2.result.now ≡ map variable l.inputs = ap (λ (xs : List ℕ). xs ++ map variable c.inputs-2.result.now) c.in_ok-numbers.ensures ∙ ap (map variable) c.inputs-2.ensures.items in
-    let f : c.push_inputs.new.self ++ map latch_variable c.latches-2.result.now ≡ map variable l.inputs ++ map latch_variable l.latches = ap (λ (xs : List ℕ). xs ++ map latch_variable c.latches-2.result.now) (c.in_ok-push_inputs.ensures ∙ e) ∙ ap (λ (lines : List LatchLine). map variable l.inputs ++ map latch_variable lines) c.latches-2.ensures.items in
-    subst IsOnce (sym f) once
 
 pub push_in_order-requires-clause-once : goal.push_in_order-requires-clause-once
 push_in_order-requires-clause-once c =
     let l : Loose = c.args.self.now in
-    let e : c.in_ok-numbers.numbers ++ map variable c.inputs-2.result.now ≡ map variable l.inputs = ap (λ (xs : List ℕ). xs ++ map variable c.inputs-2.result.now) c.in_ok-numbers.ensures ∙ ap (map variable) c.inputs-2.ensures.items in
-    let f : c.push_inputs.new.self ++ map latch_variable c.latches-2.result.now ≡ map variable l.inputs ++ map latch_variable l.latches = ap (λ (xs : List ℕ). xs ++ map latch_variable c.latches-2.result.now) (c.in_ok-push_inputs.ensures ∙ e) ∙ ap (λ (lines : List LatchLine). map variable l.inputs ++ map latch_variable lines) c.latches-2.ensures.items in
-    let g : c.push_latches.new.self ++ map (name_in c.gates.result.now) c.args.order.now ≡ numbered l c.args.order.now = ap (λ (xs : List ℕ). xs ++ map (name_in c.gates.result.now) c.args.order.now) (c.in_ok-push_latches.ensures ∙ f) ∙ ap (λ (lines : List GateLine). (map variable l.inputs ++ map latch_variable l.latches) ++ map (name_in lines) c.args.order.now) c.gates.ensures.items in
-    subst IsOnce (sym g) c.requires.once
+    let leaves : List ℕ = map variable l.inputs ++ map latch_variable l.latches in
+    let e : c.in_ok-numbers.numbers ++ map (name_in c.gates.result.now) c.args.order.now ≡ numbered l c.args.order.now = ap (λ (xs : List ℕ). xs ++ map (name_in c.gates.result.now) c.args.order.now) c.in_ok-numbers.ensures.numbers ∙ ap (λ (lines : List GateLine). leaves ++ map (name_in lines) c.args.order.now) c.gates.ensures.items in
+    subst IsOnce (sym e) c.requires.once

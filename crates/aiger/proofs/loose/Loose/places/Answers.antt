@@ -1,31 +1,13 @@
 use Rattle.std.proofs.Common.{◌≡◌, ℕ, ◌++◌, map, List, ap, sym, ◌∙◌, subst}
-use Rattle.aiger.specs.declared.loose.LatchLine.{LatchLine}
 use Rattle.aiger.specs.declared.loose.GateLine.{GateLine}
 use Rattle.aiger.specs.Literal.{variable}
 use Rattle.aiger.specs.Loose.{Loose, latch_variable, gate_variable, defined_variables}
 use Rattle.aiger.specs.Numbering.{IsOnce}
-use Rattle.aiger.proofs.PlacesLemmas.{once_front}
 use Rattle.aiger.proofs.loose.Loose.places.Goals as goal
-
-pub push_inputs-requires-clause-once : goal.push_inputs-requires-clause-once
-push_inputs-requires-clause-once c =
-    let l : Loose = c.args.self.now in
-    let once : IsOnce (map variable l.inputs) = once_front (map variable l.inputs) (map latch_variable l.latches) (once_front (map variable l.inputs ++ map latch_variable l.latches) (map gate_variable l.gates) c.inputs-2.ensures.valid.definitions.once) in
-    let e : c.in_ok-numbers.numbers ++ map variable c.inputs-2.result.now ≡ map variable l.inputs = ap (λ (xs : List ℕ). xs ++ map variable c.inputs-2.result.now) c.in_ok-numbers.ensures ∙ ap (map variable) c.inputs-2.ensures.items in
-    subst IsOnce (sym e) once
-
-pub push_latches-requires-clause-once : goal.push_latches-requires-clause-once
-push_latches-requires-clause-once c =
-    let l : Loose = c.args.self.now in
-    let once : IsOnce (map variable l.inputs ++ map latch_variable l.latches) = once_front (map variable l.inputs ++ map latch_variable l.latches) (map gate_variable l.gates) c.inputs-2.ensures.valid.definitions.once in
-    let e : c.in_ok-numbers.numbers ++ map variable c.inputs-2.result.now ≡ map variable l.inputs = ap (λ (xs : List ℕ). xs ++ map variable c.inputs-2.result.now) c.in_ok-numbers.ensures ∙ ap (map variable) c.inputs-2.ensures.items in
-    let f : c.push_inputs.new.self ++ map latch_variable c.latches-2.result.now ≡ map variable l.inputs ++ map latch_variable l.latches = ap (λ (xs : List ℕ). xs ++ map latch_variable c.latches-2.result.now) (c.in_ok-push_inputs.ensures ∙ e) ∙ ap (λ (lines : List LatchLine). map variable l.inputs ++ map latch_variable lines) c.latches-2.ensures.items in
-    subst IsOnce (sym f) once
 
 pub push_gates-requires-clause-once : goal.push_gates-requires-clause-once
 push_gates-requires-clause-once c =
     let l : Loose = c.args.self.now in
-    let e : c.in_ok-numbers.numbers ++ map variable c.inputs-2.result.now ≡ map variable l.inputs = ap (λ (xs : List ℕ). xs ++ map variable c.inputs-2.result.now) c.in_ok-numbers.ensures ∙ ap (map variable) c.inputs-2.ensures.items in
-    let f : c.push_inputs.new.self ++ map latch_variable c.latches-2.result.now ≡ map variable l.inputs ++ map latch_variable l.latches = ap (λ (xs : List ℕ). xs ++ map latch_variable c.latches-2.result.now) (c.in_ok-push_inputs.ensures ∙ e) ∙ ap (λ (lines : List LatchLine). map variable l.inputs ++ map latch_variable lines) c.latches-2.ensures.items in
-    let g : c.push_latches.new.self ++ map gate_variable c.gates-2.result.now ≡ defined_variables l = ap (λ (xs : List ℕ). xs ++ map gate_variable c.gates-2.result.now) (c.in_ok-push_latches.ensures ∙ f) ∙ ap (λ (lines : List GateLine). (map variable l.inputs ++ map latch_variable l.latches) ++ map gate_variable lines) c.gates-2.ensures.items in
-    subst IsOnce (sym g) c.inputs-2.ensures.valid.definitions.once
+    let leaves : List ℕ = map variable l.inputs ++ map latch_variable l.latches in
+    let e : c.in_ok-numbers.numbers ++ map gate_variable c.gates-2.result.now ≡ defined_variables l = ap (λ (xs : List ℕ). xs ++ map gate_variable c.gates-2.result.now) c.in_ok-numbers.ensures.numbers ∙ ap (λ (lines : List GateLine). leaves ++ map gate_variable lines) c.gates-2.ensures.items in
+    subst IsOnce (sym e) c.gates-2.ensures.valid.definitions.once
