@@ -14,7 +14,7 @@ use std::alloc::Global;
 use std::marker::Model;
 
 /// With which bit a latch begins.
-#[derive(Clone, Copy, Debug, PartialEq, Eq)]
+#[derive(Clone, Copy, PartialEq, Eq)]
 pub enum Reset {
     /// 0.
     Zero,
@@ -25,7 +25,7 @@ pub enum Reset {
 }
 
 /// A latch: the literal whose bit it takes in the next frame, and how it begins.
-#[derive(Clone, Copy, Debug, PartialEq, Eq)]
+#[derive(Clone, Copy, PartialEq, Eq)]
 pub struct Latch {
     /// The literal whose bit it takes in the next frame.
     pub next: Lit,
@@ -34,7 +34,7 @@ pub struct Latch {
 }
 
 /// The operands of an AND gate, the greater one first.
-#[derive(Clone, Copy, Debug, PartialEq, Eq)]
+#[derive(Clone, Copy, PartialEq, Eq)]
 pub struct Gate {
     /// The greater operand.
     pub rhs0: Lit,
@@ -43,7 +43,7 @@ pub struct Gate {
 }
 
 /// The sections of a circuit whose positions may have names.
-#[derive(Clone, Copy, Debug, PartialEq, Eq)]
+#[derive(Clone, Copy, PartialEq, Eq)]
 pub enum Section {
     /// Letter `i`.
     Input,
@@ -68,7 +68,7 @@ pub enum Section {
 /// operands, the greater of which comes first, and every literal is of a variable that is there.
 /// Names are a map from section and position: in whatever order they were given, the circuits are
 /// the same, and a position without a name takes no memory.
-#[derive(Debug, Drop)]
+#[derive(Drop)]
 pub struct Circuit {
     inputs: u32,
     latches: Vec<Latch>,

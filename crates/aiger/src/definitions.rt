@@ -9,7 +9,7 @@ use std::alloc::{AllocError, Global};
 use std::collections::HashMap;
 
 /// A set of variables. Those from 1 on that are added in turn take no memory.
-#[derive(Debug, Drop)]
+#[derive(Drop)]
 pub struct Definitions {
     // the variables from 1 to this one are defined
     in_turn: u32,

@@ -4,13 +4,13 @@ ghost use Rattle.aiger.specs.Refusal.{fault_number, fault_name};
 ghost use Rattle.aiger.specs.Renumbering.{loose_fault_number, loose_fault_name};
 
 use std::alloc::AllocError;
+use std::fmt;
 use thiserror::Error;
 
 /// Why a circuit refuses what it is given. It is unchanged then.
 ///
 /// It is printed as its number, a space and its name.
 #[derive(Clone, Copy, Debug, PartialEq, Eq, Error)]
-#[error("{number} {name}", number = self.number(), name = self.name())]
 pub enum CircuitFault {
     /// A literal's variable is above the greatest one of the circuit. In the lists of a file: a literal that is to define
     /// a variable is odd, below 2 or of a variable that is defined already.
@@ -61,11 +61,16 @@ impl CircuitFault {
     }
 }
 
+impl fmt::Display for CircuitFault {
+    fn fmt<W: fmt::Write>(&self, f: &mut fmt::Formatter<W>) -> fmt::Result {
+        write!(f, "{} {}", self.number(), self.name())
+    }
+}
+
 /// Why the lists of a file have no circuit.
 ///
 /// It is printed as its number, a space and its name.
 #[derive(Clone, Copy, Debug, PartialEq, Eq, Error)]
-#[error("{number} {name}", number = self.number(), name = self.name())]
 pub enum LooseFault {
     /// The first line with a literal whose variable is neither 0 nor defined: latches, outputs, bad
     /// properties, constraints, justice literals, fairness constraints and gates are counted, in
@@ -99,6 +104,12 @@ impl LooseFault {
             LooseFault::Cycle(_) => "Cycle",
             LooseFault::NoMemory => "NoMemory",
         }
+    }
+}
+
+impl fmt::Display for LooseFault {
+    fn fmt<W: fmt::Write>(&self, f: &mut fmt::Formatter<W>) -> fmt::Result {
+        write!(f, "{} {}", self.number(), self.name())
     }
 }
 

@@ -13,7 +13,7 @@ use std::alloc::{AllocError, Global};
 use std::marker::Model;
 
 /// The names that there are, in the order of their keys.
-#[derive(Debug, Drop)]
+#[derive(Drop)]
 pub struct FlatNames {
     keys: Vec<u64>,
     ends: Vec<usize>,

@@ -13,7 +13,7 @@ use std::alloc::{AllocError, Global};
 use std::marker::Model;
 
 /// The literals of all justice properties, and where those of each end.
-#[derive(Debug, Drop)]
+#[derive(Drop)]
 pub struct JusticeList {
     literals: Vec<Lit>,
     ends: Vec<usize>,

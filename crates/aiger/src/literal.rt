@@ -5,7 +5,7 @@ ghost use Rattle.aiger.specs.Literal.{variable, negation};
 use std::marker::Model;
 
 /// A literal: 2v is variable v, 2v + 1 is its negation, 0 is false and 1 is true.
-#[derive(Clone, Copy, Debug, PartialEq, Eq)]
+#[derive(Clone, Copy, PartialEq, Eq)]
 pub struct Lit {
     number: u32,
 }

@@ -18,7 +18,7 @@ use std::marker::Model;
 
 /// A latch line: the literal that it defines, the literal whose bit it takes in the next frame,
 /// and how it begins.
-#[derive(Clone, Copy, Debug, PartialEq, Eq)]
+#[derive(Clone, Copy, PartialEq, Eq)]
 pub struct LatchLine {
     /// The literal that the line defines.
     pub current: Lit,
@@ -29,7 +29,7 @@ pub struct LatchLine {
 }
 
 /// A gate line: the literal that it defines, and its operands in any order.
-#[derive(Clone, Copy, Debug, PartialEq, Eq)]
+#[derive(Clone, Copy, PartialEq, Eq)]
 pub struct GateLine {
     /// The literal that the line defines.
     pub lhs: Lit,
@@ -45,7 +45,7 @@ pub struct GateLine {
 /// A defining literal is even and at least 2, and no variable is defined twice; what the other
 /// literals name need not be defined. Variables, the number of definitions, the length of each list
 /// and the literals of all justice properties are at most 2^30.
-#[derive(Debug, Drop)]
+#[derive(Drop)]
 pub struct Loose {
     inputs: Vec<Lit>,
     latches: Vec<LatchLine>,

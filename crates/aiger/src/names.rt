@@ -23,7 +23,7 @@ const KEYED_POSITIONS: usize = 1 << 32;
 
 /// The names that there are: those that came in the order of their sections and positions one after
 /// another, and the others in a map.
-#[derive(Debug, Drop)]
+#[derive(Drop)]
 pub struct NameKeeper {
     alloc: Global,
     in_order: FlatNames,

@@ -15,7 +15,7 @@ type Page = [u32; 16];
 ///
 /// A file's lines name variables near to each other, so a table of pages is as small as the near
 /// caches where a table of variables is not. A page takes 64 bytes, also for a variable alone.
-#[derive(Debug, Drop)]
+#[derive(Drop)]
 pub struct VariablePages {
     pages: HashMap<u32, Page>,
 }

@@ -2,13 +2,13 @@
 ghost use Rattle.std.specs.Prelude.{◌≡◌};
 ghost use Rattle.aigertext.specs.Whys.{why_number, why_name};
 
+use std::fmt;
 use thiserror::Error;
 
 /// What is wrong with a line or a delta of a circuit's text, or with the reading of it.
 ///
 /// It is printed as its number, a space and its name.
 #[derive(Clone, Copy, Debug, PartialEq, Eq, Error)]
-#[error("{number} {name}", number = self.number(), name = self.name())]
 pub enum Why {
     /// The first line is not `aag` or `aig` and 5 to 9 decimals.
     BadHeader,
@@ -87,6 +87,12 @@ impl Why {
     }
 }
 
+impl fmt::Display for Why {
+    fn fmt<W: fmt::Write>(&self, f: &mut fmt::Formatter<W>) -> fmt::Result {
+        write!(f, "{} {}", self.number(), self.name())
+    }
+}
+
 /// Why a text is no circuit: where the line or the delta begins, and what is wrong with it.
 ///
 /// `Device` and `NoMemory` have place 0.
@@ -100,7 +106,7 @@ pub struct ReadFault {
 }
 
 /// Where reading stopped: how many bytes of the text are left from the faulty line or delta on, and what is wrong.
-#[derive(Clone, Copy, Debug, PartialEq, Eq)]
+#[derive(Clone, Copy, PartialEq, Eq)]
 pub(crate) struct Stop {
     /// The bytes left.
     pub(crate) left: usize,

@@ -3,7 +3,7 @@ ghost use Rattle.std.specs.Prelude.{◌≡◌, ◌∷◌, []};
 ghost use Rattle.aigertext.specs.Ascii.{form_word};
 
 /// The two forms of a circuit's text.
-#[derive(Clone, Copy, Debug, PartialEq, Eq)]
+#[derive(Clone, Copy, PartialEq, Eq)]
 pub enum Form {
     /// The first word is `aag`; each input, latch, property and gate has a line of decimals.
     Ascii,

@@ -28,7 +28,7 @@ pub trait Sink {
 }
 
 /// A sink that keeps its bytes. A refused growth is its one failure.
-#[derive(Debug, Drop)]
+#[derive(Drop)]
 pub struct VecSink {
     bytes: Vec<u8>,
     failures: u128,

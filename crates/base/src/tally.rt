@@ -5,7 +5,7 @@ ghost use Rattle.base.specs.Steps.{one_more};
 use std::marker::Model;
 
 /// A count of steps. It stays at its greatest value, 2^128 - 1, once it is there.
-#[derive(Debug, Drop)]
+#[derive(Drop)]
 pub struct Tally {
     count: u128,
 }

@@ -4,20 +4,17 @@ ghost use Rattle.blast.specs.Faults.{lower_number, lower_name, convert_number, c
 
 use base::DeviceFault;
 use btor2text::ReadFault;
+use std::fmt;
 use thiserror::Error;
 
 /// Why a model is not lowered.
 #[derive(Clone, Copy, Debug, PartialEq, Eq, Error)]
-#[error("{number} {name}", number = self.number(), name = self.name())]
 pub enum LowerFault {
     /// A justice line, which is the first item in file order that speaks against the model; it has the line's id.
-    #[error("item {0}: {number} {name}", number = self.number(), name = self.name())]
     Justice(u64),
     /// A fairness line, which is the first such item; it has the line's id.
-    #[error("item {0}: {number} {name}", number = self.number(), name = self.name())]
     Fair(u64),
     /// A state with an init and without a next, which is the first such item; it has the id of the state's line.
-    #[error("item {0}: {number} {name}", number = self.number(), name = self.name())]
     NoNext(u64),
     /// The bound on the variables is above 2^30.
     TooBig,
@@ -53,17 +50,23 @@ impl LowerFault {
     }
 }
 
+impl fmt::Display for LowerFault {
+    fn fmt<W: fmt::Write>(&self, f: &mut fmt::Formatter<W>) -> fmt::Result {
+        if let LowerFault::Justice(id) | LowerFault::Fair(id) | LowerFault::NoNext(id) = self {
+            write!(f, "item {id}: ")?;
+        }
+        write!(f, "{} {}", self.number(), self.name())
+    }
+}
+
 /// Why a conversion is not done.
 #[derive(Clone, Copy, Debug, PartialEq, Eq, Error)]
 pub enum ConvertFault {
     /// The text is no model, or could not be read. Nothing was written.
-    #[error("{number} {name}: {0}", number = self.number(), name = self.name())]
     Read(ReadFault),
     /// The model is not lowered. Nothing was written.
-    #[error("{number} {name}: {0}", number = self.number(), name = self.name())]
     Lower(LowerFault),
     /// The sink failed. A beginning of the circuit's text was written.
-    #[error("{number} {name}: {0}", number = self.number(), name = self.name())]
     Write(DeviceFault),
 }
 
@@ -87,6 +90,17 @@ impl ConvertFault {
             ConvertFault::Read(_) => "Read",
             ConvertFault::Lower(_) => "Lower",
             ConvertFault::Write(_) => "Write",
+        }
+    }
+}
+
+impl fmt::Display for ConvertFault {
+    fn fmt<W: fmt::Write>(&self, f: &mut fmt::Formatter<W>) -> fmt::Result {
+        write!(f, "{} {}: ", self.number(), self.name())?;
+        match self {
+            ConvertFault::Read(fault) => fmt::Display::fmt(fault, f),
+            ConvertFault::Lower(fault) => fmt::Display::fmt(fault, f),
+            ConvertFault::Write(fault) => fmt::Display::fmt(fault, f),
         }
     }
 }

@@ -2,11 +2,11 @@
 ghost use Rattle.std.specs.Prelude.{◌≡◌};
 ghost use Rattle.btor2.specs.Faults.{number_of, name_of};
 
+use std::fmt;
 use thiserror::Error;
 
 /// Why a model refuses an item. It is unchanged then.
 #[derive(Clone, Copy, Debug, PartialEq, Eq, Error)]
-#[error("{number} {name}", number = self.number(), name = self.name())]
 pub enum PushFault {
     /// The model has 1,048,576 items already.
     TooManyItems,
@@ -86,5 +86,11 @@ impl PushFault {
             PushFault::NoMemory => "NoMemory",
             PushFault::ConstantDoesNotFit => "ConstantDoesNotFit",
         }
+    }
+}
+
+impl fmt::Display for PushFault {
+    fn fmt<W: fmt::Write>(&self, f: &mut fmt::Formatter<W>) -> fmt::Result {
+        write!(f, "{} {}", self.number(), self.name())
     }
 }

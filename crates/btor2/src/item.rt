@@ -10,7 +10,7 @@ use crate::symbol::Symbol;
 use base::{Binary, Unary, Width, ones};
 
 /// A line of a model: its id, what it says, and its name, if it has one.
-#[derive(Debug, Drop)]
+#[derive(Drop)]
 pub struct Item {
     /// Its number in the file.
     pub id: u64,
@@ -22,7 +22,7 @@ pub struct Item {
 
 /// What an item says ("Btor2, BtorMC and Boolector 3.0", syntax). Sorts and operands are ids of earlier items, and so
 /// of 32 bits. A constant keeps its spelling, so that a model is written as it was read.
-#[derive(Debug, Drop)]
+#[derive(Drop)]
 pub enum Body {
     /// `sort bitvec n`: words of `width` bits.
     Sort {

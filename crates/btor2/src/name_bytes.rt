@@ -10,7 +10,7 @@ use std::mem::size_of;
 const MOST_IN_PLACE: usize = 14;
 
 /// Where bytes stand.
-#[derive(Debug, Drop)]
+#[derive(Drop)]
 enum Place {
     /// In place: the first `length` of `bytes`.
     Short {
@@ -25,7 +25,7 @@ enum Place {
 
 /// Some bytes, held in two words. It has two forms since most names are short and a large model may have one in each
 /// item: up to 14 bytes take no memory of their own, and longer ones take none in the item beyond the two words.
-#[derive(Debug, Drop)]
+#[derive(Drop)]
 pub(crate) struct NameBytes {
     place: Place,
 }

@@ -5,7 +5,7 @@ use std::alloc::{AllocError, Global};
 use std::marker::Model;
 
 /// The ids of the nodes that a `justice` line names.
-#[derive(Debug, Drop)]
+#[derive(Drop)]
 pub struct Operands {
     ids: Vec<u32>,
 }

@@ -6,11 +6,12 @@ ghost use Rattle.btor2.specs.Faults.{symbol_fault_number, symbol_fault_name};
 
 use crate::name_bytes::NameBytes;
 use std::alloc::Global;
+use std::fmt;
 use std::marker::Model;
 use thiserror::Error;
 
 /// The name of an item: 1 to 255 bytes from 33 to 126, of which the first is not `;`.
-#[derive(Debug, Drop)]
+#[derive(Drop)]
 pub struct Symbol {
     name: NameBytes,
 }
@@ -25,7 +26,6 @@ impl Model for Symbol {
 
 /// Why bytes are no symbol.
 #[derive(Clone, Copy, Debug, PartialEq, Eq, Error)]
-#[error("{number} {name}", number = self.number(), name = self.name())]
 pub enum SymbolFault {
     /// They are not 1 to 255 bytes from 33 to 126 of which the first is not `;`.
     BadBytes,
@@ -95,5 +95,11 @@ impl SymbolFault {
             SymbolFault::BadBytes => "BadBytes",
             SymbolFault::NoMemory => "NoMemory",
         }
+    }
+}
+
+impl fmt::Display for SymbolFault {
+    fn fmt<W: fmt::Write>(&self, f: &mut fmt::Formatter<W>) -> fmt::Result {
+        write!(f, "{} {}", self.number(), self.name())
     }
 }

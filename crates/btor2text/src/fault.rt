@@ -3,11 +3,11 @@ ghost use Rattle.std.specs.Prelude.{◌≡◌};
 ghost use Rattle.btor2text.specs.Whys.{number_of, printed_number, name_of};
 
 use btor2::PushFault;
+use std::fmt;
 use thiserror::Error;
 
 /// What is wrong with a line of a model's text, or with the reading of it.
 #[derive(Clone, Copy, Debug, PartialEq, Eq, Error)]
-#[error("{number} {name}", number = self.printed_number(), name = self.name())]
 pub enum Why {
     /// A token is missing, is not of its place's form, or follows the symbol.
     BadToken,
@@ -80,6 +80,12 @@ impl Why {
             Why::Device => "Device",
             Why::NoMemory => "NoMemory",
         }
+    }
+}
+
+impl fmt::Display for Why {
+    fn fmt<W: fmt::Write>(&self, f: &mut fmt::Formatter<W>) -> fmt::Result {
+        write!(f, "{} {}", self.printed_number(), self.name())
     }
 }
 

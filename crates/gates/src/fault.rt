@@ -2,11 +2,11 @@
 ghost use Rattle.std.specs.Prelude.{◌≡◌};
 ghost use Rattle.gates.specs.Faults.{number_of, name_of};
 
+use std::fmt;
 use thiserror::Error;
 
 /// Why a gate maker makes no gate.
 #[derive(Clone, Copy, Debug, PartialEq, Eq, Error)]
-#[error("{number} {name}", number = self.number(), name = self.name())]
 pub enum GateFault {
     /// A variable would be above 2^30.
     TooBig,
@@ -33,5 +33,11 @@ impl GateFault {
             GateFault::TooBig => "TooBig",
             GateFault::NoMemory => "NoMemory",
         }
+    }
+}
+
+impl fmt::Display for GateFault {
+    fn fmt<W: fmt::Write>(&self, f: &mut fmt::Formatter<W>) -> fmt::Result {
+        write!(f, "{} {}", self.number(), self.name())
     }
 }

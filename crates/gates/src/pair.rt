@@ -12,7 +12,7 @@ use std::marker::Model;
 const SPREAD: u64 = 0x9e37_79b9_7f4a_7c15;
 
 /// The operands of a gate, the greater one first.
-#[derive(Clone, Copy, Debug, PartialEq, Eq)]
+#[derive(Clone, Copy, PartialEq, Eq)]
 pub struct Pair {
     pub greater: u32,
     pub smaller: u32,

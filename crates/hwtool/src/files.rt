@@ -5,7 +5,7 @@ ghost use Rattle.std.specs.Prelude.{◌≡◌, ℕ};
 use base::{DeviceFault, Source};
 
 /// A source in place of a file that can't be opened: every read fails.
-#[derive(Debug, Drop)]
+#[derive(Drop)]
 pub struct NoFile {
     failures: u128,
 }

@@ -10,7 +10,7 @@ use std::alloc::Global;
 pub const STANDARD_INPUT: &str = "-";
 
 /// The commands.
-#[derive(Clone, Copy, Debug, PartialEq, Eq)]
+#[derive(Clone, Copy, PartialEq, Eq)]
 pub enum Task {
     /// Lowers a model to a circuit.
     Lower,
@@ -31,7 +31,7 @@ pub enum Task {
 }
 
 /// A command, the form of the circuits that it writes, and the names of its files.
-#[derive(Clone, Copy, Debug)]
+#[derive(Clone, Copy)]
 pub struct Order<'a> {
     /// The command.
     pub task: Task,
@@ -44,7 +44,7 @@ pub struct Order<'a> {
 }
 
 /// What stands in place of a command: help or the version, refused words, or want of memory while the words are read.
-#[derive(Debug, Drop)]
+#[derive(Drop)]
 pub struct Stop {
     /// The exit status, where the text can be written: 0 for help and the version, 4 for refused words, 3 where there was
     /// no memory.

@@ -13,7 +13,7 @@ use std::alloc::Global;
 use std::marker::Model;
 
 /// An operator, the width of its operands, these, and the word that they are said to give.
-#[derive(Clone, Copy, Debug, PartialEq, Eq)]
+#[derive(Clone, Copy, PartialEq, Eq)]
 pub enum Vector {
     /// Of one operand.
     Unary {
@@ -126,7 +126,7 @@ impl Numbered {
 }
 
 /// Why a text is no list of vectors.
-#[derive(Clone, Copy, Debug, PartialEq, Eq)]
+#[derive(Clone, Copy, PartialEq, Eq)]
 pub(crate) enum LinesFault {
     /// The first line that writes no vector, from 1.
     Bad(u64),

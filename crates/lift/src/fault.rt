@@ -2,19 +2,17 @@
 ghost use Rattle.std.specs.Prelude.{◌≡◌};
 ghost use Rattle.lift.specs.Answers.{fault_number, fault_name};
 
+use std::fmt;
 use thiserror::Error;
 
 /// Why a witness is not lifted to its end.
 #[derive(Clone, Copy, Debug, PartialEq, Eq, Error)]
 pub enum LiftFault {
     /// The source failed; a beginning of the lifted text was written.
-    #[error("{number} {name}", number = self.number(), name = self.name())]
     Read,
     /// The sink failed; a beginning of the lifted text was written.
-    #[error("{number} {name}", number = self.number(), name = self.name())]
     Write,
     /// A growth was refused; nothing was read or written.
-    #[error("{number} {name}", number = self.number(), name = self.name())]
     NoMemory,
 }
 
@@ -39,5 +37,11 @@ impl LiftFault {
             LiftFault::Write => "Write",
             LiftFault::NoMemory => "NoMemory",
         }
+    }
+}
+
+impl fmt::Display for LiftFault {
+    fn fmt<W: fmt::Write>(&self, f: &mut fmt::Formatter<W>) -> fmt::Result {
+        write!(f, "{} {}", self.number(), self.name())
     }
 }

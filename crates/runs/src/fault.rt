@@ -2,16 +2,15 @@
 ghost use Rattle.std.specs.Prelude.{◌≡◌};
 ghost use Rattle.runs.specs.Faults.{new_number, new_name};
 
+use std::fmt;
 use thiserror::Error;
 
 /// Why a model or a circuit has no run.
 #[derive(Clone, Copy, Debug, PartialEq, Eq, Error)]
 pub enum NewFault {
     /// The first state in file order with an init and without a next; it has the id of the state's line.
-    #[error("item {0}: {number} {name}", number = self.number(), name = self.name())]
     NoNext(u64),
     /// A growth was refused.
-    #[error("{number} {name}", number = self.number(), name = self.name())]
     NoMemory,
 }
 
@@ -34,5 +33,14 @@ impl NewFault {
             NewFault::NoNext(_) => "NoNext",
             NewFault::NoMemory => "NoMemory",
         }
+    }
+}
+
+impl fmt::Display for NewFault {
+    fn fmt<W: fmt::Write>(&self, f: &mut fmt::Formatter<W>) -> fmt::Result {
+        if let NewFault::NoNext(id) = self {
+            write!(f, "item {id}: ")?;
+        }
+        write!(f, "{} {}", self.number(), self.name())
     }
 }

@@ -11,7 +11,7 @@ use base::{Binary, Tally, Unary, Width};
 use btor2::{Body, Item, Model};
 
 /// A node with a value: its operands are places in the list of now-values, `width` is that of its operands.
-#[derive(Clone, Copy, Debug, Drop)]
+#[derive(Clone, Copy, Drop)]
 pub(crate) enum Node {
     /// An input or a state: its word is given.
     Leaf,

@@ -1,7 +1,7 @@
 //! Where a line stands among the lines of a witness of a circuit.
 
 /// Which line of a witness of a circuit comes next.
-#[derive(Clone, Copy, Debug, PartialEq, Eq)]
+#[derive(Clone, Copy, PartialEq, Eq)]
 pub(crate) enum BitPlace {
     /// The status.
     Header,

@@ -2,19 +2,17 @@
 ghost use Rattle.std.specs.Prelude.{◌≡◌};
 ghost use Rattle.witness.specs.Answers.{judge_number, judge_name};
 
+use std::fmt;
 use thiserror::Error;
 
 /// Why a text is not judged.
 #[derive(Clone, Copy, Debug, PartialEq, Eq, Error)]
 pub enum JudgeFault {
     /// The source failed.
-    #[error("{number} {name}", number = self.number(), name = self.name())]
     Device,
     /// A growth was refused.
-    #[error("{number} {name}", number = self.number(), name = self.name())]
     NoMemory,
     /// The first state in file order with an init and no next; it has the id of the state's line. Nothing was read then.
-    #[error("item {0}: {number} {name}", number = self.number(), name = self.name())]
     NoNext(u64),
 }
 
@@ -39,5 +37,14 @@ impl JudgeFault {
             JudgeFault::NoMemory => "NoMemory",
             JudgeFault::NoNext(_) => "NoNext",
         }
+    }
+}
+
+impl fmt::Display for JudgeFault {
+    fn fmt<W: fmt::Write>(&self, f: &mut fmt::Formatter<W>) -> fmt::Result {
+        if let JudgeFault::NoNext(id) = self {
+            write!(f, "item {id}: ")?;
+        }
+        write!(f, "{} {}", self.number(), self.name())
     }
 }

@@ -3,7 +3,7 @@ use crate::why::Why;
 use std::fmt;
 
 /// What is said of a text over a model: the first of these that applies, from the bottom of this list up to `Accepted`.
-#[derive(Clone, Copy, Debug, PartialEq, Eq)]
+#[derive(Clone, Copy, PartialEq, Eq)]
 pub enum Judgement {
     /// Each claimed bad property rises, and all constraints hold; it has so many frames.
     Accepted { frames: u64 },

@@ -1,6 +1,6 @@
 //! Where a line stands among the lines of a witness.
 /// Which line of a witness comes next.
-#[derive(Clone, Copy, Debug, PartialEq, Eq)]
+#[derive(Clone, Copy, PartialEq, Eq)]
 pub(crate) enum Place {
     /// A comment or the status.
     Status,

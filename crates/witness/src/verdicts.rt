@@ -13,7 +13,7 @@ use btor2::Model;
 use runs::WordRun;
 
 /// A frame and a constraint that does not hold in it, both counted from 0.
-#[derive(Clone, Copy, Debug, PartialEq, Eq)]
+#[derive(Clone, Copy, PartialEq, Eq)]
 pub(crate) struct Breach {
     pub(crate) frame: u64,
     pub(crate) constraint: u64,

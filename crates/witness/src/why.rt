@@ -3,11 +3,11 @@ ghost use Rattle.std.specs.Prelude.{◌≡◌};
 ghost use Rattle.witness.specs.Numbers.{why_number};
 ghost use Rattle.witness.specs.Printed.{why_name};
 
+use std::fmt;
 use thiserror::Error;
 
 /// Why a line of a witness is refused.
 #[derive(Clone, Copy, Debug, PartialEq, Eq, Error)]
-#[error("{number} {name}", number = self.number(), name = self.name())]
 pub enum Why {
     /// The first line that is no comment is no status.
     BadHeader,
@@ -75,5 +75,11 @@ impl Why {
             Why::TooLong => "TooLong",
             Why::BadSymbol => "BadSymbol",
         }
+    }
+}
+
+impl fmt::Display for Why {
+    fn fmt<W: fmt::Write>(&self, f: &mut fmt::Formatter<W>) -> fmt::Result {
+        write!(f, "{} {}", self.number(), self.name())
     }
 }
