@@ -123,9 +123,6 @@ expect_line "help" out "  2  the input is refused"
 "$program" --version >out 2>err; status=$?
 expect "version" 0 ""
 expect_line "version" out "hwtool 0.1.0"
-if command -v rt >/dev/null; then
-    expect_line "version" out "$(rt version)"
-fi
 
 # full and closed devices
 for words in "--help" "--version" "lower model.btor2" "lower --binary model.btor2" "show model.btor2" "cost model.btor2" \

@@ -1,26 +1,10 @@
 //! `hwtool`: word-level BTOR2 models to AIGER circuits, and judgements of their witnesses.
 #![tactic(auto)]
 
-pub mod circuits;
-pub mod command_line;
-pub mod files;
-pub mod lifting;
-pub mod orders;
-pub mod running;
-pub mod statuses;
-pub mod telling;
-pub mod vector_circuits;
-pub mod vector_lines;
-pub mod vectors;
-
 use base::{FromReader, Sink, Source, ToWriter};
-use command_line::{given_words, order};
-use files::NoFile;
-use orders::{Order, STANDARD_INPUT};
-use running::run;
+use commands::{NoFile, Order, STANDARD_INPUT, end, given_words, order, run};
 use std::fs;
 use std::process::ExitCode;
-use telling::end;
 
 /// Reads the words after the program's name, and does the command that they ask for.
 fn main(rt: HostRuntime) -> ExitCode {
@@ -83,6 +67,3 @@ fn obey_of<A: Source, O: Sink, E: Sink>(
         },
     }
 }
-
-#[cfg(test)]
-mod tests;

@@ -1,5 +1,5 @@
-//! Tests of the libraries: what no clause says, and each public call once with ample memory. They stand in a crate of
-//! their own because a crate with tests is proved twice.
+//! Tests of the libraries, the commands of the program among them: what no clause says, and each public call once with
+//! ample memory. They stand in a crate of their own because a crate with tests is proved twice.
 #![tactic(auto)]
 
 #[cfg(test)]
@@ -30,6 +30,8 @@ mod models;
 mod no_memory_left;
 #[cfg(test)]
 mod operator_tables;
+#[cfg(test)]
+mod program;
 #[cfg(test)]
 mod refused_memory;
 #[cfg(test)]

@@ -1,0 +1,3 @@
+-- What commands ask for, and what the exit statuses say.
+pub mod Done
+pub mod Orders

@@ -1,0 +1,87 @@
+//! Commands, and what stands in their place.
+
+ghost use Rattle.std.specs.Prelude.{◌≡◌, []};
+ghost use Rattle.std.specs.String.{string_bytes};
+
+use crate::statuses::{DEVICE, DONE, WORDS_REFUSED};
+use aigertext::Form;
+use std::alloc::Global;
+
+/// The file name that stands for standard input.
+pub const STANDARD_INPUT: &str = "-";
+
+/// The commands.
+#[derive(Clone, Copy, PartialEq, Eq)]
+pub enum Task {
+    /// Lowers a model to a circuit.
+    Lower,
+    /// Judges a witness over a model.
+    CheckBtor,
+    /// Writes a model's text in the writer's form.
+    Show,
+    /// Tells how many gates and variables the lowering of a model has at most.
+    Cost,
+    /// Writes a circuit in a form.
+    AigConvert,
+    /// Judges a witness over a circuit.
+    CheckAig,
+    /// Lifts a witness of a model's circuit to one of the model.
+    Lift,
+    /// Judges vectors of operators.
+    Vectors,
+}
+
+/// A command, the form of the circuits that it writes, and the names of its files.
+#[derive(Clone, Copy)]
+pub struct Order<'a> {
+    /// The command.
+    pub task: Task,
+    /// The form of a circuit that is written.
+    pub form: Form,
+    /// The name of the first file; `-` is standard input.
+    pub first: &'a str,
+    /// The name of the second file, for a command that has one; `-` is standard input.
+    pub second: Option<&'a str>,
+}
+
+/// What stands in place of a command: help or the version, refused words, or want of memory while the words are read.
+#[derive(Drop)]
+pub struct Stop {
+    /// The exit status, where the text can be written: 0 for help and the version, 4 for refused words, 3 where there was
+    /// no memory.
+    pub status: u8,
+    /// The text, whole lines; none where there was no memory.
+    pub text: String,
+}
+
+impl Stop {
+    /// Help or the version: the text goes to standard output.
+    pub fn shown(text: String) -> Stop
+        ensures status { result.status ≡ 0 }
+        ensures text { result.text ≡ text }
+    {
+        Stop { status: DONE, text }
+    }
+
+    /// Refused words: the text goes to standard error.
+    pub fn refused(text: String) -> Stop
+        ensures status { result.status ≡ 4 }
+        ensures text { result.text ≡ text }
+    {
+        Stop {
+            status: WORDS_REFUSED,
+            text,
+        }
+    }
+
+    /// There was no memory to read the words, and none for a text.
+    pub fn no_memory(alloc: Global) -> Stop
+        ensures status { result.status ≡ 3 }
+        ensures text { string_bytes result.text ≡ [] }
+    {
+        Stop {
+            status: DEVICE,
+            text: String::new(alloc),
+        }
+    }
+}

@@ -1,9 +1,0 @@
-use Rattle.std.proofs.Common.{length}
-use Rattle.hwtool.proofs.VectorLemmas.{NumberedSoFar}
-use Rattle.hwtool.proofs.vector_lines.read_vectors.Given as goal
-
-abbrev pub invariant-loop-front : goal.invariant-loop-front
-invariant-loop-front l = NumberedSoFar l.fn.text l.rest l.vectors.items
-
-abbrev pub decreases-loop-front : goal.decreases-loop-front
-decreases-loop-front l = length l.rest

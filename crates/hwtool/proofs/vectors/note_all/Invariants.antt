@@ -1,9 +1,0 @@
-use Rattle.std.proofs.Common.{◌≡◌, ◌++◌, length}
-use Rattle.hwtool.specs.Vectors.{differing}
-use Rattle.hwtool.proofs.vectors.note_all.Given as goal
-
-abbrev pub invariant-loop-rest : goal.invariant-loop-rest
-invariant-loop-rest l = l.lines.items ++ differing l.rest ≡ l.fn.lines.items ++ differing l.vectors
-
-abbrev pub decreases-loop-rest : goal.decreases-loop-rest
-decreases-loop-rest l = length l.rest

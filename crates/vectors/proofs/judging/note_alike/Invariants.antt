@@ -1,0 +1,15 @@
+use Rattle.std.proofs.Common.{◌≡◌, ◌≤◌, ◌++◌, length}
+use Rattle.vectors.specs.Vectors.{differing}
+use Rattle.vectors.specs.CircuitRuns.{IsRunOf}
+use Rattle.vectors.proofs.judging.note_alike.Given as goal
+
+abbrev pub invariant-loop-rest : goal.invariant-loop-rest
+invariant-loop-rest l =
+    record {
+      run : IsRunOf l.circuit l.run;
+      noted : l.lines.items ++ differing l.rest ≡ l.fn.lines.items ++ differing l.vectors;
+      behind : length l.rest ≤ length l.vectors;
+    }
+
+abbrev pub decreases-loop-rest : goal.decreases-loop-rest
+decreases-loop-rest l = length l.rest

@@ -1,0 +1,4 @@
+-- Vectors of operators.
+pub mod Vectors
+pub mod OperatorModels
+pub mod CircuitRuns
