@@ -1,5 +1,5 @@
 //! How an item is added: the lists and maps beside the items get their entries first.
-ghost use Rattle.std.specs.Prelude.{◌≡◌, ℕ, ◌<◌, ◌-◌, ◌==◌, ◌&&◌, not, false, [], ◌∷◌, ◌++◌, None, Some, OnOk, OnErr, IfErr, is_ok, MatchResult, nat_eq, if◌then◌else◌, vec_len, vec_capacity};
+ghost use Rattle.std.specs.Prelude.{◌≡◌, ℕ, ◌<◌, ◌-◌, ◌==◌, ◌&&◌, not, false, [], ◌∷◌, ◌++◌, None, Some, OnOk, OnErr, IfErr, is_ok, MatchResult, nat_eq, if◌then◌else◌, length, vec_len, vec_capacity};
 ghost use Rattle.std.specs.HashMap.{get};
 ghost use Rattle.std.specs.Option.{option_or};
 ghost use Rattle.indexmap.specs.IndexMap.{spare};
@@ -36,21 +36,27 @@ fn add_value(map: &mut IndexMap<u64, u64>, state: u32, value: u32) -> Result<(),
     }
 }
 
-/// Makes room for the place of an item by its id, where the id is not in place.
-fn reserve_elsewhere(
+/// Makes room for an item, and for its place by its id where the id is not in place. Answers the place.
+fn make_room(
+    items: &mut Vec<Item>,
     elsewhere: &mut IndexMap<u64, usize>,
     id: u64,
-    place: usize,
-) -> Result<(), PushFault>
-    ensures fault { IfErr result (λ fault. fault ≡ PushFault.NoMemory) }
-    ensures room { OnOk result ((id - 1 == place) ≡ false → 0 < spare elsewhere.new) }
+) -> Result<usize, PushFault>
+    ensures answer { MatchResult result
+        (λ place. (place ≡ length items.old.items) × ((vec_len items.new < vec_capacity items.new) × ((id - 1 == place) ≡ false → 0 < spare elsewhere.new)))
+        (λ fault. fault ≡ PushFault.NoMemory) }
+    ensures same { items.new.items ≡ items.old.items }
     ensures kept { (k : ℕ) → get nat_eq elsewhere.new k ≡ get nat_eq elsewhere.old k }
 {
+    let place = items.len();
+    if items.reserve(1).is_err() {
+        return Err(PushFault::NoMemory);
+    }
     if place_by_number(id) == place {
-        return Ok(());
+        return Ok(place);
     }
     match elsewhere.reserve(1) {
-        Ok(()) => Ok(()),
+        Ok(()) => Ok(place),
         Err(_) => Err(PushFault::NoMemory),
     }
 }
@@ -119,13 +125,12 @@ impl Model {
             (λ u. self.new ≡ self.old ++ item ∷ [])
             (λ fault. (fault ≡ PushFault.NoMemory) × (self.new ≡ self.old)) }
     {
-        if self.items.reserve(1).is_err() {
-            return Err(PushFault::NoMemory);
-        }
-        let place = self.items.len();
+        let place = match make_room(&mut self.items, &mut self.elsewhere, item.id) {
+            Ok(place) => place,
+            Err(fault) => return Err(fault),
+        };
         item.know_parts();
-        reserve_elsewhere(&mut self.elsewhere, item.id, place)?;
-        note(
+        match note(
             &item.body,
             place,
             &mut self.inputs,
@@ -134,10 +139,14 @@ impl Model {
             &mut self.constraints,
             &mut self.inits,
             &mut self.nexts,
-        )?;
-        add_elsewhere(&mut self.elsewhere, item.id, place);
-        add_item(&mut self.items, item);
-        Ok(())
+        ) {
+            Ok(()) => {
+                add_elsewhere(&mut self.elsewhere, item.id, place);
+                add_item(&mut self.items, item);
+                Ok(())
+            }
+            Err(fault) => Err(fault),
+        }
     }
 
     /// Adds an item at the end.
