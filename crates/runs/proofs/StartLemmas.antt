@@ -1,7 +1,7 @@
 -- What a new run keeps.
-use Rattle.std.proofs.Common.{◌≡◌, ◌≢◌, ℕ, ◌^◌, ◌<◌, Bool, true, false, List, length, map, get_or, replicate, All, Option, Some, None, option_and_then, unwrap_or, refl, sym, ap, subst, ◌∙◌, pow_pos, arith}
+use Rattle.std.proofs.Common.{◌≡◌, ◌≢◌, ℕ, ◌^◌, ◌<◌, Bool, true, false, List, length, map, get_or, All, Option, Some, None, option_and_then, unwrap_or, refl, sym, ap, subst, ◌∙◌, pow_pos, arith}
 use Rattle.std.proofs.lemmas.Bool.{true≢false}
-use Rattle.std.proofs.lemmas.List.{length-map, length-replicate, get_or-map, get_or-replicate, ext_get_or}
+use Rattle.std.proofs.lemmas.List.{length-map, get_or-map, ext_get_or}
 use Rattle.btor2.specs.declared.item.Item.{Item}
 use Rattle.btor2.specs.declared.item.Body.{Body}
 use Rattle.btor2.specs.Items.{find_item, constant_of, is_input, is_state, is_bad, is_constraint, init_value}
@@ -63,7 +63,7 @@ pub record Starts (items : List Item) (nodes : List Node) (slots states inputs :
   pub no_inputs : words_at values inputs ≡ zeros items
 
 -- the lists that a run is made of
-pub record NewLists (items : List Item) (nodes : List Node) (slots states inputs : List ℕ) (nexts : List (Option ℕ)) (bads constraints zero_values next_values : List ℕ) : Type 0 where
+pub record NewLists (items : List Item) (nodes : List Node) (slots states inputs : List ℕ) (nexts : List (Option ℕ)) (bads constraints next_values : List ℕ) : Type 0 where
   pub well_formed : IsWellFormed items
   pub are_nodes : nodes ≡ map (λ x. node_of items x.body) (of_kind has_value items)
   pub are_slots : slots ≡ map (λ x. slot items x.id) items
@@ -72,15 +72,14 @@ pub record NewLists (items : List Item) (nodes : List Node) (slots states inputs
   pub are_nexts : nexts ≡ map (next_slot items) (ids_of is_state items)
   pub are_bads : bads ≡ map (λ x. slot items (property_id x.body)) (of_kind is_bad items)
   pub are_constraints : constraints ≡ map (λ x. slot items (property_id x.body)) (of_kind is_constraint items)
-  pub are_zero : zero_values ≡ replicate (length nodes) 0
   pub are_first : next_values ≡ map (first_word items) (ids_of is_state items)
 
-module _ (items : List Item) (nodes : List Node) (slots states inputs : List ℕ) (nexts : List (Option ℕ)) (bads constraints zero_values next_values : List ℕ) (m : NewLists items nodes slots states inputs nexts bads constraints zero_values next_values) where
-  zero_many : length zero_values ≡ length (of_kind has_value items)
-  zero_many = ap length m.are_zero ∙ length-replicate (length nodes) 0 ∙ ap length m.are_nodes ∙ length-map (of_kind has_value items) (λ (x : Item). node_of items x.body)
+module _ (items : List Item) (nodes : List Node) (slots states inputs : List ℕ) (nexts : List (Option ℕ)) (bads constraints next_values : List ℕ) (m : NewLists items nodes slots states inputs nexts bads constraints next_values) where
+  nodes_many : length nodes ≡ length (of_kind has_value items)
+  nodes_many = ap length m.are_nodes ∙ length-map (of_kind has_value items) (λ (x : Item). node_of items x.body)
 
-  pub start_inside : All (λ p. p < length zero_values) states
-  start_inside = rw m.are_states (slots-inside is_state items (length zero_values) m.well_formed state_is_leaf zero_many)
+  pub start_inside : All (λ p. p < length nodes) states
+  start_inside = rw m.are_states (slots-inside is_state items (length nodes) m.well_formed state_is_leaf nodes_many)
 
   pub start_many : length next_values ≡ length states
   start_many = ap length m.are_first ∙ length-map (ids_of is_state items) (first_word items) ∙ sym (ap length m.are_states ∙ length-slots_of is_state items)
@@ -88,7 +87,7 @@ module _ (items : List Item) (nodes : List Node) (slots states inputs : List ℕ
   pub start_once : (i j : ℕ) → i < j → j < length states → get_or states i 0 ≢ get_or states j 0
   start_once = rw m.are_states (slots-differ is_state items m.well_formed state_is_leaf)
 
-  module _ (values : List ℕ) (put : words_at values states ≡ next_values) (others : (p : ℕ) → ((j : ℕ) → j < length states → get_or states j 0 ≢ p) → get_or values p 0 ≡ get_or zero_values p 0) (many : length values ≡ length zero_values) where
+  module _ (values : List ℕ) (put : words_at values states ≡ next_values) (others : (p : ℕ) → p < length nodes → ((j : ℕ) → j < length states → get_or states j 0 ≢ p) → get_or values p 0 ≡ 0) (many : length values ≡ length nodes) where
     state_word : (id : ℕ) (y : Item) → find_item items id ≡ Some y → is_state y.body ≡ true → get_or values (slot items id) 0 ≡ first_word items id
     state_word id y found is =
         let at = slot-own is_state items id y found is in
@@ -106,7 +105,7 @@ module _ (items : List Item) (nodes : List Node) (slots states inputs : List ℕ
         let apart : (j : ℕ) → j < length states → get_or states j 0 ≢ slot items id = λ j l e.
         slots-apart items j r m.well_formed (omega (arith, ap length m.are_states, length-slots_of is_state items)) there (ap (λ (list : List ℕ). get_or list j 0) (sym m.are_states) ∙ e ∙ sym at.1) in
         let inside : slot items id < length nodes = omega (arith, rank-below has_value items id y found (leaf_has_value y.body (input_is_leaf y.body is)), ap length m.are_nodes, length-map (of_kind has_value items) (λ (x : Item). node_of items x.body)) in
-        others (slot items id) apart ∙ ap (λ (l : List ℕ). get_or l (slot items id) 0) m.are_zero ∙ get_or-replicate (length nodes) (slot items id) 0 0 inside
+        others (slot items id) inside apart
 
     leaves_fit : LeavesFit items values
     leaves_fit id y found leaf =
@@ -126,7 +125,7 @@ module _ (items : List Item) (nodes : List Node) (slots states inputs : List ℕ
             are_nexts = m.are_nexts;
             are_bads = m.are_bads;
             are_constraints = m.are_constraints;
-            many_nodes = many ∙ zero_many;
+            many_nodes = many ∙ nodes_many;
             many_states = ap length m.are_first ∙ length-map (ids_of is_state items) (first_word items) ∙ length-ids is_state items;
             leaves = leaves_fit;
             frame = λ e. absurd (true≢false (sym e));

@@ -1,6 +1,7 @@
 -- The k-th item of a kind, and what a run begins with for the k-th state.
 use Rattle.std.proofs.Common.{◌≡◌, ℕ, zero, suc, ◌+◌, ◌<◌, ◌≤◌, Bool, true, false, cond, List, [], ◌∷◌, ◌++◌, length, map, take, get_or, slice_get, Option, Some, None, option_and_then, unwrap_or, refl, sym, ap, ap₂, ◌∙◌, length-append, arith}
-use Rattle.std.proofs.lemmas.List.{map_more, take_more}
+use Rattle.std.proofs.lemmas.List.{append-nil, map_more, map-append, take_more}
+use Rattle.std.proofs.lemmas.Option.{slice_get_read}
 use Rattle.std.proofs.lemmas.List.Elements.{filter-append}
 use Rattle.std.proofs.Math.Seq.{take-append_seam}
 use Rattle.btor2.specs.declared.item.Item.{Item}
@@ -42,22 +43,39 @@ slot-next items k x w at =
     let front : take k items ≡ there.0.before = ap (take k) there.0.splits ∙ ap (λ (j : ℕ). take j (there.0.before ++ x ∷ there.0.after)) (sym there.1) ∙ take-append_seam there.0.before (x ∷ there.0.after) in
     ap (λ (l : List Item). slot l x.id) there.0.splits ∙ rank-own has_value there.0.before there.0.after x (IsAccepted-at items x w there.0).fresh ∙ ap (λ (l : List Item). length (of_kind has_value l)) (sym front)
 
--- how many nodes there are with one item more
+-- the nodes with one item more: it, where it has a value, and else the same
+more_nodes : (items : List Item) (k : ℕ) (x d : Item) → k < length items → x ≡ get_or items k d → of_kind has_value (take (k + 1) items) ≡ of_kind has_value (take k items) ++ of_kind has_value (x ∷ [])
+more_nodes items k x d h e =
+    ap (of_kind has_value) (take_more items k d h) ∙ filter-append (λ (y : Item). has_value y.body) (take k items) (get_or items k d ∷ []) ∙ ap (λ (y : Item). of_kind has_value (take k items) ++ of_kind has_value (y ∷ [])) (sym e)
+
+pub node_more : (items : List Item) (k : ℕ) (x d : Item) → k < length items → x ≡ get_or items k d → has_value x.body ≡ true → of_kind has_value (take (k + 1) items) ≡ of_kind has_value (take k items) ++ x ∷ []
+node_more items k x d h e has = more_nodes items k x d h e ∙ ap (λ (b : Bool). of_kind has_value (take k items) ++ cond b (x ∷ []) []) has
+
+pub node_same : (items : List Item) (k : ℕ) (x d : Item) → k < length items → x ≡ get_or items k d → has_value x.body ≡ false → of_kind has_value (take (k + 1) items) ≡ of_kind has_value (take k items)
+node_same items k x d h e has = more_nodes items k x d h e ∙ ap (λ (b : Bool). of_kind has_value (take k items) ++ cond b (x ∷ []) []) has ∙ append-nil (of_kind has_value (take k items))
+
+-- how many they are
 pub count_more : (items : List Item) (k count : ℕ) (x d : Item) → k < length items → x ≡ get_or items k d → has_value x.body ≡ true → count ≡ length (of_kind has_value (take k items))
     → count + 1 ≡ length (of_kind has_value (take (k + 1) items))
-count_more items k count x d h e has many =
-    let more : of_kind has_value (take (k + 1) items) ≡ of_kind has_value (take k items) ++ of_kind has_value (x ∷ []) =
-    ap (of_kind has_value) (take_more items k d h) ∙ filter-append (λ (y : Item). has_value y.body) (take k items) (get_or items k d ∷ []) ∙ ap (λ (y : Item). of_kind has_value (take k items) ++ of_kind has_value (y ∷ [])) (sym e) in
-    let one : of_kind has_value (x ∷ []) ≡ x ∷ [] = ap (λ (b : Bool). cond b (x ∷ []) []) has in
-    omega (arith, ap length more, length-append (of_kind has_value (take k items)) (of_kind has_value (x ∷ [])), ap length one)
+count_more items k count x d h e has many = omega (arith, ap length (node_more items k x d h e has), length-append (of_kind has_value (take k items)) (x ∷ []))
 
 pub count_same : (items : List Item) (k count : ℕ) (x d : Item) → k < length items → x ≡ get_or items k d → has_value x.body ≡ false → count ≡ length (of_kind has_value (take k items))
     → count ≡ length (of_kind has_value (take (k + 1) items))
-count_same items k count x d h e has many =
-    let more : of_kind has_value (take (k + 1) items) ≡ of_kind has_value (take k items) ++ of_kind has_value (x ∷ []) =
-    ap (of_kind has_value) (take_more items k d h) ∙ filter-append (λ (y : Item). has_value y.body) (take k items) (get_or items k d ∷ []) ∙ ap (λ (y : Item). of_kind has_value (take k items) ++ of_kind has_value (y ∷ [])) (sym e) in
-    let none : of_kind has_value (x ∷ []) ≡ [] = ap (λ (b : Bool). cond b (x ∷ []) []) has in
-    omega (arith, ap length more, length-append (of_kind has_value (take k items)) (of_kind has_value (x ∷ [])), ap length none)
+count_same items k count x d h e has many = many ∙ sym (ap length (node_same items k x d h e has))
+
+-- what is made of them
+pub made_more : {B : Type 0} (f : Item → B) (items : List Item) (front longer : List B) (k : ℕ) (x d : Item) (made : B) → k < length items → x ≡ get_or items k d → has_value x.body ≡ true → front ≡ map f (of_kind has_value (take k items)) → made ≡ f x
+    → longer ≡ front ++ made ∷ [] → longer ≡ map f (of_kind has_value (take (k + 1) items))
+made_more {B = B} f items front longer k x d made h e has so_far is more =
+    more ∙ ap₂ (λ (l : List B) (m : B). l ++ m ∷ []) so_far is ∙ sym (ap (map f) (node_more items k x d h e has) ∙ map-append f (of_kind has_value (take k items)) (x ∷ []))
+
+pub made_same : {B : Type 0} (f : Item → B) (items : List Item) (front : List B) (k : ℕ) (x d : Item) → k < length items → x ≡ get_or items k d → has_value x.body ≡ false → front ≡ map f (of_kind has_value (take k items))
+    → front ≡ map f (of_kind has_value (take (k + 1) items))
+made_same f items front k x d h e has so_far = so_far ∙ sym (ap (map f) (node_same items k x d h e has))
+
+-- the item that a loop over all items is at
+pub item_at : (items list : List Item) (k : ℕ) (x : Item) → list ≡ items → k < length list → x ≡ get_or list k x → slice_get items k ≡ Some x
+item_at items list k x same h e = ap (λ (l : List Item). slice_get l k) (sym same) ∙ slice_get_read list (length list) k x refl h e
 
 pub count_below : (k : ℕ) (items : List Item) → length (of_kind has_value (take k items)) ≤ k
 count_below zero items = omega arith

@@ -5,6 +5,7 @@ use Rattle.btor2.specs.Items.{find_item, is_input, is_state, is_bad, is_constrai
 use Rattle.btor2.specs.Check.{IsWellFormed}
 use Rattle.btor2.specs.Trace.{Frame, IsFrame, bits_of}
 use Rattle.runs.specs.declared.nodes.Node.{Node}
+use Rattle.runs.specs.declared.resolving.Slots.{Slots}
 use Rattle.runs.specs.declared.word_run.WordRun.TheInside.{Inside}
 use Rattle.runs.specs.Frames.{has_value, is_leaf, of_kind, ids_of, given, given_leaves}
 use Rattle.runs.specs.Run.{Run, property_id}
@@ -24,6 +25,14 @@ run_of r =
 -- the slot of the value of a state's next line, where it has one
 abbrev pub next_slot : List Item → ℕ → Option ℕ
 next_slot items id = option_map (slot items) (next_value items id)
+
+-- the slots that a run of a model goes by
+pub record AreSlotsOf (items : List Item) (s : Slots) : Type 0 where
+  pub are_states : s.states.items ≡ map (slot items) (ids_of is_state items)
+  pub are_inputs : s.inputs.items ≡ map (slot items) (ids_of is_input items)
+  pub are_nexts : s.nexts.items ≡ map (next_slot items) (ids_of is_state items)
+  pub are_bads : s.bads.items ≡ map (λ x. slot items (property_id x.body)) (of_kind is_bad items)
+  pub are_constraints : s.constraints.items ≡ map (λ x. slot items (property_id x.body)) (of_kind is_constraint items)
 
 -- each now-value of a leaf fits its width
 abbrev pub LeavesFit : List Item → List ℕ → Type 0

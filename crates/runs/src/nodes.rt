@@ -1,5 +1,5 @@
 //! The nodes of a run.
-ghost use Rattle.std.specs.Prelude.{◌≡◌, ℕ, ◌<◌, true, Some, map, length, is_some, slice_get};
+ghost use Rattle.std.specs.Prelude.{◌≡◌, ℕ, ◌<◌, true, Some, map, length, is_some, slice_get, slice_index};
 ghost use Rattle.base.specs.Steps.{one_more};
 ghost use Rattle.btor2.specs.Items.{node_width};
 ghost use Rattle.btor2.specs.Check.{IsWellFormed};
@@ -65,6 +65,14 @@ pub(crate) enum Node {
     },
 }
 
+/// The word at a place among the now-values.
+fn word_at(values: &[u64], place: usize) -> u64
+    requires { place < length values.now }
+    ensures { result ≡ slice_index values.now place }
+{
+    values[place]
+}
+
 /// The word that the node at a place gives from the now-values. One step.
 pub(crate) fn node_word(node: &Node, values: &[u64], at: usize, tally: &mut Tally) -> u64
     requires { NodeFits node.now values.now at }
@@ -72,33 +80,45 @@ pub(crate) fn node_word(node: &Node, values: &[u64], at: usize, tally: &mut Tall
     ensures step { tally.new ≡ one_more tally.old }
 {
     match *node {
-        Node::Leaf => base::take(values[at], tally),
+        Node::Leaf => base::take(word_at(values, at), tally),
         Node::Constant(word) => base::take(word, tally),
-        Node::Uext { width, operand, by } => base::uext(width, values[operand], by, tally),
-        Node::Sext { width, operand, by } => base::sext(width, values[operand], by, tally),
+        Node::Uext { width, operand, by } => base::uext(width, word_at(values, operand), by, tally),
+        Node::Sext { width, operand, by } => base::sext(width, word_at(values, operand), by, tally),
         Node::Slice {
             width,
             operand,
             upper,
             lower,
-        } => base::slice(width, values[operand], upper, lower, tally),
+        } => base::slice(width, word_at(values, operand), upper, lower, tally),
         Node::Unary {
             operator,
             width,
             operand,
-        } => base::unary(operator, width, values[operand], tally),
+        } => base::unary(operator, width, word_at(values, operand), tally),
         Node::Binary {
             operator,
             width,
             left,
             right,
-        } => base::binary(operator, width, values[left], values[right], tally),
+        } => base::binary(
+            operator,
+            width,
+            word_at(values, left),
+            word_at(values, right),
+            tally,
+        ),
         Node::Concat {
             high_width,
             high,
             low_width,
             low,
-        } => base::concat(high_width, values[high], low_width, values[low], tally),
+        } => base::concat(
+            high_width,
+            word_at(values, high),
+            low_width,
+            word_at(values, low),
+            tally,
+        ),
         Node::Ite {
             width,
             condition,
@@ -106,9 +126,9 @@ pub(crate) fn node_word(node: &Node, values: &[u64], at: usize, tally: &mut Tall
             second,
         } => base::ite(
             width,
-            values[condition],
-            values[first],
-            values[second],
+            word_at(values, condition),
+            word_at(values, first),
+            word_at(values, second),
             tally,
         ),
     }

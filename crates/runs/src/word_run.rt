@@ -11,9 +11,7 @@ ghost use Rattle.runs.specs.Refusal.{AnswersNew};
 use crate::fault::NewFault;
 use crate::nodes::Node;
 use crate::passes::{clear_words, put_words, settle_nodes, take_words};
-use crate::resolving::{
-    first_words, next_slots, node_slots, picked, property_slots, resolved_nodes,
-};
+use crate::resolving::{first_values, first_words, node_slots, resolved_nodes, run_slots};
 use base::Tally;
 use btor2::Model;
 use std::alloc::{AllocError, Global};
@@ -63,23 +61,18 @@ impl<'a> WordRun<'a> {
     {
         let slots = node_slots(alloc, model)?;
         let nodes = resolved_nodes(alloc, model, &slots)?;
-        let states = picked(alloc, &slots, model.states())?;
-        let inputs = picked(alloc, &slots, model.inputs())?;
-        let nexts = next_slots(alloc, model, &slots)?;
-        let bads = property_slots(alloc, model, &slots, model.bads())?;
-        let constraints = property_slots(alloc, model, &slots, model.constraints())?;
+        let named = run_slots(alloc, model, &slots)?;
         let next_values = first_words(alloc, model)?;
-        let mut values = vec![in alloc; 0; nodes.len()]?;
-        put_words(&next_values, &states, &mut values);
+        let values = first_values(alloc, nodes.len(), &next_values, &named.states)?;
         Ok(WordRun {
             model,
             nodes,
             slots,
-            states,
-            inputs,
-            nexts,
-            bads,
-            constraints,
+            states: named.states,
+            inputs: named.inputs,
+            nexts: named.nexts,
+            bads: named.bads,
+            constraints: named.constraints,
             values,
             next_values,
             settled: false,

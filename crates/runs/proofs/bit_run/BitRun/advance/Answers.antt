@@ -7,9 +7,18 @@ use Rattle.aiger.specs.Trace.{next_state}
 use Rattle.runs.specs.Run.{more_steps}
 use Rattle.runs.specs.CircuitRun.{CircuitRun, IsFrameNow}
 use Rattle.runs.specs.CircuitHolds.{valuation_of}
-use Rattle.runs.proofs.BitRunLemmas.{AfterAdvance, latches_in, inputs_in, advance_keeps, circuit_run_same}
+use Rattle.runs.proofs.BitRunLemmas.{AfterAdvance, latches_in, inputs_in, nexts_inside, advance_keeps, circuit_run_same}
 use Rattle.runs.proofs.bit_run.BitRun.advance.Goals as goal
 use Rattle.runs.proofs.bit_run.BitRun.advance.Goals.{After-clear_inputs}
+
+pub take_nexts-requires-clause-inside : goal.take_nexts-requires-clause-inside
+take_nexts-requires-clause-inside c = rw (c.deref.ensures.value, c.latches.ensures.items) (nexts_inside _ _ _ _ c.self.invariant)
+
+pub take_nexts-requires-clause-constant : goal.take_nexts-requires-clause-constant
+take_nexts-requires-clause-constant c = ap (λ (l : List Bool). get_or l 0 false) c.deref.ensures.value ∙ c.self.invariant.constant
+
+pub take_nexts-requires-clause-as_many : goal.take_nexts-requires-clause-as_many
+take_nexts-requires-clause-as_many c = ap length c.deref_mut.ensures.value ∙ c.self.invariant.many_latches ∙ sym (ap length c.latches.ensures.items)
 
 -- the bits taken, those between, and those at the end
 taken_is : (c : After-clear_inputs) → (with_items c.self.inside.next_bits c.take_nexts.new.taken).items ≡ c.take_nexts.new.taken
@@ -38,6 +47,11 @@ after c done =
     (subst (λ (n : ℕ). (j : ℕ) → j < n → get_or c.clear_inputs.new.bits (1 + j) false ≡ false) count c.clear_inputs.ensures.cleared)
     (λ p h. c.clear_inputs.ensures.others p (subst (λ (n : ℕ). n < p) (sym count) h) ∙ ap (λ (l : List Bool). get_or l p false) between) (c.clear_inputs.ensures.constant ∙ ap (λ (l : List Bool). get_or l 0 false) between)
     (c.clear_inputs.ensures.as_many ∙ ap length between)
+
+pub invariant_of-self : goal.invariant_of-self
+invariant_of-self c =
+    let end = (goal.at.invariant_of-self c).After-clear_inputs in
+    rw (cleared_is end, taken_is end) (after end (subst (λ (r : CircuitRun). r.settled ≡ true) (sym c.self.view_is) c.requires)).keeps
 
 pub returns-clause-latches : goal.returns-clause-latches
 returns-clause-latches c =

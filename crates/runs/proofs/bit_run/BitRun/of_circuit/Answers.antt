@@ -1,21 +1,38 @@
 use Rattle.std.proofs.Common.{◌≡◌, ℕ, ◌+◌, ◌<◌, Bool, false, List, length, get_or, replicate, ap, sym, subst, ◌∙◌, arith}
 use Rattle.std.proofs.lemmas.List.{with_items_is, length-replicate}
+use Rattle.std.specs.Vec.{with_items}
 use Rattle.aiger.specs.declared.circuit.Latch.{Latch}
 use Rattle.runs.specs.CircuitRun.{first_bit}
-use Rattle.runs.proofs.BitRunLemmas.{latches_in, inputs_in, starts, circuit_run_same}
+use Rattle.runs.proofs.BitRunLemmas.{Starts, latches_in, inputs_in, starts, circuit_run_same}
 use Rattle.runs.proofs.bit_run.BitRun.of_circuit.Goals as goal
+use Rattle.runs.proofs.bit_run.BitRun.of_circuit.Goals.{After-put_bits}
 
-pub returns : goal.returns
-returns c =
+-- the bits of the latches, and those of all
+taken_is : (c : After-put_bits) → (with_items c.in_ok-next_bits.next_bits c.take_first_bits.new.taken).items ≡ c.take_first_bits.new.taken
+taken_is c = with_items_is c.in_ok-next_bits.next_bits c.take_first_bits.new.taken (omega arith)
+
+put_is : (c : After-put_bits) → (with_items c.in_ok-bits.bits c.put_bits.new.bits).items ≡ c.put_bits.new.bits
+put_is c = with_items_is c.in_ok-bits.bits c.put_bits.new.bits (omega arith)
+
+begun : (c : After-put_bits) → Starts c.args.circuit.now c.take_first_bits.new.taken c.put_bits.new.bits
+begun c =
     let circuit = c.args.circuit.now in
     let blank : c.deref_mut-2.result.now ≡ c.in_ok-bits.bits.items = c.deref_mut-2.ensures.value in
-    let taken_is = with_items_is c.in_ok-next_bits.next_bits c.take_first_bits.new.taken (omega arith) in
-    let given : c.deref.result.now ≡ c.take_first_bits.new.taken = c.deref.ensures.value ∙ taken_is in
-    let same = with_items_is c.in_ok-bits.bits c.put_bits.new.bits (omega arith) in
-    let begin = starts circuit c.in_ok-bits.bits.items c.take_first_bits.new.taken c.put_bits.new.bits (1 + c.inputs.result) c.variables.ensures.valid (ap (λ (n : ℕ). 1 + n) c.inputs.ensures.count)
+    let given : c.deref.result.now ≡ c.take_first_bits.new.taken = c.deref.ensures.value ∙ taken_is c in
+    starts circuit c.in_ok-bits.bits.items c.take_first_bits.new.taken c.put_bits.new.bits (1 + c.inputs.result) c.variables.ensures.valid (ap (λ (n : ℕ). 1 + n) c.inputs.ensures.count)
     (c.in_ok-bits.ensures.items_if_clones_equal (λ y same. same) ∙ ap (λ (n : ℕ). replicate (n + 1) false) c.variables.ensures.count)
     (λ j d within. c.take_first_bits.ensures.taken j d (subst (λ (ls : List Latch). j < length ls) (sym c.latches-2.ensures.items) within) ∙ ap (λ (ls : List Latch). first_bit (get_or ls j d).reset) c.latches-2.ensures.items)
     (c.take_first_bits.ensures.as_many ∙ ap length (c.deref_mut.ensures.value ∙ c.in_ok-next_bits.ensures.items_if_clones_equal (λ y same. same)) ∙ length-replicate (length c.latches.result.now) false ∙ ap length c.latches.ensures.items)
     (subst (λ (l : List Bool). (j : ℕ) → j < length l → get_or c.put_bits.new.bits (1 + c.inputs.result + j) false ≡ get_or l j false) given c.put_bits.ensures.put)
-    (λ p h. c.put_bits.ensures.others p h ∙ ap (λ (l : List Bool). get_or l p false) blank) (c.put_bits.ensures.as_many ∙ ap length blank) in
-    circuit_run_same _ _ _ _ _ _ _ _ (ap (latches_in circuit) same ∙ begin.latches) (ap (inputs_in circuit) same ∙ begin.inputs) c.requires
+    (λ p h. c.put_bits.ensures.others p h ∙ ap (λ (l : List Bool). get_or l p false) blank) (c.put_bits.ensures.as_many ∙ ap length blank)
+
+pub invariant_of-result : goal.invariant_of-result
+invariant_of-result c =
+    let end = (goal.at.invariant_of-result c).After-put_bits in
+    rw (put_is end, taken_is end) (begun end).keeps
+
+pub returns : goal.returns
+returns c =
+    let circuit = c.args.circuit.now in
+    let end = (goal.at.returns c).After-put_bits in
+    circuit_run_same _ _ _ _ _ _ _ _ (ap (latches_in circuit) (put_is end) ∙ (begun end).latches) (ap (inputs_in circuit) (put_is end) ∙ (begun end).inputs) c.requires
