@@ -36,6 +36,11 @@ pub bind-back : {A B E : Type 0} (r : Result A E) (k : A → Result B E) (y : B)
 bind-back (Ok x) k y e = record { value = x; was = refl; then' = e }
 bind-back (Err w) k y e = absurd (not_err _ _ e)
 
+-- the same for what follows from the value and the next step, which has them as variables
+pub bind-then : {A B E : Type 0} {P : Type 0} (r : Result A E) (k : A → Result B E) (y : B) → (r >>= k) ≡ Ok y → ((x : A) → r ≡ Ok x → k x ≡ Ok y → P) → P
+bind-then (Ok x) k y e next = next x refl e
+bind-then (Err w) k y e next = absurd (not_err _ _ e)
+
 -- ---- a text that is cut
 
 pub record IsCut (byte : ℕ) (text front behind : List ℕ) : Type 0 where

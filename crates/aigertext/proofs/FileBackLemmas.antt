@@ -1,5 +1,5 @@
 -- From the lists of a file that reading gives back to the text.
-use Rattle.std.proofs.Common.{◌≡◌, ℕ, ◌+◌, ◌-◌, ◌*◌, ◌%◌, ◌^◌, ◌<◌, ◌≤◌, ◌==◌, ◌&&◌, true, false, not, nat_le, List, [], ◌∷◌, ◌++◌, decimal, All, Option, Some, None, Ok, Err, refl, sym, ap, subst, ◌∙◌, append_assoc, inl, inr, arith}
+use Rattle.std.proofs.Common.{◌≡◌, ℕ, ◌+◌, ◌-◌, ◌*◌, ◌%◌, ◌^◌, ◌<◌, ◌≤◌, ◌==◌, ◌&&◌, true, false, not, nat_le, List, [], ◌∷◌, ◌++◌, length, decimal, All, Option, Some, None, Ok, Err, refl, sym, ap, subst, ◌∙◌, append_assoc, inl, inr, arith}
 use Rattle.std.specs.List.{concat}
 use Rattle.std.specs.List.Sorted.{IsStrictlySortedBy}
 use Rattle.std.proofs.lemmas.Bool.{and_parts, eqb-true, leb-true}
@@ -10,8 +10,9 @@ use Rattle.base.proofs.DecimalLemmas.{chosen, number_is_decimal}
 use Rattle.aiger.specs.declared.circuit.Reset.TheVariants.{Zero}
 use Rattle.aiger.specs.declared.loose.GateLine.{GateLine}
 use Rattle.aiger.specs.declared.loose.LatchLine.{LatchLine}
+use Rattle.aiger.specs.Limits.{greatest_count}
 use Rattle.aiger.specs.Literal.{variable}
-use Rattle.aiger.specs.Loose.{Loose, IsLoose, IsDefining, IsSmall, IsNamedLine, empty_loose, latch_variable, gate_variable, defined_variables, is_defining, is_defined, with_input_line, with_latch_line, with_gate_line}
+use Rattle.aiger.specs.Loose.{Loose, IsLoose, HasDefinitions, HasSmall, HasFewLines, IsDefining, IsSmall, IsNamedLine, empty_loose, latch_variable, gate_variable, defined_variables, is_defining, is_defined, with_input_line, with_latch_line, with_gate_line}
 use Rattle.aiger.specs.Numbering.{IsOnce}
 use Rattle.aigertext.specs.declared.counts.Counts.{Counts}
 use Rattle.aigertext.specs.declared.fault.Why.{Why}
@@ -22,11 +23,11 @@ use Rattle.aigertext.specs.Counts.{AreSmall, Fits, counts_of_file}
 use Rattle.aigertext.specs.Spelling.{AreLines, IsInputLine, IsLatchLine, IsGateLine, use_lines, AreUpTo}
 use Rattle.aigertext.specs.Reading.{some_or, fields, within, reset_of, Properties, lists_of, nameless, properties_at}
 use Rattle.aigertext.specs.AsciiReading.{defining, input_by, input_of, own_by, latch_fields, latch_of, gate_fields, gate_of, onto_lists, with_properties_of, lists_of_file}
-use Rattle.aigertext.proofs.BackLemmas.{ok_same, not_err, bind-back, within-back}
+use Rattle.aigertext.proofs.BackLemmas.{ok_same, not_err, bind-back, bind-then, within-back}
 use Rattle.aigertext.proofs.FileReadLemmas.{inputs_onto, latches_onto, gates_onto, HasInputs, HasLeaves, input_grows, latch_grows, gate_grows}
 use Rattle.aigertext.proofs.LatchBackLemmas.{spaced, fields-back, reset-back}
-use Rattle.aigertext.proofs.OntoLemmas.{onto-back}
-use Rattle.aigertext.proofs.ReadStandsLemmas.{properties-back, property_is, length_lists, lists_hold, lists_total}
+use Rattle.aigertext.proofs.OntoLemmas.{OntoBack, onto-back}
+use Rattle.aigertext.proofs.ReadStandsLemmas.{PropertiesBack, properties-back, property_is, length_lists, lists_hold, lists_total}
 
 -- ---- lines
 
@@ -183,84 +184,141 @@ abbrev made : List ℕ → List LatchLine → Properties → List GateLine → L
 made is ls p gs = record (with_properties_of (record empty_loose { inputs = is; latches = ls }) p) { gates = gs }
 
 -- literals up to the greatest are small
-small_literal : (h : Counts) → AreSmall h → (n : ℕ) → n ≤ 2 * h.variables + 1 → IsSmall n
-small_literal h small n le = omega (arith, le, small.variables)
+small_literal : (v n : ℕ) → v ≤ greatest_count → n ≤ 2 * v + 1 → IsSmall n
+small_literal v n few le = omega arith
 
-pub lists-back : (h : Counts) (text : List ℕ) (l : Loose) (end : List ℕ) → AreSmall h → Fits Ascii h → lists_of_file h text ≡ Ok (l, end) → ListsBack h text l end
-unfolding lists_of_file IsStrictlySortedBy
-lists-back h text l end few fits e =
-    let small : 2 * h.variables + 1 < 2 ^ 64 - 1 = omega (arith, few.variables) in
-    let i = bind-back (onto_lists (input_of (2 * h.variables + 1)) with_input_line empty_loose h.inputs text) _ (l, end) e in
-    let k = bind-back (onto_lists (latch_of (2 * h.variables + 1)) with_latch_line i.value.0 h.latches i.value.1) _ (l, end) i.then' in
-    let p = bind-back (properties_at h k.value.1) _ (l, end) k.then' in
-    let i' = onto-back (input_of (2 * h.variables + 1)) with_input_line variable IsInputLine (λ n. (n ≤ 2 * h.variables + 1) × IsDefining n) HasInputs input_grows (input-back (2 * h.variables + 1) small) empty_loose i.value.0 h.inputs text i.value.1 i.was in
-    let k' = onto-back (latch_of (2 * h.variables + 1)) with_latch_line latch_variable IsLatchLine (λ x. ((x.current ≤ 2 * h.variables + 1) × (x.next ≤ 2 * h.variables + 1)) × IsDefining x.current) HasLeaves latch_grows (latch-back (2 * h.variables + 1) small) i.value.0 k.value.0 h.latches i.value.1 k.value.1 k.was in
-    let q = properties-back h k.value.1 p.value.0 p.value.1 few.variables p.was in
-    let g' = onto-back (gate_of (2 * h.variables + 1)) with_gate_line gate_variable IsGateLine (λ x. ((x.lhs ≤ 2 * h.variables + 1) × (x.rhs0 ≤ 2 * h.variables + 1) × (x.rhs1 ≤ 2 * h.variables + 1)) × IsDefining x.lhs) (λ m. Unit {0}) gate_grows (gate-back (2 * h.variables + 1) small) (with_properties_of k.value.0 p.value.0) l h.gates p.value.1 end p.then' in
-    let inputs_are : i.value.0 ≡ record empty_loose { inputs = i'.things } = i'.is ∙ inputs_onto empty_loose i'.things in
-    let leaves_are : k.value.0 ≡ record empty_loose { inputs = i'.things; latches = k'.things } =
-    k'.is ∙ latches_onto i.value.0 k'.things ∙ ap (λ (m : Loose). record m { latches = m.latches ++ k'.things }) inputs_are in
-    let all_are : l ≡ made i'.things k'.things p.value.0 g'.things =
-    g'.is ∙ gates_onto (with_properties_of k.value.0 p.value.0) g'.things ∙ ap (λ (m : Loose). record (with_properties_of m p.value.0) { gates = m.gates ++ g'.things }) leaves_are in
-    let one = i'.keeps (refl, refl) (λ v. omega arith) in
-    let two = k'.keeps one.0.1 one.1 in
-    let once : IsOnce (defined_variables (made i'.things k'.things p.value.0 g'.things)) = subst (λ (m : Loose). IsOnce (defined_variables m)) all_are (g'.keeps tt two.1).1 in
-    let smaller = λ (lits : List ℕ) (b : All (λ n. n ≤ 2 * h.variables + 1) lits). All-weaker (λ n. n ≤ 2 * h.variables + 1) IsSmall (small_literal h few) lits b in
-    let lists : List (List ℕ) = lists_of p.value.0.sizes p.value.0.listed in
-    let total = lists_total p.value.0.sizes p.value.0.listed q.listed q.total in
-    subst (λ (m : Loose). ListsBack h text m end) (sym all_are)
-    (record {
-      valid = record {
-        definitions = record {
-          inputs = All-weaker (λ n. (n ≤ 2 * h.variables + 1) × IsDefining n) IsDefining (λ n x. x.1) i'.things i'.good;
-          latches = All-weaker (λ x. ((x.current ≤ 2 * h.variables + 1) × (x.next ≤ 2 * h.variables + 1)) × IsDefining x.current) (λ x. IsDefining x.current) (λ x y. y.1) k'.things k'.good;
-          gates = All-weaker (λ x. ((x.lhs ≤ 2 * h.variables + 1) × (x.rhs0 ≤ 2 * h.variables + 1) × (x.rhs1 ≤ 2 * h.variables + 1)) × IsDefining x.lhs) (λ x. IsDefining x.lhs) (λ x y. y.1) g'.things g'.good;
-          once = once;
-        };
-        small = record {
-          inputs = All-weaker (λ n. (n ≤ 2 * h.variables + 1) × IsDefining n) IsSmall (λ n x. small_literal h few n x.0) i'.things i'.good;
-          latches = All-weaker (λ x. ((x.current ≤ 2 * h.variables + 1) × (x.next ≤ 2 * h.variables + 1)) × IsDefining x.current) (λ x. IsSmall x.current) (λ x y. small_literal h few x.current y.0.0) k'.things k'.good;
-          nexts = All-weaker (λ x. ((x.current ≤ 2 * h.variables + 1) × (x.next ≤ 2 * h.variables + 1)) × IsDefining x.current) (λ x. IsSmall x.next) (λ x y. small_literal h few x.next y.0.1) k'.things k'.good;
-          gates = All-weaker (λ x. ((x.lhs ≤ 2 * h.variables + 1) × (x.rhs0 ≤ 2 * h.variables + 1) × (x.rhs1 ≤ 2 * h.variables + 1)) × IsDefining x.lhs) (λ x. IsSmall x.lhs) (λ x y. small_literal h few x.lhs y.0.0) g'.things g'.good;
-          first_operands = All-weaker (λ x. ((x.lhs ≤ 2 * h.variables + 1) × (x.rhs0 ≤ 2 * h.variables + 1) × (x.rhs1 ≤ 2 * h.variables + 1)) × IsDefining x.lhs) (λ x. IsSmall x.rhs0) (λ x y. small_literal h few x.rhs0 y.0.1) g'.things g'.good;
-          second_operands = All-weaker (λ x. ((x.lhs ≤ 2 * h.variables + 1) × (x.rhs0 ≤ 2 * h.variables + 1) × (x.rhs1 ≤ 2 * h.variables + 1)) × IsDefining x.lhs) (λ x. IsSmall x.rhs1) (λ x y. small_literal h few x.rhs1 y.0.2) g'.things g'.good;
-          outputs = smaller p.value.0.outputs q.up_to.outputs;
-          bads = smaller p.value.0.bads q.up_to.bads;
-          constraints = smaller p.value.0.constraints q.up_to.constraints;
-          justice = lists_hold IsSmall lists (smaller (concat lists) q.up_to.justice);
-          fair = smaller p.value.0.fair q.up_to.fair;
-        };
-        few = record {
-          defined = omega (arith, i'.many, k'.many, g'.many, fits, few.variables);
-          outputs = omega (arith, q.outputs, few.outputs);
-          bads = omega (arith, q.bads, few.bads);
-          constraints = omega (arith, q.constraints, few.constraints);
-          justice = omega (arith, length_lists p.value.0.sizes p.value.0.listed, q.sizes, few.justice);
-          justice_literals = total;
-          fair = omega (arith, q.fair, few.fair);
-        };
-        names = record { sorted = tt; named = All-nil (IsNamedLine (made i'.things k'.things p.value.0 g'.things)) };
-      };
-      unnamed = refl;
-      up_to = record {
-        inputs = All-weaker (λ n. (n ≤ 2 * h.variables + 1) × IsDefining n) (λ n. n ≤ 2 * h.variables + 1) (λ n x. x.0) i'.things i'.good;
-        latches = All-weaker (λ x. ((x.current ≤ 2 * h.variables + 1) × (x.next ≤ 2 * h.variables + 1)) × IsDefining x.current) (λ x. (x.current ≤ 2 * h.variables + 1) × (x.next ≤ 2 * h.variables + 1)) (λ x y. y.0) k'.things k'.good;
+-- what a line that was read has beside what it stands for
+abbrev IsGoodInput : ℕ → ℕ → Type 0
+IsGoodInput greatest n = (n ≤ greatest) × IsDefining n
+
+abbrev IsGoodLatch : ℕ → LatchLine → Type 0
+IsGoodLatch greatest x = ((x.current ≤ greatest) × (x.next ≤ greatest)) × IsDefining x.current
+
+abbrev IsGoodGate : ℕ → GateLine → Type 0
+IsGoodGate greatest x = ((x.lhs ≤ greatest) × (x.rhs0 ≤ greatest) × (x.rhs1 ≤ greatest)) × IsDefining x.lhs
+
+few_defined : (a b c i l g v : ℕ) → a ≡ i → b ≡ l → c ≡ g → i + l + g ≤ v → v ≤ greatest_count → a + b + c ≤ greatest_count
+few_defined a b c i l g v is1 is2 is3 fits few = omega arith
+
+few_of : (m n : ℕ) → m ≡ n → n ≤ greatest_count → m ≤ greatest_count
+few_of m n is few = subst (λ (k : ℕ). k ≤ greatest_count) (sym is) few
+
+-- each section of the lists was read back
+module _ (h : Counts) (few : AreSmall h) (fits : h.inputs + h.latches + h.gates ≤ h.variables) (text t1 t2 t3 end : List ℕ) (l1 l2 l : Loose) (p : Properties)
+    (i : OntoBack with_input_line IsInputLine (IsGoodInput (2 * h.variables + 1)) HasInputs empty_loose l1 h.inputs text t1)
+    (k : OntoBack with_latch_line IsLatchLine (IsGoodLatch (2 * h.variables + 1)) HasLeaves l1 l2 h.latches t1 t2)
+    (q : PropertiesBack h t2 p t3)
+    (g : OntoBack with_gate_line IsGateLine (IsGoodGate (2 * h.variables + 1)) (λ m. Unit {0}) (with_properties_of l2 p) l h.gates t3 end) where
+  inputs_are : l1 ≡ record empty_loose { inputs = i.things }
+  inputs_are = i.is ∙ inputs_onto empty_loose i.things
+
+  leaves_are : l2 ≡ record empty_loose { inputs = i.things; latches = k.things }
+  leaves_are = k.is ∙ latches_onto l1 k.things ∙ ap (λ (m : Loose). record m { latches = m.latches ++ k.things }) inputs_are
+
+  all_are : l ≡ made i.things k.things p g.things
+  all_are = g.is ∙ gates_onto (with_properties_of l2 p) g.things ∙ ap (λ (m : Loose). record (with_properties_of m p) { gates = m.gates ++ g.things }) leaves_are
+
+  once_all : IsOnce (defined_variables (made i.things k.things p g.things))
+  once_all =
+      let one = i.keeps (refl, refl) (λ v. omega arith) in
+      let two = k.keeps one.0.1 one.1 in
+      subst (λ (m : Loose). IsOnce (defined_variables m)) all_are (g.keeps tt two.1).1
+
+  definitions_back : HasDefinitions (made i.things k.things p g.things)
+  definitions_back =
+      record {
+        inputs = All-weaker (IsGoodInput (2 * h.variables + 1)) IsDefining (λ n x. x.1) i.things i.good;
+        latches = All-weaker (IsGoodLatch (2 * h.variables + 1)) (λ x. IsDefining x.current) (λ x y. y.1) k.things k.good;
+        gates = All-weaker (IsGoodGate (2 * h.variables + 1)) (λ x. IsDefining x.lhs) (λ x y. y.1) g.things g.good;
+        once = once_all;
+      }
+
+  all_small : (ls : List ℕ) → All (λ n. n ≤ 2 * h.variables + 1) ls → All IsSmall ls
+  all_small ls up_to = All-weaker (λ n. n ≤ 2 * h.variables + 1) IsSmall (λ n le. small_literal h.variables n few.variables le) ls up_to
+
+  small_back : HasSmall (made i.things k.things p g.things)
+  small_back =
+      record {
+        inputs = All-weaker (IsGoodInput (2 * h.variables + 1)) IsSmall (λ n x. small_literal h.variables n few.variables x.0) i.things i.good;
+        latches = All-weaker (IsGoodLatch (2 * h.variables + 1)) (λ x. IsSmall x.current) (λ x y. small_literal h.variables x.current few.variables y.0.0) k.things k.good;
+        nexts = All-weaker (IsGoodLatch (2 * h.variables + 1)) (λ x. IsSmall x.next) (λ x y. small_literal h.variables x.next few.variables y.0.1) k.things k.good;
+        gates = All-weaker (IsGoodGate (2 * h.variables + 1)) (λ x. IsSmall x.lhs) (λ x y. small_literal h.variables x.lhs few.variables y.0.0) g.things g.good;
+        first_operands = All-weaker (IsGoodGate (2 * h.variables + 1)) (λ x. IsSmall x.rhs0) (λ x y. small_literal h.variables x.rhs0 few.variables y.0.1) g.things g.good;
+        second_operands = All-weaker (IsGoodGate (2 * h.variables + 1)) (λ x. IsSmall x.rhs1) (λ x y. small_literal h.variables x.rhs1 few.variables y.0.2) g.things g.good;
+        outputs = all_small p.outputs q.up_to.outputs;
+        bads = all_small p.bads q.up_to.bads;
+        constraints = all_small p.constraints q.up_to.constraints;
+        justice = lists_hold IsSmall (lists_of p.sizes p.listed) (all_small (concat (lists_of p.sizes p.listed)) q.up_to.justice);
+        fair = all_small p.fair q.up_to.fair;
+      }
+
+  few_back : HasFewLines (made i.things k.things p g.things)
+  few_back =
+      record {
+        defined = few_defined (length i.things) (length k.things) (length g.things) h.inputs h.latches h.gates h.variables i.many k.many g.many fits few.variables;
+        outputs = few_of (length p.outputs) h.outputs q.outputs few.outputs;
+        bads = few_of (length p.bads) h.bads q.bads few.bads;
+        constraints = few_of (length p.constraints) h.constraints q.constraints few.constraints;
+        justice = few_of (length (lists_of p.sizes p.listed)) h.justice (length_lists p.sizes p.listed ∙ q.sizes) few.justice;
+        justice_literals = lists_total p.sizes p.listed q.listed q.total;
+        fair = few_of (length p.fair) h.fair q.fair few.fair;
+      }
+
+  valid_back : IsLoose (made i.things k.things p g.things)
+  unfolding IsStrictlySortedBy
+  valid_back =
+      record { definitions = definitions_back; small = small_back; few = few_back; names = record { sorted = tt; named = All-nil (IsNamedLine (made i.things k.things p g.things)) } }
+
+  up_to_back : AreUpTo (2 * h.variables + 1) (made i.things k.things p g.things)
+  up_to_back =
+      record {
+        inputs = All-weaker (IsGoodInput (2 * h.variables + 1)) (λ n. n ≤ 2 * h.variables + 1) (λ n x. x.0) i.things i.good;
+        latches = All-weaker (IsGoodLatch (2 * h.variables + 1)) (λ x. (x.current ≤ 2 * h.variables + 1) × (x.next ≤ 2 * h.variables + 1)) (λ x y. y.0) k.things k.good;
         outputs = q.up_to.outputs;
         bads = q.up_to.bads;
         constraints = q.up_to.constraints;
         justice = q.up_to.justice;
         fair = q.up_to.fair;
-        gates = All-weaker (λ x. ((x.lhs ≤ 2 * h.variables + 1) × (x.rhs0 ≤ 2 * h.variables + 1) × (x.rhs1 ≤ 2 * h.variables + 1)) × IsDefining x.lhs) (λ x. (x.lhs ≤ 2 * h.variables + 1) × (x.rhs0 ≤ 2 * h.variables + 1) × (x.rhs1 ≤ 2 * h.variables + 1)) (λ x y. y.0) g'.things g'.good;
-      };
-      counts = rw (i'.many, k'.many, g'.many, q.outputs, q.bads, q.constraints, length_lists p.value.0.sizes p.value.0.listed ∙ q.sizes, q.fair) refl;
-      inputs = i'.bytes;
-      are_inputs = i'.lines;
-      latches = k'.bytes;
-      are_latches = k'.lines;
-      gates = g'.bytes;
-      are_gates = g'.lines;
-      whole =
-          i'.parts ∙ ap (λ (t : List ℕ). i'.bytes ++ t) k'.parts
-          ∙ ap (λ (t : List ℕ). i'.bytes ++ (k'.bytes ++ t)) (q.parts ∙ sym (property_is 0 [] p.value.0 [] p.value.1 q.listed))
-          ∙ ap (λ (t : List ℕ). i'.bytes ++ (k'.bytes ++ (property_lines (nameless 0 [] p.value.0 []) ++ t))) g'.parts;
-    })
+        gates = All-weaker (IsGoodGate (2 * h.variables + 1)) (λ x. (x.lhs ≤ 2 * h.variables + 1) × (x.rhs0 ≤ 2 * h.variables + 1) × (x.rhs1 ≤ 2 * h.variables + 1)) (λ x y. y.0) g.things g.good;
+      }
+
+  whole_back : text ≡ i.bytes ++ (k.bytes ++ (use_lines (made i.things k.things p g.things) ++ (g.bytes ++ end)))
+  whole_back =
+      i.parts ∙ ap (λ (t : List ℕ). i.bytes ++ t) k.parts
+      ∙ ap (λ (t : List ℕ). i.bytes ++ (k.bytes ++ t)) (q.parts ∙ sym (property_is 0 [] p [] t3 q.listed))
+      ∙ ap (λ (t : List ℕ). i.bytes ++ (k.bytes ++ (property_lines (nameless 0 [] p []) ++ t))) g.parts
+
+  counts_back : h ≡ counts_of_file h.variables (made i.things k.things p g.things)
+  counts_back = rw (i.many, k.many, g.many, q.outputs, q.bads, q.constraints, length_lists p.sizes p.listed ∙ q.sizes, q.fair) refl
+
+  sections-back : ListsBack h text l end
+  sections-back =
+      subst (λ (m : Loose). ListsBack h text m end) (sym all_are)
+      (record {
+        valid = valid_back;
+        unnamed = refl;
+        up_to = up_to_back;
+        counts = counts_back;
+        inputs = i.bytes;
+        are_inputs = i.lines;
+        latches = k.bytes;
+        are_latches = k.lines;
+        gates = g.bytes;
+        are_gates = g.lines;
+        whole = whole_back;
+      })
+
+pub lists-back : (h : Counts) (text : List ℕ) (l : Loose) (end : List ℕ) → AreSmall h → Fits Ascii h → lists_of_file h text ≡ Ok (l, end) → ListsBack h text l end
+unfolding lists_of_file
+lists-back h text l end few fits e0 =
+    bind-then (onto_lists (input_of (2 * h.variables + 1)) with_input_line empty_loose h.inputs text) _ (l, end) e0
+    (λ x i e1. bind-then (onto_lists (latch_of (2 * h.variables + 1)) with_latch_line x.0 h.latches x.1) _ (l, end) e1
+    (λ y k e2. bind-then (properties_at h y.1) _ (l, end) e2
+    (λ z q e3. sections-back h few fits text x.1 y.1 z.1 end x.0 y.0 l z.0
+    (onto-back (input_of (2 * h.variables + 1)) with_input_line variable IsInputLine (IsGoodInput (2 * h.variables + 1)) HasInputs input_grows (input-back (2 * h.variables + 1) small) empty_loose x.0 h.inputs text x.1 i)
+    (onto-back (latch_of (2 * h.variables + 1)) with_latch_line latch_variable IsLatchLine (IsGoodLatch (2 * h.variables + 1)) HasLeaves latch_grows (latch-back (2 * h.variables + 1) small) x.0 y.0 h.latches x.1 y.1 k)
+    (properties-back h y.1 z.0 z.1 few.variables q)
+    (onto-back (gate_of (2 * h.variables + 1)) with_gate_line gate_variable IsGateLine (IsGoodGate (2 * h.variables + 1)) (λ m. Unit {0}) gate_grows (gate-back (2 * h.variables + 1) small) (with_properties_of y.0 z.0) l h.gates z.1 end e3))))
+  where
+    small : 2 * h.variables + 1 < 2 ^ 64 - 1
+    small = omega (arith, few.variables)

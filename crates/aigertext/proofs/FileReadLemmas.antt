@@ -1,5 +1,5 @@
 -- The lists of a file are read again from lines that stand for them.
-use Rattle.std.proofs.Common.{◌≡◌, ℕ, ◌+◌, ◌-◌, ◌*◌, ◌%◌, ◌^◌, ◌<◌, ◌≤◌, true, false, ◌==◌, List, [], ◌∷◌, ◌++◌, map, length, decimal, All, nat_le, Some, Ok, refl, sym, ap, subst, ◌∙◌, append_assoc, append-nil, inl, inr, arith}
+use Rattle.std.proofs.Common.{◌≡◌, ℕ, ◌+◌, ◌-◌, ◌*◌, ◌%◌, ◌^◌, ◌<◌, ◌≤◌, true, false, ◌==◌, List, [], ◌∷◌, ◌++◌, map, length, decimal, All, nat_le, Some, Result, Ok, refl, sym, ap, subst, ◌∙◌, append_assoc, append-nil, inl, inr, arith}
 use Rattle.std.proofs.lemmas.Bool.Decides.{nat_tests}
 use Rattle.std.proofs.lemmas.Bool.{le-leb}
 use Rattle.std.proofs.lemmas.List.{map-append}
@@ -15,13 +15,14 @@ use Rattle.aiger.specs.Literal.{variable}
 use Rattle.aiger.specs.Circuit.{Circuit}
 use Rattle.aiger.specs.Numbering.{IsOnce}
 use Rattle.aiger.specs.Loose.{Loose, IsLoose, IsDefining, empty_loose, latch_variable, gate_variable, defined_variables, is_defined, with_input_line, with_latch_line, with_gate_line}
+use Rattle.aigertext.specs.declared.fault.Stop.{Stop}
 use Rattle.aigertext.specs.declared.fault.Why.{Why}
 use Rattle.aigertext.specs.declared.fault.Why.TheVariants as why
 use Rattle.aigertext.specs.Ascii.{numbers_line}
 use Rattle.aigertext.specs.Counts.{counts_of_file}
 use Rattle.aigertext.specs.Spelling.{AreLines, IsInputLine, IsLatchLine, IsGateLine, use_lines, AreUpTo}
 use Rattle.aigertext.specs.Reading.{within, reset_of, line_at}
-use Rattle.aigertext.specs.AsciiReading.{defining, input_of, latch_fields, latch_of, gate_fields, gate_of, with_properties_of, lists_of_file}
+use Rattle.aigertext.specs.AsciiReading.{defining, input_of, latch_fields, latch_of, gate_fields, gate_of, onto_lists, with_properties_of, lists_of_file}
 use Rattle.aigertext.proofs.FieldLemmas.{joined, fields-joined, numbers_read}
 use Rattle.aigertext.proofs.OntoLemmas.{all_onto, onto-read}
 use Rattle.aigertext.proofs.PropertyLemmas.{within-read, lists_of-concat, IsTold, reset-told}
@@ -156,31 +157,53 @@ module _ (greatest : ℕ) (l : Loose) (valid : IsLoose l) (unnamed : l.names ≡
   small : 2 * greatest + 1 < 2 ^ 64 - 1
   small = omega (arith, few)
 
+  -- the lists once the inputs are read, once the latches are, and before the gates
+  abbrev with_inputs : Loose
+  with_inputs = record empty_loose { inputs = l.inputs }
+
+  abbrev with_leaves : Loose
+  with_leaves = record empty_loose { inputs = l.inputs; latches = l.latches }
+
+  abbrev with_all_uses : Loose
+  with_all_uses = with_properties_of with_leaves (properties_in (uses_in l))
+
+  inputs_read : (bytes rest : List ℕ) → AreLines IsInputLine l.inputs bytes → onto_lists (input_of (2 * greatest + 1)) with_input_line empty_loose (length l.inputs) (bytes ++ rest) ≡ Ok (with_inputs, rest)
+  inputs_read bytes rest are =
+      let once : IsOnce (defined_variables empty_loose ++ (map variable l.inputs ++ (map latch_variable l.latches ++ map gate_variable l.gates))) =
+      subst IsOnce (append_assoc (map variable l.inputs) (map latch_variable l.latches) (map gate_variable l.gates)) valid.definitions.once in
+      onto-read (input_of (2 * greatest + 1)) with_input_line variable IsInputLine (λ n. (n ≤ 2 * greatest + 1) × IsDefining n) HasInputs input_grows (input-read (2 * greatest + 1) small) empty_loose l.inputs (map latch_variable l.latches ++ map gate_variable l.gates) bytes rest (refl, refl) once
+      (both (λ n. n ≤ 2 * greatest + 1) IsDefining l.inputs up_to.inputs valid.definitions.inputs) are
+      ∙ ap (λ (m : Loose). Ok (m, rest)) (inputs_onto empty_loose l.inputs)
+
+  latches_read : (bytes rest : List ℕ) → AreLines IsLatchLine l.latches bytes → onto_lists (latch_of (2 * greatest + 1)) with_latch_line with_inputs (length l.latches) (bytes ++ rest) ≡ Ok (with_leaves, rest)
+  latches_read bytes rest are =
+      let once : IsOnce (defined_variables with_inputs ++ (map latch_variable l.latches ++ map gate_variable l.gates)) =
+      subst IsOnce (behind_inputs (map variable l.inputs) (map latch_variable l.latches) (map gate_variable l.gates)) valid.definitions.once in
+      onto-read (latch_of (2 * greatest + 1)) with_latch_line latch_variable IsLatchLine (λ x. ((x.current ≤ 2 * greatest + 1) × (x.next ≤ 2 * greatest + 1)) × IsDefining x.current) HasLeaves latch_grows (latch-read (2 * greatest + 1) small) with_inputs l.latches (map gate_variable l.gates) bytes rest refl once
+      (both (λ x. (x.current ≤ 2 * greatest + 1) × (x.next ≤ 2 * greatest + 1)) (λ x. IsDefining x.current) l.latches up_to.latches valid.definitions.latches) are
+      ∙ ap (λ (m : Loose). Ok (m, rest)) (latches_onto with_inputs l.latches)
+
+  gates_read : (bytes rest : List ℕ) → AreLines IsGateLine l.gates bytes → onto_lists (gate_of (2 * greatest + 1)) with_gate_line with_all_uses (length l.gates) (bytes ++ rest) ≡ Ok (record with_all_uses { gates = l.gates }, rest)
+  gates_read bytes rest are =
+      let once : IsOnce (defined_variables with_all_uses ++ (map gate_variable l.gates ++ [])) =
+      subst IsOnce (behind_leaves (map variable l.inputs) (map latch_variable l.latches) (map gate_variable l.gates)) valid.definitions.once in
+      onto-read (gate_of (2 * greatest + 1)) with_gate_line gate_variable IsGateLine (λ x. ((x.lhs ≤ 2 * greatest + 1) × (x.rhs0 ≤ 2 * greatest + 1) × (x.rhs1 ≤ 2 * greatest + 1)) × IsDefining x.lhs) (λ m. Unit {0}) gate_grows (gate-read (2 * greatest + 1) small) with_all_uses l.gates [] bytes rest tt once
+      (both (λ x. (x.lhs ≤ 2 * greatest + 1) × (x.rhs0 ≤ 2 * greatest + 1) × (x.rhs1 ≤ 2 * greatest + 1)) (λ x. IsDefining x.lhs) l.gates up_to.gates valid.definitions.gates) are
+      ∙ ap (λ (m : Loose). Ok (m, rest)) (gates_onto with_all_uses l.gates)
+
+  all_read : (end : List ℕ) → ◌≡◌ {A = Result (Loose × List ℕ) Stop} (Ok (record with_all_uses { gates = l.gates }, end)) (Ok (l, end))
+  all_read end =
+      ap (λ (lists : List (List ℕ)). Ok (record l { justice = lists; names = [] }, end)) (lists_of-concat l.justice)
+      ∙ ap (λ names. Ok (record l { names = names }, end)) (sym unnamed)
+
   pub lists-read : (inputs latches gates end : List ℕ) → AreLines IsInputLine l.inputs inputs → AreLines IsLatchLine l.latches latches → AreLines IsGateLine l.gates gates
       → lists_of_file (counts_of_file greatest l) (inputs ++ (latches ++ (use_lines l ++ (gates ++ end)))) ≡ Ok (l, end)
   unfolding lists_of_file
   lists-read inputs latches gates end are_inputs are_latches are_gates =
-      let third = gates ++ end in
-      let second = use_lines l ++ third in
-      let first = latches ++ second in
-      let leaves : Loose = record empty_loose { inputs = l.inputs; latches = l.latches } in
-      let used : Loose = with_properties_of leaves (properties_in (uses_in l)) in
-      let once = valid.definitions.once in
-      let once_inputs : IsOnce (defined_variables empty_loose ++ (map variable l.inputs ++ (map latch_variable l.latches ++ map gate_variable l.gates))) =
-      subst IsOnce (append_assoc (map variable l.inputs) (map latch_variable l.latches) (map gate_variable l.gates)) once in
-      let once_latches : IsOnce (defined_variables (record empty_loose { inputs = l.inputs }) ++ (map latch_variable l.latches ++ map gate_variable l.gates)) =
-      subst IsOnce (behind_inputs (map variable l.inputs) (map latch_variable l.latches) (map gate_variable l.gates)) once in
-      let once_gates : IsOnce (defined_variables used ++ (map gate_variable l.gates ++ [])) =
-      subst IsOnce (behind_leaves (map variable l.inputs) (map latch_variable l.latches) (map gate_variable l.gates)) once in
-      let i = onto-read (input_of (2 * greatest + 1)) with_input_line variable IsInputLine (λ n. (n ≤ 2 * greatest + 1) × IsDefining n) HasInputs input_grows (input-read (2 * greatest + 1) small) empty_loose l.inputs (map latch_variable l.latches ++ map gate_variable l.gates) inputs first (refl, refl) once_inputs
-      (both (λ n. n ≤ 2 * greatest + 1) IsDefining l.inputs up_to.inputs valid.definitions.inputs) are_inputs
-      ∙ ap (λ (m : Loose). Ok (m, first)) (inputs_onto empty_loose l.inputs) in
-      let k = onto-read (latch_of (2 * greatest + 1)) with_latch_line latch_variable IsLatchLine (λ x. ((x.current ≤ 2 * greatest + 1) × (x.next ≤ 2 * greatest + 1)) × IsDefining x.current) HasLeaves latch_grows (latch-read (2 * greatest + 1) small) (record empty_loose { inputs = l.inputs }) l.latches (map gate_variable l.gates) latches second refl once_latches
-      (both (λ x. (x.current ≤ 2 * greatest + 1) × (x.next ≤ 2 * greatest + 1)) (λ x. IsDefining x.current) l.latches up_to.latches valid.definitions.latches) are_latches
-      ∙ ap (λ (m : Loose). Ok (m, second)) (latches_onto (record empty_loose { inputs = l.inputs }) l.latches) in
       let below : HasUpTo (2 * greatest + 1) (uses_in l) = record { outputs = up_to.outputs; bads = up_to.bads; constraints = up_to.constraints; justice = up_to.justice; fair = up_to.fair } in
-      let p = properties-read greatest (length l.inputs) (length l.latches) (length l.gates) (uses_in l) third few below valid.few.justice_literals in
-      let a = onto-read (gate_of (2 * greatest + 1)) with_gate_line gate_variable IsGateLine (λ x. ((x.lhs ≤ 2 * greatest + 1) × (x.rhs0 ≤ 2 * greatest + 1) × (x.rhs1 ≤ 2 * greatest + 1)) × IsDefining x.lhs) (λ m. Unit {0}) gate_grows (gate-read (2 * greatest + 1) small) used l.gates [] gates end tt once_gates
-      (both (λ x. (x.lhs ≤ 2 * greatest + 1) × (x.rhs0 ≤ 2 * greatest + 1) × (x.rhs1 ≤ 2 * greatest + 1)) (λ x. IsDefining x.lhs) l.gates up_to.gates valid.definitions.gates) are_gates
-      ∙ ap (λ (m : Loose). Ok (m, end)) (gates_onto used l.gates) in
-      rw (i, k, p) (a ∙ ap (λ (lists : List (List ℕ)). Ok (record l { justice = lists; names = [] }, end)) (lists_of-concat l.justice) ∙ ap (λ names. Ok (record l { names = names }, end)) (sym unnamed))
+      rw (
+        inputs_read inputs (latches ++ (use_lines l ++ (gates ++ end))) are_inputs,
+        latches_read latches (use_lines l ++ (gates ++ end)) are_latches,
+        properties-read greatest (length l.inputs) (length l.latches) (length l.gates) (uses_in l) (gates ++ end) few below valid.few.justice_literals,
+        gates_read gates end are_gates,
+      ) (all_read end)

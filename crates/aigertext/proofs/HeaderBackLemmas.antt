@@ -4,7 +4,7 @@ use Rattle.std.specs.Str.{bytes_eq}
 use Rattle.base.specs.Decimals.{number_of}
 use Rattle.aigertext.specs.declared.fault.Why.TheVariants as why
 use Rattle.aigertext.specs.Reading.{◌>>=◌, some_or, no_more, number_at, last_at, last_four, first_five, count_of, counts_of, fitting, form_of, header_fields, header_of, fields}
-use Rattle.aigertext.proofs.BackLemmas.{ok_same, not_err, bind-back}
+use Rattle.aigertext.proofs.BackLemmas.{ok_same, not_err, bind-back, bind-then}
 use Rattle.std.specs.List.{AllByRecursion}
 use Rattle.std.proofs.lemmas.Bool.{eqb-true, ltb-false}
 use Rattle.base.proofs.DecimalLemmas.{chosen, number_is_decimal}
@@ -116,38 +116,36 @@ pub record FirstBack (fs : List (List ℕ)) (x : ℕ × ℕ × ℕ × ℕ × ℕ
   pub parts : fs ≡ front ++ rest
   pub written : Write front (five x)
 
-pub first-back : (fs : List (List ℕ)) (x : ℕ × ℕ × ℕ × ℕ × ℕ) (rest : List (List ℕ)) → first_five fs ≡ Ok (x, rest) → FirstBack fs x rest
-unfolding first_five
-first-back fs x rest e =
-    let m = bind-back (number_at fs) _ (x, rest) e in
-    let i = bind-back (number_at m.value.1) _ (x, rest) m.then' in
-    let l = bind-back (number_at i.value.1) _ (x, rest) i.then' in
-    let o = bind-back (number_at l.value.1) _ (x, rest) l.then' in
-    let a = bind-back (number_at o.value.1) _ (x, rest) o.then' in
-    let is : ◌≡◌ {A = (ℕ × ℕ × ℕ × ℕ × ℕ) × List (List ℕ)} ((m.value.0, i.value.0, l.value.0, o.value.0, a.value.0), a.value.1) (x, rest) = ok_same _ _ a.then' in
-    let m' = number-back fs m.value.0 m.value.1 m.was in
-    let i' = number-back m.value.1 i.value.0 i.value.1 i.was in
-    let l' = number-back i.value.1 l.value.0 l.value.1 l.was in
-    let o' = number-back l.value.1 o.value.0 o.value.1 o.was in
-    let a' = number-back o.value.1 a.value.0 a.value.1 a.was in
-    subst (λ (p : (ℕ × ℕ × ℕ × ℕ × ℕ) × List (List ℕ)). FirstBack fs p.0 p.1) is
-    (record {
+-- five numbers, one after the other
+five_are : (fs gs1 gs2 gs3 gs4 rest : List (List ℕ)) (m i l o a : ℕ) → IsNumberAt fs m gs1 → IsNumberAt gs1 i gs2 → IsNumberAt gs2 l gs3 → IsNumberAt gs3 o gs4 → IsNumberAt gs4 a rest → FirstBack fs (m, i, l, o, a) rest
+five_are fs gs1 gs2 gs3 gs4 rest m i l o a m' i' l' o' a' =
+    record {
       front = m'.field ∷ i'.field ∷ l'.field ∷ o'.field ∷ a'.field ∷ [];
       parts = m'.parts ∙ ap (λ (gs : List (List ℕ)). m'.field ∷ gs) i'.parts ∙ ap (λ (gs : List (List ℕ)). m'.field ∷ i'.field ∷ gs) l'.parts
           ∙ ap (λ (gs : List (List ℕ)). m'.field ∷ i'.field ∷ l'.field ∷ gs) o'.parts ∙ ap (λ (gs : List (List ℕ)). m'.field ∷ i'.field ∷ l'.field ∷ o'.field ∷ gs) a'.parts;
       written = (m'.number, (i'.number, (l'.number, (o'.number, (a'.number, tt)))));
-    })
+    }
+
+pub first-back : (fs : List (List ℕ)) (x : ℕ × ℕ × ℕ × ℕ × ℕ) (rest : List (List ℕ)) → first_five fs ≡ Ok (x, rest) → FirstBack fs x rest
+unfolding first_five
+first-back fs x rest e0 =
+    bind-then (number_at fs) _ (x, rest) e0 (λ m m' e1. bind-then (number_at m.1) _ (x, rest) e1 (λ i i' e2. bind-then (number_at i.1) _ (x, rest) e2 (λ l l' e3. bind-then (number_at l.1) _ (x, rest) e3
+    (λ o o' e4. bind-then (number_at o.1) _ (x, rest) e4
+    (λ a a' e5. subst (λ (p : (ℕ × ℕ × ℕ × ℕ × ℕ) × List (List ℕ)). FirstBack fs p.0 p.1) (ok_same _ (x, rest) e5)
+    (five_are fs m.1 i.1 l.1 o.1 a.1 m.0 i.0 l.0 o.0 a.0 (number-back fs m.0 m.1 m') (number-back m.1 i.0 i.1 i') (number-back i.1 l.0 l.1 l') (number-back l.1 o.0 o.1 o') (number-back o.1 a.0 a.1 a')))))))
 
 -- counts
 abbrev pub AreCounts : List ℕ → Type 0
 AreCounts ns = AllByRecursion (λ n. n ≤ greatest_count) ns
 
-count-back : (n m : ℕ) → count_of n ≡ Ok m → (m ≡ n) × (n ≤ greatest_count)
+count-back : (n m : ℕ) → count_of n ≡ Ok m → (m ≡ n) × (m ≤ greatest_count)
 unfolding count_of
 count-back n m e =
     elim (chosen (nat_lt greatest_count n) (Err why.TooBig) (Ok n) (Ok m) e) [
       | inl wrong ↦ absurd (not_err _ _ wrong.1)
-      | inr good ↦ (sym (ok_same n m good.1), ltb-false greatest_count n good.0)
+      | inr good ↦
+          let is : n ≡ m = ok_same n m good.1 in
+          (sym is, subst (λ (k : ℕ). k ≤ greatest_count) is (ltb-false greatest_count n good.0))
     ]
 
 pub record CountsBack (x : ℕ × ℕ × ℕ × ℕ × ℕ) (y : ℕ × ℕ × ℕ × ℕ) (h : Counts) : Type 0 where
@@ -162,35 +160,25 @@ list_of_five a b c d e v w x y z p q r s t = cc
 pub list_of_four : (a b c d v w x y : ℕ) → v ≡ a → w ≡ b → x ≡ c → y ≡ d → a ∷ b ∷ c ∷ d ∷ [] ≡ v ∷ w ∷ x ∷ y ∷ []
 list_of_four a b c d v w x y p q r s = cc
 
+-- nine numbers that are at most the greatest
+counts_are : (x : ℕ × ℕ × ℕ × ℕ × ℕ) (y : ℕ × ℕ × ℕ × ℕ) (m i l o a b c j f : ℕ) → (m ≡ x.0) × (m ≤ greatest_count) → (i ≡ x.1) × (i ≤ greatest_count) → (l ≡ x.2) × (l ≤ greatest_count) → (o ≡ x.3) × (o ≤ greatest_count) → (a ≡ x.4) × (a ≤ greatest_count)
+    → (b ≡ y.0) × (b ≤ greatest_count) → (c ≡ y.1) × (c ≤ greatest_count) → (j ≡ y.2) × (j ≤ greatest_count) → (f ≡ y.3) × (f ≤ greatest_count)
+    → CountsBack x y (record { variables = m; inputs = i; latches = l; outputs = o; gates = a; bads = b; constraints = c; justice = j; fair = f })
+counts_are x y m i l o a b c j f m' i' l' o' a' b' c' j' f' =
+    record {
+      first = list_of_five x.0 x.1 x.2 x.3 x.4 m i l o a m'.0 i'.0 l'.0 o'.0 a'.0;
+      last = list_of_four y.0 y.1 y.2 y.3 b c j f b'.0 c'.0 j'.0 f'.0;
+      few_first = (m'.1, (i'.1, (l'.1, (o'.1, (a'.1, tt)))));
+      few_last = (b'.1, (c'.1, (j'.1, (f'.1, tt))));
+    }
+
 pub counts-back : (x : ℕ × ℕ × ℕ × ℕ × ℕ) (y : ℕ × ℕ × ℕ × ℕ) (h : Counts) → counts_of x y ≡ Ok h → CountsBack x y h
 unfolding counts_of
-counts-back x y h e =
-    let m = bind-back (count_of x.0) _ h e in
-    let i = bind-back (count_of x.1) _ h m.then' in
-    let l = bind-back (count_of x.2) _ h i.then' in
-    let o = bind-back (count_of x.3) _ h l.then' in
-    let a = bind-back (count_of x.4) _ h o.then' in
-    let b = bind-back (count_of y.0) _ h a.then' in
-    let k = bind-back (count_of y.1) _ h b.then' in
-    let j = bind-back (count_of y.2) _ h k.then' in
-    let f = bind-back (count_of y.3) _ h j.then' in
-    let is = ok_same _ h f.then' in
-    let m' = count-back x.0 m.value m.was in
-    let i' = count-back x.1 i.value i.was in
-    let l' = count-back x.2 l.value l.was in
-    let o' = count-back x.3 o.value o.was in
-    let a' = count-back x.4 a.value a.was in
-    let b' = count-back y.0 b.value b.was in
-    let k' = count-back y.1 k.value k.was in
-    let j' = count-back y.2 j.value j.was in
-    let f' = count-back y.3 f.value f.was in
-    subst (CountsBack x y) is
-    (record {
-      first = list_of_five x.0 x.1 x.2 x.3 x.4 m.value i.value l.value o.value a.value m'.0 i'.0 l'.0 o'.0 a'.0;
-      last = list_of_four y.0 y.1 y.2 y.3 b.value k.value j.value f.value b'.0 k'.0 j'.0 f'.0;
-      few_first = (omega (arith, m'.0, m'.1), (omega (arith, i'.0, i'.1), (omega (arith, l'.0, l'.1), (omega (arith, o'.0, o'.1), (omega (arith, a'.0, a'.1), tt)))));
-      few_last = (omega (arith, b'.0, b'.1), (omega (arith, k'.0, k'.1), (omega (arith, j'.0, j'.1), (omega (arith, f'.0, f'.1), tt))));
-    })
+counts-back x y h e0 =
+    bind-then (count_of x.0) _ h e0 (λ m m' e1. bind-then (count_of x.1) _ h e1 (λ i i' e2. bind-then (count_of x.2) _ h e2 (λ l l' e3. bind-then (count_of x.3) _ h e3 (λ o o' e4. bind-then (count_of x.4) _ h e4
+    (λ a a' e5. bind-then (count_of y.0) _ h e5 (λ b b' e6. bind-then (count_of y.1) _ h e6 (λ c c' e7. bind-then (count_of y.2) _ h e7 (λ j j' e8. bind-then (count_of y.3) _ h e8
+    (λ f f' e9. subst (CountsBack x y) (ok_same _ h e9)
+    (counts_are x y m i l o a b c j f (count-back x.0 m m') (count-back x.1 i i') (count-back x.2 l l') (count-back x.3 o o') (count-back x.4 a a') (count-back y.0 b b') (count-back y.1 c c') (count-back y.2 j j') (count-back y.3 f f')))))))))))
 
 -- fields that write counts are their decimals
 counts_front : (xs ys : List ℕ) → AreCounts (xs ++ ys) → AreCounts xs

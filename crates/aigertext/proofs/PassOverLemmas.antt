@@ -1,5 +1,5 @@
 -- Lines that are passed over, and what the lists of a file keep while they are read.
-use Rattle.std.proofs.Common.{◌≡◌, ℕ, zero, suc, ◌+◌, ◌<◌, ◌≤◌, nat_lt, true, false, List, [], ◌∷◌, ◌++◌, length, map, Some, Result, Ok, Err, refl, sym, ap, subst, ◌∙◌, length-append, take, get_or, arith, inl, inr}
+use Rattle.std.proofs.Common.{◌≡◌, ℕ, zero, suc, ◌+◌, ◌*◌, ◌<◌, ◌≤◌, nat_lt, true, false, List, [], ◌∷◌, ◌++◌, length, map, Some, Result, Ok, Err, refl, sym, ap, subst, ◌∙◌, length-append, take, get_or, arith, inl, inr}
 use Rattle.std.specs.List.{concat, sum_by}
 use Rattle.std.specs.List.{slice_get}
 use Rattle.std.proofs.lemmas.List.{length-map}
@@ -8,15 +8,17 @@ use Rattle.std.proofs.lemmas.Option.{slice_get_within, get_or_from_slice_get}
 use Rattle.std.proofs.lemmas.Bool.Decides.{nat_tests}
 use Rattle.aiger.specs.declared.loose.GateLine.{GateLine}
 use Rattle.aiger.specs.declared.loose.LatchLine.{LatchLine}
-use Rattle.aiger.specs.Loose.{Loose, empty_loose, with_input_line, with_latch_line}
+use Rattle.aiger.specs.Circuit.{Circuit}
+use Rattle.aiger.specs.Loose.{Loose, empty_loose, defined_count, with_input_line, with_latch_line, with_gate_line}
 use Rattle.aiger.specs.Renumbering.{used_lines, alone, AnswersNumber, LeadsToCycle, LeadsAlong}
 use Rattle.aiger.specs.declared.fault.LooseFault.{LooseFault}
 use Rattle.aiger.specs.declared.fault.LooseFault.TheVariants.{Cycle}
 use Rattle.aigertext.specs.declared.counts.Counts.{Counts}
+use Rattle.aigertext.specs.declared.fault.Stop.{Stop}
 use Rattle.aigertext.specs.declared.fault.Why.{Why}
-use Rattle.aigertext.specs.Reading.{cut, line_at}
-use Rattle.aigertext.specs.AsciiReading.{behind_line, behind_lines, lines_before, onto_lists}
-use Rattle.aigertext.specs.Passes.{HasNoUses}
+use Rattle.aigertext.specs.Reading.{cut, line_at, Properties, properties_at}
+use Rattle.aigertext.specs.AsciiReading.{behind_line, behind_lines, lines_before, input_of, latch_of, gate_of, onto_lists, with_properties_of, lists_of_file, AnswersLists, AnswersAscii}
+use Rattle.aigertext.specs.Passes.{HasNoUses, ReadsBy}
 use Rattle.aigertext.proofs.BackLemmas.{ok_same, bind-back, line-back}
 
 -- ---- lines that are passed over
@@ -97,8 +99,72 @@ onto_kept {A} says with' P step (suc n) l text m rest p e =
     onto_kept says with' P step n (with' l b.value.0) b.value.1 m rest (step n l b.value.0 s.line s.said p) b.then'
 
 -- no properties yet
+keeps_none_by_input : (n : ℕ) (l : Loose) (x : ℕ) → HasNoUses l → HasNoUses (with_input_line l x)
+keeps_none_by_input n l x k = record { outputs = k.outputs; bads = k.bads; constraints = k.constraints; justice = k.justice; fair = k.fair }
+
+keeps_none_by_latch : (n : ℕ) (l : Loose) (x : LatchLine) → HasNoUses l → HasNoUses (with_latch_line l x)
+keeps_none_by_latch n l x k = record { outputs = k.outputs; bads = k.bads; constraints = k.constraints; justice = k.justice; fair = k.fair }
+
 pub no_uses : (h : Counts) (text t1 t2 : List ℕ) (l0 l1 l2 : Loose) (says1 : Loose → List ℕ → Result ℕ Why) (says2 : Loose → List ℕ → Result LatchLine Why)
     → l0 ≡ empty_loose → onto_lists says1 with_input_line l0 h.inputs text ≡ Ok (l1, t1) → onto_lists says2 with_latch_line l1 h.latches t1 ≡ Ok (l2, t2) → HasNoUses l2
 no_uses h text t1 t2 l0 l1 l2 says1 says2 none one two =
-    let first : HasNoUses l1 = onto_kept says1 with_input_line (λ n l. HasNoUses l) (λ n l x line e k. record { outputs = k.outputs; bads = k.bads; constraints = k.constraints; justice = k.justice; fair = k.fair }) h.inputs l0 text l1 t1 (subst HasNoUses (sym none) (record { outputs = refl; bads = refl; constraints = refl; justice = refl; fair = refl })) one in
-    onto_kept says2 with_latch_line (λ n l. HasNoUses l) (λ n l x line e k. record { outputs = k.outputs; bads = k.bads; constraints = k.constraints; justice = k.justice; fair = k.fair }) h.latches l1 t1 l2 t2 first two
+    let first : HasNoUses l1 =
+    onto_kept says1 with_input_line (λ n l. HasNoUses l) (λ n l x line e k. keeps_none_by_input n l x k) h.inputs l0 text l1 t1 (subst HasNoUses (sym none) (record { outputs = refl; bads = refl; constraints = refl; justice = refl; fair = refl })) one in
+    onto_kept says2 with_latch_line (λ n l. HasNoUses l) (λ n l x line e k. keeps_none_by_latch n l x k) h.latches l1 t1 l2 t2 first two
+
+-- ---- the lists of a file, put together
+
+-- there is room for the definitions that a header counts
+room : (i l g v a b c : ℕ) → i + l + g ≤ v → v ≤ 1073741824 → a ≡ 0 → b ≡ a + i → c ≡ b + l → (b + l ≤ 1073741824) × (c + g ≤ 1073741824)
+room i l g v a b c fits few first second third = (omega arith, omega arith)
+
+pub none_few : (l0 : Loose) (n : ℕ) → l0 ≡ empty_loose → n ≤ 1073741824 → defined_count l0 + n ≤ 1073741824
+none_few l0 n none few = subst (λ (l : Loose). defined_count l + n ≤ 1073741824) (sym none) (omega arith)
+
+module _ (h : Counts) (fits : h.inputs + h.latches + h.gates ≤ h.variables) (few : h.variables ≤ 1073741824) (l0 l1 : Loose) (none : l0 ≡ empty_loose) (i : defined_count l1 ≡ defined_count l0 + h.inputs) where
+  pub latches_few : defined_count l1 + h.latches ≤ 1073741824
+  latches_few = (room h.inputs h.latches h.gates h.variables (defined_count l0) (defined_count l1) (defined_count l1 + h.latches) fits few (ap defined_count none) i refl).0
+
+  pub gates_few : (l2 l3 : Loose) (p : Properties) → defined_count l2 ≡ defined_count l1 + h.latches → l3 ≡ with_properties_of l2 p → defined_count l3 + h.gates ≤ 1073741824
+  gates_few l2 l3 p k is = (room h.inputs h.latches h.gates h.variables (defined_count l0) (defined_count l1) (defined_count l3) fits few (ap defined_count none) i (ap defined_count is ∙ k)).1
+
+-- the lines of inputs, latches and gates under a header's greatest literal
+abbrev inputs_onto : Counts → Loose → List ℕ → Result (Loose × List ℕ) Stop
+inputs_onto h l text = onto_lists (input_of (2 * h.variables + 1)) with_input_line l h.inputs text
+
+abbrev latches_onto : Counts → Loose → List ℕ → Result (Loose × List ℕ) Stop
+latches_onto h l text = onto_lists (latch_of (2 * h.variables + 1)) with_latch_line l h.latches text
+
+abbrev gates_onto : Counts → Loose → List ℕ → Result (Loose × List ℕ) Stop
+gates_onto h l text = onto_lists (gate_of (2 * h.variables + 1)) with_gate_line l h.gates text
+
+module _ (h : Counts) (text : List ℕ) (l0 : Loose) (none : l0 ≡ empty_loose) where
+  pub no_inputs : (e : Stop) → inputs_onto h l0 text ≡ Err e → lists_of_file h text ≡ Err e
+  unfolding lists_of_file
+  no_inputs e i =
+      let i0 : inputs_onto h empty_loose text ≡ Err e = subst (λ (l : Loose). inputs_onto h l text ≡ Err e) none i in
+      rw i0 refl
+
+  module _ (l1 : Loose) (t1 : List ℕ) (i : inputs_onto h l0 text ≡ Ok (l1, t1)) where
+    from_empty : inputs_onto h empty_loose text ≡ Ok (l1, t1)
+    from_empty = subst (λ (l : Loose). inputs_onto h l text ≡ Ok (l1, t1)) none i
+
+    pub no_latches : (e : Stop) → latches_onto h l1 t1 ≡ Err e → lists_of_file h text ≡ Err e
+    unfolding lists_of_file
+    no_latches e k = rw (from_empty, k) refl
+
+    module _ (l2 : Loose) (t2 : List ℕ) (k : latches_onto h l1 t1 ≡ Ok (l2, t2)) where
+      pub no_properties : (e : Stop) → properties_at h t2 ≡ Err e → lists_of_file h text ≡ Err e
+      unfolding lists_of_file
+      no_properties e q = rw (from_empty, k, q) refl
+
+      pub gates_left : (l3 : Loose) (p : Properties) (t3 : List ℕ) → properties_at h t2 ≡ Ok (p, t3) → l3 ≡ with_properties_of l2 p → gates_onto h l3 t3 ≡ lists_of_file h text
+      unfolding lists_of_file
+      gates_left l3 p t3 q is = rw (from_empty, k, q) (ap (λ (l : Loose). gates_onto h l t3) is)
+
+-- lists that were read, or where reading them stops, have the answers of the text
+pub answers_of_lists : (h : Counts) (text t : List ℕ) (l : Loose) (r : Result Circuit Stop) → lists_of_file h text ≡ Ok (l, t) → ReadsBy r (AnswersLists h text (Ok (l, t))) → ReadsBy r (AnswersAscii h text)
+answers_of_lists h text t l r is answers = subst (λ (read : Result (Loose × List ℕ) Stop). ReadsBy r (AnswersLists h text read)) (sym is) answers
+
+pub answers_stop : (h : Counts) (text : List ℕ) (e : Stop) → lists_of_file h text ≡ Err e → AnswersAscii h text (Err e)
+answers_stop h text e is = subst (λ (read : Result (Loose × List ℕ) Stop). AnswersLists h text read (Err e)) (sym is) refl

@@ -25,7 +25,7 @@ use Rattle.aigertext.specs.Counts.{first_of_counts, last_of_counts, counts_in}
 use Rattle.aigertext.specs.Binary.{gate_deltas}
 use Rattle.aigertext.specs.Spelling.{IsHeader, AreNextLines, GiveNames, Given, IsEnd, IsBinaryText}
 use Rattle.aigertext.specs.Reading.{Properties, lists_of, line_at, size_within, size_of, literals_at, sizes_at, nexts_at, gates_at, properties_at, nameless, binary_at, header_of}
-use Rattle.aigertext.proofs.BackLemmas.{ok_same, not_err, bind-back, lines-back, literals-back, sizes-back, SaysAt, line-back}
+use Rattle.aigertext.proofs.BackLemmas.{ok_same, not_err, bind-back, bind-then, lines-back, literals-back, sizes-back, SaysAt, line-back}
 use Rattle.aigertext.proofs.FieldLemmas.{joined, numbers_line-joined}
 use Rattle.aigertext.proofs.GateBackLemmas.{AreBytes, bytes_behind, AreGatesAt, gates-back}
 use Rattle.aigertext.proofs.HeaderBackLemmas.{HeaderBack, header-back, AreCounts}
@@ -104,45 +104,50 @@ six_parts : (t a b c d e a' b' c' d' e' f r : List ℕ) → t ≡ a ++ a' → a'
 six_parts t a b c d e a' b' c' d' e' f r p q s u v w =
     p ∙ ap (λ (l : List ℕ). a ++ l) (q ∙ ap (λ (l : List ℕ). b ++ l) (s ∙ ap (λ (l : List ℕ). c ++ l) (u ∙ ap (λ (l : List ℕ). d ++ l) (v ∙ ap (λ (l : List ℕ). e ++ l) w))))
 
+-- the parts of properties that were read
+module _ (h : Counts) (small : 2 * h.variables + 1 < 2 ^ 64 - 1) (text t1 t2 t3 t4 t5 rest : List ℕ) (os bs cs ns ls fs : List ℕ)
+    (o : literals_at (2 * h.variables + 1) h.outputs text ≡ Ok (os, t1)) (b : literals_at (2 * h.variables + 1) h.bads t1 ≡ Ok (bs, t2)) (c : literals_at (2 * h.variables + 1) h.constraints t2 ≡ Ok (cs, t3))
+    (s : sizes_at 0 h.justice t3 ≡ Ok (ns, t4)) (j : literals_at (2 * h.variables + 1) (sum ns) t4 ≡ Ok (ls, t5)) (f : literals_at (2 * h.variables + 1) h.fair t5 ≡ Ok (fs, rest)) where
+  below : (n : ℕ) (text ls rest : List ℕ) → literals_at (2 * h.variables + 1) n text ≡ Ok (ls, rest) → All (λ l. l ≤ 2 * h.variables + 1) ls
+  below n text ls rest e = All-from_recursion (λ l. l ≤ 2 * h.variables + 1) ls (literals_small (2 * h.variables + 1) n text ls rest e).small
+
+  properties_are : PropertiesBack h text (record { outputs = os; bads = bs; constraints = cs; sizes = ns; listed = ls; fair = fs }) rest
+  properties_are =
+      let o' = literals-back (2 * h.variables + 1) h.outputs text os t1 small o in
+      let b' = literals-back (2 * h.variables + 1) h.bads t1 bs t2 small b in
+      let c' = literals-back (2 * h.variables + 1) h.constraints t2 cs t3 small c in
+      let s' = sizes-back 0 h.justice t3 ns t4 s in
+      let j' = literals-back (2 * h.variables + 1) (sum ns) t4 ls t5 small j in
+      let f' = literals-back (2 * h.variables + 1) h.fair t5 fs rest small f in
+      record {
+        parts = six_parts text (literal_lines os) (literal_lines bs) (literal_lines cs) (literal_lines ns) (literal_lines ls) t1 t2 t3 t4 t5 (literal_lines fs) rest o'.parts b'.parts c'.parts s'.parts j'.parts f'.parts;
+        outputs = o'.count;
+        bads = b'.count;
+        constraints = c'.count;
+        sizes = s'.count;
+        listed = j'.count;
+        fair = f'.count;
+        total = omega (arith, sizes_total 0 h.justice t3 ns t4 (omega arith) s);
+        up_to = record {
+          outputs = below h.outputs text os t1 o;
+          bads = below h.bads t1 bs t2 b;
+          constraints = below h.constraints t2 cs t3 c;
+          justice = subst (All (λ n. n ≤ 2 * h.variables + 1)) (sym (concat_of_lists ns ls j'.count)) (below (sum ns) t4 ls t5 j);
+          fair = below h.fair t5 fs rest f;
+        };
+      }
+
 pub properties-back : (h : Counts) (text : List ℕ) (p : Properties) (rest : List ℕ) → h.variables ≤ greatest_count → properties_at h text ≡ Ok (p, rest) → PropertiesBack h text p rest
 unfolding properties_at
-properties-back h text p rest few e =
-    let g : ℕ = 2 * h.variables + 1 in
-    let small : 2 * h.variables + 1 < 2 ^ 64 - 1 = omega (arith, few) in
-    let o = bind-back (literals_at (2 * h.variables + 1) h.outputs text) _ (p, rest) e in
-    let b = bind-back (literals_at (2 * h.variables + 1) h.bads o.value.1) _ (p, rest) o.then' in
-    let c = bind-back (literals_at (2 * h.variables + 1) h.constraints b.value.1) _ (p, rest) b.then' in
-    let s = bind-back (sizes_at 0 h.justice c.value.1) _ (p, rest) c.then' in
-    let j = bind-back (literals_at (2 * h.variables + 1) (sum s.value.0) s.value.1) _ (p, rest) s.then' in
-    let f = bind-back (literals_at (2 * h.variables + 1) h.fair j.value.1) _ (p, rest) j.then' in
-    let is : ◌≡◌ {A = Properties × List ℕ} (record { outputs = o.value.0; bads = b.value.0; constraints = c.value.0; sizes = s.value.0; listed = j.value.0; fair = f.value.0 }, f.value.1) (p, rest) = ok_same _ _ f.then' in
-    let o' = literals-back (2 * h.variables + 1) h.outputs text o.value.0 o.value.1 small o.was in
-    let b' = literals-back (2 * h.variables + 1) h.bads o.value.1 b.value.0 b.value.1 small b.was in
-    let c' = literals-back (2 * h.variables + 1) h.constraints b.value.1 c.value.0 c.value.1 small c.was in
-    let s' = sizes-back 0 h.justice c.value.1 s.value.0 s.value.1 s.was in
-    let j' = literals-back (2 * h.variables + 1) (sum s.value.0) s.value.1 j.value.0 j.value.1 small j.was in
-    let f' = literals-back (2 * h.variables + 1) h.fair j.value.1 f.value.0 f.value.1 small f.was in
-    subst (λ (q : Properties × List ℕ). PropertiesBack h text q.0 q.1) is
-    (record {
-      parts = six_parts text (literal_lines o.value.0) (literal_lines b.value.0) (literal_lines c.value.0) (literal_lines s.value.0) (literal_lines j.value.0) o.value.1 b.value.1 c.value.1 s.value.1 j.value.1 (literal_lines f.value.0) f.value.1 o'.parts b'.parts c'.parts s'.parts j'.parts f'.parts;
-      outputs = o'.count;
-      bads = b'.count;
-      constraints = c'.count;
-      sizes = s'.count;
-      listed = j'.count;
-      fair = f'.count;
-      total = omega (arith, sizes_total 0 h.justice c.value.1 s.value.0 s.value.1 (omega arith) s.was);
-      up_to = record {
-        outputs = below h.outputs text o.value.0 o.value.1 o.was;
-        bads = below h.bads o.value.1 b.value.0 b.value.1 b.was;
-        constraints = below h.constraints b.value.1 c.value.0 c.value.1 c.was;
-        justice = subst (All (λ n. n ≤ 2 * h.variables + 1)) (sym (concat_of_lists s.value.0 j.value.0 j'.count)) (below (sum s.value.0) s.value.1 j.value.0 j.value.1 j.was);
-        fair = below h.fair j.value.1 f.value.0 f.value.1 f.was;
-      };
-    })
-  where
-    below : (n : ℕ) (text ls rest : List ℕ) → literals_at (2 * h.variables + 1) n text ≡ Ok (ls, rest) → All (λ l. l ≤ 2 * h.variables + 1) ls
-    below n text ls rest e = All-from_recursion (λ l. l ≤ 2 * h.variables + 1) ls (literals_small (2 * h.variables + 1) n text ls rest e).small
+properties-back h text p rest few e0 =
+    bind-then (literals_at (2 * h.variables + 1) h.outputs text) _ (p, rest) e0
+    (λ o o' e1. bind-then (literals_at (2 * h.variables + 1) h.bads o.1) _ (p, rest) e1
+    (λ b b' e2. bind-then (literals_at (2 * h.variables + 1) h.constraints b.1) _ (p, rest) e2
+    (λ c c' e3. bind-then (sizes_at 0 h.justice c.1) _ (p, rest) e3
+    (λ s s' e4. bind-then (literals_at (2 * h.variables + 1) (sum s.0) s.1) _ (p, rest) e4
+    (λ j j' e5. bind-then (literals_at (2 * h.variables + 1) h.fair j.1) _ (p, rest) e5
+    (λ f f' e6. subst (λ (q : Properties × List ℕ). PropertiesBack h text q.0 q.1) (ok_same _ (p, rest) e6)
+    (properties_are h (omega (arith, few)) text o.1 b.1 c.1 s.1 j.1 f.1 o.0 b.0 c.0 s.0 j.0 f.0 o' b' c' s' j' f')))))))
 
 -- ---- the circuit
 

@@ -1,5 +1,5 @@
 -- Words between the parts of the reader, which goes over a text twice: what stands behind the lines that were looked at, and what a circuit has of those that were read.
-use Rattle.std.specs.Prelude.{◌≡◌, ℕ, zero, suc, ◌+◌, List, [], ◌∷◌, ◌++◌, Result, Ok, Err, ◌⊎◌}
+use Rattle.std.specs.Prelude.{◌≡◌, ℕ, zero, suc, ◌+◌, ◌*◌, List, [], ◌∷◌, ◌++◌, Result, Ok, Err, ◌⊎◌}
 use Rattle.std.specs.List.{sum}
 use Rattle.aiger.specs.declared.circuit.Gate.{Gate}
 use Rattle.aiger.specs.declared.circuit.Latch.{Latch}
@@ -14,7 +14,7 @@ use Rattle.aigertext.specs.declared.fault.Why.{Why}
 use Rattle.aigertext.specs.declared.fault.Why.TheVariants as why
 use Rattle.aigertext.specs.declared.literals.LiteralSection.{LiteralSection}
 use Rattle.aigertext.specs.declared.literals.LiteralSection.TheVariants.{Output, Bad, Constraint, Fair}
-use Rattle.aigertext.specs.Reading.{◌>>=◌, line_at, size_of, literals_at, delta_at, below, at_or_below, Properties, lists_of}
+use Rattle.aigertext.specs.Reading.{◌>>=◌, line_at, size_of, literals_at, nexts_at, properties_at, delta_at, below, at_or_below, Properties, lists_of}
 
 -- ---- the first pass: only what stands behind the lines
 
@@ -22,6 +22,10 @@ use Rattle.aigertext.specs.Reading.{◌>>=◌, line_at, size_of, literals_at, de
 abbrev pub behind : {A E : Type 0} → Result (A × List ℕ) E → Result (List ℕ) E
 behind (Ok x) = Ok x.1
 behind (Err e) = Err e
+
+-- the text behind the lines before the gates, which are those of the latches and of all properties
+abbrev pub behind_lines_of : Counts → List ℕ → Result (List ℕ) Stop
+behind_lines_of h text = behind (nexts_at (2 * h.variables + 1) (2 * suc h.inputs) h.latches text) >>= (λ t. behind (properties_at h t))
 
 -- the sum of the sizes that were read and of those before them, and the text behind
 abbrev pub total_from : ℕ → Result (List ℕ × List ℕ) Stop → Result (ℕ × List ℕ) Stop
@@ -110,11 +114,6 @@ BecomesAt (Err e) c read = (e.why ≡ why.NoMemory) ⊎ (read ≡ Err e)
 abbrev pub ReadsAs : Result Circuit Stop → Result Circuit Stop → Type 0
 ReadsAs (Ok c) read = read ≡ Ok c
 ReadsAs (Err e) read = (e.why ≡ why.NoMemory) ⊎ (read ≡ Err e)
-
--- the lists of a file were read, and the text behind them, unless memory ran out
-abbrev pub ReadsLists : {X : Type 0} → (X → Loose × List ℕ) → Result X Stop → Result (Loose × List ℕ) Stop → Type 0
-ReadsLists view (Ok x) read = read ≡ Ok (view x)
-ReadsLists view (Err e) read = (e.why ≡ why.NoMemory) ⊎ (read ≡ Err e)
 
 -- lists were numbered, or reading stops at one of their lines, or memory ran out
 abbrev pub Numbers : Counts → List ℕ → Loose → Result Circuit Stop → Type 0

@@ -1,11 +1,11 @@
 //! Reading what stands behind the header of an ascii text.
-ghost use Rattle.std.specs.Prelude.{◌≡◌, ◌-◌, ◌≤◌, ◌<◌, length, IfOk};
+ghost use Rattle.std.specs.Prelude.{◌≡◌, ◌-◌, ◌≤◌, Ok, length};
 ghost use Rattle.std.specs.List.{sum_by};
-ghost use Rattle.aiger.specs.Loose.{IsLoose};
+ghost use Rattle.aiger.specs.Loose.{empty_loose};
 ghost use Rattle.aiger.specs.Renumbering.{used_lines};
 ghost use Rattle.aigertext.specs.declared.forms.Form.TheVariants as form;
-ghost use Rattle.aigertext.specs.AsciiReading.{lists_of_file, behind_line, behind_lines, lines_before, AnswersAscii};
-ghost use Rattle.aigertext.specs.Passes.{ReadsLists, Numbers, ReadsBy};
+ghost use Rattle.aigertext.specs.AsciiReading.{lists_of_file, behind_line, behind_lines, lines_before, ReadsOnto, AnswersLists, AnswersAscii};
+ghost use Rattle.aigertext.specs.Passes.{Numbers, ReadsBy};
 ghost use Rattle.aigertext.specs.Reading.{cut};
 ghost use Rattle.aigertext.specs.Counts.{AreSmall, Fits};
 
@@ -19,22 +19,32 @@ use aiger::{Circuit, Loose, LooseFault};
 use base::next_line;
 use std::alloc::Global;
 
-/// The lists of a file, and the text behind them.
-#[tactic(auto, unfolding(crate::specs::AsciiReading::lists_of_file))]
-fn read_lists<'a>(alloc: Global, counts: &Counts, text: &'a [u8]) -> Result<(Loose, &'a [u8]), Stop>
+/// Reads the lists of a file onto empty ones, and answers the text behind them.
+fn read_lists<'a>(
+    alloc: Global,
+    lists: &mut Loose,
+    counts: &Counts,
+    text: &'a [u8],
+) -> Result<&'a [u8], Stop>
+    requires empty { lists.old ≡ empty_loose }
     requires small { AreSmall counts.now }
     requires fits { Fits form.Ascii counts.now }
-    ensures read { ReadsLists (λ x. (x.0, x.1.now)) result (lists_of_file counts.now text.now) }
-    ensures valid { IfOk result (λ x. IsLoose x.0) }
+    ensures { ReadsOnto (λ x. x.now) result lists.new (lists_of_file counts.now text.now) }
 {
     let greatest = 2 * counts.variables + 1;
-    let mut lists = Loose::new(alloc);
-    let latches = push_inputs(&mut lists, text, greatest, counts.inputs)?;
-    let properties = push_latches(&mut lists, latches, greatest, counts.latches)?;
-    let gates = push_file_properties(alloc, &mut lists, properties, counts)?;
-    let names = push_gate_lines(&mut lists, gates, greatest, counts.gates)?;
-    let _valid = lists.inputs();
-    Ok((lists, names))
+    let latches = match push_inputs(lists, text, greatest, counts.inputs) {
+        Ok(latches) => latches,
+        Err(stop) => return Err(stop),
+    };
+    let properties = match push_latches(lists, latches, greatest, counts.latches) {
+        Ok(properties) => properties,
+        Err(stop) => return Err(stop),
+    };
+    let gates = match push_file_properties(alloc, lists, properties, counts) {
+        Ok(gates) => gates,
+        Err(stop) => return Err(stop),
+    };
+    push_gate_lines(lists, gates, greatest, counts.gates)
 }
 
 /// The text behind its first line.
@@ -116,22 +126,37 @@ fn numbered(alloc: Global, lists: &Loose, counts: &Counts, text: &[u8]) -> Resul
     }
 }
 
+/// The circuit that the lists of a file are, with the names behind them.
+fn named(
+    alloc: Global,
+    lists: &Loose,
+    counts: &Counts,
+    text: &[u8],
+    names: &[u8],
+) -> Result<Circuit, Stop>
+    requires { AreSmall counts.now }
+    ensures { ReadsBy result (AnswersLists counts.now text.now (Ok (lists.now, names.now))) }
+{
+    let _valid = lists.inputs();
+    let mut circuit = match numbered(alloc, lists, counts, text) {
+        Ok(circuit) => circuit,
+        Err(stop) => return Err(stop),
+    };
+    match give_names(&mut circuit, names) {
+        Ok(()) => Ok(circuit),
+        Err(stop) => Err(stop),
+    }
+}
+
 /// The circuit behind a header of the ascii form. No list is made by a number of the header.
 pub fn read_file(alloc: Global, counts: &Counts, text: &[u8]) -> Result<Circuit, Stop>
     requires small { AreSmall counts.now }
     requires fits { Fits form.Ascii counts.now }
     ensures { ReadsBy result (AnswersAscii counts.now text.now) }
 {
-    let (lists, names) = match read_lists(alloc, counts, text) {
-        Ok(read) => read,
-        Err(stop) => return Err(stop),
-    };
-    let mut circuit = match numbered(alloc, &lists, counts, text) {
-        Ok(circuit) => circuit,
-        Err(stop) => return Err(stop),
-    };
-    match give_names(&mut circuit, names) {
-        Ok(()) => Ok(circuit),
+    let mut lists = Loose::new(alloc);
+    match read_lists(alloc, &mut lists, counts, text) {
+        Ok(names) => named(alloc, &lists, counts, text, names),
         Err(stop) => Err(stop),
     }
 }

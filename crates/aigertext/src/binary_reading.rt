@@ -1,13 +1,13 @@
 //! Reading what stands behind the header of a binary text.
-ghost use Rattle.std.specs.Prelude.{◌≡◌};
-ghost use Rattle.aiger.specs.Circuit.{net};
+ghost use Rattle.std.specs.Prelude.{◌≡◌, Ok};
+ghost use Rattle.aiger.specs.Circuit.{net, fresh_circuit};
 ghost use Rattle.aiger.specs.Net.{variables};
 ghost use Rattle.aigertext.specs.declared.forms.Form.TheVariants as form;
 ghost use Rattle.aigertext.specs.Reading.{binary_at, properties_at};
-ghost use Rattle.aigertext.specs.Passes.{ReadsAs, Takes, HasNoProperties, with_properties};
+ghost use Rattle.aigertext.specs.Passes.{ReadsAs, BecomesAt, Takes, HasNoProperties, behind_lines_of, with_properties};
 ghost use Rattle.aigertext.specs.Counts.{AreSmall, Fits};
 
-use crate::checks::{check_latches, check_properties, check_sizes};
+use crate::checks::{check_lines, check_sizes};
 use crate::counts::Counts;
 use crate::fault::Stop;
 use crate::front::stop;
@@ -55,27 +55,53 @@ fn push_properties<'a>(
     push_literals(circuit, LiteralSection::Fair, rest, greatest, counts.fair)
 }
 
+/// Reads what stands behind a header onto a circuit of so many inputs and latches, where the gates' text is known.
+fn push_sections(
+    alloc: Global,
+    circuit: &mut Circuit,
+    counts: &Counts,
+    text: &[u8],
+    gates: &[u8],
+) -> Result<(), Stop>
+    requires fresh { circuit.old ≡ fresh_circuit counts.now.inputs counts.now.latches }
+    requires small { AreSmall counts.now }
+    requires fits { Fits form.Binary counts.now }
+    requires gates { behind_lines_of counts.now text.now ≡ Ok gates.now }
+    ensures { BecomesAt result circuit.new (binary_at counts.now text.now) }
+{
+    let greatest = 2 * counts.variables + 1;
+    let latch = 2 * (counts.inputs + 1);
+    let gate = 2 * (counts.inputs + counts.latches + 1);
+    let names = match push_gates(circuit, gates, gate, counts.gates) {
+        Ok(names) => names,
+        Err(stop) => return Err(stop),
+    };
+    let properties = match set_latches(circuit, text, greatest, latch, counts.latches) {
+        Ok(properties) => properties,
+        Err(stop) => return Err(stop),
+    };
+    match push_properties(alloc, circuit, properties, counts) {
+        Ok(_) => give_names(circuit, names),
+        Err(stop) => Err(stop),
+    }
+}
+
 /// The circuit behind a header of the binary form. The lines before the gates are looked at first, so that no list is
 /// made by a number of the header before so many lines were there.
-#[tactic(auto, unfolding(crate::specs::Reading::binary_at))]
 pub fn read_sections(alloc: Global, counts: &Counts, text: &[u8]) -> Result<Circuit, Stop>
     requires small { AreSmall counts.now }
     requires fits { Fits form.Binary counts.now }
     ensures { ReadsAs result (binary_at counts.now text.now) }
 {
-    let greatest = 2 * counts.variables + 1;
-    let latch = 2 * (counts.inputs + 1);
-    let gate = 2 * (counts.inputs + counts.latches + 1);
-    let properties = check_latches(text, greatest, latch, counts.latches)?;
-    let gates = check_properties(properties, counts)?;
+    let gates = match check_lines(text, counts) {
+        Ok(gates) => gates,
+        Err(stop) => return Err(stop),
+    };
     let mut circuit = match Circuit::new(alloc, counts.inputs, counts.latches) {
         Ok(circuit) => circuit,
         Err(fault) => return Err(stop(text, want_of_memory(fault))),
     };
-    let names = push_gates(&mut circuit, gates, gate, counts.gates)?;
-    let properties = set_latches(&mut circuit, text, greatest, latch, counts.latches)?;
-    push_properties(alloc, &mut circuit, properties, counts)?;
-    match give_names(&mut circuit, names) {
+    match push_sections(alloc, &mut circuit, counts, text, gates) {
         Ok(()) => Ok(circuit),
         Err(stop) => Err(stop),
     }
