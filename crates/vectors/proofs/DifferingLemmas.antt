@@ -8,7 +8,7 @@ use Rattle.std.proofs.lemmas.List.Sorted.{sum_by-IsPermutation}
 use Rattle.std.proofs.lemmas.List.Elements.{All-cons}
 use Rattle.std.proofs.lemmas.Bool.Decides.{nat_tests}
 use Rattle.vectors.specs.declared.lines.Vector.{Vector}
-use Rattle.vectors.specs.Vectors.{NumberedVector, numbered, differing, value_of, said, IsRight}
+use Rattle.vectors.specs.Vectors.{NumberedVector, numbered, differing, value_of, said, IsRight, Tells, report}
 
 -- one vector judged: its line, where it is not right, stands before those of the vectors behind it
 one_judged : (right : Bool) (k : ℕ) (rest : List ℕ) → (if right then [] else k ∷ []) ++ rest ≡ (if right then rest else k ∷ rest)
@@ -97,6 +97,19 @@ all_right k [] none = search rules
 all_right k (v ∷ vs) none =
     let right = one_right v k (differing (numbered (suc k) vs)) (value_of v == said v) refl none in
     All-cons IsRight v vs right.0 (all_right (suc k) vs right.1)
+
+-- what names the lines that differ tells of the vectors, and whether there is no such line is whether all agree
+pub tells_by_lines : (all : List Vector) (lines told : List ℕ) (n : ℕ) (none : Bool) → lines ≡ differing (numbered 1 all) → n ≡ length lines → none ≡ (n == 0) → told ≡ report lines (length all) → Tells told none all
+tells_by_lines all [] told n none are count is text =
+    record {
+      right = λ yes. (all_right 1 all (sym are), text);
+      wrong = λ no. absurd (grind (arith, nat_tests));
+    }
+tells_by_lines all (x ∷ xs) told n none are count is text =
+    record {
+      right = λ yes. absurd (grind (arith, nat_tests));
+      wrong = λ no. ((λ nil. let e : x ∷ xs ≡ [] = are ∙ nil in absurd cc), text ∙ ap (λ (l : List ℕ). report l (length all)) are);
+    }
 
 pub length-numbered : (k : ℕ) (vs : List Vector) → length (numbered k vs) ≡ length vs
 length-numbered k [] = refl

@@ -1,5 +1,5 @@
 -- Vectors of operators: the lines that write them, and which of them are right.
-use Rattle.std.specs.Prelude.{◌≡◌, ◌≢◌, ℕ, suc, ◌==◌, if◌then◌else◌, ◌≤◌, ◌<◌, ◌^◌, ◌-◌, Bool, true, false, List, [], ◌∷◌, ◌++◌, length, Option, Some, flat_map, decimal, codes}
+use Rattle.std.specs.Prelude.{◌≡◌, ◌≢◌, ℕ, suc, ◌==◌, if◌then◌else◌, ◌≤◌, ◌<◌, ◌^◌, ◌-◌, Bool, true, false, List, [], ◌∷◌, ◌++◌, length, Some, flat_map, decimal, codes}
 use Rattle.std.specs.List.{All}
 use Rattle.base.specs.Lines.{text_of_lines}
 use Rattle.base.specs.Widths.{is_of_bits, unary_width, binary_width}
