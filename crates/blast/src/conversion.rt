@@ -1,15 +1,16 @@
 //! From a model's text to a circuit's text.
-ghost use Rattle.std.specs.Prelude.{◌≡◌, ◌≤◌, IfErr, OnOk};
+ghost use Rattle.std.specs.Prelude.{◌≡◌, ℕ, ◌≤◌, List, Option, IfErr, OnOk};
 ghost use Rattle.std.specs.Io.KnownBytes.{IsAtEnd};
 ghost use Rattle.base.specs.Device.{HasRisen};
 ghost use Rattle.btor2text.specs.declared.fault.Why.TheVariants as why;
 ghost use Rattle.blast.specs.declared.fault.ConvertFault.TheVariants as fault;
-ghost use Rattle.blast.specs.Conversion.{AnswersConversion, TellsFirstFault, HasNoLine, IsBeforeWriting, RaisesFailures};
+ghost use Rattle.blast.specs.Conversion.{IsTextOf, AnswersConversion, TellsFirstFault, HasNoLine, IsBeforeWriting, RaisesFailures};
 
 use crate::fault::ConvertFault;
 use crate::lowering::lower;
 use aigertext::{Form, write};
 use base::{Sink, Source};
+use btor2::Model;
 use btor2text::read;
 use std::alloc::Global;
 
@@ -30,16 +31,32 @@ pub fn convert<S: Source, K: Sink>(
     ensures unwritten { IfErr result (λ e. IsBeforeWriting e → sink.new ≡ sink.old) }
     ensures device { RaisesFailures result (S.failures source.old) (S.failures source.new) (K.failures sink.old) (K.failures sink.new) }
 {
-    let model = match read(alloc, source) {
-        Ok(model) => model,
-        Err(fault) => return Err(ConvertFault::Read(fault)),
-    };
-    let circuit = match lower(alloc, &model) {
-        Ok(circuit) => circuit,
-        Err(fault) => return Err(ConvertFault::Lower(fault)),
-    };
-    match write(&circuit, form, sink) {
-        Ok(()) => Ok(()),
-        Err(fault) => Err(ConvertFault::Write(fault)),
+    match read(alloc, source) {
+        Ok(model) => convert_model(alloc, &model, sink, form),
+        Err(fault) => Err(ConvertFault::Read(fault)),
+    }
+}
+
+/// Lowers a model and writes the text of the circuit: the part of a conversion behind the reading, whatever the text was.
+fn convert_model<K: Sink>(
+    alloc: Global,
+    model: &Model,
+    sink: &mut K,
+    form: Form,
+) -> Result<(), ConvertFault>
+    ensures answer { (known : Option (List ℕ)) → IsTextOf known model.now → AnswersConversion known (K.written sink.old) (K.written sink.new) form result }
+    ensures fault { (known : Option (List ℕ)) → IfErr result (TellsFirstFault known) }
+    ensures place { IfErr result HasNoLine }
+    ensures unwritten { IfErr result (λ e. IsBeforeWriting e → sink.new ≡ sink.old) }
+    ensures device { (failures : ℕ) → RaisesFailures result failures failures (K.failures sink.old) (K.failures sink.new) }
+{
+    // a model's items are well-formed
+    let _ = model.items();
+    match lower(alloc, model) {
+        Ok(circuit) => match write(&circuit, form, sink) {
+            Ok(()) => Ok(()),
+            Err(fault) => Err(ConvertFault::Write(fault)),
+        },
+        Err(fault) => Err(ConvertFault::Lower(fault)),
     }
 }

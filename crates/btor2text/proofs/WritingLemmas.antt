@@ -1,6 +1,7 @@
 -- Texts of items and of digits, piece by piece.
 use Rattle.std.proofs.Common.{◌≡◌, ℕ, suc, ◌+◌, ◌-◌, ◌<◌, ◌≤◌, ◌/◌, ◌%◌, List, [], ◌∷◌, ◌++◌, length, get_or, take, drop, map, codes, decimal, drop-cons, add-one, sym, ap, subst, ◌∙◌, append_assoc, append-nil, arith}
 use Rattle.std.specs.Char.{digit_char}
+use Rattle.std.specs.Fmt.{signed_decimal}
 use Rattle.std.proofs.lemmas.List.{take-append-drop}
 use Rattle.std.proofs.lemmas.List.Concat.{flat_map-append}
 use Rattle.btor2.specs.declared.item.Item.{Item}
@@ -10,7 +11,7 @@ use Rattle.btor2.specs.Check.{IsWellFormed}
 use Rattle.btor2.proofs.ModelLemmas.{IsIn, refusal-at, IsWellFormed-front}
 use Rattle.btor2text.specs.Digits.{last_digits}
 use Rattle.btor2text.specs.Spelling.{form_tokens, symbol_tokens}
-use Rattle.btor2text.specs.Writing.{behind_spaces, HasFewDigits, written_line, written}
+use Rattle.btor2text.specs.Writing.{behind_spaces, form_word, form_numbers, form_rest, HasFewDigits, written_line, written}
 use Rattle.btor2text.proofs.BoundLemmas.{BodyFits, accepted_fits}
 
 -- ---- lists
@@ -32,9 +33,16 @@ line_pieces x =
     (ap (λ (l : List ℕ). l ++ 10 ∷ []) (flat_map-append (λ token. 32 ∷ token) (form_tokens x.body) (symbol_tokens x.symbol))
     ∙ append_assoc (behind_spaces (form_tokens x.body)) (behind_spaces (symbol_tokens x.symbol)) (10 ∷ []))
 
--- the operands of a justice line stand behind their number
-pub justice_pieces : (nodes : List ℕ) → behind_spaces (form_tokens (body.Justice nodes)) ≡ (32 ∷ codes "justice" ++ behind_spaces (decimal (length nodes) ∷ [])) ++ behind_spaces (map decimal nodes)
-justice_pieces nodes = flat_map-append (λ token. 32 ∷ token) (codes "justice" ∷ decimal (length nodes) ∷ []) (map decimal nodes)
+digits_behind : (tokens : List (List ℕ)) (digits : List ℕ) → behind_spaces (tokens ++ digits ∷ []) ≡ behind_spaces tokens ++ 32 ∷ digits
+digits_behind tokens digits = flat_map-append (λ token. 32 ∷ token) tokens (digits ∷ []) ∙ ap (λ (l : List ℕ). behind_spaces tokens ++ 32 ∷ l) (append-nil digits)
+
+-- a form in its three parts
+pub form_pieces : (b : Body) → behind_spaces (form_tokens b) ≡ (32 ∷ form_word b ++ behind_spaces (map decimal (form_numbers b))) ++ form_rest b
+form_pieces (body.Const s d v) = digits_behind (codes "const" ∷ decimal s ∷ []) (last_digits 2 d v)
+form_pieces (body.Constd s v) = digits_behind (codes "constd" ∷ decimal s ∷ []) (signed_decimal v)
+form_pieces (body.Consth s d v) = digits_behind (codes "consth" ∷ decimal s ∷ []) (last_digits 16 d v)
+form_pieces (body.Justice nodes) = flat_map-append (λ token. 32 ∷ token) (codes "justice" ∷ decimal (length nodes) ∷ []) (map decimal nodes)
+form_pieces b = sym (append-nil (32 ∷ form_word b ++ behind_spaces (map decimal (form_numbers b))))
 
 -- ---- digits of a model's constants
 

@@ -7,6 +7,7 @@ mod fault;
 mod forms;
 mod items;
 pub mod laws;
+mod numbers;
 mod operators;
 mod places;
 mod reading;

@@ -3,17 +3,17 @@
 ghost use Rattle.std.specs.Prelude.{◌≡◌, [], ◌≤◌, ◌∷◌, ◌++◌, map, decimal, OnOk, OnErr};
 ghost use Rattle.std.specs.Io.KnownBytes.{Appends};
 ghost use Rattle.base.specs.Device.{CountsFaults, AppendsBeginning};
-ghost use Rattle.btor2.specs.declared.item.Body.TheVariants as body;
 ghost use Rattle.btor2.specs.Check.{IsWellFormed};
 ghost use Rattle.base.specs.Pieces.{Puts};
 ghost use Rattle.btor2text.specs.Spelling.{form_tokens, symbol_tokens, StandsFor};
 ghost use Rattle.btor2text.specs.Reading.{text_on};
-ghost use Rattle.btor2text.specs.Writing.{behind_spaces, HasFewDigits, written_line, written};
+ghost use Rattle.btor2text.specs.Writing.{behind_spaces, form_word, form_numbers, form_rest, HasFewDigits, written_line, written};
 
 use crate::digits::Digits;
+use crate::numbers::Numbers;
 use crate::operators::{binary_name, unary_name};
 use base::{DeviceFault, Outbox, Sink};
-use btor2::{Body, Item, Model, Operands, Symbol};
+use btor2::{Body, Item, Model, Symbol};
 use itoa::Buffer;
 
 /// Writes the text of a model: a line for each item, tokens with one space between, hexadecimal digits in lower case,
@@ -148,33 +148,107 @@ fn put_form<K: Sink>(
     put_numbers(outbox, sink, numbers)
 }
 
-/// Puts a constant's word, its sort and its digits, each behind a space.
-fn put_constant<K: Sink>(
-    outbox: &mut Outbox,
-    sink: &mut K,
-    word: &[u8],
-    sort: u32,
-    digits: &[u8],
-) -> Result<(), DeviceFault>
-    ensures puts { Puts result (K.written sink.old) (K.written sink.new) outbox.old outbox.new ((32 ∷ word.now ++ behind_spaces (decimal sort ∷ [])) ++ 32 ∷ digits.now) }
-    ensures failures { CountsFaults result (K.failures sink.old) (K.failures sink.new) }
+/// The word of a form; a sort's are two.
+fn form_word(body: &Body) -> &'static [u8]
+    ensures { result.now ≡ form_word body.now }
 {
-    put_form(outbox, sink, word, &[u64::from(sort)])?;
-    put_token(outbox, sink, digits)
+    match body {
+        Body::Sort { .. } => b"sort bitvec",
+        Body::Input { .. } => b"input",
+        Body::State { .. } => b"state",
+        Body::Zero { .. } => b"zero",
+        Body::One { .. } => b"one",
+        Body::Ones { .. } => b"ones",
+        Body::Const { .. } => b"const",
+        Body::Constd { .. } => b"constd",
+        Body::Consth { .. } => b"consth",
+        Body::Uext { .. } => b"uext",
+        Body::Sext { .. } => b"sext",
+        Body::Slice { .. } => b"slice",
+        Body::Unary { operator, .. } => unary_name(*operator),
+        Body::Binary { operator, .. } => binary_name(*operator),
+        Body::Concat { .. } => b"concat",
+        Body::Ite { .. } => b"ite",
+        Body::Init { .. } => b"init",
+        Body::Next { .. } => b"next",
+        Body::Bad { .. } => b"bad",
+        Body::Constraint { .. } => b"constraint",
+        Body::Fair { .. } => b"fair",
+        Body::Output { .. } => b"output",
+        Body::Justice { .. } => b"justice",
+    }
 }
 
-/// Puts the operands of a justice line, behind how many they are.
-fn put_justice<K: Sink>(
-    outbox: &mut Outbox,
-    sink: &mut K,
-    operands: &Operands,
-) -> Result<(), DeviceFault>
-    ensures puts { Puts result (K.written sink.old) (K.written sink.new) outbox.old outbox.new (behind_spaces (form_tokens (body.Justice operands.now))) }
+/// The numbers that a form has behind its word.
+fn form_numbers(body: &Body) -> Numbers
+    ensures { result ≡ form_numbers body.now }
+{
+    match body {
+        Body::Sort { width } => Numbers::one(*width),
+        Body::Input { sort }
+        | Body::State { sort }
+        | Body::Zero { sort }
+        | Body::One { sort }
+        | Body::Ones { sort }
+        | Body::Const { sort, .. }
+        | Body::Constd { sort, .. }
+        | Body::Consth { sort, .. } => Numbers::one(u64::from(*sort)),
+        Body::Uext { sort, operand, by } | Body::Sext { sort, operand, by } => {
+            Numbers::three(*sort, *operand, *by)
+        }
+        Body::Slice {
+            sort,
+            operand,
+            upper,
+            lower,
+        } => Numbers::four(*sort, *operand, *upper, *lower),
+        Body::Unary { sort, operand, .. } => Numbers::two(*sort, *operand),
+        Body::Binary {
+            sort,
+            left,
+            right,
+            ..
+        } => Numbers::three(*sort, *left, u64::from(*right)),
+        Body::Concat { sort, high, low } => Numbers::three(*sort, *high, u64::from(*low)),
+        Body::Ite {
+            sort,
+            condition,
+            first,
+            second,
+        } => Numbers::four(*sort, *condition, u64::from(*first), u64::from(*second)),
+        Body::Init { sort, state, value } | Body::Next { sort, state, value } => {
+            Numbers::three(*sort, *state, u64::from(*value))
+        }
+        Body::Bad { operand }
+        | Body::Constraint { operand }
+        | Body::Fair { operand }
+        | Body::Output { operand } => Numbers::one(u64::from(*operand)),
+        Body::Justice { operands } => Numbers::one(operands.ids().len() as u64),
+    }
+}
+
+/// Puts what stands behind the numbers of a form: the digits of a constant, or the operands of a justice line.
+fn put_rest<K: Sink>(outbox: &mut Outbox, sink: &mut K, body: &Body) -> Result<(), DeviceFault>
+    requires { HasFewDigits body.now }
+    ensures puts { Puts result (K.written sink.old) (K.written sink.new) outbox.old outbox.new (form_rest body.now) }
     ensures failures { CountsFaults result (K.failures sink.old) (K.failures sink.new) }
 {
-    let ids = operands.ids();
-    put_form(outbox, sink, b"justice", &[ids.len() as u64])?;
-    put_ids(outbox, sink, ids)
+    match body {
+        Body::Const { digits, value, .. } => {
+            let digits = Digits::of(2, *digits, *value);
+            put_token(outbox, sink, digits.bytes())
+        }
+        Body::Constd { value, .. } => {
+            let mut buffer = Buffer::new();
+            put_token(outbox, sink, buffer.format(*value).as_bytes())
+        }
+        Body::Consth { digits, value, .. } => {
+            let digits = Digits::of(16, *digits, *value);
+            put_token(outbox, sink, digits.bytes())
+        }
+        Body::Justice { operands } => put_ids(outbox, sink, operands.ids()),
+        _ => Ok(()),
+    }
 }
 
 /// Puts the tokens of a form, each behind a space.
@@ -183,121 +257,7 @@ fn put_body<K: Sink>(outbox: &mut Outbox, sink: &mut K, body: &Body) -> Result<(
     ensures puts { Puts result (K.written sink.old) (K.written sink.new) outbox.old outbox.new (behind_spaces (form_tokens body.now)) }
     ensures failures { CountsFaults result (K.failures sink.old) (K.failures sink.new) }
 {
-    match body {
-        Body::Sort { width } => put_form(outbox, sink, b"sort bitvec", &[*width]),
-        Body::Input { sort } => put_form(outbox, sink, b"input", &[u64::from(*sort)]),
-        Body::State { sort } => put_form(outbox, sink, b"state", &[u64::from(*sort)]),
-        Body::Zero { sort } => put_form(outbox, sink, b"zero", &[u64::from(*sort)]),
-        Body::One { sort } => put_form(outbox, sink, b"one", &[u64::from(*sort)]),
-        Body::Ones { sort } => put_form(outbox, sink, b"ones", &[u64::from(*sort)]),
-        Body::Const {
-            sort,
-            digits,
-            value,
-        } => {
-            let digits = Digits::of(2, *digits, *value);
-            put_constant(outbox, sink, b"const", *sort, digits.bytes())
-        }
-        Body::Constd { sort, value } => {
-            let mut buffer = Buffer::new();
-            let number = buffer.format(*value);
-            put_constant(outbox, sink, b"constd", *sort, number.as_bytes())
-        }
-        Body::Consth {
-            sort,
-            digits,
-            value,
-        } => {
-            let digits = Digits::of(16, *digits, *value);
-            put_constant(outbox, sink, b"consth", *sort, digits.bytes())
-        }
-        Body::Uext { sort, operand, by } => put_form(
-            outbox,
-            sink,
-            b"uext",
-            &[u64::from(*sort), u64::from(*operand), *by],
-        ),
-        Body::Sext { sort, operand, by } => put_form(
-            outbox,
-            sink,
-            b"sext",
-            &[u64::from(*sort), u64::from(*operand), *by],
-        ),
-        Body::Slice {
-            sort,
-            operand,
-            upper,
-            lower,
-        } => put_form(
-            outbox,
-            sink,
-            b"slice",
-            &[u64::from(*sort), u64::from(*operand), *upper, *lower],
-        ),
-        Body::Unary {
-            operator,
-            sort,
-            operand,
-        } => put_form(
-            outbox,
-            sink,
-            unary_name(*operator),
-            &[u64::from(*sort), u64::from(*operand)],
-        ),
-        Body::Binary {
-            operator,
-            sort,
-            left,
-            right,
-        } => put_form(
-            outbox,
-            sink,
-            binary_name(*operator),
-            &[u64::from(*sort), u64::from(*left), u64::from(*right)],
-        ),
-        Body::Concat { sort, high, low } => put_form(
-            outbox,
-            sink,
-            b"concat",
-            &[u64::from(*sort), u64::from(*high), u64::from(*low)],
-        ),
-        Body::Ite {
-            sort,
-            condition,
-            first,
-            second,
-        } => put_form(
-            outbox,
-            sink,
-            b"ite",
-            &[
-                u64::from(*sort),
-                u64::from(*condition),
-                u64::from(*first),
-                u64::from(*second),
-            ],
-        ),
-        Body::Init { sort, state, value } => put_form(
-            outbox,
-            sink,
-            b"init",
-            &[u64::from(*sort), u64::from(*state), u64::from(*value)],
-        ),
-        Body::Next { sort, state, value } => put_form(
-            outbox,
-            sink,
-            b"next",
-            &[u64::from(*sort), u64::from(*state), u64::from(*value)],
-        ),
-        Body::Bad { operand } => put_form(outbox, sink, b"bad", &[u64::from(*operand)]),
-        Body::Constraint { operand } => put_form(
-            outbox,
-            sink,
-            b"constraint",
-            &[u64::from(*operand)],
-        ),
-        Body::Fair { operand } => put_form(outbox, sink, b"fair", &[u64::from(*operand)]),
-        Body::Output { operand } => put_form(outbox, sink, b"output", &[u64::from(*operand)]),
-        Body::Justice { operands } => put_justice(outbox, sink, operands),
-    }
+    let numbers = form_numbers(body);
+    put_form(outbox, sink, form_word(body), numbers.values())?;
+    put_rest(outbox, sink, body)
 }

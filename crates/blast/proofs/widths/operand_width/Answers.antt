@@ -1,5 +1,5 @@
-use Rattle.std.proofs.Common.{◌∙◌, sym, arith}
-use Rattle.blast.proofs.WidthLemmas.{bits_of-least, bits_of-most}
+use Rattle.std.proofs.Common.{◌∙◌, arith}
+use Rattle.blast.proofs.WidthLemmas.{bits_of-least}
 use Rattle.blast.proofs.widths.operand_width.Goals as goal
 
 pub returns-else-changed-clause-value : goal.returns-else-changed-clause-value
