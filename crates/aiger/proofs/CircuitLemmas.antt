@@ -86,6 +86,56 @@ defined_kept c n m more has =
       fair = All-weaker (IsDefined n) (IsDefined m) more c.fair has.fair;
     }
 
+-- a list with a literal more or as it was is within the limit and defined, and has each position that it had
+record IsKeptBy (n : Net) (xs ls : List ℕ) : Type 0 where
+  few : length ls ≤ greatest_count
+  defined : All (IsDefined n) ls
+  longer : length xs ≤ length ls
+
+kept_by : (n : Net) (xs : List ℕ) (l : ℕ) (ls : List ℕ) (r : Result (Unit {0}) CircuitFault) → length xs ≤ greatest_count → All (IsDefined n) xs → IsDefined n l → OnOk r (ls ≡ xs ++ l ∷ []) → RefusesBy r (count_refusal (length xs)) → OnErr r (ls ≡ xs) → IsKeptBy n xs ls
+kept_by n xs l ls (Ok x) few all defined ok refused err =
+    let room : length xs < greatest_count = room_from_count (length xs) refused in
+    subst (IsKeptBy n xs) (sym ok)
+    (record { few = omega (arith, length-append xs (l ∷ [])); defined = All-push (IsDefined n) xs l all defined; longer = omega (arith, length-append xs (l ∷ [])) })
+kept_by n xs l ls (Err x) few all defined ok refused err = subst (IsKeptBy n xs) (sym err) (record { few = few; defined = all; longer = omega arith })
+
+module _ (c : Circuit) (l : ℕ) (ls : List ℕ) (r : Result (Unit {0}) CircuitFault) (valid : IsCircuit c) (defined : IsDefined (net c) l) where
+  -- with an output more or as it was
+  pub IsCircuit-output : OnOk r (ls ≡ c.outputs ++ l ∷ []) → RefusesBy r (count_refusal (length c.outputs)) → OnErr r (ls ≡ c.outputs) → IsCircuit (record c { outputs = ls })
+  IsCircuit-output ok refused err =
+      let k = kept_by (net c) c.outputs l ls r valid.few.outputs valid.defined.outputs defined ok refused err in
+      record {
+        small = valid.small;
+        few = record { outputs = k.few; bads = valid.few.bads; constraints = valid.few.constraints; justice = valid.few.justice; justice_literals = valid.few.justice_literals; fair = valid.few.fair };
+        ordered = valid.ordered;
+        defined = record { nexts = valid.defined.nexts; outputs = k.defined; bads = valid.defined.bads; constraints = valid.defined.constraints; justice = valid.defined.justice; fair = valid.defined.fair };
+        names = names_kept c (record c { outputs = ls }) valid.names refl (elim [ section.Input ↦ omega arith | section.Latch ↦ omega arith | section.Output ↦ k.longer | section.Bad ↦ omega arith | section.Constraint ↦ omega arith | section.Justice ↦ omega arith | section.Fair ↦ omega arith ]);
+      }
+
+  -- with a bad property more or as it was
+  pub IsCircuit-bad : OnOk r (ls ≡ c.bads ++ l ∷ []) → RefusesBy r (count_refusal (length c.bads)) → OnErr r (ls ≡ c.bads) → IsCircuit (record c { bads = ls })
+  IsCircuit-bad ok refused err =
+      let k = kept_by (net c) c.bads l ls r valid.few.bads valid.defined.bads defined ok refused err in
+      record {
+        small = valid.small;
+        few = record { outputs = valid.few.outputs; bads = k.few; constraints = valid.few.constraints; justice = valid.few.justice; justice_literals = valid.few.justice_literals; fair = valid.few.fair };
+        ordered = valid.ordered;
+        defined = record { nexts = valid.defined.nexts; outputs = valid.defined.outputs; bads = k.defined; constraints = valid.defined.constraints; justice = valid.defined.justice; fair = valid.defined.fair };
+        names = names_kept c (record c { bads = ls }) valid.names refl (elim [ section.Input ↦ omega arith | section.Latch ↦ omega arith | section.Output ↦ omega arith | section.Bad ↦ k.longer | section.Constraint ↦ omega arith | section.Justice ↦ omega arith | section.Fair ↦ omega arith ]);
+      }
+
+  -- with a constraint more or as it was
+  pub IsCircuit-constraint : OnOk r (ls ≡ c.constraints ++ l ∷ []) → RefusesBy r (count_refusal (length c.constraints)) → OnErr r (ls ≡ c.constraints) → IsCircuit (record c { constraints = ls })
+  IsCircuit-constraint ok refused err =
+      let k = kept_by (net c) c.constraints l ls r valid.few.constraints valid.defined.constraints defined ok refused err in
+      record {
+        small = valid.small;
+        few = record { outputs = valid.few.outputs; bads = valid.few.bads; constraints = k.few; justice = valid.few.justice; justice_literals = valid.few.justice_literals; fair = valid.few.fair };
+        ordered = valid.ordered;
+        defined = record { nexts = valid.defined.nexts; outputs = valid.defined.outputs; bads = valid.defined.bads; constraints = k.defined; justice = valid.defined.justice; fair = valid.defined.fair };
+        names = names_kept c (record c { constraints = ls }) valid.names refl (elim [ section.Input ↦ omega arith | section.Latch ↦ omega arith | section.Output ↦ omega arith | section.Bad ↦ omega arith | section.Constraint ↦ k.longer | section.Justice ↦ omega arith | section.Fair ↦ omega arith ]);
+      }
+
 -- with other justice properties, fairness constraints and names, which are within the limits and defined
 IsCircuit-lists : (c : Circuit) (justice : List (List ℕ)) (fair : List ℕ) (names : NameMap) → IsCircuit c → (length justice ≤ greatest_count) × (sum_by length justice ≤ greatest_count) × (length fair ≤ greatest_count)
     → All (All (IsDefined (net c))) justice → All (IsDefined (net c)) fair → HasNames (record c { justice = justice; fair = fair; names = names }) → IsCircuit (record c { justice = justice; fair = fair; names = names })

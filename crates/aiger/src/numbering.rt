@@ -133,13 +133,7 @@ impl Loose {
     {
         let numbers = self.places(alloc)?;
         let leaves = self.inputs().len() + self.latches().len();
-        let mut slots = Vec::with_capacity(alloc, 2 * self.gates().len())?;
-        for line in self.gates() {
-            let (first, second) = numbers.operand_slots(leaves, *line);
-            slots.push(first)?;
-            slots.push(second)?;
-        }
-        Ok(slots)
+        numbers.gate_slots(alloc, leaves, self.gates())
     }
 }
 

@@ -5,7 +5,7 @@ ghost use Rattle.aiger.specs.Limits.{greatest_count};
 ghost use Rattle.aiger.specs.Literal.{variable};
 ghost use Rattle.aiger.specs.Loose.{latch_variable, gate_variable};
 ghost use Rattle.aiger.specs.Renumbering.{new_literal};
-ghost use Rattle.aiger.specs.Numbering.{IsOnce, name_in, slot_of};
+ghost use Rattle.aiger.specs.Numbering.{IsOnce, name_in, slot_of, slots_of};
 
 use crate::literal::Lit;
 use crate::loose::{GateLine, LatchLine};
@@ -119,8 +119,29 @@ impl Numbers {
         number - 1
     }
 
+    /// For each of these gates the two slots of its operands, where so many first variables are no gates'. The error is
+    /// want of memory.
+    pub fn gate_slots(
+        &self,
+        alloc: Global,
+        leaves: usize,
+        lines: &[GateLine],
+    ) -> Result<Vec<u32>, AllocError>
+        requires few { length self.now ≤ greatest_count }
+        requires lines { length lines.now ≤ greatest_count }
+        ensures { IfOk result (λ v. v.items ≡ slots_of self.now leaves lines.now) }
+    {
+        let mut slots = Vec::with_capacity(alloc, 2 * lines.len())?;
+        for line in lines {
+            let (first, second) = self.operand_slots(leaves, *line);
+            slots.push(first)?;
+            slots.push(second)?;
+        }
+        Ok(slots)
+    }
+
     /// What the operands of a gate wait for.
-    pub fn operand_slots(&self, leaves: usize, line: GateLine) -> (u32, u32)
+    fn operand_slots(&self, leaves: usize, line: GateLine) -> (u32, u32)
         requires { length self.now ≤ greatest_count }
         ensures { result ≡ (slot_of self.now leaves line.rhs0, slot_of self.now leaves line.rhs1) }
     {

@@ -2,7 +2,7 @@
 ghost use Rattle.std.specs.Prelude.{◌≡◌, ℕ, suc, ◌+◌, ◌-◌, ◌*◌, ◌<◌, ◌≤◌, [], ◌∷◌, ◌++◌, ◌&&◌, ◌||◌, length, slice_index_or, nat_lt, nat_eq, IfOk, OnOk, slice_set, if◌then◌else◌};
 ghost use Rattle.std.specs.Ordering.{nat_cmp};
 ghost use Rattle.std.specs.BTreeSet.{contains};
-ghost use Rattle.aiger.specs.Readiness.{AreSlots, HasChains, CountsWaits, waits_for_nothing, IsTaken, IsWholeOrder};
+ghost use Rattle.aiger.specs.Readiness.{AreSlots, HasChains, CountsWaits, waits_for_nothing, IsBetween, IsTaken, IsWholeOrder};
 
 use std::alloc::{AllocError, Global};
 use std::collections::BTreeSet;
@@ -37,15 +37,35 @@ pub fn order_of_readiness(
         Err(_) => return Err(AllocError),
     };
     let mut order = Vec::new(alloc);
+    take_in_turn(&users, &mut waiting, &mut ready, &mut order, &mut marks)?;
+    Ok((order, marks))
+}
+
+/// Puts the gates that are ready into their order, each time the first one, until none is ready.
+fn take_in_turn(
+    users: &Users,
+    waiting: &mut Vec<u8>,
+    ready: &mut BTreeSet<u32>,
+    order: &mut Vec<u32>,
+    marks: &mut Vec<bool>,
+) -> Result<(), AllocError>
+    requires slots { AreSlots users.now.slots.items (length waiting.old.items) }
+    requires chains { HasChains users.now.slots.items (length waiting.old.items) users.now.heads.items users.now.nexts.items }
+    requires between { IsBetween users.now.slots.items (length waiting.old.items) order.old.items waiting.old.items marks.old.items (contains nat_cmp ready.old) }
+    ensures { OnOk result (IsWholeOrder users.now.slots.items (length waiting.old.items) order.new.items marks.new.items) }
+{
     while let Some(gate) = ready.pop_first() {
         match order.push(gate) {
             Ok(()) => {}
             Err(_) => return Err(AllocError),
         }
         marks[gate as usize] = true;
-        release(&users, &order, &mut waiting, &mut ready)?;
+        match release(users, order, waiting, ready) {
+            Ok(()) => {}
+            Err(_) => return Err(AllocError),
+        }
     }
-    Ok((order, marks))
+    Ok(())
 }
 
 /// The chains of slots of each gate.

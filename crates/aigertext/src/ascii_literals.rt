@@ -109,22 +109,34 @@ pub fn push_file_properties<'a>(
     ensures { Takes (λ x. x.now) result (with_properties_of lists.old) lists.new (properties_at counts.now text.now) }
 {
     let greatest = 2 * counts.variables + 1;
-    let rest = push_uses(
+    let rest = match push_uses(
         lists,
         LiteralSection::Output,
         text,
         greatest,
         counts.outputs,
-    )?;
-    let rest = push_uses(lists, LiteralSection::Bad, rest, greatest, counts.bads)?;
-    let sizes = push_uses(
+    ) {
+        Ok(rest) => rest,
+        Err(stop) => return Err(stop),
+    };
+    let rest = match push_uses(lists, LiteralSection::Bad, rest, greatest, counts.bads) {
+        Ok(rest) => rest,
+        Err(stop) => return Err(stop),
+    };
+    let sizes = match push_uses(
         lists,
         LiteralSection::Constraint,
         rest,
         greatest,
         counts.constraints,
-    )?;
-    let (_, listed) = check_sizes(sizes, counts.justice)?;
+    ) {
+        Ok(sizes) => sizes,
+        Err(stop) => return Err(stop),
+    };
+    let (_, listed) = match check_sizes(sizes, counts.justice) {
+        Ok(found) => found,
+        Err(stop) => return Err(stop),
+    };
     let rest = match push_use_lists(alloc, lists, sizes, listed, greatest, counts.justice) {
         Ok(rest) => rest,
         Err(stop) => return Err(stop),

@@ -32,22 +32,34 @@ fn push_properties<'a>(
     ensures { Takes (λ x. x.now) result (with_properties circuit.old) circuit.new (properties_at counts.now text.now) }
 {
     let greatest = 2 * counts.variables + 1;
-    let rest = push_literals(
+    let rest = match push_literals(
         circuit,
         LiteralSection::Output,
         text,
         greatest,
         counts.outputs,
-    )?;
-    let rest = push_literals(circuit, LiteralSection::Bad, rest, greatest, counts.bads)?;
-    let sizes = push_literals(
+    ) {
+        Ok(rest) => rest,
+        Err(stop) => return Err(stop),
+    };
+    let rest = match push_literals(circuit, LiteralSection::Bad, rest, greatest, counts.bads) {
+        Ok(rest) => rest,
+        Err(stop) => return Err(stop),
+    };
+    let sizes = match push_literals(
         circuit,
         LiteralSection::Constraint,
         rest,
         greatest,
         counts.constraints,
-    )?;
-    let (_, listed) = check_sizes(sizes, counts.justice)?;
+    ) {
+        Ok(sizes) => sizes,
+        Err(stop) => return Err(stop),
+    };
+    let (_, listed) = match check_sizes(sizes, counts.justice) {
+        Ok(found) => found,
+        Err(stop) => return Err(stop),
+    };
     let rest = match push_lists(alloc, circuit, sizes, listed, greatest, counts.justice) {
         Ok(rest) => rest,
         Err(stop) => return Err(stop),

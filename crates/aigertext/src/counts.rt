@@ -1,7 +1,7 @@
 //! The numbers of a header.
 
 /// The numbers of a header: the greatest variable, and how many of each section there are.
-#[derive(Clone, Copy, PartialEq, Eq)]
+#[derive(Clone, Copy)]
 pub(crate) struct Counts {
     /// The greatest variable.
     pub(crate) variables: u32,

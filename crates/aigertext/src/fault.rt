@@ -106,7 +106,7 @@ pub struct ReadFault {
 }
 
 /// Where reading stopped: how many bytes of the text are left from the faulty line or delta on, and what is wrong.
-#[derive(Clone, Copy, PartialEq, Eq)]
+#[derive(Clone, Copy)]
 pub(crate) struct Stop {
     /// The bytes left.
     pub(crate) left: usize,

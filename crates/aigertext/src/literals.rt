@@ -12,7 +12,7 @@ use crate::front::{literal_line, stop};
 use aiger::{Circuit, CircuitFault, Lit};
 
 /// The sections that are lists of literals.
-#[derive(Clone, Copy, PartialEq, Eq)]
+#[derive(Clone, Copy)]
 pub(crate) enum LiteralSection {
     /// The outputs.
     Output,

@@ -1,45 +1,17 @@
-use Rattle.std.proofs.Common.{◌≡◌, ◌<◌, ℕ, Bool, true, false, not, length, slice_set, arith, List, [], ◌∷◌, ◌++◌, ap, sym, subst, ◌∙◌, length-append, refl}
-use Rattle.std.specs.Ordering.{nat_cmp}
-use Rattle.std.specs.BTreeSet.{contains}
-use Rattle.std.specs.List.{count_by, list_any}
-use Rattle.aiger.specs.Readiness.{IsTaken, IsWholeOrder, FollowInTurn, MarksDone, CountsWaits, waits_for_nothing, may_be_next}
-use Rattle.aiger.proofs.ReadinessLemmas.{taken, may_be_next_is}
+use Rattle.std.proofs.Common.{ℕ, List, length, sym, subst}
+use Rattle.aiger.specs.Readiness.{AreSlots, HasChains, IsWholeOrder}
 use Rattle.aiger.proofs.readiness.order_of_readiness.Goals as goal
 
--- no test passes in an empty list
-none_in_empty : (p : ℕ → Bool) (xs : List ℕ) → (0 < length xs → ⊥) → list_any p xs ≡ false
-none_in_empty p [] h = refl
-none_in_empty p (x ∷ xs) h = absurd (h (omega arith))
+pub take_in_turn-requires-clause-slots : goal.take_in_turn-requires-clause-slots
+take_in_turn-requires-clause-slots c =
+    subst (AreSlots c.in_ok-users.users.slots.items) (sym c.in_ok-waiting.ensures.count) (subst (λ (slots : List ℕ). AreSlots slots c.args.gates) (sym c.in_ok-users.ensures.slots) c.requires)
 
-pub release-requires-clause-taken : goal.release-requires-clause-taken
-release-requires-clause-taken c =
-    let t = taken c.in_ok-users.users.slots.items c.args.gates c.loop-gate.order.items c.loop-gate.waiting.items c.loop-gate.marks.items (contains nat_cmp c.loop-gate.ready) (contains nat_cmp c.pop_first.new.self) c.in-Some.gate c.loop-gate.invariant c.in-Some.ensures.member c.in-Some.ensures.least c.in-Some.ensures.updates.0 in
-    let o : c.deref-in-Some.result.now ≡ c.loop-gate.order.items ++ c.in-Some.gate ∷ [] = c.deref-in-Some.ensures.value ∙ c.in-Ok-push.ensures.items in
-    subst (λ (m : ℕ). IsTaken c.in_ok-users.users.slots.items m c.deref-in-Some.result.now c.loop-gate.waiting.items (contains nat_cmp c.pop_first.new.self)) (sym c.loop-gate.invariant.waits.count)
-    (subst (λ (x : List ℕ). IsTaken c.in_ok-users.users.slots.items c.args.gates x c.loop-gate.waiting.items (contains nat_cmp c.pop_first.new.self)) (sym o) t.0)
-
-pub loop-gate-smaller : goal.loop-gate-smaller
-loop-gate-smaller c =
-    let t = taken c.in_ok-users.users.slots.items c.args.gates c.loop-gate.order.items c.loop-gate.waiting.items c.loop-gate.marks.items (contains nat_cmp c.loop-gate.ready) (contains nat_cmp c.pop_first.new.self) c.in-Some.gate c.loop-gate.invariant c.in-Some.ensures.member c.in-Some.ensures.least c.in-Some.ensures.updates.0 in
-    let less : count_by not (slice_set c.loop-gate.marks.items c.in-Some.gate true) < count_by not c.loop-gate.marks.items = omega (arith, t.2.left, c.loop-gate.invariant.marked.left, length-append c.loop-gate.order.items (c.in-Some.gate ∷ [])) in
-    less
-
-pub loop-gate-preserved : goal.loop-gate-preserved
-loop-gate-preserved c =
-    let t = taken c.in_ok-users.users.slots.items c.args.gates c.loop-gate.order.items c.loop-gate.waiting.items c.loop-gate.marks.items (contains nat_cmp c.loop-gate.ready) (contains nat_cmp c.pop_first.new.self) c.in-Some.gate c.loop-gate.invariant c.in-Some.ensures.member c.in-Some.ensures.least c.in-Some.ensures.updates.0 in
-    let o : c.push.new.self.items ≡ c.loop-gate.order.items ++ c.in-Some.gate ∷ [] = c.in-Ok-push.ensures.items in
-    let v : c.deref-in-Some.result.now ≡ c.push.new.self.items = c.deref-in-Some.ensures.value in
-    record {
-      waits = subst (λ (m : ℕ). CountsWaits c.in_ok-users.users.slots.items m c.push.new.self.items c.release.new.waiting.items) c.loop-gate.invariant.waits.count (subst (λ (x : List ℕ). CountsWaits c.in_ok-users.users.slots.items (length c.loop-gate.waiting.items) x c.release.new.waiting.items) v c.in_ok-release.ensures.waits);
-      marked = subst (λ (x : List ℕ). MarksDone c.args.gates x (slice_set c.loop-gate.marks.items c.in-Some.gate true)) (sym o) t.2;
-      ready = λ i. c.in_ok-release.ensures.ready i ∙ (ap (λ (x : List ℕ). waits_for_nothing (length c.loop-gate.waiting.items) x c.release.new.waiting.items i) v ∙ ap (λ (m : ℕ). waits_for_nothing m c.push.new.self.items c.release.new.waiting.items i) c.loop-gate.invariant.waits.count);
-      in_turn = subst (λ (x : List ℕ). FollowInTurn c.in_ok-users.users.slots.items c.args.gates [] x) (sym o) t.1;
-    }
+pub take_in_turn-requires-clause-chains : goal.take_in_turn-requires-clause-chains
+take_in_turn-requires-clause-chains c =
+    subst (λ (n : ℕ). HasChains c.in_ok-users.users.slots.items n c.in_ok-users.users.heads.items c.in_ok-users.users.nexts.items) (sym c.in_ok-waiting.ensures.count)
+    (subst (λ (slots : List ℕ). HasChains slots c.args.gates c.in_ok-users.users.heads.items c.in_ok-users.users.nexts.items) (sym c.in_ok-users.ensures.slots) c.in_ok-users.ensures.chains)
 
 pub returns : goal.returns
 returns c =
-    let s : c.in_ok-users.users.slots.items ≡ c.args.slots.items = c.in_ok-users.ensures.slots in
-    let whole : (j : ℕ) → may_be_next c.in_ok-users.users.slots.items c.args.gates c.loop-gate.order.items j ≡ false = λ j.
-    may_be_next_is c.in_ok-users.users.slots.items c.args.gates c.loop-gate.order.items c.loop-gate.waiting.items c.loop-gate.invariant.waits j ∙ (sym (c.loop-gate.invariant.ready j) ∙ none_in_empty _ c.loop-gate.ready.keys (λ h. let z : false ≡ true = c.in_default.ensures.variant.1 h in cc)) in
-    subst (λ (x : List ℕ). IsWholeOrder x c.args.gates c.loop-gate.order.items c.loop-gate.marks.items) s
-    (record { in_turn = c.loop-gate.invariant.in_turn; marked = c.loop-gate.invariant.marked; whole = whole })
+    subst (λ (n : ℕ). IsWholeOrder c.args.slots.items n c.take_in_turn.new.order.items c.take_in_turn.new.marks.items) c.in_ok-waiting.ensures.count
+    (subst (λ (slots : List ℕ). IsWholeOrder slots (length c.in_ok-waiting.waiting.items) c.take_in_turn.new.order.items c.take_in_turn.new.marks.items) c.in_ok-users.ensures.slots c.in_ok-take_in_turn.ensures)
