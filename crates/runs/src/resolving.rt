@@ -1,15 +1,14 @@
 //! What a run keeps of its model: each id resolved once.
-ghost use Rattle.std.specs.Prelude.{◌≡◌, ◌≢◌, ℕ, ◌<◌, ◌≤◌, true, Some, map, length, is_some, slice_get, slice_index, option_copied, All, IfOk};
+ghost use Rattle.std.specs.Prelude.{◌≡◌, ℕ, ◌<◌, ◌≤◌, true, Some, map, length, is_some, slice_get, slice_index, option_copied, IfOk};
 ghost use Rattle.btor2.specs.Items.{is_state};
 ghost use Rattle.btor2.specs.Check.{IsWellFormed};
 ghost use Rattle.btor2.specs.Lists.{places};
 ghost use Rattle.runs.specs.Frames.{has_value, of_kind, ids_of};
-ghost use Rattle.runs.specs.Nodes.{slot, node_of, property_slot, words_at};
+ghost use Rattle.runs.specs.Nodes.{slot, node_of, property_slot};
 ghost use Rattle.runs.specs.Holds.{next_slot, AreSlotsOf};
 ghost use Rattle.runs.specs.Run.{first_word, property_at};
 
 use crate::nodes::{Node, node_of, operand};
-use crate::passes::put_words;
 use btor2::{Body, Item, Model};
 use std::alloc::{AllocError, Global};
 
@@ -188,23 +187,4 @@ pub(crate) fn run_slots(alloc: Global, model: &Model, slots: &[usize]) -> Result
         bads,
         constraints,
     })
-}
-
-/// The words that so many nodes begin with: some words at the slots of the states, and else 0.
-pub(crate) fn first_values(
-    alloc: Global,
-    count: usize,
-    words: &[u64],
-    states: &[usize],
-) -> Result<Vec<u64>, AllocError>
-    requires inside { All (λ p. p < count) states.now }
-    requires as_many { length words.now ≡ length states.now }
-    requires once { (j k : ℕ) → j < k → k < length states.now → slice_index states.now j ≢ slice_index states.now k }
-    ensures put { IfOk result (λ v. words_at v.items states.now ≡ words.now) }
-    ensures others { IfOk result (λ v. (p : ℕ) → p < count → ((k : ℕ) → k < length states.now → slice_index states.now k ≢ p) → slice_index v.items p ≡ 0) }
-    ensures as_many { IfOk result (λ v. length v.items ≡ count) }
-{
-    let mut values = vec![in alloc; 0; count]?;
-    put_words(words, states, &mut values);
-    Ok(values)
 }

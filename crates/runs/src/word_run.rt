@@ -11,7 +11,7 @@ ghost use Rattle.runs.specs.Refusal.{AnswersNew};
 use crate::fault::NewFault;
 use crate::nodes::Node;
 use crate::passes::{clear_words, put_words, settle_nodes, take_words};
-use crate::resolving::{first_values, first_words, node_slots, resolved_nodes, run_slots};
+use crate::resolving::{first_words, node_slots, resolved_nodes, run_slots};
 use base::Tally;
 use btor2::Model;
 use std::alloc::{AllocError, Global};
@@ -61,9 +61,10 @@ impl<'a> WordRun<'a> {
     {
         let slots = node_slots(alloc, model)?;
         let nodes = resolved_nodes(alloc, model, &slots)?;
-        let named = run_slots(alloc, model, &slots)?;
         let next_values = first_words(alloc, model)?;
-        let values = first_values(alloc, nodes.len(), &next_values, &named.states)?;
+        let mut values = vec![in alloc; 0; nodes.len()]?;
+        let named = run_slots(alloc, model, &slots)?;
+        put_words(&next_values, &named.states, &mut values);
         Ok(WordRun {
             model,
             nodes,

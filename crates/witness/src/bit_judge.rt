@@ -179,9 +179,9 @@ impl<'a> BitJudge<'a> {
         self.take_all(bytes);
     }
 
-    /// The judgement of the text: of every one that the judge stands for.
-    pub fn finish(self) -> Judgement
-        ensures { (c : Circuit) (text : List ℕ) → StandsFor c self.entry text → BitJudges c text result }
+    /// The judgement of the text so far: of every one that the judge stands for.
+    fn judgement(&self) -> Judgement
+        ensures { (c : Circuit) (text : List ℕ) → StandsFor c self.now text → BitJudges c text result }
     {
         if self.no_claim {
             return Judgement::NoClaim;
@@ -195,6 +195,13 @@ impl<'a> BitJudge<'a> {
             return Judgement::Malformed { line, why };
         }
         judgement_of(self.reader.play(), self.reader.claim())
+    }
+
+    /// The judgement of the text: of every one that the judge stands for.
+    pub fn finish(self) -> Judgement
+        ensures { (c : Circuit) (text : List ℕ) → StandsFor c self.entry text → BitJudges c text result }
+    {
+        self.judgement()
     }
 
     /// How many bits the judge's run holds: one for 0 and each variable, and one for each latch.

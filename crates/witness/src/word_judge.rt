@@ -225,9 +225,9 @@ impl<'a> WordJudge<'a> {
         self.take_all(rest);
     }
 
-    /// The judgement of the text: of every one that the judge stands for.
-    pub fn finish(self) -> Judgement
-        ensures { (items : List Item) (text : List ℕ) → StandsFor items self.entry text → Judges items text result }
+    /// The judgement of the text so far: of every one that the judge stands for.
+    fn judgement(&self) -> Judgement
+        ensures { (items : List Item) (text : List ℕ) → StandsFor items self.now text → Judges items text result }
     {
         if self.no_claim {
             return Judgement::NoClaim;
@@ -241,6 +241,13 @@ impl<'a> WordJudge<'a> {
             return Judgement::Malformed { line, why };
         }
         judgement_of(self.reader.play(), self.reader.unreached())
+    }
+
+    /// The judgement of the text: of every one that the judge stands for.
+    pub fn finish(self) -> Judgement
+        ensures { (items : List Item) (text : List ℕ) → StandsFor items self.entry text → Judges items text result }
+    {
+        self.judgement()
     }
 
     /// How many words the judge's run holds: one for each node with a value, and one for each state.

@@ -1,12 +1,14 @@
-use Rattle.std.proofs.Common.{◌≡◌, ◌≢◌, ◌<◌, ℕ, List, length, get_or, ap, sym, subst, ◌∙◌, arith}
+use Rattle.std.proofs.Common.{◌≡◌, ◌≢◌, ◌<◌, ℕ, List, length, get_or, replicate, ap, sym, subst, ◌∙◌, arith}
+use Rattle.std.proofs.lemmas.List.{with_items_is, length-replicate, get_or-replicate}
+use Rattle.std.specs.Vec.{with_items}
 use Rattle.runs.specs.Nodes.{words_at}
 use Rattle.runs.proofs.InvariantLemmas.{run_same}
 use Rattle.runs.proofs.StartLemmas.{NewLists, Starts, start_inside, start_many, start_once, starts}
 use Rattle.runs.proofs.word_run.WordRun.resolved.Goals as goal
-use Rattle.runs.proofs.word_run.WordRun.resolved.Goals.{After-deref-4, In_ok-values}
+use Rattle.runs.proofs.word_run.WordRun.resolved.Goals.{After-deref_mut, After-put_words}
 
 -- the lists of a new run
-new_lists : (c : After-deref-4)
+new_lists : (c : After-deref_mut)
     → NewLists c.args.model.now c.in_ok-nodes.nodes.items c.in_ok-slots.slots.items c.in_ok-named.named.states.items c.in_ok-named.named.inputs.items c.in_ok-named.named.nexts.items c.in_ok-named.named.bads.items c.in_ok-named.named.constraints.items
     c.in_ok-next_values.next_values.items
 new_lists c =
@@ -22,36 +24,44 @@ new_lists c =
       are_first = c.in_ok-next_values.ensures;
     }
 
-many : (c : After-deref-4) → c.len.result ≡ length c.in_ok-nodes.nodes.items
-many c = omega (arith, c.in_ok-nodes.nodes.ok.0)
+-- the words before the states' are put
+zeros_are : (c : After-deref_mut) → c.deref_mut.result.now ≡ replicate (length c.in_ok-nodes.nodes.items) 0
+zeros_are c =
+    let many : c.len.result ≡ length c.in_ok-nodes.nodes.items = omega (arith, c.in_ok-nodes.nodes.ok.0) in
+    c.deref_mut.ensures.value ∙ c.in_ok-values.ensures.items_if_clones_equal (λ y same. same) ∙ ap (λ (n : ℕ). replicate n 0) many
 
-pub first_values-requires-clause-inside : goal.first_values-requires-clause-inside
-first_values-requires-clause-inside c = rw (c.deref-4.ensures.value, many c) (start_inside _ _ _ _ _ _ _ _ _ (new_lists c))
+zeros_many : (c : After-deref_mut) → length c.deref_mut.result.now ≡ length c.in_ok-nodes.nodes.items
+zeros_many c = ap length (zeros_are c) ∙ length-replicate (length c.in_ok-nodes.nodes.items) 0
 
-pub first_values-requires-clause-as_many : goal.first_values-requires-clause-as_many
-first_values-requires-clause-as_many c = rw (c.deref-3.ensures.value, c.deref-4.ensures.value) (start_many _ _ _ _ _ _ _ _ _ (new_lists c))
+pub put_words-requires-clause-inside : goal.put_words-requires-clause-inside
+put_words-requires-clause-inside c = rw (c.deref-4.ensures.value, zeros_many c) (start_inside _ _ _ _ _ _ _ _ _ (new_lists c))
 
-pub first_values-requires-clause-once : goal.first_values-requires-clause-once
-first_values-requires-clause-once c = rw (c.deref-4.ensures.value) (start_once _ _ _ _ _ _ _ _ _ (new_lists c))
+pub put_words-requires-clause-as_many : goal.put_words-requires-clause-as_many
+put_words-requires-clause-as_many c = rw (c.deref-3.ensures.value, c.deref-4.ensures.value) (start_many _ _ _ _ _ _ _ _ _ (new_lists c))
 
-begun : (c : In_ok-values)
+pub put_words-requires-clause-once : goal.put_words-requires-clause-once
+put_words-requires-clause-once c = rw (c.deref-4.ensures.value) (start_once _ _ _ _ _ _ _ _ _ (new_lists c))
+
+begun : (c : After-put_words)
     → NewLists c.args.model.now c.in_ok-nodes.nodes.items c.in_ok-slots.slots.items c.in_ok-named.named.states.items c.in_ok-named.named.inputs.items c.in_ok-named.named.nexts.items c.in_ok-named.named.bads.items c.in_ok-named.named.constraints.items
     c.in_ok-next_values.next_values.items
-    → c.len.result ≡ length c.in_ok-nodes.nodes.items
+    → c.deref_mut.result.now ≡ replicate (length c.in_ok-nodes.nodes.items) 0
     → Starts c.args.model.now c.in_ok-nodes.nodes.items c.in_ok-slots.slots.items c.in_ok-named.named.states.items c.in_ok-named.named.inputs.items c.in_ok-named.named.nexts.items c.in_ok-named.named.bads.items c.in_ok-named.named.constraints.items
-    c.in_ok-values.values.items c.in_ok-next_values.next_values.items
-begun c m e =
-    starts _ _ _ _ _ _ _ _ _ m c.in_ok-values.values.items (ap (words_at c.in_ok-values.values.items) (sym c.deref-4.ensures.value) ∙ c.in_ok-values.ensures.put ∙ c.deref-3.ensures.value)
-    (λ p inside apart. c.in_ok-values.ensures.others p (subst (λ (n : ℕ). p < n) (sym e) inside) (subst (λ (l : List ℕ). (j : ℕ) → j < length l → get_or l j 0 ≢ p) (sym c.deref-4.ensures.value) apart))
-    (c.in_ok-values.ensures.as_many ∙ e)
+    (with_items c.in_ok-values.values c.put_words.new.values).items c.in_ok-next_values.next_values.items
+begun c m zeros =
+    let put = with_items_is c.in_ok-values.values c.put_words.new.values (omega arith) in
+    rw put
+    (starts _ _ _ _ _ _ _ _ _ m c.put_words.new.values (ap (words_at c.put_words.new.values) (sym c.deref-4.ensures.value) ∙ c.put_words.ensures.put ∙ c.deref-3.ensures.value)
+    (λ p inside apart. c.put_words.ensures.others p (subst (λ (l : List ℕ). (j : ℕ) → j < length l → get_or l j 0 ≢ p) (sym c.deref-4.ensures.value) apart) ∙ ap (λ (l : List ℕ). get_or l p 0) zeros ∙ get_or-replicate (length c.in_ok-nodes.nodes.items) p 0 0 inside)
+    (c.put_words.ensures.as_many ∙ ap length zeros ∙ length-replicate (length c.in_ok-nodes.nodes.items) 0))
 
 pub invariant_of-result : goal.invariant_of-result
 invariant_of-result c =
-    let made = (goal.at.invariant_of-result c).After-deref-4 in
-    (begun c (new_lists made) (many made)).keeps
+    let made = (goal.at.invariant_of-result c).After-deref_mut in
+    (begun (goal.at.invariant_of-result c).After-put_words (new_lists made) (zeros_are made)).keeps
 
 pub returns : goal.returns
 returns c =
-    let made = (goal.at.returns c).After-deref-4 in
-    let begin = begun c (new_lists made) (many made) in
+    let made = (goal.at.returns c).After-deref_mut in
+    let begin = begun (goal.at.returns c).After-put_words (new_lists made) (zeros_are made) in
     run_same _ _ _ _ _ _ _ _ begin.first_words begin.no_inputs c.requires.none

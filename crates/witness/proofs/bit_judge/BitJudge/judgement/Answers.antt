@@ -7,7 +7,7 @@ use Rattle.witness.specs.BitAdmits.{is_done}
 use Rattle.witness.specs.BitJudgements.{BitJudges}
 use Rattle.witness.specs.BitStands.{BitJudge, StandsFor, judgement_of, place_of}
 use Rattle.witness.proofs.BitFinishLemmas.{refused_line, refused_last, whole_text}
-use Rattle.witness.proofs.bit_judge.BitJudge.finish.Goals as goal
+use Rattle.witness.proofs.bit_judge.BitJudge.judgement.Goals as goal
 
 pub returns-in-Some : goal.returns-in-Some
 returns-in-Some c circuit text stands =

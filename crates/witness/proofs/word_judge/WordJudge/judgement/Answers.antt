@@ -7,7 +7,7 @@ use Rattle.witness.specs.Judgements.{Judges}
 use Rattle.witness.specs.WordPlays.{WordPlay}
 use Rattle.witness.specs.WordStands.{WordJudge, StandsFor, place_of, judgement_of}
 use Rattle.witness.proofs.WordFinishLemmas.{refused_line, refused_last, whole_text}
-use Rattle.witness.proofs.word_judge.WordJudge.finish.Goals as goal
+use Rattle.witness.proofs.word_judge.WordJudge.judgement.Goals as goal
 
 pub returns-in-Some : goal.returns-in-Some
 returns-in-Some c items text stands =
