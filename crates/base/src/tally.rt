@@ -31,6 +31,17 @@ impl Tally {
         self.count
     }
 
+    /// The steps so far, in a tally of their own, which a pass over a list counts on in a local place and puts back at its
+    /// end; here none are left meanwhile.
+    pub fn taken(&mut self) -> Tally
+        ensures taken { result ≡ self.old }
+        ensures left { self.new ≡ 0 }
+    {
+        let count = self.count;
+        self.count = 0;
+        Tally { count }
+    }
+
     pub(crate) fn step(&mut self)
         ensures { self.new ≡ one_more self.old }
     {

@@ -25,9 +25,11 @@ pub(crate) fn take_inputs(count: usize, bits: &mut [bool], tally: &mut Tally)
     ensures bits { bits.new ≡ bits.old }
     ensures steps { tally.new ≡ more_steps count tally.old }
 {
+    let mut steps = tally.taken();
     for k in 0..count {
-        bits[1 + k] = base::take(bits[1 + k], tally);
+        bits[1 + k] = base::take(bits[1 + k], &mut steps);
     }
+    *tally = steps;
 }
 
 /// Gives each gate its bit, from those before it; `first` is the variable of the first gate. One step for each.
@@ -41,12 +43,14 @@ pub(crate) fn settle_gates(gates: &[Gate], first: usize, bits: &mut [bool], tall
     ensures as_many { length bits.new ≡ length bits.old }
     ensures steps { tally.new ≡ more_steps (length gates.now) tally.old }
 {
+    let mut steps = tally.taken();
     for k in 0..gates.len() {
         let gate = &gates[k];
         let left = literal_bit(bits, gate.rhs0);
         let right = literal_bit(bits, gate.rhs1);
-        bits[first + k] = base::gate(left, right, tally);
+        bits[first + k] = base::gate(left, right, &mut steps);
     }
+    *tally = steps;
 }
 
 /// Takes the bit of a latch's next literal as the `k`-th of those taken. One step.
@@ -69,9 +73,11 @@ pub(crate) fn take_nexts(latches: &[Latch], bits: &[bool], taken: &mut [bool], t
     ensures as_many { length taken.new ≡ length taken.old }
     ensures steps { tally.new ≡ more_steps (length latches.now) tally.old }
 {
+    let mut steps = tally.taken();
     for (k, latch) in latches.iter().enumerate() {
-        take_next(latch, bits, k, taken, tally);
+        take_next(latch, bits, k, taken, &mut steps);
     }
+    *tally = steps;
 }
 
 /// The bit that a latch begins with.

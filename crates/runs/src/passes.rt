@@ -13,9 +13,11 @@ pub(crate) fn settle_nodes(nodes: &[Node], values: &mut [u64], tally: &mut Tally
     ensures values { values.new ≡ settled_values nodes.now 0 values.old }
     ensures steps { tally.new ≡ more_steps (length nodes.now) tally.old }
 {
+    let mut steps = tally.taken();
     for at in 0..nodes.len() {
-        values[at] = node_word(&nodes[at], values, at, tally);
+        values[at] = node_word(&nodes[at], values, at, &mut steps);
     }
+    *tally = steps;
 }
 
 /// The word at a place, where there is a place, and else 0.
@@ -41,9 +43,11 @@ pub(crate) fn take_words(
     ensures taken { taken.new ≡ map (word_where values.now) places.now }
     ensures steps { tally.new ≡ more_steps (length places.now) tally.old }
 {
+    let mut steps = tally.taken();
     for k in 0..places.len() {
-        taken[k] = base::take(word_where(values, places[k]), tally);
+        taken[k] = base::take(word_where(values, places[k]), &mut steps);
     }
+    *tally = steps;
 }
 
 /// Puts words at some places, each of which stands there once.

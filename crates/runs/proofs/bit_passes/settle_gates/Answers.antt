@@ -3,7 +3,7 @@ use Rattle.runs.proofs.BitPassLemmas.{gate_below, SettlingGates-begin, SettlingG
 use Rattle.runs.proofs.bit_passes.settle_gates.Goals as goal
 
 pub loop-k-init : goal.loop-k-init
-loop-k-init c = SettlingGates-begin c.args.gates.now c.args.first c.args.bits.now c.args.tally.now
+loop-k-init c = rw c.taken-steps.ensures.taken (SettlingGates-begin c.args.gates.now c.args.first c.args.bits.now c.args.tally.now)
 
 pub literal_bit-left-requires-clause-inside : goal.literal_bit-left-requires-clause-inside
 literal_bit-left-requires-clause-inside c =

@@ -6,5 +6,5 @@ abbrev pub invariant-loop-k : goal.invariant-loop-k
 invariant-loop-k l =
     record {
       bits : l.bits ≡ l.fn.bits;
-      steps : l.tally ≡ more_steps l.k l.fn.tally;
+      steps : l.steps ≡ more_steps l.k l.fn.tally;
     }

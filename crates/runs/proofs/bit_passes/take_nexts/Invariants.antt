@@ -10,5 +10,5 @@ invariant-loop-k l =
     record {
       taken : (j : ℕ) (d : Latch) → j < l.k → get_or l.taken j false ≡ literal_value (valuation_of l.bits) (get_or l.latches j d).next;
       as_many : length l.taken ≡ length l.fn.taken;
-      steps : l.tally ≡ more_steps l.k l.fn.tally;
+      steps : l.steps ≡ more_steps l.k l.fn.tally;
     }

@@ -4,7 +4,7 @@ use Rattle.runs.proofs.PassLemmas.{Settling-begin, Settling-fits, Settling-more,
 use Rattle.runs.proofs.passes.settle_nodes.Goals as goal
 
 pub loop-at-init : goal.loop-at-init
-loop-at-init c = Settling-begin c.args.nodes.now c.args.values.now c.args.tally.now c.requires.fit c.requires.as_many
+loop-at-init c = rw c.taken-steps.ensures.taken (Settling-begin c.args.nodes.now c.args.values.now c.args.tally.now c.requires.fit c.requires.as_many)
 
 pub node_word-requires : goal.node_word-requires
 node_word-requires c = Settling-fits _ _ _ _ _ _ _ c.loop-at.invariant c.loop-at-test.true c.index-nodes-at.is
