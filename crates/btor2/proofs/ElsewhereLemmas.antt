@@ -1,9 +1,9 @@
 -- The positions of ids that are not in place, once one more item is added.
-use Rattle.std.proofs.Common.{◌≡◌, ℕ, zero, suc, ◌+◌, ◌-◌, Bool, true, false, not, ◌&&◌, cond, nat_eq, eq-eqb, List, [], ◌∷◌, ◌++◌, length, Option, Some, None, slice_get, refl, sym, ap, ap₂, ◌∙◌, append-nil, ⊎_elim}
+use Rattle.std.proofs.Common.{◌≡◌, ℕ, zero, suc, ◌+◌, ◌-◌, ◌≤◌, Bool, true, false, not, ◌&&◌, cond, nat_eq, eq-eqb, eqb-true, List, [], ◌∷◌, ◌++◌, length, length-append, Option, Some, None, slice_get, refl, sym, ap, ap₂, subst, ◌∙◌, append-nil, ⊎_elim, arith}
 use Rattle.std.specs.List.{position_from}
 use Rattle.std.specs.Option.{option_map_or}
 use Rattle.std.proofs.lemmas.Bool.{ne_eqb, cases_eq, false_from_ne_true}
-use Rattle.std.proofs.lemmas.Option.{same_Some}
+use Rattle.std.proofs.lemmas.Option.{none-some, same_Some}
 use Rattle.btor2.specs.declared.item.Item.{Item}
 use Rattle.btor2.specs.Items.{find_item, position_of}
 use Rattle.btor2.specs.Check.{refusal, IsWellFormed}
@@ -88,3 +88,50 @@ elsewhere-push xs x id h r =
     let other = ne_eqb id x.id differs in
     rw other (second_of_two (not (nat_eq (x.id - 1) (length xs))) (Some (length xs)) (position_elsewhere xs id)) ∙ sym (elsewhere-other xs x id other))
     (cases_eq id x.id)
+
+-- ---- the first items
+
+-- an item in place stays so
+in_place_stays : (xs : List Item) (x : Item) (id : ℕ) → IsWellFormed xs → refusal xs x ≡ None → is_in_place xs id ≡ true → is_in_place (xs ++ x ∷ []) id ≡ true
+in_place_stays xs x id h r placed =
+    ⊎_elim
+    (λ (same : id ≡ x.id).
+    let none = position_of-none xs id (ap (find_item xs) same ∙ (IsAccepted-from_refusal xs x r).fresh) in
+    absurd (none-some (id - 1) (sym none ∙ position-in_place xs id h placed)))
+    (λ differs. place-other xs x id (id - 1) (ne_eqb id x.id differs) ∙ placed)
+    (cases_eq id x.id)
+
+-- how many of the first items are in place, with one more
+more_front : (xs : List Item) (x : Item) (old : ℕ) (b c : Bool) → nat_eq old (length xs) ≡ b → nat_eq (x.id - 1) (length xs) ≡ c → IsWellFormed xs → refusal xs x ≡ None
+    → ((id : ℕ) → 1 ≤ id → id ≤ old → is_in_place xs id ≡ true) → (id : ℕ) → 1 ≤ id → id ≤ cond (b && c) (old + 1) old → is_in_place (xs ++ x ∷ []) id ≡ true
+more_front xs x old true true at own h r before id least most =
+    let last : old ≡ length xs = eqb-true old (length xs) at in
+    let place : x.id - 1 ≡ length xs = eqb-true (x.id - 1) (length xs) own in
+    ⊎_elim
+    (λ (same : id ≡ x.id). ap (is_in_place (xs ++ x ∷ [])) same ∙ own_place xs x (IsWellFormed-push xs x h r) ∙ own)
+    (λ differs.
+    let positive = (IsAccepted-from_refusal xs x r).least in
+    let below : id ≤ old = omega arith in
+    in_place_stays xs x id h r (before id least below))
+    (cases_eq id x.id)
+more_front xs x old true false at own h r before id least most = in_place_stays xs x id h r (before id least most)
+more_front xs x old false c at own h r before id least most = in_place_stays xs x id h r (before id least most)
+
+pub front-added : (xs ys : List Item) (x : Item) (place old new : ℕ) → IsWellFormed xs → refusal xs x ≡ None → ys ≡ xs ++ x ∷ [] → place ≡ length xs
+    → ((id : ℕ) → 1 ≤ id → id ≤ old → is_in_place xs id ≡ true) → new ≡ cond (nat_eq old place && nat_eq (x.id - 1) place) (old + 1) old
+    → (id : ℕ) → 1 ≤ id → id ≤ new → is_in_place ys id ≡ true
+front-added xs ys x place old new h r e at before after id least most =
+    let is : new ≡ cond (nat_eq old (length xs) && nat_eq (x.id - 1) (length xs)) (old + 1) old = after ∙ ap (λ (k : ℕ). cond (nat_eq old k && nat_eq (x.id - 1) k) (old + 1) old) at in
+    ap (λ (l : List Item). is_in_place l id) e ∙ more_front xs x old (nat_eq old (length xs)) (nat_eq (x.id - 1) (length xs)) refl refl h r before id least (subst (λ (k : ℕ). id ≤ k) is most)
+
+few_more : (b c : Bool) (old n : ℕ) → nat_eq old n ≡ b → old ≤ n → cond (b && c) (old + 1) old ≤ n + 1
+few_more true true old n at le = omega arith
+few_more true false old n at le = omega arith
+few_more false c old n at le = omega arith
+
+pub few-added : (xs ys : List Item) (x : Item) (place old new : ℕ) → ys ≡ xs ++ x ∷ [] → place ≡ length xs → old ≤ length xs
+    → new ≡ cond (nat_eq old place && nat_eq (x.id - 1) place) (old + 1) old → new ≤ length ys
+few-added xs ys x place old new e at before after =
+    let le = few_more (nat_eq old place) (nat_eq (x.id - 1) place) old place refl (omega arith) in
+    let longer : length ys ≡ length xs + 1 = ap length e ∙ length-append xs (x ∷ []) in
+    omega (arith, longer, le)

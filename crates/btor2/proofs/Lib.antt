@@ -2,6 +2,7 @@ pub mod LookUps
 pub mod AppendLemmas
 pub mod AcceptedLemmas
 pub mod ModelLemmas
+pub mod EntryLemmas
 pub mod ElsewhereLemmas
 pub mod NextLemmas
 pub mod PushLemmas

@@ -5,6 +5,7 @@ pub mod Parts
 pub mod Items
 pub mod Check
 pub mod Lists
+pub mod Entries
 pub mod Index
 pub mod Trace
 pub mod Worked

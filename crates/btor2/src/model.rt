@@ -1,16 +1,19 @@
 //! Models: checked lists of items, with what is read of them.
-ghost use Rattle.std.specs.Prelude.{◌≡◌, ◌<◌, ◌≤◌, ◌-◌, IfSome, [], length, option_copied, slice_get, slice_index};
-ghost use Rattle.btor2.specs.Items.{find_item, position_of, sort_width, node_width, width_of_body, constant_of, constant_of_body, names_state, init_value, next_value, is_input, is_state, is_bad, is_constraint};
+ghost use Rattle.std.specs.Prelude.{◌≡◌, ◌<◌, ◌≤◌, ◌-◌, IfSome, [], length, option_and_then, option_copied, slice_get, slice_index};
+ghost use Rattle.btor2.specs.Items.{find_item, position_of, sort_bits, sort_width, node_width, width_of_body, constant_of, constant_of_body, names_state, init_value, next_value, is_input, is_state, is_bad, is_constraint};
 ghost use Rattle.btor2.specs.Check.{IsWellFormed};
 ghost use Rattle.btor2.specs.Parts.{HaveSoundParts};
 ghost use Rattle.btor2.specs.Index.{is_in_place};
+ghost use Rattle.btor2.specs.Entries.{entry_sort, entry_node};
 ghost use Rattle.btor2.specs.Lists.{places, id_at, init_place, next_place, is_free_at, has_init_without_next_at, first_init_without_next, width_at, constant_at};
 
 mod check;
+mod entries;
 mod push;
 
 use crate::item::{Body, Item};
 use base::Width;
+use entries::Entry;
 use indexmap::IndexMap;
 use std::alloc::Global;
 
@@ -21,6 +24,10 @@ pub struct Model {
     // by their ids the positions of those items alone whose id is not their position plus 1:
     // nearly all files number their lines 1, 2, 3 and so on, and take no map
     elsewhere: IndexMap<u64, usize>,
+    // how many of the first items have their position plus 1 as their id
+    in_place: usize,
+    // by position, what the items are to those that name them
+    entries: Vec<Entry>,
     // positions in `items`, in file order
     inputs: Vec<usize>,
     states: Vec<usize>,
@@ -66,6 +73,8 @@ impl Model {
         Model {
             items: Vec::new(alloc),
             elsewhere: IndexMap::new(alloc),
+            in_place: 0,
+            entries: Vec::new(alloc),
             inputs: Vec::new(alloc),
             states: Vec::new(alloc),
             bads: Vec::new(alloc),
@@ -116,6 +125,10 @@ impl Model {
     fn is_in_place(&self, id: u64) -> bool
         ensures { result ≡ is_in_place self.now id }
     {
+        // the first items are, and are not touched
+        if 1 <= id && id <= self.in_place as u64 {
+            return true;
+        }
         match item_at(self.items.as_slice(), place_by_number(id)) {
             Some(item) => item.id == id,
             None => false,
@@ -145,15 +158,34 @@ impl Model {
         }
     }
 
+    /// What the item at a position is to those that name it; where there is none, as a line without a value.
+    fn entry_at(&self, place: usize) -> Entry
+        ensures sort { entry_sort result ≡ option_and_then (λ (x : Item). sort_bits x.body) (slice_get self.now place) }
+        ensures node { entry_node result ≡ width_at self.now place }
+    {
+        match self.entries.get(place) {
+            Some(entry) => *entry,
+            None => Entry::Other,
+        }
+    }
+
+    /// What the item with an id is to those that name it.
+    fn entry(&self, id: u32) -> Entry
+        ensures sort { entry_sort result ≡ sort_width self.now id }
+        ensures node { entry_node result ≡ node_width self.now id }
+    {
+        match self.position(u64::from(id)) {
+            Some(place) => self.entry_at(place),
+            None => Entry::Other,
+        }
+    }
+
     /// The width of the sort with an id.
     fn sort_width(&self, id: u32) -> Option<u64>
         ensures value { result ≡ sort_width self.now id }
         ensures range { IfSome result (λ n. (1 ≤ n) × (n ≤ 64)) }
     {
-        match self.item(u64::from(id)) {
-            Some(item) => item.body.sort_bits(),
-            None => None,
-        }
+        self.entry(id).sort_width()
     }
 
     /// The width of what a body says the value of, if it has one.
@@ -171,10 +203,7 @@ impl Model {
     fn node_width(&self, id: u32) -> Option<u64>
         ensures { result ≡ node_width self.now id }
     {
-        match self.item(u64::from(id)) {
-            Some(item) => self.body_width(&item.body),
-            None => None,
-        }
+        self.entry(id).node_width()
     }
 
     /// The word of a constant's body.
@@ -222,10 +251,7 @@ impl Model {
         ensures value { result ≡ width_at self.now place }
         ensures range { IfSome result (λ n. (1 ≤ n) × (n ≤ 64)) }
     {
-        match item_at(self.items.as_slice(), place) {
-            Some(item) => self.body_width(&item.body),
-            None => None,
-        }
+        self.entry_at(place).node_width()
     }
 
     /// The id of the value that an init line gives the state with an id.

@@ -1,15 +1,18 @@
 //! How an item is added: the lists and maps beside the items get their entries first.
-ghost use Rattle.std.specs.Prelude.{◌≡◌, ℕ, ◌<◌, ◌-◌, ◌==◌, ◌&&◌, not, false, [], ◌∷◌, ◌++◌, None, Some, OnOk, OnErr, IfErr, is_ok, MatchResult, nat_eq, if◌then◌else◌, length, vec_len, vec_capacity};
+ghost use Rattle.std.specs.Prelude.{◌≡◌, ℕ, ◌<◌, ◌≤◌, ◌+◌, ◌-◌, ◌==◌, ◌&&◌, IfSome, not, false, [], ◌∷◌, ◌++◌, None, Some, OnOk, OnErr, IfErr, is_ok, MatchResult, nat_eq, if◌then◌else◌, length, vec_len, vec_capacity};
 ghost use Rattle.std.specs.HashMap.{get};
 ghost use Rattle.std.specs.Option.{option_or};
 ghost use Rattle.indexmap.specs.IndexMap.{spare};
-ghost use Rattle.btor2.specs.Items.{is_input, is_state, is_bad, is_constraint, init_for, next_for};
+ghost use Rattle.btor2.specs.Entries.{entry_of};
+ghost use Rattle.btor2.specs.Items.{sort_bits, is_input, is_state, is_bad, is_constraint, init_for, next_for};
 ghost use Rattle.btor2.specs.Check.{refusal, AnswersRefusal};
 ghost use Rattle.btor2.specs.Lists.{with_place};
 
 use crate::fault::PushFault;
 use crate::item::{Body, Item};
+use crate::model::entries::Entry;
 use crate::model::{Model, place_by_number};
+use base::Width;
 use indexmap::IndexMap;
 
 /// Adds a place at the end of a list.
@@ -36,20 +39,23 @@ fn add_value(map: &mut IndexMap<u64, u64>, state: u32, value: u32) -> Result<(),
     }
 }
 
-/// Makes room for an item, and for its place by its id where the id is not in place. Answers the place.
+/// Makes room for an item, for what it is to those that name it, and for its place by its id where the id is not in place.
+/// Answers the place.
 fn make_room(
     items: &mut Vec<Item>,
+    entries: &mut Vec<Entry>,
     elsewhere: &mut IndexMap<u64, usize>,
     id: u64,
 ) -> Result<usize, PushFault>
     ensures answer { MatchResult result
-        (λ place. (place ≡ length items.old.items) × ((vec_len items.new < vec_capacity items.new) × ((id - 1 == place) ≡ false → 0 < spare elsewhere.new)))
+        (λ place. (place ≡ length items.old.items) × ((vec_len items.new < vec_capacity items.new) × ((vec_len entries.new < vec_capacity entries.new) × ((id - 1 == place) ≡ false → 0 < spare elsewhere.new))))
         (λ fault. fault ≡ PushFault.NoMemory) }
     ensures same { items.new.items ≡ items.old.items }
+    ensures same_entries { entries.new.items ≡ entries.old.items }
     ensures kept { (k : ℕ) → get nat_eq elsewhere.new k ≡ get nat_eq elsewhere.old k }
 {
     let place = items.len();
-    if items.reserve(1).is_err() {
+    if items.reserve(1).is_err() || entries.reserve(1).is_err() {
         return Err(PushFault::NoMemory);
     }
     if place_by_number(id) == place {
@@ -74,14 +80,26 @@ fn add_elsewhere(elsewhere: &mut IndexMap<u64, usize>, id: u64, place: usize)
     }
 }
 
-/// Adds an item where there is room.
-fn add_item(items: &mut Vec<Item>, item: Item)
-    requires { vec_len items.old < vec_capacity items.old }
-    ensures { items.new.items ≡ items.old.items ++ item ∷ [] }
+/// Adds an item, or what stands beside one, where there is room.
+fn add_last<T: Drop>(list: &mut Vec<T>, last: T)
+    requires { vec_len list.old < vec_capacity list.old }
+    ensures { list.new.items ≡ list.old.items ++ last ∷ [] }
 {
-    match items.push(item) {
+    match list.push(last) {
         Ok(()) => {}
         Err(_) => unreachable!(),
+    }
+}
+
+/// How many of the first items are in place, with one more item.
+fn more_in_place(in_place: usize, place: usize, id: u64) -> usize
+    requires { in_place ≤ place }
+    ensures { result ≡ (if (in_place == place) && (id - 1 == place) then in_place + 1 else in_place) }
+{
+    if in_place == place && place_by_number(id) == place {
+        in_place.saturating_add(1)
+    } else {
+        in_place
     }
 }
 
@@ -118,6 +136,26 @@ fn note(
 }
 
 impl Model {
+    /// What an item that no row refuses is to those that will name it.
+    fn entry_of(&self, body: &Body) -> Entry
+        requires { IfSome (sort_bits body.now) (λ n. (1 ≤ n) × (n ≤ 64)) }
+        ensures { result ≡ entry_of self.now body.now }
+    {
+        match body.sort_bits() {
+            Some(bits) => match Width::new(bits) {
+                Some(width) => Entry::Sort(width),
+                None => unreachable!(),
+            },
+            None => match self.body_width(body) {
+                Some(bits) => match Width::new(bits) {
+                    Some(width) => Entry::Node(width),
+                    None => unreachable!(),
+                },
+                None => Entry::Other,
+            },
+        }
+    }
+
     /// Adds an item that no row refuses.
     fn add(&mut self, item: Item) -> Result<(), PushFault>
         requires { refusal self.old item ≡ None }
@@ -125,7 +163,13 @@ impl Model {
             (λ u. self.new ≡ self.old ++ item ∷ [])
             (λ fault. (fault ≡ PushFault.NoMemory) × (self.new ≡ self.old)) }
     {
-        let place = match make_room(&mut self.items, &mut self.elsewhere, item.id) {
+        let entry = self.entry_of(&item.body);
+        let place = match make_room(
+            &mut self.items,
+            &mut self.entries,
+            &mut self.elsewhere,
+            item.id,
+        ) {
             Ok(place) => place,
             Err(fault) => return Err(fault),
         };
@@ -142,7 +186,9 @@ impl Model {
         ) {
             Ok(()) => {
                 add_elsewhere(&mut self.elsewhere, item.id, place);
-                add_item(&mut self.items, item);
+                self.in_place = more_in_place(self.in_place, place, item.id);
+                add_last(&mut self.entries, entry);
+                add_last(&mut self.items, item);
                 Ok(())
             }
             Err(fault) => Err(fault),
