@@ -1,5 +1,5 @@
 -- The parts of a lowering, put together.
-use Rattle.std.proofs.Common.{◌≡◌, ℕ, ◌+◌, ◌≤◌, Bool, true, false, List, [], ◌∷◌, ◌++◌, length, nat_lt, Option, Some, None, is_some, if◌then◌else◌, option_and_then, ◌&&◌, refl, sym, ap, ◌∙◌, subst, arith, length-append}
+use Rattle.std.proofs.Common.{◌≡◌, ℕ, ◌+◌, ◌≤◌, Bool, true, false, List, [], ◌∷◌, ◌++◌, length, replicate, nat_lt, Option, Some, None, is_some, if◌then◌else◌, option_and_then, ◌&&◌, refl, sym, ap, ◌∙◌, subst, arith, length-append}
 use Rattle.std.proofs.lemmas.List.{length-map, length-replicate}
 use Rattle.std.specs.Option.{option_or}
 use Rattle.std.proofs.lemmas.List.Sums.{sum_by-cons}
@@ -115,6 +115,16 @@ latch_count items n c reads =
 
 net_same : (i j k l : ℕ) (g h : List Gate) → i ≡ j → k ≡ l → g ≡ h → (let m : Net = record { inputs = i; latches = k; gates = g } in m) ≡ record { inputs = j; latches = l; gates = h }
 net_same i j k l g h p q r = rw (p, q, r) refl
+
+-- the bare circuit of some gates has these
+net_of_bare : (n : Net) → net (gates_only n) ≡ n
+net_of_bare n = net_same n.inputs n.inputs (length (replicate n.latches fresh_latch)) n.latches n.gates n.gates refl (length-replicate n.latches fresh_latch) refl
+
+pub bare_by_net : (n : Net) (c : Circuit) → c ≡ gates_only n → c ≡ gates_only (net c)
+bare_by_net n c is = is ∙ ap gates_only (sym (net_of_bare n) ∙ ap net (sym is))
+
+pub nodes_by_net : (items : List Item) (n : Net) (c : Circuit) (rows : List (List ℕ)) → c ≡ gates_only n → LowersNodes items (leaves_only items) n rows → LowersNodes items (leaves_only items) (net c) rows
+nodes_by_net items n c rows is nodes = subst (λ (m : Net). LowersNodes items (leaves_only items) m rows) (sym (net_of_bare n) ∙ ap net (sym is)) nodes
 
 -- the parts of a lowering make one
 pub assemble : (items : List Item) (n : Net) (rows : List (List ℕ)) (c1 c2 c3 c4 : Circuit)

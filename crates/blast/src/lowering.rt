@@ -1,7 +1,10 @@
 //! Lowering a model to a circuit.
 ghost use Rattle.std.specs.Prelude.{◌≡◌, ℕ, ◌≤◌, None, Some, IfOk, IfErr};
 ghost use Rattle.btor2.specs.Check.{IsWellFormed};
+ghost use Rattle.aiger.specs.Circuit.{net};
+ghost use Rattle.gates.specs.Made.{gates_only};
 ghost use Rattle.blast.specs.Lowering.{Lowers};
+ghost use Rattle.blast.specs.Reads.{leaves_only, LowersNodes};
 ghost use Rattle.blast.specs.Refusal.{AnswersLowering, lowering_refusal};
 
 use crate::fault::LowerFault;
@@ -10,6 +13,7 @@ use crate::names::set_names;
 use crate::nodes::lower_nodes;
 use crate::properties::push_properties;
 use crate::refusals::form_refusal;
+use crate::table::Table;
 use crate::widths::{bound, carried_width, given_width};
 use aiger::{Circuit, GREATEST_COUNT};
 use btor2::Model;
@@ -35,6 +39,39 @@ fn refusal(model: &Model) -> Option<LowerFault>
     }
 }
 
+/// The circuit of a model, from the bare one of its gates: the latches, the properties and the names are put in. The table
+/// has the literals of each node.
+fn completed(model: &Model, table: &Table, mut circuit: Circuit) -> Result<Circuit, LowerFault>
+    requires accepted { lowering_refusal model.now ≡ None }
+    requires well_formed { IsWellFormed model.now }
+    requires bare { circuit ≡ gates_only (net circuit) }
+    requires nodes { LowersNodes model.now (leaves_only model.now) (net circuit) table.now }
+    ensures ok { IfOk result (λ lowered. Lowers model.now lowered) }
+    ensures memory { IfErr result (λ e. e ≡ LowerFault.NoMemory) }
+{
+    set_latches(model, table, &mut circuit);
+    push_properties(model, table, &mut circuit)?;
+    set_names(model, &mut circuit)?;
+    // what a circuit keeps
+    let _ = circuit.gates();
+    Ok(circuit)
+}
+
+/// The circuit of a model that nothing speaks against, over a maker that has made no gate yet.
+fn lower_over(alloc: Global, model: &Model, mut gates: HashGates) -> Result<Circuit, LowerFault>
+    requires accepted { lowering_refusal model.now ≡ None }
+    requires well_formed { IsWellFormed model.now }
+    requires leaves { gates ≡ leaves_only model.now }
+    ensures ok { IfOk result (λ circuit. Lowers model.now circuit) }
+    ensures memory { IfErr result (λ e. e ≡ LowerFault.NoMemory) }
+{
+    match lower_nodes(alloc, model, &mut gates) {
+        Ok(table) => completed(model, &table, gates.finish()),
+        Err(GateFault::NoMemory) => Err(LowerFault::NoMemory),
+        Err(GateFault::TooBig) => unreachable!(),
+    }
+}
+
 /// The circuit of a model that nothing speaks against.
 fn lower_accepted(alloc: Global, model: &Model) -> Result<Circuit, LowerFault>
     requires accepted { lowering_refusal model.now ≡ None }
@@ -44,23 +81,11 @@ fn lower_accepted(alloc: Global, model: &Model) -> Result<Circuit, LowerFault>
 {
     let inputs = given_width(model) as u32;
     let latches = carried_width(model) as u32;
-    let mut gates = match HashGates::new(alloc, inputs, latches) {
-        Ok(gates) => gates,
-        Err(GateFault::NoMemory) => return Err(LowerFault::NoMemory),
+    match HashGates::new(alloc, inputs, latches) {
+        Ok(gates) => lower_over(alloc, model, gates),
+        Err(GateFault::NoMemory) => Err(LowerFault::NoMemory),
         Err(GateFault::TooBig) => unreachable!(),
-    };
-    let table = match lower_nodes(alloc, model, &mut gates) {
-        Ok(table) => table,
-        Err(GateFault::NoMemory) => return Err(LowerFault::NoMemory),
-        Err(GateFault::TooBig) => unreachable!(),
-    };
-    let mut circuit = gates.finish();
-    set_latches(model, &table, &mut circuit);
-    push_properties(model, &table, &mut circuit)?;
-    set_names(model, &mut circuit)?;
-    // what a circuit keeps
-    let _ = circuit.gates();
-    Ok(circuit)
+    }
 }
 
 /// The circuit that lowers a model: the bits of its inputs and then those of its free states are the inputs, those of its
