@@ -11,6 +11,10 @@ a trait or of an impl, with the ghost members and the values that clauses see; f
 are rows beside the definitions and count for none. A contract rests on each definition that it names, and on each that
 those name, and so on. How a value is kept (its view, its invariant) is nothing that a caller rests on.
 
+A word that is carried is none of them: a call gives it of what it makes, others keep it, and the rest use it as a premise, so
+that what they say follows whatever the word means. Each clause that names one is looked at: it stands there in one of these
+three ways, or the script says so.
+
 In docs/DEFINITIONS.md the first list begins at the heading `## What the public calls rest on`, with a heading of the third
 rank for each crate. Rows of tables with five columns are those of definitions: the names in the first column, the files in
 the third. A definition has a row where a row of its crate has its name and its file. The table of calls of a crate stands
@@ -32,6 +36,9 @@ IMPORT = re.compile(r"^(?:pub )?use\s+([\w.]+?)(?:\.\{([^}]*)\}|\s+as\s+(\w+))?\
 GHOST_IMPORT = re.compile(r"\bghost\s+use\s+([\w.]+?)(?:\.\{([^}]*)\}|\s+as\s+(\w+))?\s*;")
 HEAD = re.compile(r"^(?:(?:abbrev|unfoldable|opaque) pub|pub (?:record|data|abbrev|enum)) ([^\s:]+)", re.M)
 STEPS = "◌>>=◌"
+# the words that are carried: what a judge stands for, and the values of judges, which nothing else speaks of
+CARRIED = {("witness", "WordStands", "StandsFor"), ("witness", "BitStands", "StandsFor")}
+CARRIED_VALUES = {("witness", "WordStands", "WordJudge"), ("witness", "BitStands", "BitJudge")}
 
 
 def fail(text):
@@ -110,6 +117,18 @@ def named_in(modules, text, scope):
         if target and target not in seen:
             seen.append(target)
     return seen
+
+
+def is_carried(word, clause):
+    """Whether a clause names a word as one that is carried: of a value that is made, with nothing fed to it; as a premise on
+    the value before; or as what such a premise gives of the value after."""
+    made = re.compile(r"\(λ (\w+)\. %s [\w.]+ \1 \[\]\)" % word)
+    premise = re.compile(r"\b%s \w+ self\.(?:old|now|entry) \w+ →" % word)
+    kept = re.compile(r"\b%s \w+ self\.new \([^()]*\)" % word)
+    rest = made.sub("", clause)
+    if premise.search(rest):
+        rest = kept.sub("", premise.sub("", rest))
+    return not re.search(r"\b%s\b" % word, rest)
 
 
 def closure(modules, roots):
@@ -194,7 +213,7 @@ def functions(text, start, end):
             clauses.append(text[brace:place])
         body = re.compile(r"[{;]").search(text, place, end)
         at = closing(text, body.start()) if body.group(0) == "{" else body.end()
-        yield found.group(1).strip() == "pub", found.group(2), " ".join(clauses)
+        yield found.group(1).strip() == "pub", found.group(2), "\n\n".join(clauses)
 
 
 def members(text, start, end):
@@ -353,11 +372,16 @@ def main():
     modules = read_modules()
     crates = [line.split(":")[0].strip() for line in (TOP / "crates.txt").read_text().split("\n")
               if line.strip() and not line.startswith("#")]
-    roots, tables = [], {}
+    roots, tables, wrong = [], {}, []
     for name in crates:
         calls = {}
         for call, clauses, scope in public_clauses(Crate(name)):
             direct = named_in(modules, clauses, scope)
+            direct = [word for word in direct if word not in CARRIED_VALUES or word[2] != call]
+            for carried in CARRIED.intersection(direct):
+                direct.remove(carried)
+                if not all(is_carried(carried[2], clause) for clause in clauses.split("\n\n")):
+                    wrong.append("%s of %s names %s in another way than as a word that is carried" % (call, name, carried[2]))
             known = calls.setdefault(call, [])
             known.extend(d for d in direct if d not in known)
             roots.extend((d, "%s of %s" % (call, name)) for d in direct)
@@ -373,7 +397,6 @@ def main():
             print("%s %s: %s" % (crate, name, ", ".join(words)))
         return 0
     text = PAGE.read_text()
-    wrong = []
     for name in tables:
         found = re.search(r"<!-- calls of %s -->\n(.*?)<!-- end of calls -->" % name, text, re.S)
         if not found:
