@@ -9,14 +9,14 @@ ghost use Rattle.btor2.specs.Trace.{bits_of};
 ghost use Rattle.aiger.specs.Limits.{greatest_count};
 ghost use Rattle.aiger.specs.Net.{variables};
 ghost use Rattle.gates.specs.Bound.{unary_bound, binary_bound, ite_bound};
-ghost use Rattle.blast.specs.Cost.{bound, line_cost, input_width, given_width};
+ghost use Rattle.blast.specs.Cost.{bound, input_width, given_width};
 ghost use Rattle.blast.specs.Reads.{LowersNodes, leaves_only};
 ghost use Rattle.blast.specs.Table.{MakesNode, MakesRow, row_of, IsOperand, next_leaf, next_after, LowersFront};
 
 use crate::items::{bit_count, node_row};
 use crate::placed::{concat_row, constant_row, copy_bits, sext_row, slice_row, uext_row};
 use crate::table::Table;
-use crate::widths::{cost, given_width, input_width, line_cost};
+use crate::widths::{given_width, input_width};
 use aiger::Lit;
 use base::{Binary, Unary};
 use btor2::{Body, Item, Model};
@@ -258,27 +258,6 @@ fn lower_item<G: Gates>(
     }
 }
 
-/// What the lines up to an item can take at most, from what those before it can. Where they come to an eighth of what all
-/// lines can take, the maker makes room for the gates to come.
-fn foresee(
-    model: &Model,
-    gates: &mut HashGates,
-    place: usize,
-    item: &Item,
-    passed: u64,
-    most: u64,
-) -> u64
-    requires well_formed { IsWellFormed model.now }
-    requires at { slice_get model.now place ≡ Some item.now }
-    ensures { gates.new ≡ gates.old }
-{
-    let now = passed.saturating_add(line_cost(model, place, item));
-    if passed < most / 8 && now >= most / 8 {
-        gates.foresee(now, most);
-    }
-    now
-}
-
 /// The rows of literals of all items, in file order: those of an input and a state are their variables, those of an
 /// constant its bits, those of an operator are made of its operands' rows or placed, and a line without a value has an
 /// empty row.
@@ -296,13 +275,10 @@ pub(crate) fn lower_nodes(
     ensures memory { IfErr result (λ e. e ≡ GateFault.NoMemory) }
 {
     let items = model.items();
-    let most = cost(model);
-    let mut passed = 0;
     let mut table = Table::new(alloc);
     let mut next = first_leaf(model);
     for (place, item) in items.iter().enumerate() {
         lower_item(model, gates, &mut table, place, item, &mut next)?;
-        passed = foresee(model, gates, place, item, passed, most);
     }
     Ok(table)
 }

@@ -79,7 +79,7 @@ fn operand_width(model: &Model, place: usize, item: &Item, operand: u32, changed
 }
 
 /// The gate bound of an operator, and 0 for another item.
-pub(crate) fn line_cost(model: &Model, place: usize, item: &Item) -> u64
+fn line_cost(model: &Model, place: usize, item: &Item) -> u64
     requires well_formed { IsWellFormed model.now }
     requires at { slice_get model.now place ≡ Some item.now }
     ensures { result ≡ line_cost model.now item.now.body }

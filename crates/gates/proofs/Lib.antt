@@ -1,3 +1,4 @@
+pub mod ChainLemmas
 pub mod GrowthLemmas
 pub mod LiteralLemmas
 pub mod WordLemmas

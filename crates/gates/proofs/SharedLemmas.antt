@@ -1,7 +1,5 @@
 -- Gates that are made once: what a new one keeps, and what a folded one says.
-use Rattle.std.proofs.Common.{◌≡◌, ℕ, zero, suc, ◌+◌, ◌*◌, ◌<◌, ◌≤◌, Bool, true, false, not, ◌&&◌, ◌||◌, ◌==◌, List, [], ◌∷◌, ◌++◌, length, get_or, max, min, position, Option, None, Some, inl, inr, ⊎_elim, refl, sym, ◌∙◌, ap, arith, rules, true≢false, Result, Ok, Err, IfOk, IfErr, if◌then◌else◌}
-use Rattle.std.specs.List.{list_any}
-use Rattle.std.specs.Option.{option_map, option_or, ok_or}
+use Rattle.std.proofs.Common.{◌≡◌, ℕ, zero, suc, ◌+◌, ◌*◌, ◌<◌, ◌≤◌, Bool, true, false, not, ◌&&◌, ◌||◌, ◌==◌, List, [], ◌∷◌, ◌++◌, length, get_or, max, min, position, Option, None, Some, inl, inr, ⊎_elim, refl, sym, ◌∙◌, ap, arith, rules, true≢false, Result, Ok, Err, IfOk, OnErr, if◌then◌else◌}
 use Rattle.std.proofs.lemmas.Bool.{cases_lt}
 use Rattle.std.proofs.lemmas.Bool.Decides.{nat_tests}
 use Rattle.std.proofs.lemmas.List.Elements.{All-push}
@@ -15,20 +13,11 @@ use Rattle.aiger.specs.Net.{Net, variables, IsDefined, SatisfiesFrom}
 use Rattle.aiger.proofs.NetLemmas.{literal_value-even, literal_value-negation}
 use Rattle.gates.specs.Made.{AreSame, MakesAnd, gates_only}
 use Rattle.gates.proofs.GrowthLemmas.{Grows-refl, and-same, MakesAnd-gate}
-use Rattle.gates.specs.Shared.{folded_and, gate_of, is_gate_of, gate_literal, standing_and, IsNeeded, AreShared}
+use Rattle.gates.specs.Shared.{folded_and, gate_of, is_gate_of, gate_literal, IsNeeded, AreShared}
 
 -- where there is no first place that passes, none passes
 pub none_passes : {X : Type 0} (p : X → Bool) (xs : List X) → position p xs ≡ None → (k : ℕ) (d : X) → k < length xs → p (get_or xs k d) ≡ false
 none_passes p xs none k d h = fails_before_first p xs k d (grind (arith, nat_tests))
-
--- and where the list has no such element, there is no first place that passes
-pub position-none : {X : Type 0} (p : X → Bool) (xs : List X) → list_any p xs ≡ false → position p xs ≡ None
-position-none p [] none = refl
-position-none p (x ∷ xs) none = by (p x) refl (position-none p xs)
-  where
-    by : (b : Bool) → p x ≡ b → (list_any p xs ≡ false → position p xs ≡ None) → position p (x ∷ xs) ≡ None
-    by true e rest = absurd (search rules)
-    by false e rest = let later : list_any p xs ≡ false = search rules in let none = rest later in search rules
 
 -- an and that is neither one of the two literals nor a constant needs a gate
 pub IsNeeded-gate_of : (a b : ℕ) → folded_and a b ≡ None → IsNeeded (gate_of a b)
@@ -141,24 +130,19 @@ MakesAnd-folded n a b l left right is = by (a == 0) (b == 0) (a == negation b) (
         made (rw (← same) left) (λ v. rw (← same, at) (sym (all_right (literal_value v a))))
     by false false false false false false e f g h i j is = absurd (search rules)
 
--- and so what stands for the and
-pub MakesAnd-standing : (n : Net) (a b l : ℕ) → IsDefined n a → IsDefined n b → standing_and n a b ≡ Some l → MakesAnd n n a b l
-MakesAnd-standing n a b l left right is = by (folded_and a b) (position (is_gate_of a b) n.gates) refl refl is
-  where
-    by : (f p : Option ℕ) → folded_and a b ≡ f → position (is_gate_of a b) n.gates ≡ p → option_or f (option_map (gate_literal n) p) ≡ Some l → MakesAnd n n a b l
-    by None None e h is = absurd (search rules)
-    by None (Some k) e h is = let same : gate_literal n k ≡ l = search rules in rw (← same) (MakesAnd-gate_at n a b k h)
-    by (Some x) p e h is = let same : x ≡ l = search rules in MakesAnd-folded n a b l left right (rw same at e)
+-- no gates are shared gates
+pub AreShared-none : (gs : List Gate) → gs ≡ [] → AreShared gs
+AreShared-none gs none = let no_gates : length gs ≡ 0 = ap length none in record { needed = λ k d h. absurd (omega arith); once = λ j k d h i. absurd (omega arith) }
 
 -- shared gates stay so where a gate that is needed and does not stand was added, and where nothing was
-pub AreShared-made : {T E : Type 0} (result : Result T E) (old new : Circuit) (a b : ℕ) (P : T → Type 0) (Q : E → Type 0)
-    → IfOk result (λ l. (new ≡ record old { gates = old.gates ++ gate_of a b ∷ [] }) × P l) → IfErr result (λ e. Q e × (new ≡ old))
+pub AreShared-made : {T E : Type 0} (result : Result T E) (old new : Circuit) (a b : ℕ) (P : T → Type 0)
+    → IfOk result (λ l. (new ≡ record old { gates = old.gates ++ gate_of a b ∷ [] }) × P l) → OnErr result (new ≡ old)
     → old ≡ gates_only (net old) → AreShared old.gates → folded_and a b ≡ None → position (is_gate_of a b) old.gates ≡ None
     → (new ≡ gates_only (net new)) × AreShared new.gates
-AreShared-made (Ok l) old new a b P Q made kept only shared needed absent =
+AreShared-made (Ok l) old new a b P made kept only shared needed absent =
     let pushed = AreShared-push old.gates a b shared needed absent in
     rw made.0 ((λ j. record (only j) { gates = old.gates ++ gate_of a b ∷ [] }), pushed)
-AreShared-made (Err e) old new a b P Q made kept only shared needed absent = rw kept.1 (only, shared)
+AreShared-made (Err e) old new a b P made kept only shared needed absent = rw kept (only, shared)
 
 -- an and that is not folded: the gate that stands, or the one that was made
 pub MakesAnd-made : {E : Type 0} (result : Result ℕ E) (old new : Net) (a b : ℕ) → IsDefined old a → IsDefined old b
@@ -170,9 +154,3 @@ MakesAnd-made {E} result old new a b left right standing fresh = by (position (i
     by : (at : Option ℕ) → position (is_gate_of a b) old.gates ≡ at → IfOk result (MakesAnd old new a b)
     by (Some k) at = let made = standing k at in rw (made.0, made.1) (MakesAnd-gate_at old a b k at)
     by None at = IfOk-weaker result _ _ (λ l done. rw done.0 (MakesAnd-gate old a b _ _ l (gate_of-same a b) done.1)) (fresh at)
-
--- what stands for the and, or a fault where nothing does
-pub IfOk-standing : {E : Type 0} (n : Net) (a b : ℕ) (found : Option ℕ) (fault : E) (result : Result ℕ E) → IsDefined n a → IsDefined n b → found ≡ standing_and n a b → result ≡ ok_or found fault
-    → IfOk result (MakesAnd n n a b)
-IfOk-standing n a b None fault result left right is gives = rw gives tt
-IfOk-standing n a b (Some l) fault result left right is gives = rw gives (MakesAnd-standing n a b l left right (sym is))

@@ -1,8 +1,8 @@
 pub mod Bound
+pub mod Chains
 pub mod Connect
 pub mod Division
 pub mod Made
-pub mod Places
 pub mod Moves
 pub mod Operands
 pub mod Shared

@@ -8,16 +8,16 @@ ghost use Rattle.gates.specs.Made.{MakesWord, Refuses, word_value};
 ghost use Rattle.gates.specs.Bound.{unary_bound, binary_bound};
 
 use crate::adders::{add_bits, dec_bits, inc_bits, neg_bits, sub_bits};
-use crate::bit_lists::{negation, one_bit};
+use crate::bit_lists::negation;
 use crate::bitwise::{
     Connective, connect_negated, connect_words, eq, iff, implies, neq, reduction,
 };
-use crate::comparisons::comparison;
-use crate::division::divide;
+use crate::comparisons::comparison_bit;
+use crate::division::{udiv, urem};
 use crate::fault::GateFault;
 use crate::maker::{Bits, Gates};
 use crate::multiplication::mul_bits;
-use crate::overflows::overflow;
+use crate::overflows::overflow_bit;
 use crate::shifts::{rotate, shift};
 use crate::signed_division::{sdiv, smod, srem};
 use aiger::Lit;
@@ -68,7 +68,7 @@ pub fn binary_bits<G: Gates>(g: &mut G, op: Binary, a: &Bits, b: &Bits) -> Resul
         | Binary::Sgt
         | Binary::Sgte
         | Binary::Slt
-        | Binary::Slte => Ok(one_bit(comparison(g, op, a, b)?)),
+        | Binary::Slte => comparison_bit(g, op, a, b),
         Binary::And => connect_words(g, Connective::And, a, b),
         Binary::Nand => connect_negated(g, Connective::And, a, b),
         Binary::Or => connect_words(g, Connective::Or, a, b),
@@ -80,8 +80,8 @@ pub fn binary_bits<G: Gates>(g: &mut G, op: Binary, a: &Bits, b: &Bits) -> Resul
         Binary::Add => add_bits(g, a, b),
         Binary::Sub => sub_bits(g, a, b),
         Binary::Mul => mul_bits(g, a, b),
-        Binary::Udiv => Ok(divide(g, a, b)?.quotient),
-        Binary::Urem => Ok(divide(g, a, b)?.remainder),
+        Binary::Udiv => udiv(g, a, b),
+        Binary::Urem => urem(g, a, b),
         Binary::Sdiv => sdiv(g, a, b),
         Binary::Srem => srem(g, a, b),
         Binary::Smod => smod(g, a, b),
@@ -91,6 +91,6 @@ pub fn binary_bits<G: Gates>(g: &mut G, op: Binary, a: &Bits, b: &Bits) -> Resul
         | Binary::Ssubo
         | Binary::Umulo
         | Binary::Smulo
-        | Binary::Sdivo => Ok(one_bit(overflow(g, op, a, b)?)),
+        | Binary::Sdivo => overflow_bit(g, op, a, b),
     }
 }

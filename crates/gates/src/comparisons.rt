@@ -2,12 +2,15 @@
 ghost use Rattle.std.specs.Prelude.{◌≡◌, ◌+◌, ◌*◌, ◌≤◌, true, nat_lt, int_lt, [], ◌∷◌, length, All, IfOk, IfErr};
 ghost use Rattle.base.specs.Operator.{binary_value};
 ghost use Rattle.base.specs.Signed.{signed};
+ghost use Rattle.base.specs.Widths.{binary_width};
 ghost use Rattle.aiger.specs.Net.{IsDefined};
+ghost use Rattle.gates.specs.Bound.{binary_bound};
 ghost use Rattle.gates.specs.Operands.{AreOperands};
 ghost use Rattle.gates.specs.Made.{MakesLiteral, MakesWord, Refuses, word_value};
 ghost use Rattle.gates.specs.Sums.{literal_number};
 ghost use Rattle.gates.specs.Tests.{is_comparison, with_top_negated};
 
+use crate::bit_lists::one_bit;
 use crate::fault::GateFault;
 use crate::literals::{conjunction, disjunction};
 use crate::maker::{Bits, Gates};
@@ -73,12 +76,7 @@ fn signed_less<G: Gates>(g: &mut G, a: &Bits, b: &Bits) -> Result<Lit, GateFault
 }
 
 /// A literal that is true where a comparison holds.
-pub(crate) fn comparison<G: Gates>(
-    g: &mut G,
-    op: Binary,
-    a: &Bits,
-    b: &Bits,
-) -> Result<Lit, GateFault>
+fn comparison<G: Gates>(g: &mut G, op: Binary, a: &Bits, b: &Bits) -> Result<Lit, GateFault>
     requires comparison { is_comparison op ≡ true }
     requires operands { AreOperands (G.made g.old) 64 a.now.items b.now.items }
     ensures ok { IfOk result (λ l. let n = length a.now.items in MakesWord (G.made g.old) (G.made g.new) (6 * n) 1 (λ v. binary_value op n (word_value v a.now.items) (word_value v b.now.items)) (l ∷ [])) }
@@ -95,4 +93,20 @@ pub(crate) fn comparison<G: Gates>(
         Binary::Sgte => Ok(signed_less(g, a, b)?.not()),
         _ => unreachable!(),
     }
+}
+
+/// The bit of a comparison.
+pub(crate) fn comparison_bit<G: Gates>(
+    g: &mut G,
+    op: Binary,
+    a: &Bits,
+    b: &Bits,
+) -> Result<Bits, GateFault>
+    requires comparison { is_comparison op ≡ true }
+    requires operands { AreOperands (G.made g.old) 64 a.now.items b.now.items }
+    ensures ok { IfOk result (λ bits. let n = length a.now.items in MakesWord (G.made g.old) (G.made g.new) (binary_bound op n) (binary_width op n) (λ v. binary_value op n (word_value v a.now.items) (word_value v b.now.items)) bits.items) }
+    ensures refused { IfErr result (Refuses (G.made g.old) (G.made g.new) (binary_bound op (length a.now.items))) }
+{
+    let lit = comparison(g, op, a, b)?;
+    Ok(one_bit(lit))
 }

@@ -1,6 +1,8 @@
 //! Division of words: a row of gates for each bit of the dividend, from the highest down. A row is as wide as the bits that
 //! the dividend has given so far.
 ghost use Rattle.std.specs.Prelude.{◌≡◌, ◌+◌, ◌-◌, ◌*◌, ◌≤◌, ◌==◌, not, length, drop, All, IfOk, IfErr, if◌then◌else◌};
+ghost use Rattle.base.specs.Operator.{binary_value};
+ghost use Rattle.base.specs.declared.operators.Binary.TheVariants as binary;
 ghost use Rattle.aiger.specs.Literal.{literal_value};
 ghost use Rattle.aiger.specs.Net.{IsDefined};
 ghost use Rattle.gates.specs.Operands.{AreOperands};
@@ -114,4 +116,24 @@ pub fn divide<G: Gates>(g: &mut G, a: &Bits, b: &Bits) -> Result<Divided, GateFa
         quotient,
         remainder,
     })
+}
+
+/// The bits of the quotient of two words as whole numbers.
+pub(crate) fn udiv<G: Gates>(g: &mut G, a: &Bits, b: &Bits) -> Result<Bits, GateFault>
+    requires { AreOperands (G.made g.old) 64 a.now.items b.now.items }
+    ensures ok { IfOk result (λ bits. let n = length a.now.items in MakesWord (G.made g.old) (G.made g.new) (12 * (n * n) + 12 * n) n (λ v. binary_value binary.Udiv n (word_value v a.now.items) (word_value v b.now.items)) bits.items) }
+    ensures refused { IfErr result (let n = length a.now.items in Refuses (G.made g.old) (G.made g.new) (12 * (n * n) + 12 * n)) }
+{
+    let divided = divide(g, a, b)?;
+    Ok(divided.quotient)
+}
+
+/// The bits of the remainder of two words as whole numbers.
+pub(crate) fn urem<G: Gates>(g: &mut G, a: &Bits, b: &Bits) -> Result<Bits, GateFault>
+    requires { AreOperands (G.made g.old) 64 a.now.items b.now.items }
+    ensures ok { IfOk result (λ bits. let n = length a.now.items in MakesWord (G.made g.old) (G.made g.new) (12 * (n * n) + 12 * n) n (λ v. binary_value binary.Urem n (word_value v a.now.items) (word_value v b.now.items)) bits.items) }
+    ensures refused { IfErr result (let n = length a.now.items in Refuses (G.made g.old) (G.made g.new) (12 * (n * n) + 12 * n)) }
+{
+    let divided = divide(g, a, b)?;
+    Ok(divided.remainder)
 }

@@ -6,6 +6,7 @@ mod bit_lists;
 mod bitwise;
 mod bound;
 mod builders;
+mod chains;
 mod choices;
 mod comparisons;
 mod division;

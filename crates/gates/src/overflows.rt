@@ -2,6 +2,7 @@
 ghost use Rattle.std.specs.Prelude.{◌≡◌, ◌+◌, ◌*◌, ◌%◌, ◌^◌, ◌≤◌, true, nat_le, pos, neg_ℤ, unsigned_abs, ◌+ℤ◌, [], ◌∷◌, length, take, All, IfOk, IfErr, if◌then◌else◌};
 ghost use Rattle.base.specs.Operator.{binary_value};
 ghost use Rattle.base.specs.Signed.{signed, overflows};
+ghost use Rattle.base.specs.Widths.{binary_width};
 ghost use Rattle.aiger.specs.Literal.{literal_value};
 ghost use Rattle.aiger.specs.Net.{IsDefined};
 ghost use Rattle.gates.specs.Bound.{binary_bound};
@@ -10,7 +11,7 @@ ghost use Rattle.gates.specs.Made.{MakesLiteral, MakesWord, Refuses, word_value}
 ghost use Rattle.gates.specs.Sums.{literal_number};
 ghost use Rattle.gates.specs.Tests.{is_overflow};
 
-use crate::bit_lists::negation;
+use crate::bit_lists::{negation, one_bit};
 use crate::bitwise::{Connective, connect_bits};
 use crate::comparisons::{less, less_column, top_negated};
 use crate::fault::GateFault;
@@ -43,6 +44,22 @@ pub fn overflow<G: Gates>(g: &mut G, op: Binary, a: &Bits, b: &Bits) -> Result<L
         Binary::Sdivo => sdivo(g, a, b),
         _ => unreachable!(),
     }
+}
+
+/// The bit of an overflow test.
+pub(crate) fn overflow_bit<G: Gates>(
+    g: &mut G,
+    op: Binary,
+    a: &Bits,
+    b: &Bits,
+) -> Result<Bits, GateFault>
+    requires overflow { is_overflow op ≡ true }
+    requires operands { AreOperands (G.made g.old) 64 a.now.items b.now.items }
+    ensures ok { IfOk result (λ bits. let n = length a.now.items in MakesWord (G.made g.old) (G.made g.new) (binary_bound op n) (binary_width op n) (λ v. binary_value op n (word_value v a.now.items) (word_value v b.now.items)) bits.items) }
+    ensures refused { IfErr result (Refuses (G.made g.old) (G.made g.new) (binary_bound op (length a.now.items))) }
+{
+    let lit = overflow(g, op, a, b)?;
+    Ok(one_bit(lit))
 }
 
 /// Whether the sum of words as whole numbers is no word: the second is above what the first leaves up to the greatest.

@@ -17,16 +17,6 @@ lower_item-requires c =
       fits = c.requires.fits;
     }
 
-pub foresee-passed-requires : goal.foresee-passed-requires
-foresee-passed-requires c =
-    record {
-      well_formed = c.items-items.ensures.well_formed;
-      at = item_read c.items-items.result.now c.args.model.now c.loop-place.place c.index-items-place.result c.items-items.ensures.items c.loop-place-test.true c.index-items-place.is;
-    }
-
-pub loop-place-preserved : goal.loop-place-preserved
-loop-place-preserved c = rw (c.foresee-passed.ensures) c.in_ok-lower_item.ensures.ok
-
 pub returns-clause-ok : goal.returns-clause-ok
 returns-clause-ok c =
     let all : c.loop-place.place ≡ length c.args.model.now = omega (arith, ap length c.items-items.ensures.items, c.loop-place-test.false, c.loop-place.auto.place-end) in

@@ -1,11 +1,9 @@
-use Rattle.std.proofs.Common.{length, rules, refl, ◌∙◌}
-use Rattle.gates.specs.Bound.{binary_bound}
-use Rattle.gates.specs.Made.{Refuses}
-use Rattle.gates.proofs.OperatorLemmas.{is_comparison-named, is_overflow-named, is_shift-named, is_rotation-named, comparison_bound, comparison_width, overflow_width, shift_width, rotation_width, MakesWord-udiv, MakesWord-urem}
+use Rattle.std.proofs.Common.{length, refl, ◌∙◌}
+use Rattle.gates.proofs.OperatorLemmas.{is_comparison-named, is_overflow-named, is_shift-named, is_rotation-named, shift_width, rotation_width}
 use Rattle.gates.proofs.builders.binary_bits.Goals as goal
 
-pub comparison-requires-clause-comparison : goal.comparison-requires-clause-comparison
-comparison-requires-clause-comparison g c = is_comparison-named c.args.op c.in-Ugt.is
+pub comparison_bit-requires-clause-comparison : goal.comparison_bit-requires-clause-comparison
+comparison_bit-requires-clause-comparison g c = is_comparison-named c.args.op c.in-Ugt.is
 
 pub rotate-requires-clause-rotates : goal.rotate-requires-clause-rotates
 rotate-requires-clause-rotates g c = is_rotation-named c.args.op c.in-Rol.is
@@ -13,28 +11,8 @@ rotate-requires-clause-rotates g c = is_rotation-named c.args.op c.in-Rol.is
 pub shift-requires-clause-shifts : goal.shift-requires-clause-shifts
 shift-requires-clause-shifts g c = is_shift-named c.args.op c.in-Sll.is
 
-pub overflow-requires-clause-overflow : goal.overflow-requires-clause-overflow
-overflow-requires-clause-overflow g c = is_overflow-named c.args.op c.in-Uaddo.is
-
-pub returns-in_ok-comparison-in-Ugt-clause-ok : goal.returns-in_ok-comparison-in-Ugt-clause-ok
-returns-in_ok-comparison-in-Ugt-clause-ok g c =
-    let op = c.args.op in
-    let n = length c.args.a.now.items in
-    let is = is_comparison-named op c.in-Ugt.is in
-    rw (comparison_bound op n is, comparison_width op n is, c.one_bit.ensures) c.in_ok-comparison-in-Ugt.ensures.ok
-
-pub returns-in_err-comparison-in-Ugt-clause-refused : goal.returns-in_err-comparison-in-Ugt-clause-refused
-returns-in_err-comparison-in-Ugt-clause-refused g c =
-    let op = c.args.op in
-    let n = length c.args.a.now.items in
-    let refused : Refuses (g.G.Gates.made c.args.g.now) (g.G.Gates.made c.comparison.new.g) (binary_bound op n) c.in_err-comparison-in-Ugt.field-0.0 =
-    rw (comparison_bound op n (is_comparison-named op c.in-Ugt.is)) c.in_err-comparison-in-Ugt.ensures.refused
-    in search rules
-
-pub returns-in_ok-overflow-in-Uaddo-clause-ok : goal.returns-in_ok-overflow-in-Uaddo-clause-ok
-returns-in_ok-overflow-in-Uaddo-clause-ok g c =
-    let op = c.args.op in
-    rw (overflow_width op (length c.args.a.now.items) (is_overflow-named op c.in-Uaddo.is), c.one_bit-in-Uaddo.ensures) c.in_ok-overflow-in-Uaddo.ensures.ok
+pub overflow_bit-requires-clause-overflow : goal.overflow_bit-requires-clause-overflow
+overflow_bit-requires-clause-overflow g c = is_overflow-named c.args.op c.in-Uaddo.is
 
 pub returns-in-Rol-clause-ok : goal.returns-in-Rol-clause-ok
 returns-in-Rol-clause-ok g c =
@@ -45,14 +23,6 @@ pub returns-in-Sll-clause-ok : goal.returns-in-Sll-clause-ok
 returns-in-Sll-clause-ok g c =
     let op = c.args.op in
     rw (shift_width op (length c.args.a.now.items) (is_shift-named op c.in-Sll.is)) c.shift.ensures.ok
-
-pub returns-in_ok-divide-in-Udiv-clause-ok : goal.returns-in_ok-divide-in-Udiv-clause-ok
-returns-in_ok-divide-in-Udiv-clause-ok g c =
-    rw c.in-Udiv.is (MakesWord-udiv _ _ _ c.args.a.now.items c.args.b.now.items _ c.in_ok-divide-in-Udiv.field-0.remainder.items c.in_ok-divide-in-Udiv.ensures.ok)
-
-pub returns-in_ok-divide-in-Urem-clause-ok : goal.returns-in_ok-divide-in-Urem-clause-ok
-returns-in_ok-divide-in-Urem-clause-ok g c =
-    rw c.in-Urem.is (MakesWord-urem _ _ _ c.args.a.now.items c.args.b.now.items c.in_ok-divide-in-Urem.field-0.quotient.items _ c.requires.operands.equal c.in_ok-divide-in-Urem.ensures.ok)
 
 pub iff-requires-clause-left_bit : goal.iff-requires-clause-left_bit
 iff-requires-clause-left_bit g c = c.requires.of_bits (rw c.in-Iff.is refl)
@@ -93,8 +63,8 @@ sub_bits-requires g c = c.requires.operands
 pub mul_bits-requires : goal.mul_bits-requires
 mul_bits-requires g c = c.requires.operands
 
-pub divide-requires : goal.divide-requires
-divide-requires g c = c.requires.operands
+pub udiv-requires : goal.udiv-requires
+udiv-requires g c = c.requires.operands
 
 pub sdiv-requires : goal.sdiv-requires
 sdiv-requires g c = c.requires.operands
@@ -105,11 +75,11 @@ srem-requires g c = c.requires.operands
 pub smod-requires : goal.smod-requires
 smod-requires g c = c.requires.operands
 
-pub divide-requires-in-Urem : goal.divide-requires-in-Urem
-divide-requires-in-Urem g c = c.requires.operands
+pub urem-requires : goal.urem-requires
+urem-requires g c = c.requires.operands
 
-pub comparison-requires-clause-operands : goal.comparison-requires-clause-operands
-comparison-requires-clause-operands g c = c.requires.operands
+pub comparison_bit-requires-clause-operands : goal.comparison_bit-requires-clause-operands
+comparison_bit-requires-clause-operands g c = c.requires.operands
 
 pub rotate-requires-clause-operands : goal.rotate-requires-clause-operands
 rotate-requires-clause-operands g c = c.requires.operands
@@ -117,8 +87,8 @@ rotate-requires-clause-operands g c = c.requires.operands
 pub shift-requires-clause-operands : goal.shift-requires-clause-operands
 shift-requires-clause-operands g c = c.requires.operands
 
-pub overflow-requires-clause-operands : goal.overflow-requires-clause-operands
-overflow-requires-clause-operands g c = c.requires.operands
+pub overflow_bit-requires-clause-operands : goal.overflow_bit-requires-clause-operands
+overflow_bit-requires-clause-operands g c = c.requires.operands
 
 pub connect_words-requires-clause-most : goal.connect_words-requires-clause-most
 connect_words-requires-clause-most g c = c.requires.operands.most
@@ -291,14 +261,14 @@ returns-in-Rol-clause-refused g c = c.rotate.ensures.refused
 pub returns-in-Sll-clause-refused : goal.returns-in-Sll-clause-refused
 returns-in-Sll-clause-refused g c = c.shift.ensures.refused
 
-pub returns-in_err-divide-in-Udiv-clause-refused : goal.returns-in_err-divide-in-Udiv-clause-refused
-returns-in_err-divide-in-Udiv-clause-refused g c =
-    let refused : Refuses (g.G.Gates.made c.args.g.now) (g.G.Gates.made c.divide.new.g) (binary_bound c.args.op (length c.args.a.now.items)) c.in_err-divide-in-Udiv.field-0.0 =
-    rw c.in-Udiv.is c.in_err-divide-in-Udiv.ensures.refused
-    in search rules
+pub returns-in-Udiv-clause-ok : goal.returns-in-Udiv-clause-ok
+returns-in-Udiv-clause-ok g c = rw c.in-Udiv.is c.udiv.ensures.ok
 
-pub returns-in_err-divide-in-Urem-clause-refused : goal.returns-in_err-divide-in-Urem-clause-refused
-returns-in_err-divide-in-Urem-clause-refused g c =
-    let refused : Refuses (g.G.Gates.made c.args.g.now) (g.G.Gates.made c.divide-in-Urem.new.g) (binary_bound c.args.op (length c.args.a.now.items)) c.in_err-divide-in-Urem.field-0.0 =
-    rw c.in-Urem.is c.in_err-divide-in-Urem.ensures.refused
-    in search rules
+pub returns-in-Udiv-clause-refused : goal.returns-in-Udiv-clause-refused
+returns-in-Udiv-clause-refused g c = rw c.in-Udiv.is c.udiv.ensures.refused
+
+pub returns-in-Urem-clause-ok : goal.returns-in-Urem-clause-ok
+returns-in-Urem-clause-ok g c = rw c.in-Urem.is c.urem.ensures.ok
+
+pub returns-in-Urem-clause-refused : goal.returns-in-Urem-clause-refused
+returns-in-Urem-clause-refused g c = rw c.in-Urem.is c.urem.ensures.refused

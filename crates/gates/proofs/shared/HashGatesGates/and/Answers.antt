@@ -1,10 +1,6 @@
 use Rattle.std.proofs.Common.{sym, ◌∙◌}
-use Rattle.gates.proofs.SharedLemmas.{MakesAnd-made, MakesAnd-folded, IfOk-standing}
+use Rattle.gates.proofs.SharedLemmas.{MakesAnd-made, MakesAnd-folded}
 use Rattle.gates.proofs.shared.HashGatesGates.and.Goals as goal
-
-pub returns-then-variables-ge-GREATEST_COUNT-clause-ok : goal.returns-then-variables-ge-GREATEST_COUNT-clause-ok
-returns-then-variables-ge-GREATEST_COUNT-clause-ok c =
-    IfOk-standing c.args.self.now c.args.a c.args.b _ _ _ c.requires.left c.requires.right c.standing.ensures.value c.ok_or.ensures.value
 
 pub returns-in-Some-clause-ok : goal.returns-in-Some-clause-ok
 returns-in-Some-clause-ok c = MakesAnd-folded _ c.args.a c.args.b c.in-Some.lit c.requires.left c.requires.right (sym c.folded.ensures ∙ c.in-Some.is)

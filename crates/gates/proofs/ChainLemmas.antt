@@ -1,0 +1,432 @@
+-- Chains of gates: what a walk along one says, and what a gate more changes.
+use Rattle.std.proofs.Common.{◌≡◌, ℕ, zero, suc, ◌+◌, ◌*◌, ◌<◌, ◌≤◌, Bool, true, false, ◌&&◌, List, [], ◌∷◌, ◌++◌, All, length, get_or, replicate, position, Option, None, Some, refl, sym, ◌∙◌, ap, arith, rules, if◌then◌else◌, slice_set, nat_lt, ⊎_elim}
+use Rattle.std.specs.List.{position_or_len, list_any}
+use Rattle.std.proofs.lemmas.Bool.{cases_lt, cases_eq}
+use Rattle.std.proofs.lemmas.Bool.Decides.{nat_tests}
+use Rattle.std.proofs.lemmas.List.{get_or_append_left, get_or_push, get_or_past, get_or-set_same, get_or-set_other, length_push, length-set, length-replicate}
+use Rattle.std.proofs.lemmas.List.Folds.{list_any_none}
+use Rattle.std.proofs.lemmas.List.Sums.{position_or_len_is}
+use Rattle.std.proofs.lemmas.List.Elements.{All-replicate, All-push, All-set, All-weaker}
+use Rattle.aiger.specs.declared.circuit.Gate.{Gate}
+use Rattle.aiger.specs.Net.{Net, variables}
+use Rattle.gates.specs.declared.chains.Walk.{Walk}
+use Rattle.gates.specs.declared.chains.Walk.TheVariants.{Found, Ended, Full}
+use Rattle.gates.specs.Chains.{is_pair, walked, found_by, finds, AreFound}
+
+-- the place that a walk found
+abbrev place_of : Walk → Option ℕ
+place_of (Found place) = Some place
+place_of Ended = None
+place_of Full = None
+
+-- where no element passes, there is no first place that passes
+position-absent : {X : Type 0} (p : X → Bool) (xs : List X) → All (λ x. p x ≡ false) xs → position p xs ≡ None
+position-absent {X = X} p xs none = by_test xs (list_any_none p xs none)
+  where
+    by_test : (xs : List X) → list_any p xs ≡ false → position p xs ≡ None
+    by_test [] none = refl
+    by_test (x ∷ xs) none = by (p x) refl (by_test xs)
+      where
+        by : (b : Bool) → p x ≡ b → (list_any p xs ≡ false → position p xs ≡ None) → position p (x ∷ xs) ≡ None
+        by true e rest = absurd (search rules)
+        by false e rest = let later : list_any p xs ≡ false = search rules in let none = rest later in search rules
+
+-- a gate that has the operands of a pair is the pair
+pub is_pair-true : (pair g : Gate) → is_pair pair g ≡ true → g ≡ pair
+is_pair-true pair g is =
+    let greater : g.rhs0 ≡ pair.rhs0 = grind (arith, nat_tests) in
+    let smaller : g.rhs1 ≡ pair.rhs1 = grind (arith, nat_tests) in
+    λ j. record { rhs0 = greater j; rhs1 = smaller j }
+
+is_pair-same : (pair : Gate) → is_pair pair pair ≡ true
+is_pair-same pair = grind (arith, nat_tests)
+
+-- one step of a walk: at the end of the chain, at the gate, and at another one
+pub walked-end : (gates : List Gate) (before : List ℕ) (pair : Gate) (turns entry : ℕ) → 0 < turns → entry ≡ 0 → walked gates before pair turns entry ≡ Ended
+unfolding walked
+walked-end gates before pair zero entry some is = absurd (omega arith)
+walked-end gates before pair (suc turns) entry some is = rw is refl
+
+pub walked-there : (gates : List Gate) (before : List ℕ) (pair : Gate) (turns place : ℕ) → is_pair pair (get_or gates place pair) ≡ true → walked gates before pair (suc turns) (suc place) ≡ Found place
+unfolding walked
+walked-there gates before pair turns place is =
+    ap (λ (b : Bool). if b then Found place else walked gates before pair turns (get_or before place 0)) is
+
+pub walked-on : (gates : List Gate) (before : List ℕ) (pair : Gate) (turns place : ℕ) → is_pair pair (get_or gates place pair) ≡ false → walked gates before pair (suc turns) (suc place) ≡ walked gates before pair turns (get_or before place 0)
+unfolding walked
+walked-on gates before pair turns place is_not =
+    ap (λ (b : Bool). if b then Found place else walked gates before pair turns (get_or before place 0)) is_not
+
+pub walked-full : (gates : List Gate) (before : List ℕ) (pair : Gate) (turns entry : ℕ) → turns ≡ 0 → walked gates before pair turns entry ≡ Full
+unfolding walked
+walked-full gates before pair turns entry is = rw is refl
+
+-- a gate more, on no chain yet, changes no walk
+walked-push : (gates : List Gate) (before : List ℕ) (more : Gate) (link : ℕ) → length before ≡ length gates → All (λ entry. entry ≤ length gates) before
+    → (pair : Gate) (turns entry : ℕ) → entry ≤ length gates → walked (gates ++ more ∷ []) (before ++ link ∷ []) pair turns entry ≡ walked gates before pair turns entry
+unfolding walked
+walked-push gates before more link same links pair zero entry inside = refl
+walked-push gates before more link same links pair (suc turns) zero inside = refl
+walked-push gates before more link same links pair (suc turns) (suc place) inside =
+    let within : place < length before = omega arith in
+    let next : get_or before place 0 ≤ length gates = links place 0 within in
+    let gate : get_or (gates ++ more ∷ []) place pair ≡ get_or gates place pair = get_or_append_left gates (more ∷ []) pair place (omega arith) in
+    let entry : get_or (before ++ link ∷ []) place 0 ≡ get_or before place 0 = get_or_append_left before (link ∷ []) 0 place within in
+    ap (λ (g : Gate). if is_pair pair g then Found place else walked (gates ++ more ∷ []) (before ++ link ∷ []) pair turns (get_or (before ++ link ∷ []) place 0)) gate
+    ∙ ap (λ (w : Walk). if is_pair pair (get_or gates place pair) then Found place else w)
+    (ap (walked (gates ++ more ∷ []) (before ++ link ∷ []) pair turns) entry ∙ walked-push gates before more link same links pair turns (get_or before place 0) next)
+
+-- what a walk finds is the gate
+walked-found : (gates : List Gate) (before : List ℕ) → length before ≡ length gates → All (λ entry. entry ≤ length gates) before
+    → (pair : Gate) (turns entry place : ℕ) → entry ≤ length gates → walked gates before pair turns entry ≡ Found place → (place < length gates) × (get_or gates place pair ≡ pair)
+unfolding walked
+walked-found gates before same links pair zero entry place inside is = absurd (cc)
+walked-found gates before same links pair (suc turns) zero place inside is = absurd (cc)
+walked-found gates before same links pair (suc turns) (suc here) place inside is =
+    by (is_pair pair (get_or gates here pair)) refl (walked-found gates before same links pair turns (get_or before here 0) place (links here 0 (omega arith))) is
+  where
+    by : (b : Bool) → is_pair pair (get_or gates here pair) ≡ b
+        → (walked gates before pair turns (get_or before here 0) ≡ Found place → (place < length gates) × (get_or gates place pair ≡ pair))
+        → (if b then Found here else walked gates before pair turns (get_or before here 0)) ≡ Found place
+        → (place < length gates) × (get_or gates place pair ≡ pair)
+    by true at later is = let same_place : here ≡ place = cc in rw (← same_place) (omega arith, is_pair-true pair (get_or gates here pair) at)
+    by false at later is = later is
+
+-- a walk for another gate along a chain that ends: it is not behind a full chain
+walked-not_full : (gates : List Gate) (before : List ℕ) (pair other : Gate) (turns entry : ℕ)
+    → walked gates before pair turns entry ≡ Ended → walked gates before other turns entry ≡ Full → ⊥
+unfolding walked
+walked-not_full gates before pair other zero entry ended full = absurd (cc)
+walked-not_full gates before pair other (suc turns) zero ended full = absurd (cc)
+walked-not_full gates before pair other (suc turns) (suc here) ended full =
+    by (is_pair pair (get_or gates here pair)) (is_pair other (get_or gates here other)) (walked-not_full gates before pair other turns (get_or before here 0)) ended full
+  where
+    by : (b c : Bool) → (walked gates before pair turns (get_or before here 0) ≡ Ended → walked gates before other turns (get_or before here 0) ≡ Full → ⊥)
+        → (if b then Found here else walked gates before pair turns (get_or before here 0)) ≡ Ended
+        → (if c then Found here else walked gates before other turns (get_or before here 0)) ≡ Full → ⊥
+    by true c later ended full = absurd (cc)
+    by false true later ended full = absurd (cc)
+    by false false later ended full = later ended full
+
+-- and it finds what it finds in a turn less
+walked-sooner : (gates : List Gate) (before : List ℕ) (pair other : Gate) (turns entry place : ℕ)
+    → walked gates before pair (suc turns) entry ≡ Ended → walked gates before other (suc turns) entry ≡ Found place → walked gates before other turns entry ≡ Found place
+unfolding walked
+walked-sooner gates before pair other turns zero place ended found = absurd (cc)
+walked-sooner gates before pair other zero (suc here) place ended found = by (is_pair pair (get_or gates here pair)) ended
+  where
+    by : (b : Bool) → (if b then Found here else Full) ≡ Ended → Full ≡ Found place
+    by true ended = absurd (cc)
+    by false ended = absurd (cc)
+walked-sooner gates before pair other (suc turns) (suc here) place ended found =
+    by (is_pair pair (get_or gates here pair)) (is_pair other (get_or gates here other)) refl (walked-sooner gates before pair other turns (get_or before here 0) place) ended found
+  where
+    by : (b c : Bool) → is_pair other (get_or gates here other) ≡ c
+        → (walked gates before pair (suc turns) (get_or before here 0) ≡ Ended → walked gates before other (suc turns) (get_or before here 0) ≡ Found place → walked gates before other turns (get_or before here 0) ≡ Found place)
+        → (if b then Found here else walked gates before pair (suc turns) (get_or before here 0)) ≡ Ended
+        → (if c then Found here else walked gates before other (suc turns) (get_or before here 0)) ≡ Found place
+        → walked gates before other (suc turns) (suc here) ≡ Found place
+    by true c at later ended found = absurd (cc)
+    by false true at later ended found = walked-there gates before other turns here at ∙ found
+    by false false at later ended found = walked-on gates before other turns here at ∙ later ended found
+
+-- what is found behind a walk
+found_by-walk : (w : Walk) (beyond : Option ℕ) (place : ℕ) → found_by w beyond ≡ Found place → (w ≡ Full → ⊥) → w ≡ Found place
+found_by-walk (Found here) beyond place is not_full = is
+found_by-walk Ended beyond place is not_full = is
+found_by-walk Full beyond place is not_full = absurd (not_full refl)
+
+found_by-ended : (w : Walk) (beyond : Option ℕ) → found_by w beyond ≡ Ended → w ≡ Ended
+found_by-ended (Found here) beyond is = is
+found_by-ended Ended beyond is = is
+found_by-ended Full None is = absurd (cc)
+found_by-ended Full (Some place) is = absurd (cc)
+
+found_by-full : (w : Walk) (beyond : Option ℕ) → found_by w beyond ≡ Full → (w ≡ Full) × (beyond ≡ None)
+found_by-full (Found here) beyond is = absurd (cc)
+found_by-full Ended beyond is = absurd (cc)
+found_by-full Full None is = (refl, refl)
+found_by-full Full (Some place) is = absurd (cc)
+
+-- an entry 0 behind a list's changes no entry, since behind the list are none
+get_or-zero : (xs : List ℕ) (i : ℕ) → get_or (xs ++ 0 ∷ []) i 0 ≡ get_or xs i 0
+get_or-zero [] zero = refl
+get_or-zero [] (suc i) = refl
+get_or-zero (x ∷ xs) zero = refl
+get_or-zero (x ∷ xs) (suc i) = get_or-zero xs i
+
+get_or-zeros : (xs : List ℕ) (i : ℕ) → get_or ((xs ++ 0 ∷ []) ++ 0 ∷ []) i 0 ≡ get_or xs i 0
+get_or-zeros xs i = get_or-zero (xs ++ 0 ∷ []) i ∙ get_or-zero xs i
+
+module _ (longest : ℕ) (n : Net) (last before : List ℕ) (beyond : Gate → Option ℕ) (found : AreFound longest n last before beyond) where
+  first_inside : (literal : ℕ) → get_or last literal 0 ≤ length n.gates
+  first_inside literal =
+      ⊎_elim (λ (h : literal < length last). found.firsts literal 0 h)
+      (λ (h : length last ≤ literal). let none = get_or_past last literal 0 h in omega (arith, none))
+      (cases_lt literal (length last))
+
+  -- what is found is the gate
+  pub found_there : (pair : Gate) (place : ℕ) → finds longest n.gates last before beyond pair ≡ Found place → (place < length n.gates) × (get_or n.gates place pair ≡ pair)
+  found_there pair place is = by (walked n.gates before pair longest (get_or last pair.rhs0 0)) (beyond pair) refl refl is
+    where
+      by : (w : Walk) (o : Option ℕ) → walked n.gates before pair longest (get_or last pair.rhs0 0) ≡ w → beyond pair ≡ o → found_by w o ≡ Found place → (place < length n.gates) × (get_or n.gates place pair ≡ pair)
+      by (Found here) o walk map is = walked-found n.gates before found.places found.links pair longest (get_or last pair.rhs0 0) place (first_inside pair.rhs0) (walk ∙ is)
+      by Ended o walk map is = absurd (cc)
+      by Full None walk map is = absurd (cc)
+      by Full (Some here) walk map is = let same : here ≡ place = cc in found.map pair place (map ∙ ap Some same)
+
+  -- no gate is one that is not found
+  no_gate : (pair : Gate) → ((place : ℕ) → finds longest n.gates last before beyond pair ≡ Found place → ⊥)
+      → (place : ℕ) (d : Gate) → place < length n.gates → is_pair pair (get_or n.gates place d) ≡ false
+  no_gate pair none place d inside = by (is_pair pair (get_or n.gates place d)) refl
+    where
+      by : (b : Bool) → is_pair pair (get_or n.gates place d) ≡ b → b ≡ false
+      by false is = refl
+      by true is = absurd (none place (ap (finds longest n.gates last before beyond) (sym (is_pair-true pair (get_or n.gates place d) is)) ∙ found.each place d inside))
+
+  -- what is found is where the gate stands
+  pub place-found : (pair : Gate) (w : Walk) → finds longest n.gates last before beyond pair ≡ w → place_of w ≡ position (is_pair pair) n.gates
+  place-found pair (Found place) is =
+      let there = found_there pair place is in
+      let at : position_or_len (is_pair pair) n.gates ≡ place =
+      position_or_len_is (is_pair pair) n.gates place pair (omega (arith, there.0))
+      (λ k before_it. earlier k before_it (is_pair pair (get_or n.gates k pair)) refl)
+      (λ _. ap (is_pair pair) there.1 ∙ is_pair-same pair)
+      in
+      sym (ap (λ (i : ℕ). if nat_lt i (length n.gates) then Some i else None) at ∙ ap (λ (b : Bool). if b then Some place else None) (inside there.0))
+    where
+      inside : place < length n.gates → nat_lt place (length n.gates) ≡ true
+      inside h = grind (arith, nat_tests)
+
+      earlier : (k : ℕ) → k < place → (b : Bool) → is_pair pair (get_or n.gates k pair) ≡ b → b ≡ false
+      earlier k before_it false at = refl
+      earlier k before_it true at =
+          let there = found_there pair place is in
+          let here : finds longest n.gates last before beyond pair ≡ Found k =
+          ap (finds longest n.gates last before beyond) (sym (is_pair-true pair (get_or n.gates k pair) at)) ∙ found.each k pair (omega (arith, there.0))
+          in
+          let same : k ≡ place = cc in
+          absurd (omega arith)
+  place-found pair Ended is = sym (absent (no_gate pair (λ place there. absurd (cc))))
+    where
+      absent : ((place : ℕ) (d : Gate) → place < length n.gates → is_pair pair (get_or n.gates place d) ≡ false) → position (is_pair pair) n.gates ≡ None
+      absent none = position-absent (is_pair pair) n.gates none
+  place-found pair Full is = sym (position-absent (is_pair pair) n.gates (no_gate pair (λ place there. absurd (cc))))
+
+  -- a look-up in the maps of a net with a gate more, where the walk and the map say the same as before
+  finds-kept : (pair r : Gate) (last2 : List ℕ) (beyond2 : Gate → Option ℕ) (link : ℕ) → get_or last2 r.rhs0 0 ≡ get_or last r.rhs0 0 → beyond2 r ≡ beyond r
+      → finds longest (n.gates ++ pair ∷ []) last2 (before ++ link ∷ []) beyond2 r ≡ finds longest n.gates last before beyond r
+  finds-kept pair r last2 beyond2 link first map =
+      let walk : walked (n.gates ++ pair ∷ []) (before ++ link ∷ []) r longest (get_or last2 r.rhs0 0) ≡ walked n.gates before r longest (get_or last r.rhs0 0) =
+      ap (walked (n.gates ++ pair ∷ []) (before ++ link ∷ []) r longest) first
+      ∙ walked-push n.gates before pair link found.places found.links r longest (get_or last r.rhs0 0) (first_inside r.rhs0)
+      in
+      ap (λ w. found_by w (beyond2 r)) walk ∙ ap (found_by (walked n.gates before r longest (get_or last r.rhs0 0))) map
+
+  -- a pair that is not found is not that of a gate
+  other_pair : (pair r : Gate) (place : ℕ) → (finds longest n.gates last before beyond pair ≡ Found place → ⊥) → finds longest n.gates last before beyond r ≡ Found place → is_pair r pair ≡ false
+  other_pair pair r place absent is = by (is_pair r pair) refl
+    where
+      by : (b : Bool) → is_pair r pair ≡ b → b ≡ false
+      by false at = refl
+      by true at = absurd (absent (ap (finds longest n.gates last before beyond) (is_pair-true r pair at) ∙ is))
+
+-- an entry stays one with a gate more
+longer : (n : Net) (pair : Gate) (entry : ℕ) → entry ≤ length n.gates → entry ≤ length (n.gates ++ pair ∷ [])
+longer n pair entry h = let pushed = length_push n.gates pair in omega arith
+
+-- the literals of a net with a gate more
+two_more : (n : Net) (pair : Gate) (xs : List ℕ) → length xs ≡ 2 * (variables n + 1) → length ((xs ++ 0 ∷ []) ++ 0 ∷ []) ≡ 2 * (n.inputs + n.latches + length (n.gates ++ pair ∷ []) + 1)
+two_more n pair xs same =
+    let first = length_push xs 0 in
+    let second = length_push (xs ++ 0 ∷ []) 0 in
+    let pushed = length_push n.gates pair in
+    omega arith
+
+zeros_within : (most : ℕ) (xs : List ℕ) → All (λ entry. entry ≤ most) xs → All (λ entry. entry ≤ most) ((xs ++ 0 ∷ []) ++ 0 ∷ [])
+zeros_within most xs all =
+    let none : 0 ≤ most = omega arith in
+    All-push (λ entry. entry ≤ most) (xs ++ 0 ∷ []) 0 (All-push (λ entry. entry ≤ most) xs 0 all none) none
+
+-- each gate is found where each was, as long as those and the new one are
+each_pushed : (old new : Gate → Walk) (gates : List Gate) (pair : Gate) → ((r : Gate) (place : ℕ) → old r ≡ Found place → new r ≡ Found place) → new pair ≡ Found (length gates)
+    → ((place : ℕ) (d : Gate) → place < length gates → old (get_or gates place d) ≡ Found place)
+    → (place : ℕ) (d : Gate) → place < length (gates ++ pair ∷ []) → new (get_or (gates ++ pair ∷ []) place d) ≡ Found place
+each_pushed old new gates pair kept own each place d inside =
+    ⊎_elim (λ (h : place < length gates). ap new (get_or_append_left gates (pair ∷ []) d place h) ∙ kept (get_or gates place d) place (each place d h))
+    (λ (h : length gates ≤ place).
+    let pushed = length_push gates pair in
+    let end : length gates ≡ place = omega arith in
+    ap new (get_or_push gates pair d place end) ∙ own ∙ ap Found end)
+    (cases_lt place (length gates))
+
+-- the gates are found with one more that a chain took
+module _ (turns : ℕ) (n : Net) (last before : List ℕ) (beyond beyond2 : Gate → Option ℕ) (pair : Gate)
+    (found : AreFound (suc turns) n last before beyond) (literal : pair.rhs0 < length last)
+    (state : finds (suc turns) n.gates last before beyond pair ≡ Ended) (same_map : (r : Gate) → beyond2 r ≡ beyond r) where
+  abbrev last_chained : List ℕ
+  last_chained = (slice_set last pair.rhs0 (length before + 1) ++ 0 ∷ []) ++ 0 ∷ []
+
+  abbrev before_chained : List ℕ
+  before_chained = before ++ get_or last pair.rhs0 0 ∷ []
+
+  own_first : get_or last_chained pair.rhs0 0 ≡ suc (length n.gates)
+  own_first =
+      let places = found.places in
+      let at : length before + 1 ≡ suc (length n.gates) = omega arith in
+      get_or-zeros (slice_set last pair.rhs0 (length before + 1)) pair.rhs0 ∙ get_or-set_same last pair.rhs0 (length before + 1) 0 literal ∙ at
+
+  -- the walk for a gate of the chain, past the new one
+  chained_walk : (r : Gate) (place : ℕ) → r.rhs0 ≡ pair.rhs0 → finds (suc turns) n.gates last before beyond r ≡ Found place
+      → walked (n.gates ++ pair ∷ []) before_chained r (suc turns) (get_or last_chained r.rhs0 0) ≡ Found place
+  chained_walk r place same is =
+      let first : ℕ = get_or last pair.rhs0 0 in
+      let other = other_pair (suc turns) n last before beyond found pair r place (λ there. absurd (cc)) is in
+      let ended : walked n.gates before pair (suc turns) first ≡ Ended = found_by-ended _ (beyond pair) state in
+      let there : walked n.gates before r (suc turns) first ≡ Found place =
+      ap (λ l. walked n.gates before r (suc turns) (get_or last l 0)) (sym same)
+      ∙ found_by-walk _ (beyond r) place is (λ full. walked-not_full n.gates before pair r (suc turns) first ended (ap (λ l. walked n.gates before r (suc turns) (get_or last l 0)) (sym same) ∙ full))
+      in
+      ap (λ l. walked (n.gates ++ pair ∷ []) before_chained r (suc turns) (get_or last_chained l 0)) same
+      ∙ ap (walked (n.gates ++ pair ∷ []) before_chained r (suc turns)) own_first
+      ∙ walked-on (n.gates ++ pair ∷ []) before_chained r turns (length n.gates) (ap (is_pair r) (get_or_push n.gates pair r (length n.gates) refl) ∙ other)
+      ∙ ap (walked (n.gates ++ pair ∷ []) before_chained r turns) (get_or_push before first 0 (length n.gates) found.places)
+      ∙ walked-push n.gates before pair first found.places found.links r turns first (first_inside (suc turns) n last before beyond found pair.rhs0)
+      ∙ walked-sooner n.gates before pair r turns first place ended there
+
+  chained_kept : (r : Gate) (place : ℕ) → finds (suc turns) n.gates last before beyond r ≡ Found place
+      → finds (suc turns) (n.gates ++ pair ∷ []) last_chained before_chained beyond2 r ≡ Found place
+  chained_kept r place is =
+      ⊎_elim (λ (same : r.rhs0 ≡ pair.rhs0). ap (λ w. found_by w (beyond2 r)) (chained_walk r place same is))
+      (λ (other : r.rhs0 ≡ pair.rhs0 → ⊥).
+      finds-kept (suc turns) n last before beyond found pair r last_chained beyond2 (get_or last pair.rhs0 0)
+      (get_or-zeros (slice_set last pair.rhs0 (length before + 1)) r.rhs0 ∙ get_or-set_other last pair.rhs0 r.rhs0 (length before + 1) 0 other) (same_map r) ∙ is)
+      (cases_eq r.rhs0 pair.rhs0)
+
+  chained_own : finds (suc turns) (n.gates ++ pair ∷ []) last_chained before_chained beyond2 pair ≡ Found (length n.gates)
+  chained_own =
+      ap (λ w. found_by w (beyond2 pair))
+      (ap (walked (n.gates ++ pair ∷ []) before_chained pair (suc turns)) own_first
+      ∙ walked-there (n.gates ++ pair ∷ []) before_chained pair turns (length n.gates) (ap (is_pair pair) (get_or_push n.gates pair pair (length n.gates) refl) ∙ is_pair-same pair))
+
+  pub AreFound-chained : AreFound (suc turns) (record n { gates = n.gates ++ pair ∷ [] }) last_chained before_chained beyond2
+  AreFound-chained = record {
+    literals = two_more n pair (slice_set last pair.rhs0 (length before + 1)) (length-set last pair.rhs0 (length before + 1) ∙ found.literals);
+    places = length_push before (get_or last pair.rhs0 0) ∙ ap (λ k. k + 1) found.places ∙ sym (length_push n.gates pair);
+    firsts = zeros_within (length (n.gates ++ pair ∷ [])) (slice_set last pair.rhs0 (length before + 1))
+        (All-set (λ entry. entry ≤ length (n.gates ++ pair ∷ [])) last pair.rhs0 (length before + 1)
+        (let pushed = length_push n.gates pair in let places = found.places in omega arith)
+        (All-weaker (λ entry. entry ≤ length n.gates) (λ entry. entry ≤ length (n.gates ++ pair ∷ [])) (longer n pair) last found.firsts));
+    links = All-push (λ entry. entry ≤ length (n.gates ++ pair ∷ [])) before (get_or last pair.rhs0 0)
+        (All-weaker (λ entry. entry ≤ length n.gates) (λ entry. entry ≤ length (n.gates ++ pair ∷ [])) (longer n pair) before found.links)
+        (longer n pair (get_or last pair.rhs0 0) (first_inside (suc turns) n last before beyond found pair.rhs0));
+    map = λ r place is.
+        let there = found.map r place (sym (same_map r) ∙ is) in
+        let inside = there.0 in
+        let pushed = length_push n.gates pair in
+        (omega arith, get_or_append_left n.gates (pair ∷ []) r place inside ∙ there.1);
+    each = each_pushed (finds (suc turns) n.gates last before beyond) (finds (suc turns) (n.gates ++ pair ∷ []) last_chained before_chained beyond2) n.gates pair chained_kept chained_own found.each;
+  }
+
+-- the gates are found with one more that stands in the map, since its chain is full
+module _ (longest : ℕ) (n : Net) (last before : List ℕ) (beyond beyond2 : Gate → Option ℕ) (pair : Gate)
+    (found : AreFound longest n last before beyond) (state : finds longest n.gates last before beyond pair ≡ Full)
+    (own_map : beyond2 pair ≡ Some (length before)) (same_map : (r : Gate) → is_pair pair r ≡ false → beyond2 r ≡ beyond r) where
+  abbrev last_full : List ℕ
+  last_full = (last ++ 0 ∷ []) ++ 0 ∷ []
+
+  abbrev before_full : List ℕ
+  before_full = before ++ get_or last pair.rhs0 0 ∷ []
+
+  differs_back : (r : Gate) → is_pair r pair ≡ false → is_pair pair r ≡ false
+  differs_back r is_not = by (is_pair pair r) refl
+    where
+      by : (b : Bool) → is_pair pair r ≡ b → b ≡ false
+      by false at = refl
+      by true at = sym (is_pair-same pair) ∙ (ap (λ g. is_pair g pair) (sym (is_pair-true pair r at)) ∙ is_not)
+
+  full_kept : (r : Gate) (place : ℕ) → finds longest n.gates last before beyond r ≡ Found place
+      → finds longest (n.gates ++ pair ∷ []) last_full before_full beyond2 r ≡ Found place
+  full_kept r place is =
+      let other = other_pair longest n last before beyond found pair r place (λ there. absurd (cc)) is in
+      finds-kept longest n last before beyond found pair r last_full beyond2 (get_or last pair.rhs0 0) (get_or-zeros last r.rhs0) (same_map r (differs_back r other)) ∙ is
+
+  full_own : finds longest (n.gates ++ pair ∷ []) last_full before_full beyond2 pair ≡ Found (length n.gates)
+  full_own =
+      let walk : walked (n.gates ++ pair ∷ []) before_full pair longest (get_or last_full pair.rhs0 0) ≡ Full =
+      ap (walked (n.gates ++ pair ∷ []) before_full pair longest) (get_or-zeros last pair.rhs0)
+      ∙ walked-push n.gates before pair (get_or last pair.rhs0 0) found.places found.links pair longest (get_or last pair.rhs0 0) (first_inside longest n last before beyond found pair.rhs0)
+      ∙ (found_by-full _ (beyond pair) state).0
+      in
+      ap (λ w. found_by w (beyond2 pair)) walk ∙ ap (found_by Full) (own_map ∙ ap Some found.places)
+
+  full_map : (r : Gate) (place : ℕ) → beyond2 r ≡ Some place → (place < length (n.gates ++ pair ∷ [])) × (get_or (n.gates ++ pair ∷ []) place r ≡ r)
+  full_map r place is = by (is_pair pair r) refl
+    where
+      by : (b : Bool) → is_pair pair r ≡ b → (place < length (n.gates ++ pair ∷ [])) × (get_or (n.gates ++ pair ∷ []) place r ≡ r)
+      by false other =
+          let there = found.map r place (sym (same_map r other) ∙ is) in
+          let inside = there.0 in
+          let pushed = length_push n.gates pair in
+          (omega arith, get_or_append_left n.gates (pair ∷ []) r place inside ∙ there.1)
+      by true same =
+          let it : r ≡ pair = is_pair-true pair r same in
+          let at : Some (length before) ≡ Some place = sym own_map ∙ (ap beyond2 (sym it) ∙ is) in
+          let place_is : length before ≡ place = cc in
+          let pushed = length_push n.gates pair in
+          let places = found.places in
+          (omega arith, get_or_push n.gates pair r place (sym places ∙ place_is) ∙ sym it)
+
+  pub AreFound-full : AreFound longest (record n { gates = n.gates ++ pair ∷ [] }) last_full before_full beyond2
+  AreFound-full = record {
+    literals = two_more n pair last found.literals;
+    places = length_push before (get_or last pair.rhs0 0) ∙ ap (λ k. k + 1) found.places ∙ sym (length_push n.gates pair);
+    firsts = zeros_within (length (n.gates ++ pair ∷ [])) last (All-weaker (λ entry. entry ≤ length n.gates) (λ entry. entry ≤ length (n.gates ++ pair ∷ [])) (longer n pair) last found.firsts);
+    links = All-push (λ entry. entry ≤ length (n.gates ++ pair ∷ [])) before (get_or last pair.rhs0 0)
+        (All-weaker (λ entry. entry ≤ length n.gates) (λ entry. entry ≤ length (n.gates ++ pair ∷ [])) (longer n pair) before found.links)
+        (longer n pair (get_or last pair.rhs0 0) (first_inside longest n last before beyond found pair.rhs0));
+    map = full_map;
+    each = each_pushed (finds longest n.gates last before beyond) (finds longest (n.gates ++ pair ∷ []) last_full before_full beyond2) n.gates pair full_kept full_own found.each;
+  }
+
+-- where no gate stands, all are found
+pub AreFound-none : (most : ℕ) (n : Net) (last before : List ℕ) (beyond : Gate → Option ℕ) → n.gates ≡ [] → last ≡ replicate (2 * (variables n + 1)) 0 → before ≡ [] → ((pair : Gate) → beyond pair ≡ None)
+    → AreFound most n last before beyond
+AreFound-none most n last before beyond none zeros no_links empty =
+    let no_gates : length n.gates ≡ 0 = ap length none in
+    let no_link : length before ≡ 0 = ap length no_links in
+    record {
+      literals = ap length zeros ∙ length-replicate (2 * (variables n + 1)) 0;
+      places = omega arith;
+      firsts = rw zeros (All-replicate (λ entry. entry ≤ length n.gates) (2 * (variables n + 1)) 0 (omega arith));
+      links = λ k d inside. absurd (omega arith);
+      map = λ pair place is. absurd (let nothing = empty pair in cc);
+      each = λ place d inside. absurd (omega arith);
+    }
+
+-- the same gates are found by the same lists and a map that says the same
+pub AreFound-same : (most : ℕ) (n : Net) (last last2 before before2 : List ℕ) (beyond beyond2 : Gate → Option ℕ) → last2 ≡ last → before2 ≡ before → ((r : Gate) → beyond2 r ≡ beyond r)
+    → AreFound most n last before beyond → AreFound most n last2 before2 beyond2
+AreFound-same most n last last2 before before2 beyond beyond2 same_last same_before same_map found =
+    let maps : beyond2 ≡ beyond = λ i r. same_map r i in
+    rw (same_last, same_before, maps) found
+
+pub finds-same : (most : ℕ) (gates : List Gate) (last last2 before before2 : List ℕ) (beyond beyond2 : Gate → Option ℕ) → last2 ≡ last → before2 ≡ before → ((r : Gate) → beyond2 r ≡ beyond r)
+    → (pair : Gate) → finds most gates last2 before2 beyond2 pair ≡ finds most gates last before beyond pair
+finds-same most gates last last2 before before2 beyond beyond2 same_last same_before same_map pair =
+    let maps : beyond2 ≡ beyond = λ i r. same_map r i in
+    λ i. finds most gates (same_last i) (same_before i) (maps i) pair
+
+-- the gates are found with one more that was noted, behind room that was made for it
+pub AreFound-noted : (turns : ℕ) (n : Net) (last last2 before before2 : List ℕ) (beyond beyond2 : Gate → Option ℕ) (pair : Gate) (is_full : Bool)
+    → AreFound (suc turns) n last before beyond → pair.rhs0 < length last → finds (suc turns) n.gates last before beyond pair ≡ (if is_full then Full else Ended)
+    → last2 ≡ ((if is_full then last else slice_set last pair.rhs0 (length before + 1)) ++ 0 ∷ []) ++ 0 ∷ []
+    → before2 ≡ before ++ get_or last pair.rhs0 0 ∷ []
+    → ((r : Gate) → beyond2 r ≡ (if is_full && is_pair pair r then Some (length before) else beyond r))
+    → AreFound (suc turns) (record n { gates = n.gates ++ pair ∷ [] }) last2 before2 beyond2
+AreFound-noted turns n last last2 before before2 beyond beyond2 pair false found literal state last_is before_is map_is =
+    rw (last_is, before_is) (AreFound-chained turns n last before beyond beyond2 pair found literal state map_is)
+AreFound-noted turns n last last2 before before2 beyond beyond2 pair true found literal state last_is before_is map_is =
+    rw (last_is, before_is) (AreFound-full (suc turns) n last before beyond beyond2 pair found state
+    (map_is pair ∙ ap (λ (b : Bool). if b then Some (length before) else beyond pair) (is_pair-same pair))
+    (λ r other. map_is r ∙ ap (λ (b : Bool). if b then Some (length before) else beyond r) other))
