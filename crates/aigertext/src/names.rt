@@ -1,9 +1,9 @@
 //! The lines of the names that positions have.
-ghost use Rattle.std.specs.Prelude.{◌≡◌, ◌≤◌, ◌<◌, ◌∷◌, ◌++◌, [], length, decimal, Some};
+ghost use Rattle.std.specs.Prelude.{◌≡◌, ◌≤◌, ◌∷◌, ◌++◌, [], length, decimal, Some};
 ghost use Rattle.base.specs.Device.{CountsFaults};
-ghost use Rattle.aiger.specs.Circuit.{section_count, section_names, name_of};
-ghost use Rattle.aigertext.specs.Ascii.{name_line, name_lines, leaf_names, property_names, liveness_names, all_names};
 ghost use Rattle.base.specs.Pieces.{Puts};
+ghost use Rattle.aiger.specs.Circuit.{letter, name_of};
+ghost use Rattle.aigertext.specs.Ascii.{name_line, names_of, all_names};
 
 use crate::line::Line;
 use crate::sections::put_line;
@@ -19,136 +19,24 @@ pub fn put_all_names<K: Sink>(
     ensures puts { Puts result (K.written sink.old) (K.written sink.new) outbox.old outbox.new (all_names circuit.now) }
     ensures failures { CountsFaults result (K.failures sink.old) (K.failures sink.new) }
 {
-    match put_leaf_names(outbox, sink, circuit) {
-        Ok(()) => {}
-        Err(fault) => return Err(fault),
+    for section in &Section::ALL {
+        put_names(outbox, sink, circuit, *section)?;
     }
-    match put_property_names(outbox, sink, circuit) {
-        Ok(()) => {}
-        Err(fault) => return Err(fault),
-    }
-    put_liveness_names(outbox, sink, circuit)
+    Ok(())
 }
 
-/// Puts the names of the inputs and latches.
-fn put_leaf_names<K: Sink>(
-    outbox: &mut Outbox,
-    sink: &mut K,
-    circuit: &Circuit,
-) -> Result<(), DeviceFault>
-    ensures puts { Puts result (K.written sink.old) (K.written sink.new) outbox.old outbox.new (leaf_names circuit.now) }
-    ensures failures { CountsFaults result (K.failures sink.old) (K.failures sink.new) }
-{
-    match put_names(
-        outbox,
-        sink,
-        circuit,
-        Section::Input,
-        b'i',
-        circuit.inputs(),
-    ) {
-        Ok(()) => {}
-        Err(fault) => return Err(fault),
-    }
-    put_names(
-        outbox,
-        sink,
-        circuit,
-        Section::Latch,
-        b'l',
-        circuit.latches().len() as u32,
-    )
-}
-
-/// Puts the names of the outputs, bad properties and constraints.
-fn put_property_names<K: Sink>(
-    outbox: &mut Outbox,
-    sink: &mut K,
-    circuit: &Circuit,
-) -> Result<(), DeviceFault>
-    ensures puts { Puts result (K.written sink.old) (K.written sink.new) outbox.old outbox.new (property_names circuit.now) }
-    ensures failures { CountsFaults result (K.failures sink.old) (K.failures sink.new) }
-{
-    match put_names(
-        outbox,
-        sink,
-        circuit,
-        Section::Output,
-        b'o',
-        circuit.outputs().len() as u32,
-    ) {
-        Ok(()) => {}
-        Err(fault) => return Err(fault),
-    }
-    match put_names(
-        outbox,
-        sink,
-        circuit,
-        Section::Bad,
-        b'b',
-        circuit.bads().len() as u32,
-    ) {
-        Ok(()) => {}
-        Err(fault) => return Err(fault),
-    }
-    put_names(
-        outbox,
-        sink,
-        circuit,
-        Section::Constraint,
-        b'c',
-        circuit.constraints().len() as u32,
-    )
-}
-
-/// Puts the names of the justice properties and fairness constraints.
-fn put_liveness_names<K: Sink>(
-    outbox: &mut Outbox,
-    sink: &mut K,
-    circuit: &Circuit,
-) -> Result<(), DeviceFault>
-    ensures puts { Puts result (K.written sink.old) (K.written sink.new) outbox.old outbox.new (liveness_names circuit.now) }
-    ensures failures { CountsFaults result (K.failures sink.old) (K.failures sink.new) }
-{
-    match put_names(
-        outbox,
-        sink,
-        circuit,
-        Section::Justice,
-        b'j',
-        circuit.justice_count() as u32,
-    ) {
-        Ok(()) => {}
-        Err(fault) => return Err(fault),
-    }
-    put_names(
-        outbox,
-        sink,
-        circuit,
-        Section::Fair,
-        b'f',
-        circuit.fair().len() as u32,
-    )
-}
-
-/// Puts a line for each name of a section of so many positions.
+/// Puts a line for each name of a section.
 fn put_names<K: Sink>(
     outbox: &mut Outbox,
     sink: &mut K,
     circuit: &Circuit,
     section: Section,
-    letter: u8,
-    count: u32,
 ) -> Result<(), DeviceFault>
-    requires { section_count section circuit.now ≡ count }
-    ensures puts { Puts result (K.written sink.old) (K.written sink.new) outbox.old outbox.new (name_lines letter 0 (section_names section circuit.now)) }
+    ensures puts { Puts result (K.written sink.old) (K.written sink.new) outbox.old outbox.new (names_of circuit.now section) }
     ensures failures { CountsFaults result (K.failures sink.old) (K.failures sink.new) }
 {
-    for position in 0..count {
-        match put_name_at(outbox, sink, circuit, section, letter, position) {
-            Ok(()) => {}
-            Err(fault) => return Err(fault),
-        }
+    for position in 0..circuit.count(section) as u32 {
+        put_name_at(outbox, sink, circuit, section, position)?;
     }
     Ok(())
 }
@@ -159,15 +47,14 @@ fn put_name_at<K: Sink>(
     sink: &mut K,
     circuit: &Circuit,
     section: Section,
-    letter: u8,
     position: u32,
 ) -> Result<(), DeviceFault>
-    ensures puts { Puts result (K.written sink.old) (K.written sink.new) outbox.old outbox.new (name_line letter position (name_of circuit.now section position)) }
+    ensures puts { Puts result (K.written sink.old) (K.written sink.new) outbox.old outbox.new (name_line (letter section) position (name_of circuit.now section position)) }
     ensures failures { CountsFaults result (K.failures sink.old) (K.failures sink.new) }
 {
     match circuit.name(section, position as usize) {
         None => Ok(()),
-        Some(name) => put_name(outbox, sink, letter, position, name),
+        Some(name) => put_name(outbox, sink, section, position, name),
     }
 }
 
@@ -175,21 +62,15 @@ fn put_name_at<K: Sink>(
 fn put_name<K: Sink>(
     outbox: &mut Outbox,
     sink: &mut K,
-    letter: u8,
+    section: Section,
     position: u32,
     name: &[u8],
 ) -> Result<(), DeviceFault>
-    ensures puts { Puts result (K.written sink.old) (K.written sink.new) outbox.old outbox.new (name_line letter position (Some name.now)) }
+    ensures puts { Puts result (K.written sink.old) (K.written sink.new) outbox.old outbox.new (name_line (letter section) position (Some name.now)) }
     ensures failures { CountsFaults result (K.failures sink.old) (K.failures sink.new) }
 {
-    match put_place(outbox, sink, letter, position) {
-        Ok(()) => {}
-        Err(fault) => return Err(fault),
-    }
-    match put_bytes(outbox, sink, name) {
-        Ok(()) => {}
-        Err(fault) => return Err(fault),
-    }
+    put_place(outbox, sink, section, position)?;
+    put_bytes(outbox, sink, name)?;
     put_bytes(outbox, sink, b"\n")
 }
 
@@ -201,18 +82,18 @@ fn put_bytes<K: Sink>(outbox: &mut Outbox, sink: &mut K, bytes: &[u8]) -> Result
     outbox.put(sink, bytes)
 }
 
-/// Puts the front of a name's line: a section's letter, the position and a space.
+/// Puts the front of a name's line: the section's letter, the position and a space.
 fn put_place<K: Sink>(
     outbox: &mut Outbox,
     sink: &mut K,
-    letter: u8,
+    section: Section,
     position: u32,
 ) -> Result<(), DeviceFault>
-    ensures puts { Puts result (K.written sink.old) (K.written sink.new) outbox.old outbox.new (letter ∷ decimal position ++ 32 ∷ []) }
+    ensures puts { Puts result (K.written sink.old) (K.written sink.new) outbox.old outbox.new (letter section ∷ decimal position ++ 32 ∷ []) }
     ensures failures { CountsFaults result (K.failures sink.old) (K.failures sink.new) }
 {
     let mut line = Line::new();
     line.before(position);
-    line.byte(letter);
+    line.byte(section.letter());
     put_line(outbox, sink, &line)
 }

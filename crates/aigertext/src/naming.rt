@@ -14,16 +14,10 @@ use base::{cut_at, decimal, next_line};
 fn section(letter: u8) -> Option<Section>
     ensures { result ≡ section_of letter }
 {
-    match letter {
-        b'i' => Some(Section::Input),
-        b'l' => Some(Section::Latch),
-        b'o' => Some(Section::Output),
-        b'b' => Some(Section::Bad),
-        b'c' => Some(Section::Constraint),
-        b'j' => Some(Section::Justice),
-        b'f' => Some(Section::Fair),
-        _ => None,
-    }
+    Section::ALL
+        .iter()
+        .copied()
+        .find(|section| section.letter() == letter)
 }
 
 /// Gives a name to a position of a section.

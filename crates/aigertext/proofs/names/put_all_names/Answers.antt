@@ -1,22 +1,19 @@
-use Rattle.std.proofs.Common.{refl}
-use Rattle.aigertext.specs.Ascii.{all_names, leaf_names, property_names}
-use Rattle.base.proofs.PieceLemmas.{put_none, put_more, put_fails, puts_last}
+use Rattle.std.proofs.Common.{refl, rules, arith}
+use Rattle.std.proofs.lemmas.Result.{err_from_is_err_and}
+use Rattle.base.proofs.PieceLemmas.{put_more, put_fails}
+use Rattle.aigertext.proofs.SectionLemmas.{all_names_at}
 use Rattle.aigertext.proofs.names.put_all_names.Goals as goal
 
-pub returns-in-Err-clause-puts : goal.returns-in-Err-clause-puts
-returns-in-Err-clause-puts g c =
-    let circuit = c.args.circuit.now in
-    put_fails _ _ _ _ _ _ _ (leaf_names circuit) _ (put_none _ c.args.outbox.now (all_names circuit)) c.in-Err.ensures.puts refl
+pub returns-in_err-put_names-clause-puts : goal.returns-in_err-put_names-clause-puts
+returns-in_err-put_names-clause-puts g c =
+    let is = err_from_is_err_and c.from_residual.result c.from_residual.ensures.1 in
+    rw is.1 (put_fails _ _ _ _ _ _ _ _ _ c.loop-section.invariant.put c.in_err-put_names.ensures.puts
+    (all_names_at c.loop-section.section-index c.args.circuit.now _ _ (omega (arith, c.loop-section-test.true)) refl))
 
-pub returns-in-Err-put_property_names-clause-puts : goal.returns-in-Err-put_property_names-clause-puts
-returns-in-Err-put_property_names-clause-puts g c =
-    let circuit = c.args.circuit.now in
-    let put0 = put_more _ _ _ _ _ _ _ _ (leaf_names circuit) _ (put_none _ c.args.outbox.now (all_names circuit)) c.in-Ok.ensures.puts refl in
-    put_fails _ _ _ _ _ _ _ (property_names circuit) _ put0 c.in-Err-put_property_names.ensures.puts refl
-
-pub returns-clause-puts : goal.returns-clause-puts
-returns-clause-puts g c =
-    let circuit = c.args.circuit.now in
-    let put0 = put_more _ _ _ _ _ _ _ _ (leaf_names circuit) _ (put_none _ c.args.outbox.now (all_names circuit)) c.in-Ok.ensures.puts refl in
-    let put1 = put_more _ _ _ _ _ _ _ _ (property_names circuit) _ put0 c.in-Ok-put_property_names.ensures.puts refl in
-    puts_last c.put_liveness_names.result _ _ _ _ _ _ _ _ put1 c.put_liveness_names.ensures.puts
+pub loop-section-preserved : goal.loop-section-preserved
+loop-section-preserved g c = record {
+  put =
+      put_more _ _ _ _ _ _ _ _ _ _ c.loop-section.invariant.put c.in_ok-put_names.ensures.puts
+      (all_names_at c.loop-section.section-index c.args.circuit.now _ _ (omega (arith, c.loop-section-test.true)) refl);
+  counted = search rules;
+}
