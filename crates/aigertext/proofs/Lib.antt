@@ -2,6 +2,7 @@ mod LineLemmas
 mod SectionLemmas
 mod DeltaLemmas
 mod BinaryLemmas
+mod FormLemmas
 mod FieldLemmas
 mod GateLemmas
 mod PropertyLemmas

@@ -18,10 +18,7 @@ pub fn put_justice<K: Sink>(
     ensures puts { Puts result (K.written sink.old) (K.written sink.new) outbox.old outbox.new (justice_lines circuit.now.justice) }
     ensures failures { CountsFaults result (K.failures sink.old) (K.failures sink.new) }
 {
-    match put_sizes(outbox, sink, circuit) {
-        Ok(()) => {}
-        Err(fault) => return Err(fault),
-    }
+    put_sizes(outbox, sink, circuit)?;
     put_lists(outbox, sink, circuit)
 }
 
@@ -36,10 +33,7 @@ fn put_sizes<K: Sink>(
 {
     let mut line = Line::new();
     for index in 0..circuit.justice_count() {
-        match put_number(outbox, sink, &mut line, circuit.justice(index).len() as u32) {
-            Ok(()) => {}
-            Err(fault) => return Err(fault),
-        }
+        put_number(outbox, sink, &mut line, circuit.justice(index).len() as u32)?;
     }
     Ok(())
 }
@@ -54,10 +48,7 @@ fn put_lists<K: Sink>(
     ensures failures { CountsFaults result (K.failures sink.old) (K.failures sink.new) }
 {
     for index in 0..circuit.justice_count() {
-        match put_literals(outbox, sink, circuit.justice(index)) {
-            Ok(()) => {}
-            Err(fault) => return Err(fault),
-        }
+        put_literals(outbox, sink, circuit.justice(index))?;
     }
     Ok(())
 }

@@ -17,21 +17,9 @@ pub fn put_properties<K: Sink>(
     ensures puts { Puts result (K.written sink.old) (K.written sink.new) outbox.old outbox.new (property_lines circuit.now) }
     ensures failures { CountsFaults result (K.failures sink.old) (K.failures sink.new) }
 {
-    match put_literals(outbox, sink, circuit.outputs()) {
-        Ok(()) => {}
-        Err(fault) => return Err(fault),
-    }
-    match put_literals(outbox, sink, circuit.bads()) {
-        Ok(()) => {}
-        Err(fault) => return Err(fault),
-    }
-    match put_literals(outbox, sink, circuit.constraints()) {
-        Ok(()) => {}
-        Err(fault) => return Err(fault),
-    }
-    match put_justice(outbox, sink, circuit) {
-        Ok(()) => {}
-        Err(fault) => return Err(fault),
-    }
+    put_literals(outbox, sink, circuit.outputs())?;
+    put_literals(outbox, sink, circuit.bads())?;
+    put_literals(outbox, sink, circuit.constraints())?;
+    put_justice(outbox, sink, circuit)?;
     put_literals(outbox, sink, circuit.fair())
 }

@@ -1,7 +1,7 @@
 use Rattle.std.proofs.Common.{◌≡◌, ◌+◌, ◌-◌}
 use Rattle.aigertext.specs.Ascii.{input_lines}
 use Rattle.base.proofs.PieceLemmas.{Put}
-use Rattle.aigertext.proofs.sections.put_inputs.Given as goal
+use Rattle.aigertext.proofs.sections.put_input_lines.Given as goal
 
 abbrev pub invariant-loop-index : goal.invariant-loop-index
 invariant-loop-index g l = record {
