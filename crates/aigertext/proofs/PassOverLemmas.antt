@@ -13,7 +13,7 @@ use Rattle.aiger.specs.Loose.{Loose, empty_loose, defined_count, with_input_line
 use Rattle.aiger.specs.Renumbering.{used_lines, alone, AnswersNumber, LeadsToCycle, LeadsAlong}
 use Rattle.aiger.specs.declared.fault.LooseFault.{LooseFault}
 use Rattle.aiger.specs.declared.fault.LooseFault.TheVariants.{Cycle}
-use Rattle.aigertext.specs.declared.counts.Counts.{Counts}
+use Rattle.aigertext.specs.declared.reading.counts.Counts.{Counts}
 use Rattle.aigertext.specs.declared.fault.Stop.{Stop}
 use Rattle.aigertext.specs.declared.fault.Why.{Why}
 use Rattle.aigertext.specs.Reading.{cut, line_at, Properties, properties_at}

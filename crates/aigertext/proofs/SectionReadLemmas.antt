@@ -6,9 +6,9 @@ use Rattle.aiger.specs.declared.circuit.Gate.{Gate}
 use Rattle.aiger.specs.declared.circuit.Latch.{Latch}
 use Rattle.aiger.specs.Net.{variables}
 use Rattle.aiger.specs.Circuit.{Circuit, net, fresh_circuit, fresh_latch}
-use Rattle.aigertext.specs.declared.counts.Counts.{Counts}
+use Rattle.aigertext.specs.declared.reading.counts.Counts.{Counts}
 use Rattle.aigertext.specs.declared.fault.Stop.{Stop}
-use Rattle.aigertext.specs.declared.literals.LiteralSection.TheVariants.{Output, Bad, Constraint, Fair}
+use Rattle.aigertext.specs.declared.reading.literals.LiteralSection.TheVariants.{Output, Bad, Constraint, Fair}
 use Rattle.aigertext.specs.Reading.{◌>>=◌, Properties, lists_of, literals_at, sizes_at, nexts_at, gates_at, properties_at, names_at, binary_at, nameless}
 use Rattle.aigertext.specs.Passes.{behind, behind_lines_of, total_from, Takes, HasNoProperties, lists_at, with_literals, with_lists, with_gates, with_latches, with_properties}
 use Rattle.aigertext.proofs.BackLemmas.{ok_same, not_err, bind-back}

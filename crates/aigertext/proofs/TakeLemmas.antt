@@ -11,8 +11,8 @@ use Rattle.aiger.specs.Literal.{variable}
 use Rattle.aiger.specs.Net.{variables}
 use Rattle.aiger.specs.Circuit.{Circuit, net, with_gate, with_latch, property_refusal, literal_refusal, gate_refusal}
 use Rattle.aigertext.specs.declared.fault.Stop.{Stop}
-use Rattle.aigertext.specs.declared.literals.LiteralSection.{LiteralSection}
-use Rattle.aigertext.specs.declared.literals.LiteralSection.TheVariants.{Output, Bad, Constraint, Fair}
+use Rattle.aigertext.specs.declared.reading.literals.LiteralSection.{LiteralSection}
+use Rattle.aigertext.specs.declared.reading.literals.LiteralSection.TheVariants.{Output, Bad, Constraint, Fair}
 use Rattle.aigertext.specs.Reading.{line_at, literal_of, next_of, gate_at, literals_at, nexts_at, gates_at}
 use Rattle.aigertext.specs.Passes.{onto, literals_of, with_literals, with_gates, with_latches}
 use Rattle.aigertext.proofs.PassLemmas.{onto_step, onto_stop, onto_done, gates_step, gates_stop, gates_done}

@@ -4,8 +4,8 @@ use Rattle.std.specs.List.{list_all, AllByRecursion}
 use Rattle.std.proofs.lemmas.Bool.Decides.{nat_tests}
 use Rattle.aiger.specs.Limits.{greatest_count}
 use Rattle.aiger.specs.Loose.{Loose, is_small, use_refusal, loose_justice_refusal}
-use Rattle.aigertext.specs.declared.literals.LiteralSection.{LiteralSection}
-use Rattle.aigertext.specs.declared.literals.LiteralSection.TheVariants.{Output, Bad, Constraint, Fair}
+use Rattle.aigertext.specs.declared.reading.literals.LiteralSection.{LiteralSection}
+use Rattle.aigertext.specs.declared.reading.literals.LiteralSection.TheVariants.{Output, Bad, Constraint, Fair}
 use Rattle.aigertext.specs.Reading.{literals_at, lists_of}
 use Rattle.aigertext.specs.AsciiReading.{with_properties_of}
 use Rattle.aigertext.specs.Passes.{HasNoUses, uses_of, with_uses, with_use_lists}

@@ -7,13 +7,13 @@ use Rattle.aiger.specs.Circuit.{Circuit}
 use Rattle.aiger.specs.Loose.{Loose}
 use Rattle.aiger.specs.Renumbering.{IsRenumbered}
 use Rattle.aigertext.specs.AsciiReading.{AnswersUndefined, AnswersCycle, AnswersText, IsFaultOf}
-use Rattle.aigertext.specs.declared.counts.Counts.{Counts}
+use Rattle.aigertext.specs.declared.reading.counts.Counts.{Counts}
 use Rattle.aigertext.specs.declared.fault.ReadFault.{ReadFault}
 use Rattle.aigertext.specs.declared.fault.Stop.{Stop}
 use Rattle.aigertext.specs.declared.fault.Why.{Why}
 use Rattle.aigertext.specs.declared.fault.Why.TheVariants as why
-use Rattle.aigertext.specs.declared.literals.LiteralSection.{LiteralSection}
-use Rattle.aigertext.specs.declared.literals.LiteralSection.TheVariants.{Output, Bad, Constraint, Fair}
+use Rattle.aigertext.specs.declared.reading.literals.LiteralSection.{LiteralSection}
+use Rattle.aigertext.specs.declared.reading.literals.LiteralSection.TheVariants.{Output, Bad, Constraint, Fair}
 use Rattle.aigertext.specs.Reading.{◌>>=◌, line_at, size_of, literals_at, nexts_at, properties_at, delta_at, below, at_or_below, Properties, lists_of}
 
 -- ---- the first pass: only what stands behind the lines

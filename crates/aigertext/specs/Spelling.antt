@@ -11,7 +11,7 @@ use Rattle.aiger.specs.Circuit.{Circuit, IsCircuit, letter, with_name, name_refu
 use Rattle.aiger.specs.Limits.{greatest_count}
 use Rattle.aiger.specs.Loose.{Loose, IsLoose, defined_count}
 use Rattle.aiger.specs.Renumbering.{IsRenumbered}
-use Rattle.aigertext.specs.declared.counts.Counts.{Counts}
+use Rattle.aigertext.specs.declared.reading.counts.Counts.{Counts}
 use Rattle.aigertext.specs.declared.forms.Form.{Form}
 use Rattle.aigertext.specs.declared.forms.Form.TheVariants.{Ascii, Binary}
 use Rattle.aigertext.specs.Ascii.{numbers_line, form_word, literal_lines, justice_lines, property_lines}

@@ -6,12 +6,20 @@ ghost use Rattle.base.specs.Pieces.{Puts};
 ghost use Rattle.aigertext.specs.Ascii.{ascii_text};
 ghost use Rattle.aigertext.specs.Binary.{binary_text, circuit_text};
 
+mod deltas;
+mod gates;
+mod header;
+mod inputs_and_latches;
+mod line;
+mod names;
+mod properties;
+
 use crate::forms::Form;
-use crate::gates::{first_gate, put_gates};
-use crate::header::put_header;
-use crate::names::put_all_names;
-use crate::properties::put_properties;
-use crate::sections::{put_inputs, put_latches};
+use crate::writing::gates::{first_gate, put_gates};
+use crate::writing::header::put_header;
+use crate::writing::inputs_and_latches::{put_inputs, put_latches};
+use crate::writing::names::put_all_names;
+use crate::writing::properties::put_properties;
 use aiger::Circuit;
 use base::{DeviceFault, Outbox, Sink};
 
