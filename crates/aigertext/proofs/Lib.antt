@@ -24,12 +24,12 @@ mod PassLemmas
 mod DigitReadLemmas
 mod TakeLemmas
 mod ListLemmas
+mod PropertyListLemmas
 mod NamingLemmas
 mod SectionReadLemmas
 mod WhyLemmas
 mod AnswerLemmas
 mod FileLemmas
-mod UseLemmas
 mod PassOverLemmas
 mod HeaderSmallLemmas
 mod OneAnswerLemmas

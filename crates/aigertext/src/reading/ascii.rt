@@ -11,10 +11,10 @@ ghost use Rattle.aigertext.specs.Counts.{AreSmall, Fits};
 
 use crate::fault::{Stop, Why};
 use crate::reading::ascii_definitions::{push_gate_lines, push_inputs, push_latches};
-use crate::reading::ascii_properties::push_file_properties;
 use crate::reading::counts::Counts;
 use crate::reading::lines::stop;
 use crate::reading::names::give_names;
+use crate::reading::properties::push_properties;
 use aiger::{Circuit, Loose, LooseFault};
 use base::next_line;
 use std::alloc::Global;
@@ -40,7 +40,7 @@ fn read_lists<'a>(
         Ok(properties) => properties,
         Err(stop) => return Err(stop),
     };
-    let gates = match push_file_properties(alloc, lists, properties, counts) {
+    let gates = match push_properties(alloc, lists, properties, counts) {
         Ok(gates) => gates,
         Err(stop) => return Err(stop),
     };

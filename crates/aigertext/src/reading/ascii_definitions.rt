@@ -7,7 +7,7 @@ ghost use Rattle.aigertext.specs.AsciiReading.{input_of, latch_of, gate_of, onto
 use crate::fault::Stop;
 use crate::reading::ascii_lines::{gate, input, latch};
 use crate::reading::lines::{line, stop};
-use crate::reading::literals::want_of_memory;
+use crate::reading::properties::want_of_memory;
 use aiger::{GateLine, LatchLine, Lit, Loose};
 
 /// The literal of an input's line at the front of a text, and the text behind it.

@@ -1,71 +1,20 @@
 //! Reading what stands behind the header of a binary text.
 ghost use Rattle.std.specs.Prelude.{◌≡◌, Ok};
-ghost use Rattle.aiger.specs.Circuit.{net, fresh_circuit};
-ghost use Rattle.aiger.specs.Net.{variables};
+ghost use Rattle.aiger.specs.Circuit.{fresh_circuit};
 ghost use Rattle.aigertext.specs.declared.forms.Form.TheVariants as form;
-ghost use Rattle.aigertext.specs.Reading.{binary_at, properties_at};
-ghost use Rattle.aigertext.specs.Passes.{ReadsAs, BecomesAt, Takes, HasNoProperties, behind_lines_of, with_properties};
+ghost use Rattle.aigertext.specs.Reading.{binary_at};
+ghost use Rattle.aigertext.specs.Passes.{ReadsAs, BecomesAt, behind_lines_of};
 ghost use Rattle.aigertext.specs.Counts.{AreSmall, Fits};
 
 use crate::fault::Stop;
 use crate::reading::binary_definitions::{push_gates, set_latches};
 use crate::reading::counts::Counts;
-use crate::reading::first_pass::{check_lines, check_sizes};
-use crate::reading::justice::push_lists;
+use crate::reading::first_pass::check_lines;
 use crate::reading::lines::stop;
-use crate::reading::literals::{LiteralSection, push_literals, want_of_memory};
 use crate::reading::names::give_names;
+use crate::reading::properties::{push_properties, want_of_memory};
 use aiger::Circuit;
 use std::alloc::Global;
-
-/// Adds all properties by their lines, and answers the text behind them.
-#[tactic(auto, unfolding(crate::specs::Reading::properties_at))]
-fn push_properties<'a>(
-    alloc: Global,
-    circuit: &mut Circuit,
-    text: &'a [u8],
-    counts: &Counts,
-) -> Result<&'a [u8], Stop>
-    requires defined { counts.now.variables ≡ variables (net circuit.old) }
-    requires none { HasNoProperties circuit.old }
-    requires small { AreSmall counts.now }
-    ensures { Takes (λ x. x.now) result (with_properties circuit.old) circuit.new (properties_at counts.now text.now) }
-{
-    let greatest = 2 * counts.variables + 1;
-    let rest = match push_literals(
-        circuit,
-        LiteralSection::Output,
-        text,
-        greatest,
-        counts.outputs,
-    ) {
-        Ok(rest) => rest,
-        Err(stop) => return Err(stop),
-    };
-    let rest = match push_literals(circuit, LiteralSection::Bad, rest, greatest, counts.bads) {
-        Ok(rest) => rest,
-        Err(stop) => return Err(stop),
-    };
-    let sizes = match push_literals(
-        circuit,
-        LiteralSection::Constraint,
-        rest,
-        greatest,
-        counts.constraints,
-    ) {
-        Ok(sizes) => sizes,
-        Err(stop) => return Err(stop),
-    };
-    let (_, listed) = match check_sizes(sizes, counts.justice) {
-        Ok(found) => found,
-        Err(stop) => return Err(stop),
-    };
-    let rest = match push_lists(alloc, circuit, sizes, listed, greatest, counts.justice) {
-        Ok(rest) => rest,
-        Err(stop) => return Err(stop),
-    };
-    push_literals(circuit, LiteralSection::Fair, rest, greatest, counts.fair)
-}
 
 /// Reads what stands behind a header onto a circuit of so many inputs and latches, where the gates' text is known.
 fn push_sections(

@@ -8,7 +8,7 @@ ghost use Rattle.aigertext.specs.Passes.{Takes, with_latches, with_gates};
 use crate::fault::Stop;
 use crate::reading::deltas::gate;
 use crate::reading::lines::{next_latch_line, stop};
-use crate::reading::literals::want_of_memory;
+use crate::reading::properties::want_of_memory;
 use aiger::Circuit;
 
 /// Sets all latches by their lines, the first of which has the given literal, and answers the text behind them.

@@ -1,6 +1,7 @@
 use Rattle.std.proofs.Common.{subst, inl, inr}
 use Rattle.aigertext.specs.Passes.{BecomesAt}
 use Rattle.aigertext.proofs.SectionReadLemmas.{first_own, gates_few, all_latches, all_variables, still_variables, none_yet, stops_at_latch, stops_at_property, stops_at_gate, names_left, same_greatest}
+use Rattle.aigertext.proofs.PropertyListLemmas.{circuit_takes_all}
 use Rattle.aigertext.proofs.reading.binary.push_sections.Goals as goal
 
 pub push_gates-requires-clause-next : goal.push_gates-requires-clause-next
@@ -31,10 +32,11 @@ returns-in-Err-set_latches c =
       | inr read ↦ inr (stops_at_latch c.args.counts.now c.args.text.now c.in-Err-set_latches.stop read)
     ]
 
-pub push_properties-requires-clause-defined : goal.push_properties-requires-clause-defined
-push_properties-requires-clause-defined c =
-    still_variables c.args.counts.now c.requires.fits c.requires.small.variables c.args.circuit.now c.requires.fresh c.push_gates.new.circuit c.in-Ok.ensures.read.0 c.in-Ok.ensures.read.1.1 c.in-Ok.ensures.count
-    c.set_latches.new.circuit c.in-Ok-set_latches.ensures.read.0 c.in-Ok-set_latches.ensures.read.1.1 c.in-Ok-set_latches.ensures.count
+pub push_properties-requires-clause-taken : goal.push_properties-requires-clause-taken
+push_properties-requires-clause-taken c =
+    circuit_takes_all _ c.set_latches.new.circuit
+    (same_greatest _ _ (still_variables c.args.counts.now c.requires.fits c.requires.small.variables c.args.circuit.now c.requires.fresh c.push_gates.new.circuit c.in-Ok.ensures.read.0 c.in-Ok.ensures.read.1.1 c.in-Ok.ensures.count
+    c.set_latches.new.circuit c.in-Ok-set_latches.ensures.read.0 c.in-Ok-set_latches.ensures.read.1.1 c.in-Ok-set_latches.ensures.count))
 
 pub push_properties-requires-clause-none : goal.push_properties-requires-clause-none
 push_properties-requires-clause-none c =
@@ -45,7 +47,7 @@ pub returns-in-Ok-push_properties : goal.returns-in-Ok-push_properties
 returns-in-Ok-push_properties c =
     subst (BecomesAt c.give_names.result c.give_names.new.circuit)
     (names_left c.args.counts.now c.args.text.now c.args.gates.now c.requires.gates c.in-Ok-set_latches.ensures.read.0 c.in-Ok-set_latches.properties.now c.in-Ok-push_properties.field-0.now c.in-Ok.names.now
-    c.in-Ok-push_properties.ensures.0 c.in-Ok.ensures.read.0 c.args.circuit.now c.push_gates.new.circuit c.set_latches.new.circuit c.push_properties.new.circuit
+    c.in-Ok-push_properties.ensures.0 c.in-Ok.ensures.read.0 c.args.circuit.now c.push_gates.new.circuit c.set_latches.new.circuit c.push_properties.new.lists
     c.in-Ok-set_latches.ensures.read.1.0 c.in-Ok-push_properties.ensures.1.0 c.in-Ok.ensures.read.1.0 c.requires.fresh c.in-Ok.ensures.read.1.1 c.in-Ok-set_latches.ensures.read.1.1 c.in-Ok-push_properties.ensures.1.1)
     c.give_names.ensures
 

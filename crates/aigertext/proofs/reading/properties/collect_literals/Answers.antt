@@ -1,6 +1,6 @@
 use Rattle.std.proofs.Common.{append_assoc, append-nil, sym, inr}
 use Rattle.aigertext.proofs.TakeLemmas.{behind_list, push_begins, push_step, push_stop, push_done}
-use Rattle.aigertext.proofs.reading.justice.collect_literals.Goals as goal
+use Rattle.aigertext.proofs.reading.properties.collect_literals.Goals as goal
 
 pub loop-index-init : goal.loop-index-init
 loop-index-init c = push_begins behind_list c.args.greatest c.args.count c.args.list.now.items c.args.text.now (sym (append-nil c.args.list.now.items))
