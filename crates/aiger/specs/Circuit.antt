@@ -13,7 +13,7 @@ use Rattle.aiger.specs.declared.fault.CircuitFault.TheVariants.{LiteralOutOfRang
 use Rattle.aiger.specs.Limits.{greatest_count}
 use Rattle.aiger.specs.Literal.{variable}
 use Rattle.aiger.specs.Net.{Net, variables, IsDefined, AreOrdered}
-pub use Rattle.aiger.specs.Names.{Place, NameMap, rank, place_cmp, name_in, with_name_in, Names, given_name, name_at, IsName, is_name}
+pub use Rattle.aiger.specs.Names.{Place, NameMap, rank, letter, all_sections, place_cmp, name_in, with_name_in, Names, given_name, name_at, IsName, is_name}
 pub use Rattle.aiger.specs.Refusal.{RefusesBy, RefusesOnlyBy}
 
 pub record Circuit : Type 0 where

@@ -1,5 +1,5 @@
 -- The names of positions ("AIGER 1.9 and Beyond", the symbol table): a map from section and position.
-use Rattle.std.specs.Prelude.{ℕ, ◌<◌, ◌≤◌, ◌&&◌, Bool, List, length, Option, None, Some, All, slice_get, nat_lt, nat_le}
+use Rattle.std.specs.Prelude.{ℕ, ◌<◌, ◌≤◌, ◌&&◌, Bool, List, [], ◌∷◌, length, Option, None, Some, All, slice_get, nat_lt, nat_le}
 use Rattle.std.specs.List.{list_all}
 use Rattle.std.specs.Map.{lookup}
 use Rattle.std.specs.BTreeMap.{insert_entry, is_at}
@@ -18,6 +18,20 @@ rank Bad = 3
 rank Constraint = 4
 rank Justice = 5
 rank Fair = 6
+
+-- the letter of a section
+abbrev pub letter : Section → ℕ
+letter Input = 105
+letter Latch = 108
+letter Output = 111
+letter Bad = 98
+letter Constraint = 99
+letter Justice = 106
+letter Fair = 102
+
+-- the sections in the order of their ranks
+abbrev pub all_sections : List Section
+all_sections = Input ∷ Latch ∷ Output ∷ Bad ∷ Constraint ∷ Justice ∷ Fair ∷ []
 
 -- a place of a name: its section's rank, and the position
 abbrev pub Place : Type 0

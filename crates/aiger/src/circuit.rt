@@ -61,6 +61,36 @@ pub enum Section {
     Fair,
 }
 
+impl Section {
+    ghost use Rattle.aiger.specs.Names.{letter};
+
+    /// All sections, in the order in which their names stand in a file.
+    pub const ALL: [Section; 7] = [
+        Section::Input,
+        Section::Latch,
+        Section::Output,
+        Section::Bad,
+        Section::Constraint,
+        Section::Justice,
+        Section::Fair,
+    ];
+
+    /// The letter that its names begin with in a file.
+    pub fn letter(self) -> u8
+        ensures { result ≡ letter self }
+    {
+        match self {
+            Section::Input => b'i',
+            Section::Latch => b'l',
+            Section::Output => b'o',
+            Section::Bad => b'b',
+            Section::Constraint => b'c',
+            Section::Justice => b'j',
+            Section::Fair => b'f',
+        }
+    }
+}
+
 /// An and-inverter circuit: inputs, latches, gates, outputs, bad properties, constraints, justice
 /// properties, fairness constraints and names.
 ///
@@ -310,21 +340,6 @@ impl Circuit {
         lits.iter().all(|lit| lit.var() <= greatest)
     }
 
-    /// How many positions a section has.
-    fn count(&self, section: Section) -> usize
-        ensures { result ≡ section_count section self.now }
-    {
-        match section {
-            Section::Input => self.inputs as usize,
-            Section::Latch => self.latches.len(),
-            Section::Output => self.outputs.len(),
-            Section::Bad => self.bads.len(),
-            Section::Constraint => self.constraints.len(),
-            Section::Justice => self.justice.count(),
-            Section::Fair => self.fair.len(),
-        }
-    }
-
     /// How many inputs there are.
     pub fn inputs(&self) -> u32
         ensures count { result ≡ self.now.inputs }
@@ -396,6 +411,22 @@ impl Circuit {
         ensures valid { IsCircuit self.now }
     {
         &self.fair
+    }
+
+    /// How many positions a section has.
+    pub fn count(&self, section: Section) -> usize
+        ensures count { result ≡ section_count section self.now }
+        ensures valid { IsCircuit self.now }
+    {
+        match section {
+            Section::Input => self.inputs as usize,
+            Section::Latch => self.latches.len(),
+            Section::Output => self.outputs.len(),
+            Section::Bad => self.bads.len(),
+            Section::Constraint => self.constraints.len(),
+            Section::Justice => self.justice.count(),
+            Section::Fair => self.fair.len(),
+        }
     }
 
     /// The name of a position of a section, if there is such a position and it has a name.

@@ -1,9 +1,10 @@
 //! Laws of circuits and their traces, and worked rows: functions that do nothing, whose contracts are the laws.
-ghost use Rattle.std.specs.Prelude.{◌≡◌, ℕ, ◌+◌, ◌*◌, ◌<◌, ◌↔◌, ◌⊎◌, List, [], ◌∷◌, Bool, true, false, not, ◌&&◌, All, length, map, None, Some};
+ghost use Rattle.std.specs.Prelude.{◌≡◌, ℕ, ◌+◌, ◌*◌, ◌<◌, ◌↔◌, ◌⊎◌, List, [], ◌∷◌, Bool, true, false, not, ◌&&◌, All, length, map, None, Some, codes};
 ghost use Rattle.aiger.specs.Literal.{Valuation, literal_value, negation};
 ghost use Rattle.aiger.specs.Net.{Satisfies, AreOrdered};
-ghost use Rattle.aiger.specs.Circuit.{Circuit, IsCircuit, NameMap, name_in, name_of, with_name, name_refusal};
+ghost use Rattle.aiger.specs.Circuit.{Circuit, IsCircuit, NameMap, rank, letter, all_sections, name_in, name_of, with_name, name_refusal};
 ghost use Rattle.aiger.specs.declared.circuit.Section.{Section};
+ghost use Rattle.aiger.specs.declared.circuit.TheConstants.Section.{ALL};
 ghost use Rattle.aiger.specs.Trace.{IsTrace, SameTrace, AreInitial};
 ghost use Rattle.aiger.specs.declared.fault.CircuitFault.TheVariants.{LiteralOutOfRange, TooBig};
 ghost use Rattle.aiger.specs.Loose.{Loose, IsLoose, HasDefinitions, empty_loose, with_input_line, line_refusal, use_refusal};
@@ -106,6 +107,13 @@ pub fn worked_traces()
     prove!(Lit::FALSE.number() == 0);
     prove!(Lit::TRUE.number() == 1);
 }
+
+/// The sections in order, each with its letter. It does nothing: its contract is the rows.
+pub fn worked_sections()
+    ensures all { ALL ≡ all_sections }
+    ensures ranks { map rank all_sections ≡ 0 ∷ 1 ∷ 2 ∷ 3 ∷ 4 ∷ 5 ∷ 6 ∷ [] }
+    ensures letters { map letter all_sections ≡ codes "ilobcjf" }
+{}
 
 /// Worked rows of the lists of a file and their renumbering. It does nothing: its contract is the
 /// rows.

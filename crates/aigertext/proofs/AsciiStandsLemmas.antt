@@ -6,7 +6,7 @@ use Rattle.aiger.specs.Limits.{greatest_count}
 use Rattle.aiger.specs.Loose.{Loose, IsLoose}
 use Rattle.aiger.specs.Renumbering.{IsRenumbered}
 use Rattle.aiger.proofs.SectionNameLemmas.{few_positions}
-use Rattle.aigertext.specs.declared.counts.Counts.{Counts}
+use Rattle.aigertext.specs.declared.reading.counts.Counts.{Counts}
 use Rattle.aigertext.specs.declared.fault.Stop.{Stop}
 use Rattle.aigertext.specs.declared.forms.Form.{Form}
 use Rattle.aigertext.specs.declared.forms.Form.TheVariants.{Ascii, Binary}

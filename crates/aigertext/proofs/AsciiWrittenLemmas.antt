@@ -9,7 +9,7 @@ use Rattle.aiger.specs.Circuit.{Circuit, IsCircuit, IsNamed, net}
 use Rattle.aiger.specs.Loose.{IsLoose}
 use Rattle.aiger.specs.OwnLists.{own_inputs, own_latches, own_gates, own_lists}
 use Rattle.aiger.specs.Renumbering.{IsRenumbered}
-use Rattle.aigertext.specs.declared.counts.Counts.{Counts}
+use Rattle.aigertext.specs.declared.reading.counts.Counts.{Counts}
 use Rattle.aigertext.specs.declared.forms.Form.TheVariants.{Ascii}
 use Rattle.aigertext.specs.Ascii.{numbers_line, header, reset_numbers, input_lines, latch_lines, gate_lines, property_lines, all_names, ascii_text}
 use Rattle.aigertext.specs.Counts.{counts_in, counts_of_file}

@@ -6,7 +6,7 @@ use Rattle.base.specs.Lines.{HasNone, IsLine}
 use Rattle.base.proofs.DecimalLemmas.{number_of-decimal}
 use Rattle.aiger.specs.Limits.{greatest_count}
 use Rattle.aiger.specs.Circuit.{Circuit, IsCircuit}
-use Rattle.aigertext.specs.declared.counts.Counts.{Counts}
+use Rattle.aigertext.specs.declared.reading.counts.Counts.{Counts}
 use Rattle.aigertext.specs.declared.forms.Form.{Form}
 use Rattle.aigertext.specs.declared.forms.Form.TheVariants.{Ascii, Binary}
 use Rattle.aigertext.specs.Ascii.{numbers_line, form_word}

@@ -1,6 +1,6 @@
 -- What holds of the numbers of a header that is read.
 use Rattle.std.proofs.Common.{◌≡◌, List, ℕ, Ok}
-use Rattle.aigertext.specs.declared.counts.Counts.{Counts}
+use Rattle.aigertext.specs.declared.reading.counts.Counts.{Counts}
 use Rattle.aigertext.specs.declared.forms.Form.{Form}
 use Rattle.aigertext.specs.Counts.{AreSmall, Fits}
 use Rattle.aigertext.specs.Reading.{line_at, header_of}

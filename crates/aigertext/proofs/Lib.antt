@@ -2,6 +2,7 @@ mod LineLemmas
 mod SectionLemmas
 mod DeltaLemmas
 mod BinaryLemmas
+mod FormLemmas
 mod FieldLemmas
 mod GateLemmas
 mod PropertyLemmas
@@ -23,12 +24,12 @@ mod PassLemmas
 mod DigitReadLemmas
 mod TakeLemmas
 mod ListLemmas
+mod PropertyListLemmas
 mod NamingLemmas
 mod SectionReadLemmas
 mod WhyLemmas
 mod AnswerLemmas
 mod FileLemmas
-mod UseLemmas
 mod PassOverLemmas
 mod HeaderSmallLemmas
 mod OneAnswerLemmas

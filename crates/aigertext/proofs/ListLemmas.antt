@@ -1,18 +1,15 @@
 -- Justice properties, each by its size and its literals, and all sizes before all literals: the same lists.
-use Rattle.std.proofs.Common.{◌≡◌, ℕ, zero, suc, ◌+◌, ◌-◌, ◌*◌, ◌<◌, ◌≤◌, List, [], ◌∷◌, ◌++◌, length, take, drop, None, Result, Ok, Err, nat_lt, nat_le, true, false, refl, sym, ap, subst, ◌∙◌, append_assoc, append-nil, length-append, arith}
+use Rattle.std.proofs.Common.{◌≡◌, ℕ, zero, suc, ◌+◌, ◌-◌, ◌<◌, ◌≤◌, List, [], ◌∷◌, ◌++◌, length, take, drop, None, Result, Ok, Err, nat_lt, nat_le, false, refl, sym, ap, subst, ◌∙◌, length-append, arith}
 use Rattle.std.specs.List.{sum, sum_by, AllByRecursion}
-use Rattle.std.proofs.lemmas.Bool.{and_from}
 use Rattle.std.proofs.lemmas.Bool.Decides.{nat_tests}
 use Rattle.std.proofs.lemmas.List.{take_at, drop_at}
 use Rattle.std.proofs.lemmas.List.Sums.{sum_by-append, sum_by-cons}
 use Rattle.aiger.specs.Limits.{greatest_count}
-use Rattle.aiger.specs.Literal.{variable}
-use Rattle.aiger.specs.Net.{Net, variables}
-use Rattle.aiger.specs.Circuit.{Circuit, net, justice_refusal, size_refusal, are_defined}
+use Rattle.aiger.specs.Circuit.{size_refusal}
 use Rattle.aigertext.specs.declared.fault.Stop.{Stop}
 use Rattle.aigertext.specs.declared.fault.Why.TheVariants as why
 use Rattle.aigertext.specs.Reading.{line_at, literal_of, literals_at, size_of, sizes_at, lists_of}
-use Rattle.aigertext.specs.Passes.{onto, lists_at, with_lists}
+use Rattle.aigertext.specs.Passes.{onto, lists_at}
 use Rattle.aigertext.proofs.BackLemmas.{ok_same, lines-back, within-back, SaysAt}
 use Rattle.aigertext.proofs.FieldLemmas.{line_read}
 use Rattle.aigertext.proofs.PassLemmas.{lines_more, lines_stop, onto_onto, sum_of_cons, lists_step, lists_no_size, lists_no_literal, lists_done}
@@ -139,19 +136,6 @@ lists_begin add greatest count c sizes text none =
     onto_none (Ok x) = refl
     onto_none (Err e) = refl
 
-pub with_no_lists : (c : Circuit) → c ≡ with_lists c []
-with_no_lists c = ap (λ (ls : List (List ℕ)). record c { justice = ls }) (sym (append-nil c.justice))
-
-pub with_more_lists : (c : Circuit) (ls ms : List (List ℕ)) → with_lists (with_lists c ls) ms ≡ with_lists c (ls ++ ms)
-with_more_lists c ls ms = ap (λ (l : List (List ℕ)). record c { justice = l }) (append_assoc c.justice ls ms)
-
-all_defined : (n : Net) (greatest : ℕ) (ls : List ℕ) → greatest ≡ 2 * variables n + 1 → AllByRecursion (λ l. l ≤ greatest) ls → are_defined n ls ≡ true
-all_defined n greatest [] is small = refl
-all_defined n greatest (l ∷ ls) is small =
-    let low : variable l ≤ variables n = omega (arith, small.0, is) in
-    let first : nat_le (variable l) (variables n) ≡ true = grind (arith, nat_tests) in
-    and_from (nat_le (variable l) (variables n)) (are_defined n ls) first (all_defined n greatest ls is small.1)
-
 module _ {C : Type 0} (add : C → List (List ℕ) → C) (greatest count index total : ℕ) (before now : C) (sizes sizes_rest text rest : List ℕ) (p : ListsPushed add greatest count index total before now sizes sizes_rest text rest) (more : index < count) where
   pub list_step : (size : ℕ) (sizes_after ls after : List ℕ) (next : C) → ((c : C) (ls ms : List (List ℕ)) → add (add c ls) ms ≡ add c (ls ++ ms))
       → line_at (size_of total) sizes_rest ≡ Ok (size, sizes_after) → literals_at greatest size rest ≡ Ok (ls, after) → next ≡ add now (ls ∷ []) → total + size ≤ 1073741824
@@ -183,15 +167,6 @@ module _ {C : Type 0} (add : C → List (List ℕ) → C) (greatest count index 
       let free : nat_le greatest_count (length justice) ≡ false = grind (arith, nat_tests) in
       let short : nat_lt greatest_count (sum_by length justice + length ls) ≡ false = grind (arith, nat_tests) in
       rw (free, short) refl
-
-pub list_accepts : (greatest count index total : ℕ) (before now : Circuit) (sizes sizes_rest text rest : List ℕ) (p : ListsPushed with_lists greatest count index total before now sizes sizes_rest text rest) (more : index < count)
-    → (size : ℕ) (ls after : List ℕ) → literals_at greatest size rest ≡ Ok (ls, after) → total + size ≤ 1073741824 → greatest ≡ 2 * variables (net before) + 1 → before.justice ≡ [] → count ≤ 1073741824 → justice_refusal now ls ≡ None
-list_accepts greatest count index total before now sizes sizes_rest text rest p more size ls after two small is none few =
-    let k = literals_small greatest size rest ls after two in
-    let justice : now.justice ≡ p.lists = ap (λ (c : Circuit). c.justice) p.is ∙ ap (λ (l : List (List ℕ)). l ++ p.lists) none in
-    let same : net now ≡ net before = ap net p.is in
-    let defined : are_defined (net now) ls ≡ true = ap (λ (n : Net). are_defined n ls) same ∙ all_defined (net before) greatest ls is k.small in
-    rw defined (list_fits with_lists greatest count index total before now sizes sizes_rest text rest p more now.justice size ls after justice two small few)
 
 pub lists_are_done : {C : Type 0} (add : C → List (List ℕ) → C) (greatest count index total : ℕ) (before now : C) (sizes sizes_rest text rest : List ℕ) (p : ListsPushed add greatest count index total before now sizes sizes_rest text rest) → count ≤ index → lists_at greatest 0 count sizes text ≡ Ok (p.lists, rest)
 lists_are_done add greatest count index total before now sizes sizes_rest text rest p all =

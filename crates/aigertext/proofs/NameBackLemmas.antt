@@ -1,6 +1,6 @@
 -- From what reading gives back to the text: names and the comment.
 use Rattle.std.proofs.Common.{◌≡◌, ℕ, ◌-◌, ◌^◌, ◌<◌, true, ◌==◌, nat_le, List, [], ◌∷◌, ◌++◌, decimal, codes, Option, Some, None, Result, Ok, Err, refl, sym, ap, subst, ◌∙◌, append_assoc, inl, inr, if◌then◌else◌, arith}
-use Rattle.std.specs.Prelude.{flat_map, is_some}
+use Rattle.std.specs.Prelude.{find, flat_map, is_some}
 use Rattle.std.specs.Str.{bytes_eq}
 use Rattle.std.proofs.lemmas.Bool.{eqb-true, leb-false}
 use Rattle.std.proofs.lemmas.Slice.Eq.{bytes_eq-Decides}
@@ -9,14 +9,13 @@ use Rattle.base.specs.Decimals.{number_of}
 use Rattle.base.proofs.DecimalLemmas.{chosen, number_is_decimal}
 use Rattle.base.proofs.LineLemmas.{parts_of_text}
 use Rattle.aiger.specs.declared.circuit.Section.{Section}
-use Rattle.aiger.specs.declared.circuit.Section.TheVariants as section
 use Rattle.aiger.specs.declared.fault.CircuitFault.{CircuitFault}
 use Rattle.aiger.specs.declared.fault.CircuitFault.TheVariants.{NoSuchPosition, NameTaken, BadName}
-use Rattle.aiger.specs.Circuit.{Circuit, section_count, name_of, with_name, name_refusal, is_name}
+use Rattle.aiger.specs.Circuit.{Circuit, letter, all_sections, section_count, name_of, with_name, name_refusal, is_name}
 use Rattle.aigertext.specs.declared.fault.Stop.{Stop}
 use Rattle.aigertext.specs.declared.fault.Why.{Why}
 use Rattle.aigertext.specs.declared.fault.Why.TheVariants as why
-use Rattle.aigertext.specs.Spelling.{letter, Given, given_line, GiveNames, IsComment}
+use Rattle.aigertext.specs.Spelling.{Given, given_line, GiveNames, IsComment}
 use Rattle.aigertext.specs.Reading.{◌>>=◌, at, cut, section_of, some_or, accepted, named_by, name_on, names_on, names_at}
 use Rattle.aigertext.proofs.BackLemmas.{ok_same, not_err, IsCut, cut-back}
 use Rattle.aigertext.proofs.NameReadLemmas.{HasFewPositions, few_with_name}
@@ -26,40 +25,20 @@ pub same_bytes : (xs ys : List ℕ) → bytes_eq xs ys ≡ true → xs ≡ ys
 same_bytes xs ys e = (bytes_eq-Decides xs ys).0 e
 
 -- a letter
-section_of-back : (b : ℕ) (s : Section) → section_of b ≡ Some s → b ≡ letter s
-unfolding section_of
-section_of-back b s e =
-    elim (chosen (b == 105) (Some section.Input) _ (Some s) e) [
-      | inl h ↦ eqb-true b 105 h.0 ∙ ap letter (some_same section.Input s h.1)
-      | inr h1 ↦
-          elim (chosen (b == 108) (Some section.Latch) _ (Some s) h1.1) [
-            | inl h ↦ eqb-true b 108 h.0 ∙ ap letter (some_same section.Latch s h.1)
-            | inr h2 ↦
-                elim (chosen (b == 111) (Some section.Output) _ (Some s) h2.1) [
-                  | inl h ↦ eqb-true b 111 h.0 ∙ ap letter (some_same section.Output s h.1)
-                  | inr h3 ↦
-                      elim (chosen (b == 98) (Some section.Bad) _ (Some s) h3.1) [
-                        | inl h ↦ eqb-true b 98 h.0 ∙ ap letter (some_same section.Bad s h.1)
-                        | inr h4 ↦
-                            elim (chosen (b == 99) (Some section.Constraint) _ (Some s) h4.1) [
-                              | inl h ↦ eqb-true b 99 h.0 ∙ ap letter (some_same section.Constraint s h.1)
-                              | inr h5 ↦
-                                  elim (chosen (b == 106) (Some section.Justice) _ (Some s) h5.1) [
-                                    | inl h ↦ eqb-true b 106 h.0 ∙ ap letter (some_same section.Justice s h.1)
-                                    | inr h6 ↦
-                                        elim (chosen (b == 102) (Some section.Fair) None (Some s) h6.1) [
-                                          | inl h ↦ eqb-true b 102 h.0 ∙ ap letter (some_same section.Fair s h.1)
-                                          | inr wrong ↦ absurd cc
-                                        ]
-                                  ]
-                            ]
-                      ]
-                ]
-          ]
+found_letter : (b : ℕ) (ss : List Section) (s : Section) → find (λ t. letter t == b) ss ≡ Some s → b ≡ letter s
+found_letter b [] s e = absurd cc
+found_letter b (t ∷ ss) s e =
+    elim (chosen (letter t == b) (Some t) (find (λ t. letter t == b) ss) (Some s) e) [
+      | inl h ↦ sym (eqb-true (letter t) b h.0) ∙ ap letter (some_same t s h.1)
+      | inr h ↦ found_letter b ss s h.1
     ]
   where
     some_same : (s t : Section) → Some s ≡ Some t → s ≡ t
     some_same s t e = cc
+
+section_of-back : (b : ℕ) (s : Section) → section_of b ≡ Some s → b ≡ letter s
+unfolding section_of
+section_of-back b s e = found_letter b all_sections s e
 
 -- a position that a circuit has a name for
 position_below : (c : Circuit) (s : Section) (p : ℕ) (name : List ℕ) → name_refusal c s p name ≡ None → p < section_count s c

@@ -12,9 +12,9 @@ use Rattle.aiger.specs.declared.circuit.Section.TheVariants as section
 use Rattle.aiger.specs.declared.fault.CircuitFault.TheVariants.{NoSuchPosition, NameTaken, BadName}
 use Rattle.aiger.proofs.SectionNameLemmas.{section_count-with_name}
 use Rattle.aiger.specs.Limits.{greatest_count}
-use Rattle.aiger.specs.Circuit.{Circuit, section_count, name_of, with_name, name_refusal, is_name}
+use Rattle.aiger.specs.Circuit.{Circuit, letter, section_count, name_of, with_name, name_refusal, is_name}
 use Rattle.aiger.specs.Names.{is_printable}
-use Rattle.aigertext.specs.Spelling.{letter, Given, given_line, GiveNames, IsComment}
+use Rattle.aigertext.specs.Spelling.{Given, given_line, GiveNames, IsComment}
 use Rattle.aigertext.specs.Reading.{cut, section_of, name_on, names_at}
 use Rattle.aigertext.proofs.FieldLemmas.{cut-found, decimal_has_none, none_of_both}
 

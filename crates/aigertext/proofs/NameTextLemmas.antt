@@ -13,9 +13,9 @@ use Rattle.std.proofs.lemmas.Map.Entries.{lookup_head, lookup_tail}
 use Rattle.aiger.specs.declared.circuit.Section.{Section}
 use Rattle.aiger.specs.declared.circuit.Section.TheVariants as section
 use Rattle.aiger.specs.Circuit.{Circuit, IsNamed, section_count, name_refusal, with_name}
-use Rattle.aiger.specs.Names.{Place, NameMap, rank, place_cmp, name_in, IsName, is_name, is_printable}
-use Rattle.aigertext.specs.Ascii.{name_line, name_lines, all_names}
-use Rattle.aigertext.specs.Spelling.{letter, Given, given_line, GiveNames}
+use Rattle.aiger.specs.Names.{Place, NameMap, rank, letter, all_sections, place_cmp, name_in, IsName, is_name, is_printable}
+use Rattle.aigertext.specs.Ascii.{name_line, name_lines, names_of, all_names}
+use Rattle.aigertext.specs.Spelling.{Given, given_line, GiveNames}
 use Rattle.aigertext.proofs.PlaceLemmas.{IsAhead, IsBehind, AreBehind, at_itself, apart, insert_last, unnamed_last, unnamed_ahead, behind_more, ahead_of_rest, ahead_chain}
 
 -- the section of a rank
@@ -197,13 +197,10 @@ lines_of-step (s ∷ ss) c r q name es rising (inr more) there ahead =
     let here : (k : ℕ) → IsAhead (rank s, k) (((r, q), name) ∷ es) = λ k. (inl below, none k) in
     rw (lines-ahead s (((r, q), name) ∷ es) 0 (section_count s c) here, lines-ahead s es 0 (section_count s c) none) (lines_of-step ss c r q name es rising.1 more there ahead)
 
-abbrev sections : List Section
-sections = section.Input ∷ section.Latch ∷ section.Output ∷ section.Bad ∷ section.Constraint ∷ section.Justice ∷ section.Fair ∷ []
-
-sections_rise : AreRising sections
+sections_rise : AreRising all_sections
 sections_rise = search rules
 
-has_rank : (s : Section) → HasRank (rank s) sections
+has_rank : (s : Section) → HasRank (rank s) all_sections
 has_rank section.Input = inl refl
 has_rank section.Latch = inr (inl refl)
 has_rank section.Output = inr (inr (inl refl))
@@ -216,27 +213,21 @@ no_lines : (ss : List Section) (c : Circuit) → lines_of ss c [] ≡ []
 no_lines [] c = refl
 no_lines (s ∷ ss) c = rw (lines-ahead s [] 0 (section_count s c) (λ k. tt)) (no_lines ss c)
 
-lines_of_entries : (c : Circuit) (es : NameMap) → AllByRecursion (IsNamed c) es → IsStrictlySortedBy place_cmp (keys_of es) → lines_of sections c es ≡ flat_map given_line (map given_of es)
+lines_of_entries : (c : Circuit) (es : NameMap) → AllByRecursion (IsNamed c) es → IsStrictlySortedBy place_cmp (keys_of es) → lines_of all_sections c es ≡ flat_map given_line (map given_of es)
 unfolding IsStrictlySortedBy
-lines_of_entries c [] named sorted = no_lines sections c
+lines_of_entries c [] named sorted = no_lines all_sections c
 lines_of_entries c (e ∷ es) named sorted =
     let n = named.0 in
-    let has : HasRank e.0.0 sections = subst (λ (r : ℕ). HasRank r sections) (sym n.is_section) (has_rank n.section) in
+    let has : HasRank e.0.0 all_sections = subst (λ (r : ℕ). HasRank r all_sections) (sym n.is_section) (has_rank n.section) in
     let there : (s : Section) → rank s ≡ e.0.0 → e.0.1 < section_count s c = λ s is. subst (λ (t : Section). e.0.1 < section_count t c) (sym (section_is c e n) ∙ (ap section_at (sym is) ∙ section_at-rank s)) n.position in
-    lines_of-step sections c e.0.0 e.0.1 e.1 es sections_rise has there (ahead_of_rest e.0 es sorted.0)
+    lines_of-step all_sections c e.0.0 e.0.1 e.1 es sections_rise has there (ahead_of_rest e.0 es sorted.0)
     ∙ ap (λ (l : List ℕ). given_line (given_of e) ++ l) (lines_of_entries c es named.1 sorted.1)
 
-all_names-lines : (c : Circuit) → all_names c ≡ lines_of sections c c.names
-all_names-lines c =
-    rw (
-      ← lines_in-is section.Input c.names 0 (section_count section.Input c),
-      ← lines_in-is section.Latch c.names 0 (section_count section.Latch c),
-      ← lines_in-is section.Output c.names 0 (section_count section.Output c),
-      ← lines_in-is section.Bad c.names 0 (section_count section.Bad c),
-      ← lines_in-is section.Constraint c.names 0 (section_count section.Constraint c),
-      ← lines_in-is section.Justice c.names 0 (section_count section.Justice c),
-      ← lines_in-is section.Fair c.names 0 (section_count section.Fair c),
-    ) (simp (append_assoc, append-nil))
+names-lines : (ss : List Section) (c : Circuit) → flat_map (names_of c) ss ≡ lines_of ss c c.names
+names-lines [] c = refl
+names-lines (s ∷ ss) c =
+    ap (λ (l : List ℕ). l ++ flat_map (names_of c) ss) (lines_in-is s c.names 0 (section_count s c))
+    ∙ ap (λ (l : List ℕ). lines_in s c.names 0 (section_count s c) ++ l) (names-lines ss c)
 
 pub all_names-given : (c : Circuit) → AllByRecursion (IsNamed c) c.names → IsStrictlySortedBy place_cmp (keys_of c.names) → all_names c ≡ flat_map given_line (map given_of c.names)
-all_names-given c named sorted = all_names-lines c ∙ lines_of_entries c c.names named sorted
+all_names-given c named sorted = names-lines all_sections c ∙ lines_of_entries c c.names named sorted

@@ -13,12 +13,13 @@ use Rattle.aiger.specs.Loose.{Loose, empty_loose, defined_count, with_input_line
 use Rattle.aiger.specs.Renumbering.{used_lines, alone, AnswersNumber, LeadsToCycle, LeadsAlong}
 use Rattle.aiger.specs.declared.fault.LooseFault.{LooseFault}
 use Rattle.aiger.specs.declared.fault.LooseFault.TheVariants.{Cycle}
-use Rattle.aigertext.specs.declared.counts.Counts.{Counts}
+use Rattle.aigertext.specs.declared.reading.counts.Counts.{Counts}
 use Rattle.aigertext.specs.declared.fault.Stop.{Stop}
 use Rattle.aigertext.specs.declared.fault.Why.{Why}
 use Rattle.aigertext.specs.Reading.{cut, line_at, Properties, properties_at}
 use Rattle.aigertext.specs.AsciiReading.{behind_line, behind_lines, lines_before, input_of, latch_of, gate_of, onto_lists, with_properties_of, lists_of_file, AnswersLists, AnswersAscii}
-use Rattle.aigertext.specs.Passes.{HasNoUses, ReadsBy}
+use Rattle.aigertext.specs.Passes.{ReadsBy}
+use Rattle.aigertext.specs.PropertyLists.{no_lists, file_lists}
 use Rattle.aigertext.proofs.BackLemmas.{ok_same, bind-back, line-back}
 
 -- ---- lines that are passed over
@@ -99,18 +100,11 @@ onto_kept {A} says with' P step (suc n) l text m rest p e =
     onto_kept says with' P step n (with' l b.value.0) b.value.1 m rest (step n l b.value.0 s.line s.said p) b.then'
 
 -- no properties yet
-keeps_none_by_input : (n : ℕ) (l : Loose) (x : ℕ) → HasNoUses l → HasNoUses (with_input_line l x)
-keeps_none_by_input n l x k = record { outputs = k.outputs; bads = k.bads; constraints = k.constraints; justice = k.justice; fair = k.fair }
-
-keeps_none_by_latch : (n : ℕ) (l : Loose) (x : LatchLine) → HasNoUses l → HasNoUses (with_latch_line l x)
-keeps_none_by_latch n l x k = record { outputs = k.outputs; bads = k.bads; constraints = k.constraints; justice = k.justice; fair = k.fair }
-
 pub no_uses : (h : Counts) (text t1 t2 : List ℕ) (l0 l1 l2 : Loose) (says1 : Loose → List ℕ → Result ℕ Why) (says2 : Loose → List ℕ → Result LatchLine Why)
-    → l0 ≡ empty_loose → onto_lists says1 with_input_line l0 h.inputs text ≡ Ok (l1, t1) → onto_lists says2 with_latch_line l1 h.latches t1 ≡ Ok (l2, t2) → HasNoUses l2
+    → l0 ≡ empty_loose → onto_lists says1 with_input_line l0 h.inputs text ≡ Ok (l1, t1) → onto_lists says2 with_latch_line l1 h.latches t1 ≡ Ok (l2, t2) → file_lists l2 ≡ no_lists
 no_uses h text t1 t2 l0 l1 l2 says1 says2 none one two =
-    let first : HasNoUses l1 =
-    onto_kept says1 with_input_line (λ n l. HasNoUses l) (λ n l x line e k. keeps_none_by_input n l x k) h.inputs l0 text l1 t1 (subst HasNoUses (sym none) (record { outputs = refl; bads = refl; constraints = refl; justice = refl; fair = refl })) one in
-    onto_kept says2 with_latch_line (λ n l. HasNoUses l) (λ n l x line e k. keeps_none_by_latch n l x k) h.latches l1 t1 l2 t2 first two
+    let first : file_lists l1 ≡ no_lists = onto_kept says1 with_input_line (λ n l. file_lists l ≡ no_lists) (λ n l x line e k. k) h.inputs l0 text l1 t1 (ap file_lists none) one in
+    onto_kept says2 with_latch_line (λ n l. file_lists l ≡ no_lists) (λ n l x line e k. k) h.latches l1 t1 l2 t2 first two
 
 -- ---- the lists of a file, put together
 

@@ -3,9 +3,10 @@ use Rattle.std.proofs.Common.{◌≡◌, ℕ, zero, suc, ◌+◌, ◌*◌, ◌<�
 use Rattle.aiger.specs.declared.circuit.Gate.{Gate}
 use Rattle.aiger.specs.declared.circuit.Latch.{Latch}
 use Rattle.aiger.specs.declared.circuit.Section.{Section}
-use Rattle.aiger.specs.Circuit.{Circuit, IsCircuit, Names, name_at, name_of, section_count, section_names}
+use Rattle.aiger.specs.Circuit.{Circuit, IsCircuit, Names, letter, all_sections, name_at, name_of, section_count, section_names}
 use Rattle.aiger.proofs.SectionNameLemmas.{length-section_names, name_at-section_names}
-use Rattle.aigertext.specs.Ascii.{numbers_line, input_lines, reset_numbers, latch_lines, literal_lines, gate_lines, name_line, name_lines, size_lines, list_lines}
+use Rattle.aigertext.specs.Ascii.{numbers_line, input_lines, reset_numbers, latch_lines, literal_lines, gate_lines, name_line, name_lines, names_of, size_lines, list_lines}
+use Rattle.std.specs.Prelude.{flat_map}
 use Rattle.std.proofs.lemmas.List.{drop_all}
 use Rattle.std.proofs.lemmas.List.Sums.{get_or-le-sum_by}
 use Rattle.std.proofs.lemmas.Option.{get_or_from_slice_get, slice_get_within}
@@ -53,16 +54,23 @@ names_from letter position zero (n ∷ ns) h = refl
 names_from letter position (suc i) (n ∷ ns) h = names_from letter position i ns (omega arith)
 
 -- the names of a section
-pub name_lines_at : (letter i : ℕ) (s : Section) (c : Circuit) → i < section_count s c
-    → name_lines letter i (drop i (section_names s c)) ≡ name_line letter i (name_of c s i) ++ name_lines letter (i + 1) (drop (i + 1) (section_names s c))
-name_lines_at letter i s c h =
+pub name_lines_at : (i : ℕ) (s : Section) (c : Circuit) → i < section_count s c
+    → name_lines (letter s) i (drop i (section_names s c)) ≡ name_line (letter s) i (name_of c s i) ++ name_lines (letter s) (i + 1) (drop (i + 1) (section_names s c))
+name_lines_at i s c h =
     let there : i < length (section_names s c) = omega (arith, length-section_names s c) in
-    rw (add-one i) (names_from letter i i (section_names s c) there
-    ∙ ap (λ (name : Option (List ℕ)). name_line letter i name ++ name_lines letter (suc i) (drop (suc i) (section_names s c))) (name_at-section_names s c i h))
+    rw (add-one i) (names_from (letter s) i i (section_names s c) there
+    ∙ ap (λ (name : Option (List ℕ)). name_line (letter s) i name ++ name_lines (letter s) (suc i) (drop (suc i) (section_names s c))) (name_at-section_names s c i h))
 
 -- the names behind the last of a section
-pub no_name_lines : (letter i : ℕ) (s : Section) (c : Circuit) → section_count s c ≤ i → name_lines letter i (drop i (section_names s c)) ≡ []
-no_name_lines letter i s c h = ap (name_lines letter i) (drop_all i (section_names s c) (omega (arith, length-section_names s c)))
+pub no_name_lines : (i : ℕ) (s : Section) (c : Circuit) → section_count s c ≤ i → name_lines (letter s) i (drop i (section_names s c)) ≡ []
+no_name_lines i s c h = ap (name_lines (letter s) i) (drop_all i (section_names s c) (omega (arith, length-section_names s c)))
+
+-- the sections
+pub all_names_at : (i : ℕ) (c : Circuit) (s d : Section) → i < length all_sections → s ≡ get_or all_sections i d
+    → flat_map (names_of c) (drop i all_sections) ≡ names_of c s ++ flat_map (names_of c) (drop (i + 1) all_sections)
+all_names_at i c s d h e =
+    subst (λ (t : Section). flat_map (names_of c) (drop i all_sections) ≡ names_of c t ++ flat_map (names_of c) (drop (i + 1) all_sections))
+    (sym e) (rw (drop-cons all_sections i d, add-one i))
 
 -- a justice property has at most as many literals as all of them may have
 pub few_literals : (c : Circuit) (i : ℕ) (ls : List ℕ) → IsCircuit c → slice_get c.justice i ≡ Some ls → length ls ≤ greatest_count

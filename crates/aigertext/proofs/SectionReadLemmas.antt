@@ -1,16 +1,16 @@
 -- The sections of a binary text, put together.
-use Rattle.std.proofs.Common.{◌≡◌, ℕ, suc, ◌+◌, ◌*◌, ◌≤◌, List, [], ◌++◌, length, Result, Ok, Err, inl, inr, refl, sym, ap, subst, ◌∙◌, arith}
+use Rattle.std.proofs.Common.{◌≡◌, ℕ, suc, ◌+◌, ◌*◌, ◌≤◌, List, [], length, Result, Ok, Err, inl, inr, refl, sym, ap, subst, ◌∙◌, arith}
 use Rattle.std.proofs.lemmas.List.{length-replicate}
 use Rattle.std.specs.List.{sum}
 use Rattle.aiger.specs.declared.circuit.Gate.{Gate}
 use Rattle.aiger.specs.declared.circuit.Latch.{Latch}
 use Rattle.aiger.specs.Net.{variables}
 use Rattle.aiger.specs.Circuit.{Circuit, net, fresh_circuit, fresh_latch}
-use Rattle.aigertext.specs.declared.counts.Counts.{Counts}
+use Rattle.aigertext.specs.declared.reading.counts.Counts.{Counts}
 use Rattle.aigertext.specs.declared.fault.Stop.{Stop}
-use Rattle.aigertext.specs.declared.literals.LiteralSection.TheVariants.{Output, Bad, Constraint, Fair}
 use Rattle.aigertext.specs.Reading.{◌>>=◌, Properties, lists_of, literals_at, sizes_at, nexts_at, gates_at, properties_at, names_at, binary_at, nameless}
-use Rattle.aigertext.specs.Passes.{behind, behind_lines_of, total_from, Takes, HasNoProperties, lists_at, with_literals, with_lists, with_gates, with_latches, with_properties}
+use Rattle.aigertext.specs.Passes.{behind, behind_lines_of, total_from, Takes, lists_at, with_gates, with_latches, with_properties}
+use Rattle.aigertext.specs.PropertyLists.{no_lists, circuit_lists}
 use Rattle.aigertext.proofs.BackLemmas.{ok_same, not_err, bind-back}
 use Rattle.aigertext.proofs.ListLemmas.{in_lists, lists-together}
 
@@ -39,9 +39,9 @@ lists_seen ns (Err w) lists rest e = absurd (not_err _ _ e)
 err_same : {A : Type 0} (w e : Stop) → ◌≡◌ {A = Result A Stop} (Err w) (Err e) → w ≡ e
 err_same w e is = cc
 
-no_lists : (ns : List ℕ) (r : Result (List ℕ × List ℕ) Stop) (e : Stop) → in_lists ns r ≡ Err e → r ≡ Err e
-no_lists ns (Ok x) e is = absurd (not_err _ _ (sym is))
-no_lists ns (Err w) e is = ap (λ (v : Stop). Err v) (err_same w e is)
+none_listed : (ns : List ℕ) (r : Result (List ℕ × List ℕ) Stop) (e : Stop) → in_lists ns r ≡ Err e → r ≡ Err e
+none_listed ns (Ok x) e is = absurd (not_err _ _ (sym is))
+none_listed ns (Err w) e is = ap (λ (v : Stop). Err v) (err_same w e is)
 
 module _ (h : Counts) (text t1 t2 t3 t4 t5 : List ℕ) (os bs cs ns : List ℕ)
     (o : literals_at (2 * h.variables + 1) h.outputs text ≡ Ok (os, t1)) (b : literals_at (2 * h.variables + 1) h.bads t1 ≡ Ok (bs, t2)) (c : literals_at (2 * h.variables + 1) h.constraints t2 ≡ Ok (cs, t3))
@@ -66,7 +66,7 @@ module _ (h : Counts) (text t1 t2 t3 t4 : List ℕ) (os bs cs : List ℕ) (n : �
   properties_no_list e l =
       let seen = sizes_seen 0 n t4 (sizes_at 0 h.justice t3) s in
       let together = lists-together (2 * h.variables + 1) 0 h.justice t3 t4 seen.sizes t4 seen.was in
-      not_listed h text t1 t2 t3 t4 [] os bs cs seen.sizes o b c seen.was e (no_lists seen.sizes (literals_at (2 * h.variables + 1) (sum seen.sizes) t4) e (sym together ∙ l))
+      not_listed h text t1 t2 t3 t4 [] os bs cs seen.sizes o b c seen.was e (none_listed seen.sizes (literals_at (2 * h.variables + 1) (sum seen.sizes) t4) e (sym together ∙ l))
 
   -- with these lists and fairness constraints a value has all properties
   module _ {C : Type 0} (add : C → List ℕ → C) (whole : Properties → C) (lists : List (List ℕ)) (t5 : List ℕ) (l : lists_at (2 * h.variables + 1) 0 h.justice t3 t4 ≡ Ok (lists, t5)) (before now : C)
@@ -85,18 +85,6 @@ module _ (h : Counts) (text t1 t2 t3 t4 : List ℕ) (os bs cs : List ℕ) (n : �
         let together = lists-together (2 * h.variables + 1) 0 h.justice t3 t4 seen.sizes t4 seen.was in
         let listed = lists_seen seen.sizes (literals_at (2 * h.variables + 1) (sum seen.sizes) t4) lists t5 (sym together ∙ l) in
         inr (not_fair h text t1 t2 t3 t4 t5 os bs cs seen.sizes o b c seen.was listed.listed e listed.was read)
-
--- a circuit that had no properties has those that were read
-pub circuit_made : (os bs cs : List ℕ) (lists : List (List ℕ)) (c0 c1 c2 c3 c4 c5 : Circuit) → HasNoProperties c0 → c1 ≡ with_literals Output c0 os → c2 ≡ with_literals Bad c1 bs → c3 ≡ with_literals Constraint c2 cs → c4 ≡ with_lists c3 lists
-    → (fs ns ls : List ℕ) → lists ≡ lists_of ns ls → c5 ≡ with_literals Fair c4 fs → c5 ≡ with_properties c0 (record { outputs = os; bads = bs; constraints = cs; sizes = ns; listed = ls; fair = fs })
-circuit_made os bs cs lists c0 c1 c2 c3 c4 c5 none is1 is2 is3 is4 fs ns ls lists_are is5 =
-    is5 ∙ ap (λ (x : Circuit). with_literals Fair x fs) (is4 ∙ ap (λ (x : Circuit). with_lists x lists) (is3 ∙ ap (λ (x : Circuit). with_literals Constraint x cs) (is2 ∙ ap (λ (x : Circuit). with_literals Bad x bs) is1)))
-    ∙ ap (λ (x : List ℕ). record c0 { outputs = x ++ os; bads = c0.bads ++ bs; constraints = c0.constraints ++ cs; justice = c0.justice ++ lists; fair = c0.fair ++ fs }) none.outputs
-    ∙ ap (λ (x : List ℕ). record c0 { outputs = os; bads = x ++ bs; constraints = c0.constraints ++ cs; justice = c0.justice ++ lists; fair = c0.fair ++ fs }) none.bads
-    ∙ ap (λ (x : List ℕ). record c0 { outputs = os; bads = bs; constraints = x ++ cs; justice = c0.justice ++ lists; fair = c0.fair ++ fs }) none.constraints
-    ∙ ap (λ (x : List (List ℕ)). record c0 { outputs = os; bads = bs; constraints = cs; justice = x ++ lists; fair = c0.fair ++ fs }) none.justice
-    ∙ ap (λ (x : List ℕ). record c0 { outputs = os; bads = bs; constraints = cs; justice = lists; fair = x ++ fs }) none.fair
-    ∙ ap (λ (x : List (List ℕ)). record c0 { outputs = os; bads = bs; constraints = cs; justice = x; fair = fs }) lists_are
 
 -- ---- the circuit before its names
 
@@ -132,10 +120,8 @@ module _ (h : Counts) (fits : h.variables ≡ h.inputs + h.latches + h.gates) (f
           all_variables ∙ ap (λ (n : ℕ). c1.inputs + n + length c1.gates) (sym same)
           ∙ ap (λ (n : ℕ). n + length c2.latches + length c1.gates) (sym (ap (λ (c : Circuit). c.inputs) is2)) ∙ ap (λ (n : ℕ). c2.inputs + length c2.latches + n) (sym (ap (λ (c : Circuit). length c.gates) is2))
 
-      pub none_yet : HasNoProperties c2
-      none_yet =
-          subst HasNoProperties (sym (is2 ∙ ap (λ (c : Circuit). with_latches c ls) (is1 ∙ ap (λ (c : Circuit). with_gates c gs) is0)))
-          (record { outputs = refl; bads = refl; constraints = refl; justice = refl; fair = refl })
+      pub none_yet : circuit_lists c2 ≡ no_lists
+      none_yet = ap circuit_lists (is2 ∙ ap (λ (c : Circuit). with_latches c ls) (is1 ∙ ap (λ (c : Circuit). with_gates c gs) is0))
 
 pub same_greatest : (m n : ℕ) → m ≡ n → 2 * m + 1 ≡ 2 * n + 1
 same_greatest m n is = ap (λ (k : ℕ). 2 * k + 1) is

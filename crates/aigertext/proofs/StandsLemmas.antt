@@ -9,7 +9,7 @@ use Rattle.aiger.specs.Limits.{greatest_count}
 use Rattle.aiger.specs.Net.{Net, variables, IsDefined}
 use Rattle.aiger.specs.Circuit.{Circuit, IsCircuit, net}
 use Rattle.aiger.proofs.SectionNameLemmas.{few_positions}
-use Rattle.aigertext.specs.declared.counts.Counts.{Counts}
+use Rattle.aigertext.specs.declared.reading.counts.Counts.{Counts}
 use Rattle.aigertext.specs.declared.fault.Stop.{Stop}
 use Rattle.aigertext.specs.Counts.{counts_in}
 use Rattle.aigertext.specs.Ascii.{property_lines, literal_lines, size_lines}

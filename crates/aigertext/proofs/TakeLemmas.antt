@@ -9,12 +9,10 @@ use Rattle.aiger.specs.declared.fault.CircuitFault.TheVariants.{NoMemory}
 use Rattle.aiger.specs.Limits.{greatest_count}
 use Rattle.aiger.specs.Literal.{variable}
 use Rattle.aiger.specs.Net.{variables}
-use Rattle.aiger.specs.Circuit.{Circuit, net, with_gate, with_latch, property_refusal, literal_refusal, gate_refusal}
+use Rattle.aiger.specs.Circuit.{Circuit, net, with_gate, with_latch, literal_refusal, gate_refusal}
 use Rattle.aigertext.specs.declared.fault.Stop.{Stop}
-use Rattle.aigertext.specs.declared.literals.LiteralSection.{LiteralSection}
-use Rattle.aigertext.specs.declared.literals.LiteralSection.TheVariants.{Output, Bad, Constraint, Fair}
 use Rattle.aigertext.specs.Reading.{line_at, literal_of, next_of, gate_at, literals_at, nexts_at, gates_at}
-use Rattle.aigertext.specs.Passes.{onto, literals_of, with_literals, with_gates, with_latches}
+use Rattle.aigertext.specs.Passes.{onto, with_gates, with_latches}
 use Rattle.aigertext.proofs.PassLemmas.{onto_step, onto_stop, onto_done, gates_step, gates_stop, gates_done}
 
 -- an error of a call that nothing refuses is want of memory
@@ -52,30 +50,6 @@ push_begins add greatest count c text same = record { literals = []; is = same; 
 abbrev pub behind_list : List ℕ → List ℕ → List ℕ
 behind_list before ls = before ++ ls
 
-pub with_none : (section : LiteralSection) (c : Circuit) → c ≡ with_literals section c []
-with_none Output c = ap (λ (ls : List ℕ). record c { outputs = ls }) (sym (append-nil c.outputs))
-with_none Bad c = ap (λ (ls : List ℕ). record c { bads = ls }) (sym (append-nil c.bads))
-with_none Constraint c = ap (λ (ls : List ℕ). record c { constraints = ls }) (sym (append-nil c.constraints))
-with_none Fair c = ap (λ (ls : List ℕ). record c { fair = ls }) (sym (append-nil c.fair))
-
-pub with_more : (section : LiteralSection) (c : Circuit) (ls ms : List ℕ) → with_literals section (with_literals section c ls) ms ≡ with_literals section c (ls ++ ms)
-with_more Output c ls ms = ap (λ (l : List ℕ). record c { outputs = l }) (append_assoc c.outputs ls ms)
-with_more Bad c ls ms = ap (λ (l : List ℕ). record c { bads = l }) (append_assoc c.bads ls ms)
-with_more Constraint c ls ms = ap (λ (l : List ℕ). record c { constraints = l }) (append_assoc c.constraints ls ms)
-with_more Fair c ls ms = ap (λ (l : List ℕ). record c { fair = l }) (append_assoc c.fair ls ms)
-
-same_net : (section : LiteralSection) (c : Circuit) (ls : List ℕ) → variables (net (with_literals section c ls)) ≡ variables (net c)
-same_net Output c ls = refl
-same_net Bad c ls = refl
-same_net Constraint c ls = refl
-same_net Fair c ls = refl
-
-many_now : (section : LiteralSection) (c : Circuit) (ls : List ℕ) → length (literals_of section (with_literals section c ls)) ≡ length (literals_of section c) + length ls
-many_now Output c ls = length-append c.outputs ls
-many_now Bad c ls = length-append c.bads ls
-many_now Constraint c ls = length-append c.constraints ls
-many_now Fair c ls = length-append c.fair ls
-
 module _ {C : Type 0} (add : C → List ℕ → C) (greatest count index : ℕ) (before now : C) (text rest : List ℕ) (p : Pushed add greatest count index before now text rest) (more : index < count) where
   pub push_step : (l : ℕ) (after : List ℕ) (next : C) → ((c : C) (ls ms : List ℕ) → add (add c ls) ms ≡ add c (ls ++ ms)) → line_at (literal_of greatest) rest ≡ Ok (l, after) → next ≡ add now (l ∷ []) → Pushed add greatest count (index + 1) before next text after
   push_step l after next joins one is = record {
@@ -88,17 +62,6 @@ module _ {C : Type 0} (add : C → List ℕ → C) (greatest count index : ℕ) 
 
   pub push_stop : (e : Stop) → line_at (literal_of greatest) rest ≡ Err e → literals_at greatest count text ≡ Err e
   push_stop e one = onto_stop literal_of (λ g l. g) greatest (count - index) (count - (index + 1)) rest (omega arith) p.literals e (literals_at greatest count text) one p.read
-
-pub push_accepts : (section : LiteralSection) (greatest count index : ℕ) (before now : Circuit) (text rest : List ℕ) (p : Pushed (with_literals section) greatest count index before now text rest) (more : index < count)
-    → (l : ℕ) → l ≤ greatest → greatest ≡ 2 * variables (net before) + 1 → length (literals_of section before) + count ≤ 1073741824 → property_refusal now (length (literals_of section now)) l ≡ None
-push_accepts section greatest count index before now text rest p more l small is few =
-    let same : variables (net now) ≡ variables (net before) = ap (λ (c : Circuit). variables (net c)) p.is ∙ same_net section before p.literals in
-    let defined : nat_lt (variables (net now)) (variable l) ≡ false = ap (λ (v : ℕ). nat_lt v (variable l)) same ∙ in_range greatest (variables (net before)) l is small in
-    let many : length (literals_of section now) ≡ length (literals_of section before) + index =
-    ap (λ (c : Circuit). length (literals_of section c)) p.is ∙ many_now section before p.literals ∙ ap (λ (k : ℕ). length (literals_of section before) + k) p.many in
-    let room : length (literals_of section now) < greatest_count = omega (arith, many, more, few) in
-    let free : nat_le greatest_count (length (literals_of section now)) ≡ false = grind (arith, nat_tests) in
-    rw (defined, free) refl
 
 pub push_done : {C : Type 0} (add : C → List ℕ → C) (greatest count index : ℕ) (before now : C) (text rest : List ℕ) (p : Pushed add greatest count index before now text rest) → count ≤ index → literals_at greatest count text ≡ Ok (p.literals, rest)
 push_done add greatest count index before now text rest p all =

@@ -9,7 +9,7 @@ use Rattle.aiger.specs.declared.circuit.Reset.TheVariants as reset
 use Rattle.aiger.specs.declared.fault.CircuitFault.{CircuitFault}
 use Rattle.aiger.specs.Limits.{greatest_count}
 use Rattle.aiger.specs.Circuit.{Circuit, with_name, name_refusal}
-use Rattle.aigertext.specs.declared.counts.Counts.{Counts}
+use Rattle.aigertext.specs.declared.reading.counts.Counts.{Counts}
 use Rattle.aigertext.specs.declared.fault.Stop.{Stop}
 use Rattle.aigertext.specs.declared.fault.Why.{Why}
 use Rattle.aigertext.specs.declared.fault.Why.TheVariants as why

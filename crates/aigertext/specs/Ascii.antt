@@ -1,5 +1,5 @@
 -- The ascii text of a circuit ("AIGER 1.9 and Beyond", the ascii format): the one spelling that the writer gives.
-use Rattle.std.specs.Prelude.{ℕ, suc, zero, ◌+◌, ◌*◌, List, [], ◌∷◌, ◌++◌, length, Option, Some, None, codes, decimal}
+use Rattle.std.specs.Prelude.{ℕ, suc, zero, ◌+◌, ◌*◌, List, [], ◌∷◌, ◌++◌, length, Option, Some, None, codes, flat_map, decimal}
 use Rattle.aiger.specs.declared.circuit.Gate.{Gate}
 use Rattle.aiger.specs.declared.circuit.Latch.{Latch}
 use Rattle.aiger.specs.declared.circuit.Reset.{Reset}
@@ -7,8 +7,8 @@ use Rattle.aiger.specs.declared.circuit.Reset.TheVariants.{Zero, One, Free}
 use Rattle.aiger.specs.Net.{variables}
 use Rattle.aigertext.specs.declared.forms.Form.{Form}
 use Rattle.aigertext.specs.declared.forms.Form.TheVariants.{Ascii, Binary}
-use Rattle.aiger.specs.declared.circuit.Section.TheVariants as section
-use Rattle.aiger.specs.Circuit.{Circuit, Names, net, section_names}
+use Rattle.aiger.specs.declared.circuit.Section.{Section}
+use Rattle.aiger.specs.Circuit.{Circuit, Names, letter, all_sections, net, section_names}
 
 -- a line of numbers: decimals with one space between, and byte 10
 abbrev pub numbers_line : List ℕ → List ℕ
@@ -99,20 +99,13 @@ abbrev pub name_lines : ℕ → ℕ → Names → List ℕ
 name_lines letter position [] = []
 name_lines letter position (n ∷ ns) = name_line letter position n ++ name_lines letter (suc position) ns
 
+-- a line for each name of a section
+abbrev pub names_of : Circuit → Section → List ℕ
+names_of c s = name_lines (letter s) 0 (section_names s c)
+
 -- the names, by section in the order of the letters i l o b c j f
-abbrev pub leaf_names : Circuit → List ℕ
-leaf_names c = name_lines 105 0 (section_names section.Input c) ++ name_lines 108 0 (section_names section.Latch c)
-
-abbrev pub property_names : Circuit → List ℕ
-property_names c =
-    name_lines 111 0 (section_names section.Output c) ++ (name_lines 98 0 (section_names section.Bad c)
-    ++ name_lines 99 0 (section_names section.Constraint c))
-
-abbrev pub liveness_names : Circuit → List ℕ
-liveness_names c = name_lines 106 0 (section_names section.Justice c) ++ name_lines 102 0 (section_names section.Fair c)
-
 abbrev pub all_names : Circuit → List ℕ
-all_names c = leaf_names c ++ (property_names c ++ liveness_names c)
+all_names c = flat_map (names_of c) all_sections
 
 -- the lines of inputs and latches
 abbrev pub leaf_lines : Circuit → List ℕ

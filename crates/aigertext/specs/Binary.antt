@@ -5,7 +5,7 @@ use Rattle.aiger.specs.declared.circuit.Latch.{Latch}
 use Rattle.aiger.specs.Circuit.{Circuit}
 use Rattle.aigertext.specs.declared.forms.Form.{Form}
 use Rattle.aigertext.specs.declared.forms.Form.TheVariants.{Ascii, Binary}
-use Rattle.aigertext.specs.Ascii.{ascii_text, header, numbers_line, reset_numbers, property_lines, all_names}
+use Rattle.aigertext.specs.Ascii.{ascii_text, header, numbers_line, reset_numbers, input_lines, latch_lines, gate_lines, property_lines, all_names}
 
 -- the digits of a number to base 128, lowest first: all but the last have the top bit; there are so many more than one at most
 abbrev pub digits_128 : ℕ → ℕ → List ℕ
@@ -31,6 +31,26 @@ abbrev pub binary_text : Circuit → List ℕ
 binary_text c =
     header Binary c ++ (next_lines (suc c.inputs) c.latches ++ (property_lines c
     ++ (gate_deltas (suc (c.inputs + length c.latches)) c.gates ++ all_names c)))
+
+-- the lines of so many inputs in a form: the binary one has none
+abbrev pub inputs_text : Form → ℕ → List ℕ
+inputs_text Ascii count = input_lines 1 count
+inputs_text Binary count = []
+
+-- the line of a latch in a form: the binary one leaves its own literal out
+abbrev pub latch_text : Form → ℕ → Latch → List ℕ
+latch_text Ascii own l = numbers_line (own ∷ l.next ∷ reset_numbers own l.reset)
+latch_text Binary own l = numbers_line (l.next ∷ reset_numbers own l.reset)
+
+-- the lines of latches in a form, the first of which has the given variable
+abbrev pub latches_text : Form → ℕ → List Latch → List ℕ
+latches_text Ascii first ls = latch_lines first ls
+latches_text Binary first ls = next_lines first ls
+
+-- the gates in a form: lines or deltas
+abbrev pub gates_text : Form → ℕ → List Gate → List ℕ
+gates_text Ascii first gs = gate_lines first gs
+gates_text Binary first gs = gate_deltas first gs
 
 -- the text of a circuit in a form
 abbrev pub circuit_text : Form → Circuit → List ℕ

@@ -5,5 +5,6 @@ pub mod Spelling
 pub mod Reading
 pub mod AsciiReading
 pub mod Counts
+pub mod PropertyLists
 pub mod Passes
 pub mod Worked

@@ -7,13 +7,11 @@ use Rattle.aiger.specs.Circuit.{Circuit}
 use Rattle.aiger.specs.Loose.{Loose}
 use Rattle.aiger.specs.Renumbering.{IsRenumbered}
 use Rattle.aigertext.specs.AsciiReading.{AnswersUndefined, AnswersCycle, AnswersText, IsFaultOf}
-use Rattle.aigertext.specs.declared.counts.Counts.{Counts}
+use Rattle.aigertext.specs.declared.reading.counts.Counts.{Counts}
 use Rattle.aigertext.specs.declared.fault.ReadFault.{ReadFault}
 use Rattle.aigertext.specs.declared.fault.Stop.{Stop}
 use Rattle.aigertext.specs.declared.fault.Why.{Why}
 use Rattle.aigertext.specs.declared.fault.Why.TheVariants as why
-use Rattle.aigertext.specs.declared.literals.LiteralSection.{LiteralSection}
-use Rattle.aigertext.specs.declared.literals.LiteralSection.TheVariants.{Output, Bad, Constraint, Fair}
 use Rattle.aigertext.specs.Reading.{◌>>=◌, line_at, size_of, literals_at, nexts_at, properties_at, delta_at, below, at_or_below, Properties, lists_of}
 
 -- ---- the first pass: only what stands behind the lines
@@ -51,45 +49,12 @@ abbrev pub Takes : {A X C : Type 0} → (X → List ℕ) → Result X Stop → (
 Takes {A} view (Ok x) make new read = (a : A) × ((read ≡ Ok (a, view x)) × (new ≡ make a))
 Takes view (Err e) make new read = (e.why ≡ why.NoMemory) ⊎ (read ≡ Err e)
 
--- the literals of a section
-abbrev pub literals_of : LiteralSection → Circuit → List ℕ
-literals_of Output c = c.outputs
-literals_of Bad c = c.bads
-literals_of Constraint c = c.constraints
-literals_of Fair c = c.fair
-
--- the circuit with more literals in a section
-abbrev pub with_literals : LiteralSection → Circuit → List ℕ → Circuit
-with_literals Output c ls = record c { outputs = c.outputs ++ ls }
-with_literals Bad c ls = record c { bads = c.bads ++ ls }
-with_literals Constraint c ls = record c { constraints = c.constraints ++ ls }
-with_literals Fair c ls = record c { fair = c.fair ++ ls }
-
--- with more gates, other latches, more justice properties
+-- the circuit with more gates, and with other latches
 abbrev pub with_gates : Circuit → List Gate → Circuit
 with_gates c gs = record c { gates = c.gates ++ gs }
 
 abbrev pub with_latches : Circuit → List Latch → Circuit
 with_latches c ls = record c { latches = ls }
-
-abbrev pub with_lists : Circuit → List (List ℕ) → Circuit
-with_lists c lists = record c { justice = c.justice ++ lists }
-
--- the same of the lists of a file
-abbrev pub uses_of : LiteralSection → Loose → List ℕ
-uses_of Output l = l.outputs
-uses_of Bad l = l.bads
-uses_of Constraint l = l.constraints
-uses_of Fair l = l.fair
-
-abbrev pub with_uses : LiteralSection → Loose → List ℕ → Loose
-with_uses Output l ls = record l { outputs = l.outputs ++ ls }
-with_uses Bad l ls = record l { bads = l.bads ++ ls }
-with_uses Constraint l ls = record l { constraints = l.constraints ++ ls }
-with_uses Fair l ls = record l { fair = l.fair ++ ls }
-
-abbrev pub with_use_lists : Loose → List (List ℕ) → Loose
-with_use_lists l lists = record l { justice = l.justice ++ lists }
 
 -- so many justice properties, each by its size's line in the first text and its literals' lines in the second
 abbrev pub lists_at : ℕ → ℕ → ℕ → List ℕ → List ℕ → Result (List (List ℕ) × List ℕ) Stop
@@ -124,22 +89,6 @@ Numbers h text l (Err e) = (e.why ≡ why.NoMemory) ⊎ (AnswersUndefined h text
 abbrev pub ReadsBy : Result Circuit Stop → (Result Circuit Stop → Type 0) → Type 0
 ReadsBy (Ok c) Answers = Answers (Ok c)
 ReadsBy (Err e) Answers = (e.why ≡ why.NoMemory) ⊎ Answers (Err e)
-
--- no properties stand on a circuit yet
-pub record HasNoProperties (c : Circuit) : Type 0 where
-  pub outputs : c.outputs ≡ []
-  pub bads : c.bads ≡ []
-  pub constraints : c.constraints ≡ []
-  pub justice : c.justice ≡ []
-  pub fair : c.fair ≡ []
-
--- no properties stand on the lists of a file yet
-pub record HasNoUses (l : Loose) : Type 0 where
-  pub outputs : l.outputs ≡ []
-  pub bads : l.bads ≡ []
-  pub constraints : l.constraints ≡ []
-  pub justice : l.justice ≡ []
-  pub fair : l.fair ≡ []
 
 -- the circuit with all properties that were read
 abbrev pub with_properties : Circuit → Properties → Circuit

@@ -1,6 +1,6 @@
 -- Reading a circuit's text from left to right, with the first fault that is met.
 use Rattle.std.specs.Prelude.{◌≡◌, ℕ, zero, suc, ◌+◌, ◌-◌, ◌*◌, List, [], ◌∷◌, ◌++◌, length, take, drop, Option, Some, None, Result, Ok, Err, ◌==◌, ◌||◌, nat_le, nat_lt, if◌then◌else◌, codes}
-use Rattle.std.specs.List.{sum}
+use Rattle.std.specs.List.{find, sum}
 use Rattle.std.specs.Str.{bytes_eq}
 use Rattle.base.specs.Lines.{text_of_lines, onto_first, whole_lines, unfinished}
 use Rattle.base.specs.Decimals.{number_of}
@@ -9,11 +9,10 @@ use Rattle.aiger.specs.declared.circuit.Latch.{Latch}
 use Rattle.aiger.specs.declared.circuit.Reset.{Reset}
 use Rattle.aiger.specs.declared.circuit.Reset.TheVariants as reset
 use Rattle.aiger.specs.declared.circuit.Section.{Section}
-use Rattle.aiger.specs.declared.circuit.Section.TheVariants as section
 use Rattle.aiger.specs.declared.fault.CircuitFault.{CircuitFault}
 use Rattle.aiger.specs.Limits.{greatest_count}
-use Rattle.aiger.specs.Circuit.{Circuit, with_name, name_refusal}
-use Rattle.aigertext.specs.declared.counts.Counts.{Counts}
+use Rattle.aiger.specs.Circuit.{Circuit, letter, all_sections, with_name, name_refusal}
+use Rattle.aigertext.specs.declared.reading.counts.Counts.{Counts}
 use Rattle.aigertext.specs.declared.fault.ReadFault.{ReadFault}
 use Rattle.aigertext.specs.declared.fault.Stop.{Stop}
 use Rattle.aigertext.specs.declared.fault.Why.{Why}
@@ -258,14 +257,7 @@ gates_at own (suc n) text = do
 
 -- the section that a letter stands for
 unfoldable pub section_of : ℕ → Option Section
-section_of b =
-    if b == 105 then Some section.Input
-    else (if b == 108 then Some section.Latch
-    else (if b == 111 then Some section.Output
-    else (if b == 98 then Some section.Bad
-    else (if b == 99 then Some section.Constraint
-    else (if b == 106 then Some section.Justice
-    else (if b == 102 then Some section.Fair else None))))))
+section_of b = find (λ s. letter s == b) all_sections
 
 -- the circuit with a name more, where it is not refused
 abbrev pub accepted : Circuit → Option CircuitFault → Result Circuit Why

@@ -5,14 +5,13 @@ use Rattle.aiger.specs.declared.circuit.Latch.{Latch}
 use Rattle.aiger.specs.declared.circuit.Reset.{Reset}
 use Rattle.aiger.specs.declared.circuit.Reset.TheVariants.{Zero, One, Free}
 use Rattle.aiger.specs.declared.circuit.Section.{Section}
-use Rattle.aiger.specs.declared.circuit.Section.TheVariants as section
 use Rattle.aiger.specs.declared.loose.GateLine.{GateLine}
 use Rattle.aiger.specs.declared.loose.LatchLine.{LatchLine}
-use Rattle.aiger.specs.Circuit.{Circuit, IsCircuit, with_name, name_refusal}
+use Rattle.aiger.specs.Circuit.{Circuit, IsCircuit, letter, with_name, name_refusal}
 use Rattle.aiger.specs.Limits.{greatest_count}
 use Rattle.aiger.specs.Loose.{Loose, IsLoose, defined_count}
 use Rattle.aiger.specs.Renumbering.{IsRenumbered}
-use Rattle.aigertext.specs.declared.counts.Counts.{Counts}
+use Rattle.aigertext.specs.declared.reading.counts.Counts.{Counts}
 use Rattle.aigertext.specs.declared.forms.Form.{Form}
 use Rattle.aigertext.specs.declared.forms.Form.TheVariants.{Ascii, Binary}
 use Rattle.aigertext.specs.Ascii.{numbers_line, form_word, literal_lines, justice_lines, property_lines}
@@ -43,16 +42,6 @@ abbrev pub AreNextLines : ℕ → List Latch → List ℕ → Type 0
 AreNextLines own [] bytes = bytes ≡ []
 AreNextLines own (l ∷ ls) bytes =
     (line : List ℕ) × ((rest : List ℕ) × ((bytes ≡ line ++ rest) × IsNextLine own l line × AreNextLines (own + 2) ls rest))
-
--- the letter of a section
-abbrev pub letter : Section → ℕ
-letter section.Input = 105
-letter section.Latch = 108
-letter section.Output = 111
-letter section.Bad = 98
-letter section.Constraint = 99
-letter section.Justice = 106
-letter section.Fair = 102
 
 -- a name that a line gives to a position of a section
 pub record Given : Type 0 where

@@ -10,7 +10,7 @@ ghost use Rattle.aigertext.specs.Spelling.{IsAsciiText, IsBinaryText};
 ghost use Rattle.aiger.specs.Loose.{empty_loose};
 ghost use Rattle.aiger.specs.declared.circuit.Reset.TheVariants as reset;
 ghost use Rattle.aigertext.specs.AsciiReading.{lists_of_file, lines_before, stop_behind, AnswersText};
-ghost use Rattle.aigertext.specs.declared.counts.Counts.{Counts};
+ghost use Rattle.aigertext.specs.declared.reading.counts.Counts.{Counts};
 ghost use Rattle.aigertext.specs.declared.fault.Stop.{Stop};
 ghost use Rattle.aigertext.specs.declared.fault.Why.TheVariants as why;
 ghost use Rattle.aigertext.specs.Worked.{toggler, free_state, one_gate, one_output, all_kinds, nothing, one_input};

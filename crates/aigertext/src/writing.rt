@@ -1,14 +1,27 @@
-//! Writing a circuit in a form.
+//! Writing a circuit: the order of the sections in a text of either form.
 ghost use Rattle.std.specs.Prelude.{OnOk, OnErr};
 ghost use Rattle.std.specs.Io.KnownBytes.{Appends};
 ghost use Rattle.base.specs.Device.{CountsFaults, AppendsBeginning};
-ghost use Rattle.aigertext.specs.Binary.{circuit_text};
+ghost use Rattle.base.specs.Pieces.{Puts};
+ghost use Rattle.aigertext.specs.Ascii.{ascii_text};
+ghost use Rattle.aigertext.specs.Binary.{binary_text, circuit_text};
 
-use crate::ascii::write_ascii;
-use crate::binary::write_binary;
+mod deltas;
+mod gates;
+mod header;
+mod inputs_and_latches;
+mod line;
+mod names;
+mod properties;
+
 use crate::forms::Form;
+use crate::writing::gates::{first_gate, put_gates};
+use crate::writing::header::put_header;
+use crate::writing::inputs_and_latches::{put_inputs, put_latches};
+use crate::writing::names::put_all_names;
+use crate::writing::properties::put_properties;
 use aiger::Circuit;
-use base::{DeviceFault, Sink};
+use base::{DeviceFault, Outbox, Sink};
 
 /// Writes the text of a circuit in a form ("AIGER 1.9 and Beyond"). No memory is taken.
 ///
@@ -18,8 +31,48 @@ pub fn write<K: Sink>(circuit: &Circuit, form: Form, sink: &mut K) -> Result<(),
     ensures err { OnErr result (AppendsBeginning (K.written sink.old) (K.written sink.new) (circuit_text form circuit.now)) }
     ensures failures { CountsFaults result (K.failures sink.old) (K.failures sink.new) }
 {
-    match form {
-        Form::Ascii => write_ascii(circuit, sink),
-        Form::Binary => write_binary(circuit, sink),
-    }
+    let mut outbox = Outbox::new();
+    put_text(&mut outbox, sink, form, circuit)?;
+    outbox.flush(sink)
+}
+
+/// Writes the ascii text of a circuit. No memory is taken.
+///
+/// Errors: the sink's own; a beginning of the text was written then.
+pub fn write_ascii<K: Sink>(circuit: &Circuit, sink: &mut K) -> Result<(), DeviceFault>
+    ensures ok { OnOk result (Appends (K.written sink.old) (K.written sink.new) (ascii_text circuit.now)) }
+    ensures err { OnErr result (AppendsBeginning (K.written sink.old) (K.written sink.new) (ascii_text circuit.now)) }
+    ensures failures { CountsFaults result (K.failures sink.old) (K.failures sink.new) }
+{
+    write(circuit, Form::Ascii, sink)
+}
+
+/// Writes the binary text of a circuit. No memory is taken.
+///
+/// Errors: the sink's own; a beginning of the text was written then.
+pub fn write_binary<K: Sink>(circuit: &Circuit, sink: &mut K) -> Result<(), DeviceFault>
+    ensures ok { OnOk result (Appends (K.written sink.old) (K.written sink.new) (binary_text circuit.now)) }
+    ensures err { OnErr result (AppendsBeginning (K.written sink.old) (K.written sink.new) (binary_text circuit.now)) }
+    ensures failures { CountsFaults result (K.failures sink.old) (K.failures sink.new) }
+{
+    write(circuit, Form::Binary, sink)
+}
+
+/// Puts the text of a circuit into the outbox.
+fn put_text<K: Sink>(
+    outbox: &mut Outbox,
+    sink: &mut K,
+    form: Form,
+    circuit: &Circuit,
+) -> Result<(), DeviceFault>
+    ensures puts { Puts result (K.written sink.old) (K.written sink.new) outbox.old outbox.new (circuit_text form circuit.now) }
+    ensures failures { CountsFaults result (K.failures sink.old) (K.failures sink.new) }
+{
+    let inputs = circuit.inputs();
+    put_header(outbox, sink, form, circuit)?;
+    put_inputs(outbox, sink, form, inputs)?;
+    put_latches(outbox, sink, form, inputs + 1, circuit.latches())?;
+    put_properties(outbox, sink, circuit)?;
+    put_gates(outbox, sink, form, first_gate(circuit), circuit.gates())?;
+    put_all_names(outbox, sink, circuit)
 }

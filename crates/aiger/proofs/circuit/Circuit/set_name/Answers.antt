@@ -8,5 +8,5 @@ use Rattle.aiger.proofs.circuit.Circuit.set_name.Goals as goal
 pub invariant_of-self : goal.invariant_of-self
 invariant_of-self c =
     IsCircuit-named (circuit_of c.self.inside) _ _ _ c.give.new.self c.give.result c.give.ensures.ok c.self.invariant
-    (omega (arith, c.count.ensures ∙ ap (section_count c.args.section) (sym c.self.view_is)))
+    (omega (arith, c.count.ensures.count ∙ ap (section_count c.args.section) (sym c.self.view_is)))
     (IsName-from_test c.args.name.now (sym c.if-not-is_good_name.ensures)) c.give.ensures.sorted c.give.ensures.err

@@ -1,6 +1,0 @@
-use Rattle.aigertext.specs.Passes.{with_uses}
-use Rattle.aigertext.proofs.TakeLemmas.{Pushed}
-use Rattle.aigertext.proofs.ascii_literals.push_uses.Given as goal
-
-abbrev pub invariant-loop-index : goal.invariant-loop-index
-invariant-loop-index l = Pushed (with_uses l.section) l.greatest l.count l._index l.initial.lists l.lists l.fn.text l.rest

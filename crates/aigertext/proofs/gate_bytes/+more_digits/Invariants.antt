@@ -1,4 +1,0 @@
-use Rattle.aigertext.proofs.gate_bytes.+more_digits.Given as goal
-
-abbrev pub decreases-more_digits : goal.decreases-more_digits
-decreases-more_digits l = l.more

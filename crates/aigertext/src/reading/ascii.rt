@@ -1,0 +1,162 @@
+//! Reading what stands behind the header of an ascii text.
+ghost use Rattle.std.specs.Prelude.{◌≡◌, ◌-◌, ◌≤◌, Ok, length};
+ghost use Rattle.std.specs.List.{sum_by};
+ghost use Rattle.aiger.specs.Loose.{empty_loose};
+ghost use Rattle.aiger.specs.Renumbering.{used_lines};
+ghost use Rattle.aigertext.specs.declared.forms.Form.TheVariants as form;
+ghost use Rattle.aigertext.specs.AsciiReading.{lists_of_file, behind_line, behind_lines, lines_before, ReadsOnto, AnswersLists, AnswersAscii};
+ghost use Rattle.aigertext.specs.Passes.{Numbers, ReadsBy};
+ghost use Rattle.aigertext.specs.Reading.{cut};
+ghost use Rattle.aigertext.specs.Counts.{AreSmall, Fits};
+
+use crate::fault::{Stop, Why};
+use crate::reading::ascii_definitions::{push_gate_lines, push_inputs, push_latches};
+use crate::reading::counts::Counts;
+use crate::reading::lines::stop;
+use crate::reading::names::give_names;
+use crate::reading::properties::push_properties;
+use aiger::{Circuit, Loose, LooseFault};
+use base::next_line;
+use std::alloc::Global;
+
+/// Reads the lists of a file onto empty ones, and answers the text behind them.
+fn read_lists<'a>(
+    alloc: Global,
+    lists: &mut Loose,
+    counts: &Counts,
+    text: &'a [u8],
+) -> Result<&'a [u8], Stop>
+    requires empty { lists.old ≡ empty_loose }
+    requires small { AreSmall counts.now }
+    requires fits { Fits form.Ascii counts.now }
+    ensures { ReadsOnto (λ x. x.now) result lists.new (lists_of_file counts.now text.now) }
+{
+    let greatest = 2 * counts.variables + 1;
+    let latches = match push_inputs(lists, text, greatest, counts.inputs) {
+        Ok(latches) => latches,
+        Err(stop) => return Err(stop),
+    };
+    let properties = match push_latches(lists, latches, greatest, counts.latches) {
+        Ok(properties) => properties,
+        Err(stop) => return Err(stop),
+    };
+    let gates = match push_properties(alloc, lists, properties, counts) {
+        Ok(gates) => gates,
+        Err(stop) => return Err(stop),
+    };
+    push_gate_lines(lists, gates, greatest, counts.gates)
+}
+
+/// The text behind its first line.
+fn skip_line(text: &[u8]) -> &[u8]
+    ensures { result.now ≡ behind_line text.now (cut 10 text.now) }
+{
+    match next_line(text) {
+        None => text,
+        Some((_, behind)) => behind,
+    }
+}
+
+/// The text behind so many lines.
+fn skip_lines(text: &[u8], count: usize) -> &[u8]
+    ensures { result.now ≡ behind_lines count text.now }
+{
+    let mut rest = text;
+    for _index in 0..count {
+        rest = skip_line(rest);
+    }
+    rest
+}
+
+/// The text from the line that is k-th of those that use literals, where the first text stands behind the header.
+fn from_use<'a>(text: &'a [u8], counts: &Counts, k: usize) -> &'a [u8]
+    requires { AreSmall counts.now }
+    ensures { result.now ≡ behind_lines (lines_before counts.now k) text.now }
+{
+    let before_sizes = counts.latches + counts.outputs;
+    let before_sizes = before_sizes as usize + counts.bads as usize + counts.constraints as usize;
+    let inputs = counts.inputs as usize;
+    if k < before_sizes {
+        skip_lines(skip_lines(text, inputs), k)
+    } else {
+        skip_lines(skip_lines(text, inputs + counts.justice as usize), k)
+    }
+}
+
+/// How many literals the justice properties have.
+fn justice_literals(lists: &Loose) -> usize
+    ensures sum { result ≡ sum_by length lists.now.justice }
+    ensures small { result ≤ 1073741824 }
+{
+    let mut sum = 0;
+    for index in 0..lists.justice_count() {
+        sum += lists.justice(index).len();
+    }
+    sum
+}
+
+/// How many lines that use literals stand before the gates.
+fn uses_before_gates(lists: &Loose) -> usize
+    ensures count { result ≡ length (used_lines lists.now) - length lists.now.gates }
+    ensures small { result ≤ 6442450944 }
+    ensures few { length lists.now.gates ≤ 1073741824 }
+{
+    lists.latches().len()
+        + lists.outputs().len()
+        + lists.bads().len()
+        + lists.constraints().len()
+        + justice_literals(lists)
+        + lists.fair().len()
+}
+
+/// The circuit that the lists of a file are; else reading stops at the first line that uses a variable that none
+/// defines, or at the first gate that leads to a cycle.
+fn numbered(alloc: Global, lists: &Loose, counts: &Counts, text: &[u8]) -> Result<Circuit, Stop>
+    requires { AreSmall counts.now }
+    ensures { Numbers counts.now text.now lists.now result }
+{
+    match lists.number(alloc) {
+        Ok(circuit) => Ok(circuit),
+        Err(LooseFault::Undefined(k)) => Err(stop(from_use(text, counts, k), Why::Undefined)),
+        Err(LooseFault::Cycle(gate)) => {
+            let k = uses_before_gates(lists) + gate;
+            Err(stop(from_use(text, counts, k), Why::Cycle))
+        }
+        Err(LooseFault::NoMemory) => Err(stop(text, Why::NoMemory)),
+    }
+}
+
+/// The circuit that the lists of a file are, with the names behind them.
+fn named(
+    alloc: Global,
+    lists: &Loose,
+    counts: &Counts,
+    text: &[u8],
+    names: &[u8],
+) -> Result<Circuit, Stop>
+    requires { AreSmall counts.now }
+    ensures { ReadsBy result (AnswersLists counts.now text.now (Ok (lists.now, names.now))) }
+{
+    let _valid = lists.inputs();
+    let mut circuit = match numbered(alloc, lists, counts, text) {
+        Ok(circuit) => circuit,
+        Err(stop) => return Err(stop),
+    };
+    match give_names(&mut circuit, names) {
+        Ok(()) => Ok(circuit),
+        Err(stop) => Err(stop),
+    }
+}
+
+/// The circuit behind a header of the ascii form. No list is made by a number of the header.
+pub fn read_file(alloc: Global, counts: &Counts, text: &[u8]) -> Result<Circuit, Stop>
+    requires small { AreSmall counts.now }
+    requires fits { Fits form.Ascii counts.now }
+    ensures { ReadsBy result (AnswersAscii counts.now text.now) }
+{
+    let mut lists = Loose::new(alloc);
+    match read_lists(alloc, &mut lists, counts, text) {
+        Ok(names) => named(alloc, &lists, counts, text, names),
+        Err(stop) => Err(stop),
+    }
+}

@@ -1,0 +1,161 @@
+//! Reading the lines of an ascii text that define variables: inputs, latches and gates.
+ghost use Rattle.std.specs.Prelude.{◌≡◌, ◌≤◌, ◌∷◌, [], IfOk};
+ghost use Rattle.base.specs.Decimals.{number_of};
+ghost use Rattle.aigertext.specs.Reading.{Gives};
+ghost use Rattle.aigertext.specs.AsciiReading.{IsNew, defining, input_of, own_by, latch_fields, latch_of, gate_fields, gate_of};
+
+use crate::fault::Why;
+use crate::reading::binary_latches::{next_literal, reset};
+use crate::reading::fields::{first_field, next_field};
+use crate::reading::numbers::literal;
+use aiger::{GateLine, LatchLine, Lit, Loose, Reset};
+use base::decimal;
+
+/// The literal of a number, where it is even, at least 2 and at most the greatest, and no line defines its variable.
+fn defining(number: u64, why: Why, greatest: u32, lists: &Loose) -> Result<Lit, Why>
+    ensures gives { Gives (λ x. x) result (defining why greatest lists.now number) }
+    ensures new { IfOk result (λ n. IsNew greatest lists.now n) }
+{
+    if number > u64::from(greatest) {
+        return Err(why);
+    }
+    let literal = Lit::new(number as u32);
+    if number >= 2 && number % 2 == 0 && !lists.defines(literal.var()) {
+        Ok(literal)
+    } else {
+        Err(why)
+    }
+}
+
+/// The literal of an input's line.
+///
+/// Error: `BadNumber`.
+#[tactic(auto, unfolding(crate::specs::AsciiReading::input_of))]
+pub fn input(line: &[u8], greatest: u32, lists: &Loose) -> Result<Lit, Why>
+    ensures gives { Gives (λ x. x) result (input_of greatest lists.now line.now) }
+    ensures new { IfOk result (λ n. IsNew greatest lists.now n) }
+{
+    match decimal(line) {
+        None => Err(Why::BadNumber),
+        Some(number) => defining(number, Why::BadNumber, greatest, lists),
+    }
+}
+
+/// The own literal of a latch.
+fn own_literal(field: &[u8], greatest: u32, lists: &Loose) -> Result<Lit, Why>
+    ensures gives { Gives (λ x. x) result (own_by greatest lists.now (number_of field.now)) }
+    ensures new { IfOk result (λ n. IsNew greatest lists.now n) }
+{
+    match decimal(field) {
+        None => Err(Why::BadLatch),
+        Some(number) => defining(number, Why::BadLatch, greatest, lists),
+    }
+}
+
+/// A latch whose reset is left out.
+#[tactic(auto, unfolding(crate::specs::AsciiReading::latch_fields))]
+fn plain_latch(current: &[u8], next: &[u8], greatest: u32, lists: &Loose) -> Result<LatchLine, Why>
+    ensures gives { Gives (λ x. x) result (latch_fields greatest lists.now (current.now ∷ next.now ∷ [])) }
+    ensures new { IfOk result (λ l. IsNew greatest lists.now l.current) }
+    ensures small { IfOk result (λ l. l.next ≤ greatest) }
+{
+    let current = own_literal(current, greatest, lists)?;
+    let next = next_literal(next, greatest)?;
+    Ok(LatchLine {
+        current,
+        next,
+        reset: Reset::Zero,
+    })
+}
+
+/// A latch with a reset.
+#[tactic(auto, unfolding(crate::specs::AsciiReading::latch_fields))]
+fn latch_with(
+    current: &[u8],
+    next: &[u8],
+    begins: &[u8],
+    greatest: u32,
+    lists: &Loose,
+) -> Result<LatchLine, Why>
+    ensures gives { Gives (λ x. x) result (latch_fields greatest lists.now (current.now ∷ next.now ∷ begins.now ∷ [])) }
+    ensures new { IfOk result (λ l. IsNew greatest lists.now l.current) }
+    ensures small { IfOk result (λ l. l.next ≤ greatest) }
+{
+    let current = own_literal(current, greatest, lists)?;
+    let next = next_literal(next, greatest)?;
+    let reset = reset(begins, current.number())?;
+    Ok(LatchLine {
+        current,
+        next,
+        reset,
+    })
+}
+
+/// The latch of a line: its own literal, its next literal, and how it begins.
+///
+/// Error: `BadLatch`.
+#[tactic(auto, unfolding(crate::specs::AsciiReading::latch_fields))]
+pub fn latch(line: &[u8], greatest: u32, lists: &Loose) -> Result<LatchLine, Why>
+    ensures gives { Gives (λ x. x) result (latch_of greatest lists.now line.now) }
+    ensures new { IfOk result (λ l. IsNew greatest lists.now l.current) }
+    ensures small { IfOk result (λ l. l.next ≤ greatest) }
+{
+    let (current, rest) = first_field(line);
+    match next_field(rest) {
+        None => Err(Why::BadLatch),
+        Some((next, rest)) => match next_field(rest) {
+            None => plain_latch(current, next, greatest, lists),
+            Some((begins, rest)) => match next_field(rest) {
+                None => latch_with(current, next, begins, greatest, lists),
+                Some(_) => Err(Why::BadLatch),
+            },
+        },
+    }
+}
+
+/// A gate of three numbers.
+#[tactic(auto, unfolding(crate::specs::AsciiReading::gate_fields, crate::specs::Reading::literal_of))]
+fn gate_with(
+    lhs: &[u8],
+    rhs0: &[u8],
+    rhs1: &[u8],
+    greatest: u32,
+    lists: &Loose,
+) -> Result<GateLine, Why>
+    ensures gives { Gives (λ x. x) result (gate_fields greatest lists.now (lhs.now ∷ rhs0.now ∷ rhs1.now ∷ [])) }
+    ensures new { IfOk result (λ g. IsNew greatest lists.now g.lhs) }
+    ensures small { IfOk result (λ g. (g.rhs0 ≤ greatest) × (g.rhs1 ≤ greatest)) }
+{
+    match decimal(lhs) {
+        None => Err(Why::BadNumber),
+        Some(number) => {
+            let rhs0 = literal(rhs0, greatest)?;
+            let rhs1 = literal(rhs1, greatest)?;
+            let lhs = defining(number, Why::GateOrder, greatest, lists)?;
+            Ok(GateLine { lhs, rhs0, rhs1 })
+        }
+    }
+}
+
+/// The gate of a line.
+///
+/// Errors, of which the first that applies in this order is answered: `BadNumber` where the line is not three decimals
+/// or an operand is above the greatest literal, `GateOrder` where its own literal defines no new variable.
+#[tactic(auto, unfolding(crate::specs::AsciiReading::gate_fields))]
+pub fn gate(line: &[u8], greatest: u32, lists: &Loose) -> Result<GateLine, Why>
+    ensures gives { Gives (λ x. x) result (gate_of greatest lists.now line.now) }
+    ensures new { IfOk result (λ g. IsNew greatest lists.now g.lhs) }
+    ensures small { IfOk result (λ g. (g.rhs0 ≤ greatest) × (g.rhs1 ≤ greatest)) }
+{
+    let (lhs, rest) = first_field(line);
+    match next_field(rest) {
+        None => Err(Why::BadNumber),
+        Some((rhs0, rest)) => match next_field(rest) {
+            None => Err(Why::BadNumber),
+            Some((rhs1, rest)) => match next_field(rest) {
+                None => gate_with(lhs, rhs0, rhs1, greatest, lists),
+                Some(_) => Err(Why::BadNumber),
+            },
+        },
+    }
+}

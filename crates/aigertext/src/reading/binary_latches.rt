@@ -1,0 +1,90 @@
+//! Reading the line of a latch in the binary form.
+ghost use Rattle.std.specs.Prelude.{◌≡◌, ◌≤◌, ◌∷◌, [], IfOk};
+ghost use Rattle.aigertext.specs.Reading.{Gives, within, reset_of, next_fields, next_of};
+ghost use Rattle.aigertext.specs.declared.fault.Why.TheVariants as why;
+ghost use Rattle.base.specs.Decimals.{number_of};
+
+use crate::fault::Why;
+use crate::reading::fields::{first_field, next_field};
+use aiger::{Latch, Lit, Reset};
+use base::decimal;
+
+/// The next literal of a latch, which is at most the greatest one.
+pub fn next_literal(field: &[u8], greatest: u32) -> Result<Lit, Why>
+    ensures gives { Gives (λ x. x) result (within why.BadLatch greatest (number_of field.now)) }
+    ensures small { IfOk result (λ l. l ≤ greatest) }
+{
+    match decimal(field) {
+        None => Err(Why::BadLatch),
+        Some(number) => {
+            if number <= u64::from(greatest) {
+                Ok(Lit::new(number as u32))
+            } else {
+                Err(Why::BadLatch)
+            }
+        }
+    }
+}
+
+/// How a latch begins: 0, 1, or its own literal where it has no initial value.
+pub fn reset(field: &[u8], own: u32) -> Result<Reset, Why>
+    ensures { Gives (λ x. x) result (reset_of own (number_of field.now)) }
+{
+    match decimal(field) {
+        None => Err(Why::BadLatch),
+        Some(number) => {
+            if number == 0 {
+                Ok(Reset::Zero)
+            } else if number == 1 {
+                Ok(Reset::One)
+            } else if number == u64::from(own) {
+                Ok(Reset::Free)
+            } else {
+                Err(Why::BadLatch)
+            }
+        }
+    }
+}
+
+/// A latch whose reset is left out.
+#[tactic(auto, unfolding(crate::specs::Reading::next_fields))]
+fn plain_latch(next: &[u8], greatest: u32, own: u32) -> Result<Latch, Why>
+    ensures gives { Gives (λ x. x) result (next_fields greatest own (next.now ∷ [])) }
+    ensures small { IfOk result (λ l. l.next ≤ greatest) }
+{
+    let next = next_literal(next, greatest)?;
+    Ok(Latch {
+        next,
+        reset: Reset::Zero,
+    })
+}
+
+/// A latch with a reset.
+#[tactic(auto, unfolding(crate::specs::Reading::next_fields))]
+fn latch_with(next: &[u8], begins: &[u8], greatest: u32, own: u32) -> Result<Latch, Why>
+    ensures gives { Gives (λ x. x) result (next_fields greatest own (next.now ∷ begins.now ∷ [])) }
+    ensures small { IfOk result (λ l. l.next ≤ greatest) }
+{
+    let next = next_literal(next, greatest)?;
+    let reset = reset(begins, own)?;
+    Ok(Latch { next, reset })
+}
+
+/// The latch of a line: its next literal, which is at most the greatest one, and how it begins; its own literal is
+/// given.
+///
+/// Error: `BadLatch`.
+#[tactic(auto, unfolding(crate::specs::Reading::next_fields))]
+pub fn next_latch(line: &[u8], greatest: u32, own: u32) -> Result<Latch, Why>
+    ensures gives { Gives (λ x. x) result (next_of greatest own line.now) }
+    ensures small { IfOk result (λ l. l.next ≤ greatest) }
+{
+    let (next, rest) = first_field(line);
+    match next_field(rest) {
+        None => plain_latch(next, greatest, own),
+        Some((begins, rest)) => match next_field(rest) {
+            None => latch_with(next, begins, greatest, own),
+            Some(_) => Err(Why::BadLatch),
+        },
+    }
+}

@@ -1,0 +1,100 @@
+//! Reading the gates of the binary form, two deltas each.
+ghost use Rattle.std.specs.Prelude.{◌≡◌, ◌<◌, ◌≤◌, ◌+◌, ◌^◌, IfOk};
+ghost use Rattle.aigertext.specs.Reading.{Gives, more_digits, delta_at, gate_at};
+ghost use Rattle.aigertext.specs.Passes.{greater_at, smaller_at};
+
+use crate::fault::{Stop, Why};
+use crate::reading::lines::stop;
+use aiger::{Gate, Lit};
+
+/// The digits of a delta behind its first one, of which so many more may follow, and the text behind them.
+///
+/// Errors: `Truncated`, `DeltaNotShortest`, `DeltaTooLong`.
+fn more_digits(more: u32, text: &[u8]) -> Result<(u64, &[u8]), Why>
+    requires { more ≤ 3 }
+    ensures gives { Gives (λ x. (x.0, x.1.now)) result (more_digits more text.now) }
+    ensures small { IfOk result (λ x. x.0 < 128 ^ (more + 1)) }
+{
+    match text {
+        [] => Err(Why::Truncated),
+        [0, ..] => Err(Why::DeltaNotShortest),
+        [byte, rest @ ..] => {
+            if *byte < 128 {
+                return Ok((u64::from(*byte), rest));
+            }
+            if more == 0 {
+                return Err(Why::DeltaTooLong);
+            }
+            match more_digits(more - 1, rest) {
+                Ok((higher, behind)) => Ok((u64::from(*byte - 128) + 128 * higher, behind)),
+                Err(why) => Err(why),
+            }
+        }
+    }
+}
+
+/// A delta, and the text behind it.
+#[tactic(auto, unfolding(crate::specs::Reading::delta_at))]
+fn delta(text: &[u8]) -> Result<(u64, &[u8]), Why>
+    ensures { Gives (λ x. (x.0, x.1.now)) result (delta_at text.now) }
+{
+    match text {
+        [] => Err(Why::Truncated),
+        [byte, rest @ ..] => {
+            if *byte < 128 {
+                return Ok((u64::from(*byte), rest));
+            }
+            match more_digits(3, rest) {
+                Ok((higher, behind)) => Ok((u64::from(*byte - 128) + 128 * higher, behind)),
+                Err(why) => Err(why),
+            }
+        }
+    }
+}
+
+/// The greater operand of a gate with this literal, and the text behind its delta.
+fn greater_operand(text: &[u8], own: u32) -> Result<(u32, &[u8]), Why>
+    ensures gives { Gives (λ x. (x.0, x.1.now)) result (greater_at own text.now) }
+    ensures below { IfOk result (λ x. x.0 < own) }
+{
+    let (difference, behind) = delta(text)?;
+    if difference == 0 || u64::from(own) < difference {
+        return Err(Why::GateOrder);
+    }
+    Ok((own - difference as u32, behind))
+}
+
+/// The smaller operand of a gate whose greater one is given, and the text behind its delta.
+fn smaller_operand(text: &[u8], greater: u32) -> Result<(u32, &[u8]), Why>
+    ensures gives { Gives (λ x. (x.0, x.1.now)) result (smaller_at greater text.now) }
+    ensures below { IfOk result (λ x. x.0 ≤ greater) }
+{
+    let (difference, behind) = delta(text)?;
+    if u64::from(greater) < difference {
+        return Err(Why::GateOrder);
+    }
+    Ok((greater - difference as u32, behind))
+}
+
+/// The gate with this literal at the front of a text, and the text behind it.
+#[tactic(auto, unfolding(crate::specs::Reading::gate_at))]
+pub fn gate(text: &[u8], own: u32) -> Result<(Gate, &[u8]), Stop>
+    ensures gives { Gives (λ x. (x.0, x.1.now)) result (gate_at own text.now) }
+    ensures ordered { IfOk result (λ x. (x.0.rhs0 < own) × (x.0.rhs1 ≤ x.0.rhs0)) }
+{
+    let (greater, rest) = match greater_operand(text, own) {
+        Ok(found) => found,
+        Err(why) => return Err(stop(text, why)),
+    };
+    let (smaller, behind) = match smaller_operand(rest, greater) {
+        Ok(found) => found,
+        Err(why) => return Err(stop(rest, why)),
+    };
+    Ok((
+        Gate {
+            rhs0: Lit::new(greater),
+            rhs1: Lit::new(smaller),
+        },
+        behind,
+    ))
+}

@@ -1,0 +1,80 @@
+//! What stands at the front of a text: a line, and what it says.
+ghost use Rattle.std.specs.Prelude.{◌≡◌, ◌+◌, ◌≤◌, Ok, IfOk};
+ghost use Rattle.aigertext.specs.Reading.{Gives, stop, line_at, header_of, next_of, literal_of, size_of};
+
+use crate::fault::{Stop, Why};
+use crate::forms::Form;
+use crate::reading::binary_latches::next_latch;
+use crate::reading::counts::Counts;
+use crate::reading::header::header;
+use crate::reading::numbers::{literal, size};
+use aiger::{Latch, Lit};
+use base::next_line;
+
+/// Reading stops at the front of a text.
+pub fn stop(text: &[u8], why: Why) -> Stop
+    ensures { result ≡ stop text.now why }
+{
+    Stop {
+        left: text.len(),
+        why,
+    }
+}
+
+/// The first line of a text, and the text behind it.
+pub fn line(text: &[u8]) -> Result<(&[u8], &[u8]), Stop>
+    ensures { Gives (λ x. (x.0.now, x.1.now)) result (line_at Ok text.now) }
+{
+    match next_line(text) {
+        None => Err(stop(text, Why::Truncated)),
+        Some((line, behind)) => Ok((line, behind)),
+    }
+}
+
+/// What the header says, and the text behind it.
+pub fn header_line(text: &[u8]) -> Result<((Form, Counts), &[u8]), Stop>
+    ensures { Gives (λ x. (x.0, x.1.now)) result (line_at header_of text.now) }
+{
+    let (bytes, behind) = line(text)?;
+    match header(bytes) {
+        Ok(said) => Ok((said, behind)),
+        Err(why) => Err(stop(text, why)),
+    }
+}
+
+/// The latch of the first line, whose own literal is given, and the text behind it.
+pub fn next_latch_line(text: &[u8], greatest: u32, own: u32) -> Result<(Latch, &[u8]), Stop>
+    ensures gives { Gives (λ x. (x.0, x.1.now)) result (line_at (next_of greatest own) text.now) }
+    ensures small { IfOk result (λ x. x.0.next ≤ greatest) }
+{
+    let (bytes, behind) = line(text)?;
+    match next_latch(bytes, greatest, own) {
+        Ok(latch) => Ok((latch, behind)),
+        Err(why) => Err(stop(text, why)),
+    }
+}
+
+/// The literal of the first line, and the text behind it.
+pub fn literal_line(text: &[u8], greatest: u32) -> Result<(Lit, &[u8]), Stop>
+    ensures gives { Gives (λ x. (x.0, x.1.now)) result (line_at (literal_of greatest) text.now) }
+    ensures small { IfOk result (λ x. x.0 ≤ greatest) }
+{
+    let (bytes, behind) = line(text)?;
+    match literal(bytes, greatest) {
+        Ok(literal) => Ok((literal, behind)),
+        Err(why) => Err(stop(text, why)),
+    }
+}
+
+/// The size that the first line gives, where those before it have so many literals together, and the text behind it.
+pub fn size_line(text: &[u8], before: u32) -> Result<(u32, &[u8]), Stop>
+    requires { before ≤ 1073741824 }
+    ensures gives { Gives (λ x. (x.0, x.1.now)) result (line_at (size_of before) text.now) }
+    ensures small { IfOk result (λ x. before + x.0 ≤ 1073741824) }
+{
+    let (bytes, behind) = line(text)?;
+    match size(bytes, before) {
+        Ok(size) => Ok((size, behind)),
+        Err(why) => Err(stop(text, why)),
+    }
+}

@@ -1,0 +1,85 @@
+//! Reading the names behind the gates, and the beginning of a comment.
+ghost use Rattle.std.specs.Prelude.{◌≡◌};
+ghost use Rattle.aiger.specs.Circuit.{with_name, name_refusal};
+ghost use Rattle.aigertext.specs.Reading.{accepted, section_of, named_by, name_on, names_at, cut};
+ghost use Rattle.aigertext.specs.Passes.{Becomes, BecomesAt};
+
+use crate::fault::{Stop, Why};
+use crate::reading::lines::stop;
+use aiger::{Circuit, CircuitFault, Section};
+use base::{cut_at, decimal, next_line};
+
+/// The section that a letter stands for.
+#[tactic(auto, unfolding(crate::specs::Reading::section_of))]
+fn section(letter: u8) -> Option<Section>
+    ensures { result ≡ section_of letter }
+{
+    Section::ALL
+        .iter()
+        .copied()
+        .find(|section| section.letter() == letter)
+}
+
+/// Gives a name to a position of a section.
+///
+/// Errors: `BadSymbol` and `NoMemory`.
+fn give(circuit: &mut Circuit, section: Section, position: u64, name: &[u8]) -> Result<(), Why>
+    ensures { Becomes result circuit.new (accepted (with_name circuit.old section position name.now) (name_refusal circuit.old section position name.now)) }
+{
+    match circuit.set_name(section, position as usize, name) {
+        Ok(()) => Ok(()),
+        Err(CircuitFault::NoMemory) => Err(Why::NoMemory),
+        Err(_) => Err(Why::BadSymbol),
+    }
+}
+
+/// Gives a section's position the name that stands behind its letter.
+fn give_by(circuit: &mut Circuit, section: Section, bytes: &[u8]) -> Result<(), Why>
+    ensures { Becomes result circuit.new (named_by circuit.old section (cut 32 bytes.now)) }
+{
+    match cut_at(bytes, b' ') {
+        None => Err(Why::BadSymbol),
+        Some((digits, name)) => match decimal(digits) {
+            None => Err(Why::BadSymbol),
+            Some(position) => give(circuit, section, position, name),
+        },
+    }
+}
+
+/// Gives the name of a line.
+#[tactic(auto, unfolding(crate::specs::Reading::name_on))]
+fn give_line(circuit: &mut Circuit, line: &[u8]) -> Result<(), Why>
+    ensures { Becomes result circuit.new (name_on circuit.old line.now) }
+{
+    match line {
+        [] => Err(Why::BadSymbol),
+        [letter, rest @ ..] => match section(*letter) {
+            None => Err(Why::BadSymbol),
+            Some(section) => give_by(circuit, section, rest),
+        },
+    }
+}
+
+/// Gives the names of the lines of a text, up to a line `c` or the end.
+///
+/// Errors: `BadSymbol`, `Truncated` where the last line has no byte 10, and `NoMemory`.
+pub fn give_names(circuit: &mut Circuit, text: &[u8]) -> Result<(), Stop>
+    ensures { BecomesAt result circuit.new (names_at circuit.old text.now) }
+{
+    let mut rest = text;
+    while let Some((line, after)) = next_line(rest) {
+        if line == b"c".as_slice() {
+            return Ok(());
+        }
+        match give_line(circuit, line) {
+            Ok(()) => {}
+            Err(why) => return Err(stop(rest, why)),
+        }
+        rest = after;
+    }
+    if rest.is_empty() {
+        Ok(())
+    } else {
+        Err(stop(rest, Why::Truncated))
+    }
+}

@@ -1,0 +1,118 @@
+//! The gates: a line for each in the ascii form, and two deltas for each in the binary one.
+ghost use Rattle.std.specs.Prelude.{◌≡◌, ◌+◌, ◌-◌, ◌<◌, ◌≤◌, ◌∷◌, ◌++◌, [], suc, length};
+ghost use Rattle.base.specs.Device.{CountsFaults};
+ghost use Rattle.base.specs.Pieces.{Puts};
+ghost use Rattle.aiger.specs.Circuit.{IsCircuit};
+ghost use Rattle.aiger.specs.Net.{AreOrderedFrom};
+ghost use Rattle.aigertext.specs.Ascii.{numbers_line, gate_lines};
+ghost use Rattle.aigertext.specs.Binary.{delta, gate_deltas, gates_text};
+
+use crate::forms::Form;
+use crate::writing::deltas::Deltas;
+use crate::writing::line::{Line, put_line};
+use aiger::{Circuit, Gate};
+use base::{DeviceFault, Outbox, Sink};
+
+/// The variable of the first gate.
+pub fn first_gate(circuit: &Circuit) -> u32
+    ensures variable { result ≡ suc (circuit.now.inputs + length circuit.now.latches) }
+    ensures valid { IsCircuit circuit.now }
+{
+    circuit.inputs() + circuit.latches().len() as u32 + 1
+}
+
+/// Puts the gates in a form, the first of which has the given variable.
+pub fn put_gates<K: Sink>(
+    outbox: &mut Outbox,
+    sink: &mut K,
+    form: Form,
+    first: u32,
+    gates: &[Gate],
+) -> Result<(), DeviceFault>
+    requires few { first + length gates.now ≤ 1073741825 }
+    requires ordered { AreOrderedFrom first gates.now }
+    ensures puts { Puts result (K.written sink.old) (K.written sink.new) outbox.old outbox.new (gates_text form first gates.now) }
+    ensures failures { CountsFaults result (K.failures sink.old) (K.failures sink.new) }
+{
+    match form {
+        Form::Ascii => put_gate_lines(outbox, sink, first, gates),
+        Form::Binary => put_deltas(outbox, sink, first, gates),
+    }
+}
+
+/// Puts the lines of the gates, the first of which has the given variable.
+fn put_gate_lines<K: Sink>(
+    outbox: &mut Outbox,
+    sink: &mut K,
+    first: u32,
+    gates: &[Gate],
+) -> Result<(), DeviceFault>
+    requires { first + length gates.now ≤ 1073741825 }
+    ensures puts { Puts result (K.written sink.old) (K.written sink.new) outbox.old outbox.new (gate_lines first gates.now) }
+    ensures failures { CountsFaults result (K.failures sink.old) (K.failures sink.new) }
+{
+    let mut line = Line::new();
+    let mut variable = first;
+    for gate in gates {
+        put_gate_line(outbox, sink, &mut line, 2 * variable, gate)?;
+        variable += 1;
+    }
+    Ok(())
+}
+
+/// Puts the line of a gate: its literal and its operands.
+fn put_gate_line<K: Sink>(
+    outbox: &mut Outbox,
+    sink: &mut K,
+    line: &mut Line,
+    own: u32,
+    gate: &Gate,
+) -> Result<(), DeviceFault>
+    ensures puts { Puts result (K.written sink.old) (K.written sink.new) outbox.old outbox.new (numbers_line (own ∷ gate.now.rhs0 ∷ gate.now.rhs1 ∷ [])) }
+    ensures failures { CountsFaults result (K.failures sink.old) (K.failures sink.new) }
+{
+    line.last(gate.rhs1.number());
+    line.before(gate.rhs0.number());
+    line.before(own);
+    put_line(outbox, sink, line)
+}
+
+/// Puts the deltas of the gates, the first of which has the given variable.
+fn put_deltas<K: Sink>(
+    outbox: &mut Outbox,
+    sink: &mut K,
+    first: u32,
+    gates: &[Gate],
+) -> Result<(), DeviceFault>
+    requires few { first + length gates.now ≤ 1073741825 }
+    requires ordered { AreOrderedFrom first gates.now }
+    ensures puts { Puts result (K.written sink.old) (K.written sink.new) outbox.old outbox.new (gate_deltas first gates.now) }
+    ensures failures { CountsFaults result (K.failures sink.old) (K.failures sink.new) }
+{
+    let mut deltas = Deltas::new();
+    let mut variable = first;
+    for gate in gates {
+        put_gate_deltas(outbox, sink, &mut deltas, 2 * variable, gate)?;
+        variable += 1;
+    }
+    Ok(())
+}
+
+/// Puts the two deltas of a gate.
+fn put_gate_deltas<K: Sink>(
+    outbox: &mut Outbox,
+    sink: &mut K,
+    deltas: &mut Deltas,
+    own: u32,
+    gate: &Gate,
+) -> Result<(), DeviceFault>
+    requires below { gate.now.rhs0 ≤ own }
+    requires ordered { gate.now.rhs1 ≤ gate.now.rhs0 }
+    ensures puts { Puts result (K.written sink.old) (K.written sink.new) outbox.old outbox.new (delta (own - gate.now.rhs0) ++ delta (gate.now.rhs0 - gate.now.rhs1)) }
+    ensures failures { CountsFaults result (K.failures sink.old) (K.failures sink.new) }
+{
+    deltas.clear();
+    deltas.push(own - gate.rhs0.number());
+    deltas.push(gate.rhs0.number() - gate.rhs1.number());
+    outbox.put(sink, deltas.bytes())
+}
