@@ -157,8 +157,8 @@ module _ (h : Counts) (text : List ℕ) (l0 : Loose) (none : l0 ≡ empty_loose)
       gates_left l3 p t3 q is = rw (from_empty, k, q) (ap (λ (l : Loose). gates_onto h l t3) is)
 
 -- lists that were read, or where reading them stops, have the answers of the text
-pub answers_of_lists : (h : Counts) (text t : List ℕ) (l : Loose) (r : Result Circuit Stop) → lists_of_file h text ≡ Ok (l, t) → ReadsBy r (AnswersLists h text (Ok (l, t))) → ReadsBy r (AnswersAscii h text)
-answers_of_lists h text t l r is answers = subst (λ (read : Result (Loose × List ℕ) Stop). ReadsBy r (AnswersLists h text read)) (sym is) answers
+pub answers_of_lists : (h : Counts) (text t : List ℕ) (l : Loose) (r : Result Circuit Stop) → lists_of_file h text ≡ Ok (l, t) → ReadsBy (λ e. e.why) (λ c. c) r (AnswersLists h text (Ok (l, t))) → ReadsBy (λ e. e.why) (λ c. c) r (AnswersAscii h text)
+answers_of_lists h text t l r is answers = subst (λ (read : Result (Loose × List ℕ) Stop). ReadsBy (λ e. e.why) (λ c. c) r (AnswersLists h text read)) (sym is) answers
 
 pub answers_stop : (h : Counts) (text : List ℕ) (e : Stop) → lists_of_file h text ≡ Err e → AnswersAscii h text (Err e)
 answers_stop h text e is = subst (λ (read : Result (Loose × List ℕ) Stop). AnswersLists h text read (Err e)) (sym is) refl

@@ -112,13 +112,6 @@ lines_before h k =
 abbrev pub use_of_gate : Loose → ℕ → ℕ
 use_of_gate l g = length (used_lines l) - length l.gates + g
 
--- ---- reading onto lists
-
--- lines were read onto the lists of a file, or reading stops there, or memory ran out
-abbrev pub ReadsOnto : {X : Type 0} → (X → List ℕ) → Result X Stop → Loose → Result (Loose × List ℕ) Stop → Type 0
-ReadsOnto view (Ok x) l read = read ≡ Ok (l, view x)
-ReadsOnto view (Err e) l read = (e.why ≡ why.NoMemory) ⊎ (read ≡ Err e)
-
 -- ---- texts
 
 -- reading stops at the front of what stands behind so many lines

@@ -65,30 +65,23 @@ lists_at greatest before (suc n) sizes text = do
   more ← lists_at greatest (before + size.0) n size.1 ls.1
   Ok (ls.0 ∷ more.0, more.1)
 
--- a line was read onto a circuit, unless memory ran out
-abbrev pub Becomes : Result (Unit {0}) Why → Circuit → Result Circuit Why → Type 0
-Becomes (Ok u) c read = read ≡ Ok c
-Becomes (Err w) c read = (w ≡ why.NoMemory) ⊎ (read ≡ Err w)
+-- an answer, seen as what was made, is one that is to be given, unless memory ran out
+abbrev pub ReadsBy : {X A E : Type 0} → (E → Why) → (X → A) → Result X E → (Result A E → Type 0) → Type 0
+ReadsBy why_of view (Ok x) Answers = Answers (Ok (view x))
+ReadsBy why_of view (Err e) Answers = (why_of e ≡ why.NoMemory) ⊎ Answers (Err e)
 
--- a text was read onto a circuit, unless memory ran out
-abbrev pub BecomesAt : Result (Unit {0}) Stop → Circuit → Result Circuit Stop → Type 0
-BecomesAt (Ok u) c read = read ≡ Ok c
-BecomesAt (Err e) c read = (e.why ≡ why.NoMemory) ⊎ (read ≡ Err e)
+-- it is what was to be read of a text
+abbrev pub Reads : {X A : Type 0} → (X → A) → Result X Stop → Result A Stop → Type 0
+Reads view r read = ReadsBy (λ e. e.why) view r (λ answer. read ≡ answer)
 
--- a text was read as a circuit, unless memory ran out
-abbrev pub ReadsAs : Result Circuit Stop → Result Circuit Stop → Type 0
-ReadsAs (Ok c) read = read ≡ Ok c
-ReadsAs (Err e) read = (e.why ≡ why.NoMemory) ⊎ (read ≡ Err e)
+-- it is what was to be read of a line
+abbrev pub ReadsLine : {X A : Type 0} → (X → A) → Result X Why → Result A Why → Type 0
+ReadsLine view r read = ReadsBy (λ w. w) view r (λ answer. read ≡ answer)
 
 -- lists were numbered, or reading stops at one of their lines, or memory ran out
 abbrev pub Numbers : Counts → List ℕ → Loose → Result Circuit Stop → Type 0
 Numbers h text l (Ok c) = IsRenumbered l c
 Numbers h text l (Err e) = (e.why ≡ why.NoMemory) ⊎ (AnswersUndefined h text l (Err e) ⊎ AnswersCycle h text l (Err e))
-
--- an answer is one that is to be given, unless memory ran out
-abbrev pub ReadsBy : Result Circuit Stop → (Result Circuit Stop → Type 0) → Type 0
-ReadsBy (Ok c) Answers = Answers (Ok c)
-ReadsBy (Err e) Answers = (e.why ≡ why.NoMemory) ⊎ Answers (Err e)
 
 -- the circuit with all properties that were read
 abbrev pub with_properties : Circuit → Properties → Circuit

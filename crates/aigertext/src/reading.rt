@@ -39,7 +39,7 @@ use std::alloc::Global;
 /// The circuit that a text spells; its first word decides the form.
 #[tactic(auto, unfolding(crate::specs::AsciiReading::AnswersText))]
 fn read_known(alloc: Global, text: &[u8]) -> Result<Circuit, Stop>
-    ensures { ReadsBy result (AnswersText text.now) }
+    ensures { ReadsBy (λ e. e.why) (λ c. c) result (AnswersText text.now) }
 {
     match header_line(text) {
         Ok(((Form::Binary, counts), rest)) => read_sections(alloc, &counts, rest),

@@ -4,8 +4,8 @@ ghost use Rattle.std.specs.List.{sum_by};
 ghost use Rattle.aiger.specs.Loose.{empty_loose};
 ghost use Rattle.aiger.specs.Renumbering.{used_lines};
 ghost use Rattle.aigertext.specs.declared.forms.Form.TheVariants as form;
-ghost use Rattle.aigertext.specs.AsciiReading.{lists_of_file, behind_line, behind_lines, lines_before, ReadsOnto, AnswersLists, AnswersAscii};
-ghost use Rattle.aigertext.specs.Passes.{Numbers, ReadsBy};
+ghost use Rattle.aigertext.specs.AsciiReading.{lists_of_file, behind_line, behind_lines, lines_before, AnswersLists, AnswersAscii};
+ghost use Rattle.aigertext.specs.Passes.{Numbers, Reads, ReadsBy};
 ghost use Rattle.aigertext.specs.Reading.{cut};
 ghost use Rattle.aigertext.specs.Counts.{AreSmall, Fits};
 
@@ -29,7 +29,7 @@ fn read_lists<'a>(
     requires empty { lists.old ≡ empty_loose }
     requires small { AreSmall counts.now }
     requires fits { Fits form.Ascii counts.now }
-    ensures { ReadsOnto (λ x. x.now) result lists.new (lists_of_file counts.now text.now) }
+    ensures { Reads (λ x. (lists.new, x.now)) result (lists_of_file counts.now text.now) }
 {
     let greatest = 2 * counts.variables + 1;
     let latches = match push_inputs(lists, text, greatest, counts.inputs) {
@@ -135,7 +135,7 @@ fn named(
     names: &[u8],
 ) -> Result<Circuit, Stop>
     requires { AreSmall counts.now }
-    ensures { ReadsBy result (AnswersLists counts.now text.now (Ok (lists.now, names.now))) }
+    ensures { ReadsBy (λ e. e.why) (λ c. c) result (AnswersLists counts.now text.now (Ok (lists.now, names.now))) }
 {
     let _valid = lists.inputs();
     let mut circuit = match numbered(alloc, lists, counts, text) {
@@ -152,7 +152,7 @@ fn named(
 pub fn read_file(alloc: Global, counts: &Counts, text: &[u8]) -> Result<Circuit, Stop>
     requires small { AreSmall counts.now }
     requires fits { Fits form.Ascii counts.now }
-    ensures { ReadsBy result (AnswersAscii counts.now text.now) }
+    ensures { ReadsBy (λ e. e.why) (λ c. c) result (AnswersAscii counts.now text.now) }
 {
     let mut lists = Loose::new(alloc);
     match read_lists(alloc, &mut lists, counts, text) {

@@ -2,7 +2,8 @@
 ghost use Rattle.std.specs.Prelude.{◌≡◌, ◌+◌, ◌≤◌, OnOk, IfOk};
 ghost use Rattle.aiger.specs.Loose.{defined_count, with_input_line, with_latch_line, with_gate_line};
 ghost use Rattle.aigertext.specs.Reading.{Gives, line_at};
-ghost use Rattle.aigertext.specs.AsciiReading.{input_of, latch_of, gate_of, onto_lists, ReadsOnto, IsNew};
+ghost use Rattle.aigertext.specs.AsciiReading.{input_of, latch_of, gate_of, onto_lists, IsNew};
+ghost use Rattle.aigertext.specs.Passes.{Reads};
 
 use crate::fault::Stop;
 use crate::reading::ascii_lines::{gate, input, latch};
@@ -61,7 +62,7 @@ pub fn push_inputs<'a>(
 ) -> Result<&'a [u8], Stop>
     requires small { greatest ≤ 2147483649 }
     requires few { defined_count lists.old + count ≤ 1073741824 }
-    ensures read { ReadsOnto (λ x. x.now) result lists.new (onto_lists (input_of greatest) with_input_line lists.old count text.now) }
+    ensures read { Reads (λ x. (lists.new, x.now)) result (onto_lists (input_of greatest) with_input_line lists.old count text.now) }
     ensures count { OnOk result (defined_count lists.new ≡ defined_count lists.old + count) }
 {
     let mut rest = text;
@@ -88,7 +89,7 @@ pub fn push_latches<'a>(
 ) -> Result<&'a [u8], Stop>
     requires small { greatest ≤ 2147483649 }
     requires few { defined_count lists.old + count ≤ 1073741824 }
-    ensures read { ReadsOnto (λ x. x.now) result lists.new (onto_lists (latch_of greatest) with_latch_line lists.old count text.now) }
+    ensures read { Reads (λ x. (lists.new, x.now)) result (onto_lists (latch_of greatest) with_latch_line lists.old count text.now) }
     ensures count { OnOk result (defined_count lists.new ≡ defined_count lists.old + count) }
 {
     let mut rest = text;
@@ -115,7 +116,7 @@ pub fn push_gate_lines<'a>(
 ) -> Result<&'a [u8], Stop>
     requires small { greatest ≤ 2147483649 }
     requires few { defined_count lists.old + count ≤ 1073741824 }
-    ensures read { ReadsOnto (λ x. x.now) result lists.new (onto_lists (gate_of greatest) with_gate_line lists.old count text.now) }
+    ensures read { Reads (λ x. (lists.new, x.now)) result (onto_lists (gate_of greatest) with_gate_line lists.old count text.now) }
     ensures count { OnOk result (defined_count lists.new ≡ defined_count lists.old + count) }
 {
     let mut rest = text;

@@ -3,7 +3,7 @@ ghost use Rattle.std.specs.Prelude.{◌≡◌, Ok};
 ghost use Rattle.aiger.specs.Circuit.{fresh_circuit};
 ghost use Rattle.aigertext.specs.declared.forms.Form.TheVariants as form;
 ghost use Rattle.aigertext.specs.Reading.{binary_at};
-ghost use Rattle.aigertext.specs.Passes.{ReadsAs, BecomesAt, behind_lines_of};
+ghost use Rattle.aigertext.specs.Passes.{Reads, behind_lines_of};
 ghost use Rattle.aigertext.specs.Counts.{AreSmall, Fits};
 
 use crate::fault::Stop;
@@ -28,7 +28,7 @@ fn push_sections(
     requires small { AreSmall counts.now }
     requires fits { Fits form.Binary counts.now }
     requires gates { behind_lines_of counts.now text.now ≡ Ok gates.now }
-    ensures { BecomesAt result circuit.new (binary_at counts.now text.now) }
+    ensures { Reads (λ u. circuit.new) result (binary_at counts.now text.now) }
 {
     let greatest = 2 * counts.variables + 1;
     let latch = 2 * (counts.inputs + 1);
@@ -52,7 +52,7 @@ fn push_sections(
 pub fn read_sections(alloc: Global, counts: &Counts, text: &[u8]) -> Result<Circuit, Stop>
     requires small { AreSmall counts.now }
     requires fits { Fits form.Binary counts.now }
-    ensures { ReadsAs result (binary_at counts.now text.now) }
+    ensures { Reads (λ c. c) result (binary_at counts.now text.now) }
 {
     let gates = match check_lines(text, counts) {
         Ok(gates) => gates,

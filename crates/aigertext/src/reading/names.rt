@@ -2,7 +2,7 @@
 ghost use Rattle.std.specs.Prelude.{◌≡◌};
 ghost use Rattle.aiger.specs.Circuit.{with_name, name_refusal};
 ghost use Rattle.aigertext.specs.Reading.{accepted, section_of, named_by, name_on, names_at, cut};
-ghost use Rattle.aigertext.specs.Passes.{Becomes, BecomesAt};
+ghost use Rattle.aigertext.specs.Passes.{Reads, ReadsLine};
 
 use crate::fault::{Stop, Why};
 use crate::reading::lines::stop;
@@ -24,7 +24,7 @@ fn section(letter: u8) -> Option<Section>
 ///
 /// Errors: `BadSymbol` and `NoMemory`.
 fn give(circuit: &mut Circuit, section: Section, position: u64, name: &[u8]) -> Result<(), Why>
-    ensures { Becomes result circuit.new (accepted (with_name circuit.old section position name.now) (name_refusal circuit.old section position name.now)) }
+    ensures { ReadsLine (λ u. circuit.new) result (accepted (with_name circuit.old section position name.now) (name_refusal circuit.old section position name.now)) }
 {
     match circuit.set_name(section, position as usize, name) {
         Ok(()) => Ok(()),
@@ -35,7 +35,7 @@ fn give(circuit: &mut Circuit, section: Section, position: u64, name: &[u8]) -> 
 
 /// Gives a section's position the name that stands behind its letter.
 fn give_by(circuit: &mut Circuit, section: Section, bytes: &[u8]) -> Result<(), Why>
-    ensures { Becomes result circuit.new (named_by circuit.old section (cut 32 bytes.now)) }
+    ensures { ReadsLine (λ u. circuit.new) result (named_by circuit.old section (cut 32 bytes.now)) }
 {
     match cut_at(bytes, b' ') {
         None => Err(Why::BadSymbol),
@@ -49,7 +49,7 @@ fn give_by(circuit: &mut Circuit, section: Section, bytes: &[u8]) -> Result<(), 
 /// Gives the name of a line.
 #[tactic(auto, unfolding(crate::specs::Reading::name_on))]
 fn give_line(circuit: &mut Circuit, line: &[u8]) -> Result<(), Why>
-    ensures { Becomes result circuit.new (name_on circuit.old line.now) }
+    ensures { ReadsLine (λ u. circuit.new) result (name_on circuit.old line.now) }
 {
     match line {
         [] => Err(Why::BadSymbol),
@@ -64,7 +64,7 @@ fn give_line(circuit: &mut Circuit, line: &[u8]) -> Result<(), Why>
 ///
 /// Errors: `BadSymbol`, `Truncated` where the last line has no byte 10, and `NoMemory`.
 pub fn give_names(circuit: &mut Circuit, text: &[u8]) -> Result<(), Stop>
-    ensures { BecomesAt result circuit.new (names_at circuit.old text.now) }
+    ensures { Reads (λ u. circuit.new) result (names_at circuit.old text.now) }
 {
     let mut rest = text;
     while let Some((line, after)) = next_line(rest) {

@@ -1,5 +1,5 @@
 use Rattle.std.proofs.Common.{subst, inl, inr, arith}
-use Rattle.aigertext.specs.AsciiReading.{ReadsOnto}
+use Rattle.aigertext.specs.Passes.{Reads}
 use Rattle.aigertext.proofs.PassOverLemmas.{no_uses, none_few, latches_few, gates_few, no_inputs, no_latches, no_properties, gates_left}
 use Rattle.aigertext.proofs.PropertyListLemmas.{file_takes_all}
 use Rattle.aigertext.proofs.reading.ascii.read_lists.Goals as goal
@@ -47,7 +47,7 @@ push_gate_lines-requires-clause-few c =
 
 pub returns : goal.returns
 returns c =
-    subst (ReadsOnto (λ x. x.now) c.push_gate_lines.result c.push_gate_lines.new.lists)
+    subst (Reads (λ x. (c.push_gate_lines.new.lists, x.now)) c.push_gate_lines.result)
     (gates_left c.args.counts.now c.args.text.now c.args.lists.now c.requires.empty c.push_inputs.new.lists c.in-Ok.latches.now c.in-Ok.ensures.read c.push_latches.new.lists c.in-Ok-push_latches.properties.now c.in-Ok-push_latches.ensures.read
     c.push_properties.new.lists c.in-Ok-push_properties.ensures.0 c.in-Ok-push_properties.gates.now c.in-Ok-push_properties.ensures.1.0 c.in-Ok-push_properties.ensures.1.1)
     c.push_gate_lines.ensures.read

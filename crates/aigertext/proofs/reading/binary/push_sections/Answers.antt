@@ -1,5 +1,5 @@
 use Rattle.std.proofs.Common.{subst, inl, inr}
-use Rattle.aigertext.specs.Passes.{BecomesAt}
+use Rattle.aigertext.specs.Passes.{Reads}
 use Rattle.aigertext.proofs.SectionReadLemmas.{first_own, gates_few, all_latches, all_variables, still_variables, none_yet, stops_at_latch, stops_at_property, stops_at_gate, names_left, same_greatest}
 use Rattle.aigertext.proofs.PropertyListLemmas.{circuit_takes_all}
 use Rattle.aigertext.proofs.reading.binary.push_sections.Goals as goal
@@ -45,7 +45,7 @@ push_properties-requires-clause-none c =
 
 pub returns-in-Ok-push_properties : goal.returns-in-Ok-push_properties
 returns-in-Ok-push_properties c =
-    subst (BecomesAt c.give_names.result c.give_names.new.circuit)
+    subst (Reads (λ u. c.give_names.new.circuit) c.give_names.result)
     (names_left c.args.counts.now c.args.text.now c.args.gates.now c.requires.gates c.in-Ok-set_latches.ensures.read.0 c.in-Ok-set_latches.properties.now c.in-Ok-push_properties.field-0.now c.in-Ok.names.now
     c.in-Ok-push_properties.ensures.0 c.in-Ok.ensures.read.0 c.args.circuit.now c.push_gates.new.circuit c.set_latches.new.circuit c.push_properties.new.lists
     c.in-Ok-set_latches.ensures.read.1.0 c.in-Ok-push_properties.ensures.1.0 c.in-Ok.ensures.read.1.0 c.requires.fresh c.in-Ok.ensures.read.1.1 c.in-Ok-set_latches.ensures.read.1.1 c.in-Ok-push_properties.ensures.1.1)
