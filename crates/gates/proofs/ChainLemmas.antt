@@ -10,14 +10,13 @@ use Rattle.std.proofs.lemmas.List.Elements.{All-replicate, All-push, All-set, Al
 use Rattle.aiger.specs.declared.circuit.Gate.{Gate}
 use Rattle.aiger.specs.Net.{Net, variables}
 use Rattle.gates.specs.declared.chains.Walk.{Walk}
-use Rattle.gates.specs.declared.chains.Walk.TheVariants.{Found, Ended, Full}
+use Rattle.gates.specs.declared.chains.Walk.TheVariants.{Found, Absent}
 use Rattle.gates.specs.Chains.{is_pair, walked, found_by, finds, AreFound}
 
 -- the place that a walk found
 abbrev place_of : Walk → Option ℕ
 place_of (Found place) = Some place
-place_of Ended = None
-place_of Full = None
+place_of (Absent is_full) = None
 
 -- where no element passes, there is no first place that passes
 position-absent : {X : Type 0} (p : X → Bool) (xs : List X) → All (λ x. p x ≡ false) xs → position p xs ≡ None
@@ -42,7 +41,7 @@ is_pair-same : (pair : Gate) → is_pair pair pair ≡ true
 is_pair-same pair = grind (arith, nat_tests)
 
 -- one step of a walk: at the end of the chain, at the gate, and at another one
-pub walked-end : (gates : List Gate) (before : List ℕ) (pair : Gate) (turns entry : ℕ) → 0 < turns → entry ≡ 0 → walked gates before pair turns entry ≡ Ended
+pub walked-end : (gates : List Gate) (before : List ℕ) (pair : Gate) (turns entry : ℕ) → 0 < turns → entry ≡ 0 → walked gates before pair turns entry ≡ Absent false
 unfolding walked
 walked-end gates before pair zero entry some is = absurd (omega arith)
 walked-end gates before pair (suc turns) entry some is = rw is refl
@@ -57,7 +56,7 @@ unfolding walked
 walked-on gates before pair turns place is_not =
     ap (λ (b : Bool). if b then Found place else walked gates before pair turns (get_or before place 0)) is_not
 
-pub walked-full : (gates : List Gate) (before : List ℕ) (pair : Gate) (turns entry : ℕ) → turns ≡ 0 → walked gates before pair turns entry ≡ Full
+pub walked-full : (gates : List Gate) (before : List ℕ) (pair : Gate) (turns entry : ℕ) → turns ≡ 0 → walked gates before pair turns entry ≡ Absent true
 unfolding walked
 walked-full gates before pair turns entry is = rw is refl
 
@@ -94,36 +93,36 @@ walked-found gates before same links pair (suc turns) (suc here) place inside is
 
 -- a walk for another gate along a chain that ends: it is not behind a full chain
 walked-not_full : (gates : List Gate) (before : List ℕ) (pair other : Gate) (turns entry : ℕ)
-    → walked gates before pair turns entry ≡ Ended → walked gates before other turns entry ≡ Full → ⊥
+    → walked gates before pair turns entry ≡ Absent false → walked gates before other turns entry ≡ Absent true → ⊥
 unfolding walked
 walked-not_full gates before pair other zero entry ended full = absurd (cc)
 walked-not_full gates before pair other (suc turns) zero ended full = absurd (cc)
 walked-not_full gates before pair other (suc turns) (suc here) ended full =
     by (is_pair pair (get_or gates here pair)) (is_pair other (get_or gates here other)) (walked-not_full gates before pair other turns (get_or before here 0)) ended full
   where
-    by : (b c : Bool) → (walked gates before pair turns (get_or before here 0) ≡ Ended → walked gates before other turns (get_or before here 0) ≡ Full → ⊥)
-        → (if b then Found here else walked gates before pair turns (get_or before here 0)) ≡ Ended
-        → (if c then Found here else walked gates before other turns (get_or before here 0)) ≡ Full → ⊥
+    by : (b c : Bool) → (walked gates before pair turns (get_or before here 0) ≡ Absent false → walked gates before other turns (get_or before here 0) ≡ Absent true → ⊥)
+        → (if b then Found here else walked gates before pair turns (get_or before here 0)) ≡ Absent false
+        → (if c then Found here else walked gates before other turns (get_or before here 0)) ≡ Absent true → ⊥
     by true c later ended full = absurd (cc)
     by false true later ended full = absurd (cc)
     by false false later ended full = later ended full
 
 -- and it finds what it finds in a turn less
 walked-sooner : (gates : List Gate) (before : List ℕ) (pair other : Gate) (turns entry place : ℕ)
-    → walked gates before pair (suc turns) entry ≡ Ended → walked gates before other (suc turns) entry ≡ Found place → walked gates before other turns entry ≡ Found place
+    → walked gates before pair (suc turns) entry ≡ Absent false → walked gates before other (suc turns) entry ≡ Found place → walked gates before other turns entry ≡ Found place
 unfolding walked
 walked-sooner gates before pair other turns zero place ended found = absurd (cc)
 walked-sooner gates before pair other zero (suc here) place ended found = by (is_pair pair (get_or gates here pair)) ended
   where
-    by : (b : Bool) → (if b then Found here else Full) ≡ Ended → Full ≡ Found place
+    by : (b : Bool) → (if b then Found here else Absent true) ≡ Absent false → (Absent true) ≡ Found place
     by true ended = absurd (cc)
     by false ended = absurd (cc)
 walked-sooner gates before pair other (suc turns) (suc here) place ended found =
     by (is_pair pair (get_or gates here pair)) (is_pair other (get_or gates here other)) refl (walked-sooner gates before pair other turns (get_or before here 0) place) ended found
   where
     by : (b c : Bool) → is_pair other (get_or gates here other) ≡ c
-        → (walked gates before pair (suc turns) (get_or before here 0) ≡ Ended → walked gates before other (suc turns) (get_or before here 0) ≡ Found place → walked gates before other turns (get_or before here 0) ≡ Found place)
-        → (if b then Found here else walked gates before pair (suc turns) (get_or before here 0)) ≡ Ended
+        → (walked gates before pair (suc turns) (get_or before here 0) ≡ Absent false → walked gates before other (suc turns) (get_or before here 0) ≡ Found place → walked gates before other turns (get_or before here 0) ≡ Found place)
+        → (if b then Found here else walked gates before pair (suc turns) (get_or before here 0)) ≡ Absent false
         → (if c then Found here else walked gates before other (suc turns) (get_or before here 0)) ≡ Found place
         → walked gates before other (suc turns) (suc here) ≡ Found place
     by true c at later ended found = absurd (cc)
@@ -131,22 +130,22 @@ walked-sooner gates before pair other (suc turns) (suc here) place ended found =
     by false false at later ended found = walked-on gates before other turns here at ∙ later ended found
 
 -- what is found behind a walk
-found_by-walk : (w : Walk) (beyond : Option ℕ) (place : ℕ) → found_by w beyond ≡ Found place → (w ≡ Full → ⊥) → w ≡ Found place
+found_by-walk : (w : Walk) (beyond : Option ℕ) (place : ℕ) → found_by w beyond ≡ Found place → (w ≡ Absent true → ⊥) → w ≡ Found place
 found_by-walk (Found here) beyond place is not_full = is
-found_by-walk Ended beyond place is not_full = is
-found_by-walk Full beyond place is not_full = absurd (not_full refl)
+found_by-walk (Absent false) beyond place is not_full = is
+found_by-walk (Absent true) beyond place is not_full = absurd (not_full refl)
 
-found_by-ended : (w : Walk) (beyond : Option ℕ) → found_by w beyond ≡ Ended → w ≡ Ended
+found_by-ended : (w : Walk) (beyond : Option ℕ) → found_by w beyond ≡ Absent false → w ≡ Absent false
 found_by-ended (Found here) beyond is = is
-found_by-ended Ended beyond is = is
-found_by-ended Full None is = absurd (cc)
-found_by-ended Full (Some place) is = absurd (cc)
+found_by-ended (Absent false) beyond is = is
+found_by-ended (Absent true) None is = absurd (cc)
+found_by-ended (Absent true) (Some place) is = absurd (cc)
 
-found_by-full : (w : Walk) (beyond : Option ℕ) → found_by w beyond ≡ Full → (w ≡ Full) × (beyond ≡ None)
+found_by-full : (w : Walk) (beyond : Option ℕ) → found_by w beyond ≡ Absent true → (w ≡ Absent true) × (beyond ≡ None)
 found_by-full (Found here) beyond is = absurd (cc)
-found_by-full Ended beyond is = absurd (cc)
-found_by-full Full None is = (refl, refl)
-found_by-full Full (Some place) is = absurd (cc)
+found_by-full (Absent false) beyond is = absurd (cc)
+found_by-full (Absent true) None is = (refl, refl)
+found_by-full (Absent true) (Some place) is = absurd (cc)
 
 -- an entry 0 behind a list's changes no entry, since behind the list are none
 get_or-zero : (xs : List ℕ) (i : ℕ) → get_or (xs ++ 0 ∷ []) i 0 ≡ get_or xs i 0
@@ -171,9 +170,9 @@ module _ (longest : ℕ) (n : Net) (last before : List ℕ) (beyond : Gate → O
     where
       by : (w : Walk) (o : Option ℕ) → walked n.gates before pair longest (get_or last pair.rhs0 0) ≡ w → beyond pair ≡ o → found_by w o ≡ Found place → (place < length n.gates) × (get_or n.gates place pair ≡ pair)
       by (Found here) o walk map is = walked-found n.gates before found.places found.links pair longest (get_or last pair.rhs0 0) place (first_inside pair.rhs0) (walk ∙ is)
-      by Ended o walk map is = absurd (cc)
-      by Full None walk map is = absurd (cc)
-      by Full (Some here) walk map is = let same : here ≡ place = cc in found.map pair place (map ∙ ap Some same)
+      by (Absent false) o walk map is = absurd (cc)
+      by (Absent true) None walk map is = absurd (cc)
+      by (Absent true) (Some here) walk map is = let same : here ≡ place = cc in found.map pair place (map ∙ ap Some same)
 
   -- no gate is one that is not found
   no_gate : (pair : Gate) → ((place : ℕ) → finds longest n.gates last before beyond pair ≡ Found place → ⊥)
@@ -207,11 +206,7 @@ module _ (longest : ℕ) (n : Net) (last before : List ℕ) (beyond : Gate → O
           in
           let same : k ≡ place = cc in
           absurd (omega arith)
-  place-found pair Ended is = sym (absent (no_gate pair (λ place there. absurd (cc))))
-    where
-      absent : ((place : ℕ) (d : Gate) → place < length n.gates → is_pair pair (get_or n.gates place d) ≡ false) → position (is_pair pair) n.gates ≡ None
-      absent none = position-absent (is_pair pair) n.gates none
-  place-found pair Full is = sym (position-absent (is_pair pair) n.gates (no_gate pair (λ place there. absurd (cc))))
+  place-found pair (Absent is_full) is = sym (position-absent (is_pair pair) n.gates (no_gate pair (λ place there. absurd (cc))))
 
   -- a look-up in the maps of a net with a gate more, where the walk and the map say the same as before
   finds-kept : (pair r : Gate) (last2 : List ℕ) (beyond2 : Gate → Option ℕ) (link : ℕ) → get_or last2 r.rhs0 0 ≡ get_or last r.rhs0 0 → beyond2 r ≡ beyond r
@@ -263,7 +258,7 @@ each_pushed old new gates pair kept own each place d inside =
 -- the gates are found with one more that a chain took
 module _ (turns : ℕ) (n : Net) (last before : List ℕ) (beyond beyond2 : Gate → Option ℕ) (pair : Gate)
     (found : AreFound (suc turns) n last before beyond) (literal : pair.rhs0 < length last)
-    (state : finds (suc turns) n.gates last before beyond pair ≡ Ended) (same_map : (r : Gate) → beyond2 r ≡ beyond r) where
+    (state : finds (suc turns) n.gates last before beyond pair ≡ Absent false) (same_map : (r : Gate) → beyond2 r ≡ beyond r) where
   abbrev last_chained : List ℕ
   last_chained = (slice_set last pair.rhs0 (length before + 1) ++ 0 ∷ []) ++ 0 ∷ []
 
@@ -282,7 +277,7 @@ module _ (turns : ℕ) (n : Net) (last before : List ℕ) (beyond beyond2 : Gate
   chained_walk r place same is =
       let first : ℕ = get_or last pair.rhs0 0 in
       let other = other_pair (suc turns) n last before beyond found pair r place (λ there. absurd (cc)) is in
-      let ended : walked n.gates before pair (suc turns) first ≡ Ended = found_by-ended _ (beyond pair) state in
+      let ended : walked n.gates before pair (suc turns) first ≡ Absent false = found_by-ended _ (beyond pair) state in
       let there : walked n.gates before r (suc turns) first ≡ Found place =
       ap (λ l. walked n.gates before r (suc turns) (get_or last l 0)) (sym same)
       ∙ found_by-walk _ (beyond r) place is (λ full. walked-not_full n.gates before pair r (suc turns) first ended (ap (λ l. walked n.gates before r (suc turns) (get_or last l 0)) (sym same) ∙ full))
@@ -330,7 +325,7 @@ module _ (turns : ℕ) (n : Net) (last before : List ℕ) (beyond beyond2 : Gate
 
 -- the gates are found with one more that stands in the map, since its chain is full
 module _ (longest : ℕ) (n : Net) (last before : List ℕ) (beyond beyond2 : Gate → Option ℕ) (pair : Gate)
-    (found : AreFound longest n last before beyond) (state : finds longest n.gates last before beyond pair ≡ Full)
+    (found : AreFound longest n last before beyond) (state : finds longest n.gates last before beyond pair ≡ Absent true)
     (own_map : beyond2 pair ≡ Some (length before)) (same_map : (r : Gate) → is_pair pair r ≡ false → beyond2 r ≡ beyond r) where
   abbrev last_full : List ℕ
   last_full = (last ++ 0 ∷ []) ++ 0 ∷ []
@@ -353,12 +348,12 @@ module _ (longest : ℕ) (n : Net) (last before : List ℕ) (beyond beyond2 : Ga
 
   full_own : finds longest (n.gates ++ pair ∷ []) last_full before_full beyond2 pair ≡ Found (length n.gates)
   full_own =
-      let walk : walked (n.gates ++ pair ∷ []) before_full pair longest (get_or last_full pair.rhs0 0) ≡ Full =
+      let walk : walked (n.gates ++ pair ∷ []) before_full pair longest (get_or last_full pair.rhs0 0) ≡ Absent true =
       ap (walked (n.gates ++ pair ∷ []) before_full pair longest) (get_or-zeros last pair.rhs0)
       ∙ walked-push n.gates before pair (get_or last pair.rhs0 0) found.places found.links pair longest (get_or last pair.rhs0 0) (first_inside longest n last before beyond found pair.rhs0)
       ∙ (found_by-full _ (beyond pair) state).0
       in
-      ap (λ w. found_by w (beyond2 pair)) walk ∙ ap (found_by Full) (own_map ∙ ap Some found.places)
+      ap (λ w. found_by w (beyond2 pair)) walk ∙ ap (found_by (Absent true)) (own_map ∙ ap Some found.places)
 
   full_map : (r : Gate) (place : ℕ) → beyond2 r ≡ Some place → (place < length (n.gates ++ pair ∷ [])) × (get_or (n.gates ++ pair ∷ []) place r ≡ r)
   full_map r place is = by (is_pair pair r) refl
@@ -419,7 +414,7 @@ finds-same most gates last last2 before before2 beyond beyond2 same_last same_be
 
 -- the gates are found with one more that was noted, behind room that was made for it
 pub AreFound-noted : (turns : ℕ) (n : Net) (last last2 before before2 : List ℕ) (beyond beyond2 : Gate → Option ℕ) (pair : Gate) (is_full : Bool)
-    → AreFound (suc turns) n last before beyond → pair.rhs0 < length last → finds (suc turns) n.gates last before beyond pair ≡ (if is_full then Full else Ended)
+    → AreFound (suc turns) n last before beyond → pair.rhs0 < length last → finds (suc turns) n.gates last before beyond pair ≡ Absent is_full
     → last2 ≡ ((if is_full then last else slice_set last pair.rhs0 (length before + 1)) ++ 0 ∷ []) ++ 0 ∷ []
     → before2 ≡ before ++ get_or last pair.rhs0 0 ∷ []
     → ((r : Gate) → beyond2 r ≡ (if is_full && is_pair pair r then Some (length before) else beyond r))

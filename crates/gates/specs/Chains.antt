@@ -1,9 +1,9 @@
 -- Where a sharing maker finds its gates: each literal has a chain of gates whose greater operand it is, and the gates that a full chain did not take stand in a map. No contract of the maker says anything of it but that each gate is found.
-use Rattle.std.specs.Prelude.{◌≡◌, ℕ, zero, suc, ◌+◌, ◌*◌, ◌<◌, ◌≤◌, Bool, ◌&&◌, ◌==◌, List, All, length, get_or, Option, None, Some, if◌then◌else◌}
+use Rattle.std.specs.Prelude.{true, false, ◌≡◌, ℕ, zero, suc, ◌+◌, ◌*◌, ◌<◌, ◌≤◌, Bool, ◌&&◌, ◌==◌, List, All, length, get_or, Option, None, Some, if◌then◌else◌}
 use Rattle.aiger.specs.declared.circuit.Gate.{Gate}
 use Rattle.aiger.specs.Net.{Net, variables}
 use Rattle.gates.specs.declared.chains.Walk.{Walk}
-use Rattle.gates.specs.declared.chains.Walk.TheVariants.{Found, Ended, Full}
+use Rattle.gates.specs.declared.chains.Walk.TheVariants.{Found, Absent}
 
 -- how many gates a chain has at most
 abbrev pub longest : ℕ
@@ -15,17 +15,17 @@ is_pair pair g = pair.rhs0 == g.rhs0 && pair.rhs1 == g.rhs1
 
 -- how a walk along a chain ends that looks at so many gates at most. An entry of a chain is 1 more than the place of a gate, or 0 at its end
 unfoldable pub walked : List Gate → List ℕ → Gate → ℕ → ℕ → Walk
-walked gates before pair zero entry = Full
-walked gates before pair (suc turns) zero = Ended
+walked gates before pair zero entry = Absent true
+walked gates before pair (suc turns) zero = Absent false
 walked gates before pair (suc turns) (suc place) =
     if is_pair pair (get_or gates place pair) then Found place else walked gates before pair turns (get_or before place 0)
 
 -- what a walk found, or behind a full chain what the map says
 abbrev pub found_by : Walk → Option ℕ → Walk
 found_by (Found place) beyond = Found place
-found_by Ended beyond = Ended
-found_by Full None = Full
-found_by Full (Some place) = Found place
+found_by (Absent false) beyond = Absent false
+found_by (Absent true) None = Absent true
+found_by (Absent true) (Some place) = Found place
 
 -- how a gate is found by the last gate of each literal's chain, the gate before each gate in its chain, and the map, where a chain has at most so many gates
 abbrev pub finds : ℕ → List Gate → List ℕ → List ℕ → (Gate → Option ℕ) → Gate → Walk

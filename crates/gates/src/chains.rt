@@ -20,10 +20,8 @@ const LONGEST: usize = 16;
 pub(crate) enum Walk {
     /// At the gate, which stands at this place.
     Found(usize),
-    /// Behind the last gate of a chain that takes another one.
-    Ended,
-    /// Behind a full chain, and it is not in the map.
-    Full,
+    /// Nowhere: it is neither on its chain, which is full or takes another one, nor in the map.
+    Absent { is_full: bool },
 }
 
 /// Where the gates of a circuit stand.
@@ -58,7 +56,7 @@ fn walk_along(gates: &[Gate], before: &[u32], pair: Pair, first: u32, turns: usi
     let mut entry = first;
     for _ in 0..turns {
         if entry == 0 {
-            return Walk::Ended;
+            return Walk::Absent { is_full: false };
         }
         let place = (entry - 1) as usize;
         if is_of(gates[place], pair) {
@@ -66,7 +64,7 @@ fn walk_along(gates: &[Gate], before: &[u32], pair: Pair, first: u32, turns: usi
         }
         entry = before[place];
     }
-    Walk::Full
+    Walk::Absent { is_full: true }
 }
 
 /// Adds an entry to a list that has room for it.
@@ -119,12 +117,11 @@ impl Chains {
     {
         let first = self.last[pair.greater as usize];
         match walk_along(circuit.gates(), &self.before, pair, first, LONGEST) {
-            Walk::Found(place) => Walk::Found(place),
-            Walk::Ended => Walk::Ended,
-            Walk::Full => match self.beyond.get(&pair) {
+            Walk::Absent { is_full: true } => match self.beyond.get(&pair) {
                 Some(place) => Walk::Found(*place as usize),
-                None => Walk::Full,
+                None => Walk::Absent { is_full: true },
             },
+            walk => walk,
         }
     }
 

@@ -71,7 +71,7 @@ fn add_gate(
     is_full: bool,
 ) -> Result<Lit, GateFault>
     requires found { AreFound longest (net circuit.old) chains.old.last.items chains.old.before.items (get is_pair chains.old.beyond) }
-    requires absent { finds longest circuit.old.gates chains.old.last.items chains.old.before.items (get is_pair chains.old.beyond) pair ≡ (if is_full then Walk.Full else Walk.Ended) }
+    requires absent { finds longest circuit.old.gates chains.old.last.items chains.old.before.items (get is_pair chains.old.beyond) pair ≡ Walk.Absent is_full }
     requires order { pair.rhs1 ≤ pair.rhs0 }
     requires defined { IsDefined (net circuit.old) pair.rhs0 }
     requires room { variables (net circuit.old) < greatest_count }
@@ -95,7 +95,7 @@ fn make(
     is_full: bool,
 ) -> Result<Lit, GateFault>
     requires found { AreFound longest (net circuit.old) chains.old.last.items chains.old.before.items (get is_pair chains.old.beyond) }
-    requires absent { finds longest circuit.old.gates chains.old.last.items chains.old.before.items (get is_pair chains.old.beyond) pair ≡ (if is_full then Walk.Full else Walk.Ended) }
+    requires absent { finds longest circuit.old.gates chains.old.last.items chains.old.before.items (get is_pair chains.old.beyond) pair ≡ Walk.Absent is_full }
     requires order { pair.rhs1 ≤ pair.rhs0 }
     requires defined { IsDefined (net circuit.old) pair.rhs0 }
     ensures ok { IfOk result (λ l. (circuit.new ≡ record circuit.old { gates = circuit.old.gates ++ pair ∷ [] }) × (l ≡ 2 * (variables (net circuit.old) + 1))) }
@@ -164,8 +164,7 @@ impl HashGates {
         let pair = pair_of(a, b);
         match self.chains.find(&self.circuit, pair) {
             Walk::Found(place) => Ok(gate_at(&self.circuit, place)),
-            Walk::Ended => make(&mut self.circuit, &mut self.chains, pair, false),
-            Walk::Full => make(&mut self.circuit, &mut self.chains, pair, true),
+            Walk::Absent { is_full } => make(&mut self.circuit, &mut self.chains, pair, is_full),
         }
     }
 }

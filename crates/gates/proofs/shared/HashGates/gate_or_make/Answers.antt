@@ -3,7 +3,7 @@ use Rattle.std.specs.HashMap.{get}
 use Rattle.aiger.specs.declared.circuit.Gate.{Gate}
 use Rattle.aiger.specs.Net.{variables}
 use Rattle.aiger.specs.Circuit.{net}
-use Rattle.gates.specs.declared.chains.Walk.TheVariants.{Found, Ended, Full}
+use Rattle.gates.specs.declared.chains.Walk.TheVariants.{Found, Absent}
 use Rattle.gates.specs.Chains.{longest, is_pair}
 use Rattle.gates.specs.Shared.{is_gate_of, gate_literal}
 use Rattle.gates.proofs.ChainLemmas.{found_there, place-found}
@@ -39,48 +39,26 @@ returns-in-Found-clause-too_big c =
     rw (← c.self.view_is)
     ((λ refused. absurd (search rules)), (λ needed. absurd (let both : Some c.in-Found.place ≡ None = place_found c ∙ needed.0 in cc)))
 
--- no gate stands where the chain takes another
-absent_ended : (c : goal.After-make) → position (is_gate_of c.args.a c.args.b) c.self.inside.circuit.gates ≡ None
-absent_ended c =
+-- no gate stands where none was found
+absent : (c : goal.After-make) → position (is_gate_of c.args.a c.args.b) c.self.inside.circuit.gates ≡ None
+absent c =
     let chains = c.self.inside.chains in
-    sym (place-found longest (net c.self.inside.circuit) chains.last.items chains.before.items (get is_pair chains.beyond) c.self.invariant.1 c.pair_of-pair.result Ended (sym c.find.ensures ∙ c.in-Ended.is)
+    sym
+    (place-found longest (net c.self.inside.circuit) chains.last.items chains.before.items (get is_pair chains.beyond) c.self.invariant.1 c.pair_of-pair.result (Absent c.in-Absent.is_full) (sym c.find.ensures ∙ c.in-Absent.is)
     ∙ ap (λ (pair : Gate). position (is_pair pair) c.self.inside.circuit.gates) c.pair_of-pair.ensures)
 
 pub invariant_of-self : goal.invariant_of-self
 invariant_of-self c =
-    let made = AreShared-made c.make.result c.self.inside.circuit c.make.new.circuit c.args.a c.args.b (λ l. l ≡ 2 * (variables (net c.self.inside.circuit) + 1)) (search rules) c.make.ensures.err c.self.invariant.0 c.self.invariant.2 c.requires.needed (absent_ended c) in
+    let made = AreShared-made c.make.result c.self.inside.circuit c.make.new.circuit c.args.a c.args.b (λ l. l ≡ 2 * (variables (net c.self.inside.circuit) + 1)) (search rules) c.make.ensures.err c.self.invariant.0 c.self.invariant.2 c.requires.needed (absent c) in
     (made.0, c.make.ensures.found, made.1)
 
-pub returns-in-Ended-clause-standing : goal.returns-in-Ended-clause-standing
-returns-in-Ended-clause-standing c =
-    rw (← c.self.view_is) (λ k at. absurd (let both : None ≡ Some k = sym (absent_ended c) ∙ at in cc))
+pub returns-in-Absent-clause-standing : goal.returns-in-Absent-clause-standing
+returns-in-Absent-clause-standing c =
+    rw (← c.self.view_is) (λ k at. absurd (let both : None ≡ Some k = sym (absent c) ∙ at in cc))
 
-pub returns-in-Ended-clause-too_big : goal.returns-in-Ended-clause-too_big
-returns-in-Ended-clause-too_big c =
-    rw (← c.self.view_is) ((λ refused. (absent_ended c, c.make.ensures.too_big.0 refused)), (λ needed. c.make.ensures.too_big.1 needed.1))
+pub returns-in-Absent-clause-too_big : goal.returns-in-Absent-clause-too_big
+returns-in-Absent-clause-too_big c =
+    rw (← c.self.view_is) ((λ refused. (absent c, c.make.ensures.too_big.0 refused)), (λ needed. c.make.ensures.too_big.1 needed.1))
 
-pub returns-in-Ended-clause-shared : goal.returns-in-Ended-clause-shared
-returns-in-Ended-clause-shared c = (invariant_of-self c).2
-
--- nor where it is full
-absent_full : (c : goal.After-make-in-Full) → position (is_gate_of c.args.a c.args.b) c.self.inside.circuit.gates ≡ None
-absent_full c =
-    let chains = c.self.inside.chains in
-    sym (place-found longest (net c.self.inside.circuit) chains.last.items chains.before.items (get is_pair chains.beyond) c.self.invariant.1 c.pair_of-pair.result Full (sym c.find.ensures ∙ c.in-Full.is)
-    ∙ ap (λ (pair : Gate). position (is_pair pair) c.self.inside.circuit.gates) c.pair_of-pair.ensures)
-
-pub invariant_of-self-in-Full : goal.invariant_of-self-in-Full
-invariant_of-self-in-Full c =
-    let made = AreShared-made c.make-in-Full.result c.self.inside.circuit c.make-in-Full.new.circuit c.args.a c.args.b (λ l. l ≡ 2 * (variables (net c.self.inside.circuit) + 1)) (search rules) c.make-in-Full.ensures.err c.self.invariant.0 c.self.invariant.2 c.requires.needed (absent_full c) in
-    (made.0, c.make-in-Full.ensures.found, made.1)
-
-pub returns-in-Full-clause-standing : goal.returns-in-Full-clause-standing
-returns-in-Full-clause-standing c =
-    rw (← c.self.view_is) (λ k at. absurd (let both : None ≡ Some k = sym (absent_full c) ∙ at in cc))
-
-pub returns-in-Full-clause-too_big : goal.returns-in-Full-clause-too_big
-returns-in-Full-clause-too_big c =
-    rw (← c.self.view_is) ((λ refused. (absent_full c, c.make-in-Full.ensures.too_big.0 refused)), (λ needed. c.make-in-Full.ensures.too_big.1 needed.1))
-
-pub returns-in-Full-clause-shared : goal.returns-in-Full-clause-shared
-returns-in-Full-clause-shared c = (invariant_of-self-in-Full c).2
+pub returns-in-Absent-clause-shared : goal.returns-in-Absent-clause-shared
+returns-in-Absent-clause-shared c = (invariant_of-self c).2
