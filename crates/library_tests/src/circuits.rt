@@ -71,23 +71,6 @@ fn circuit_of(
     Ok(circuit)
 }
 
-/// Literals, their variables and their negations.
-const LITERALS: [(u32, u32, u32); 4] = [(0, 0, 1), (1, 0, 0), (6, 3, 7), (7, 3, 6)];
-
-/// Whether a literal has a variable and a negation.
-fn is_literal(number: u32, variable: u32, negation: u32) -> bool {
-    let lit = Lit::new(number);
-    lit.number() == number && lit.var() == variable && lit.not().number() == negation
-}
-
-#[test]
-fn literals_of_variables(rt: HostRuntime) {
-    for (number, variable, negation) in &LITERALS {
-        assert!(rt; is_literal(*number, *variable, *negation), "{number}");
-    }
-    assert!(rt; Lit::FALSE.number() == 0 && Lit::TRUE.number() == 1);
-}
-
 /// A latch, the gate 8 of the literals 5 and 2, properties of each kind and names, in any order.
 const CALLS: [Call; 18] = [
     Call::Gate(8, 5, 2),

@@ -1,10 +1,7 @@
-//! What no clause says of words and devices: that calls succeed, what is printed, and that nothing is tried again.
-ghost use Rattle.std.specs.Prelude.{◌<◌, ◌^◌};
-
+//! What no clause says of devices: that calls succeed, what is printed, and that nothing is tried again.
 use base::{
-    Binary, DeviceFault, FromReader, Outbox, ReadAllFault, Sink, Source, Tally, ToWriter, Unary,
-    VecSink, Width, binary, concat, cut_at, decimal, gate, ite, laws, next_line, ones, read_all,
-    sext, slice, take, uext, unary, write_all,
+    DeviceFault, FromReader, Outbox, ReadAllFault, Sink, Source, ToWriter, VecSink, laws, read_all,
+    write_all,
 };
 use std::alloc::Global;
 use std::collections::VecDeque;
@@ -97,196 +94,6 @@ impl Sink for Dripping {
     }
 }
 
-/// A number as a word of a width: the number itself, or the greatest word where it is above that.
-fn word(w: Width, x: u64) -> u64
-    ensures { result < 2 ^ w }
-{
-    x.min(ones(w))
-}
-
-/// Numbers of bits, and those of their width.
-const WIDTHS: [(u64, Option<u64>); 4] = [(0, None), (1, Some(1)), (64, Some(64)), (65, None)];
-
-/// How many bits the width of a number has.
-fn bits_of(number: u64) -> Option<u64> {
-    match Width::new(number) {
-        Some(width) => Some(width.bits()),
-        None => None,
-    }
-}
-
-#[test]
-fn widths_are_1_to_64(rt: HostRuntime) {
-    for (number, wanted) in &WIDTHS {
-        assert!(rt; bits_of(*number) == *wanted, "{number}");
-    }
-}
-
-/// Whether operators, gates and moves are a step each.
-fn count_steps(width: Width) -> bool {
-    let mut tally = Tally::new();
-    let inverse = unary(Unary::Not, width, word(width, 200), &mut tally);
-    let first = tally.steps();
-    let both = binary(
-        Binary::And,
-        width,
-        word(width, 12),
-        word(width, 10),
-        &mut tally,
-    );
-    let second = tally.steps();
-    let gates = [gate(true, true, &mut tally), gate(true, false, &mut tally)];
-    let taken = take('x', &mut tally);
-    inverse == 55
-        && both == 8
-        && gates == [true, false]
-        && taken == 'x'
-        && [first, second, tally.steps()] == [1, 2, 5]
-}
-
-#[test]
-fn each_operator_is_a_step(rt: HostRuntime) -> Result<(), Fail> {
-    let width = Width::new(8).ok_or("8 is a width")?;
-    assert!(rt; count_steps(width));
-    Ok(())
-}
-
-/// Operators, a width, two operands and the word that they give.
-const OF_TWO_OPERANDS: [(Binary, u64, u64, u64, u64); 71] = [
-    (Binary::Udiv, 8, 200, 0, 255),
-    (Binary::Udiv, 8, 200, 7, 28),
-    (Binary::Urem, 8, 200, 0, 200),
-    (Binary::Urem, 8, 200, 7, 4),
-    (Binary::Sdiv, 8, 200, 0, 1),
-    (Binary::Sdiv, 8, 100, 0, 255),
-    (Binary::Srem, 8, 200, 0, 200),
-    (Binary::Smod, 8, 200, 0, 200),
-    (Binary::Sdiv, 8, 128, 255, 128),
-    (Binary::Sdivo, 8, 128, 255, 1),
-    (Binary::Sdivo, 8, 128, 254, 0),
-    (Binary::Sdiv, 1, 1, 1, 1),
-    (Binary::Sdivo, 1, 1, 1, 1),
-    (Binary::Smulo, 1, 1, 1, 1),
-    (Binary::Sdiv, 8, 249, 3, 254),
-    (Binary::Srem, 8, 249, 3, 255),
-    (Binary::Smod, 8, 249, 3, 2),
-    (Binary::Sdiv, 8, 7, 253, 254),
-    (Binary::Srem, 8, 7, 253, 1),
-    (Binary::Smod, 8, 7, 253, 254),
-    (Binary::Srem, 8, 128, 255, 0),
-    (Binary::Ror, 8, 1, 1, 128),
-    (Binary::Ror, 8, 1, 8, 1),
-    (Binary::Rol, 3, 6, 5, 3),
-    (Binary::Sll, 8, 1, 8, 0),
-    (Binary::Sll, 8, 200, 1, 144),
-    (Binary::Srl, 8, 200, 3, 25),
-    (Binary::Srl, 8, 200, 8, 0),
-    (Binary::Sra, 8, 128, 200, 255),
-    (Binary::Sra, 8, 200, 1, 228),
-    (Binary::Sra, 8, 100, 2, 25),
-    (Binary::Uaddo, 8, 255, 1, 1),
-    (Binary::Uaddo, 8, 254, 1, 0),
-    (Binary::Saddo, 8, 127, 1, 1),
-    (Binary::Saddo, 8, 128, 127, 0),
-    (Binary::Usubo, 8, 0, 1, 1),
-    (Binary::Usubo, 8, 1, 1, 0),
-    (Binary::Ssubo, 8, 128, 1, 1),
-    (Binary::Ssubo, 8, 128, 128, 0),
-    (Binary::Umulo, 8, 15, 17, 0),
-    (Binary::Umulo, 8, 16, 16, 1),
-    (Binary::Smulo, 8, 16, 8, 1),
-    (Binary::Smulo, 8, 240, 8, 0),
-    (Binary::Mul, 64, u64::MAX, u64::MAX, 1),
-    (Binary::Umulo, 64, u64::MAX, u64::MAX, 1),
-    (Binary::Smulo, 64, u64::MAX, u64::MAX, 0),
-    (Binary::Sdivo, 64, 1 << 63, u64::MAX, 1),
-    (Binary::Iff, 1, 0, 0, 1),
-    (Binary::Iff, 1, 1, 0, 0),
-    (Binary::Implies, 1, 1, 0, 0),
-    (Binary::Implies, 1, 0, 1, 1),
-    (Binary::Eq, 8, 7, 7, 1),
-    (Binary::Eq, 8, 7, 8, 0),
-    (Binary::Neq, 8, 7, 8, 1),
-    (Binary::Ugt, 8, 200, 100, 1),
-    (Binary::Ugte, 8, 100, 100, 1),
-    (Binary::Ult, 8, 200, 100, 0),
-    (Binary::Ulte, 8, 100, 100, 1),
-    (Binary::Sgt, 8, 200, 100, 0),
-    (Binary::Sgte, 8, 200, 200, 1),
-    (Binary::Slt, 8, 200, 100, 1),
-    (Binary::Slte, 8, 100, 200, 0),
-    (Binary::And, 8, 12, 10, 8),
-    (Binary::Nand, 8, 12, 10, 247),
-    (Binary::Or, 8, 12, 10, 14),
-    (Binary::Nor, 8, 12, 10, 241),
-    (Binary::Xor, 8, 12, 10, 6),
-    (Binary::Xnor, 8, 12, 10, 249),
-    (Binary::Add, 8, 200, 100, 44),
-    (Binary::Sub, 8, 100, 200, 156),
-    (Binary::Mul, 8, 200, 3, 88),
-];
-
-/// What an operator gives of two operands at a width; none where it is no width.
-fn binary_word(op: Binary, bits: u64, a: u64, b: u64) -> Option<u64> {
-    let w = Width::new(bits)?;
-    Some(binary(op, w, word(w, a), word(w, b), &mut Tally::new()))
-}
-
-#[test]
-fn words_of_two_operands(rt: HostRuntime) {
-    for (op, bits, a, b, wanted) in &OF_TWO_OPERANDS {
-        let given = binary_word(*op, *bits, *a, *b);
-        assert!(rt;
-            given == Some(*wanted),
-            "{op:?} of {a} and {b} at width {bits}"
-        );
-    }
-}
-
-/// Operators, an operand of eight bits and the word that they give.
-const OF_ONE_OPERAND: [(Unary, u64, u64); 11] = [
-    (Unary::Not, 200, 55),
-    (Unary::Inc, 255, 0),
-    (Unary::Dec, 0, 255),
-    (Unary::Neg, 3, 253),
-    (Unary::Neg, 0, 0),
-    (Unary::Redand, 255, 1),
-    (Unary::Redand, 127, 0),
-    (Unary::Redor, 16, 1),
-    (Unary::Redor, 0, 0),
-    (Unary::Redxor, 7, 1),
-    (Unary::Redxor, 5, 0),
-];
-
-/// What an operator gives of an operand of eight bits.
-fn unary_word(op: Unary, a: u64) -> Option<u64> {
-    let w = Width::new(8)?;
-    Some(unary(op, w, word(w, a), &mut Tally::new()))
-}
-
-/// Two choices, a part of a word, three wider words and two words in one.
-fn parts() -> Option<[u64; 7]> {
-    let mut tally = Tally::new();
-    let (w3, w4, w8) = (Width::new(3)?, Width::new(4)?, Width::new(8)?);
-    Some([
-        ite(w8, 1, 200, 100, &mut tally),
-        ite(w8, 0, 200, 100, &mut tally),
-        slice(w8, 180, 5, 2, &mut tally),
-        uext(w4, 9, 4, &mut tally),
-        sext(w4, 9, 4, &mut tally),
-        sext(w4, 7, 60, &mut tally),
-        concat(w4, 10, w3, 5, &mut tally),
-    ])
-}
-
-#[test]
-fn words_of_one_operand_and_parts(rt: HostRuntime) {
-    for (op, a, wanted) in &OF_ONE_OPERAND {
-        assert!(rt; unary_word(*op, *a) == Some(*wanted), "{op:?} of {a}");
-    }
-    assert!(rt; parts() == Some([200, 100, 13, 9, 249, 7, 85]));
-}
-
 #[test]
 fn bytes_reach_a_sink(rt: HostRuntime) -> Result<(), Fail> {
     let mut kept = VecSink::new(rt.alloc());
@@ -370,25 +177,6 @@ fn a_call_that_failed_is_not_tried_again(rt: HostRuntime) -> Result<(), Fail> {
     Ok(())
 }
 
-/// What is said of operators: widths, and what kind they are of.
-fn are_told() -> bool {
-    Unary::Not.width(8) == 8
-        && Unary::Redor.width(8) == 1
-        && Binary::Add.width(8) == 8
-        && Binary::Ult.width(8) == 1
-        && Unary::Redxor.is_reduction()
-        && !Unary::Neg.is_reduction()
-        && Binary::Iff.is_of_bits()
-        && !Binary::Xnor.is_of_bits()
-        && Binary::Sdivo.is_test()
-        && !Binary::Sdiv.is_test()
-}
-
-#[test]
-fn operators_give_widths(rt: HostRuntime) {
-    assert!(rt; are_told());
-}
-
 /// Puts pieces into an outbox over a sink, long ones among them, and flushes it.
 fn puts_pieces<S: Sink>(
     outbox: &mut Outbox,
@@ -453,24 +241,6 @@ fn faults_print_their_names(rt: HostRuntime) -> Result<(), Fail> {
     let printed = format!(in rt.alloc(); "{first} {second} {third}")?;
     assert!(rt; printed.as_str() == "device device no memory");
     Ok(())
-}
-
-/// Whether a text is cut into these two parts, or not at all.
-fn is_cut(parts: Option<(&[u8], &[u8])>, wanted: Option<(&[u8], &[u8])>) -> bool {
-    match (parts, wanted) {
-        (Some((front, rest)), Some((first, second))) => front == first && rest == second,
-        (None, None) => true,
-        _ => false,
-    }
-}
-
-#[test]
-fn lines_and_decimals(rt: HostRuntime) {
-    assert!(rt; is_cut(next_line(b"a b\n\nc"), Some((b"a b", b"\nc"))));
-    assert!(rt; is_cut(next_line(b"c"), None));
-    assert!(rt; is_cut(cut_at(b"b0 j1", b' '), Some((b"b0", b"j1"))));
-    assert!(rt; decimal(b"18446744073709551616") == Some(u64::MAX));
-    assert!(rt; decimal(b"042").is_none());
 }
 
 #[test]

@@ -1,0 +1,186 @@
+//! Models that are too big, and long witnesses. What small ones answer is shown by rows.
+use crate::samples::{DELAYED, TOGGLER, TOGGLES};
+use aiger::Circuit;
+use blast::{LowerFault, bound, cost, lower};
+use btor2::Model;
+use btor2text::read;
+use std::alloc::Global;
+use std::test::Fail;
+use witness::{BitJudge, Judgement, Why, WordJudge, judge_words};
+
+/// The text of so many overflow tests of a product of two inputs of 64 bits, and a last line.
+fn products(alloc: Global, count: u64, last: &str) -> Result<String, Fail> {
+    let mut text = String::from_str(
+        alloc,
+        "1 sort bitvec 64\n2 sort bitvec 1\n3 input 1\n4 input 1\n",
+    )?;
+    for k in 0..count {
+        let id = k.saturating_add(5);
+        let line = format!(in alloc; "{id} smulo 2 3 4\n")?;
+        text.push_str(line.as_str())?;
+    }
+    text.push_str(last)?;
+    Ok(text)
+}
+
+/// What a text is refused for, its bound and its cost.
+fn refusal(alloc: Global, text: &str) -> Result<(Option<LowerFault>, u64, u64), Fail> {
+    let mut source = text.as_bytes();
+    match read(alloc, &mut source) {
+        Ok(model) => Ok((lower(alloc, &model).err(), bound(&model), cost(&model))),
+        Err(_) => Err("a model")?,
+    }
+}
+
+/// Numbers of these tests and a last line, what it is refused for, its bound and its cost. Each of these tests has the
+/// bound 164,096, and the inputs have 128 bits; 2^30 is 1,073,741,824.
+const TOO_BIG: [(u64, &str, LowerFault, u64, u64); 3] = [
+    (
+        6543,
+        "9999 fair 5\n",
+        LowerFault::Fair(9999),
+        1073680256,
+        1073680128,
+    ),
+    (6544, "", LowerFault::TooBig, 1073844352, 1073844224),
+    (
+        6544,
+        "9999 fair 5\n",
+        LowerFault::Fair(9999),
+        1073844352,
+        1073844224,
+    ),
+];
+
+#[test]
+fn models_that_are_too_big(rt: HostRuntime) -> Result<(), Fail> {
+    for (count, last, fault, bound, cost) in &TOO_BIG {
+        let text = products(rt.alloc(), *count, last)?;
+        let refused = refusal(rt.alloc(), text.as_str())?;
+        assert!(rt; refused == (Some(*fault), *bound, *cost), "{count} {last}");
+    }
+    Ok(())
+}
+
+/// The model of a text.
+fn model_of(alloc: Global, text: &str) -> Result<Model, Fail> {
+    Ok(read(alloc, &mut text.as_bytes())?)
+}
+
+/// A witness of so many frames, each with these lines, all but its last byte.
+fn cut_witness(alloc: Global, frames: u64, lines: &str) -> Result<String, Fail> {
+    let mut text = String::from_str(alloc, "sat\nb0\n")?;
+    for k in 0..frames {
+        let frame = format!(in alloc; "@{k}\n{lines}")?;
+        text.push_str(frame.as_str())?;
+    }
+    text.push('.')?;
+    Ok(text)
+}
+
+/// Models, how many frames a witness has and their lines, and the line in which it is cut without its last byte.
+const LONG: [(&str, u64, &str, u64); 2] = [
+    (TOGGLER, 69997, "", 70000),
+    (DELAYED, 34999, "0 100\n", 70001),
+];
+
+/// Whether a witness is told as cut in its last line without its last byte, and accepted with it.
+fn is_long(
+    alloc: Global,
+    model: &Model,
+    frames: u64,
+    lines: &str,
+    line: u64,
+) -> Result<bool, Fail> {
+    let mut text = cut_witness(alloc, frames, lines)?;
+    let cut = judge_words(alloc, model, &mut text.as_bytes())?;
+    text.push('\n')?;
+    let whole = judge_words(alloc, model, &mut text.as_bytes())?;
+    let why = Why::Truncated;
+    Ok(cut == Judgement::Malformed { line, why } && whole == Judgement::Accepted { frames })
+}
+
+#[test]
+fn seventy_thousand_lines(rt: HostRuntime) -> Result<(), Fail> {
+    for (model, frames, lines, line) in &LONG {
+        let model = model_of(rt.alloc(), model)?;
+        let is_long = is_long(rt.alloc(), &model, *frames, lines, *line)?;
+        assert!(rt; is_long, "{line}");
+    }
+    Ok(())
+}
+
+/// The beginning of a witness, its end behind a million digits, and the line and the reason of its fault.
+type Great = (&'static str, &'static str, u64, Why);
+
+/// Witnesses with a great number.
+const GREAT: [Great; 4] = [
+    ("sat\nb0\n@0\n0 ", "\n", 4, Why::BadValue),
+    ("sat\nb0\n@0\n0 ", "", 4, Why::Truncated),
+    ("sat\nb0\n@0\n", " 000\n", 4, Why::BadIndex),
+    ("sat\nb", "\n", 2, Why::BadClaim),
+];
+
+/// Whether a witness has its fault.
+fn has_fault(alloc: Global, model: &Model, row: &Great) -> Result<bool, Fail> {
+    let (beginning, end, line, why) = *row;
+    let digits = [b'1'; 1000];
+    let mut judge = WordJudge::new(alloc, model)?;
+    judge.feed(beginning.as_bytes());
+    for _ in 0..1000 {
+        judge.feed(&digits);
+    }
+    judge.feed(end.as_bytes());
+    Ok(judge.finish() == Judgement::Malformed { line, why })
+}
+
+#[test]
+fn a_million_digits(rt: HostRuntime) -> Result<(), Fail> {
+    let model = model_of(rt.alloc(), DELAYED)?;
+    for row in &GREAT {
+        let has_fault = has_fault(rt.alloc(), &model, row)?;
+        assert!(rt; has_fault, "{}", row.0);
+    }
+    Ok(())
+}
+
+/// A text of so many frames without inputs.
+fn empty_frames(alloc: Global, count: usize) -> Result<Vec<u8>, Fail> {
+    let mut text = Vec::from_slice(alloc, b"1\nb0\n0\n")?;
+    for _ in 0..count {
+        text.push(b'\n')?;
+    }
+    text.extend_from_slice(b".\n")?;
+    Ok(text)
+}
+
+/// What a judge that was fed a text in pieces of so many bytes holds and has counted, and its judgement.
+fn counted(
+    alloc: Global,
+    circuit: &Circuit,
+    text: &[u8],
+    size: usize,
+) -> Result<(u64, u128, u64, u64, Judgement), Fail> {
+    let mut judge = BitJudge::new(alloc, circuit)?;
+    for piece in text.chunks(size.max(1)) {
+        judge.feed(piece);
+    }
+    let held = judge.held();
+    let steps = judge.steps();
+    let frames = judge.closed_frames();
+    let lines = judge.admitted_lines();
+    Ok((held, steps, frames, lines, judge.finish()))
+}
+
+#[test]
+fn two_hundred_thousand_frames(rt: HostRuntime) -> Result<(), Fail> {
+    let circuit = aigertext::read(rt.alloc(), &mut TOGGLES.as_bytes())?;
+    let text = empty_frames(rt.alloc(), 200_000)?;
+    let frames = 200_000;
+    let wanted = (3, 200_000, 200_000, 200_004, Judgement::Accepted { frames });
+    for size in [1, 4096] {
+        let given = counted(rt.alloc(), &circuit, text.as_slice(), size)?;
+        assert!(rt; given == wanted, "{size}");
+    }
+    Ok(())
+}

@@ -1,0 +1,206 @@
+//! Tries rows of commands, each by the calls that the program makes.
+//!
+//! Standard input has the rows. A row is a block of lines, with an empty line before the next one:
+//!
+//! ```text
+//! # what the row is about
+//! $ check-btor model witness       the words of the command line; `$` alone is none
+//! 1|1 sort bitvec 1                a line of the first file
+//! 1|2 input 1
+//! 1|3 bad 2
+//! 2|sat                            a line of the second file
+//! 2/b0                             the same, without a line end
+//! = 1                              the status
+//! o|malformed line 2: 118 ..       a line on standard output
+//! e|..                             a line on standard error
+//! ```
+//!
+//! `1^` stands for the first file of the row before. In words and texts `\\` is a backslash and `\x82` a byte by its number. A
+//! file without a line is not there; `1/` is an empty one. Where words ask for no command, what is written is only to have
+//! the texts of the row as a part.
+//!
+//! Each command is tried on its files as they stand and in pieces of each length, and with a failing device at each call:
+//! of a file that is read, of standard output, and of standard error. `~ model`, `~ circuit 4` and `~ witness` try the
+//! first or the second file also cut after each byte (`Cut` says what is to come of it).
+//!
+//! Each row that is not as it should be, and each that cannot be read, is told by the number of its first line; the last
+//! line tells how many rows there are, and how many of them are as they should be.
+#![tactic(auto)]
+
+mod answers;
+mod blocks;
+mod command_lines;
+mod cuts;
+mod escapes;
+mod stops;
+
+use answers::{
+    Answer, Files, gives_by_pieces, gives_on, status_untold, tells_failing_first,
+    tells_failing_second, tells_failing_writes,
+};
+use base::{FromReader, next_line, read_all};
+use blocks::Row;
+use command_lines::CommandLine;
+use commands::{Order, Stop, given_words, order};
+use cuts::tells_cuts;
+use std::alloc::{AllocError, Global};
+use std::io;
+
+/// What is not as it should be, of a row; nothing where all is.
+type Fault = Option<&'static str>;
+
+/// How many rows there are, and how many of them are as they should be.
+#[derive(Clone, Copy)]
+struct Count {
+    rows: u64,
+    right: u64,
+}
+
+/// Tries the rows on standard input.
+fn main(rt: HostRuntime) -> io::Result<()> {
+    let mut input = FromReader::new(rt.stdin());
+    match read_all(rt.alloc(), &mut input) {
+        Ok(text) => try_rows(&rt, text.as_slice()),
+        Err(fault) => println!(rt; "{fault}"),
+    }
+}
+
+/// Tries the rows of a text.
+fn try_rows(rt: &HostRuntime, text: &[u8]) -> io::Result<()> {
+    let mut row = Row::new(rt.alloc());
+    let mut count = Count { rows: 0, right: 0 };
+    let mut begun = 1;
+    let mut rest = text;
+    for lines in 0..text.len() {
+        let (line, after) = match next_line(rest) {
+            Some(parts) => parts,
+            None => break,
+        };
+        if line.is_empty() {
+            count = try_row(rt, &row, begun, count)?;
+            row.clear();
+            begun = lines.saturating_add(2);
+        } else {
+            row.read(line)?;
+        }
+        rest = after;
+    }
+    if !rest.is_empty() {
+        row.read(b"unfinished")?;
+    }
+    let Count { rows, right } = try_row(rt, &row, begun, count)?;
+    println!(rt; "{rows} rows, {right} as they should be")
+}
+
+/// Tries a row, where one has begun, tells what is not as it should be, and counts it.
+fn try_row(rt: &HostRuntime, row: &Row, begun: usize, count: Count) -> io::Result<Count> {
+    if !row.has_begun() {
+        return Ok(count);
+    }
+    let rows = count.rows.saturating_add(1);
+    match fault_of(rt.alloc(), row)? {
+        None => Ok(Count {
+            rows,
+            right: count.right.saturating_add(1),
+        }),
+        Some(fault) => {
+            println!(rt; "row at line {begun}: {fault}")?;
+            Ok(Count { rows, ..count })
+        }
+    }
+}
+
+/// What of a row is not as it should be.
+fn fault_of(alloc: Global, row: &Row) -> Result<Fault, AllocError> {
+    let status = match row.status() {
+        Some(status) => status,
+        None => return Ok(Some("cannot be read")),
+    };
+    let wanted = Answer {
+        status,
+        out: row.out.as_slice(),
+        err: row.err.as_slice(),
+    };
+    let words = row.words.as_slice();
+    match given_words(&(CommandLine { words }, alloc)) {
+        Ok(words) => fault_of_words(alloc, words.as_slice(), row, wanted),
+        Err(stop) => Ok(fault_of_stop(alloc, &stop, wanted)),
+    }
+}
+
+/// What of a row with such words is not as it should be.
+fn fault_of_words(
+    alloc: Global,
+    words: &[String],
+    row: &Row,
+    wanted: Answer<'_>,
+) -> Result<Fault, AllocError> {
+    match order(alloc, words) {
+        Ok(order) => fault_of_order(alloc, &order, row, wanted),
+        Err(stop) => Ok(fault_of_stop(alloc, &stop, wanted)),
+    }
+}
+
+/// What is not as it should be where something stands in place of a command.
+fn fault_of_stop(alloc: Global, stop: &Stop, wanted: Answer<'_>) -> Fault {
+    if !stops::tells_parts(alloc, stop, wanted) {
+        return Some("what is told in place of a command");
+    }
+    if !stops::tells_failing_writes(alloc, stop) {
+        return Some("a device that fails in place of a command");
+    }
+    None
+}
+
+/// What of a row with a command is not as it should be.
+fn fault_of_order(
+    alloc: Global,
+    order: &Order<'_>,
+    row: &Row,
+    wanted: Answer<'_>,
+) -> Result<Fault, AllocError> {
+    let (first, second) = (row.first(), row.second());
+    if !gives_on(alloc, order, first, second, wanted) {
+        return Ok(Some("the answer"));
+    }
+    match (first, second) {
+        (Some(first), Some(second)) => {
+            fault_of_devices(alloc, order, Files { first, second }, row, wanted)
+        }
+        (Some(first), None) if order.second.is_none() => {
+            let second = b"".as_slice();
+            fault_of_devices(alloc, order, Files { first, second }, row, wanted)
+        }
+        _ => Ok(None),
+    }
+}
+
+/// What of a row is not as it should be where its files come in pieces, devices fail or a file is cut.
+fn fault_of_devices(
+    alloc: Global,
+    order: &Order<'_>,
+    files: Files<'_>,
+    row: &Row,
+    wanted: Answer<'_>,
+) -> Result<Fault, AllocError> {
+    if !gives_by_pieces(alloc, order, files, wanted) {
+        return Ok(Some("files in pieces"));
+    }
+    if !tells_failing_first(alloc, order, files)? {
+        return Ok(Some("a first file that fails"));
+    }
+    let reads_second = order.second.is_some() && wanted.status < 2;
+    if reads_second && !tells_failing_second(alloc, order, files, wanted.out)? {
+        return Ok(Some("a second file that fails"));
+    }
+    if !tells_failing_writes(alloc, order, files, wanted.out) {
+        return Ok(Some("standard output that fails"));
+    }
+    if !wanted.err.is_empty() && status_untold(alloc, order, files) != 3 {
+        return Ok(Some("standard error that fails"));
+    }
+    match row.cut {
+        Some(cut) if !tells_cuts(alloc, order, files, cut)? => Ok(Some("a file that is cut")),
+        _ => Ok(None),
+    }
+}
