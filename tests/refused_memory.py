@@ -2,11 +2,11 @@
 """Refuses each allocation of a run in turn, until a run meets no refusal, of each command of the built program and of the
 tests on refused memory, and tells each run whose answer is neither the undisturbed one nor the refusal.
 
-    refused_memory.py [PROGRAM [TESTS]]
+    refused_memory.py [PROGRAM [TESTS ..]]
 
-PROGRAM is crates/hwtool/out/hwtool where none is given, which `rt run` builds, and TESTS
-crates/library_tests/out/library_tests_tests, which `rt test` builds. It takes a C compiler, cc. The status is 0 where all is
-as it should be, else 1.
+PROGRAM is crates/hwtool/out/hwtool where none is given, which `rt run` builds, and TESTS are those of library_tests and
+upper_tests, which `rt test` builds in their out/. It takes a C compiler, cc. The status is 0 where all is as it should be,
+else 1.
 """
 
 import os
@@ -16,7 +16,7 @@ import tempfile
 
 TOP = os.path.dirname(os.path.dirname(os.path.realpath(__file__)))
 PROGRAM = f"{TOP}/crates/hwtool/out/hwtool"
-TESTS = f"{TOP}/crates/library_tests/out/library_tests_tests"
+TESTS = [f"{TOP}/crates/{name}/out/{name}_tests" for name in ("library_tests", "upper_tests")]
 NO_MEMORY = b"no memory\n"
 
 # The files that commands are run on.
@@ -146,7 +146,7 @@ def does_not_fail(given, whole):
 
 def main():
     program = os.path.abspath(sys.argv[1]) if len(sys.argv) > 1 else PROGRAM
-    tests = os.path.abspath(sys.argv[2]) if len(sys.argv) > 2 else TESTS
+    all_tests = [os.path.abspath(tests) for tests in sys.argv[2:]] or TESTS
     refused, wrong = 0, 0
     with tempfile.TemporaryDirectory() as folder:
         for name, text in FILES.items():
@@ -161,7 +161,11 @@ def main():
         else:
             print(f"{program} is not built: run rt run in crates/hwtool")
             wrong += 1
-        if os.path.exists(tests):
+        for tests in all_tests:
+            if not os.path.exists(tests):
+                print(f"{tests} is not built: run rt test in its crate")
+                wrong += 1
+                continue
             listed = subprocess.run([tests, "--list"], capture_output=True, text=True).stdout
             for line in listed.split():
                 name = line.rstrip(":")
@@ -170,9 +174,6 @@ def main():
                 if name.startswith("no_memory_left::"):
                     sweeps.append((name, [tests, name], does_not_fail, False))
                     sweeps.append((name, [tests, name], does_not_fail, True))
-        else:
-            print(f"{tests} is not built: run rt test in crates/library_tests")
-            wrong += 1
         for name, words, is_right, rest in sweeps:
             more, bad = refuser.sweep(name, words, is_right, rest)
             refused += more

@@ -1,6 +1,9 @@
-//! Tests of the libraries: what no clause says and no row of the crate `rows` shows. They stand in a crate of their own
-//! because a crate with tests is proved twice.
+//! Tests of the libraries up to texts and gates, of what no clause says and no row of the crate `rows` shows, and what tests
+//! here and in `upper_tests` speak of. They stand in crates of their own because a crate with tests is proved twice, and in
+//! two because those of the lower libraries need not wait for the upper ones.
 #![tactic(auto)]
+
+pub mod samples;
 
 #[cfg(test)]
 mod circuits;
@@ -11,18 +14,8 @@ mod gate_makers;
 #[cfg(test)]
 mod models;
 #[cfg(test)]
-mod no_memory_left;
-#[cfg(test)]
 mod operator_tables;
 #[cfg(test)]
 mod refused_memory;
 #[cfg(test)]
-mod samples;
-#[cfg(test)]
-mod sizes;
-#[cfg(test)]
 mod sources_and_sinks;
-#[cfg(test)]
-mod stops;
-#[cfg(test)]
-mod witnesses;

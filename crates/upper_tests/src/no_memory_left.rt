@@ -2,7 +2,7 @@
 //! later one is; what a test stands on may be refused first, which ends it with that error. What takes no memory answers as
 //! ever, and what takes some tells that none was there, and has read and written nothing then. That there is an answer with
 //! ample memory is shown elsewhere. `tests/refused_memory.py` refuses the allocations.
-use crate::samples::{
+use library_tests::samples::{
     BOUNDED, COUNTER, Comparing, FOLLOWER, GATE, KEEPER, KEEPS, TOGGLER, TOGGLES,
 };
 use aiger::Circuit;

@@ -1,5 +1,5 @@
 //! What judges of models' witnesses have counted, and what is printed of their faults and of those of runs. Judgements are shown by rows.
-use crate::samples::{COUNTER, FOLLOWER};
+use library_tests::samples::{COUNTER, FOLLOWER};
 use btor2::Model;
 use btor2text::read;
 use runs::NewFault;

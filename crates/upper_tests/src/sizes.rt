@@ -1,5 +1,5 @@
 //! Models that are too big, and long witnesses. What small ones answer is shown by rows.
-use crate::samples::{DELAYED, TOGGLER, TOGGLES};
+use library_tests::samples::{DELAYED, TOGGLER, TOGGLES};
 use aiger::Circuit;
 use blast::{LowerFault, bound, cost, lower};
 use btor2::Model;

@@ -1,0 +1,12 @@
+//! Tests of the libraries that stand on texts and gates: lowerings, runs, witnesses, lifting and what the program tells, of
+//! what no clause says and no row of the crate `rows` shows.
+#![tactic(auto)]
+
+#[cfg(test)]
+mod no_memory_left;
+#[cfg(test)]
+mod sizes;
+#[cfg(test)]
+mod stops;
+#[cfg(test)]
+mod witnesses;
