@@ -154,14 +154,15 @@ no_claim_more (l ∷ lines) line x at old was place begins starts =
       | inr e ↦ rw e (or-false old ∙ was)
     ]
 
-module _ (c : Circuit) (lines : List (List ℕ)) (line : List ℕ) (j : BitJudge) (is : IsOfLines c j lines line) (none : j.refused ≡ None) where
+-- behind whole lines; of the line that is judged these bytes were taken one by one
+module _ (c : Circuit) (lines : List (List ℕ)) (line taken : List ℕ) (j : BitJudge) (is : IsOfLines c j lines taken) (none : j.refused ≡ None) where
   abbrev so_far : BitReading
   so_far = lines_behind c nothing_admitted lines
 
   not_refused : so_far.refused ≡ None
   not_refused = sym is.refused ∙ none
 
-  pub reads_now : Reads c j.reader so_far.read line
+  pub reads_now : Reads c j.reader so_far.read taken
   reads_now = is.reads none
 
   claim_now : (no_claim : Bool) → no_claim ≡ (j.no_claim || (is_first j.reader.place && (bytes_eq line (codes "0") || bytes_eq line (codes "2")))) → no_claim ≡ makes_no_bit_claim (lines ++ line ∷ [])
@@ -269,6 +270,16 @@ end_more c text j lines scans =
     record {
       lines = subst (λ (ls : List (List ℕ)). IsOfLines c j ls (unfinished (text ++ 10 ∷ []))) (sym (whole_lines-end text)) (subst (IsOfLines c j (whole_lines text ++ unfinished text ∷ [])) (sym (unfinished-end text)) lines);
       line = subst (Scans j.line) (sym (unfinished-end text)) scans;
+    }
+
+-- a whole line that was not taken byte by byte
+pub whole_line : (c : Circuit) (text bytes : List ℕ) (j new : BitJudge) → IsLine bytes → StandsFor c j text → unfinished text ≡ [] → new.line ≡ j.line → IsOfLines c new (whole_lines text ++ bytes ∷ []) [] → StandsFor c new (text ++ (bytes ++ 10 ∷ []))
+whole_line c text bytes j new is stands empty same lines =
+    let one : whole_lines (text ++ (bytes ++ 10 ∷ [])) ≡ whole_lines text ++ bytes ∷ [] = whole_lines-line_end text bytes is ∙ ap (λ (l : List ℕ). whole_lines text ++ (l ++ bytes) ∷ []) empty in
+    let none = unfinished-line_end text bytes in
+    record {
+      lines = subst (λ (ls : List (List ℕ)). IsOfLines c new ls (unfinished (text ++ (bytes ++ 10 ∷ [])))) (sym one) (subst (IsOfLines c new (whole_lines text ++ bytes ∷ [])) (sym none) lines);
+      line = subst (Scans new.line) (sym none) (subst (λ (s : Scan). Scans s []) (sym same) (subst (Scans j.line) empty stands.line));
     }
 
 -- the line in hand is another field

@@ -20,6 +20,7 @@ pub mod BitScanLemmas
 pub mod BitPlayLemmas
 pub mod BitReaderLemmas
 pub mod BitJudgeLemmas
+pub mod BitLineLemmas
 pub mod LastLineLemmas
 pub mod BitFinishLemmas
 pub mod FeedLemmas
