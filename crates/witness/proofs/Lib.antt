@@ -24,12 +24,13 @@ pub mod BitLineLemmas
 pub mod LastLineLemmas
 pub mod BitFinishLemmas
 pub mod FeedLemmas
-pub mod WordScanLemmas
-pub mod FieldScanLemmas
+pub mod WordValueLemmas
+pub mod WordFieldLemmas
 pub mod ClaimScanLemmas
-pub mod LineScanLemmas
+pub mod WordLineLemmas
 pub mod WordPlayLemmas
 pub mod WordAssignLemmas
+pub mod KeptLineLemmas
 pub mod WordReadingLemmas
 pub mod WordGivenLemmas
 pub mod WordReaderLemmas
