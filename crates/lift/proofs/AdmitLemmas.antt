@@ -168,7 +168,7 @@ value_of_decimal n small =
 kept_claim : (k : KeptLine) (line : List ℕ) (i : ℕ) → i < 2 ^ 64 → line ≡ claim i → Keeps k line → claim k.number ∷ [] ≡ line ∷ []
 kept_claim k line i small is h =
     let said : Keeps k (claim i) = subst (Keeps k) is h in
-    let number : k.number ≡ i = said.number (decimal_digits i small) ∙ value_of_decimal i small in
+    let number : k.number ≡ i = said.number refl (decimal_digits i small) ∙ value_of_decimal i small in
     ap (λ (n : ℕ). claim n ∷ []) number ∙ ap (λ (l : List ℕ). l ∷ []) (sym is)
 
 kept_frame_is : (items : List Item) (c : Circuit) (n : ℕ) (line : List ℕ) (k : KeptLine) (b : Bool) → bytes_eq line (codes ".") ≡ b → IsFrameOrEnd c line b → Keeps k line → c.inputs ≤ length k.bits

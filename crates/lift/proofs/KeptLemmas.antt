@@ -1,7 +1,7 @@
 -- What is kept of a line byte by byte is what its bytes say.
 use Rattle.std.proofs.Common.{◌≡◌, ℕ, suc, ◌+◌, ◌<◌, ◌≤◌, ◌-◌, ◌^◌, ◌==◌, min, nat_lt, Bool, true, false, List, [], ◌∷◌, ◌++◌, length, take, length-append, length-set, set, get_or, append_assoc, subst, refl, sym, ap, ap₂, ◌∙◌, arith, inl, inr}
 use Rattle.std.specs.List.{list_any, list_all}
-use Rattle.std.proofs.lemmas.Bool.{cases_Bool, and_parts, ne_eqb, lt-ltb, ltb-true, cases_lt}
+use Rattle.std.proofs.lemmas.Bool.{cases_Bool, and_parts, eq-eqb, ne_eqb, lt-ltb, ltb-true, cases_lt}
 use Rattle.std.proofs.lemmas.List.Folds.{list_all-append}
 use Rattle.std.proofs.lemmas.List.{map-append}
 use Rattle.std.proofs.lemmas.Grind.{take-set_at, take_at_read}
@@ -47,7 +47,7 @@ digits_before rest b all = (and_parts (are_digits rest) (are_digits (b ∷ [])) 
 -- ---- lines
 
 pub keeps_nothing : (bits : List Bool) → Keeps (record { bits = bits; count = 0; first = 0; number = 0 }) []
-keeps_nothing bits = record { bits = λ few. refl; count = omega arith; first = refl; number = λ all. capped_value-nil }
+keeps_nothing bits = record { bits = λ few. refl; count = omega arith; first = refl; number = λ head all. capped_value-nil }
 
 bits_more : (k : KeptLine) (line : List ℕ) (b : ℕ) → Keeps k line → length line + 1 ≤ length (kept_more k b).bits → take (length line + 1) (kept_more k b).bits ≡ line_bits line ++ (b == 49) ∷ []
 bits_more k line b h few =
@@ -91,14 +91,15 @@ first_more k (a ∷ rest) b h =
     let not_none : (k.count == 0) ≡ false = ne_eqb k.count 0 (λ e. omega (arith, some, e)) in
     rw not_none h.first
 
-number_of_more : (k : KeptLine) (line : List ℕ) (b : ℕ) → Keeps k line → are_digits (behind_first (line ++ b ∷ [])) ≡ true → (kept_more k b).number ≡ capped_value (behind_first (line ++ b ∷ []))
-number_of_more k [] b h all =
+number_of_more : (k : KeptLine) (line : List ℕ) (b : ℕ) → Keeps k line → get_or (line ++ b ∷ []) 0 98 ≡ 98 → are_digits (behind_first (line ++ b ∷ [])) ≡ true → (kept_more k b).number ≡ capped_value (behind_first (line ++ b ∷ []))
+number_of_more k [] b h head all =
     let none : k.count ≡ 0 = omega (arith, h.count) in
-    rw none (h.number refl)
-number_of_more k (a ∷ rest) b h all =
+    rw none (h.number refl refl)
+number_of_more k (a ∷ rest) b h head all =
     let some : k.count ≡ min (suc (length rest)) (length k.bits + 1) = h.count in
     let not_none : (k.count == 0) ≡ false = ne_eqb k.count 0 (λ e. omega (arith, some, e)) in
-    rw not_none (ap (λ (n : ℕ). number_more n b) (h.number (digits_before rest b all)) ∙ value_behind a rest b all)
+    let claims : (k.first == 98) ≡ true = eq-eqb k.first 98 (h.first ∙ head) in
+    rw (not_none, claims) (ap (λ (n : ℕ). number_more n b) (h.number head (digits_before rest b all)) ∙ value_behind a rest b all)
 
 -- a byte more
 pub keeps_more : (k : KeptLine) (line : List ℕ) (b : ℕ) → Keeps k line → Keeps (kept_more k b) (line ++ b ∷ [])

@@ -1,5 +1,6 @@
 -- What a lifter puts for the bytes that it takes.
-use Rattle.std.proofs.Common.{◌≡◌, ℕ, ◌+◌, ◌<◌, ◌^◌, ◌==◌, Bool, true, false, not, cond, List, [], ◌∷◌, ◌++◌, Option, Result, Ok, Err, MatchResult, length, refl, sym, ap, ap₂, subst, ◌∙◌, append_assoc, append-nil, arith, inl, inr}
+use Rattle.std.proofs.Common.{◌≡◌, ℕ, ◌+◌, ◌<◌, ◌≤◌, ◌^◌, ◌==◌, Bool, true, false, not, List, [], ◌∷◌, ◌++◌, Option, Result, Ok, Err, MatchResult, length, length-append, take, refl, sym, ap, ap₂, subst, ◌∙◌, append_assoc, append-nil, arith, inl, inr}
+use Rattle.std.proofs.Math.Seq.{take-append_seam}
 use Rattle.std.proofs.lemmas.Bool.{or_from, ne_eqb, eq-eqb}
 use Rattle.std.proofs.lemmas.List.Concat.{flat_map-append}
 use Rattle.std.proofs.lemmas.List.Folds.{list_any-append}
@@ -12,9 +13,9 @@ use Rattle.btor2.specs.declared.item.Item.{Item}
 use Rattle.aiger.specs.Circuit.{Circuit, IsCircuit}
 use Rattle.witness.specs.BitAdmits.{nothing_admitted, lines_behind, bit_reading, admitted_lines}
 use Rattle.witness.specs.BitStands.{StandsFor}
-use Rattle.witness.proofs.BitJudgeLemmas.{whole_lines-end, unfinished-end}
+use Rattle.witness.proofs.BitJudgeLemmas.{whole_lines-end, unfinished-line_end}
 use Rattle.lift.specs.Lifted.{piece, lifted_text}
-use Rattle.lift.specs.Kept.{KeptLine, Keeps, kept_piece}
+use Rattle.lift.specs.Kept.{Keeps, kept_piece}
 use Rattle.lift.specs.Stands.{Lifter, Lifts, admitted_piece}
 use Rattle.lift.proofs.LineLemmas.{lifted_of, line_more, lines_behind_text, lifted_by_lines, lifted_begins}
 use Rattle.lift.proofs.AdmitLemmas.{is_admitted, kept_is_piece}
@@ -50,18 +51,6 @@ lifts_bytes items c text bytes before after is h same stands keeps room =
       inputs = omega (arith, h.inputs, room);
     }
 
-pub lifts_end : (items : List Item) (c : Circuit) (text : List ℕ) (before after : Lifter) → Lifts items c before text → after.items ≡ before.items
-    → StandsFor c after.judge (text ++ 10 ∷ []) → Keeps after.kept [] → length after.kept.bits ≡ length before.kept.bits → Lifts items c after (text ++ 10 ∷ [])
-lifts_end items c text before after h same stands keeps room =
-    record {
-      circuit = h.circuit;
-      model = same ∙ h.model;
-      judge = stands;
-      kept = subst (Keeps after.kept) (sym (unfinished-end text)) keeps;
-      latches = omega (arith, h.latches, room);
-      inputs = omega (arith, h.inputs, room);
-    }
-
 -- ---- the end of a line
 
 few_bads : (c : Circuit) → IsCircuit c → length c.bads < 2 ^ 64
@@ -71,14 +60,25 @@ admitted_by_lines : (c : Circuit) (text : List ℕ) → admitted_lines c text �
 unfolding bit_reading
 admitted_by_lines c text = refl
 
+same_admitted : (c : Circuit) (text bytes : List ℕ) → IsLine bytes → admitted_lines c text ≡ admitted_lines c (text ++ bytes)
+same_admitted c text bytes is = admitted_by_lines c text ∙ ap (λ (ls : List (List ℕ)). (lines_behind c nothing_admitted ls).admitted) (sym (same_lines text bytes is)) ∙ sym (admitted_by_lines c (text ++ bytes))
+
 lifted_end_by_lines : (items : List Item) (c : Circuit) (text : List ℕ) → lifted_text items c (text ++ 10 ∷ []) ≡ text_of_lines (lifted_of items c (whole_lines text ++ unfinished text ∷ []))
 lifted_end_by_lines items c text = lifted_by_lines items c (text ++ 10 ∷ []) ∙ ap (λ (ls : List (List ℕ)). text_of_lines (lifted_of items c ls)) (whole_lines-end text)
 
 admitted_end : (c : Circuit) (text : List ℕ) → admitted_lines c (text ++ 10 ∷ []) ≡ (lines_behind c nothing_admitted (whole_lines text ++ unfinished text ∷ [])).admitted
 admitted_end c text = admitted_by_lines c (text ++ 10 ∷ []) ∙ ap (λ (ls : List (List ℕ)). (lines_behind c nothing_admitted ls).admitted) (whole_lines-end text)
 
+-- what is kept is of this line, over the model and the circuit
+record Holds (items : List Item) (c : Circuit) (l : Lifter) (line : List ℕ) : Type 0 where
+  circuit : IsCircuit c
+  model : l.items ≡ items
+  kept : Keeps l.kept line
+  latches : length c.latches ≤ length l.kept.bits
+  inputs : c.inputs ≤ length l.kept.bits
+
 -- the piece that is put is what is lifted of the line
-pub lifted_end : (items : List Item) (c : Circuit) (text : List ℕ) (l : Lifter) → Lifts items c l text
+lifted_end : (items : List Item) (c : Circuit) (text : List ℕ) (l : Lifter) → Holds items c l (unfinished text)
     → lifted_text items c (text ++ 10 ∷ []) ≡ lifted_text items c text ++ text_of_lines (admitted_piece (not (admitted_lines c (text ++ 10 ∷ []) == admitted_lines c text)) l (admitted_lines c text))
 lifted_end items c text l h =
     let old : ℕ = admitted_lines c text in
@@ -109,19 +109,58 @@ put_takes (Ok x) items c after text whole more start old new kept left sent same
 put_takes (Err x) items c after text whole more start old new kept left sent same put lifts =
     subst (AppendsBeginning start new) same (sent_then_beginning start old new (lifted_text items c text) kept more sent put)
 
-pub end_takes : {T E : Type 0} (r : Result T E) (items : List Item) (c : Circuit) (text : List ℕ) (start old new : Option (List ℕ)) (kept left : List ℕ) (before mid after : Lifter) (number now : ℕ)
-    → Lifts items c before text → Sent start old (lifted_text items c text) kept → mid.items ≡ before.items → mid.kept ≡ before.kept → number ≡ admitted_lines c text → now ≡ admitted_lines c (text ++ 10 ∷ [])
-    → Puts r old new kept left (text_of_lines (admitted_piece (not (now == number)) mid number)) → Lifts items c after (text ++ 10 ∷ [])
-    → MatchResult r (λ x. Lifts items c after (text ++ 10 ∷ []) × Sent start new (lifted_text items c (text ++ 10 ∷ [])) left) (λ e. AppendsBeginning start new (lifted_text items c (text ++ 10 ∷ [])))
-end_takes r items c text start old new kept left before mid after number now h sent same_items same_kept n m put lifts =
-    let piece : text_of_lines (admitted_piece (not (now == number)) mid number) ≡ text_of_lines (admitted_piece (not (admitted_lines c (text ++ 10 ∷ []) == admitted_lines c text)) before (admitted_lines c text)) =
-    ap₂ (λ (a b : ℕ). text_of_lines (admitted_piece (not (a == b)) mid b)) m n
-    ∙ ap₂ (λ (xs : List Item) (k : KeptLine). text_of_lines (cond (not (admitted_lines c (text ++ 10 ∷ []) == admitted_lines c text)) (kept_piece xs (admitted_lines c text) k) [])) same_items same_kept in
-    let whole : lifted_text items c text ++ text_of_lines (admitted_piece (not (now == number)) mid number) ≡ lifted_text items c (text ++ 10 ∷ []) =
-    ap (λ (l : List ℕ). lifted_text items c text ++ l) piece ∙ sym (lifted_end items c text before h) in
-    put_takes r items c after text (text ++ 10 ∷ []) (text_of_lines (admitted_piece (not (now == number)) mid number)) start old new kept left sent whole put lifts
+module _ {T E : Type 0} (r : Result T E) (items : List Item) (c : Circuit) (text line : List ℕ) (start old new : Option (List ℕ)) (kept left : List ℕ) (before mid after : Lifter) (number now : ℕ) where
+  abbrev whole : List ℕ
+  whole = text ++ (line ++ 10 ∷ [])
+
+  abbrev put : List ℕ
+  put = text_of_lines (admitted_piece (not (now == number)) mid number)
+
+  held_line : IsLine line → Lifts items c before text → mid.items ≡ before.items → Keeps mid.kept (unfinished text ++ line) → length mid.kept.bits ≡ length before.kept.bits → Holds items c mid (unfinished (text ++ line))
+  held_line is h same keeps room =
+      record {
+        circuit = h.circuit;
+        model = same ∙ h.model;
+        kept = subst (Keeps mid.kept) (sym (rest_longer text line is)) keeps;
+        latches = omega (arith, h.latches, room);
+        inputs = omega (arith, h.inputs, room);
+      }
+
+  -- the piece is what the line adds to the lifted text
+  adds_piece : IsLine line → Holds items c mid (unfinished (text ++ line)) → number ≡ admitted_lines c text → now ≡ admitted_lines c whole → lifted_text items c text ++ put ≡ lifted_text items c whole
+  adds_piece is h n m =
+      let joined : (text ++ line) ++ 10 ∷ [] ≡ whole = append_assoc text line (10 ∷ []) in
+      let before_end : number ≡ admitted_lines c (text ++ line) = n ∙ same_admitted c text line is in
+      let behind_end : now ≡ admitted_lines c ((text ++ line) ++ 10 ∷ []) = m ∙ ap (admitted_lines c) (sym joined) in
+      ap (λ (l : List ℕ). l ++ put) (sym (same_lifted items c text line is))
+      ∙ (ap₂ (λ (a b : ℕ). lifted_text items c (text ++ line) ++ text_of_lines (admitted_piece (not (a == b)) mid b)) behind_end before_end
+      ∙ (sym (lifted_end items c (text ++ line) mid h) ∙ ap (lifted_text items c) joined))
+
+  -- a line with its end
+  pub line_takes : IsLine line → Lifts items c before text → Sent start old (lifted_text items c text) kept → mid.items ≡ before.items → Keeps mid.kept (unfinished text ++ line) → length mid.kept.bits ≡ length before.kept.bits
+      → number ≡ admitted_lines c text → now ≡ admitted_lines c whole → Puts r old new kept left put → after.items ≡ before.items → StandsFor c after.judge whole → Keeps after.kept [] → length after.kept.bits ≡ length mid.kept.bits
+      → MatchResult r (λ x. Lifts items c after whole × Sent start new (lifted_text items c whole) left) (λ e. AppendsBeginning start new (lifted_text items c whole))
+  line_takes is h sent same keeps room n m puts items_same stands nothing after_room =
+      let lifts : Lifts items c after whole = record {
+        circuit = h.circuit;
+        model = items_same ∙ h.model;
+        judge = stands;
+        kept = subst (Keeps after.kept) (sym (unfinished-line_end text line)) nothing;
+        latches = omega (arith, h.latches, room, after_room);
+        inputs = omega (arith, h.inputs, room, after_room);
+      } in
+      put_takes r items c after text whole put start old new kept left sent (adds_piece is (held_line is h same keeps room) n m) puts lifts
 
 -- ---- a piece of the witness
+
+-- the first line of a text, with its end
+pub line_with_end : (rest line behind : List ℕ) → rest ≡ line ++ 10 ∷ behind → take (length line + 1) rest ≡ line ++ 10 ∷ []
+line_with_end rest line behind cut =
+    let all : rest ≡ (line ++ 10 ∷ []) ++ behind = cut ∙ sym (append_assoc line (10 ∷ []) behind) in
+    ap₂ (λ (n : ℕ) (l : List ℕ). take n l) (sym (length-append line (10 ∷ []))) all ∙ take-append_seam (line ++ 10 ∷ []) behind
+
+pub line_fits : (rest line behind : List ℕ) → rest ≡ line ++ 10 ∷ behind → length line + 1 ≤ length rest
+line_fits rest line behind cut = omega (arith, ap length cut, length-append line (10 ∷ behind))
 
 -- a front of some bytes was taken, and this rest is left
 pub record Took (old now : Option (List ℕ)) (kept left : List ℕ) (before after : Lifter) (bytes rest : List ℕ) : Type 0 where
@@ -145,30 +184,27 @@ took_bytes : (items : List Item) (c : Circuit) (text : List ℕ) (start now : Op
 took_bytes items c text start now left mid next line is takes h =
     (takes items c text is h.0, subst (λ (t : List ℕ). Sent start now t left) (sym (same_lifted items c text line is)) h.1)
 
-line_joined : (text done line : List ℕ) → ((text ++ done) ++ line) ++ 10 ∷ [] ≡ text ++ (done ++ (line ++ 10 ∷ []))
-line_joined text done line = append_assoc (text ++ done) line (10 ∷ []) ∙ append_assoc text done (line ++ 10 ∷ [])
-
-pub took_line : (old mid new : Option (List ℕ)) (kept mid_kept left : List ℕ) (before l1 l2 after : Lifter) (bytes rest line behind : List ℕ)
-    → Took old mid kept mid_kept before l1 bytes rest → rest ≡ line ++ 10 ∷ behind → IsLine line → TakesBytes l1 l2 line
-    → ((items : List Item) (c : Circuit) (text : List ℕ) (start : Option (List ℕ)) → Lifts items c l2 text → Sent start mid (lifted_text items c text) mid_kept → Lifts items c after (text ++ 10 ∷ []) × Sent start new (lifted_text items c (text ++ 10 ∷ [])) left)
+pub took_line : (old mid new : Option (List ℕ)) (kept mid_kept left : List ℕ) (before l1 after : Lifter) (bytes rest line behind : List ℕ)
+    → Took old mid kept mid_kept before l1 bytes rest → rest ≡ line ++ 10 ∷ behind
+    → ((items : List Item) (c : Circuit) (text : List ℕ) (start : Option (List ℕ)) → Lifts items c l1 text → Sent start mid (lifted_text items c text) mid_kept
+    → Lifts items c after (text ++ (line ++ 10 ∷ [])) × Sent start new (lifted_text items c (text ++ (line ++ 10 ∷ []))) left)
     → Took old new kept left before after bytes behind
-took_line old mid new kept mid_kept left before l1 l2 after bytes rest line behind t cut is takes ends = record {
+took_line old mid new kept mid_kept left before l1 after bytes rest line behind t cut takes = record {
   done = t.done ++ (line ++ 10 ∷ []);
   all = append_assoc t.done (line ++ 10 ∷ []) behind ∙ ap (λ (l : List ℕ). t.done ++ l) (append_assoc line (10 ∷ []) behind ∙ sym cut) ∙ t.all;
   takes = λ items c text start h s.
-      let one = took_bytes items c (text ++ t.done) start mid mid_kept l1 l2 line is takes (t.takes items c text start h s) in
-      subst (λ (x : List ℕ). Lifts items c after x × Sent start new (lifted_text items c x) left) (line_joined text t.done line) (ends items c ((text ++ t.done) ++ line) start one.0 one.1);
+      let one = t.takes items c text start h s in
+      subst (λ (x : List ℕ). Lifts items c after x × Sent start new (lifted_text items c x) left) (append_assoc text t.done (line ++ 10 ∷ [])) (takes items c (text ++ t.done) start one.0 one.1);
 }
 
-pub line_fails : (old mid new : Option (List ℕ)) (kept mid_kept : List ℕ) (before l1 l2 : Lifter) (bytes rest line behind : List ℕ)
-    → Took old mid kept mid_kept before l1 bytes rest → rest ≡ line ++ 10 ∷ behind → IsLine line → TakesBytes l1 l2 line
-    → ((items : List Item) (c : Circuit) (text : List ℕ) (start : Option (List ℕ)) → Lifts items c l2 text → Sent start mid (lifted_text items c text) mid_kept → AppendsBeginning start new (lifted_text items c (text ++ 10 ∷ [])))
+pub line_fails : (old mid new : Option (List ℕ)) (kept mid_kept : List ℕ) (before l1 : Lifter) (bytes rest line behind : List ℕ)
+    → Took old mid kept mid_kept before l1 bytes rest → rest ≡ line ++ 10 ∷ behind
+    → ((items : List Item) (c : Circuit) (text : List ℕ) (start : Option (List ℕ)) → Lifts items c l1 text → Sent start mid (lifted_text items c text) mid_kept → AppendsBeginning start new (lifted_text items c (text ++ (line ++ 10 ∷ []))))
     → (items : List Item) (c : Circuit) (text : List ℕ) (start : Option (List ℕ)) → Lifts items c before text → Sent start old (lifted_text items c text) kept → AppendsBeginning start new (lifted_text items c (text ++ bytes))
-line_fails old mid new kept mid_kept before l1 l2 bytes rest line behind t cut is takes ends items c text start h s =
-    let one = took_bytes items c (text ++ t.done) start mid mid_kept l1 l2 line is takes (t.takes items c text start h s) in
-    let failed = ends items c ((text ++ t.done) ++ line) start one.0 one.1 in
+line_fails old mid new kept mid_kept before l1 bytes rest line behind t cut fails items c text start h s =
+    let one = t.takes items c text start h s in
     let front : List ℕ = text ++ (t.done ++ (line ++ 10 ∷ [])) in
-    let begun : AppendsBeginning start new (lifted_text items c front) = subst (λ (x : List ℕ). AppendsBeginning start new (lifted_text items c x)) (line_joined text t.done line) failed in
+    let begun : AppendsBeginning start new (lifted_text items c front) = subst (λ (x : List ℕ). AppendsBeginning start new (lifted_text items c x)) (append_assoc text t.done (line ++ 10 ∷ [])) (fails items c (text ++ t.done) start one.0 one.1) in
     let all : front ++ behind ≡ text ++ bytes =
     append_assoc text (t.done ++ (line ++ 10 ∷ [])) behind
     ∙ ap (λ (l : List ℕ). text ++ l) (append_assoc t.done (line ++ 10 ∷ []) behind ∙ ap (λ (l : List ℕ). t.done ++ l) (append_assoc line (10 ∷ []) behind ∙ sym cut) ∙ t.all) in

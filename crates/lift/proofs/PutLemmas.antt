@@ -1,9 +1,9 @@
 -- The parts of pieces, as they are put.
-use Rattle.std.proofs.Common.{◌≡◌, ℕ, zero, suc, ◌+◌, ◌-◌, ◌<◌, ◌≤◌, ◌||◌, Bool, true, false, List, [], ◌∷◌, ◌++◌, length, map, reverse, take, drop, get_or, codes, decimal, refl, sym, ap, subst, ◌∙◌, append_assoc, append-nil, drop-cons, add-one, arith}
+use Rattle.std.proofs.Common.{◌≡◌, ℕ, zero, suc, ◌+◌, ◌-◌, ◌<◌, ◌≤◌, ◌||◌, Bool, true, false, List, [], ◌∷◌, ◌++◌, length, map, reverse, take, drop, get_or, set, codes, decimal, refl, sym, ap, subst, ◌∙◌, append_assoc, append-nil, drop-cons, add-one, arith}
 use Rattle.std.specs.List.{list_any}
 use Rattle.std.proofs.Math.Seq.{take_all}
 use Rattle.std.proofs.lemmas.Bool.{or_from, or_right}
-use Rattle.std.proofs.lemmas.List.{reverse-append}
+use Rattle.std.proofs.lemmas.List.{reverse-append, take_more_set}
 use Rattle.std.proofs.lemmas.List.Folds.{list_any-append}
 use Rattle.std.proofs.lemmas.List.Concat.{flat_map-append}
 use Rattle.std.proofs.lemmas.Grind.{take_at_read}
@@ -88,6 +88,23 @@ digits_step bits done put d lt e =
     let is : put ≡ digit (get_or bits left d) ∷ [] = e ∙ ap (λ (k : ℕ). digit (get_or bits k d) ∷ []) at in
     ap (λ (k : ℕ). map digit (reverse (take k bits))) more ∙ digits_left bits left (get_or bits left d) d (omega (arith, lt)) refl
     ∙ ap (λ (l : List ℕ). l ++ map digit (reverse (take left bits))) (sym is)
+
+-- the digits of a word, in a loop that writes them
+pub written_more : (bits : List Bool) (digits : List ℕ) (done : ℕ) (d : Bool) → done < length bits → length bits ≤ length digits
+    → take done digits ++ map digit (reverse (take (length bits - done) bits)) ≡ map digit (reverse bits)
+    → take (done + 1) (set digits done (digit (get_or bits (length bits - done - 1) d))) ++ map digit (reverse (take (length bits - (done + 1)) bits)) ≡ map digit (reverse bits)
+written_more bits digits done d lt fits h =
+    let b : ℕ = digit (get_or bits (length bits - done - 1) d) in
+    let rest : List ℕ = map digit (reverse (take (length bits - (done + 1)) bits)) in
+    ap (λ (l : List ℕ). l ++ rest) (take_more_set digits done b (omega (arith, lt, fits)))
+    ∙ (append_assoc (take done digits) (b ∷ []) rest ∙ (ap (λ (l : List ℕ). take done digits ++ l) (sym (digits_step bits done (b ∷ []) d lt refl)) ∙ h))
+
+pub all_written : (bits : List Bool) (digits : List ℕ) (done : ℕ) → done ≡ length bits → take done digits ++ map digit (reverse (take (length bits - done) bits)) ≡ map digit (reverse bits)
+    → take (length bits) digits ≡ map digit (reverse bits)
+all_written bits digits done all h =
+    let none : length bits - done ≡ 0 = omega (arith, all) in
+    let rest : map digit (reverse (take (length bits - done) bits)) ≡ [] = ap (λ (n : ℕ). map digit (reverse (take n bits))) none in
+    ap (λ (n : ℕ). take n digits) (sym all) ∙ (sym (append-nil (take done digits)) ∙ (ap (λ (l : List ℕ). take done digits ++ l) (sym rest) ∙ h))
 
 -- the leaves, in a loop
 pub leaves_step : (l : Leaves) (items : List Item) (index d w : ℕ) (t : Bool) (bits word behind : List Bool) → index < length (leaf_places l items)

@@ -12,7 +12,7 @@ use Rattle.lift.specs.Lifted.{word_line, line_bits, initial_piece, frame_piece}
 use Rattle.lift.specs.declared.leaves.Leaves.{Leaves}
 use Rattle.lift.specs.declared.leaves.Leaves.TheVariants as leaves
 
--- as many bits as fit, how many bytes there are, at most one more than fit, the first of them, and the number that the others write
+-- as many bits as fit, how many bytes there are, at most one more than fit, the first of them, and the number that the others write, where the first is a `b`
 pub record KeptLine : Type 0 where
   pub bits : List Bool
   pub count : ℕ
@@ -24,7 +24,7 @@ pub record Keeps (k : KeptLine) (line : List ℕ) : Type 0 where
   pub bits : length line ≤ length k.bits → take (length line) k.bits ≡ line_bits line
   pub count : k.count ≡ min (length line) (length k.bits + 1)
   pub first : k.first ≡ slice_index_or line 0 0
-  pub number : are_digits (behind_first line) ≡ true → k.number ≡ capped_value (behind_first line)
+  pub number : slice_index_or line 0 98 ≡ 98 → are_digits (behind_first line) ≡ true → k.number ≡ capped_value (behind_first line)
 
 -- the same with a byte more
 abbrev pub kept_more : KeptLine → ℕ → KeptLine
@@ -33,7 +33,7 @@ kept_more k byte =
       bits = if nat_lt k.count (length k.bits) then slice_set k.bits k.count (byte == 49) else k.bits;
       count = if nat_lt k.count (length k.bits) then k.count + 1 else length k.bits + 1;
       first = if k.count == 0 then byte else k.first;
-      number = if k.count == 0 then k.number else number_more k.number byte;
+      number = if k.count == 0 then k.number else (if k.first == 98 then number_more k.number byte else k.number);
     }
 
 -- as many of the bits as there are bytes

@@ -18,7 +18,7 @@ pub(crate) struct KeptLine {
     count: usize,
     // the first byte, where there is one
     first: u8,
-    // the number that the bytes behind the first write, where they are digits, at most 2^64 - 1
+    // the number that the bytes behind the first write, where that is `b` and they are digits, at most 2^64 - 1
     number: u64,
 }
 
@@ -95,7 +95,7 @@ impl KeptLine {
     {
         if self.count == 0 {
             self.first = byte;
-        } else {
+        } else if self.first == b'b' {
             self.number = number_more(self.number, byte);
         }
         self.keep(byte == b'1');
@@ -127,7 +127,7 @@ impl KeptLine {
         self.first
     }
 
-    /// The number that the bytes behind the first write.
+    /// The number that the bytes behind the first write, where that is `b`.
     pub(crate) fn number(&self) -> u64
         ensures { result ≡ self.now.number }
     {

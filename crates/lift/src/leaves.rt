@@ -1,5 +1,5 @@
 //! The leaves of a model that bits of a witness stand for.
-ghost use Rattle.std.specs.Prelude.{◌≡◌, ◌<◌, length, slice_index, unwrap_or};
+ghost use Rattle.std.specs.Prelude.{◌≡◌, ◌<◌, ◌≤◌, length, slice_index, unwrap_or};
 ghost use Rattle.btor2.specs.Lists.{width_at};
 ghost use Rattle.lift.specs.Kept.{leaf_places, leaf_takes, taken_width};
 
@@ -19,7 +19,8 @@ pub(crate) enum Leaves {
 /// The width of a node of a model, in bits, by its position in the items.
 fn width_of(model: &Model, place: usize) -> usize
     requires { place < length model.now }
-    ensures { result ≡ unwrap_or (width_at model.now place) 0 }
+    ensures width { result ≡ unwrap_or (width_at model.now place) 0 }
+    ensures most { result ≤ 64 }
 {
     match model.width_of(place) {
         Some(width) => width.bits() as usize,
@@ -53,7 +54,8 @@ impl Leaves {
     /// How many bits the leaf with an index takes.
     pub(crate) fn width(self, model: &Model, index: usize) -> usize
         requires { index < length (leaf_places self model.now) }
-        ensures { result ≡ taken_width self model.now (slice_index (leaf_places self model.now) index) }
+        ensures width { result ≡ taken_width self model.now (slice_index (leaf_places self model.now) index) }
+        ensures most { result ≤ 64 }
     {
         if self.takes(model, index) {
             width_of(model, self.places(model)[index])

@@ -98,13 +98,22 @@ impl<'a> Lifter<'a> {
         self.judge.feed(bytes);
     }
 
-    /// Takes the end of a line.
-    fn end_line<K: Sink>(&mut self, outbox: &mut Outbox, sink: &mut K) -> Result<(), DeviceFault>
-        ensures takes { Takes result (K.written sink.old) (K.written sink.new) outbox.old outbox.new self.old self.new (10 ∷ []) }
+    /// Takes the rest of a line, which is given with its end and without.
+    fn take_line<K: Sink>(
+        &mut self,
+        outbox: &mut Outbox,
+        sink: &mut K,
+        line: &[u8],
+        whole: &[u8],
+    ) -> Result<(), DeviceFault>
+        requires is_line { IsLine line.now }
+        requires whole { whole.now ≡ line.now ++ 10 ∷ [] }
+        ensures takes { Takes result (K.written sink.old) (K.written sink.new) outbox.old outbox.new self.old self.new (line.now ++ 10 ∷ []) }
         ensures failures { CountsFaults result (K.failures sink.old) (K.failures sink.new) }
     {
+        self.kept.take(line);
         let number = self.judge.admitted_lines();
-        self.judge.feed(b"\n");
+        self.judge.feed(whole);
         let admitted = self.judge.admitted_lines() != number;
         let put = self.put_admitted(outbox, sink, admitted, number);
         self.kept.clear();
@@ -123,8 +132,8 @@ impl<'a> Lifter<'a> {
     {
         let mut rest = bytes;
         while let Some((line, behind)) = next_line(rest) {
-            self.take_bytes(line);
-            self.end_line(outbox, sink)?;
+            let (whole, _) = rest.split_at(line.len() + 1);
+            self.take_line(outbox, sink, line, whole)?;
             rest = behind;
         }
         self.take_bytes(rest);

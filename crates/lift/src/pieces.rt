@@ -1,5 +1,5 @@
 //! The pieces that lines of a witness are lifted to.
-ghost use Rattle.std.specs.Prelude.{◌≡◌, true, false, ◌++◌, ◌∷◌, [], ◌-◌, ◌<◌, codes, decimal, length, map, reverse, slice_index_or, if◌then◌else◌, take, drop};
+ghost use Rattle.std.specs.Prelude.{◌≡◌, true, false, ◌++◌, ◌∷◌, [], ◌-◌, ◌≤◌, codes, decimal, length, map, reverse, if◌then◌else◌, take, drop};
 ghost use Rattle.base.specs.Device.{CountsFaults};
 ghost use Rattle.base.specs.Pieces.{Puts};
 ghost use Rattle.base.specs.Lines.{text_of_lines};
@@ -46,30 +46,37 @@ fn put_mark<K: Sink>(
     put_bytes(outbox, sink, b"\n")
 }
 
+/// The most bits of a word.
+const MOST_BITS: usize = 64;
+
 /// The digit of a bit.
-fn digit(bit: bool) -> &'static [u8]
-    ensures { result.now ≡ digit bit ∷ [] }
+fn digit(bit: bool) -> u8
+    ensures { result ≡ digit bit }
 {
-    if bit { b"1" } else { b"0" }
+    if bit { b'1' } else { b'0' }
 }
 
-/// The digit at a place of a word, of which the highest is the first.
-fn digit_at(bits: &[bool], place: usize) -> &'static [u8]
-    requires { place < length bits.now }
-    ensures { result.now ≡ digit (slice_index_or bits.now (length bits.now - place - 1) false) ∷ [] }
+/// Writes the digits of a word to the front of a list, the highest first.
+fn write_digits(bits: &[bool], digits: &mut [u8])
+    requires { length bits.now ≤ length digits.old }
+    ensures digits { take (length bits.now) digits.new ≡ map digit (reverse bits.now) }
+    ensures as_many { length digits.new ≡ length digits.old }
 {
-    digit(bits[bits.len() - place - 1])
+    for place in 0..bits.len() {
+        digits[place] = digit(bits[bits.len() - place - 1]);
+    }
 }
 
 /// Puts the digits of a word, the highest first.
 fn put_digits<K: Sink>(outbox: &mut Outbox, sink: &mut K, bits: &[bool]) -> Result<(), DeviceFault>
+    requires { length bits.now ≤ 64 }
     ensures puts { Puts result (K.written sink.old) (K.written sink.new) outbox.old outbox.new (map digit (reverse bits.now)) }
     ensures failures { CountsFaults result (K.failures sink.old) (K.failures sink.new) }
 {
-    for place in 0..bits.len() {
-        put_bytes(outbox, sink, digit_at(bits, place))?;
-    }
-    Ok(())
+    let mut digits = [0; MOST_BITS];
+    write_digits(bits, &mut digits);
+    let (word, _) = digits.split_at(bits.len());
+    put_bytes(outbox, sink, word)
 }
 
 /// Puts the line that gives a leaf its word.
@@ -79,6 +86,7 @@ fn put_word<K: Sink>(
     index: usize,
     bits: &[bool],
 ) -> Result<(), DeviceFault>
+    requires { length bits.now ≤ 64 }
     ensures puts { Puts result (K.written sink.old) (K.written sink.new) outbox.old outbox.new (word_line index bits.now ++ 10 ∷ []) }
     ensures failures { CountsFaults result (K.failures sink.old) (K.failures sink.new) }
 {
@@ -96,6 +104,7 @@ fn put_leaf<K: Sink>(
     index: usize,
     bits: &[bool],
 ) -> Result<(), DeviceFault>
+    requires { length bits.now ≤ 64 }
     ensures puts { Puts result (K.written sink.old) (K.written sink.new) outbox.old outbox.new (taken_line takes index bits.now) }
     ensures failures { CountsFaults result (K.failures sink.old) (K.failures sink.new) }
 {
@@ -109,6 +118,7 @@ fn put_leaf<K: Sink>(
 /// The first of some bits, and those behind them.
 fn cut(bits: &[bool], count: usize) -> (&[bool], &[bool])
     ensures front { result.0.now ≡ take count bits.now }
+    ensures most { length result.0.now ≤ count }
     ensures behind { result.1.now ≡ drop count bits.now }
 {
     bits.split_at(count.min(bits.len()))

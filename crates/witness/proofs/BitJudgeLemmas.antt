@@ -31,15 +31,25 @@ module _ (text : List ℕ) (rest : List ℕ) where
   rest_behind_text : unfinished (text ++ rest) ≡ unfinished (unfinished text ++ rest)
   rest_behind_text = ap unfinished behind ∙ unfinished-lines (whole_lines text) (unfinished text ++ rest)
 
-still_line : (text : List ℕ) (b : ℕ) → (b ≡ 10 → ⊥) → IsLine (unfinished text ++ b ∷ [])
-still_line text b other = list_any-append (λ c. c == 10) (unfinished text) (b ∷ []) ∙ or_from _ _ (unfinished_is_line text) (or_from (b == 10) false (ne_eqb b 10 other) refl)
+still_line : (text part : List ℕ) → IsLine part → IsLine (unfinished text ++ part)
+still_line text part is = list_any-append (λ c. c == 10) (unfinished text) part ∙ or_from _ _ (unfinished_is_line text) is
+
+-- a part of a line behind a text
+pub whole_lines-part : (text part : List ℕ) → IsLine part → whole_lines (text ++ part) ≡ whole_lines text
+whole_lines-part text part is =
+    lines_behind_text text part ∙ (ap (λ (ls : List (List ℕ)). whole_lines text ++ ls) (whole_lines-last (unfinished text ++ part) (still_line text part is)) ∙ append-nil (whole_lines text))
+
+pub unfinished-part : (text part : List ℕ) → IsLine part → unfinished (text ++ part) ≡ unfinished text ++ part
+unfinished-part text part is = rest_behind_text text part ∙ unfinished-last (unfinished text ++ part) (still_line text part is)
+
+one_byte : (b : ℕ) → (b ≡ 10 → ⊥) → IsLine (b ∷ [])
+one_byte b other = or_from (b == 10) false (ne_eqb b 10 other) refl
 
 pub whole_lines-byte : (text : List ℕ) (b : ℕ) → (b ≡ 10 → ⊥) → whole_lines (text ++ b ∷ []) ≡ whole_lines text
-whole_lines-byte text b other =
-    lines_behind_text text (b ∷ []) ∙ (ap (λ (ls : List (List ℕ)). whole_lines text ++ ls) (whole_lines-last (unfinished text ++ b ∷ []) (still_line text b other)) ∙ append-nil (whole_lines text))
+whole_lines-byte text b other = whole_lines-part text (b ∷ []) (one_byte b other)
 
 pub unfinished-byte : (text : List ℕ) (b : ℕ) → (b ≡ 10 → ⊥) → unfinished (text ++ b ∷ []) ≡ unfinished text ++ b ∷ []
-unfinished-byte text b other = rest_behind_text text (b ∷ []) ∙ unfinished-last (unfinished text ++ b ∷ []) (still_line text b other)
+unfinished-byte text b other = unfinished-part text (b ∷ []) (one_byte b other)
 
 pub whole_lines-end : (text : List ℕ) → whole_lines (text ++ 10 ∷ []) ≡ whole_lines text ++ unfinished text ∷ []
 whole_lines-end text = lines_behind_text text (10 ∷ []) ∙ ap (λ (ls : List (List ℕ)). whole_lines text ++ ls) (whole_lines-line (unfinished text) [] (unfinished_is_line text))
@@ -54,8 +64,7 @@ module _ (text line : List ℕ) where
 
   pub whole_lines-line_end : IsLine line → whole_lines (text ++ (line ++ 10 ∷ [])) ≡ whole_lines text ++ (unfinished text ++ line) ∷ []
   whole_lines-line_end is =
-      let one : IsLine (unfinished text ++ line) = list_any-append (λ c. c == 10) (unfinished text) line ∙ or_from _ _ (unfinished_is_line text) is in
-      lines_behind_text text (line ++ 10 ∷ []) ∙ ap (λ (ls : List (List ℕ)). whole_lines text ++ ls) (ap whole_lines joined ∙ whole_lines-line (unfinished text ++ line) [] one)
+      lines_behind_text text (line ++ 10 ∷ []) ∙ ap (λ (ls : List (List ℕ)). whole_lines text ++ ls) (ap whole_lines joined ∙ whole_lines-line (unfinished text ++ line) [] (still_line text line is))
 
   pub unfinished-line_end : unfinished (text ++ (line ++ 10 ∷ [])) ≡ []
   unfinished-line_end = rest_behind_text text (line ++ 10 ∷ []) ∙ (ap unfinished joined ∙ unfinished-line (unfinished text ++ line) [])
@@ -154,14 +163,15 @@ no_claim_more (l ∷ lines) line x at old was place begins starts =
       | inr e ↦ rw e (or-false old ∙ was)
     ]
 
-module _ (c : Circuit) (lines : List (List ℕ)) (line : List ℕ) (j : BitJudge) (is : IsOfLines c j lines line) (none : j.refused ≡ None) where
+-- behind whole lines; of the line that is judged these bytes were taken one by one
+module _ (c : Circuit) (lines : List (List ℕ)) (line taken : List ℕ) (j : BitJudge) (is : IsOfLines c j lines taken) (none : j.refused ≡ None) where
   abbrev so_far : BitReading
   so_far = lines_behind c nothing_admitted lines
 
   not_refused : so_far.refused ≡ None
   not_refused = sym is.refused ∙ none
 
-  pub reads_now : Reads c j.reader so_far.read line
+  pub reads_now : Reads c j.reader so_far.read taken
   reads_now = is.reads none
 
   claim_now : (no_claim : Bool) → no_claim ≡ (j.no_claim || (is_first j.reader.place && (bytes_eq line (codes "0") || bytes_eq line (codes "2")))) → no_claim ≡ makes_no_bit_claim (lines ++ line ∷ [])
@@ -269,6 +279,16 @@ end_more c text j lines scans =
     record {
       lines = subst (λ (ls : List (List ℕ)). IsOfLines c j ls (unfinished (text ++ 10 ∷ []))) (sym (whole_lines-end text)) (subst (IsOfLines c j (whole_lines text ++ unfinished text ∷ [])) (sym (unfinished-end text)) lines);
       line = subst (Scans j.line) (sym (unfinished-end text)) scans;
+    }
+
+-- a whole line that was not taken byte by byte
+pub whole_line : (c : Circuit) (text bytes : List ℕ) (j new : BitJudge) → IsLine bytes → StandsFor c j text → unfinished text ≡ [] → new.line ≡ j.line → IsOfLines c new (whole_lines text ++ bytes ∷ []) [] → StandsFor c new (text ++ (bytes ++ 10 ∷ []))
+whole_line c text bytes j new is stands empty same lines =
+    let one : whole_lines (text ++ (bytes ++ 10 ∷ [])) ≡ whole_lines text ++ bytes ∷ [] = whole_lines-line_end text bytes is ∙ ap (λ (l : List ℕ). whole_lines text ++ (l ++ bytes) ∷ []) empty in
+    let none = unfinished-line_end text bytes in
+    record {
+      lines = subst (λ (ls : List (List ℕ)). IsOfLines c new ls (unfinished (text ++ (bytes ++ 10 ∷ [])))) (sym one) (subst (IsOfLines c new (whole_lines text ++ bytes ∷ [])) (sym none) lines);
+      line = subst (Scans new.line) (sym none) (subst (λ (s : Scan). Scans s []) (sym same) (subst (Scans j.line) empty stands.line));
     }
 
 -- the line in hand is another field

@@ -15,7 +15,7 @@ use Rattle.witness.specs.declared.bit_place.BitPlace.TheVariants as code
 use Rattle.witness.specs.BitAdmits.{AtClaim, AtInitial, AtFirst, AtLater, AtDone, BitRead, claim_at, bits_at, after_frame, bit_admit}
 use Rattle.witness.specs.BitScans.{is_one_bit}
 use Rattle.witness.specs.BitPlays.{BitPlay, play_start, frame_steps, Begins, Traced, Plays}
-use Rattle.witness.specs.BitStands.{place_of, BitReader, PlaysAt, Counts, Reads, GivesLine}
+use Rattle.witness.specs.BitStands.{place_of, BitReader, PlaysAt, Counts, Reads, GivesLine, is_frame}
 use Rattle.witness.proofs.BitReadLemmas.{claim_is_line, bits_are_line}
 use Rattle.witness.proofs.BitPlayLemmas.{none_left}
 
@@ -171,12 +171,49 @@ module _ (c : Circuit) (r : BitRead) (line : List ℕ) (q : BitReader) (reads : 
         play = (plays, below);
       }
 
-  -- a byte more of a frame's line
-  pub byte_read : (x : CodePlace) (p : BitPlay) (byte : ℕ) → q.place ≡ x → PlaysAt c r p (line ++ byte ∷ []) (place_of x) → Counts c (record q { play = p }) r → Reads c (record q { play = p }) r (line ++ byte ∷ [])
-  byte_read x p byte e plays counts =
+  -- other bytes of the same line
+  pub bytes_read : (x : CodePlace) (p : BitPlay) (bytes : List ℕ) → q.place ≡ x → PlaysAt c r p bytes (place_of x) → Counts c (record q { play = p }) r → Reads c (record q { play = p }) r bytes
+  bytes_read x p bytes e plays counts =
       record {
         counts = counts;
         place = reads.place;
         claim = reads.claim;
-        play = subst (PlaysAt c r p (line ++ byte ∷ [])) (sym (is_at x e)) plays;
+        play = subst (PlaysAt c r p bytes) (sym (is_at x e)) plays;
       }
+
+  -- all bytes of the line of initial bits
+  pub initial_read : (p : BitPlay) (bytes : List ℕ) → q.place ≡ code.Initial → Begins c p bytes → Reads c (record q { play = p }) r bytes
+  initial_read p bytes e begins =
+      let plays = plays_at code.Initial e in
+      bytes_read code.Initial p bytes e (begins, plays.1, plays.2)
+      (record {
+        circuit = ap (λ (p : BitPlay). p.circuit) begins.start;
+        frames = ap (λ (p : BitPlay). p.frames) begins.start ∙ (sym (ap (λ (p : BitPlay). p.frames) plays.0.start) ∙ reads.counts.frames);
+        steps = ap (λ (p : BitPlay). p.run.steps) begins.start ∙ (sym (ap (λ (p : BitPlay). p.run.steps) plays.0.start) ∙ reads.counts.steps);
+      })
+
+  -- where the line of a frame comes next
+  pub frame_plays : (x : CodePlace) → q.place ≡ x → is_frame x ≡ true → Plays c r.claim r.initial r.frames q.play line × (r.claim < length c.bads)
+  frame_plays code.First e f = plays_at code.First e
+  frame_plays code.Later e f = plays_at code.Later e
+  frame_plays code.Header e f = absurd cc
+  frame_plays code.Claim e f = absurd cc
+  frame_plays code.Initial e f = absurd cc
+  frame_plays code.Done e f = absurd cc
+
+  pub frame_line : (x : CodePlace) → q.place ≡ x → is_frame x ≡ true → bytes_eq line (codes ".") ≡ false → bit_admit c r line ≡ after_frame r (bits_at c.inputs line)
+  frame_line code.First e f fails = first_frame e fails
+  frame_line code.Later e f fails = later_frame e fails
+  frame_line code.Header e f fails = absurd cc
+  frame_line code.Claim e f fails = absurd cc
+  frame_line code.Initial e f fails = absurd cc
+  frame_line code.Done e f fails = absurd cc
+
+  -- all bytes of a frame's line
+  pub input_read : (x : CodePlace) → q.place ≡ x → is_frame x ≡ true → (p : BitPlay) (bytes : List ℕ) → Plays c r.claim r.initial r.frames p bytes → Reads c (record q { play = p }) r bytes
+  input_read code.First e f p bytes plays = bytes_read code.First p bytes e (plays, (plays_at code.First e).1) (record { circuit = plays.circuit; frames = plays.count; steps = plays.steps })
+  input_read code.Later e f p bytes plays = bytes_read code.Later p bytes e (plays, (plays_at code.Later e).1) (record { circuit = plays.circuit; frames = plays.count; steps = plays.steps })
+  input_read code.Header e f p bytes plays = absurd cc
+  input_read code.Claim e f p bytes plays = absurd cc
+  input_read code.Initial e f p bytes plays = absurd cc
+  input_read code.Done e f p bytes plays = absurd cc

@@ -1,17 +1,19 @@
 -- The widths of a model's states and inputs, by their places and by their ids.
-use Rattle.std.proofs.Common.{◌≡◌, ℕ, zero, suc, Bool, true, false, cond, List, [], ◌∷◌, ◌++◌, length, map, filter, Option, Some, is_some, unwrap_or, option_and_then, option_map, slice_get, All, refl, sym, ap, ap₂, subst, ◌∙◌, append_assoc, length-append, arith}
+use Rattle.std.proofs.Common.{◌≡◌, ℕ, zero, suc, ◌<◌, ◌≤◌, ◌^◌, Bool, true, false, cond, List, [], ◌∷◌, ◌++◌, length, map, filter, Option, Some, None, is_some, unwrap_or, option_and_then, option_map, slice_get, slice_index, All, refl, sym, ap, ap₂, subst, ◌∙◌, append_assoc, length-append, arith}
+use Rattle.std.proofs.lemmas.List.{length-map}
 use Rattle.std.proofs.lemmas.List.Elements.{All-nil, All-cons}
 use Rattle.btor2.specs.declared.item.Item.{Item}
 use Rattle.btor2.specs.declared.item.Body.{Body}
 use Rattle.btor2.specs.declared.item.Body.TheVariants as body
-use Rattle.btor2.specs.Items.{width_of_body, is_state, is_input, is_free}
+use Rattle.btor2.specs.Items.{node_width, width_of_body, is_state, is_input, is_free}
 use Rattle.btor2.specs.Lists.{places, width_at, is_free_at}
 use Rattle.btor2.specs.Check.{IsWellFormed}
 use Rattle.btor2.specs.Trace.{bits_of}
 use Rattle.btor2.proofs.AppendLemmas.{is_some_from, width_of_body-append}
 use Rattle.btor2.proofs.AcceptedLemmas.{BodyIsAccepted}
-use Rattle.btor2.proofs.ModelLemmas.{IsIn-from_place, IsAccepted-at, node_width-at}
+use Rattle.btor2.proofs.ModelLemmas.{IsIn-from_place, IsAccepted-at, node_width-at, node_width-range}
 use Rattle.witness.specs.Texts.{widths_of, free_of}
+use Rattle.witness.specs.KeptLines.{AreSmall}
 
 -- an item of a kind has a width
 abbrev pub HasBits : (Body → Bool) → Type 0
@@ -110,3 +112,20 @@ length-places kind n (x ∷ xs) =
       | true ↦ ap suc (length-places kind (suc n) xs)
       | false ↦ length-places kind (suc n) xs
     ]
+
+-- the widths are those of words
+bits_small : (items : List Item) (id : ℕ) (o : Option ℕ) → IsWellFormed items → node_width items id ≡ o → unwrap_or o 0 ≤ 64
+bits_small items id None w e = omega arith
+bits_small items id (Some n) w e = (node_width-range items id n w e).1
+
+each_small : (items l : List Item) → IsWellFormed items → (i : ℕ) → i < length (map (λ (x : Item). bits_of items x.id) l) → slice_index (map (λ (x : Item). bits_of items x.id) l) i ≤ 64
+each_small items [] w i there = absurd (omega (arith, there))
+each_small items (x ∷ l) w zero there = bits_small items x.id (node_width items x.id) w refl
+each_small items (x ∷ l) w (suc i) there = each_small items l w i (omega (arith, there))
+
+pub widths_small : (kind : Body → Bool) (items : List Item) → IsWellFormed items → length (places kind 0 items) < 2 ^ 64 → AreSmall (widths_of kind items)
+widths_small kind items w few =
+    record {
+      few = omega (arith, few, length-places kind 0 items, length-map (filter (λ (x : Item). kind x.body) items) (λ (x : Item). bits_of items x.id));
+      widths = each_small items (filter (λ (x : Item). kind x.body) items) w;
+    }

@@ -14,7 +14,7 @@ use Rattle.witness.specs.Texts.{Assignment}
 use Rattle.witness.specs.Admits.{cut_at_space, value_of, with_symbol, with_value, with_index, assignment_at}
 use Rattle.witness.specs.Fits.{is_set, IsFlagged}
 use Rattle.witness.specs.Judgements.{pairs_of}
-use Rattle.witness.specs.WordScans.{word_with, word_behind}
+use Rattle.witness.specs.WordValues.{word_with, word_behind}
 use Rattle.witness.specs.WordAssigns.{pair_with, assigned_by, assigned}
 
 -- an assignment behind others, of this pair, or the same why

@@ -1,24 +1,24 @@
--- What a judge of witnesses over a model holds, line by line and byte by byte.
+-- What a judge of witnesses over a model holds, line by line and part by part.
 use Rattle.std.proofs.Common.{◌≡◌, ℕ, suc, ◌+◌, ◌<◌, ◌≤◌, nat_le, ◌^◌, Bool, true, false, not, cond, ◌&&◌, ◌||◌, List, [], ◌∷◌, ◌++◌, Some, None, is_some, Result, Ok, Err, codes, length, map, length-append, refl, sym, ap, ap₂, subst, ◌∙◌, arith, inl, inr}
 use Rattle.std.specs.Str.{bytes_eq}
 use Rattle.std.proofs.lemmas.Bool.{cases_Bool, le-leb, leb-true, eqb-true, false_from_ne_true}
 use Rattle.std.proofs.lemmas.List.{length-map}
 use Rattle.std.proofs.lemmas.Slice.Eq.{bytes_eq-Decides}
-use Rattle.base.specs.Lines.{whole_lines, unfinished}
+use Rattle.base.specs.Lines.{IsLine, whole_lines, unfinished}
 use Rattle.base.proofs.DecimalLemmas.{chosen}
 use Rattle.btor2.specs.declared.item.Item.{Item}
 use Rattle.witness.specs.declared.why.Why.{Why}
 use Rattle.witness.specs.declared.why.Why.TheVariants as why
-use Rattle.witness.specs.declared.word_line.LineScan.{LineScan}
 use Rattle.witness.specs.Texts.{Shape, Assignment, Parts, has_free, is_comment, shape_of, most_lines}
 use Rattle.witness.specs.Admits.{claims_at, assignment_at, free_assignment_at, is_nothing, Place, AtStatus, AtClaims, AtParts, InStates, InFree, InFrame, AtEnd, Read, nothing_read, states_closed, frame_closed, opens_frame, opens_states, begins_part, after_claims, after_assignment, in_part, admit_at, admit}
 use Rattle.witness.specs.Judgements.{frame_words, makes_no_claim}
-use Rattle.witness.specs.WordScans.{IsScanned}
+use Rattle.witness.specs.KeptLines.{kept}
 use Rattle.witness.specs.WordPlays.{WordPlay, steps_of}
 use Rattle.witness.specs.WordReadings.{Reading, nothing_admitted, one_more_line, next_line_of, lines_behind, closed_word_frames}
 use Rattle.witness.specs.WordStands.{place_of, WordReader, Reads, GivesLine, is_status, Counts, WordJudge, IsOfLines, StandsFor}
 use Rattle.witness.proofs.WordReadingLemmas.{stays, lines_append}
-use Rattle.witness.proofs.BitJudgeLemmas.{or-false, whole_lines-byte, unfinished-byte}
+use Rattle.witness.proofs.BitJudgeLemmas.{or-false, whole_lines-part, unfinished-part}
+use Rattle.witness.proofs.KeptLineLemmas.{kept_more}
 
 -- ---- what an admitted line changes
 
@@ -288,7 +288,7 @@ module _ (items : List Item) (lines : List (List ℕ)) (line : List ℕ) (j : Wo
       }
 
   -- behind a refused line nothing changes
-  pub stays_refused : (w : Why) → j.refused ≡ Some w → (s : LineScan) → IsOfLines items (record j { line = s }) (lines ++ line ∷ []) []
+  pub stays_refused : (w : Why) → j.refused ≡ Some w → (s : List ℕ) → IsOfLines items (record j { line = s }) (lines ++ line ∷ []) []
   stays_refused w refused s =
       let was : now.refused ≡ Some w = sym is.refused ∙ refused in
       let g : lines_behind (shape_of items) nothing_admitted (lines ++ line ∷ []) ≡ now = lines_append (shape_of items) nothing_admitted lines (line ∷ []) ∙ ap (next_line_of (shape_of items) now line) was in
@@ -347,17 +347,16 @@ module _ (items : List Item) (lines : List (List ℕ)) (line : List ℕ) (j : Wo
             reads = λ e. subst (λ (g : Reading). Reads items q g.read []) (sym g) gives.1.1;
           }
 
--- ---- what is held behind a byte
+-- ---- what is held behind a part of a line
 
--- a byte more
-pub byte_more : (items : List Item) (text : List ℕ) (j : WordJudge) (byte : ℕ) (s : LineScan) (q : WordReader) → (byte ≡ 10 → ⊥) → StandsFor items j text → IsScanned s (unfinished text ++ byte ∷ [])
+pub part_more : (items : List Item) (text part : List ℕ) (j : WordJudge) (q : WordReader) → IsLine part → StandsFor items j text
     → Counts items q.play (lines_behind (shape_of items) nothing_admitted (whole_lines text)).read
-    → (j.refused ≡ None → Reads items q (lines_behind (shape_of items) nothing_admitted (whole_lines text)).read (unfinished text ++ byte ∷ []))
-    → StandsFor items (record j { reader = q; line = s }) (text ++ byte ∷ [])
-byte_more items text j byte s q other stands scans counts reads =
+    → (j.refused ≡ None → Reads items q (lines_behind (shape_of items) nothing_admitted (whole_lines text)).read (unfinished text ++ part))
+    → StandsFor items (record j { reader = q; line = kept (j.line ++ part) }) (text ++ part)
+part_more items text part j q one stands counts reads =
     let is = stands.lines in
-    let new : WordJudge = record j { reader = q; line = s } in
-    let lines : IsOfLines items new (whole_lines text) (unfinished text ++ byte ∷ []) = record {
+    let new : WordJudge = record j { reader = q; line = kept (j.line ++ part) } in
+    let lines : IsOfLines items new (whole_lines text) (unfinished text ++ part) = record {
       admitted = is.admitted;
       refused = is.refused;
       no_claim = is.no_claim;
@@ -368,8 +367,8 @@ byte_more items text j byte s q other stands scans counts reads =
       reads = reads;
     } in
     record {
-      lines = subst (λ (ls : List (List ℕ)). IsOfLines items new ls (unfinished (text ++ byte ∷ []))) (sym (whole_lines-byte text byte other)) (subst (IsOfLines items new (whole_lines text)) (sym (unfinished-byte text byte other)) lines);
-      line = subst (IsScanned s) (sym (unfinished-byte text byte other)) scans;
+      lines = subst (λ (ls : List (List ℕ)). IsOfLines items new ls (unfinished (text ++ part))) (sym (whole_lines-part text part one)) (subst (IsOfLines items new (whole_lines text)) (sym (unfinished-part text part one)) lines);
+      line = ap (λ (l : List ℕ). kept (l ++ part)) stands.line ∙ (kept_more (unfinished text) part ∙ ap kept (sym (unfinished-part text part one)));
     }
 
 pub nothing_there : (line : List ℕ) → is_nothing line ≡ true → line ≡ []
@@ -377,11 +376,11 @@ nothing_there [] h = refl
 nothing_there (b ∷ line) h = absurd (cc h)
 
 -- behind the end of a line
-pub line_ended : (items : List Item) (text : List ℕ) (lines : List (List ℕ)) (j : WordJudge) → whole_lines text ≡ lines → unfinished text ≡ [] → IsOfLines items j lines [] → IsScanned j.line [] → StandsFor items j text
-line_ended items text lines j whole none is scans =
+pub line_ended : (items : List Item) (text : List ℕ) (lines : List (List ℕ)) (j : WordJudge) → whole_lines text ≡ lines → unfinished text ≡ [] → IsOfLines items j lines [] → j.line ≡ [] → StandsFor items j text
+line_ended items text lines j whole none is empty =
     record {
       lines = subst (λ (ls : List (List ℕ)). IsOfLines items j ls (unfinished text)) (sym whole) (subst (IsOfLines items j lines) (sym none) is);
-      line = subst (IsScanned j.line) (sym none) scans;
+      line = empty ∙ ap kept (sym none);
     }
 
 -- the bytes behind the lines are others
@@ -399,7 +398,7 @@ with_bytes items lines line next j is reads =
     }
 
 -- the line in hand is another field
-pub with_line : (items : List Item) (lines : List (List ℕ)) (line : List ℕ) (j : WordJudge) (s : LineScan) → IsOfLines items j lines line → IsOfLines items (record j { line = s }) lines line
+pub with_line : (items : List Item) (lines : List (List ℕ)) (line : List ℕ) (j : WordJudge) (s : List ℕ) → IsOfLines items j lines line → IsOfLines items (record j { line = s }) lines line
 with_line items lines line j s is =
     record {
       admitted = is.admitted;
@@ -410,21 +409,4 @@ with_line items lines line j s is =
       whole = is.whole;
       counts = is.counts;
       reads = is.reads;
-    }
-
--- before any byte
-pub stands_at_first : (items : List Item) (q : WordReader) (s : LineScan) → Reads items q nothing_read [] → IsScanned s [] → StandsFor items (record { reader = q; line = s; admitted = 0; refused = None; no_claim = false }) []
-stands_at_first items q s reads scans =
-    record {
-      lines = record {
-        admitted = refl;
-        refused = refl;
-        no_claim = refl;
-        few = omega arith;
-        frames = omega arith;
-        whole = λ at none. cc;
-        counts = counts_of items q nothing_read [] reads;
-        reads = λ none. reads;
-      };
-      line = scans;
     }

@@ -28,28 +28,23 @@ use Rattle.runs.specs.Run.{Run, first_word, more_steps}
 abbrev pub Passes : List Item → Read → List ℕ → WordReader → Type 0
 Passes items r line q = (next : Read) × ((admit (shape_of items) r line ≡ Ok next) × Reads items q next [])
 
--- another place than that of the claims
-abbrev pub IsOther : CodePlace → Type 0
-IsOther code.Claims = ⊥
-IsOther _ = Unit {0}
+same_claims : (q : WordReader) (r : Read) (line next : List ℕ) (x : CodePlace) → is_alone (place_of x) ≡ true → ClaimsAt q r line (place_of x) → ClaimsAt q r next (place_of x)
+same_claims q r line next code.Claims alone h = absurd (cc alone)
+same_claims q r line next code.Status alone h = h
+same_claims q r line next code.Parts alone h = h
+same_claims q r line next code.States alone h = h
+same_claims q r line next code.Free alone h = h
+same_claims q r line next code.Frame alone h = h
+same_claims q r line next code.End alone h = h
 
-same_claims : (q : WordReader) (r : Read) (line next : List ℕ) (x : CodePlace) → IsOther x → ClaimsAt q r line (place_of x) → ClaimsAt q r next (place_of x)
-same_claims q r line next code.Claims other h = absurd other
-same_claims q r line next code.Status other h = h
-same_claims q r line next code.Parts other h = h
-same_claims q r line next code.States other h = h
-same_claims q r line next code.Free other h = h
-same_claims q r line next code.Frame other h = h
-same_claims q r line next code.End other h = h
-
-is_other : (x : CodePlace) → is_alone (place_of x) ≡ true → IsOther x
-is_other code.Status h = tt
-is_other code.Claims h = absurd (cc h)
-is_other code.Parts h = tt
-is_other code.States h = tt
-is_other code.Free h = tt
-is_other code.Frame h = tt
-is_other code.End h = tt
+pub is_claims : (x : CodePlace) → is_alone (place_of x) ≡ false → x ≡ code.Claims
+is_claims code.Claims other = refl
+is_claims code.Status other = absurd (cc other)
+is_claims code.Parts other = absurd (cc other)
+is_claims code.States other = absurd (cc other)
+is_claims code.Free other = absurd (cc other)
+is_claims code.Frame other = absurd (cc other)
+is_claims code.End other = absurd (cc other)
 
 module _ (items : List Item) (r : Read) (line : List ℕ) (q : WordReader) (reads : Reads items q r line) where
   is_at : (x : CodePlace) → q.place ≡ x → r.place ≡ place_of x
@@ -72,7 +67,7 @@ module _ (items : List Item) (r : Read) (line : List ℕ) (q : WordReader) (read
         many = reads.many;
         place = reads.place;
         said = reads.said;
-        claims = subst (ClaimsAt q r next) reads.place (same_claims q r line next q.place (is_other q.place alone) (claims_there q.place refl));
+        claims = subst (ClaimsAt q r next) reads.place (same_claims q r line next q.place alone (claims_there q.place refl));
         play = reads.play;
       }
 
@@ -266,27 +261,16 @@ module _ (items : List Item) (r : Read) (line : List ℕ) (q : WordReader) (read
   unfolding admit
   trailing_refused e = rw (is_at code.End e) refl
 
-  -- ---- a byte more
+  -- ---- more bytes
 
-  pub claim_byte : (s : ClaimScan) (flags : List Bool) (byte : ℕ) → q.place ≡ code.Claims → AreClaims s flags (line ++ byte ∷ []) → length flags ≡ length q.claimed → Reads items (record q { claims = s; claimed = flags }) r (line ++ byte ∷ [])
-  claim_byte s flags byte e are many =
+  pub claim_part : (s : ClaimScan) (flags : List Bool) (part : List ℕ) → q.place ≡ code.Claims → AreClaims s flags (line ++ part) → length flags ≡ length q.claimed → Reads items (record q { claims = s; claimed = flags }) r (line ++ part)
+  claim_part s flags part e are many =
       record {
         free = reads.free;
         many = many ∙ reads.many;
         place = reads.place;
         said = reads.said;
-        claims = subst (ClaimsAt (record q { claims = s; claimed = flags }) r (line ++ byte ∷ [])) (sym (is_at code.Claims e)) are;
-        play = reads.play;
-      }
-
-  pub other_byte : (x : CodePlace) (byte : ℕ) → q.place ≡ x → IsOther x → Reads items q r (line ++ byte ∷ [])
-  other_byte x byte e other =
-      record {
-        free = reads.free;
-        many = reads.many;
-        place = reads.place;
-        said = reads.said;
-        claims = subst (ClaimsAt q r (line ++ byte ∷ [])) (sym (is_at x e)) (same_claims q r line (line ++ byte ∷ []) x other (claims_there x e));
+        claims = subst (ClaimsAt (record q { claims = s; claimed = flags }) r (line ++ part)) (sym (is_at code.Claims e)) are;
         play = reads.play;
       }
 

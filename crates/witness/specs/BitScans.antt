@@ -16,6 +16,10 @@ behind_first (b ∷ bs) = bs
 abbrev pub is_one_bit : ℕ → Bool
 is_one_bit b = b == 49
 
+-- whether a byte is a bit's
+abbrev pub is_bit : ℕ → Bool
+is_bit b = (b == 48) || (b == 49)
+
 -- what is kept is that of these bytes
 pub record Scans (s : Scan) (line : List ℕ) : Type 0 where
   pub count : s.count ≡ min (length line) (2 ^ 64 - 1)

@@ -51,9 +51,13 @@ pub record Reads (c : Circuit) (q : BitReader) (r : BitRead) (line : List ℕ) :
   pub claim : q.claim ≡ r.claim
   pub play : PlaysAt c r q.play line r.place
 
+-- a line behind them is admitted, and is what is kept now
+abbrev pub Admits : Circuit → BitRead → List ℕ → BitReader → Type 0
+Admits c r line q = (next : BitRead) × ((bit_admit c r line ≡ Ok next) × Reads c q next [])
+
 -- what a line behind them gives
 abbrev pub GivesLine : Circuit → BitRead → List ℕ → BitReader → Result (Unit {0}) Why → Type 0
-GivesLine c r line q (Ok u) = (next : BitRead) × ((bit_admit c r line ≡ Ok next) × Reads c q next [])
+GivesLine c r line q (Ok u) = Admits c r line q
 GivesLine c r line q (Err w) = bit_admit c r line ≡ Err w
 
 -- what a judge holds: what is kept of the admitted lines, how many they are, why the next whole line was refused, where there was one, whether the first line
@@ -80,6 +84,12 @@ pub record IsOfLines (c : Circuit) (j : BitJudge) (lines : List (List ℕ)) (lin
 pub record StandsFor (c : Circuit) (j : BitJudge) (text : List ℕ) : Type 0 where
   pub lines : IsOfLines c j (whole_lines text) (unfinished text)
   pub line : Scans j.line (unfinished text)
+
+-- the next line may be that of a frame
+abbrev pub is_frame : CodePlace → Bool
+is_frame code.First = true
+is_frame code.Later = true
+is_frame _ = false
 
 -- the next line is the first
 abbrev pub is_first : CodePlace → Bool

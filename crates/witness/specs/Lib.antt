@@ -14,7 +14,7 @@ pub mod BitJudgements
 pub mod BitScans
 pub mod BitPlays
 pub mod BitStands
-pub mod WordScans
+pub mod KeptLines
 pub mod WordClaims
 pub mod WordValues
 pub mod WordPlays

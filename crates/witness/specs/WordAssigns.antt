@@ -7,7 +7,7 @@ use Rattle.witness.specs.declared.why.Why.{Why}
 use Rattle.witness.specs.declared.why.Why.TheVariants as why
 use Rattle.witness.specs.Admits.{cut_at_space}
 use Rattle.witness.specs.Fits.{is_set}
-use Rattle.witness.specs.WordScans.{word_behind}
+use Rattle.witness.specs.WordValues.{word_behind}
 
 -- the widths of the nodes at some places
 abbrev pub widths_by : List Item → List ℕ → List ℕ

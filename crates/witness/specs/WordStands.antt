@@ -8,13 +8,12 @@ use Rattle.witness.specs.declared.judgement.Judgement.TheVariants as judgement
 use Rattle.witness.specs.declared.place.Place.{Place as CodePlace}
 use Rattle.witness.specs.declared.place.Place.TheVariants as code
 use Rattle.witness.specs.declared.word_claims.ClaimScan.{ClaimScan}
-use Rattle.witness.specs.declared.word_line.LineScan.{LineScan}
 use Rattle.witness.specs.Texts.{has_free, shape_of}
 use Rattle.witness.specs.Admits.{Place, AtStatus, AtClaims, AtParts, InStates, InFree, InFrame, AtEnd, Read, admit}
 use Rattle.witness.specs.Judgements.{FrameWords, pairs_of, frame_words, Violation, makes_no_claim}
 use Rattle.witness.specs.Fits.{AreClaimed}
 use Rattle.witness.specs.WordClaims.{AreClaims}
-use Rattle.witness.specs.WordScans.{IsScanned}
+use Rattle.witness.specs.KeptLines.{kept}
 use Rattle.witness.specs.WordPlays.{WordPlay, Plays, nothing_given, steps_of}
 use Rattle.witness.specs.WordReadings.{nothing_admitted, lines_behind}
 
@@ -94,11 +93,11 @@ pub record Counts (items : List Item) (p : WordPlay) (r : Read) : Type 0 where
   pub frames : p.frames ≡ length r.closed
   pub steps : p.run.steps ≡ steps_of items (length r.closed)
 
--- what a judge holds: what is kept of the admitted lines, what the bytes of the line say that has not ended, how many lines are admitted, why the next whole line
+-- what a judge holds: what is kept of the admitted lines, the first bytes of the line that has not ended, how many lines are admitted, why the next whole line
 -- was refused, where there was one, and whether the status says that there is no claim
 pub record WordJudge : Type 0 where
   pub reader : WordReader
-  pub line : LineScan
+  pub line : List ℕ
   pub admitted : ℕ
   pub refused : Option Why
   pub no_claim : Bool
@@ -117,7 +116,7 @@ pub record IsOfLines (items : List Item) (j : WordJudge) (lines : List (List ℕ
 -- it stands for a text
 pub record StandsFor (items : List Item) (j : WordJudge) (text : List ℕ) : Type 0 where
   pub lines : IsOfLines items j (whole_lines text) (unfinished text)
-  pub line : IsScanned j.line (unfinished text)
+  pub line : j.line ≡ kept (unfinished text)
 
 -- what is judged by what is kept of all frames, and by the first claim that is not reached, where there is one
 abbrev pub with_unreached : WordPlay → Option ℕ → Judgement

@@ -1,44 +1,34 @@
--- What is kept of the digits of a value of a witness over a model, of which more may follow.
-use Rattle.std.specs.Prelude.{◌≡◌, ℕ, ◌+◌, ◌-◌, ◌*◌, ◌<◌, ◌≤◌, ◌^◌, min, Bool, true, false, ◌&&◌, ◌||◌, ◌==◌, List, Result, Ok, Err, map, length, reverse}
-use Rattle.std.specs.List.{list_any, list_all}
-use Rattle.base.specs.Word.{word, bit_number}
+-- The word behind the index of an assignment of a witness over a model.
+use Rattle.std.specs.Prelude.{◌≡◌, ℕ, ◌<◌, ◌^◌, Bool, true, ◌||◌, ◌==◌, List, Option, Some, None, Result, Ok, Err, map, length, reverse, if◌then◌else◌}
+use Rattle.std.specs.List.{list_all}
+use Rattle.base.specs.Word.{word}
+use Rattle.btor2.specs.Symbols.{is_symbol}
 use Rattle.witness.specs.declared.why.Why.{Why}
-use Rattle.witness.specs.Admits.{is_value_byte}
+use Rattle.witness.specs.declared.why.Why.TheVariants as why
+use Rattle.witness.specs.Admits.{value_of, cut_at_space}
 
-pub record ValueScan : Type 0 where
-  pub count : ℕ
-  pub values : Bool
-  pub unknown : Bool
-  pub word : ℕ
-
+-- a byte `1`, and one of `0` and `1`
 abbrev pub is_one : ℕ → Bool
 is_one b = b == 49
 
--- what is kept is that of these digits, the highest first
-pub record Values (v : ValueScan) (bytes : List ℕ) : Type 0 where
-  pub count : v.count ≡ min (length bytes) (2 ^ 64 - 1)
-  pub values : v.values ≡ list_all is_value_byte bytes
-  pub unknown : v.unknown ≡ list_any (λ b. b == 120) bytes
-  pub word : length bytes ≤ 64 → v.word ≡ word (reverse (map is_one bytes))
+abbrev pub is_known : ℕ → Bool
+is_known b = (b == 48) || (b == 49)
 
--- a word that a few digits write, none of them `x`
-pub record IsKnown (word : ℕ) (bytes : List ℕ) : Type 0 where
-  pub few : length bytes ≤ 64
-  pub small : word < 2 ^ length bytes
-  pub values : Values (record { count = length bytes; values = true; unknown = false; word = word }) bytes
+-- the word that such bytes write, the highest first
+pub record IsKnown (x : ℕ) (bytes : List ℕ) : Type 0 where
+  pub small : x < 2 ^ length bytes
+  pub known : list_all is_known bytes ≡ true
+  pub word : x ≡ word (reverse (map is_one bytes))
 
--- a word with a bit more
-abbrev pub word_more : ℕ → ℕ → ℕ
-word_more w byte = min (min (w * 2) (2 ^ 64 - 1) + bit_number (is_one byte)) (2 ^ 64 - 1)
+-- the word of so many bits that stands behind an index, where the name behind it is a symbol, or why there is none
+abbrev pub word_with : Option (List ℕ) → Result ℕ Why → Result ℕ Why
+word_with name (Err w) = Err w
+word_with None (Ok x) = Ok x
+word_with (Some bytes) (Ok x) = if is_symbol bytes then Ok x else Err why.BadSymbol
 
-abbrev pub value_more : ValueScan → ℕ → ValueScan
-value_more v byte =
-    record {
-      count = min (v.count + 1) (2 ^ 64 - 1);
-      values = v.values && is_value_byte byte;
-      unknown = v.unknown || (byte == 120);
-      word = word_more v.word byte;
-    }
+abbrev pub word_behind : ℕ → Option (List ℕ) → Result ℕ Why
+word_behind width None = Err why.BadValue
+word_behind width (Some rest) = word_with (cut_at_space rest).1 (value_of width (cut_at_space rest).0)
 
 -- what a function returned, seen by view, is what reading gives
 abbrev pub Gives : {X Y : Type 0} → (X → Y) → Result X Why → Result Y Why → Type 0

@@ -1,6 +1,7 @@
 //! The judge of witnesses of a circuit.
-ghost use Rattle.std.specs.Prelude.{◌≡◌, ℕ, ◌&&◌, ◌||◌, List, [], ◌∷◌, ◌++◌, MatchResult, None, codes};
+ghost use Rattle.std.specs.Prelude.{◌≡◌, ℕ, ◌&&◌, ◌||◌, ◌<◌, ◌^◌, true, false, List, [], ◌∷◌, ◌++◌, MatchResult, None, codes};
 ghost use Rattle.std.specs.Str.{bytes_eq};
+ghost use Rattle.base.specs.Lines.{IsLine, unfinished};
 ghost use Rattle.aiger.specs.Circuit.{Circuit};
 ghost use Rattle.runs.specs.CircuitRun.{circuit_held};
 ghost use Rattle.witness.specs.BitAdmits.{admitted_lines, closed_frames, is_done};
@@ -18,6 +19,7 @@ use crate::last_line::{are_most, last_refusal};
 use crate::verdicts::either;
 use crate::why::Why;
 use aiger::Circuit;
+use base::next_line;
 use runs::NewFault;
 use std::alloc::Global;
 use std::marker::Model;
@@ -171,12 +173,61 @@ impl<'a> BitJudge<'a> {
         }
     }
 
+    /// Takes the rest of a line byte by byte, and its end.
+    fn take_rest(&mut self, bytes: &[u8])
+        ensures { (c : Circuit) (text : List ℕ) → StandsFor c self.old text → StandsFor c self.new ((text ++ bytes.now) ++ 10 ∷ []) }
+    {
+        self.take_all(bytes);
+        self.end_line();
+    }
+
+    /// Whether a line begins that may be admitted.
+    fn begins_line(&self) -> bool
+        ensures open { result ≡ true → self.now.refused ≡ None }
+        ensures few { result ≡ true → self.now.admitted < 2 ^ 62 }
+        ensures begins { (c : Circuit) (text : List ℕ) → StandsFor c self.now text → result ≡ true → unfinished text ≡ [] }
+    {
+        if self.refused.is_some() || are_most(self.admitted) {
+            return false;
+        }
+        self.line.is_empty()
+    }
+
+    /// Takes a whole line of bits at once, where bits come next and the line has as many.
+    fn takes_bits(&mut self, bytes: &[u8]) -> bool
+        ensures taken { (c : Circuit) (text : List ℕ) → IsLine bytes.now → StandsFor c self.old text → result ≡ true → StandsFor c self.new (text ++ (bytes.now ++ 10 ∷ [])) }
+        ensures kept { result ≡ false → self.new ≡ self.old }
+    {
+        if !self.begins_line() {
+            return false;
+        }
+        if !self.reader.take_line(bytes) {
+            return false;
+        }
+        self.admitted += 1;
+        true
+    }
+
+    /// Takes the rest of a line and its end.
+    fn take_line(&mut self, bytes: &[u8])
+        ensures { (c : Circuit) (text : List ℕ) → IsLine bytes.now → StandsFor c self.old text → StandsFor c self.new (text ++ (bytes.now ++ 10 ∷ [])) }
+    {
+        if !self.takes_bits(bytes) {
+            self.take_rest(bytes);
+        }
+    }
+
     /// Takes a piece of the text behind those before: a judge that stood for a text stands for that text with the piece
     /// behind it.
     pub fn feed(&mut self, bytes: &[u8])
         ensures { (c : Circuit) (text : List ℕ) → StandsFor c self.old text → StandsFor c self.new (text ++ bytes.now) }
     {
-        self.take_all(bytes);
+        let mut rest = bytes;
+        while let Some((line, behind)) = next_line(rest) {
+            self.take_line(line);
+            rest = behind;
+        }
+        self.take_all(rest);
     }
 
     /// The judgement of the text so far: of every one that the judge stands for.

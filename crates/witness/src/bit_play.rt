@@ -175,6 +175,24 @@ impl<'a> BitPlay<'a> {
         }
     }
 
+    /// Takes the whole line of initial bits.
+    pub(crate) fn take_initial_line(&mut self, line: &[u8])
+        ensures { (c : Circuit) → Begins c self.old [] → Begins c self.new line.now }
+    {
+        for (k, byte) in line.iter().enumerate() {
+            self.take_initial(k as u64, *byte);
+        }
+    }
+
+    /// Takes the whole line of a frame.
+    pub(crate) fn take_input_line(&mut self, line: &[u8])
+        ensures { (c : Circuit) (claim : ℕ) (initial : List Bool) (frames : List (List Bool)) → Plays c claim initial frames self.old [] → Plays c claim initial frames self.new line.now }
+    {
+        for (k, byte) in line.iter().enumerate() {
+            self.take_input(k as u64, *byte);
+        }
+    }
+
     /// Closes the frame whose line has ended: settles it, looks at its constraints and at the claimed bad property, and
     /// moves on.
     pub(crate) fn close(&mut self, claim: u64)

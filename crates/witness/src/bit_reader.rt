@@ -1,15 +1,15 @@
 //! The lines of a witness of a circuit, admitted one after the other.
-ghost use Rattle.std.specs.Prelude.{◌≡◌, ℕ, ◌<◌, ◌-◌, ◌^◌, min, Bool, List, [], ◌∷◌, ◌++◌, MatchResult, OnErr, Ok, Err, length, map};
+ghost use Rattle.std.specs.Prelude.{◌≡◌, ℕ, ◌<◌, ◌-◌, ◌^◌, min, Bool, true, false, List, [], ◌∷◌, ◌++◌, MatchResult, OnErr, Ok, Err, length, map};
 ghost use Rattle.aiger.specs.Circuit.{Circuit};
 ghost use Rattle.runs.specs.CircuitRun.{circuit_held};
 ghost use Rattle.witness.specs.BitAdmits.{BitRead, AtLater, bits_at, bit_admit};
 ghost use Rattle.witness.specs.BitScans.{Scans, is_one_bit};
 ghost use Rattle.witness.specs.BitPlays.{play_start, Plays};
-ghost use Rattle.witness.specs.BitStands.{Reads, GivesLine};
+ghost use Rattle.witness.specs.BitStands.{Reads, Admits, GivesLine, is_first, is_frame};
 
 use crate::bit_place::BitPlace;
 use crate::bit_play::BitPlay;
-use crate::bit_scan::Scan;
+use crate::bit_scan::{Scan, are_bits};
 use crate::why::Why;
 use aiger::Circuit;
 use runs::NewFault;
@@ -93,6 +93,47 @@ impl<'a> BitReader<'a> {
                 Ok(())
             }
             Err(why) => Err(why),
+        }
+    }
+
+    /// Takes the whole line of the initial bits, where it is one.
+    fn take_initial_line(&mut self, line: &[u8]) -> bool
+        ensures taken { (c : Circuit) (r : BitRead) → Reads c self.old r [] → self.old.place ≡ BitPlace.Initial → result ≡ true → Admits c r line.now self.new }
+        ensures kept { result ≡ false → self.new ≡ self.old }
+    {
+        if !are_bits(line, self.play.latches()) {
+            return false;
+        }
+        self.play.take_initial_line(line);
+        self.place = BitPlace::First;
+        true
+    }
+
+    /// Takes the whole line of a frame, where it is one.
+    fn take_frame_line(&mut self, line: &[u8]) -> bool
+        ensures taken { (c : Circuit) (r : BitRead) → Reads c self.old r [] → is_frame self.old.place ≡ true → length r.frames < 2 ^ 62 → result ≡ true → Admits c r line.now self.new }
+        ensures kept { result ≡ false → self.new ≡ self.old }
+    {
+        if !are_bits(line, self.play.inputs()) {
+            return false;
+        }
+        self.play.take_input_line(line);
+        self.play.close(self.claim);
+        self.place = BitPlace::Later;
+        true
+    }
+
+    /// Takes a whole line of bits, where bits come next and the line has as many: it is admitted.
+    pub(crate) fn take_line(&mut self, line: &[u8]) -> bool
+        ensures taken { (c : Circuit) (r : BitRead) → Reads c self.old r [] → length r.frames < 2 ^ 62 → result ≡ true → Admits c r line.now self.new }
+        ensures later { result ≡ true → is_first self.old.place ≡ false }
+        ensures kept { result ≡ false → self.new ≡ self.old }
+    {
+        match self.place {
+            BitPlace::Initial => self.take_initial_line(line),
+            BitPlace::First => self.take_frame_line(line),
+            BitPlace::Later => self.take_frame_line(line),
+            BitPlace::Header | BitPlace::Claim | BitPlace::Done => false,
         }
     }
 

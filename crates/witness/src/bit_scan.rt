@@ -1,10 +1,11 @@
 //! A line of a witness of a circuit, byte by byte.
-ghost use Rattle.std.specs.Prelude.{◌≡◌, ℕ, ◌<◌, ◌-◌, ◌^◌, min, List, [], ◌∷◌, ◌++◌, MatchResult, Ok, Err, map, length};
+ghost use Rattle.std.specs.Prelude.{◌≡◌, ℕ, ◌==◌, ◌&&◌, ◌<◌, ◌-◌, ◌^◌, min, List, [], ◌∷◌, ◌++◌, MatchResult, Ok, Err, map, length};
+ghost use Rattle.std.specs.List.{list_all};
 ghost use Rattle.std.specs.Str.{bytes_eq};
 ghost use Rattle.base.specs.Decimals.{is_digit, number_of};
 ghost use Rattle.witness.specs.Admits.{is_value_byte, is_nothing};
 ghost use Rattle.witness.specs.BitAdmits.{claim_at, bits_at};
-ghost use Rattle.witness.specs.BitScans.{behind_first, Scans, number_more, scan_more, has_decimal, claimed, is_one_bit};
+ghost use Rattle.witness.specs.BitScans.{behind_first, Scans, number_more, scan_more, has_decimal, claimed, is_bit, is_one_bit};
 
 use crate::why::Why;
 
@@ -66,6 +67,27 @@ fn claimed(first: u8, number: u64, bads: u64) -> Result<u64, Why>
     } else {
         Err(Why::BadClaim)
     }
+}
+
+/// Whether a byte is `0` or `1`.
+fn is_bit(byte: u8) -> bool
+    ensures { result ≡ is_bit byte }
+{
+    byte == b'0' || byte == b'1'
+}
+
+/// Whether all bytes are `0` or `1`.
+fn are_all_bits(line: &[u8]) -> bool
+    ensures { result ≡ list_all is_bit line.now }
+{
+    line.iter().all(|byte| is_bit(*byte))
+}
+
+/// Whether a whole line is so many bits.
+pub(crate) fn are_bits(line: &[u8], count: u64) -> bool
+    ensures { result ≡ ((length line.now == count) && list_all is_bit line.now) }
+{
+    line.len() as u64 == count && are_all_bits(line)
 }
 
 impl Scan {

@@ -11,6 +11,7 @@ mod bit_scan;
 mod fault;
 mod judgement;
 mod judging;
+mod kept_line;
 mod last_line;
 pub mod laws;
 mod place;
@@ -21,10 +22,8 @@ mod word_claims;
 mod word_fields;
 mod word_judge;
 mod word_line;
-mod word_name;
 mod word_play;
 mod word_reader;
-mod word_status;
 mod word_value;
 
 pub use bit_judge::BitJudge;

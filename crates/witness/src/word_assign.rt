@@ -1,13 +1,12 @@
 //! The word that a line gives to a state or an input.
-ghost use Rattle.std.specs.Prelude.{◌≡◌, ℕ, ◌<◌, ◌^◌, true, All, List, IfOk, IfSome, Some, is_some, length, slice_index};
+ghost use Rattle.std.specs.Prelude.{◌≡◌, ◌<◌, ◌^◌, true, All, IfOk, IfSome, Some, is_some, length, slice_index};
 ghost use Rattle.btor2.specs.Lists.{width_at};
 ghost use Rattle.witness.specs.Admits.{cut_at_space};
 ghost use Rattle.witness.specs.WordValues.{Gives};
-ghost use Rattle.witness.specs.WordScans.{IsOf};
 ghost use Rattle.witness.specs.WordAssigns.{widths_by, assigned_number, assigned};
 
 use crate::why::Why;
-use crate::word_line::WholeLine;
+use crate::word_fields::{index_of, word_of};
 use base::Width;
 use btor2::Model;
 
@@ -29,12 +28,12 @@ fn assigned_number(
     places: &[usize],
     given: &[bool],
     index: u64,
-    line: &WholeLine<'_>,
+    line: &[u8],
 ) -> Result<(u64, u64), Why>
     requires many { length given.now ≡ length places.now }
     requires there { All (λ k. k < length model.now) places.now }
     requires some { All (λ k. is_some (width_at model.now k) ≡ true) places.now }
-    ensures is { (bytes : List ℕ) → IsOf line.now bytes → Gives (λ p. p) result (assigned_number (widths_by model.now places.now) given.now (cut_at_space bytes).1 index) }
+    ensures is { Gives (λ p. p) result (assigned_number (widths_by model.now places.now) given.now (cut_at_space line.now).1 index) }
     ensures inside { IfOk result (λ p. p.0 < length places.now) }
     ensures fits { IfOk result (λ p. IfSome (width_at model.now (slice_index places.now p.0)) (λ n. p.1 < 2 ^ n)) }
 {
@@ -45,7 +44,7 @@ fn assigned_number(
     if given[k] {
         return Err(Why::IndexTwice);
     }
-    match line.word(width_at(model, places[k])) {
+    match word_of(line, width_at(model, places[k])) {
         Ok(word) => Ok((index, word)),
         Err(why) => Err(why),
     }
@@ -57,16 +56,16 @@ pub(crate) fn assigned(
     model: &Model,
     places: &[usize],
     given: &[bool],
-    line: &WholeLine<'_>,
+    line: &[u8],
 ) -> Result<(u64, u64), Why>
     requires many { length given.now ≡ length places.now }
     requires there { All (λ k. k < length model.now) places.now }
     requires some { All (λ k. is_some (width_at model.now k) ≡ true) places.now }
-    ensures is { (bytes : List ℕ) → IsOf line.now bytes → Gives (λ p. p) result (assigned (widths_by model.now places.now) given.now bytes) }
+    ensures is { Gives (λ p. p) result (assigned (widths_by model.now places.now) given.now line.now) }
     ensures inside { IfOk result (λ p. p.0 < length places.now) }
     ensures fits { IfOk result (λ p. IfSome (width_at model.now (slice_index places.now p.0)) (λ n. p.1 < 2 ^ n)) }
 {
-    match line.index() {
+    match index_of(line) {
         Some(index) => assigned_number(model, places, given, index, line),
         None => Err(Why::BadIndex),
     }

@@ -123,7 +123,7 @@ impl ClaimScan {
     }
 
     /// Takes a byte behind the others, and sets the flag of a bad property whose claim ends with it.
-    pub(crate) fn push(&mut self, byte: u8, claimed: &mut [bool])
+    fn push(&mut self, byte: u8, claimed: &mut [bool])
         ensures line { (line : List ℕ) → AreClaims self.old claimed.old line → AreClaims self.new claimed.new (line ++ byte ∷ []) }
         ensures many { length claimed.new ≡ length claimed.old }
     {
@@ -133,6 +133,16 @@ impl ClaimScan {
             return;
         }
         self.piece.push(byte);
+    }
+
+    /// Takes bytes behind the others.
+    pub(crate) fn take(&mut self, bytes: &[u8], claimed: &mut [bool])
+        ensures line { (line : List ℕ) → AreClaims self.old claimed.old line → AreClaims self.new claimed.new (line ++ bytes.now) }
+        ensures many { length claimed.new ≡ length claimed.old }
+    {
+        for byte in bytes {
+            self.push(*byte, claimed);
+        }
     }
 
     /// The line has ended: that flags are set at what it claims and nowhere else, or why it claims nothing.

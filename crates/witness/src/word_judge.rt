@@ -11,21 +11,23 @@ ghost use Rattle.witness.specs.Judgements.{Judges};
 ghost use Rattle.witness.specs.WordPlays.{steps_of};
 ghost use Rattle.witness.specs.WordReadings.{admitted_word_lines, closed_word_frames};
 ghost use Rattle.base.specs.Lines.{IsLine, unfinished};
-ghost use Rattle.witness.specs.WordScans.{IsOf};
+ghost use Rattle.witness.specs.KeptLines.{AreAlike};
 ghost use Rattle.witness.specs.WordStands.{IsOfLines, StandsFor, is_alone, is_status, judgement_of, place_of};
 
 use crate::judgement::Judgement;
+use crate::kept_line::KeptLine;
 use crate::last_line::{are_most, last_refusal};
 use crate::place::Place;
 use crate::verdicts::either;
 use crate::why::Why;
-use crate::word_line::{LineScan, WholeLine};
+use crate::word_line::is_word;
 use crate::word_play::WordPlay;
 use crate::word_reader::WordReader;
 use base::next_line;
 use btor2::Model;
 use runs::NewFault;
 use std::alloc::Global;
+use std::mem;
 
 /// A judge of witnesses over a model, which it borrows: it is fed a text piece by piece, and keeps none of it. Beside the
 /// values of one run of the model it holds two flags for each bad property, one for each state and each input, and a fixed
@@ -35,8 +37,8 @@ use std::alloc::Global;
 #[derive(Drop)]
 pub struct WordJudge<'a> {
     reader: WordReader<'a>,
-    // the bytes of the line that has not ended
-    line: LineScan,
+    // the first bytes of the line that has not ended
+    line: KeptLine,
     // how many whole lines are admitted
     admitted: u64,
     // why the whole line behind them was refused
@@ -54,15 +56,15 @@ impl<'a> std::marker::Model for WordJudge<'a> {
 }
 
 /// Whether a line says that there is no claim.
-fn is_no_claim(line: &WholeLine<'_>) -> bool
-    ensures { (bytes : List ℕ) → IsOf line.now bytes → result ≡ (bytes_eq bytes (codes "unsat") || bytes_eq bytes (codes "unknown")) }
+fn is_no_claim(line: &[u8]) -> bool
+    ensures { result ≡ (bytes_eq line.now (codes "unsat") || bytes_eq line.now (codes "unknown")) }
 {
-    line.is_unsat() || line.is_unknown()
+    is_word(line, b"unsat") || is_word(line, b"unknown")
 }
 
 /// Whether a line says that there is no claim, where it may be the status.
-fn says_no_claim(place: Place, line: &WholeLine<'_>) -> bool
-    ensures { (bytes : List ℕ) → IsOf line.now bytes → result ≡ (is_status (place_of place) && (bytes_eq bytes (codes "unsat") || bytes_eq bytes (codes "unknown"))) }
+fn says_no_claim(place: Place, line: &[u8]) -> bool
+    ensures { result ≡ (is_status (place_of place) && (bytes_eq line.now (codes "unsat") || bytes_eq line.now (codes "unknown"))) }
 {
     match place {
         Place::Status => is_no_claim(line),
@@ -114,16 +116,16 @@ impl<'a> WordJudge<'a> {
         let reader = WordReader::new(alloc, model)?;
         Ok(WordJudge {
             reader,
-            line: LineScan::new(),
+            line: KeptLine::new(),
             admitted: 0,
             refused: None,
             no_claim: false,
         })
     }
 
-    /// A line has ended behind the whole lines, none of which was refused.
-    fn judge_line(&mut self, line: &WholeLine<'_>)
-        ensures lines { (items : List Item) (lines : List (List ℕ)) (bytes : List ℕ) → IsOfLines items self.old lines bytes → IsOf line.now bytes → self.old.refused ≡ None → IsOfLines items self.new (lines ++ bytes ∷ []) [] }
+    /// A line has ended behind the whole lines, none of which was refused. Of its bytes the first 342 are enough.
+    fn judge_line(&mut self, line: &[u8])
+        ensures lines { (items : List Item) (lines : List (List ℕ)) (bytes : List ℕ) → IsOfLines items self.old lines bytes → AreAlike line.now bytes → self.old.refused ≡ None → IsOfLines items self.new (lines ++ bytes ∷ []) [] }
         ensures line { self.new.line ≡ self.old.line }
     {
         if are_most(self.admitted) {
@@ -137,53 +139,24 @@ impl<'a> WordJudge<'a> {
         }
     }
 
-    /// Takes the end of a line.
-    fn end_line(&mut self)
-        ensures { (items : List Item) (text : List ℕ) → StandsFor items self.old text → StandsFor items self.new (text ++ 10 ∷ []) }
+    /// Takes bytes of a line that does not end with them.
+    fn take_part(&mut self, bytes: &[u8])
+        ensures stands { (items : List Item) (text : List ℕ) → IsLine bytes.now → StandsFor items self.old text → StandsFor items self.new (text ++ bytes.now) }
+        ensures refused { self.new.refused ≡ self.old.refused }
     {
-        let line = self.line;
-        self.line = LineScan::new();
+        self.line.extend(bytes);
         if self.refused.is_none() {
-            self.judge_line(&WholeLine::Scanned(&line));
+            self.reader.take(bytes);
         }
     }
 
-    /// Takes a byte that ends no line.
-    fn take_byte(&mut self, byte: u8)
-        ensures { (items : List Item) (text : List ℕ) → (byte ≡ 10 → ⊥) → StandsFor items self.old text → StandsFor items self.new (text ++ byte ∷ []) }
-    {
-        self.line.push(byte);
-        if self.refused.is_none() {
-            self.reader.take(byte);
-        }
-    }
-
-    /// Takes a byte.
-    fn take(&mut self, byte: u8)
-        ensures { (items : List Item) (text : List ℕ) → StandsFor items self.old text → StandsFor items self.new (text ++ byte ∷ []) }
-    {
-        if byte == b'\n' {
-            self.end_line();
-            return;
-        }
-        self.take_byte(byte);
-    }
-
-    /// Takes bytes one by one.
-    fn take_all(&mut self, bytes: &[u8])
-        ensures { (items : List Item) (text : List ℕ) → StandsFor items self.old text → StandsFor items self.new (text ++ bytes.now) }
-    {
-        for byte in bytes {
-            self.take(*byte);
-        }
-    }
-
-    /// Takes the rest of a line byte by byte, and its end.
+    /// Takes the rest of a line, none before which was refused, and its end.
     fn take_rest(&mut self, bytes: &[u8])
-        ensures { (items : List Item) (text : List ℕ) → StandsFor items self.old text → StandsFor items self.new ((text ++ bytes.now) ++ 10 ∷ []) }
+        ensures { (items : List Item) (text : List ℕ) → IsLine bytes.now → StandsFor items self.old text → self.old.refused ≡ None → StandsFor items self.new (text ++ (bytes.now ++ 10 ∷ [])) }
     {
-        self.take_all(bytes);
-        self.end_line();
+        self.take_part(bytes);
+        let line = mem::replace(&mut self.line, KeptLine::new());
+        self.judge_line(line.bytes());
     }
 
     /// Whether a line that begins is judged by its bytes alone.
@@ -202,11 +175,11 @@ impl<'a> WordJudge<'a> {
         ensures { (items : List Item) (text : List ℕ) → IsLine bytes.now → StandsFor items self.old text → StandsFor items self.new (text ++ (bytes.now ++ 10 ∷ [])) }
     {
         if self.refused.is_some() {
-            self.line = LineScan::new();
+            self.line.clear();
             return;
         }
         if self.takes_whole_lines() {
-            self.judge_line(&WholeLine::Bytes(bytes));
+            self.judge_line(bytes);
             return;
         }
         self.take_rest(bytes);
@@ -222,7 +195,7 @@ impl<'a> WordJudge<'a> {
             self.take_line(line);
             rest = behind;
         }
-        self.take_all(rest);
+        self.take_part(rest);
     }
 
     /// The judgement of the text so far: of every one that the judge stands for.

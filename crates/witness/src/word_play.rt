@@ -7,17 +7,16 @@ ghost use Rattle.btor2.specs.Trace.{Frame};
 ghost use Rattle.runs.specs.Run.{IsNow, node_count, state_count};
 ghost use Rattle.runs.specs.Refusal.{AnswersNew};
 ghost use Rattle.witness.specs.Judgements.{FrameWords, pairs_of, first_different};
-ghost use Rattle.witness.specs.Texts.{Assignment, widths_of};
+ghost use Rattle.witness.specs.Texts.{Assignment, shape_of, widths_of};
+ghost use Rattle.witness.specs.KeptLines.{IsSmall};
 ghost use Rattle.witness.specs.WordValues.{Gives};
 ghost use Rattle.witness.specs.Fits.{NoneIsSet};
-ghost use Rattle.witness.specs.WordScans.{IsOf};
 ghost use Rattle.witness.specs.WordAssigns.{assigned};
 ghost use Rattle.witness.specs.WordPlays.{IsStart, Plays, MayGive, GivesState, GivesInput, state_given, input_given, nothing_given};
 
 use crate::verdicts::{Breach, earlier, first_different, first_violated, note_rises};
 use crate::why::Why;
 use crate::word_assign::assigned;
-use crate::word_line::WholeLine;
 use btor2::Model;
 use runs::{NewFault, WordRun};
 use std::alloc::{AllocError, Global};
@@ -115,8 +114,12 @@ impl<'a> WordPlay<'a> {
 
     /// The model.
     pub(crate) fn model(&self) -> &'a Model
-        ensures { result.now ≡ self.now.items }
+        ensures is { result.now ≡ self.now.items }
+        ensures small { IsSmall (shape_of self.now.items) }
     {
+        let _items = self.model.items();
+        let _states = self.model.states().len();
+        let _inputs = self.model.inputs().len();
         self.model
     }
 
@@ -128,8 +131,8 @@ impl<'a> WordPlay<'a> {
     }
 
     /// The word that a line gives to a state in the open part, or why it gives none.
-    fn state_word(&self, line: &WholeLine<'_>) -> Result<(u64, u64), Why>
-        ensures is { (bytes : List ℕ) → IsOf line.now bytes → Gives (λ p. p) result (assigned (widths_of is_state self.now.items) self.now.states_given bytes) }
+    fn state_word(&self, line: &[u8]) -> Result<(u64, u64), Why>
+        ensures is { Gives (λ p. p) result (assigned (widths_of is_state self.now.items) self.now.states_given line.now) }
         ensures inside { IfOk result (λ p. p.0 < length (places is_state 0 self.now.items)) }
         ensures fits { IfOk result (λ p. IfSome (width_at self.now.items (slice_index (places is_state 0 self.now.items) p.0)) (λ n. p.1 < 2 ^ n)) }
     {
@@ -143,8 +146,8 @@ impl<'a> WordPlay<'a> {
     }
 
     /// The word that a line gives to an input in the open frame, or why it gives none.
-    fn input_word(&self, line: &WholeLine<'_>) -> Result<(u64, u64), Why>
-        ensures is { (bytes : List ℕ) → IsOf line.now bytes → Gives (λ p. p) result (assigned (widths_of is_input self.now.items) self.now.inputs_given bytes) }
+    fn input_word(&self, line: &[u8]) -> Result<(u64, u64), Why>
+        ensures is { Gives (λ p. p) result (assigned (widths_of is_input self.now.items) self.now.inputs_given line.now) }
         ensures inside { IfOk result (λ p. p.0 < length (places is_input 0 self.now.items)) }
         ensures fits { IfOk result (λ p. IfSome (width_at self.now.items (slice_index (places is_input 0 self.now.items) p.0)) (λ n. p.1 < 2 ^ n)) }
     {
@@ -178,8 +181,8 @@ impl<'a> WordPlay<'a> {
     }
 
     /// Gives a state the word of a line in the open part, or answers why the line gives none.
-    pub(crate) fn assign_state(&mut self, line: &WholeLine<'_>) -> Result<(), Why>
-        ensures line { (frames : List FrameWords) (before : List Assignment) (bytes : List ℕ) → Plays self.old.items frames (record { states = pairs_of before; inputs = [] }) self.old → IsOf line.now bytes → MayGive self.old.items frames bytes → GivesState self.old.items frames before bytes self.new result }
+    pub(crate) fn assign_state(&mut self, line: &[u8]) -> Result<(), Why>
+        ensures line { (frames : List FrameWords) (before : List Assignment) → Plays self.old.items frames (record { states = pairs_of before; inputs = [] }) self.old → MayGive self.old.items frames line.now → GivesState self.old.items frames before line.now self.new result }
         ensures same { self.new.items ≡ self.old.items }
         ensures err { OnErr result (self.new ≡ self.old) }
     {
@@ -194,8 +197,8 @@ impl<'a> WordPlay<'a> {
     }
 
     /// Gives an input the word of a line in the open part, or answers why the line gives none.
-    pub(crate) fn assign_input(&mut self, line: &WholeLine<'_>) -> Result<(), Why>
-        ensures line { (frames : List FrameWords) (states : List (ℕ × ℕ)) (before : List Assignment) (bytes : List ℕ) → Plays self.old.items frames (record { states = states; inputs = pairs_of before }) self.old → IsOf line.now bytes → GivesInput self.old.items frames states before bytes self.new result }
+    pub(crate) fn assign_input(&mut self, line: &[u8]) -> Result<(), Why>
+        ensures line { (frames : List FrameWords) (states : List (ℕ × ℕ)) (before : List Assignment) → Plays self.old.items frames (record { states = states; inputs = pairs_of before }) self.old → GivesInput self.old.items frames states before line.now self.new result }
         ensures same { self.new.items ≡ self.old.items }
         ensures err { OnErr result (self.new ≡ self.old) }
     {

@@ -11,14 +11,15 @@ ghost use Rattle.base.specs.Decimals.{number_of};
 ghost use Rattle.witness.specs.Judgements.{nodes_of, unreached_from};
 ghost use Rattle.witness.specs.Fits.{NoneIsSet, RisesAmong, AreClaimed};
 ghost use Rattle.witness.specs.declared.place.Place.TheVariants as place;
-ghost use Rattle.witness.specs.WordScans.{IsOf};
+ghost use Rattle.witness.specs.KeptLines.{AreAlike};
 ghost use Rattle.witness.specs.WordStands.{Reads, GivesLine, is_alone, place_of};
 
 use crate::place::Place;
 use crate::verdicts::first_unreached;
 use crate::why::Why;
 use crate::word_claims::ClaimScan;
-use crate::word_line::WholeLine;
+use crate::word_fields::index_of;
+use crate::word_line::{begins_part, is_comment, is_numbered, is_word};
 use crate::word_play::{WordPlay, no_flags};
 use btor2::Model;
 use runs::NewFault;
@@ -127,27 +128,21 @@ impl<'a> WordReader<'a> {
         first_unreached(self.claimed.as_slice(), self.play.rose())
     }
 
-    /// Takes a byte of the next line.
-    pub(crate) fn take(&mut self, byte: u8)
-        ensures { (items : List Item) (r : Read) (line : List ℕ) → Reads items self.old r line → Reads items self.new r (line ++ byte ∷ []) }
+    /// Takes bytes of the next line.
+    pub(crate) fn take(&mut self, bytes: &[u8])
+        ensures { (items : List Item) (r : Read) (line : List ℕ) → Reads items self.old r line → Reads items self.new r (line ++ bytes.now) }
     {
-        match self.place {
-            Place::Claims => self.claims.push(byte, self.claimed.as_mut_slice()),
-            Place::Status
-            | Place::Parts
-            | Place::States
-            | Place::Free
-            | Place::Frame
-            | Place::End => {}
+        if !is_alone(self.place) {
+            self.claims.take(bytes, self.claimed.as_mut_slice());
         }
     }
 
     /// Whether an assignment is one of a free state.
-    fn names_free(&self, line: &WholeLine<'_>) -> bool
-        ensures { (bytes : List ℕ) → IsOf line.now bytes → result ≡ names_free (shape_of self.now.play.items) (number_of (cut_at_space bytes).0) }
+    fn names_free(&self, line: &[u8]) -> bool
+        ensures { result ≡ names_free (shape_of self.now.play.items) (number_of (cut_at_space line.now).0) }
     {
         let model = self.play.model();
-        match line.index() {
+        match index_of(line) {
             Some(index) => {
                 let k = index as usize;
                 k < model.states().len() && is_free(model, k)
@@ -157,21 +152,21 @@ impl<'a> WordReader<'a> {
     }
 
     /// Whether a line begins the part of states of a frame, where there is a free state.
-    fn begins_states(&self, line: &WholeLine<'_>, frame: u64) -> bool
-        ensures { (bytes : List ℕ) → IsOf line.now bytes → frame < 2 ^ 64 - 1 → result ≡ (opens_states frame bytes && self.now.has_free) }
+    fn begins_states(&self, line: &[u8], frame: u64) -> bool
+        ensures { frame < 2 ^ 64 - 1 → result ≡ (opens_states frame line.now && self.now.has_free) }
     {
-        line.is_numbered(b'#', frame) && self.has_free
+        is_numbered(line, b'#', frame) && self.has_free
     }
 
     /// A comment or the status has ended.
-    fn admit_status(&mut self, line: &WholeLine<'_>) -> Result<(), Why>
-        ensures line { (items : List Item) (r : Read) (bytes : List ℕ) → Reads items self.old r bytes → IsOf line.now bytes → self.old.place ≡ place.Status → GivesLine items r bytes self.new result }
+    fn admit_status(&mut self, line: &[u8]) -> Result<(), Why>
+        ensures line { (items : List Item) (r : Read) → Reads items self.old r line.now → self.old.place ≡ place.Status → GivesLine items r line.now self.new result }
         ensures err { OnErr result (self.new.play ≡ self.old.play) }
     {
-        if line.is_comment() {
+        if is_comment(line) {
             return Ok(());
         }
-        if line.is_sat() {
+        if is_word(line, b"sat") {
             self.place = Place::Claims;
             return Ok(());
         }
@@ -193,15 +188,15 @@ impl<'a> WordReader<'a> {
     }
 
     /// The line behind the claims has ended.
-    fn admit_parts(&mut self, line: &WholeLine<'_>) -> Result<(), Why>
-        ensures line { (items : List Item) (r : Read) (bytes : List ℕ) → Reads items self.old r bytes → IsOf line.now bytes → self.old.place ≡ place.Parts → GivesLine items r bytes self.new result }
+    fn admit_parts(&mut self, line: &[u8]) -> Result<(), Why>
+        ensures line { (items : List Item) (r : Read) → Reads items self.old r line.now → self.old.place ≡ place.Parts → GivesLine items r line.now self.new result }
         ensures err { OnErr result (self.new.play ≡ self.old.play) }
     {
-        if line.is_numbered(b'#', 0) {
+        if is_numbered(line, b'#', 0) {
             self.place = Place::States;
             return Ok(());
         }
-        if line.is_numbered(b'@', 0) {
+        if is_numbered(line, b'@', 0) {
             self.place = Place::Frame;
             return Ok(());
         }
@@ -209,30 +204,30 @@ impl<'a> WordReader<'a> {
     }
 
     /// A line of the states' part of the first frame has ended, or the one behind it.
-    fn admit_states(&mut self, line: &WholeLine<'_>) -> Result<(), Why>
-        ensures line { (items : List Item) (r : Read) (bytes : List ℕ) → Reads items self.old r bytes → IsOf line.now bytes → self.old.place ≡ place.States → GivesLine items r bytes self.new result }
+    fn admit_states(&mut self, line: &[u8]) -> Result<(), Why>
+        ensures line { (items : List Item) (r : Read) → Reads items self.old r line.now → self.old.place ≡ place.States → GivesLine items r line.now self.new result }
         ensures err { OnErr result (self.new.play ≡ self.old.play) }
     {
-        if line.is_numbered(b'@', 0) {
+        if is_numbered(line, b'@', 0) {
             self.place = Place::Frame;
             return Ok(());
         }
-        if line.begins_part() {
+        if begins_part(line) {
             return Err(Why::FrameOrder);
         }
         self.play.assign_state(line)
     }
 
     /// The same of a later frame.
-    fn admit_free(&mut self, line: &WholeLine<'_>) -> Result<(), Why>
-        ensures line { (items : List Item) (r : Read) (bytes : List ℕ) → Reads items self.old r bytes → IsOf line.now bytes → self.old.place ≡ place.Free → length r.closed < 2 ^ 62 → GivesLine items r bytes self.new result }
+    fn admit_free(&mut self, line: &[u8]) -> Result<(), Why>
+        ensures line { (items : List Item) (r : Read) → Reads items self.old r line.now → self.old.place ≡ place.Free → length r.closed < 2 ^ 62 → GivesLine items r line.now self.new result }
         ensures err { OnErr result (self.new.play ≡ self.old.play) }
     {
-        if line.is_numbered(b'@', self.play.frames()) {
+        if is_numbered(line, b'@', self.play.frames()) {
             self.place = Place::Frame;
             return Ok(());
         }
-        if line.begins_part() {
+        if begins_part(line) {
             return Err(Why::FrameOrder);
         }
         if !self.names_free(line) {
@@ -242,12 +237,12 @@ impl<'a> WordReader<'a> {
     }
 
     /// A line behind that which opens a frame has ended.
-    fn admit_frame(&mut self, line: &WholeLine<'_>) -> Result<(), Why>
-        ensures line { (items : List Item) (r : Read) (bytes : List ℕ) → Reads items self.old r bytes → IsOf line.now bytes → self.old.place ≡ place.Frame → length r.closed < 2 ^ 62 → GivesLine items r bytes self.new result }
+    fn admit_frame(&mut self, line: &[u8]) -> Result<(), Why>
+        ensures line { (items : List Item) (r : Read) → Reads items self.old r line.now → self.old.place ≡ place.Frame → length r.closed < 2 ^ 62 → GivesLine items r line.now self.new result }
         ensures err { OnErr result (self.new.play ≡ self.old.play) }
     {
         let next = self.play.frames().saturating_add(1);
-        if line.is_numbered(b'@', next) {
+        if is_numbered(line, b'@', next) {
             self.play.close();
             return Ok(());
         }
@@ -256,22 +251,23 @@ impl<'a> WordReader<'a> {
             self.place = Place::Free;
             return Ok(());
         }
-        if line.is_end() {
+        if is_word(line, b".") {
             self.play.close();
             self.place = Place::End;
             return Ok(());
         }
-        if line.begins_part() {
+        if begins_part(line) {
             return Err(Why::FrameOrder);
         }
         self.play.assign_input(line)
     }
 
-    /// The line has ended: it is admitted, or why it is not.
-    pub(crate) fn admit(&mut self, line: &WholeLine<'_>) -> Result<(), Why>
-        ensures line { (items : List Item) (r : Read) (bytes : List ℕ) → Reads items self.old r bytes → IsOf line.now bytes → length r.closed < 2 ^ 62 → GivesLine items r bytes self.new result }
+    /// The line has ended: it is admitted, or why it is not. Of its bytes the first 342 are enough.
+    pub(crate) fn admit(&mut self, line: &[u8]) -> Result<(), Why>
+        ensures line { (items : List Item) (r : Read) (bytes : List ℕ) → Reads items self.old r bytes → AreAlike line.now bytes → length r.closed < 2 ^ 62 → GivesLine items r bytes self.new result }
         ensures err { OnErr result (self.new.play ≡ self.old.play) }
     {
+        let _model = self.play.model();
         match self.place {
             Place::Status => self.admit_status(line),
             Place::Claims => self.admit_claims(),

@@ -1,7 +1,7 @@
 use Rattle.std.proofs.Common.{◌≡◌, get_or, sym}
 use Rattle.std.proofs.lemmas.Bool.{eqb-true}
 use Rattle.base.proofs.CutLemmas.{cut_behind}
-use Rattle.witness.proofs.FieldScanLemmas.{is_space, no_space, at_space}
+use Rattle.witness.proofs.WordFieldLemmas.{is_space, no_space, at_space}
 use Rattle.witness.proofs.word_fields.cut.Goals as goal
 
 pub returns-in-None : goal.returns-in-None

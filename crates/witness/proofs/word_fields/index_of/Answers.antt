@@ -1,7 +1,7 @@
 use Rattle.std.proofs.Common.{ap, sym, ◌∙◌}
 use Rattle.base.specs.Decimals.{number_of}
 use Rattle.witness.specs.Admits.{Cut}
-use Rattle.witness.proofs.FieldScanLemmas.{cut_alone, cut_once}
+use Rattle.witness.proofs.WordFieldLemmas.{cut_alone, cut_once}
 use Rattle.witness.proofs.word_fields.index_of.Goals as goal
 
 pub returns-in-None : goal.returns-in-None

@@ -13,7 +13,7 @@ returns-then-are_most-clause-lines c circuit lines bytes is scans none =
     let now : IsOfLines circuit j lines bytes = subst (λ (j : BitJudge). IsOfLines circuit j lines bytes) (sym c.self.view_is) is in
     let fresh : j.refused ≡ None = ap (λ (j : BitJudge). j.refused) c.self.view_is ∙ none in
     let says = c.either-self-inside.ensures ∙ ap (λ (b : Bool). c.self.inside.no_claim || b) (c.says_no_claim.ensures bytes scans ∙ ap (λ (x : CodePlace). is_first x && (bytes_eq bytes (codes "0") || bytes_eq bytes (codes "2"))) c.place.ensures) in
-    too_many circuit lines bytes j now fresh c.either-self-inside.result (leb-true (2 ^ 62) c.self.inside.admitted (sym c.are_most.ensures ∙ c.if-are_most.true)) says
+    too_many circuit lines bytes bytes j now fresh c.either-self-inside.result (leb-true (2 ^ 62) c.self.inside.admitted (sym c.are_most.ensures ∙ c.if-are_most.true)) says
 
 pub returns-in-Ok-clause-lines : goal.returns-in-Ok-clause-lines
 returns-in-Ok-clause-lines c circuit lines bytes is scans none =
@@ -24,7 +24,7 @@ returns-in-Ok-clause-lines c circuit lines bytes is scans none =
     let below : c.self.inside.admitted < 2 ^ 62 = leb-false (2 ^ 62) c.self.inside.admitted (sym c.are_most.ensures ∙ c.if-are_most.false) in
     let before = now.frames in
     let few : length (lines_behind circuit nothing_admitted lines).read.frames < 2 ^ 62 = omega (arith, before, below) in
-    line_admitted circuit lines bytes j now fresh c.admit.new.self c.either-self-inside.result below (c.in-Ok.ensures.line circuit (lines_behind circuit nothing_admitted lines).read bytes (now.reads fresh) scans few) says
+    line_admitted circuit lines bytes bytes j now fresh c.admit.new.self c.either-self-inside.result below (c.in-Ok.ensures.line circuit (lines_behind circuit nothing_admitted lines).read bytes (now.reads fresh) scans few) says
 
 pub returns-in-Err-clause-lines : goal.returns-in-Err-clause-lines
 returns-in-Err-clause-lines c circuit lines bytes is scans none =
@@ -36,4 +36,4 @@ returns-in-Err-clause-lines c circuit lines bytes is scans none =
     let before = now.frames in
     let few : length (lines_behind circuit nothing_admitted lines).read.frames < 2 ^ 62 = omega (arith, before, below) in
     subst (λ (q : BitReader). IsOfLines circuit (record { reader = q; line = c.self.inside.line; admitted = c.self.inside.admitted; refused = Some c.in-Err.why; no_claim = c.either-self-inside.result }) (lines ++ bytes ∷ []) []) (sym c.in-Err.ensures.err)
-    (not_admitted circuit lines bytes j now fresh c.in-Err.why c.either-self-inside.result below (c.in-Err.ensures.line circuit (lines_behind circuit nothing_admitted lines).read bytes (now.reads fresh) scans few) says)
+    (not_admitted circuit lines bytes bytes j now fresh c.in-Err.why c.either-self-inside.result below (c.in-Err.ensures.line circuit (lines_behind circuit nothing_admitted lines).read bytes (now.reads fresh) scans few) says)

@@ -1,36 +1,36 @@
-use Rattle.std.proofs.Common.{◌≡◌, Bool, ◌||◌, ◌&&◌, None, codes, ◌<◌, ◌^◌, sym, subst, ap, ◌∙◌}
-use Rattle.std.specs.Str.{bytes_eq}
+use Rattle.std.proofs.Common.{◌≡◌, Bool, ◌||◌, ◌&&◌, None, ◌<◌, ◌^◌, sym, subst, ap, ap₂, ◌∙◌}
 use Rattle.std.proofs.lemmas.Bool.{leb-true, leb-false}
 use Rattle.witness.specs.declared.place.Place.{Place as CodePlace}
 use Rattle.witness.specs.Texts.{shape_of}
 use Rattle.witness.specs.WordReadings.{nothing_admitted, lines_behind}
 use Rattle.witness.specs.WordStands.{WordJudge, IsOfLines, is_status, place_of}
 use Rattle.witness.proofs.WordJudgeLemmas.{too_many, not_admitted, line_admitted, few_frames}
+use Rattle.witness.proofs.KeptLineLemmas.{status_alike}
 use Rattle.witness.proofs.word_judge.WordJudge.judge_line.Goals as goal
 
 pub returns-then-are_most-clause-lines : goal.returns-then-are_most-clause-lines
-returns-then-are_most-clause-lines c items lines bytes is tells none =
+returns-then-are_most-clause-lines c items lines bytes is alike none =
     let j : WordJudge = record { reader = c.self.inside.reader; line = c.self.inside.line; admitted = c.self.inside.admitted; refused = c.self.inside.refused; no_claim = c.self.inside.no_claim } in
     let now : IsOfLines items j lines bytes = subst (λ (j : WordJudge). IsOfLines items j lines bytes) (sym c.self.view_is) is in
     let fresh : j.refused ≡ None = ap (λ (j : WordJudge). j.refused) c.self.view_is ∙ none in
     too_many items lines bytes j now fresh (leb-true (2 ^ 62) c.self.inside.admitted (sym c.are_most.ensures ∙ c.if-are_most.true))
 
 pub returns-in-Ok-clause-lines : goal.returns-in-Ok-clause-lines
-returns-in-Ok-clause-lines c items lines bytes is tells none =
+returns-in-Ok-clause-lines c items lines bytes is alike none =
     let j : WordJudge = record { reader = c.self.inside.reader; line = c.self.inside.line; admitted = c.self.inside.admitted; refused = c.self.inside.refused; no_claim = c.self.inside.no_claim } in
     let now : IsOfLines items j lines bytes = subst (λ (j : WordJudge). IsOfLines items j lines bytes) (sym c.self.view_is) is in
     let fresh : j.refused ≡ None = ap (λ (j : WordJudge). j.refused) c.self.view_is ∙ none in
-    let says = c.either-self-inside.ensures ∙ ap (λ (b : Bool). c.self.inside.no_claim || b) (c.says_no_claim.ensures bytes tells ∙ ap (λ (x : CodePlace). is_status (place_of x) && (bytes_eq bytes (codes "unsat") || bytes_eq bytes (codes "unknown"))) c.place.ensures) in
+    let says = c.either-self-inside.ensures ∙ ap (λ (b : Bool). c.self.inside.no_claim || b) (c.says_no_claim.ensures ∙ ap₂ (λ (x : CodePlace) (b : Bool). is_status (place_of x) && b) c.place.ensures (status_alike c.args.line.now bytes alike)) in
     let few : c.self.inside.admitted < 2 ^ 62 = leb-false (2 ^ 62) c.self.inside.admitted (sym c.are_most.ensures ∙ c.if-are_most.false) in
     let read = (lines_behind (shape_of items) nothing_admitted lines).read in
-    line_admitted items lines bytes j now fresh few c.admit.new.self c.either-self-inside.result (c.in-Ok.ensures.line items read bytes (now.reads fresh) tells (few_frames items lines bytes j now fresh few)) says
+    line_admitted items lines bytes j now fresh few c.admit.new.self c.either-self-inside.result (c.in-Ok.ensures.line items read bytes (now.reads fresh) alike (few_frames items lines bytes j now fresh few)) says
 
 pub returns-in-Err-clause-lines : goal.returns-in-Err-clause-lines
-returns-in-Err-clause-lines c items lines bytes is tells none =
+returns-in-Err-clause-lines c items lines bytes is alike none =
     let j : WordJudge = record { reader = c.self.inside.reader; line = c.self.inside.line; admitted = c.self.inside.admitted; refused = c.self.inside.refused; no_claim = c.self.inside.no_claim } in
     let now : IsOfLines items j lines bytes = subst (λ (j : WordJudge). IsOfLines items j lines bytes) (sym c.self.view_is) is in
     let fresh : j.refused ≡ None = ap (λ (j : WordJudge). j.refused) c.self.view_is ∙ none in
-    let says = c.either-self-inside.ensures ∙ ap (λ (b : Bool). c.self.inside.no_claim || b) (c.says_no_claim.ensures bytes tells ∙ ap (λ (x : CodePlace). is_status (place_of x) && (bytes_eq bytes (codes "unsat") || bytes_eq bytes (codes "unknown"))) c.place.ensures) in
+    let says = c.either-self-inside.ensures ∙ ap (λ (b : Bool). c.self.inside.no_claim || b) (c.says_no_claim.ensures ∙ ap₂ (λ (x : CodePlace) (b : Bool). is_status (place_of x) && b) c.place.ensures (status_alike c.args.line.now bytes alike)) in
     let few : c.self.inside.admitted < 2 ^ 62 = leb-false (2 ^ 62) c.self.inside.admitted (sym c.are_most.ensures ∙ c.if-are_most.false) in
     let read = (lines_behind (shape_of items) nothing_admitted lines).read in
-    not_admitted items lines bytes j now fresh few c.admit.new.self c.in-Err.why c.either-self-inside.result c.in-Err.ensures.err (c.in-Err.ensures.line items read bytes (now.reads fresh) tells (few_frames items lines bytes j now fresh few)) says
+    not_admitted items lines bytes j now fresh few c.admit.new.self c.in-Err.why c.either-self-inside.result c.in-Err.ensures.err (c.in-Err.ensures.line items read bytes (now.reads fresh) alike (few_frames items lines bytes j now fresh few)) says

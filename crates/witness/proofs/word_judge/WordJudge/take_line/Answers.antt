@@ -1,9 +1,8 @@
-use Rattle.std.proofs.Common.{◌≡◌, true, [], ◌∷◌, ◌++◌, List, ℕ, append_assoc, subst, sym, ap, ◌∙◌}
+use Rattle.std.proofs.Common.{◌≡◌, true, [], ◌∷◌, ◌++◌, List, ℕ, subst, sym, ap, ◌∙◌}
 use Rattle.base.specs.Lines.{whole_lines, unfinished}
-use Rattle.witness.specs.declared.word_line.LineScan.{LineScan}
 use Rattle.witness.specs.Texts.{shape_of}
 use Rattle.witness.specs.WordReadings.{nothing_admitted, lines_behind}
-use Rattle.witness.specs.WordScans.{IsScanned}
+use Rattle.witness.specs.KeptLines.{kept, AreAlike}
 use Rattle.witness.specs.WordStands.{WordJudge, StandsFor, IsOfLines, is_alone, place_of}
 use Rattle.witness.proofs.BitJudgeLemmas.{whole_lines-line_end, unfinished-line_end, no_refusal, some_refusal}
 use Rattle.witness.proofs.WordReaderLemmas.{reads_of_other}
@@ -17,8 +16,8 @@ returns-then-is_some c items text line stands =
     let bytes : List ℕ = c.args.bytes.now in
     let refused = some_refusal c.self.inside.refused (sym c.if-is_some.ensures) in
     let here = with_bytes items (whole_lines text) (unfinished text) (unfinished text ++ bytes) j now.lines (λ none. absurd (cc (none, refused.1))) in
-    line_ended items (text ++ (bytes ++ 10 ∷ [])) (whole_lines text ++ (unfinished text ++ bytes) ∷ []) (record j { line = c.new-self-inside.result }) (whole_lines-line_end text bytes line) (unfinished-line_end text bytes)
-    (stays_refused items (whole_lines text) (unfinished text ++ bytes) j here refused.0 refused.1 c.new-self-inside.result) c.new-self-inside.ensures
+    line_ended items (text ++ (bytes ++ 10 ∷ [])) (whole_lines text ++ (unfinished text ++ bytes) ∷ []) (record j { line = c.clear.new.self }) (whole_lines-line_end text bytes line) (unfinished-line_end text bytes)
+    (stays_refused items (whole_lines text) (unfinished text ++ bytes) j here refused.0 refused.1 c.clear.new.self) c.clear.ensures
 
 pub returns-then-takes_whole_lines : goal.returns-then-takes_whole_lines
 returns-then-takes_whole_lines c items text line stands =
@@ -30,10 +29,10 @@ returns-then-takes_whole_lines c items text line stands =
     let here : IsOfLines items j (whole_lines text) (unfinished text ++ bytes) =
     with_bytes items (whole_lines text) (unfinished text) (unfinished text ++ bytes) j stands.lines
     (λ none. reads_of_other items (lines_behind (shape_of items) nothing_admitted (whole_lines text)).read (unfinished text) j.reader (stands.lines.reads none) (unfinished text ++ bytes) alone) in
-    let told : bytes ≡ unfinished text ++ bytes = ap (λ (l : List ℕ). l ++ bytes) (sym empty) in
+    let alike : AreAlike bytes (unfinished text ++ bytes) = ap (λ (l : List ℕ). kept (l ++ bytes)) (sym empty) in
     line_ended items (text ++ (bytes ++ 10 ∷ [])) (whole_lines text ++ (unfinished text ++ bytes) ∷ []) c.judge_line.new.self (whole_lines-line_end text bytes line) (unfinished-line_end text bytes)
-    (c.judge_line.ensures.lines items (whole_lines text) (unfinished text ++ bytes) here told none)
-    (subst (λ (s : LineScan). IsScanned s []) (sym c.judge_line.ensures.line) (subst (IsScanned j.line) empty stands.line))
+    (c.judge_line.ensures.lines items (whole_lines text) (unfinished text ++ bytes) here alike none)
+    (c.judge_line.ensures.line ∙ (stands.line ∙ ap kept empty))
 
 pub returns : goal.returns
-returns c items text line stands = subst (StandsFor items c.take_rest.new.self) (append_assoc text c.args.bytes.now (10 ∷ [])) (c.take_rest.ensures items text stands)
+returns c items text line stands = c.take_rest.ensures items text line stands (sym (ap (λ (j : WordJudge). j.refused) c.self.view_is) ∙ no_refusal c.self.inside.refused (sym c.if-is_some.ensures))

@@ -12,20 +12,20 @@ use Rattle.witness.proofs.WordGivenLemmas.{input_plays}
 use Rattle.witness.proofs.word_play.WordPlay.assign_input.Goals as goal
 
 pub returns-in-Ok-clause-line : goal.returns-in-Ok-clause-line
-returns-in-Ok-clause-line c frames states before line plays fields =
+returns-in-Ok-clause-line c frames states before plays =
     let p : WordPlay = c.args.self.now in
     let widths = widths_of is_input p.items in
-    let told = subst (λ (o : Result (ℕ × ℕ) Why). Tells before o (assignment_at widths before line)) (c.in-Ok.ensures.is line fields) (assigned_tells widths p.inputs_given before line plays.inputs_flagged) in
+    let told = subst (λ (o : Result (ℕ × ℕ) Why). Tells before o (assignment_at widths before c.args.line.now)) (c.in-Ok.ensures.is) (assigned_tells widths p.inputs_given before c.args.line.now plays.inputs_flagged) in
     let a = told.0 in
     let index : c.in-Ok.given.0 ≡ a.index = sym (ap (λ (q : ℕ × ℕ). q.0) told.1.1) in
     let word : c.in-Ok.given.1 ≡ a.word = sym (ap (λ (q : ℕ × ℕ). q.1) told.1.1) in
     let many : length p.inputs_given ≡ length (places is_input 0 p.items) = subst (λ (q : WordPlay). length q.inputs_given ≡ length (places is_input 0 q.items)) c.self.view_is c.self.invariant.2 in
     let there : a.index < length (places is_input 0 p.items) = subst (λ (q : ℕ × ℕ). q.0 < length (places is_input 0 p.items)) (sym told.1.1) c.in-Ok.ensures.inside in
     let well_formed = subst (λ (q : WordPlay). IsWellFormed q.items) c.self.view_is c.items-items.ensures.well_formed in
-    let more = input_plays p.items frames states before (before ++ a ∷ []) line p a well_formed told.1.0 refl (omega (arith, many, there)) plays in
+    let more = input_plays p.items frames states before (before ++ a ∷ []) c.args.line.now p a well_formed told.1.0 refl (omega (arith, many, there)) plays in
     (before ++ a ∷ [], (told.1.0, subst (λ (q : WordPlay). Plays p.items frames (record { states = states; inputs = pairs_of (before ++ a ∷ []) }) q) (sym (c.give_input.ensures ∙ ap₂ (input_given p) index word)) more))
 
 pub returns-in-Err-clause-line : goal.returns-in-Err-clause-line
-returns-in-Err-clause-line c frames states before line plays fields =
+returns-in-Err-clause-line c frames states before plays =
     let widths = widths_of is_input c.args.self.now.items in
-    subst (λ (o : Result (ℕ × ℕ) Why). Tells before o (assignment_at widths before line)) (c.in-Err.ensures.is line fields) (assigned_tells widths c.args.self.now.inputs_given before line plays.inputs_flagged)
+    subst (λ (o : Result (ℕ × ℕ) Why). Tells before o (assignment_at widths before c.args.line.now)) (c.in-Err.ensures.is) (assigned_tells widths c.args.self.now.inputs_given before c.args.line.now plays.inputs_flagged)

@@ -12,20 +12,20 @@ use Rattle.witness.proofs.WordGivenLemmas.{state_plays}
 use Rattle.witness.proofs.word_play.WordPlay.assign_state.Goals as goal
 
 pub returns-in-Ok-clause-line : goal.returns-in-Ok-clause-line
-returns-in-Ok-clause-line c frames before line plays fields may =
+returns-in-Ok-clause-line c frames before plays may =
     let p : WordPlay = c.args.self.now in
     let widths = widths_of is_state p.items in
-    let told = subst (λ (o : Result (ℕ × ℕ) Why). Tells before o (assignment_at widths before line)) (c.in-Ok.ensures.is line fields) (assigned_tells widths p.states_given before line plays.states_flagged) in
+    let told = subst (λ (o : Result (ℕ × ℕ) Why). Tells before o (assignment_at widths before c.args.line.now)) (c.in-Ok.ensures.is) (assigned_tells widths p.states_given before c.args.line.now plays.states_flagged) in
     let a = told.0 in
     let index : c.in-Ok.given.0 ≡ a.index = sym (ap (λ (q : ℕ × ℕ). q.0) told.1.1) in
     let word : c.in-Ok.given.1 ≡ a.word = sym (ap (λ (q : ℕ × ℕ). q.1) told.1.1) in
     let many : length p.states_given ≡ length (places is_state 0 p.items) = subst (λ (q : WordPlay). length q.states_given ≡ length (places is_state 0 q.items)) c.self.view_is c.self.invariant.1 in
     let there : a.index < length (places is_state 0 p.items) = subst (λ (q : ℕ × ℕ). q.0 < length (places is_state 0 p.items)) (sym told.1.1) c.in-Ok.ensures.inside in
     let well_formed = subst (λ (q : WordPlay). IsWellFormed q.items) c.self.view_is c.items-items.ensures.well_formed in
-    let more = state_plays p.items frames before (before ++ a ∷ []) line p a well_formed told.1.0 refl (omega (arith, many, there)) may plays in
+    let more = state_plays p.items frames before (before ++ a ∷ []) c.args.line.now p a well_formed told.1.0 refl (omega (arith, many, there)) may plays in
     (before ++ a ∷ [], (told.1.0, subst (λ (q : WordPlay). Plays p.items frames (record { states = pairs_of (before ++ a ∷ []); inputs = [] }) q) (sym (c.give_state.ensures ∙ ap₂ (state_given p) index word)) more))
 
 pub returns-in-Err-clause-line : goal.returns-in-Err-clause-line
-returns-in-Err-clause-line c frames before line plays fields may =
+returns-in-Err-clause-line c frames before plays may =
     let widths = widths_of is_state c.args.self.now.items in
-    subst (λ (o : Result (ℕ × ℕ) Why). Tells before o (assignment_at widths before line)) (c.in-Err.ensures.is line fields) (assigned_tells widths c.args.self.now.states_given before line plays.states_flagged)
+    subst (λ (o : Result (ℕ × ℕ) Why). Tells before o (assignment_at widths before c.args.line.now)) (c.in-Err.ensures.is) (assigned_tells widths c.args.self.now.states_given before c.args.line.now plays.states_flagged)

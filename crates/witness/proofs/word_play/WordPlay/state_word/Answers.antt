@@ -15,8 +15,8 @@ pub assigned-requires-clause-there : goal.assigned-requires-clause-there
 assigned-requires-clause-there c = rw c.states.ensures (each_inside c.self.inside.model.now _ (each_has_width is_state states_have_bits c.self.inside.model.now c.items-items.ensures.well_formed))
 
 pub returns-clause-is : goal.returns-clause-is
-returns-clause-is c line h =
+returns-clause-is c =
     let widths : widths_by c.self.inside.model.now c.states.result.now ≡ widths_of is_state c.self.inside.model.now = ap (widths_by c.self.inside.model.now) c.states.ensures ∙ widths_at_places is_state c.self.inside.model.now c.items-items.ensures.well_formed in
-    let by_model = subst (λ (ws : List ℕ). Gives (λ (p : ℕ × ℕ). p) c.assigned.result (assigned ws c.as_slice.result.now line)) widths (c.assigned.ensures.is line h) in
-    let by_flags = subst (λ (g : List Bool). Gives (λ (p : ℕ × ℕ). p) c.assigned.result (assigned (widths_of is_state c.self.inside.model.now) g line)) c.as_slice.ensures.value by_model in
-    subst (λ (q : WordPlay). Gives (λ (p : ℕ × ℕ). p) c.assigned.result (assigned (widths_of is_state q.items) q.states_given line)) c.self.view_is by_flags
+    let by_model = subst (λ (ws : List ℕ). Gives (λ (p : ℕ × ℕ). p) c.assigned.result (assigned ws c.as_slice.result.now c.args.line.now)) widths (c.assigned.ensures.is) in
+    let by_flags = subst (λ (g : List Bool). Gives (λ (p : ℕ × ℕ). p) c.assigned.result (assigned (widths_of is_state c.self.inside.model.now) g c.args.line.now)) c.as_slice.ensures.value by_model in
+    subst (λ (q : WordPlay). Gives (λ (p : ℕ × ℕ). p) c.assigned.result (assigned (widths_of is_state q.items) q.states_given c.args.line.now)) c.self.view_is by_flags

@@ -12,40 +12,40 @@ use Rattle.witness.proofs.WordReaderLemmas.{plays_at, may_give_free, free_done, 
 use Rattle.witness.proofs.word_reader.WordReader.admit_free.Goals as goal
 
 pub returns-then-is_numbered-clause-line : goal.returns-then-is_numbered-clause-line
-returns-then-is_numbered-clause-line c items r bytes reads scans there few =
+returns-then-is_numbered-clause-line c items r reads there few =
     let q : WordReader = record { play = c.self.inside.play; place = c.self.inside.place; claims = c.self.inside.claims; claimed = c.self.inside.claimed.items; has_free = c.self.inside.has_free } in
-    let now : Reads items q r bytes = subst (λ (q : WordReader). Reads items q r bytes) (sym c.self.view_is) reads in
+    let now : Reads items q r c.args.line.now = subst (λ (q : WordReader). Reads items q r c.args.line.now) (sym c.self.view_is) reads in
     let at : q.place ≡ code.Free = ap (λ (q : WordReader). q.place) c.self.view_is ∙ there in
-    let plays : Plays items (map frame_words r.closed) (record { states = pairs_of r.open_part; inputs = [] }) q.play = plays_at items r bytes q now code.Free at in
+    let plays : Plays items (map frame_words r.closed) (record { states = pairs_of r.open_part; inputs = [] }) q.play = plays_at items r c.args.line.now q now code.Free at in
     let count : c.frames.result ≡ length r.closed = c.frames.ensures ∙ (plays.count ∙ length-map r.closed frame_words) in
-    free_done items r bytes q now at (ap (λ (n : ℕ). opens_frame n bytes) (sym count) ∙ (sym (c.is_numbered.ensures bytes scans (omega (arith, count, few))) ∙ c.if-is_numbered.true))
+    free_done items r c.args.line.now q now at (ap (λ (n : ℕ). opens_frame n c.args.line.now) (sym count) ∙ (sym (c.is_numbered.ensures (omega (arith, count, few))) ∙ c.if-is_numbered.true))
 
 pub returns-then-begins_part-clause-line : goal.returns-then-begins_part-clause-line
-returns-then-begins_part-clause-line c items r bytes reads scans there few =
+returns-then-begins_part-clause-line c items r reads there few =
     let q : WordReader = record { play = c.self.inside.play; place = c.self.inside.place; claims = c.self.inside.claims; claimed = c.self.inside.claimed.items; has_free = c.self.inside.has_free } in
-    let now : Reads items q r bytes = subst (λ (q : WordReader). Reads items q r bytes) (sym c.self.view_is) reads in
+    let now : Reads items q r c.args.line.now = subst (λ (q : WordReader). Reads items q r c.args.line.now) (sym c.self.view_is) reads in
     let at : q.place ≡ code.Free = ap (λ (q : WordReader). q.place) c.self.view_is ∙ there in
-    let plays : Plays items (map frame_words r.closed) (record { states = pairs_of r.open_part; inputs = [] }) q.play = plays_at items r bytes q now code.Free at in
+    let plays : Plays items (map frame_words r.closed) (record { states = pairs_of r.open_part; inputs = [] }) q.play = plays_at items r c.args.line.now q now code.Free at in
     let count : c.frames.result ≡ length r.closed = c.frames.ensures ∙ (plays.count ∙ length-map r.closed frame_words) in
-    free_refused items r bytes q now at (ap (λ (n : ℕ). opens_frame n bytes) (sym count) ∙ (sym (c.is_numbered.ensures bytes scans (omega (arith, count, few))) ∙ c.if-is_numbered.false)) (sym (c.begins_part.ensures bytes scans) ∙ c.if-begins_part.true)
+    free_refused items r c.args.line.now q now at (ap (λ (n : ℕ). opens_frame n c.args.line.now) (sym count) ∙ (sym (c.is_numbered.ensures (omega (arith, count, few))) ∙ c.if-is_numbered.false)) (sym (c.begins_part.ensures) ∙ c.if-begins_part.true)
 
 pub returns-then-not-names_free-clause-line : goal.returns-then-not-names_free-clause-line
-returns-then-not-names_free-clause-line c items r bytes reads scans there few =
+returns-then-not-names_free-clause-line c items r reads there few =
     let q : WordReader = record { play = c.self.inside.play; place = c.self.inside.place; claims = c.self.inside.claims; claimed = c.self.inside.claimed.items; has_free = c.self.inside.has_free } in
-    let now : Reads items q r bytes = subst (λ (q : WordReader). Reads items q r bytes) (sym c.self.view_is) reads in
+    let now : Reads items q r c.args.line.now = subst (λ (q : WordReader). Reads items q r c.args.line.now) (sym c.self.view_is) reads in
     let at : q.place ≡ code.Free = ap (λ (q : WordReader). q.place) c.self.view_is ∙ there in
-    let plays : Plays items (map frame_words r.closed) (record { states = pairs_of r.open_part; inputs = [] }) q.play = plays_at items r bytes q now code.Free at in
+    let plays : Plays items (map frame_words r.closed) (record { states = pairs_of r.open_part; inputs = [] }) q.play = plays_at items r c.args.line.now q now code.Free at in
     let count : c.frames.result ≡ length r.closed = c.frames.ensures ∙ (plays.count ∙ length-map r.closed frame_words) in
-    let named : names_free (shape_of items) (number_of (cut_at_space bytes).0) ≡ c.names_free.result = sym (c.names_free.ensures bytes scans ∙ ap (λ (l : List Item). names_free (shape_of l) (number_of (cut_at_space bytes).0)) (plays_at items r bytes c.args.self.now reads code.Free there).items_are) in
-    not_free_refused items r bytes q now at (ap (λ (n : ℕ). opens_frame n bytes) (sym count) ∙ (sym (c.is_numbered.ensures bytes scans (omega (arith, count, few))) ∙ c.if-is_numbered.false)) (sym (c.begins_part.ensures bytes scans) ∙ c.if-begins_part.false) (named ∙ c.if-not-names_free.true)
+    let named : names_free (shape_of items) (number_of (cut_at_space c.args.line.now).0) ≡ c.names_free.result = sym (c.names_free.ensures ∙ ap (λ (l : List Item). names_free (shape_of l) (number_of (cut_at_space c.args.line.now).0)) (plays_at items r c.args.line.now c.args.self.now reads code.Free there).items_are) in
+    not_free_refused items r c.args.line.now q now at (ap (λ (n : ℕ). opens_frame n c.args.line.now) (sym count) ∙ (sym (c.is_numbered.ensures (omega (arith, count, few))) ∙ c.if-is_numbered.false)) (sym (c.begins_part.ensures) ∙ c.if-begins_part.false) (named ∙ c.if-not-names_free.true)
 
 pub returns-clause-line : goal.returns-clause-line
-returns-clause-line c items r bytes reads scans there few =
+returns-clause-line c items r reads there few =
     let q : WordReader = record { play = c.self.inside.play; place = c.self.inside.place; claims = c.self.inside.claims; claimed = c.self.inside.claimed.items; has_free = c.self.inside.has_free } in
-    let now : Reads items q r bytes = subst (λ (q : WordReader). Reads items q r bytes) (sym c.self.view_is) reads in
+    let now : Reads items q r c.args.line.now = subst (λ (q : WordReader). Reads items q r c.args.line.now) (sym c.self.view_is) reads in
     let at : q.place ≡ code.Free = ap (λ (q : WordReader). q.place) c.self.view_is ∙ there in
-    let plays : Plays items (map frame_words r.closed) (record { states = pairs_of r.open_part; inputs = [] }) q.play = plays_at items r bytes q now code.Free at in
+    let plays : Plays items (map frame_words r.closed) (record { states = pairs_of r.open_part; inputs = [] }) q.play = plays_at items r c.args.line.now q now code.Free at in
     let count : c.frames.result ≡ length r.closed = c.frames.ensures ∙ (plays.count ∙ length-map r.closed frame_words) in
-    let named : names_free (shape_of items) (number_of (cut_at_space bytes).0) ≡ c.names_free.result = sym (c.names_free.ensures bytes scans ∙ ap (λ (l : List Item). names_free (shape_of l) (number_of (cut_at_space bytes).0)) (plays_at items r bytes c.args.self.now reads code.Free there).items_are) in
-    let gives : GivesState items (map frame_words r.closed) r.open_part bytes c.assign_state.new.self c.assign_state.result = subst (λ (l : List Item). Plays l (map frame_words r.closed) (record { states = pairs_of r.open_part; inputs = [] }) q.play → MayGive l (map frame_words r.closed) bytes → GivesState l (map frame_words r.closed) r.open_part bytes c.assign_state.new.self c.assign_state.result) plays.items_are (λ playing may. c.assign_state.ensures.line (map frame_words r.closed) r.open_part bytes playing scans may) plays (may_give_free items r bytes q now (map frame_words r.closed) (named ∙ c.if-not-names_free.false)) in
-    free_more items r bytes q now c.assign_state.new.self c.assign_state.result at (ap (λ (n : ℕ). opens_frame n bytes) (sym count) ∙ (sym (c.is_numbered.ensures bytes scans (omega (arith, count, few))) ∙ c.if-is_numbered.false)) (sym (c.begins_part.ensures bytes scans) ∙ c.if-begins_part.false) (named ∙ c.if-not-names_free.false) gives
+    let named : names_free (shape_of items) (number_of (cut_at_space c.args.line.now).0) ≡ c.names_free.result = sym (c.names_free.ensures ∙ ap (λ (l : List Item). names_free (shape_of l) (number_of (cut_at_space c.args.line.now).0)) (plays_at items r c.args.line.now c.args.self.now reads code.Free there).items_are) in
+    let gives : GivesState items (map frame_words r.closed) r.open_part c.args.line.now c.assign_state.new.self c.assign_state.result = subst (λ (l : List Item). Plays l (map frame_words r.closed) (record { states = pairs_of r.open_part; inputs = [] }) q.play → MayGive l (map frame_words r.closed) c.args.line.now → GivesState l (map frame_words r.closed) r.open_part c.args.line.now c.assign_state.new.self c.assign_state.result) plays.items_are (λ playing may. c.assign_state.ensures.line (map frame_words r.closed) r.open_part playing may) plays (may_give_free items r c.args.line.now q now (map frame_words r.closed) (named ∙ c.if-not-names_free.false)) in
+    free_more items r c.args.line.now q now c.assign_state.new.self c.assign_state.result at (ap (λ (n : ℕ). opens_frame n c.args.line.now) (sym count) ∙ (sym (c.is_numbered.ensures (omega (arith, count, few))) ∙ c.if-is_numbered.false)) (sym (c.begins_part.ensures) ∙ c.if-begins_part.false) (named ∙ c.if-not-names_free.false) gives

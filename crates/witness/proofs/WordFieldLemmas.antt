@@ -1,0 +1,67 @@
+-- The index of an assignment, its value and its name.
+use Rattle.std.proofs.Common.{◌≡◌, ℕ, zero, suc, ◌<◌, ◌==◌, nat_lt, Bool, true, false, cond, List, [], ◌∷◌, ◌++◌, length, get_or, take, Some, None, Result, Ok, Err, refl, sym, ap, subst, ◌∙◌, arith}
+use Rattle.std.specs.List.{list_any, position, position_or_len}
+use Rattle.std.proofs.lemmas.Bool.{or_from, both_ways}
+use Rattle.std.proofs.lemmas.Bool.Decides.{nat_tests}
+use Rattle.std.proofs.lemmas.List.{append-nil, drop_more, take-append-drop}
+use Rattle.std.proofs.lemmas.List.Quantifiers.{position-Some}
+use Rattle.std.proofs.lemmas.List.Sums.{fails_before_first}
+use Rattle.base.proofs.CutLemmas.{IsCut, none_passes}
+use Rattle.base.specs.Lines.{HasNone}
+use Rattle.witness.specs.declared.why.Why.{Why}
+use Rattle.witness.specs.Admits.{Cut, cut_at_space, value_of}
+use Rattle.witness.specs.WordValues.{Gives, word_with, word_behind}
+use Rattle.witness.proofs.PieceLemmas.{cut_at_space-parts}
+
+-- ---- where the first space stands
+
+abbrev pub is_space : ℕ → Bool
+is_space b = b == 32
+
+is_no_place : (b : Bool) (n : ℕ) → cond b (Some n) None ≡ None → b ≡ false
+is_no_place true n h = absurd cc
+is_no_place false n h = refl
+
+pub no_space : (line : List ℕ) → position is_space line ≡ None → HasNone 32 line
+no_space line h =
+    let past : nat_lt (position_or_len is_space line) (length line) ≡ false = is_no_place _ _ h in
+    none_passes is_space line (λ k lt e. both_ways _ (fails_before_first is_space line k 0 (grind (arith, nat_tests))) e)
+
+none_before : (line : List ℕ) (n : ℕ) → ((k : ℕ) → k < n → is_space (get_or line k 0) ≡ false) → list_any is_space (take n line) ≡ false
+none_before line zero h = refl
+none_before [] (suc n) h = refl
+none_before (b ∷ bs) (suc n) h = or_from _ _ (h 0 (omega arith)) (none_before bs n (λ k lt. h (suc k) (omega arith)))
+
+pub at_space : (line : List ℕ) (at : ℕ) → position is_space line ≡ Some at → IsCut is_space line at
+at_space line at h =
+    let first = position-Some is_space line at 0 h in
+    record {
+      before = none_before line at first.2;
+      passes = first.1;
+      parts = sym (take-append-drop at line) ∙ ap (λ (rest : List ℕ). take at line ++ rest) (drop_more line at 0 first.0);
+      inside = first.0;
+    }
+
+-- ---- a line that is cut at its first space
+
+-- no space
+pub cut_alone : (line : List ℕ) → HasNone 32 line → cut_at_space line ≡ (line, None)
+cut_alone line none = ap cut_at_space (sym (append-nil line)) ∙ cut_at_space-parts line None none
+
+with_nothing : (r : Result ℕ Why) → word_with None r ≡ r
+with_nothing (Ok x) = refl
+with_nothing (Err w) = refl
+
+-- a space behind a token
+pub cut_once : (line token behind : List ℕ) → line ≡ token ++ 32 ∷ behind → HasNone 32 token → cut_at_space line ≡ (token, Some behind)
+cut_once line token behind is none = ap cut_at_space is ∙ cut_at_space-parts token (Some behind) none
+
+-- the word behind a token, where a word with a name stands there
+pub word_by_name : (behind digits bytes : List ℕ) (width : ℕ) (r : Result ℕ Why) → behind ≡ digits ++ 32 ∷ bytes → HasNone 32 digits → Gives (λ (w : ℕ). w) r (word_with (Some bytes) (value_of width digits)) → Gives (λ (w : ℕ). w) r (word_behind width (Some behind))
+word_by_name behind digits bytes width r is none h =
+    subst (λ (c : Cut). Gives (λ (w : ℕ). w) r (word_with c.1 (value_of width c.0))) (sym (cut_once behind digits bytes is none)) h
+
+-- the same without a name
+pub word_by_digits : (behind : List ℕ) (width : ℕ) (r : Result ℕ Why) → HasNone 32 behind → Gives (λ (w : ℕ). w) r (value_of width behind) → Gives (λ (w : ℕ). w) r (word_behind width (Some behind))
+word_by_digits behind width r none h =
+    subst (λ (c : Cut). Gives (λ (w : ℕ). w) r (word_with c.1 (value_of width c.0))) (sym (cut_alone behind none)) (subst (Gives (λ (w : ℕ). w) r) (sym (with_nothing (value_of width behind))) h)
