@@ -79,12 +79,19 @@ impl KeptLine {
         self.used = 0;
     }
 
+    /// Takes bytes behind the others, for which there is room.
+    fn keep(&mut self, bytes: &[u8])
+        requires { length self.old + length bytes.now ≤ 342 }
+        ensures { self.new ≡ self.old ++ bytes.now }
+    {
+        copy_at(&mut self.bytes, self.used, bytes);
+        self.used += bytes.len();
+    }
+
     /// Takes bytes behind the others, as far as there is room.
     pub(crate) fn extend(&mut self, bytes: &[u8])
         ensures { self.new ≡ kept (self.old ++ bytes.now) }
     {
-        let more = front(bytes, MOST - self.used);
-        copy_at(&mut self.bytes, self.used, more);
-        self.used += more.len();
+        self.keep(front(bytes, MOST - self.used));
     }
 }

@@ -66,7 +66,7 @@ pub(crate) fn value_of(bytes: &[u8], width: Width) -> Result<u64, Why>
         return Err(Why::BadValue);
     }
     match known_word(bytes) {
-        Some(word) => Ok(word),
+        Some(known) => Ok(known),
         None => Err(refusal(bytes)),
     }
 }
