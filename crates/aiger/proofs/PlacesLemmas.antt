@@ -112,7 +112,7 @@ length_leaves : (l : Loose) → length (leaf_names l) ≡ leaf_count l
 length_leaves l = omega (arith, length-append (map variable l.inputs) (map latch_variable l.latches), length-map l.inputs variable, length-map l.latches latch_variable)
 
 -- the slot of a literal that is known says what it waits for
-slot_known : (l : Loose) (lit : ℕ) → is_known l lit ≡ true → IsSlotOf l lit (slot_of (defined_variables l) (leaf_count l) lit) × (slot_of (defined_variables l) (leaf_count l) lit ≤ length l.gates)
+pub slot_known : (l : Loose) (lit : ℕ) → is_known l lit ≡ true → IsSlotOf l lit (slot_of (defined_variables l) (leaf_count l) lit) × (slot_of (defined_variables l) (leaf_count l) lit ≤ length l.gates)
 slot_known l lit known = by (variable lit == 0) refl
   where
     p : ℕ
