@@ -17,11 +17,14 @@ fn number_before(text: &[u8], end: u8) -> Option<(u32, &[u8])>
     };
     for at in 1..text.len() {
         let byte = text[at];
-        if byte == end {
+        if byte < b'0' || byte > b'9' {
+            if byte != end {
+                return None;
+            }
             let (_, rest) = text.split_at(at + 1);
             return Some((value, rest));
         }
-        if byte < b'0' || byte > b'9' || value == 0 || value > ROOM {
+        if value == 0 || value > ROOM {
             return None;
         }
         value = value * 10 + u32::from(byte - b'0');
