@@ -16,7 +16,8 @@ mod NumbersLemmas
 mod VariablePagesLemmas
 mod UndefinedLemmas
 mod CompleteLemmas
-mod StraightLemmas
+mod RangeLemmas
+mod InOrderLemmas
 mod OwnLemmas
 mod FlatNameLemmas
 mod PlacedNameLemmas

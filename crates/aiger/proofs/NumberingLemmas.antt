@@ -16,6 +16,7 @@ use Rattle.aiger.specs.Literal.{variable}
 use Rattle.aiger.specs.Net.{IsDefined, AreOrderedFrom, variables}
 use Rattle.aiger.specs.Circuit.{Circuit, IsCircuit, IsNamed, net, section_count, Place, NameMap}
 use Rattle.aiger.specs.Loose.{Loose, IsLoose, IsNamedLine, loose_count, latch_variable, gate_variable}
+use Rattle.aiger.specs.Numbering.{circuit_by}
 use Rattle.aiger.specs.Renumbering.{is_known, gate_line, gate_name, numbered, has_number, is_ready, AreInTurn, IsOrder, Uses, LeadsAlong, DependsOn, LeadsToCycle, IsFirstCyclic, new_literal, ordered_gate, new_gate, renumbered}
 use Rattle.aiger.proofs.RenumberingLemmas.{found, place_kept, named_from_test, new_of_variable, new_constant}
 use Rattle.aiger.proofs.OrderLemmas.{numbered-append, has_number-append, ready_parts, any_map, name_at_place, false_unless, no_cycle, number_from_known, AreGates, AreGates-push, gate_from_name, gate_is_variable}
@@ -322,9 +323,9 @@ in_turn_from_slots l slots done (j ∷ js) valid within are turn =
     (record { ready = ready; first = λ i h. sym (e i) ∙ turn.0.first i h }, in_turn_from_slots l slots (done ++ j ∷ []) js valid (AreGates-push l done j within low) are turn.1)
 
 -- the circuit from its lists
-pub are_renumbered : (l : Loose) (order names : List ℕ) (inputs : ℕ) (latches : List Latch) (gates : List Gate) (outputs bads constraints : List ℕ) (justice : List (List ℕ)) (fair : List ℕ) (entries : NameMap)
-    → names ≡ numbered l order → inputs ≡ length l.inputs → latches ≡ map (new_latch names) l.latches → gates ≡ map (λ j. new_gate names (gate_line l j)) order
+pub are_by_numbers : (l : Loose) (names : List ℕ) (inputs : ℕ) (latches : List Latch) (gates : List Gate) (outputs bads constraints : List ℕ) (justice : List (List ℕ)) (fair : List ℕ) (entries : NameMap)
+    → inputs ≡ length l.inputs → latches ≡ map (new_latch names) l.latches
     → outputs ≡ map (new_literal names) l.outputs → bads ≡ map (new_literal names) l.bads → constraints ≡ map (new_literal names) l.constraints
     → justice ≡ map (map (new_literal names)) l.justice → fair ≡ map (new_literal names) l.fair → entries ≡ l.names
-    → record { inputs = inputs; latches = latches; gates = gates; outputs = outputs; bads = bads; constraints = constraints; justice = justice; fair = fair; names = entries } ≡ renumbered l order
-are_renumbered l order names inputs latches gates outputs bads constraints justice fair entries n a b c d e f g h i = rw (a, b, c, d, e, f, g, h, i, n) refl
+    → record { inputs = inputs; latches = latches; gates = gates; outputs = outputs; bads = bads; constraints = constraints; justice = justice; fair = fair; names = entries } ≡ circuit_by l names gates
+are_by_numbers l names inputs latches gates outputs bads constraints justice fair entries a b d e f g h i = rw (a, b, d, e, f, g, h, i) refl

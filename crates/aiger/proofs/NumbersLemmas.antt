@@ -1,10 +1,13 @@
 -- Places and numbers of variables in a list.
-use Rattle.std.proofs.Common.{◌≡◌, ℕ, suc, ◌+◌, ◌-◌, ◌<◌, ◌≤◌, ◌||◌, Bool, true, false, not, List, [], ◌∷◌, ◌++◌, length, Some, None, nat_eq, nat_lt, cond, refl, ap, sym, ◌∙◌, arith, if◌then◌else◌}
+use Rattle.std.proofs.Common.{◌≡◌, ℕ, suc, ◌+◌, ◌-◌, ◌<◌, ◌≤◌, ◌||◌, ◌==◌, Bool, true, false, not, List, [], ◌∷◌, ◌++◌, length, Some, None, ◌⊎◌, inl, inr, nat_eq, nat_lt, cond, refl, ap, sym, ◌∙◌, arith, if◌then◌else◌, append-nil, length-append}
+use Rattle.std.proofs.lemmas.List.{nil_from_length}
+use Rattle.std.proofs.lemmas.List.FromFn.{length-range_with_len}
 use Rattle.std.proofs.lemmas.Bool.Decides.{nat_tests}
 use Rattle.std.proofs.lemmas.List.Folds.{list_any-append, position_or_len_push}
-use Rattle.std.specs.List.{list_any, position, position_or_len}
+use Rattle.std.specs.List.{list_any, position, position_or_len, range_with_len}
 use Rattle.aiger.specs.Numbering.{number_in}
-use Rattle.aiger.proofs.RenumberingLemmas.{found}
+use Rattle.aiger.proofs.RangeLemmas.{within_range, outside_range, place_in_range, range_joined}
+use Rattle.aiger.proofs.RenumberingLemmas.{found, place_kept, place_further}
 
 -- a place is at most the length
 pub place-le : {X : Type 0} (p : X → Bool) (xs : List X) → position_or_len p xs ≤ length xs
@@ -96,3 +99,41 @@ number_pushed names x v new = by (list_any (nat_eq v) names) (nat_eq x v) refl r
         let s : nat_eq v x ≡ false = grind (arith, nat_tests) in
         let nowhere : list_any (nat_eq v) (names ++ x ∷ []) ≡ false = any ∙ (ap (λ (b : Bool). b || list_any (nat_eq v) (x ∷ [])) t ∙ ap (λ (b : Bool). b || false) s) in
         ap (λ (b : Bool). cond b (suc (length names)) (number_in names v)) e ∙ (number_nowhere v names t ∙ sym (number_nowhere v (names ++ x ∷ []) nowhere))
+
+-- ---- variables that have their own numbers, and others behind them
+
+pub length_joined : (k : ℕ) (others : List ℕ) → length (range_with_len 1 k ++ others) ≡ k + length others
+length_joined k others = omega (arith, length-append (range_with_len 1 k) others, length-range_with_len 1 k)
+
+-- one more that has its own number
+pub next_in_turn : (v k : ℕ) (others now : List ℕ) → range_with_len 1 k ++ others ≡ now → length others ≤ 0 → v ≡ k + 1 → range_with_len 1 v ++ others ≡ now ++ v ∷ []
+next_in_turn v k others now view empty is =
+    let none : others ≡ [] = nil_from_length others (omega (arith, empty)) in
+    let front : range_with_len 1 k ≡ now = sym (append-nil (range_with_len 1 k)) ∙ ap (λ (xs : List ℕ). range_with_len 1 k ++ xs) (sym none) ∙ view in
+    let last : 1 + k ≡ v = omega (arith, is) in
+    ap (λ (xs : List ℕ). range_with_len 1 v ++ xs) none ∙ append-nil (range_with_len 1 v) ∙ ap (range_with_len 1) is ∙ sym (range_joined 1 k 1) ∙ ap (λ (i : ℕ). range_with_len 1 k ++ i ∷ []) last ∙ ap (λ (xs : List ℕ). xs ++ v ∷ []) front
+
+-- what the test for none finds
+pub empty_from_test : (n : ℕ) → true ≡ (n == 0) → n ≤ 0
+empty_from_test n t = grind (arith, nat_tests)
+
+-- their places
+pub place_in_turn : (v k : ℕ) (others : List ℕ) → 1 ≤ v → v ≤ k → v - 1 ≡ position_or_len (nat_eq v) (range_with_len 1 k ++ others)
+place_in_turn v k others some most =
+    let there = within_range v 1 k some (omega (arith, most)) in
+    omega (arith, place_kept v (range_with_len 1 k) others there, place_in_range v 1 k some (omega (arith, most)))
+
+pub place_out_of_turn : (v k p : ℕ) (others : List ℕ) → (v < 1) ⊎ (k < v) → p ≡ position_or_len (nat_eq v) others → k + p ≡ position_or_len (nat_eq v) (range_with_len 1 k ++ others)
+place_out_of_turn v k p others outside e =
+    omega (arith, place_further v (range_with_len 1 k) others (outside_range v 1 k (apart outside)), length-range_with_len 1 k, e)
+  where
+    apart : (v < 1) ⊎ (k < v) → (v < 1) ⊎ (1 + k ≤ v)
+    apart (inl h) = inl h
+    apart (inr h) = inr (omega (arith, h))
+
+-- a variable that is nowhere in both is not among the others
+pub none_behind : (v k : ℕ) (others now : List ℕ) → range_with_len 1 k ++ others ≡ now → list_any (nat_eq v) now ≡ false → list_any (nat_eq v) others ≡ false
+none_behind v k others now view none =
+    let e = list_any-append (nat_eq v) (range_with_len 1 k) others in
+    let t : list_any (nat_eq v) (range_with_len 1 k ++ others) ≡ false = ap (list_any (nat_eq v)) view ∙ none in
+    grind (arith, nat_tests, e, t)

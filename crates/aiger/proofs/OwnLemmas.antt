@@ -1,11 +1,11 @@
 -- A circuit's own lists are lists of a file, and the circuit is these lists as numbered.
-use Rattle.std.proofs.Common.{◌≡◌, ℕ, zero, suc, ◌+◌, ◌*◌, ◌/◌, ◌<◌, ◌≤◌, Bool, true, false, not, List, [], ◌∷◌, ◌++◌, map, length, All, None, nat_eq, nat_lt, cond, refl, ap, sym, ◌∙◌, subst, arith, if◌then◌else◌}
+use Rattle.std.proofs.Common.{◌≡◌, ℕ, zero, suc, ◌+◌, ◌-◌, ◌*◌, ◌/◌, ◌%◌, ◌<◌, ◌≤◌, ◌==◌, Bool, true, false, not, List, [], ◌∷◌, ◌++◌, map, length, All, None, nat_eq, nat_lt, cond, refl, ap, sym, ◌∙◌, subst, arith, if◌then◌else◌}
 use Rattle.std.proofs.lemmas.Bool.Decides.{nat_tests}
-use Rattle.std.proofs.lemmas.Bool.{le-leb, or_from}
+use Rattle.std.proofs.lemmas.Bool.{or_from}
 use Rattle.std.proofs.lemmas.List.Elements.{All-weaker, All-nil, All-cons, All-head, All-tail, All-append}
-use Rattle.std.proofs.lemmas.List.Folds.{list_any-append}
+use Rattle.std.proofs.lemmas.List.Folds.{list_any-append, map_fixed}
 use Rattle.std.proofs.lemmas.List.Sums.{sum_by-cons}
-use Rattle.std.specs.List.{list_any, list_all, count_by, concat, range_with_len}
+use Rattle.std.specs.List.{list_any, list_all, count_by, concat, position_or_len, range_with_len}
 use Rattle.aiger.specs.declared.circuit.Gate.{Gate}
 use Rattle.aiger.specs.declared.circuit.Latch.{Latch}
 use Rattle.aiger.specs.declared.circuit.Section.{Section}
@@ -16,14 +16,15 @@ use Rattle.aiger.specs.Limits.{greatest_count}
 use Rattle.aiger.specs.Literal.{variable}
 use Rattle.aiger.specs.Net.{Net, variables, IsDefined, AreOrderedFrom}
 use Rattle.aiger.specs.Circuit.{Circuit, IsCircuit, IsNamed, net, section_count}
-use Rattle.aiger.specs.Loose.{Loose, IsLoose, IsDefining, IsSmall, IsNamedLine, latch_variable, gate_variable, loose_count, defined_count}
-use Rattle.aiger.specs.Numbering.{is_unknown}
-use Rattle.aiger.specs.Renumbering.{IsRenumbered, alone, is_known, used_lines, first_undefined, ordered_gate}
+use Rattle.aiger.specs.Loose.{Loose, IsLoose, IsDefining, IsSmall, IsNamedLine, latch_variable, gate_variable, loose_count, defined_count, defined_variables}
+use Rattle.aiger.specs.Numbering.{WaitForEarlier, is_unknown, line_in, slot_of}
+use Rattle.aiger.specs.Renumbering.{IsRenumbered, alone, is_known, used_lines, first_undefined, has_number, new_literal, new_gate, renumbered}
 use Rattle.aiger.specs.OwnLists.{own_inputs, own_latches, own_gates, own_lists}
-use Rattle.aiger.specs.Straight.{IsStraight, is_above_operands, as_it_stands}
+use Rattle.aiger.proofs.InOrderLemmas.{as_they_stand, is_order, by_places}
 use Rattle.aiger.proofs.KnownLemmas.{all_known}
 use Rattle.aiger.proofs.LooseLemmas.{count_none}
-use Rattle.aiger.proofs.StraightLemmas.{in_range, defined_in_turn, knows_up_to, is_order, stands}
+use Rattle.aiger.proofs.PlacesLemmas.{leaf_count}
+use Rattle.aiger.proofs.RangeLemmas.{in_range, place_in_range, range_joined}
 use Rattle.aiger.proofs.UndefinedLemmas.{none_passes}
 
 -- ---- they are in order
@@ -63,15 +64,6 @@ many_gates first (g ∷ gs) = ap suc (many_gates (suc first) gs)
 
 pub as_many : (c : Circuit) → (length (own_lists c).inputs ≡ c.inputs) × (length (own_lists c).latches ≡ length c.latches) × (length (own_lists c).gates ≡ length c.gates)
 as_many c = (many_inputs 1 c.inputs, many_latches (suc c.inputs) c.latches, many_gates (suc (c.inputs + length c.latches)) c.gates)
-
-above_operands : (first : ℕ) (gs : List Gate) → AreOrderedFrom first gs → list_all is_above_operands (own_gates first gs) ≡ true
-above_operands first [] h = refl
-above_operands first (g ∷ gs) h =
-    let low : g.rhs0 / 2 < (2 * first) / 2 = omega (arith, h.0) in
-    let low1 : g.rhs1 / 2 < (2 * first) / 2 = omega (arith, h.0, h.1) in
-    let a : nat_lt (g.rhs0 / 2) ((2 * first) / 2) ≡ true = grind (arith, nat_tests) in
-    let b : nat_lt (g.rhs1 / 2) ((2 * first) / 2) ≡ true = grind (arith, nat_tests) in
-    rw (a, b) (above_operands (suc first) gs h.2)
 
 -- ---- they define variables, each once
 
@@ -144,34 +136,62 @@ none_unknown l f P known (x ∷ xs) h = or_from _ _ (ap not (known x (All-head P
 none_of_both : (p : List ℕ → Bool) (xs ys : List (List ℕ)) → list_any p xs ≡ false → list_any p ys ≡ false → list_any p (xs ++ ys) ≡ false
 none_of_both p xs ys h k = list_any-append p xs ys ∙ or_from _ _ h k
 
--- ---- as they stand they are the circuit
+-- ---- numbers in turn leave them as they are
 
-same_latches : (first : ℕ) (ls : List Latch) → map (λ line. record { next = line.next; reset = line.reset }) (own_latches first ls) ≡ ls
-same_latches first [] = refl
-same_latches first (l ∷ ls) = ap (λ (xs : List Latch). l ∷ xs) (same_latches (suc first) ls)
+-- a literal has a number where its variable is at most the greatest, and keeps it
+has_number_in_turn : (lit n : ℕ) → variable lit ≤ n → has_number (range_with_len 1 n) lit ≡ true
+has_number_in_turn lit n h = let r = in_range (variable lit) 1 n in grind (arith, nat_tests, r)
 
-same_gates : (first : ℕ) (gs : List Gate) → AreOrderedFrom first gs → map (λ line. ordered_gate line.rhs0 line.rhs1) (own_gates first gs) ≡ gs
-same_gates first [] h = refl
-same_gates first (g ∷ gs) h =
+same_literal : (lit n : ℕ) → variable lit ≤ n → new_literal (range_with_len 1 n) lit ≡ lit
+same_literal lit n h = by (variable lit == 0) refl
+  where
+    by : (b : Bool) → (variable lit == 0) ≡ b → new_literal (range_with_len 1 n) lit ≡ lit
+    by true e = ap (λ (b : Bool). if b then lit else 2 * suc (position_or_len (nat_eq (variable lit)) (range_with_len 1 n)) + lit % 2) e
+    by false e =
+        let some : 1 ≤ variable lit = grind (arith, nat_tests) in
+        let p = place_in_range (variable lit) 1 n some (omega (arith, h)) in
+        ap (λ (b : Bool). if b then lit else 2 * suc (position_or_len (nat_eq (variable lit)) (range_with_len 1 n)) + lit % 2) e ∙ omega (arith, p)
+
+same_latches : (n first : ℕ) (ls : List Latch) → All (λ l. variable l.next ≤ n) ls → map (λ line. record { next = new_literal (range_with_len 1 n) line.next; reset = line.reset }) (own_latches first ls) ≡ ls
+same_latches n first [] h = refl
+same_latches n first (l ∷ ls) h =
+    ap (λ (next : ℕ). record { next = next; reset = l.reset } ∷ map (λ line. record { next = new_literal (range_with_len 1 n) line.next; reset = line.reset }) (own_latches (suc first) ls)) (same_literal l.next n (All-head (λ (l : Latch). variable l.next ≤ n) l ls h))
+    ∙ ap (λ (xs : List Latch). l ∷ xs) (same_latches n (suc first) ls (All-tail (λ (l : Latch). variable l.next ≤ n) l ls h))
+
+same_gates : (n first : ℕ) (gs : List Gate) → AreOrderedFrom first gs → first + length gs ≤ suc n → map (new_gate (range_with_len 1 n)) (own_gates first gs) ≡ gs
+same_gates n first [] h few = refl
+same_gates n first (g ∷ gs) h few =
     let least : g.rhs1 ≤ g.rhs0 = h.1 in
     let in_order : nat_lt g.rhs0 g.rhs1 ≡ false = grind (arith, nat_tests) in
-    ap (λ (b : Bool). (if b then record { rhs0 = g.rhs1; rhs1 = g.rhs0 } else record { rhs0 = g.rhs0; rhs1 = g.rhs1 }) ∷ map (λ line. ordered_gate line.rhs0 line.rhs1) (own_gates (suc first) gs)) in_order
-    ∙ ap (λ (xs : List Gate). g ∷ xs) (same_gates (suc first) gs h.2)
+    rw (same_literal g.rhs0 n (omega (arith, h.0, few)), same_literal g.rhs1 n (omega (arith, h.0, least, few)), in_order, same_gates n (suc first) gs h.2 (omega (arith, few))) refl
+
+-- a literal below a gate waits for no later one
+slot_in_turn : (lit n leaves k : ℕ) → variable lit ≤ leaves + k → variable lit ≤ n → slot_of (range_with_len 1 n) leaves lit ≤ k
+slot_in_turn lit n leaves k low h = by (variable lit == 0) refl
+  where
+    by : (b : Bool) → (variable lit == 0) ≡ b → slot_of (range_with_len 1 n) leaves lit ≤ k
+    by true e = let z : slot_of (range_with_len 1 n) leaves lit ≡ 0 = ap (λ (b : Bool). if b then 0 else suc (position_or_len (nat_eq (variable lit)) (range_with_len 1 n)) - leaves) e in omega (arith, z)
+    by false e =
+        let some : 1 ≤ variable lit = grind (arith, nat_tests) in
+        let p = place_in_range (variable lit) 1 n some (omega (arith, h)) in
+        let z : slot_of (range_with_len 1 n) leaves lit ≡ suc (position_or_len (nat_eq (variable lit)) (range_with_len 1 n)) - leaves = ap (λ (b : Bool). if b then 0 else suc (position_or_len (nat_eq (variable lit)) (range_with_len 1 n)) - leaves) e in
+        omega (arith, z, p, low)
+
+gates_wait : (n leaves first k : ℕ) (gs : List Gate) → first ≡ suc (leaves + k) → AreOrderedFrom first gs → first + length gs ≤ suc n
+    → (j i : ℕ) → i ≡ k + j → j < length (own_gates first gs) → (slot_of (range_with_len 1 n) leaves (line_in (own_gates first gs) j).rhs0 ≤ i) × (slot_of (range_with_len 1 n) leaves (line_in (own_gates first gs) j).rhs1 ≤ i)
+gates_wait n leaves first k [] is h few j i e low = absurd (omega arith)
+gates_wait n leaves first k (g ∷ gs) is h few zero i e low = (slot_in_turn g.rhs0 n leaves i (omega (arith, h.0, is, e)) (omega (arith, h.0, few)), slot_in_turn g.rhs1 n leaves i (omega (arith, h.0, h.1, is, e)) (omega (arith, h.0, h.1, few)))
+gates_wait n leaves first k (g ∷ gs) is h few (suc j) i e low = gates_wait n leaves (suc first) (suc k) gs (omega (arith, is)) h.2 (omega (arith, few)) j i (omega (arith, e)) (omega arith)
 
 module _ (c : Circuit) (valid : IsCircuit c) where
-  straight : IsStraight (own_lists c)
-  straight =
-      let i = many_inputs 1 c.inputs in
-      let l = many_latches (suc c.inputs) c.latches in
-      let g = many_gates (suc (c.inputs + length c.latches)) c.gates in
-      let y : suc c.inputs ≡ 1 + c.inputs = omega arith in
-      let z : suc (c.inputs + length c.latches) ≡ 1 + (c.inputs + length c.latches) = omega arith in
-      record {
-        inputs = rw i (inputs_in_turn 1 c.inputs);
-        latches = rw (i, l) (latches_in_turn (suc c.inputs) c.latches ∙ ap (λ (k : ℕ). range_with_len k (length c.latches)) y);
-        gates = rw (i, l, g) (gates_in_turn (suc (c.inputs + length c.latches)) c.gates ∙ ap (λ (k : ℕ). range_with_len k (length c.gates)) z);
-        operands = above_operands (suc (c.inputs + length c.latches)) c.gates valid.ordered;
-      }
+  names : defined_variables (own_lists c) ≡ range_with_len 1 (variables (net c))
+  names =
+      let x : suc c.inputs ≡ 1 + c.inputs = omega arith in
+      let y : suc (c.inputs + length c.latches) ≡ 1 + (c.inputs + length c.latches) = omega arith in
+      let l = latches_in_turn (suc c.inputs) c.latches ∙ ap (λ (k : ℕ). range_with_len k (length c.latches)) x in
+      let g = gates_in_turn (suc (c.inputs + length c.latches)) c.gates ∙ ap (λ (k : ℕ). range_with_len k (length c.gates)) y in
+      rw (inputs_in_turn 1 c.inputs, l, g)
+      (ap (λ (xs : List ℕ). xs ++ range_with_len (1 + (c.inputs + length c.latches)) (length c.gates)) (range_joined 1 c.inputs (length c.latches)) ∙ range_joined 1 (c.inputs + length c.latches) (length c.gates))
 
   count_is : defined_count (own_lists c) ≡ variables (net c)
   count_is = omega (arith, many_inputs 1 c.inputs, many_latches (suc c.inputs) c.latches, many_gates (suc (c.inputs + length c.latches)) c.gates)
@@ -200,7 +220,7 @@ module _ (c : Circuit) (valid : IsCircuit c) where
           inputs = All-weaker IsOwn IsDefining (λ n o. o.defining) (own_lists c).inputs i;
           latches = All-weaker (λ line. IsOwn line.current) (λ line. IsDefining line.current) (λ line o. o.defining) (own_lists c).latches l;
           gates = All-weaker (λ line. IsOwn line.lhs) (λ line. IsDefining line.lhs) (λ line o. o.defining) (own_lists c).gates g;
-          once = λ v. subst (λ (names : List ℕ). count_by (nat_eq v) names ≤ 1) (sym (defined_in_turn (own_lists c) straight)) (once_in_range v 1 (defined_count (own_lists c)));
+          once = λ v. subst (λ (names : List ℕ). count_by (nat_eq v) names ≤ 1) (sym names) (once_in_range v 1 (variables (net c)));
         };
         small = record {
           inputs = All-weaker IsOwn IsSmall (λ n o. o.small) (own_lists c).inputs i;
@@ -223,7 +243,7 @@ module _ (c : Circuit) (valid : IsCircuit c) where
       }
 
   known : (lit : ℕ) → IsDefined (net c) lit → is_known (own_lists c) lit ≡ true
-  known lit d = knows_up_to (own_lists c) straight lit ∙ le-leb (variable lit) (defined_count (own_lists c)) (omega (arith, d, count_is))
+  known lit d = ap (λ (ns : List ℕ). has_number ns lit) names ∙ has_number_in_turn lit (variables (net c)) d
 
   one_known : (lit : ℕ) → IsDefined (net c) lit → list_all (is_known (own_lists c)) (alone lit) ≡ true
   one_known lit d = rw (known lit d) refl
@@ -249,13 +269,36 @@ module _ (c : Circuit) (valid : IsCircuit c) where
       let h5 = none_of_both p n4 (map alone c.fair) h4 (uses_known c.fair valid.defined.fair) in
       none_passes p (used_lines (own_lists c)) (none_of_both p n5 (map (λ (line : GateLine). line.rhs0 ∷ line.rhs1 ∷ []) (own_lists c).gates) h5 gates)
 
-  as_they_stand : as_it_stands (own_lists c) ≡ c
-  as_they_stand = rw (many_inputs 1 c.inputs, same_latches (suc c.inputs) c.latches, same_gates (suc (c.inputs + length c.latches)) c.gates valid.ordered) refl
+  wait : WaitForEarlier (defined_variables (own_lists c)) (leaf_count (own_lists c)) (own_lists c).gates
+  wait =
+      let leaves : c.inputs + length c.latches ≡ leaf_count (own_lists c) = omega (arith, many_inputs 1 c.inputs, many_latches (suc c.inputs) c.latches) in
+      subst (λ (ns : List ℕ). WaitForEarlier ns (leaf_count (own_lists c)) (own_lists c).gates) (sym names)
+      (subst (λ (n : ℕ). WaitForEarlier (range_with_len 1 (variables (net c))) n (own_lists c).gates) leaves
+      (λ j low. gates_wait (variables (net c)) (c.inputs + length c.latches) (suc (c.inputs + length c.latches)) 0 c.gates (omega arith) valid.ordered (omega arith) j j (omega arith) low))
+
+  -- by their numbers they are the circuit
+  is_itself : renumbered (own_lists c) (as_they_stand (own_lists c)) ≡ c
+  is_itself =
+      let n : ℕ = variables (net c) in
+      let same = λ (lit : ℕ) (d : IsDefined (net c) lit). same_literal lit n d in
+      let section = λ (lits : List ℕ) (d : All (IsDefined (net c)) lits). map_fixed (new_literal (range_with_len 1 n)) lits (All-weaker (IsDefined (net c)) (λ (lit : ℕ). new_literal (range_with_len 1 n) lit ≡ lit) same lits d) in
+      sym (by_places (own_lists c) (defined_variables (own_lists c)) (map (new_gate (defined_variables (own_lists c))) (own_lists c).gates) refl refl)
+      ∙ (rw (
+        names,
+        many_inputs 1 c.inputs,
+        same_latches n (suc c.inputs) c.latches valid.defined.nexts,
+        same_gates n (suc (c.inputs + length c.latches)) c.gates valid.ordered (omega arith),
+        section c.outputs valid.defined.outputs,
+        section c.bads valid.defined.bads,
+        section c.constraints valid.defined.constraints,
+        map_fixed (map (new_literal (range_with_len 1 n))) c.justice (All-weaker (All (IsDefined (net c))) (λ (lits : List ℕ). map (new_literal (range_with_len 1 n)) lits ≡ lits) section c.justice valid.defined.justice),
+        section c.fair valid.defined.fair,
+      ) refl)
 
   pub own_renumbered : IsRenumbered (own_lists c) c
   own_renumbered = record {
     known = all_defined;
-    order = range_with_len 0 (length (own_lists c).gates);
-    is_order = is_order (own_lists c) straight;
-    circuit = sym (stands (own_lists c) straight (all_known (own_lists c) all_defined) ∙ as_they_stand);
+    order = as_they_stand (own_lists c);
+    is_order = is_order (own_lists c) (all_known (own_lists c) all_defined) wait;
+    circuit = sym is_itself;
   }

@@ -1,5 +1,6 @@
 -- Variables that stand once, their places, and the slots that these give.
-use Rattle.std.proofs.Common.{◌≡◌, ℕ, zero, suc, ◌+◌, ◌-◌, ◌*◌, ◌<◌, ◌≤◌, Bool, true, false, not, ◌||◌, ◌==◌, List, [], ◌∷◌, ◌++◌, map, length, take, drop, get_or, slice_index_or, All, Some, None, nat_eq, cond, refl, ap, sym, ◌∙◌, subst, arith, if◌then◌else◌, length-append, append-nil, append_assoc}
+use Rattle.std.proofs.Common.{◌≡◌, ℕ, zero, suc, ◌+◌, ◌-◌, ◌*◌, ◌<◌, ◌≤◌, Bool, true, false, not, ◌||◌, ◌==◌, List, [], ◌∷◌, ◌++◌, map, length, take, drop, get_or, slice_index_or, All, Some, None, nat_eq, cond, refl, ap, sym, ◌∙◌, subst, arith, if◌then◌else◌, length-append, append-nil, append_assoc, ⊎_elim}
+use Rattle.std.proofs.lemmas.Bool.{cases_lt}
 use Rattle.std.proofs.lemmas.Bool.Decides.{nat_tests}
 use Rattle.std.proofs.lemmas.List.{length-map, map-append, get_or_append_left, get_or-append_right}
 use Rattle.std.proofs.lemmas.List.Elements.{All-cons, All-nil}
@@ -12,7 +13,7 @@ use Rattle.aiger.specs.Literal.{variable}
 use Rattle.aiger.specs.Loose.{Loose, IsLoose, defined_variables, defined_count, latch_variable, gate_variable}
 use Rattle.aiger.specs.Renumbering.{is_known, gate_line, gate_name, numbered, AreInTurn, IsOrder, IsFirstCyclic}
 use Rattle.aiger.specs.Readiness.{slot_at, AreSlots, IsWholeOrder}
-use Rattle.aiger.specs.Numbering.{IsOnce, name_in, slot_of, slots_of, IsReadyOrder}
+use Rattle.aiger.specs.Numbering.{IsOnce, line_in, name_in, slot_of, slots_of, IsReadyOrder}
 use Rattle.aiger.proofs.RenumberingLemmas.{found}
 use Rattle.aiger.proofs.OrderLemmas.{AreGates, AreGates-push, count_some, false_unless, fresh, ready_parts, name_at_place, numbered-append}
 use Rattle.aiger.proofs.KnownLemmas.{IsKnown, AllKnown}
@@ -112,7 +113,7 @@ length_leaves : (l : Loose) → length (leaf_names l) ≡ leaf_count l
 length_leaves l = omega (arith, length-append (map variable l.inputs) (map latch_variable l.latches), length-map l.inputs variable, length-map l.latches latch_variable)
 
 -- the slot of a literal that is known says what it waits for
-slot_known : (l : Loose) (lit : ℕ) → is_known l lit ≡ true → IsSlotOf l lit (slot_of (defined_variables l) (leaf_count l) lit) × (slot_of (defined_variables l) (leaf_count l) lit ≤ length l.gates)
+pub slot_known : (l : Loose) (lit : ℕ) → is_known l lit ≡ true → IsSlotOf l lit (slot_of (defined_variables l) (leaf_count l) lit) × (slot_of (defined_variables l) (leaf_count l) lit ≤ length l.gates)
 slot_known l lit known = by (variable lit == 0) refl
   where
     p : ℕ
@@ -233,10 +234,28 @@ none_left_is_order l order marks is e =
     }
 
 -- the line that is read at a place, whatever is read past the end
+line_read : (lines : List GateLine) (i : ℕ) (d : GateLine) → i < length lines → get_or lines i d ≡ line_in lines i
+line_read [] i d h = absurd (omega arith)
+line_read (y ∷ ys) zero d h = refl
+line_read (y ∷ ys) (suc i) d h = line_read ys i d (omega arith)
+
 pub name_read : (lines : List GateLine) (i : ℕ) (d : GateLine) → i < length lines → gate_variable (get_or lines i d) ≡ name_in lines i
-name_read [] i d h = absurd (omega arith)
-name_read (y ∷ ys) zero d h = refl
-name_read (y ∷ ys) (suc i) d h = name_read ys i d (omega arith)
+name_read lines i d h = ap gate_variable (line_read lines i d h)
+
+-- the operands of the gate at a place wait for no gate but those before it
+abbrev pub WaitsAt : List ℕ → ℕ → List GateLine → ℕ → Type 0
+WaitsAt names leaves lines j = (slot_of names leaves (line_in lines j).rhs0 ≤ j) × (slot_of names leaves (line_in lines j).rhs1 ≤ j)
+
+-- and so those of one gate more
+pub wait_more : (names : List ℕ) (leaves at : ℕ) (lines : List GateLine) (line : GateLine) (slots : ℕ × ℕ) → ((j : ℕ) → j < at → WaitsAt names leaves lines j) → at < length lines → line ≡ get_or lines at line
+    → slots ≡ (slot_of names leaves line.rhs0, slot_of names leaves line.rhs1) → slots.0 ≤ at → slots.1 ≤ at → (j : ℕ) → j < at + 1 → WaitsAt names leaves lines j
+wait_more names leaves at lines line slots before low is e first second j h =
+    ⊎_elim (λ (less : j < at). before j less)
+    (λ (most : at ≤ j).
+    let here : at ≡ j = omega (arith, h) in
+    let both : (slot_of names leaves line.rhs0 ≤ at) × (slot_of names leaves line.rhs1 ≤ at) = subst (λ (p : ℕ × ℕ). (p.0 ≤ at) × (p.1 ≤ at)) e (first, second) in
+    subst (WaitsAt names leaves lines) here (subst (λ (x : GateLine). (slot_of names leaves x.rhs0 ≤ at) × (slot_of names leaves x.rhs1 ≤ at)) (is ∙ line_read lines at line low) both))
+    (cases_lt j at)
 
 -- no more variables have numbers than are defined
 pub numbered_few : (l : Loose) (order : List ℕ) → IsLoose l → length order ≤ length l.gates → length (numbered l order) ≤ greatest_count

@@ -32,13 +32,16 @@ found v (x ∷ xs) t = by (nat_eq v x) refl (λ r. found v xs r)
         let p : position_or_len (nat_eq v) (x ∷ xs) ≡ suc (position_or_len (nat_eq v) xs) = place_later v x xs e in
         (omega (arith, p, r.0), ap (λ (k : ℕ). slice_index_or (x ∷ xs) k 0) p ∙ r.1)
 
--- where a number is not before, its place is the length
-pub placed : (v : ℕ) (xs ys : List ℕ) → list_any (nat_eq v) xs ≡ false → position_or_len (nat_eq v) (xs ++ v ∷ ys) ≡ length xs
-placed v [] ys t = place_here v v ys (grind (arith, nat_tests))
-placed v (x ∷ xs) ys t =
+-- where a number is not in a front, its place is behind it
+pub place_further : (v : ℕ) (xs ys : List ℕ) → list_any (nat_eq v) xs ≡ false → position_or_len (nat_eq v) (xs ++ ys) ≡ length xs + position_or_len (nat_eq v) ys
+place_further v [] ys t = omega arith
+place_further v (x ∷ xs) ys t =
     let e : nat_eq v x ≡ false = grind (arith, nat_tests) in
     let r : list_any (nat_eq v) xs ≡ false = grind (arith, nat_tests) in
-    place_later v x (xs ++ v ∷ ys) e ∙ ap suc (placed v xs ys r)
+    place_later v x (xs ++ ys) e ∙ omega (arith, place_further v xs ys r)
+
+pub placed : (v : ℕ) (xs ys : List ℕ) → list_any (nat_eq v) xs ≡ false → position_or_len (nat_eq v) (xs ++ v ∷ ys) ≡ length xs
+placed v xs ys t = place_further v xs (v ∷ ys) t ∙ omega (arith, place_here v v ys (grind (arith, nat_tests)))
 
 -- a place in a front stays
 pub place_kept : (v : ℕ) (xs ys : List ℕ) → list_any (nat_eq v) xs ≡ true → position_or_len (nat_eq v) (xs ++ ys) ≡ position_or_len (nat_eq v) xs

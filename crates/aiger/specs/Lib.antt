@@ -18,6 +18,5 @@ pub mod LooseView
 pub mod Trace
 pub mod Readiness
 pub mod Numbering
-pub mod Straight
 pub mod OwnLists
 pub mod Worked

@@ -1,10 +1,12 @@
 -- What stands between the parts of numbering: the slots of a file's gates, and their order as far as it goes.
-use Rattle.std.specs.Prelude.{◌≡◌, ℕ, suc, ◌-◌, ◌≤◌, slice_index_or, count_by, Bool, not, false, List, [], ◌∷◌, length, nat_eq, if◌then◌else◌, ◌==◌}
+use Rattle.std.specs.Prelude.{◌≡◌, ℕ, suc, ◌-◌, ◌<◌, ◌≤◌, slice_index_or, count_by, Bool, not, false, List, [], ◌∷◌, map, length, nat_eq, if◌then◌else◌, ◌==◌}
 use Rattle.std.specs.List.{position_or_len, flat_map, list_all, list_any}
+use Rattle.aiger.specs.declared.circuit.Gate.{Gate}
 use Rattle.aiger.specs.declared.loose.GateLine.{GateLine}
+use Rattle.aiger.specs.Circuit.{Circuit}
 use Rattle.aiger.specs.Literal.{variable}
 use Rattle.aiger.specs.Loose.{Loose, gate_variable}
-use Rattle.aiger.specs.Renumbering.{AreInTurn, is_ready, is_known}
+use Rattle.aiger.specs.Renumbering.{AreInTurn, is_ready, is_known, new_literal}
 use Rattle.aiger.specs.Readiness.{MarksDone}
 
 -- a line with a literal whose variable is neither 0 nor defined
@@ -15,9 +17,13 @@ is_unknown l lits = not (list_all (is_known l) lits)
 abbrev pub IsOnce : List ℕ → Type 0
 IsOnce names = (v : ℕ) → count_by (nat_eq v) names ≤ 1
 
+-- the gate line at a position
+abbrev pub line_in : List GateLine → ℕ → GateLine
+line_in lines j = slice_index_or lines j (record { lhs = 0; rhs0 = 0; rhs1 = 0 })
+
 -- the variable of the gate line at a position
 abbrev pub name_in : List GateLine → ℕ → ℕ
-name_in lines j = gate_variable (slice_index_or lines j (record { lhs = 0; rhs0 = 0; rhs1 = 0 }))
+name_in lines j = gate_variable (line_in lines j)
 
 -- the number of a variable in a list of variables in the order of their numbers, from 1; 0 where it does not stand there
 abbrev pub number_in : List ℕ → ℕ → ℕ
@@ -30,6 +36,25 @@ slot_of names leaves lit = if variable lit == 0 then 0 else suc (position_or_len
 -- the slots of gates: two for each
 abbrev pub slots_of : List ℕ → ℕ → List GateLine → List ℕ
 slots_of names leaves gates = flat_map (λ line. slot_of names leaves line.rhs0 ∷ slot_of names leaves line.rhs1 ∷ []) gates
+
+-- the operands of each gate wait for no gate but those before it
+abbrev pub WaitForEarlier : List ℕ → ℕ → List GateLine → Type 0
+WaitForEarlier names leaves gates = (j : ℕ) → j < length gates → (slot_of names leaves (line_in gates j).rhs0 ≤ j) × (slot_of names leaves (line_in gates j).rhs1 ≤ j)
+
+-- the circuit of the lists of a file by the numbers of their variables, with these gates
+abbrev pub circuit_by : Loose → List ℕ → List Gate → Circuit
+circuit_by l names gates =
+    record {
+      inputs = length l.inputs;
+      latches = map (λ line. record { next = new_literal names line.next; reset = line.reset }) l.latches;
+      gates = gates;
+      outputs = map (new_literal names) l.outputs;
+      bads = map (new_literal names) l.bads;
+      constraints = map (new_literal names) l.constraints;
+      justice = map (map (new_literal names)) l.justice;
+      fair = map (new_literal names) l.fair;
+      names = l.names;
+    }
 
 -- the gates of a file in the order of readiness, until none is ready, and which ones these are
 pub record IsReadyOrder (l : Loose) (order : List ℕ) (marks : List Bool) : Type 0 where

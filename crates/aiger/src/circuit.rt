@@ -3,8 +3,7 @@ ghost use Rattle.std.specs.Prelude.{◌≡◌, ℕ, ◌+◌, ◌*◌, ◌<◌, �
 ghost use Rattle.aiger.specs.Refusal.{RefusesBy};
 ghost use Rattle.aiger.specs.Circuit.{count_refusal};
 
-mod renumbered;
-mod straight;
+pub(crate) mod renumbered;
 
 use crate::fault::CircuitFault;
 use crate::justice::JusticeList;

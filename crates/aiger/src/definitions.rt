@@ -1,5 +1,5 @@
 //! The variables that the lines of a file define: a count of those in turn, and a bit for each of the others.
-ghost use Rattle.std.specs.Prelude.{◌≡◌, ℕ, ◌/◌, ◌%◌, true, false, None, OnOk, OnErr, nat_eq, cond};
+ghost use Rattle.std.specs.Prelude.{◌≡◌, ℕ, ◌/◌, ◌%◌, true, false, ◌&&◌, None, OnOk, OnErr, nat_eq, nat_le, cond};
 ghost use Rattle.std.specs.HashMap.{get};
 ghost use Rattle.aiger.specs.Definitions.{is_marked};
 ghost use Rattle.aiger.specs.Refusal.{RefusesBy};
@@ -36,6 +36,14 @@ impl Definitions {
         ensures { result ≡ has_variable self.now variable }
     {
         (variable >= 1 && variable <= self.in_turn) || self.has_other(variable)
+    }
+
+    /// Whether all of them were added in turn, and so are those from 1 to a greatest one.
+    #[tactic(auto, unfolding(crate::specs::Definitions::is_marked))]
+    pub fn are_in_turn(&self) -> bool
+        ensures { result ≡ true → (v : ℕ) → has_variable self.now v ≡ (nat_le 1 v && nat_le v self.now.in_turn) }
+    {
+        self.others.is_empty()
     }
 
     /// Adds a variable. The error is want of memory, and nothing has changed then.

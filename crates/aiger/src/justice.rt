@@ -108,15 +108,6 @@ impl JusticeList {
         Ok(JusticeList { literals, ends })
     }
 
-    /// The same properties again.
-    pub fn copy(&self, alloc: Global) -> Result<JusticeList, AllocError>
-        ensures { IfOk result (λ j. j ≡ self.now) }
-    {
-        let literals = self.literals.to_vec(alloc)?;
-        let ends = self.ends.to_vec(alloc)?;
-        Ok(JusticeList { literals, ends })
-    }
-
     /// The literals of one.
     pub fn literals(&self, i: usize) -> &[Lit]
         requires { i < length self.now }

@@ -13,7 +13,6 @@ mod names;
 mod numbering;
 mod numbers;
 mod readiness;
-mod straight;
 mod undefined;
 mod variable_numbers;
 mod variable_pages;

@@ -280,6 +280,13 @@ impl Loose {
         self.defined.has(variable)
     }
 
+    /// Whether the lines define the variables from 1 to a greatest one, each in its turn.
+    pub(crate) fn define_in_turn(&self) -> bool
+        ensures { result ≡ true → (greatest : ℕ) × ((v : ℕ) → is_defined self.now v ≡ (nat_le 1 v && nat_le v greatest)) }
+    {
+        self.defined.are_in_turn()
+    }
+
     /// Whether there are fewer than 2^30 definitions.
     fn has_room(&self) -> bool
         ensures { result ≡ not (nat_le greatest_count (defined_count self.now)) }

@@ -1,19 +1,18 @@
 //! The lists of a file as a circuit: their variables get the numbers of a circuit.
-ghost use Rattle.std.specs.Prelude.{◌≡◌, ◌+◌, ◌++◌, map, ◌<◌, ◌≤◌, length, not, All, None, IfOk, IfSome};
+ghost use Rattle.std.specs.Prelude.{◌≡◌, ◌+◌, ◌++◌, map, ◌<◌, ◌≤◌, length, not, All, None, IfOk};
 ghost use Rattle.std.specs.List.{position};
 ghost use Rattle.aiger.specs.Limits.{greatest_count};
 ghost use Rattle.aiger.specs.Literal.{variable};
 ghost use Rattle.aiger.specs.Loose.{IsLoose, defined_variables, latch_variable};
-ghost use Rattle.aiger.specs.Renumbering.{AnswersNumber, first_undefined, numbered};
-ghost use Rattle.aiger.specs.Numbering.{slots_of, IsOnce, IsReadyOrder};
-ghost use Rattle.aiger.specs.Straight.{IsStraight};
+ghost use Rattle.aiger.specs.Renumbering.{AnswersNumber, IsOrder, first_undefined, numbered};
+ghost use Rattle.aiger.specs.Numbering.{slots_of, IsOnce, IsReadyOrder, WaitForEarlier};
 
 use crate::circuit::Circuit;
+use crate::circuit::renumbered::{gates_as_they_stand, gates_in_order};
 use crate::fault::LooseFault;
 use crate::loose::Loose;
 use crate::numbers::Numbers;
 use crate::readiness::order_of_readiness;
-use crate::undefined::Known;
 use std::alloc::{AllocError, Global};
 
 impl Loose {
@@ -32,50 +31,61 @@ impl Loose {
     pub fn number(&self, alloc: Global) -> Result<Circuit, LooseFault>
         ensures { AnswersNumber self.now result }
     {
-        let greatest = self.straight_greatest();
-        match Known::new(self, greatest).undefined_line() {
+        match self.undefined_line() {
             Some(line) => Err(LooseFault::Undefined(line)),
-            None => self.number_by(alloc, greatest),
-        }
-    }
-
-    /// The circuit that the lists are where each variable that they use is defined: as they stand
-    /// where they are in order, as a greatest variable tells.
-    fn number_by(&self, alloc: Global, greatest: Option<u32>) -> Result<Circuit, LooseFault>
-        requires known { first_undefined self.now ≡ None }
-        requires straight { IfSome greatest (λ m. IsStraight self.now) }
-        requires valid { IsLoose self.now }
-        ensures { AnswersNumber self.now result }
-    {
-        match greatest {
-            Some(_) => self.number_straight(alloc),
             None => self.number_known(alloc),
         }
     }
 
-    /// The circuit of lists that are in order.
-    fn number_straight(&self, alloc: Global) -> Result<Circuit, LooseFault>
-        requires known { first_undefined self.now ≡ None }
-        requires straight { IsStraight self.now }
-        requires valid { IsLoose self.now }
-        ensures { AnswersNumber self.now result }
-    {
-        Ok(Circuit::as_it_stands(alloc, self)?)
-    }
-
-    /// The circuit that the lists are where each variable that they use is defined.
+    /// The circuit that the lists are where each variable that they use is defined. Gates that stand behind their
+    /// operands are ready as they stand.
     fn number_known(&self, alloc: Global) -> Result<Circuit, LooseFault>
         requires { first_undefined self.now ≡ None }
         ensures { AnswersNumber self.now result }
     {
-        let (order, marks) = self.gate_order(alloc)?;
+        let places = self.places(alloc)?;
+        if places.are_in_order(self.leaf_count(), self.gates()) {
+            return self.number_in_order(alloc, &places);
+        }
+        self.number_by_readiness(alloc, places)
+    }
+
+    /// The circuit of lists whose gates stand behind their operands.
+    fn number_in_order(&self, alloc: Global, places: &Numbers) -> Result<Circuit, LooseFault>
+        requires known { first_undefined self.now ≡ None }
+        requires places { places.now ≡ defined_variables self.now }
+        requires in_order { WaitForEarlier (defined_variables self.now) (length self.now.inputs + length self.now.latches) self.now.gates }
+        requires valid { IsLoose self.now }
+        ensures { AnswersNumber self.now result }
+    {
+        let gates = gates_as_they_stand(alloc, places, self.gates())?;
+        Ok(Circuit::renumbered(alloc, self, places, gates)?)
+    }
+
+    /// The circuit of lists whose gates may stand in any order.
+    fn number_by_readiness(&self, alloc: Global, places: Numbers) -> Result<Circuit, LooseFault>
+        requires known { first_undefined self.now ≡ None }
+        requires places { places ≡ defined_variables self.now }
+        ensures { AnswersNumber self.now result }
+    {
+        let (order, marks) = self.gate_order(alloc, places)?;
         match first_left(&marks) {
             Some(gate) => Err(LooseFault::Cycle(gate)),
-            None => {
-                let numbers = self.numbers(alloc, &order)?;
-                Ok(Circuit::renumbered(alloc, self, &numbers, &order)?)
-            }
+            None => self.number_by_order(alloc, &order),
         }
+    }
+
+    /// The circuit of lists whose gates are ready in this order.
+    fn number_by_order(&self, alloc: Global, order: &[u32]) -> Result<Circuit, LooseFault>
+        requires known { first_undefined self.now ≡ None }
+        requires order { IsOrder self.now order.now }
+        requires few { length order.now ≤ length self.now.gates }
+        requires valid { IsLoose self.now }
+        ensures { AnswersNumber self.now result }
+    {
+        let numbers = self.numbers(alloc, order)?;
+        let gates = gates_in_order(alloc, &numbers, self.gates(), order)?;
+        Ok(Circuit::renumbered(alloc, self, &numbers, gates)?)
     }
 
     /// The variables in the order of their numbers: inputs and latches in file order, and the gates
@@ -91,14 +101,23 @@ impl Loose {
         Ok(numbers)
     }
 
+    /// How many inputs and latches there are.
+    fn leaf_count(&self) -> usize
+        ensures count { result ≡ length self.now.inputs + length self.now.latches }
+        ensures valid { IsLoose self.now }
+    {
+        self.inputs().len() + self.latches().len()
+    }
+
     /// The variables of inputs and latches in file order, with room for those of so many gates.
     fn leaf_numbers(&self, alloc: Global, gates: usize) -> Result<Numbers, AllocError>
         requires { gates ≤ greatest_count }
         ensures numbers { IfOk result (λ n. n ≡ map variable self.now.inputs ++ map latch_variable self.now.latches) }
         ensures valid { IsLoose self.now }
     {
-        let count = self.inputs().len() + self.latches().len() + gates;
-        let mut numbers = Numbers::with_room(alloc, count)?;
+        let count = self.leaf_count() + gates;
+        let room = if self.define_in_turn() { 0 } else { count };
+        let mut numbers = Numbers::with_room(alloc, room)?;
         numbers.push_inputs(self.inputs())?;
         numbers.push_latches(self.latches())?;
         Ok(numbers)
@@ -116,24 +135,28 @@ impl Loose {
 
     /// The gates in the order of readiness, until none is ready, and for each gate whether it is
     /// among them.
-    fn gate_order(&self, alloc: Global) -> Result<(Vec<u32>, Vec<bool>), AllocError>
-        requires { first_undefined self.now ≡ None }
+    fn gate_order(
+        &self,
+        alloc: Global,
+        places: Numbers,
+    ) -> Result<(Vec<u32>, Vec<bool>), AllocError>
+        requires known { first_undefined self.now ≡ None }
+        requires places { places ≡ defined_variables self.now }
         ensures order { IfOk result (λ r. IsReadyOrder self.now r.0.items r.1.items) }
         ensures valid { IsLoose self.now }
     {
-        let slots = self.slots(alloc)?;
+        let slots = self.slots(alloc, places)?;
         order_of_readiness(alloc, slots, self.gates().len())
     }
 
     /// For each gate the two slots of its operands: 0 where an operand waits for no gate, or the
-    /// position of the gate that it waits for and 1.
-    fn slots(&self, alloc: Global) -> Result<Vec<u32>, AllocError>
+    /// position of the gate that it waits for and 1. The places are needed no more.
+    fn slots(&self, alloc: Global, places: Numbers) -> Result<Vec<u32>, AllocError>
+        requires { places ≡ defined_variables self.now }
         ensures slots { IfOk result (λ v. v.items ≡ slots_of (defined_variables self.now) (length self.now.inputs + length self.now.latches) self.now.gates) }
         ensures valid { IsLoose self.now }
     {
-        let numbers = self.places(alloc)?;
-        let leaves = self.inputs().len() + self.latches().len();
-        numbers.gate_slots(alloc, leaves, self.gates())
+        places.gate_slots(alloc, self.leaf_count(), self.gates())
     }
 }
 

@@ -1,11 +1,12 @@
 //! Variables in the order of their numbers, and the literals that have these numbers.
-ghost use Rattle.std.specs.Prelude.{◌≡◌, ◌<◌, ◌≤◌, ◌+◌, false, All, [], ◌∷◌, ◌++◌, map, length, nat_eq, IfOk, OnOk};
+ghost use Rattle.std.specs.Prelude.{◌≡◌, ℕ, ◌<◌, ◌≤◌, ◌+◌, true, false, All, [], ◌∷◌, ◌++◌, map, length, nat_eq, IfOk, OnOk};
 ghost use Rattle.std.specs.List.{list_any, position_or_len};
 ghost use Rattle.aiger.specs.Limits.{greatest_count};
 ghost use Rattle.aiger.specs.Literal.{variable};
 ghost use Rattle.aiger.specs.Loose.{latch_variable, gate_variable};
 ghost use Rattle.aiger.specs.Renumbering.{new_literal};
-ghost use Rattle.aiger.specs.Numbering.{IsOnce, name_in, slot_of, slots_of};
+ghost use Rattle.aiger.specs.Numbering.{IsOnce, WaitForEarlier, name_in, number_in, slot_of, slots_of};
+ghost use Rattle.aiger.specs.VariableNumbers.{number_of};
 
 use crate::literal::Lit;
 use crate::loose::{GateLine, LatchLine};
@@ -13,38 +14,60 @@ use crate::variable_numbers::VariableNumbers;
 use std::alloc::{AllocError, Global};
 use std::marker::Model;
 
-/// Variables in the order of their numbers, which begin with 1; a variable's place is found by one look-up.
+/// Variables in the order of their numbers, which begin with 1; a variable's place is found by one look-up. Those that
+/// have their own numbers take no memory.
 #[derive(Drop)]
 pub struct Numbers {
+    // the variables from 1 to this one come first
+    in_turn: u32,
+    // those behind them
     variables: Vec<u32>,
-    // the number of each of them
+    // how many of these stand up to each of them
     numbers: VariableNumbers,
 }
 
 impl Model for Numbers {
-    ghost use Rattle.std.specs.Prelude.{◌≡◌, ℕ, List};
+    ghost use Rattle.std.specs.Prelude.{◌≡◌, ◌++◌, ℕ, List};
+    ghost use Rattle.std.specs.List.{range_with_len};
     ghost use Rattle.aiger.specs.Numbering.{number_in};
     ghost use Rattle.aiger.specs.VariableNumbers.{number_of};
 
     ghost Value = { List ℕ };
 
-    ghost view = { λ n. n.variables.items };
+    ghost view = { λ n. range_with_len 1 n.in_turn ++ n.variables.items };
 
     ghost invariant = { λ n. (v : ℕ) → number_of n.numbers v ≡ number_in n.variables.items v };
 }
 
 impl Numbers {
-    /// No variables yet, and room for so many.
+    /// No variables yet, and room for so many that have other numbers than their own.
     pub fn with_room(alloc: Global, count: usize) -> Result<Numbers, AllocError>
         ensures { IfOk result (λ n. n ≡ []) }
     {
         let variables = Vec::with_capacity(alloc, count)?;
         let numbers = VariableNumbers::new(alloc, count + 1)?;
-        Ok(Numbers { variables, numbers })
+        Ok(Numbers {
+            in_turn: 0,
+            variables,
+            numbers,
+        })
     }
 
     /// Gives a variable the next number.
     pub fn push(&mut self, variable: u32) -> Result<(), AllocError>
+        requires new { list_any (nat_eq variable) self.old ≡ false }
+        requires few { length self.old < greatest_count }
+        ensures { OnOk result (self.new ≡ self.old ++ variable ∷ []) }
+    {
+        if self.variables.is_empty() && variable == self.in_turn + 1 {
+            self.in_turn = variable;
+            return Ok(());
+        }
+        self.push_other(variable)
+    }
+
+    /// Gives a variable the next number, whatever that is.
+    fn push_other(&mut self, variable: u32) -> Result<(), AllocError>
         requires new { list_any (nat_eq variable) self.old ≡ false }
         requires few { length self.old < greatest_count }
         ensures { OnOk result (self.new ≡ self.old ++ variable ∷ []) }
@@ -112,11 +135,25 @@ impl Numbers {
         ensures place { result ≡ position_or_len (nat_eq variable) self.now }
         ensures within { result ≤ length self.now }
     {
-        let number = self.numbers.get(variable) as usize;
-        if number == 0 {
-            return self.variables.len();
+        if variable >= 1 && variable <= self.in_turn {
+            return variable as usize - 1;
         }
-        number - 1
+        self.in_turn as usize + place_in(&self.variables, &self.numbers, variable)
+    }
+
+    /// Whether the operands of each of these gates, whose variables stand behind so many others, wait for no gate but
+    /// those before it. Of an answer of no, no more is said.
+    pub fn are_in_order(&self, leaves: usize, lines: &[GateLine]) -> bool
+        requires few { length self.now ≤ greatest_count }
+        ensures { result ≡ true → WaitForEarlier self.now leaves lines.now }
+    {
+        for at in 0..lines.len() {
+            let (first, second) = self.operand_slots(leaves, lines[at]);
+            if first as usize > at || second as usize > at {
+                return false;
+            }
+        }
+        true
     }
 
     /// For each of these gates the two slots of its operands, where so many first variables are no gates'. The error is
@@ -183,4 +220,18 @@ impl Numbers {
         }
         Ok(renumbered)
     }
+}
+
+/// The place of a variable in a list, from 0, by the numbers that the variables have there, or how many there are where
+/// it is not among them.
+fn place_in(variables: &[u32], numbers: &VariableNumbers, variable: u32) -> usize
+    requires { (v : ℕ) → number_of numbers.now v ≡ number_in variables.now v }
+    ensures place { result ≡ position_or_len (nat_eq variable) variables.now }
+    ensures within { result ≤ length variables.now }
+{
+    let number = numbers.get(variable) as usize;
+    if number == 0 {
+        return variables.len();
+    }
+    number - 1
 }

@@ -4,60 +4,30 @@ ghost use Rattle.std.specs.List.{position};
 ghost use Rattle.std.specs.Option.{option_map};
 ghost use Rattle.aiger.specs.Renumbering.{alone, is_known, first_undefined};
 ghost use Rattle.aiger.specs.Numbering.{is_unknown};
-ghost use Rattle.aiger.specs.Straight.{KnowsUpTo};
 
 use crate::literal::Lit;
 use crate::loose::{GateLine, LatchLine, Loose};
-use std::marker::Model;
 
-/// The lists of a file, with what tells which of their variables are defined.
-#[derive(Drop)]
-pub(crate) struct Known<'a> {
-    lines: &'a Loose,
-    // where all variables from 1 to a greatest one are defined and no others, that one
-    greatest: Option<u32>,
-}
-
-impl<'a> Model for Known<'a> {
-    ghost use Rattle.std.specs.Prelude.{IfSome};
-    ghost use Rattle.aiger.specs.Loose.{Loose as LooseValue};
-    ghost use Rattle.aiger.specs.Straight.{KnowsUpTo};
-
-    ghost Value = { LooseValue };
-
-    ghost view = { λ k. k.lines.now };
-
-    ghost invariant = { λ k. IfSome k.greatest (KnowsUpTo k.lines.now) };
-}
-
-impl<'a> Known<'a> {
-    /// Of lists whose defined variables are those from 1 to a greatest one, if that is told, or any.
-    pub(crate) fn new(lines: &'a Loose, greatest: Option<u32>) -> Known<'a>
-        requires { IfSome greatest (KnowsUpTo lines.now) }
-        ensures { result ≡ lines.now }
-    {
-        Known { lines, greatest }
-    }
-
+impl Loose {
     /// The first line that uses a variable that is neither 0 nor defined, if there is one: latches,
     /// outputs, bad properties, constraints, justice literals, fairness constraints and gates are
     /// counted, in this order and from 0. It takes no memory.
     pub(crate) fn undefined_line(&self) -> Option<usize>
         ensures { result ≡ first_undefined self.now }
     {
-        let unknown = self.unknown_next(self.lines.latches());
-        let count = self.lines.latches().len();
-        let unknown = self.or_unknown(unknown, count, self.lines.outputs());
-        let count = count + self.lines.outputs().len();
-        let unknown = self.or_unknown(unknown, count, self.lines.bads());
-        let count = count + self.lines.bads().len();
-        let unknown = self.or_unknown(unknown, count, self.lines.constraints());
-        let count = count + self.lines.constraints().len();
-        let unknown = self.or_unknown(unknown, count, self.lines.justice_literals());
-        let count = count + self.lines.justice_literals().len();
-        let unknown = self.or_unknown(unknown, count, self.lines.fair());
-        let count = count + self.lines.fair().len();
-        self.or_unknown_gate(unknown, count, self.lines.gates())
+        let unknown = self.unknown_next(self.latches());
+        let count = self.latches().len();
+        let unknown = self.or_unknown(unknown, count, self.outputs());
+        let count = count + self.outputs().len();
+        let unknown = self.or_unknown(unknown, count, self.bads());
+        let count = count + self.bads().len();
+        let unknown = self.or_unknown(unknown, count, self.constraints());
+        let count = count + self.constraints().len();
+        let unknown = self.or_unknown(unknown, count, self.justice_literals());
+        let count = count + self.justice_literals().len();
+        let unknown = self.or_unknown(unknown, count, self.fair());
+        let count = count + self.fair().len();
+        self.or_unknown_gate(unknown, count, self.gates())
     }
 
     /// The unknown line that was found, or else the first of these literals that is unknown, behind
@@ -123,10 +93,7 @@ impl<'a> Known<'a> {
     fn knows(&self, lit: Lit) -> bool
         ensures { result ≡ is_known self.now lit }
     {
-        match self.greatest {
-            Some(greatest) => lit.var() <= greatest,
-            None => lit.var() == 0 || self.lines.defines(lit.var()),
-        }
+        lit.var() == 0 || self.defines(lit.var())
     }
 }
 

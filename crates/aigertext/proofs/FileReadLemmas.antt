@@ -89,16 +89,18 @@ module _ (greatest : ℕ) (small : greatest < 2 ^ 64 - 1) where
       by (inr t) =
           rw (t.1.0) (numbers_read (latch_of greatest l) (x.current ∷ x.next ∷ t.0 ∷ []) rest x (current_small, (next_small, (t.1.1, tt))) (told t.0 t.1.1 t.1.2))
 
-  gate-read : (l : Loose) (x : GateLine) (line rest : List ℕ) → ((x.lhs ≤ greatest) × (x.rhs0 ≤ greatest) × (x.rhs1 ≤ greatest)) × IsDefining x.lhs → is_defined l (gate_variable x) ≡ false → IsGateLine x line → line_at (gate_of greatest l) (line ++ rest) ≡ Ok (x, rest)
+  pub gate-told : (l : Loose) (n a b lhs : ℕ) (text rest : List ℕ) → text ≡ numbers_line (n ∷ a ∷ b ∷ []) ++ rest → n < 2 ^ 64 → a ≤ greatest → b ≤ greatest → defining why.GateOrder greatest l n ≡ Ok lhs → line_at (gate_of greatest l) text ≡ Ok (record { lhs = lhs; rhs0 = a; rhs1 = b }, rest)
   unfolding gate_fields
+  gate-told l n a b lhs text rest is n_small first second own =
+      let a_small : a < 2 ^ 64 = omega (arith, first) in
+      let b_small : b < 2 ^ 64 = omega (arith, second) in
+      let says : gate_of greatest l (joined (n ∷ a ∷ b ∷ [])) ≡ Ok (record { lhs = lhs; rhs0 = a; rhs1 = b }) =
+      rw (fields-joined n (a ∷ b ∷ []) (n_small, (a_small, (b_small, tt))), number_of-decimal n n_small, within-read why.BadNumber greatest a first (omega arith), within-read why.BadNumber greatest b second (omega arith), own) refl in
+      ap (line_at (gate_of greatest l)) is ∙ numbers_read (gate_of greatest l) (n ∷ a ∷ b ∷ []) rest (record { lhs = lhs; rhs0 = a; rhs1 = b }) (n_small, (a_small, (b_small, tt))) says
+
+  gate-read : (l : Loose) (x : GateLine) (line rest : List ℕ) → ((x.lhs ≤ greatest) × (x.rhs0 ≤ greatest) × (x.rhs1 ≤ greatest)) × IsDefining x.lhs → is_defined l (gate_variable x) ≡ false → IsGateLine x line → line_at (gate_of greatest l) (line ++ rest) ≡ Ok (x, rest)
   gate-read l x line rest good new is =
-      let a : x.lhs < 2 ^ 64 = omega (arith, good.0.0) in
-      let b : x.rhs0 < 2 ^ 64 = omega (arith, good.0.1) in
-      let c : x.rhs1 < 2 ^ 64 = omega (arith, good.0.2) in
-      let own = defining-read why.GateOrder greatest l x.lhs (record { up_to = good.0.0; defining' = good.1 }) new in
-      let says : gate_of greatest l (joined (x.lhs ∷ x.rhs0 ∷ x.rhs1 ∷ [])) ≡ Ok x =
-      rw (fields-joined x.lhs (x.rhs0 ∷ x.rhs1 ∷ []) (a, (b, (c, tt))), number_of-decimal x.lhs a, within-read why.BadNumber greatest x.rhs0 good.0.1 (omega arith), within-read why.BadNumber greatest x.rhs1 good.0.2 (omega arith), own) refl in
-      ap (λ (t : List ℕ). line_at (gate_of greatest l) (t ++ rest)) is ∙ numbers_read (gate_of greatest l) (x.lhs ∷ x.rhs0 ∷ x.rhs1 ∷ []) rest x (a, (b, (c, tt))) says
+      gate-told l x.lhs x.rhs0 x.rhs1 x.lhs (line ++ rest) rest (ap (λ (t : List ℕ). t ++ rest) is) (omega (arith, good.0.0)) good.0.1 good.0.2 (defining-read why.GateOrder greatest l x.lhs (record { up_to = good.0.0; defining' = good.1 }) new)
 
 -- ---- sections
 

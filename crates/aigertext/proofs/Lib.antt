@@ -36,5 +36,6 @@ mod OneAnswerLemmas
 mod OntoLemmas
 mod FileReadLemmas
 mod FileBackLemmas
+mod PlainNumberLemmas
 mod AsciiStandsLemmas
 mod AsciiWrittenLemmas

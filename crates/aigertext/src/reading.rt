@@ -23,6 +23,7 @@ mod header;
 mod lines;
 mod names;
 mod numbers;
+mod plain_numbers;
 mod properties;
 
 use crate::fault::{ReadFault, Stop, Why};

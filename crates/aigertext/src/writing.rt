@@ -6,7 +6,6 @@ ghost use Rattle.base.specs.Pieces.{Puts};
 ghost use Rattle.aigertext.specs.Ascii.{ascii_text};
 ghost use Rattle.aigertext.specs.Binary.{binary_text, circuit_text};
 
-mod deltas;
 mod gates;
 mod header;
 mod inputs_and_latches;

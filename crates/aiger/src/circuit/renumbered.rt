@@ -2,7 +2,8 @@
 ghost use Rattle.std.specs.Prelude.{◌≡◌, ◌<◌, ◌≤◌, map, length, All, slice_index_or, IfOk};
 ghost use Rattle.aiger.specs.Limits.{greatest_count};
 ghost use Rattle.aiger.specs.Circuit.{IsCircuit};
-ghost use Rattle.aiger.specs.Renumbering.{numbered, new_literal, ordered_gate, new_gate, renumbered};
+ghost use Rattle.aiger.specs.Numbering.{circuit_by};
+ghost use Rattle.aiger.specs.Renumbering.{new_literal, ordered_gate, new_gate};
 
 use crate::circuit::{Circuit, Gate, Latch};
 use crate::literal::Lit;
@@ -11,22 +12,19 @@ use crate::numbers::Numbers;
 use std::alloc::{AllocError, Global};
 
 impl Circuit {
-    /// The lists of a file, whose gates are in this order, with the numbers of their variables. The
-    /// error is want of memory.
+    /// The lists of a file by the numbers of their variables, with these gates. The error is want of
+    /// memory.
     pub(crate) fn renumbered(
         alloc: Global,
         lines: &Loose,
         numbers: &Numbers,
-        order: &[u32],
+        gates: Vec<Gate>,
     ) -> Result<Circuit, AllocError>
         requires few { length numbers.now ≤ greatest_count }
-        requires numbers { numbers.now ≡ numbered lines.now order.now }
-        requires within { All (λ j. j < length lines.now.gates) order.now }
-        requires valid { IsCircuit (renumbered lines.now order.now) }
-        ensures { IfOk result (λ c. c ≡ renumbered lines.now order.now) }
+        requires valid { IsCircuit (circuit_by lines.now numbers.now gates.items) }
+        ensures { IfOk result (λ c. c ≡ circuit_by lines.now numbers.now gates.items) }
     {
         let latches = new_latches(alloc, numbers, lines.latches())?;
-        let gates = new_gates(alloc, numbers, lines.gates(), order)?;
         let outputs = numbers.literals(alloc, lines.outputs())?;
         let bads = numbers.literals(alloc, lines.bads())?;
         let constraints = numbers.literals(alloc, lines.constraints())?;
@@ -67,8 +65,24 @@ fn new_latches(
     Ok(latches)
 }
 
+/// Gates as they stand, by the numbers of their operands.
+pub(crate) fn gates_as_they_stand(
+    alloc: Global,
+    numbers: &Numbers,
+    lines: &[GateLine],
+) -> Result<Vec<Gate>, AllocError>
+    requires { length numbers.now ≤ greatest_count }
+    ensures { IfOk result (λ v. v.items ≡ map (new_gate numbers.now) lines.now) }
+{
+    let mut gates = Vec::with_capacity(alloc, lines.len())?;
+    for line in lines {
+        gates.push(ordered(numbers.literal(line.rhs0), numbers.literal(line.rhs1)))?;
+    }
+    Ok(gates)
+}
+
 /// Gates in this order, by the numbers of their operands.
-fn new_gates(
+pub(crate) fn gates_in_order(
     alloc: Global,
     numbers: &Numbers,
     lines: &[GateLine],
@@ -87,7 +101,7 @@ fn new_gates(
 }
 
 /// A gate of two operands, the greater one first.
-pub(crate) fn ordered(a: Lit, b: Lit) -> Gate
+fn ordered(a: Lit, b: Lit) -> Gate
     ensures { result ≡ ordered_gate a b }
 {
     if a.number() < b.number() {

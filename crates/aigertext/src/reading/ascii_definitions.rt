@@ -6,7 +6,7 @@ ghost use Rattle.aigertext.specs.AsciiReading.{input_of, latch_of, gate_of, onto
 ghost use Rattle.aigertext.specs.Passes.{Reads};
 
 use crate::fault::Stop;
-use crate::reading::ascii_lines::{gate, input, latch};
+use crate::reading::ascii_lines::{gate, input, latch, plain_gate};
 use crate::reading::lines::{line, stop};
 use crate::reading::properties::want_of_memory;
 use aiger::{GateLine, LatchLine, Lit, Loose};
@@ -40,8 +40,25 @@ fn latch_line<'a>(
     }
 }
 
-/// The gate of the line at the front of a text, and the text behind it.
+/// The gate of the line at the front of a text, and the text behind it. A line that is three numbers is read in one pass.
 fn gate_line<'a>(text: &'a [u8], greatest: u32, lists: &Loose) -> Result<(GateLine, &'a [u8]), Stop>
+    ensures gives { Gives (λ x. (x.0, x.1.now)) result (line_at (gate_of greatest lists.now) text.now) }
+    ensures new { IfOk result (λ x. IsNew greatest lists.now x.0.lhs) }
+    ensures small { IfOk result (λ x. (x.0.rhs0 ≤ greatest) × (x.0.rhs1 ≤ greatest)) }
+{
+    match plain_gate(text, greatest, lists) {
+        Some((gate, behind)) => Ok((gate, behind)),
+        None => any_gate_line(text, greatest, lists),
+    }
+}
+
+/// The same as `gate_line`: the line is cut off and into its fields, and each is then read.
+#[inline(never)]
+fn any_gate_line<'a>(
+    text: &'a [u8],
+    greatest: u32,
+    lists: &Loose,
+) -> Result<(GateLine, &'a [u8]), Stop>
     ensures gives { Gives (λ x. (x.0, x.1.now)) result (line_at (gate_of greatest lists.now) text.now) }
     ensures new { IfOk result (λ x. IsNew greatest lists.now x.0.lhs) }
     ensures small { IfOk result (λ x. (x.0.rhs0 ≤ greatest) × (x.0.rhs1 ≤ greatest)) }

@@ -1,13 +1,14 @@
 //! Reading the lines of an ascii text that define variables: inputs, latches and gates.
-ghost use Rattle.std.specs.Prelude.{◌≡◌, ◌≤◌, ◌∷◌, [], IfOk};
+ghost use Rattle.std.specs.Prelude.{◌≡◌, ◌≤◌, ◌∷◌, [], Ok, IfOk, IfSome};
 ghost use Rattle.base.specs.Decimals.{number_of};
-ghost use Rattle.aigertext.specs.Reading.{Gives};
+ghost use Rattle.aigertext.specs.Reading.{Gives, line_at};
 ghost use Rattle.aigertext.specs.AsciiReading.{IsNew, defining, input_of, own_by, latch_fields, latch_of, gate_fields, gate_of};
 
 use crate::fault::Why;
 use crate::reading::binary_latches::{next_literal, reset};
 use crate::reading::fields::{first_field, next_field};
 use crate::reading::numbers::literal;
+use crate::reading::plain_numbers::three_numbers;
 use aiger::{GateLine, LatchLine, Lit, Loose, Reset};
 use base::decimal;
 
@@ -157,5 +158,27 @@ pub fn gate(line: &[u8], greatest: u32, lists: &Loose) -> Result<GateLine, Why>
                 Some(_) => Err(Why::BadNumber),
             },
         },
+    }
+}
+
+/// The gate of the line at the front of a text, and the text behind it, where the line is three numbers that make a
+/// gate; else nothing. Of nothing no more is said, so a body that always answers it would prove: the caller's contract
+/// pins what is read.
+pub fn plain_gate<'a>(text: &'a [u8], greatest: u32, lists: &Loose) -> Option<(GateLine, &'a [u8])>
+    ensures gives { IfSome result (λ x. line_at (gate_of greatest lists.now) text.now ≡ Ok (x.0, x.1.now)) }
+    ensures new { IfSome result (λ x. IsNew greatest lists.now x.0.lhs) }
+    ensures small { IfSome result (λ x. (x.0.rhs0 ≤ greatest) × (x.0.rhs1 ≤ greatest)) }
+{
+    let (number, first, second, behind) = three_numbers(text)?;
+    if first > greatest || second > greatest {
+        return None;
+    }
+    match defining(u64::from(number), Why::GateOrder, greatest, lists) {
+        Ok(lhs) => {
+            let rhs0 = Lit::new(first);
+            let rhs1 = Lit::new(second);
+            Some((GateLine { lhs, rhs0, rhs1 }, behind))
+        }
+        Err(_) => None,
     }
 }

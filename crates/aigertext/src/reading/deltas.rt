@@ -40,10 +40,11 @@ fn delta(text: &[u8]) -> Result<(u64, &[u8]), Why>
 {
     match text {
         [] => Err(Why::Truncated),
+        [byte, rest @ ..] if *byte < 128 => Ok((u64::from(*byte), rest)),
+        [low, high, rest @ ..] if *high >= 1 && *high < 128 => {
+            Ok((u64::from(*low - 128) + 128 * u64::from(*high), rest))
+        }
         [byte, rest @ ..] => {
-            if *byte < 128 {
-                return Ok((u64::from(*byte), rest));
-            }
             match more_digits(3, rest) {
                 Ok((higher, behind)) => Ok((u64::from(*byte - 128) + 128 * higher, behind)),
                 Err(why) => Err(why),

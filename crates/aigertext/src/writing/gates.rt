@@ -8,7 +8,6 @@ ghost use Rattle.aigertext.specs.Ascii.{numbers_line, gate_lines};
 ghost use Rattle.aigertext.specs.Binary.{delta, gate_deltas, gates_text};
 
 use crate::forms::Form;
-use crate::writing::deltas::Deltas;
 use crate::writing::line::{Line, put_line};
 use aiger::{Circuit, Gate};
 use base::{DeviceFault, Outbox, Sink};
@@ -89,10 +88,9 @@ fn put_deltas<K: Sink>(
     ensures puts { Puts result (K.written sink.old) (K.written sink.new) outbox.old outbox.new (gate_deltas first gates.now) }
     ensures failures { CountsFaults result (K.failures sink.old) (K.failures sink.new) }
 {
-    let mut deltas = Deltas::new();
     let mut variable = first;
     for gate in gates {
-        put_gate_deltas(outbox, sink, &mut deltas, 2 * variable, gate)?;
+        put_gate_deltas(outbox, sink, 2 * variable, gate)?;
         variable += 1;
     }
     Ok(())
@@ -102,7 +100,6 @@ fn put_deltas<K: Sink>(
 fn put_gate_deltas<K: Sink>(
     outbox: &mut Outbox,
     sink: &mut K,
-    deltas: &mut Deltas,
     own: u32,
     gate: &Gate,
 ) -> Result<(), DeviceFault>
@@ -111,8 +108,42 @@ fn put_gate_deltas<K: Sink>(
     ensures puts { Puts result (K.written sink.old) (K.written sink.new) outbox.old outbox.new (delta (own - gate.now.rhs0) ++ delta (gate.now.rhs0 - gate.now.rhs1)) }
     ensures failures { CountsFaults result (K.failures sink.old) (K.failures sink.new) }
 {
-    deltas.clear();
-    deltas.push(own - gate.rhs0.number());
-    deltas.push(gate.rhs0.number() - gate.rhs1.number());
-    outbox.put(sink, deltas.bytes())
+    let greater = gate.rhs0.number();
+    put_two_deltas(outbox, sink, own - greater, greater - gate.rhs1.number())
+}
+
+/// Puts two deltas.
+fn put_two_deltas<K: Sink>(
+    outbox: &mut Outbox,
+    sink: &mut K,
+    first: u32,
+    second: u32,
+) -> Result<(), DeviceFault>
+    ensures puts { Puts result (K.written sink.old) (K.written sink.new) outbox.old outbox.new (delta first ++ delta second) }
+    ensures failures { CountsFaults result (K.failures sink.old) (K.failures sink.new) }
+{
+    put_delta(outbox, sink, first)?;
+    put_delta(outbox, sink, second)
+}
+
+/// Puts a delta: a byte for each seven bits, lowest first, and at least one.
+fn put_delta<K: Sink>(outbox: &mut Outbox, sink: &mut K, number: u32) -> Result<(), DeviceFault>
+    ensures puts { Puts result (K.written sink.old) (K.written sink.new) outbox.old outbox.new (delta number) }
+    ensures failures { CountsFaults result (K.failures sink.old) (K.failures sink.new) }
+{
+    let mut rest = number;
+    while rest >= 128 {
+        put_byte(outbox, sink, (rest % 128) as u8 + 128)?;
+        rest /= 128;
+    }
+    put_byte(outbox, sink, rest as u8)
+}
+
+/// Puts a byte.
+#[inline(always)]
+fn put_byte<K: Sink>(outbox: &mut Outbox, sink: &mut K, byte: u8) -> Result<(), DeviceFault>
+    ensures puts { Puts result (K.written sink.old) (K.written sink.new) outbox.old outbox.new (byte ∷ []) }
+    ensures failures { CountsFaults result (K.failures sink.old) (K.failures sink.new) }
+{
+    outbox.put(sink, &[byte])
 }

@@ -1,38 +1,24 @@
-use Rattle.std.proofs.Common.{ℕ, length, List, map, ap, sym, ◌∙◌, subst, slice_index_or}
-use Rattle.aiger.specs.declared.loose.GateLine.{GateLine}
+use Rattle.std.proofs.Common.{ℕ, length, List, map, ap, sym, ◌∙◌, subst}
 use Rattle.std.specs.List.{concat}
 use Rattle.aiger.specs.Loose.{Loose}
 use Rattle.aiger.specs.Circuit.{IsCircuit}
-use Rattle.aiger.specs.Renumbering.{new_literal, new_gate}
-use Rattle.aiger.proofs.NumberingLemmas.{are_renumbered, new_latch}
+use Rattle.aiger.specs.Renumbering.{new_literal}
+use Rattle.aiger.proofs.NumberingLemmas.{are_by_numbers, new_latch}
 use Rattle.aiger.proofs.circuit.Circuit.renumbered.Goals as goal
-
-pub invariant_of-result : goal.invariant_of-result
-invariant_of-result c =
-    let l : Loose = c.args.lines.now in
-    let names : List ℕ = c.args.numbers.now in
-    subst IsCircuit (sym (are_renumbered l c.args.order.now names (length c.inputs.result.now) c.in_ok-latches.latches.items c.in_ok-gates.gates.items c.in_ok-outputs.outputs.items c.in_ok-bads.bads.items c.in_ok-constraints.constraints.items c.in_ok-justice.justice c.in_ok-fair.fair.items c.in_ok-names.names
-    c.requires.numbers (ap length c.inputs.ensures.items)
-    (c.in_ok-latches.ensures ∙ ap (map (new_latch names)) c.latches.ensures.items)
-    (c.in_ok-gates.ensures ∙ ap (λ (lines : List GateLine). map (λ (j : ℕ). new_gate names (slice_index_or lines j (record { lhs = 0; rhs0 = 0; rhs1 = 0 }))) c.args.order.now) c.gates.ensures.items)
-    (c.in_ok-outputs.ensures ∙ ap (map (new_literal names)) c.outputs.ensures.items)
-    (c.in_ok-bads.ensures ∙ ap (map (new_literal names)) c.bads.ensures.items)
-    (c.in_ok-constraints.ensures ∙ ap (map (new_literal names)) c.constraints.ensures.items)
-    (c.in_ok-justice.ensures (new_literal names) (c.in_ok-literals.ensures ∙ ap (map (new_literal names)) c.justice_literals.ensures.items ∙ ap (λ (lists : List (List ℕ)). map (new_literal names) (concat lists)) (sym c.justice_list.ensures)) ∙ ap (map (map (new_literal names))) c.justice_list.ensures)
-    (c.in_ok-fair.ensures ∙ ap (map (new_literal names)) c.fair.ensures.items)
-    (c.in_ok-names.ensures ∙ c.name_keeper.ensures))) c.requires.valid
 
 pub returns : goal.returns
 returns c =
     let l : Loose = c.args.lines.now in
     let names : List ℕ = c.args.numbers.now in
-    are_renumbered l c.args.order.now names (length c.inputs.result.now) c.in_ok-latches.latches.items c.in_ok-gates.gates.items c.in_ok-outputs.outputs.items c.in_ok-bads.bads.items c.in_ok-constraints.constraints.items c.in_ok-justice.justice c.in_ok-fair.fair.items c.in_ok-names.names
-    c.requires.numbers (ap length c.inputs.ensures.items)
+    are_by_numbers l names (length c.inputs.result.now) c.in_ok-latches.latches.items c.args.gates.items c.in_ok-outputs.outputs.items c.in_ok-bads.bads.items c.in_ok-constraints.constraints.items c.in_ok-justice.justice c.in_ok-fair.fair.items c.in_ok-names.names
+    (ap length c.inputs.ensures.items)
     (c.in_ok-latches.ensures ∙ ap (map (new_latch names)) c.latches.ensures.items)
-    (c.in_ok-gates.ensures ∙ ap (λ (lines : List GateLine). map (λ (j : ℕ). new_gate names (slice_index_or lines j (record { lhs = 0; rhs0 = 0; rhs1 = 0 }))) c.args.order.now) c.gates.ensures.items)
     (c.in_ok-outputs.ensures ∙ ap (map (new_literal names)) c.outputs.ensures.items)
     (c.in_ok-bads.ensures ∙ ap (map (new_literal names)) c.bads.ensures.items)
     (c.in_ok-constraints.ensures ∙ ap (map (new_literal names)) c.constraints.ensures.items)
     (c.in_ok-justice.ensures (new_literal names) (c.in_ok-literals.ensures ∙ ap (map (new_literal names)) c.justice_literals.ensures.items ∙ ap (λ (lists : List (List ℕ)). map (new_literal names) (concat lists)) (sym c.justice_list.ensures)) ∙ ap (map (map (new_literal names))) c.justice_list.ensures)
     (c.in_ok-fair.ensures ∙ ap (map (new_literal names)) c.fair.ensures.items)
     (c.in_ok-names.ensures ∙ c.name_keeper.ensures)
+
+pub invariant_of-result : goal.invariant_of-result
+invariant_of-result c = subst IsCircuit (sym (returns c)) c.requires.valid

@@ -1,15 +1,27 @@
-use Rattle.std.proofs.Common.{◌≡◌, ◌∙◌, arith}
-use Rattle.aiger.specs.Numbering.{number_in}
-use Rattle.aiger.proofs.NumbersLemmas.{place_by_none, place_by_number}
+use Rattle.std.proofs.Common.{◌<◌, ◌⊎◌, length, ap, inl, inr, ◌∙◌, arith, nat_eq}
+use Rattle.std.specs.List.{position_or_len}
+use Rattle.aiger.proofs.NumbersLemmas.{length_joined, place_in_turn, place_out_of_turn}
 use Rattle.aiger.proofs.numbers.Numbers.place.Goals as goal
+use Rattle.aiger.proofs.numbers.Numbers.place.Goals.{else-variable-ge1-via-then-variable-ge1+else-variable-self, else-variable-ge1-via-else-variable-ge1}
 
-pub returns-then-number-eq0-clause-place : goal.returns-then-number-eq0-clause-place
-returns-then-number-eq0-clause-place c =
-    let none : number_in c.self.inside.variables.items c.args.variable ≡ 0 = omega (arith, c.self.invariant c.args.variable, c.get-number.ensures, c.if-number-eq0.true) in
-    rw (← c.self.view_is) (omega (arith, c.len.ensures, place_by_none c.args.variable c.self.inside.variables.items none))
+pub returns-then-variable-self-clause-place : goal.returns-then-variable-self-clause-place
+returns-then-variable-self-clause-place c =
+    place_in_turn c.args.variable c.self.inside.in_turn c.self.inside.variables.items c.if-variable-ge1.true c.if-variable-self.true ∙ ap (position_or_len (nat_eq c.args.variable)) c.self.view_is
 
-pub returns : goal.returns
-returns c =
-    let number : c.get-number.result ≡ number_in c.self.inside.variables.items c.args.variable = c.get-number.ensures ∙ c.self.invariant c.args.variable in
-    let p = place_by_number c.args.variable c.self.inside.variables.items (omega (arith, number, c.if-number-eq0.false)) in
-    rw (← c.self.view_is) (record { place = omega (arith, number, p.0); within = omega (arith, number, p.1) })
+pub returns-then-variable-self-clause-within : goal.returns-then-variable-self-clause-within
+returns-then-variable-self-clause-within c =
+    omega (arith, c.if-variable-self.true, ap length c.self.view_is, length_joined c.self.inside.in_turn c.self.inside.variables.items)
+
+pub returns-clause-place : goal.returns-clause-place
+returns-clause-place c =
+    let outside : (c.args.variable < 1) ⊎ (c.self.inside.in_turn < c.args.variable) =
+    elim c.else-variable-ge1.branch [
+      | else-variable-ge1-via-then-variable-ge1+else-variable-self w ↦ inr w.if-variable-self.false
+      | else-variable-ge1-via-else-variable-ge1 w ↦ inl w.if-variable-ge1.false
+    ] in
+    place_out_of_turn c.args.variable c.self.inside.in_turn c.place_in.result c.self.inside.variables.items outside (c.place_in.ensures.place ∙ ap (position_or_len (nat_eq c.args.variable)) c.deref.ensures.value)
+    ∙ ap (position_or_len (nat_eq c.args.variable)) c.self.view_is
+
+pub returns-clause-within : goal.returns-clause-within
+returns-clause-within c =
+    omega (arith, c.place_in.ensures.within, ap length c.deref.ensures.value, ap length c.self.view_is, length_joined c.self.inside.in_turn c.self.inside.variables.items)
