@@ -1,6 +1,8 @@
 -- Lines of a witness over a model, admitted one after the other by what is kept of them.
 use Rattle.std.proofs.Common.{◌≡◌, ℕ, zero, suc, ◌*◌, ◌<◌, ◌≤◌, Bool, true, false, ◌&&◌, ◌||◌, List, [], ◌∷◌, ◌++◌, Option, Result, Ok, Err, codes, map, length, unwrap_or, slice_index, slice_index_or, arith, refl, sym, ap, subst, ◌∙◌}
 use Rattle.std.specs.Str.{bytes_eq}
+use Rattle.std.proofs.lemmas.Bool.{false_from_ne_true}
+use Rattle.std.proofs.lemmas.Slice.Eq.{bytes_eq-Decides}
 use Rattle.base.specs.Decimals.{number_of}
 use Rattle.btor2.specs.declared.item.Item.{Item}
 use Rattle.witness.specs.declared.why.Why.{Why}
@@ -45,6 +47,13 @@ is_claims code.States other = absurd (cc other)
 is_claims code.Free other = absurd (cc other)
 is_claims code.Frame other = absurd (cc other)
 is_claims code.End other = absurd (cc other)
+
+-- a line that opens no part is no line that begins with such a byte
+pub not_opened : (b : ℕ) (rest line : List ℕ) → begins_part (b ∷ rest) ≡ true → begins_part line ≡ false → bytes_eq line (b ∷ rest) ≡ false
+not_opened b rest line opens plain =
+    false_from_ne_true (bytes_eq line (b ∷ rest)) (λ e.
+        let same : line ≡ b ∷ rest = (bytes_eq-Decides line (b ∷ rest)).0 e in
+        cc (sym (ap begins_part same) ∙ plain, opens))
 
 module _ (items : List Item) (r : Read) (line : List ℕ) (q : WordReader) (reads : Reads items q r line) where
   is_at : (x : CodePlace) → q.place ≡ x → r.place ≡ place_of x

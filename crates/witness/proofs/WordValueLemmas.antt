@@ -9,6 +9,7 @@ use Rattle.base.specs.Word.{word, bit_number}
 use Rattle.witness.specs.declared.why.Why.TheVariants as why
 use Rattle.witness.specs.Admits.{is_value_byte, value_of}
 use Rattle.witness.specs.WordValues.{is_one, is_known, IsKnown}
+use Rattle.base.specs.Lines.{HasNone}
 use Rattle.witness.proofs.PieceLemmas.{none_of}
 
 -- ---- bytes `0` and `1`
@@ -71,6 +72,9 @@ known_is_value b known =
 
 known_not_x : (b : ℕ) → is_known b ≡ true → (b == 120) ≡ false
 known_not_x b known = ne_eqb b 120 (λ e. absurd (cc (rw e at known)))
+
+pub known_has_no_space : (bytes : List ℕ) → list_all is_known bytes ≡ true → HasNone 32 bytes
+known_has_no_space bytes known = none_of is_known 32 bytes (λ b is. ne_eqb b 32 (λ e. absurd (cc (rw e at is)))) known
 
 known_are_values : (bytes : List ℕ) → list_all is_known bytes ≡ true → list_all is_value_byte bytes ≡ true
 known_are_values [] known = refl

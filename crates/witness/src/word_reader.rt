@@ -241,6 +241,9 @@ impl<'a> WordReader<'a> {
         ensures line { (items : List Item) (r : Read) → Reads items self.old r line.now → self.old.place ≡ place.Frame → length r.closed < 2 ^ 62 → GivesLine items r line.now self.new result }
         ensures err { OnErr result (self.new.play ≡ self.old.play) }
     {
+        if !begins_part(line) {
+            return self.play.assign_input(line);
+        }
         let next = self.play.frames().saturating_add(1);
         if is_numbered(line, b'@', next) {
             self.play.close();
@@ -256,10 +259,7 @@ impl<'a> WordReader<'a> {
             self.place = Place::End;
             return Ok(());
         }
-        if begins_part(line) {
-            return Err(Why::FrameOrder);
-        }
-        self.play.assign_input(line)
+        Err(Why::FrameOrder)
     }
 
     /// The line has ended: it is admitted, or why it is not. Of its bytes the first 342 are enough.

@@ -34,7 +34,7 @@ fn known_bit(byte: u8) -> Option<u64>
 }
 
 /// The word that at most 64 bytes write, each of them `0` or `1`, the highest first; none for other bytes.
-fn known_word(bytes: &[u8]) -> Option<u64>
+pub(crate) fn known_word(bytes: &[u8]) -> Option<u64>
     requires { length bytes.now ≤ 64 }
     ensures { MatchOption result (list_all is_known bytes.now ≡ false) (λ word. IsKnown word bytes.now) }
 {
