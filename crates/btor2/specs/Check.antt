@@ -1,5 +1,5 @@
 -- Which items a model refuses, and why: the rows of one table, of which the first that applies is answered.
-use Rattle.std.specs.Prelude.{◌≡◌, ℕ, Bool, true, false, not, ◌&&◌, ◌||◌, List, [], ◌∷◌, ◌++◌, ◌+◌, ◌-◌, ◌^◌, length, pos, neg_ℤ, int_le, int_lt, option_and_then, Option, Some, None, Result, Ok, Err, ◌==◌, nat_le, nat_lt, if◌then◌else◌, is_some, is_none, unwrap_or, ◌⊎◌}
+use Rattle.std.specs.Prelude.{◌≡◌, ℕ, Bool, true, false, not, ◌&&◌, ◌||◌, List, [], ◌∷◌, ◌++◌, ◌+◌, ◌-◌, ◌^◌, length, drop, pos, neg_ℤ, int_le, int_lt, option_and_then, Option, Some, None, Result, Ok, Err, ◌==◌, nat_le, nat_lt, if◌then◌else◌, is_some, is_none, unwrap_or, ◌⊎◌}
 use Rattle.std.specs.List.{list_all}
 use Rattle.base.specs.Widths.{unary_width, binary_width, is_of_bits}
 use Rattle.btor2.specs.declared.item.Item.{Item}
@@ -131,6 +131,10 @@ table items x =
     ∷ (justice_is_empty x.body, fault.JusticeEmpty)
     ∷ []
 
+-- the rows of what an item says, behind those of its own id
+abbrev pub said : List Item → Body → List (Bool × PushFault)
+said items b = drop 3 (table items (record { id = 0; symbol = None; body = b }))
+
 -- the refusal of an item after the items before it, if there is one
 unfoldable pub refusal : List Item → Item → Option PushFault
 refusal items x = first_row (table items x)
@@ -148,3 +152,8 @@ IsWellFormed items = IsWellFormedAfter [] items
 abbrev pub AnswersRefusal : Result (Unit {0}) PushFault → Option PushFault → Type 0
 AnswersRefusal (Ok u) r = r ≡ None
 AnswersRefusal (Err e) r = (r ≡ Some e) ⊎ ((r ≡ None) × (e ≡ fault.NoMemory))
+
+-- a test answers a refusal, if there is one
+abbrev pub Refuses : Result (Unit {0}) PushFault → Option PushFault → Type 0
+Refuses (Ok u) r = r ≡ None
+Refuses (Err e) r = r ≡ Some e

@@ -1,6 +1,7 @@
 //! Models: checked lists of items, with what is read of them.
-ghost use Rattle.std.specs.Prelude.{◌≡◌, ◌<◌, ◌≤◌, ◌-◌, IfSome, [], length, option_and_then, option_copied, slice_get, slice_index};
-ghost use Rattle.btor2.specs.Items.{find_item, position_of, sort_bits, sort_width, node_width, width_of_body, constant_of, constant_of_body, names_state, init_value, next_value, is_input, is_state, is_bad, is_constraint};
+ghost use Rattle.std.specs.Prelude.{nat_eq, ◌≡◌, ◌<◌, ◌≤◌, ◌-◌, IfSome, [], length, option_and_then, option_copied, slice_get, slice_index};
+ghost use Rattle.std.specs.HashMap.{get};
+ghost use Rattle.btor2.specs.Items.{find_item, position_of, sort_bits, sort_width, node_width, width_of_body, constant_of, constant_of_body, init_value, next_value, is_input, is_state, is_bad, is_constraint};
 ghost use Rattle.btor2.specs.Check.{IsWellFormed};
 ghost use Rattle.btor2.specs.Parts.{HaveSoundParts};
 ghost use Rattle.btor2.specs.Index.{is_in_place};
@@ -63,6 +64,16 @@ fn place_by_number(id: u64) -> usize
     ensures { result ≡ id - 1 }
 {
     id.saturating_sub(1) as usize
+}
+
+/// The position that a map gives an id. Most maps are empty, and then no hash is taken.
+fn found_in(positions: &IndexMap<u64, usize>, id: u64) -> Option<usize>
+    ensures { result ≡ get nat_eq positions.now id }
+{
+    if positions.is_empty() {
+        return None;
+    }
+    positions.get(&id).copied()
 }
 
 impl Model {
@@ -143,7 +154,7 @@ impl Model {
         if self.is_in_place(id) {
             Some(place_by_number(id))
         } else {
-            self.elsewhere.get(&id).copied()
+            found_in(&self.elsewhere, id)
         }
     }
 
@@ -193,10 +204,8 @@ impl Model {
         ensures value { result ≡ width_of_body self.now body.now }
         ensures range { IfSome result (λ n. (1 ≤ n) × (n ≤ 64)) }
     {
-        match body.node_sort() {
-            Some(sort) => self.sort_width(sort),
-            None => None,
-        }
+        let sort = body.node_sort()?;
+        self.sort_width(sort)
     }
 
     /// The width of the node with an id.
@@ -210,40 +219,24 @@ impl Model {
     fn body_constant(&self, body: &Body) -> Option<u64>
         ensures { result ≡ constant_of_body self.now body.now }
     {
-        match self.body_width(body) {
-            Some(width) => body.constant_word(width),
-            None => None,
-        }
+        let width = self.body_width(body)?;
+        body.constant_word(width)
     }
 
     /// The word of the constant node with an id.
     fn constant_word(&self, id: u32) -> Option<u64>
         ensures { result ≡ constant_of self.now id }
     {
-        match self.item(u64::from(id)) {
-            Some(item) => self.body_constant(&item.body),
-            None => None,
-        }
-    }
-
-    /// Whether an id is that of a state.
-    fn names_state(&self, id: u32) -> bool
-        ensures { result ≡ names_state self.now id }
-    {
-        match self.item(u64::from(id)) {
-            Some(item) => item.body.is_state(),
-            None => false,
-        }
+        let item = self.item(u64::from(id))?;
+        self.body_constant(&item.body)
     }
 
     /// The id of the item at a position.
     fn id_at(&self, place: usize) -> Option<u64>
         ensures { result ≡ id_at self.now place }
     {
-        match item_at(self.items.as_slice(), place) {
-            Some(item) => Some(item.id),
-            None => None,
-        }
+        let item = item_at(self.items.as_slice(), place)?;
+        Some(item.id)
     }
 
     /// The width of the node at a position.
@@ -272,26 +265,18 @@ impl Model {
     fn init_place(&self, place: usize) -> Option<usize>
         ensures { result ≡ init_place self.now place }
     {
-        match self.id_at(place) {
-            Some(id) => match self.init_value(id) {
-                Some(value) => self.position(value),
-                None => None,
-            },
-            None => None,
-        }
+        let id = self.id_at(place)?;
+        let value = self.init_value(id)?;
+        self.position(value)
     }
 
     /// The position of the value of the next line of the state at a position.
     fn next_place(&self, place: usize) -> Option<usize>
         ensures { result ≡ next_place self.now place }
     {
-        match self.id_at(place) {
-            Some(id) => match self.next_value(id) {
-                Some(value) => self.position(value),
-                None => None,
-            },
-            None => None,
-        }
+        let id = self.id_at(place)?;
+        let value = self.next_value(id)?;
+        self.position(value)
     }
 
     /// The position in `items` of the value of a state's init line, if the state has one.
@@ -360,10 +345,8 @@ impl Model {
         requires { node < length self.now }
         ensures { result ≡ width_at self.now node }
     {
-        match self.width_at(node) {
-            Some(width) => Width::new(width),
-            None => None,
-        }
+        let width = self.width_at(node)?;
+        Width::new(width)
     }
 
     /// The word of a constant node, by its position in `items`; none for other items.
@@ -373,9 +356,7 @@ impl Model {
         requires { node < length self.now }
         ensures { result ≡ constant_at self.now node }
     {
-        match item_at(self.items.as_slice(), node) {
-            Some(item) => self.body_constant(&item.body),
-            None => None,
-        }
+        let item = item_at(self.items.as_slice(), node)?;
+        self.body_constant(&item.body)
     }
 }

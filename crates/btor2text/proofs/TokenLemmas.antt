@@ -109,3 +109,12 @@ pieces_are_some (b ∷ bs) =
 
 pub tokens-comment : (bs : List ℕ) → tokens (59 ∷ bs) ≡ []
 tokens-comment bs = let rest = pieces_are_some bs in ap (λ ps. tokens_of (to_first 59 ps)) rest.1.1
+
+-- a line that begins with a token has one
+pub some_token : (line : List ℕ) → begins_token line ≡ true → (first : List ℕ) × ((rest : List (List ℕ)) × (tokens line ≡ first ∷ rest))
+some_token [] h = absurd cc
+some_token (b ∷ bs) h =
+    let behind = pieces_are_some bs in
+    let parts = or_parts (is_blank b) (b == 59) (not-true _ h) in
+    let more : pieces (b ∷ bs) ≡ (b ∷ behind.0) ∷ behind.1.0 = rw parts.0 (ap (to_first b) behind.1.1) in
+    (b ∷ behind.0, (tokens_of behind.1.0, ap tokens_of more ∙ word_is_token b behind.0 behind.1.0 h))

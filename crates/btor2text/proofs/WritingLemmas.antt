@@ -1,17 +1,18 @@
 -- Texts of items and of digits, piece by piece.
-use Rattle.std.proofs.Common.{◌≡◌, ℕ, suc, ◌+◌, ◌-◌, ◌<◌, ◌≤◌, ◌/◌, ◌%◌, List, [], ◌∷◌, ◌++◌, length, get_or, take, drop, map, codes, decimal, drop-cons, add-one, sym, ap, subst, ◌∙◌, append_assoc, append-nil, arith}
+use Rattle.std.proofs.Common.{◌≡◌, ℕ, true, refl, ◌^◌, lit<, suc, ◌+◌, ◌-◌, ◌<◌, ◌≤◌, ◌/◌, ◌%◌, List, [], ◌∷◌, ◌++◌, length, ◌==◌, eqb-true, get_or, take, drop, map, decimal, drop-cons, add-one, sym, ap, subst, ◌∙◌, append_assoc, append-nil, arith}
 use Rattle.std.specs.Char.{digit_char}
-use Rattle.std.specs.Fmt.{signed_decimal}
+use Rattle.std.proofs.lemmas.Bool.{and_parts, leb-true}
+use Rattle.std.proofs.lemmas.Fmt.{length-decimal-le}
 use Rattle.std.proofs.lemmas.List.{take-append-drop}
-use Rattle.std.proofs.lemmas.List.Concat.{flat_map-append}
 use Rattle.btor2.specs.declared.item.Item.{Item}
 use Rattle.btor2.specs.declared.item.Body.{Body}
 use Rattle.btor2.specs.declared.item.Body.TheVariants as body
 use Rattle.btor2.specs.Check.{IsWellFormed}
+use Rattle.btor2.specs.Symbols.{is_symbol}
 use Rattle.btor2.proofs.ModelLemmas.{IsIn, refusal-at, IsWellFormed-front}
 use Rattle.btor2text.specs.Digits.{last_digits}
 use Rattle.btor2text.specs.Spelling.{form_tokens, symbol_tokens}
-use Rattle.btor2text.specs.Writing.{behind_spaces, form_word, form_numbers, form_rest, HasFewDigits, written_line, written}
+use Rattle.btor2text.specs.Writing.{behind_spaces, in_front, head_tokens, justice_operands, HasFewDigits, written_line, written}
 use Rattle.btor2text.proofs.BoundLemmas.{BodyFits, accepted_fits}
 
 -- ---- lists
@@ -26,23 +27,54 @@ pub items_at : (i : ℕ) (items : List Item) (x d : Item) → i < length items �
 items_at i items x d lt e =
     subst (λ (y : Item). written (drop i items) ≡ written_line y ++ written (drop (i + 1) items)) (sym e) (rw (drop-cons items i d, add-one i))
 
--- a line in its four pieces
-pub line_pieces : (x : Item) → written_line x ≡ decimal x.id ++ (behind_spaces (form_tokens x.body) ++ (behind_spaces (symbol_tokens x.symbol) ++ 10 ∷ []))
-line_pieces x =
+-- ---- tokens in front of other bytes
+
+pub front_is : (tokens : List (List ℕ)) (rest : List ℕ) → behind_spaces tokens ++ rest ≡ in_front tokens rest
+front_is [] rest = refl
+front_is (token ∷ tokens) rest = append_assoc (32 ∷ token) (behind_spaces tokens) rest ∙ ap (λ (l : List ℕ). 32 ∷ token ++ l) (front_is tokens rest)
+
+front_then : (xs ys : List (List ℕ)) (rest : List ℕ) → in_front (xs ++ ys) rest ≡ in_front xs (in_front ys rest)
+front_then [] ys rest = refl
+front_then (x ∷ xs) ys rest = ap (λ (l : List ℕ). 32 ∷ x ++ l) (front_then xs ys rest)
+
+-- what stands in front of other bytes by itself, and then these
+front_apart : (tokens : List (List ℕ)) (rest : List ℕ) → in_front tokens rest ≡ in_front tokens [] ++ rest
+front_apart [] rest = refl
+front_apart (token ∷ tokens) rest = ap (λ (l : List ℕ). 32 ∷ token ++ l) (front_apart tokens rest) ∙ sym (append_assoc (32 ∷ token) (in_front tokens []) rest)
+
+-- a number behind a space that stands alone on a line
+pub alone : (n : ℕ) (line old : List ℕ) → line ≡ in_front (decimal n ∷ []) old → old ≡ [] → line ≡ 32 ∷ decimal n
+alone n line old is none = is ∙ ap (λ (l : List ℕ). 32 ∷ decimal n ++ l) none ∙ append-nil (32 ∷ decimal n)
+
+form_parts : (b : Body) (rest : List ℕ) → in_front (form_tokens b) rest ≡ in_front (head_tokens b) (in_front (map decimal (justice_operands b)) rest)
+form_parts (body.Justice nodes) rest = refl
+form_parts _ rest = refl
+
+-- a line from its end to its front
+pub line_parts : (x : Item) → written_line x ≡ decimal x.id ++ in_front (head_tokens x.body) (in_front (map decimal (justice_operands x.body)) (in_front (symbol_tokens x.symbol) (10 ∷ [])))
+line_parts x =
     ap (λ (l : List ℕ). decimal x.id ++ l)
-    (ap (λ (l : List ℕ). l ++ 10 ∷ []) (flat_map-append (λ token. 32 ∷ token) (form_tokens x.body) (symbol_tokens x.symbol))
-    ∙ append_assoc (behind_spaces (form_tokens x.body)) (behind_spaces (symbol_tokens x.symbol)) (10 ∷ []))
+    (front_is (form_tokens x.body ++ symbol_tokens x.symbol) (10 ∷ [])
+    ∙ front_then (form_tokens x.body) (symbol_tokens x.symbol) (10 ∷ [])
+    ∙ form_parts x.body (in_front (symbol_tokens x.symbol) (10 ∷ [])))
 
-digits_behind : (tokens : List (List ℕ)) (digits : List ℕ) → behind_spaces (tokens ++ digits ∷ []) ≡ behind_spaces tokens ++ 32 ∷ digits
-digits_behind tokens digits = flat_map-append (λ token. 32 ∷ token) tokens (digits ∷ []) ∙ ap (λ (l : List ℕ). behind_spaces tokens ++ 32 ∷ l) (append-nil digits)
+-- the line of an item without operands behind its form
+pub whole_line : (x : Item) → justice_operands x.body ≡ [] → written_line x ≡ decimal x.id ++ in_front (head_tokens x.body) (in_front (symbol_tokens x.symbol) (10 ∷ []))
+whole_line x none = line_parts x ∙ ap (λ (nodes : List ℕ). decimal x.id ++ in_front (head_tokens x.body) (in_front (map decimal nodes) (in_front (symbol_tokens x.symbol) (10 ∷ [])))) none
 
--- a form in its three parts
-pub form_pieces : (b : Body) → behind_spaces (form_tokens b) ≡ (32 ∷ form_word b ++ behind_spaces (map decimal (form_numbers b))) ++ form_rest b
-form_pieces (body.Const s d v) = digits_behind (codes "const" ∷ decimal s ∷ []) (last_digits 2 d v)
-form_pieces (body.Constd s v) = digits_behind (codes "constd" ∷ decimal s ∷ []) (signed_decimal v)
-form_pieces (body.Consth s d v) = digits_behind (codes "consth" ∷ decimal s ∷ []) (last_digits 16 d v)
-form_pieces (body.Justice nodes) = flat_map-append (λ token. 32 ∷ token) (codes "justice" ∷ decimal (length nodes) ∷ []) (map decimal nodes)
-form_pieces b = sym (append-nil (32 ∷ form_word b ++ behind_spaces (map decimal (form_numbers b))))
+-- no operands, as a test tells it
+pub no_operands : (nodes : List ℕ) → true ≡ (length nodes == 0) → nodes ≡ []
+no_operands [] h = refl
+no_operands (a ∷ nodes) h = absurd (omega (arith, eqb-true (suc (length nodes)) 0 (sym h)))
+
+-- a line in its three pieces
+pub line_pieces : (x : Item) → written_line x ≡ (decimal x.id ++ in_front (head_tokens x.body) []) ++ (behind_spaces (map decimal (justice_operands x.body)) ++ in_front (symbol_tokens x.symbol) (10 ∷ []))
+line_pieces x =
+    let end = in_front (symbol_tokens x.symbol) (10 ∷ []) in
+    let operands = map decimal (justice_operands x.body) in
+    line_parts x
+    ∙ ap (λ (l : List ℕ). decimal x.id ++ l) (front_apart (head_tokens x.body) (in_front operands end) ∙ ap (λ (l : List ℕ). in_front (head_tokens x.body) [] ++ l) (sym (front_is operands end)))
+    ∙ sym (append_assoc (decimal x.id) (in_front (head_tokens x.body) []) (behind_spaces operands ++ end))
 
 -- ---- digits of a model's constants
 
@@ -63,8 +95,17 @@ few_digits_at items i x d h lt e =
 
 -- ---- the last digits of a number
 
-pub digits_none : (radix count value : ℕ) → last_digits radix (count - 0) value ++ [] ≡ last_digits radix count value
-digits_none radix count value = let all : count - 0 ≡ count = omega arith in rw all (append-nil (last_digits radix count value))
+pub digits_none : (radix count value : ℕ) (behind : List ℕ) → last_digits radix (count - 0) value ++ behind ≡ last_digits radix count value ++ behind
+digits_none radix count value behind = let all : count - 0 ≡ count = omega arith in rw all refl
+
+-- a number of 64 bits has at most twenty digits
+pub decimal_short : (n : ℕ) → n < 2 ^ 64 → length (decimal n) ≤ 20
+decimal_short n h = length-decimal-le 20 n (lit< tt) (omega arith) h
+
+-- a symbol has at most 255 bytes
+pub symbol_short : (bytes : List ℕ) → is_symbol bytes ≡ true → length bytes ≤ 255
+symbol_short [] h = omega arith
+symbol_short (b ∷ bs) h = leb-true (length (b ∷ bs)) 255 (and_parts _ _ (and_parts _ _ h).1).0
 
 pub digits_more : (radix count i rest : ℕ) (digits total : List ℕ) → i < count → last_digits radix (count - i) rest ++ digits ≡ total
     → last_digits radix (count - (i + 1)) (rest / radix) ++ digit_char (rest % radix) ∷ digits ≡ total

@@ -260,6 +260,15 @@ item_at first rest = do
   symbol ← symbol_at b.1
   Ok (record { id = id; symbol = symbol; body = b.0 })
 
+-- the same, of all its tokens
+unfoldable pub item_of : Tokens → Result Item Why
+item_of tokens = do
+  id ← plain_at tokens
+  f ← form_at id.1
+  b ← body_at f.0 f.1
+  symbol ← symbol_at b.1
+  Ok (record { id = id.0; symbol = symbol; body = b.0 })
+
 -- the why of a refusal; a constant that does not fit has one of its own
 abbrev pub refused : PushFault → Why
 refused push.ConstantDoesNotFit = why.ConstantDoesNotFit

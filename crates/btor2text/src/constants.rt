@@ -40,10 +40,8 @@ fn decimal_number(bytes: &[u8]) -> Option<u128>
     ensures number { result ≡ decimal_number bytes.now }
     ensures small { IfSome result (λ n. n ≤ 2 ^ 64) }
 {
-    match decimal(bytes) {
-        Some(_) => number_in(10, bytes),
-        None => None,
-    }
+    let _number = decimal(bytes)?;
+    number_in(10, bytes)
 }
 
 /// The negated number, where there is one other than 0.
@@ -51,16 +49,11 @@ fn negated(number: Option<u128>) -> Option<i128>
     requires { IfSome number (λ n. n ≤ 2 ^ 64) }
     ensures { result ≡ negated number }
 {
-    match number {
-        None => None,
-        Some(number) => {
-            if number == 0 {
-                None
-            } else {
-                Some(-(number as i128))
-            }
-        }
+    let number = number?;
+    if number == 0 {
+        return None;
     }
+    Some(-(number as i128))
 }
 
 /// The number itself, where there is one.
@@ -68,10 +61,8 @@ fn unsigned(number: Option<u128>) -> Option<i128>
     requires { IfSome number (λ n. n ≤ 2 ^ 64) }
     ensures { result ≡ unsigned number }
 {
-    match number {
-        None => None,
-        Some(number) => Some(number as i128),
-    }
+    let number = number?;
+    Some(number as i128)
 }
 
 /// The number that bytes write as a decimal, or as `-` and a decimal other than 0; one beyond 2^64 on either side

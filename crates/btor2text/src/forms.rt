@@ -182,10 +182,8 @@ fn form_named(word: &[u8]) -> Option<Form>
     if let Some(operator) = unary_of(word) {
         return Some(Form::Unary(operator));
     }
-    match binary_of(word) {
-        Some(operator) => Some(Form::Binary(operator)),
-        None => None,
-    }
+    let operator = binary_of(word)?;
+    Some(Form::Binary(operator))
 }
 
 /// Why a word names no form.

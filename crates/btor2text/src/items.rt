@@ -2,14 +2,12 @@
 
 ghost use Rattle.std.specs.Prelude.{◌≡◌};
 ghost use Rattle.btor2text.specs.Tokens.{tokens};
-ghost use Rattle.btor2text.specs.Reading.{Gives, GivesUnlessFull, form_at, leaf_body, extension_body, link_body, property_body, justice_at, body_at, symbol_at, item_at};
+ghost use Rattle.btor2text.specs.Reading.{Gives, GivesUnlessFull, form_at, leaf_body, extension_body, link_body, property_body, justice_at, body_at, symbol_at, item_of};
 
 use crate::constants::constant_at;
 use crate::fault::Why;
 use crate::forms::{Extension, Form, Leaf, Link, Property, form_of};
-use crate::places::{
-    counted_at, operand_at, pair_at, plain, plain_at, sort_at, triple_at, width_at,
-};
+use crate::places::{counted_at, operand_at, pair_at, plain_at, sort_at, triple_at, width_at};
 use crate::tokens::next_token;
 use btor2::{Body, Item, Operands, Symbol, SymbolFault};
 use std::alloc::Global;
@@ -180,13 +178,13 @@ fn symbol_at(alloc: Global, line: &[u8]) -> Result<Option<Symbol>, Why>
     }
 }
 
-/// The item that a line spells, of which the first token is cut off already.
-#[tactic(auto, unfolding(crate::specs::Reading::item_at))]
-pub(crate) fn item(alloc: Global, first: &[u8], line: &[u8]) -> Result<Item, Why>
-    ensures { GivesUnlessFull (λ x. x) result (item_at first.now (tokens line.now)) }
+/// The item that a line spells.
+#[tactic(auto, unfolding(crate::specs::Reading::item_of))]
+pub(crate) fn item(alloc: Global, line: &[u8]) -> Result<Item, Why>
+    ensures { GivesUnlessFull (λ x. x) result (item_of (tokens line.now)) }
 {
-    let id = plain(first)?;
-    let (form, rest) = form_at(line)?;
+    let (id, rest) = plain_at(line)?;
+    let (form, rest) = form_at(rest)?;
     let (body, rest) = body_at(alloc, form, rest)?;
     let symbol = symbol_at(alloc, rest)?;
     Ok(Item { id, symbol, body })

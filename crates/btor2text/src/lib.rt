@@ -2,12 +2,11 @@
 #![tactic(auto)]
 
 mod constants;
-mod digits;
 mod fault;
 mod forms;
 mod items;
 pub mod laws;
-mod numbers;
+mod line;
 mod operators;
 mod places;
 mod reading;

@@ -1,6 +1,6 @@
 //! The words of the operators.
 
-ghost use Rattle.std.specs.Prelude.{◌≡◌};
+ghost use Rattle.std.specs.Prelude.{◌≡◌, ◌≤◌, length};
 ghost use Rattle.std.specs.Str.{bytes_eq};
 ghost use Rattle.btor2text.specs.Words.{named, unary_name, binary_name, unary_of, binary_of, tests, bitwise, moves, arithmetic, overflows};
 
@@ -15,7 +15,8 @@ pub(crate) fn is_word(token: &[u8], word: &[u8]) -> bool
 
 /// The word of an operator of one operand.
 pub(crate) fn unary_name(operator: Unary) -> &'static [u8]
-    ensures { result.now ≡ unary_name operator }
+    ensures name { result.now ≡ unary_name operator }
+    ensures short { length result.now ≤ 11 }
 {
     match operator {
         Unary::Not => b"not",
@@ -30,7 +31,8 @@ pub(crate) fn unary_name(operator: Unary) -> &'static [u8]
 
 /// The word of an operator of two operands.
 pub(crate) fn binary_name(operator: Binary) -> &'static [u8]
-    ensures { result.now ≡ binary_name operator }
+    ensures name { result.now ≡ binary_name operator }
+    ensures short { length result.now ≤ 11 }
 {
     match operator {
         Binary::Iff => b"iff",

@@ -13,7 +13,7 @@ use std::alloc::Global;
 /// The number of a token in a plain place.
 #[inline(always)]
 #[tactic(auto, unfolding(crate::specs::Reading::plain))]
-pub(crate) fn plain(token: &[u8]) -> Result<u64, Why>
+fn plain(token: &[u8]) -> Result<u64, Why>
     ensures { Gives (λ n. n) result (plain token.now) }
 {
     match decimal(token) {

@@ -12,7 +12,7 @@ ghost use Rattle.btor2text.specs.Stopping.{unread_fault, Stops, IsOfLine, Ends, 
 
 use crate::fault::{ReadFault, Why};
 use crate::items::item;
-use crate::tokens::next_token;
+use crate::tokens::from_token;
 use base::{DeviceFault, LineReader, ReadAllFault, Source, skip_all};
 use btor2::{Item, Model, PushFault};
 use std::alloc::Global;
@@ -34,10 +34,10 @@ fn push(model: &mut Model, item: Item) -> Result<(), Why>
 fn read_line(alloc: Global, line: &[u8], model: &mut Model) -> Result<(), Why>
     ensures { ReadsLine result model.new (line_on model.old (tokens line.now)) }
 {
-    match next_token(line) {
+    match from_token(line) {
         None => Ok(()),
-        Some((first, rest)) => {
-            let item = item(alloc, first, rest)?;
+        Some(line) => {
+            let item = item(alloc, line)?;
             push(model, item)
         }
     }

@@ -60,15 +60,24 @@ fn cut(line: &[u8]) -> (&[u8], &[u8])
     }
 }
 
-/// The first token of a line, and the line behind it; nothing where no token stands before a comment.
+/// A line from its first token on; nothing where no token stands before a comment.
 #[inline(always)]
-pub(crate) fn next_token(line: &[u8]) -> Option<(&[u8], &[u8])>
-    ensures { MatchOption result (tokens line.now ≡ []) (λ x. tokens line.now ≡ x.0.now ∷ tokens x.1.now) }
+pub(crate) fn from_token(line: &[u8]) -> Option<&[u8]>
+    ensures { MatchOption result (tokens line.now ≡ []) (λ x. (tokens x.now ≡ tokens line.now) × (begins_token x.now ≡ true)) }
 {
     let rest = skip_blanks(line);
     match rest {
         [] => None,
         [b';', ..] => None,
-        _ => Some(cut(rest)),
+        _ => Some(rest),
     }
+}
+
+/// The first token of a line, and the line behind it; nothing where no token stands before a comment.
+#[inline(always)]
+pub(crate) fn next_token(line: &[u8]) -> Option<(&[u8], &[u8])>
+    ensures { MatchOption result (tokens line.now ≡ []) (λ x. tokens line.now ≡ x.0.now ∷ tokens x.1.now) }
+{
+    let rest = from_token(line)?;
+    Some(cut(rest))
 }

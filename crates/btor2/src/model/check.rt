@@ -1,15 +1,18 @@
-//! The tests by which a model refuses an item, one for each row of the table, and the first that applies.
-ghost use Rattle.std.specs.Prelude.{◌≡◌, [], ◌∷◌, drop, ◌≤◌, ◌+◌, ◌-◌, ◌^◌, ◌==◌, not, ◌&&◌, ◌||◌, length, nat_le, nat_lt, pos, neg_ℤ, int_le, int_lt, is_some, unwrap_or, option_and_then};
+//! Why a model refuses an item: the tests of the table's rows, of each form those that concern it, in the table's order.
+//! Each id that an item names is looked up once.
+#![tactic(auto, unfolding(crate::specs::Check::refusal, crate::specs::Check::id_is_out_of_range, crate::specs::Check::id_is_taken, crate::specs::Check::sort_is_missing, crate::specs::Check::operand_is_missing, crate::specs::Check::state_is_none, crate::specs::Check::width_is_out_of_range, crate::specs::Check::slice_is_out_of_range, crate::specs::Check::widths_differ, crate::specs::Check::constant_does_not_fit, crate::specs::Check::init_is_not_constant, crate::specs::Check::is_second_init, crate::specs::Check::is_second_next, crate::specs::Check::justice_is_empty))]
+
+ghost use Rattle.std.specs.Prelude.{◌≡◌, [], ◌∷◌, ◌≤◌, ◌+◌, ◌-◌, ◌^◌, ◌==◌, not, ◌&&◌, ◌||◌, length, nat_le, nat_lt, pos, neg_ℤ, int_le, int_lt, is_some, unwrap_or, Some, None, IfOk, MatchResult};
 ghost use Rattle.std.specs.List.{list_all};
 ghost use Rattle.base.specs.Widths.{binary_width, is_of_bits};
-ghost use Rattle.btor2.specs.Items.{named_sort, node_width, sort_width};
+ghost use Rattle.btor2.specs.Items.{node_width, names_state, sort_width};
 ghost use Rattle.btor2.specs.declared.item.Body.TheVariants as body;
-ghost use Rattle.btor2.specs.Check.{most_items, first_row, table, refusal, id_is_out_of_range, id_is_taken, sort_is_missing, operand_is_missing, state_is_none, width_is_out_of_range, slice_is_out_of_range, widths_differ, constant_fits, constant_does_not_fit, init_is_not_constant, is_second_init, is_second_next, justice_is_empty};
+ghost use Rattle.btor2.specs.Check.{most_items, first_row, said, refusal, Refuses, id_is_out_of_range, id_is_taken};
 
 use crate::fault::PushFault;
 use crate::item::{Body, Item, all_ones};
 use crate::model::Model;
-use base::{Binary, Width};
+use base::{Binary, Unary, Width};
 
 /// The greatest number of items.
 const MOST_ITEMS: usize = 1_048_576;
@@ -71,17 +74,11 @@ fn hex_digits_fit(width: u64, digits: u32, value: u64) -> bool
     1 <= digits && digits <= 16 && value <= all_ones(width) && is_of_hex_digits(digits, value)
 }
 
-/// Whether a constant fits a sort of so many bits.
-fn constant_fits(width: u64, body: &Body) -> bool
-    requires { width ≤ 64 }
-    ensures { result ≡ constant_fits width body.now }
+/// Refuses where a test finds a fault.
+fn refuse_if(found: bool, fault: PushFault) -> Result<(), PushFault>
+    ensures { Refuses result (first_row ((found, fault) ∷ [])) }
 {
-    match body {
-        Body::Const { digits, value, .. } => binary_digits_fit(width, *digits, *value),
-        Body::Constd { value, .. } => decimal_fits(width, *value),
-        Body::Consth { digits, value, .. } => hex_digits_fit(width, *digits, *value),
-        _ => true,
-    }
+    if found { Err(fault) } else { Ok(()) }
 }
 
 impl Model {
@@ -93,7 +90,6 @@ impl Model {
     }
 
     /// Whether the id is 0 or above the greatest.
-    #[tactic(auto, unfolding(crate::specs::Check::id_is_out_of_range))]
     fn id_is_out_of_range(&self, item: &Item) -> bool
         ensures { result ≡ id_is_out_of_range item.now }
     {
@@ -101,387 +97,323 @@ impl Model {
     }
 
     /// Whether an item has the id.
-    #[tactic(auto, unfolding(crate::specs::Check::id_is_taken))]
     fn id_is_taken(&self, item: &Item) -> bool
         ensures { result ≡ id_is_taken self.now item.now }
     {
         self.item(item.id).is_some()
     }
 
-    /// Whether the sort that a body names is no sort here.
-    #[tactic(auto, unfolding(crate::specs::Check::sort_is_missing))]
-    fn sort_is_missing(&self, body: &Body) -> bool
-        ensures { result ≡ sort_is_missing self.now body.now }
+    /// The width of a sort that is named.
+    #[inline(always)]
+    fn named_sort(&self, id: u32) -> Result<u64, PushFault>
+        ensures value { MatchResult result (λ n. sort_width self.now id ≡ Some n) (λ e. (e ≡ PushFault.NoSuchSort) × (sort_width self.now id ≡ None)) }
+        ensures range { IfOk result (λ n. n ≤ 64) }
     {
-        match body.sort() {
-            Some(sort) => self.sort_width(sort).is_none(),
-            None => false,
+        match self.sort_width(id) {
+            Some(width) => Ok(width),
+            None => Err(PushFault::NoSuchSort),
         }
     }
 
-    /// Whether an id is that of a node with a value.
-    fn has_value(&self, id: u32) -> bool
-        ensures { result ≡ is_some (node_width self.now id) }
+    /// The width of a node that is named.
+    #[inline(always)]
+    fn named_node(&self, id: u32) -> Result<u64, PushFault>
+        ensures { MatchResult result (λ n. node_width self.now id ≡ Some n) (λ e. (e ≡ PushFault.NoSuchNode) × (node_width self.now id ≡ None)) }
     {
-        self.node_width(id).is_some()
+        match self.node_width(id) {
+            Some(width) => Ok(width),
+            None => Err(PushFault::NoSuchNode),
+        }
     }
 
-    /// Whether both ids are those of nodes with a value.
-    fn have_values(&self, left: u32, right: u32) -> bool
-        ensures { result ≡ (is_some (node_width self.now left) && is_some (node_width self.now right)) }
+    /// The width of a node that is named where a state is to stand, and whether it is one.
+    fn named_state(&self, id: u32) -> Result<(u64, bool), PushFault>
+        ensures { MatchResult result
+            (λ x. (node_width self.now id ≡ Some x.0) × (x.1 ≡ names_state self.now id))
+            (λ e. (e ≡ PushFault.NoSuchNode) × (node_width self.now id ≡ None)) }
     {
-        self.has_value(left) && self.has_value(right)
+        match self.item(u64::from(id)) {
+            Some(item) => match self.body_width(&item.body) {
+                Some(width) => Ok((width, item.body.is_state())),
+                None => Err(PushFault::NoSuchNode),
+            },
+            None => Err(PushFault::NoSuchNode),
+        }
+    }
+
+    /// Tests a node that has a sort alone.
+    fn check_leaf(&self, sort: u32) -> Result<(), PushFault>
+        ensures { Refuses result (first_row (said self.now (body.Input sort))) }
+    {
+        let _width = self.named_sort(sort)?;
+        Ok(())
+    }
+
+    /// Tests a constant in binary digits.
+    fn check_const(&self, sort: u32, digits: u32, value: u64) -> Result<(), PushFault>
+        ensures { Refuses result (first_row (said self.now (body.Const sort digits value))) }
+    {
+        let width = self.named_sort(sort)?;
+        refuse_if(
+            !binary_digits_fit(width, digits, value),
+            PushFault::ConstantDoesNotFit,
+        )
+    }
+
+    /// Tests a decimal constant.
+    fn check_constd(&self, sort: u32, value: i128) -> Result<(), PushFault>
+        ensures { Refuses result (first_row (said self.now (body.Constd sort value))) }
+    {
+        let width = self.named_sort(sort)?;
+        refuse_if(!decimal_fits(width, value), PushFault::ConstantDoesNotFit)
+    }
+
+    /// Tests a constant in hexadecimal digits.
+    fn check_consth(&self, sort: u32, digits: u32, value: u64) -> Result<(), PushFault>
+        ensures { Refuses result (first_row (said self.now (body.Consth sort digits value))) }
+    {
+        let width = self.named_sort(sort)?;
+        refuse_if(
+            !hex_digits_fit(width, digits, value),
+            PushFault::ConstantDoesNotFit,
+        )
+    }
+
+    /// Tests a node that widens another.
+    fn check_extension(&self, sort: u32, operand: u32, by: u64) -> Result<(), PushFault>
+        ensures { Refuses result (first_row (said self.now (body.Uext sort operand by))) }
+    {
+        let width = self.named_sort(sort)?;
+        let given = self.named_node(operand)?;
+        refuse_if(is_no_sum(width, given, by), PushFault::SortMismatch)
+    }
+
+    /// Tests a slice.
+    fn check_slice(&self, sort: u32, operand: u32, upper: u64, lower: u64) -> Result<(), PushFault>
+        ensures { Refuses result (first_row (said self.now (body.Slice sort operand upper lower))) }
+    {
+        let width = self.named_sort(sort)?;
+        let given = self.named_node(operand)?;
+        if !(lower <= upper && upper < given) {
+            return Err(PushFault::SliceOutOfRange);
+        }
+        refuse_if(
+            is_no_slice_width(width, upper, lower),
+            PushFault::SortMismatch,
+        )
+    }
+
+    /// Tests an operator of one operand.
+    fn check_unary(&self, operator: Unary, sort: u32, operand: u32) -> Result<(), PushFault>
+        ensures { Refuses result (first_row (said self.now (body.Unary operator sort operand))) }
+    {
+        let width = self.named_sort(sort)?;
+        let given = self.named_node(operand)?;
+        refuse_if(width != operator.width(given), PushFault::SortMismatch)
+    }
+
+    /// Tests an operator of two operands.
+    fn check_binary(
+        &self,
+        operator: Binary,
+        sort: u32,
+        left: u32,
+        right: u32,
+    ) -> Result<(), PushFault>
+        ensures { Refuses result (first_row (said self.now (body.Binary operator sort left right))) }
+    {
+        let width = self.named_sort(sort)?;
+        let first = self.named_node(left)?;
+        let second = self.named_node(right)?;
+        refuse_if(
+            binary_differs(operator, width, first, second),
+            PushFault::SortMismatch,
+        )
+    }
+
+    /// Tests a concatenation.
+    fn check_concat(&self, sort: u32, high: u32, low: u32) -> Result<(), PushFault>
+        ensures { Refuses result (first_row (said self.now (body.Concat sort high low))) }
+    {
+        let width = self.named_sort(sort)?;
+        let first = self.named_node(high)?;
+        let second = self.named_node(low)?;
+        refuse_if(is_no_sum(width, first, second), PushFault::SortMismatch)
+    }
+
+    /// Tests a choice.
+    fn check_ite(&self, sort: u32, condition: u32, first: u32, second: u32) -> Result<(), PushFault>
+        ensures { Refuses result (first_row (said self.now (body.Ite sort condition first second))) }
+    {
+        let width = self.named_sort(sort)?;
+        let chooses = self.named_node(condition)?;
+        let first = self.named_node(first)?;
+        let second = self.named_node(second)?;
+        refuse_if(
+            chooses != 1 || width != first || width != second,
+            PushFault::SortMismatch,
+        )
+    }
+
+    /// Tests an init.
+    fn check_init(&self, sort: u32, state: u32, value: u32) -> Result<(), PushFault>
+        ensures { Refuses result (first_row (said self.now (body.Init sort state value))) }
+    {
+        let width = self.named_sort(sort)?;
+        let (kept, is_state) = self.named_state(state)?;
+        let given = self.named_node(value)?;
+        if !is_state {
+            return Err(PushFault::NotAState);
+        }
+        if width != kept || width != given {
+            return Err(PushFault::SortMismatch);
+        }
+        if self.constant_word(value).is_none() {
+            return Err(PushFault::InitNotConstant);
+        }
+        refuse_if(
+            self.init_value(u64::from(state)).is_some(),
+            PushFault::SecondInit,
+        )
+    }
+
+    /// Tests a next.
+    fn check_next(&self, sort: u32, state: u32, value: u32) -> Result<(), PushFault>
+        ensures { Refuses result (first_row (said self.now (body.Next sort state value))) }
+    {
+        let width = self.named_sort(sort)?;
+        let (kept, is_state) = self.named_state(state)?;
+        let given = self.named_node(value)?;
+        if !is_state {
+            return Err(PushFault::NotAState);
+        }
+        if width != kept || width != given {
+            return Err(PushFault::SortMismatch);
+        }
+        refuse_if(
+            self.next_value(u64::from(state)).is_some(),
+            PushFault::SecondNext,
+        )
+    }
+
+    /// Tests what marks a node of one bit.
+    fn check_bit(&self, operand: u32) -> Result<(), PushFault>
+        ensures { Refuses result (first_row (said self.now (body.Bad operand))) }
+    {
+        let width = self.named_node(operand)?;
+        refuse_if(width != 1, PushFault::SortMismatch)
+    }
+
+    /// Tests an output.
+    fn check_output(&self, operand: u32) -> Result<(), PushFault>
+        ensures { Refuses result (first_row (said self.now (body.Output operand))) }
+    {
+        let _width = self.named_node(operand)?;
+        Ok(())
     }
 
     /// Whether each of some ids is that of a node with a value.
     fn all_have_values(&self, ids: &[u32]) -> bool
         ensures { result ≡ list_all (λ a. is_some (node_width self.now a)) ids.now }
     {
-        ids.iter().all(|id| self.has_value(*id))
+        ids.iter().all(|id| self.node_width(*id).is_some())
     }
 
-    /// Whether an operand of a body is no node with a value here.
-    #[tactic(auto, unfolding(crate::specs::Check::operand_is_missing))]
-    fn operand_is_missing(&self, body: &Body) -> bool
-        ensures { result ≡ operand_is_missing self.now body.now }
-    {
-        match body {
-            Body::Sort { .. }
-            | Body::Input { .. }
-            | Body::State { .. }
-            | Body::Zero { .. }
-            | Body::One { .. }
-            | Body::Ones { .. }
-            | Body::Const { .. }
-            | Body::Constd { .. }
-            | Body::Consth { .. } => false,
-            Body::Uext { operand, .. }
-            | Body::Sext { operand, .. }
-            | Body::Slice { operand, .. }
-            | Body::Unary { operand, .. }
-            | Body::Bad { operand }
-            | Body::Constraint { operand }
-            | Body::Fair { operand }
-            | Body::Output { operand } => !self.has_value(*operand),
-            Body::Binary { left, right, .. } => !self.have_values(*left, *right),
-            Body::Concat { high, low, .. } => !self.have_values(*high, *low),
-            Body::Ite {
-                condition,
-                first,
-                second,
-                ..
-            } => !(self.has_value(*condition) && self.have_values(*first, *second)),
-            Body::Init { state, value, .. } | Body::Next { state, value, .. } => {
-                !self.have_values(*state, *value)
-            }
-            Body::Justice { operands } => !self.all_have_values(operands.ids()),
-        }
-    }
-
-    /// Whether the first operand of an init or a next is no state here.
-    #[tactic(auto, unfolding(crate::specs::Check::state_is_none))]
-    fn state_is_none(&self, body: &Body) -> bool
-        ensures { result ≡ state_is_none self.now body.now }
-    {
-        match body {
-            Body::Init { state, .. } | Body::Next { state, .. } => !self.names_state(*state),
-            _ => false,
-        }
-    }
-
-    /// Whether the width of a sort is not 1 to 64.
-    #[tactic(auto, unfolding(crate::specs::Check::width_is_out_of_range))]
-    fn width_is_out_of_range(&self, body: &Body) -> bool
-        ensures { result ≡ width_is_out_of_range body.now }
-    {
-        match body {
-            Body::Sort { width } => !(1 <= *width && *width <= Width::MAX),
-            _ => false,
-        }
-    }
-
-    /// The width of the sort with an id, or 0.
-    fn sort_bits(&self, id: u32) -> u64
-        ensures value { result ≡ unwrap_or (sort_width self.now id) 0 }
-        ensures range { result ≤ 64 }
-    {
-        match self.sort_width(id) {
-            Some(width) => width,
-            None => 0,
-        }
-    }
-
-    /// The width of the node with an id, or 0.
-    fn node_bits(&self, id: u32) -> u64
-        ensures { result ≡ unwrap_or (node_width self.now id) 0 }
-    {
-        match self.node_width(id) {
-            Some(width) => width,
-            None => 0,
-        }
-    }
-
-    /// Whether the bits of a slice are not those of its operand.
-    #[tactic(auto, unfolding(crate::specs::Check::slice_is_out_of_range))]
-    fn slice_is_out_of_range(&self, body: &Body) -> bool
-        ensures { result ≡ slice_is_out_of_range self.now body.now }
-    {
-        match body {
-            Body::Slice {
-                operand,
-                upper,
-                lower,
-                ..
-            } => !(*lower <= *upper && *upper < self.node_bits(*operand)),
-            _ => false,
-        }
-    }
-
-    /// Whether each of some nodes is a single bit.
+    /// Whether each of some ids is that of a node of one bit.
     fn are_bits(&self, ids: &[u32]) -> bool
         ensures { result ≡ list_all (λ a. unwrap_or (node_width self.now a) 0 == 1) ids.now }
     {
-        ids.iter().all(|id| self.node_bits(*id) == 1)
+        ids.iter().all(|id| self.node_width(*id).unwrap_or(0) == 1)
     }
 
-    /// Whether a sort differs in width from one of two nodes.
-    fn sort_differs(&self, sort: u32, first: u32, second: u32) -> bool
-        ensures { result ≡ not ((unwrap_or (sort_width self.now sort) 0 == unwrap_or (node_width self.now first) 0)
-            && (unwrap_or (sort_width self.now sort) 0 == unwrap_or (node_width self.now second) 0)) }
+    /// Tests a justice line.
+    fn check_justice(&self, ids: &[u32]) -> Result<(), PushFault>
+        ensures { Refuses result (first_row (said self.now (body.Justice ids.now))) }
     {
-        let width = self.sort_bits(sort);
-        !(width == self.node_bits(first) && width == self.node_bits(second))
+        if !self.all_have_values(ids) {
+            return Err(PushFault::NoSuchNode);
+        }
+        if !self.are_bits(ids) {
+            return Err(PushFault::SortMismatch);
+        }
+        refuse_if(ids.is_empty(), PushFault::JusticeEmpty)
     }
 
-    /// Whether the widths are not those of the form.
-    #[tactic(auto, unfolding(crate::specs::Check::widths_differ))]
-    fn widths_differ(&self, body: &Body) -> bool
-        ensures { result ≡ widths_differ self.now body.now }
+    /// Tests what an item says.
+    fn check_body(&self, body: &Body) -> Result<(), PushFault>
+        ensures { Refuses result (first_row (said self.now body.now)) }
     {
         match body {
-            Body::Sort { .. }
-            | Body::Input { .. }
-            | Body::State { .. }
-            | Body::Zero { .. }
-            | Body::One { .. }
-            | Body::Ones { .. }
-            | Body::Const { .. }
-            | Body::Constd { .. }
-            | Body::Consth { .. }
-            | Body::Output { .. } => false,
+            Body::Sort { width } => refuse_if(
+                !(1 <= *width && *width <= Width::MAX),
+                PushFault::WidthOutOfRange,
+            ),
+            Body::Input { sort }
+            | Body::State { sort }
+            | Body::Zero { sort }
+            | Body::One { sort }
+            | Body::Ones { sort } => self.check_leaf(*sort),
+            Body::Const {
+                sort,
+                digits,
+                value,
+            } => self.check_const(*sort, *digits, *value),
+            Body::Constd { sort, value } => self.check_constd(*sort, *value),
+            Body::Consth {
+                sort,
+                digits,
+                value,
+            } => self.check_consth(*sort, *digits, *value),
             Body::Uext { sort, operand, by } | Body::Sext { sort, operand, by } => {
-                is_no_sum(self.sort_bits(*sort), self.node_bits(*operand), *by)
+                self.check_extension(*sort, *operand, *by)
             }
             Body::Slice {
                 sort,
+                operand,
                 upper,
                 lower,
-                ..
-            } => is_no_slice_width(self.sort_bits(*sort), *upper, *lower),
+            } => self.check_slice(*sort, *operand, *upper, *lower),
             Body::Unary {
                 operator,
                 sort,
                 operand,
-            } => self.sort_bits(*sort) != operator.width(self.node_bits(*operand)),
+            } => self.check_unary(*operator, *sort, *operand),
             Body::Binary {
                 operator,
                 sort,
                 left,
                 right,
-            } => binary_differs(
-                *operator,
-                self.sort_bits(*sort),
-                self.node_bits(*left),
-                self.node_bits(*right),
-            ),
-            Body::Concat { sort, high, low } => is_no_sum(
-                self.sort_bits(*sort),
-                self.node_bits(*high),
-                self.node_bits(*low),
-            ),
+            } => self.check_binary(*operator, *sort, *left, *right),
+            Body::Concat { sort, high, low } => self.check_concat(*sort, *high, *low),
             Body::Ite {
                 sort,
                 condition,
                 first,
                 second,
-            } => self.node_bits(*condition) != 1 || self.sort_differs(*sort, *first, *second),
-            Body::Init { sort, state, value } | Body::Next { sort, state, value } => {
-                self.sort_differs(*sort, *state, *value)
-            }
+            } => self.check_ite(*sort, *condition, *first, *second),
+            Body::Init { sort, state, value } => self.check_init(*sort, *state, *value),
+            Body::Next { sort, state, value } => self.check_next(*sort, *state, *value),
             Body::Bad { operand } | Body::Constraint { operand } | Body::Fair { operand } => {
-                self.node_bits(*operand) != 1
+                self.check_bit(*operand)
             }
-            Body::Justice { operands } => !self.are_bits(operands.ids()),
+            Body::Output { operand } => self.check_output(*operand),
+            Body::Justice { operands } => self.check_justice(operands.ids()),
         }
     }
 
-    /// The width of the sort that a body names, or 0.
-    fn named_bits(&self, body: &Body) -> u64
-        ensures value { result ≡ unwrap_or (option_and_then (sort_width self.now) (named_sort body.now)) 0 }
-        ensures range { result ≤ 64 }
-    {
-        match body.sort() {
-            Some(sort) => self.sort_bits(sort),
-            None => 0,
-        }
-    }
-
-    /// Whether a constant does not fit its sort.
-    #[tactic(auto, unfolding(crate::specs::Check::constant_does_not_fit))]
-    fn constant_does_not_fit(&self, body: &Body) -> bool
-        ensures { result ≡ constant_does_not_fit self.now body.now }
-    {
-        match body {
-            Body::Const { .. } | Body::Constd { .. } | Body::Consth { .. } => {
-                !constant_fits(self.named_bits(body), body)
-            }
-            _ => false,
-        }
-    }
-
-    /// Whether a justice line names no node.
-    #[tactic(auto, unfolding(crate::specs::Check::justice_is_empty))]
-    fn justice_is_empty(&self, body: &Body) -> bool
-        ensures { result ≡ justice_is_empty body.now }
-    {
-        match body {
-            Body::Justice { operands } => operands.ids().is_empty(),
-            _ => false,
-        }
-    }
-
-    /// Whether the value of an init is no constant node.
-    #[tactic(auto, unfolding(crate::specs::Check::init_is_not_constant))]
-    fn init_is_not_constant(&self, body: &Body) -> bool
-        ensures { result ≡ init_is_not_constant self.now body.now }
-    {
-        match body {
-            Body::Init { value, .. } => self.constant_word(*value).is_none(),
-            _ => false,
-        }
-    }
-
-    /// Whether the state of an init has one already.
-    #[tactic(auto, unfolding(crate::specs::Check::is_second_init))]
-    fn is_second_init(&self, body: &Body) -> bool
-        ensures { result ≡ is_second_init self.now body.now }
-    {
-        match body {
-            Body::Init { state, .. } => self.init_value(u64::from(*state)).is_some(),
-            _ => false,
-        }
-    }
-
-    /// Whether the state of a next has one already.
-    #[tactic(auto, unfolding(crate::specs::Check::is_second_next))]
-    fn is_second_next(&self, body: &Body) -> bool
-        ensures { result ≡ is_second_next self.now body.now }
-    {
-        match body {
-            Body::Next { state, .. } => self.next_value(u64::from(*state)).is_some(),
-            _ => false,
-        }
-    }
-
-    /// Why an operator of two operands is refused behind the rows of its own id, if it is. Most lines are one, so each id is
-    /// looked up once.
-    #[tactic(auto, unfolding(crate::specs::Check::sort_is_missing, crate::specs::Check::operand_is_missing, crate::specs::Check::widths_differ))]
-    fn binary_refusal(
-        &self,
-        operator: Binary,
-        sort: u32,
-        left: u32,
-        right: u32,
-    ) -> Option<PushFault>
-        ensures { result ≡ first_row ((sort_is_missing self.now (body.Binary operator sort left right), PushFault.NoSuchSort)
-            ∷ (operand_is_missing self.now (body.Binary operator sort left right), PushFault.NoSuchNode)
-            ∷ (widths_differ self.now (body.Binary operator sort left right), PushFault.SortMismatch) ∷ []) }
-    {
-        match self.sort_width(sort) {
-            None => Some(PushFault::NoSuchSort),
-            Some(width) => match self.node_width(left) {
-                None => Some(PushFault::NoSuchNode),
-                Some(first) => match self.node_width(right) {
-                    None => Some(PushFault::NoSuchNode),
-                    Some(second) if binary_differs(operator, width, first, second) => {
-                        Some(PushFault::SortMismatch)
-                    }
-                    Some(_) => None,
-                },
-            },
-        }
-    }
-
-    /// Why what an item says is refused, if it is: the first row of the table behind those of its own id that applies.
-    fn said_refusal(&self, item: &Item) -> Option<PushFault>
-        ensures { result ≡ first_row (drop 3 (table self.now item.now)) }
-    {
-        if self.sort_is_missing(&item.body) {
-            return Some(PushFault::NoSuchSort);
-        }
-        if self.operand_is_missing(&item.body) {
-            return Some(PushFault::NoSuchNode);
-        }
-        if self.state_is_none(&item.body) {
-            return Some(PushFault::NotAState);
-        }
-        if self.width_is_out_of_range(&item.body) {
-            return Some(PushFault::WidthOutOfRange);
-        }
-        if self.slice_is_out_of_range(&item.body) {
-            return Some(PushFault::SliceOutOfRange);
-        }
-        if self.widths_differ(&item.body) {
-            return Some(PushFault::SortMismatch);
-        }
-        if self.constant_does_not_fit(&item.body) {
-            return Some(PushFault::ConstantDoesNotFit);
-        }
-        if self.init_is_not_constant(&item.body) {
-            return Some(PushFault::InitNotConstant);
-        }
-        if self.is_second_init(&item.body) {
-            return Some(PushFault::SecondInit);
-        }
-        if self.is_second_next(&item.body) {
-            return Some(PushFault::SecondNext);
-        }
-        if self.justice_is_empty(&item.body) {
-            return Some(PushFault::JusticeEmpty);
-        }
-        None
-    }
-
-    /// The same. An operator of two operands has a way of its own.
-    #[tactic(auto, unfolding(crate::specs::Check::state_is_none, crate::specs::Check::width_is_out_of_range, crate::specs::Check::slice_is_out_of_range, crate::specs::Check::constant_does_not_fit, crate::specs::Check::init_is_not_constant, crate::specs::Check::is_second_init, crate::specs::Check::is_second_next, crate::specs::Check::justice_is_empty))]
-    fn later_refusal(&self, item: &Item) -> Option<PushFault>
-        ensures { result ≡ first_row (drop 3 (table self.now item.now)) }
-    {
-        match &item.body {
-            Body::Binary {
-                operator,
-                sort,
-                left,
-                right,
-            } => self.binary_refusal(*operator, *sort, *left, *right),
-            _ => self.said_refusal(item),
-        }
-    }
-
-    /// Why an item is refused after those here, if it is: the first row of the table that applies.
-    #[tactic(auto, unfolding(crate::specs::Check::refusal))]
-    pub(crate) fn refusal(&self, item: &Item) -> Option<PushFault>
-        ensures { result ≡ refusal self.now item.now }
+    /// Tests an item after those here. Errors: the fault of the first row of the table that applies.
+    pub(crate) fn check(&self, item: &Item) -> Result<(), PushFault>
+        ensures { Refuses result (refusal self.now item.now) }
     {
         if self.is_full() {
-            return Some(PushFault::TooManyItems);
+            return Err(PushFault::TooManyItems);
         }
         if self.id_is_out_of_range(item) {
-            return Some(PushFault::IdOutOfRange);
+            return Err(PushFault::IdOutOfRange);
         }
         if self.id_is_taken(item) {
-            return Some(PushFault::IdTaken);
+            return Err(PushFault::IdTaken);
         }
-        self.later_refusal(item)
+        self.check_body(&item.body)
     }
 }

@@ -205,9 +205,7 @@ impl Model {
         ensures ok { OnOk result (self.new ≡ self.old ++ item ∷ []) }
         ensures err { OnErr result (self.new ≡ self.old) }
     {
-        match self.refusal(&item) {
-            Some(fault) => Err(fault),
-            None => self.add(item),
-        }
+        self.check(&item)?;
+        self.add(item)
     }
 }

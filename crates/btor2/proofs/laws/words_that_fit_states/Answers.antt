@@ -1,4 +1,4 @@
-use Rattle.std.proofs.Common.{◌≡◌, true, false, sym, ◌∙◌}
+use Rattle.std.proofs.Common.{sym, ◌∙◌}
 use Rattle.std.proofs.lemmas.Bool.{true≢false}
 use Rattle.btor2.proofs.StateWords.{not_free}
 use Rattle.btor2.proofs.laws.words_that_fit_states.Goals as goal

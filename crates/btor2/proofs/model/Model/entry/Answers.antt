@@ -1,4 +1,4 @@
-use Rattle.std.proofs.Common.{◌≡◌, ℕ, Some, None, rules, ap, ◌∙◌}
+use Rattle.std.proofs.Common.{◌≡◌, Some, rules, ap, ◌∙◌}
 use Rattle.btor2.specs.Items.{position_of}
 use Rattle.btor2.proofs.EntryLemmas.{entry-found, entry-missing}
 use Rattle.btor2.proofs.model.Model.entry.Goals as goal

@@ -7,9 +7,6 @@ width_in_range : (r : Option ℕ) (n : ℕ) → (IsSome r ↔ ((1 ≤ n) × (n �
 width_in_range None n allowed same range = absurd (false≢true (allowed.1 range))
 width_in_range (Some w) n allowed same range = ap (λ (k : ℕ). Some k) same
 
-pub returns-in-Some : goal.returns-in-Some
-returns-in-Some c =
-    width_in_range c.new.result c.in-Some.width c.new.ensures.allowed c.new.ensures.same c.in-Some.ensures.range ∙ c.in-Some.ensures.value
-
-pub returns-in-None : goal.returns-in-None
-returns-in-None c = c.in-None.ensures.value
+pub returns : goal.returns
+returns c =
+    width_in_range c.new.result c.in_ok-width.width c.new.ensures.allowed c.new.ensures.same c.in_ok-width.ensures.range ∙ c.in_ok-width.ensures.value
