@@ -211,8 +211,6 @@ pub part_in_list : (items : List Item) (p : Part) (x : Item) → kind_of items p
 part_in_list items part.Inputs x h = h
 part_in_list items part.FreeStates x h = (free_parts items x h).0
 part_in_list items part.CarriedStates x h = (carried_parts items x h).0
-part_in_list items part.Bads x h = h
-part_in_list items part.Constraints x h = h
 
 -- the bits of an item that may be there, where it is of a kind
 abbrev pub bits_there : List Item → (Item → Bool) → Option Item → ℕ

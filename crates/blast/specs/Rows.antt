@@ -1,5 +1,5 @@
 -- The literals that a circuit's latches, outputs, bad properties and constraints take from the rows of a model's nodes and from words.
-use Rattle.std.specs.Prelude.{ℕ, suc, Bool, true, false, List, [], ◌∷◌, ◌++◌, ◌==◌, Option, Some, None, if◌then◌else◌, option_and_then, unwrap_or, map, slice_get, slice_index}
+use Rattle.std.specs.Prelude.{ℕ, suc, Bool, true, false, List, [], ◌∷◌, ◌==◌, Option, Some, None, if◌then◌else◌, option_and_then, unwrap_or, map, slice_get, slice_index}
 use Rattle.base.specs.Word.{bit, bits}
 use Rattle.btor2.specs.declared.item.Item.{Item}
 use Rattle.btor2.specs.declared.item.Body.{Body}
@@ -8,7 +8,6 @@ use Rattle.btor2.specs.Items.{position_of, constant_of, init_value, next_value, 
 use Rattle.aiger.specs.declared.circuit.Latch.{Latch}
 use Rattle.aiger.specs.declared.circuit.Reset.{Reset}
 use Rattle.aiger.specs.declared.circuit.Reset.TheVariants as reset
-use Rattle.aiger.specs.Circuit.{Circuit}
 use Rattle.blast.specs.Leaves.{reset_of_bit}
 
 -- the row of the node that an id may name, and none of no node
@@ -56,16 +55,8 @@ abbrev pub output_literals : List Item → List (List ℕ) → Body → List ℕ
 output_literals items rows (body.Output a) = row_at items rows (Some a)
 output_literals items rows _ = []
 
--- the literals that a line adds to the bad properties: that of its operand, and none for any other line
-abbrev pub bad_literals : List Item → List (List ℕ) → Body → List ℕ
-bad_literals items rows (body.Bad a) = literal_at items rows a ∷ []
-bad_literals items rows _ = []
-
--- the literals that a line adds to the constraints: that of its operand, and none for any other line
-abbrev pub constraint_literals : List Item → List (List ℕ) → Body → List ℕ
-constraint_literals items rows (body.Constraint a) = literal_at items rows a ∷ []
-constraint_literals items rows _ = []
-
--- a circuit with more outputs, bad properties and constraints
-abbrev pub with_literals : Circuit → List ℕ → List ℕ → List ℕ → Circuit
-with_literals c outputs bads constraints = record c { outputs = c.outputs ++ outputs; bads = c.bads ++ bads; constraints = c.constraints ++ constraints }
+-- the literal that a line adds to the bad properties or the constraints: that of its operand, and none for any other line
+abbrev pub observed_literals : List Item → List (List ℕ) → Body → List ℕ
+observed_literals items rows (body.Bad a) = literal_at items rows a ∷ []
+observed_literals items rows (body.Constraint a) = literal_at items rows a ∷ []
+observed_literals items rows _ = []
