@@ -1,4 +1,4 @@
--- Names of bits.
+-- Names of bits and of properties.
 use Rattle.std.proofs.Common.{◌≡◌, ℕ, zero, suc, ◌+◌, ◌%◌, ◌^◌, ◌<◌, ◌≤◌, Bool, true, false, not, cond, ◌==◌, ◌&&◌, List, [], ◌∷◌, ◌++◌, length, take, set, get_or, replicate, Option, Some, None, is_some, if◌then◌else◌, unwrap_or, option_and_then, slice_get, refl, sym, ap, ap₂, subst, ◌∙◌, length-append, arith, nat_le, decimal}
 use Rattle.std.specs.List.{list_all}
 use Rattle.std.proofs.lemmas.Bool.Decides.{nat_tests}
@@ -26,7 +26,10 @@ use Rattle.blast.specs.Cost.{kind_width, given_width, carried_width}
 use Rattle.blast.specs.declared.parts.Part.{Part}
 use Rattle.blast.specs.declared.parts.Part.TheVariants as part
 use Rattle.blast.specs.Leaves.{by_body, of_kind, bit_name, bit_names, leaf_names}
+use Rattle.blast.specs.declared.properties.Property.{Property}
+use Rattle.blast.specs.declared.properties.Property.TheVariants as property
 use Rattle.blast.specs.Blocks.{block, blocks, written, IsBlank}
+use Rattle.blast.specs.Properties.{name_by, names_by}
 use Rattle.blast.specs.Sections.{kind_of, list_of, section_of, part_names, names_given, Renames, TakesNames}
 use Rattle.blast.proofs.KindBlocks.{slice_get-replicate, written-nil, length-written, written-more, written-behind, written-blank, written-further, written-whole, blocks-of_kind, blocks-more, of_kind-within, reached, reached-is, reached-more, reached-within, reached-all}
 use Rattle.blast.proofs.WidthLemmas.{part_in_list}
@@ -133,23 +136,33 @@ pub bit_names-none : (first count : ℕ) → bit_names None first count ≡ repl
 bit_names-none first zero = refl
 bit_names-none first (suc count) = ap (λ (names : Names). None ∷ names) (bit_names-none (suc first) count)
 
--- one bit more
-bit_names_after : (symbol : Option (List ℕ)) (first count : ℕ) → bit_names symbol first (suc count) ≡ bit_names symbol first count ++ bit_names symbol (first + count) 1
-bit_names_after symbol first zero =
-    let e : first ≡ first + zero = omega arith in
-    ap (λ (n : ℕ). bit_names symbol n 1) e
-bit_names_after None first (suc count) =
-    let e : suc first + count ≡ first + suc count = omega arith in
-    ap (λ (names : Names). None ∷ names) (bit_names_after None (suc first) count ∙ ap (λ (n : ℕ). bit_names None (suc first) count ++ bit_names None n 1) e)
-bit_names_after (Some s) first (suc count) =
-    let e : suc first + count ≡ first + suc count = omega arith in
-    ap (λ (names : Names). Some (bit_name s first) ∷ names) (bit_names_after (Some s) (suc first) count ∙ ap (λ (n : ℕ). bit_names (Some s) (suc first) count ++ bit_names (Some s) n 1) e)
+-- the names of properties, one more
+names_by_after : (p : Property) (symbol : Option (List ℕ)) (bit count : ℕ) → names_by p symbol bit (suc count) ≡ names_by p symbol bit count ++ names_by p symbol (bit + count) 1
+names_by_after p symbol bit zero =
+    let e : bit ≡ bit + zero = omega arith in
+    ap (λ (n : ℕ). names_by p symbol n 1) e
+names_by_after p None bit (suc count) =
+    let e : suc bit + count ≡ bit + suc count = omega arith in
+    ap (λ (names : Names). None ∷ names) (names_by_after p None (suc bit) count ∙ ap (λ (n : ℕ). names_by p None (suc bit) count ++ names_by p None n 1) e)
+names_by_after p (Some s) bit (suc count) =
+    let e : suc bit + count ≡ bit + suc count = omega arith in
+    ap (λ (names : Names). Some (name_by p s bit) ∷ names) (names_by_after p (Some s) (suc bit) count ∙ ap (λ (n : ℕ). names_by p (Some s) (suc bit) count ++ names_by p (Some s) n 1) e)
 
-pub bit_names-more : (symbol : Option (List ℕ)) (count : ℕ) → bit_names symbol 0 (count + 1) ≡ bit_names symbol 0 count ++ bit_names symbol count 1
-bit_names-more symbol count =
+pub names_by-more : (p : Property) (symbol : Option (List ℕ)) (count : ℕ) → names_by p symbol 0 (count + 1) ≡ names_by p symbol 0 count ++ names_by p symbol count 1
+names_by-more p symbol count =
     let e : count + 1 ≡ suc count = omega arith in
     let f : 0 + count ≡ count = omega arith in
-    ap (bit_names symbol 0) e ∙ bit_names_after symbol 0 count ∙ ap (λ (n : ℕ). bit_names symbol 0 count ++ bit_names symbol n 1) f
+    ap (names_by p symbol 0) e ∙ names_by_after p symbol 0 count ∙ ap (λ (n : ℕ). names_by p symbol 0 count ++ names_by p symbol n 1) f
+
+-- those of outputs are the names of bits
+pub names_by-output : (symbol : Option (List ℕ)) (bit count : ℕ) → names_by property.Output symbol bit count ≡ bit_names symbol bit count
+names_by-output symbol bit zero = refl
+names_by-output None bit (suc count) = ap (λ (names : Names). None ∷ names) (names_by-output None (suc bit) count)
+names_by-output (Some s) bit (suc count) = ap (λ (names : Names). Some (bit_name s bit) ∷ names) (names_by-output (Some s) (suc bit) count)
+
+bit_names-more : (symbol : Option (List ℕ)) (count : ℕ) → bit_names symbol 0 (count + 1) ≡ bit_names symbol 0 count ++ bit_names symbol count 1
+bit_names-more symbol count =
+    sym (names_by-output symbol 0 (count + 1)) ∙ names_by-more property.Output symbol count ∙ ap₂ ◌++◌ (names_by-output symbol 0 count) (names_by-output symbol count 1)
 
 -- a circuit with the names of the first so many bits of a leaf
 abbrev pub WithBits : Section → Circuit → Circuit → List ℕ → ℕ → ℕ → Type 0

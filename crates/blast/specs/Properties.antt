@@ -1,5 +1,5 @@
 -- The outputs, bad properties and constraints that a lowering adds to a circuit, each with its name.
-use Rattle.std.specs.Prelude.{◌≡◌, ◌≢◌, ℕ, Bool, List, [], ◌∷◌, ◌++◌, Option}
+use Rattle.std.specs.Prelude.{◌≡◌, ◌≢◌, ℕ, zero, suc, Bool, List, [], ◌∷◌, ◌++◌, length, Option, Some, None}
 use Rattle.btor2.specs.declared.item.Item.{Item}
 use Rattle.btor2.specs.declared.item.Body.{Body}
 use Rattle.btor2.specs.declared.item.Body.TheVariants as body
@@ -9,8 +9,9 @@ use Rattle.aiger.specs.declared.circuit.Section.TheVariants as section
 use Rattle.aiger.specs.Circuit.{Circuit, Names, net, section_names}
 use Rattle.blast.specs.declared.properties.Property.{Property}
 use Rattle.blast.specs.declared.properties.Property.TheVariants as property
-use Rattle.blast.specs.Leaves.{is_output, output_names, bad_names, constraint_names}
+use Rattle.blast.specs.Leaves.{is_output, bit_name, output_names, bad_names, constraint_names}
 use Rattle.blast.specs.Reads.{OutputsRead, BadsRead, ConstraintsRead}
+use Rattle.blast.specs.Rows.{row_at}
 
 -- the lines that properties of a kind come from
 abbrev pub property_kind : Property → Body → Bool
@@ -36,14 +37,31 @@ with_more property.Output c literals = record c { outputs = c.outputs ++ literal
 with_more property.Bad c literals = record c { bads = c.bads ++ literals }
 with_more property.Constraint c literals = record c { constraints = c.constraints ++ literals }
 
--- the name that a line adds to the bad properties or the constraints: its symbol, and none for any other line
-abbrev pub name_by : Option (List ℕ) → Body → Names
-name_by symbol (body.Bad a) = symbol ∷ []
-name_by symbol (body.Constraint a) = symbol ∷ []
-name_by symbol _ = []
+-- the node of a line of theirs, and none of any other line
+abbrev pub property_operand : Property → Body → Option ℕ
+property_operand property.Output (body.Output a) = Some a
+property_operand property.Bad (body.Bad a) = Some a
+property_operand property.Constraint (body.Constraint a) = Some a
+property_operand _ _ = None
 
-abbrev pub observed_names : Item → Names
-observed_names x = name_by x.symbol x.body
+-- the literals that a line adds: the row of its node, and none for any other line
+abbrev pub property_literals : List Item → List (List ℕ) → Property → Body → List ℕ
+property_literals items rows p b = row_at items rows (property_operand p b)
+
+-- the name of the property of a bit of a line: the symbol, with the bit's number if it is an output
+abbrev pub name_by : Property → List ℕ → ℕ → List ℕ
+name_by property.Output symbol bit = bit_name symbol bit
+name_by _ symbol bit = symbol
+
+-- the names of so many of them from a bit on: none without a symbol
+abbrev pub names_by : Property → Option (List ℕ) → ℕ → ℕ → Names
+names_by p symbol bit zero = []
+names_by p None bit (suc count) = None ∷ names_by p None (suc bit) count
+names_by p (Some s) bit (suc count) = Some (name_by p s bit) ∷ names_by p (Some s) (suc bit) count
+
+-- the names that a line adds: one for each of its literals
+abbrev pub property_names : List Item → List (List ℕ) → Property → Item → Names
+property_names items rows p x = names_by p x.symbol 0 (length (property_literals items rows p x.body))
 
 -- a circuit with more properties of a kind, which have these names, and else as another
 pub record Adds (p : Property) (old : Circuit) (literals : List ℕ) (names : Names) (new : Circuit) : Type 0 where

@@ -1,9 +1,7 @@
--- The literals that a circuit's latches, outputs, bad properties and constraints take from the rows of a model's nodes and from words.
-use Rattle.std.specs.Prelude.{ℕ, suc, Bool, true, false, List, [], ◌∷◌, ◌==◌, Option, Some, None, if◌then◌else◌, option_and_then, unwrap_or, map, slice_get, slice_index}
+-- The literals that a circuit's latches take from the rows of a model's nodes and from words.
+use Rattle.std.specs.Prelude.{ℕ, suc, Bool, true, false, List, [], ◌∷◌, ◌==◌, Option, Some, None, if◌then◌else◌, option_and_then, unwrap_or, map, slice_get}
 use Rattle.base.specs.Word.{bit, bits}
 use Rattle.btor2.specs.declared.item.Item.{Item}
-use Rattle.btor2.specs.declared.item.Body.{Body}
-use Rattle.btor2.specs.declared.item.Body.TheVariants as body
 use Rattle.btor2.specs.Items.{position_of, constant_of, init_value, next_value, is_carried_state}
 use Rattle.aiger.specs.declared.circuit.Latch.{Latch}
 use Rattle.aiger.specs.declared.circuit.Reset.{Reset}
@@ -45,18 +43,3 @@ state_latches items rows x = row_latches (init_word items x.id) 0 (row_at items 
 -- the latches of an item: those of a state that is not free, and none of any other
 abbrev pub item_latches : List Item → List (List ℕ) → Item → List Latch
 item_latches items rows x = if is_carried_state items x then state_latches items rows x else []
-
--- the literal of a node of one bit
-abbrev pub literal_at : List Item → List (List ℕ) → ℕ → ℕ
-literal_at items rows id = slice_index (row_at items rows (Some id)) 0
-
--- the literals that a line adds to the outputs: the row of its operand, and none for any other line
-abbrev pub output_literals : List Item → List (List ℕ) → Body → List ℕ
-output_literals items rows (body.Output a) = row_at items rows (Some a)
-output_literals items rows _ = []
-
--- the literal that a line adds to the bad properties or the constraints: that of its operand, and none for any other line
-abbrev pub observed_literals : List Item → List (List ℕ) → Body → List ℕ
-observed_literals items rows (body.Bad a) = literal_at items rows a ∷ []
-observed_literals items rows (body.Constraint a) = literal_at items rows a ∷ []
-observed_literals items rows _ = []

@@ -1,19 +1,13 @@
 //! The outputs, bad properties and constraints of a circuit, each with its name.
-ghost use Rattle.std.specs.Prelude.{◌≡◌, ℕ, ◌+◌, ◌<◌, ◌≤◌, [], ◌∷◌, true, length, Some, None, All, is_some, IfErr, OnOk, slice_get, slice_index};
+ghost use Rattle.std.specs.Prelude.{◌≡◌, ℕ, ◌+◌, ◌<◌, ◌≤◌, [], ◌∷◌, true, length, Some, None, All, IfErr, OnOk, slice_get, slice_index};
 ghost use Rattle.std.specs.List.{flat_map};
 ghost use Rattle.btor2.specs.Check.{IsWellFormed};
-ghost use Rattle.btor2.specs.Lists.{places};
 ghost use Rattle.aiger.specs.Limits.{greatest_count};
 ghost use Rattle.aiger.specs.Net.{IsDefined};
 ghost use Rattle.aiger.specs.Circuit.{net, is_name, property_refusal, RefusesBy};
 ghost use Rattle.blast.specs.declared.fault.LowerFault.TheVariants as fault;
-ghost use Rattle.blast.specs.declared.properties.Property.TheVariants as property;
-ghost use Rattle.blast.specs.Blocks.{blocks};
-ghost use Rattle.blast.specs.Leaves.{bit_names, shown_names};
-ghost use Rattle.blast.specs.Properties.{property_kind, property_section, literals_of, with_more, observed_names, Adds, TakesProperties};
+ghost use Rattle.blast.specs.Properties.{property_operand, property_section, property_literals, property_names, literals_of, with_more, names_by, Adds, TakesProperties};
 ghost use Rattle.blast.specs.Reads.{RowsRead};
-ghost use Rattle.blast.specs.Rows.{row_at, literal_at, output_literals, observed_literals};
-ghost use Rattle.blast.specs.Table.{row_of};
 
 use crate::fault::LowerFault;
 use crate::items::{item_at, node_row};
@@ -92,44 +86,32 @@ fn push_named(
     give_name(section, position, name, circuit)
 }
 
-/// Adds the property of a line of one bit. Its name is the line's symbol, if it has one.
-fn push_own(
-    property: Property,
-    lit: Lit,
-    symbol: &Option<Symbol>,
-    circuit: &mut Circuit,
-) -> Result<(), LowerFault>
-    requires defined { IsDefined (net circuit.old) lit }
-    requires few { length (literals_of property circuit.old) < greatest_count }
-    ensures ok { OnOk result (Adds property circuit.old (lit ∷ []) (symbol.now ∷ []) circuit.new) }
-    ensures err { IfErr result (λ e. e ≡ fault.NoMemory) }
-{
-    match symbol {
-        Some(symbol) => push_named(property, lit, symbol.bytes(), circuit),
-        None => push_unnamed(property, lit, circuit),
-    }
-}
-
-/// Adds the output of a bit. Its name is the line's symbol with the bit's number, if it has one.
+/// Adds the property of a bit of a line. An output's name is the line's symbol with the bit's number, and that of any other
+/// property the symbol itself; it has none where the line has none.
 fn push_bit(
+    property: Property,
     lit: Lit,
     symbol: &Option<Symbol>,
     bit: u64,
     circuit: &mut Circuit,
 ) -> Result<(), LowerFault>
     requires defined { IsDefined (net circuit.old) lit }
-    requires few { length circuit.old.outputs < greatest_count }
+    requires few { length (literals_of property circuit.old) < greatest_count }
     requires bit { bit < 64 }
-    ensures ok { OnOk result (Adds property.Output circuit.old (lit ∷ []) (bit_names symbol.now bit 1) circuit.new) }
+    ensures ok { OnOk result (Adds property circuit.old (lit ∷ []) (names_by property symbol.now bit 1) circuit.new) }
     ensures err { IfErr result (λ e. e ≡ fault.NoMemory) }
 {
-    match symbol {
-        Some(symbol) => {
+    let Some(symbol) = symbol else {
+        return push_unnamed(property, lit, circuit);
+    };
+    match property {
+        Property::Output => {
             let mut name = ArrayVec::new();
             write_bit_name(symbol.bytes(), bit, &mut name);
-            push_named(Property::Output, lit, name.as_slice(), circuit)
+            push_named(property, lit, name.as_slice(), circuit)
         }
-        None => push_unnamed(Property::Output, lit, circuit),
+        Property::Bad => push_named(property, lit, symbol.bytes(), circuit),
+        Property::Constraint => push_named(property, lit, symbol.bytes(), circuit),
     }
 }
 
@@ -141,24 +123,50 @@ fn literal_of(row: &[Lit], bit: usize) -> Lit
     row[bit]
 }
 
-/// Adds the outputs of a row, the lowest bit first, with the names of its line.
-fn push_row(row: &[Lit], symbol: &Option<Symbol>, circuit: &mut Circuit) -> Result<(), LowerFault>
+/// Adds the properties of a line with a row, one of each literal, the lowest bit first.
+fn push_row(
+    property: Property,
+    row: &[Lit],
+    symbol: &Option<Symbol>,
+    circuit: &mut Circuit,
+) -> Result<(), LowerFault>
     requires defined { All (IsDefined (net circuit.old)) row.now }
     requires short { length row.now ≤ 64 }
-    requires few { length circuit.old.outputs + length row.now ≤ greatest_count }
-    ensures ok { OnOk result (Adds property.Output circuit.old row.now (bit_names symbol.now 0 (length row.now)) circuit.new) }
+    requires few { length (literals_of property circuit.old) + length row.now ≤ greatest_count }
+    ensures ok { OnOk result (Adds property circuit.old row.now (names_by property symbol.now 0 (length row.now)) circuit.new) }
     ensures err { IfErr result (λ e. e ≡ fault.NoMemory) }
 {
     for bit in 0..row.len() {
-        push_bit(literal_of(row, bit), symbol, bit as u64, circuit)?;
+        push_bit(property, literal_of(row, bit), symbol, bit as u64, circuit)?;
     }
     Ok(())
 }
 
-/// Adds the outputs of an output line: the row of its operand. Any other line adds none.
-fn push_shown(
+/// The node of a line of a kind of properties, and none of any other line.
+fn operand_of(property: Property, body: &Body) -> Option<u32>
+    ensures { result ≡ property_operand property body.now }
+{
+    match property {
+        Property::Output => match body {
+            Body::Output { operand } => Some(*operand),
+            _ => None,
+        },
+        Property::Bad => match body {
+            Body::Bad { operand } => Some(*operand),
+            _ => None,
+        },
+        Property::Constraint => match body {
+            Body::Constraint { operand } => Some(*operand),
+            _ => None,
+        },
+    }
+}
+
+/// Adds the properties of an item: those of its node's row where it is a line of their kind, and none of any other item.
+fn push_item(
     model: &Model,
     table: &Table,
+    property: Property,
     place: usize,
     item: &Item,
     circuit: &mut Circuit,
@@ -167,97 +175,32 @@ fn push_shown(
     requires place { slice_get model.now place ≡ Some item.now }
     requires reads { RowsRead model.now (net circuit.old) table.now }
     requires all { length table.now ≡ length model.now }
-    requires few { length circuit.old.outputs + length (output_literals model.now table.now item.now.body) ≤ greatest_count }
-    ensures ok { OnOk result (Adds property.Output circuit.old (output_literals model.now table.now item.now.body) (shown_names model.now item.now) circuit.new) }
+    requires few { length (literals_of property circuit.old) + length (property_literals model.now table.now property item.now.body) ≤ greatest_count }
+    ensures ok { OnOk result (Adds property circuit.old (property_literals model.now table.now property item.now.body) (property_names model.now table.now property item.now) circuit.new) }
     ensures err { IfErr result (λ e. e ≡ fault.NoMemory) }
 {
-    match item.body {
-        Body::Output { operand } => push_row(
-            node_row(model, table, operand),
-            &item.symbol,
-            circuit,
-        ),
-        _ => Ok(()),
+    match operand_of(property, &item.body) {
+        Some(id) => push_row(property, node_row(model, table, id), &item.symbol, circuit),
+        None => Ok(()),
     }
 }
 
-/// Adds the outputs of a model.
-fn push_outputs(model: &Model, table: &Table, circuit: &mut Circuit) -> Result<(), LowerFault>
+/// Adds the properties of a kind, in file order.
+fn push_kind(
+    model: &Model,
+    table: &Table,
+    property: Property,
+    circuit: &mut Circuit,
+) -> Result<(), LowerFault>
     requires reads { RowsRead model.now (net circuit.old) table.now }
     requires all { length table.now ≡ length model.now }
-    requires none { circuit.old.outputs ≡ [] }
-    ensures ok { OnOk result (Adds property.Output circuit.old (flat_map (λ x. output_literals model.now table.now x.body) model.now) (flat_map (shown_names model.now) model.now) circuit.new) }
+    requires none { literals_of property circuit.old ≡ [] }
+    ensures ok { OnOk result (Adds property circuit.old (flat_map (λ x. property_literals model.now table.now property x.body) model.now) (flat_map (property_names model.now table.now property) model.now) circuit.new) }
     ensures err { IfErr result (λ e. e ≡ fault.NoMemory) }
 {
     let items = model.items();
     for place in 0..items.len() {
-        push_shown(model, table, place, item_at(items, place), circuit)?;
-    }
-    Ok(())
-}
-
-/// The literal of a node of one bit.
-fn literal(model: &Model, table: &Table, id: u32) -> Lit
-    requires there { is_some (row_of model.now table.now id) ≡ true }
-    requires one { length (row_at model.now table.now (Some id)) ≡ 1 }
-    ensures { result ≡ literal_at model.now table.now id }
-{
-    node_row(model, table, id)[0]
-}
-
-/// Adds the property of a bad property's line or a constraint's: the literal of its operand. Any other line adds none.
-fn push_observed(
-    model: &Model,
-    table: &Table,
-    property: Property,
-    place: usize,
-    item: &Item,
-    circuit: &mut Circuit,
-) -> Result<(), LowerFault>
-    requires well_formed { IsWellFormed model.now }
-    requires place { slice_get model.now place ≡ Some item.now }
-    requires reads { RowsRead model.now (net circuit.old) table.now }
-    requires all { length table.now ≡ length model.now }
-    requires few { length (literals_of property circuit.old) < greatest_count }
-    ensures ok { OnOk result (Adds property circuit.old (observed_literals model.now table.now item.now.body) (observed_names item.now) circuit.new) }
-    ensures err { IfErr result (λ e. e ≡ fault.NoMemory) }
-{
-    match item.body {
-        Body::Bad { operand } => push_own(
-            property,
-            literal(model, table, operand),
-            &item.symbol,
-            circuit,
-        ),
-        Body::Constraint { operand } => push_own(
-            property,
-            literal(model, table, operand),
-            &item.symbol,
-            circuit,
-        ),
-        _ => Ok(()),
-    }
-}
-
-/// Adds the bad properties or the constraints of a model, whose places in its items are a list of the model's.
-fn push_listed(
-    model: &Model,
-    table: &Table,
-    property: Property,
-    list: &[usize],
-    circuit: &mut Circuit,
-) -> Result<(), LowerFault>
-    requires list { list.now ≡ places (property_kind property) 0 model.now }
-    requires reads { RowsRead model.now (net circuit.old) table.now }
-    requires all { length table.now ≡ length model.now }
-    requires none { literals_of property circuit.old ≡ [] }
-    ensures ok { OnOk result (Adds property circuit.old (blocks (λ x. observed_literals model.now table.now x.body) model.now list.now) (blocks observed_names model.now list.now) circuit.new) }
-    ensures err { IfErr result (λ e. e ≡ fault.NoMemory) }
-{
-    let items = model.items();
-    for k in 0..list.len() {
-        let place = list[k];
-        push_observed(
+        push_item(
             model,
             table,
             property,
@@ -269,8 +212,8 @@ fn push_listed(
     Ok(())
 }
 
-/// Adds the outputs, the bad properties and the constraints of a model, of each kind in file order: the literals of their
-/// operands, each with its name as it is added. So names come in the order in which a circuit keeps them.
+/// Adds the outputs, then the bad properties and then the constraints of a model: the literals of their operands, each with
+/// its name as it is added. So names come in the order in which a circuit keeps them.
 ///
 /// Conditions: the table has a row for each item, which reads as its node's word; the circuit has no output, no bad
 /// property and no constraint yet.
@@ -291,13 +234,7 @@ pub(crate) fn push_properties(
 {
     // a model's items are well-formed
     let _ = model.items();
-    push_outputs(model, table, circuit)?;
-    push_listed(model, table, Property::Bad, model.bads(), circuit)?;
-    push_listed(
-        model,
-        table,
-        Property::Constraint,
-        model.constraints(),
-        circuit,
-    )
+    push_kind(model, table, Property::Output, circuit)?;
+    push_kind(model, table, Property::Bad, circuit)?;
+    push_kind(model, table, Property::Constraint, circuit)
 }
