@@ -79,13 +79,6 @@ written-more list at more y h =
     ∙ ap (λ (l : List _). take at list ++ l) (sym (append_assoc more (y ∷ []) (drop (suc (at + length more)) list)))
     ∙ ap (λ (k : ℕ). take at list ++ ((more ++ y ∷ []) ++ drop k list)) n
 
--- a block of one entry
-pub written-one : {A : Type 0} (list : List A) (at : ℕ) (y : A) → at < length list → written list at (y ∷ []) ≡ set list at y
-written-one {A = A} list at y h =
-    let none : List A = [] in
-    let i : at + length none ≡ at = omega arith in
-    sym (ap₂ (λ (l : List _) (n : ℕ). set l n y) (sym (written-nil list at)) (sym i) ∙ written-more list at [] y (omega arith))
-
 -- a block written over entries behind a front
 pub written-at : {A : Type 0} (front old more rest : List A) (at : ℕ) → length front ≡ at → length old ≡ length more → written (front ++ (old ++ rest)) at more ≡ (front ++ more) ++ rest
 unfolding written

@@ -1,7 +1,7 @@
 -- The latches of states.
 use Rattle.std.proofs.Common.{◌≡◌, ℕ, zero, suc, ◌+◌, ◌*◌, ◌/◌, ◌%◌, ◌^◌, ◌<◌, ◌≤◌, Bool, true, false, cond, ◌==◌, List, [], ◌∷◌, ◌++◌, length, map, set, get_or, take, replicate, All, Option, Some, None, is_some, unwrap_or, option_map, slice_get, refl, sym, ap, ap₂, subst, ◌∙◌, length-append, arith}
 use Rattle.std.proofs.Math.Nat.{pow-suc, div-div-eq-div-mul}
-use Rattle.std.proofs.lemmas.List.{map-append, take_all, take_more, length-take-le}
+use Rattle.std.proofs.lemmas.List.{map-append, take_more, length-take-le}
 use Rattle.std.proofs.lemmas.List.Elements.{All-nil, All-cons, All-append, All-get_or, All-head, All-tail}
 use Rattle.std.proofs.lemmas.List.Sums.{sum_by-cons}
 use Rattle.base.specs.Word.{bit, bits}
@@ -186,10 +186,6 @@ WithRow old cur first init row bit = cur ≡ record old { latches = written old.
 pub WithRow-none : (c : Circuit) (first : ℕ) (init : Option ℕ) (row : List ℕ) → WithRow c c first init row 0
 unfolding row_latches
 WithRow-none c first init row = sym (ap (λ (l : List Latch). record c { latches = l }) (written-nil c.latches first))
-
-pub WithRow-all : (old cur : Circuit) (first : ℕ) (init : Option ℕ) (row : List ℕ) (bit : ℕ) → length row ≤ bit → WithRow old cur first init row bit
-    → cur ≡ record old { latches = written old.latches first (row_latches init 0 row) }
-WithRow-all old cur first init row bit end h = h ∙ ap (λ (l : List ℕ). record old { latches = written old.latches first (row_latches init 0 l) }) (take_all bit row end)
 
 -- where the next latch of the row is
 row_reached : (first : ℕ) (init : Option ℕ) (row : List ℕ) (bit : ℕ) → bit ≤ length row → first + length (row_latches init 0 (take bit row)) ≡ first + bit

@@ -10,7 +10,6 @@ pub mod NameLemmas
 pub mod LatchLemmas
 pub mod RefusalLemmas
 pub mod PropertyLemmas
-pub mod OutputNames
 pub mod LowerLemmas
 pub mod LowerAssembly
 pub mod ReachLemmas

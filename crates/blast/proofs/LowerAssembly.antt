@@ -20,6 +20,7 @@ use Rattle.blast.specs.declared.fault.LowerFault.TheVariants as fault
 use Rattle.blast.specs.Cost.{bound, kind_width, given_width, carried_width}
 use Rattle.blast.specs.Leaves.{of_kind, leaf_resets, resets_of_word, reset_of_bit}
 use Rattle.blast.specs.Lowering.{Lowers}
+use Rattle.blast.specs.Properties.{TakesProperties}
 use Rattle.blast.specs.Sections.{TakesNames}
 use Rattle.blast.specs.Reads.{leaves_only, LowersNodes, RowsRead, LatchesRead, OutputsRead, BadsRead, ConstraintsRead}
 use Rattle.btor2.specs.declared.item.Body.{Body}
@@ -131,11 +132,11 @@ pub assemble : (items : List Item) (n : Net) (rows : List (List ℕ)) (c1 c2 c3 
     → IsWellFormed items → IsOfProfile items → IsCircuit c4
     → LowersNodes items (leaves_only items) n rows → c1 ≡ gates_only n
     → LatchesRead items (net c1) items c2.latches → c2 ≡ record c1 { latches = c2.latches }
-    → OutputsRead items (net c2) items c3.outputs → BadsRead items (net c2) items c3.bads → ConstraintsRead items (net c2) items c3.constraints
-    → c3 ≡ record c2 { outputs = c3.outputs; bads = c3.bads; constraints = c3.constraints }
-    → TakesNames items c3 c4
+    → TakesNames items c2 c3
+    → TakesProperties items c3 c4
     → Lowers items c4
-assemble items n rows c1 c2 c3 c4 well profile circuit nodes is1 latches is2 outputs bads constraints is3 takes =
+assemble items n rows c1 c2 c3 c4 well profile circuit nodes is1 latches is2 named takes =
+    let is3 = named.rest in
     let is4 = takes.rest in
     let inputs1 : c1.inputs ≡ n.inputs = ap (λ (c : Circuit). c.inputs) is1 in
     let inputs2 : c2.inputs ≡ c1.inputs = ap (λ (c : Circuit). c.inputs) is2 in
@@ -144,18 +145,16 @@ assemble items n rows c1 c2 c3 c4 well profile circuit nodes is1 latches is2 out
     let gates2 : c2.gates ≡ c1.gates = ap (λ (c : Circuit). c.gates) is2 in
     let gates4 : c4.gates ≡ c2.gates = ap (λ (c : Circuit). c.gates) is4 ∙ ap (λ (c : Circuit). c.gates) is3 in
     let latches4 : c4.latches ≡ c2.latches = ap (λ (c : Circuit). c.latches) is4 ∙ ap (λ (c : Circuit). c.latches) is3 in
-    let outputs4 : c4.outputs ≡ c3.outputs = ap (λ (c : Circuit). c.outputs) is4 in
-    let bads4 : c4.bads ≡ c3.bads = ap (λ (c : Circuit). c.bads) is4 in
-    let constraints4 : c4.constraints ≡ c3.constraints = ap (λ (c : Circuit). c.constraints) is4 in
     let count1 : length c1.latches ≡ n.latches = ap (λ (c : Circuit). length c.latches) is1 ∙ length-replicate n.latches fresh_latch in
     let count2 : length c2.latches ≡ carried_width items = latch_count items (net c1) c2 latches in
     let net2 : net c2 ≡ net c1 = net_same c2.inputs c1.inputs (length c2.latches) (length c1.latches) c2.gates c1.gates inputs2 (count2 ∙ sym nodes.grows.latches ∙ sym count1) gates2 in
-    let net4 : net c4 ≡ net c2 = net_same c4.inputs c2.inputs (length c4.latches) (length c2.latches) c4.gates c2.gates inputs4 (ap length latches4) gates4 in
+    let net3 : net c3 ≡ net c2 = ap net is3 in
+    let net4 : net c4 ≡ net c3 = ap net is4 in
     let observes : Observes items c4 = record {
-      latches = subst (λ (m : Net). LatchesRead items m items c4.latches) (sym (net4 ∙ net2)) (rw latches4 latches);
-      outputs = subst (λ (m : Net). OutputsRead items m items c4.outputs) (sym net4) (rw outputs4 outputs);
-      bads = subst (λ (m : Net). BadsRead items m items c4.bads) (sym net4) (rw bads4 bads);
-      constraints = subst (λ (m : Net). ConstraintsRead items m items c4.constraints) (sym net4) (rw constraints4 constraints);
+      latches = subst (λ (m : Net). LatchesRead items m items c4.latches) (sym (net4 ∙ net3 ∙ net2)) (rw latches4 latches);
+      outputs = subst (λ (m : Net). OutputsRead items m items c4.outputs) (sym net4) takes.outputs;
+      bads = subst (λ (m : Net). BadsRead items m items c4.bads) (sym net4) takes.bads;
+      constraints = subst (λ (m : Net). ConstraintsRead items m items c4.constraints) (sym net4) takes.constraints;
       stays = λ state input f fits in_fits frame. next_state_fits items state input f well fits in_fits frame (nexts_by_id items (nexts_given items profile));
     } in
     let more = nodes.grows.gates in
@@ -164,12 +163,12 @@ assemble items n rows c1 c2 c3 c4 well profile circuit nodes is1 latches is2 out
       of_profile = profile;
       circuit = circuit;
       inputs = inputs4 ∙ inputs2 ∙ inputs1 ∙ nodes.grows.inputs;
-      input_names = takes.inputs;
-      latch_names = takes.latches;
+      input_names = takes.input_names ∙ named.inputs;
+      latch_names = takes.latch_names ∙ named.latches;
       resets = rw latches4 latches.resets;
-      output_names = takes.outputs;
-      bad_names = takes.bads;
-      constraint_names = takes.constraints;
+      output_names = takes.output_names;
+      bad_names = takes.bad_names;
+      constraint_names = takes.constraint_names;
       no_justice = ap (λ (c : Circuit). c.justice) is4 ∙ ap (λ (c : Circuit). c.justice) is3 ∙ ap (λ (c : Circuit). c.justice) is2 ∙ ap (λ (c : Circuit). c.justice) is1;
       no_fair = ap (λ (c : Circuit). c.fair) is4 ∙ ap (λ (c : Circuit). c.fair) is3 ∙ ap (λ (c : Circuit). c.fair) is2 ∙ ap (λ (c : Circuit). c.fair) is1;
       few_gates = rw (gates4, gates2, gates1, more.1) more.2;
@@ -182,20 +181,31 @@ pub record IsUnnamedYet (items : List Item) (c : Circuit) : Type 0 where
   pub inputs : c.inputs ≡ given_width items
   pub latches : length c.latches ≡ carried_width items
 
-pub unnamed_yet : (items : List Item) (n : Net) (rows : List (List ℕ)) (c1 c2 c3 : Circuit) → LowersNodes items (leaves_only items) n rows → c1 ≡ gates_only n
-    → LatchesRead items (net c1) items c2.latches → c2 ≡ record c1 { latches = c2.latches } → c3 ≡ record c2 { outputs = c3.outputs; bads = c3.bads; constraints = c3.constraints } → IsUnnamedYet items c3
-unnamed_yet items n rows c1 c2 c3 nodes is1 latches is2 is3 =
+pub unnamed_yet : (items : List Item) (n : Net) (rows : List (List ℕ)) (c1 c2 : Circuit) → LowersNodes items (leaves_only items) n rows → c1 ≡ gates_only n
+    → LatchesRead items (net c1) items c2.latches → c2 ≡ record c1 { latches = c2.latches } → IsUnnamedYet items c2
+unnamed_yet items n rows c1 c2 nodes is1 latches is2 =
     record {
-      names = ap (λ (c : Circuit). c.names) is3 ∙ ap (λ (c : Circuit). c.names) is2 ∙ ap (λ (c : Circuit). c.names) is1;
-      inputs = ap (λ (c : Circuit). c.inputs) is3 ∙ ap (λ (c : Circuit). c.inputs) is2 ∙ ap (λ (c : Circuit). c.inputs) is1 ∙ nodes.grows.inputs;
-      latches = ap (λ (c : Circuit). length c.latches) is3 ∙ latch_count items (net c1) c2 latches;
+      names = ap (λ (c : Circuit). c.names) is2 ∙ ap (λ (c : Circuit). c.names) is1;
+      inputs = ap (λ (c : Circuit). c.inputs) is2 ∙ ap (λ (c : Circuit). c.inputs) is1 ∙ nodes.grows.inputs;
+      latches = latch_count items (net c1) c2 latches;
     }
 
--- the rows read as before once the latches are set
-pub rows_still : (items : List Item) (n : Net) (rows : List (List ℕ)) (c1 c2 : Circuit) → LowersNodes items (leaves_only items) n rows → c1 ≡ gates_only n
-    → LatchesRead items (net c1) items c2.latches → c2 ≡ record c1 { latches = c2.latches } → RowsRead items (net c2) rows
-rows_still items n rows c1 c2 nodes is1 latches is2 =
+-- what properties are added to: it has none yet, and the rows read as before once the latches are set and the leaves named
+pub record IsUnobservedYet (items : List Item) (rows : List (List ℕ)) (c : Circuit) : Type 0 where
+  pub reads : RowsRead items (net c) rows
+  pub outputs : c.outputs ≡ []
+  pub bads : c.bads ≡ []
+  pub constraints : c.constraints ≡ []
+
+pub unobserved_yet : (items : List Item) (n : Net) (rows : List (List ℕ)) (c1 c2 c3 : Circuit) → LowersNodes items (leaves_only items) n rows → c1 ≡ gates_only n
+    → LatchesRead items (net c1) items c2.latches → c2 ≡ record c1 { latches = c2.latches } → TakesNames items c2 c3 → IsUnobservedYet items rows c3
+unobserved_yet items n rows c1 c2 c3 nodes is1 latches is2 named =
     let inputs2 : c2.inputs ≡ n.inputs = ap (λ (c : Circuit). c.inputs) is2 ∙ ap (λ (c : Circuit). c.inputs) is1 in
     let gates2 : c2.gates ≡ n.gates = ap (λ (c : Circuit). c.gates) is2 ∙ ap (λ (c : Circuit). c.gates) is1 in
     let same : net c2 ≡ n = net_same c2.inputs n.inputs (length c2.latches) n.latches c2.gates n.gates inputs2 (latch_count items (net c1) c2 latches ∙ sym nodes.grows.latches) gates2 in
-    subst (λ (m : Net). RowsRead items m rows) (sym same) nodes.reads
+    record {
+      reads = subst (λ (m : Net). RowsRead items m rows) (sym (ap net named.rest ∙ same)) nodes.reads;
+      outputs = ap (λ (c : Circuit). c.outputs) named.rest ∙ ap (λ (c : Circuit). c.outputs) is2 ∙ ap (λ (c : Circuit). c.outputs) is1;
+      bads = ap (λ (c : Circuit). c.bads) named.rest ∙ ap (λ (c : Circuit). c.bads) is2 ∙ ap (λ (c : Circuit). c.bads) is1;
+      constraints = ap (λ (c : Circuit). c.constraints) named.rest ∙ ap (λ (c : Circuit). c.constraints) is2 ∙ ap (λ (c : Circuit). c.constraints) is1;
+    }

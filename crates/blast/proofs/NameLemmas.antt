@@ -25,10 +25,13 @@ use Rattle.aiger.proofs.SectionNameLemmas.{length-section_names, slice_get-secti
 use Rattle.blast.specs.Cost.{kind_width, given_width, carried_width}
 use Rattle.blast.specs.declared.parts.Part.{Part}
 use Rattle.blast.specs.declared.parts.Part.TheVariants as part
-use Rattle.blast.specs.Leaves.{by_body, of_kind, bit_name, bit_names, leaf_names, output_names, bad_names, constraint_names}
+use Rattle.blast.specs.Leaves.{by_body, of_kind, bit_name, bit_names, leaf_names}
+use Rattle.blast.specs.declared.properties.Property.{Property}
+use Rattle.blast.specs.declared.properties.Property.TheVariants as property
 use Rattle.blast.specs.Blocks.{block, blocks, written, IsBlank}
-use Rattle.blast.specs.Sections.{kind_of, list_of, section_of, item_names, part_names, names_given, Renames, TakesNames}
-use Rattle.blast.proofs.KindBlocks.{slice_get-replicate, written-nil, length-written, written-one, written-more, written-behind, written-blank, written-further, written-whole, blocks-of_kind, blocks-more, of_kind-within, reached, reached-is, reached-more, reached-within, reached-all}
+use Rattle.blast.specs.Properties.{name_by, names_by}
+use Rattle.blast.specs.Sections.{kind_of, list_of, section_of, part_names, names_given, Renames, TakesNames}
+use Rattle.blast.proofs.KindBlocks.{slice_get-replicate, written-nil, length-written, written-more, written-behind, written-blank, written-further, written-whole, blocks-of_kind, blocks-more, of_kind-within, reached, reached-is, reached-more, reached-within, reached-all}
 use Rattle.blast.proofs.WidthLemmas.{part_in_list}
 
 -- a byte of a symbol is one of a name
@@ -133,21 +136,33 @@ pub bit_names-none : (first count : ℕ) → bit_names None first count ≡ repl
 bit_names-none first zero = refl
 bit_names-none first (suc count) = ap (λ (names : Names). None ∷ names) (bit_names-none (suc first) count)
 
--- one bit more
-bit_names_after : (s : List ℕ) (first count : ℕ) → bit_names (Some s) first (suc count) ≡ bit_names (Some s) first count ++ Some (bit_name s (first + count)) ∷ []
-bit_names_after s first zero =
-    let e : first ≡ first + zero = omega arith in
-    let one : ℕ → Names = λ n. Some (bit_name s n) ∷ [] in
-    ap one e
-bit_names_after s first (suc count) =
-    let e : suc first + count ≡ first + suc count = omega arith in
-    ap (λ (names : Names). Some (bit_name s first) ∷ names) (bit_names_after s (suc first) count ∙ ap (λ (n : ℕ). bit_names (Some s) (suc first) count ++ Some (bit_name s n) ∷ []) e)
+-- the names of properties, one more
+names_by_after : (p : Property) (symbol : Option (List ℕ)) (bit count : ℕ) → names_by p symbol bit (suc count) ≡ names_by p symbol bit count ++ names_by p symbol (bit + count) 1
+names_by_after p symbol bit zero =
+    let e : bit ≡ bit + zero = omega arith in
+    ap (λ (n : ℕ). names_by p symbol n 1) e
+names_by_after p None bit (suc count) =
+    let e : suc bit + count ≡ bit + suc count = omega arith in
+    ap (λ (names : Names). None ∷ names) (names_by_after p None (suc bit) count ∙ ap (λ (n : ℕ). names_by p None (suc bit) count ++ names_by p None n 1) e)
+names_by_after p (Some s) bit (suc count) =
+    let e : suc bit + count ≡ bit + suc count = omega arith in
+    ap (λ (names : Names). Some (name_by p s bit) ∷ names) (names_by_after p (Some s) (suc bit) count ∙ ap (λ (n : ℕ). names_by p (Some s) (suc bit) count ++ names_by p (Some s) n 1) e)
 
-pub bit_names-more : (s : List ℕ) (count : ℕ) → bit_names (Some s) 0 (count + 1) ≡ bit_names (Some s) 0 count ++ Some (bit_name s count) ∷ []
-bit_names-more s count =
+pub names_by-more : (p : Property) (symbol : Option (List ℕ)) (count : ℕ) → names_by p symbol 0 (count + 1) ≡ names_by p symbol 0 count ++ names_by p symbol count 1
+names_by-more p symbol count =
     let e : count + 1 ≡ suc count = omega arith in
     let f : 0 + count ≡ count = omega arith in
-    ap (bit_names (Some s) 0) e ∙ bit_names_after s 0 count ∙ ap (λ (n : ℕ). bit_names (Some s) 0 count ++ Some (bit_name s n) ∷ []) f
+    ap (names_by p symbol 0) e ∙ names_by_after p symbol 0 count ∙ ap (λ (n : ℕ). names_by p symbol 0 count ++ names_by p symbol n 1) f
+
+-- those of outputs are the names of bits
+pub names_by-output : (symbol : Option (List ℕ)) (bit count : ℕ) → names_by property.Output symbol bit count ≡ bit_names symbol bit count
+names_by-output symbol bit zero = refl
+names_by-output None bit (suc count) = ap (λ (names : Names). None ∷ names) (names_by-output None (suc bit) count)
+names_by-output (Some s) bit (suc count) = ap (λ (names : Names). Some (bit_name s bit) ∷ names) (names_by-output (Some s) (suc bit) count)
+
+bit_names-more : (symbol : Option (List ℕ)) (count : ℕ) → bit_names symbol 0 (count + 1) ≡ bit_names symbol 0 count ++ bit_names symbol count 1
+bit_names-more symbol count =
+    sym (names_by-output symbol 0 (count + 1)) ∙ names_by-more property.Output symbol count ∙ ap₂ ◌++◌ (names_by-output symbol 0 count) (names_by-output symbol count 1)
 
 -- a circuit with the names of the first so many bits of a leaf
 abbrev pub WithBits : Section → Circuit → Circuit → List ℕ → ℕ → ℕ → Type 0
@@ -177,7 +192,7 @@ WithBits-more s old cur new symbol first bit r room given =
     Renames-equal s old new (set names (first + bit) (Some (bit_name symbol bit))) (written (section_names s old) first (bit_names (Some symbol) 0 (bit + 1)))
     (ap (λ (n : ℕ). set names n (Some (bit_name symbol bit))) i
     ∙ written-more (section_names s old) first (bit_names (Some symbol) 0 bit) (Some (bit_name symbol bit)) (omega arith)
-    ∙ ap (written (section_names s old) first) (sym (bit_names-more symbol bit)))
+    ∙ ap (written (section_names s old) first) (sym (bit_names-more (Some symbol) bit)))
     (Renames-then s old cur new names (λ (n : Names). set n (first + bit) (Some (bit_name symbol bit))) r given)
 
 -- a leaf without a symbol changes nothing
@@ -186,15 +201,6 @@ pub unnamed_leaf : (s : Section) (c : Circuit) (first count : ℕ) → IsBlank N
 unnamed_leaf s c first count free room =
     Renames-equal s c c (section_names s c) _
     (sym (ap (written (section_names s c) first) (bit_names-none 0 count) ∙ written-blank None (section_names s c) first count free room)) (Renames-own s c)
-
--- nor does a property without one
-pub unnamed_property : (s : Section) (c : Circuit) (first : ℕ) → IsBlank None first 1 (section_names s c) → first + 1 ≤ length (section_names s c)
-    → Renames s c (written (section_names s c) first (None ∷ [])) c
-unnamed_property s c first free room = Renames-equal s c c (section_names s c) _ (sym (written-blank None (section_names s c) first 1 free room)) (Renames-own s c)
-
-pub named_property : (s : Section) (old new : Circuit) (first : ℕ) (symbol : List ℕ) → first + 1 ≤ length (section_names s old)
-    → Renames s old (set (section_names s old) first (Some symbol)) new → Renames s old (written (section_names s old) first (Some symbol ∷ [])) new
-named_property s old new first symbol room r = Renames-equal s old new _ _ (sym (written-one (section_names s old) first (Some symbol) (omega arith))) r
 
 -- Items.
 
@@ -211,7 +217,7 @@ length-leaf_names items x = length-bit_names x.symbol 0 (bits_of items x.id)
 pub part_blocks : (items : List Item) (p : Part) (ps : List ℕ) → ps ≡ places (list_of p) 0 items → blocks (names_given items p) items ps ≡ part_names items p
 part_blocks items p ps e =
     ap (blocks (names_given items p) items) e ∙ blocks-of_kind (list_of p) (names_given items p) items
-    ∙ of_kind-within (by_body (list_of p)) (kind_of items p) (item_names items p) items (part_in_list items p)
+    ∙ of_kind-within (by_body (list_of p)) (kind_of items p) (leaf_names items) items (part_in_list items p)
 
 -- so far: the circuit with the names of the first so many items of a part's list, from a first position on
 abbrev pub WithItems : List Item → Part → List ℕ → ℕ → Circuit → Circuit → ℕ → Type 0
@@ -298,7 +304,7 @@ reached-part items p ps k e end = reached-all (names_given items p) items ps k e
 pub no_names : (items : List Item) (p : Part) (c : Circuit) (first : ℕ) (x : Item) → kind_of items p x ≡ false → Renames (section_of p) c (written (section_names (section_of p) c) first (names_given items p x)) c
 no_names items p c first x h =
     Renames-equal (section_of p) c c (section_names (section_of p) c) _
-    (sym (ap (λ (b : Bool). written (section_names (section_of p) c) first (cond b (item_names items p x) [])) h ∙ written-nil (section_names (section_of p) c) first))
+    (sym (ap (λ (b : Bool). written (section_names (section_of p) c) first (cond b (leaf_names items x) [])) h ∙ written-nil (section_names (section_of p) c) first))
     (Renames-own (section_of p) c)
 
 -- the names of leaves are as many as their bits
@@ -314,28 +320,14 @@ length-leaves kind items (x ∷ xs) =
     length-append (cond (kind x) (leaf_names items x) []) (of_kind kind (leaf_names items) xs) ∙ ap₂ ◌+◌ head rest
     ∙ sym (sum_by-cons (λ (y : Item). cond (kind y) (bits_of items y.id) 0) x xs)
 
--- a circuit without names that has as many positions as a model gives names
-pub record IsUnnamed (items : List Item) (c : Circuit) : Type 0 where
-  pub names : c.names ≡ []
-  pub inputs : c.inputs ≡ length (part_names items part.Inputs) + length (part_names items part.FreeStates)
-  pub latches : length c.latches ≡ length (part_names items part.CarriedStates)
-  pub outputs : length c.outputs ≡ length (output_names items)
-  pub bads : length c.bads ≡ length (part_names items part.Bads)
-  pub constraints : length c.constraints ≡ length (part_names items part.Constraints)
+-- a model gives as many names as bits that are given, and that are carried
+pub length-given : (items : List Item) → length (part_names items part.Inputs) + length (part_names items part.FreeStates) ≡ given_width items
+length-given items = ap₂ ◌+◌ (length-leaves (by_body is_input) items items) (length-leaves (is_free_state items) items items)
 
-pub IsUnnamed-from_widths : (items : List Item) (c : Circuit) → c.names ≡ [] → c.inputs ≡ given_width items → length c.latches ≡ carried_width items
-    → length c.outputs ≡ length (output_names items) → length c.bads ≡ length (bad_names items) → length c.constraints ≡ length (constraint_names items) → IsUnnamed items c
-IsUnnamed-from_widths items c none inputs latches outputs bads constraints =
-    record {
-      names = none;
-      inputs = inputs ∙ sym (ap₂ ◌+◌ (length-leaves (by_body is_input) items items) (length-leaves (is_free_state items) items items));
-      latches = latches ∙ sym (length-leaves (is_carried_state items) items items);
-      outputs = outputs;
-      bads = bads;
-      constraints = constraints;
-    }
+pub length-carried : (items : List Item) → length (part_names items part.CarriedStates) ≡ carried_width items
+length-carried items = length-leaves (is_carried_state items) items items
 
--- such a circuit's sections are blank, also when others were named
+-- the sections of a circuit without names are blank, also when others were named
 pub open_section : (s : Section) (c cur : Circuit) (first count : ℕ) → c.names ≡ [] → first + count ≤ section_count s c → section_names s cur ≡ section_names s c → IsOpen s cur first count
 open_section s c cur first count none room same =
     record {
@@ -379,27 +371,18 @@ two_parts s c cur new next names more count e a b =
     b.own ∙ ap₂ (λ (l : Names) (k : ℕ). written l k more) a.own e ∙ written-further (section_names s c) 0 names more (omega arith)
     ∙ written-whole (section_names s c) (names ++ more) (omega (arith, length-append names more))
 
--- the five parts one after another, and the outputs
-pub TakesNames-made : (items : List Item) (c0 c1 c2 c3 c4 c5 c6 : Circuit) (next : ℕ) → IsUnnamed items c0 → next ≡ 0 + length (part_names items part.Inputs)
+-- the three parts one after another
+pub TakesNames-made : (items : List Item) (c0 c1 c2 c3 : Circuit) (next : ℕ) → c0.inputs ≡ given_width items → length c0.latches ≡ carried_width items → next ≡ 0 + length (part_names items part.Inputs)
     → Renames section.Input c0 (written (section_names section.Input c0) 0 (part_names items part.Inputs)) c1
     → Renames section.Input c1 (written (section_names section.Input c1) next (part_names items part.FreeStates)) c2
     → Renames section.Latch c2 (written (section_names section.Latch c2) 0 (part_names items part.CarriedStates)) c3
-    → Renames section.Bad c3 (written (section_names section.Bad c3) 0 (part_names items part.Bads)) c4
-    → Renames section.Constraint c4 (written (section_names section.Constraint c4) 0 (part_names items part.Constraints)) c5
-    → Renames section.Output c5 (output_names items) c6 → TakesNames items c0 c6
-TakesNames-made items c0 c1 c2 c3 c4 c5 c6 next unnamed e a b l d k o =
+    → TakesNames items c0 c3
+TakesNames-made items c0 c1 c2 c3 next inputs latches e a b l =
     record {
-      inputs = o.others section.Input (λ q. cc) ∙ k.others section.Input (λ q. cc) ∙ d.others section.Input (λ q. cc) ∙ l.others section.Input (λ q. cc)
-          ∙ two_parts section.Input c0 c1 c2 next (part_names items part.Inputs) (part_names items part.FreeStates) unnamed.inputs e a b;
-      latches = o.others section.Latch (λ q. cc) ∙ k.others section.Latch (λ q. cc) ∙ d.others section.Latch (λ q. cc)
-          ∙ one_part section.Latch c0 c2 c3 (part_names items part.CarriedStates) unnamed.latches (b.others section.Latch (λ q. cc) ∙ a.others section.Latch (λ q. cc)) l;
-      outputs = o.own;
-      bads = o.others section.Bad (λ q. cc) ∙ k.others section.Bad (λ q. cc)
-          ∙ one_part section.Bad c0 c3 c4 (part_names items part.Bads) unnamed.bads (l.others section.Bad (λ q. cc) ∙ b.others section.Bad (λ q. cc) ∙ a.others section.Bad (λ q. cc)) d;
-      constraints = o.others section.Constraint (λ q. cc) ∙ one_part section.Constraint c0 c4 c5 (part_names items part.Constraints) unnamed.constraints
-          (d.others section.Constraint (λ q. cc) ∙ l.others section.Constraint (λ q. cc) ∙ b.others section.Constraint (λ q. cc) ∙ a.others section.Constraint (λ q. cc)) k;
-      rest = o.rest ∙ ap last k.rest ∙ ap last d.rest ∙ ap last l.rest ∙ ap last b.rest ∙ ap last a.rest;
+      inputs = l.others section.Input (λ q. cc) ∙ two_parts section.Input c0 c1 c2 next (part_names items part.Inputs) (part_names items part.FreeStates) (inputs ∙ sym (length-given items)) e a b;
+      latches = one_part section.Latch c0 c2 c3 (part_names items part.CarriedStates) (latches ∙ sym (length-carried items)) (b.others section.Latch (λ q. cc) ∙ a.others section.Latch (λ q. cc)) l;
+      rest = l.rest ∙ ap last b.rest ∙ ap last a.rest;
     }
   where
     last : Circuit → Circuit
-    last c = record c { names = c6.names }
+    last c = record c { names = c3.names }

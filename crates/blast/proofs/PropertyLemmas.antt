@@ -1,31 +1,40 @@
--- The literals of outputs, of bad properties and of constraints.
-use Rattle.std.proofs.Common.{◌≡◌, ℕ, suc, ◌+◌, ◌*◌, ◌%◌, ◌^◌, ◌<◌, ◌≤◌, Bool, true, cond, ◌==◌, List, [], ◌∷◌, ◌++◌, length, map, get_or, take, drop, All, Option, Some, is_some, unwrap_or, option_and_then, slice_get, take-append-drop, refl, sym, ap, ap₂, subst, ◌∙◌, append_assoc, append-nil, length-append, arith}
-use Rattle.std.specs.List.{flat_map}
-use Rattle.std.proofs.lemmas.List.{length-take, map-append, take_all, take_more}
+-- The literals and the names of outputs, of bad properties and of constraints.
+use Rattle.std.proofs.Common.{◌≡◌, ◌≢◌, ℕ, suc, ◌+◌, ◌*◌, ◌%◌, ◌^◌, ◌<◌, ◌≤◌, Bool, true, cond, ◌==◌, List, [], ◌∷◌, ◌++◌, length, map, get_or, set, take, drop, All, Option, None, Some, is_some, unwrap_or, option_and_then, slice_get, take-append-drop, refl, sym, ap, ap₂, subst, ◌∙◌, append_assoc, append-nil, length-append, arith}
+use Rattle.std.specs.List.{flat_map, range_with_len}
+use Rattle.std.proofs.lemmas.List.{length-take, map-append, set_at, take_all, take_more}
 use Rattle.std.proofs.lemmas.List.Concat.{flat_map-append}
-use Rattle.std.proofs.lemmas.List.Elements.{All-get_or}
-use Rattle.std.proofs.lemmas.Option.{get_or_from_slice_get, slice_get_within}
+use Rattle.std.proofs.lemmas.Option.{get_or_from_slice_get, slice_get_within, none-some, same_Some}
 use Rattle.base.specs.Word.{bits}
 use Rattle.btor2.specs.declared.item.Item.{Item}
 use Rattle.btor2.specs.declared.item.Body.{Body}
 use Rattle.btor2.specs.declared.item.Body.TheVariants as body
-use Rattle.btor2.specs.Items.{node_width, is_bad, is_constraint}
+use Rattle.btor2.specs.Items.{node_width}
 use Rattle.btor2.specs.Check.{IsWellFormed}
 use Rattle.btor2.specs.Trace.{Frame, bits_of}
 use Rattle.btor2.proofs.AppendLemmas.{node_width-append, is_some_from}
 use Rattle.btor2.proofs.AcceptedLemmas.{BodyIsAccepted}
 use Rattle.btor2.proofs.ModelLemmas.{IsAccepted-at, IsIn, IsIn-from_place, few_items}
-use Rattle.aiger.specs.Literal.{Valuation, literal_value}
-use Rattle.aiger.specs.Net.{Net, IsDefined}
-use Rattle.aiger.specs.Circuit.{Circuit, with_output}
-use Rattle.blast.specs.Leaves.{by_body, of_kind, observed, own_name, is_output, shown_width, shown_bits, shown_names, bit_names, output_names, bad_names, constraint_names}
-use Rattle.blast.specs.Reads.{Together, RowsRead, OutputsRead, BadsRead, ConstraintsRead}
-use Rattle.blast.specs.Rows.{row_at, literal_at, output_literals, bad_literals, constraint_literals, with_literals}
-use Rattle.blast.specs.Table.{row_of}
-use Rattle.blast.proofs.KindRows.{row_at-reads, node_place, entry}
-use Rattle.blast.proofs.WidthLemmas.{bits_of-most}
-use Rattle.blast.proofs.NameLemmas.{length-bit_names}
 use Rattle.btor2.proofs.TraceLemmas.{words_fit_frame}
+use Rattle.aiger.specs.declared.circuit.Section.{Section}
+use Rattle.aiger.specs.declared.circuit.Section.TheVariants as section
+use Rattle.aiger.specs.Limits.{greatest_count}
+use Rattle.aiger.specs.Literal.{Valuation, literal_value}
+use Rattle.aiger.specs.Names.{NameMap, Names}
+use Rattle.aiger.specs.Net.{Net, IsDefined}
+use Rattle.aiger.specs.Circuit.{Circuit, IsCircuit, net, name_of, section_count, section_names}
+use Rattle.aiger.proofs.SectionNameLemmas.{length-section_names, section_names-same, section_names-push}
+use Rattle.blast.specs.declared.properties.Property.{Property}
+use Rattle.blast.specs.declared.properties.Property.TheVariants as property
+use Rattle.blast.specs.Leaves.{by_body, of_kind, observed, shown_width, shown_bits, bit_names}
+use Rattle.blast.specs.Properties.{property_kind, property_section, literals_of, with_more, name_by, property_operand, property_literals, names_by, property_names, Adds, TakesProperties}
+use Rattle.blast.specs.Reads.{Together, RowsRead}
+use Rattle.blast.specs.Rows.{row_at}
+use Rattle.blast.specs.Sections.{Renames}
+use Rattle.blast.specs.Table.{row_of}
+use Rattle.blast.proofs.KindBlocks.{slice_get-behind}
+use Rattle.blast.proofs.KindRows.{row_at-reads, node_place, entry}
+use Rattle.blast.proofs.NameLemmas.{names_by-more, names_by-output}
+use Rattle.blast.proofs.WidthLemmas.{bits_of-most}
 
 -- What an item of a well-formed list says.
 
@@ -37,53 +46,33 @@ says_at items place x b h at e =
 operand_width : (items : List Item) (x : Item) (w : IsIn items x) (a : ℕ) → node_width w.before a ≡ Some 1 → node_width items a ≡ Some 1
 operand_width items x w a h = ap (λ (l : List Item). node_width l a) w.splits ∙ node_width-append w.before (x ∷ w.after) a 1 h
 
-pub bad_operand : (items : List Item) (place : ℕ) (x : Item) (a : ℕ) → IsWellFormed items → slice_get items place ≡ Some x → x.body ≡ body.Bad a → node_width items a ≡ Some 1
+bad_operand : (items : List Item) (place : ℕ) (x : Item) (a : ℕ) → IsWellFormed items → slice_get items place ≡ Some x → x.body ≡ body.Bad a → node_width items a ≡ Some 1
 bad_operand items place x a h at e =
     let says = says_at items place x (body.Bad a) h at e in
     operand_width items x says.0 a says.1
 
-pub constraint_operand : (items : List Item) (place : ℕ) (x : Item) (a : ℕ) → IsWellFormed items → slice_get items place ≡ Some x → x.body ≡ body.Constraint a → node_width items a ≡ Some 1
+constraint_operand : (items : List Item) (place : ℕ) (x : Item) (a : ℕ) → IsWellFormed items → slice_get items place ≡ Some x → x.body ≡ body.Constraint a → node_width items a ≡ Some 1
 constraint_operand items place x a h at e =
     let says = says_at items place x (body.Constraint a) h at e in
     operand_width items x says.0 a says.1
 
-pub output_operand : (items : List Item) (place : ℕ) (x : Item) (a : ℕ) → IsWellFormed items → slice_get items place ≡ Some x → x.body ≡ body.Output a → (width : ℕ) × (node_width items a ≡ Some width)
+output_operand : (items : List Item) (place : ℕ) (x : Item) (a : ℕ) → IsWellFormed items → slice_get items place ≡ Some x → x.body ≡ body.Output a → (width : ℕ) × (node_width items a ≡ Some width)
 output_operand items place x a h at e =
     let says = says_at items place x (body.Output a) h at e in
     let i = says.0 in
     (says.1.0, ap (λ (l : List Item). node_width l a) i.splits ∙ node_width-append i.before (x ∷ i.after) a says.1.0 says.1.1)
 
--- there are fewer than 1048576 items before an item
-pub few_before : (items : List Item) (place : ℕ) (x : Item) → IsWellFormed items → slice_get items place ≡ Some x → place < 1048576
-few_before items place x h at =
-    let there = IsIn-from_place items place x at in
-    omega (arith, there.1, (IsAccepted-at items x h there.0).few)
-
--- Literals.
-
-pub one_literal : (items : List Item) (n : Net) (rows : List (List ℕ)) (a : ℕ) → RowsRead items n rows → length rows ≡ length items → node_width items a ≡ Some 1 → length (row_at items rows (Some a)) ≡ 1
-one_literal items n rows a reads all w = (row_at-reads items n rows a 1 reads all w).wide
-
-pub literal_defined : (items : List Item) (n : Net) (rows : List (List ℕ)) (a : ℕ) → RowsRead items n rows → length rows ≡ length items → node_width items a ≡ Some 1 → IsDefined n (literal_at items rows a)
-literal_defined items n rows a reads all w =
-    let row = row_at-reads items n rows a 1 reads all w in
-    All-get_or (IsDefined n) (row_at items rows (Some a)) 0 0 (omega (arith, row.wide)) row.defined
-
--- a word of one bit
-one_bit : (x : ℕ) → x < 2 → (x % 2 == 1) ≡ (x == 1)
-one_bit x h = ap (λ (y : ℕ). y == 1) (omega arith)
-
-first_bit : (v : Valuation) (row : List ℕ) (x : ℕ) → length row ≡ 1 → map (literal_value v) row ≡ bits 1 x → literal_value v (get_or row 0 0) ≡ (x % 2 == 1)
-first_bit v [] x one e = absurd (omega arith)
-first_bit v (l ∷ row) x one e = ap (λ (bs : List Bool). get_or bs 0 true) e
-
-literal_reads : (items : List Item) (n : Net) (rows : List (List ℕ)) (a : ℕ) → IsWellFormed items → RowsRead items n rows → length rows ≡ length items → node_width items a ≡ Some 1
-    → (state input f : Frame) (v : Valuation) → Together items n state input f v → literal_value v (literal_at items rows a) ≡ (f a == 1)
-literal_reads items n rows a h reads all w state input f v t =
-    let row = row_at-reads items n rows a 1 reads all w in
-    let width : bits_of items a ≡ 1 = ap (λ (o : Option ℕ). unwrap_or o 0) w in
-    let fits : f a < 2 ^ bits_of items a = words_fit_frame items state input f h t.state_fits t.input_fits t.frame a (is_some_from (node_width items a) 1 w) in
-    first_bit v (row_at items rows (Some a)) (f a) row.wide (row.bits state input f v t) ∙ one_bit (f a) (rw width at fits)
+-- the node of a line of properties is there
+pub operand_there : (p : Property) (items : List Item) (place : ℕ) (x : Item) (a : ℕ) → IsWellFormed items → slice_get items place ≡ Some x → property_operand p x.body ≡ Some a → (width : ℕ) × (node_width items a ≡ Some width)
+operand_there p items place x a w at is = by p x.body refl is
+  where
+    by : (p : Property) (b : Body) → x.body ≡ b → property_operand p b ≡ Some a → (width : ℕ) × (node_width items a ≡ Some width)
+    by property.Output (body.Output c) e is = output_operand items place x a w at (e ∙ ap (λ (n : ℕ). body.Output n) (same_Some c a is))
+    by property.Output _ e is = absurd (none-some a is)
+    by property.Bad (body.Bad c) e is = (1, bad_operand items place x a w at (e ∙ ap (λ (n : ℕ). body.Bad n) (same_Some c a is)))
+    by property.Bad _ e is = absurd (none-some a is)
+    by property.Constraint (body.Constraint c) e is = (1, constraint_operand items place x a w at (e ∙ ap (λ (n : ℕ). body.Constraint n) (same_Some c a is)))
+    by property.Constraint _ e is = absurd (none-some a is)
 
 -- Rows.
 
@@ -98,173 +87,124 @@ pub row_at-of : (items : List Item) (rows : List (List ℕ)) (a : ℕ) (r : List
 unfolding row_at
 row_at-of items rows a r h = sym (ap (λ (o : Option (List ℕ)). unwrap_or o []) h)
 
--- Outputs.
-
 pub row_wide : (items : List Item) (n : Net) (rows : List (List ℕ)) (a width : ℕ) → RowsRead items n rows → length rows ≡ length items → node_width items a ≡ Some width → length (row_at items rows (Some a)) ≡ bits_of items a
 row_wide items n rows a width reads all w = (row_at-reads items n rows a width reads all w).wide ∙ sym (ap (λ (o : Option ℕ). unwrap_or o 0) w)
+
+pub row_short : (items : List Item) (n : Net) (rows : List (List ℕ)) (a width : ℕ) → IsWellFormed items → RowsRead items n rows → length rows ≡ length items → node_width items a ≡ Some width → length (row_at items rows (Some a)) ≤ 64
+row_short items n rows a width w reads all node = omega (arith, row_wide items n rows a width reads all node, bits_of-most items a w)
 
 pub row_defined : (items : List Item) (n : Net) (rows : List (List ℕ)) (a width : ℕ) → RowsRead items n rows → length rows ≡ length items → node_width items a ≡ Some width → All (IsDefined n) (row_at items rows (Some a))
 row_defined items n rows a width reads all w = (row_at-reads items n rows a width reads all w).defined
 
-output_first : (items : List Item) (rows : List (List ℕ)) (f : Frame) (v : Valuation) (b : Body) → ((a : ℕ) → b ≡ body.Output a → map (literal_value v) (row_at items rows (Some a)) ≡ bits (bits_of items a) (f a))
-    → map (literal_value v) (output_literals items rows b) ≡ cond (is_output b) (shown_bits items f b) []
-output_first items rows f v (body.Output a) h = h a refl
-output_first items rows f v _ h = refl
+-- no node has no row
+row_none : (items : List Item) (rows : List (List ℕ)) → row_at items rows None ≡ []
+unfolding row_at
+row_none items rows = refl
 
-outputs_from : (items : List Item) (rows : List (List ℕ)) (f : Frame) (v : Valuation) (xs : List Item)
-    → ((k : ℕ) (x : Item) (a : ℕ) → slice_get xs k ≡ Some x → x.body ≡ body.Output a → map (literal_value v) (row_at items rows (Some a)) ≡ bits (bits_of items a) (f a))
-    → map (literal_value v) (flat_map (λ (x : Item). output_literals items rows x.body) xs) ≡ of_kind (by_body is_output) (λ (x : Item). shown_bits items f x.body) xs
-outputs_from items rows f v [] h = refl
-outputs_from items rows f v (x ∷ xs) h =
-    map-append (literal_value v) (output_literals items rows x.body) (flat_map (λ (y : Item). output_literals items rows y.body) xs)
-    ∙ ap₂ ◌++◌ (output_first items rows f v x.body (λ a e. h 0 x a refl e)) (outputs_from items rows f v xs (λ k y a at e. h (suc k) y a at e))
+-- What lines add.
 
-pub OutputsRead-made : (items : List Item) (n : Net) (rows : List (List ℕ)) → IsWellFormed items → RowsRead items n rows → length rows ≡ length items
-    → OutputsRead items n items (flat_map (λ (x : Item). output_literals items rows x.body) items)
-OutputsRead-made items n rows h reads all =
-    record {
-      values = λ state input f v t. outputs_from items rows f v items (λ k x a at e.
-          let node = output_operand items k x a h at e in
-          (row_at-reads items n rows a node.0 reads all node.1).bits state input f v t ∙ ap (λ (o : Option ℕ). bits (unwrap_or o 0) (f a)) (sym node.1));
-    }
+-- a word of one bit
+one_bit : (x : ℕ) → x < 2 → (x % 2 == 1) ≡ (x == 1)
+one_bit x h = ap (λ (y : ℕ). y == 1) (omega arith)
 
--- Bad properties.
+word_values : (items : List Item) (n : Net) (rows : List (List ℕ)) (a width : ℕ) → RowsRead items n rows → length rows ≡ length items → node_width items a ≡ Some width
+    → (state input f : Frame) (v : Valuation) → Together items n state input f v → map (literal_value v) (row_at items rows (Some a)) ≡ bits (bits_of items a) (f a)
+word_values items n rows a width reads all node state input f v t =
+    (row_at-reads items n rows a width reads all node).bits state input f v t ∙ ap (λ (o : Option ℕ). bits (unwrap_or o 0) (f a)) (sym node)
 
-bad_first : (items : List Item) (rows : List (List ℕ)) (f : Frame) (v : Valuation) (b : Body) → ((a : ℕ) → b ≡ body.Bad a → literal_value v (literal_at items rows a) ≡ (f a == 1))
-    → map (literal_value v) (bad_literals items rows b) ≡ cond (is_bad b) (observed f b) []
-bad_first items rows f v (body.Bad a) h = ap (λ (x : Bool). x ∷ []) (h a refl)
-bad_first items rows f v _ h = refl
+bit_values : (items : List Item) (n : Net) (rows : List (List ℕ)) (a : ℕ) → IsWellFormed items → RowsRead items n rows → length rows ≡ length items → node_width items a ≡ Some 1
+    → (state input f : Frame) (v : Valuation) → Together items n state input f v → map (literal_value v) (row_at items rows (Some a)) ≡ (f a == 1) ∷ []
+bit_values items n rows a w reads all node state input f v t =
+    let width : bits_of items a ≡ 1 = ap (λ (o : Option ℕ). unwrap_or o 0) node in
+    let fits : f a < 2 ^ bits_of items a = words_fit_frame items state input f w t.state_fits t.input_fits t.frame a (is_some_from (node_width items a) 1 node) in
+    (row_at-reads items n rows a 1 reads all node).bits state input f v t ∙ ap (λ (b : Bool). b ∷ []) (one_bit (f a) (rw width at fits))
 
-bads_from : (items : List Item) (n : Net) (rows : List (List ℕ)) (f : Frame) (v : Valuation) (xs : List Item)
-    → ((k : ℕ) (x : Item) (a : ℕ) → slice_get xs k ≡ Some x → x.body ≡ body.Bad a → literal_value v (literal_at items rows a) ≡ (f a == 1))
-    → map (literal_value v) (flat_map (λ (x : Item). bad_literals items rows x.body) xs) ≡ of_kind (by_body is_bad) (λ (x : Item). observed f x.body) xs
-bads_from items n rows f v [] h = refl
-bads_from items n rows f v (x ∷ xs) h =
-    map-append (literal_value v) (bad_literals items rows x.body) (flat_map (λ (y : Item). bad_literals items rows y.body) xs)
-    ∙ ap₂ ◌++◌ (bad_first items rows f v x.body (λ a e. h 0 x a refl e)) (bads_from items n rows f v xs (λ k y a at e. h (suc k) y a at e))
+-- what the literals of a line read as in a frame
+abbrev shown_by : Property → List Item → Frame → Body → List Bool
+shown_by property.Output items f = shown_bits items f
+shown_by property.Bad items f = observed f
+shown_by property.Constraint items f = observed f
 
-pub BadsRead-made : (items : List Item) (n : Net) (rows : List (List ℕ)) → IsWellFormed items → RowsRead items n rows → length rows ≡ length items
-    → BadsRead items n items (flat_map (λ (x : Item). bad_literals items rows x.body) items)
-BadsRead-made items n rows h reads all =
-    record {
-      values = λ state input f v t. bads_from items n rows f v items (λ k x a at e. literal_reads items n rows a h reads all (bad_operand items k x a h at e) state input f v t);
-    }
+line_values : (p : Property) (items : List Item) (n : Net) (rows : List (List ℕ)) (place : ℕ) (x : Item) (b : Body) → IsWellFormed items → RowsRead items n rows → length rows ≡ length items → slice_get items place ≡ Some x → x.body ≡ b
+    → (state input f : Frame) (v : Valuation) → Together items n state input f v → map (literal_value v) (property_literals items rows p b) ≡ cond (property_kind p b) (shown_by p items f b) []
+line_values property.Output items n rows place x (body.Output a) w reads all at e state input f v t =
+    let node = output_operand items place x a w at e in
+    word_values items n rows a node.0 reads all node.1 state input f v t
+line_values property.Output items n rows place x _ w reads all at e state input f v t = ap (map (literal_value v)) (row_none items rows)
+line_values property.Bad items n rows place x (body.Bad a) w reads all at e state input f v t = bit_values items n rows a w reads all (bad_operand items place x a w at e) state input f v t
+line_values property.Bad items n rows place x _ w reads all at e state input f v t = ap (map (literal_value v)) (row_none items rows)
+line_values property.Constraint items n rows place x (body.Constraint a) w reads all at e state input f v t = bit_values items n rows a w reads all (constraint_operand items place x a w at e) state input f v t
+line_values property.Constraint items n rows place x _ w reads all at e state input f v t = ap (map (literal_value v)) (row_none items rows)
 
--- Constraints.
+-- the names of a line, by its symbol
+abbrev named_by : Property → List Item → Option (List ℕ) → Body → Names
+named_by property.Output items symbol b = bit_names symbol 0 (shown_width items b)
+named_by property.Bad items symbol b = symbol ∷ []
+named_by property.Constraint items symbol b = symbol ∷ []
 
-constraint_first : (items : List Item) (rows : List (List ℕ)) (f : Frame) (v : Valuation) (b : Body) → ((a : ℕ) → b ≡ body.Constraint a → literal_value v (literal_at items rows a) ≡ (f a == 1))
-    → map (literal_value v) (constraint_literals items rows b) ≡ cond (is_constraint b) (observed f b) []
-constraint_first items rows f v (body.Constraint a) h = ap (λ (x : Bool). x ∷ []) (h a refl)
-constraint_first items rows f v _ h = refl
+-- that of a line of one bit
+own_name_by : (p : Property) (symbol : Option (List ℕ)) (row : List ℕ) → ((s : List ℕ) → name_by p s 0 ≡ s) → length row ≡ 1 → names_by p symbol 0 (length row) ≡ symbol ∷ []
+own_name_by p None row own one = ap (names_by p None 0) one
+own_name_by p (Some s) row own one = ap (names_by p (Some s) 0) one ∙ ap (λ (name : List ℕ). Some name ∷ []) (own s)
 
-constraints_from : (items : List Item) (n : Net) (rows : List (List ℕ)) (f : Frame) (v : Valuation) (xs : List Item)
-    → ((k : ℕ) (x : Item) (a : ℕ) → slice_get xs k ≡ Some x → x.body ≡ body.Constraint a → literal_value v (literal_at items rows a) ≡ (f a == 1))
-    → map (literal_value v) (flat_map (λ (x : Item). constraint_literals items rows x.body) xs) ≡ of_kind (by_body is_constraint) (λ (x : Item). observed f x.body) xs
-constraints_from items n rows f v [] h = refl
-constraints_from items n rows f v (x ∷ xs) h =
-    map-append (literal_value v) (constraint_literals items rows x.body) (flat_map (λ (y : Item). constraint_literals items rows y.body) xs)
-    ∙ ap₂ ◌++◌ (constraint_first items rows f v x.body (λ a e. h 0 x a refl e)) (constraints_from items n rows f v xs (λ k y a at e. h (suc k) y a at e))
+line_names : (p : Property) (items : List Item) (n : Net) (rows : List (List ℕ)) (place : ℕ) (x : Item) (symbol : Option (List ℕ)) (b : Body) → IsWellFormed items → RowsRead items n rows → length rows ≡ length items → slice_get items place ≡ Some x → x.body ≡ b
+    → names_by p symbol 0 (length (property_literals items rows p b)) ≡ cond (property_kind p b) (named_by p items symbol b) []
+line_names property.Output items n rows place x symbol (body.Output a) w reads all at e =
+    let node = output_operand items place x a w at e in
+    names_by-output symbol 0 (length (row_at items rows (Some a))) ∙ ap (bit_names symbol 0) (row_wide items n rows a node.0 reads all node.1)
+line_names property.Output items n rows place x symbol _ w reads all at e = ap (λ (row : List ℕ). names_by property.Output symbol 0 (length row)) (row_none items rows)
+line_names property.Bad items n rows place x symbol (body.Bad a) w reads all at e =
+    own_name_by property.Bad symbol (row_at items rows (Some a)) (λ s. refl) (row_at-reads items n rows a 1 reads all (bad_operand items place x a w at e)).wide
+line_names property.Bad items n rows place x symbol _ w reads all at e = ap (λ (row : List ℕ). names_by property.Bad symbol 0 (length row)) (row_none items rows)
+line_names property.Constraint items n rows place x symbol (body.Constraint a) w reads all at e =
+    own_name_by property.Constraint symbol (row_at items rows (Some a)) (λ s. refl) (row_at-reads items n rows a 1 reads all (constraint_operand items place x a w at e)).wide
+line_names property.Constraint items n rows place x symbol _ w reads all at e = ap (λ (row : List ℕ). names_by property.Constraint symbol 0 (length row)) (row_none items rows)
 
-pub ConstraintsRead-made : (items : List Item) (n : Net) (rows : List (List ℕ)) → IsWellFormed items → RowsRead items n rows → length rows ≡ length items
-    → ConstraintsRead items n items (flat_map (λ (x : Item). constraint_literals items rows x.body) items)
-ConstraintsRead-made items n rows h reads all =
-    record {
-      values = λ state input f v t. constraints_from items n rows f v items (λ k x a at e. literal_reads items n rows a h reads all (constraint_operand items k x a h at e) state input f v t);
-    }
+line_at_most : (p : Property) (items : List Item) (n : Net) (rows : List (List ℕ)) (place : ℕ) (x : Item) → IsWellFormed items → RowsRead items n rows → length rows ≡ length items → slice_get items place ≡ Some x
+    → length (property_literals items rows p x.body) ≤ 64
+line_at_most p items n rows place x w reads all at = by (property_operand p x.body) refl
+  where
+    by : (o : Option ℕ) → property_operand p x.body ≡ o → length (row_at items rows o) ≤ 64
+    by None e = omega (arith, ap length (row_none items rows))
+    by (Some a) e = let node = operand_there p items place x a w at e in row_short items n rows a node.0 w reads all node.1
 
--- How many they are.
+-- What all lines add.
 
-output_named : (items : List Item) (rows : List (List ℕ)) (b : Body) (name : Option (List ℕ)) → ((a : ℕ) → b ≡ body.Output a → length (row_at items rows (Some a)) ≡ bits_of items a)
-    → length (output_literals items rows b) ≡ length (cond (is_output b) (bit_names name 0 (shown_width items b)) [])
-output_named items rows (body.Output a) name h = h a refl ∙ sym (length-bit_names name 0 (bits_of items a))
-output_named items rows _ name h = refl
+-- what lines of a kind give, and the others nothing
+flat_by_kind : {A : Type 0} (kind : Item → Bool) (give own : Item → List A) (xs : List Item) → ((k : ℕ) (x : Item) → slice_get xs k ≡ Some x → give x ≡ cond (kind x) (own x) []) → flat_map give xs ≡ of_kind kind own xs
+flat_by_kind kind give own [] h = refl
+flat_by_kind kind give own (x ∷ xs) h = ap₂ (λ (l m : List _). l ++ m) (h 0 x refl) (flat_by_kind kind give own xs (λ k y at. h (suc k) y at))
 
-length-outputs : (items : List Item) (rows : List (List ℕ)) (xs : List Item) → ((k : ℕ) (x : Item) (a : ℕ) → slice_get xs k ≡ Some x → x.body ≡ body.Output a → length (row_at items rows (Some a)) ≡ bits_of items a)
-    → length (flat_map (λ (x : Item). output_literals items rows x.body) xs) ≡ length (of_kind (by_body is_output) (shown_names items) xs)
-length-outputs items rows [] h = refl
-length-outputs items rows (x ∷ xs) h =
-    length-append (output_literals items rows x.body) (flat_map (λ (y : Item). output_literals items rows y.body) xs)
-    ∙ ap₂ ◌+◌ (output_named items rows x.body x.symbol (λ a e. h 0 x a refl e)) (length-outputs items rows xs (λ k y a at e. h (suc k) y a at e))
-    ∙ sym (length-append (cond (is_output x.body) (shown_names items x) []) (of_kind (by_body is_output) (shown_names items) xs))
+map_flat : {A B : Type 0} (h : A → B) (give : Item → List A) (xs : List Item) → map h (flat_map give xs) ≡ flat_map (λ (x : Item). map h (give x)) xs
+map_flat h give [] = refl
+map_flat h give (x ∷ xs) = map-append h (give x) (flat_map give xs) ∙ ap (λ (l : List _). map h (give x) ++ l) (map_flat h give xs)
 
-output_at_most : (items : List Item) (rows : List (List ℕ)) (b : Body) → IsWellFormed items → ((a : ℕ) → b ≡ body.Output a → length (row_at items rows (Some a)) ≡ bits_of items a) → length (output_literals items rows b) ≤ 64
-output_at_most items rows (body.Output a) w h = omega (arith, h a refl, bits_of-most items a w)
-output_at_most items rows _ w h = omega arith
+at_most_each : (give : Item → List ℕ) (xs : List Item) → ((k : ℕ) (x : Item) → slice_get xs k ≡ Some x → length (give x) ≤ 64) → length (flat_map give xs) ≤ 64 * length xs
+at_most_each give [] h = omega arith
+at_most_each give (x ∷ xs) h = omega (arith, length-append (give x) (flat_map give xs), h 0 x refl, at_most_each give xs (λ k y at. h (suc k) y at))
 
-outputs_at_most : (items : List Item) (rows : List (List ℕ)) (xs : List Item) → IsWellFormed items → ((k : ℕ) (x : Item) (a : ℕ) → slice_get xs k ≡ Some x → x.body ≡ body.Output a → length (row_at items rows (Some a)) ≡ bits_of items a)
-    → length (flat_map (λ (x : Item). output_literals items rows x.body) xs) ≤ 64 * length xs
-outputs_at_most items rows [] w h = omega arith
-outputs_at_most items rows (x ∷ xs) w h =
-    omega
-    (arith, length-append (output_literals items rows x.body) (flat_map (λ (y : Item). output_literals items rows y.body) xs), output_at_most items rows x.body w (λ a e. h 0 x a refl e), outputs_at_most items rows xs w (λ k y a at e. h (suc k) y a at e))
+-- the literals and the names of the properties of a kind of some items
+abbrev pub literals_among : List Item → List (List ℕ) → Property → List Item → List ℕ
+literals_among items rows p xs = flat_map (λ (x : Item). property_literals items rows p x.body) xs
 
-one_at_most : (give : Item → List ℕ) (xs : List Item) → ((x : Item) → length (give x) ≤ 1) → length (flat_map give xs) ≤ length xs
-one_at_most give [] h = omega arith
-one_at_most give (x ∷ xs) h = omega (arith, length-append (give x) (flat_map give xs), h x, one_at_most give xs h)
+abbrev pub names_among : List Item → List (List ℕ) → Property → List Item → Names
+names_among items rows p xs = flat_map (property_names items rows p) xs
 
-bad_at_most : (items : List Item) (rows : List (List ℕ)) (b : Body) → length (bad_literals items rows b) ≤ 1
-bad_at_most items rows (body.Bad a) = omega arith
-bad_at_most items rows _ = omega arith
+all_values : (p : Property) (items : List Item) (n : Net) (rows : List (List ℕ)) → IsWellFormed items → RowsRead items n rows → length rows ≡ length items
+    → (state input f : Frame) (v : Valuation) → Together items n state input f v → map (literal_value v) (literals_among items rows p items) ≡ of_kind (by_body (property_kind p)) (λ (x : Item). shown_by p items f x.body) items
+all_values p items n rows w reads all state input f v t =
+    map_flat (literal_value v) (λ (x : Item). property_literals items rows p x.body) items
+    ∙ flat_by_kind (by_body (property_kind p)) (λ (x : Item). map (literal_value v) (property_literals items rows p x.body)) (λ (x : Item). shown_by p items f x.body) items
+    (λ k x at. line_values p items n rows k x x.body w reads all at refl state input f v t)
 
-constraint_at_most : (items : List Item) (rows : List (List ℕ)) (b : Body) → length (constraint_literals items rows b) ≤ 1
-constraint_at_most items rows (body.Constraint a) = omega arith
-constraint_at_most items rows _ = omega arith
-
-bad_named : (items : List Item) (rows : List (List ℕ)) (b : Body) (name : Option (List ℕ)) → length (bad_literals items rows b) ≡ length (cond (is_bad b) (name ∷ []) [])
-bad_named items rows (body.Bad a) name = refl
-bad_named items rows _ name = refl
-
-constraint_named : (items : List Item) (rows : List (List ℕ)) (b : Body) (name : Option (List ℕ)) → length (constraint_literals items rows b) ≡ length (cond (is_constraint b) (name ∷ []) [])
-constraint_named items rows (body.Constraint a) name = refl
-constraint_named items rows _ name = refl
-
-length-bads : (items : List Item) (rows : List (List ℕ)) (xs : List Item) → length (flat_map (λ (x : Item). bad_literals items rows x.body) xs) ≡ length (of_kind (by_body is_bad) own_name xs)
-length-bads items rows [] = refl
-length-bads items rows (x ∷ xs) =
-    length-append (bad_literals items rows x.body) (flat_map (λ (y : Item). bad_literals items rows y.body) xs)
-    ∙ ap₂ ◌+◌ (bad_named items rows x.body x.symbol) (length-bads items rows xs)
-    ∙ sym (length-append (cond (is_bad x.body) (own_name x) []) (of_kind (by_body is_bad) own_name xs))
-
-length-constraints : (items : List Item) (rows : List (List ℕ)) (xs : List Item) → length (flat_map (λ (x : Item). constraint_literals items rows x.body) xs) ≡ length (of_kind (by_body is_constraint) own_name xs)
-length-constraints items rows [] = refl
-length-constraints items rows (x ∷ xs) =
-    length-append (constraint_literals items rows x.body) (flat_map (λ (y : Item). constraint_literals items rows y.body) xs)
-    ∙ ap₂ ◌+◌ (constraint_named items rows x.body x.symbol) (length-constraints items rows xs)
-    ∙ sym (length-append (cond (is_constraint x.body) (own_name x) []) (of_kind (by_body is_constraint) own_name xs))
-
--- Adding them.
-
--- a circuit with equal lists
-same_lists : (c : Circuit) (o o' b b' k k' : List ℕ) → o ≡ o' → b ≡ b' → k ≡ k' → record c { outputs = o; bads = b; constraints = k } ≡ record c { outputs = o'; bads = b'; constraints = k' }
-same_lists c o o' b b' k k' p q r = rw (p, q, r) refl
-
--- the literals that some items give
-abbrev outputs_of : List Item → List (List ℕ) → List Item → List ℕ
-outputs_of items rows xs = flat_map (λ (x : Item). output_literals items rows x.body) xs
-
-abbrev bads_of : List Item → List (List ℕ) → List Item → List ℕ
-bads_of items rows xs = flat_map (λ (x : Item). bad_literals items rows x.body) xs
-
-abbrev constraints_of : List Item → List (List ℕ) → List Item → List ℕ
-constraints_of items rows xs = flat_map (λ (x : Item). constraint_literals items rows x.body) xs
-
--- a circuit with the literals of the first so many items
-abbrev pub WithProperties : List Item → List (List ℕ) → Circuit → Circuit → ℕ → Type 0
-WithProperties items rows old cur k = cur ≡ with_literals old (outputs_of items rows (take k items)) (bads_of items rows (take k items)) (constraints_of items rows (take k items))
-
-pub with_literals-none : (c : Circuit) → c ≡ with_literals c [] [] []
-with_literals-none c = same_lists c _ _ _ _ _ _ (sym (append-nil c.outputs)) (sym (append-nil c.bads)) (sym (append-nil c.constraints))
-
-with_literals-twice : (c : Circuit) (outputs bads constraints more_outputs more_bads more_constraints : List ℕ)
-    → with_literals (with_literals c outputs bads constraints) more_outputs more_bads more_constraints ≡ with_literals c (outputs ++ more_outputs) (bads ++ more_bads) (constraints ++ more_constraints)
-with_literals-twice c outputs bads constraints more_outputs more_bads more_constraints =
-    same_lists c _ _ _ _ _ _ (append_assoc c.outputs outputs more_outputs) (append_assoc c.bads bads more_bads) (append_assoc c.constraints constraints more_constraints)
-
-with_same : (c : Circuit) (o o' b b' k k' : List ℕ) → o ≡ o' → b ≡ b' → k ≡ k' → with_literals c o b k ≡ with_literals c o' b' k'
-with_same c o o' b b' k k' p q r = rw (p, q, r) refl
+all_names : (p : Property) (items : List Item) (n : Net) (rows : List (List ℕ)) → IsWellFormed items → RowsRead items n rows → length rows ≡ length items
+    → names_among items rows p items ≡ of_kind (by_body (property_kind p)) (λ (x : Item). named_by p items x.symbol x.body) items
+all_names p items n rows w reads all =
+    flat_by_kind (by_body (property_kind p)) (property_names items rows p) (λ (x : Item). named_by p items x.symbol x.body) items
+    (λ k x at. line_names p items n rows k x x.symbol x.body w reads all at refl)
 
 -- a front with one item more
-pub front_more : {A : Type 0} (give : Item → List A) (items : List Item) (k : ℕ) (x : Item) → slice_get items k ≡ Some x → flat_map give (take (k + 1) items) ≡ flat_map give (take k items) ++ give x
+front_more : {A : Type 0} (give : Item → List A) (items : List Item) (k : ℕ) (x : Item) → slice_get items k ≡ Some x → flat_map give (take (k + 1) items) ≡ flat_map give (take k items) ++ give x
 front_more give items k x at =
     let low = slice_get_within items k x at in
     let here : get_or items k x ≡ x = get_or_from_slice_get items k x x at in
@@ -273,110 +213,199 @@ front_more give items k x at =
     ∙ ap (λ (l : List _). flat_map give (take k items) ++ l) (append-nil (give (get_or items k x)) ∙ ap give here)
 
 -- which is within the whole
-pub front_within : {A : Type 0} (give : Item → List A) (items : List Item) (k : ℕ) (x : Item) → slice_get items k ≡ Some x → length (flat_map give (take k items)) + length (give x) ≤ length (flat_map give items)
+front_within : {A : Type 0} (give : Item → List A) (items : List Item) (k : ℕ) (x : Item) → slice_get items k ≡ Some x → length (flat_map give (take k items)) + length (give x) ≤ length (flat_map give items)
 front_within give items k x at =
     let whole : flat_map give items ≡ flat_map give (take (k + 1) items) ++ flat_map give (drop (k + 1) items) =
     ap (flat_map give) (sym (take-append-drop (k + 1) items)) ∙ flat_map-append give (take (k + 1) items) (drop (k + 1) items) in
     omega
     (arith, ap length whole, length-append (flat_map give (take (k + 1) items)) (flat_map give (drop (k + 1) items)), ap length (front_more give items k x at), length-append (flat_map give (take k items)) (give x))
 
-pub WithProperties-more : (items : List Item) (rows : List (List ℕ)) (old cur new : Circuit) (k : ℕ) (x : Item) → WithProperties items rows old cur k → slice_get items k ≡ Some x
-    → new ≡ with_literals cur (output_literals items rows x.body) (bad_literals items rows x.body) (constraint_literals items rows x.body) → WithProperties items rows old new (k + 1)
-WithProperties-more items rows old cur new k x h at given =
-    given
-    ∙ ap (λ (c : Circuit). with_literals c (output_literals items rows x.body) (bad_literals items rows x.body) (constraint_literals items rows x.body)) h
-    ∙ with_literals-twice old (outputs_of items rows (take k items)) (bads_of items rows (take k items)) (constraints_of items rows (take k items)) (output_literals items rows x.body) (bad_literals items rows x.body) (constraint_literals items rows x.body)
-    ∙ with_same old _ _ _ _ _ _ (sym (front_more (λ (y : Item). output_literals items rows y.body) items k x at)) (sym (front_more (λ (y : Item). bad_literals items rows y.body) items k x at)) (sym (front_more (λ (y : Item). constraint_literals items rows y.body) items k x at))
+-- Adding properties.
 
--- an output line's row, added
-pub output_added : (items : List Item) (rows : List (List ℕ)) (old new : Circuit) (x : Item) (a : ℕ) (r : List ℕ) → x.body ≡ body.Output a → row_of items rows a ≡ Some r → new ≡ record old { outputs = old.outputs ++ r }
-    → new ≡ with_literals old (output_literals items rows x.body) (bad_literals items rows x.body) (constraint_literals items rows x.body)
-output_added items rows old new x a r is found given =
-    given ∙ same_lists old _ _ _ _ _ _ (ap (λ (l : List ℕ). old.outputs ++ l) (row_at-of items rows a r found)) (sym (append-nil old.bads)) (sym (append-nil old.constraints))
-    ∙ sym (ap (λ (b : Body). with_literals old (output_literals items rows b) (bad_literals items rows b) (constraint_literals items rows b)) is)
+pub Adds-none : (p : Property) (c : Circuit) → Adds p c [] [] c
+Adds-none p c = record { own = sym (append-nil (section_names (property_section p) c)); others = λ t apart. refl; rest = by p }
+  where
+    by : (p : Property) → c ≡ record (with_more p c []) { names = c.names }
+    by property.Output = ap (λ (l : List ℕ). record c { outputs = l }) (sym (append-nil c.outputs))
+    by property.Bad = ap (λ (l : List ℕ). record c { bads = l }) (sym (append-nil c.bads))
+    by property.Constraint = ap (λ (l : List ℕ). record c { constraints = l }) (sym (append-nil c.constraints))
 
--- there is room for those of one item more
-pub record HasRoom (items : List Item) (rows : List (List ℕ)) (x : Item) (c : Circuit) : Type 0 where
-  pub outputs : length c.outputs + length (output_literals items rows x.body) ≤ 1073741824
-  pub bads : length c.bads < 1048576
-  pub constraints : length c.constraints < 1048576
+pub Adds-equal : (p : Property) (old new : Circuit) (l m : List ℕ) (n k : Names) → l ≡ m → n ≡ k → Adds p old l n new → Adds p old m k new
+Adds-equal p old new l m n k e f a = subst (λ (x : List ℕ). Adds p old x k new) e (subst (λ (x : Names). Adds p old l x new) f a)
 
-pub WithProperties-few : (items : List Item) (n : Net) (rows : List (List ℕ)) (old cur : Circuit) (k : ℕ) (x : Item) → IsWellFormed items → RowsRead items n rows → length rows ≡ length items → WithProperties items rows old cur k
-    → old.outputs ≡ [] → old.bads ≡ [] → old.constraints ≡ [] → slice_get items k ≡ Some x → HasRoom items rows x cur
-WithProperties-few items n rows old cur k x w reads all h no_outputs no_bads no_constraints at =
-    let few = few_before items k x w at in
-    let front : length (take k items) ≤ k = omega (arith, length-take k items) in
-    let outputs = outputs_of items rows (take k items) in
-    let bads = bads_of items rows (take k items) in
-    let constraints = constraints_of items rows (take k items) in
-    let some_outputs = front_within (λ (y : Item). output_literals items rows y.body) items k x at in
-    let most_outputs = outputs_at_most items rows items w (λ j y a in_items e. let node = output_operand items j y a w in_items e in row_wide items n rows a node.0 reads all node.1) in
-    let some_bads : length bads ≤ length (take k items) = one_at_most (λ (y : Item). bad_literals items rows y.body) (take k items) (λ y. bad_at_most items rows y.body) in
-    let some_constraints : length constraints ≤ length (take k items) = one_at_most (λ (y : Item). constraint_literals items rows y.body) (take k items) (λ y. constraint_at_most items rows y.body) in
-    let all_outputs : cur.outputs ≡ outputs = ap (λ (c : Circuit). c.outputs) h ∙ ap (λ (l : List ℕ). l ++ outputs) no_outputs in
-    let all_bads : cur.bads ≡ bads = ap (λ (c : Circuit). c.bads) h ∙ ap (λ (l : List ℕ). l ++ bads) no_bads in
-    let all_constraints : cur.constraints ≡ constraints = ap (λ (c : Circuit). c.constraints) h ∙ ap (λ (l : List ℕ). l ++ constraints) no_constraints in
+Adds-then : (p : Property) (a b c : Circuit) (l m : List ℕ) (n k : Names) → Adds p a l n b → Adds p b m k c → Adds p a (l ++ m) (n ++ k) c
+Adds-then p a b c l m n k x y =
     record {
-      outputs = omega (arith, ap length all_outputs, some_outputs, most_outputs, few_items items w);
-      bads = omega (arith, ap length all_bads);
-      constraints = omega (arith, ap length all_constraints);
+      own = y.own ∙ ap (λ (names : Names). names ++ k) x.own ∙ append_assoc (section_names (property_section p) a) n k;
+      others = λ t apart. y.others t apart ∙ x.others t apart;
+      rest = y.rest ∙ ap (λ (d : Circuit). record (with_more p d m) { names = c.names }) x.rest ∙ by p;
+    }
+  where
+    by : (p : Property) → record (with_more p (record (with_more p a l) { names = b.names }) m) { names = c.names } ≡ record (with_more p a (l ++ m)) { names = c.names }
+    by property.Output = ap (λ (o : List ℕ). record a { outputs = o; names = c.names }) (append_assoc a.outputs l m)
+    by property.Bad = ap (λ (o : List ℕ). record a { bads = o; names = c.names }) (append_assoc a.bads l m)
+    by property.Constraint = ap (λ (o : List ℕ). record a { constraints = o; names = c.names }) (append_assoc a.constraints l m)
+
+-- the gates stay
+pub Adds-net : (p : Property) (old new : Circuit) (l : List ℕ) (n : Names) → Adds p old l n new → net new ≡ net old
+Adds-net p old new l n a = ap net a.rest ∙ by p
+  where
+    by : (p : Property) → net (record (with_more p old l) { names = new.names }) ≡ net old
+    by property.Output = refl
+    by property.Bad = refl
+    by property.Constraint = refl
+
+pub Adds-reads : (p : Property) (items : List Item) (rows : List (List ℕ)) (old new : Circuit) (l : List ℕ) (n : Names) → Adds p old l n new → RowsRead items (net old) rows → RowsRead items (net new) rows
+Adds-reads p items rows old new l n a reads = subst (λ (m : Net). RowsRead items m rows) (sym (Adds-net p old new l n a)) reads
+
+-- and there are so many literals more
+pub Adds-literals : (p : Property) (old new : Circuit) (l : List ℕ) (n : Names) → Adds p old l n new → literals_of p new ≡ literals_of p old ++ l
+Adds-literals p old new l n a = ap (literals_of p) a.rest ∙ by p
+  where
+    by : (p : Property) → literals_of p (record (with_more p old l) { names = new.names }) ≡ literals_of p old ++ l
+    by property.Output = refl
+    by property.Bad = refl
+    by property.Constraint = refl
+
+-- One property.
+
+same_count : (p : Property) (t : Section) (c : Circuit) (l : List ℕ) → property_section p ≢ t → section_count t (with_more p c l) ≡ section_count t c
+same_count property.Output section.Output c l apart = absurd (apart refl)
+same_count property.Output _ c l apart = refl
+same_count property.Bad section.Bad c l apart = absurd (apart refl)
+same_count property.Bad _ c l apart = refl
+same_count property.Constraint section.Constraint c l apart = absurd (apart refl)
+same_count property.Constraint _ c l apart = refl
+
+one_more : (p : Property) (c : Circuit) (l : ℕ) → section_count (property_section p) (with_more p c (l ∷ [])) ≡ section_count (property_section p) c + 1
+one_more property.Output c l = length-append c.outputs (l ∷ [])
+one_more property.Bad c l = length-append c.bads (l ∷ [])
+one_more property.Constraint c l = length-append c.constraints (l ∷ [])
+
+more_keeps : (p : Property) (c : Circuit) (l : List ℕ) → (with_more p c l).names ≡ c.names
+more_keeps property.Output c l = refl
+more_keeps property.Bad c l = refl
+more_keeps property.Constraint c l = refl
+
+-- a literal that was added has no name
+pub Adds-unnamed : (p : Property) (old new : Circuit) (l : ℕ) → IsCircuit old → new ≡ with_more p old (l ∷ []) → Adds p old (l ∷ []) (None ∷ []) new
+Adds-unnamed p old new l valid e =
+    let names : new.names ≡ old.names = ap (λ (c : Circuit). c.names) e ∙ more_keeps p old (l ∷ []) in
+    record {
+      own = section_names-push (property_section p) old new valid names (ap (section_count (property_section p)) e ∙ one_more p old l);
+      others = λ t apart. section_names-same t old new names (ap (section_count t) e ∙ same_count p t old (l ∷ []) apart);
+      rest = e ∙ ap (λ (n : NameMap). record (with_more p old (l ∷ [])) { names = n }) (sym (ap (λ (c : Circuit). c.names) e));
     }
 
-WithProperties-all : (items : List Item) (rows : List (List ℕ)) (old cur : Circuit) (k : ℕ) → WithProperties items rows old cur k → length items ≤ k
-    → cur ≡ with_literals old (outputs_of items rows items) (bads_of items rows items) (constraints_of items rows items)
-WithProperties-all items rows old cur k h end =
-    h ∙ ap (λ (l : List Item). with_literals old (outputs_of items rows l) (bads_of items rows l) (constraints_of items rows l)) (take_all k items end)
+-- its position, which is behind those before it, may be named
+pub Adds-free : (p : Property) (old new : Circuit) (l : ℕ) → Adds p old (l ∷ []) (None ∷ []) new → slice_get (section_names (property_section p) new) (section_count (property_section p) old) ≡ Some None
+Adds-free p old new l a =
+    let s = property_section p in
+    let e : section_count s old ≡ section_count s old + 0 = omega arith in
+    let none : Names = None ∷ [] in
+    ap₂ slice_get a.own e ∙ slice_get-behind (section_names s old) none (section_count s old) 0 (length-section_names s old)
 
--- all of them, where there was none
-pub record AllProperties (items : List Item) (n : Net) (old cur : Circuit) : Type 0 where
-  pub outputs : OutputsRead items n items cur.outputs
-  pub bads : BadsRead items n items cur.bads
-  pub constraints : ConstraintsRead items n items cur.constraints
-  pub many_outputs : length cur.outputs ≡ length (output_names items)
-  pub many_bads : length cur.bads ≡ length (bad_names items)
-  pub many_constraints : length cur.constraints ≡ length (constraint_names items)
-  pub others : cur ≡ record old { outputs = cur.outputs; bads = cur.bads; constraints = cur.constraints }
-
-pub all_properties : (items : List Item) (n : Net) (rows : List (List ℕ)) (old cur : Circuit) (k : ℕ) → IsWellFormed items → RowsRead items n rows → length rows ≡ length items
-    → WithProperties items rows old cur k → length items ≤ k → old.outputs ≡ [] → old.bads ≡ [] → old.constraints ≡ [] → AllProperties items n old cur
-all_properties items n rows old cur k w reads all h end no_outputs no_bads no_constraints =
-    let outputs = outputs_of items rows items in
-    let bads = bads_of items rows items in
-    let constraints = constraints_of items rows items in
-    let made = WithProperties-all items rows old cur k h end in
-    let own_outputs : old.outputs ++ outputs ≡ outputs = ap (λ (l : List ℕ). l ++ outputs) no_outputs in
-    let own_bads : old.bads ++ bads ≡ bads = ap (λ (l : List ℕ). l ++ bads) no_bads in
-    let own_constraints : old.constraints ++ constraints ≡ constraints = ap (λ (l : List ℕ). l ++ constraints) no_constraints in
-    let all_outputs : cur.outputs ≡ outputs = ap (λ (c : Circuit). c.outputs) made ∙ own_outputs in
-    let all_bads : cur.bads ≡ bads = ap (λ (c : Circuit). c.bads) made ∙ own_bads in
-    let all_constraints : cur.constraints ≡ constraints = ap (λ (c : Circuit). c.constraints) made ∙ own_constraints in
+pub Adds-named : (p : Property) (old cur new : Circuit) (l : ℕ) (name : List ℕ) → Adds p old (l ∷ []) (None ∷ []) cur
+    → Renames (property_section p) cur (set (section_names (property_section p) cur) (section_count (property_section p) old) (Some name)) new → Adds p old (l ∷ []) (Some name ∷ []) new
+Adds-named p old cur new l name a r =
+    let s = property_section p in
     record {
-      outputs = subst (OutputsRead items n items) (sym all_outputs) (OutputsRead-made items n rows w reads all);
-      bads = subst (BadsRead items n items) (sym all_bads) (BadsRead-made items n rows w reads all);
-      constraints = subst (ConstraintsRead items n items) (sym all_constraints) (ConstraintsRead-made items n rows w reads all);
-      many_outputs = ap length all_outputs ∙ length-outputs items rows items (λ j y a in_items e. let node = output_operand items j y a w in_items e in row_wide items n rows a node.0 reads all node.1);
-      many_bads = ap length all_bads ∙ length-bads items rows items;
-      many_constraints = ap length all_constraints ∙ length-constraints items rows items;
-      others = made ∙ same_lists old _ _ _ _ _ _ (own_outputs ∙ sym all_outputs) (own_bads ∙ sym all_bads) (own_constraints ∙ sym all_constraints);
+      own = r.own ∙ ap (λ (names : Names). set names (section_count s old) (Some name)) a.own ∙ set_at (section_names s old) None [] (Some name) (section_count s old) (length-section_names s old);
+      others = λ t apart. r.others t apart ∙ a.others t apart;
+      rest = r.rest ∙ ap (λ (c : Circuit). record c { names = new.names }) a.rest;
     }
 
--- The outputs of a row.
+-- Properties of a row.
 
--- a circuit with the outputs of the first so many literals of a row
-abbrev pub WithOutputs : Circuit → Circuit → List ℕ → ℕ → Type 0
-WithOutputs old cur row k = cur ≡ record old { outputs = old.outputs ++ take k row }
+pub Adds-bit : (p : Property) (old cur new : Circuit) (row : List ℕ) (symbol : Option (List ℕ)) (bit l : ℕ) → Adds p old (take bit row) (names_by p symbol 0 bit) cur → bit < length row → l ≡ get_or row bit 0
+    → Adds p cur (l ∷ []) (names_by p symbol bit 1) new → Adds p old (take (bit + 1) row) (names_by p symbol 0 (bit + 1)) new
+Adds-bit p old cur new row symbol bit l a low is more =
+    Adds-equal p old new _ _ _ _ (sym (take_more row bit 0 low ∙ ap (λ (m : ℕ). take bit row ++ m ∷ []) (sym is))) (sym (names_by-more p symbol bit))
+    (Adds-then p old cur new (take bit row) (l ∷ []) (names_by p symbol 0 bit) (names_by p symbol bit 1) a more)
 
-pub WithOutputs-none : (c : Circuit) (row : List ℕ) → WithOutputs c c row 0
-WithOutputs-none c row = ap (λ (o : List ℕ). record c { outputs = o }) (sym (append-nil c.outputs))
+pub Adds-bits_few : (p : Property) (old cur : Circuit) (row : List ℕ) (names : Names) (bit most : ℕ) → Adds p old (take bit row) names cur → bit < length row → length (literals_of p old) + length row ≤ most → length (literals_of p cur) < most
+Adds-bits_few p old cur row names bit most a low room =
+    omega (arith, ap length (Adds-literals p old cur (take bit row) names a), length-append (literals_of p old) (take bit row), length-take bit row)
 
-pub WithOutputs-more : (old cur new : Circuit) (row : List ℕ) (k l : ℕ) → WithOutputs old cur row k → k < length row → l ≡ get_or row k 0 → new ≡ with_output cur l → WithOutputs old new row (k + 1)
-WithOutputs-more old cur new row k l h low is given =
-    given ∙ ap (λ (c : Circuit). with_output c l) h
-    ∙ ap (λ (o : List ℕ). record old { outputs = o })
-    (append_assoc old.outputs (take k row) (l ∷ []) ∙ ap (λ (m : List ℕ). old.outputs ++ m) (sym (take_more row k 0 low ∙ ap (λ (j : ℕ). take k row ++ j ∷ []) (sym is))))
+-- the row of a line
+pub row_of_line : (items : List Item) (rows : List (List ℕ)) (p : Property) (x : Item) (a : ℕ) (r : List ℕ) → row_of items rows a ≡ Some r → Some a ≡ property_operand p x.body → r ≡ property_literals items rows p x.body
+row_of_line items rows p x a r found is = row_at-of items rows a r found ∙ ap (row_at items rows) is
 
-pub WithOutputs-few : (old cur : Circuit) (row : List ℕ) (k most : ℕ) → WithOutputs old cur row k → k < length row → length old.outputs + length row ≤ most → length cur.outputs < most
-WithOutputs-few old cur row k most h low room = omega (arith, ap (λ (c : Circuit). length c.outputs) h, length-append old.outputs (take k row), length-take k row)
+pub Adds-row : (p : Property) (items : List Item) (rows : List (List ℕ)) (old new : Circuit) (x : Item) (a : ℕ) (r : List ℕ) → row_of items rows a ≡ Some r → Some a ≡ property_operand p x.body
+    → Adds p old r (names_by p x.symbol 0 (length r)) new → Adds p old (property_literals items rows p x.body) (property_names items rows p x) new
+Adds-row p items rows old new x a r found is added =
+    subst (λ (l : List ℕ). Adds p old l (names_by p x.symbol 0 (length l)) new) (row_of_line items rows p x a r found is) added
 
-pub WithOutputs-all : (old cur : Circuit) (row : List ℕ) (k : ℕ) → WithOutputs old cur row k → length row ≤ k → cur ≡ record old { outputs = old.outputs ++ row }
-WithOutputs-all old cur row k h end = h ∙ ap (λ (m : List ℕ). record old { outputs = old.outputs ++ m }) (take_all k row end)
+-- a line of another kind adds none
+pub Adds-no_row : (p : Property) (items : List Item) (rows : List (List ℕ)) (c : Circuit) (x : Item) → None ≡ property_operand p x.body → Adds p c (property_literals items rows p x.body) (property_names items rows p x) c
+Adds-no_row p items rows c x is = subst (λ (l : List ℕ). Adds p c l (names_by p x.symbol 0 (length l)) c) (sym (row_none items rows) ∙ ap (row_at items rows) is) (Adds-none p c)
+
+-- Properties of a model.
+
+-- a circuit with those of the first so many items
+abbrev pub WithKind : Property → List Item → List (List ℕ) → Circuit → Circuit → ℕ → Type 0
+WithKind p items rows old cur k = Adds p old (literals_among items rows p (take k items)) (names_among items rows p (take k items)) cur
+
+pub WithKind-more : (p : Property) (items : List Item) (rows : List (List ℕ)) (old cur new : Circuit) (k : ℕ) (x : Item) → WithKind p items rows old cur k → slice_get items k ≡ Some x
+    → Adds p cur (property_literals items rows p x.body) (property_names items rows p x) new → WithKind p items rows old new (k + 1)
+WithKind-more p items rows old cur new k x a at more =
+    Adds-equal p old new _ _ _ _ (sym (front_more (λ (y : Item). property_literals items rows p y.body) items k x at)) (sym (front_more (property_names items rows p) items k x at))
+    (Adds-then p old cur new (literals_among items rows p (take k items)) (property_literals items rows p x.body) (names_among items rows p (take k items)) (property_names items rows p x) a more)
+
+pub WithKind-few : (p : Property) (items : List Item) (n : Net) (rows : List (List ℕ)) (old cur : Circuit) (k : ℕ) (x : Item) → IsWellFormed items → RowsRead items n rows → length rows ≡ length items → WithKind p items rows old cur k
+    → literals_of p old ≡ [] → slice_get items k ≡ Some x → length (literals_of p cur) + length (property_literals items rows p x.body) ≤ greatest_count
+WithKind-few p items n rows old cur k x w reads all a none at =
+    let front = literals_among items rows p (take k items) in
+    let give : Item → List ℕ = λ y. property_literals items rows p y.body in
+    omega (
+      arith,
+      ap length (Adds-literals p old cur front (names_among items rows p (take k items)) a),
+      length-append (literals_of p old) front,
+      ap length none,
+      front_within give items k x at,
+      at_most_each give items (λ j y there. line_at_most p items n rows j y w reads all there),
+      few_items items w,
+    )
+
+pub WithKind-reads : (p : Property) (items : List Item) (rows : List (List ℕ)) (old cur : Circuit) (k : ℕ) → WithKind p items rows old cur k → RowsRead items (net old) rows → RowsRead items (net cur) rows
+WithKind-reads p items rows old cur k a reads = Adds-reads p items rows old cur _ _ a reads
+
+pub WithKind-all : (p : Property) (items : List Item) (rows : List (List ℕ)) (old cur : Circuit) (k : ℕ) → WithKind p items rows old cur k → length items ≤ k → Adds p old (literals_among items rows p items) (names_among items rows p items) cur
+WithKind-all p items rows old cur k a end = Adds-equal p old cur _ _ _ _ (ap (literals_among items rows p) (take_all k items end)) (ap (names_among items rows p) (take_all k items end)) a
+
+-- All of them.
+
+no_positions : (s : Section) (c : Circuit) → section_count s c ≡ 0 → section_names s c ≡ []
+no_positions s c none = ap (λ (n : ℕ). map (name_of c s) (range_with_len 0 n)) none
+
+same_lists : (c : Circuit) (names : NameMap) (o o' b b' k k' : List ℕ) → o ≡ o' → b ≡ b' → k ≡ k' → record c { outputs = o; bads = b; constraints = k; names = names } ≡ record c { outputs = o'; bads = b'; constraints = k'; names = names }
+same_lists c names o o' b b' k k' p q r = rw (p, q, r) refl
+
+pub TakesProperties-made : (items : List Item) (rows : List (List ℕ)) (c0 c1 c2 c3 : Circuit) → IsWellFormed items → RowsRead items (net c0) rows → length rows ≡ length items → c0.outputs ≡ [] → c0.bads ≡ [] → c0.constraints ≡ []
+    → Adds property.Output c0 (literals_among items rows property.Output items) (names_among items rows property.Output items) c1
+    → Adds property.Bad c1 (literals_among items rows property.Bad items) (names_among items rows property.Bad items) c2
+    → Adds property.Constraint c2 (literals_among items rows property.Constraint items) (names_among items rows property.Constraint items) c3
+    → TakesProperties items c0 c3
+TakesProperties-made items rows c0 c1 c2 c3 w reads all no_outputs no_bads no_constraints o b k =
+    let own : Property → List ℕ = λ p. literals_among items rows p items in
+    let bads0 : c1.bads ≡ [] = ap (λ (c : Circuit). c.bads) o.rest ∙ no_bads in
+    let constraints0 : c2.constraints ≡ [] = ap (λ (c : Circuit). c.constraints) b.rest ∙ ap (λ (c : Circuit). c.constraints) o.rest ∙ no_constraints in
+    let outputs : c3.outputs ≡ own property.Output =
+    ap (λ (c : Circuit). c.outputs) k.rest ∙ ap (λ (c : Circuit). c.outputs) b.rest ∙ ap (λ (c : Circuit). c.outputs) o.rest ∙ ap (λ (l : List ℕ). l ++ own property.Output) no_outputs in
+    let bads : c3.bads ≡ own property.Bad = ap (λ (c : Circuit). c.bads) k.rest ∙ ap (λ (c : Circuit). c.bads) b.rest ∙ ap (λ (l : List ℕ). l ++ own property.Bad) bads0 in
+    let constraints : c3.constraints ≡ own property.Constraint = ap (λ (c : Circuit). c.constraints) k.rest ∙ ap (λ (l : List ℕ). l ++ own property.Constraint) constraints0 in
+    record {
+      outputs = record { values = λ state input f v t. ap (map (literal_value v)) outputs ∙ all_values property.Output items (net c0) rows w reads all state input f v t };
+      bads = record { values = λ state input f v t. ap (map (literal_value v)) bads ∙ all_values property.Bad items (net c0) rows w reads all state input f v t };
+      constraints = record { values = λ state input f v t. ap (map (literal_value v)) constraints ∙ all_values property.Constraint items (net c0) rows w reads all state input f v t };
+      output_names = k.others section.Output (λ q. cc) ∙ b.others section.Output (λ q. cc) ∙ o.own
+          ∙ ap₂ (λ (l m : Names). l ++ m) (no_positions section.Output c0 (ap length no_outputs)) (all_names property.Output items (net c0) rows w reads all);
+      bad_names = k.others section.Bad (λ q. cc) ∙ b.own ∙ ap₂ (λ (l m : Names). l ++ m) (no_positions section.Bad c1 (ap length bads0)) (all_names property.Bad items (net c0) rows w reads all);
+      constraint_names = k.own ∙ ap₂ (λ (l m : Names). l ++ m) (no_positions section.Constraint c2 (ap length constraints0)) (all_names property.Constraint items (net c0) rows w reads all);
+      input_names = k.others section.Input (λ q. cc) ∙ b.others section.Input (λ q. cc) ∙ o.others section.Input (λ q. cc);
+      latch_names = k.others section.Latch (λ q. cc) ∙ b.others section.Latch (λ q. cc) ∙ o.others section.Latch (λ q. cc);
+      rest = k.rest ∙ ap (λ (c : Circuit). record (with_more property.Constraint c (own property.Constraint)) { names = c3.names }) b.rest
+          ∙ ap (λ (c : Circuit). record (with_more property.Constraint (with_more property.Bad c (own property.Bad)) (own property.Constraint)) { names = c3.names }) o.rest
+          ∙ same_lists c0 c3.names _ _ _ _ _ _ (ap (λ (l : List ℕ). l ++ own property.Output) no_outputs ∙ sym outputs)
+          (ap (λ (l : List ℕ). l ++ own property.Bad) no_bads ∙ sym bads) (ap (λ (l : List ℕ). l ++ own property.Constraint) no_constraints ∙ sym constraints);
+    }

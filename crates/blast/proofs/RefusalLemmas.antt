@@ -1,8 +1,8 @@
 -- The first item that speaks against a model, found in one walk.
-use Rattle.std.proofs.Common.{◌≡◌, ℕ, ◌+◌, ◌<◌, ◌≤◌, Bool, true, false, not, ◌&&◌, List, length, Option, Some, None, is_some, is_none, option_and_then, slice_get, get_or, take, drop, refl, sym, ap, subst, ◌∙◌}
+use Rattle.std.proofs.Common.{◌≡◌, ℕ, ◌+◌, ◌<◌, Bool, true, false, not, ◌&&◌, List, length, Option, Some, None, is_some, is_none, option_and_then, slice_get, get_or, take, drop, refl, sym, ap, subst, ◌∙◌}
 use Rattle.std.specs.Option.{option_or}
 use Rattle.std.proofs.lemmas.Option.{slice_get_within, get_or_from_slice_get}
-use Rattle.std.proofs.lemmas.List.{drop_more, drop_all}
+use Rattle.std.proofs.lemmas.List.{drop_more}
 use Rattle.btor2.specs.declared.item.Item.{Item}
 use Rattle.btor2.specs.Items.{position_of, is_state, init_value, next_value}
 use Rattle.btor2.specs.Check.{IsWellFormed}
@@ -26,9 +26,6 @@ refusal_here items k x (Some e) r at is whole some = ap (λ (p : Option LowerFau
 pub refusal_passed : (items : List Item) (k : ℕ) (x : Item) (o r : Option LowerFault) → slice_get items k ≡ Some x → o ≡ line_refusal items x.id x.body → first_refusal items (drop k items) ≡ r → is_some o ≡ false → first_refusal items (drop (k + 1) items) ≡ r
 refusal_passed items k x None r at is whole none = ap (λ (p : Option LowerFault). option_or p (first_refusal items (drop (k + 1) items))) is ∙ sym (refusal_from items k x at) ∙ whole
 refusal_passed items k x (Some e) r at is whole none = absurd (cc)
-
-pub refusal_none : (items : List Item) (k : ℕ) (r : Option LowerFault) → length items ≤ k → first_refusal items (drop k items) ≡ r → None ≡ r
-refusal_none items k r end whole = sym (ap (first_refusal items) (drop_all k items end)) ∙ whole
 
 -- The state that so many stand before.
 

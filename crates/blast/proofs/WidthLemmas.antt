@@ -1,12 +1,11 @@
 -- Widths and gate bounds of well-formed lists.
-use Rattle.std.proofs.Common.{◌≡◌, ℕ, zero, suc, ◌+◌, ◌*◌, ◌^◌, ◌<◌, ◌≤◌, nat_lt, Bool, true, false, cond, nat_eq, List, [], ◌∷◌, ◌++◌, length, Option, Some, None, is_some, unwrap_or, option_and_then, slice_get, take, get_or, All, sum_by, not, ◌&&◌, refl, sym, ap, ap₂, subst, ◌∙◌, append_assoc, length-append, arith}
+use Rattle.std.proofs.Common.{◌≡◌, ℕ, zero, suc, ◌+◌, ◌*◌, ◌^◌, ◌<◌, ◌≤◌, nat_lt, Bool, true, false, cond, nat_eq, List, [], ◌∷◌, ◌++◌, length, Option, Some, None, is_some, unwrap_or, option_and_then, slice_get, take, get_or, sum_by, not, ◌&&◌, refl, sym, ap, ap₂, subst, ◌∙◌, append_assoc, length-append, arith}
 use Rattle.std.proofs.Math.Nat.{mul-le-mul_left}
 use Rattle.std.specs.List.{position_from}
 use Rattle.std.proofs.lemmas.Bool.{false≢true}
 use Rattle.std.proofs.lemmas.Option.{none-some, same_Some, slice_get_within, slice_get_read}
 use Rattle.std.proofs.lemmas.List.{take_all}
 use Rattle.std.proofs.lemmas.List.Sums.{count_by-le-length, sum_by-le, sum_by_more, sum_by_more_le, sum_by-cons}
-use Rattle.std.proofs.lemmas.List.Elements.{All-nil, All-cons}
 use Rattle.base.specs.declared.operators.Unary.{Unary}
 use Rattle.base.specs.declared.operators.Unary.TheVariants as unary
 use Rattle.base.specs.declared.operators.Binary.{Binary}
@@ -16,12 +15,12 @@ use Rattle.gates.specs.Bound.{log_up, unary_bound, binary_bound}
 use Rattle.btor2.specs.declared.item.Item.{Item}
 use Rattle.btor2.specs.declared.item.Body.{Body}
 use Rattle.btor2.specs.declared.item.Body.TheVariants as body
-use Rattle.btor2.specs.Items.{find_item, position_of, node_sort, sort_width, width_of_body, node_width, operands, is_state, is_free, is_free_state, is_carried_state}
+use Rattle.btor2.specs.Items.{find_item, position_of, node_sort, sort_width, width_of_body, node_width, is_state, is_free, is_free_state, is_carried_state}
 use Rattle.btor2.specs.Lists.{width_at, places}
 use Rattle.btor2.specs.Check.{IsWellFormed}
 use Rattle.btor2.specs.Trace.{bits_of}
 use Rattle.btor2.proofs.AppendLemmas.{is_some_from, sort_width-append, node_width-append}
-use Rattle.btor2.proofs.AcceptedLemmas.{Each, HasWidth, BodyIsAccepted}
+use Rattle.btor2.proofs.AcceptedLemmas.{BodyIsAccepted}
 use Rattle.btor2.proofs.ModelLemmas.{IsIn, IsIn-from_place, IsAccepted-at, node_width-at, node_width-range, few_items}
 use Rattle.blast.specs.Cost.{line_cost, cost, kind_width, input_width, state_width, given_width, carried_width}
 use Rattle.blast.specs.Leaves.{by_body}
@@ -131,21 +130,6 @@ kind_width-small items kind w = small_sum _ items (λ x. choice_most (kind x) (b
 pub cost-small : (items : List Item) → IsWellFormed items → cost items < 2 ^ 39
 cost-small items w = small_sum _ items (λ x. line_cost-most items x.body w) (few_items items w)
 
--- the operands of an item that stands in a well-formed list are nodes of it
-node_stays : (before more : List Item) (a n : ℕ) → node_width before a ≡ Some n → is_some (node_width (before ++ more) a) ≡ true
-node_stays before more a n h = is_some_from (node_width (before ++ more) a) n (node_width-append before more a n h)
-
-accepted_operands : (before more : List Item) (nodes : List ℕ) → Each (HasWidth before) nodes → All (λ a. is_some (node_width (before ++ more) a) ≡ true) nodes
-accepted_operands before more [] there = All-nil (λ b. is_some (node_width (before ++ more) b) ≡ true)
-accepted_operands before more (a ∷ rest) there =
-    All-cons (λ b. is_some (node_width (before ++ more) b) ≡ true) a rest (node_stays before more a there.0.0 there.0.1) (accepted_operands before more rest there.1)
-
-pub operands_there : (items : List Item) (k : ℕ) (x : Item) → IsWellFormed items → slice_get items k ≡ Some x → All (λ a. is_some (node_width items a) ≡ true) (operands x.body)
-operands_there items k x w at =
-    let there = (IsIn-from_place items k x at).0 in
-    subst (λ (l : List Item). All (λ a. is_some (node_width l a) ≡ true) (operands x.body)) (sym there.splits)
-    (accepted_operands there.before (x ∷ there.after) (operands x.body) (IsAccepted-at items x w there).nodes)
-
 -- an operand of a line: a node, and as wide as the line where its operator does not change the width
 pub record IsOperandOf (items : List Item) (x : Item) (a : ℕ) (changed : Bool) : Type 0 where
   pub there : is_some (node_width items a) ≡ true
@@ -211,8 +195,6 @@ pub part_in_list : (items : List Item) (p : Part) (x : Item) → kind_of items p
 part_in_list items part.Inputs x h = h
 part_in_list items part.FreeStates x h = (free_parts items x h).0
 part_in_list items part.CarriedStates x h = (carried_parts items x h).0
-part_in_list items part.Bads x h = h
-part_in_list items part.Constraints x h = h
 
 -- the bits of an item that may be there, where it is of a kind
 abbrev pub bits_there : List Item → (Item → Bool) → Option Item → ℕ

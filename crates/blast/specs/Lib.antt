@@ -8,6 +8,7 @@ pub mod Conversion
 pub mod Reads
 pub mod Blocks
 pub mod Sections
+pub mod Properties
 pub mod Rows
 pub mod Table
 pub mod Worked

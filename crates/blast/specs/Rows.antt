@@ -1,14 +1,11 @@
--- The literals that a circuit's latches, outputs, bad properties and constraints take from the rows of a model's nodes and from words.
-use Rattle.std.specs.Prelude.{ℕ, suc, Bool, true, false, List, [], ◌∷◌, ◌++◌, ◌==◌, Option, Some, None, if◌then◌else◌, option_and_then, unwrap_or, map, slice_get, slice_index}
+-- The literals that a circuit's latches take from the rows of a model's nodes and from words.
+use Rattle.std.specs.Prelude.{ℕ, suc, Bool, true, false, List, [], ◌∷◌, ◌==◌, Option, Some, None, if◌then◌else◌, option_and_then, unwrap_or, map, slice_get}
 use Rattle.base.specs.Word.{bit, bits}
 use Rattle.btor2.specs.declared.item.Item.{Item}
-use Rattle.btor2.specs.declared.item.Body.{Body}
-use Rattle.btor2.specs.declared.item.Body.TheVariants as body
 use Rattle.btor2.specs.Items.{position_of, constant_of, init_value, next_value, is_carried_state}
 use Rattle.aiger.specs.declared.circuit.Latch.{Latch}
 use Rattle.aiger.specs.declared.circuit.Reset.{Reset}
 use Rattle.aiger.specs.declared.circuit.Reset.TheVariants as reset
-use Rattle.aiger.specs.Circuit.{Circuit}
 use Rattle.blast.specs.Leaves.{reset_of_bit}
 
 -- the row of the node that an id may name, and none of no node
@@ -46,26 +43,3 @@ state_latches items rows x = row_latches (init_word items x.id) 0 (row_at items 
 -- the latches of an item: those of a state that is not free, and none of any other
 abbrev pub item_latches : List Item → List (List ℕ) → Item → List Latch
 item_latches items rows x = if is_carried_state items x then state_latches items rows x else []
-
--- the literal of a node of one bit
-abbrev pub literal_at : List Item → List (List ℕ) → ℕ → ℕ
-literal_at items rows id = slice_index (row_at items rows (Some id)) 0
-
--- the literals that a line adds to the outputs: the row of its operand, and none for any other line
-abbrev pub output_literals : List Item → List (List ℕ) → Body → List ℕ
-output_literals items rows (body.Output a) = row_at items rows (Some a)
-output_literals items rows _ = []
-
--- the literals that a line adds to the bad properties: that of its operand, and none for any other line
-abbrev pub bad_literals : List Item → List (List ℕ) → Body → List ℕ
-bad_literals items rows (body.Bad a) = literal_at items rows a ∷ []
-bad_literals items rows _ = []
-
--- the literals that a line adds to the constraints: that of its operand, and none for any other line
-abbrev pub constraint_literals : List Item → List (List ℕ) → Body → List ℕ
-constraint_literals items rows (body.Constraint a) = literal_at items rows a ∷ []
-constraint_literals items rows _ = []
-
--- a circuit with more outputs, bad properties and constraints
-abbrev pub with_literals : Circuit → List ℕ → List ℕ → List ℕ → Circuit
-with_literals c outputs bads constraints = record c { outputs = c.outputs ++ outputs; bads = c.bads ++ bads; constraints = c.constraints ++ constraints }

@@ -39,8 +39,8 @@ fn refusal(model: &Model) -> Option<LowerFault>
     }
 }
 
-/// The circuit of a model, from the bare one of its gates: the latches, the properties and the names are put in. The table
-/// has the literals of each node.
+/// The circuit of a model, from the bare one of its gates: the latches, their names and those of the inputs, and the
+/// properties with theirs are put in. The table has the literals of each node.
 fn completed(model: &Model, table: &Table, mut circuit: Circuit) -> Result<Circuit, LowerFault>
     requires accepted { lowering_refusal model.now ≡ None }
     requires well_formed { IsWellFormed model.now }
@@ -50,8 +50,8 @@ fn completed(model: &Model, table: &Table, mut circuit: Circuit) -> Result<Circu
     ensures memory { IfErr result (λ e. e ≡ LowerFault.NoMemory) }
 {
     set_latches(model, table, &mut circuit);
-    push_properties(model, table, &mut circuit)?;
     set_names(model, &mut circuit)?;
+    push_properties(model, table, &mut circuit)?;
     // what a circuit keeps
     let _ = circuit.gates();
     Ok(circuit)

@@ -1,30 +1,26 @@
-//! The names of a circuit's inputs, latches, outputs, bad properties and constraints.
-ghost use Rattle.std.specs.Prelude.{◌≡◌, ℕ, ◌+◌, ◌<◌, ◌≤◌, [], ◌∷◌, true, All, is_some, length, Some, None, IfOk, OnOk, IfErr, slice_get, slice_index, slice_set};
-ghost use Rattle.btor2.specs.Items.{node_width, operands};
-ghost use Rattle.aiger.specs.declared.circuit.Section.TheVariants as section;
+//! The names of a circuit's inputs and latches, and how a bit is named.
+ghost use Rattle.std.specs.Prelude.{◌≡◌, ℕ, ◌+◌, ◌<◌, ◌≤◌, [], true, length, Some, None, IfOk, OnOk, IfErr, slice_get, slice_index, slice_set};
 ghost use Rattle.btor2.specs.Symbols.{is_symbol};
 ghost use Rattle.btor2.specs.Check.{IsWellFormed};
 ghost use Rattle.btor2.specs.Lists.{places};
-ghost use Rattle.btor2.specs.Trace.{bits_of};
 ghost use Rattle.aiger.specs.Limits.{greatest_count};
 ghost use Rattle.aiger.specs.Circuit.{section_names, is_name};
 ghost use Rattle.blast.specs.declared.fault.LowerFault.TheVariants as fault;
 ghost use Rattle.blast.specs.Cost.{given_width, carried_width};
-ghost use Rattle.blast.specs.Leaves.{bit_name, bit_names, leaf_names, shown_width, shown_names, output_names, bad_names, constraint_names};
+ghost use Rattle.blast.specs.Leaves.{bit_name, bit_names, leaf_names};
 ghost use Rattle.blast.specs.Blocks.{written, IsBlank};
-ghost use Rattle.blast.specs.Sections.{list_of, section_of, item_names, part_names, names_given, Renames, TakesNames};
+ghost use Rattle.blast.specs.Sections.{list_of, section_of, part_names, names_given, Renames, TakesNames};
 
 use crate::fault::LowerFault;
 use crate::items::{bit_count, item_at};
 use crate::parts::{Part, is_of_part, part_list, part_section};
-use crate::widths::node_bits;
 use aiger::{Circuit, CircuitFault, LONGEST_NAME, Section};
 use arrayvec::ArrayVec;
-use btor2::{Body, Item, Model, Symbol};
+use btor2::{Item, Model, Symbol};
 use itoa::Buffer;
 
 /// Writes the name of a bit: the symbol, and the bit's number in brackets.
-fn write_bit_name(symbol: &[u8], bit: u64, name: &mut ArrayVec<u8, LONGEST_NAME>)
+pub(crate) fn write_bit_name(symbol: &[u8], bit: u64, name: &mut ArrayVec<u8, LONGEST_NAME>)
     requires symbol { is_symbol symbol.now ≡ true }
     requires bit { bit < 64 }
     ensures name { name.new.items ≡ bit_name symbol.now bit }
@@ -45,7 +41,7 @@ fn write_bit_name(symbol: &[u8], bit: u64, name: &mut ArrayVec<u8, LONGEST_NAME>
 }
 
 /// Gives a name to a position of a section that has none.
-fn give_name(
+pub(crate) fn give_name(
     section: Section,
     position: usize,
     name: &[u8],
@@ -130,56 +126,6 @@ fn name_leaf(
     Ok(count as usize)
 }
 
-/// Names the position of a bad property or a constraint, where it has a symbol, and answers that it is one position.
-fn name_property(
-    section: Section,
-    first: usize,
-    symbol: &Option<Symbol>,
-    circuit: &mut Circuit,
-) -> Result<usize, LowerFault>
-    requires free { IsBlank None first 1 (section_names section circuit.old) }
-    requires room { first + 1 ≤ length (section_names section circuit.old) }
-    ensures ok { OnOk result (Renames section circuit.old (written (section_names section circuit.old) first (symbol.now ∷ [])) circuit.new) }
-    ensures count { IfOk result (λ n. n ≡ 1) }
-    ensures err { IfErr result (λ e. e ≡ fault.NoMemory) }
-{
-    match symbol {
-        Some(symbol) => {
-            give_name(section, first, symbol.bytes(), circuit)?;
-            Ok(1)
-        }
-        None => Ok(1),
-    }
-}
-
-/// Names the positions of an item of a part, and answers how many they are.
-fn name_own(
-    model: &Model,
-    part: Part,
-    place: usize,
-    first: usize,
-    item: &Item,
-    circuit: &mut Circuit,
-) -> Result<usize, LowerFault>
-    requires well_formed { IsWellFormed model.now }
-    requires place { slice_get model.now place ≡ Some item.now }
-    requires free { IsBlank None first (length (item_names model.now part item.now)) (section_names (section_of part) circuit.old) }
-    requires room { first + length (item_names model.now part item.now) ≤ length (section_names (section_of part) circuit.old) }
-    requires few { length (section_names (section_of part) circuit.old) ≤ greatest_count }
-    ensures ok { OnOk result (Renames (section_of part) circuit.old (written (section_names (section_of part) circuit.old) first (item_names model.now part item.now)) circuit.new) }
-    ensures count { IfOk result (λ n. n ≡ length (item_names model.now part item.now)) }
-    ensures err { IfErr result (λ e. e ≡ fault.NoMemory) }
-{
-    let section = part_section(part);
-    match part {
-        Part::Inputs => name_leaf(model, place, section, first, item, circuit),
-        Part::FreeStates => name_leaf(model, place, section, first, item, circuit),
-        Part::CarriedStates => name_leaf(model, place, section, first, item, circuit),
-        Part::Bads => name_property(section, first, &item.symbol, circuit),
-        Part::Constraints => name_property(section, first, &item.symbol, circuit),
-    }
-}
-
 /// Names the positions that an item gives a part, and answers how many they are: none where it is of another. `k` counts
 /// the list of the part.
 fn name_item(
@@ -203,7 +149,7 @@ fn name_item(
     ensures err { IfErr result (λ e. e ≡ fault.NoMemory) }
 {
     if is_of_part(model, part, k) {
-        name_own(model, part, place, first, item, circuit)
+        name_leaf(model, place, part_section(part), first, item, circuit)
     } else {
         Ok(0)
     }
@@ -235,70 +181,15 @@ fn name_part(
     Ok(next)
 }
 
-/// How many bits an output line shows; none by any other line.
-fn shown_width(model: &Model, body: &Body) -> u64
-    requires { All (λ a. is_some (node_width model.now a) ≡ true) (operands body.now) }
-    ensures value { result ≡ shown_width model.now body.now }
-    ensures most { result ≤ 64 }
-{
-    match body {
-        Body::Output { operand } => node_bits(model, *operand),
-        _ => 0,
-    }
-}
-
-/// Names the positions that an item gives the outputs, and answers how many they are: none where it is no output line.
-fn name_output(
-    model: &Model,
-    place: usize,
-    first: usize,
-    item: &Item,
-    circuit: &mut Circuit,
-) -> Result<usize, LowerFault>
-    requires well_formed { IsWellFormed model.now }
-    requires place { slice_get model.now place ≡ Some item.now }
-    requires free { IsBlank None first (length (shown_names model.now item.now)) (section_names section.Output circuit.old) }
-    requires room { first + length (shown_names model.now item.now) ≤ length (section_names section.Output circuit.old) }
-    requires few { length (section_names section.Output circuit.old) ≤ greatest_count }
-    ensures ok { OnOk result (Renames section.Output circuit.old (written (section_names section.Output circuit.old) first (shown_names model.now item.now)) circuit.new) }
-    ensures count { IfOk result (λ n. n ≡ length (shown_names model.now item.now)) }
-    ensures err { IfErr result (λ e. e ≡ fault.NoMemory) }
-{
-    let count = shown_width(model, &item.body);
-    name_word(Section::Output, first, &item.symbol, count, circuit)?;
-    Ok(count as usize)
-}
-
-/// Names the outputs.
-fn name_outputs(model: &Model, circuit: &mut Circuit) -> Result<(), LowerFault>
-    requires blank { IsBlank None 0 (length (output_names model.now)) (section_names section.Output circuit.old) }
-    requires all { length (section_names section.Output circuit.old) ≡ length (output_names model.now) }
-    requires few { length (section_names section.Output circuit.old) ≤ greatest_count }
-    ensures ok { OnOk result (Renames section.Output circuit.old (output_names model.now) circuit.new) }
-    ensures err { IfErr result (λ e. e ≡ fault.NoMemory) }
-{
-    let items = model.items();
-    let mut next = 0;
-    for place in 0..items.len() {
-        let count = name_output(model, place, next, item_at(items, place), circuit)?;
-        next += count;
-    }
-    Ok(())
-}
-
-/// Gives the bits of each input, state and output with a symbol the name `<symbol>[<bit>]`, and each bad property and
-/// constraint with a symbol the symbol itself.
+/// Gives the bits of each input and state with a symbol the name `<symbol>[<bit>]`.
 ///
-/// Condition: no position of the circuit has a name, and it has one for each such bit and line of the model.
+/// Condition: no position of the circuit has a name, and it has one for each such bit of the model.
 ///
 /// Error: `NoMemory`. Some positions may then have their names.
 pub(crate) fn set_names(model: &Model, circuit: &mut Circuit) -> Result<(), LowerFault>
     requires unnamed { circuit.old.names ≡ [] }
     requires inputs { circuit.old.inputs ≡ given_width model.now }
     requires latches { length circuit.old.latches ≡ carried_width model.now }
-    requires outputs { length circuit.old.outputs ≡ length (output_names model.now) }
-    requires bads { length circuit.old.bads ≡ length (bad_names model.now) }
-    requires constraints { length circuit.old.constraints ≡ length (constraint_names model.now) }
     ensures ok { OnOk result (TakesNames model.now circuit.old circuit.new) }
     ensures err { IfErr result (λ e. e ≡ fault.NoMemory) }
 {
@@ -307,8 +198,5 @@ pub(crate) fn set_names(model: &Model, circuit: &mut Circuit) -> Result<(), Lowe
     let inputs = name_part(model, Part::Inputs, 0, circuit)?;
     name_part(model, Part::FreeStates, inputs, circuit)?;
     name_part(model, Part::CarriedStates, 0, circuit)?;
-    name_part(model, Part::Bads, 0, circuit)?;
-    name_part(model, Part::Constraints, 0, circuit)?;
-    name_outputs(model, circuit)?;
     Ok(())
 }

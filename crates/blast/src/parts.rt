@@ -1,4 +1,4 @@
-//! The parts of a circuit's positions: which items of a model they come from.
+//! The parts of a circuit's inputs and latches: which items of a model they come from.
 ghost use Rattle.std.specs.Prelude.{◌≡◌, ◌<◌, length, Some, slice_get, slice_index};
 ghost use Rattle.btor2.specs.declared.item.Item.{Item};
 ghost use Rattle.btor2.specs.Lists.{places};
@@ -17,10 +17,6 @@ pub(crate) enum Part {
     FreeStates,
     /// The other states.
     CarriedStates,
-    /// Bad properties.
-    Bads,
-    /// Constraints.
-    Constraints,
 }
 
 /// The section that the positions of a part stand in.
@@ -31,8 +27,6 @@ pub(crate) fn part_section(part: Part) -> Section
         Part::Inputs => Section::Input,
         Part::FreeStates => Section::Input,
         Part::CarriedStates => Section::Latch,
-        Part::Bads => Section::Bad,
-        Part::Constraints => Section::Constraint,
     }
 }
 
@@ -44,8 +38,6 @@ pub(crate) fn part_list(model: &Model, part: Part) -> &[usize]
         Part::Inputs => model.inputs(),
         Part::FreeStates => model.states(),
         Part::CarriedStates => model.states(),
-        Part::Bads => model.bads(),
-        Part::Constraints => model.constraints(),
     }
 }
 
@@ -58,7 +50,5 @@ pub(crate) fn is_of_part(model: &Model, part: Part, k: usize) -> bool
         Part::FreeStates => model.is_free(k),
         Part::CarriedStates => !model.is_free(k),
         Part::Inputs => true,
-        Part::Bads => true,
-        Part::Constraints => true,
     }
 }

@@ -1,4 +1,4 @@
-use Rattle.std.proofs.Common.{◌≡◌, ◌+◌, ◌<◌, Err, ap, arith, refl, ◌∙◌}
+use Rattle.std.proofs.Common.{◌+◌, ◌<◌, Err, ap, arith, refl, ◌∙◌}
 use Rattle.aiger.specs.Limits.{greatest_count}
 use Rattle.blast.proofs.LowerAssembly.{leaves_given}
 use Rattle.blast.proofs.lowering.lower_accepted.Goals as goal

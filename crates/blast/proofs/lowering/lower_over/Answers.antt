@@ -1,6 +1,6 @@
 use Rattle.std.proofs.Common.{subst}
 use Rattle.aiger.specs.Net.{Net}
-use Rattle.blast.specs.Reads.{leaves_only, LowersNodes}
+use Rattle.blast.specs.Reads.{LowersNodes}
 use Rattle.blast.proofs.LowerAssembly.{bare_by_net, nodes_by_net}
 use Rattle.blast.proofs.lowering.lower_over.Goals as goal
 

@@ -1,5 +1,5 @@
 use Rattle.std.proofs.Common.{refl, sym}
-use Rattle.btor2.specs.Items.{is_input, is_bad, is_constraint}
+use Rattle.btor2.specs.Items.{is_input}
 use Rattle.btor2.specs.Lists.{places}
 use Rattle.blast.proofs.KindRows.{place-kind, state_by_number}
 use Rattle.blast.proofs.parts.is_of_part.Goals as goal
@@ -14,10 +14,3 @@ returns-in-CarriedStates c =
 
 pub returns-in-Inputs : goal.returns-in-Inputs
 returns-in-Inputs c = rw c.in-Inputs.is (λ x at. sym (place-kind is_input c.args.model.now (places is_input 0 c.args.model.now) c.args.k x refl (rw c.in-Inputs.is at c.requires) at))
-
-pub returns-in-Bads : goal.returns-in-Bads
-returns-in-Bads c = rw c.in-Bads.is (λ x at. sym (place-kind is_bad c.args.model.now (places is_bad 0 c.args.model.now) c.args.k x refl (rw c.in-Bads.is at c.requires) at))
-
-pub returns-in-Constraints : goal.returns-in-Constraints
-returns-in-Constraints c =
-    rw c.in-Constraints.is (λ x at. sym (place-kind is_constraint c.args.model.now (places is_constraint 0 c.args.model.now) c.args.k x refl (rw c.in-Constraints.is at c.requires) at))
