@@ -3,8 +3,6 @@
 //! two because those of the lower libraries need not wait for the upper ones.
 #![tactic(auto)]
 
-pub mod samples;
-
 #[cfg(test)]
 mod circuits;
 #[cfg(test)]
@@ -17,5 +15,6 @@ mod models;
 mod operator_tables;
 #[cfg(test)]
 mod refused_memory;
+pub mod samples;
 #[cfg(test)]
 mod sources_and_sinks;

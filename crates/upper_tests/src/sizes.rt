@@ -1,9 +1,9 @@
 //! Models that are too big, and long witnesses. What small ones answer is shown by rows.
-use library_tests::samples::{DELAYED, TOGGLER, TOGGLES};
 use aiger::Circuit;
 use blast::{LowerFault, bound, cost, lower};
 use btor2::Model;
 use btor2text::read;
+use library_tests::samples::{DELAYED, TOGGLER, TOGGLES};
 use std::alloc::Global;
 use std::test::Fail;
 use witness::{BitJudge, Judgement, Why, WordJudge, judge_words};

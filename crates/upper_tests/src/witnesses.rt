@@ -1,7 +1,7 @@
 //! What judges of models' witnesses have counted, and what is printed of their faults and of those of runs. Judgements are shown by rows.
-use library_tests::samples::{COUNTER, FOLLOWER};
 use btor2::Model;
 use btor2text::read;
+use library_tests::samples::{COUNTER, FOLLOWER};
 use runs::NewFault;
 use std::alloc::Global;
 use std::test::Fail;

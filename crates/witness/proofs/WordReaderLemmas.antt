@@ -52,8 +52,8 @@ is_claims code.End other = absurd (cc other)
 pub not_opened : (b : ℕ) (rest line : List ℕ) → begins_part (b ∷ rest) ≡ true → begins_part line ≡ false → bytes_eq line (b ∷ rest) ≡ false
 not_opened b rest line opens plain =
     false_from_ne_true (bytes_eq line (b ∷ rest)) (λ e.
-        let same : line ≡ b ∷ rest = (bytes_eq-Decides line (b ∷ rest)).0 e in
-        cc (sym (ap begins_part same) ∙ plain, opens))
+    let same : line ≡ b ∷ rest = (bytes_eq-Decides line (b ∷ rest)).0 e in
+    cc (sym (ap begins_part same) ∙ plain, opens))
 
 module _ (items : List Item) (r : Read) (line : List ℕ) (q : WordReader) (reads : Reads items q r line) where
   is_at : (x : CodePlace) → q.place ≡ x → r.place ≡ place_of x
