@@ -10,7 +10,7 @@ import re
 import sys
 
 CRATES = pathlib.Path(__file__).resolve().parent.parent / "crates"
-COUNTED = ("unary", "binary", "ite", "slice", "uext", "sext", "concat")
+COUNTED = ("unary", "binary", "ite", "slice", "uext", "sext", "concat", "take_all")
 
 
 def without_blocks(text, opening):

@@ -16,3 +16,4 @@ pub mod CutLemmas
 pub mod LineLemmas
 pub mod HeldLemmas
 pub mod DecimalLemmas
+pub mod StepLemmas

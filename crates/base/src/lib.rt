@@ -28,7 +28,7 @@ pub use outbox::Outbox;
 pub use signed::ones;
 pub use sinks::{Sink, ToWriter, VecSink, write_all};
 pub use sources::{FromReader, ReadAllFault, Source, read_all, skip_all};
-pub use tally::{Tally, gate, take};
+pub use tally::{Tally, gate, take, take_all};
 pub use trials::{Chop, FailAt};
 pub use width::Width;
 pub use words::{binary, concat, ite, sext, slice, uext, unary};

@@ -1,6 +1,6 @@
 //! How many steps were taken.
 ghost use Rattle.std.specs.Prelude.{◌≡◌, ℕ, ◌&&◌};
-ghost use Rattle.base.specs.Steps.{one_more};
+ghost use Rattle.base.specs.Steps.{one_more, more_steps};
 
 use std::marker::Model;
 
@@ -56,6 +56,13 @@ pub fn take<T: Copy>(x: T, tally: &mut Tally) -> T
 {
     tally.step();
     x
+}
+
+/// So many values that are taken as they stand, at once. One step for each.
+pub fn take_all(count: usize, tally: &mut Tally)
+    ensures { tally.new ≡ more_steps count tally.old }
+{
+    tally.count = tally.count.saturating_add(count as u128);
 }
 
 /// The output of an AND gate from its two operands. One step.

@@ -11,11 +11,11 @@ use Rattle.btor2.proofs.AppendLemmas.{is_some_from}
 use Rattle.btor2.proofs.ModelLemmas.{IsNextOf-from_value}
 use Rattle.btor2.proofs.TraceLemmas.{frame_exists}
 use Rattle.runs.specs.declared.nodes.Node.{Node}
-use Rattle.runs.specs.Frames.{has_value, is_leaf, of_kind, ids_of, rank, given, given_leaves}
+use Rattle.runs.specs.Frames.{has_value, is_leaf, is_constant, of_kind, ids_of, rank, given, given_leaves}
 use Rattle.runs.specs.Run.{zeros}
 use Rattle.runs.specs.Nodes.{slot, words_at, word_where, IsInside}
-use Rattle.runs.specs.Holds.{next_slot, LeavesFit, HoldsFrame, Keeps}
-use Rattle.runs.proofs.RankLemmas.{state_is_leaf, input_is_leaf, rank-below, ids-rank, length-ids, leaf_cases}
+use Rattle.runs.specs.Holds.{next_slot, LeavesFit, ConstantsStand, HoldsFrame, Keeps}
+use Rattle.runs.proofs.RankLemmas.{state_is_leaf, input_is_leaf, rank-below, ids-rank, constant_apart, length-ids, leaf_cases}
 use Rattle.runs.proofs.NodeLemmas.{node_found}
 use Rattle.runs.proofs.WordLemmas.{slots_of, words_same, frame_fits}
 use Rattle.runs.proofs.InvariantLemmas.{leaf-nth, slot-nth, slots-once, slots-apart, length-slots_of, other_values}
@@ -40,6 +40,14 @@ slots-differ test items w leaf j k less h e =
     let there : k < length (ids_of test items) = omega (arith, length-slots_of test items) in
     let same = slots-once test items j k w leaf (omega arith) there e in
     omega (arith, same)
+
+-- no slot of a leaf is that of a constant
+pub leaf_apart : (test : Body → Bool) (items : List Item) (list : List ℕ) (id j : ℕ) (y : Item) → IsWellFormed items → ((b : Body) → test b ≡ true → is_leaf b ≡ true) → list ≡ slots_of test items
+    → find_item items id ≡ Some y → is_constant y.body ≡ true → j < length list → get_or list j 0 ≢ slot items id
+leaf_apart test items list id j y w leaf own found is h e =
+    let inside : j < length (ids_of test items) = omega (arith, ap length own, length-slots_of test items) in
+    let at = leaf-nth test items j w leaf inside in
+    constant_apart items id (get_or (ids_of test items) j 0) y at.item found is at.found (leaf at.item.body at.is) (sym e ∙ ap (λ (l : List ℕ). get_or l j 0) own ∙ slot-nth test items j inside)
 
 -- the word of a state's next node in a frame
 record NextWord (items : List Item) (f : Frame) (id value : ℕ) : Type 0 where
@@ -117,6 +125,7 @@ module _ (items : List Item) (nodes : List Node) (slots states inputs : List ℕ
 
     -- what no slot of a state or an input is, the passes leave
     module _ (done : settled ≡ true) (taken put cleared : List ℕ) (take : taken ≡ map (word_where values) nexts) (put_words : words_at put states ≡ taken)
+        (put_others : (p : ℕ) → ((j : ℕ) → j < length states → get_or states j 0 ≢ p) → get_or put p 0 ≡ get_or values p 0)
         (clear_words : (j : ℕ) → j < length inputs → get_or cleared (get_or inputs j 0) 0 ≡ 0) (clear_others : (p : ℕ) → ((j : ℕ) → j < length inputs → get_or inputs j 0 ≢ p) → get_or cleared p 0 ≡ get_or put p 0)
         (many : length cleared ≡ length values) (many_next : length taken ≡ length next_values) where
       -- a state's word after the passes is that of its next node before
@@ -157,10 +166,17 @@ module _ (items : List Item) (nodes : List Node) (slots states inputs : List ℕ
           subst (λ (w : ℕ). w < 2 ^ bits_of items id) (sym (state_next some.0 frame id y found is)) (next_state-fits items some.0 id k.well_formed (frame_fits items k.well_formed values k.many_nodes k.leaves some.0 some.1)))
           (λ is. subst (λ (w : ℕ). w < 2 ^ bits_of items id) (sym (input_cleared id y found is)) (pow_pos (bits_of items id)))
 
+      -- a constant is neither a state nor an input
+      constants_stand : ConstantsStand items cleared
+      constants_stand id y found is =
+          clear_others (slot items id)
+          (λ j l e. leaf_apart is_input items inputs id j y k.well_formed input_is_leaf k.are_inputs found is l e)
+          ∙ put_others (slot items id) (λ j l e. leaf_apart is_state items states id j y k.well_formed state_is_leaf k.are_states found is l e) ∙ k.constants id y found is
+
       pub advance_keeps : AfterAdvance items nodes slots states inputs nexts bads constraints values taken cleared
       advance_keeps =
           record {
-            keeps = other_values items nodes slots states inputs nexts bads constraints values next_values settled k cleared taken many many_next leaves_fit;
+            keeps = other_values items nodes slots states inputs nexts bads constraints values next_values settled k cleared taken many many_next leaves_fit constants_stand;
             next_words = λ f frame. ap (words_at cleared) k.are_states ∙ words_same is_state items cleared (next_state items f) k.well_formed (state_next f frame);
             no_inputs = ap (words_at cleared) k.are_inputs ∙ words_same is_input items cleared (λ id. 0) k.well_formed input_cleared;
           }

@@ -8,7 +8,7 @@ use Rattle.aiger.specs.Literal.{Valuation, literal_value}
 use Rattle.aiger.specs.Net.{SatisfiesFrom, AreOrderedFrom, bits_from}
 use Rattle.aiger.proofs.NetLemmas.{length-bits_from}
 use Rattle.aiger.proofs.TraceLemmas.{AgreeBelow, literal_value-agree}
-use Rattle.runs.specs.Run.{more_steps}
+use Rattle.base.specs.Steps.{more_steps}
 use Rattle.runs.specs.CircuitHolds.{valuation_of}
 
 -- Bits one after another.

@@ -1,7 +1,6 @@
 -- What the calls of a run of a circuit keep, and what they make of its bits.
-use Rattle.std.proofs.Common.{◌≡◌, ℕ, zero, suc, ◌+◌, ◌<◌, ◌≤◌, Bool, true, false, List, length, get_or, set, replicate, All, refl, sym, ap, subst, ◌∙◌, arith}
+use Rattle.std.proofs.Common.{◌≡◌, ℕ, suc, ◌+◌, ◌<◌, ◌≤◌, Bool, true, false, List, length, get_or, set, replicate, All, refl, sym, ap, subst, ◌∙◌, arith}
 use Rattle.std.proofs.lemmas.List.{length-map, length-set, length-replicate, get_or-map, get_or-replicate, get_or-set_other}
-use Rattle.base.specs.Steps.{one_more}
 use Rattle.aiger.specs.declared.circuit.Latch.{Latch}
 use Rattle.aiger.specs.declared.circuit.Reset.TheVariants.{Zero}
 use Rattle.aiger.specs.Literal.{Valuation, variable, literal_value}
@@ -9,7 +8,6 @@ use Rattle.aiger.specs.Net.{variables, IsDefined, SatisfiesFrom, input_bits, lat
 use Rattle.aiger.specs.Circuit.{Circuit, IsCircuit, net}
 use Rattle.aiger.specs.Trace.{IsFrame, SameFrame, next_state}
 use Rattle.aiger.proofs.TraceLemmas.{literal_value-agree, bits_from-agree, SameFrame-from_bits}
-use Rattle.runs.specs.Run.{more_steps}
 use Rattle.runs.specs.CircuitRun.{CircuitRun, first_bit, first_bits, no_inputs}
 use Rattle.runs.specs.CircuitHolds.{valuation_of, KeepsBits}
 use Rattle.runs.proofs.BitPassLemmas.{bits_from-is, bits_from-set}
@@ -157,8 +155,3 @@ starts c blank next_bits bits first valid at are_false taken as_many puts below 
           ap (valuation_of bits) same ∙ puts j (omega (arith, as_many)) ∙ taken j d within ∙ sym (get_or-map (λ (l : Latch). first_bit l.reset) c.latches j d false within));
       inputs = bits_from-is 1 c.inputs (valuation_of bits) (no_inputs c) (length-replicate c.inputs false) (λ j within. are_zero (1 + j) (omega arith) ∙ sym (get_or-replicate c.inputs j false false within));
     }
-
--- steps after steps
-pub more_steps-sum : (m n count : ℕ) → more_steps n (more_steps m count) ≡ more_steps (m + n) count
-more_steps-sum m zero count = let same : m ≡ m + zero = omega arith in ap (λ (k : ℕ). more_steps k count) same
-more_steps-sum m (suc n) count = let same : suc (m + n) ≡ m + suc n = omega arith in ap one_more (more_steps-sum m n count) ∙ ap (λ (k : ℕ). more_steps k count) same

@@ -1,5 +1,5 @@
 -- Frames of the words that a frame gives.
-use Rattle.std.proofs.Common.{◌≡◌, ℕ, zero, suc, ◌+◌, ◌-◌, ◌^◌, ◌<◌, Bool, true, false, cond, nat_eq, eq-eqb, min, List, [], ◌∷◌, ◌++◌, length, map, get_or, set, Some, ⊎_elim, refl, sym, ap, ◌∙◌, append_assoc, arith}
+use Rattle.std.proofs.Common.{◌≡◌, ℕ, ◌<◌, Bool, true, false, cond, nat_eq, eq-eqb, List, [], ◌∷◌, ◌++◌, length, map, get_or, set, Some, ⊎_elim, refl, sym, ap, ◌∙◌, append_assoc, arith}
 use Rattle.std.proofs.lemmas.Bool.{cases_eq, ne_eqb}
 use Rattle.std.proofs.lemmas.List.{length-map, length-set, get_or-map, get_or-set_same, get_or-set_other, ext_get_or}
 use Rattle.btor2.specs.declared.item.Item.{Item}
@@ -10,7 +10,6 @@ use Rattle.btor2.specs.Check.{IsWellFormed}
 use Rattle.btor2.specs.Trace.{Frame, state_word, LineHolds, LinesHold, IsFrame}
 use Rattle.btor2.proofs.ModelLemmas.{IsIn, find_item-in}
 use Rattle.runs.specs.Frames.{is_leaf, ids_of, rank, given, given_leaves}
-use Rattle.runs.specs.Run.{more_steps}
 use Rattle.runs.proofs.RankLemmas.{rank-below, ids-rank, length-ids, state_leaf, input_leaf, either_word}
 use Rattle.runs.proofs.InvariantLemmas.{leaf-nth}
 
@@ -58,10 +57,6 @@ module _ (items : List Item) (state input f : Frame) (w : IsWellFormed items) wh
 
   pub frame_taken : IsFrame items states_given leaves_given f → IsFrame items state input f
   frame_taken h = lines_given items states_given state leaves_given input f [] items refl state_given input_given h
-
-pub more_steps-min : (n count : ℕ) → count < 2 ^ 128 → more_steps n count ≡ min (count + n) (2 ^ 128 - 1)
-more_steps-min zero count h = omega arith
-more_steps-min (suc n) count h = omega (arith, more_steps-min n count h)
 
 -- a word that is set for the k-th of a kind
 pub set-map : (test : Body → Bool) (items : List Item) (g : Frame) (k word : ℕ) → ((b : Body) → test b ≡ true → is_leaf b ≡ true) → IsWellFormed items → k < length (ids_of test items)

@@ -1,5 +1,5 @@
 -- What each call of a run does to the invariant of the run.
-use Rattle.std.proofs.Common.{◌≡◌, ℕ, ◌^◌, ◌<◌, Bool, true, false, List, length, map, get_or, set, Option, Some, IfSome, is_some, option_and_then, unwrap_or, ⊎_elim, refl, sym, ap, subst, ◌∙◌, arith}
+use Rattle.std.proofs.Common.{◌≡◌, ℕ, ◌^◌, ◌<◌, ◌≤◌, Bool, true, false, List, length, get_or, set, Option, Some, IfSome, is_some, option_and_then, unwrap_or, ⊎_elim, refl, sym, ap, subst, ◌∙◌, arith}
 use Rattle.std.proofs.lemmas.Option.{same_Some}
 use Rattle.std.proofs.lemmas.Bool.{cases_eq, true≢false}
 use Rattle.std.proofs.lemmas.List.{length-map, length-set, get_or-map, get_or-set_same, get_or-set_other, ext_get_or}
@@ -14,12 +14,13 @@ use Rattle.btor2.proofs.ModelLemmas.{node_width-at}
 use Rattle.runs.specs.declared.nodes.Node.{Node}
 use Rattle.runs.specs.Frames.{has_value, is_leaf, of_kind, ids_of, rank, given, given_leaves}
 use Rattle.runs.specs.Run.{Run}
-use Rattle.runs.specs.Nodes.{slot, node_of, words_at, NodesFit, settled_values}
-use Rattle.runs.specs.Holds.{LeavesFit, Keeps}
-use Rattle.runs.proofs.RankLemmas.{state_is_leaf, input_is_leaf, leaf_has_value, no_state_is_input, rank-below, slot-one, nth, nth-found, nth-rank, length-ids, length-places}
+use Rattle.runs.specs.Nodes.{slot, nodes_of, words_at, NodesFit, settled_values}
+use Rattle.runs.specs.Holds.{LeavesFit, ConstantsStand, Keeps}
+use Rattle.runs.proofs.RankLemmas.{state_is_leaf, input_is_leaf, leaf_has_value, no_state_is_input, rank-below, slot-one, constant_apart, nth, nth-found, nth-rank, length-ids, length-places}
 use Rattle.runs.proofs.PlaceLemmas.{width_there}
 use Rattle.runs.proofs.StateLemmas.{nth-get}
-use Rattle.runs.proofs.WordLemmas.{slots_of, pass_fits, pass_many, pass_words, pass_leaves, pass_frame}
+use Rattle.runs.proofs.SettleLemmas.{few_nodes}
+use Rattle.runs.proofs.WordLemmas.{slots_of, pass_fits, pass_many, pass_words, pass_leaves, pass_constants, pass_frame}
 
 -- runs with the same words and steps
 pub run_same : (items : List Item) (states states' inputs inputs' : List ℕ) (settled : Bool) (steps steps' : ℕ) → states ≡ states' → inputs ≡ inputs' → steps ≡ steps'
@@ -38,17 +39,17 @@ pub record AfterSettle (items : List Item) (nodes : List Node) (slots states inp
   pub same_inputs : words_at values' inputs ≡ words_at values inputs
 
 module _ (items : List Item) (nodes : List Node) (slots states inputs : List ℕ) (nexts : List (Option ℕ)) (bads constraints values next_values : List ℕ) (settled : Bool) (k : Keeps items nodes slots states inputs nexts bads constraints values next_values settled) where
-  pub settle_fits : NodesFit nodes 0 values
-  settle_fits = rw k.are_nodes (pass_fits items k.well_formed values k.many_nodes k.leaves)
+  pub settle_fits : NodesFit nodes values
+  settle_fits = rw k.are_nodes (pass_fits items k.well_formed values k.many_nodes k.leaves k.constants)
 
-  pub settle_many : length nodes ≡ length values
-  settle_many = ap length k.are_nodes ∙ length-map (of_kind has_value items) (λ (x : Item). node_of items x.body) ∙ sym k.many_nodes
+  pub settle_few : length nodes ≤ length values
+  settle_few = omega (arith, ap length k.are_nodes, few_nodes items items, k.many_nodes)
 
-  pub settle_keeps : (values' : List ℕ) → values' ≡ settled_values nodes 0 values → AfterSettle items nodes slots states inputs nexts bads constraints values next_values values'
+  pub settle_keeps : (values' : List ℕ) → values' ≡ settled_values nodes values → AfterSettle items nodes slots states inputs nexts bads constraints values next_values values'
   settle_keeps values' v =
-      let own : values' ≡ settled_values (map (λ (x : Item). node_of items x.body) (of_kind has_value items)) 0 values = v ∙ ap (λ (ns : List Node). settled_values ns 0 values) k.are_nodes in
-      let of_states : words_at values' states ≡ words_at values states = rw (own, k.are_states) (pass_words items k.well_formed values k.many_nodes k.leaves is_state state_is_leaf) in
-      let of_inputs : words_at values' inputs ≡ words_at values inputs = rw (own, k.are_inputs) (pass_words items k.well_formed values k.many_nodes k.leaves is_input input_is_leaf) in
+      let own : values' ≡ settled_values (nodes_of items items) values = v ∙ ap (λ (ns : List Node). settled_values ns values) k.are_nodes in
+      let of_states : words_at values' states ≡ words_at values states = rw (own, k.are_states) (pass_words items k.well_formed values k.many_nodes k.leaves k.constants is_state state_is_leaf) in
+      let of_inputs : words_at values' inputs ≡ words_at values inputs = rw (own, k.are_inputs) (pass_words items k.well_formed values k.many_nodes k.leaves k.constants is_input input_is_leaf) in
       record {
         keeps = record {
           well_formed = k.well_formed;
@@ -59,19 +60,17 @@ module _ (items : List Item) (nodes : List Node) (slots states inputs : List ℕ
           are_nexts = k.are_nexts;
           are_bads = k.are_bads;
           are_constraints = k.are_constraints;
-          many_nodes = ap length own ∙ pass_many items k.well_formed values k.many_nodes k.leaves ∙ k.many_nodes;
+          many_nodes = ap length own ∙ pass_many items k.well_formed values k.many_nodes k.leaves k.constants ∙ k.many_nodes;
           many_states = k.many_states;
-          leaves = rw own (pass_leaves items k.well_formed values k.many_nodes k.leaves);
-          frame = λ e f frame. rw own (pass_frame items k.well_formed values k.many_nodes k.leaves f
+          leaves = rw own (pass_leaves items k.well_formed values k.many_nodes k.leaves k.constants);
+          constants = rw own (pass_constants items k.well_formed values k.many_nodes k.leaves k.constants);
+          frame = λ e f frame. rw own (pass_frame items k.well_formed values k.many_nodes k.leaves k.constants f
               (subst (λ (l : List ℕ). FrameOf items l (words_at values (slots_of is_input items)) f) (of_states ∙ ap (words_at values) k.are_states)
               (subst (λ (l : List ℕ). FrameOf items (words_at values' states) l f) (of_inputs ∙ ap (words_at values) k.are_inputs) frame)));
         };
         same_states = of_states;
         same_inputs = of_inputs;
       }
-
-  pub settle_count : length nodes ≡ length (of_kind has_value items)
-  settle_count = settle_many ∙ k.many_nodes
 
 -- Setting the word of a leaf.
 
@@ -149,6 +148,11 @@ module _ (items : List Item) (w : IsWellFormed items) (values : List ℕ) (many 
       (λ apart. subst (λ (n : ℕ). n < 2 ^ bits_of items id) (sym (set_at-other id apart)) (leaves id y found is))
       (cases_eq (slot items id) (slot items own))
 
+  pub set_constants : ConstantsStand items values → ConstantsStand items one_set
+  set_constants constants id y found is =
+      let at = leaf-nth test items k w leaf h in
+      set_at-other id (constant_apart items id (get_or (ids_of test items) k 0) y at.item found is at.found (leaf at.item.body at.is)) ∙ constants id y found is
+
   pub set_own : words_at one_set (slots_of test items) ≡ set (words_at values (slots_of test items)) k word
   set_own =
       ext_get_or 0 (words_at one_set (slots_of test items)) (set (words_at values (slots_of test items)) k word)
@@ -199,8 +203,8 @@ leaf_fits test items k word w leaf h fits =
 
 -- what a run keeps where it is not settled, for other now-values
 pub other_values : (items : List Item) (nodes : List Node) (slots states inputs : List ℕ) (nexts : List (Option ℕ)) (bads constraints values next_values : List ℕ) (settled : Bool) → Keeps items nodes slots states inputs nexts bads constraints values next_values settled
-    → (values' next_values' : List ℕ) → length values' ≡ length values → length next_values' ≡ length next_values → LeavesFit items values' → Keeps items nodes slots states inputs nexts bads constraints values' next_values' false
-other_values items nodes slots states inputs nexts bads constraints values next_values settled k values' next_values' many many_next leaves =
+    → (values' next_values' : List ℕ) → length values' ≡ length values → length next_values' ≡ length next_values → LeavesFit items values' → ConstantsStand items values' → Keeps items nodes slots states inputs nexts bads constraints values' next_values' false
+other_values items nodes slots states inputs nexts bads constraints values next_values settled k values' next_values' many many_next leaves constants =
     record {
       well_formed = k.well_formed;
       are_nodes = k.are_nodes;
@@ -213,6 +217,7 @@ other_values items nodes slots states inputs nexts bads constraints values next_
       many_nodes = many ∙ k.many_nodes;
       many_states = many_next ∙ k.many_states;
       leaves = leaves;
+      constants = constants;
       frame = λ e. absurd (true≢false (sym e));
     }
 
@@ -238,7 +243,7 @@ module _ (items : List Item) (nodes : List Node) (slots states inputs : List ℕ
         let own : values' ≡ set values (get_or (slots_of is_state items) k 0) word = v ∙ ap (λ (l : List ℕ). set values (get_or l k 0) word) keep.are_states in
         record {
           keeps = other_values items nodes slots states inputs nexts bads constraints values next_values settled keep values' next_values (ap length v ∙ length-set values (get_or states k 0) word) refl
-              (rw own (set_leaves items w values keep.many_nodes keep.leaves is_state state_is_leaf k word fit.0 fit.1));
+              (rw own (set_leaves items w values keep.many_nodes keep.leaves is_state state_is_leaf k word fit.0 fit.1)) (rw own (set_constants items w values keep.many_nodes keep.leaves is_state state_is_leaf k word fit.0 keep.constants));
           set_word = rw (own, keep.are_states) (set_own items w values keep.many_nodes keep.leaves is_state state_is_leaf k word fit.0);
           same_words = rw (own, keep.are_inputs) (set_other items w values keep.many_nodes keep.leaves is_state state_is_leaf k word fit.0 is_input (λ j l e. slots-apart items k j w fit.0 l e));
         }
@@ -259,7 +264,7 @@ module _ (items : List Item) (nodes : List Node) (slots states inputs : List ℕ
         let own : values' ≡ set values (get_or (slots_of is_input items) k 0) word = v ∙ ap (λ (l : List ℕ). set values (get_or l k 0) word) keep.are_inputs in
         record {
           keeps = other_values items nodes slots states inputs nexts bads constraints values next_values settled keep values' next_values (ap length v ∙ length-set values (get_or inputs k 0) word) refl
-              (rw own (set_leaves items w values keep.many_nodes keep.leaves is_input input_is_leaf k word fit.0 fit.1));
+              (rw own (set_leaves items w values keep.many_nodes keep.leaves is_input input_is_leaf k word fit.0 fit.1)) (rw own (set_constants items w values keep.many_nodes keep.leaves is_input input_is_leaf k word fit.0 keep.constants));
           set_word = rw (own, keep.are_inputs) (set_own items w values keep.many_nodes keep.leaves is_input input_is_leaf k word fit.0);
           same_words = rw (own, keep.are_states) (set_other items w values keep.many_nodes keep.leaves is_input input_is_leaf k word fit.0 is_state (λ j l e. slots-apart items j k w l fit.0 (sym e)));
         }

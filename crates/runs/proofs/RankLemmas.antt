@@ -1,5 +1,5 @@
 -- How many items of a kind stand before an item.
-use Rattle.std.proofs.Common.{◌≡◌, ℕ, zero, suc, ◌+◌, ◌<◌, Bool, true, false, cond, nat_eq, eq-eqb, eqb-true, List, [], ◌∷◌, ◌++◌, length, map, get_or, slice_get, Option, Some, None, is_some, option_and_then, refl, sym, ap, ◌∙◌, arith}
+use Rattle.std.proofs.Common.{◌≡◌, ◌≢◌, ℕ, zero, suc, ◌+◌, ◌<◌, Bool, true, false, cond, nat_eq, eq-eqb, eqb-true, List, [], ◌∷◌, ◌++◌, length, map, get_or, slice_get, Option, Some, None, is_some, option_and_then, refl, sym, ap, ◌∙◌, arith}
 use Rattle.std.proofs.lemmas.Option.{none-some, same_Some}
 use Rattle.std.proofs.lemmas.List.{length-map, get_or-map}
 use Rattle.btor2.specs.declared.item.Item.{Item}
@@ -9,7 +9,7 @@ use Rattle.btor2.specs.Items.{find_item, is_input, is_state, names_state}
 use Rattle.btor2.specs.Check.{IsWellFormed}
 use Rattle.btor2.specs.Lists.{places}
 use Rattle.btor2.proofs.ModelLemmas.{IsIn, IsAccepted-at, find_item-in}
-use Rattle.runs.specs.Frames.{has_value, is_leaf, of_kind, ids_of, rank, given, given_leaves}
+use Rattle.runs.specs.Frames.{has_value, is_leaf, is_constant, of_kind, ids_of, rank, given, given_leaves}
 use Rattle.runs.specs.Nodes.{slot, words_at}
 
 -- what a kind's leaves are
@@ -32,6 +32,20 @@ pub leaf_has_value : (b : Body) → is_leaf b ≡ true → has_value b ≡ true
 leaf_has_value (body.State s) h = refl
 leaf_has_value (body.Input s) h = refl
 leaf_has_value _ h = absurd (cc)
+
+pub constant_has_value : (b : Body) → is_constant b ≡ true → has_value b ≡ true
+constant_has_value (body.Zero s) h = refl
+constant_has_value (body.One s) h = refl
+constant_has_value (body.Ones s) h = refl
+constant_has_value (body.Const s d v) h = refl
+constant_has_value (body.Constd s v) h = refl
+constant_has_value (body.Consth s d v) h = refl
+constant_has_value _ h = absurd (cc)
+
+no_leaf_is_constant : (b : Body) → is_leaf b ≡ true → is_constant b ≡ true → ⊥
+no_leaf_is_constant (body.State s) h k = cc
+no_leaf_is_constant (body.Input s) h k = cc
+no_leaf_is_constant _ h k = cc
 
 pub no_state_is_input : (b : Body) → is_state b ≡ true → is_input b ≡ true → ⊥
 no_state_is_input (body.State s) h k = cc
@@ -103,6 +117,12 @@ pub slot-one : (items : List Item) (i j : ℕ) (x y : Item) → find_item items 
     → slot items i ≡ slot items j → i ≡ j
 slot-one items i j x y of_i has_i of_j has_j e =
     sym (ids-rank has_value items i x of_i has_i) ∙ ap (λ (n : ℕ). get_or (ids_of has_value items) n 0) e ∙ ids-rank has_value items j y of_j has_j
+
+-- so no constant has that of a leaf
+pub constant_apart : (items : List Item) (i j : ℕ) (x y : Item) → find_item items i ≡ Some x → is_constant x.body ≡ true → find_item items j ≡ Some y → is_leaf y.body ≡ true → slot items i ≢ slot items j
+constant_apart items i j x y of_i constant of_j leaf e =
+    let same = slot-one items i j x y of_i (constant_has_value x.body constant) of_j (leaf_has_value y.body leaf) e in
+    no_leaf_is_constant y.body leaf (ap (λ (z : Item). is_constant z.body) (same_Some y x (sym of_j ∙ ap (find_item items) (sym same) ∙ of_i)) ∙ constant)
 
 -- The k-th item of a kind.
 pub record IsNth (test : Body → Bool) (items : List Item) (k : ℕ) (x : Item) : Type 0 where

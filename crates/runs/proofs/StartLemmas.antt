@@ -1,10 +1,12 @@
 -- What a new run keeps.
 use Rattle.std.proofs.Common.{◌≡◌, ◌≢◌, ℕ, ◌^◌, ◌<◌, Bool, true, false, List, length, map, get_or, All, Option, Some, None, option_and_then, unwrap_or, refl, sym, ap, subst, ◌∙◌, pow_pos, arith}
+use Rattle.std.proofs.lemmas.Option.{same_Some}
 use Rattle.std.proofs.lemmas.Bool.{true≢false}
 use Rattle.std.proofs.lemmas.List.{length-map, get_or-map, ext_get_or}
 use Rattle.btor2.specs.declared.item.Item.{Item}
 use Rattle.btor2.specs.declared.item.Body.{Body}
-use Rattle.btor2.specs.Items.{find_item, constant_of, is_input, is_state, is_bad, is_constraint, init_value}
+use Rattle.btor2.specs.declared.item.Body.TheVariants as body
+use Rattle.btor2.specs.Items.{find_item, width_of_body, constant_word, constant_of, is_input, is_state, is_bad, is_constraint, init_value}
 use Rattle.btor2.specs.Check.{IsWellFormed}
 use Rattle.btor2.specs.Lists.{places}
 use Rattle.btor2.specs.Trace.{bits_of}
@@ -12,14 +14,14 @@ use Rattle.btor2.proofs.ModelLemmas.{IsInitOf, IsInitOf-from_value}
 use Rattle.runs.specs.declared.nodes.Node.{Node}
 use Rattle.runs.specs.Frames.{has_value, of_kind, ids_of, rank}
 use Rattle.runs.specs.Run.{property_id, first_word, zeros}
-use Rattle.runs.specs.Nodes.{slot, node_of, words_at}
-use Rattle.runs.specs.Holds.{next_slot, LeavesFit, Keeps}
-use Rattle.runs.proofs.RankLemmas.{state_is_leaf, input_is_leaf, leaf_has_value, rank-below, ids-rank, nth, length-ids, length-places, leaf_cases}
+use Rattle.runs.specs.Nodes.{slot, nodes_of, standing_word, words_at}
+use Rattle.runs.specs.Holds.{next_slot, LeavesFit, ConstantsStand, Keeps}
+use Rattle.runs.proofs.RankLemmas.{state_is_leaf, input_is_leaf, leaf_has_value, constant_has_value, rank-below, ids-rank, nth, nth-found, length-ids, length-places, leaf_cases}
 use Rattle.runs.proofs.PlaceLemmas.{place_inside, map_read}
 use Rattle.runs.proofs.StateLemmas.{nth-get}
 use Rattle.runs.proofs.WordLemmas.{slots_of, words_same}
 use Rattle.runs.proofs.InvariantLemmas.{slots-apart, length-slots_of}
-use Rattle.runs.proofs.AdvanceLemmas.{slot-own, slots-inside, slots-differ}
+use Rattle.runs.proofs.AdvanceLemmas.{slot-own, slots-inside, slots-differ, leaf_apart}
 use Rattle.btor2.proofs.ConstantLemmas.{constant_below}
 
 -- The slots of a kind.
@@ -55,6 +57,24 @@ first_fits items id w = by (init_value items id) (λ v e. IsInitOf-from_value it
         let below = constant_below items v of.constant w of.word in
         subst (λ (n : ℕ). n < 2 ^ bits_of items id) (sym word) (subst (λ (n : ℕ). of.constant < 2 ^ n) bits below)
 
+-- The words that stand before any is given.
+
+stands_at : (items : List Item) (id : ℕ) (y : Item) (words : List ℕ) → IsWellFormed items → find_item items id ≡ Some y → has_value y.body ≡ true → words ≡ map (λ x. standing_word items x.body) (of_kind has_value items)
+    → get_or words (slot items id) 0 ≡ standing_word items y.body
+stands_at items id y words w found has e =
+    let there = nth has_value items (slot items id) (rank-below has_value items id y found has) in
+    let own : there.0.id ≡ id = sym there.1.id ∙ ids-rank has_value items id y found has in
+    let same : there.0 ≡ y = same_Some there.0 y (sym (nth-found has_value items (slot items id) there.0 w there.1) ∙ ap (find_item items) own ∙ found) in
+    ap (λ (l : List ℕ). get_or l (slot items id) 0) e ∙ map_read (λ (x : Item). standing_word items x.body) (of_kind has_value items) (slot items id) there.0 there.1.stands ∙ ap (λ (x : Item). standing_word items x.body) same
+
+input_stands : (items : List Item) (b : Body) → is_input b ≡ true → standing_word items b ≡ 0
+input_stands items (body.Input s) h = by (width_of_body items (body.Input s))
+  where
+    by : (o : Option ℕ) → unwrap_or (option_and_then (λ (w : ℕ). constant_word w (body.Input s)) o) 0 ≡ 0
+    by None = refl
+    by (Some w) = refl
+input_stands items _ h = absurd (cc)
+
 -- The run.
 
 pub record Starts (items : List Item) (nodes : List Node) (slots states inputs : List ℕ) (nexts : List (Option ℕ)) (bads constraints values next_values : List ℕ) : Type 0 where
@@ -63,23 +83,24 @@ pub record Starts (items : List Item) (nodes : List Node) (slots states inputs :
   pub no_inputs : words_at values inputs ≡ zeros items
 
 -- the lists that a run is made of
-pub record NewLists (items : List Item) (nodes : List Node) (slots states inputs : List ℕ) (nexts : List (Option ℕ)) (bads constraints next_values : List ℕ) : Type 0 where
+pub record NewLists (items : List Item) (nodes : List Node) (slots states inputs : List ℕ) (nexts : List (Option ℕ)) (bads constraints words next_values : List ℕ) : Type 0 where
   pub well_formed : IsWellFormed items
-  pub are_nodes : nodes ≡ map (λ x. node_of items x.body) (of_kind has_value items)
+  pub are_nodes : nodes ≡ nodes_of items items
   pub are_slots : slots ≡ map (λ x. slot items x.id) items
   pub are_states : states ≡ slots_of is_state items
   pub are_inputs : inputs ≡ slots_of is_input items
   pub are_nexts : nexts ≡ map (next_slot items) (ids_of is_state items)
   pub are_bads : bads ≡ map (λ x. slot items (property_id x.body)) (of_kind is_bad items)
   pub are_constraints : constraints ≡ map (λ x. slot items (property_id x.body)) (of_kind is_constraint items)
+  pub stand : words ≡ map (λ x. standing_word items x.body) (of_kind has_value items)
   pub are_first : next_values ≡ map (first_word items) (ids_of is_state items)
 
-module _ (items : List Item) (nodes : List Node) (slots states inputs : List ℕ) (nexts : List (Option ℕ)) (bads constraints next_values : List ℕ) (m : NewLists items nodes slots states inputs nexts bads constraints next_values) where
-  nodes_many : length nodes ≡ length (of_kind has_value items)
-  nodes_many = ap length m.are_nodes ∙ length-map (of_kind has_value items) (λ (x : Item). node_of items x.body)
+module _ (items : List Item) (nodes : List Node) (slots states inputs : List ℕ) (nexts : List (Option ℕ)) (bads constraints words next_values : List ℕ) (m : NewLists items nodes slots states inputs nexts bads constraints words next_values) where
+  words_many : length words ≡ length (of_kind has_value items)
+  words_many = ap length m.stand ∙ length-map (of_kind has_value items) (λ (x : Item). standing_word items x.body)
 
-  pub start_inside : All (λ p. p < length nodes) states
-  start_inside = rw m.are_states (slots-inside is_state items (length nodes) m.well_formed state_is_leaf nodes_many)
+  pub start_inside : All (λ p. p < length words) states
+  start_inside = rw m.are_states (slots-inside is_state items (length words) m.well_formed state_is_leaf words_many)
 
   pub start_many : length next_values ≡ length states
   start_many = ap length m.are_first ∙ length-map (ids_of is_state items) (first_word items) ∙ sym (ap length m.are_states ∙ length-slots_of is_state items)
@@ -87,7 +108,7 @@ module _ (items : List Item) (nodes : List Node) (slots states inputs : List ℕ
   pub start_once : (i j : ℕ) → i < j → j < length states → get_or states i 0 ≢ get_or states j 0
   start_once = rw m.are_states (slots-differ is_state items m.well_formed state_is_leaf)
 
-  module _ (values : List ℕ) (put : words_at values states ≡ next_values) (others : (p : ℕ) → p < length nodes → ((j : ℕ) → j < length states → get_or states j 0 ≢ p) → get_or values p 0 ≡ 0) (many : length values ≡ length nodes) where
+  module _ (values : List ℕ) (put : words_at values states ≡ next_values) (others : (p : ℕ) → ((j : ℕ) → j < length states → get_or states j 0 ≢ p) → get_or values p 0 ≡ get_or words p 0) (many : length values ≡ length words) where
     state_word : (id : ℕ) (y : Item) → find_item items id ≡ Some y → is_state y.body ≡ true → get_or values (slot items id) 0 ≡ first_word items id
     state_word id y found is =
         let at = slot-own is_state items id y found is in
@@ -104,8 +125,12 @@ module _ (items : List Item) (nodes : List Node) (slots states inputs : List ℕ
         let there : r < length (ids_of is_input items) = omega (arith, at.0, length-slots_of is_input items) in
         let apart : (j : ℕ) → j < length states → get_or states j 0 ≢ slot items id = λ j l e.
         slots-apart items j r m.well_formed (omega (arith, ap length m.are_states, length-slots_of is_state items)) there (ap (λ (list : List ℕ). get_or list j 0) (sym m.are_states) ∙ e ∙ sym at.1) in
-        let inside : slot items id < length nodes = omega (arith, rank-below has_value items id y found (leaf_has_value y.body (input_is_leaf y.body is)), ap length m.are_nodes, length-map (of_kind has_value items) (λ (x : Item). node_of items x.body)) in
-        others (slot items id) inside apart
+        others (slot items id) apart ∙ stands_at items id y words m.well_formed found (leaf_has_value y.body (input_is_leaf y.body is)) m.stand ∙ input_stands items y.body is
+
+    constants_stand : ConstantsStand items values
+    constants_stand id y found is =
+        others (slot items id) (λ j l e. leaf_apart is_state items states id j y m.well_formed state_is_leaf m.are_states found is l e)
+        ∙ stands_at items id y words m.well_formed found (constant_has_value y.body is) m.stand
 
     leaves_fit : LeavesFit items values
     leaves_fit id y found leaf =
@@ -125,9 +150,10 @@ module _ (items : List Item) (nodes : List Node) (slots states inputs : List ℕ
             are_nexts = m.are_nexts;
             are_bads = m.are_bads;
             are_constraints = m.are_constraints;
-            many_nodes = many ∙ nodes_many;
+            many_nodes = many ∙ words_many;
             many_states = ap length m.are_first ∙ length-map (ids_of is_state items) (first_word items) ∙ length-ids is_state items;
             leaves = leaves_fit;
+            constants = constants_stand;
             frame = λ e. absurd (true≢false (sym e));
           };
           first_words = put ∙ m.are_first;

@@ -1,5 +1,5 @@
 -- The words that a run's lists have for the items of a kind, and frames of them.
-use Rattle.std.proofs.Common.{◌≡◌, ℕ, ◌+◌, ◌^◌, ◌<◌, Bool, true, List, [], ◌∷◌, ◌++◌, length, map, get_or, Some, is_some, refl, sym, ap, subst, ◌∙◌, append_assoc, arith}
+use Rattle.std.proofs.Common.{◌≡◌, ℕ, ◌^◌, ◌<◌, Bool, true, List, [], ◌∷◌, ◌++◌, length, map, get_or, Some, is_some, refl, sym, ap, subst, ◌∙◌, append_assoc, arith}
 use Rattle.std.proofs.lemmas.List.{length-map, get_or-map, ext_get_or}
 use Rattle.btor2.specs.declared.item.Item.{Item}
 use Rattle.btor2.specs.declared.item.Body.{Body}
@@ -7,13 +7,13 @@ use Rattle.btor2.specs.declared.item.Body.TheVariants as body
 use Rattle.btor2.specs.Items.{find_item, node_width, is_input, is_state, is_free}
 use Rattle.btor2.specs.Check.{IsWellFormed}
 use Rattle.btor2.specs.Trace.{Frame, bits_of, LineHolds, LinesHold, IsFrame, StateFits, InputFits, StatesFit, InputsFit, IsState, IsInput}
-use Rattle.btor2.proofs.ModelLemmas.{IsIn, IsIn-from_find, IsAccepted-at, find_item-in}
+use Rattle.btor2.proofs.ModelLemmas.{IsIn, find_item-in}
 use Rattle.btor2.proofs.TraceLemmas.{words_fit_frame, frame_exists}
 use Rattle.runs.specs.Frames.{has_value, is_leaf, of_kind, ids_of, given, given_leaves}
-use Rattle.runs.specs.Nodes.{slot, words_at, NodesFit, settled_values}
-use Rattle.runs.specs.Holds.{LeavesFit, HoldsFrame}
-use Rattle.runs.proofs.RankLemmas.{state_is_leaf, leaf_has_value, rank-own, nth, nth-found, length-ids, given-at, leaf_cases, state_leaf, input_leaf, either_word}
-use Rattle.runs.proofs.SettleLemmas.{Settles, LeavesHold, nodes_of, line_at, settle_all}
+use Rattle.runs.specs.Nodes.{slot, nodes_of, words_at, NodesFit, settled_values}
+use Rattle.runs.specs.Holds.{LeavesFit, ConstantsStand, HoldsFrame}
+use Rattle.runs.proofs.RankLemmas.{state_is_leaf, leaf_has_value, constant_has_value, nth, nth-found, length-ids, given-at, leaf_cases, state_leaf, input_leaf, either_word}
+use Rattle.runs.proofs.SettleLemmas.{leaf_no_operator, constant_no_operator, Settles, line_at, settle_all}
 
 -- the slots of the items of a kind
 abbrev pub slots_of : (Body → Bool) → List Item → List ℕ
@@ -105,43 +105,39 @@ module _ (items : List Item) (w : IsWellFormed items) (values : List ℕ) (many 
       (line_at items states_now inputs_now f at.before at.after y (subst (LinesHold items states_now inputs_now f) at.splits frame))
       (given-at is_state items values y.id y found) (given_now y.id y found)
 
-  leaves_hold : (f : Frame) → IsFrame items states_now inputs_now f → LeavesHold items 0 values f
-  leaves_hold f frame front after y e leaf =
-      let at : IsIn items y = record { before = front; after = after; splits = e } in
-      let place : slot items y.id ≡ length (of_kind has_value front) = ap (λ (l : List Item). slot l y.id) e ∙ rank-own has_value front after y (IsAccepted-at items y w at).fresh in
-      let same : 0 + length (of_kind has_value front) ≡ slot items y.id = omega (arith, place) in
-      ap (λ (k : ℕ). get_or values k 0) same ∙ leaf_now f frame y at leaf
-
-  settles : (f : Frame) → IsFrame items states_now inputs_now f → Settles items f 0 (nodes_of items items) values
-  settles f frame = settle_all items w states_now inputs_now f frame (words_fit_frame items states_now inputs_now f w states_now-fit inputs_now-fit frame) values many (leaves_hold f frame)
-
-  -- the pass over the nodes
-  pub pass_fits : NodesFit (nodes_of items items) 0 values
-  pass_fits = let some = frame_exists items states_now inputs_now w in (settles some.0 some.1).fit
-
-  abbrev pub after_pass : List ℕ
-  after_pass = settled_values (nodes_of items items) 0 values
-
-  pub pass_many : length after_pass ≡ length values
-  pass_many = let some = frame_exists items states_now inputs_now w in (settles some.0 some.1).many
-
-  -- leaves keep their words
-  leaf_kept : (id : ℕ) (y : Item) → find_item items id ≡ Some y → is_leaf y.body ≡ true → get_or after_pass (slot items id) 0 ≡ get_or values (slot items id) 0
-  leaf_kept id y found leaf =
-      let some = frame_exists items states_now inputs_now w in
-      let at = IsIn-from_find items id y found in
-      (settles some.0 some.1).holds id y found (leaf_has_value y.body leaf) ∙ ap some.0 at.1 ∙ sym (leaf_now some.0 some.1 y at.0 leaf) ∙ ap (λ (i : ℕ). get_or values (slot items i) 0) (sym at.1)
-
-  pub pass_words : (test : Body → Bool) → ((b : Body) → test b ≡ true → is_leaf b ≡ true) → words_at after_pass (slots_of test items) ≡ words_at values (slots_of test items)
-  pass_words test leaf =
-      words_same test items after_pass (λ id. get_or values (slot items id) 0) w (λ id y found is. leaf_kept id y found (leaf y.body is)) ∙ sym (words_at-map values (slot items) (ids_of test items))
-
-  pub pass_leaves : LeavesFit items after_pass
-  pass_leaves id y found leaf = subst (λ (k : ℕ). k < 2 ^ bits_of items id) (sym (leaf_kept id y found leaf)) (leaves id y found leaf)
-
-  pub pass_frame : (f : Frame) → IsFrame items states_now inputs_now f → HoldsFrame items after_pass f
-  pass_frame f frame = (settles f frame).holds
-
   -- in a frame of given words each node's word fits
   pub frame_fits : (f : Frame) → IsFrame items states_now inputs_now f → (id : ℕ) → is_some (node_width items id) ≡ true → f id < 2 ^ bits_of items id
   frame_fits f frame = words_fit_frame items states_now inputs_now f w states_now-fit inputs_now-fit frame
+
+  module _ (constants : ConstantsStand items values) where
+    settles : (f : Frame) → IsFrame items states_now inputs_now f → Settles items f (nodes_of items items) values
+    settles f frame = settle_all items w states_now inputs_now f frame (frame_fits f frame) values (leaf_now f frame) constants many
+
+    -- the pass over the nodes
+    pub pass_fits : NodesFit (nodes_of items items) values
+    pass_fits = let some = frame_exists items states_now inputs_now w in (settles some.0 some.1).fit
+
+    abbrev pub after_pass : List ℕ
+    after_pass = settled_values (nodes_of items items) values
+
+    pub pass_many : length after_pass ≡ length values
+    pass_many = let some = frame_exists items states_now inputs_now w in (settles some.0 some.1).many
+
+    -- leaves and constants keep their words
+    leaf_kept : (id : ℕ) (y : Item) → find_item items id ≡ Some y → is_leaf y.body ≡ true → get_or after_pass (slot items id) 0 ≡ get_or values (slot items id) 0
+    leaf_kept id y found leaf = let some = frame_exists items states_now inputs_now w in (settles some.0 some.1).stays id y found (leaf_has_value y.body leaf) (leaf_no_operator items y.body leaf)
+
+    pub pass_constants : ConstantsStand items after_pass
+    pass_constants id y found is =
+        let some = frame_exists items states_now inputs_now w in
+        (settles some.0 some.1).stays id y found (constant_has_value y.body is) (constant_no_operator items y.body is) ∙ constants id y found is
+
+    pub pass_words : (test : Body → Bool) → ((b : Body) → test b ≡ true → is_leaf b ≡ true) → words_at after_pass (slots_of test items) ≡ words_at values (slots_of test items)
+    pass_words test leaf =
+        words_same test items after_pass (λ id. get_or values (slot items id) 0) w (λ id y found is. leaf_kept id y found (leaf y.body is)) ∙ sym (words_at-map values (slot items) (ids_of test items))
+
+    pub pass_leaves : LeavesFit items after_pass
+    pass_leaves id y found leaf = subst (λ (k : ℕ). k < 2 ^ bits_of items id) (sym (leaf_kept id y found leaf)) (leaves id y found leaf)
+
+    pub pass_frame : (f : Frame) → IsFrame items states_now inputs_now f → HoldsFrame items after_pass f
+    pass_frame f frame = (settles f frame).holds

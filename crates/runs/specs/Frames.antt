@@ -17,6 +17,16 @@ is_leaf (body.Input s) = true
 is_leaf (body.State s) = true
 is_leaf _ = false
 
+-- the constants
+abbrev pub is_constant : Body → Bool
+is_constant (body.Zero s) = true
+is_constant (body.One s) = true
+is_constant (body.Ones s) = true
+is_constant (body.Const s d v) = true
+is_constant (body.Constd s v) = true
+is_constant (body.Consth s d v) = true
+is_constant _ = false
+
 -- the items whose bodies pass a test, in file order, and their ids
 abbrev pub of_kind : (Body → Bool) → List Item → List Item
 of_kind test items = filter (λ x. test x.body) items

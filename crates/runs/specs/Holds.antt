@@ -7,9 +7,9 @@ use Rattle.btor2.specs.Trace.{Frame, IsFrame, bits_of}
 use Rattle.runs.specs.declared.nodes.Node.{Node}
 use Rattle.runs.specs.declared.resolving.Slots.{Slots}
 use Rattle.runs.specs.declared.word_run.WordRun.TheInside.{Inside}
-use Rattle.runs.specs.Frames.{has_value, is_leaf, of_kind, ids_of, given, given_leaves}
+use Rattle.runs.specs.Frames.{has_value, is_leaf, is_constant, of_kind, ids_of, given, given_leaves}
 use Rattle.runs.specs.Run.{Run, property_id}
-use Rattle.runs.specs.Nodes.{slot, node_of, words_at}
+use Rattle.runs.specs.Nodes.{slot, nodes_of, standing_word, words_at}
 
 -- what contracts see of a run
 abbrev pub run_of : Inside → Run
@@ -39,15 +39,21 @@ abbrev pub LeavesFit : List Item → List ℕ → Type 0
 LeavesFit items values =
     (id : ℕ) (y : Item) → find_item items id ≡ Some y → is_leaf y.body ≡ true → slice_index values (slot items id) < 2 ^ bits_of items id
 
+-- each now-value of a constant is its word
+abbrev pub ConstantsStand : List Item → List ℕ → Type 0
+ConstantsStand items values =
+    (id : ℕ) (y : Item) → find_item items id ≡ Some y → is_constant y.body ≡ true → slice_index values (slot items id) ≡ standing_word items y.body
+
 -- the now-values are the words of a frame
 abbrev pub HoldsFrame : List Item → List ℕ → Frame → Type 0
 HoldsFrame items values f = (id : ℕ) (y : Item) → find_item items id ≡ Some y → has_value y.body ≡ true → slice_index values (slot items id) ≡ f id
 
--- What the lists of a run have of a model: the nodes and their operands' slots, the slots of the states, of the inputs and of the
--- states' next nodes and of those that the properties name; given words that fit; and the words of the frame where it is settled.
+-- What the lists of a run have of a model: the operators and their operands' slots, the slots of the states, of the inputs and of the
+-- states' next nodes and of those that the properties name; given words that fit, and those of the constants; and the words of the frame where it
+-- is settled.
 pub record Keeps (items : List Item) (nodes : List Node) (slots states inputs : List ℕ) (nexts : List (Option ℕ)) (bads constraints values next_values : List ℕ) (settled : Bool) : Type 0 where
   pub well_formed : IsWellFormed items
-  pub are_nodes : nodes ≡ map (λ x. node_of items x.body) (of_kind has_value items)
+  pub are_nodes : nodes ≡ nodes_of items items
   pub are_slots : slots ≡ map (λ x. slot items x.id) items
   pub are_states : states ≡ map (slot items) (ids_of is_state items)
   pub are_inputs : inputs ≡ map (slot items) (ids_of is_input items)
@@ -57,6 +63,7 @@ pub record Keeps (items : List Item) (nodes : List Node) (slots states inputs : 
   pub many_nodes : length values ≡ length (of_kind has_value items)
   pub many_states : length next_values ≡ length (of_kind is_state items)
   pub leaves : LeavesFit items values
+  pub constants : ConstantsStand items values
   pub frame : settled ≡ true → (f : Frame) → IsFrame items (given is_state items (words_at values states)) (given_leaves items (words_at values states) (words_at values inputs)) f
       → HoldsFrame items values f
 

@@ -1,5 +1,5 @@
--- The nodes of a run, with their operands as places in the list of now-values, and what they give from that list.
-use Rattle.std.specs.Prelude.{ℕ, suc, ◌+◌, ◌^◌, ◌<◌, ◌≤◌, List, [], ◌∷◌, Option, IfSome, length, map, option_map, unwrap_or, slice_index, slice_set}
+-- The operators of a run, with their operands as places in the list of now-values, and what they give from that list.
+use Rattle.std.specs.Prelude.{ℕ, ◌+◌, ◌^◌, ◌<◌, ◌≤◌, List, [], ◌∷◌, Option, Some, None, IfSome, length, map, option_map, unwrap_or, slice_index, slice_set}
 use Rattle.base.specs.Operator.{unary_value, binary_value, ite_value, slice_value, uext_value, sext_value, concat_value}
 use Rattle.btor2.specs.declared.item.Item.{Item}
 use Rattle.btor2.specs.declared.item.Body.{Body}
@@ -7,7 +7,8 @@ use Rattle.btor2.specs.declared.item.Body.TheVariants as body
 use Rattle.btor2.specs.Items.{constant_of_body}
 use Rattle.btor2.specs.Trace.{bits_of}
 use Rattle.runs.specs.declared.nodes.Node.{Node}
-use Rattle.runs.specs.declared.nodes.Node.TheVariants as node
+use Rattle.runs.specs.declared.nodes.Operator.{Operator}
+use Rattle.runs.specs.declared.nodes.Operator.TheVariants as operator
 use Rattle.runs.specs.Frames.{has_value, rank}
 use Rattle.runs.specs.Run.{property_at}
 
@@ -19,56 +20,63 @@ slot items id = rank has_value items id
 abbrev pub property_slot : List Item → ℕ → ℕ
 property_slot items place = slot items (unwrap_or (property_at items place) 0)
 
--- the node of a line with a value
-abbrev pub node_of : List Item → Body → Node
-node_of items (body.Input s) = node.Leaf
-node_of items (body.State s) = node.Leaf
-node_of items (body.Uext s a by) = node.Uext (bits_of items a) (slot items a) by
-node_of items (body.Sext s a by) = node.Sext (bits_of items a) (slot items a) by
-node_of items (body.Slice s a u l) = node.Slice (bits_of items a) (slot items a) u l
-node_of items (body.Unary op s a) = node.Unary op (bits_of items a) (slot items a)
-node_of items (body.Binary op s a b) = node.Binary op (bits_of items a) (slot items a) (slot items b)
-node_of items (body.Concat s a b) = node.Concat (bits_of items a) (slot items a) (bits_of items b) (slot items b)
-node_of items (body.Ite s c t e) = node.Ite (bits_of items t) (slot items c) (slot items t) (slot items e)
-node_of items b = node.Constant (unwrap_or (constant_of_body items b) 0)
+-- the operator of a line that has one
+abbrev pub operator_of : List Item → Body → Option Operator
+operator_of items (body.Uext s a by) = Some (operator.Uext (bits_of items a) (slot items a) by)
+operator_of items (body.Sext s a by) = Some (operator.Sext (bits_of items a) (slot items a) by)
+operator_of items (body.Slice s a u l) = Some (operator.Slice (bits_of items a) (slot items a) u l)
+operator_of items (body.Unary op s a) = Some (operator.Unary op (bits_of items a) (slot items a))
+operator_of items (body.Binary op s a b) = Some (operator.Binary op (bits_of items a) (slot items a) (slot items b))
+operator_of items (body.Concat s a b) = Some (operator.Concat (bits_of items a) (slot items a) (bits_of items b) (slot items b))
+operator_of items (body.Ite s c t e) = Some (operator.Ite (bits_of items t) (slot items c) (slot items t) (slot items e))
+operator_of items b = None
 
--- the word that a node at a place gives from a list of now-values
-abbrev pub node_value : Node → List ℕ → ℕ → ℕ
-node_value node.Leaf values at = slice_index values at
-node_value (node.Constant word) values at = word
-node_value (node.Uext w a by) values at = uext_value (slice_index values a)
-node_value (node.Sext w a by) values at = sext_value w (slice_index values a) by
-node_value (node.Slice w a u l) values at = slice_value (slice_index values a) u l
-node_value (node.Unary op w a) values at = unary_value op w (slice_index values a)
-node_value (node.Binary op w a b) values at = binary_value op w (slice_index values a) (slice_index values b)
-node_value (node.Concat m a n b) values at = concat_value (slice_index values a) n (slice_index values b)
-node_value (node.Ite w c t e) values at = ite_value (slice_index values c) (slice_index values t) (slice_index values e)
+-- the nodes of some lines that are operators, each with its own place
+abbrev pub with_node : ℕ → Option Operator → List Node → List Node
+with_node place None nodes = nodes
+with_node place (Some o) nodes = record { place = place; operator = o } ∷ nodes
+
+abbrev pub nodes_of : List Item → List Item → List Node
+nodes_of items [] = []
+nodes_of items (x ∷ xs) = with_node (slot items x.id) (operator_of items x.body) (nodes_of items xs)
+
+-- the word that a constant gives, and 0 for other lines
+abbrev pub standing_word : List Item → Body → ℕ
+standing_word items b = unwrap_or (constant_of_body items b) 0
+
+-- the word that an operator gives from a list of now-values
+abbrev pub operator_value : Operator → List ℕ → ℕ
+operator_value (operator.Uext w a by) values = uext_value (slice_index values a)
+operator_value (operator.Sext w a by) values = sext_value w (slice_index values a) by
+operator_value (operator.Slice w a u l) values = slice_value (slice_index values a) u l
+operator_value (operator.Unary op w a) values = unary_value op w (slice_index values a)
+operator_value (operator.Binary op w a b) values = binary_value op w (slice_index values a) (slice_index values b)
+operator_value (operator.Concat m a n b) values = concat_value (slice_index values a) n (slice_index values b)
+operator_value (operator.Ite w c t e) values = ite_value (slice_index values c) (slice_index values t) (slice_index values e)
 
 -- a place of a list that has a word of so many bits
 abbrev pub IsWordAt : List ℕ → ℕ → ℕ → Type 0
 IsWordAt values w a = (a < length values) × (slice_index values a < 2 ^ w)
 
--- the operands of a node at a place are there, and fit
-abbrev pub NodeFits : Node → List ℕ → ℕ → Type 0
-NodeFits node.Leaf values at = at < length values
-NodeFits (node.Constant word) values at = Unit {0}
-NodeFits (node.Uext w a by) values at = IsWordAt values w a × (w + by ≤ 64)
-NodeFits (node.Sext w a by) values at = IsWordAt values w a × (w + by ≤ 64)
-NodeFits (node.Slice w a u l) values at = IsWordAt values w a × (l ≤ u) × (u < w)
-NodeFits (node.Unary op w a) values at = IsWordAt values w a
-NodeFits (node.Binary op w a b) values at = IsWordAt values w a × IsWordAt values w b
-NodeFits (node.Concat m a n b) values at = IsWordAt values m a × IsWordAt values n b × (m + n ≤ 64)
-NodeFits (node.Ite w c t e) values at = IsWordAt values 1 c × IsWordAt values w t × IsWordAt values w e
+-- the operands of an operator are there, and fit
+abbrev pub OperatorFits : Operator → List ℕ → Type 0
+OperatorFits (operator.Uext w a by) values = IsWordAt values w a × (w + by ≤ 64)
+OperatorFits (operator.Sext w a by) values = IsWordAt values w a × (w + by ≤ 64)
+OperatorFits (operator.Slice w a u l) values = IsWordAt values w a × (l ≤ u) × (u < w)
+OperatorFits (operator.Unary op w a) values = IsWordAt values w a
+OperatorFits (operator.Binary op w a b) values = IsWordAt values w a × IsWordAt values w b
+OperatorFits (operator.Concat m a n b) values = IsWordAt values m a × IsWordAt values n b × (m + n ≤ 64)
+OperatorFits (operator.Ite w c t e) values = IsWordAt values 1 c × IsWordAt values w t × IsWordAt values w e
 
--- the now-values after the nodes from a place on have given their words, one after another
-abbrev pub settled_values : List Node → ℕ → List ℕ → List ℕ
-settled_values [] at values = values
-settled_values (n ∷ ns) at values = settled_values ns (suc at) (slice_set values at (node_value n values at))
+-- the now-values after some nodes have given their words, one after another
+abbrev pub settled_values : List Node → List ℕ → List ℕ
+settled_values [] values = values
+settled_values (n ∷ ns) values = settled_values ns (slice_set values n.place (operator_value n.operator values))
 
--- the operands of each of them are there, and fit, when it gives its word
-abbrev pub NodesFit : List Node → ℕ → List ℕ → Type 0
-NodesFit [] at values = Unit {0}
-NodesFit (n ∷ ns) at values = NodeFits n values at × NodesFit ns (suc at) (slice_set values at (node_value n values at))
+-- each of them and its operands are there, and fit, when it gives its word
+abbrev pub NodesFit : List Node → List ℕ → Type 0
+NodesFit [] values = Unit {0}
+NodesFit (n ∷ ns) values = (n.place < length values) × OperatorFits n.operator values × NodesFit ns (slice_set values n.place (operator_value n.operator values))
 
 -- the words at some places of a list
 abbrev pub words_at : List ℕ → List ℕ → List ℕ

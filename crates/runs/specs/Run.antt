@@ -1,7 +1,7 @@
 -- A run of a model ("Btor2, BtorMC and Boolector 3.0", semantics of sequential models): the words that its states and inputs have now, and what
 -- is told of them. The counting of steps is this project's own.
-use Rattle.std.specs.Prelude.{ℕ, zero, suc, Bool, true, false, List, length, map, Option, Some, None, option_and_then, unwrap_or, slice_get, if◌then◌else◌, ◌==◌}
-use Rattle.base.specs.Steps.{one_more}
+use Rattle.std.specs.Prelude.{ℕ, Bool, true, false, List, length, map, Option, Some, None, option_and_then, unwrap_or, slice_get, if◌then◌else◌, ◌==◌}
+pub use Rattle.base.specs.Steps.{more_steps}
 use Rattle.btor2.specs.declared.item.Item.{Item}
 use Rattle.btor2.specs.declared.item.Body.{Body}
 use Rattle.btor2.specs.declared.item.Body.TheVariants as body
@@ -35,11 +35,6 @@ node_count items = length (of_kind has_value items)
 
 abbrev pub state_count : List Item → ℕ
 state_count items = length (of_kind is_state items)
-
--- a count after so many steps more
-abbrev pub more_steps : ℕ → ℕ → ℕ
-more_steps zero count = count
-more_steps (suc n) count = one_more (more_steps n count)
 
 -- the word that a state begins with: that of its init line, or 0, as where it is free
 abbrev pub first_word : List Item → ℕ → ℕ

@@ -1,11 +1,10 @@
 //! The passes over the lists of bits of a run.
 ghost use Rattle.std.specs.Prelude.{◌≡◌, ℕ, ◌+◌, ◌<◌, ◌≤◌, false, length, All, slice_index_or, slice_set};
-ghost use Rattle.base.specs.Steps.{one_more};
+ghost use Rattle.base.specs.Steps.{one_more, more_steps};
 ghost use Rattle.aiger.specs.Literal.{variable, literal_value};
 ghost use Rattle.aiger.specs.Net.{AreOrderedFrom, SatisfiesFrom};
 ghost use Rattle.runs.specs.CircuitRun.{first_bit};
 ghost use Rattle.runs.specs.CircuitHolds.{valuation_of};
-ghost use Rattle.runs.specs.Run.{more_steps};
 
 use aiger::{Gate, Latch, Lit, Reset};
 use base::Tally;
@@ -17,19 +16,6 @@ pub(crate) fn literal_bit(bits: &[bool], lit: Lit) -> bool
     ensures { result ≡ literal_value (valuation_of bits.now) lit }
 {
     bits[lit.var() as usize] != (lit.number() % 2 == 1)
-}
-
-/// Takes the bits of the inputs as they are. One step for each.
-pub(crate) fn take_inputs(count: usize, bits: &mut [bool], tally: &mut Tally)
-    requires { count < length bits.old }
-    ensures bits { bits.new ≡ bits.old }
-    ensures steps { tally.new ≡ more_steps count tally.old }
-{
-    let mut steps = tally.taken();
-    for k in 0..count {
-        bits[1 + k] = base::take(bits[1 + k], &mut steps);
-    }
-    *tally = steps;
 }
 
 /// Gives each gate its bit, from those before it; `first` is the variable of the first gate. One step for each.

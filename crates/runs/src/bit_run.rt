@@ -1,14 +1,14 @@
 //! The run of a circuit, and its calls.
 ghost use Rattle.std.specs.Prelude.{◌≡◌, ◌<◌, ℕ, true, false, length, IfOk, OnErr, IfErr, slice_index, slice_set};
+ghost use Rattle.base.specs.Steps.{more_steps};
 ghost use Rattle.aiger.specs.Literal.{Valuation, literal_value};
 ghost use Rattle.aiger.specs.Net.{IsDefined};
 ghost use Rattle.aiger.specs.Circuit.{net};
 ghost use Rattle.aiger.specs.Trace.{next_state};
-ghost use Rattle.runs.specs.Run.{more_steps};
 ghost use Rattle.runs.specs.CircuitRun.{IsFrameNow, circuit_start, no_inputs, settle_steps, circuit_held};
 
 use crate::bit_passes::{
-    clear_inputs, literal_bit, put_bits, settle_gates, take_first_bits, take_inputs, take_nexts,
+    clear_inputs, literal_bit, put_bits, settle_gates, take_first_bits, take_nexts,
 };
 use crate::fault::NewFault;
 use aiger::{Circuit, Lit};
@@ -106,7 +106,7 @@ impl<'a> BitRun<'a> {
     {
         let inputs = self.circuit.inputs() as usize;
         let first = 1 + inputs + self.circuit.latches().len();
-        take_inputs(inputs, &mut self.bits, &mut self.tally);
+        base::take_all(inputs, &mut self.tally);
         settle_gates(self.circuit.gates(), first, &mut self.bits, &mut self.tally);
         self.settled = true;
     }

@@ -1,12 +1,13 @@
 //! Theorems on the definitions of runs, as functions with no code.
 ghost use Rattle.std.specs.Prelude.{◌≡◌, ℕ, ◌+◌, ◌-◌, ◌<◌, ◌^◌, ◌==◌, true, false, min, List, [], ◌∷◌, Bool, map, length, slice_index, slice_set, if◌then◌else◌};
+ghost use Rattle.base.specs.Steps.{more_steps};
 ghost use Rattle.btor2.specs.declared.item.Item.{Item};
 ghost use Rattle.btor2.specs.Items.{find_item, is_state, is_input};
 ghost use Rattle.btor2.specs.Check.{IsWellFormed};
 ghost use Rattle.btor2.specs.Trace.{Frame, IsFrame, state_word, next_state as next_words};
 ghost use Rattle.btor2.specs.Worked.{counter, follower};
 ghost use Rattle.runs.specs.Frames.{ids_of, given, given_leaves};
-ghost use Rattle.runs.specs.Run.{IsNow, node_count, state_count, more_steps, start};
+ghost use Rattle.runs.specs.Run.{IsNow, node_count, state_count, start};
 ghost use Rattle.aiger.specs.Literal.{Valuation, literal_value};
 ghost use Rattle.aiger.specs.Circuit.{IsCircuit};
 ghost use Rattle.aiger.specs.Trace.{SameFrame, next_state};

@@ -1,22 +1,17 @@
-//! The nodes of a run.
+//! The nodes of a run that are operators.
 ghost use Rattle.std.specs.Prelude.{◌≡◌, ℕ, ◌<◌, true, Some, map, length, is_some, slice_get, slice_index};
 ghost use Rattle.base.specs.Steps.{one_more};
 ghost use Rattle.btor2.specs.Items.{node_width};
 ghost use Rattle.btor2.specs.Check.{IsWellFormed};
 ghost use Rattle.btor2.specs.Trace.{bits_of};
-ghost use Rattle.runs.specs.Frames.{has_value};
-ghost use Rattle.runs.specs.Nodes.{slot, node_of, node_value, NodeFits};
+ghost use Rattle.runs.specs.Nodes.{slot, operator_of, operator_value, OperatorFits};
 
 use base::{Binary, Tally, Unary, Width};
 use btor2::{Body, Item, Model};
 
-/// A node with a value: its operands are places in the list of now-values, `width` is that of its operands.
+/// An operator: its operands are places in the list of now-values, `width` is that of its operands.
 #[derive(Clone, Copy, Drop)]
-pub(crate) enum Node {
-    /// An input or a state: its word is given.
-    Leaf,
-    /// A constant, with its word.
-    Constant(u64),
+pub(crate) enum Operator {
     /// An operand before which stand `by` zeros.
     Uext {
         width: Width,
@@ -65,6 +60,13 @@ pub(crate) enum Node {
     },
 }
 
+/// A node that is an operator, and its own place in the list of now-values.
+#[derive(Drop)]
+pub(crate) struct Node {
+    pub(crate) place: usize,
+    pub(crate) operator: Operator,
+}
+
 /// The word at a place among the now-values.
 fn word_at(values: &[u64], place: usize) -> u64
     requires { place < length values.now }
@@ -73,29 +75,37 @@ fn word_at(values: &[u64], place: usize) -> u64
     values[place]
 }
 
-/// The word that the node at a place gives from the now-values. One step.
-pub(crate) fn node_word(node: &Node, values: &[u64], at: usize, tally: &mut Tally) -> u64
-    requires { NodeFits node.now values.now at }
-    ensures value { result ≡ node_value node.now values.now at }
+/// The word that an operator gives from the now-values. One step.
+pub(crate) fn operator_word(operator: &Operator, values: &[u64], tally: &mut Tally) -> u64
+    requires { OperatorFits operator.now values.now }
+    ensures value { result ≡ operator_value operator.now values.now }
     ensures step { tally.new ≡ one_more tally.old }
 {
-    match *node {
-        Node::Leaf => base::take(word_at(values, at), tally),
-        Node::Constant(word) => base::take(word, tally),
-        Node::Uext { width, operand, by } => base::uext(width, word_at(values, operand), by, tally),
-        Node::Sext { width, operand, by } => base::sext(width, word_at(values, operand), by, tally),
-        Node::Slice {
+    match *operator {
+        Operator::Uext { width, operand, by } => base::uext(
+            width,
+            word_at(values, operand),
+            by,
+            tally,
+        ),
+        Operator::Sext { width, operand, by } => base::sext(
+            width,
+            word_at(values, operand),
+            by,
+            tally,
+        ),
+        Operator::Slice {
             width,
             operand,
             upper,
             lower,
         } => base::slice(width, word_at(values, operand), upper, lower, tally),
-        Node::Unary {
+        Operator::Unary {
             operator,
             width,
             operand,
         } => base::unary(operator, width, word_at(values, operand), tally),
-        Node::Binary {
+        Operator::Binary {
             operator,
             width,
             left,
@@ -107,7 +117,7 @@ pub(crate) fn node_word(node: &Node, values: &[u64], at: usize, tally: &mut Tall
             word_at(values, right),
             tally,
         ),
-        Node::Concat {
+        Operator::Concat {
             high_width,
             high,
             low_width,
@@ -119,7 +129,7 @@ pub(crate) fn node_word(node: &Node, values: &[u64], at: usize, tally: &mut Tall
             word_at(values, low),
             tally,
         ),
-        Node::Ite {
+        Operator::Ite {
             width,
             condition,
             first,
@@ -152,26 +162,30 @@ pub(crate) fn operand(model: &Model, slots: &[usize], id: u32) -> (Width, usize)
     }
 }
 
-/// The node of the line at a place, with its operands resolved. A line without a value is one of the constant 0.
-pub(crate) fn node_of(model: &Model, slots: &[usize], place: usize, item: &Item) -> Node
+/// The operator of the line at a place, with its operands resolved, if it has one.
+pub(crate) fn operator_of(
+    model: &Model,
+    slots: &[usize],
+    place: usize,
+    item: &Item,
+) -> Option<Operator>
     requires well_formed { IsWellFormed model.now }
     requires at { slice_get model.now place ≡ Some item.now }
     requires slots { slots.now ≡ map (λ x. slot model.now x.id) model.now }
-    ensures { result ≡ node_of model.now item.now.body }
+    ensures { result ≡ operator_of model.now item.now.body }
 {
     match &item.body {
-        Body::Input { .. } | Body::State { .. } => Node::Leaf,
         Body::Uext {
             operand: id,
             by,
             ..
         } => {
             let (width, operand) = operand(model, slots, *id);
-            Node::Uext {
+            Some(Operator::Uext {
                 width,
                 operand,
                 by: *by,
-            }
+            })
         }
         Body::Sext {
             operand: id,
@@ -179,11 +193,11 @@ pub(crate) fn node_of(model: &Model, slots: &[usize], place: usize, item: &Item)
             ..
         } => {
             let (width, operand) = operand(model, slots, *id);
-            Node::Sext {
+            Some(Operator::Sext {
                 width,
                 operand,
                 by: *by,
-            }
+            })
         }
         Body::Slice {
             operand: id,
@@ -192,12 +206,12 @@ pub(crate) fn node_of(model: &Model, slots: &[usize], place: usize, item: &Item)
             ..
         } => {
             let (width, operand) = operand(model, slots, *id);
-            Node::Slice {
+            Some(Operator::Slice {
                 width,
                 operand,
                 upper: *upper,
                 lower: *lower,
-            }
+            })
         }
         Body::Unary {
             operator,
@@ -205,11 +219,11 @@ pub(crate) fn node_of(model: &Model, slots: &[usize], place: usize, item: &Item)
             ..
         } => {
             let (width, operand) = operand(model, slots, *id);
-            Node::Unary {
+            Some(Operator::Unary {
                 operator: *operator,
                 width,
                 operand,
-            }
+            })
         }
         Body::Binary {
             operator,
@@ -219,22 +233,22 @@ pub(crate) fn node_of(model: &Model, slots: &[usize], place: usize, item: &Item)
         } => {
             let (width, left) = operand(model, slots, *left);
             let (_, right) = operand(model, slots, *right);
-            Node::Binary {
+            Some(Operator::Binary {
                 operator: *operator,
                 width,
                 left,
                 right,
-            }
+            })
         }
         Body::Concat { high, low, .. } => {
             let (high_width, high) = operand(model, slots, *high);
             let (low_width, low) = operand(model, slots, *low);
-            Node::Concat {
+            Some(Operator::Concat {
                 high_width,
                 high,
                 low_width,
                 low,
-            }
+            })
         }
         Body::Ite {
             condition,
@@ -245,13 +259,13 @@ pub(crate) fn node_of(model: &Model, slots: &[usize], place: usize, item: &Item)
             let (_, condition) = operand(model, slots, *condition);
             let (width, first) = operand(model, slots, *first);
             let (_, second) = operand(model, slots, *second);
-            Node::Ite {
+            Some(Operator::Ite {
                 width,
                 condition,
                 first,
                 second,
-            }
+            })
         }
-        _ => Node::Constant(model.constant(place).unwrap_or(0)),
+        _ => None,
     }
 }

@@ -1,21 +1,23 @@
 //! The passes over the lists of words of a run.
 ghost use Rattle.std.specs.Prelude.{◌≡◌, ◌≢◌, ℕ, ◌<◌, ◌≤◌, length, map, All, slice_index};
+ghost use Rattle.base.specs.Steps.{more_steps};
 ghost use Rattle.runs.specs.Nodes.{settled_values, NodesFit, words_at, word_where, IsInside};
-ghost use Rattle.runs.specs.Run.{more_steps};
 
-use crate::nodes::{Node, node_word};
+use crate::nodes::{Node, operator_word};
 use base::Tally;
 
-/// Gives each node its word, from those before it. One step for each.
+/// Gives each node that is an operator its word, from the words so far; all others have theirs. One step for each node.
 pub(crate) fn settle_nodes(nodes: &[Node], values: &mut [u64], tally: &mut Tally)
-    requires fit { NodesFit nodes.now 0 values.old }
-    requires as_many { length nodes.now ≡ length values.old }
-    ensures values { values.new ≡ settled_values nodes.now 0 values.old }
-    ensures steps { tally.new ≡ more_steps (length nodes.now) tally.old }
+    requires fit { NodesFit nodes.now values.old }
+    requires most { length nodes.now ≤ length values.old }
+    ensures values { values.new ≡ settled_values nodes.now values.old }
+    ensures steps { tally.new ≡ more_steps (length values.old) tally.old }
 {
     let mut steps = tally.taken();
+    base::take_all(values.len() - nodes.len(), &mut steps);
     for at in 0..nodes.len() {
-        values[at] = node_word(&nodes[at], values, at, &mut steps);
+        let node = &nodes[at];
+        values[node.place] = operator_word(&node.operator, values, &mut steps);
     }
     *tally = steps;
 }

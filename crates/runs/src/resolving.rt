@@ -4,11 +4,11 @@ ghost use Rattle.btor2.specs.Items.{is_state};
 ghost use Rattle.btor2.specs.Check.{IsWellFormed};
 ghost use Rattle.btor2.specs.Lists.{places};
 ghost use Rattle.runs.specs.Frames.{has_value, of_kind, ids_of};
-ghost use Rattle.runs.specs.Nodes.{slot, node_of, property_slot};
+ghost use Rattle.runs.specs.Nodes.{slot, nodes_of, standing_word, property_slot};
 ghost use Rattle.runs.specs.Holds.{next_slot, AreSlotsOf};
 ghost use Rattle.runs.specs.Run.{first_word, property_at};
 
-use crate::nodes::{Node, node_of, operand};
+use crate::nodes::{Node, operand, operator_of};
 use btor2::{Body, Item, Model};
 use std::alloc::{AllocError, Global};
 
@@ -37,23 +37,40 @@ pub(crate) fn node_slots(alloc: Global, model: &Model) -> Result<Vec<usize>, All
     Ok(slots)
 }
 
-/// The nodes with a value, with their operands resolved.
+/// The nodes that are operators, with their operands resolved.
 pub(crate) fn resolved_nodes(
     alloc: Global,
     model: &Model,
     slots: &[usize],
 ) -> Result<Vec<Node>, AllocError>
     requires { slots.now ≡ map (λ x. slot model.now x.id) model.now }
-    ensures { IfOk result (λ v. v.items ≡ map (λ x. node_of model.now x.body) (of_kind has_value model.now)) }
+    ensures { IfOk result (λ v. v.items ≡ nodes_of model.now model.now) }
 {
     let items = model.items();
     let mut nodes = Vec::new(alloc);
     for (place, item) in items.iter().enumerate() {
-        if is_node(model, place, item) {
-            nodes.push(node_of(model, slots, place, item))?;
+        if let Some(operator) = operator_of(model, slots, place, item) {
+            nodes.push(Node {
+                place: slots[place],
+                operator,
+            })?;
         }
     }
     Ok(nodes)
+}
+
+/// The words of the nodes with a value before any is given: those of the constants, and 0 for the others.
+pub(crate) fn standing_words(alloc: Global, model: &Model) -> Result<Vec<u64>, AllocError>
+    ensures { IfOk result (λ v. v.items ≡ map (λ x. standing_word model.now x.body) (of_kind has_value model.now)) }
+{
+    let items = model.items();
+    let mut words = Vec::new(alloc);
+    for (place, item) in items.iter().enumerate() {
+        if is_node(model, place, item) {
+            words.push(model.constant(place).unwrap_or(0))?;
+        }
+    }
+    Ok(words)
 }
 
 /// The slots of the items at some places.

@@ -1,17 +1,18 @@
 //! The run of a model, and its calls.
 ghost use Rattle.std.specs.Prelude.{◌≡◌, ℕ, ◌+◌, ◌^◌, ◌<◌, true, false, None, length, map, is_some, IfOk, IfSome, slice_get, slice_index, slice_set};
+ghost use Rattle.base.specs.Steps.{more_steps};
 ghost use Rattle.btor2.specs.Items.{is_input, is_state, is_bad, is_constraint};
 ghost use Rattle.btor2.specs.Check.{IsWellFormed};
 ghost use Rattle.btor2.specs.Lists.{places, first_init_without_next, width_at};
 ghost use Rattle.btor2.specs.Trace.{Frame, next_state};
 ghost use Rattle.runs.specs.Frames.{ids_of};
-ghost use Rattle.runs.specs.Run.{IsNow, node_count, state_count, more_steps, zeros, start, is_one};
+ghost use Rattle.runs.specs.Run.{IsNow, node_count, state_count, zeros, start, is_one};
 ghost use Rattle.runs.specs.Refusal.{AnswersNew};
 
 use crate::fault::NewFault;
 use crate::nodes::Node;
 use crate::passes::{clear_words, put_words, settle_nodes, take_words};
-use crate::resolving::{first_words, node_slots, resolved_nodes, run_slots};
+use crate::resolving::{first_words, node_slots, resolved_nodes, run_slots, standing_words};
 use base::Tally;
 use btor2::Model;
 use std::alloc::{AllocError, Global};
@@ -21,9 +22,9 @@ use std::alloc::{AllocError, Global};
 #[derive(Drop)]
 pub struct WordRun<'a> {
     model: &'a Model,
-    // the nodes with a value, in file order
+    // the nodes that are operators, in file order
     nodes: Vec<Node>,
-    // for each item how many of them stand before it
+    // for each item how many nodes with a value stand before it
     slots: Vec<usize>,
     // the slots of the states, of the inputs, of the states' next nodes where they have one, and of the nodes that
     // the properties name
@@ -32,7 +33,7 @@ pub struct WordRun<'a> {
     nexts: Vec<Option<usize>>,
     bads: Vec<usize>,
     constraints: Vec<usize>,
-    // the words of the nodes now; those of the leaves are given
+    // the words of the nodes with a value now; those of the leaves are given, and those of the constants stay
     values: Vec<u64>,
     // the words of the states in the next frame, while the run advances
     next_values: Vec<u64>,
@@ -62,7 +63,7 @@ impl<'a> WordRun<'a> {
         let slots = node_slots(alloc, model)?;
         let nodes = resolved_nodes(alloc, model, &slots)?;
         let next_values = first_words(alloc, model)?;
-        let mut values = vec![in alloc; 0; nodes.len()]?;
+        let mut values = standing_words(alloc, model)?;
         let named = run_slots(alloc, model, &slots)?;
         put_words(&next_values, &named.states, &mut values);
         Ok(WordRun {

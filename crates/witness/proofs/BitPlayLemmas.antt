@@ -10,7 +10,7 @@ use Rattle.aiger.specs.Circuit.{Circuit}
 use Rattle.aiger.specs.Trace.{IsFrame, IsTrace, next_state}
 use Rattle.runs.specs.Run.{more_steps}
 use Rattle.runs.specs.CircuitRun.{CircuitRun, IsFrameNow, no_inputs, settle_steps}
-use Rattle.runs.proofs.BitRunLemmas.{more_steps-sum}
+use Rattle.base.proofs.StepLemmas.{more_steps-sum}
 use Rattle.witness.specs.Judgements.{Violation, violated_at}
 use Rattle.witness.specs.BitJudgements.{differs_from_reset, first_reset_differing, first_bit_violated, bit_violation_from, bit_rises}
 use Rattle.witness.specs.BitScans.{is_one_bit}

@@ -12,7 +12,7 @@ use Rattle.btor2.specs.Trace.{Frame, IsFrame, IsTrace, next_state}
 use Rattle.runs.specs.Frames.{ids_of}
 use Rattle.runs.specs.Frames.{given as given_at}
 use Rattle.runs.specs.Run.{Run, IsNow, zeros, first_word, node_count, state_count, more_steps}
-use Rattle.runs.proofs.BitRunLemmas.{more_steps-sum}
+use Rattle.base.proofs.StepLemmas.{more_steps-sum}
 use Rattle.witness.specs.Texts.{Shape, shape_of}
 use Rattle.witness.specs.Fits.{is_set, PartFits, FirstFits, LaterFits, FramesFit, StandsAt, words_put, RisesIn, RisesAmong, NoneIsSet}
 use Rattle.witness.specs.Judgements.{FrameWords, Violation, violated_at, violation_from, never_rises, nodes_of, first_different, first_violated, given_to, initial_words, given_words}

@@ -1,6 +1,6 @@
 use Rattle.std.proofs.Common.{◌≡◌, ◌≤◌, get_or, true, inl, inr, refl, sym, subst, ◌∙◌, Some}
 use Rattle.std.proofs.lemmas.List.{take_all}
-use Rattle.base.specs.Decimals.{are_digits, capped_value, digits_number}
+use Rattle.base.specs.Decimals.{are_digits, capped_value}
 use Rattle.base.proofs.DecimalLemmas.{capped_value-nil, capped_value_more, digits_more, digits_not, digits_all}
 use Rattle.base.proofs.decimals.digits_number.Goals as goal
 use Rattle.base.proofs.decimals.digits_number.Goals.{then-byte-lt48-via-then-byte-lt48, then-byte-lt48-via-else-byte-lt48+then-byte-gt57}

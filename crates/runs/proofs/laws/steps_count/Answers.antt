@@ -1,4 +1,4 @@
-use Rattle.runs.proofs.GivenLemmas.{more_steps-min}
+use Rattle.base.proofs.StepLemmas.{more_steps-min}
 use Rattle.runs.proofs.laws.steps_count.Goals as goal
 
 pub returns : goal.returns

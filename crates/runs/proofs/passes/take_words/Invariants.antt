@@ -1,5 +1,5 @@
 use Rattle.std.proofs.Common.{◌≡◌, ℕ, ◌<◌, None, get_or}
-use Rattle.runs.specs.Run.{more_steps}
+use Rattle.base.specs.Steps.{more_steps}
 use Rattle.runs.specs.Nodes.{word_where}
 use Rattle.runs.proofs.passes.take_words.Given as goal
 

@@ -4,7 +4,7 @@ use Rattle.std.specs.Vec.{with_items}
 use Rattle.aiger.specs.declared.circuit.Latch.{Latch}
 use Rattle.aiger.specs.Literal.{Valuation, literal_value}
 use Rattle.aiger.specs.Trace.{next_state}
-use Rattle.runs.specs.Run.{more_steps}
+use Rattle.base.specs.Steps.{more_steps}
 use Rattle.runs.specs.CircuitRun.{CircuitRun, IsFrameNow}
 use Rattle.runs.specs.CircuitHolds.{valuation_of}
 use Rattle.runs.proofs.BitRunLemmas.{AfterAdvance, latches_in, inputs_in, nexts_inside, advance_keeps, circuit_run_same}

@@ -3,20 +3,21 @@ use Rattle.std.proofs.lemmas.List.{with_items_is}
 use Rattle.std.specs.Vec.{with_items}
 use Rattle.aiger.specs.declared.circuit.Gate.{Gate}
 use Rattle.aiger.specs.Net.{SatisfiesFrom}
-use Rattle.runs.specs.Run.{more_steps}
+use Rattle.base.specs.Steps.{more_steps}
 use Rattle.runs.specs.CircuitHolds.{valuation_of}
-use Rattle.runs.proofs.BitRunLemmas.{AfterSettle, latches_in, inputs_in, settle_keeps, circuit_run_same, more_steps-sum}
+use Rattle.base.proofs.StepLemmas.{more_steps-sum}
+use Rattle.runs.proofs.BitRunLemmas.{AfterSettle, latches_in, inputs_in, settle_keeps, circuit_run_same}
 use Rattle.runs.proofs.bit_run.BitRun.settle.Goals as goal
 use Rattle.runs.proofs.bit_run.BitRun.settle.Goals.{After-settle_gates}
 
 -- the bits at the end
-settled_is : (c : After-settle_gates) → (with_items (with_items c.self.inside.bits c.take_inputs.new.bits) c.settle_gates.new.bits).items ≡ c.settle_gates.new.bits
-settled_is c = with_items_is (with_items c.self.inside.bits c.take_inputs.new.bits) c.settle_gates.new.bits (omega arith)
+settled_is : (c : After-settle_gates) → (with_items c.self.inside.bits c.settle_gates.new.bits).items ≡ c.settle_gates.new.bits
+settled_is c = with_items_is c.self.inside.bits c.settle_gates.new.bits (omega arith)
 
 after : (c : After-settle_gates) → AfterSettle c.self.inside.circuit.now c.self.inside.bits.items c.self.inside.next_bits.items c.self.inside.settled c.self.invariant c.settle_gates.new.bits
 after c =
     let circuit = c.self.inside.circuit.now in
-    let between : c.deref_mut-2.result.now ≡ c.self.inside.bits.items = c.deref_mut-2.ensures.value ∙ with_items_is c.self.inside.bits c.take_inputs.new.bits (omega arith) ∙ c.take_inputs.ensures.bits ∙ c.deref_mut.ensures.value in
+    let between : c.deref_mut.result.now ≡ c.self.inside.bits.items = c.deref_mut.ensures.value in
     let first : ℕ = 1 + c.inputs-inputs.result + length c.latches.result.now in
     let place : first ≡ 1 + circuit.inputs + length circuit.latches = ap₂ (λ (i l : ℕ). 1 + i + l) c.inputs-inputs.ensures.count (ap length c.latches.ensures.items) in
     let gates = subst (λ (gs : List Gate). SatisfiesFrom first gs (valuation_of c.settle_gates.new.bits)) c.gates.ensures.items c.settle_gates.ensures.gates in
@@ -31,6 +32,6 @@ pub returns : goal.returns
 returns c =
     let circuit = c.self.inside.circuit.now in
     let end = (goal.at.returns c).After-settle_gates in
-    let steps = c.settle_gates.ensures.steps ∙ ap₂ (λ (n t : ℕ). more_steps n t) (ap length c.gates.ensures.items) (c.take_inputs.ensures.steps ∙ ap (λ (n : ℕ). more_steps n c.self.inside.tally) c.inputs-inputs.ensures.count)
+    let steps = c.settle_gates.ensures.steps ∙ ap₂ (λ (n t : ℕ). more_steps n t) (ap length c.gates.ensures.items) (c.take_all.ensures ∙ ap (λ (n : ℕ). more_steps n c.self.inside.tally) c.inputs-inputs.ensures.count)
     ∙ more_steps-sum circuit.inputs (length circuit.gates) c.self.inside.tally in
     rw (← c.self.view_is) (circuit_run_same _ _ _ _ _ _ _ _ (ap (latches_in circuit) (settled_is end) ∙ (after end).latches) (ap (inputs_in circuit) (settled_is end) ∙ (after end).inputs) steps)

@@ -4,7 +4,8 @@ use Rattle.std.specs.Vec.{with_items}
 use Rattle.btor2.specs.Items.{is_state}
 use Rattle.btor2.specs.Trace.{Frame, next_state}
 use Rattle.runs.specs.Frames.{ids_of}
-use Rattle.runs.specs.Run.{Run, IsNow, more_steps}
+use Rattle.base.specs.Steps.{more_steps}
+use Rattle.runs.specs.Run.{Run, IsNow}
 use Rattle.runs.specs.Nodes.{words_at, word_where}
 use Rattle.runs.proofs.InvariantLemmas.{run_same}
 use Rattle.runs.proofs.AdvanceLemmas.{AfterAdvance, nexts_inside, nexts_count, states_inside, states_differ, inputs_inside, advance_keeps}
@@ -43,6 +44,7 @@ after c done =
     (advance_keeps _ _ _ _ _ _ _ _ _ _ _ c.self.invariant done c.take_words.new.taken c.put_words.new.values c.clear_words.new.values
     (c.take_words.ensures.taken ∙ ap₂ (λ (vs : List ℕ) (ps : List (Option ℕ)). map (word_where vs) ps) c.deref.ensures.value c.deref-2.ensures.value)
     (ap (words_at c.put_words.new.values) (sym c.deref-4.ensures.value) ∙ c.put_words.ensures.put ∙ c.deref-3.ensures.value ∙ taken_is c)
+    (λ p h. c.put_words.ensures.others p (subst (λ (l : List ℕ). (j : ℕ) → j < length l → get_or l j 0 ≢ p) (sym c.deref-4.ensures.value) h) ∙ ap (λ (l : List ℕ). get_or l p 0) c.deref_mut-2.ensures.value)
     (subst (λ (l : List ℕ). (j : ℕ) → j < length l → get_or c.clear_words.new.values (get_or l j 0) 0 ≡ 0) c.deref-5.ensures.value c.clear_words.ensures.cleared)
     (λ p h. c.clear_words.ensures.others p (subst (λ (l : List ℕ). (j : ℕ) → j < length l → get_or l j 0 ≢ p) (sym c.deref-5.ensures.value) h) ∙ ap (λ (l : List ℕ). get_or l p 0) (c.deref_mut-3.ensures.value ∙ put))
     (omega (arith, c.self.inside.values.ok.0)) (omega (arith, c.self.inside.next_values.ok.0)))

@@ -1,5 +1,5 @@
-use Rattle.std.proofs.Common.{◌≡◌, ◌≢◌, ◌<◌, ℕ, List, length, get_or, replicate, ap, sym, subst, ◌∙◌, arith}
-use Rattle.std.proofs.lemmas.List.{with_items_is, length-replicate, get_or-replicate}
+use Rattle.std.proofs.Common.{◌≡◌, ◌≢◌, ◌<◌, ℕ, List, length, get_or, ap, sym, subst, ◌∙◌, arith}
+use Rattle.std.proofs.lemmas.List.{with_items_is}
 use Rattle.std.specs.Vec.{with_items}
 use Rattle.runs.specs.Nodes.{words_at}
 use Rattle.runs.proofs.InvariantLemmas.{run_same}
@@ -10,7 +10,7 @@ use Rattle.runs.proofs.word_run.WordRun.resolved.Goals.{After-deref_mut, After-p
 -- the lists of a new run
 new_lists : (c : After-deref_mut)
     → NewLists c.args.model.now c.in_ok-nodes.nodes.items c.in_ok-slots.slots.items c.in_ok-named.named.states.items c.in_ok-named.named.inputs.items c.in_ok-named.named.nexts.items c.in_ok-named.named.bads.items c.in_ok-named.named.constraints.items
-    c.in_ok-next_values.next_values.items
+    c.in_ok-values.values.items c.in_ok-next_values.next_values.items
 new_lists c =
     record {
       well_formed = c.requires.well_formed;
@@ -21,47 +21,38 @@ new_lists c =
       are_nexts = c.in_ok-named.ensures.are_nexts;
       are_bads = c.in_ok-named.ensures.are_bads;
       are_constraints = c.in_ok-named.ensures.are_constraints;
+      stand = c.in_ok-values.ensures;
       are_first = c.in_ok-next_values.ensures;
     }
 
--- the words before the states' are put
-zeros_are : (c : After-deref_mut) → c.deref_mut.result.now ≡ replicate (length c.in_ok-nodes.nodes.items) 0
-zeros_are c =
-    let many : c.len.result ≡ length c.in_ok-nodes.nodes.items = omega (arith, c.in_ok-nodes.nodes.ok.0) in
-    c.deref_mut.ensures.value ∙ c.in_ok-values.ensures.items_if_clones_equal (λ y same. same) ∙ ap (λ (n : ℕ). replicate n 0) many
-
-zeros_many : (c : After-deref_mut) → length c.deref_mut.result.now ≡ length c.in_ok-nodes.nodes.items
-zeros_many c = ap length (zeros_are c) ∙ length-replicate (length c.in_ok-nodes.nodes.items) 0
-
 pub put_words-requires-clause-inside : goal.put_words-requires-clause-inside
-put_words-requires-clause-inside c = rw (c.deref-4.ensures.value, zeros_many c) (start_inside _ _ _ _ _ _ _ _ _ (new_lists c))
+put_words-requires-clause-inside c = rw (c.deref-4.ensures.value, c.deref_mut.ensures.value) (start_inside _ _ _ _ _ _ _ _ _ _ (new_lists c))
 
 pub put_words-requires-clause-as_many : goal.put_words-requires-clause-as_many
-put_words-requires-clause-as_many c = rw (c.deref-3.ensures.value, c.deref-4.ensures.value) (start_many _ _ _ _ _ _ _ _ _ (new_lists c))
+put_words-requires-clause-as_many c = rw (c.deref-3.ensures.value, c.deref-4.ensures.value) (start_many _ _ _ _ _ _ _ _ _ _ (new_lists c))
 
 pub put_words-requires-clause-once : goal.put_words-requires-clause-once
-put_words-requires-clause-once c = rw (c.deref-4.ensures.value) (start_once _ _ _ _ _ _ _ _ _ (new_lists c))
+put_words-requires-clause-once c = rw (c.deref-4.ensures.value) (start_once _ _ _ _ _ _ _ _ _ _ (new_lists c))
 
-begun : (c : After-put_words)
+begun : (c : After-put_words) → c.deref_mut.result.now ≡ c.in_ok-values.values.items
     → NewLists c.args.model.now c.in_ok-nodes.nodes.items c.in_ok-slots.slots.items c.in_ok-named.named.states.items c.in_ok-named.named.inputs.items c.in_ok-named.named.nexts.items c.in_ok-named.named.bads.items c.in_ok-named.named.constraints.items
-    c.in_ok-next_values.next_values.items
-    → c.deref_mut.result.now ≡ replicate (length c.in_ok-nodes.nodes.items) 0
+    c.in_ok-values.values.items c.in_ok-next_values.next_values.items
     → Starts c.args.model.now c.in_ok-nodes.nodes.items c.in_ok-slots.slots.items c.in_ok-named.named.states.items c.in_ok-named.named.inputs.items c.in_ok-named.named.nexts.items c.in_ok-named.named.bads.items c.in_ok-named.named.constraints.items
     (with_items c.in_ok-values.values c.put_words.new.values).items c.in_ok-next_values.next_values.items
-begun c m zeros =
+begun c same m =
     let put = with_items_is c.in_ok-values.values c.put_words.new.values (omega arith) in
     rw put
-    (starts _ _ _ _ _ _ _ _ _ m c.put_words.new.values (ap (words_at c.put_words.new.values) (sym c.deref-4.ensures.value) ∙ c.put_words.ensures.put ∙ c.deref-3.ensures.value)
-    (λ p inside apart. c.put_words.ensures.others p (subst (λ (l : List ℕ). (j : ℕ) → j < length l → get_or l j 0 ≢ p) (sym c.deref-4.ensures.value) apart) ∙ ap (λ (l : List ℕ). get_or l p 0) zeros ∙ get_or-replicate (length c.in_ok-nodes.nodes.items) p 0 0 inside)
-    (c.put_words.ensures.as_many ∙ ap length zeros ∙ length-replicate (length c.in_ok-nodes.nodes.items) 0))
+    (starts _ _ _ _ _ _ _ _ _ _ m c.put_words.new.values (ap (words_at c.put_words.new.values) (sym c.deref-4.ensures.value) ∙ c.put_words.ensures.put ∙ c.deref-3.ensures.value)
+    (λ p apart. c.put_words.ensures.others p (subst (λ (l : List ℕ). (j : ℕ) → j < length l → get_or l j 0 ≢ p) (sym c.deref-4.ensures.value) apart) ∙ ap (λ (l : List ℕ). get_or l p 0) same)
+    (c.put_words.ensures.as_many ∙ ap length same))
 
 pub invariant_of-result : goal.invariant_of-result
 invariant_of-result c =
     let made = (goal.at.invariant_of-result c).After-deref_mut in
-    (begun (goal.at.invariant_of-result c).After-put_words (new_lists made) (zeros_are made)).keeps
+    (begun (goal.at.invariant_of-result c).After-put_words made.deref_mut.ensures.value (new_lists made)).keeps
 
 pub returns : goal.returns
 returns c =
     let made = (goal.at.returns c).After-deref_mut in
-    let begin = begun (goal.at.returns c).After-put_words (new_lists made) (zeros_are made) in
+    let begin = begun (goal.at.returns c).After-put_words made.deref_mut.ensures.value (new_lists made) in
     run_same _ _ _ _ _ _ _ _ begin.first_words begin.no_inputs c.requires.none

@@ -1,5 +1,5 @@
-use Rattle.runs.proofs.PlaceLemmas.{operands_of, place_inside}
-use Rattle.runs.proofs.nodes.node_of.Goals as goal
+use Rattle.runs.proofs.PlaceLemmas.{operands_of}
+use Rattle.runs.proofs.nodes.operator_of.Goals as goal
 
 pub operand-width-requires-clause-there : goal.operand-width-requires-clause-there
 operand-width-requires-clause-there c =
@@ -44,6 +44,3 @@ operand-width-requires-in-Ite-clause-there c =
 pub operand-second-requires-clause-there : goal.operand-second-requires-clause-there
 operand-second-requires-clause-there c =
     (operands_of c.args.model.now c.args.place c.args.item.now _ c.requires.well_formed c.requires.at c.in-Ite.is).1.1.0
-
-pub constant-requires : goal.constant-requires
-constant-requires c = place_inside c.args.model.now c.args.place c.args.item.now c.requires.at
