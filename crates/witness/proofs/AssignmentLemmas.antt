@@ -159,7 +159,7 @@ free_assignment_is_line shape before line list small h =
 without : (x : ℕ) (front back : List ℕ) → list_any (λ b. b == x) front ≡ false → list_any (λ b. b == x) back ≡ false → list_any (λ b. b == x) (front ++ back) ≡ false
 without x front back f b = list_any-append (λ c. c == x) front back ∙ or_from (list_any (λ c. c == x) front) (list_any (λ c. c == x) back) f b
 
-name_is_line : (name : Option (List ℕ)) → IsName name → IsLine (symbol_part name)
+pub name_is_line : (name : Option (List ℕ)) → IsName name → IsLine (symbol_part name)
 name_is_line None is = refl
 name_is_line (Some []) is = absurd (cc)
 name_is_line (Some (b ∷ bs)) is =

@@ -26,6 +26,7 @@ pub mod BitFinishLemmas
 pub mod FeedLemmas
 pub mod WordValueLemmas
 pub mod WordFieldLemmas
+pub mod PlainLineLemmas
 pub mod ClaimScanLemmas
 pub mod WordLineLemmas
 pub mod WordPlayLemmas

@@ -1,5 +1,5 @@
 -- The widths of a model's states and inputs, by their places and by their ids.
-use Rattle.std.proofs.Common.{◌≡◌, ℕ, zero, suc, ◌<◌, ◌≤◌, ◌^◌, Bool, true, false, cond, List, [], ◌∷◌, ◌++◌, length, map, filter, Option, Some, None, is_some, unwrap_or, option_and_then, option_map, slice_get, slice_index, All, refl, sym, ap, ap₂, subst, ◌∙◌, append_assoc, length-append, arith}
+use Rattle.std.proofs.Common.{◌≡◌, ℕ, zero, suc, ◌<◌, ◌≤◌, ◌^◌, Bool, true, false, cond, List, [], ◌∷◌, ◌++◌, length, map, filter, Option, Some, None, is_some, unwrap_or, option_and_then, option_map, slice_get, slice_index, IfSome, All, refl, sym, ap, ap₂, subst, ◌∙◌, append_assoc, length-append, arith}
 use Rattle.std.proofs.lemmas.List.{length-map}
 use Rattle.std.proofs.lemmas.List.Elements.{All-nil, All-cons}
 use Rattle.btor2.specs.declared.item.Item.{Item}
@@ -13,6 +13,7 @@ use Rattle.btor2.proofs.AppendLemmas.{is_some_from, width_of_body-append}
 use Rattle.btor2.proofs.AcceptedLemmas.{BodyIsAccepted}
 use Rattle.btor2.proofs.ModelLemmas.{IsIn-from_place, IsAccepted-at, node_width-at, node_width-range}
 use Rattle.witness.specs.Texts.{widths_of, free_of}
+use Rattle.witness.specs.Fits.{PairFits}
 use Rattle.witness.specs.KeptLines.{AreSmall}
 
 -- an item of a kind has a width
@@ -84,6 +85,34 @@ widths_from kind items before (x ∷ xs) n is e w =
 pub widths_at_places : (kind : Body → Bool) (items : List Item) → IsWellFormed items → map (λ k. unwrap_or (width_at items k) 0) (places kind 0 items) ≡ widths_of kind items
 widths_at_places kind items w = widths_from kind items [] items 0 refl refl w
 
+-- as many places as items of a kind
+pub length-places : (kind : Body → Bool) (n : ℕ) (xs : List Item) → length (places kind n xs) ≡ length (filter (λ (x : Item). kind x.body) xs)
+length-places kind n [] = refl
+length-places kind n (x ∷ xs) =
+    elim (kind x.body) as (λ b. length (cond b (n ∷ places kind (suc n) xs) (places kind (suc n) xs)) ≡ length (cond b (x ∷ filter (λ (y : Item). kind y.body) xs) (filter (λ (y : Item). kind y.body) xs))) [
+      | true ↦ ap suc (length-places kind (suc n) xs)
+      | false ↦ length-places kind (suc n) xs
+    ]
+
+pub length-widths : (kind : Body → Bool) (items : List Item) → length (widths_of kind items) ≡ length (places kind 0 items)
+length-widths kind items = length-map (filter (λ (x : Item). kind x.body) items) (λ (x : Item). bits_of items x.id) ∙ sym (length-places kind 0 items)
+
+-- a word of such a width is one of the width at the place
+width_of_place : (items : List Item) (list : List ℕ) (i : ℕ) → i < length list → slice_index (by_place items list) i ≡ unwrap_or (width_at items (slice_index list i)) 0
+width_of_place items [] i there = absurd (omega (arith, there))
+width_of_place items (k ∷ list) zero there = refl
+width_of_place items (k ∷ list) (suc i) there = width_of_place items list i (omega (arith, there))
+
+fits_some : (o : Option ℕ) (n x : ℕ) → n ≡ unwrap_or o 0 → x < 2 ^ n → IfSome o (λ m. x < 2 ^ m)
+fits_some None n x same fits = tt
+fits_some (Some m) n x same fits = subst (λ (k : ℕ). x < 2 ^ k) same fits
+
+pub fits_at_place : (kind : Body → Bool) (items : List Item) (i x : ℕ) → IsWellFormed items → PairFits (widths_of kind items) (i, x) → IfSome (width_at items (slice_index (places kind 0 items) i)) (λ n. x < 2 ^ n)
+fits_at_place kind items i x w fits =
+    let there : i < length (places kind 0 items) = omega (arith, fits.index, length-widths kind items) in
+    fits_some (width_at items (slice_index (places kind 0 items) i)) (slice_index (widths_of kind items) i) x
+    (ap (λ (l : List ℕ). slice_index l i) (sym (widths_at_places kind items w)) ∙ width_of_place items (places kind 0 items) i there) fits.word
+
 -- the state at a place is free where the state with its id is
 free_of_id : (items : List Item) (k : ℕ) (x : Item) → slice_get items k ≡ Some x → is_free_at items k ≡ is_free items x.id
 free_of_id items k x at = ap (λ (o : Option Item). unwrap_or (option_map (is_free items) (option_and_then (λ (y : Item). Some y.id) o)) false) at
@@ -103,15 +132,6 @@ free_from items before (x ∷ xs) n is e =
 
 pub free_at_places : (items : List Item) → map (is_free_at items) (places is_state 0 items) ≡ free_of items
 free_at_places items = free_from items [] items 0 refl refl
-
--- as many places as items of a kind
-pub length-places : (kind : Body → Bool) (n : ℕ) (xs : List Item) → length (places kind n xs) ≡ length (filter (λ (x : Item). kind x.body) xs)
-length-places kind n [] = refl
-length-places kind n (x ∷ xs) =
-    elim (kind x.body) as (λ b. length (cond b (n ∷ places kind (suc n) xs) (places kind (suc n) xs)) ≡ length (cond b (x ∷ filter (λ (y : Item). kind y.body) xs) (filter (λ (y : Item). kind y.body) xs))) [
-      | true ↦ ap suc (length-places kind (suc n) xs)
-      | false ↦ length-places kind (suc n) xs
-    ]
 
 -- the widths are those of words
 bits_small : (items : List Item) (id : ℕ) (o : Option ℕ) → IsWellFormed items → node_width items id ≡ o → unwrap_or o 0 ≤ 64

@@ -36,7 +36,7 @@ by_rest widths before i None = refl
 by_rest widths before i (Some rest) = by_name before i (cut_at_space rest).1 (value_of (slice_index widths i) (cut_at_space rest).0)
 
 -- flags of the pairs are those of the assignments
-flag_of : (before : List Assignment) (i : ℕ) → list_any (λ p. p.0 == i) (pairs_of before) ≡ list_any (λ a. a.index == i) before
+pub flag_of : (before : List Assignment) (i : ℕ) → list_any (λ p. p.0 == i) (pairs_of before) ≡ list_any (λ a. a.index == i) before
 flag_of [] i = refl
 flag_of (a ∷ before) i = ap (λ (b : Bool). (a.index == i) || b) (flag_of before i)
 

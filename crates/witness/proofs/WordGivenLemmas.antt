@@ -1,5 +1,5 @@
 -- A word more in the open part of a witness over a model.
-use Rattle.std.proofs.Common.{◌≡◌, ℕ, ◌<◌, ◌^◌, ◌==◌, Bool, true, false, ◌||◌, List, [], ◌∷◌, ◌++◌, Ok, All, map, length, set, refl, sym, ap, subst, ◌∙◌, inl, inr}
+use Rattle.std.proofs.Common.{◌≡◌, ℕ, ◌<◌, ◌^◌, ◌==◌, Bool, true, false, ◌||◌, List, [], ◌∷◌, ◌++◌, Ok, All, map, length, set, refl, sym, ap, subst, ◌∙◌, arith, inl, inr}
 use Rattle.std.specs.List.{list_any}
 use Rattle.std.proofs.lemmas.Bool.{cases_eq, eq-eqb, ne_eqb}
 use Rattle.std.proofs.lemmas.List.{map-append, get_or-set_same, get_or-set_other}
@@ -7,14 +7,17 @@ use Rattle.std.proofs.lemmas.List.Elements.{All-nil, All-cons, All-head, All-tai
 use Rattle.std.proofs.lemmas.List.Folds.{list_any-append}
 use Rattle.base.specs.Decimals.{number_of}
 use Rattle.btor2.specs.declared.item.Item.{Item}
+use Rattle.btor2.specs.Items.{is_input}
 use Rattle.btor2.specs.Check.{IsWellFormed}
 use Rattle.runs.specs.Run.{zeros}
-use Rattle.witness.specs.Texts.{Shape, Assignment, is_free_index, shape_of, are_distinct}
+use Rattle.witness.specs.Texts.{Shape, Assignment, widths_of, is_free_index, shape_of, are_distinct, assignment_line}
 use Rattle.witness.specs.Admits.{cut_at_space, names_free, assignment_at, free_assignment_at}
 use Rattle.witness.specs.Fits.{is_set, IsFlagged, PairFits, PartFits, LaterFits, FramesFit, words_put}
 use Rattle.witness.specs.Judgements.{FrameWords, pairs_of}
-use Rattle.witness.specs.WordPlays.{WordPlay, Traced, TracedBy, Plays, MayGive, state_given, input_given}
-use Rattle.witness.proofs.AssignmentLemmas.{IsAssigned, assignment_is_line, free_assignment_is_line}
+use Rattle.witness.specs.WordPlays.{WordPlay, Traced, TracedBy, Plays, MayGive, TakesInput, state_given, input_given}
+use Rattle.witness.specs.PlainLines.{BeginsAssignment}
+use Rattle.witness.proofs.AssignmentLemmas.{IsAssigned, assignment_at-assignment_line, assignment_is_line, free_assignment_is_line}
+use Rattle.witness.proofs.WordAssignLemmas.{flag_of}
 use Rattle.witness.proofs.SaidLemmas.{distinct_with}
 use Rattle.witness.proofs.ReadLemmas.{IsSmall}
 use Rattle.witness.proofs.FitLemmas.{shape_is_small}
@@ -166,4 +169,21 @@ input_plays items frames states before list line p a w is all inside plays =
       count = plays.count;
       steps = plays.steps;
       traced = still_traced items plays.base p (input_given p a.index a.word) frames refl refl refl plays.traced;
+    }
+
+-- the line of an assignment to an input that has no word
+pub input_taken : (p : WordPlay) (text rest : List ℕ) (index word : ℕ) → IsWellFormed p.items → length p.inputs_given ≡ length (widths_of is_input p.items) → BeginsAssignment (widths_of is_input p.items) p.inputs_given text index word rest
+    → TakesInput p (input_given p index word) text rest
+input_taken p text rest index word w many begins =
+    let widths : List ℕ = widths_of is_input p.items in
+    let a : Assignment = record { index = index; word = word; symbol = begins.symbol } in
+    let inside : index < length widths = begins.valid.index in
+    record {
+      assignment = a;
+      is = begins.is;
+      valid = record { index = inside; word = begins.valid.word; symbol = begins.valid.symbol };
+      gives = λ frames states before plays.
+          let new : list_any (λ b. b.index == index) before ≡ false = sym (flag_of before index) ∙ (sym (plays.inputs_flagged index) ∙ begins.fresh) in
+          let is : assignment_at widths before (assignment_line widths a) ≡ Ok (before ++ a ∷ []) = assignment_at-assignment_line widths before a (shape_is_small p.items w).inputs begins.valid new in
+          (before ++ a ∷ [], (is, input_plays p.items frames states before (before ++ a ∷ []) (assignment_line widths a) p a w is refl (omega (arith, many, inside)) plays));
     }

@@ -15,10 +15,11 @@ use Rattle.witness.specs.Judgements.{frame_words, makes_no_claim}
 use Rattle.witness.specs.KeptLines.{kept}
 use Rattle.witness.specs.WordPlays.{WordPlay, steps_of}
 use Rattle.witness.specs.WordReadings.{Reading, nothing_admitted, one_more_line, next_line_of, lines_behind, closed_word_frames}
-use Rattle.witness.specs.WordStands.{place_of, WordReader, Reads, GivesLine, is_status, Counts, WordJudge, IsOfLines, StandsFor}
+use Rattle.witness.specs.WordStands.{place_of, WordReader, Reads, GivesLine, TakesLine, is_status, Counts, WordJudge, IsOfLines, StandsFor}
 use Rattle.witness.proofs.WordReadingLemmas.{stays, lines_append}
-use Rattle.witness.proofs.BitJudgeLemmas.{or-false, whole_lines-part, unfinished-part}
-use Rattle.witness.proofs.KeptLineLemmas.{kept_more}
+use Rattle.witness.proofs.BitJudgeLemmas.{or-false, whole_lines-part, unfinished-part, whole_lines-line_end, unfinished-line_end}
+use Rattle.witness.proofs.KeptLineLemmas.{kept_more, nothing_kept}
+use Rattle.witness.proofs.WordReaderLemmas.{reads_of_other}
 
 -- ---- what an admitted line changes
 
@@ -410,3 +411,18 @@ with_line items lines line j s is =
       counts = is.counts;
       reads = is.reads;
     }
+
+-- behind a line that was taken at its place
+pub line_taken : (items : List Item) (text : List ℕ) (j : WordJudge) (q : WordReader) (all rest : List ℕ) (taken : TakesLine j.reader q all rest) → j.refused ≡ None → j.admitted < most_lines → j.line ≡ [] → StandsFor items j text
+    → StandsFor items (record j { reader = q; admitted = j.admitted + 1 }) (text ++ (taken.line ++ 10 ∷ []))
+line_taken items text j q all rest taken fresh few none stands =
+    let line : List ℕ = taken.line in
+    let lines : List (List ℕ) = whole_lines text in
+    let read : Read = (lines_behind (shape_of items) nothing_admitted lines).read in
+    let empty : unfinished text ≡ [] = nothing_there (unfinished text) (sym (nothing_kept (unfinished text)) ∙ ap is_nothing (sym stands.line ∙ none)) in
+    let reads : Reads items j.reader read line = reads_of_other items read (unfinished text) j.reader (stands.lines.reads fresh) line taken.alone in
+    let here : IsOfLines items j lines line = with_bytes items lines (unfinished text) line j stands.lines (λ _. reads) in
+    let gives : GivesLine items read line q (Ok tt) = taken.gives items read reads (few_frames items lines line j here fresh few) in
+    let silent : j.no_claim ≡ (j.no_claim || (is_status (place_of j.reader.place) && says_none line)) = sym (ap (λ (b : Bool). j.no_claim || (b && says_none line)) taken.behind ∙ or-false j.no_claim) in
+    line_ended items (text ++ (line ++ 10 ∷ [])) (lines ++ line ∷ []) (record j { reader = q; admitted = j.admitted + 1 }) (whole_lines-line_end text line taken.whole ∙ ap (λ (l : List ℕ). lines ++ (l ++ line) ∷ []) empty) (unfinished-line_end text line)
+    (line_admitted items lines line j here fresh few q j.no_claim gives silent) none

@@ -14,7 +14,7 @@ same_bytes (a ∷ x) (b ∷ y) h =
     let parts = and_parts (a == b) (bytes_eq x y) h in
     ap₂ (λ (c : ℕ) (l : List ℕ). c ∷ l) (eqb-true a b parts.0) (same_bytes x y parts.1)
 
-itself : (x : List ℕ) → bytes_eq x x ≡ true
+pub itself : (x : List ℕ) → bytes_eq x x ≡ true
 itself [] = refl
 itself (a ∷ x) = and_from (a == a) (bytes_eq x x) (eq-eqb a a refl) (itself x)
 

@@ -1,5 +1,5 @@
 -- Lines of a witness over a model, admitted one after the other by what is kept of them.
-use Rattle.std.proofs.Common.{◌≡◌, ℕ, zero, suc, ◌*◌, ◌<◌, ◌≤◌, Bool, true, false, ◌&&◌, ◌||◌, List, [], ◌∷◌, ◌++◌, Option, Result, Ok, Err, codes, map, length, unwrap_or, slice_index, slice_index_or, arith, refl, sym, ap, subst, ◌∙◌}
+use Rattle.std.proofs.Common.{◌≡◌, ℕ, zero, suc, ◌*◌, ◌<◌, ◌≤◌, Bool, true, false, ◌&&◌, ◌||◌, List, [], ◌∷◌, ◌++◌, Option, Some, None, IfNone, Result, Ok, Err, codes, map, length, unwrap_or, slice_index, slice_index_or, arith, refl, sym, ap, subst, ◌∙◌}
 use Rattle.std.specs.Str.{bytes_eq}
 use Rattle.std.proofs.lemmas.Bool.{false_from_ne_true}
 use Rattle.std.proofs.lemmas.Slice.Eq.{bytes_eq-Decides}
@@ -349,3 +349,7 @@ pub reads_start : (items : List Item) (p : WordPlay) (s : ClaimScan) (flags : Li
     → Reads items (record { play = p; place = code.Status; claims = s; claimed = flags; has_free = free }) nothing_read []
 reads_start items p s flags free start are many is =
     record { free = is; many = many ∙ length-places is_bad 0 items; place = refl; said = record { closed = refl; states = refl; open_part = refl }; claims = are; play = plays_start items p start }
+
+pub if_none : {A : Type 0} (o : Option A) (P Q : Type 0) → (P → Q) → IfNone o P → IfNone o Q
+if_none None P Q f h = f h
+if_none (Some x) P Q f h = h

@@ -2,12 +2,12 @@
 use Rattle.std.specs.Prelude.{◌≡◌, ℕ, ◌+◌, ◌*◌, Bool, true, false, List, [], ◌∷◌, ◌++◌, Option, None, Result, Ok, Err, map, length, slice_set}
 use Rattle.base.specs.Decimals.{number_of}
 use Rattle.btor2.specs.declared.item.Item.{Item}
-use Rattle.btor2.specs.Items.{is_state, is_bad}
+use Rattle.btor2.specs.Items.{is_input, is_state, is_bad}
 use Rattle.btor2.specs.Trace.{Frame, IsTrace, next_state}
 use Rattle.runs.specs.Frames.{ids_of}
 use Rattle.runs.specs.Run.{Run, start, first_word, zeros, node_count, state_count, more_steps}
 use Rattle.witness.specs.declared.why.Why.{Why}
-use Rattle.witness.specs.Texts.{Assignment, shape_of}
+use Rattle.witness.specs.Texts.{widths_of, Assignment, shape_of, assignment_line, IsAssignment}
 use Rattle.witness.specs.Admits.{cut_at_space, names_free, assignment_at}
 use Rattle.witness.specs.Fits.{IsFlagged, FramesFit, words_put, RisesAmong, NoneIsSet}
 use Rattle.witness.specs.Judgements.{FrameWords, Words, pairs_of, initial_words, given_words, nodes_of, Violation, violation_from, first_different}
@@ -112,3 +112,11 @@ abbrev pub GivesInput : List Item → List FrameWords → List (ℕ × ℕ) → 
 GivesInput items frames states before line p (Ok u) =
     (list : List Assignment) × ((assignment_at (shape_of items).inputs before line ≡ Ok list) × Plays items frames (record { states = states; inputs = pairs_of list }) p)
 GivesInput items frames states before line p (Err w) = assignment_at (shape_of items).inputs before line ≡ Err w
+
+-- a text begins with the line of an assignment to an input, which was taken: frames are then played as by that line
+pub record TakesInput (old new : WordPlay) (text rest : List ℕ) : Type 0 where
+  pub assignment : Assignment
+  pub is : text ≡ assignment_line (widths_of is_input old.items) assignment ++ 10 ∷ rest
+  pub valid : IsAssignment (widths_of is_input old.items) assignment
+  pub gives : (frames : List FrameWords) (states : List (ℕ × ℕ)) (before : List Assignment) → Plays old.items frames (record { states = states; inputs = pairs_of before }) old
+      → GivesInput old.items frames states before (assignment_line (widths_of is_input old.items) assignment) new (Ok tt)

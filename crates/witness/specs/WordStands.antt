@@ -1,20 +1,22 @@
 -- What a judge of witnesses over a model holds, and which texts it stands for.
-use Rattle.std.specs.Prelude.{◌≡◌, ℕ, ◌≤◌, ◌^◌, Bool, true, false, List, [], Option, Some, None, Result, Ok, Err, length, map}
-use Rattle.base.specs.Lines.{whole_lines, unfinished}
+use Rattle.std.specs.Prelude.{◌≡◌, ℕ, ◌+◌, ◌<◌, ◌≤◌, ◌^◌, Bool, true, false, List, [], ◌∷◌, ◌++◌, Option, Some, None, Result, Ok, Err, length, map}
+use Rattle.base.specs.Lines.{IsLine, whole_lines, unfinished}
 use Rattle.btor2.specs.declared.item.Item.{Item}
+use Rattle.btor2.specs.Items.{is_input}
 use Rattle.witness.specs.declared.why.Why.{Why}
 use Rattle.witness.specs.declared.judgement.Judgement.{Judgement}
 use Rattle.witness.specs.declared.judgement.Judgement.TheVariants as judgement
 use Rattle.witness.specs.declared.place.Place.{Place as CodePlace}
 use Rattle.witness.specs.declared.place.Place.TheVariants as code
 use Rattle.witness.specs.declared.word_claims.ClaimScan.{ClaimScan}
-use Rattle.witness.specs.Texts.{has_free, shape_of}
+use Rattle.witness.specs.Texts.{widths_of, has_free, shape_of}
 use Rattle.witness.specs.Admits.{Place, AtStatus, AtClaims, AtParts, InStates, InFree, InFrame, AtEnd, Read, admit}
 use Rattle.witness.specs.Judgements.{FrameWords, pairs_of, frame_words, Violation, makes_no_claim}
 use Rattle.witness.specs.Fits.{AreClaimed}
 use Rattle.witness.specs.WordClaims.{AreClaims}
 use Rattle.witness.specs.KeptLines.{kept}
 use Rattle.witness.specs.WordPlays.{WordPlay, Plays, nothing_given, steps_of}
+use Rattle.witness.specs.PlainLines.{NoFrameLine, NoAssignment}
 use Rattle.witness.specs.WordReadings.{nothing_admitted, lines_behind}
 
 -- which line comes next, as the code has it
@@ -87,6 +89,20 @@ abbrev pub is_status : Place → Bool
 is_status AtStatus = true
 is_status _ = false
 
+-- a text begins with a line that was taken at its place: it is admitted
+pub record TakesLine (old new : WordReader) (text rest : List ℕ) : Type 0 where
+  pub line : List ℕ
+  pub is : text ≡ line ++ 10 ∷ rest
+  pub whole : IsLine line
+  pub alone : is_alone (place_of old.place) ≡ true
+  pub behind : is_status (place_of old.place) ≡ false
+  pub gives : (items : List Item) (r : Read) → Reads items old r line → length r.closed < 2 ^ 62 → GivesLine items r line new (Ok tt)
+
+-- a text begins neither with the line of an assignment to an input that has no word in the open frame, nor with that which opens the next frame
+pub record NoPlainLine (q : WordReader) (text : List ℕ) : Type 0 where
+  pub assignment : NoAssignment (widths_of is_input q.play.items) q.play.inputs_given text
+  pub opening : NoFrameLine (q.play.frames + 1) text
+
 -- the frames that are closed, and the steps that they took
 pub record Counts (items : List Item) (p : WordPlay) (r : Read) : Type 0 where
   pub items_are : p.items ≡ items
@@ -117,6 +133,19 @@ pub record IsOfLines (items : List Item) (j : WordJudge) (lines : List (List ℕ
 pub record StandsFor (items : List Item) (j : WordJudge) (text : List ℕ) : Type 0 where
   pub lines : IsOfLines items j (whole_lines text) (unfinished text)
   pub line : j.line ≡ kept (unfinished text)
+
+-- no whole line was refused, one more may be admitted, and the next begins in a frame
+pub record TakesPlain (j : WordJudge) : Type 0 where
+  pub fine : j.refused ≡ None
+  pub few : j.admitted < 2 ^ 62
+  pub begins : j.line ≡ []
+  pub place : j.reader.place ≡ code.Frame
+
+-- a text begins with a line that a judge took: it stands for its text with that line
+pub record JudgesLine (old new : WordJudge) (text rest : List ℕ) : Type 0 where
+  pub line : List ℕ
+  pub is : text ≡ (line ++ 10 ∷ []) ++ rest
+  pub stands : (items : List Item) (before : List ℕ) → StandsFor items old before → StandsFor items new (before ++ (line ++ 10 ∷ []))
 
 -- what is judged by what is kept of all frames, and by the first claim that is not reached, where there is one
 abbrev pub with_unreached : WordPlay → Option ℕ → Judgement

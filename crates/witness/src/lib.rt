@@ -15,6 +15,7 @@ mod kept_line;
 mod last_line;
 pub mod laws;
 mod place;
+mod plain_line;
 mod verdicts;
 mod why;
 mod word_assign;
@@ -25,6 +26,7 @@ mod word_line;
 mod word_play;
 mod word_reader;
 mod word_value;
+mod word_widths;
 
 pub use bit_judge::BitJudge;
 pub use bit_judging::judge_bits;

@@ -1,5 +1,5 @@
 //! The judge of witnesses over a model.
-ghost use Rattle.std.specs.Prelude.{◌≡◌, ℕ, ◌+◌, ◌&&◌, ◌||◌, true, List, [], ◌∷◌, ◌++◌, IfOk, None, codes};
+ghost use Rattle.std.specs.Prelude.{◌≡◌, ℕ, ◌+◌, ◌&&◌, ◌||◌, true, List, [], ◌∷◌, ◌++◌, IfNone, IfOk, IfSome, None, codes};
 ghost use Rattle.std.specs.Str.{bytes_eq};
 ghost use Rattle.btor2.specs.declared.item.Item.{Item};
 ghost use Rattle.btor2.specs.Lists.{first_init_without_next};
@@ -12,7 +12,7 @@ ghost use Rattle.witness.specs.WordPlays.{steps_of};
 ghost use Rattle.witness.specs.WordReadings.{admitted_word_lines, closed_word_frames};
 ghost use Rattle.base.specs.Lines.{IsLine, unfinished};
 ghost use Rattle.witness.specs.KeptLines.{AreAlike};
-ghost use Rattle.witness.specs.WordStands.{IsOfLines, StandsFor, is_alone, is_status, judgement_of, place_of};
+ghost use Rattle.witness.specs.WordStands.{IsOfLines, StandsFor, JudgesLine, TakesPlain, NoPlainLine, is_alone, is_status, judgement_of, place_of};
 
 use crate::judgement::Judgement;
 use crate::kept_line::KeptLine;
@@ -30,8 +30,8 @@ use std::alloc::Global;
 use std::mem;
 
 /// A judge of witnesses over a model, which it borrows: it is fed a text piece by piece, and keeps none of it. Beside the
-/// values of one run of the model it holds two flags for each bad property, one for each state and each input, and a fixed
-/// number of words; neither feeding nor finishing takes memory or refuses anything.
+/// values of one run of the model it holds two flags for each bad property, a flag and a width for each state and each
+/// input, and a fixed number of words; neither feeding nor finishing takes memory or refuses anything.
 ///
 /// Clauses see what it holds; which texts it stands for is a relation to that.
 #[derive(Drop)]
@@ -185,14 +185,62 @@ impl<'a> WordJudge<'a> {
         self.take_rest(bytes);
     }
 
+    /// Takes the plain line with which a text begins, and answers the text behind it; nothing is taken of another text.
+    #[inline(always)]
+    fn take_plain<'t>(&mut self, text: &'t [u8]) -> Option<&'t [u8]>
+        ensures line { IfSome result (λ rest. JudgesLine self.old self.new text.now rest.now) }
+        ensures none { IfNone result (TakesPlain self.old → NoPlainLine self.old.reader text.now) }
+        ensures kept { IfNone result (self.new ≡ self.old) }
+    {
+        if self.refused.is_some() || are_most(self.admitted) || !self.line.is_empty() {
+            return None;
+        }
+        match self.reader.take_line(text) {
+            Some(rest) => {
+                self.admitted += 1;
+                Some(rest)
+            }
+            None => None,
+        }
+    }
+
+    /// Takes the line with which a text begins, whatever it is, and answers the text behind it; nothing where no byte 10
+    /// ends it.
+    fn take_any<'t>(&mut self, text: &'t [u8]) -> Option<&'t [u8]>
+        ensures line { IfSome result (λ rest. JudgesLine self.old self.new text.now rest.now) }
+        ensures none { IfNone result (IsLine text.now) }
+        ensures kept { IfNone result (self.new ≡ self.old) }
+    {
+        match next_line(text) {
+            Some((line, rest)) => {
+                self.take_line(line);
+                Some(rest)
+            }
+            None => None,
+        }
+    }
+
+    /// Takes the line with which a text begins, in one pass where it is a plain one, and answers the text behind it;
+    /// nothing where no byte 10 ends it.
+    #[inline(always)]
+    fn take_next<'t>(&mut self, text: &'t [u8]) -> Option<&'t [u8]>
+        ensures line { IfSome result (λ rest. JudgesLine self.old self.new text.now rest.now) }
+        ensures none { IfNone result (IsLine text.now) }
+        ensures kept { IfNone result (self.new ≡ self.old) }
+    {
+        match self.take_plain(text) {
+            Some(rest) => Some(rest),
+            None => self.take_any(text),
+        }
+    }
+
     /// Takes a piece of the text behind those before: a judge that stood for a text stands for that text with the piece
     /// behind it.
     pub fn feed(&mut self, bytes: &[u8])
         ensures { (items : List Item) (text : List ℕ) → StandsFor items self.old text → StandsFor items self.new (text ++ bytes.now) }
     {
         let mut rest = bytes;
-        while let Some((line, behind)) = next_line(rest) {
-            self.take_line(line);
+        while let Some(behind) = self.take_next(rest) {
             rest = behind;
         }
         self.take_part(rest);

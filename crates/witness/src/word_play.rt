@@ -1,8 +1,8 @@
 //! The frames of a witness over a model, played while its lines are read.
-ghost use Rattle.std.specs.Prelude.{◌≡◌, ℕ, ◌<◌, ◌+◌, ◌^◌, ◌==◌, true, false, Option, List, [], ◌∷◌, ◌++◌, if◌then◌else◌, IfErr, IfOk, IfSome, OnErr, length, slice_index};
+ghost use Rattle.std.specs.Prelude.{◌≡◌, ℕ, ◌<◌, ◌+◌, ◌^◌, ◌==◌, true, false, Option, List, [], ◌∷◌, ◌++◌, if◌then◌else◌, IfErr, IfNone, IfOk, IfSome, MatchOption, OnErr, length};
 ghost use Rattle.btor2.specs.Items.{is_input, is_state, is_bad};
 ghost use Rattle.btor2.specs.Check.{IsWellFormed};
-ghost use Rattle.btor2.specs.Lists.{places, width_at, first_init_without_next};
+ghost use Rattle.btor2.specs.Lists.{places, first_init_without_next};
 ghost use Rattle.btor2.specs.Trace.{Frame};
 ghost use Rattle.runs.specs.Run.{IsNow, node_count, state_count};
 ghost use Rattle.runs.specs.Refusal.{AnswersNew};
@@ -10,13 +10,17 @@ ghost use Rattle.witness.specs.Judgements.{FrameWords, pairs_of, first_different
 ghost use Rattle.witness.specs.Texts.{Assignment, shape_of, widths_of};
 ghost use Rattle.witness.specs.KeptLines.{IsSmall};
 ghost use Rattle.witness.specs.WordValues.{Gives};
-ghost use Rattle.witness.specs.Fits.{NoneIsSet};
+ghost use Rattle.witness.specs.Fits.{NoneIsSet, PairFits};
 ghost use Rattle.witness.specs.WordAssigns.{assigned};
-ghost use Rattle.witness.specs.WordPlays.{IsStart, Plays, MayGive, GivesState, GivesInput, state_given, input_given, nothing_given};
+ghost use Rattle.witness.specs.PlainLines.{BeginsAssignment, NoAssignment};
+ghost use Rattle.witness.specs.WordPlays.{IsStart, Plays, MayGive, GivesState, GivesInput, TakesInput, state_given, input_given, nothing_given};
 
+use crate::plain_line::plain_assignment;
 use crate::verdicts::{Breach, earlier, first_different, first_violated, note_rises};
 use crate::why::Why;
 use crate::word_assign::assigned;
+use crate::word_widths::widths_at;
+use base::Width;
 use btor2::Model;
 use runs::{NewFault, WordRun};
 use std::alloc::{AllocError, Global};
@@ -26,6 +30,9 @@ use std::alloc::{AllocError, Global};
 pub(crate) struct WordPlay<'a> {
     model: &'a Model,
     run: WordRun<'a>,
+    // for each state, and for each input, how many bits it has
+    state_widths: Vec<Width>,
+    input_widths: Vec<Width>,
     // for each state, and for each input, whether it has a word in the part that is open
     states_given: Vec<bool>,
     inputs_given: Vec<bool>,
@@ -42,13 +49,14 @@ impl<'a> std::marker::Model for WordPlay<'a> {
     ghost use Rattle.std.specs.Prelude.{◌≡◌, length};
     ghost use Rattle.btor2.specs.Items.{is_input, is_state, is_bad};
     ghost use Rattle.btor2.specs.Lists.{places};
+    ghost use Rattle.witness.specs.Texts.{widths_of};
     ghost use Rattle.witness.specs.WordPlays.{WordPlay as WordPlayValue};
 
     ghost Value = { WordPlayValue };
 
     ghost view = { λ p. record { items = p.model.now; run = p.run; states_given = p.states_given.items; inputs_given = p.inputs_given.items; differs = p.differs; frames = p.frames; breach = p.breach; rose = p.rose.items } };
 
-    ghost invariant = { λ p. (p.run.items ≡ p.model.now) × (length p.states_given.items ≡ length (places is_state 0 p.model.now)) × (length p.inputs_given.items ≡ length (places is_input 0 p.model.now)) × (length p.rose.items ≡ length (places is_bad 0 p.model.now)) };
+    ghost invariant = { λ p. (p.run.items ≡ p.model.now) × (length p.states_given.items ≡ length (places is_state 0 p.model.now)) × (length p.inputs_given.items ≡ length (places is_input 0 p.model.now)) × (length p.rose.items ≡ length (places is_bad 0 p.model.now)) × (p.state_widths.items ≡ widths_of is_state p.model.now) × (p.input_widths.items ≡ widths_of is_input p.model.now) };
 }
 
 /// So many flags, none of them set.
@@ -97,12 +105,16 @@ impl<'a> WordPlay<'a> {
     {
         let _items = model.items();
         let run = WordRun::new(alloc, model)?;
+        let state_widths = widths_at(alloc, model, model.states())?;
+        let input_widths = widths_at(alloc, model, model.inputs())?;
         let states_given = no_flags(alloc, model.states().len())?;
         let inputs_given = no_flags(alloc, model.inputs().len())?;
         let rose = no_flags(alloc, model.bads().len())?;
         Ok(WordPlay {
             model,
             run,
+            state_widths,
+            input_widths,
             states_given,
             inputs_given,
             differs: None,
@@ -133,49 +145,49 @@ impl<'a> WordPlay<'a> {
     /// The word that a line gives to a state in the open part, or why it gives none.
     fn state_word(&self, line: &[u8]) -> Result<(u64, u64), Why>
         ensures is { Gives (λ p. p) result (assigned (widths_of is_state self.now.items) self.now.states_given line.now) }
-        ensures inside { IfOk result (λ p. p.0 < length (places is_state 0 self.now.items)) }
-        ensures fits { IfOk result (λ p. IfSome (width_at self.now.items (slice_index (places is_state 0 self.now.items) p.0)) (λ n. p.1 < 2 ^ n)) }
+        ensures fits { IfOk result (PairFits (widths_of is_state self.now.items)) }
     {
-        let _items = self.model.items();
-        assigned(
-            self.model,
-            self.model.states(),
-            self.states_given.as_slice(),
-            line,
-        )
+        let widths = self.state_widths.as_slice();
+        assigned(widths, self.states_given.as_slice(), line)
     }
 
     /// The word that a line gives to an input in the open frame, or why it gives none.
     fn input_word(&self, line: &[u8]) -> Result<(u64, u64), Why>
         ensures is { Gives (λ p. p) result (assigned (widths_of is_input self.now.items) self.now.inputs_given line.now) }
-        ensures inside { IfOk result (λ p. p.0 < length (places is_input 0 self.now.items)) }
-        ensures fits { IfOk result (λ p. IfSome (width_at self.now.items (slice_index (places is_input 0 self.now.items) p.0)) (λ n. p.1 < 2 ^ n)) }
+        ensures fits { IfOk result (PairFits (widths_of is_input self.now.items)) }
     {
-        let _items = self.model.items();
-        assigned(
-            self.model,
-            self.model.inputs(),
-            self.inputs_given.as_slice(),
-            line,
-        )
+        let widths = self.input_widths.as_slice();
+        assigned(widths, self.inputs_given.as_slice(), line)
+    }
+
+    /// The input and the word of the plain line with which a text begins, and the text behind the line; nothing where
+    /// it begins otherwise.
+    #[inline(always)]
+    fn plain_input<'t>(&self, text: &'t [u8]) -> Option<(u64, u64, &'t [u8])>
+        ensures { MatchOption result (NoAssignment (widths_of is_input self.now.items) self.now.inputs_given text.now)
+            (λ x. BeginsAssignment (widths_of is_input self.now.items) self.now.inputs_given text.now x.0 x.1 x.2.now) }
+    {
+        let widths = self.input_widths.as_slice();
+        plain_assignment(text, widths, self.inputs_given.as_slice())
     }
 
     /// Gives a state a word in the open part.
     fn give_state(&mut self, index: usize, word: u64)
-        requires there { index < length (places is_state 0 self.old.items) }
-        requires fits { IfSome (width_at self.old.items (slice_index (places is_state 0 self.old.items) index)) (λ n. word < 2 ^ n) }
+        requires { PairFits (widths_of is_state self.old.items) (index, word) }
         ensures { self.new ≡ state_given self.old index word }
     {
+        let _items = self.model.items();
         self.run.set_state(index, word);
         self.states_given[index] = true;
     }
 
     /// Gives an input a word in the open part.
+    #[inline(always)]
     fn give_input(&mut self, index: usize, word: u64)
-        requires there { index < length (places is_input 0 self.old.items) }
-        requires fits { IfSome (width_at self.old.items (slice_index (places is_input 0 self.old.items) index)) (λ n. word < 2 ^ n) }
+        requires { PairFits (widths_of is_input self.old.items) (index, word) }
         ensures { self.new ≡ input_given self.old index word }
     {
+        let _items = self.model.items();
         self.run.set_input(index, word);
         self.inputs_given[index] = true;
     }
@@ -209,6 +221,25 @@ impl<'a> WordPlay<'a> {
                 Ok(())
             }
             Err(why) => Err(why),
+        }
+    }
+
+    /// Gives an input the word of the plain line with which a text begins, and answers the text behind the line; nothing
+    /// is given where the text begins otherwise.
+    #[inline(always)]
+    pub(crate) fn take_input<'t>(&mut self, text: &'t [u8]) -> Option<&'t [u8]>
+        ensures line { IfSome result (λ rest. TakesInput self.old self.new text.now rest.now) }
+        ensures same { self.new.items ≡ self.old.items }
+        ensures none { IfNone result (NoAssignment (widths_of is_input self.old.items) self.old.inputs_given text.now) }
+        ensures kept { IfNone result (self.new ≡ self.old) }
+    {
+        let _items = self.model.items();
+        match self.plain_input(text) {
+            Some((index, word, rest)) => {
+                self.give_input(index as usize, word);
+                Some(rest)
+            }
+            None => None,
         }
     }
 

@@ -7,6 +7,7 @@ use Rattle.witness.specs.Texts.{widths_of}
 use Rattle.witness.specs.Admits.{assignment_at}
 use Rattle.witness.specs.Judgements.{pairs_of}
 use Rattle.witness.specs.WordPlays.{WordPlay, Plays, input_given}
+use Rattle.witness.proofs.ShapeLemmas.{length-widths}
 use Rattle.witness.proofs.WordAssignLemmas.{Tells, assigned_tells}
 use Rattle.witness.proofs.WordGivenLemmas.{input_plays}
 use Rattle.witness.proofs.word_play.WordPlay.assign_input.Goals as goal
@@ -20,9 +21,9 @@ returns-in-Ok-clause-line c frames states before plays =
     let index : c.in-Ok.given.0 ≡ a.index = sym (ap (λ (q : ℕ × ℕ). q.0) told.1.1) in
     let word : c.in-Ok.given.1 ≡ a.word = sym (ap (λ (q : ℕ × ℕ). q.1) told.1.1) in
     let many : length p.inputs_given ≡ length (places is_input 0 p.items) = subst (λ (q : WordPlay). length q.inputs_given ≡ length (places is_input 0 q.items)) c.self.view_is c.self.invariant.2 in
-    let there : a.index < length (places is_input 0 p.items) = subst (λ (q : ℕ × ℕ). q.0 < length (places is_input 0 p.items)) (sym told.1.1) c.in-Ok.ensures.inside in
+    let there : a.index < length widths = subst (λ (q : ℕ × ℕ). q.0 < length widths) (sym told.1.1) c.in-Ok.ensures.fits.index in
     let well_formed = subst (λ (q : WordPlay). IsWellFormed q.items) c.self.view_is c.items-items.ensures.well_formed in
-    let more = input_plays p.items frames states before (before ++ a ∷ []) c.args.line.now p a well_formed told.1.0 refl (omega (arith, many, there)) plays in
+    let more = input_plays p.items frames states before (before ++ a ∷ []) c.args.line.now p a well_formed told.1.0 refl (omega (arith, many, there, length-widths is_input p.items)) plays in
     (before ++ a ∷ [], (told.1.0, subst (λ (q : WordPlay). Plays p.items frames (record { states = states; inputs = pairs_of (before ++ a ∷ []) }) q) (sym (c.give_input.ensures ∙ ap₂ (input_given p) index word)) more))
 
 pub returns-in-Err-clause-line : goal.returns-in-Err-clause-line

@@ -1,0 +1,108 @@
+//! A plain line of a witness over a model at the front of a text, read in one pass up to its end.
+ghost use Rattle.std.specs.Prelude.{◌≡◌, ◌<◌, ◌^◌, ◌∷◌, ◌++◌, MatchOption, decimal, length};
+ghost use Rattle.witness.specs.PlainLines.{NoNumber, NoFrameLine, BeginsName, NoName, BeginsWord, NoWord, BeginsAssignment, NoAssignment};
+
+use crate::word_value::known_word;
+use base::{Width, next_line};
+use btor2::Symbol;
+
+/// The most digits of a number that has room in 64 bits, whatever they are.
+const MOST_DIGITS: usize = 19;
+
+/// The number that stands at the front of a text up to this byte, and the text behind the byte, where the number is a
+/// decimal of at most 19 digits; else nothing. Each byte is looked at once.
+#[inline(always)]
+fn number_before(text: &[u8], end: u8) -> Option<(u64, &[u8])>
+    requires { end < 48 }
+    ensures { MatchOption result (NoNumber end text.now) (λ x. (x.0 < 2 ^ 64) × (text.now ≡ decimal x.0 ++ end ∷ x.1.now)) }
+{
+    let (first, _) = text.split_first()?;
+    if *first < b'0' || *first > b'9' {
+        return None;
+    }
+    let mut value = u64::from(*first - b'0');
+    for at in 1..text.len() {
+        let byte = text[at];
+        if byte < b'0' || byte > b'9' {
+            if byte != end {
+                return None;
+            }
+            let (_, rest) = text.split_at(at + 1);
+            return Some((value, rest));
+        }
+        if value == 0 || at >= MOST_DIGITS {
+            return None;
+        }
+        value = value * 10 + u64::from(byte - b'0');
+    }
+    None
+}
+
+/// The text behind the line `@<k>` of this frame, where a text begins with it.
+#[inline(always)]
+pub(crate) fn behind_frame_line(text: &[u8], frame: u64) -> Option<&[u8]>
+    ensures { MatchOption result (NoFrameLine frame text.now) (λ rest. text.now ≡ (64 ∷ decimal frame) ++ 10 ∷ rest.now) }
+{
+    let (first, behind) = text.split_first()?;
+    if *first != b'@' {
+        return None;
+    }
+    let (number, rest) = number_before(behind, b'\n')?;
+    if number == frame { Some(rest) } else { None }
+}
+
+/// The text behind the line whose value ends in front of this text: its end, or a space and a name up to it.
+#[inline(always)]
+fn behind_name(text: &[u8]) -> Option<&[u8]>
+    ensures { MatchOption result (NoName text.now) (λ rest. BeginsName text.now rest.now) }
+{
+    let (first, behind) = text.split_first()?;
+    if *first == b'\n' {
+        return Some(behind);
+    }
+    if *first != b' ' {
+        return None;
+    }
+    let (name, rest) = next_line(behind)?;
+    if Symbol::is_symbol(name) {
+        Some(rest)
+    } else {
+        None
+    }
+}
+
+/// The word of so many bits at the front of a text, where the line ends behind it or behind a name, and the text
+/// behind the line.
+#[inline(always)]
+fn plain_word(text: &[u8], width: Width) -> Option<(u64, &[u8])>
+    ensures { MatchOption result (NoWord width text.now) (λ x. BeginsWord width text.now x.0 x.1.now) }
+{
+    let count = width.bits() as usize;
+    if text.len() < count {
+        return None;
+    }
+    let (digits, behind) = text.split_at(count);
+    let word = known_word(digits)?;
+    let rest = behind_name(behind)?;
+    Some((word, rest))
+}
+
+/// The index and the word of the assignment whose line a text begins with, and the text behind the line, where the node
+/// of the index, of nodes of these widths, has no word yet. Nothing where the text does not begin so.
+#[inline(always)]
+pub(crate) fn plain_assignment<'t>(
+    text: &'t [u8],
+    widths: &[Width],
+    given: &[bool],
+) -> Option<(u64, u64, &'t [u8])>
+    requires { length given.now ≡ length widths.now }
+    ensures { MatchOption result (NoAssignment widths.now given.now text.now) (λ x. BeginsAssignment widths.now given.now text.now x.0 x.1 x.2.now) }
+{
+    let (index, behind) = number_before(text, b' ')?;
+    let k = index as usize;
+    if k >= widths.len() || given[k] {
+        return None;
+    }
+    let (word, rest) = plain_word(behind, widths[k])?;
+    Some((index, word, rest))
+}
