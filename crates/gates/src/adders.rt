@@ -9,7 +9,7 @@ ghost use Rattle.gates.specs.Sums.{literal_number, MakesColumn, MakesSum};
 
 use crate::bit_lists::{negation, repeated};
 use crate::fault::GateFault;
-use crate::literals::{conjunction, disjunction, xor};
+use crate::literals::{disjunction, xor};
 use crate::maker::{Bits, Gates};
 use aiger::Lit;
 use base::{Binary, Unary};
@@ -39,9 +39,9 @@ fn half_adder<G: Gates>(g: &mut G, a: Lit, b: Lit) -> Result<Column, GateFault>
     ensures ok { IfOk result (λ c. MakesColumn (G.made g.old) (G.made g.new) 3 (λ v. literal_number v a + literal_number v b) c.sum c.carry) }
     ensures refused { IfErr result (Refuses (G.made g.old) (G.made g.new) 3) }
 {
-    let both = conjunction(g, a, b)?;
-    let neither = conjunction(g, a.not(), b.not())?;
-    let sum = conjunction(g, both.not(), neither.not())?;
+    let both = g.and(a, b)?;
+    let neither = g.and(a.not(), b.not())?;
+    let sum = g.and(both.not(), neither.not())?;
     Ok(Column { sum, carry: both })
 }
 

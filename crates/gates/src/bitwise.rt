@@ -11,7 +11,7 @@ ghost use Rattle.gates.specs.Connect.{connected, connected_words, connected_bits
 
 use crate::bit_lists::{negation, one_bit};
 use crate::fault::GateFault;
-use crate::literals::{conjunction, disjunction, xor};
+use crate::literals::{disjunction, xor};
 use crate::maker::{Bits, Gates};
 use aiger::Lit;
 
@@ -34,7 +34,7 @@ fn connect<G: Gates>(g: &mut G, by: Connective, a: Lit, b: Lit) -> Result<Lit, G
     ensures refused { IfErr result (Refuses (G.made g.old) (G.made g.new) (connective_bound by)) }
 {
     match by {
-        Connective::And => conjunction(g, a, b),
+        Connective::And => g.and(a, b),
         Connective::Or => disjunction(g, a, b),
         Connective::Xor => xor(g, a, b),
     }

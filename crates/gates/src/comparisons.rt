@@ -12,7 +12,7 @@ ghost use Rattle.gates.specs.Tests.{is_comparison, with_top_negated};
 
 use crate::bit_lists::one_bit;
 use crate::fault::GateFault;
-use crate::literals::{conjunction, disjunction};
+use crate::literals::disjunction;
 use crate::maker::{Bits, Gates};
 use aiger::Lit;
 use base::Binary;
@@ -26,12 +26,12 @@ pub(crate) fn less_column<G: Gates>(g: &mut G, a: Lit, b: Lit, below: Lit) -> Re
     ensures ok { IfOk result (MakesLiteral (G.made g.old) (G.made g.new) 4 (λ v. nat_lt (literal_number v a) (literal_number v b + literal_number v below))) }
     ensures refused { IfErr result (Refuses (G.made g.old) (G.made g.new) 4) }
 {
-    let less = conjunction(g, a.not(), b)?;
+    let less = g.and(a.not(), b)?;
     if below == Lit::FALSE {
         return Ok(less);
     }
-    let greater = conjunction(g, a, b.not())?;
-    let rest = conjunction(g, below, greater.not())?;
+    let greater = g.and(a, b.not())?;
+    let rest = g.and(below, greater.not())?;
     disjunction(g, less, rest)
 }
 

@@ -13,7 +13,7 @@ use crate::adders::difference;
 use crate::bit_lists::low_bits;
 use crate::choices::choose;
 use crate::fault::GateFault;
-use crate::literals::{conjunction, disjunction};
+use crate::literals::disjunction;
 use crate::maker::{Bits, Gates};
 use aiger::Lit;
 
@@ -87,7 +87,7 @@ fn next_row<G: Gates>(g: &mut G, dividend: &Bits, b: &Bits) -> Result<Row, GateF
     let width = dividend.len();
     let reduced = difference(g, dividend, &low_bits(b, width))?;
     let above = has_bit_from(g, b, width)?;
-    let bit = conjunction(g, reduced.out, above.not())?;
+    let bit = g.and(reduced.out, above.not())?;
     let remainder = left_over(g, bit, &reduced.sum, dividend)?;
     Ok(Row { bit, remainder })
 }

@@ -10,7 +10,7 @@ ghost use Rattle.gates.specs.Sums.{literal_number};
 use crate::adders::{add, sum_bits};
 use crate::division::has_bit_from;
 use crate::fault::GateFault;
-use crate::literals::{conjunction, disjunction};
+use crate::literals::disjunction;
 use crate::maker::{Bits, Gates};
 use aiger::Lit;
 use base::Binary;
@@ -25,7 +25,7 @@ pub(crate) fn masked<G: Gates>(g: &mut G, a: &Bits, lit: Lit) -> Result<Bits, Ga
 {
     let mut bits = Bits::new();
     for i in 0..a.len() {
-        bits.push(conjunction(g, a[i], lit)?);
+        bits.push(g.and(a[i], lit)?);
     }
     Ok(bits)
 }
@@ -122,7 +122,7 @@ fn with_whole_row<G: Gates>(
     let row = masked(g, &raised(a, place), lit)?;
     let sum = add(g, &so_far.bits, &row, Lit::FALSE)?;
     let above = has_bit_from(g, a, a.len() - place)?;
-    let cut = conjunction(g, above, lit)?;
+    let cut = g.and(above, lit)?;
     let more = disjunction(g, cut, sum.out)?;
     let lost = disjunction(g, so_far.lost, more)?;
     Ok(Product {

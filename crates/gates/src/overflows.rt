@@ -15,7 +15,7 @@ use crate::bit_lists::{negation, one_bit};
 use crate::bitwise::{Connective, connect_bits};
 use crate::comparisons::{less, less_column, top_negated};
 use crate::fault::GateFault;
-use crate::literals::{conjunction, disjunction, xor};
+use crate::literals::{disjunction, xor};
 use crate::maker::{Bits, Gates};
 use crate::multiplication::{Product, whole_product};
 use crate::sizes::size;
@@ -142,7 +142,7 @@ fn sdivo<G: Gates>(g: &mut G, a: &Bits, b: &Bits) -> Result<Lit, GateFault>
     let as_least = top_negated(&negation(a));
     let is_least = connect_bits(g, Connective::And, as_least.as_slice())?;
     let is_minus_one = connect_bits(g, Connective::And, b.as_slice())?;
-    conjunction(g, is_least, is_minus_one)
+    g.and(is_least, is_minus_one)
 }
 
 /// Whether the product of words as whole numbers is no word.
@@ -180,7 +180,7 @@ fn size_overflow<G: Gates>(g: &mut G, negative: Lit, size: &Bits) -> Result<Lit,
     let top = size.len() - 1;
     let below = connect_bits(g, Connective::Or, &size.as_slice()[..top])?;
     let other = disjunction(g, below, negative.not())?;
-    conjunction(g, size[top], other)
+    g.and(size[top], other)
 }
 
 /// Whether the product of signed numbers is none of the width, by the product of their sizes.

@@ -13,7 +13,7 @@ use crate::adders::add_bits;
 use crate::bitwise::{Connective, connect_bits};
 use crate::division::{Divided, divide};
 use crate::fault::GateFault;
-use crate::literals::{conjunction, xor};
+use crate::literals::xor;
 use crate::maker::{Bits, Gates};
 use crate::multiplication::masked;
 use crate::sizes::{negated_where, size};
@@ -78,7 +78,7 @@ fn is_rounded_down<G: Gates>(
 {
     let some = connect_bits(g, Connective::Or, rest.as_slice())?;
     let other = xor(g, dividend_sign, divisor_sign)?;
-    conjunction(g, some, other)
+    g.and(some, other)
 }
 
 /// The bits of a word, and of its sum with another where a literal is true.

@@ -7,7 +7,7 @@ ghost use Rattle.aiger.specs.Net.{IsDefined};
 ghost use Rattle.gates.specs.Made.{MakesWord, Refuses, word_value};
 
 use crate::fault::GateFault;
-use crate::literals::{conjunction, disjunction, xor};
+use crate::literals::{disjunction, xor};
 use crate::maker::{Bits, Gates};
 use aiger::Lit;
 use base::Unary;
@@ -29,7 +29,7 @@ pub(crate) fn negated_where<G: Gates>(g: &mut G, negative: Lit, a: &Bits) -> Res
         let lit = a[i];
         bits.push(xor(g, lit, flips)?);
         let some = disjunction(g, lit, flips)?;
-        flips = conjunction(g, negative, some)?;
+        flips = g.and(negative, some)?;
     }
     Ok(bits)
 }

@@ -369,7 +369,7 @@ fn xor_gates(alloc: Global, a: Lit, b: Lit) -> Option<usize>
     requires left { a < 386 }
     requires right { b < 386 }
 {
-    let mut g = PlainGates::new(alloc, INPUTS, 0).ok()?;
+    let mut g = HashGates::new(alloc, INPUTS, 0).ok()?;
     xor(&mut g, a, b).ok()?;
     Some(g.finish().gates().len())
 }
@@ -380,28 +380,28 @@ fn mux_gates(alloc: Global, c: Lit, t: Lit, e: Lit) -> Option<usize>
     requires then { t < 386 }
     requires otherwise { e < 386 }
 {
-    let mut g = PlainGates::new(alloc, INPUTS, 0).ok()?;
+    let mut g = HashGates::new(alloc, INPUTS, 0).ok()?;
     mux(&mut g, c, t, e).ok()?;
     Some(g.finish().gates().len())
 }
 
 /// How many gates the test for equality of two words of two bits takes.
 fn equal_gates(alloc: Global) -> Option<usize> {
-    let mut g = PlainGates::new(alloc, INPUTS, 0).ok()?;
+    let mut g = HashGates::new(alloc, INPUTS, 0).ok()?;
     equal(&mut g, &inputs(0, 2), &inputs(64, 2)).ok()?;
     Some(g.finish().gates().len())
 }
 
 /// How many gates a shift of a word of two bits takes.
 fn shift_gates(alloc: Global) -> Option<usize> {
-    let mut g = PlainGates::new(alloc, INPUTS, 0).ok()?;
+    let mut g = HashGates::new(alloc, INPUTS, 0).ok()?;
     shift(&mut g, Binary::Sll, &inputs(0, 2), &inputs(64, 2)).ok()?;
     Some(g.finish().gates().len())
 }
 
 /// How many gates a rotation of a word of two bits takes.
 fn rotation_gates(alloc: Global) -> Option<usize> {
-    let mut g = PlainGates::new(alloc, INPUTS, 0).ok()?;
+    let mut g = HashGates::new(alloc, INPUTS, 0).ok()?;
     rotate(&mut g, Binary::Rol, &inputs(0, 2), &inputs(64, 2)).ok()?;
     Some(g.finish().gates().len())
 }

@@ -28,7 +28,7 @@ returns-in_err-above-clause-refused g c =
 pub returns-in_err-bit-clause-refused : goal.returns-in_err-bit-clause-refused
 returns-in_err-bit-clause-refused g c =
     let n = length c.args.b.now.items in
-    let refused : Refuses (g.G.Gates.made c.args.g.now) (g.G.Gates.made c.conjunction.new.g) (12 * n + 9) c.in_err-bit.field-0.0 =
+    let refused : Refuses (g.G.Gates.made c.args.g.now) (g.G.Gates.made c.and.new.self) (12 * n + 9) c.in_err-bit.field-0.0 =
     Refuses-behind _ _ _ _ _ (12 * n + 9) _ (omega (arith, c.len-width.ensures.value, c.requires.inside)) (Grows-trans _ _ _ _ _ c.in_ok-reduced.ensures.ok.grows c.in_ok-above.ensures.ok.grows) c.in_err-bit.ensures.refused
     in search rules
 
@@ -55,11 +55,11 @@ difference-requires g c =
 pub has_bit_from-requires-clause-defined : goal.has_bit_from-requires-clause-defined
 has_bit_from-requires-clause-defined g c = All-defined-grown _ _ _ c.in_ok-reduced.ensures.ok.grows _ c.requires.right
 
-pub conjunction-requires-clause-left : goal.conjunction-requires-clause-left
-conjunction-requires-clause-left g c = IsDefined-grown _ _ _ c.in_ok-above.ensures.ok.grows _ c.in_ok-reduced.ensures.ok.out_defined
+pub and-requires-clause-left : goal.and-requires-clause-left
+and-requires-clause-left g c = IsDefined-grown _ _ _ c.in_ok-above.ensures.ok.grows _ c.in_ok-reduced.ensures.ok.out_defined
 
-pub conjunction-requires-clause-right : goal.conjunction-requires-clause-right
-conjunction-requires-clause-right g c = IsDefined-not _ c.in_ok-above.above _ c.not.ensures c.in_ok-above.ensures.ok.defined
+pub and-requires-clause-right : goal.and-requires-clause-right
+and-requires-clause-right g c = IsDefined-not _ c.in_ok-above.above _ c.not.ensures c.in_ok-above.ensures.ok.defined
 
 pub left_over-requires-clause-most : goal.left_over-requires-clause-most
 left_over-requires-clause-most g c = omega (arith, c.in_ok-reduced.ensures.ok.wide, c.requires.inside, c.requires.most)

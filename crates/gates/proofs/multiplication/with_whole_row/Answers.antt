@@ -21,7 +21,7 @@ returns-in_err-above-clause-refused g c =
 
 pub returns-in_err-cut-clause-refused : goal.returns-in_err-cut-clause-refused
 returns-in_err-cut-clause-refused g c =
-    let refused : Refuses (g.G.Gates.made c.args.g.now) (g.G.Gates.made c.conjunction.new.g) (12 * length c.args.a.now.items) c.in_err-cut.field-0.0 =
+    let refused : Refuses (g.G.Gates.made c.args.g.now) (g.G.Gates.made c.and.new.self) (12 * length c.args.a.now.items) c.in_err-cut.field-0.0 =
     Refuses-behind _ _ _ _ _ (12 * length c.args.a.now.items) _ (omega (arith, c.raised.ensures.wide, c.requires.operands.equal, c.requires.inside, c.requires.some, c.len.ensures.value))
     (Grows-trans _ _ _ _ _ c.in_ok-row.ensures.ok.grows (Grows-trans _ _ _ _ _ c.in_ok-sum.ensures.ok.grows c.in_ok-above.ensures.ok.grows)) c.in_err-cut.ensures.refused
     in search rules
@@ -83,11 +83,11 @@ pub has_bit_from-requires-clause-defined : goal.has_bit_from-requires-clause-def
 has_bit_from-requires-clause-defined g c =
     All-defined-grown _ _ _ (Grows-trans _ _ _ _ _ c.in_ok-row.ensures.ok.grows c.in_ok-sum.ensures.ok.grows) _ c.requires.operands.left
 
-pub conjunction-requires-clause-left : goal.conjunction-requires-clause-left
-conjunction-requires-clause-left g c = c.in_ok-above.ensures.ok.defined
+pub and-requires-clause-left : goal.and-requires-clause-left
+and-requires-clause-left g c = c.in_ok-above.ensures.ok.defined
 
-pub conjunction-requires-clause-right : goal.conjunction-requires-clause-right
-conjunction-requires-clause-right g c =
+pub and-requires-clause-right : goal.and-requires-clause-right
+and-requires-clause-right g c =
     IsDefined-grown _ _ _ (Grows-trans _ _ _ _ _ c.in_ok-row.ensures.ok.grows (Grows-trans _ _ _ _ _ c.in_ok-sum.ensures.ok.grows c.in_ok-above.ensures.ok.grows)) _ c.requires.literal
 
 pub disjunction-requires-clause-left : goal.disjunction-requires-clause-left

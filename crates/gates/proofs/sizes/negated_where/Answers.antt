@@ -26,7 +26,7 @@ returns-in_err-some-clause-refused g c =
 pub returns-in_err-flips-clause-refused : goal.returns-in_err-flips-clause-refused
 returns-in_err-flips-clause-refused g c =
     let n = length c.args.a.now.items in
-    let refused : Refuses (g.G.Gates.made c.args.g.now) (g.G.Gates.made c.conjunction.new.g) (12 * n) c.in_err-flips.field-0.0 =
+    let refused : Refuses (g.G.Gates.made c.args.g.now) (g.G.Gates.made c.and.new.self) (12 * n) c.in_err-flips.field-0.0 =
     Refuses-behind _ _ _ _ _ (12 * n) _ (omega arith) (Grows-trans _ _ _ _ _ c.loop-i.invariant.word.grows (Grows-trans _ _ _ _ _ c.in_ok-xor.ensures.ok.grows c.in_ok-some.ensures.ok.grows)) c.in_err-flips.ensures.refused
     in search rules
 
@@ -47,12 +47,12 @@ disjunction-requires-clause-left g c =
 pub disjunction-requires-clause-right : goal.disjunction-requires-clause-right
 disjunction-requires-clause-right g c = IsDefined-grown _ _ _ c.in_ok-xor.ensures.ok.grows _ c.loop-i.invariant.above.defined
 
-pub conjunction-requires-clause-left : goal.conjunction-requires-clause-left
-conjunction-requires-clause-left g c =
+pub and-requires-clause-left : goal.and-requires-clause-left
+and-requires-clause-left g c =
     IsDefined-grown _ _ _ (Grows-trans _ _ _ _ _ c.loop-i.invariant.word.grows (Grows-trans _ _ _ _ _ c.in_ok-xor.ensures.ok.grows c.in_ok-some.ensures.ok.grows)) _ c.requires.literal
 
-pub conjunction-requires-clause-right : goal.conjunction-requires-clause-right
-conjunction-requires-clause-right g c = c.in_ok-some.ensures.ok.defined
+pub and-requires-clause-right : goal.and-requires-clause-right
+and-requires-clause-right g c = c.in_ok-some.ensures.ok.defined
 
 pub returns-in_err-xor-clause-refused : goal.returns-in_err-xor-clause-refused
 returns-in_err-xor-clause-refused g c =
