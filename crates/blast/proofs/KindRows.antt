@@ -3,17 +3,17 @@ use Rattle.std.proofs.Common.{◌≡◌, ℕ, zero, suc, ◌<◌, Bool, true, fa
 use Rattle.std.proofs.lemmas.Option.{slice_get_within, none-some, same_Some}
 use Rattle.btor2.specs.declared.item.Item.{Item}
 use Rattle.btor2.specs.declared.item.Body.{Body}
-use Rattle.btor2.specs.Items.{find_item, position_of, width_of_body, node_width, is_state, constant_of_body, constant_of, init_value, next_value, is_free, is_free_state, is_carried_state}
+use Rattle.btor2.specs.Items.{find_item, position_of, width_of_body, node_width, is_state, init_value, next_value, is_free, is_free_state, is_carried_state}
 use Rattle.btor2.specs.Check.{IsWellFormed}
 use Rattle.btor2.specs.Lists.{places, init_place, next_place, is_free_at, has_init_without_next, first_init_without_next, constant_at}
-use Rattle.btor2.proofs.LookUps.{found}
+use Rattle.btor2.proofs.LookUps.{found, init_some, init_none}
 use Rattle.btor2.proofs.AppendLemmas.{then_parts, some_of}
 use Rattle.btor2.proofs.ModelLemmas.{IsIn-from_find, IsNextOf-from_value}
 use Rattle.aiger.specs.Net.{Net}
 use Rattle.blast.specs.Reads.{ReadsWord, RowReads, RowsRead}
-use Rattle.blast.specs.Rows.{row_at, init_word}
+use Rattle.blast.specs.Leaves.{init_word}
+use Rattle.blast.specs.Rows.{row_at}
 use Rattle.blast.proofs.KindBlocks.{slice_get-behind}
-use Rattle.btor2.proofs.LookUps.{position_found, place_below}
 
 -- a found item has a place
 place_of : (items : List Item) (id : ℕ) (x : Item) (o : Option ℕ) → MatchOption o (find_item items id ≡ None) (λ k. slice_get items k ≡ find_item items id) → find_item items id ≡ Some x
@@ -67,10 +67,6 @@ next_place-at items place x at = ap (λ (o : Option Item). option_and_then (posi
 pub init_place-at : (items : List Item) (place : ℕ) (x : Item) → slice_get items place ≡ Some x → init_place items place ≡ option_and_then (position_of items) (init_value items x.id)
 init_place-at items place x at = ap (λ (o : Option Item). option_and_then (position_of items) (option_and_then (init_value items) (option_and_then (λ (y : Item). Some y.id) o))) at
 
-position_none : (items : List Item) (id : ℕ) (o : Option ℕ) → MatchOption o (find_item items id ≡ None) (λ k. slice_get items k ≡ find_item items id) → o ≡ None → find_item items id ≡ None
-position_none items id None h e = h
-position_none items id (Some k) h e = absurd (none-some k (sym e))
-
 -- a next line's node has a place
 pub next_there : (items : List Item) (id : ℕ) → IsWellFormed items → is_some (next_value items id) ≡ true
     → (place : ℕ) × (option_and_then (position_of items) (next_value items id) ≡ Some place) × (place < length items)
@@ -80,27 +76,15 @@ next_there items id h some =
     let node = node_place items next.0 line.width line.of_value in
     (node.0, ap (option_and_then (position_of items)) next.1 ∙ node.2, slice_get_within items node.0 node.1 node.3)
 
--- the constant at the place of an id is that of the id
-constant_by : (items : List Item) (o : Option ℕ) (place : ℕ) → option_and_then (position_of items) o ≡ Some place → (constant_at items place ≡ option_and_then (constant_of items) o) × (place < length items)
-constant_by items None place e = absurd (none-some place e)
-constant_by items (Some v) place e =
-    let at : slice_get items place ≡ find_item items v = position_found items v place e in
-    (ap (option_and_then (λ (x : Item). constant_of_body items x.body)) at, place_below items v place e)
-
-no_constant : (items : List Item) (o : Option ℕ) → option_and_then (position_of items) o ≡ None → None ≡ option_and_then (constant_of items) o
-no_constant items None e = refl
-no_constant items (Some v) e =
-    sym (ap (option_and_then (λ (x : Item). constant_of_body items x.body)) (position_none items v (position_of items v) (found v items) e))
-
 -- what an init line says, by its place
 pub init_word-at : (items : List Item) (id place : ℕ) → Some place ≡ option_and_then (position_of items) (init_value items id) → constant_at items place ≡ init_word items id
-init_word-at items id place e = (constant_by items (init_value items id) place (sym e)).0
+init_word-at items id place e = (init_some items (init_value items id) place (sym e)).0
 
 pub init_word-within : (items : List Item) (id place : ℕ) → Some place ≡ option_and_then (position_of items) (init_value items id) → place < length items
-init_word-within items id place e = (constant_by items (init_value items id) place (sym e)).1
+init_word-within items id place e = (init_some items (init_value items id) place (sym e)).1
 
 pub init_word-none : (items : List Item) (id : ℕ) → None ≡ option_and_then (position_of items) (init_value items id) → None ≡ init_word items id
-init_word-none items id e = no_constant items (init_value items id) (sym e)
+init_word-none items id e = sym (init_none items (init_value items id) (sym e))
 
 -- an item at a place of a kind is of the kind
 kind_first : (kind : Body → Bool) (items : List Item) (y : Item) (ps : List ℕ) (n k : ℕ) (x : Item) → kind y.body ≡ true → slice_get items n ≡ Some y

@@ -20,9 +20,9 @@ use Rattle.aiger.specs.Net.{Net, IsDefined}
 use Rattle.aiger.specs.Circuit.{Circuit, net, with_latch, fresh_latch}
 use Rattle.blast.specs.Blocks.{block, blocks, written}
 use Rattle.blast.specs.Cost.{kind_width, carried_width}
-use Rattle.blast.specs.Leaves.{by_body, of_kind, reset_of_bit, resets_of_word, leaf_resets, leaf_bits}
+use Rattle.blast.specs.Leaves.{by_body, of_kind, reset_of_bit, resets_of_word, init_word, leaf_resets, leaf_bits}
 use Rattle.blast.specs.Reads.{ReadsWord, RowsRead, LatchesRead}
-use Rattle.blast.specs.Rows.{row_at, init_word, reset_at, row_latches, state_latches, item_latches}
+use Rattle.blast.specs.Rows.{row_at, reset_at, row_latches, state_latches, item_latches}
 use Rattle.blast.proofs.KindBlocks.{written-nil, written-more, length-written, blocks-of_kind, of_kind-within, so_far, reached, so_far-none, so_far-all, so_far-room, so_far-more, reached-more}
 use Rattle.blast.proofs.KindRows.{row_at-reads, carried_parts, head_next, tail_next}
 

@@ -1,12 +1,12 @@
 -- The parts of a lowering, put together.
-use Rattle.std.proofs.Common.{◌≡◌, ℕ, ◌+◌, ◌≤◌, Bool, true, false, List, [], ◌∷◌, ◌++◌, length, replicate, nat_lt, Option, Some, None, is_some, if◌then◌else◌, option_and_then, ◌&&◌, refl, sym, ap, ◌∙◌, subst, arith, length-append}
+use Rattle.std.proofs.Common.{◌≡◌, ℕ, ◌+◌, ◌≤◌, Bool, true, false, List, [], ◌∷◌, ◌++◌, length, replicate, nat_lt, Option, Some, None, is_some, if◌then◌else◌, ◌&&◌, refl, sym, ap, ◌∙◌, subst, arith, length-append}
 use Rattle.std.proofs.lemmas.List.{length-map, length-replicate}
 use Rattle.std.specs.Option.{option_or}
 use Rattle.std.proofs.lemmas.List.Sums.{sum_by-cons}
 use Rattle.std.proofs.lemmas.Bool.Decides.{nat_tests}
 use Rattle.base.proofs.BitLemmas.{length-bits}
 use Rattle.btor2.specs.declared.item.Item.{Item}
-use Rattle.btor2.specs.Items.{is_state, is_free, is_carried_state, find_item, names_state, next_value, constant_of, init_value}
+use Rattle.btor2.specs.Items.{is_state, is_free, is_carried_state, find_item, names_state, next_value}
 use Rattle.btor2.specs.Check.{IsWellFormed}
 use Rattle.btor2.specs.Trace.{bits_of}
 use Rattle.btor2.proofs.ModelLemmas.{IsIn-from_find}
@@ -18,7 +18,7 @@ use Rattle.aiger.specs.Circuit.{Circuit, IsCircuit, net, fresh_latch}
 use Rattle.gates.specs.Made.{gates_only}
 use Rattle.blast.specs.declared.fault.LowerFault.TheVariants as fault
 use Rattle.blast.specs.Cost.{bound, kind_width, given_width, carried_width}
-use Rattle.blast.specs.Leaves.{of_kind, leaf_resets, resets_of_word, reset_of_bit}
+use Rattle.blast.specs.Leaves.{of_kind, init_word, leaf_resets, resets_of_word, reset_of_bit}
 use Rattle.blast.specs.Lowering.{Lowers}
 use Rattle.blast.specs.Properties.{TakesProperties}
 use Rattle.blast.specs.Sections.{TakesNames}
@@ -106,7 +106,7 @@ length-state_resets items (x ∷ xs) =
   where
     by_kind : (b : Bool) → length (of_kind (is_carried_state items) (leaf_resets items) xs) ≡ kind_width items (is_carried_state items) xs
         → length ((if b then leaf_resets items x else []) ++ of_kind (is_carried_state items) (leaf_resets items) xs) ≡ (if b then bits_of items x.id else 0) + kind_width items (is_carried_state items) xs
-    by_kind true rest = length-append (leaf_resets items x) (of_kind (is_carried_state items) (leaf_resets items) xs) ∙ rw (length-resets (bits_of items x.id) (option_and_then (constant_of items) (init_value items x.id)), rest) refl
+    by_kind true rest = length-append (leaf_resets items x) (of_kind (is_carried_state items) (leaf_resets items) xs) ∙ rw (length-resets (bits_of items x.id) (init_word items x.id), rest) refl
     by_kind false rest = rest ∙ omega arith
 
 -- latches that read as the states are as many as the bits that are carried

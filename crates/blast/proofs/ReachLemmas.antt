@@ -26,7 +26,7 @@ use Rattle.aiger.specs.Net.{bits_from}
 use Rattle.aiger.specs.Circuit.{Circuit}
 use Rattle.aiger.specs.Trace.{AgreesWithReset, AreInitial, IsTrace as IsCircuitTrace, next_state as next_bits}
 use Rattle.blast.specs.Cost.{kind_width, input_width, given_width, carried_width}
-use Rattle.blast.specs.Leaves.{by_body, of_kind, leaf_bits, leaf_resets, resets_of_word, reset_of_bit, input_bits, state_bits, state_resets}
+use Rattle.blast.specs.Leaves.{by_body, of_kind, leaf_bits, init_word, leaf_resets, resets_of_word, reset_of_bit, input_bits, state_bits, state_resets}
 use Rattle.blast.specs.Lowering.{Lowers, ShowSame}
 use Rattle.blast.proofs.KindRows.{free_parts}
 use Rattle.blast.proofs.NodeLemmas.{length-leaves}
@@ -102,10 +102,6 @@ bits_same [] [] h = refl
 bits_same [] (c ∷ cs) h = absurd h
 bits_same (b ∷ bs) [] h = absurd h
 bits_same (b ∷ bs) (c ∷ cs) h = ap₂ ◌∷◌ (bit_same b c h.0) (bits_same bs cs h.1)
-
--- the word that an init line gives a state
-abbrev init_word : List Item → ℕ → Option ℕ
-init_word items id = option_and_then (constant_of items) (init_value items id)
 
 word_agrees : (w x : ℕ) (o : Option ℕ) → ((k : ℕ) → o ≡ Some k → k ≡ x) → Agree (resets_of_word w o) (bits w x)
 word_agrees w x None h = free_agree w x

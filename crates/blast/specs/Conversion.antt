@@ -1,6 +1,6 @@
 -- What a conversion from a model's text to a circuit's text answers, and what it has written then.
-use Rattle.std.specs.Prelude.{◌≡◌, ℕ, List, Option, Some, IfSome, Result, Ok, Err, ◌⊎◌}
-use Rattle.std.specs.Io.KnownBytes.{Appends}
+use Rattle.std.specs.Prelude.{◌≡◌, ℕ, List, Option, Some, None, IfSome, Result, Ok, Err, ◌⊎◌}
+use Rattle.std.specs.Io.KnownBytes.{Appends, IsAtEnd}
 use Rattle.base.specs.Device.{AppendsBeginning, HasRisen}
 use Rattle.btor2.specs.declared.item.Item.{Item}
 use Rattle.btor2.specs.Check.{IsWellFormed}
@@ -22,19 +22,21 @@ use Rattle.blast.specs.Refusal.{AnswersLowering, lowering_refusal}
 abbrev pub IsTextOf : Option (List ℕ) → List Item → Type 0
 IsTextOf known items = IfSome known (λ text. StandsFor text items)
 
--- all that was to come is a text of some model, and what was written is the text of a circuit that lowers it
+-- all that was to come is a text of some model that nothing speaks against, and what was written is the text of a circuit that lowers it
 pub record Converts (known written now : Option (List ℕ)) (form : Form) : Type 0 where
   pub items : List Item
   pub circuit : Circuit
   pub text : IsTextOf known items
+  pub accepted : lowering_refusal items ≡ None
   pub lowers : Lowers items circuit
   pub appends : Appends written now (circuit_text form circuit)
 
--- all that was to come is a text of some model, and only a beginning of the text of a circuit that lowers it was written
+-- all that was to come is a text of some model that nothing speaks against, and only a beginning of the text of a circuit that lowers it was written
 pub record BeginsToConvert (known written now : Option (List ℕ)) (form : Form) : Type 0 where
   pub items : List Item
   pub circuit : Circuit
   pub text : IsTextOf known items
+  pub accepted : lowering_refusal items ≡ None
   pub lowers : Lowers items circuit
   pub appends : AppendsBeginning written now (circuit_text form circuit)
 
@@ -55,6 +57,16 @@ AnswersConversion known written now form (Ok u) = Converts known written now for
 AnswersConversion known written now form (Err (fault.Read e)) = RefusesText known e
 AnswersConversion known written now form (Err (fault.Lower e)) = RefusesModel known e
 AnswersConversion known written now form (Err (fault.Write e)) = BeginsToConvert known written now form
+
+-- the fault is of what stands behind the reading, the lowering or the write: a model that was read is never told as unread
+abbrev pub IsBehindReading : ConvertFault → Type 0
+IsBehindReading (fault.Read e) = ⊥
+IsBehindReading _ = Unit {0}
+
+-- the source was read to its end, unless reading it ended for the device or for memory. `now` is the bytes to come then
+abbrev pub ReadsToEnd : Result (Unit {0}) ConvertFault → Option (List ℕ) → Type 0
+ReadsToEnd (Err (fault.Read e)) now = ¬ (e.why ≡ why.Device) → ¬ (e.why ≡ why.NoMemory) → IsAtEnd now
+ReadsToEnd _ now = IsAtEnd now
 
 -- a fault of reading is that of the first faulty line, by its first why, unless the device failed or memory was wanting
 abbrev pub TellsFirstFault : Option (List ℕ) → ConvertFault → Type 0

@@ -75,9 +75,13 @@ abbrev pub resets_of_word : ℕ → Option ℕ → List Reset
 resets_of_word width None = replicate width reset.Free
 resets_of_word width (Some x) = map reset_of_bit (bits width x)
 
--- how the latches of one state of a model begin: its init line names a constant, whose word they take
+-- the word that a state of a model begins with, where it has an init line: that of the constant that the line names
+abbrev pub init_word : List Item → ℕ → Option ℕ
+init_word items id = option_and_then (constant_of items) (init_value items id)
+
+-- how the latches of one state of a model begin: with the bits of its word
 abbrev pub leaf_resets : List Item → Item → List Reset
-leaf_resets items x = resets_of_word (bits_of items x.id) (option_and_then (constant_of items) (init_value items x.id))
+leaf_resets items x = resets_of_word (bits_of items x.id) (init_word items x.id)
 
 -- how the latches begin: those of all states that are not free
 abbrev pub state_resets : List Item → List Reset

@@ -2,11 +2,11 @@
 use Rattle.std.specs.Prelude.{ℕ, suc, Bool, true, false, List, [], ◌∷◌, ◌==◌, Option, Some, None, if◌then◌else◌, option_and_then, unwrap_or, map, slice_get}
 use Rattle.base.specs.Word.{bit, bits}
 use Rattle.btor2.specs.declared.item.Item.{Item}
-use Rattle.btor2.specs.Items.{position_of, constant_of, init_value, next_value, is_carried_state}
+use Rattle.btor2.specs.Items.{position_of, next_value, is_carried_state}
 use Rattle.aiger.specs.declared.circuit.Latch.{Latch}
 use Rattle.aiger.specs.declared.circuit.Reset.{Reset}
 use Rattle.aiger.specs.declared.circuit.Reset.TheVariants as reset
-use Rattle.blast.specs.Leaves.{reset_of_bit}
+use Rattle.blast.specs.Leaves.{reset_of_bit, init_word}
 
 -- the row of the node that an id may name, and none of no node
 unfoldable pub row_at : List Item → List (List ℕ) → Option ℕ → List ℕ
@@ -21,10 +21,6 @@ bit_literal false = 0
 abbrev pub word_literals : ℕ → Option ℕ → List ℕ
 word_literals width None = []
 word_literals width (Some x) = map bit_literal (bits width x)
-
--- the word of a state's init line
-abbrev pub init_word : List Item → ℕ → Option ℕ
-init_word items id = option_and_then (constant_of items) (init_value items id)
 
 -- how a bit of a state begins
 abbrev pub reset_at : Option ℕ → ℕ → Reset

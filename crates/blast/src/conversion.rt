@@ -1,10 +1,9 @@
 //! From a model's text to a circuit's text.
-ghost use Rattle.std.specs.Prelude.{◌≡◌, ℕ, ◌≤◌, List, Option, IfErr, OnOk};
-ghost use Rattle.std.specs.Io.KnownBytes.{IsAtEnd};
+ghost use Rattle.std.specs.Prelude.{◌≡◌, ℕ, List, Option, IfErr};
 ghost use Rattle.base.specs.Device.{HasRisen};
 ghost use Rattle.btor2text.specs.declared.fault.Why.TheVariants as why;
 ghost use Rattle.blast.specs.declared.fault.ConvertFault.TheVariants as fault;
-ghost use Rattle.blast.specs.Conversion.{IsTextOf, AnswersConversion, TellsFirstFault, HasNoLine, IsBeforeWriting, RaisesFailures};
+ghost use Rattle.blast.specs.Conversion.{IsTextOf, AnswersConversion, IsBehindReading, ReadsToEnd, TellsFirstFault, HasNoLine, IsBeforeWriting, RaisesFailures};
 
 use crate::fault::ConvertFault;
 use crate::lowering::lower;
@@ -27,7 +26,7 @@ pub fn convert<S: Source, K: Sink>(
     ensures answer { AnswersConversion (S.to_come source.old) (K.written sink.old) (K.written sink.new) form result }
     ensures fault { IfErr result (TellsFirstFault (S.to_come source.old)) }
     ensures place { IfErr result HasNoLine }
-    ensures end { OnOk result (IsAtEnd (S.to_come source.new)) }
+    ensures end { ReadsToEnd result (S.to_come source.new) }
     ensures unwritten { IfErr result (λ e. IsBeforeWriting e → sink.new ≡ sink.old) }
     ensures device { RaisesFailures result (S.failures source.old) (S.failures source.new) (K.failures sink.old) (K.failures sink.new) }
 {
@@ -45,8 +44,7 @@ fn convert_model<K: Sink>(
     form: Form,
 ) -> Result<(), ConvertFault>
     ensures answer { (known : Option (List ℕ)) → IsTextOf known model.now → AnswersConversion known (K.written sink.old) (K.written sink.new) form result }
-    ensures fault { (known : Option (List ℕ)) → IfErr result (TellsFirstFault known) }
-    ensures place { IfErr result HasNoLine }
+    ensures behind { IfErr result IsBehindReading }
     ensures unwritten { IfErr result (λ e. IsBeforeWriting e → sink.new ≡ sink.old) }
     ensures device { (failures : ℕ) → RaisesFailures result failures failures (K.failures sink.old) (K.failures sink.new) }
 {

@@ -9,7 +9,8 @@ ghost use Rattle.aiger.specs.Circuit.{net, with_latch, fresh_latch};
 ghost use Rattle.blast.specs.Blocks.{written};
 ghost use Rattle.blast.specs.Cost.{carried_width};
 ghost use Rattle.blast.specs.Reads.{RowsRead, LatchesRead};
-ghost use Rattle.blast.specs.Rows.{row_at, init_word, reset_at, row_latches, state_latches, item_latches};
+ghost use Rattle.blast.specs.Leaves.{init_word};
+ghost use Rattle.blast.specs.Rows.{row_at, reset_at, row_latches, state_latches, item_latches};
 
 use crate::items::item_at;
 use crate::table::Table;

@@ -1,5 +1,5 @@
 //! The rows of literals of all nodes, in file order.
-ghost use Rattle.std.specs.Prelude.{◌≡◌, ℕ, ◌+◌, ◌*◌, ◌^◌, ◌<◌, ◌≤◌, List, true, is_some, map, length, Some, slice_get, take, IfOk, OnOk, IfErr, if◌then◌else◌, IfSome};
+ghost use Rattle.std.specs.Prelude.{◌≡◌, ℕ, ◌+◌, ◌*◌, ◌^◌, ◌<◌, ◌≤◌, List, true, is_some, map, length, Some, slice_get, take, IfOk, OnOk, IfErr, if◌then◌else◌};
 ghost use Rattle.std.specs.List.{range_with_len};
 ghost use Rattle.base.specs.Operator.{unary_value, binary_value, ite_value};
 ghost use Rattle.base.specs.Widths.{is_of_bits, unary_width, binary_width};
@@ -11,10 +11,10 @@ ghost use Rattle.aiger.specs.Net.{variables};
 ghost use Rattle.gates.specs.Bound.{unary_bound, binary_bound, ite_bound};
 ghost use Rattle.blast.specs.Cost.{bound, input_width, given_width};
 ghost use Rattle.blast.specs.Reads.{LowersNodes, leaves_only};
-ghost use Rattle.blast.specs.Table.{MakesNode, MakesRow, row_of, IsOperand, next_leaf, next_after, LowersFront};
+ghost use Rattle.blast.specs.Table.{MakesNode, MakesRow, IsOperand, next_leaf, next_after, LowersFront};
 
 use crate::items::{bit_count, node_row};
-use crate::placed::{concat_row, constant_row, copy_bits, sext_row, slice_row, uext_row};
+use crate::placed::{concat_row, constant_row, sext_row, slice_row, uext_row};
 use crate::table::Table;
 use crate::widths::{given_width, input_width};
 use aiger::Lit;
@@ -74,15 +74,6 @@ fn next_bits(next: &mut u64, width: u64) -> Bits
     bits
 }
 
-/// The row of the node with an id, copied.
-fn operand_bits(model: &Model, table: &Table, id: u32) -> Bits
-    requires there { is_some (row_of model.now table.now id) ≡ true }
-    requires few { IfSome (row_of model.now table.now id) (λ row. length row ≤ 64) }
-    ensures { row_of model.now table.now id ≡ Some result.items }
-{
-    copy_bits(node_row(model, table, id))
-}
-
 /// The row of a line of one operand.
 fn unary_row<G: Gates>(
     model: &Model,
@@ -97,8 +88,8 @@ fn unary_row<G: Gates>(
     ensures ok { IfOk result (λ bits. let n = bits_of model.now operand in MakesNode model.now (G.made gates.old) (G.made gates.new) (unary_bound operator n) (unary_width operator n) (λ f. unary_value operator n (f operand)) bits.items) }
     ensures memory { IfErr result (λ e. e ≡ GateFault.NoMemory) }
 {
-    let a = operand_bits(model, table, operand);
-    unary_bits(gates, operator, &a)
+    let a = node_row(model, table, operand);
+    unary_bits(gates, operator, a)
 }
 
 /// The row of a line of two operands.
@@ -119,9 +110,9 @@ fn binary_row<G: Gates>(
     ensures ok { IfOk result (λ bits. let n = bits_of model.now left in MakesNode model.now (G.made gates.old) (G.made gates.new) (binary_bound operator n) (binary_width operator n) (λ f. binary_value operator n (f left) (f right)) bits.items) }
     ensures memory { IfErr result (λ e. e ≡ GateFault.NoMemory) }
 {
-    let a = operand_bits(model, table, left);
-    let b = operand_bits(model, table, right);
-    binary_bits(gates, operator, &a, &b)
+    let a = node_row(model, table, left);
+    let b = node_row(model, table, right);
+    binary_bits(gates, operator, a, b)
 }
 
 /// The row of a choice.
@@ -143,10 +134,10 @@ fn ite_row<G: Gates>(
     ensures ok { IfOk result (λ bits. let n = bits_of model.now first in MakesNode model.now (G.made gates.old) (G.made gates.new) (ite_bound n) n (λ f. ite_value (f condition) (f first) (f second)) bits.items) }
     ensures memory { IfErr result (λ e. e ≡ GateFault.NoMemory) }
 {
-    let c = operand_bits(model, table, condition);
-    let t = operand_bits(model, table, first);
-    let e = operand_bits(model, table, second);
-    ite_bits(gates, &c, &t, &e)
+    let c = node_row(model, table, condition);
+    let t = node_row(model, table, first);
+    let e = node_row(model, table, second);
+    ite_bits(gates, c, t, e)
 }
 
 /// The row of an input: its variables.

@@ -12,7 +12,7 @@ use btor2::{Item, Model};
 use gates::Bits;
 
 /// A row, copied.
-pub(crate) fn copy_bits(row: &[Lit]) -> Bits
+fn copy_bits(row: &[Lit]) -> Bits
     requires { length row.now ≤ 64 }
     ensures { result.items ≡ row.now }
 {

@@ -11,7 +11,7 @@ use Rattle.aiger.specs.declared.circuit.Gate.{Gate}
 use Rattle.aiger.specs.Net.{Net, variables}
 use Rattle.gates.specs.declared.chains.Walk.{Walk}
 use Rattle.gates.specs.declared.chains.Walk.TheVariants.{Found, Absent}
-use Rattle.gates.specs.Chains.{is_pair, walked, found_by, finds, AreFound}
+use Rattle.gates.specs.Chains.{is_pair, walked, found_by, chain, finds, AreFound}
 
 -- the place that a walk found
 abbrev place_of : Walk → Option ℕ
@@ -154,22 +154,19 @@ get_or-zero [] (suc i) = refl
 get_or-zero (x ∷ xs) zero = refl
 get_or-zero (x ∷ xs) (suc i) = get_or-zero xs i
 
-get_or-zeros : (xs : List ℕ) (i : ℕ) → get_or ((xs ++ 0 ∷ []) ++ 0 ∷ []) i 0 ≡ get_or xs i 0
-get_or-zeros xs i = get_or-zero (xs ++ 0 ∷ []) i ∙ get_or-zero xs i
-
 module _ (longest : ℕ) (n : Net) (last before : List ℕ) (beyond : Gate → Option ℕ) (found : AreFound longest n last before beyond) where
-  first_inside : (literal : ℕ) → get_or last literal 0 ≤ length n.gates
-  first_inside literal =
-      ⊎_elim (λ (h : literal < length last). found.firsts literal 0 h)
-      (λ (h : length last ≤ literal). let none = get_or_past last literal 0 h in omega (arith, none))
-      (cases_lt literal (length last))
+  first_inside : (v : ℕ) → get_or last v 0 ≤ length n.gates
+  first_inside v =
+      ⊎_elim (λ (h : v < length last). found.firsts v 0 h)
+      (λ (h : length last ≤ v). let none = get_or_past last v 0 h in omega (arith, none))
+      (cases_lt v (length last))
 
   -- what is found is the gate
   pub found_there : (pair : Gate) (place : ℕ) → finds longest n.gates last before beyond pair ≡ Found place → (place < length n.gates) × (get_or n.gates place pair ≡ pair)
-  found_there pair place is = by (walked n.gates before pair longest (get_or last pair.rhs0 0)) (beyond pair) refl refl is
+  found_there pair place is = by (walked n.gates before pair longest (get_or last (chain pair) 0)) (beyond pair) refl refl is
     where
-      by : (w : Walk) (o : Option ℕ) → walked n.gates before pair longest (get_or last pair.rhs0 0) ≡ w → beyond pair ≡ o → found_by w o ≡ Found place → (place < length n.gates) × (get_or n.gates place pair ≡ pair)
-      by (Found here) o walk map is = walked-found n.gates before found.places found.links pair longest (get_or last pair.rhs0 0) place (first_inside pair.rhs0) (walk ∙ is)
+      by : (w : Walk) (o : Option ℕ) → walked n.gates before pair longest (get_or last (chain pair) 0) ≡ w → beyond pair ≡ o → found_by w o ≡ Found place → (place < length n.gates) × (get_or n.gates place pair ≡ pair)
+      by (Found here) o walk map is = walked-found n.gates before found.places found.links pair longest (get_or last (chain pair) 0) place (first_inside (chain pair)) (walk ∙ is)
       by (Absent false) o walk map is = absurd (cc)
       by (Absent true) None walk map is = absurd (cc)
       by (Absent true) (Some here) walk map is = let same : here ≡ place = cc in found.map pair place (map ∙ ap Some same)
@@ -209,14 +206,14 @@ module _ (longest : ℕ) (n : Net) (last before : List ℕ) (beyond : Gate → O
   place-found pair (Absent is_full) is = sym (position-absent (is_pair pair) n.gates (no_gate pair (λ place there. absurd (cc))))
 
   -- a look-up in the maps of a net with a gate more, where the walk and the map say the same as before
-  finds-kept : (pair r : Gate) (last2 : List ℕ) (beyond2 : Gate → Option ℕ) (link : ℕ) → get_or last2 r.rhs0 0 ≡ get_or last r.rhs0 0 → beyond2 r ≡ beyond r
+  finds-kept : (pair r : Gate) (last2 : List ℕ) (beyond2 : Gate → Option ℕ) (link : ℕ) → get_or last2 (chain r) 0 ≡ get_or last (chain r) 0 → beyond2 r ≡ beyond r
       → finds longest (n.gates ++ pair ∷ []) last2 (before ++ link ∷ []) beyond2 r ≡ finds longest n.gates last before beyond r
   finds-kept pair r last2 beyond2 link first map =
-      let walk : walked (n.gates ++ pair ∷ []) (before ++ link ∷ []) r longest (get_or last2 r.rhs0 0) ≡ walked n.gates before r longest (get_or last r.rhs0 0) =
+      let walk : walked (n.gates ++ pair ∷ []) (before ++ link ∷ []) r longest (get_or last2 (chain r) 0) ≡ walked n.gates before r longest (get_or last (chain r) 0) =
       ap (walked (n.gates ++ pair ∷ []) (before ++ link ∷ []) r longest) first
-      ∙ walked-push n.gates before pair link found.places found.links r longest (get_or last r.rhs0 0) (first_inside r.rhs0)
+      ∙ walked-push n.gates before pair link found.places found.links r longest (get_or last (chain r) 0) (first_inside (chain r))
       in
-      ap (λ w. found_by w (beyond2 r)) walk ∙ ap (found_by (walked n.gates before r longest (get_or last r.rhs0 0))) map
+      ap (λ w. found_by w (beyond2 r)) walk ∙ ap (found_by (walked n.gates before r longest (get_or last (chain r) 0))) map
 
   -- a pair that is not found is not that of a gate
   other_pair : (pair r : Gate) (place : ℕ) → (finds longest n.gates last before beyond pair ≡ Found place → ⊥) → finds longest n.gates last before beyond r ≡ Found place → is_pair r pair ≡ false
@@ -230,18 +227,15 @@ module _ (longest : ℕ) (n : Net) (last before : List ℕ) (beyond : Gate → O
 longer : (n : Net) (pair : Gate) (entry : ℕ) → entry ≤ length n.gates → entry ≤ length (n.gates ++ pair ∷ [])
 longer n pair entry h = let pushed = length_push n.gates pair in omega arith
 
--- the literals of a net with a gate more
-two_more : (n : Net) (pair : Gate) (xs : List ℕ) → length xs ≡ 2 * (variables n + 1) → length ((xs ++ 0 ∷ []) ++ 0 ∷ []) ≡ 2 * (n.inputs + n.latches + length (n.gates ++ pair ∷ []) + 1)
-two_more n pair xs same =
+-- the variables of a net with a gate more
+one_more : (n : Net) (pair : Gate) (xs : List ℕ) → length xs ≡ variables n + 1 → length (xs ++ 0 ∷ []) ≡ n.inputs + n.latches + length (n.gates ++ pair ∷ []) + 1
+one_more n pair xs same =
     let first = length_push xs 0 in
-    let second = length_push (xs ++ 0 ∷ []) 0 in
     let pushed = length_push n.gates pair in
     omega arith
 
-zeros_within : (most : ℕ) (xs : List ℕ) → All (λ entry. entry ≤ most) xs → All (λ entry. entry ≤ most) ((xs ++ 0 ∷ []) ++ 0 ∷ [])
-zeros_within most xs all =
-    let none : 0 ≤ most = omega arith in
-    All-push (λ entry. entry ≤ most) (xs ++ 0 ∷ []) 0 (All-push (λ entry. entry ≤ most) xs 0 all none) none
+zero_within : (most : ℕ) (xs : List ℕ) → All (λ entry. entry ≤ most) xs → All (λ entry. entry ≤ most) (xs ++ 0 ∷ [])
+zero_within most xs all = let none : 0 ≤ most = omega arith in All-push (λ entry. entry ≤ most) xs 0 all none
 
 -- each gate is found where each was, as long as those and the new one are
 each_pushed : (old new : Gate → Walk) (gates : List Gate) (pair : Gate) → ((r : Gate) (place : ℕ) → old r ≡ Found place → new r ≡ Found place) → new pair ≡ Found (length gates)
@@ -257,25 +251,25 @@ each_pushed old new gates pair kept own each place d inside =
 
 -- the gates are found with one more that a chain took
 module _ (turns : ℕ) (n : Net) (last before : List ℕ) (beyond beyond2 : Gate → Option ℕ) (pair : Gate)
-    (found : AreFound (suc turns) n last before beyond) (literal : pair.rhs0 < length last)
+    (found : AreFound (suc turns) n last before beyond) (within : chain pair < length last)
     (state : finds (suc turns) n.gates last before beyond pair ≡ Absent false) (same_map : (r : Gate) → beyond2 r ≡ beyond r) where
   abbrev last_chained : List ℕ
-  last_chained = (slice_set last pair.rhs0 (length before + 1) ++ 0 ∷ []) ++ 0 ∷ []
+  last_chained = slice_set last (chain pair) (length before + 1) ++ 0 ∷ []
 
   abbrev before_chained : List ℕ
-  before_chained = before ++ get_or last pair.rhs0 0 ∷ []
+  before_chained = before ++ get_or last (chain pair) 0 ∷ []
 
-  own_first : get_or last_chained pair.rhs0 0 ≡ suc (length n.gates)
+  own_first : get_or last_chained (chain pair) 0 ≡ suc (length n.gates)
   own_first =
       let places = found.places in
       let at : length before + 1 ≡ suc (length n.gates) = omega arith in
-      get_or-zeros (slice_set last pair.rhs0 (length before + 1)) pair.rhs0 ∙ get_or-set_same last pair.rhs0 (length before + 1) 0 literal ∙ at
+      get_or-zero (slice_set last (chain pair) (length before + 1)) (chain pair) ∙ get_or-set_same last (chain pair) (length before + 1) 0 within ∙ at
 
   -- the walk for a gate of the chain, past the new one
-  chained_walk : (r : Gate) (place : ℕ) → r.rhs0 ≡ pair.rhs0 → finds (suc turns) n.gates last before beyond r ≡ Found place
-      → walked (n.gates ++ pair ∷ []) before_chained r (suc turns) (get_or last_chained r.rhs0 0) ≡ Found place
+  chained_walk : (r : Gate) (place : ℕ) → chain r ≡ chain pair → finds (suc turns) n.gates last before beyond r ≡ Found place
+      → walked (n.gates ++ pair ∷ []) before_chained r (suc turns) (get_or last_chained (chain r) 0) ≡ Found place
   chained_walk r place same is =
-      let first : ℕ = get_or last pair.rhs0 0 in
+      let first : ℕ = get_or last (chain pair) 0 in
       let other = other_pair (suc turns) n last before beyond found pair r place (λ there. absurd (cc)) is in
       let ended : walked n.gates before pair (suc turns) first ≡ Absent false = found_by-ended _ (beyond pair) state in
       let there : walked n.gates before r (suc turns) first ≡ Found place =
@@ -286,17 +280,17 @@ module _ (turns : ℕ) (n : Net) (last before : List ℕ) (beyond beyond2 : Gate
       ∙ ap (walked (n.gates ++ pair ∷ []) before_chained r (suc turns)) own_first
       ∙ walked-on (n.gates ++ pair ∷ []) before_chained r turns (length n.gates) (ap (is_pair r) (get_or_push n.gates pair r (length n.gates) refl) ∙ other)
       ∙ ap (walked (n.gates ++ pair ∷ []) before_chained r turns) (get_or_push before first 0 (length n.gates) found.places)
-      ∙ walked-push n.gates before pair first found.places found.links r turns first (first_inside (suc turns) n last before beyond found pair.rhs0)
+      ∙ walked-push n.gates before pair first found.places found.links r turns first (first_inside (suc turns) n last before beyond found (chain pair))
       ∙ walked-sooner n.gates before pair r turns first place ended there
 
   chained_kept : (r : Gate) (place : ℕ) → finds (suc turns) n.gates last before beyond r ≡ Found place
       → finds (suc turns) (n.gates ++ pair ∷ []) last_chained before_chained beyond2 r ≡ Found place
   chained_kept r place is =
-      ⊎_elim (λ (same : r.rhs0 ≡ pair.rhs0). ap (λ w. found_by w (beyond2 r)) (chained_walk r place same is))
-      (λ (other : r.rhs0 ≡ pair.rhs0 → ⊥).
-      finds-kept (suc turns) n last before beyond found pair r last_chained beyond2 (get_or last pair.rhs0 0)
-      (get_or-zeros (slice_set last pair.rhs0 (length before + 1)) r.rhs0 ∙ get_or-set_other last pair.rhs0 r.rhs0 (length before + 1) 0 other) (same_map r) ∙ is)
-      (cases_eq r.rhs0 pair.rhs0)
+      ⊎_elim (λ (same : chain r ≡ chain pair). ap (λ w. found_by w (beyond2 r)) (chained_walk r place same is))
+      (λ (other : chain r ≡ chain pair → ⊥).
+      finds-kept (suc turns) n last before beyond found pair r last_chained beyond2 (get_or last (chain pair) 0)
+      (get_or-zero (slice_set last (chain pair) (length before + 1)) (chain r) ∙ get_or-set_other last (chain pair) (chain r) (length before + 1) 0 other) (same_map r) ∙ is)
+      (cases_eq (chain r) (chain pair))
 
   chained_own : finds (suc turns) (n.gates ++ pair ∷ []) last_chained before_chained beyond2 pair ≡ Found (length n.gates)
   chained_own =
@@ -306,15 +300,15 @@ module _ (turns : ℕ) (n : Net) (last before : List ℕ) (beyond beyond2 : Gate
 
   pub AreFound-chained : AreFound (suc turns) (record n { gates = n.gates ++ pair ∷ [] }) last_chained before_chained beyond2
   AreFound-chained = record {
-    literals = two_more n pair (slice_set last pair.rhs0 (length before + 1)) (length-set last pair.rhs0 (length before + 1) ∙ found.literals);
-    places = length_push before (get_or last pair.rhs0 0) ∙ ap (λ k. k + 1) found.places ∙ sym (length_push n.gates pair);
-    firsts = zeros_within (length (n.gates ++ pair ∷ [])) (slice_set last pair.rhs0 (length before + 1))
-        (All-set (λ entry. entry ≤ length (n.gates ++ pair ∷ [])) last pair.rhs0 (length before + 1)
+    variables = one_more n pair (slice_set last (chain pair) (length before + 1)) (length-set last (chain pair) (length before + 1) ∙ found.variables);
+    places = length_push before (get_or last (chain pair) 0) ∙ ap (λ k. k + 1) found.places ∙ sym (length_push n.gates pair);
+    firsts = zero_within (length (n.gates ++ pair ∷ [])) (slice_set last (chain pair) (length before + 1))
+        (All-set (λ entry. entry ≤ length (n.gates ++ pair ∷ [])) last (chain pair) (length before + 1)
         (let pushed = length_push n.gates pair in let places = found.places in omega arith)
         (All-weaker (λ entry. entry ≤ length n.gates) (λ entry. entry ≤ length (n.gates ++ pair ∷ [])) (longer n pair) last found.firsts));
-    links = All-push (λ entry. entry ≤ length (n.gates ++ pair ∷ [])) before (get_or last pair.rhs0 0)
+    links = All-push (λ entry. entry ≤ length (n.gates ++ pair ∷ [])) before (get_or last (chain pair) 0)
         (All-weaker (λ entry. entry ≤ length n.gates) (λ entry. entry ≤ length (n.gates ++ pair ∷ [])) (longer n pair) before found.links)
-        (longer n pair (get_or last pair.rhs0 0) (first_inside (suc turns) n last before beyond found pair.rhs0));
+        (longer n pair (get_or last (chain pair) 0) (first_inside (suc turns) n last before beyond found (chain pair)));
     map = λ r place is.
         let there = found.map r place (sym (same_map r) ∙ is) in
         let inside = there.0 in
@@ -328,10 +322,10 @@ module _ (longest : ℕ) (n : Net) (last before : List ℕ) (beyond beyond2 : Ga
     (found : AreFound longest n last before beyond) (state : finds longest n.gates last before beyond pair ≡ Absent true)
     (own_map : beyond2 pair ≡ Some (length before)) (same_map : (r : Gate) → is_pair pair r ≡ false → beyond2 r ≡ beyond r) where
   abbrev last_full : List ℕ
-  last_full = (last ++ 0 ∷ []) ++ 0 ∷ []
+  last_full = last ++ 0 ∷ []
 
   abbrev before_full : List ℕ
-  before_full = before ++ get_or last pair.rhs0 0 ∷ []
+  before_full = before ++ get_or last (chain pair) 0 ∷ []
 
   differs_back : (r : Gate) → is_pair r pair ≡ false → is_pair pair r ≡ false
   differs_back r is_not = by (is_pair pair r) refl
@@ -344,13 +338,13 @@ module _ (longest : ℕ) (n : Net) (last before : List ℕ) (beyond beyond2 : Ga
       → finds longest (n.gates ++ pair ∷ []) last_full before_full beyond2 r ≡ Found place
   full_kept r place is =
       let other = other_pair longest n last before beyond found pair r place (λ there. absurd (cc)) is in
-      finds-kept longest n last before beyond found pair r last_full beyond2 (get_or last pair.rhs0 0) (get_or-zeros last r.rhs0) (same_map r (differs_back r other)) ∙ is
+      finds-kept longest n last before beyond found pair r last_full beyond2 (get_or last (chain pair) 0) (get_or-zero last (chain r)) (same_map r (differs_back r other)) ∙ is
 
   full_own : finds longest (n.gates ++ pair ∷ []) last_full before_full beyond2 pair ≡ Found (length n.gates)
   full_own =
-      let walk : walked (n.gates ++ pair ∷ []) before_full pair longest (get_or last_full pair.rhs0 0) ≡ Absent true =
-      ap (walked (n.gates ++ pair ∷ []) before_full pair longest) (get_or-zeros last pair.rhs0)
-      ∙ walked-push n.gates before pair (get_or last pair.rhs0 0) found.places found.links pair longest (get_or last pair.rhs0 0) (first_inside longest n last before beyond found pair.rhs0)
+      let walk : walked (n.gates ++ pair ∷ []) before_full pair longest (get_or last_full (chain pair) 0) ≡ Absent true =
+      ap (walked (n.gates ++ pair ∷ []) before_full pair longest) (get_or-zero last (chain pair))
+      ∙ walked-push n.gates before pair (get_or last (chain pair) 0) found.places found.links pair longest (get_or last (chain pair) 0) (first_inside longest n last before beyond found (chain pair))
       ∙ (found_by-full _ (beyond pair) state).0
       in
       ap (λ w. found_by w (beyond2 pair)) walk ∙ ap (found_by (Absent true)) (own_map ∙ ap Some found.places)
@@ -374,26 +368,26 @@ module _ (longest : ℕ) (n : Net) (last before : List ℕ) (beyond beyond2 : Ga
 
   pub AreFound-full : AreFound longest (record n { gates = n.gates ++ pair ∷ [] }) last_full before_full beyond2
   AreFound-full = record {
-    literals = two_more n pair last found.literals;
-    places = length_push before (get_or last pair.rhs0 0) ∙ ap (λ k. k + 1) found.places ∙ sym (length_push n.gates pair);
-    firsts = zeros_within (length (n.gates ++ pair ∷ [])) last (All-weaker (λ entry. entry ≤ length n.gates) (λ entry. entry ≤ length (n.gates ++ pair ∷ [])) (longer n pair) last found.firsts);
-    links = All-push (λ entry. entry ≤ length (n.gates ++ pair ∷ [])) before (get_or last pair.rhs0 0)
+    variables = one_more n pair last found.variables;
+    places = length_push before (get_or last (chain pair) 0) ∙ ap (λ k. k + 1) found.places ∙ sym (length_push n.gates pair);
+    firsts = zero_within (length (n.gates ++ pair ∷ [])) last (All-weaker (λ entry. entry ≤ length n.gates) (λ entry. entry ≤ length (n.gates ++ pair ∷ [])) (longer n pair) last found.firsts);
+    links = All-push (λ entry. entry ≤ length (n.gates ++ pair ∷ [])) before (get_or last (chain pair) 0)
         (All-weaker (λ entry. entry ≤ length n.gates) (λ entry. entry ≤ length (n.gates ++ pair ∷ [])) (longer n pair) before found.links)
-        (longer n pair (get_or last pair.rhs0 0) (first_inside longest n last before beyond found pair.rhs0));
+        (longer n pair (get_or last (chain pair) 0) (first_inside longest n last before beyond found (chain pair)));
     map = full_map;
     each = each_pushed (finds longest n.gates last before beyond) (finds longest (n.gates ++ pair ∷ []) last_full before_full beyond2) n.gates pair full_kept full_own found.each;
   }
 
 -- where no gate stands, all are found
-pub AreFound-none : (most : ℕ) (n : Net) (last before : List ℕ) (beyond : Gate → Option ℕ) → n.gates ≡ [] → last ≡ replicate (2 * (variables n + 1)) 0 → before ≡ [] → ((pair : Gate) → beyond pair ≡ None)
+pub AreFound-none : (most : ℕ) (n : Net) (last before : List ℕ) (beyond : Gate → Option ℕ) → n.gates ≡ [] → last ≡ replicate (variables n + 1) 0 → before ≡ [] → ((pair : Gate) → beyond pair ≡ None)
     → AreFound most n last before beyond
 AreFound-none most n last before beyond none zeros no_links empty =
     let no_gates : length n.gates ≡ 0 = ap length none in
     let no_link : length before ≡ 0 = ap length no_links in
     record {
-      literals = ap length zeros ∙ length-replicate (2 * (variables n + 1)) 0;
+      variables = ap length zeros ∙ length-replicate (variables n + 1) 0;
       places = omega arith;
-      firsts = rw zeros (All-replicate (λ entry. entry ≤ length n.gates) (2 * (variables n + 1)) 0 (omega arith));
+      firsts = rw zeros (All-replicate (λ entry. entry ≤ length n.gates) (variables n + 1) 0 (omega arith));
       links = λ k d inside. absurd (omega arith);
       map = λ pair place is. absurd (let nothing = empty pair in cc);
       each = λ place d inside. absurd (omega arith);
@@ -414,14 +408,14 @@ finds-same most gates last last2 before before2 beyond beyond2 same_last same_be
 
 -- the gates are found with one more that was noted, behind room that was made for it
 pub AreFound-noted : (turns : ℕ) (n : Net) (last last2 before before2 : List ℕ) (beyond beyond2 : Gate → Option ℕ) (pair : Gate) (is_full : Bool)
-    → AreFound (suc turns) n last before beyond → pair.rhs0 < length last → finds (suc turns) n.gates last before beyond pair ≡ Absent is_full
-    → last2 ≡ ((if is_full then last else slice_set last pair.rhs0 (length before + 1)) ++ 0 ∷ []) ++ 0 ∷ []
-    → before2 ≡ before ++ get_or last pair.rhs0 0 ∷ []
+    → AreFound (suc turns) n last before beyond → chain pair < length last → finds (suc turns) n.gates last before beyond pair ≡ Absent is_full
+    → last2 ≡ (if is_full then last else slice_set last (chain pair) (length before + 1)) ++ 0 ∷ []
+    → before2 ≡ before ++ get_or last (chain pair) 0 ∷ []
     → ((r : Gate) → beyond2 r ≡ (if is_full && is_pair pair r then Some (length before) else beyond r))
     → AreFound (suc turns) (record n { gates = n.gates ++ pair ∷ [] }) last2 before2 beyond2
-AreFound-noted turns n last last2 before before2 beyond beyond2 pair false found literal state last_is before_is map_is =
-    rw (last_is, before_is) (AreFound-chained turns n last before beyond beyond2 pair found literal state map_is)
-AreFound-noted turns n last last2 before before2 beyond beyond2 pair true found literal state last_is before_is map_is =
+AreFound-noted turns n last last2 before before2 beyond beyond2 pair false found within state last_is before_is map_is =
+    rw (last_is, before_is) (AreFound-chained turns n last before beyond beyond2 pair found within state map_is)
+AreFound-noted turns n last last2 before before2 beyond beyond2 pair true found within state last_is before_is map_is =
     rw (last_is, before_is) (AreFound-full (suc turns) n last before beyond beyond2 pair found state
     (map_is pair ∙ ap (λ (b : Bool). if b then Some (length before) else beyond pair) (is_pair-same pair))
     (λ r other. map_is r ∙ ap (λ (b : Bool). if b then Some (length before) else beyond r) other))

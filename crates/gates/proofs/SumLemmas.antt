@@ -112,12 +112,12 @@ MakesColumn-with_true old new a b c sum carry is makes = record {
 }
 
 -- a literal read at a place of a list is one of its literals
-pub literal_at : (n : Net) (ls read : List ℕ) (i l : ℕ) → read ≡ ls → i < length ls → l ≡ get_or read i l → All (IsDefined n) ls → IsDefined n l
-literal_at n ls read i l same inside is defined = rw (is, same) (All-get_or (IsDefined n) ls i l inside defined)
+pub literal_at : (n : Net) (ls : List ℕ) (i l : ℕ) → i < length ls → l ≡ get_or ls i l → All (IsDefined n) ls → IsDefined n l
+literal_at n ls i l inside is defined = rw is (All-get_or (IsDefined n) ls i l inside defined)
 
 -- and the front of the list up to it is one literal longer
-pub front_with : (ls read : List ℕ) (i l : ℕ) → read ≡ ls → i < length ls → l ≡ get_or read i l → take (i + 1) ls ≡ take i ls ++ l ∷ []
-front_with ls read i l same inside is = let at : get_or ls i l ≡ l = rw (← same) (sym is) in take_more ls i l inside ∙ ap (λ x. take i ls ++ x ∷ []) at
+pub front_with : (ls : List ℕ) (i l : ℕ) → i < length ls → l ≡ get_or ls i l → take (i + 1) ls ≡ take i ls ++ l ∷ []
+front_with ls i l inside is = take_more ls i l inside ∙ ap (λ x. take i ls ++ x ∷ []) (sym is)
 
 -- a literal more at the high end of a word
 pub word_value-push : (v : Valuation) (ls : List ℕ) (l : ℕ) → word_value v (ls ++ l ∷ []) ≡ word_value v ls + 2 ^ length ls * literal_number v l

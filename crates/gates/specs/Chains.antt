@@ -1,13 +1,14 @@
--- Where a sharing maker finds its gates: each literal has a chain of gates whose greater operand it is, and the gates that a full chain did not take stand in a map. No contract of the maker says anything of it but that each gate is found.
-use Rattle.std.specs.Prelude.{true, false, ◌≡◌, ℕ, zero, suc, ◌+◌, ◌*◌, ◌<◌, ◌≤◌, Bool, ◌&&◌, ◌==◌, List, All, length, get_or, Option, None, Some, if◌then◌else◌}
+-- Where a sharing maker finds its gates: each variable has a chain of gates whose greater operand is a literal of it, and the gates that a full chain did not take stand in a map. No contract of the maker says anything of it but that each gate is found.
+use Rattle.std.specs.Prelude.{true, false, ◌≡◌, ℕ, zero, suc, ◌+◌, ◌<◌, ◌≤◌, Bool, ◌&&◌, ◌==◌, List, All, length, get_or, Option, None, Some, if◌then◌else◌}
 use Rattle.aiger.specs.declared.circuit.Gate.{Gate}
+use Rattle.aiger.specs.Literal.{variable}
 use Rattle.aiger.specs.Net.{Net, variables}
 use Rattle.gates.specs.declared.chains.Walk.{Walk}
 use Rattle.gates.specs.declared.chains.Walk.TheVariants.{Found, Absent}
 
 -- how many gates a chain has at most
 abbrev pub longest : ℕ
-longest = 16
+longest = 32
 
 -- whether a gate has these operands
 abbrev pub is_pair : Gate → Gate → Bool
@@ -27,14 +28,18 @@ found_by (Absent false) beyond = Absent false
 found_by (Absent true) None = Absent true
 found_by (Absent true) (Some place) = Found place
 
--- how a gate is found by the last gate of each literal's chain, the gate before each gate in its chain, and the map, where a chain has at most so many gates
+-- the variable on whose chain a gate stands: that of its greater operand
+abbrev pub chain : Gate → ℕ
+chain g = variable g.rhs0
+
+-- how a gate is found by the last gate of each variable's chain, the gate before each gate in its chain, and the map, where a chain has at most so many gates
 abbrev pub finds : ℕ → List Gate → List ℕ → List ℕ → (Gate → Option ℕ) → Gate → Walk
 finds most gates last before beyond pair =
-    found_by (walked gates before pair most (get_or last pair.rhs0 0)) (beyond pair)
+    found_by (walked gates before pair most (get_or last (chain pair) 0)) (beyond pair)
 
 -- each gate of a net is found at its place, by a walk or in the map
 pub record AreFound (most : ℕ) (n : Net) (last before : List ℕ) (beyond : Gate → Option ℕ) : Type 0 where
-  pub literals : length last ≡ 2 * (variables n + 1)
+  pub variables : length last ≡ variables n + 1
   pub places : length before ≡ length n.gates
   pub firsts : All (λ entry. entry ≤ length n.gates) last
   pub links : All (λ entry. entry ≤ length n.gates) before

@@ -9,7 +9,7 @@ ghost use Rattle.gates.specs.Sums.{literal_number, MakesColumn, MakesSum};
 
 use crate::bit_lists::{negation, repeated};
 use crate::fault::GateFault;
-use crate::literals::{conjunction, disjunction, xor};
+use crate::literals::{disjunction, xor};
 use crate::maker::{Bits, Gates};
 use aiger::Lit;
 use base::{Binary, Unary};
@@ -39,9 +39,9 @@ fn half_adder<G: Gates>(g: &mut G, a: Lit, b: Lit) -> Result<Column, GateFault>
     ensures ok { IfOk result (λ c. MakesColumn (G.made g.old) (G.made g.new) 3 (λ v. literal_number v a + literal_number v b) c.sum c.carry) }
     ensures refused { IfErr result (Refuses (G.made g.old) (G.made g.new) 3) }
 {
-    let both = conjunction(g, a, b)?;
-    let neither = conjunction(g, a.not(), b.not())?;
-    let sum = conjunction(g, both.not(), neither.not())?;
+    let both = g.and(a, b)?;
+    let neither = g.and(a.not(), b.not())?;
+    let sum = g.and(both.not(), neither.not())?;
     Ok(Column { sum, carry: both })
 }
 
@@ -83,15 +83,15 @@ fn full_adder<G: Gates>(g: &mut G, a: Lit, b: Lit, c: Lit) -> Result<Column, Gat
 /// The sum of so many of the lowest columns of two words and of a carry.
 fn columns<G: Gates>(
     g: &mut G,
-    a: &Bits,
-    b: &Bits,
+    a: &[Lit],
+    b: &[Lit],
     carry: Lit,
     count: usize,
 ) -> Result<Added, GateFault>
-    requires operands { AreOperands (G.made g.old) 128 a.now.items b.now.items }
+    requires operands { AreOperands (G.made g.old) 128 a.now b.now }
     requires carry { IsDefined (G.made g.old) carry }
-    requires inside { count ≤ length a.now.items }
-    ensures ok { IfOk result (λ added. MakesSum (G.made g.old) (G.made g.new) (7 * count) (take count a.now.items) (take count b.now.items) carry added.sum.items added.into_top added.out) }
+    requires inside { count ≤ length a.now }
+    ensures ok { IfOk result (λ added. MakesSum (G.made g.old) (G.made g.new) (7 * count) (take count a.now) (take count b.now) carry added.sum.items added.into_top added.out) }
     ensures refused { IfErr result (Refuses (G.made g.old) (G.made g.new) (7 * count)) }
 {
     let mut sum = Bits::new();
@@ -110,11 +110,11 @@ fn columns<G: Gates>(
 ///
 /// Conditions: operands of equal length from 1 to 128, all literals defined. Errors: `TooBig` only where the
 /// variables so far and 9 times the length sum to more than 2^30, `NoMemory`; the gates made so far stay.
-pub fn add<G: Gates>(g: &mut G, a: &Bits, b: &Bits, carry: Lit) -> Result<Added, GateFault>
-    requires operands { AreOperands (G.made g.old) 128 a.now.items b.now.items }
+pub fn add<G: Gates>(g: &mut G, a: &[Lit], b: &[Lit], carry: Lit) -> Result<Added, GateFault>
+    requires operands { AreOperands (G.made g.old) 128 a.now b.now }
     requires carry { IsDefined (G.made g.old) carry }
-    ensures ok { IfOk result (λ added. MakesSum (G.made g.old) (G.made g.new) (9 * length a.now.items) a.now.items b.now.items carry added.sum.items added.into_top added.out) }
-    ensures refused { IfErr result (Refuses (G.made g.old) (G.made g.new) (9 * length a.now.items)) }
+    ensures ok { IfOk result (λ added. MakesSum (G.made g.old) (G.made g.new) (9 * length a.now) a.now b.now carry added.sum.items added.into_top added.out) }
+    ensures refused { IfErr result (Refuses (G.made g.old) (G.made g.new) (9 * length a.now)) }
 {
     columns(g, a, b, carry, a.len())
 }
@@ -122,14 +122,14 @@ pub fn add<G: Gates>(g: &mut G, a: &Bits, b: &Bits, carry: Lit) -> Result<Added,
 /// The bits of the sum of two words and a carry. There is no carry out of the highest column.
 pub(crate) fn sum_bits<G: Gates>(
     g: &mut G,
-    a: &Bits,
-    b: &Bits,
+    a: &[Lit],
+    b: &[Lit],
     carry: Lit,
 ) -> Result<Bits, GateFault>
-    requires operands { AreOperands (G.made g.old) 128 a.now.items b.now.items }
+    requires operands { AreOperands (G.made g.old) 128 a.now b.now }
     requires carry { IsDefined (G.made g.old) carry }
-    ensures ok { IfOk result (λ bits. let n = length a.now.items in MakesWord (G.made g.old) (G.made g.new) (9 * n) n (λ v. (word_value v a.now.items + word_value v b.now.items + literal_number v carry) % 2 ^ n) bits.items) }
-    ensures refused { IfErr result (Refuses (G.made g.old) (G.made g.new) (9 * length a.now.items)) }
+    ensures ok { IfOk result (λ bits. let n = length a.now in MakesWord (G.made g.old) (G.made g.new) (9 * n) n (λ v. (word_value v a.now + word_value v b.now + literal_number v carry) % 2 ^ n) bits.items) }
+    ensures refused { IfErr result (Refuses (G.made g.old) (G.made g.new) (9 * length a.now)) }
 {
     let top = a.len() - 1;
     let low = columns(g, a, b, carry, top)?;
@@ -141,64 +141,64 @@ pub(crate) fn sum_bits<G: Gates>(
 }
 
 /// The difference of two words as a sum: the second word negated, and one more. The carries are those of the sum.
-pub(crate) fn difference<G: Gates>(g: &mut G, a: &Bits, b: &Bits) -> Result<Added, GateFault>
-    requires { AreOperands (G.made g.old) 128 a.now.items b.now.items }
-    ensures ok { IfOk result (λ added. MakesSum (G.made g.old) (G.made g.new) (9 * length a.now.items) a.now.items (map negation b.now.items) 1 added.sum.items added.into_top added.out) }
-    ensures refused { IfErr result (Refuses (G.made g.old) (G.made g.new) (9 * length a.now.items)) }
+pub(crate) fn difference<G: Gates>(g: &mut G, a: &[Lit], b: &[Lit]) -> Result<Added, GateFault>
+    requires { AreOperands (G.made g.old) 128 a.now b.now }
+    ensures ok { IfOk result (λ added. MakesSum (G.made g.old) (G.made g.new) (9 * length a.now) a.now (map negation b.now) 1 added.sum.items added.into_top added.out) }
+    ensures refused { IfErr result (Refuses (G.made g.old) (G.made g.new) (9 * length a.now)) }
 {
-    add(g, a, &negation(b), Lit::TRUE)
+    add(g, a, negation(b).as_slice(), Lit::TRUE)
 }
 
 /// The bits of the sum of two words.
-pub(crate) fn add_bits<G: Gates>(g: &mut G, a: &Bits, b: &Bits) -> Result<Bits, GateFault>
-    requires { AreOperands (G.made g.old) 64 a.now.items b.now.items }
-    ensures ok { IfOk result (λ bits. let n = length a.now.items in MakesWord (G.made g.old) (G.made g.new) (9 * n) n (λ v. binary_value Binary.Add n (word_value v a.now.items) (word_value v b.now.items)) bits.items) }
-    ensures refused { IfErr result (Refuses (G.made g.old) (G.made g.new) (9 * length a.now.items)) }
+pub(crate) fn add_bits<G: Gates>(g: &mut G, a: &[Lit], b: &[Lit]) -> Result<Bits, GateFault>
+    requires { AreOperands (G.made g.old) 64 a.now b.now }
+    ensures ok { IfOk result (λ bits. let n = length a.now in MakesWord (G.made g.old) (G.made g.new) (9 * n) n (λ v. binary_value Binary.Add n (word_value v a.now) (word_value v b.now)) bits.items) }
+    ensures refused { IfErr result (Refuses (G.made g.old) (G.made g.new) (9 * length a.now)) }
 {
     sum_bits(g, a, b, Lit::FALSE)
 }
 
 /// The bits of the difference of two words.
-pub(crate) fn sub_bits<G: Gates>(g: &mut G, a: &Bits, b: &Bits) -> Result<Bits, GateFault>
-    requires { AreOperands (G.made g.old) 64 a.now.items b.now.items }
-    ensures ok { IfOk result (λ bits. let n = length a.now.items in MakesWord (G.made g.old) (G.made g.new) (9 * n) n (λ v. binary_value Binary.Sub n (word_value v a.now.items) (word_value v b.now.items)) bits.items) }
-    ensures refused { IfErr result (Refuses (G.made g.old) (G.made g.new) (9 * length a.now.items)) }
+pub(crate) fn sub_bits<G: Gates>(g: &mut G, a: &[Lit], b: &[Lit]) -> Result<Bits, GateFault>
+    requires { AreOperands (G.made g.old) 64 a.now b.now }
+    ensures ok { IfOk result (λ bits. let n = length a.now in MakesWord (G.made g.old) (G.made g.new) (9 * n) n (λ v. binary_value Binary.Sub n (word_value v a.now) (word_value v b.now)) bits.items) }
+    ensures refused { IfErr result (Refuses (G.made g.old) (G.made g.new) (9 * length a.now)) }
 {
-    sum_bits(g, a, &negation(b), Lit::TRUE)
+    sum_bits(g, a, negation(b).as_slice(), Lit::TRUE)
 }
 
 /// The bits of the word of a word's negated number: none less the word.
-pub(crate) fn neg_bits<G: Gates>(g: &mut G, a: &Bits) -> Result<Bits, GateFault>
-    requires some { 1 ≤ length a.now.items }
-    requires most { length a.now.items ≤ 64 }
-    requires defined { All (IsDefined (G.made g.old)) a.now.items }
-    ensures ok { IfOk result (λ bits. let n = length a.now.items in MakesWord (G.made g.old) (G.made g.new) (9 * n) n (λ v. unary_value Unary.Neg n (word_value v a.now.items)) bits.items) }
-    ensures refused { IfErr result (Refuses (G.made g.old) (G.made g.new) (9 * length a.now.items)) }
+pub(crate) fn neg_bits<G: Gates>(g: &mut G, a: &[Lit]) -> Result<Bits, GateFault>
+    requires some { 1 ≤ length a.now }
+    requires most { length a.now ≤ 64 }
+    requires defined { All (IsDefined (G.made g.old)) a.now }
+    ensures ok { IfOk result (λ bits. let n = length a.now in MakesWord (G.made g.old) (G.made g.new) (9 * n) n (λ v. unary_value Unary.Neg n (word_value v a.now)) bits.items) }
+    ensures refused { IfErr result (Refuses (G.made g.old) (G.made g.new) (9 * length a.now)) }
 {
-    let sum = difference(g, &repeated(Lit::FALSE, a.len()), a)?;
+    let sum = difference(g, repeated(Lit::FALSE, a.len()).as_slice(), a)?;
     Ok(sum.sum)
 }
 
 /// The bits of a word and one more.
-pub(crate) fn inc_bits<G: Gates>(g: &mut G, a: &Bits) -> Result<Bits, GateFault>
-    requires some { 1 ≤ length a.now.items }
-    requires most { length a.now.items ≤ 64 }
-    requires defined { All (IsDefined (G.made g.old)) a.now.items }
-    ensures ok { IfOk result (λ bits. let n = length a.now.items in MakesWord (G.made g.old) (G.made g.new) (9 * n) n (λ v. unary_value Unary.Inc n (word_value v a.now.items)) bits.items) }
-    ensures refused { IfErr result (Refuses (G.made g.old) (G.made g.new) (9 * length a.now.items)) }
+pub(crate) fn inc_bits<G: Gates>(g: &mut G, a: &[Lit]) -> Result<Bits, GateFault>
+    requires some { 1 ≤ length a.now }
+    requires most { length a.now ≤ 64 }
+    requires defined { All (IsDefined (G.made g.old)) a.now }
+    ensures ok { IfOk result (λ bits. let n = length a.now in MakesWord (G.made g.old) (G.made g.new) (9 * n) n (λ v. unary_value Unary.Inc n (word_value v a.now)) bits.items) }
+    ensures refused { IfErr result (Refuses (G.made g.old) (G.made g.new) (9 * length a.now)) }
 {
-    let sum = add(g, a, &repeated(Lit::FALSE, a.len()), Lit::TRUE)?;
+    let sum = add(g, a, repeated(Lit::FALSE, a.len()).as_slice(), Lit::TRUE)?;
     Ok(sum.sum)
 }
 
 /// The bits of a word and one less, which is the negation of one more than its negation.
-pub(crate) fn dec_bits<G: Gates>(g: &mut G, a: &Bits) -> Result<Bits, GateFault>
-    requires some { 1 ≤ length a.now.items }
-    requires most { length a.now.items ≤ 64 }
-    requires defined { All (IsDefined (G.made g.old)) a.now.items }
-    ensures ok { IfOk result (λ bits. let n = length a.now.items in MakesWord (G.made g.old) (G.made g.new) (9 * n) n (λ v. unary_value Unary.Dec n (word_value v a.now.items)) bits.items) }
-    ensures refused { IfErr result (Refuses (G.made g.old) (G.made g.new) (9 * length a.now.items)) }
+pub(crate) fn dec_bits<G: Gates>(g: &mut G, a: &[Lit]) -> Result<Bits, GateFault>
+    requires some { 1 ≤ length a.now }
+    requires most { length a.now ≤ 64 }
+    requires defined { All (IsDefined (G.made g.old)) a.now }
+    ensures ok { IfOk result (λ bits. let n = length a.now in MakesWord (G.made g.old) (G.made g.new) (9 * n) n (λ v. unary_value Unary.Dec n (word_value v a.now)) bits.items) }
+    ensures refused { IfErr result (Refuses (G.made g.old) (G.made g.new) (9 * length a.now)) }
 {
-    let negated = inc_bits(g, &negation(a))?;
-    Ok(negation(&negated))
+    let negated = inc_bits(g, negation(a).as_slice())?;
+    Ok(negation(negated.as_slice()))
 }

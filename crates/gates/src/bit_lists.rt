@@ -1,4 +1,4 @@
-//! Lists of literals that take no gate: negated, of one literal, of one literal many times, longer, and without the high ones.
+//! Lists of literals that take no gate: negated, of one literal, of one literal many times, and longer.
 ghost use Rattle.std.specs.Prelude.{◌≡◌, ◌+◌, ◌≤◌, [], ◌∷◌, ◌++◌, length, map, take, replicate};
 ghost use Rattle.aiger.specs.Literal.{negation};
 
@@ -6,12 +6,12 @@ use crate::maker::Bits;
 use aiger::Lit;
 
 /// The negated literals.
-pub(crate) fn negation(a: &Bits) -> Bits
-    requires { length a.now.items ≤ 128 }
-    ensures { result.items ≡ map negation a.now.items }
+pub(crate) fn negation(a: &[Lit]) -> Bits
+    requires { length a.now ≤ 128 }
+    ensures { result.items ≡ map negation a.now }
 {
     let mut bits = Bits::new();
-    for lit in a.as_slice() {
+    for lit in a {
         bits.push(lit.not());
     }
     bits
@@ -45,15 +45,4 @@ pub(crate) fn append(bits: &mut Bits, more: &[Lit])
 {
     let added = bits.try_extend_from_slice(more);
     prove!(added.is_ok());
-}
-
-/// The lowest literals of a word, so many.
-pub(crate) fn low_bits(a: &Bits, count: usize) -> Bits
-    requires most { length a.now.items ≤ 128 }
-    requires inside { count ≤ length a.now.items }
-    ensures { result.items ≡ take count a.now.items }
-{
-    let mut bits = Bits::new();
-    append(&mut bits, &a.as_slice()[..count]);
-    bits
 }

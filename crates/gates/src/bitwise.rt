@@ -11,7 +11,7 @@ ghost use Rattle.gates.specs.Connect.{connected, connected_words, connected_bits
 
 use crate::bit_lists::{negation, one_bit};
 use crate::fault::GateFault;
-use crate::literals::{conjunction, disjunction, xor};
+use crate::literals::{disjunction, xor};
 use crate::maker::{Bits, Gates};
 use aiger::Lit;
 
@@ -34,7 +34,7 @@ fn connect<G: Gates>(g: &mut G, by: Connective, a: Lit, b: Lit) -> Result<Lit, G
     ensures refused { IfErr result (Refuses (G.made g.old) (G.made g.new) (connective_bound by)) }
 {
     match by {
-        Connective::And => conjunction(g, a, b),
+        Connective::And => g.and(a, b),
         Connective::Or => disjunction(g, a, b),
         Connective::Xor => xor(g, a, b),
     }
@@ -44,15 +44,15 @@ fn connect<G: Gates>(g: &mut G, by: Connective, a: Lit, b: Lit) -> Result<Lit, G
 pub(crate) fn connect_words<G: Gates>(
     g: &mut G,
     by: Connective,
-    a: &Bits,
-    b: &Bits,
+    a: &[Lit],
+    b: &[Lit],
 ) -> Result<Bits, GateFault>
-    requires most { length a.now.items ≤ 64 }
-    requires equal { length b.now.items ≡ length a.now.items }
-    requires left { All (IsDefined (G.made g.old)) a.now.items }
-    requires right { All (IsDefined (G.made g.old)) b.now.items }
-    ensures ok { IfOk result (λ bits. let n = length a.now.items in MakesWord (G.made g.old) (G.made g.new) (words_bound by n) n (λ v. connected_words by (word_value v a.now.items) (word_value v b.now.items)) bits.items) }
-    ensures refused { IfErr result (Refuses (G.made g.old) (G.made g.new) (words_bound by (length a.now.items))) }
+    requires most { length a.now ≤ 64 }
+    requires equal { length b.now ≡ length a.now }
+    requires left { All (IsDefined (G.made g.old)) a.now }
+    requires right { All (IsDefined (G.made g.old)) b.now }
+    ensures ok { IfOk result (λ bits. let n = length a.now in MakesWord (G.made g.old) (G.made g.new) (words_bound by n) n (λ v. connected_words by (word_value v a.now) (word_value v b.now)) bits.items) }
+    ensures refused { IfErr result (Refuses (G.made g.old) (G.made g.new) (words_bound by (length a.now))) }
 {
     let mut bits = Bits::new();
     for i in 0..a.len() {
@@ -82,36 +82,36 @@ pub(crate) fn connect_bits<G: Gates>(g: &mut G, by: Connective, a: &[Lit]) -> Re
 pub(crate) fn connect_negated<G: Gates>(
     g: &mut G,
     by: Connective,
-    a: &Bits,
-    b: &Bits,
+    a: &[Lit],
+    b: &[Lit],
 ) -> Result<Bits, GateFault>
-    requires most { length a.now.items ≤ 64 }
-    requires equal { length b.now.items ≡ length a.now.items }
-    requires left { All (IsDefined (G.made g.old)) a.now.items }
-    requires right { All (IsDefined (G.made g.old)) b.now.items }
-    ensures ok { IfOk result (λ bits. let n = length a.now.items in MakesWord (G.made g.old) (G.made g.new) (words_bound by n) n (λ v. ones n - connected_words by (word_value v a.now.items) (word_value v b.now.items)) bits.items) }
-    ensures refused { IfErr result (Refuses (G.made g.old) (G.made g.new) (words_bound by (length a.now.items))) }
+    requires most { length a.now ≤ 64 }
+    requires equal { length b.now ≡ length a.now }
+    requires left { All (IsDefined (G.made g.old)) a.now }
+    requires right { All (IsDefined (G.made g.old)) b.now }
+    ensures ok { IfOk result (λ bits. let n = length a.now in MakesWord (G.made g.old) (G.made g.new) (words_bound by n) n (λ v. ones n - connected_words by (word_value v a.now) (word_value v b.now)) bits.items) }
+    ensures refused { IfErr result (Refuses (G.made g.old) (G.made g.new) (words_bound by (length a.now))) }
 {
     let bits = connect_words(g, by, a, b)?;
-    Ok(negation(&bits))
+    Ok(negation(bits.as_slice()))
 }
 
 /// The reduction of a word that connects all its bits.
-pub(crate) fn reduction<G: Gates>(g: &mut G, by: Connective, a: &Bits) -> Result<Bits, GateFault>
-    requires most { length a.now.items ≤ 64 }
-    requires defined { All (IsDefined (G.made g.old)) a.now.items }
-    ensures ok { IfOk result (λ bits. let n = length a.now.items in MakesWord (G.made g.old) (G.made g.new) (unary_bound (reduction_by by) n) 1 (λ v. unary_value (reduction_by by) n (word_value v a.now.items)) bits.items) }
-    ensures refused { IfErr result (Refuses (G.made g.old) (G.made g.new) (unary_bound (reduction_by by) (length a.now.items))) }
+pub(crate) fn reduction<G: Gates>(g: &mut G, by: Connective, a: &[Lit]) -> Result<Bits, GateFault>
+    requires most { length a.now ≤ 64 }
+    requires defined { All (IsDefined (G.made g.old)) a.now }
+    ensures ok { IfOk result (λ bits. let n = length a.now in MakesWord (G.made g.old) (G.made g.new) (unary_bound (reduction_by by) n) 1 (λ v. unary_value (reduction_by by) n (word_value v a.now)) bits.items) }
+    ensures refused { IfErr result (Refuses (G.made g.old) (G.made g.new) (unary_bound (reduction_by by) (length a.now))) }
 {
-    let lit = connect_bits(g, by, a.as_slice())?;
+    let lit = connect_bits(g, by, a)?;
     Ok(one_bit(lit))
 }
 
 /// The places at which two words differ.
-fn differing_bits<G: Gates>(g: &mut G, a: &Bits, b: &Bits) -> Result<Bits, GateFault>
-    requires { AreOperands (G.made g.old) 64 a.now.items b.now.items }
-    ensures ok { IfOk result (λ bits. let n = length a.now.items in MakesWord (G.made g.old) (G.made g.new) (3 * n) n (λ v. bit_xor (word_value v a.now.items) (word_value v b.now.items)) bits.items) }
-    ensures refused { IfErr result (Refuses (G.made g.old) (G.made g.new) (3 * length a.now.items)) }
+fn differing_bits<G: Gates>(g: &mut G, a: &[Lit], b: &[Lit]) -> Result<Bits, GateFault>
+    requires { AreOperands (G.made g.old) 64 a.now b.now }
+    ensures ok { IfOk result (λ bits. let n = length a.now in MakesWord (G.made g.old) (G.made g.new) (3 * n) n (λ v. bit_xor (word_value v a.now) (word_value v b.now)) bits.items) }
+    ensures refused { IfErr result (Refuses (G.made g.old) (G.made g.new) (3 * length a.now)) }
 {
     connect_words(g, Connective::Xor, a, b)
 }
@@ -120,10 +120,10 @@ fn differing_bits<G: Gates>(g: &mut G, a: &Bits, b: &Bits) -> Result<Bits, GateF
 ///
 /// Conditions: operands of equal length from 1 to 64, all literals defined. Errors: `TooBig` only where the variables so
 /// far and 4 times the length sum to more than 2^30, `NoMemory`; the gates made so far stay.
-pub fn equal<G: Gates>(g: &mut G, a: &Bits, b: &Bits) -> Result<Lit, GateFault>
-    requires { AreOperands (G.made g.old) 64 a.now.items b.now.items }
-    ensures ok { IfOk result (MakesLiteral (G.made g.old) (G.made g.new) (binary_bound binary.Eq (length a.now.items)) (λ v. word_value v a.now.items == word_value v b.now.items)) }
-    ensures refused { IfErr result (Refuses (G.made g.old) (G.made g.new) (binary_bound binary.Eq (length a.now.items))) }
+pub fn equal<G: Gates>(g: &mut G, a: &[Lit], b: &[Lit]) -> Result<Lit, GateFault>
+    requires { AreOperands (G.made g.old) 64 a.now b.now }
+    ensures ok { IfOk result (MakesLiteral (G.made g.old) (G.made g.new) (binary_bound binary.Eq (length a.now)) (λ v. word_value v a.now == word_value v b.now)) }
+    ensures refused { IfErr result (Refuses (G.made g.old) (G.made g.new) (binary_bound binary.Eq (length a.now))) }
 {
     let differing = differing_bits(g, a, b)?;
     let differ = connect_bits(g, Connective::Or, differing.as_slice())?;
@@ -131,32 +131,32 @@ pub fn equal<G: Gates>(g: &mut G, a: &Bits, b: &Bits) -> Result<Lit, GateFault>
 }
 
 /// The bit of the test whether two words are equal.
-pub(crate) fn eq<G: Gates>(g: &mut G, a: &Bits, b: &Bits) -> Result<Bits, GateFault>
-    requires { AreOperands (G.made g.old) 64 a.now.items b.now.items }
-    ensures ok { IfOk result (λ bits. let n = length a.now.items in MakesWord (G.made g.old) (G.made g.new) (binary_bound binary.Eq n) 1 (λ v. binary_value binary.Eq n (word_value v a.now.items) (word_value v b.now.items)) bits.items) }
-    ensures refused { IfErr result (Refuses (G.made g.old) (G.made g.new) (binary_bound binary.Eq (length a.now.items))) }
+pub(crate) fn eq<G: Gates>(g: &mut G, a: &[Lit], b: &[Lit]) -> Result<Bits, GateFault>
+    requires { AreOperands (G.made g.old) 64 a.now b.now }
+    ensures ok { IfOk result (λ bits. let n = length a.now in MakesWord (G.made g.old) (G.made g.new) (binary_bound binary.Eq n) 1 (λ v. binary_value binary.Eq n (word_value v a.now) (word_value v b.now)) bits.items) }
+    ensures refused { IfErr result (Refuses (G.made g.old) (G.made g.new) (binary_bound binary.Eq (length a.now))) }
 {
     let lit = equal(g, a, b)?;
     Ok(one_bit(lit))
 }
 
 /// The bit of the test whether two words differ.
-pub(crate) fn neq<G: Gates>(g: &mut G, a: &Bits, b: &Bits) -> Result<Bits, GateFault>
-    requires { AreOperands (G.made g.old) 64 a.now.items b.now.items }
-    ensures ok { IfOk result (λ bits. let n = length a.now.items in MakesWord (G.made g.old) (G.made g.new) (binary_bound binary.Neq n) 1 (λ v. binary_value binary.Neq n (word_value v a.now.items) (word_value v b.now.items)) bits.items) }
-    ensures refused { IfErr result (Refuses (G.made g.old) (G.made g.new) (binary_bound binary.Neq (length a.now.items))) }
+pub(crate) fn neq<G: Gates>(g: &mut G, a: &[Lit], b: &[Lit]) -> Result<Bits, GateFault>
+    requires { AreOperands (G.made g.old) 64 a.now b.now }
+    ensures ok { IfOk result (λ bits. let n = length a.now in MakesWord (G.made g.old) (G.made g.new) (binary_bound binary.Neq n) 1 (λ v. binary_value binary.Neq n (word_value v a.now) (word_value v b.now)) bits.items) }
+    ensures refused { IfErr result (Refuses (G.made g.old) (G.made g.new) (binary_bound binary.Neq (length a.now))) }
 {
     let lit = equal(g, a, b)?;
     Ok(one_bit(lit.not()))
 }
 
 /// The bit of the test whether two single bits are equal, with at most 3 gates.
-pub(crate) fn iff<G: Gates>(g: &mut G, a: &Bits, b: &Bits) -> Result<Bits, GateFault>
-    requires left_bit { length a.now.items ≡ 1 }
-    requires right_bit { length b.now.items ≡ 1 }
-    requires left { All (IsDefined (G.made g.old)) a.now.items }
-    requires right { All (IsDefined (G.made g.old)) b.now.items }
-    ensures ok { IfOk result (λ bits. MakesWord (G.made g.old) (G.made g.new) 3 1 (λ v. binary_value binary.Iff 1 (word_value v a.now.items) (word_value v b.now.items)) bits.items) }
+pub(crate) fn iff<G: Gates>(g: &mut G, a: &[Lit], b: &[Lit]) -> Result<Bits, GateFault>
+    requires left_bit { length a.now ≡ 1 }
+    requires right_bit { length b.now ≡ 1 }
+    requires left { All (IsDefined (G.made g.old)) a.now }
+    requires right { All (IsDefined (G.made g.old)) b.now }
+    ensures ok { IfOk result (λ bits. MakesWord (G.made g.old) (G.made g.new) 3 1 (λ v. binary_value binary.Iff 1 (word_value v a.now) (word_value v b.now)) bits.items) }
     ensures refused { IfErr result (Refuses (G.made g.old) (G.made g.new) 3) }
 {
     let differ = xor(g, a[0], b[0])?;
@@ -164,12 +164,12 @@ pub(crate) fn iff<G: Gates>(g: &mut G, a: &Bits, b: &Bits) -> Result<Bits, GateF
 }
 
 /// The bit of the test whether a single bit is 0 or another is 1, with at most 1 gate.
-pub(crate) fn implies<G: Gates>(g: &mut G, a: &Bits, b: &Bits) -> Result<Bits, GateFault>
-    requires left_bit { length a.now.items ≡ 1 }
-    requires right_bit { length b.now.items ≡ 1 }
-    requires left { All (IsDefined (G.made g.old)) a.now.items }
-    requires right { All (IsDefined (G.made g.old)) b.now.items }
-    ensures ok { IfOk result (λ bits. MakesWord (G.made g.old) (G.made g.new) 1 1 (λ v. binary_value binary.Implies 1 (word_value v a.now.items) (word_value v b.now.items)) bits.items) }
+pub(crate) fn implies<G: Gates>(g: &mut G, a: &[Lit], b: &[Lit]) -> Result<Bits, GateFault>
+    requires left_bit { length a.now ≡ 1 }
+    requires right_bit { length b.now ≡ 1 }
+    requires left { All (IsDefined (G.made g.old)) a.now }
+    requires right { All (IsDefined (G.made g.old)) b.now }
+    ensures ok { IfOk result (λ bits. MakesWord (G.made g.old) (G.made g.new) 1 1 (λ v. binary_value binary.Implies 1 (word_value v a.now) (word_value v b.now)) bits.items) }
     ensures refused { IfErr result (Refuses (G.made g.old) (G.made g.new) 1) }
 {
     let lit = disjunction(g, a[0].not(), b[0])?;

@@ -27,12 +27,12 @@ use base::{Binary, Unary};
 ///
 /// Conditions: 1 to 64 literals, all defined. Errors: `TooBig` only where the variables so far and the operator's bound
 /// sum to more than 2^30, `NoMemory`; the gates made so far stay.
-pub fn unary_bits<G: Gates>(g: &mut G, op: Unary, a: &Bits) -> Result<Bits, GateFault>
-    requires some { 1 ≤ length a.now.items }
-    requires most { length a.now.items ≤ 64 }
-    requires defined { All (IsDefined (G.made g.old)) a.now.items }
-    ensures ok { IfOk result (λ bits. let n = length a.now.items in MakesWord (G.made g.old) (G.made g.new) (unary_bound op n) (unary_width op n) (λ v. unary_value op n (word_value v a.now.items)) bits.items) }
-    ensures refused { IfErr result (Refuses (G.made g.old) (G.made g.new) (unary_bound op (length a.now.items))) }
+pub fn unary_bits<G: Gates>(g: &mut G, op: Unary, a: &[Lit]) -> Result<Bits, GateFault>
+    requires some { 1 ≤ length a.now }
+    requires most { length a.now ≤ 64 }
+    requires defined { All (IsDefined (G.made g.old)) a.now }
+    ensures ok { IfOk result (λ bits. let n = length a.now in MakesWord (G.made g.old) (G.made g.new) (unary_bound op n) (unary_width op n) (λ v. unary_value op n (word_value v a.now)) bits.items) }
+    ensures refused { IfErr result (Refuses (G.made g.old) (G.made g.new) (unary_bound op (length a.now))) }
 {
     match op {
         Unary::Not => Ok(negation(a)),
@@ -50,11 +50,11 @@ pub fn unary_bits<G: Gates>(g: &mut G, op: Unary, a: &Bits) -> Result<Bits, Gate
 /// Conditions: operands of equal length from 1 to 64, for `Iff` and `Implies` of length 1, all literals defined.
 /// Errors: `TooBig` only where the variables so far and the operator's bound sum to more than 2^30, `NoMemory`; the gates
 /// made so far stay.
-pub fn binary_bits<G: Gates>(g: &mut G, op: Binary, a: &Bits, b: &Bits) -> Result<Bits, GateFault>
-    requires of_bits { is_of_bits op ≡ true → length a.now.items ≡ 1 }
-    requires operands { AreOperands (G.made g.old) 64 a.now.items b.now.items }
-    ensures ok { IfOk result (λ bits. let n = length a.now.items in MakesWord (G.made g.old) (G.made g.new) (binary_bound op n) (binary_width op n) (λ v. binary_value op n (word_value v a.now.items) (word_value v b.now.items)) bits.items) }
-    ensures refused { IfErr result (Refuses (G.made g.old) (G.made g.new) (binary_bound op (length a.now.items))) }
+pub fn binary_bits<G: Gates>(g: &mut G, op: Binary, a: &[Lit], b: &[Lit]) -> Result<Bits, GateFault>
+    requires of_bits { is_of_bits op ≡ true → length a.now ≡ 1 }
+    requires operands { AreOperands (G.made g.old) 64 a.now b.now }
+    ensures ok { IfOk result (λ bits. let n = length a.now in MakesWord (G.made g.old) (G.made g.new) (binary_bound op n) (binary_width op n) (λ v. binary_value op n (word_value v a.now) (word_value v b.now)) bits.items) }
+    ensures refused { IfErr result (Refuses (G.made g.old) (G.made g.new) (binary_bound op (length a.now))) }
 {
     match op {
         Binary::Iff => iff(g, a, b),

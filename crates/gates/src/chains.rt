@@ -1,11 +1,11 @@
-//! Where the gates of a sharing maker stand: a chain for each literal, and a map of the gates that no chain took.
+//! Where the gates of a sharing maker stand: a chain for each variable, and a map of the gates that no chain took.
 ghost use Rattle.std.specs.Prelude.{◌≡◌, ◌+◌, ◌*◌, ◌<◌, ◌≤◌, ◌&&◌, [], ◌∷◌, ◌++◌, true, None, Some, All, length, replicate, vec_len, vec_capacity, slice_set, get_or, if◌then◌else◌, IfOk, IfErr, OnOk};
 ghost use Rattle.std.specs.HashMap.{get, spare};
 ghost use Rattle.aiger.specs.declared.circuit.Gate.{Gate as Operands};
 ghost use Rattle.aiger.specs.Limits.{greatest_count};
 ghost use Rattle.aiger.specs.Net.{IsDefined};
 ghost use Rattle.aiger.specs.Circuit.{net};
-ghost use Rattle.gates.specs.Chains.{longest, AreFound, finds, is_pair, walked};
+ghost use Rattle.gates.specs.Chains.{longest, AreFound, chain, finds, is_pair, walked};
 
 use crate::fault::GateFault;
 use crate::pair::Pair;
@@ -14,7 +14,7 @@ use indexmap::IndexMap;
 use std::alloc::Global;
 
 /// How many gates a chain has at most.
-const LONGEST: usize = 16;
+const LONGEST: usize = 32;
 
 /// How a look for the gate of a pair ended.
 pub(crate) enum Walk {
@@ -26,17 +26,24 @@ pub(crate) enum Walk {
 
 /// Where the gates of a circuit stand.
 ///
-/// Most gates are on the chain of their greater operand, where a look-up meets lists alone that were just in use; a gate
-/// that a full chain does not take stands in the map. An entry of a chain is 1 more than the place of a gate, or 0 at its
+/// Most gates are on the chain of their greater operand's variable, where a look-up meets lists alone that were just in
+/// use; a gate that a full chain does not take stands in the map. An entry of a chain is 1 more than the place of a gate, or 0 at its
 /// end.
 #[derive(Drop)]
 pub(crate) struct Chains {
-    /// For each literal the gate that its chain begins with, which is the last that it took.
+    /// For each variable the gate that its chain begins with, which is the last that it took.
     last: Vec<u32>,
     /// For each gate the one behind it in its chain, which was made before it.
     before: Vec<u32>,
     /// The places of the gates that no chain took.
     beyond: IndexMap<Pair, u32>,
+}
+
+/// The variable on whose chain the gate of a pair stands.
+fn chain_of(pair: Pair) -> usize
+    ensures { result ≡ chain pair }
+{
+    (pair.greater / 2) as usize
 }
 
 /// Whether a gate has these operands.
@@ -92,14 +99,14 @@ fn add_beyond(beyond: &mut IndexMap<Pair, u32>, pair: Pair, place: u32)
 }
 
 impl Chains {
-    /// Empty chains of so many literals.
-    pub(crate) fn new(alloc: Global, literals: usize) -> Result<Chains, GateFault>
-        ensures last { IfOk result (λ chains. chains.last.items ≡ replicate literals 0) }
+    /// Empty chains of so many variables.
+    pub(crate) fn new(alloc: Global, variables: usize) -> Result<Chains, GateFault>
+        ensures last { IfOk result (λ chains. chains.last.items ≡ replicate variables 0) }
         ensures before { IfOk result (λ chains. chains.before.items ≡ []) }
         ensures beyond { IfOk result (λ chains. (pair : Operands) → get is_pair chains.beyond pair ≡ None) }
         ensures memory { IfErr result (λ e. e ≡ GateFault.NoMemory) }
     {
-        match vec![in alloc; 0u32; literals] {
+        match vec![in alloc; 0u32; variables] {
             Ok(last) => Ok(Chains {
                 last,
                 before: Vec::new(alloc),
@@ -115,7 +122,7 @@ impl Chains {
         requires defined { IsDefined (net circuit.now) pair.rhs0 }
         ensures { result ≡ finds longest circuit.now.gates self.now.last.items self.now.before.items (get is_pair self.now.beyond) pair }
     {
-        let first = self.last[pair.greater as usize];
+        let first = self.last[chain_of(pair)];
         match walk_along(circuit.gates(), &self.before, pair, first, LONGEST) {
             Walk::Absent { is_full: true } => match self.beyond.get(&pair) {
                 Some(place) => Walk::Found(*place as usize),
@@ -130,12 +137,12 @@ impl Chains {
         ensures last { self.new.last.items ≡ self.old.last.items }
         ensures before { self.new.before.items ≡ self.old.before.items }
         ensures beyond { (pair : Operands) → get is_pair self.new.beyond pair ≡ get is_pair self.old.beyond pair }
-        ensures room_last { OnOk result (vec_len self.new.last + 2 ≤ vec_capacity self.new.last) }
+        ensures room_last { OnOk result (vec_len self.new.last < vec_capacity self.new.last) }
         ensures room_before { OnOk result (vec_len self.new.before < vec_capacity self.new.before) }
         ensures room_beyond { OnOk result (is_full ≡ true → 0 < spare self.new.beyond) }
         ensures memory { IfErr result (λ e. e ≡ GateFault.NoMemory) }
     {
-        if self.last.reserve(2).is_err() {
+        if self.last.reserve(1).is_err() {
             return Err(GateFault::NoMemory);
         }
         if self.before.reserve(1).is_err() {
@@ -149,24 +156,23 @@ impl Chains {
 
     /// Notes the gate of a pair that was made last, for which there is room: in the map where its chain is full.
     pub(crate) fn note(&mut self, pair: Pair, is_full: bool)
-        requires literal { pair.rhs0 < length self.old.last.items }
+        requires variable { chain pair < length self.old.last.items }
         requires few { length self.old.before.items < greatest_count }
-        requires room_last { vec_len self.old.last + 2 ≤ vec_capacity self.old.last }
+        requires room_last { vec_len self.old.last < vec_capacity self.old.last }
         requires room_before { vec_len self.old.before < vec_capacity self.old.before }
         requires room_beyond { is_full ≡ true → 0 < spare self.old.beyond }
-        ensures last { self.new.last.items ≡ ((if is_full then self.old.last.items else slice_set self.old.last.items pair.rhs0 (length self.old.before.items + 1)) ++ 0 ∷ []) ++ 0 ∷ [] }
-        ensures before { self.new.before.items ≡ self.old.before.items ++ get_or self.old.last.items pair.rhs0 0 ∷ [] }
+        ensures last { self.new.last.items ≡ (if is_full then self.old.last.items else slice_set self.old.last.items (chain pair) (length self.old.before.items + 1)) ++ 0 ∷ [] }
+        ensures before { self.new.before.items ≡ self.old.before.items ++ get_or self.old.last.items (chain pair) 0 ∷ [] }
         ensures beyond { (other : Operands) → get is_pair self.new.beyond other ≡ (if is_full && is_pair pair other then Some (length self.old.before.items) else get is_pair self.old.beyond other) }
     {
         let place = self.before.len() as u32;
-        let literal = pair.greater as usize;
-        add(&mut self.before, self.last[literal]);
+        let at = chain_of(pair);
+        add(&mut self.before, self.last[at]);
         if is_full {
             add_beyond(&mut self.beyond, pair, place);
         } else {
-            self.last[literal] = place + 1;
+            self.last[at] = place + 1;
         }
-        add(&mut self.last, 0);
         add(&mut self.last, 0);
     }
 }

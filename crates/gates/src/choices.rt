@@ -13,14 +13,14 @@ use crate::maker::{Bits, Gates};
 use aiger::Lit;
 
 /// The bits of `t` where `c` is true, and else those of `e`.
-pub(crate) fn choose<G: Gates>(g: &mut G, c: Lit, t: &Bits, e: &Bits) -> Result<Bits, GateFault>
-    requires most { length t.now.items ≤ 64 }
-    requires equal { length e.now.items ≡ length t.now.items }
+pub(crate) fn choose<G: Gates>(g: &mut G, c: Lit, t: &[Lit], e: &[Lit]) -> Result<Bits, GateFault>
+    requires most { length t.now ≤ 64 }
+    requires equal { length e.now ≡ length t.now }
     requires condition { IsDefined (G.made g.old) c }
-    requires then { All (IsDefined (G.made g.old)) t.now.items }
-    requires otherwise { All (IsDefined (G.made g.old)) e.now.items }
-    ensures ok { IfOk result (λ bits. let n = length t.now.items in MakesWord (G.made g.old) (G.made g.new) (3 * n) n (λ v. if literal_value v c then word_value v t.now.items else word_value v e.now.items) bits.items) }
-    ensures refused { IfErr result (Refuses (G.made g.old) (G.made g.new) (3 * length t.now.items)) }
+    requires then { All (IsDefined (G.made g.old)) t.now }
+    requires otherwise { All (IsDefined (G.made g.old)) e.now }
+    ensures ok { IfOk result (λ bits. let n = length t.now in MakesWord (G.made g.old) (G.made g.new) (3 * n) n (λ v. if literal_value v c then word_value v t.now else word_value v e.now) bits.items) }
+    ensures refused { IfErr result (Refuses (G.made g.old) (G.made g.new) (3 * length t.now)) }
 {
     let mut bits = Bits::new();
     for i in 0..t.len() {
@@ -33,12 +33,12 @@ pub(crate) fn choose<G: Gates>(g: &mut G, c: Lit, t: &Bits, e: &Bits) -> Result<
 ///
 /// Conditions: a condition of one literal, words of equal length from 1 to 64, all literals defined. Errors: `TooBig`
 /// only where the variables so far and 3 times the length sum to more than 2^30, `NoMemory`; the gates made so far stay.
-pub fn ite_bits<G: Gates>(g: &mut G, c: &Bits, t: &Bits, e: &Bits) -> Result<Bits, GateFault>
-    requires one { length c.now.items ≡ 1 }
-    requires operands { AreOperands (G.made g.old) 64 t.now.items e.now.items }
-    requires condition { All (IsDefined (G.made g.old)) c.now.items }
-    ensures ok { IfOk result (λ bits. let n = length t.now.items in MakesWord (G.made g.old) (G.made g.new) (ite_bound n) n (λ v. ite_value (word_value v c.now.items) (word_value v t.now.items) (word_value v e.now.items)) bits.items) }
-    ensures refused { IfErr result (Refuses (G.made g.old) (G.made g.new) (ite_bound (length t.now.items))) }
+pub fn ite_bits<G: Gates>(g: &mut G, c: &[Lit], t: &[Lit], e: &[Lit]) -> Result<Bits, GateFault>
+    requires one { length c.now ≡ 1 }
+    requires operands { AreOperands (G.made g.old) 64 t.now e.now }
+    requires condition { All (IsDefined (G.made g.old)) c.now }
+    ensures ok { IfOk result (λ bits. let n = length t.now in MakesWord (G.made g.old) (G.made g.new) (ite_bound n) n (λ v. ite_value (word_value v c.now) (word_value v t.now) (word_value v e.now)) bits.items) }
+    ensures refused { IfErr result (Refuses (G.made g.old) (G.made g.new) (ite_bound (length t.now))) }
 {
     choose(g, c[0], t, e)
 }

@@ -10,9 +10,9 @@ ghost use Rattle.gates.specs.Made.{MakesLiteral, MakesWord, Refuses, word_value}
 ghost use Rattle.gates.specs.Sums.{literal_number};
 ghost use Rattle.gates.specs.Tests.{is_comparison, with_top_negated};
 
-use crate::bit_lists::one_bit;
+use crate::bit_lists::{append, one_bit};
 use crate::fault::GateFault;
-use crate::literals::{conjunction, disjunction};
+use crate::literals::disjunction;
 use crate::maker::{Bits, Gates};
 use aiger::Lit;
 use base::Binary;
@@ -26,12 +26,12 @@ pub(crate) fn less_column<G: Gates>(g: &mut G, a: Lit, b: Lit, below: Lit) -> Re
     ensures ok { IfOk result (MakesLiteral (G.made g.old) (G.made g.new) 4 (λ v. nat_lt (literal_number v a) (literal_number v b + literal_number v below))) }
     ensures refused { IfErr result (Refuses (G.made g.old) (G.made g.new) 4) }
 {
-    let less = conjunction(g, a.not(), b)?;
+    let less = g.and(a.not(), b)?;
     if below == Lit::FALSE {
         return Ok(less);
     }
-    let greater = conjunction(g, a, b.not())?;
-    let rest = conjunction(g, below, greater.not())?;
+    let greater = g.and(a, b.not())?;
+    let rest = g.and(below, greater.not())?;
     disjunction(g, less, rest)
 }
 
@@ -39,10 +39,10 @@ pub(crate) fn less_column<G: Gates>(g: &mut G, a: Lit, b: Lit, below: Lit) -> Re
 ///
 /// Conditions: operands of equal length from 1 to 64, all literals defined. Errors: `TooBig` only where the
 /// variables so far and 6 times the length sum to more than 2^30, `NoMemory`; the gates made so far stay.
-pub fn less<G: Gates>(g: &mut G, a: &Bits, b: &Bits) -> Result<Lit, GateFault>
-    requires { AreOperands (G.made g.old) 64 a.now.items b.now.items }
-    ensures ok { IfOk result (MakesLiteral (G.made g.old) (G.made g.new) (6 * length a.now.items) (λ v. nat_lt (word_value v a.now.items) (word_value v b.now.items))) }
-    ensures refused { IfErr result (Refuses (G.made g.old) (G.made g.new) (6 * length a.now.items)) }
+pub fn less<G: Gates>(g: &mut G, a: &[Lit], b: &[Lit]) -> Result<Lit, GateFault>
+    requires { AreOperands (G.made g.old) 64 a.now b.now }
+    ensures ok { IfOk result (MakesLiteral (G.made g.old) (G.made g.new) (6 * length a.now) (λ v. nat_lt (word_value v a.now) (word_value v b.now))) }
+    ensures refused { IfErr result (Refuses (G.made g.old) (G.made g.new) (6 * length a.now)) }
 {
     let mut below = Lit::FALSE;
     for i in 0..a.len() {
@@ -52,35 +52,34 @@ pub fn less<G: Gates>(g: &mut G, a: &Bits, b: &Bits) -> Result<Lit, GateFault>
 }
 
 /// The literals with the highest one negated.
-pub(crate) fn top_negated(a: &Bits) -> Bits
-    requires { 1 ≤ length a.now.items }
-    ensures { result.items ≡ with_top_negated a.now.items }
+pub(crate) fn top_negated(a: &[Lit]) -> Bits
+    requires some { 1 ≤ length a.now }
+    requires most { length a.now ≤ 128 }
+    ensures { result.items ≡ with_top_negated a.now }
 {
     let top = a.len() - 1;
     let mut bits = Bits::new();
-    for i in 0..top {
-        bits.push(a[i]);
-    }
+    append(&mut bits, &a[..top]);
     bits.push(a[top].not());
     bits
 }
 
 /// A literal that is true where the first word is less than the second, as signed numbers: they are in the order of the
 /// words with their highest bits negated.
-fn signed_less<G: Gates>(g: &mut G, a: &Bits, b: &Bits) -> Result<Lit, GateFault>
-    requires { AreOperands (G.made g.old) 64 a.now.items b.now.items }
-    ensures ok { IfOk result (let n = length a.now.items in MakesLiteral (G.made g.old) (G.made g.new) (6 * n) (λ v. int_lt (signed n (word_value v a.now.items)) (signed n (word_value v b.now.items)))) }
-    ensures refused { IfErr result (Refuses (G.made g.old) (G.made g.new) (6 * length a.now.items)) }
+fn signed_less<G: Gates>(g: &mut G, a: &[Lit], b: &[Lit]) -> Result<Lit, GateFault>
+    requires { AreOperands (G.made g.old) 64 a.now b.now }
+    ensures ok { IfOk result (let n = length a.now in MakesLiteral (G.made g.old) (G.made g.new) (6 * n) (λ v. int_lt (signed n (word_value v a.now)) (signed n (word_value v b.now)))) }
+    ensures refused { IfErr result (Refuses (G.made g.old) (G.made g.new) (6 * length a.now)) }
 {
-    less(g, &top_negated(a), &top_negated(b))
+    less(g, top_negated(a).as_slice(), top_negated(b).as_slice())
 }
 
 /// A literal that is true where a comparison holds.
-fn comparison<G: Gates>(g: &mut G, op: Binary, a: &Bits, b: &Bits) -> Result<Lit, GateFault>
+fn comparison<G: Gates>(g: &mut G, op: Binary, a: &[Lit], b: &[Lit]) -> Result<Lit, GateFault>
     requires comparison { is_comparison op ≡ true }
-    requires operands { AreOperands (G.made g.old) 64 a.now.items b.now.items }
-    ensures ok { IfOk result (λ l. let n = length a.now.items in MakesWord (G.made g.old) (G.made g.new) (6 * n) 1 (λ v. binary_value op n (word_value v a.now.items) (word_value v b.now.items)) (l ∷ [])) }
-    ensures refused { IfErr result (Refuses (G.made g.old) (G.made g.new) (6 * length a.now.items)) }
+    requires operands { AreOperands (G.made g.old) 64 a.now b.now }
+    ensures ok { IfOk result (λ l. let n = length a.now in MakesWord (G.made g.old) (G.made g.new) (6 * n) 1 (λ v. binary_value op n (word_value v a.now) (word_value v b.now)) (l ∷ [])) }
+    ensures refused { IfErr result (Refuses (G.made g.old) (G.made g.new) (6 * length a.now)) }
 {
     match op {
         Binary::Ult => less(g, a, b),
@@ -99,13 +98,13 @@ fn comparison<G: Gates>(g: &mut G, op: Binary, a: &Bits, b: &Bits) -> Result<Lit
 pub(crate) fn comparison_bit<G: Gates>(
     g: &mut G,
     op: Binary,
-    a: &Bits,
-    b: &Bits,
+    a: &[Lit],
+    b: &[Lit],
 ) -> Result<Bits, GateFault>
     requires comparison { is_comparison op ≡ true }
-    requires operands { AreOperands (G.made g.old) 64 a.now.items b.now.items }
-    ensures ok { IfOk result (λ bits. let n = length a.now.items in MakesWord (G.made g.old) (G.made g.new) (binary_bound op n) (binary_width op n) (λ v. binary_value op n (word_value v a.now.items) (word_value v b.now.items)) bits.items) }
-    ensures refused { IfErr result (Refuses (G.made g.old) (G.made g.new) (binary_bound op (length a.now.items))) }
+    requires operands { AreOperands (G.made g.old) 64 a.now b.now }
+    ensures ok { IfOk result (λ bits. let n = length a.now in MakesWord (G.made g.old) (G.made g.new) (binary_bound op n) (binary_width op n) (λ v. binary_value op n (word_value v a.now) (word_value v b.now)) bits.items) }
+    ensures refused { IfErr result (Refuses (G.made g.old) (G.made g.new) (binary_bound op (length a.now))) }
 {
     let lit = comparison(g, op, a, b)?;
     Ok(one_bit(lit))

@@ -10,10 +10,9 @@ ghost use Rattle.gates.specs.Made.{MakesLiteral, MakesWord, Refuses, word_value}
 ghost use Rattle.gates.specs.Division.{MakesQuotientRow, MakesDivision};
 
 use crate::adders::difference;
-use crate::bit_lists::low_bits;
 use crate::choices::choose;
 use crate::fault::GateFault;
-use crate::literals::{conjunction, disjunction};
+use crate::literals::disjunction;
 use crate::maker::{Bits, Gates};
 use aiger::Lit;
 
@@ -38,12 +37,12 @@ struct Row {
 /// A literal that is true where a word has a bit at a place or above it.
 ///
 /// It goes from the highest place down, so that a maker that makes no gate twice makes those of all places once.
-pub(crate) fn has_bit_from<G: Gates>(g: &mut G, a: &Bits, from: usize) -> Result<Lit, GateFault>
-    requires most { length a.now.items ≤ 64 }
-    requires inside { from ≤ length a.now.items }
-    requires defined { All (IsDefined (G.made g.old)) a.now.items }
-    ensures ok { IfOk result (MakesLiteral (G.made g.old) (G.made g.new) (length a.now.items - from) (λ v. not (word_value v (drop from a.now.items) == 0))) }
-    ensures refused { IfErr result (Refuses (G.made g.old) (G.made g.new) (length a.now.items - from)) }
+pub(crate) fn has_bit_from<G: Gates>(g: &mut G, a: &[Lit], from: usize) -> Result<Lit, GateFault>
+    requires most { length a.now ≤ 64 }
+    requires inside { from ≤ length a.now }
+    requires defined { All (IsDefined (G.made g.old)) a.now }
+    ensures ok { IfOk result (MakesLiteral (G.made g.old) (G.made g.new) (length a.now - from) (λ v. not (word_value v (drop from a.now) == 0))) }
+    ensures refused { IfErr result (Refuses (G.made g.old) (G.made g.new) (length a.now - from)) }
 {
     let width = a.len();
     let mut some = Lit::FALSE;
@@ -58,16 +57,16 @@ pub(crate) fn has_bit_from<G: Gates>(g: &mut G, a: &Bits, from: usize) -> Result
 fn left_over<G: Gates>(
     g: &mut G,
     goes: Lit,
-    difference: &Bits,
-    dividend: &Bits,
+    difference: &[Lit],
+    dividend: &[Lit],
 ) -> Result<Bits, GateFault>
-    requires most { length difference.now.items ≤ 64 }
-    requires equal { length dividend.now.items ≡ length difference.now.items }
+    requires most { length difference.now ≤ 64 }
+    requires equal { length dividend.now ≡ length difference.now }
     requires goes { IsDefined (G.made g.old) goes }
-    requires then { All (IsDefined (G.made g.old)) difference.now.items }
-    requires otherwise { All (IsDefined (G.made g.old)) dividend.now.items }
-    ensures ok { IfOk result (λ bits. let n = length difference.now.items in MakesWord (G.made g.old) (G.made g.new) (3 * n) n (λ v. if literal_value v goes then word_value v difference.now.items else word_value v dividend.now.items) bits.items) }
-    ensures refused { IfErr result (Refuses (G.made g.old) (G.made g.new) (3 * length difference.now.items)) }
+    requires then { All (IsDefined (G.made g.old)) difference.now }
+    requires otherwise { All (IsDefined (G.made g.old)) dividend.now }
+    ensures ok { IfOk result (λ bits. let n = length difference.now in MakesWord (G.made g.old) (G.made g.new) (3 * n) n (λ v. if literal_value v goes then word_value v difference.now else word_value v dividend.now) bits.items) }
+    ensures refused { IfErr result (Refuses (G.made g.old) (G.made g.new) (3 * length difference.now)) }
 {
     choose(g, goes, difference, dividend)
 }
@@ -75,20 +74,20 @@ fn left_over<G: Gates>(
 /// One row of a division: the divisor is taken from a dividend that is no wider, where it goes into it.
 ///
 /// It does not where it has a bit above the dividend's; below, their difference tells.
-fn next_row<G: Gates>(g: &mut G, dividend: &Bits, b: &Bits) -> Result<Row, GateFault>
-    requires some { 1 ≤ length dividend.now.items }
-    requires inside { length dividend.now.items ≤ length b.now.items }
-    requires most { length b.now.items ≤ 64 }
-    requires left { All (IsDefined (G.made g.old)) dividend.now.items }
-    requires right { All (IsDefined (G.made g.old)) b.now.items }
-    ensures ok { IfOk result (λ row. MakesQuotientRow (G.made g.old) (G.made g.new) (12 * length b.now.items + 9) dividend.now.items b.now.items row.bit row.remainder.items) }
-    ensures refused { IfErr result (Refuses (G.made g.old) (G.made g.new) (12 * length b.now.items + 9)) }
+fn next_row<G: Gates>(g: &mut G, dividend: &[Lit], b: &[Lit]) -> Result<Row, GateFault>
+    requires some { 1 ≤ length dividend.now }
+    requires inside { length dividend.now ≤ length b.now }
+    requires most { length b.now ≤ 64 }
+    requires left { All (IsDefined (G.made g.old)) dividend.now }
+    requires right { All (IsDefined (G.made g.old)) b.now }
+    ensures ok { IfOk result (λ row. MakesQuotientRow (G.made g.old) (G.made g.new) (12 * length b.now + 9) dividend.now b.now row.bit row.remainder.items) }
+    ensures refused { IfErr result (Refuses (G.made g.old) (G.made g.new) (12 * length b.now + 9)) }
 {
     let width = dividend.len();
-    let reduced = difference(g, dividend, &low_bits(b, width))?;
+    let reduced = difference(g, dividend, &b[..width])?;
     let above = has_bit_from(g, b, width)?;
-    let bit = conjunction(g, reduced.out, above.not())?;
-    let remainder = left_over(g, bit, &reduced.sum, dividend)?;
+    let bit = g.and(reduced.out, above.not())?;
+    let remainder = left_over(g, bit, reduced.sum.as_slice(), dividend)?;
     Ok(Row { bit, remainder })
 }
 
@@ -97,10 +96,10 @@ fn next_row<G: Gates>(g: &mut G, dividend: &Bits, b: &Bits) -> Result<Row, GateF
 ///
 /// Conditions: operands of equal length n from 1 to 64, all literals defined. Errors: `TooBig` only where the variables
 /// so far and 12 n^2 + 12 n sum to more than 2^30, `NoMemory`; the gates made so far stay.
-pub fn divide<G: Gates>(g: &mut G, a: &Bits, b: &Bits) -> Result<Divided, GateFault>
-    requires { AreOperands (G.made g.old) 64 a.now.items b.now.items }
-    ensures ok { IfOk result (λ divided. let n = length a.now.items in MakesDivision (G.made g.old) (G.made g.new) (12 * (n * n) + 12 * n) a.now.items b.now.items divided.quotient.items divided.remainder.items) }
-    ensures refused { IfErr result (let n = length a.now.items in Refuses (G.made g.old) (G.made g.new) (12 * (n * n) + 12 * n)) }
+pub fn divide<G: Gates>(g: &mut G, a: &[Lit], b: &[Lit]) -> Result<Divided, GateFault>
+    requires { AreOperands (G.made g.old) 64 a.now b.now }
+    ensures ok { IfOk result (λ divided. let n = length a.now in MakesDivision (G.made g.old) (G.made g.new) (12 * (n * n) + 12 * n) a.now b.now divided.quotient.items divided.remainder.items) }
+    ensures refused { IfErr result (let n = length a.now in Refuses (G.made g.old) (G.made g.new) (12 * (n * n) + 12 * n)) }
 {
     let width = a.len();
     let mut quotient = Bits::new();
@@ -108,7 +107,7 @@ pub fn divide<G: Gates>(g: &mut G, a: &Bits, b: &Bits) -> Result<Divided, GateFa
     for done in 0..width {
         let place = width - 1 - done;
         remainder.insert(0, a[place]);
-        let row = next_row(g, &remainder, b)?;
+        let row = next_row(g, remainder.as_slice(), b)?;
         quotient.insert(0, row.bit);
         remainder = row.remainder;
     }
@@ -119,20 +118,20 @@ pub fn divide<G: Gates>(g: &mut G, a: &Bits, b: &Bits) -> Result<Divided, GateFa
 }
 
 /// The bits of the quotient of two words as whole numbers.
-pub(crate) fn udiv<G: Gates>(g: &mut G, a: &Bits, b: &Bits) -> Result<Bits, GateFault>
-    requires { AreOperands (G.made g.old) 64 a.now.items b.now.items }
-    ensures ok { IfOk result (λ bits. let n = length a.now.items in MakesWord (G.made g.old) (G.made g.new) (12 * (n * n) + 12 * n) n (λ v. binary_value binary.Udiv n (word_value v a.now.items) (word_value v b.now.items)) bits.items) }
-    ensures refused { IfErr result (let n = length a.now.items in Refuses (G.made g.old) (G.made g.new) (12 * (n * n) + 12 * n)) }
+pub(crate) fn udiv<G: Gates>(g: &mut G, a: &[Lit], b: &[Lit]) -> Result<Bits, GateFault>
+    requires { AreOperands (G.made g.old) 64 a.now b.now }
+    ensures ok { IfOk result (λ bits. let n = length a.now in MakesWord (G.made g.old) (G.made g.new) (12 * (n * n) + 12 * n) n (λ v. binary_value binary.Udiv n (word_value v a.now) (word_value v b.now)) bits.items) }
+    ensures refused { IfErr result (let n = length a.now in Refuses (G.made g.old) (G.made g.new) (12 * (n * n) + 12 * n)) }
 {
     let divided = divide(g, a, b)?;
     Ok(divided.quotient)
 }
 
 /// The bits of the remainder of two words as whole numbers.
-pub(crate) fn urem<G: Gates>(g: &mut G, a: &Bits, b: &Bits) -> Result<Bits, GateFault>
-    requires { AreOperands (G.made g.old) 64 a.now.items b.now.items }
-    ensures ok { IfOk result (λ bits. let n = length a.now.items in MakesWord (G.made g.old) (G.made g.new) (12 * (n * n) + 12 * n) n (λ v. binary_value binary.Urem n (word_value v a.now.items) (word_value v b.now.items)) bits.items) }
-    ensures refused { IfErr result (let n = length a.now.items in Refuses (G.made g.old) (G.made g.new) (12 * (n * n) + 12 * n)) }
+pub(crate) fn urem<G: Gates>(g: &mut G, a: &[Lit], b: &[Lit]) -> Result<Bits, GateFault>
+    requires { AreOperands (G.made g.old) 64 a.now b.now }
+    ensures ok { IfOk result (λ bits. let n = length a.now in MakesWord (G.made g.old) (G.made g.new) (12 * (n * n) + 12 * n) n (λ v. binary_value binary.Urem n (word_value v a.now) (word_value v b.now)) bits.items) }
+    ensures refused { IfErr result (let n = length a.now in Refuses (G.made g.old) (G.made g.new) (12 * (n * n) + 12 * n)) }
 {
     let divided = divide(g, a, b)?;
     Ok(divided.remainder)

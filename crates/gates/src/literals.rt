@@ -1,27 +1,13 @@
-//! Literals of two and three others. Constants and equal operands take no gate.
+//! Literals of two and three others, made of ands.
 ghost use Rattle.std.specs.Prelude.{IfOk, IfErr, ◌||◌, if◌then◌else◌};
 ghost use Rattle.aiger.specs.Net.{IsDefined};
 ghost use Rattle.aiger.specs.Literal.{literal_value};
 ghost use Rattle.gates.specs.Connect.{differ};
-ghost use Rattle.gates.specs.Made.{MakesAnd, MakesLiteral, Refuses};
+ghost use Rattle.gates.specs.Made.{MakesLiteral, Refuses};
 
 use crate::fault::GateFault;
-use crate::folding::folded;
 use crate::maker::Gates;
 use aiger::Lit;
-
-/// A literal that is true where both operands are: one of the operands or a constant where that is known, else a gate.
-pub(crate) fn conjunction<G: Gates>(g: &mut G, a: Lit, b: Lit) -> Result<Lit, GateFault>
-    requires left { IsDefined (G.made g.old) a }
-    requires right { IsDefined (G.made g.old) b }
-    ensures ok { IfOk result (MakesAnd (G.made g.old) (G.made g.new) a b) }
-    ensures refused { IfErr result (Refuses (G.made g.old) (G.made g.new) 1) }
-{
-    match folded(a, b) {
-        Some(lit) => Ok(lit),
-        None => g.and(a, b),
-    }
-}
 
 /// A literal that is true where one of two others is, or both are, with at most 1 gate.
 pub(crate) fn disjunction<G: Gates>(g: &mut G, a: Lit, b: Lit) -> Result<Lit, GateFault>
@@ -30,7 +16,7 @@ pub(crate) fn disjunction<G: Gates>(g: &mut G, a: Lit, b: Lit) -> Result<Lit, Ga
     ensures ok { IfOk result (MakesLiteral (G.made g.old) (G.made g.new) 1 (λ v. literal_value v a || literal_value v b)) }
     ensures refused { IfErr result (Refuses (G.made g.old) (G.made g.new) 1) }
 {
-    let neither = conjunction(g, a.not(), b.not())?;
+    let neither = g.and(a.not(), b.not())?;
     Ok(neither.not())
 }
 
@@ -44,9 +30,9 @@ pub fn xor<G: Gates>(g: &mut G, a: Lit, b: Lit) -> Result<Lit, GateFault>
     ensures ok { IfOk result (MakesLiteral (G.made g.old) (G.made g.new) 3 (λ v. differ (literal_value v a) (literal_value v b))) }
     ensures refused { IfErr result (Refuses (G.made g.old) (G.made g.new) 3) }
 {
-    let both = conjunction(g, a, b)?;
-    let neither = conjunction(g, a.not(), b.not())?;
-    conjunction(g, both.not(), neither.not())
+    let both = g.and(a, b)?;
+    let neither = g.and(a.not(), b.not())?;
+    g.and(both.not(), neither.not())
 }
 
 /// A literal that is what `t` is where `c` is true, and else what `e` is, with at most 3 gates.
@@ -63,7 +49,7 @@ pub fn mux<G: Gates>(g: &mut G, c: Lit, t: Lit, e: Lit) -> Result<Lit, GateFault
     if t == e {
         return Ok(t);
     }
-    let first = conjunction(g, c, t)?;
-    let second = conjunction(g, c.not(), e)?;
+    let first = g.and(c, t)?;
+    let second = g.and(c.not(), e)?;
     disjunction(g, first, second)
 }

@@ -8,42 +8,42 @@ ghost use Rattle.gates.specs.Made.{MakesLiteral, MakesWord, Refuses, word_value}
 ghost use Rattle.gates.specs.Sums.{literal_number};
 
 use crate::adders::{add, sum_bits};
+use crate::bit_lists::append;
 use crate::division::has_bit_from;
 use crate::fault::GateFault;
-use crate::literals::{conjunction, disjunction};
+use crate::literals::disjunction;
 use crate::maker::{Bits, Gates};
 use aiger::Lit;
 use base::Binary;
 
 /// A word where a literal is true, and else none of its bits: its product with the literal.
-pub(crate) fn masked<G: Gates>(g: &mut G, a: &Bits, lit: Lit) -> Result<Bits, GateFault>
-    requires most { length a.now.items ≤ 128 }
-    requires word { All (IsDefined (G.made g.old)) a.now.items }
+pub(crate) fn masked<G: Gates>(g: &mut G, a: &[Lit], lit: Lit) -> Result<Bits, GateFault>
+    requires most { length a.now ≤ 128 }
+    requires word { All (IsDefined (G.made g.old)) a.now }
     requires literal { IsDefined (G.made g.old) lit }
-    ensures ok { IfOk result (λ bits. let n = length a.now.items in MakesWord (G.made g.old) (G.made g.new) n n (λ v. word_value v a.now.items * literal_number v lit) bits.items) }
-    ensures refused { IfErr result (Refuses (G.made g.old) (G.made g.new) (length a.now.items)) }
+    ensures ok { IfOk result (λ bits. let n = length a.now in MakesWord (G.made g.old) (G.made g.new) n n (λ v. word_value v a.now * literal_number v lit) bits.items) }
+    ensures refused { IfErr result (Refuses (G.made g.old) (G.made g.new) (length a.now)) }
 {
     let mut bits = Bits::new();
     for i in 0..a.len() {
-        bits.push(conjunction(g, a[i], lit)?);
+        bits.push(g.and(a[i], lit)?);
     }
     Ok(bits)
 }
 
 /// A word moved up by so many places within its width, which takes no gate.
-fn raised(a: &Bits, by: usize) -> Bits
-    requires most { length a.now.items ≤ 128 }
-    requires inside { by ≤ length a.now.items }
-    ensures wide { length result.items ≡ length a.now.items }
-    ensures defined { (n : Net) → All (IsDefined n) a.now.items → All (IsDefined n) result.items }
-    ensures means { (v : Valuation) → word_value v result.items ≡ word_value v a.now.items * 2 ^ by % 2 ^ length a.now.items }
+fn raised(a: &[Lit], by: usize) -> Bits
+    requires most { length a.now ≤ 128 }
+    requires inside { by ≤ length a.now }
+    ensures wide { length result.items ≡ length a.now }
+    ensures defined { (n : Net) → All (IsDefined n) a.now → All (IsDefined n) result.items }
+    ensures means { (v : Valuation) → word_value v result.items ≡ word_value v a.now * 2 ^ by % 2 ^ length a.now }
 {
     let mut bits = Bits::new();
     for _ in 0..by {
         bits.push(Lit::FALSE);
     }
-    let added = bits.try_extend_from_slice(&a.as_slice()[..a.len() - by]);
-    prove!(added.is_ok());
+    append(&mut bits, &a[..a.len() - by]);
     bits
 }
 
@@ -52,42 +52,42 @@ fn raised(a: &Bits, by: usize) -> Bits
 /// The places below the row are constants, and take no gate.
 fn with_row<G: Gates>(
     g: &mut G,
-    sum: &Bits,
-    a: &Bits,
+    sum: &[Lit],
+    a: &[Lit],
     place: usize,
     lit: Lit,
 ) -> Result<Bits, GateFault>
-    requires operands { AreOperands (G.made g.old) 128 a.now.items sum.now.items }
-    requires inside { place ≤ length a.now.items }
+    requires operands { AreOperands (G.made g.old) 128 a.now sum.now }
+    requires inside { place ≤ length a.now }
     requires literal { IsDefined (G.made g.old) lit }
-    ensures ok { IfOk result (λ bits. let n = length a.now.items in MakesWord (G.made g.old) (G.made g.new) (10 * n) n (λ v. (word_value v sum.now.items + word_value v a.now.items * (2 ^ place * literal_number v lit)) % 2 ^ n) bits.items) }
-    ensures refused { IfErr result (Refuses (G.made g.old) (G.made g.new) (10 * length a.now.items)) }
+    ensures ok { IfOk result (λ bits. let n = length a.now in MakesWord (G.made g.old) (G.made g.new) (10 * n) n (λ v. (word_value v sum.now + word_value v a.now * (2 ^ place * literal_number v lit)) % 2 ^ n) bits.items) }
+    ensures refused { IfErr result (Refuses (G.made g.old) (G.made g.new) (10 * length a.now)) }
 {
-    let row = masked(g, &raised(a, place), lit)?;
-    sum_bits(g, sum, &row, Lit::FALSE)
+    let row = masked(g, raised(a, place).as_slice(), lit)?;
+    sum_bits(g, sum, row.as_slice(), Lit::FALSE)
 }
 
 /// The bits of the product of two words modulo 2 to the width.
 ///
 /// Conditions: operands of equal length from 1 to 128, all literals defined. Errors: `TooBig` only where the
 /// variables so far and 10 times the length's square sum to more than 2^30, `NoMemory`; the gates made so far stay.
-pub fn mul<G: Gates>(g: &mut G, a: &Bits, b: &Bits) -> Result<Bits, GateFault>
-    requires { AreOperands (G.made g.old) 128 a.now.items b.now.items }
-    ensures ok { IfOk result (λ bits. let n = length a.now.items in MakesWord (G.made g.old) (G.made g.new) (10 * (n * n)) n (λ v. word_value v a.now.items * word_value v b.now.items % 2 ^ n) bits.items) }
-    ensures refused { IfErr result (let n = length a.now.items in Refuses (G.made g.old) (G.made g.new) (10 * (n * n))) }
+pub fn mul<G: Gates>(g: &mut G, a: &[Lit], b: &[Lit]) -> Result<Bits, GateFault>
+    requires { AreOperands (G.made g.old) 128 a.now b.now }
+    ensures ok { IfOk result (λ bits. let n = length a.now in MakesWord (G.made g.old) (G.made g.new) (10 * (n * n)) n (λ v. word_value v a.now * word_value v b.now % 2 ^ n) bits.items) }
+    ensures refused { IfErr result (let n = length a.now in Refuses (G.made g.old) (G.made g.new) (10 * (n * n))) }
 {
     let mut product = masked(g, a, b[0])?;
     for place in 1..b.len() {
-        product = with_row(g, &product, a, place, b[place])?;
+        product = with_row(g, product.as_slice(), a, place, b[place])?;
     }
     Ok(product)
 }
 
 /// The bits of the product of two words of an operator's width.
-pub(crate) fn mul_bits<G: Gates>(g: &mut G, a: &Bits, b: &Bits) -> Result<Bits, GateFault>
-    requires { AreOperands (G.made g.old) 64 a.now.items b.now.items }
-    ensures ok { IfOk result (λ bits. let n = length a.now.items in MakesWord (G.made g.old) (G.made g.new) (10 * (n * n)) n (λ v. binary_value Binary.Mul n (word_value v a.now.items) (word_value v b.now.items)) bits.items) }
-    ensures refused { IfErr result (let n = length a.now.items in Refuses (G.made g.old) (G.made g.new) (10 * (n * n))) }
+pub(crate) fn mul_bits<G: Gates>(g: &mut G, a: &[Lit], b: &[Lit]) -> Result<Bits, GateFault>
+    requires { AreOperands (G.made g.old) 64 a.now b.now }
+    ensures ok { IfOk result (λ bits. let n = length a.now in MakesWord (G.made g.old) (G.made g.new) (10 * (n * n)) n (λ v. binary_value Binary.Mul n (word_value v a.now) (word_value v b.now)) bits.items) }
+    ensures refused { IfErr result (let n = length a.now in Refuses (G.made g.old) (G.made g.new) (10 * (n * n))) }
 {
     mul(g, a, b)
 }
@@ -106,23 +106,23 @@ pub(crate) struct Product {
 fn with_whole_row<G: Gates>(
     g: &mut G,
     so_far: &Product,
-    a: &Bits,
+    a: &[Lit],
     place: usize,
     lit: Lit,
 ) -> Result<Product, GateFault>
-    requires operands { AreOperands (G.made g.old) 64 a.now.items so_far.now.bits.items }
+    requires operands { AreOperands (G.made g.old) 64 a.now so_far.now.bits.items }
     requires lost { IsDefined (G.made g.old) so_far.now.lost }
     requires some { 1 ≤ place }
-    requires inside { place < length a.now.items }
+    requires inside { place < length a.now }
     requires literal { IsDefined (G.made g.old) lit }
-    ensures bits { IfOk result (λ product. let n = length a.now.items in MakesWord (G.made g.old) (G.made g.new) (12 * n) n (λ v. (word_value v so_far.now.bits.items + word_value v a.now.items * (2 ^ place * literal_number v lit)) % 2 ^ n) product.bits.items) }
-    ensures lost { IfOk result (λ product. let n = length a.now.items in MakesLiteral (G.made g.old) (G.made g.new) (12 * n) (λ v. literal_value v so_far.now.lost || nat_le (2 ^ n) (word_value v so_far.now.bits.items + word_value v a.now.items * (2 ^ place * literal_number v lit))) product.lost) }
-    ensures refused { IfErr result (Refuses (G.made g.old) (G.made g.new) (12 * length a.now.items)) }
+    ensures bits { IfOk result (λ product. let n = length a.now in MakesWord (G.made g.old) (G.made g.new) (12 * n) n (λ v. (word_value v so_far.now.bits.items + word_value v a.now * (2 ^ place * literal_number v lit)) % 2 ^ n) product.bits.items) }
+    ensures lost { IfOk result (λ product. let n = length a.now in MakesLiteral (G.made g.old) (G.made g.new) (12 * n) (λ v. literal_value v so_far.now.lost || nat_le (2 ^ n) (word_value v so_far.now.bits.items + word_value v a.now * (2 ^ place * literal_number v lit))) product.lost) }
+    ensures refused { IfErr result (Refuses (G.made g.old) (G.made g.new) (12 * length a.now)) }
 {
-    let row = masked(g, &raised(a, place), lit)?;
-    let sum = add(g, &so_far.bits, &row, Lit::FALSE)?;
+    let row = masked(g, raised(a, place).as_slice(), lit)?;
+    let sum = add(g, so_far.bits.as_slice(), row.as_slice(), Lit::FALSE)?;
     let above = has_bit_from(g, a, a.len() - place)?;
-    let cut = conjunction(g, above, lit)?;
+    let cut = g.and(above, lit)?;
     let more = disjunction(g, cut, sum.out)?;
     let lost = disjunction(g, so_far.lost, more)?;
     Ok(Product {
@@ -132,11 +132,11 @@ fn with_whole_row<G: Gates>(
 }
 
 /// The bits of the product of two words, and whether it is no word of the width.
-pub(crate) fn whole_product<G: Gates>(g: &mut G, a: &Bits, b: &Bits) -> Result<Product, GateFault>
-    requires { AreOperands (G.made g.old) 64 a.now.items b.now.items }
-    ensures bits { IfOk result (λ product. let n = length a.now.items in MakesWord (G.made g.old) (G.made g.new) (12 * (n * n)) n (λ v. word_value v a.now.items * word_value v b.now.items % 2 ^ n) product.bits.items) }
-    ensures lost { IfOk result (λ product. let n = length a.now.items in MakesLiteral (G.made g.old) (G.made g.new) (12 * (n * n)) (λ v. nat_le (2 ^ n) (word_value v a.now.items * word_value v b.now.items)) product.lost) }
-    ensures refused { IfErr result (let n = length a.now.items in Refuses (G.made g.old) (G.made g.new) (12 * (n * n))) }
+pub(crate) fn whole_product<G: Gates>(g: &mut G, a: &[Lit], b: &[Lit]) -> Result<Product, GateFault>
+    requires { AreOperands (G.made g.old) 64 a.now b.now }
+    ensures bits { IfOk result (λ product. let n = length a.now in MakesWord (G.made g.old) (G.made g.new) (12 * (n * n)) n (λ v. word_value v a.now * word_value v b.now % 2 ^ n) product.bits.items) }
+    ensures lost { IfOk result (λ product. let n = length a.now in MakesLiteral (G.made g.old) (G.made g.new) (12 * (n * n)) (λ v. nat_le (2 ^ n) (word_value v a.now * word_value v b.now)) product.lost) }
+    ensures refused { IfErr result (let n = length a.now in Refuses (G.made g.old) (G.made g.new) (12 * (n * n))) }
 {
     let bits = masked(g, a, b[0])?;
     let mut product = Product {

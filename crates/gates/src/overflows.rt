@@ -15,7 +15,7 @@ use crate::bit_lists::{negation, one_bit};
 use crate::bitwise::{Connective, connect_bits};
 use crate::comparisons::{less, less_column, top_negated};
 use crate::fault::GateFault;
-use crate::literals::{conjunction, disjunction, xor};
+use crate::literals::{disjunction, xor};
 use crate::maker::{Bits, Gates};
 use crate::multiplication::{Product, whole_product};
 use crate::sizes::size;
@@ -28,11 +28,11 @@ use base::Binary;
 /// Conditions: the operator is one of the overflow tests `Uaddo`, `Saddo`, `Usubo`, `Ssubo`, `Umulo`, `Smulo` and
 /// `Sdivo`; operands of equal length from 1 to 64, all literals defined. Errors: `TooBig` only where the variables so far
 /// and the operator's bound sum to more than 2^30, `NoMemory`; the gates made so far stay.
-pub fn overflow<G: Gates>(g: &mut G, op: Binary, a: &Bits, b: &Bits) -> Result<Lit, GateFault>
+pub fn overflow<G: Gates>(g: &mut G, op: Binary, a: &[Lit], b: &[Lit]) -> Result<Lit, GateFault>
     requires overflow { is_overflow op ≡ true }
-    requires operands { AreOperands (G.made g.old) 64 a.now.items b.now.items }
-    ensures ok { IfOk result (λ l. let n = length a.now.items in MakesWord (G.made g.old) (G.made g.new) (binary_bound op n) 1 (λ v. binary_value op n (word_value v a.now.items) (word_value v b.now.items)) (l ∷ [])) }
-    ensures refused { IfErr result (Refuses (G.made g.old) (G.made g.new) (binary_bound op (length a.now.items))) }
+    requires operands { AreOperands (G.made g.old) 64 a.now b.now }
+    ensures ok { IfOk result (λ l. let n = length a.now in MakesWord (G.made g.old) (G.made g.new) (binary_bound op n) 1 (λ v. binary_value op n (word_value v a.now) (word_value v b.now)) (l ∷ [])) }
+    ensures refused { IfErr result (Refuses (G.made g.old) (G.made g.new) (binary_bound op (length a.now))) }
 {
     match op {
         Binary::Uaddo => uaddo(g, a, b),
@@ -50,32 +50,32 @@ pub fn overflow<G: Gates>(g: &mut G, op: Binary, a: &Bits, b: &Bits) -> Result<L
 pub(crate) fn overflow_bit<G: Gates>(
     g: &mut G,
     op: Binary,
-    a: &Bits,
-    b: &Bits,
+    a: &[Lit],
+    b: &[Lit],
 ) -> Result<Bits, GateFault>
     requires overflow { is_overflow op ≡ true }
-    requires operands { AreOperands (G.made g.old) 64 a.now.items b.now.items }
-    ensures ok { IfOk result (λ bits. let n = length a.now.items in MakesWord (G.made g.old) (G.made g.new) (binary_bound op n) (binary_width op n) (λ v. binary_value op n (word_value v a.now.items) (word_value v b.now.items)) bits.items) }
-    ensures refused { IfErr result (Refuses (G.made g.old) (G.made g.new) (binary_bound op (length a.now.items))) }
+    requires operands { AreOperands (G.made g.old) 64 a.now b.now }
+    ensures ok { IfOk result (λ bits. let n = length a.now in MakesWord (G.made g.old) (G.made g.new) (binary_bound op n) (binary_width op n) (λ v. binary_value op n (word_value v a.now) (word_value v b.now)) bits.items) }
+    ensures refused { IfErr result (Refuses (G.made g.old) (G.made g.new) (binary_bound op (length a.now))) }
 {
     let lit = overflow(g, op, a, b)?;
     Ok(one_bit(lit))
 }
 
 /// Whether the sum of words as whole numbers is no word: the second is above what the first leaves up to the greatest.
-fn uaddo<G: Gates>(g: &mut G, a: &Bits, b: &Bits) -> Result<Lit, GateFault>
-    requires { AreOperands (G.made g.old) 64 a.now.items b.now.items }
-    ensures ok { IfOk result (λ l. let n = length a.now.items in MakesWord (G.made g.old) (G.made g.new) (9 * n) 1 (λ v. binary_value Binary.Uaddo n (word_value v a.now.items) (word_value v b.now.items)) (l ∷ [])) }
-    ensures refused { IfErr result (Refuses (G.made g.old) (G.made g.new) (9 * length a.now.items)) }
+fn uaddo<G: Gates>(g: &mut G, a: &[Lit], b: &[Lit]) -> Result<Lit, GateFault>
+    requires { AreOperands (G.made g.old) 64 a.now b.now }
+    ensures ok { IfOk result (λ l. let n = length a.now in MakesWord (G.made g.old) (G.made g.new) (9 * n) 1 (λ v. binary_value Binary.Uaddo n (word_value v a.now) (word_value v b.now)) (l ∷ [])) }
+    ensures refused { IfErr result (Refuses (G.made g.old) (G.made g.new) (9 * length a.now)) }
 {
-    less(g, &negation(a), b)
+    less(g, negation(a).as_slice(), b)
 }
 
 /// Whether the difference of words as whole numbers is below 0: the first is less than the second.
-fn usubo<G: Gates>(g: &mut G, a: &Bits, b: &Bits) -> Result<Lit, GateFault>
-    requires { AreOperands (G.made g.old) 64 a.now.items b.now.items }
-    ensures ok { IfOk result (λ l. let n = length a.now.items in MakesWord (G.made g.old) (G.made g.new) (9 * n) 1 (λ v. binary_value Binary.Usubo n (word_value v a.now.items) (word_value v b.now.items)) (l ∷ [])) }
-    ensures refused { IfErr result (Refuses (G.made g.old) (G.made g.new) (9 * length a.now.items)) }
+fn usubo<G: Gates>(g: &mut G, a: &[Lit], b: &[Lit]) -> Result<Lit, GateFault>
+    requires { AreOperands (G.made g.old) 64 a.now b.now }
+    ensures ok { IfOk result (λ l. let n = length a.now in MakesWord (G.made g.old) (G.made g.new) (9 * n) 1 (λ v. binary_value Binary.Usubo n (word_value v a.now) (word_value v b.now)) (l ∷ [])) }
+    ensures refused { IfErr result (Refuses (G.made g.old) (G.made g.new) (9 * length a.now)) }
 {
     less(g, a, b)
 }
@@ -84,15 +84,15 @@ fn usubo<G: Gates>(g: &mut G, a: &Bits, b: &Bits) -> Result<Lit, GateFault>
 /// for the sum's bits.
 fn carry_out<G: Gates>(
     g: &mut G,
-    a: &Bits,
-    b: &Bits,
+    a: &[Lit],
+    b: &[Lit],
     carry: Lit,
     count: usize,
 ) -> Result<Lit, GateFault>
-    requires operands { AreOperands (G.made g.old) 64 a.now.items b.now.items }
+    requires operands { AreOperands (G.made g.old) 64 a.now b.now }
     requires carry { IsDefined (G.made g.old) carry }
-    requires inside { count ≤ length a.now.items }
-    ensures ok { IfOk result (MakesLiteral (G.made g.old) (G.made g.new) (4 * count) (λ v. nat_le (2 ^ count) (word_value v (take count a.now.items) + word_value v (take count b.now.items) + literal_number v carry))) }
+    requires inside { count ≤ length a.now }
+    ensures ok { IfOk result (MakesLiteral (G.made g.old) (G.made g.new) (4 * count) (λ v. nat_le (2 ^ count) (word_value v (take count a.now) + word_value v (take count b.now) + literal_number v carry))) }
     ensures refused { IfErr result (Refuses (G.made g.old) (G.made g.new) (4 * count)) }
 {
     let mut out = carry;
@@ -103,11 +103,11 @@ fn carry_out<G: Gates>(
 }
 
 /// Whether the sum of signed numbers and a carry is none of the width: the carries into and out of its highest bit differ.
-fn sum_overflow<G: Gates>(g: &mut G, a: &Bits, b: &Bits, carry: Lit) -> Result<Lit, GateFault>
-    requires operands { AreOperands (G.made g.old) 64 a.now.items b.now.items }
+fn sum_overflow<G: Gates>(g: &mut G, a: &[Lit], b: &[Lit], carry: Lit) -> Result<Lit, GateFault>
+    requires operands { AreOperands (G.made g.old) 64 a.now b.now }
     requires carry { IsDefined (G.made g.old) carry }
-    ensures ok { IfOk result (let n = length a.now.items in MakesLiteral (G.made g.old) (G.made g.new) (12 * n) (λ v. overflows n (signed n (word_value v a.now.items) +ℤ signed n (word_value v b.now.items) +ℤ pos (literal_number v carry)))) }
-    ensures refused { IfErr result (Refuses (G.made g.old) (G.made g.new) (12 * length a.now.items)) }
+    ensures ok { IfOk result (let n = length a.now in MakesLiteral (G.made g.old) (G.made g.new) (12 * n) (λ v. overflows n (signed n (word_value v a.now) +ℤ signed n (word_value v b.now) +ℤ pos (literal_number v carry)))) }
+    ensures refused { IfErr result (Refuses (G.made g.old) (G.made g.new) (12 * length a.now)) }
 {
     let into_top = carry_out(g, a, b, carry, a.len() - 1)?;
     let out = carry_out(g, a, b, carry, a.len())?;
@@ -115,83 +115,83 @@ fn sum_overflow<G: Gates>(g: &mut G, a: &Bits, b: &Bits, carry: Lit) -> Result<L
 }
 
 /// Whether the sum of signed numbers is none of the width.
-fn saddo<G: Gates>(g: &mut G, a: &Bits, b: &Bits) -> Result<Lit, GateFault>
-    requires { AreOperands (G.made g.old) 64 a.now.items b.now.items }
-    ensures ok { IfOk result (λ l. let n = length a.now.items in MakesWord (G.made g.old) (G.made g.new) (12 * n) 1 (λ v. binary_value Binary.Saddo n (word_value v a.now.items) (word_value v b.now.items)) (l ∷ [])) }
-    ensures refused { IfErr result (Refuses (G.made g.old) (G.made g.new) (12 * length a.now.items)) }
+fn saddo<G: Gates>(g: &mut G, a: &[Lit], b: &[Lit]) -> Result<Lit, GateFault>
+    requires { AreOperands (G.made g.old) 64 a.now b.now }
+    ensures ok { IfOk result (λ l. let n = length a.now in MakesWord (G.made g.old) (G.made g.new) (12 * n) 1 (λ v. binary_value Binary.Saddo n (word_value v a.now) (word_value v b.now)) (l ∷ [])) }
+    ensures refused { IfErr result (Refuses (G.made g.old) (G.made g.new) (12 * length a.now)) }
 {
     sum_overflow(g, a, b, Lit::FALSE)
 }
 
 /// Whether the difference of signed numbers is none of the width, as a sum: the second word negated, and one more.
-fn ssubo<G: Gates>(g: &mut G, a: &Bits, b: &Bits) -> Result<Lit, GateFault>
-    requires { AreOperands (G.made g.old) 64 a.now.items b.now.items }
-    ensures ok { IfOk result (λ l. let n = length a.now.items in MakesWord (G.made g.old) (G.made g.new) (12 * n) 1 (λ v. binary_value Binary.Ssubo n (word_value v a.now.items) (word_value v b.now.items)) (l ∷ [])) }
-    ensures refused { IfErr result (Refuses (G.made g.old) (G.made g.new) (12 * length a.now.items)) }
+fn ssubo<G: Gates>(g: &mut G, a: &[Lit], b: &[Lit]) -> Result<Lit, GateFault>
+    requires { AreOperands (G.made g.old) 64 a.now b.now }
+    ensures ok { IfOk result (λ l. let n = length a.now in MakesWord (G.made g.old) (G.made g.new) (12 * n) 1 (λ v. binary_value Binary.Ssubo n (word_value v a.now) (word_value v b.now)) (l ∷ [])) }
+    ensures refused { IfErr result (Refuses (G.made g.old) (G.made g.new) (12 * length a.now)) }
 {
-    sum_overflow(g, a, &negation(b), Lit::TRUE)
+    sum_overflow(g, a, negation(b).as_slice(), Lit::TRUE)
 }
 
 /// Whether the quotient of signed numbers is none of the width: the least number, whose highest bit alone is 1, by the
 /// word of all ones, which is -1.
-fn sdivo<G: Gates>(g: &mut G, a: &Bits, b: &Bits) -> Result<Lit, GateFault>
-    requires { AreOperands (G.made g.old) 64 a.now.items b.now.items }
-    ensures ok { IfOk result (λ l. let n = length a.now.items in MakesWord (G.made g.old) (G.made g.new) (3 * n) 1 (λ v. binary_value Binary.Sdivo n (word_value v a.now.items) (word_value v b.now.items)) (l ∷ [])) }
-    ensures refused { IfErr result (Refuses (G.made g.old) (G.made g.new) (3 * length a.now.items)) }
+fn sdivo<G: Gates>(g: &mut G, a: &[Lit], b: &[Lit]) -> Result<Lit, GateFault>
+    requires { AreOperands (G.made g.old) 64 a.now b.now }
+    ensures ok { IfOk result (λ l. let n = length a.now in MakesWord (G.made g.old) (G.made g.new) (3 * n) 1 (λ v. binary_value Binary.Sdivo n (word_value v a.now) (word_value v b.now)) (l ∷ [])) }
+    ensures refused { IfErr result (Refuses (G.made g.old) (G.made g.new) (3 * length a.now)) }
 {
-    let as_least = top_negated(&negation(a));
+    let as_least = top_negated(negation(a).as_slice());
     let is_least = connect_bits(g, Connective::And, as_least.as_slice())?;
-    let is_minus_one = connect_bits(g, Connective::And, b.as_slice())?;
-    conjunction(g, is_least, is_minus_one)
+    let is_minus_one = connect_bits(g, Connective::And, b)?;
+    g.and(is_least, is_minus_one)
 }
 
 /// Whether the product of words as whole numbers is no word.
-fn umulo<G: Gates>(g: &mut G, a: &Bits, b: &Bits) -> Result<Lit, GateFault>
-    requires { AreOperands (G.made g.old) 64 a.now.items b.now.items }
-    ensures ok { IfOk result (λ l. let n = length a.now.items in MakesWord (G.made g.old) (G.made g.new) (40 * (n * n) + n) 1 (λ v. binary_value Binary.Umulo n (word_value v a.now.items) (word_value v b.now.items)) (l ∷ [])) }
-    ensures refused { IfErr result (let n = length a.now.items in Refuses (G.made g.old) (G.made g.new) (40 * (n * n) + n)) }
+fn umulo<G: Gates>(g: &mut G, a: &[Lit], b: &[Lit]) -> Result<Lit, GateFault>
+    requires { AreOperands (G.made g.old) 64 a.now b.now }
+    ensures ok { IfOk result (λ l. let n = length a.now in MakesWord (G.made g.old) (G.made g.new) (40 * (n * n) + n) 1 (λ v. binary_value Binary.Umulo n (word_value v a.now) (word_value v b.now)) (l ∷ [])) }
+    ensures refused { IfErr result (let n = length a.now in Refuses (G.made g.old) (G.made g.new) (40 * (n * n) + n)) }
 {
     let product = whole_product(g, a, b)?;
     Ok(product.lost)
 }
 
 /// The product of the sizes of two signed numbers, and whether it is no word of the width.
-fn size_product<G: Gates>(g: &mut G, a: &Bits, b: &Bits) -> Result<Product, GateFault>
-    requires { AreOperands (G.made g.old) 64 a.now.items b.now.items }
-    ensures bits { IfOk result (λ product. let n = length a.now.items in MakesWord (G.made g.old) (G.made g.new) (12 * (n * n) + 24 * n) n (λ v. unsigned_abs (signed n (word_value v a.now.items)) * unsigned_abs (signed n (word_value v b.now.items)) % 2 ^ n) product.bits.items) }
-    ensures lost { IfOk result (λ product. let n = length a.now.items in MakesLiteral (G.made g.old) (G.made g.new) (12 * (n * n) + 24 * n) (λ v. nat_le (2 ^ n) (unsigned_abs (signed n (word_value v a.now.items)) * unsigned_abs (signed n (word_value v b.now.items)))) product.lost) }
-    ensures refused { IfErr result (let n = length a.now.items in Refuses (G.made g.old) (G.made g.new) (12 * (n * n) + 24 * n)) }
+fn size_product<G: Gates>(g: &mut G, a: &[Lit], b: &[Lit]) -> Result<Product, GateFault>
+    requires { AreOperands (G.made g.old) 64 a.now b.now }
+    ensures bits { IfOk result (λ product. let n = length a.now in MakesWord (G.made g.old) (G.made g.new) (12 * (n * n) + 24 * n) n (λ v. unsigned_abs (signed n (word_value v a.now)) * unsigned_abs (signed n (word_value v b.now)) % 2 ^ n) product.bits.items) }
+    ensures lost { IfOk result (λ product. let n = length a.now in MakesLiteral (G.made g.old) (G.made g.new) (12 * (n * n) + 24 * n) (λ v. nat_le (2 ^ n) (unsigned_abs (signed n (word_value v a.now)) * unsigned_abs (signed n (word_value v b.now)))) product.lost) }
+    ensures refused { IfErr result (let n = length a.now in Refuses (G.made g.old) (G.made g.new) (12 * (n * n) + 24 * n)) }
 {
     let first = size(g, a)?;
     let second = size(g, b)?;
-    whole_product(g, &first, &second)
+    whole_product(g, first.as_slice(), second.as_slice())
 }
 
 /// Whether the number of a sign and a size is none of the width: the size has its highest bit, and is not that of the
 /// least number or the sign is not.
-fn size_overflow<G: Gates>(g: &mut G, negative: Lit, size: &Bits) -> Result<Lit, GateFault>
-    requires some { 1 ≤ length size.now.items }
-    requires most { length size.now.items ≤ 64 }
+fn size_overflow<G: Gates>(g: &mut G, negative: Lit, size: &[Lit]) -> Result<Lit, GateFault>
+    requires some { 1 ≤ length size.now }
+    requires most { length size.now ≤ 64 }
     requires literal { IsDefined (G.made g.old) negative }
-    requires defined { All (IsDefined (G.made g.old)) size.now.items }
-    ensures ok { IfOk result (let n = length size.now.items in MakesLiteral (G.made g.old) (G.made g.new) (n + 1) (λ v. overflows n (if literal_value v negative then neg_ℤ (pos (word_value v size.now.items)) else pos (word_value v size.now.items)))) }
-    ensures refused { IfErr result (Refuses (G.made g.old) (G.made g.new) (length size.now.items + 1)) }
+    requires defined { All (IsDefined (G.made g.old)) size.now }
+    ensures ok { IfOk result (let n = length size.now in MakesLiteral (G.made g.old) (G.made g.new) (n + 1) (λ v. overflows n (if literal_value v negative then neg_ℤ (pos (word_value v size.now)) else pos (word_value v size.now)))) }
+    ensures refused { IfErr result (Refuses (G.made g.old) (G.made g.new) (length size.now + 1)) }
 {
     let top = size.len() - 1;
-    let below = connect_bits(g, Connective::Or, &size.as_slice()[..top])?;
+    let below = connect_bits(g, Connective::Or, &size[..top])?;
     let other = disjunction(g, below, negative.not())?;
-    conjunction(g, size[top], other)
+    g.and(size[top], other)
 }
 
 /// Whether the product of signed numbers is none of the width, by the product of their sizes.
-fn smulo<G: Gates>(g: &mut G, a: &Bits, b: &Bits) -> Result<Lit, GateFault>
-    requires { AreOperands (G.made g.old) 64 a.now.items b.now.items }
-    ensures ok { IfOk result (λ l. let n = length a.now.items in MakesWord (G.made g.old) (G.made g.new) (40 * (n * n) + 4 * n) 1 (λ v. binary_value Binary.Smulo n (word_value v a.now.items) (word_value v b.now.items)) (l ∷ [])) }
-    ensures refused { IfErr result (let n = length a.now.items in Refuses (G.made g.old) (G.made g.new) (40 * (n * n) + 4 * n)) }
+fn smulo<G: Gates>(g: &mut G, a: &[Lit], b: &[Lit]) -> Result<Lit, GateFault>
+    requires { AreOperands (G.made g.old) 64 a.now b.now }
+    ensures ok { IfOk result (λ l. let n = length a.now in MakesWord (G.made g.old) (G.made g.new) (40 * (n * n) + 4 * n) 1 (λ v. binary_value Binary.Smulo n (word_value v a.now) (word_value v b.now)) (l ∷ [])) }
+    ensures refused { IfErr result (let n = length a.now in Refuses (G.made g.old) (G.made g.new) (40 * (n * n) + 4 * n)) }
 {
     let top = a.len() - 1;
     let product = size_product(g, a, b)?;
     let negative = xor(g, a[top], b[top])?;
-    let above = size_overflow(g, negative, &product.bits)?;
+    let above = size_overflow(g, negative, product.bits.as_slice())?;
     disjunction(g, product.lost, above)
 }

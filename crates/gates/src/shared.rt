@@ -75,7 +75,7 @@ fn add_gate(
     requires order { pair.rhs1 ≤ pair.rhs0 }
     requires defined { IsDefined (net circuit.old) pair.rhs0 }
     requires room { variables (net circuit.old) < greatest_count }
-    requires room_last { vec_len chains.old.last + 2 ≤ vec_capacity chains.old.last }
+    requires room_last { vec_len chains.old.last < vec_capacity chains.old.last }
     requires room_before { vec_len chains.old.before < vec_capacity chains.old.before }
     requires room_beyond { is_full ≡ true → 0 < spare chains.old.beyond }
     ensures ok { IfOk result (λ l. (circuit.new ≡ record circuit.old { gates = circuit.old.gates ++ pair ∷ [] }) × (l ≡ 2 * (variables (net circuit.old) + 1))) }
@@ -117,8 +117,7 @@ fn over(alloc: Global, circuit: Circuit) -> Result<HashGates, GateFault>
     ensures ok { IfOk result (λ made. made ≡ net circuit) }
     ensures memory { IfErr result (λ e. e ≡ GateFault.NoMemory) }
 {
-    let literals = 2 * (circuit.variables() as usize + 1);
-    let chains = Chains::new(alloc, literals)?;
+    let chains = Chains::new(alloc, circuit.variables() as usize + 1)?;
     Ok(HashGates { circuit, chains })
 }
 

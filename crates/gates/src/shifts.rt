@@ -18,32 +18,32 @@ use aiger::Lit;
 use base::Binary;
 
 /// Of two words one behind the other, as many literals as one has, from a place on.
-fn window(low: &Bits, high: &Bits, from: usize) -> Bits
-    requires most { length low.now.items ≤ 64 }
-    requires equal { length high.now.items ≡ length low.now.items }
-    requires inside { from ≤ length low.now.items }
-    ensures { result.items ≡ drop from low.now.items ++ take from high.now.items }
+fn window(low: &[Lit], high: &[Lit], from: usize) -> Bits
+    requires most { length low.now ≤ 64 }
+    requires equal { length high.now ≡ length low.now }
+    requires inside { from ≤ length low.now }
+    ensures { result.items ≡ drop from low.now ++ take from high.now }
 {
     let mut bits = Bits::new();
-    append(&mut bits, &low.as_slice()[from..]);
-    append(&mut bits, &high.as_slice()[..from]);
+    append(&mut bits, &low[from..]);
+    append(&mut bits, &high[..from]);
     bits
 }
 
 /// A word moved by an amount below its width, which takes no gate.
-fn moved(op: Binary, a: &Bits, by: usize) -> Bits
+fn moved(op: Binary, a: &[Lit], by: usize) -> Bits
     requires moves { is_move op ≡ true }
-    requires most { length a.now.items ≤ 64 }
-    requires below { by < length a.now.items }
-    ensures wide { length result.items ≡ length a.now.items }
-    ensures defined { (n : Net) → All (IsDefined n) a.now.items → All (IsDefined n) result.items }
-    ensures means { (v : Valuation) → word_value v result.items ≡ binary_value op (length a.now.items) (word_value v a.now.items) by }
+    requires most { length a.now ≤ 64 }
+    requires below { by < length a.now }
+    ensures wide { length result.items ≡ length a.now }
+    ensures defined { (n : Net) → All (IsDefined n) a.now → All (IsDefined n) result.items }
+    ensures means { (v : Valuation) → word_value v result.items ≡ binary_value op (length a.now) (word_value v a.now) by }
 {
     let width = a.len();
     match op {
-        Binary::Sll => window(&repeated(Lit::FALSE, width), a, width - by),
-        Binary::Srl => window(a, &repeated(Lit::FALSE, width), by),
-        Binary::Sra => window(a, &repeated(a[width - 1], width), by),
+        Binary::Sll => window(repeated(Lit::FALSE, width).as_slice(), a, width - by),
+        Binary::Srl => window(a, repeated(Lit::FALSE, width).as_slice(), by),
+        Binary::Sra => window(a, repeated(a[width - 1], width).as_slice(), by),
         Binary::Rol => window(a, a, width - by),
         Binary::Ror => window(a, a, by),
         _ => unreachable!(),
@@ -56,36 +56,42 @@ fn moved(op: Binary, a: &Bits, by: usize) -> Bits
 fn moved_in_turn<G: Gates>(
     g: &mut G,
     op: Binary,
-    a: &Bits,
+    a: &[Lit],
     amount: &[Lit],
 ) -> Result<Bits, GateFault>
     requires moves { is_move op ≡ true }
-    requires some { 1 ≤ length a.now.items }
-    requires most { length a.now.items ≤ 64 }
+    requires some { 1 ≤ length a.now }
+    requires most { length a.now ≤ 64 }
     requires places { length amount.now ≤ 64 }
-    requires near { is_shift op ≡ true → 2 ^ length amount.now < 2 * length a.now.items }
-    requires defined { All (IsDefined (G.made g.old)) a.now.items }
+    requires near { is_shift op ≡ true → 2 ^ length amount.now < 2 * length a.now }
+    requires defined { All (IsDefined (G.made g.old)) a.now }
     requires amount { All (IsDefined (G.made g.old)) amount.now }
-    ensures ok { IfOk result (λ bits. let n = length a.now.items in MakesWord (G.made g.old) (G.made g.new) (3 * (n * length amount.now)) n (λ v. binary_value op n (word_value v a.now.items) (word_value v amount.now)) bits.items) }
-    ensures refused { IfErr result (Refuses (G.made g.old) (G.made g.new) (3 * (length a.now.items * length amount.now))) }
+    ensures ok { IfOk result (λ bits. let n = length a.now in MakesWord (G.made g.old) (G.made g.new) (3 * (n * length amount.now)) n (λ v. binary_value op n (word_value v a.now) (word_value v amount.now)) bits.items) }
+    ensures refused { IfErr result (Refuses (G.made g.old) (G.made g.new) (3 * (length a.now * length amount.now))) }
 {
     let mut bits = moved(op, a, 0);
     for place in 0..amount.len() {
         let by = (1 << place) % bits.len();
-        bits = choose(g, amount[place], &moved(op, &bits, by), &bits)?;
+        let there = moved(op, bits.as_slice(), by);
+        bits = choose(g, amount[place], there.as_slice(), bits.as_slice())?;
     }
     Ok(bits)
 }
 
 /// A word moved by the low bits of an amount, or what is left where the amount has a high bit.
-fn near_or_far<G: Gates>(g: &mut G, is_far: Lit, far: &Bits, near: &Bits) -> Result<Bits, GateFault>
-    requires most { length far.now.items ≤ 64 }
-    requires equal { length near.now.items ≡ length far.now.items }
+fn near_or_far<G: Gates>(
+    g: &mut G,
+    is_far: Lit,
+    far: &[Lit],
+    near: &[Lit],
+) -> Result<Bits, GateFault>
+    requires most { length far.now ≤ 64 }
+    requires equal { length near.now ≡ length far.now }
     requires condition { IsDefined (G.made g.old) is_far }
-    requires then { All (IsDefined (G.made g.old)) far.now.items }
-    requires otherwise { All (IsDefined (G.made g.old)) near.now.items }
-    ensures ok { IfOk result (λ bits. let n = length far.now.items in MakesWord (G.made g.old) (G.made g.new) (3 * n) n (λ v. if literal_value v is_far then word_value v far.now.items else word_value v near.now.items) bits.items) }
-    ensures refused { IfErr result (Refuses (G.made g.old) (G.made g.new) (3 * length far.now.items)) }
+    requires then { All (IsDefined (G.made g.old)) far.now }
+    requires otherwise { All (IsDefined (G.made g.old)) near.now }
+    ensures ok { IfOk result (λ bits. let n = length far.now in MakesWord (G.made g.old) (G.made g.new) (3 * n) n (λ v. if literal_value v is_far then word_value v far.now else word_value v near.now) bits.items) }
+    ensures refused { IfErr result (Refuses (G.made g.old) (G.made g.new) (3 * length far.now)) }
 {
     choose(g, is_far, far, near)
 }
@@ -95,21 +101,21 @@ fn near_or_far<G: Gates>(g: &mut G, is_far: Lit, far: &Bits, near: &Bits) -> Res
 /// Conditions: the operator is `Sll`, `Srl` or `Sra`; operands of equal length from 1 to 64, all literals defined.
 /// Errors: `TooBig` only where the variables so far and the operator's bound sum to more than 2^30, `NoMemory`; the gates
 /// made so far stay.
-pub fn shift<G: Gates>(g: &mut G, op: Binary, a: &Bits, b: &Bits) -> Result<Bits, GateFault>
+pub fn shift<G: Gates>(g: &mut G, op: Binary, a: &[Lit], b: &[Lit]) -> Result<Bits, GateFault>
     requires shifts { is_shift op ≡ true }
-    requires operands { AreOperands (G.made g.old) 64 a.now.items b.now.items }
-    ensures ok { IfOk result (λ bits. let n = length a.now.items in MakesWord (G.made g.old) (G.made g.new) (binary_bound op n) n (λ v. binary_value op n (word_value v a.now.items) (word_value v b.now.items)) bits.items) }
-    ensures refused { IfErr result (Refuses (G.made g.old) (G.made g.new) (binary_bound op (length a.now.items))) }
+    requires operands { AreOperands (G.made g.old) 64 a.now b.now }
+    ensures ok { IfOk result (λ bits. let n = length a.now in MakesWord (G.made g.old) (G.made g.new) (binary_bound op n) n (λ v. binary_value op n (word_value v a.now) (word_value v b.now)) bits.items) }
+    ensures refused { IfErr result (Refuses (G.made g.old) (G.made g.new) (binary_bound op (length a.now))) }
 {
     let width = a.len();
-    let (low, high) = b.as_slice().split_at(log_up(width as u64) as usize);
+    let (low, high) = b.split_at(log_up(width as u64) as usize);
     let near = moved_in_turn(g, op, a, low)?;
     let is_far = connect_bits(g, Connective::Or, high)?;
     let fill = match op {
         Binary::Sra => a[width - 1],
         _ => Lit::FALSE,
     };
-    near_or_far(g, is_far, &repeated(fill, width), &near)
+    near_or_far(g, is_far, repeated(fill, width).as_slice(), near.as_slice())
 }
 
 /// A word rotated by an amount, which counts modulo the width.
@@ -117,11 +123,11 @@ pub fn shift<G: Gates>(g: &mut G, op: Binary, a: &Bits, b: &Bits) -> Result<Bits
 /// Conditions: the operator is `Rol` or `Ror`; operands of equal length from 1 to 64, all literals defined. Errors:
 /// `TooBig` only where the variables so far and the operator's bound sum to more than 2^30, `NoMemory`; the gates made so
 /// far stay.
-pub fn rotate<G: Gates>(g: &mut G, op: Binary, a: &Bits, b: &Bits) -> Result<Bits, GateFault>
+pub fn rotate<G: Gates>(g: &mut G, op: Binary, a: &[Lit], b: &[Lit]) -> Result<Bits, GateFault>
     requires rotates { is_rotation op ≡ true }
-    requires operands { AreOperands (G.made g.old) 64 a.now.items b.now.items }
-    ensures ok { IfOk result (λ bits. let n = length a.now.items in MakesWord (G.made g.old) (G.made g.new) (binary_bound op n) n (λ v. binary_value op n (word_value v a.now.items) (word_value v b.now.items)) bits.items) }
-    ensures refused { IfErr result (Refuses (G.made g.old) (G.made g.new) (binary_bound op (length a.now.items))) }
+    requires operands { AreOperands (G.made g.old) 64 a.now b.now }
+    ensures ok { IfOk result (λ bits. let n = length a.now in MakesWord (G.made g.old) (G.made g.new) (binary_bound op n) n (λ v. binary_value op n (word_value v a.now) (word_value v b.now)) bits.items) }
+    ensures refused { IfErr result (Refuses (G.made g.old) (G.made g.new) (binary_bound op (length a.now))) }
 {
-    moved_in_turn(g, op, a, b.as_slice())
+    moved_in_turn(g, op, a, b)
 }

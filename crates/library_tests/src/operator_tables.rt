@@ -109,11 +109,11 @@ fn built<G: Gates>(g: &mut G, op: Op, width: u32) -> Result<Option<Bits>, GateFa
     let a = inputs(0, width);
     let b = inputs(64, width);
     match op {
-        Op::Unary(op) => Ok(Some(unary_bits(g, op, &a)?)),
+        Op::Unary(op) => Ok(Some(unary_bits(g, op, a.as_slice())?)),
         Op::Binary(Binary::Iff) if width > 1 => Ok(None),
         Op::Binary(Binary::Implies) if width > 1 => Ok(None),
-        Op::Binary(op) => Ok(Some(binary_bits(g, op, &a, &b)?)),
-        Op::Ite => Ok(Some(ite_bits(g, &inputs(128, 1), &a, &b)?)),
+        Op::Binary(op) => Ok(Some(binary_bits(g, op, a.as_slice(), b.as_slice())?)),
+        Op::Ite => Ok(Some(ite_bits(g, inputs(128, 1).as_slice(), a.as_slice(), b.as_slice())?)),
     }
 }
 
@@ -369,7 +369,7 @@ fn xor_gates(alloc: Global, a: Lit, b: Lit) -> Option<usize>
     requires left { a < 386 }
     requires right { b < 386 }
 {
-    let mut g = PlainGates::new(alloc, INPUTS, 0).ok()?;
+    let mut g = HashGates::new(alloc, INPUTS, 0).ok()?;
     xor(&mut g, a, b).ok()?;
     Some(g.finish().gates().len())
 }
@@ -380,29 +380,29 @@ fn mux_gates(alloc: Global, c: Lit, t: Lit, e: Lit) -> Option<usize>
     requires then { t < 386 }
     requires otherwise { e < 386 }
 {
-    let mut g = PlainGates::new(alloc, INPUTS, 0).ok()?;
+    let mut g = HashGates::new(alloc, INPUTS, 0).ok()?;
     mux(&mut g, c, t, e).ok()?;
     Some(g.finish().gates().len())
 }
 
 /// How many gates the test for equality of two words of two bits takes.
 fn equal_gates(alloc: Global) -> Option<usize> {
-    let mut g = PlainGates::new(alloc, INPUTS, 0).ok()?;
-    equal(&mut g, &inputs(0, 2), &inputs(64, 2)).ok()?;
+    let mut g = HashGates::new(alloc, INPUTS, 0).ok()?;
+    equal(&mut g, inputs(0, 2).as_slice(), inputs(64, 2).as_slice()).ok()?;
     Some(g.finish().gates().len())
 }
 
 /// How many gates a shift of a word of two bits takes.
 fn shift_gates(alloc: Global) -> Option<usize> {
-    let mut g = PlainGates::new(alloc, INPUTS, 0).ok()?;
-    shift(&mut g, Binary::Sll, &inputs(0, 2), &inputs(64, 2)).ok()?;
+    let mut g = HashGates::new(alloc, INPUTS, 0).ok()?;
+    shift(&mut g, Binary::Sll, inputs(0, 2).as_slice(), inputs(64, 2).as_slice()).ok()?;
     Some(g.finish().gates().len())
 }
 
 /// How many gates a rotation of a word of two bits takes.
 fn rotation_gates(alloc: Global) -> Option<usize> {
-    let mut g = PlainGates::new(alloc, INPUTS, 0).ok()?;
-    rotate(&mut g, Binary::Rol, &inputs(0, 2), &inputs(64, 2)).ok()?;
+    let mut g = HashGates::new(alloc, INPUTS, 0).ok()?;
+    rotate(&mut g, Binary::Rol, inputs(0, 2).as_slice(), inputs(64, 2).as_slice()).ok()?;
     Some(g.finish().gates().len())
 }
 

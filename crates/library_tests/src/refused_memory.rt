@@ -247,7 +247,7 @@ fn divided<G: Gates>(g: &mut G) -> Result<Divided, GateFault>
     requires fresh { G.made g.old ≡ record { inputs = 16; latches = 0; gates = [] } }
 {
     g.and(Lit::new(4), Lit::new(2))?;
-    divide(g, &inputs(0, 8), &inputs(8, 8))
+    divide(g, inputs(0, 8).as_slice(), inputs(8, 8).as_slice())
 }
 
 /// What a plain maker has made.

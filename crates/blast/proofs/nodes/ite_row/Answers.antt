@@ -10,5 +10,5 @@ returns-clause-ok g c =
     let o = c.requires.first in
     let p = c.requires.second in
     IfOk-weaker c.ite_bits.result _ _
-    (λ row m. MakesNode-ite c.args.model.now (made c.args.gates.now) (made c.ite_bits.new.g) c.args.table.now c.args.condition c.args.first c.args.second c.operand_bits-c.result.items c.operand_bits-t.result.items c.operand_bits-e.result.items row.items
-    c.requires.well_formed q o p (sym q.at ∙ c.operand_bits-c.ensures) (sym o.at ∙ c.operand_bits-t.ensures) (sym p.at ∙ c.operand_bits-e.ensures) m) c.ite_bits.ensures.ok
+    (λ row m. MakesNode-ite c.args.model.now (made c.args.gates.now) (made c.ite_bits.new.g) c.args.table.now c.args.condition c.args.first c.args.second c.node_row-c.result.now c.node_row-t.result.now c.node_row-e.result.now row.items
+    c.requires.well_formed q o p (sym q.at ∙ c.node_row-c.ensures) (sym o.at ∙ c.node_row-t.ensures) (sym p.at ∙ c.node_row-e.ensures) m) c.ite_bits.ensures.ok

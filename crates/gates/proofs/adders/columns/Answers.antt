@@ -7,13 +7,13 @@ use Rattle.gates.proofs.adders.columns.Goals as goal
 
 pub full_adder-requires-clause-left : goal.full_adder-requires-clause-left
 full_adder-requires-clause-left g c =
-    let old = literal_at (g.G.Gates.made c.args.g.now) c.args.a.now.items c.deref.result.now c.loop-i.i c.index-deref-i.result c.deref.ensures.0 (omega arith) c.index-deref-i.is c.requires.operands.left in
-    IsDefined-grown _ _ _ c.loop-i.invariant.grows c.index-deref-i.result old
+    let old = literal_at (g.G.Gates.made c.args.g.now) c.args.a.now c.loop-i.i c.index-a-i.result (omega arith) c.index-a-i.is c.requires.operands.left in
+    IsDefined-grown _ _ _ c.loop-i.invariant.grows c.index-a-i.result old
 
 pub full_adder-requires-clause-right : goal.full_adder-requires-clause-right
 full_adder-requires-clause-right g c =
-    let old = literal_at (g.G.Gates.made c.args.g.now) c.args.b.now.items c.deref-in-loop-i.result.now c.loop-i.i c.index-deref-i-in-loop-i.result c.deref-in-loop-i.ensures.0 (omega arith) c.index-deref-i-in-loop-i.is c.requires.operands.right in
-    IsDefined-grown _ _ _ c.loop-i.invariant.grows c.index-deref-i-in-loop-i.result old
+    let old = literal_at (g.G.Gates.made c.args.g.now) c.args.b.now c.loop-i.i c.index-b-i.result (omega arith) c.index-b-i.is c.requires.operands.right in
+    IsDefined-grown _ _ _ c.loop-i.invariant.grows c.index-b-i.result old
 
 pub full_adder-requires-clause-carry : goal.full_adder-requires-clause-carry
 full_adder-requires-clause-carry g c = c.loop-i.invariant.out_defined
@@ -23,12 +23,12 @@ loop-i-init g c = rw c.new-sum.ensures (MakesSum-start _ c.args.carry c.requires
 
 pub loop-i-preserved : goal.loop-i-preserved
 loop-i-preserved g c =
-    let a = c.args.a.now.items in
-    let b = c.args.b.now.items in
+    let a = c.args.a.now in
+    let b = c.args.b.now in
     let i = c.loop-i.i in
-    let x = c.index-deref-i.result in
-    let y = c.index-deref-i-in-loop-i.result in
-    rw (front_with a c.deref.result.now i x c.deref.ensures.0 (omega arith) c.index-deref-i.is, front_with b c.deref-in-loop-i.result.now i y c.deref-in-loop-i.ensures.0 (omega arith) c.index-deref-i-in-loop-i.is, c.push.ensures.items)
+    let x = c.index-a-i.result in
+    let y = c.index-b-i.result in
+    rw (front_with a i x (omega arith) c.index-a-i.is, front_with b i y (omega arith) c.index-b-i.is, c.push.ensures.items)
     (MakesSum-step _ _ _ _ _ (take i a) (take i b) c.args.carry c.loop-i.sum.items c.loop-i.into_top c.loop-i.out x y c.in_ok-column.column.sum c.in_ok-column.column.carry
     (omega (arith, length-take i a, length-take i b)) (omega arith) c.loop-i.invariant c.in_ok-column.ensures.ok)
 

@@ -1,10 +1,10 @@
-use Rattle.std.proofs.Common.{arith}
+use Rattle.std.proofs.Common.{◌∙◌, arith}
 use Rattle.gates.proofs.GrowthLemmas.{MakesWord-not}
 use Rattle.gates.proofs.adders.difference.Goals as goal
 
 pub add-requires-clause-operands : goal.add-requires-clause-operands
 add-requires-clause-operands g c =
-    let negated = MakesWord-not _ c.args.b.now.items c.negation.result.items c.requires.right c.negation.ensures in
+    let negated = MakesWord-not _ c.args.b.now c.as_slice.result.now c.requires.right (c.as_slice.ensures.value ∙ c.negation.ensures) in
     record {
       some = c.requires.some;
       most = c.requires.most;
@@ -14,4 +14,4 @@ add-requires-clause-operands g c =
     }
 
 pub returns-clause-ok : goal.returns-clause-ok
-returns-clause-ok g c = rw c.negation.ensures at c.add.ensures.ok
+returns-clause-ok g c = rw (c.as_slice.ensures.value ∙ c.negation.ensures) at c.add.ensures.ok

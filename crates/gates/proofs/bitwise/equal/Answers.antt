@@ -16,8 +16,8 @@ returns-clause-ok g c =
     let old = g.G.Gates.made c.args.g.now in
     let mid = g.G.Gates.made c.differing_bits.new.g in
     let new = g.G.Gates.made c.connect_bits.new.g in
-    let a = c.args.a.now.items in
-    let b = c.args.b.now.items in
+    let a = c.args.a.now in
+    let b = c.args.b.now in
     let n = length a in
     let lit = c.in_ok-differ.differ in
     let differing = c.in_ok-differing.differing.items in
@@ -36,14 +36,14 @@ connect_bits-requires-clause-defined g c = rw c.as_slice.ensures.value c.in_ok-d
 
 pub returns-in_err-differing-clause-refused : goal.returns-in_err-differing-clause-refused
 returns-in_err-differing-clause-refused g c =
-    let n = length c.args.a.now.items in
+    let n = length c.args.a.now in
     let refused : Refuses (g.G.Gates.made c.args.g.now) (g.G.Gates.made c.differing_bits.new.g) (4 * n) c.in_err-differing.field-0.0 =
     Refuses-weaker _ _ (3 * n) (4 * n) _ (omega arith) c.in_err-differing.ensures.refused
     in search rules
 
 pub returns-in_err-differ-clause-refused : goal.returns-in_err-differ-clause-refused
 returns-in_err-differ-clause-refused g c =
-    let n = length c.args.a.now.items in
+    let n = length c.args.a.now in
     let m = length c.as_slice.result.now in
     let count : m ≡ n = ap length c.as_slice.ensures.value ∙ c.in_ok-differing.ensures.ok.wide in
     let refused : Refuses (g.G.Gates.made c.args.g.now) (g.G.Gates.made c.connect_bits.new.g) (4 * n) c.in_err-differ.field-0.0 =

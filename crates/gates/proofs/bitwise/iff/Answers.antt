@@ -15,9 +15,9 @@ same_bits false false = refl
 
 pub returns-clause-ok : goal.returns-clause-ok
 returns-clause-ok g c =
-    let x = c.index-deref-0.result in
-    let y = c.index-deref-0-2.result in
+    let x = c.index-a-0.result in
+    let y = c.index-b-0.result in
     let lit = MakesLiteral-not _ _ _ _ _ c.in_ok-differ.ensures.ok in
     MakesWord-same _ _ 3 1 _ _ c.one_bit.result.items
-    (λ v. same_bits (literal_value v x) (literal_value v y) ∙ sym (ap₂ (λ k m. bit_number (k == m)) (word_value-bit v c.args.a.now.items x c.requires.left_bit (cc)) (word_value-bit v c.args.b.now.items y c.requires.right_bit (cc))))
+    (λ v. same_bits (literal_value v x) (literal_value v y) ∙ sym (ap₂ (λ k m. bit_number (k == m)) (word_value-bit v c.args.a.now x c.requires.left_bit (cc)) (word_value-bit v c.args.b.now y c.requires.right_bit (cc))))
     (MakesWord-bit _ _ 3 _ _ c.one_bit.result.items (c.one_bit.ensures ∙ ap (λ l. l ∷ []) c.not.ensures) lit)

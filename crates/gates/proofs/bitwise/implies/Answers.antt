@@ -14,11 +14,11 @@ implied false false = refl
 
 pub returns-clause-ok : goal.returns-clause-ok
 returns-clause-ok g c =
-    let x = c.index-deref-0.result in
-    let y = c.index-deref-0-2.result in
+    let x = c.index-a-0.result in
+    let y = c.index-b-0.result in
     let lit = c.in_ok-lit.lit in
     MakesWord-same _ _ 1 1 _ _ c.one_bit.result.items
     (λ v. ap (λ z. bit_number (z || literal_value v y)) (ap (literal_value v) c.not.ensures ∙ literal_value-negation v x)
     ∙ implied (literal_value v x) (literal_value v y)
-    ∙ sym (ap₂ (λ k m. bit_number ((k == 0) || (m == 1))) (word_value-bit v c.args.a.now.items x c.requires.left_bit (cc)) (word_value-bit v c.args.b.now.items y c.requires.right_bit (cc))))
+    ∙ sym (ap₂ (λ k m. bit_number ((k == 0) || (m == 1))) (word_value-bit v c.args.a.now x c.requires.left_bit (cc)) (word_value-bit v c.args.b.now y c.requires.right_bit (cc))))
     (MakesWord-bit _ _ 1 lit _ c.one_bit.result.items c.one_bit.ensures c.in_ok-lit.ensures.ok)

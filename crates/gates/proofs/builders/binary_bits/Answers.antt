@@ -17,12 +17,12 @@ overflow_bit-requires-clause-overflow g c = is_overflow-named c.args.op c.in-Uad
 pub returns-in-Rol-clause-ok : goal.returns-in-Rol-clause-ok
 returns-in-Rol-clause-ok g c =
     let op = c.args.op in
-    rw (rotation_width op (length c.args.a.now.items) (is_rotation-named op c.in-Rol.is)) c.rotate.ensures.ok
+    rw (rotation_width op (length c.args.a.now) (is_rotation-named op c.in-Rol.is)) c.rotate.ensures.ok
 
 pub returns-in-Sll-clause-ok : goal.returns-in-Sll-clause-ok
 returns-in-Sll-clause-ok g c =
     let op = c.args.op in
-    rw (shift_width op (length c.args.a.now.items) (is_shift-named op c.in-Sll.is)) c.shift.ensures.ok
+    rw (shift_width op (length c.args.a.now) (is_shift-named op c.in-Sll.is)) c.shift.ensures.ok
 
 pub iff-requires-clause-left_bit : goal.iff-requires-clause-left_bit
 iff-requires-clause-left_bit g c = c.requires.of_bits (rw c.in-Iff.is refl)

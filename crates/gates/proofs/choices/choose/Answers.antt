@@ -14,7 +14,7 @@ use Rattle.gates.proofs.choices.choose.Goals as goal
 pub loop-i-preserved : goal.loop-i-preserved
 loop-i-preserved g c =
     let condition = c.args.c in
-    rw c.push.ensures.items (IsRow-push _ _ _ 3 c.loop-i.i (λ v x y. if literal_value v condition then x else y) c.args.t.now.items c.args.e.now.items c.loop-i.bits.items c.index-deref-i.result c.index-deref-i-in-loop-i.result c.in_ok-mux.field-0 (omega arith) (omega arith) (rw (← c.deref.ensures.0) c.index-deref-i.is) (rw (← c.deref-in-loop-i.ensures.0) c.index-deref-i-in-loop-i.is) c.loop-i.invariant c.in_ok-mux.ensures.ok)
+    rw c.push.ensures.items (IsRow-push _ _ _ 3 c.loop-i.i (λ v x y. if literal_value v condition then x else y) c.args.t.now c.args.e.now c.loop-i.bits.items c.index-t-i.result c.index-e-i.result c.in_ok-mux.field-0 (omega arith) (omega arith) c.index-t-i.is c.index-e-i.is c.loop-i.invariant c.in_ok-mux.ensures.ok)
 
 -- one of two words, chosen place by place
 chosen_word : (c : Bool) (xs ys : List Bool) → length xs ≡ length ys → word (zip_with (λ x y. if c then x else y) xs ys) ≡ (if c then word xs else word ys)
@@ -35,8 +35,8 @@ chosen_word false xs ys same = ap word (second xs ys same)
 pub returns-clause-ok : goal.returns-clause-ok
 returns-clause-ok g c =
     let condition = c.args.c in
-    let t = c.args.t.now.items in
-    let e = c.args.e.now.items in
+    let t = c.args.t.now in
+    let e = c.args.e.now in
     MakesWord-row _ _ 3 (length t) c.loop-i.i (λ v x y. if literal_value v condition then x else y) _ t e c.loop-i.bits.items refl c.requires.equal (omega arith)
     (λ v. chosen_word (literal_value v condition) (map (literal_value v) t) (map (literal_value v) e) (omega (arith, length-map t (literal_value v), length-map e (literal_value v))))
     c.loop-i.invariant
@@ -46,18 +46,18 @@ mux-requires-clause-condition g c = IsDefined-grown _ _ _ c.loop-i.invariant.gro
 
 pub mux-requires-clause-then : goal.mux-requires-clause-then
 mux-requires-clause-then g c =
-    IsDefined-of_word _ _ _ c.args.t.now.items c.loop-i.i c.index-deref-i.result (omega arith) (rw (← c.deref.ensures.0) c.index-deref-i.is) c.requires.then c.loop-i.invariant.grows
+    IsDefined-of_word _ _ _ c.args.t.now c.loop-i.i c.index-t-i.result (omega arith) c.index-t-i.is c.requires.then c.loop-i.invariant.grows
 
 pub mux-requires-clause-otherwise : goal.mux-requires-clause-otherwise
 mux-requires-clause-otherwise g c =
-    IsDefined-of_word _ _ _ c.args.e.now.items c.loop-i.i c.index-deref-i-in-loop-i.result (omega (arith, c.requires.equal)) (rw (← c.deref-in-loop-i.ensures.0) c.index-deref-i-in-loop-i.is) c.requires.otherwise c.loop-i.invariant.grows
+    IsDefined-of_word _ _ _ c.args.e.now c.loop-i.i c.index-e-i.result (omega (arith, c.requires.equal)) c.index-e-i.is c.requires.otherwise c.loop-i.invariant.grows
 
 pub loop-i-init : goal.loop-i-init
-loop-i-init g c = let condition = c.args.c in rw c.new-bits.ensures (IsRow-start _ 3 (λ v x y. if literal_value v condition then x else y) c.args.t.now.items c.args.e.now.items)
+loop-i-init g c = let condition = c.args.c in rw c.new-bits.ensures (IsRow-start _ 3 (λ v x y. if literal_value v condition then x else y) c.args.t.now c.args.e.now)
 
 pub returns-in_err-mux-clause-refused : goal.returns-in_err-mux-clause-refused
 returns-in_err-mux-clause-refused g c =
-    let n = length c.args.t.now.items in
+    let n = length c.args.t.now in
     let refused : Refuses (g.G.Gates.made c.args.g.now) (g.G.Gates.made c.mux.new.g) (3 * n) c.in_err-mux.field-0.0 =
     Refuses-behind _ _ _ (3 * c.loop-i.i) 3 (3 * n) _ (omega arith) c.loop-i.invariant.grows c.in_err-mux.ensures.refused
     in search rules

@@ -34,11 +34,11 @@ returns-in_ok-less-in-Ugte-clause-ok g c =
 
 pub returns-in_ok-signed_less-in-Slte-clause-ok : goal.returns-in_ok-signed_less-in-Slte-clause-ok
 returns-in_ok-signed_less-in-Slte-clause-ok g c =
-    MakesWord-test_not _ _ _ _ _ _ c.in_ok-signed_less-in-Slte.field-0 c.not-in-Slte.result c.not-in-Slte.ensures (omega arith) c.in_ok-signed_less-in-Slte.ensures.ok (λ v. rw (c.in-Slte.is, c.requires.operands.equal) (ap bit_number (not_less_signed (signed (length c.args.a.now.items) (word_value v c.args.b.now.items)) (signed (length c.args.a.now.items) (word_value v c.args.a.now.items)))))
+    MakesWord-test_not _ _ _ _ _ _ c.in_ok-signed_less-in-Slte.field-0 c.not-in-Slte.result c.not-in-Slte.ensures (omega arith) c.in_ok-signed_less-in-Slte.ensures.ok (λ v. rw (c.in-Slte.is, c.requires.operands.equal) (ap bit_number (not_less_signed (signed (length c.args.a.now) (word_value v c.args.b.now)) (signed (length c.args.a.now) (word_value v c.args.a.now)))))
 
 pub returns-in_ok-signed_less-in-Sgte-clause-ok : goal.returns-in_ok-signed_less-in-Sgte-clause-ok
 returns-in_ok-signed_less-in-Sgte-clause-ok g c =
-    MakesWord-test_not _ _ _ _ _ _ c.in_ok-signed_less-in-Sgte.field-0 c.not-in-Sgte.result c.not-in-Sgte.ensures (omega arith) c.in_ok-signed_less-in-Sgte.ensures.ok (λ v. rw c.in-Sgte.is (ap bit_number (not_less_signed (signed (length c.args.a.now.items) (word_value v c.args.a.now.items)) (signed (length c.args.a.now.items) (word_value v c.args.b.now.items)))))
+    MakesWord-test_not _ _ _ _ _ _ c.in_ok-signed_less-in-Sgte.field-0 c.not-in-Sgte.result c.not-in-Sgte.ensures (omega arith) c.in_ok-signed_less-in-Sgte.ensures.ok (λ v. rw c.in-Sgte.is (ap bit_number (not_less_signed (signed (length c.args.a.now) (word_value v c.args.a.now)) (signed (length c.args.a.now) (word_value v c.args.b.now)))))
 
 -- operands in the other order
 AreOperands-exchanged : (n : Net) (greatest : ℕ) (a b : List ℕ) → AreOperands n greatest a b → AreOperands n greatest b a

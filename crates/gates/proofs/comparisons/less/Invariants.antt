@@ -3,4 +3,4 @@ use Rattle.gates.specs.Made.{MakesLiteral, word_value}
 use Rattle.gates.proofs.comparisons.less.Given as goal
 
 abbrev pub invariant-loop-i : goal.invariant-loop-i
-invariant-loop-i g l = MakesLiteral (g.G.Gates.made l.fn.g) (g.G.Gates.made l.g) (4 * l.i) (λ v. nat_lt (word_value v (take l.i l.a.items)) (word_value v (take l.i l.b.items))) l.below
+invariant-loop-i g l = MakesLiteral (g.G.Gates.made l.fn.g) (g.G.Gates.made l.g) (4 * l.i) (λ v. nat_lt (word_value v (take l.i l.a)) (word_value v (take l.i l.b))) l.below

@@ -20,7 +20,7 @@ returns-then-eq-clause-ok g c =
 
 pub returns-in_err-rest-clause-refused : goal.returns-in_err-rest-clause-refused
 returns-in_err-rest-clause-refused g c =
-    let refused : Refuses (g.G.Gates.made c.args.g.now) (g.G.Gates.made c.conjunction-3.new.g) (4) c.in_err-rest.field-0.0 =
+    let refused : Refuses (g.G.Gates.made c.args.g.now) (g.G.Gates.made c.and-3.new.self) (4) c.in_err-rest.field-0.0 =
     Refuses-behind _ _ _ _ _ (4) _ (omega arith) (Grows-trans _ _ _ _ _ c.in_ok-less.ensures.ok.grows c.in_ok-greater.ensures.ok.grows) c.in_err-rest.ensures.refused
     in search rules
 
@@ -29,20 +29,20 @@ returns-clause-refused g c =
     let before = Grows-trans _ _ _ _ _ c.in_ok-less.ensures.ok.grows (Grows-trans _ _ _ _ _ c.in_ok-greater.ensures.ok.grows c.in_ok-rest.ensures.ok.grows) in
     IfErr-weaker c.disjunction.result _ _ (λ e refused. Refuses-behind _ _ _ _ 1 4 e (omega arith) before refused) c.disjunction.ensures.refused
 
-pub conjunction-requires-clause-left : goal.conjunction-requires-clause-left
-conjunction-requires-clause-left g c = IsDefined-not _ c.args.a _ c.not.ensures c.requires.left
+pub and-requires-clause-left : goal.and-requires-clause-left
+and-requires-clause-left g c = IsDefined-not _ c.args.a _ c.not.ensures c.requires.left
 
-pub conjunction-requires-2-clause-left : goal.conjunction-requires-2-clause-left
-conjunction-requires-2-clause-left g c = IsDefined-grown _ _ _ c.in_ok-less.ensures.ok.grows _ c.requires.left
+pub and-requires-2-clause-left : goal.and-requires-2-clause-left
+and-requires-2-clause-left g c = IsDefined-grown _ _ _ c.in_ok-less.ensures.ok.grows _ c.requires.left
 
-pub conjunction-requires-2-clause-right : goal.conjunction-requires-2-clause-right
-conjunction-requires-2-clause-right g c = IsDefined-not _ c.args.b _ c.not-2.ensures (IsDefined-grown _ _ _ c.in_ok-less.ensures.ok.grows _ c.requires.right)
+pub and-requires-2-clause-right : goal.and-requires-2-clause-right
+and-requires-2-clause-right g c = IsDefined-not _ c.args.b _ c.not-2.ensures (IsDefined-grown _ _ _ c.in_ok-less.ensures.ok.grows _ c.requires.right)
 
-pub conjunction-requires-3-clause-left : goal.conjunction-requires-3-clause-left
-conjunction-requires-3-clause-left g c = IsDefined-grown _ _ _ (Grows-trans _ _ _ _ _ c.in_ok-less.ensures.ok.grows c.in_ok-greater.ensures.ok.grows) _ c.requires.below
+pub and-requires-3-clause-left : goal.and-requires-3-clause-left
+and-requires-3-clause-left g c = IsDefined-grown _ _ _ (Grows-trans _ _ _ _ _ c.in_ok-less.ensures.ok.grows c.in_ok-greater.ensures.ok.grows) _ c.requires.below
 
-pub conjunction-requires-3-clause-right : goal.conjunction-requires-3-clause-right
-conjunction-requires-3-clause-right g c = IsDefined-not _ c.in_ok-greater.greater _ c.not-3.ensures c.in_ok-greater.ensures.ok.defined
+pub and-requires-3-clause-right : goal.and-requires-3-clause-right
+and-requires-3-clause-right g c = IsDefined-not _ c.in_ok-greater.greater _ c.not-3.ensures c.in_ok-greater.ensures.ok.defined
 
 pub disjunction-requires-clause-left : goal.disjunction-requires-clause-left
 disjunction-requires-clause-left g c = IsDefined-grown _ _ _ (Grows-trans _ _ _ _ _ c.in_ok-greater.ensures.ok.grows c.in_ok-rest.ensures.ok.grows) _ c.in_ok-less.ensures.ok.defined
@@ -52,10 +52,10 @@ disjunction-requires-clause-right g c = c.in_ok-rest.ensures.ok.defined
 
 pub returns-in_err-less-clause-refused : goal.returns-in_err-less-clause-refused
 returns-in_err-less-clause-refused g c =
-    let refused : Refuses (g.G.Gates.made c.args.g.now) (g.G.Gates.made c.conjunction.new.g) 4 c.in_err-less.field-0.0 = Refuses-weaker _ _ 1 4 _ (omega arith) c.in_err-less.ensures.refused in
+    let refused : Refuses (g.G.Gates.made c.args.g.now) (g.G.Gates.made c.and.new.self) 4 c.in_err-less.field-0.0 = Refuses-weaker _ _ 1 4 _ (omega arith) c.in_err-less.ensures.refused in
     search rules
 
 pub returns-in_err-greater-clause-refused : goal.returns-in_err-greater-clause-refused
 returns-in_err-greater-clause-refused g c =
-    let refused : Refuses (g.G.Gates.made c.args.g.now) (g.G.Gates.made c.conjunction-2.new.g) 4 c.in_err-greater.field-0.0 = Refuses-behind _ _ _ 1 1 4 _ (omega arith) c.in_ok-less.ensures.ok.grows c.in_err-greater.ensures.refused in
+    let refused : Refuses (g.G.Gates.made c.args.g.now) (g.G.Gates.made c.and-2.new.self) 4 c.in_err-greater.field-0.0 = Refuses-behind _ _ _ 1 1 4 _ (omega arith) c.in_ok-less.ensures.ok.grows c.in_err-greater.ensures.refused in
     search rules

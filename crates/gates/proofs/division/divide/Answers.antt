@@ -1,5 +1,5 @@
 use Rattle.std.proofs.lemmas.List.Elements.{All-cons}
-use Rattle.std.proofs.Common.{◌≡◌, ℕ, ◌+◌, ◌-◌, ◌*◌, ◌∷◌, List, [], length, drop, get_or, sym, ap₂, ◌∙◌, arith, rules, ◌≤◌, subst, length-drop}
+use Rattle.std.proofs.Common.{◌≡◌, ℕ, ◌+◌, ◌-◌, ◌*◌, ◌∷◌, List, [], length, drop, get_or, sym, ap₂, ◌∙◌, arith, rules, ◌≤◌, subst, length-drop, ap}
 use Rattle.std.proofs.lemmas.List.{drop_more, drop_all}
 use Rattle.std.proofs.lemmas.Nat.{mul-le}
 use Rattle.aiger.specs.Net.{IsDefined, Net}
@@ -13,32 +13,32 @@ use Rattle.gates.proofs.division.divide.Goals as goal
 
 pub loop-done-init : goal.loop-done-init
 loop-done-init g c =
-    let a = c.args.a.now.items in
-    let b = c.args.b.now.items in
+    let a = c.args.a.now in
+    let b = c.args.b.now in
     let none : drop (length a - 0) a ≡ [] = drop_all (length a - 0) a (omega arith) in
     let cost : (12 * length b + 9) * 0 ≡ 0 = omega arith in
     rw (none, cost, c.new-quotient.ensures, c.new-remainder.ensures) (MakesRows-start (g.G.Gates.made c.args.g.now) b)
 
 pub loop-done-preserved : goal.loop-done-preserved
 loop-done-preserved g c =
-    let a = c.args.a.now.items in
-    let b = c.args.b.now.items in
+    let a = c.args.a.now in
+    let b = c.args.b.now in
     let done = c.loop-done.done in
-    let next = c.index-deref-place.result in
+    let next = c.index-a-place.result in
     let row = c.in_ok-row.row in
     let place = length a - (done + 1) in
-    let at : next ≡ get_or a place next = c.index-deref-place.is ∙ ap₂ (λ (ls : List ℕ) (k : ℕ). get_or ls k next) c.deref.ensures.0 (omega (arith, c.len-width.ensures.value)) in
+    let at : next ≡ get_or a place next = c.index-a-place.is ∙ ap (λ (k : ℕ). get_or a k next) (omega arith) in
     let longer : drop place a ≡ next ∷ drop (length a - done) a = drop_more a place next (omega arith) ∙ ap₂ (λ (x k : ℕ). x ∷ drop k a) (sym at) (omega arith) in
     rw (longer, c.insert-in-loop-done.ensures.items)
     (MakesRows-step _ _ _ ((12 * length b + 9) * done) (12 * length b + 9) ((12 * length b + 9) * (done + 1)) (drop (length a - done) a) b c.loop-done.quotient.items c.loop-done.remainder.items next row.bit row.remainder.items
-    (omega arith) c.loop-done.invariant (rw c.insert.ensures.items at c.in_ok-row.ensures.ok))
+    (omega arith) c.loop-done.invariant (rw (c.as_slice.ensures.value, c.insert.ensures.items) at c.in_ok-row.ensures.ok))
 
 pub returns-in_err-row-clause-refused : goal.returns-in_err-row-clause-refused
 returns-in_err-row-clause-refused g c =
-    let n = length c.args.a.now.items in
-    let m = 12 * length c.args.b.now.items + 9 in
+    let n = length c.args.a.now in
+    let m = 12 * length c.args.b.now + 9 in
     let refused : Refuses (g.G.Gates.made c.args.g.now) (g.G.Gates.made c.next_row.new.g) (12 * (n * n) + 12 * n) c.in_err-row.field-0.0 =
-    Refuses-behind _ _ _ (m * c.loop-done.done) m (12 * (n * n) + 12 * n) _ (omega (arith, c.requires.equal, mul-le m (c.loop-done.done + 1) (12 * n + 9) n (omega (arith, c.requires.equal)) (omega (arith, c.len-width.ensures.value)))) c.loop-done.invariant.grows c.in_err-row.ensures.refused
+    Refuses-behind _ _ _ (m * c.loop-done.done) m (12 * (n * n) + 12 * n) _ (omega (arith, c.requires.equal, mul-le m (c.loop-done.done + 1) (12 * n + 9) n (omega (arith, c.requires.equal)) (omega arith))) c.loop-done.invariant.grows c.in_err-row.ensures.refused
     in search rules
 
 -- the gates of all rows fit
@@ -63,29 +63,29 @@ MakesDivision-rows old new a b quotient remainder done same all rows =
     }
 
 pub next_row-requires-clause-some : goal.next_row-requires-clause-some
-next_row-requires-clause-some g c = rw c.insert.ensures.items (omega arith)
+next_row-requires-clause-some g c = rw (c.as_slice.ensures.value, c.insert.ensures.items) (omega arith)
 
 pub next_row-requires-clause-inside : goal.next_row-requires-clause-inside
 next_row-requires-clause-inside g c =
-    let a = c.args.a.now.items in
-    rw c.insert.ensures.items (omega (arith, c.loop-done.invariant.remainder_wide, length-drop (length a - c.loop-done.done) a, c.requires.equal, c.len-width.ensures.value))
+    let a = c.args.a.now in
+    rw (c.as_slice.ensures.value, c.insert.ensures.items) (omega (arith, c.loop-done.invariant.remainder_wide, length-drop (length a - c.loop-done.done) a, c.requires.equal))
 
 pub next_row-requires-clause-most : goal.next_row-requires-clause-most
 next_row-requires-clause-most g c = omega (arith, c.requires.equal, c.requires.most)
 
 pub next_row-requires-clause-left : goal.next_row-requires-clause-left
 next_row-requires-clause-left g c =
-    let a = c.args.a.now.items in
+    let a = c.args.a.now in
     let cur = g.G.Gates.made c.loop-done.g in
-    let x = c.index-deref-place.result in
+    let x = c.index-a-place.result in
     let defined : IsDefined cur x =
-    IsDefined-of_word _ cur _ a (c.len-width.result - 1 - c.loop-done.done) x (omega (arith, c.len-width.ensures.value)) (rw (← c.deref.ensures.0) c.index-deref-place.is) c.requires.left c.loop-done.invariant.grows
+    IsDefined-of_word _ cur _ a (length c.args.a.now - 1 - c.loop-done.done) x (omega arith) c.index-a-place.is c.requires.left c.loop-done.invariant.grows
     in
-    rw c.insert.ensures.items (All-cons (IsDefined cur) x c.loop-done.remainder.items defined c.loop-done.invariant.remainder_defined)
+    rw (c.as_slice.ensures.value, c.insert.ensures.items) (All-cons (IsDefined cur) x c.loop-done.remainder.items defined c.loop-done.invariant.remainder_defined)
 
 pub next_row-requires-clause-right : goal.next_row-requires-clause-right
 next_row-requires-clause-right g c = All-defined-grown _ _ _ c.loop-done.invariant.grows _ c.requires.right
 
 pub returns-clause-ok : goal.returns-clause-ok
 returns-clause-ok g c =
-    MakesDivision-rows _ _ c.args.a.now.items c.args.b.now.items c.loop-done.quotient.items c.loop-done.remainder.items c.loop-done.done c.requires.equal (omega (arith, c.len-width.ensures.value)) c.loop-done.invariant
+    MakesDivision-rows _ _ c.args.a.now c.args.b.now c.loop-done.quotient.items c.loop-done.remainder.items c.loop-done.done c.requires.equal (omega arith) c.loop-done.invariant

@@ -3,4 +3,4 @@ use Rattle.gates.specs.Division.{MakesRows}
 use Rattle.gates.proofs.division.divide.Given as goal
 
 abbrev pub invariant-loop-done : goal.invariant-loop-done
-invariant-loop-done g l = MakesRows (g.G.Gates.made l.fn.g) (g.G.Gates.made l.g) ((12 * length l.b.items + 9) * l.done) (drop (length l.a.items - l.done) l.a.items) l.b.items l.quotient.items l.remainder.items
+invariant-loop-done g l = MakesRows (g.G.Gates.made l.fn.g) (g.G.Gates.made l.g) ((12 * length l.b + 9) * l.done) (drop (length l.a - l.done) l.a) l.b l.quotient.items l.remainder.items

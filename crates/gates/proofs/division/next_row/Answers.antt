@@ -1,6 +1,6 @@
 use Rattle.std.proofs.lemmas.List.Elements.{All-take}
 use Rattle.std.proofs.lemmas.List.{length-take-le}
-use Rattle.std.proofs.Common.{◌≡◌, length, take, ap, ◌∙◌, rules, arith, ◌*◌, ◌+◌, sym}
+use Rattle.std.proofs.Common.{length, take, refl, ap, ◌∙◌, rules, arith, ◌*◌, ◌+◌, sym}
 use Rattle.aiger.specs.Net.{IsDefined}
 use Rattle.gates.specs.Made.{Refuses}
 use Rattle.gates.proofs.LaterLemmas.{IsDefined-not, Refuses-weaker}
@@ -11,68 +11,64 @@ use Rattle.gates.proofs.division.next_row.Goals as goal
 
 pub returns-clause-ok : goal.returns-clause-ok
 returns-clause-ok g c =
-    let dividend = c.args.dividend.now.items in
-    let b = c.args.b.now.items in
+    let dividend = c.args.dividend.now in
+    let b = c.args.b.now in
     let reduced = c.in_ok-reduced.reduced in
-    let low : c.low_bits.result.items ≡ take (length dividend) b = c.low_bits.ensures ∙ ap (λ k. take k b) c.len-width.ensures.value in
-    MakesQuotientRow-by_carry _ _ _ _ _ dividend b c.low_bits.result.items reduced.sum.items reduced.into_top reduced.out c.in_ok-above.above c.in_ok-bit.bit c.in_ok-remainder.remainder.items
-    c.requires.inside low c.in_ok-reduced.ensures.ok (rw c.len-width.ensures.value at c.in_ok-above.ensures.ok) (rw c.not.ensures at c.in_ok-bit.ensures.ok) c.in_ok-remainder.ensures.ok
+    MakesQuotientRow-by_carry _ _ _ _ _ dividend b (take (length dividend) b) reduced.sum.items reduced.into_top reduced.out c.in_ok-above.above c.in_ok-bit.bit c.in_ok-remainder.remainder.items
+    c.requires.inside refl c.in_ok-reduced.ensures.ok c.in_ok-above.ensures.ok (rw c.not.ensures at c.in_ok-bit.ensures.ok) (rw c.as_slice.ensures.value at c.in_ok-remainder.ensures.ok)
 
 pub returns-in_err-above-clause-refused : goal.returns-in_err-above-clause-refused
 returns-in_err-above-clause-refused g c =
-    let n = length c.args.b.now.items in
+    let n = length c.args.b.now in
     let refused : Refuses (g.G.Gates.made c.args.g.now) (g.G.Gates.made c.has_bit_from.new.g) (12 * n + 9) c.in_err-above.field-0.0 =
-    Refuses-behind _ _ _ _ _ (12 * n + 9) _ (omega (arith, c.len-width.ensures.value, c.requires.inside)) c.in_ok-reduced.ensures.ok.grows c.in_err-above.ensures.refused
+    Refuses-behind _ _ _ _ _ (12 * n + 9) _ (omega (arith, c.requires.inside)) c.in_ok-reduced.ensures.ok.grows c.in_err-above.ensures.refused
     in search rules
 
 pub returns-in_err-bit-clause-refused : goal.returns-in_err-bit-clause-refused
 returns-in_err-bit-clause-refused g c =
-    let n = length c.args.b.now.items in
-    let refused : Refuses (g.G.Gates.made c.args.g.now) (g.G.Gates.made c.conjunction.new.g) (12 * n + 9) c.in_err-bit.field-0.0 =
-    Refuses-behind _ _ _ _ _ (12 * n + 9) _ (omega (arith, c.len-width.ensures.value, c.requires.inside)) (Grows-trans _ _ _ _ _ c.in_ok-reduced.ensures.ok.grows c.in_ok-above.ensures.ok.grows) c.in_err-bit.ensures.refused
+    let n = length c.args.b.now in
+    let refused : Refuses (g.G.Gates.made c.args.g.now) (g.G.Gates.made c.and.new.self) (12 * n + 9) c.in_err-bit.field-0.0 =
+    Refuses-behind _ _ _ _ _ (12 * n + 9) _ (omega (arith, c.requires.inside)) (Grows-trans _ _ _ _ _ c.in_ok-reduced.ensures.ok.grows c.in_ok-above.ensures.ok.grows) c.in_err-bit.ensures.refused
     in search rules
 
 pub returns-in_err-remainder-clause-refused : goal.returns-in_err-remainder-clause-refused
 returns-in_err-remainder-clause-refused g c =
-    let n = length c.args.b.now.items in
+    let n = length c.args.b.now in
     let refused : Refuses (g.G.Gates.made c.args.g.now) (g.G.Gates.made c.left_over.new.g) (12 * n + 9) c.in_err-remainder.field-0.0 =
-    Refuses-behind _ _ _ _ _ (12 * n + 9) _ (omega (arith, c.len-width.ensures.value, c.requires.inside, c.in_ok-reduced.ensures.ok.wide)) (Grows-trans _ _ _ _ _ c.in_ok-reduced.ensures.ok.grows (Grows-trans _ _ _ _ _ c.in_ok-above.ensures.ok.grows c.in_ok-bit.ensures.ok.grows)) c.in_err-remainder.ensures.refused
+    Refuses-behind _ _ _ _ _ (12 * n + 9) _ (omega (arith, ap length c.as_slice.ensures.value, c.requires.inside, c.in_ok-reduced.ensures.ok.wide)) (Grows-trans _ _ _ _ _ c.in_ok-reduced.ensures.ok.grows (Grows-trans _ _ _ _ _ c.in_ok-above.ensures.ok.grows c.in_ok-bit.ensures.ok.grows)) c.in_err-remainder.ensures.refused
     in search rules
 
 pub difference-requires : goal.difference-requires
 difference-requires g c =
-    let low_count : length c.low_bits.result.items ≡ length c.args.dividend.now.items =
-    ap length c.low_bits.ensures ∙ length-take-le c.len-width.result c.args.b.now.items (omega (arith, c.len-width.ensures.value, c.requires.inside)) ∙ c.len-width.ensures.value
-    in
     record {
       some = c.requires.some;
       most = omega (arith, c.requires.inside, c.requires.most);
-      equal = low_count;
+      equal = length-take-le (length c.args.dividend.now) c.args.b.now c.requires.inside;
       left = c.requires.left;
-      right = rw c.low_bits.ensures (All-take (IsDefined (g.G.Gates.made c.args.g.now)) c.len-width.result c.args.b.now.items c.requires.right);
+      right = All-take (IsDefined (g.G.Gates.made c.args.g.now)) (length c.args.dividend.now) c.args.b.now c.requires.right;
     }
 
 pub has_bit_from-requires-clause-defined : goal.has_bit_from-requires-clause-defined
 has_bit_from-requires-clause-defined g c = All-defined-grown _ _ _ c.in_ok-reduced.ensures.ok.grows _ c.requires.right
 
-pub conjunction-requires-clause-left : goal.conjunction-requires-clause-left
-conjunction-requires-clause-left g c = IsDefined-grown _ _ _ c.in_ok-above.ensures.ok.grows _ c.in_ok-reduced.ensures.ok.out_defined
+pub and-requires-clause-left : goal.and-requires-clause-left
+and-requires-clause-left g c = IsDefined-grown _ _ _ c.in_ok-above.ensures.ok.grows _ c.in_ok-reduced.ensures.ok.out_defined
 
-pub conjunction-requires-clause-right : goal.conjunction-requires-clause-right
-conjunction-requires-clause-right g c = IsDefined-not _ c.in_ok-above.above _ c.not.ensures c.in_ok-above.ensures.ok.defined
+pub and-requires-clause-right : goal.and-requires-clause-right
+and-requires-clause-right g c = IsDefined-not _ c.in_ok-above.above _ c.not.ensures c.in_ok-above.ensures.ok.defined
 
 pub left_over-requires-clause-most : goal.left_over-requires-clause-most
-left_over-requires-clause-most g c = omega (arith, c.in_ok-reduced.ensures.ok.wide, c.requires.inside, c.requires.most)
+left_over-requires-clause-most g c = omega (arith, ap length c.as_slice.ensures.value, c.in_ok-reduced.ensures.ok.wide, c.requires.inside, c.requires.most)
 
 pub left_over-requires-clause-equal : goal.left_over-requires-clause-equal
-left_over-requires-clause-equal g c = sym c.in_ok-reduced.ensures.ok.wide
+left_over-requires-clause-equal g c = sym (ap length c.as_slice.ensures.value ∙ c.in_ok-reduced.ensures.ok.wide)
 
 pub left_over-requires-clause-goes : goal.left_over-requires-clause-goes
 left_over-requires-clause-goes g c = c.in_ok-bit.ensures.ok.defined
 
 pub left_over-requires-clause-then : goal.left_over-requires-clause-then
 left_over-requires-clause-then g c =
-    All-defined-grown _ _ _ (Grows-trans _ _ _ _ _ c.in_ok-above.ensures.ok.grows c.in_ok-bit.ensures.ok.grows) _ c.in_ok-reduced.ensures.ok.sum_defined
+    rw c.as_slice.ensures.value (All-defined-grown _ _ _ (Grows-trans _ _ _ _ _ c.in_ok-above.ensures.ok.grows c.in_ok-bit.ensures.ok.grows) _ c.in_ok-reduced.ensures.ok.sum_defined)
 
 pub left_over-requires-clause-otherwise : goal.left_over-requires-clause-otherwise
 left_over-requires-clause-otherwise g c =
@@ -80,7 +76,7 @@ left_over-requires-clause-otherwise g c =
 
 pub returns-in_err-reduced-clause-refused : goal.returns-in_err-reduced-clause-refused
 returns-in_err-reduced-clause-refused g c =
-    let n = length c.args.b.now.items in
+    let n = length c.args.b.now in
     let refused : Refuses (g.G.Gates.made c.args.g.now) (g.G.Gates.made c.difference.new.g) (12 * n + 9) c.in_err-reduced.field-0.0 =
     Refuses-weaker _ _ _ (12 * n + 9) _ (omega (arith, c.requires.inside)) c.in_err-reduced.ensures.refused
     in search rules

@@ -32,17 +32,17 @@ returns-clause-refused g c =
     let before = Grows-trans _ _ _ _ _ c.in_ok-first.ensures.ok.grows c.in_ok-second.ensures.ok.grows in
     IfErr-weaker c.disjunction.result _ _ (λ e refused. Refuses-behind _ _ _ _ _ (3) e (omega arith) before refused) c.disjunction.ensures.refused
 
-pub conjunction-requires-clause-left : goal.conjunction-requires-clause-left
-conjunction-requires-clause-left g c = c.requires.condition
+pub and-requires-clause-left : goal.and-requires-clause-left
+and-requires-clause-left g c = c.requires.condition
 
-pub conjunction-requires-clause-right : goal.conjunction-requires-clause-right
-conjunction-requires-clause-right g c = c.requires.then
+pub and-requires-clause-right : goal.and-requires-clause-right
+and-requires-clause-right g c = c.requires.then
 
-pub conjunction-requires-2-clause-left : goal.conjunction-requires-2-clause-left
-conjunction-requires-2-clause-left g c = IsDefined-not _ c.args.c _ c.not.ensures (IsDefined-grown _ _ _ c.in_ok-first.ensures.ok.grows _ c.requires.condition)
+pub and-requires-2-clause-left : goal.and-requires-2-clause-left
+and-requires-2-clause-left g c = IsDefined-not _ c.args.c _ c.not.ensures (IsDefined-grown _ _ _ c.in_ok-first.ensures.ok.grows _ c.requires.condition)
 
-pub conjunction-requires-2-clause-right : goal.conjunction-requires-2-clause-right
-conjunction-requires-2-clause-right g c = IsDefined-grown _ _ _ c.in_ok-first.ensures.ok.grows _ c.requires.otherwise
+pub and-requires-2-clause-right : goal.and-requires-2-clause-right
+and-requires-2-clause-right g c = IsDefined-grown _ _ _ c.in_ok-first.ensures.ok.grows _ c.requires.otherwise
 
 pub disjunction-requires-clause-left : goal.disjunction-requires-clause-left
 disjunction-requires-clause-left g c = IsDefined-grown _ _ _ c.in_ok-second.ensures.ok.grows _ c.in_ok-first.ensures.ok.defined
@@ -52,10 +52,10 @@ disjunction-requires-clause-right g c = c.in_ok-second.ensures.ok.defined
 
 pub returns-in_err-first-clause-refused : goal.returns-in_err-first-clause-refused
 returns-in_err-first-clause-refused g c =
-    let refused : Refuses (g.G.Gates.made c.args.g.now) (g.G.Gates.made c.conjunction.new.g) 3 c.in_err-first.field-0.0 = Refuses-weaker _ _ 1 3 _ (omega arith) c.in_err-first.ensures.refused in
+    let refused : Refuses (g.G.Gates.made c.args.g.now) (g.G.Gates.made c.and.new.self) 3 c.in_err-first.field-0.0 = Refuses-weaker _ _ 1 3 _ (omega arith) c.in_err-first.ensures.refused in
     search rules
 
 pub returns-in_err-second-clause-refused : goal.returns-in_err-second-clause-refused
 returns-in_err-second-clause-refused g c =
-    let refused : Refuses (g.G.Gates.made c.args.g.now) (g.G.Gates.made c.conjunction-2.new.g) 3 c.in_err-second.field-0.0 = Refuses-behind _ _ _ 1 1 3 _ (omega arith) c.in_ok-first.ensures.ok.grows c.in_err-second.ensures.refused in
+    let refused : Refuses (g.G.Gates.made c.args.g.now) (g.G.Gates.made c.and-2.new.self) 3 c.in_err-second.field-0.0 = Refuses-behind _ _ _ 1 1 3 _ (omega arith) c.in_ok-first.ensures.ok.grows c.in_err-second.ensures.refused in
     search rules

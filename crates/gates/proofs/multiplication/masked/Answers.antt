@@ -12,27 +12,27 @@ use Rattle.gates.proofs.multiplication.masked.Goals as goal
 pub loop-i-preserved : goal.loop-i-preserved
 loop-i-preserved g c =
     let lit = c.args.lit in
-    let a = c.args.a.now.items in
-    let x = c.index-deref-i.result in
-    let both = c.in_ok-conjunction.field-0 in
-    rw c.push.ensures.items (IsRow-push _ _ _ 1 c.loop-i.i (λ v x y. x && literal_value v lit) a a c.loop-i.bits.items x x both (omega arith) (omega arith) (rw (← c.deref.ensures.0) c.index-deref-i.is) (rw (← c.deref.ensures.0) c.index-deref-i.is) c.loop-i.invariant (MakesLiteral-and _ _ x lit both c.in_ok-conjunction.ensures.ok))
+    let a = c.args.a.now in
+    let x = c.index-a-i.result in
+    let both = c.in_ok-and.field-0 in
+    rw c.push.ensures.items (IsRow-push _ _ _ 1 c.loop-i.i (λ v x y. x && literal_value v lit) a a c.loop-i.bits.items x x both (omega arith) (omega arith) c.index-a-i.is c.index-a-i.is c.loop-i.invariant (MakesLiteral-and _ _ x lit both c.in_ok-and.ensures.ok))
 
 pub returns-clause-ok : goal.returns-clause-ok
-returns-clause-ok g c = MakesWord-masked _ _ c.loop-i.i c.args.lit c.args.a.now.items c.loop-i.bits.items (omega arith) c.loop-i.invariant
+returns-clause-ok g c = MakesWord-masked _ _ c.loop-i.i c.args.lit c.args.a.now c.loop-i.bits.items (omega arith) c.loop-i.invariant
 
-pub conjunction-requires-clause-left : goal.conjunction-requires-clause-left
-conjunction-requires-clause-left g c =
-    IsDefined-of_word _ _ _ c.args.a.now.items c.loop-i.i c.index-deref-i.result (omega arith) (rw (← c.deref.ensures.0) c.index-deref-i.is) c.requires.word c.loop-i.invariant.grows
+pub and-requires-clause-left : goal.and-requires-clause-left
+and-requires-clause-left g c =
+    IsDefined-of_word _ _ _ c.args.a.now c.loop-i.i c.index-a-i.result (omega arith) c.index-a-i.is c.requires.word c.loop-i.invariant.grows
 
-pub conjunction-requires-clause-right : goal.conjunction-requires-clause-right
-conjunction-requires-clause-right g c = IsDefined-grown _ _ _ c.loop-i.invariant.grows _ c.requires.literal
+pub and-requires-clause-right : goal.and-requires-clause-right
+and-requires-clause-right g c = IsDefined-grown _ _ _ c.loop-i.invariant.grows _ c.requires.literal
 
 pub loop-i-init : goal.loop-i-init
-loop-i-init g c = let lit = c.args.lit in rw c.new-bits.ensures (IsRow-start _ 1 (λ v x y. x && literal_value v lit) c.args.a.now.items c.args.a.now.items)
+loop-i-init g c = let lit = c.args.lit in rw c.new-bits.ensures (IsRow-start _ 1 (λ v x y. x && literal_value v lit) c.args.a.now c.args.a.now)
 
-pub returns-in_err-conjunction-clause-refused : goal.returns-in_err-conjunction-clause-refused
-returns-in_err-conjunction-clause-refused g c =
-    let n = length c.args.a.now.items in
-    let refused : Refuses (g.G.Gates.made c.args.g.now) (g.G.Gates.made c.conjunction.new.g) n c.in_err-conjunction.field-0.0 =
-    Refuses-behind _ _ _ (1 * c.loop-i.i) 1 n _ (omega arith) c.loop-i.invariant.grows c.in_err-conjunction.ensures.refused
+pub returns-in_err-and-clause-refused : goal.returns-in_err-and-clause-refused
+returns-in_err-and-clause-refused g c =
+    let n = length c.args.a.now in
+    let refused : Refuses (g.G.Gates.made c.args.g.now) (g.G.Gates.made c.and.new.self) n c.in_err-and.field-0.0 =
+    Refuses-behind _ _ _ (1 * c.loop-i.i) 1 n _ (omega arith) c.loop-i.invariant.grows c.in_err-and.ensures.refused
     in search rules

@@ -4,4 +4,4 @@ use Rattle.gates.proofs.BitListLemmas.{IsRow}
 use Rattle.gates.proofs.multiplication.masked.Given as goal
 
 abbrev pub invariant-loop-i : goal.invariant-loop-i
-invariant-loop-i g l = IsRow (g.G.Gates.made l.fn.g) (g.G.Gates.made l.g) 1 l.i (λ v x y. x && literal_value v l.lit) l.a.items l.a.items l.bits.items
+invariant-loop-i g l = IsRow (g.G.Gates.made l.fn.g) (g.G.Gates.made l.g) 1 l.i (λ v x y. x && literal_value v l.lit) l.a l.a l.bits.items

@@ -4,6 +4,6 @@ use Rattle.gates.proofs.multiplication.raised.Goals as goal
 
 pub returns-clause-means : goal.returns-clause-means
 returns-clause-means c = λ v.
-    let a = c.args.a.now.items in
-    let items : c.try_extend_from_slice-added.new.self.items ≡ replicate c.args.by 0 ++ take (length a - c.args.by) a = search rules in
+    let a = c.args.a.now in
+    let items : c.append.new.bits.items ≡ replicate c.args.by 0 ++ take (length a - c.args.by) a = search rules in
     rw items (word_value-raised v a (length a) c.args.by refl c.requires.inside)

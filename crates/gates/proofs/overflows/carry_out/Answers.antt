@@ -9,25 +9,25 @@ use Rattle.gates.proofs.overflows.carry_out.Goals as goal
 
 pub less_column-requires-clause-left : goal.less_column-requires-clause-left
 less_column-requires-clause-left g c =
-    let old = literal_at (g.G.Gates.made c.args.g.now) c.args.a.now.items c.deref.result.now c.loop-i.i c.index-deref-i.result c.deref.ensures.0 (omega arith) c.index-deref-i.is c.requires.operands.left in
-    rw c.not.ensures (IsDefined-negation _ _ (IsDefined-grown _ _ _ c.loop-i.invariant.grows c.index-deref-i.result old))
+    let old = literal_at (g.G.Gates.made c.args.g.now) c.args.a.now c.loop-i.i c.index-a-i.result (omega arith) c.index-a-i.is c.requires.operands.left in
+    rw c.not.ensures (IsDefined-negation _ _ (IsDefined-grown _ _ _ c.loop-i.invariant.grows c.index-a-i.result old))
 
 pub less_column-requires-clause-right : goal.less_column-requires-clause-right
 less_column-requires-clause-right g c =
-    let old = literal_at (g.G.Gates.made c.args.g.now) c.args.b.now.items c.deref-in-loop-i.result.now c.loop-i.i c.index-deref-i-in-loop-i.result c.deref-in-loop-i.ensures.0 (omega arith) c.index-deref-i-in-loop-i.is c.requires.operands.right in
-    IsDefined-grown _ _ _ c.loop-i.invariant.grows c.index-deref-i-in-loop-i.result old
+    let old = literal_at (g.G.Gates.made c.args.g.now) c.args.b.now c.loop-i.i c.index-b-i.result (omega arith) c.index-b-i.is c.requires.operands.right in
+    IsDefined-grown _ _ _ c.loop-i.invariant.grows c.index-b-i.result old
 
 pub loop-i-init : goal.loop-i-init
 loop-i-init g c = MakesLiteral-carried _ c.args.carry c.requires.carry
 
 pub loop-i-preserved : goal.loop-i-preserved
 loop-i-preserved g c =
-    let a = c.args.a.now.items in
-    let b = c.args.b.now.items in
+    let a = c.args.a.now in
+    let b = c.args.b.now in
     let i = c.loop-i.i in
-    let x = c.index-deref-i.result in
-    let y = c.index-deref-i-in-loop-i.result in
-    rw (front_with a c.deref.result.now i x c.deref.ensures.0 (omega arith) c.index-deref-i.is, front_with b c.deref-in-loop-i.result.now i y c.deref-in-loop-i.ensures.0 (omega arith) c.index-deref-i-in-loop-i.is)
+    let x = c.index-a-i.result in
+    let y = c.index-b-i.result in
+    rw (front_with a i x (omega arith) c.index-a-i.is, front_with b i y (omega arith) c.index-b-i.is)
     (MakesLiteral-carry_step _ _ _ i _ _ (take i a) (take i b) x y c.not.result c.args.carry c.loop-i.out c.in_ok-out.out
     (omega (arith, length-take i a)) (omega (arith, length-take i b)) (omega arith) c.not.ensures c.loop-i.invariant c.in_ok-out.ensures.ok)
 

@@ -10,15 +10,15 @@ use Rattle.gates.proofs.overflows.sum_overflow.Goals as goal
 pub returns-clause-ok : goal.returns-clause-ok
 returns-clause-ok g c =
     IfOk-weaker c.xor.result _ _
-    (λ l makes. MakesLiteral-sum_overflow _ _ _ _ c.args.a.now.items c.args.b.now.items c.args.carry c.in_ok-into_top.into_top c.in_ok-out.out l c.requires.operands.some c.requires.operands.equal
-    (rw c.len.ensures.value at c.in_ok-into_top.ensures.ok) (rw c.len-2.ensures.value at c.in_ok-out.ensures.ok) makes)
+    (λ l makes. MakesLiteral-sum_overflow _ _ _ _ c.args.a.now c.args.b.now c.args.carry c.in_ok-into_top.into_top c.in_ok-out.out l c.requires.operands.some c.requires.operands.equal
+    c.in_ok-into_top.ensures.ok c.in_ok-out.ensures.ok makes)
     c.xor.ensures.ok
 
 pub returns-clause-refused : goal.returns-clause-refused
 returns-clause-refused g c =
-    let n = length c.args.a.now.items in
+    let n = length c.args.a.now in
     let before = Grows-trans _ _ _ _ _ c.in_ok-into_top.ensures.ok.grows c.in_ok-out.ensures.ok.grows in
-    IfErr-weaker c.xor.result _ _ (λ e refused. Refuses-behind _ _ _ _ _ (12 * n) e (omega (arith, c.len.ensures.value, c.len-2.ensures.value, c.requires.operands.some)) before refused) c.xor.ensures.refused
+    IfErr-weaker c.xor.result _ _ (λ e refused. Refuses-behind _ _ _ _ _ (12 * n) e (omega (arith, c.requires.operands.some)) before refused) c.xor.ensures.refused
 
 pub carry_out-requires-clause-operands : goal.carry_out-requires-clause-operands
 carry_out-requires-clause-operands g c = c.requires.operands
@@ -40,14 +40,14 @@ xor-requires-clause-right g c = c.in_ok-out.ensures.ok.defined
 
 pub returns-in_err-into_top-clause-refused : goal.returns-in_err-into_top-clause-refused
 returns-in_err-into_top-clause-refused g c =
-    let n = length c.args.a.now.items in
+    let n = length c.args.a.now in
     let refused : Refuses (g.G.Gates.made c.args.g.now) (g.G.Gates.made c.carry_out.new.g) (12 * n) c.in_err-into_top.field-0.0 =
-    Refuses-weaker _ _ _ (12 * n) _ (omega (arith, c.len.ensures.value)) c.in_err-into_top.ensures.refused
+    Refuses-weaker _ _ _ (12 * n) _ (omega arith) c.in_err-into_top.ensures.refused
     in search rules
 
 pub returns-in_err-out-clause-refused : goal.returns-in_err-out-clause-refused
 returns-in_err-out-clause-refused g c =
-    let n = length c.args.a.now.items in
+    let n = length c.args.a.now in
     let refused : Refuses (g.G.Gates.made c.args.g.now) (g.G.Gates.made c.carry_out-2.new.g) (12 * n) c.in_err-out.field-0.0 =
-    Refuses-behind _ _ _ _ _ (12 * n) _ (omega (arith, c.len.ensures.value, c.len-2.ensures.value)) c.in_ok-into_top.ensures.ok.grows c.in_err-out.ensures.refused
+    Refuses-behind _ _ _ _ _ (12 * n) _ (omega arith) c.in_ok-into_top.ensures.ok.grows c.in_err-out.ensures.refused
     in search rules

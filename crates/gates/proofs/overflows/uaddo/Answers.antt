@@ -1,4 +1,4 @@
-use Rattle.std.proofs.Common.{arith}
+use Rattle.std.proofs.Common.{◌∙◌, arith}
 use Rattle.std.proofs.lemmas.Result.{IfOk-weaker}
 use Rattle.gates.proofs.GrowthLemmas.{MakesWord-not}
 use Rattle.gates.proofs.OverflowLemmas.{MakesWord-uaddo}
@@ -6,7 +6,7 @@ use Rattle.gates.proofs.overflows.uaddo.Goals as goal
 
 pub less-requires : goal.less-requires
 less-requires g c =
-    let negated = MakesWord-not _ c.args.a.now.items c.negation.result.items c.requires.left c.negation.ensures in
+    let negated = MakesWord-not _ c.args.a.now c.as_slice.result.now c.requires.left (c.as_slice.ensures.value ∙ c.negation.ensures) in
     record {
       some = omega (arith, negated.wide, c.requires.some);
       most = omega (arith, negated.wide, c.requires.most);
@@ -17,4 +17,4 @@ less-requires g c =
 
 pub returns-clause-ok : goal.returns-clause-ok
 returns-clause-ok g c =
-    IfOk-weaker c.less.result _ _ (λ l makes. MakesWord-uaddo _ _ c.args.a.now.items c.negation.result.items c.args.b.now.items l c.negation.ensures makes) c.less.ensures.ok
+    IfOk-weaker c.less.result _ _ (λ l makes. MakesWord-uaddo _ _ c.args.a.now c.as_slice.result.now c.args.b.now l (c.as_slice.ensures.value ∙ c.negation.ensures) makes) c.less.ensures.ok

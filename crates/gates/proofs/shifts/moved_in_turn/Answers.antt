@@ -23,7 +23,7 @@ loop-place-preserved g c =
     let mid = g.G.Gates.made c.loop-place.g in
     let new = g.G.Gates.made c.choose.new.g in
     let op = c.args.op in
-    let a = c.args.a.now.items in
+    let a = c.args.a.now in
     let amount = c.args.amount.now in
     let n = length a in
     let place = c.loop-place.place in
@@ -33,12 +33,14 @@ loop-place-preserved g c =
     let before = c.loop-place.invariant in
     let power : 1 * 2 ^ place % 2 ^ 64 ≡ 2 ^ place = one_shl place 64 (omega arith) in
     let distance : 1 * 2 ^ place % 2 ^ 64 % c.len.result ≡ 2 ^ place % n = ap₂ (λ x m. x % m) power (c.len.ensures.value ∙ before.wide) in
-    let count : length c.moved.result.items ≡ n = c.moved.ensures.wide ∙ before.wide in
-    let chosen : MakesWord mid new (3 * n) n (λ v. if literal_value v lit then word_value v c.moved.result.items else word_value v bits) row =
-    subst (λ (k : ℕ). MakesWord mid new (3 * k) k (λ v. if literal_value v lit then word_value v c.moved.result.items else word_value v bits) row) count c.in_ok-bits.ensures.ok
+    let same : length c.as_slice.result.now ≡ n = ap length c.as_slice.ensures.value ∙ before.wide in
+    let there = c.moved-there.result.items in
+    let count : length there ≡ n = c.moved-there.ensures.wide ∙ same in
+    let chosen : MakesWord mid new (3 * n) n (λ v. if literal_value v lit then word_value v there else word_value v bits) row =
+    subst (λ (k : ℕ). MakesWord mid new (3 * k) k (λ v. if literal_value v lit then word_value v there else word_value v bits) row) count (rw (c.as_slice-in-loop-place.ensures.value, c.as_slice-in-loop-place-2.ensures.value) at c.in_ok-bits.ensures.ok)
     in
     let stage : MakesWord mid new (3 * n) n (λ v. if literal_value v lit then binary_value op n (word_value v bits) (2 ^ place % n) else word_value v bits) row =
-    MakesWord-same mid new (3 * n) n _ _ row (λ v. ap (λ w. if literal_value v lit then w else word_value v bits) (c.moved.ensures.means v ∙ ap₂ (λ m k. binary_value op m (word_value v bits) k) before.wide distance)) chosen
+    MakesWord-same mid new (3 * n) n _ _ row (λ v. ap (λ w. if literal_value v lit then w else word_value v bits) ((rw c.as_slice.ensures.value at c.moved-there.ensures.means v) ∙ ap₂ (λ m k. binary_value op m (word_value v bits) k) before.wide distance)) chosen
     in
     let both = MakesWord-of_word old mid new (3 * (n * place)) (3 * n) n n (λ v. binary_value op n (word_value v a) (word_value v (take place amount))) (λ v w. if literal_value v lit then binary_value op n w (2 ^ place % n) else w) bits row before stage in
     MakesWord-weaker old new (3 * (n * place) + 3 * n) (3 * (n * (place + 1))) n _ row (omega arith)
@@ -55,33 +57,35 @@ few_stages n place places k same inside = omega (arith, mul-le n (place + 1) n p
 pub loop-place-init : goal.loop-place-init
 loop-place-init g c =
     record {
-      grows = Grows-refl _ (3 * (length c.args.a.now.items * 0));
+      grows = Grows-refl _ (3 * (length c.args.a.now * 0));
       wide = c.moved-bits.ensures.wide;
       defined = c.moved-bits.ensures.defined _ c.requires.defined;
       means = λ v s. c.moved-bits.ensures.means v;
     }
 
 pub choose-requires-clause-most : goal.choose-requires-clause-most
-choose-requires-clause-most g c = omega (arith, c.moved.ensures.wide, c.loop-place.invariant.wide, c.requires.most)
+choose-requires-clause-most g c = omega (arith, ap length c.as_slice-in-loop-place.ensures.value, c.moved-there.ensures.wide, ap length c.as_slice.ensures.value, c.loop-place.invariant.wide, c.requires.most)
 
 pub choose-requires-clause-equal : goal.choose-requires-clause-equal
-choose-requires-clause-equal g c = sym c.moved.ensures.wide
+choose-requires-clause-equal g c =
+    ap length c.as_slice-in-loop-place-2.ensures.value ∙ sym (ap length c.as_slice-in-loop-place.ensures.value ∙ c.moved-there.ensures.wide ∙ ap length c.as_slice.ensures.value)
 
 pub choose-requires-clause-condition : goal.choose-requires-clause-condition
 choose-requires-clause-condition g c =
     IsDefined-of_word _ _ _ c.args.amount.now c.loop-place.place c.index-amount-place.result (omega arith) c.index-amount-place.is c.requires.amount c.loop-place.invariant.grows
 
 pub choose-requires-clause-then : goal.choose-requires-clause-then
-choose-requires-clause-then g c = c.moved.ensures.defined _ c.loop-place.invariant.defined
+choose-requires-clause-then g c = rw c.as_slice-in-loop-place.ensures.value (c.moved-there.ensures.defined _ (rw c.as_slice.ensures.value c.loop-place.invariant.defined))
 
 pub choose-requires-clause-otherwise : goal.choose-requires-clause-otherwise
-choose-requires-clause-otherwise g c = c.loop-place.invariant.defined
+choose-requires-clause-otherwise g c = rw c.as_slice-in-loop-place-2.ensures.value c.loop-place.invariant.defined
 
 pub returns-in_err-bits-clause-refused : goal.returns-in_err-bits-clause-refused
 returns-in_err-bits-clause-refused g c =
-    let n = length c.args.a.now.items in
+    let n = length c.args.a.now in
     let places = length c.args.amount.now in
-    let m = length c.moved.result.items in
+    let m = length c.as_slice-in-loop-place.result.now in
+    let same : m ≡ n = ap length c.as_slice-in-loop-place.ensures.value ∙ c.moved-there.ensures.wide ∙ ap length c.as_slice.ensures.value ∙ c.loop-place.invariant.wide in
     let refused : Refuses (g.G.Gates.made c.args.g.now) (g.G.Gates.made c.choose.new.g) (3 * (n * places)) c.in_err-bits.field-0.0 =
-    Refuses-behind _ _ _ (3 * (n * c.loop-place.place)) (3 * m) (3 * (n * places)) _ (few_stages n c.loop-place.place places m (c.moved.ensures.wide ∙ c.loop-place.invariant.wide) (omega arith)) c.loop-place.invariant.grows c.in_err-bits.ensures.refused
+    Refuses-behind _ _ _ (3 * (n * c.loop-place.place)) (3 * m) (3 * (n * places)) _ (few_stages n c.loop-place.place places m same (omega arith)) c.loop-place.invariant.grows c.in_err-bits.ensures.refused
     in search rules

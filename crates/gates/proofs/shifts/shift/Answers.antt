@@ -1,5 +1,5 @@
 use Rattle.std.proofs.lemmas.List.Elements.{All-take, All-drop, All-replicate}
-use Rattle.std.proofs.Common.{◌≡◌, ℕ, ◌+◌, ◌*◌, ◌^◌, ◌≤◌, true, not, ◌==◌, nat_le, if◌then◌else◌, length, take, drop, replicate, List, refl, sym, ap, ap₂, subst, ◌∙◌, arith, ◌-◌, ◌<◌, get_or, rules, All, Bool, ◌||◌}
+use Rattle.std.proofs.Common.{◌≡◌, ℕ, ◌+◌, ◌*◌, ◌^◌, ◌≤◌, true, not, ◌==◌, nat_le, if◌then◌else◌, length, take, drop, replicate, List, refl, sym, ap, subst, ◌∙◌, arith, ◌-◌, ◌<◌, get_or, rules, All, Bool, ◌||◌}
 use Rattle.std.proofs.lemmas.Bool.{agree_below_at, leb-true, false≢true}
 use Rattle.std.proofs.lemmas.List.{length-replicate}
 use Rattle.std.proofs.lemmas.Result.{IfOk-weaker, IfErr-weaker}
@@ -37,30 +37,30 @@ returns-clause-ok g c =
     let second = g.G.Gates.made c.connect_bits.new.g in
     let new = g.G.Gates.made c.near_or_far.new.g in
     let op = c.args.op in
-    let a = c.args.a.now.items in
-    let b = c.args.b.now.items in
+    let a = c.args.a.now in
+    let b = c.args.b.now in
     let n = length a in
     let places = log_up n in
     let fill = c.match-op.fill in
     let near = c.in_ok-near.near.items in
     let is_far = c.in_ok-is_far.is_far in
-    let count : c.log_up.result ≡ places = c.log_up.ensures.value ∙ ap log_up c.len-width.ensures.value in
-    let low : c.split_at.result.0.now ≡ take places b = c.split_at.ensures.front ∙ ap₂ (λ k (ls : List ℕ). take k ls) count c.as_slice.ensures.value in
-    let high : c.split_at.result.1.now ≡ drop places b = c.split_at.ensures.back ∙ ap₂ (λ k (ls : List ℕ). drop k ls) count c.as_slice.ensures.value in
+    let count : c.log_up.result ≡ places = c.log_up.ensures.value in
+    let low : c.split_at.result.0.now ≡ take places b = c.split_at.ensures.front ∙ ap (λ k. take k b) count in
+    let high : c.split_at.result.1.now ≡ drop places b = c.split_at.ensures.back ∙ ap (λ k. drop k b) count in
     let low_count : length c.split_at.result.0.now ≡ places = c.split_at.ensures.front_len ∙ count in
     let is_fill : IsFill op a fill = elim c.match-op.branch [
-      | in-Sra w ↦ subst (λ o. IsFill o a fill) (sym w.in-Sra.is) (rw w.fill-is (rw (← c.len-width.ensures.value, ← w.deref.ensures.0) w.index-deref-width.is))
+      | in-Sra w ↦ subst (λ o. IsFill o a fill) (sym w.in-Sra.is) (rw w.fill-is w.index-a-width.is)
       | in_default w ↦ IsFill-false op a fill c.requires.shifts w.in_default.not-Sra w.fill-is
     ] in
-    let rest : length c.split_at.result.1.now + places ≡ n = ap (λ k. length c.split_at.result.1.now + k) (sym count) ∙ c.split_at.ensures.back_len ∙ ap length c.as_slice.ensures.value ∙ c.requires.operands.equal in
+    let rest : length c.split_at.result.1.now + places ≡ n = ap (λ k. length c.split_at.result.1.now + k) (sym count) ∙ c.split_at.ensures.back_len ∙ c.requires.operands.equal in
     let word : MakesWord old first (3 * (n * places)) n (λ v. binary_value op n (word_value v a) (word_value v (take places b))) near = rw (← low, ← low_count) c.in_ok-near.ensures.ok in
     let test : MakesLiteral first second (length c.split_at.result.1.now) (λ v. not (word_value v (drop places b) == 0)) is_far = rw (← high) c.in_ok-is_far.ensures.ok in
-    let filling : c.repeated.result.items ≡ replicate n fill = c.repeated.ensures ∙ ap (λ k. replicate k fill) c.len-width.ensures.value in
-    let filled_count : length c.repeated.result.items ≡ n = ap length filling ∙ length-replicate n fill in
+    let filling : c.as_slice.result.now ≡ replicate n fill = (c.as_slice.ensures.value ∙ c.repeated.ensures) in
+    let filled_count : length c.as_slice.result.now ≡ n = ap length filling ∙ length-replicate n fill in
     IfOk-weaker c.near_or_far.result _ _
     (λ row m.
-    let choice : MakesWord second new (3 * n) n (λ v. if literal_value v is_far then word_value v c.repeated.result.items else word_value v near) row.items =
-    subst (λ (k : ℕ). MakesWord second new (3 * k) k (λ v. if literal_value v is_far then word_value v c.repeated.result.items else word_value v near) row.items) filled_count m
+    let choice : MakesWord second new (3 * n) n (λ v. if literal_value v is_far then word_value v c.as_slice.result.now else word_value v near) row.items =
+    subst (λ (k : ℕ). MakesWord second new (3 * k) k (λ v. if literal_value v is_far then word_value v c.as_slice.result.now else word_value v near) row.items) filled_count m
     in
     let fills : MakesWord second new (3 * n) n (λ v. if literal_value v is_far then (if literal_value v fill then ones n else 0) else word_value v near) row.items =
     MakesWord-same second new (3 * n) n _ _ row.items (λ v. ap (λ w. if literal_value v is_far then w else word_value v near) (ap (word_value v) filling ∙ word_value-replicate v n fill)) choice
@@ -68,7 +68,7 @@ returns-clause-ok g c =
     let whole = MakesWord-choice old first second new (3 * (n * places)) (length c.split_at.result.1.now) (3 * n) n is_far (λ v. binary_value op n (word_value v a) (word_value v (take places b))) (λ v. if literal_value v fill then ones n else 0) (λ v. not (word_value v (drop places b) == 0)) near row.items word test fills in
     rw (shift_bound op n c.requires.shifts) (MakesWord-weaker old new (3 * (n * places) + length c.split_at.result.1.now + 3 * n) (3 * (n * places) + 4 * n) n _ row.items (omega arith)
     (MakesWord-same old new _ n _ (λ v. binary_value op n (word_value v a) (word_value v b)) row.items (λ v. shifted op v a b n fill places c.requires.shifts c.requires.operands.some refl is_fill (omega arith) (log_up_enough n c.requires.operands.most)) whole)))
-    c.near_or_far.ensures.ok
+    (rw c.as_slice-2.ensures.value at c.near_or_far.ensures.ok)
 
 pub returns-clause-refused : goal.returns-clause-refused
 returns-clause-refused g c =
@@ -77,15 +77,15 @@ returns-clause-refused g c =
     let second = g.G.Gates.made c.connect_bits.new.g in
     let new = g.G.Gates.made c.near_or_far.new.g in
     let op = c.args.op in
-    let n = length c.args.a.now.items in
-    let count : c.log_up.result ≡ log_up n = c.log_up.ensures.value ∙ ap log_up c.len-width.ensures.value in
+    let n = length c.args.a.now in
+    let count : c.log_up.result ≡ log_up n = c.log_up.ensures.value in
     let low_count : length c.split_at.result.0.now ≡ log_up n = c.split_at.ensures.front_len ∙ count in
-    let rest : length c.split_at.result.1.now + log_up n ≡ n = ap (λ k. length c.split_at.result.1.now + k) (sym count) ∙ c.split_at.ensures.back_len ∙ ap length c.as_slice.ensures.value ∙ c.requires.operands.equal in
-    let filled_count : length c.repeated.result.items ≡ n = ap length c.repeated.ensures ∙ length-replicate c.len-width.result c.match-op.fill ∙ c.len-width.ensures.value in
+    let rest : length c.split_at.result.1.now + log_up n ≡ n = ap (λ k. length c.split_at.result.1.now + k) (sym count) ∙ c.split_at.ensures.back_len ∙ c.requires.operands.equal in
+    let filled_count : length c.as_slice.result.now ≡ n = ap length (c.as_slice.ensures.value ∙ c.repeated.ensures) ∙ length-replicate (length c.args.a.now) c.match-op.fill in
     let stages : 3 * (n * length c.split_at.result.0.now) ≡ 3 * (n * log_up n) = ap (λ k. 3 * (n * k)) low_count in
     let before = Grows-trans old first second (3 * (n * length c.split_at.result.0.now)) (length c.split_at.result.1.now) c.in_ok-near.ensures.ok.grows c.in_ok-is_far.ensures.ok.grows in
     IfErr-weaker c.near_or_far.result _ _
-    (λ e r. rw (shift_bound op n c.requires.shifts) (Refuses-behind old second new (3 * (n * length c.split_at.result.0.now) + length c.split_at.result.1.now) (3 * length c.repeated.result.items) (3 * (n * log_up n) + 4 * n) e (omega arith) before r))
+    (λ e r. rw (shift_bound op n c.requires.shifts) (Refuses-behind old second new (3 * (n * length c.split_at.result.0.now) + length c.split_at.result.1.now) (3 * length c.as_slice.result.now) (3 * (n * log_up n) + 4 * n) e (omega arith) before r))
     c.near_or_far.ensures.refused
 
 -- that power of two is below the double
@@ -113,38 +113,38 @@ moved_in_turn-requires-clause-places g c = omega (arith, c.split_at.ensures.fron
 
 pub moved_in_turn-requires-clause-near : goal.moved_in_turn-requires-clause-near
 moved_in_turn-requires-clause-near g c = λ is.
-    let n = length c.args.a.now.items in
-    let low_count : length c.split_at.result.0.now ≡ log_up n = c.split_at.ensures.front_len ∙ c.log_up.ensures.value ∙ ap log_up c.len-width.ensures.value in
+    let n = length c.args.a.now in
+    let low_count : length c.split_at.result.0.now ≡ log_up n = c.split_at.ensures.front_len ∙ c.log_up.ensures.value in
     subst (λ (k : ℕ). 2 ^ k < 2 * n) (sym low_count) (near_enough n c.requires.operands.some c.requires.operands.most)
 
 pub moved_in_turn-requires-clause-amount : goal.moved_in_turn-requires-clause-amount
 moved_in_turn-requires-clause-amount g c =
     let old = g.G.Gates.made c.args.g.now in
-    let b = c.args.b.now.items in
-    let low : c.split_at.result.0.now ≡ take c.log_up.result b = c.split_at.ensures.front ∙ ap (λ (ls : List ℕ). take c.log_up.result ls) c.as_slice.ensures.value in
+    let b = c.args.b.now in
+    let low : c.split_at.result.0.now ≡ take c.log_up.result b = c.split_at.ensures.front in
     subst (λ (ls : List ℕ). All (IsDefined old) ls) (sym low) (All-take (IsDefined old) c.log_up.result b c.requires.operands.right)
 
 pub connect_bits-requires-clause-most : goal.connect_bits-requires-clause-most
 connect_bits-requires-clause-most g c =
-    omega (arith, c.split_at.ensures.back_len, ap length c.as_slice.ensures.value, c.requires.operands.equal, c.requires.operands.most)
+    omega (arith, c.split_at.ensures.back_len, c.requires.operands.equal, c.requires.operands.most)
 
 pub connect_bits-requires-clause-defined : goal.connect_bits-requires-clause-defined
 connect_bits-requires-clause-defined g c =
     let old = g.G.Gates.made c.args.g.now in
     let first = g.G.Gates.made c.moved_in_turn.new.g in
-    let b = c.args.b.now.items in
-    let high : c.split_at.result.1.now ≡ drop c.log_up.result b = c.split_at.ensures.back ∙ ap (λ (ls : List ℕ). drop c.log_up.result ls) c.as_slice.ensures.value in
+    let b = c.args.b.now in
+    let high : c.split_at.result.1.now ≡ drop c.log_up.result b = c.split_at.ensures.back in
     subst (λ (ls : List ℕ). All (IsDefined first) ls) (sym high) (All-drop (IsDefined first) c.log_up.result b (All-defined-grown old first _ c.in_ok-near.ensures.ok.grows b c.requires.operands.right))
 
 pub near_or_far-requires-clause-most : goal.near_or_far-requires-clause-most
 near_or_far-requires-clause-most g c =
-    let count = length-replicate c.len-width.result c.match-op.fill in
-    omega (arith, ap length c.repeated.ensures, count, c.len-width.ensures.value, c.requires.operands.most)
+    let count = length-replicate (length c.args.a.now) c.match-op.fill in
+    omega (arith, ap length (c.as_slice.ensures.value ∙ c.repeated.ensures), count, c.requires.operands.most)
 
 pub near_or_far-requires-clause-equal : goal.near_or_far-requires-clause-equal
 near_or_far-requires-clause-equal g c =
-    let filled_count : length c.repeated.result.items ≡ length c.args.a.now.items = ap length c.repeated.ensures ∙ length-replicate c.len-width.result c.match-op.fill ∙ c.len-width.ensures.value in
-    c.in_ok-near.ensures.ok.wide ∙ sym filled_count
+    let filled_count : length c.as_slice.result.now ≡ length c.args.a.now = ap length (c.as_slice.ensures.value ∙ c.repeated.ensures) ∙ length-replicate (length c.args.a.now) c.match-op.fill in
+    ap length c.as_slice-2.ensures.value ∙ c.in_ok-near.ensures.ok.wide ∙ sym filled_count
 
 pub near_or_far-requires-clause-condition : goal.near_or_far-requires-clause-condition
 near_or_far-requires-clause-condition g c = c.in_ok-is_far.ensures.ok.defined
@@ -152,27 +152,27 @@ near_or_far-requires-clause-condition g c = c.in_ok-is_far.ensures.ok.defined
 pub near_or_far-requires-clause-then : goal.near_or_far-requires-clause-then
 near_or_far-requires-clause-then g c =
     let second = g.G.Gates.made c.connect_bits.new.g in
-    let a = c.args.a.now.items in
+    let a = c.args.a.now in
     let fill = c.match-op.fill in
     let before = Grows-trans _ _ _ _ _ c.in_ok-near.ensures.ok.grows c.in_ok-is_far.ensures.ok.grows in
     let defined : IsDefined second fill = elim c.match-op.branch [
       | in-Sra w ↦ rw w.fill-is (
-          let x = w.index-deref-width.result in
-          let x_is : x ≡ get_or a (length a - 1) x = rw (← c.len-width.ensures.value, ← w.deref.ensures.0) w.index-deref-width.is in
+          let x = w.index-a-width.result in
+          let x_is : x ≡ get_or a (length a - 1) x = w.index-a-width.is in
           IsDefined-of_word _ second _ a (length a - 1) x (omega (arith, c.requires.operands.some)) x_is c.requires.operands.left before)
       | in_default w ↦ rw w.fill-is (IsDefined-false second)
     ] in
-    rw c.repeated.ensures (All-replicate (IsDefined second) c.len-width.result fill defined)
+    rw (c.as_slice.ensures.value ∙ c.repeated.ensures) (All-replicate (IsDefined second) (length c.args.a.now) fill defined)
 
 pub near_or_far-requires-clause-otherwise : goal.near_or_far-requires-clause-otherwise
-near_or_far-requires-clause-otherwise g c = All-defined-grown _ _ _ c.in_ok-is_far.ensures.ok.grows _ c.in_ok-near.ensures.ok.defined
+near_or_far-requires-clause-otherwise g c = rw c.as_slice-2.ensures.value (All-defined-grown _ _ _ c.in_ok-is_far.ensures.ok.grows _ c.in_ok-near.ensures.ok.defined)
 
 pub returns-in_err-near-clause-refused : goal.returns-in_err-near-clause-refused
 returns-in_err-near-clause-refused g c =
     let op = c.args.op in
-    let n = length c.args.a.now.items in
+    let n = length c.args.a.now in
     let m = length c.split_at.result.0.now in
-    let low_count : m ≡ log_up n = c.split_at.ensures.front_len ∙ c.log_up.ensures.value ∙ ap log_up c.len-width.ensures.value in
+    let low_count : m ≡ log_up n = c.split_at.ensures.front_len ∙ c.log_up.ensures.value in
     let within : 3 * (n * m) ≤ 3 * (n * log_up n) + 4 * n = few_stages n m (log_up n) low_count in
     let refused : Refuses (g.G.Gates.made c.args.g.now) (g.G.Gates.made c.moved_in_turn.new.g) (binary_bound op n) c.in_err-near.field-0.0 =
     rw (shift_bound op n c.requires.shifts) (Refuses-weaker _ _ (3 * (n * m)) (3 * (n * log_up n) + 4 * n) _ within c.in_err-near.ensures.refused)
@@ -181,11 +181,11 @@ returns-in_err-near-clause-refused g c =
 pub returns-in_err-is_far-clause-refused : goal.returns-in_err-is_far-clause-refused
 returns-in_err-is_far-clause-refused g c =
     let op = c.args.op in
-    let n = length c.args.a.now.items in
+    let n = length c.args.a.now in
     let m = length c.split_at.result.0.now in
     let k = length c.split_at.result.1.now in
-    let low_count : m ≡ log_up n = c.split_at.ensures.front_len ∙ c.log_up.ensures.value ∙ ap log_up c.len-width.ensures.value in
-    let most : k ≤ 4 * n = omega (arith, c.split_at.ensures.back_len, ap length c.as_slice.ensures.value, c.requires.operands.equal) in
+    let low_count : m ≡ log_up n = c.split_at.ensures.front_len ∙ c.log_up.ensures.value in
+    let most : k ≤ 4 * n = omega (arith, c.split_at.ensures.back_len, c.requires.operands.equal) in
     let within : 3 * (n * m) + k ≤ 3 * (n * log_up n) + 4 * n = few_stages_and n m (log_up n) k low_count most in
     let refused : Refuses (g.G.Gates.made c.args.g.now) (g.G.Gates.made c.connect_bits.new.g) (binary_bound op n) c.in_err-is_far.field-0.0 =
     rw (shift_bound op n c.requires.shifts) (Refuses-behind _ _ _ (3 * (n * m)) k (3 * (n * log_up n) + 4 * n) _ within c.in_ok-near.ensures.ok.grows c.in_err-is_far.ensures.refused)
