@@ -21,3 +21,4 @@ pub mod WordPlays
 pub mod WordStands
 pub mod WordReadings
 pub mod WordAssigns
+pub mod Beginnings
