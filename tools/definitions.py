@@ -2,9 +2,10 @@
 """Which definitions the public contracts rest on, and whether docs/DEFINITIONS.md has them all.
 
     python3 tools/definitions.py            lists what is wrong; prints nothing and ends with 0 where nothing is
-    python3 tools/definitions.py --write    writes the tables of calls in docs/DEFINITIONS.md anew
+    python3 tools/definitions.py --calls    prints each public call, and the definitions that its sentences name
     python3 tools/definitions.py --list     prints each definition that is rested on, and a call that names it
     python3 tools/definitions.py --between  prints each definition of specs/ that no public contract rests on
+    python3 tools/definitions.py --crossing prints those of these that another crate speaks of, and which do
 
 A definition is what stands in crates/NAME/specs. A public contract is the clauses of a function that a crate offers, of
 a trait or of an impl, with the ghost members and the values that clauses see; functions whose names begin with `worked_`
@@ -17,8 +18,7 @@ three ways, or the script says so.
 
 In docs/DEFINITIONS.md the first list begins at the heading `## What the public calls rest on`, with a heading of the third
 rank for each crate. Rows of tables with five columns are those of definitions: the names in the first column, the files in
-the third. A definition has a row where a row of its crate has its name and its file. The table of calls of a crate stands
-between the lines `<!-- calls of NAME -->` and `<!-- end of calls -->`. The second list begins at the heading
+the third. A definition has a row where a row of its crate has its name and its file. The second list begins at the heading
 `## Words between the parts`; it has a row for each file, but those named `Worked`, with definitions that the first has not.
 """
 import pathlib
@@ -347,26 +347,35 @@ def between(modules, because):
     return left
 
 
-def calls_table(modules, crate, calls):
-    """The table of a crate's calls: what each names, those that name the same in one row."""
-    by_names, order = {}, []
-    for call in calls:
-        names = tuple(calls[call])
+def print_calls(crate, calls):
+    """Prints a crate's calls with what each names, those that name the same in one line."""
+    by_names = {}
+    for call, names in calls.items():
         if names:
-            if names not in by_names:
-                by_names[names] = []
-                order.append(names)
-            by_names[names].append(call)
-    lines = ["| Calls | Their sentences name |", "|---|---|"]
-    for names in order:
-        said = ", ".join("`%s`%s" % (word, "" if home_crate == crate else " (%s)" % home_crate) for home_crate, _, word in names)
-        lines.append("| %s | %s |" % (", ".join("`%s`" % c for c in by_names[names]), said))
-    return "\n".join(lines)
+            by_names.setdefault(tuple(names), []).append(call)
+    print(crate)
+    for names, called in by_names.items():
+        said = [word if home_crate == crate else "%s (%s)" % (word, home_crate) for home_crate, _, word in names]
+        print("  %s: %s" % (", ".join(called), ", ".join(said)))
+
+
+def crossing(modules, left):
+    """The definitions on which no public contract rests and that another crate imports, each with those crates; models and
+    circuits of worked rows left out."""
+    words = {(crate, name, word) for (crate, name), named in left.items() if name != WORKED for word in named}
+    found = {}
+    for path in sorted(TOP.glob("crates/*/*/**/*.antt")) + sorted(TOP.glob("crates/*/src/**/*.rt")):
+        crate, text = path.relative_to(TOP / "crates").parts[0], path.read_text()
+        for line in list(IMPORT.finditer(text)) + list(GHOST_IMPORT.finditer(text)):
+            for target in imported(line).values():
+                if target in words and target[0] != crate:
+                    found.setdefault(target, set()).add(crate)
+    return found
 
 
 def main():
     asked = sys.argv[1:]
-    if any(a not in ("--write", "--list", "--between") for a in asked) or len(asked) > 1:
+    if any(a not in ("--calls", "--list", "--between", "--crossing") for a in asked) or len(asked) > 1:
         print(__doc__.strip())
         return 0 if asked[:1] in (["--help"], ["-h"]) else 2
     modules = read_modules()
@@ -374,7 +383,7 @@ def main():
               if line.strip() and not line.startswith("#")]
     # crates of tests offer nothing but what tests speak of
     crates = [name for name in crates if not name.endswith("_tests")]
-    roots, tables, wrong = [], {}, []
+    roots, wrong = [], []
     for name in crates:
         calls = {}
         for call, clauses, scope in public_clauses(Crate(name)):
@@ -387,8 +396,10 @@ def main():
             known = calls.setdefault(call, [])
             known.extend(d for d in direct if d not in known)
             roots.extend((d, "%s of %s" % (call, name)) for d in direct)
-        if calls:
-            tables[name] = calls_table(modules, name, calls)
+        if asked == ["--calls"]:
+            print_calls(name, calls)
+    if asked == ["--calls"]:
+        return 0
     because = closure(modules, roots)
     if asked == ["--list"]:
         for crate, name, word in sorted(because):
@@ -398,18 +409,11 @@ def main():
         for (crate, name), words in between(modules, because).items():
             print("%s %s: %s" % (crate, name, ", ".join(words)))
         return 0
+    if asked == ["--crossing"]:
+        for (crate, name, word), others in sorted(crossing(modules, between(modules, because)).items()):
+            print("%s %s.%s: %s" % (crate, name, word, ", ".join(sorted(others))))
+        return 0
     text = PAGE.read_text()
-    for name in tables:
-        found = re.search(r"<!-- calls of %s -->\n(.*?)<!-- end of calls -->" % name, text, re.S)
-        if not found:
-            wrong.append("no table of the calls of %s" % name)
-        elif found.group(1).strip() != tables[name]:
-            if asked == ["--write"]:
-                text = text[:found.start(1)] + "\n%s\n\n" % tables[name] + text[found.end(1):]
-            else:
-                wrong.append("the table of the calls of %s is not that of its contracts: run tools/definitions.py --write" % name)
-    if asked == ["--write"]:
-        PAGE.write_text(text)
     listed = rows(text)
     for crate, name, word in sorted(because):
         if name not in listed.get((crate, word), ()):
