@@ -58,13 +58,13 @@ bits_are_line count line bits h =
     ]
 
 -- a line of bits is not the last line
-bits_are_no_end : (bits : List Bool) → bytes_eq (bit_line bits) (codes ".") ≡ false
+pub bits_are_no_end : (bits : List Bool) → bytes_eq (bit_line bits) (codes ".") ≡ false
 bits_are_no_end [] = refl
 bits_are_no_end (true ∷ bits) = refl
 bits_are_no_end (false ∷ bits) = refl
 
 -- a claim is read as it
-claim_at-claim : (bads i : ℕ) → i < bads → bads < 2 ^ 64 → claim_at bads (claim i) ≡ Ok i
+pub claim_at-claim : (bads i : ℕ) → i < bads → bads < 2 ^ 64 → claim_at bads (claim i) ≡ Ok i
 claim_at-claim bads i below small = rw (number_of-decimal i (omega arith), lt-ltb i bads below) refl
 
 pub record IsClaimOf (bads : ℕ) (line : List ℕ) (i : ℕ) : Type 0 where
@@ -96,26 +96,26 @@ claim_is_line bads line i small h = claim_of_line bads line (claim_of line) i sm
 abbrev pub going : ℕ → BitRead → BitReading
 going n r = record { admitted = n; read = r; refused = None }
 
-few_lines : (n : ℕ) → n < most_lines → nat_le most_lines n ≡ false
+pub few_lines : (n : ℕ) → n < most_lines → nat_le most_lines n ≡ false
 few_lines n h = false_from_ne_true (nat_le most_lines n) (λ e. absurd (omega (arith, leb-true most_lines n e)))
 
 -- a line that is admitted
-line_admitted : (c : Circuit) (n : ℕ) (r next : BitRead) (line : List ℕ) (lines : List (List ℕ)) → n < most_lines → bit_admit c r line ≡ Ok next
+pub line_admitted : (c : Circuit) (n : ℕ) (r next : BitRead) (line : List ℕ) (lines : List (List ℕ)) → n < most_lines → bit_admit c r line ≡ Ok next
     → lines_behind c (going n r) (line ∷ lines) ≡ lines_behind c (going (n + 1) next) lines
 unfolding next_line
 line_admitted c n r next line lines h e = rw (few_lines n h, e) refl
 
 -- behind a refused line nothing changes
-stays_refused : (c : Circuit) (n : ℕ) (r : BitRead) (w : Why) (lines : List (List ℕ)) → lines_behind c (record { admitted = n; read = r; refused = Some w }) lines ≡ record { admitted = n; read = r; refused = Some w }
+pub stays_refused : (c : Circuit) (n : ℕ) (r : BitRead) (w : Why) (lines : List (List ℕ)) → lines_behind c (record { admitted = n; read = r; refused = Some w }) lines ≡ record { admitted = n; read = r; refused = Some w }
 unfolding next_line
 stays_refused c n r w [] = refl
 stays_refused c n r w (line ∷ lines) = stays_refused c n r w lines
 
-record WasAdmitted (c : Circuit) (n : ℕ) (r : BitRead) (line : List ℕ) (lines : List (List ℕ)) (g : BitReading) : Type 0 where
-  next : BitRead
-  few : n < most_lines
-  read : bit_admit c r line ≡ Ok next
-  others : lines_behind c (going (n + 1) next) lines ≡ g
+pub record WasAdmitted (c : Circuit) (n : ℕ) (r : BitRead) (line : List ℕ) (lines : List (List ℕ)) (g : BitReading) : Type 0 where
+  pub next : BitRead
+  pub few : n < most_lines
+  pub read : bit_admit c r line ≡ Ok next
+  pub others : lines_behind c (going (n + 1) next) lines ≡ g
 
 was_read : (c : Circuit) (n : ℕ) (r : BitRead) (line : List ℕ) (lines : List (List ℕ)) (g : BitReading) (o : Result BitRead Why) → n < most_lines → bit_admit c r line ≡ o
     → lines_behind c (one_more_line (going n r) o) lines ≡ g → g.refused ≡ None → WasAdmitted c n r line lines g
@@ -125,7 +125,7 @@ was_read c n r line lines g (Err w) few is h none =
     absurd (cc (refused, none))
 
 -- a line before others of which none is refused was admitted
-was_admitted : (c : Circuit) (n : ℕ) (r : BitRead) (line : List ℕ) (lines : List (List ℕ)) (g : BitReading) → lines_behind c (going n r) (line ∷ lines) ≡ g → g.refused ≡ None → WasAdmitted c n r line lines g
+pub was_admitted : (c : Circuit) (n : ℕ) (r : BitRead) (line : List ℕ) (lines : List (List ℕ)) (g : BitReading) → lines_behind c (going n r) (line ∷ lines) ≡ g → g.refused ≡ None → WasAdmitted c n r line lines g
 unfolding next_line
 was_admitted c n r line lines g h none =
     elim (cases_lt n most_lines) [
@@ -202,7 +202,7 @@ witness_read c w small valid few =
 
 -- ---- no line has a byte 10
 
-bits_are_a_line : (bits : List Bool) → IsLine (bit_line bits)
+pub bits_are_a_line : (bits : List Bool) → IsLine (bit_line bits)
 bits_are_a_line [] = refl
 bits_are_a_line (true ∷ bits) = bits_are_a_line bits
 bits_are_a_line (false ∷ bits) = bits_are_a_line bits
@@ -430,13 +430,13 @@ header_was c text (line ∷ lines) g small h none done whole =
       | inr e ↦ absurd (cc (e.1))
     ]
 
-record WasRead (g : BitReading) (last : List ℕ) (r : BitRead) : Type 0 where
-  none : g.refused ≡ None
-  done : is_done g.read.place ≡ true
-  empty : last ≡ []
-  is : g.read ≡ r
+pub record WasRead (g : BitReading) (last : List ℕ) (r : BitRead) : Type 0 where
+  pub none : g.refused ≡ None
+  pub done : is_done g.read.place ≡ true
+  pub empty : last ≡ []
+  pub is : g.read ≡ r
 
-read_was : (g : BitReading) (last : List ℕ) (r : BitRead) (o : Option Why) → g.refused ≡ o → read_or_fault g last o ≡ Ok r → WasRead g last r
+pub read_was : (g : BitReading) (last : List ℕ) (r : BitRead) (o : Option Why) → g.refused ≡ o → read_or_fault g last o ≡ Ok r → WasRead g last r
 read_was g last r (Some w) refused h = absurd cc
 read_was g last r None refused h =
     elim (chosen (is_done g.read.place && is_nothing last) (Ok g.read) (Err (fault_at g.admitted (last_why g.admitted g.read last))) (Ok r) h) [

@@ -33,6 +33,8 @@ pub mod WordPlayLemmas
 pub mod WordAssignLemmas
 pub mod KeptLineLemmas
 pub mod WordReadingLemmas
+pub mod BeginningLemmas
+pub mod BitBeginningLemmas
 pub mod WordGivenLemmas
 pub mod WordReaderLemmas
 pub mod WordJudgeLemmas

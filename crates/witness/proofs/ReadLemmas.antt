@@ -107,7 +107,7 @@ pub states_end : (shape : Shape) (claims : List ℕ) (list : List Assignment) �
 unfolding admit digits
 states_end shape claims list = refl
 
-free_end : (shape : Shape) (claims : List ℕ) (closed : List Parts) (list : List Assignment)
+pub free_end : (shape : Shape) (claims : List ℕ) (closed : List Parts) (list : List Assignment)
     → admit shape (in_free claims closed list) (64 ∷ decimal (length closed)) ≡ Ok (in_frame claims closed (Some list) [])
 unfolding admit
 free_end shape claims closed list =
@@ -131,7 +131,7 @@ next_states shape claims closed states list some =
     let same : bytes_eq line line ≡ true = (bytes_eq-Decides line line).1 refl in
     rw (same, some) refl
 
-last_line : (shape : Shape) (claims : List ℕ) (closed : List Parts) (states : Option (List Assignment)) (list : List Assignment)
+pub last_line : (shape : Shape) (claims : List ℕ) (closed : List Parts) (states : Option (List Assignment)) (list : List Assignment)
     → admit shape (in_frame claims closed states list) (codes ".") ≡ Ok (at_end claims (closed ++ parts_of states list ∷ []))
 unfolding admit
 last_line shape claims closed states list = refl

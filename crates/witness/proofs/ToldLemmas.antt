@@ -154,7 +154,7 @@ told_line shape lines r line next small (ToldAll comments marked w valid whole i
 
 -- ---- all lines
 
-told_lines : (shape : Shape) (before lines : List (List ℕ)) (r final : Read) → IsSmall shape → Told shape before r → admit_all shape r lines ≡ Ok final → Told shape (before ++ lines) final
+pub told_lines : (shape : Shape) (before lines : List (List ℕ)) (r final : Read) → IsSmall shape → Told shape before r → admit_all shape r lines ≡ Ok final → Told shape (before ++ lines) final
 told_lines shape before [] r final small told h =
     let is : r ≡ final = cc in
     subst (λ (s : Read). Told shape (before ++ []) s) is (subst (λ (ls : List (List ℕ)). Told shape ls r) (sym (append-nil before)) told)
@@ -164,7 +164,7 @@ told_lines shape before (line ∷ lines) r final small told h =
     subst (λ (ls : List (List ℕ)). Told shape ls final) (append_assoc before (line ∷ []) lines) (told_lines shape (before ++ line ∷ []) lines next final small (told_line shape before r line next small told parts.1.0) parts.1.1)
 
 -- lines that were read, where no line was refused
-record AreRead (shape : Shape) (n : ℕ) (r : Read) (lines : List (List ℕ)) (last : List ℕ) (final : Read) : Type 0 where
+pub record AreRead (shape : Shape) (n : ℕ) (r : Read) (lines : List (List ℕ)) (last : List ℕ) (final : Read) : Type 0 where
   pub admitted : admit_all shape r lines ≡ Ok final
   pub done : is_at_end final.place ≡ true
   pub ended : last ≡ []
@@ -178,7 +178,7 @@ then_parts : (n : ℕ) (o : Result Read Why) (others : Read → Result Read Faul
 then_parts n (Ok r) others final h = (r, (refl, h))
 then_parts n (Err w) others final h = absurd cc
 
-lines_were_read : (shape : Shape) (n : ℕ) (r : Read) (lines : List (List ℕ)) (last : List ℕ) (final : Read) → n ≤ most_lines → read_lines shape n r lines last ≡ Ok final → AreRead shape n r lines last final
+pub lines_were_read : (shape : Shape) (n : ℕ) (r : Read) (lines : List (List ℕ)) (last : List ℕ) (final : Read) → n ≤ most_lines → read_lines shape n r lines last ≡ Ok final → AreRead shape n r lines last final
 unfolding read_lines
 lines_were_read shape n r [] last final room h =
     elim (chosen (is_at_end r.place && is_nothing last) (Ok r) (Err (fault_at n (end_why n r last))) (Ok final) h) [

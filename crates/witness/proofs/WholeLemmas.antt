@@ -102,7 +102,7 @@ each_frame shape k (parts ∷ more) small few all =
     (each_states shape.states k parts.states small.states lt all.0.states) (decimal_without 10 k (omega arith) lt, inputs)
 
 -- each frame has a line
-frames_have_lines : (shape : Shape) (k : ℕ) (frames : List Parts) → length frames ≤ length (frame_lines shape k frames)
+pub frames_have_lines : (shape : Shape) (k : ℕ) (frames : List Parts) → length frames ≤ length (frame_lines shape k frames)
 frames_have_lines shape k [] = omega arith
 frames_have_lines shape k (parts ∷ more) =
     let others = frames_have_lines shape (suc k) more in
@@ -129,7 +129,7 @@ admit_parts (Ok r) others final h = (r, (refl, h))
 admit_parts (Err w) others final h = absurd cc
 
 -- lines that are all read, at most so many, end a witness
-lines_are_read : (shape : Shape) (n : ℕ) (r : Read) (lines : List (List ℕ)) (final : Read) → n + length lines ≤ most_lines → admit_all shape r lines ≡ Ok final → is_at_end final.place ≡ true
+pub lines_are_read : (shape : Shape) (n : ℕ) (r : Read) (lines : List (List ℕ)) (final : Read) → n + length lines ≤ most_lines → admit_all shape r lines ≡ Ok final → is_at_end final.place ≡ true
     → read_lines shape n r lines [] ≡ Ok final
 unfolding read_lines
 lines_are_read shape n r [] final few h done =

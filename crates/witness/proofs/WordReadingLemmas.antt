@@ -7,7 +7,7 @@ use Rattle.witness.specs.Texts.{Shape, most_lines}
 use Rattle.witness.specs.Admits.{Read, nothing_read, admit, fault_at, then_lines, read_lines, read_text}
 use Rattle.witness.specs.WordReadings.{Reading, one_more_line, next_line_of, lines_behind, word_reading, read_with}
 
-abbrev so_far : ℕ → Read → Reading
+abbrev pub so_far : ℕ → Read → Reading
 so_far n r = record { admitted = n; read = r; refused = None }
 
 -- behind a line that is not admitted none is

@@ -22,3 +22,4 @@ pub mod WordStands
 pub mod WordReadings
 pub mod WordAssigns
 pub mod PlainLines
+pub mod Beginnings

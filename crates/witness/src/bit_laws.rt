@@ -1,6 +1,6 @@
 //! Laws of witnesses of circuits, and worked rows, as functions with no code.
-ghost use Rattle.std.specs.Prelude.{◌≡◌, ◌↔◌, ℕ, true, false, Bool, List, [], ◌∷◌, ◌++◌, length, None, Some, Ok, Err, codes};
-ghost use Rattle.base.specs.Lines.{whole_lines};
+ghost use Rattle.std.specs.Prelude.{◌≡◌, ◌↔◌, ℕ, ◌+◌, ◌<◌, ◌≤◌, true, false, Bool, List, [], ◌∷◌, ◌++◌, length, None, Some, Ok, Err, codes};
+ghost use Rattle.base.specs.Lines.{text_of_lines, whole_lines, unfinished};
 ghost use Rattle.aiger.specs.declared.circuit.Latch.{Latch};
 ghost use Rattle.aiger.specs.Circuit.{Circuit, IsCircuit};
 ghost use Rattle.aiger.specs.Trace.{AreInitial};
@@ -8,6 +8,8 @@ ghost use Rattle.aiger.specs.Worked.{toggler};
 ghost use Rattle.witness.specs.declared.why.Why.TheVariants as why;
 ghost use Rattle.witness.specs.declared.judgement.Judgement.{Judgement};
 ghost use Rattle.witness.specs.declared.judgement.Judgement.TheVariants as judgement;
+ghost use Rattle.witness.specs.Texts.{most_lines};
+ghost use Rattle.witness.specs.Beginnings.{IsBitBeginning};
 ghost use Rattle.witness.specs.BitTexts.{BitWitness, BitSays};
 ghost use Rattle.witness.specs.BitAdmits.{BitRead, read_bit_text, bit_witness_of, admitted_lines, closed_frames};
 ghost use Rattle.witness.specs.BitJudgements.{first_reset_differing, makes_no_bit_claim, BitJudges};
@@ -24,6 +26,27 @@ pub fn bit_texts_read()
 /// A law: over a circuit a text says at most one witness.
 pub fn one_bit_reading()
     ensures { (c : Circuit) (text : List ℕ) (w v : BitWitness) → IsCircuit c → BitSays c text w → BitSays c text v → w ≡ v }
+{}
+
+/// A law: over a circuit with a bad property, whole lines, five fewer than may be there at most, are all admitted exactly
+/// where further lines make them the text of a witness, five at most. And whatever makes a text that of a witness, all its
+/// whole lines are admitted.
+pub fn admitted_lines_begin_bit_witnesses()
+    ensures exactly { (c : Circuit) (text : List ℕ) → IsCircuit c → 0 < length c.bads → unfinished text ≡ []
+        → length (whole_lines text) + 5 ≤ most_lines → (admitted_lines c text ≡ length (whole_lines text)) ↔ IsBitBeginning c text }
+    ensures whatever_follows { (c : Circuit) (text further : List ℕ) (w : BitWitness) → IsCircuit c → BitSays c (text ++ further) w
+        → admitted_lines c text ≡ length (whole_lines text) }
+{}
+
+/// A law: over a circuit, the first whole line that is not admitted is the first with which nothing that follows makes a text
+/// that of a witness: with it nothing does, and before it, where the circuit has a bad property, five lines do.
+pub fn first_faulty_bit_line()
+    ensures before { (c : Circuit) (text : List ℕ) (lines : List (List ℕ)) (line : List ℕ) (behind : List (List ℕ)) → IsCircuit c → 0 < length c.bads
+        → whole_lines text ≡ lines ++ line ∷ behind → admitted_lines c text ≡ length lines → length lines + 5 ≤ most_lines
+        → IsBitBeginning c (text_of_lines lines) }
+    ensures with_it { (c : Circuit) (text : List ℕ) (lines : List (List ℕ)) (line : List ℕ) (behind : List (List ℕ)) (further : List ℕ) (w : BitWitness)
+        → IsCircuit c → whole_lines text ≡ lines ++ line ∷ behind → admitted_lines c text ≡ length lines
+        → ¬ BitSays c (text_of_lines (lines ++ line ∷ []) ++ further) w }
 {}
 
 /// A law: over a circuit a text has exactly one judgement.

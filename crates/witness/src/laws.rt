@@ -1,6 +1,6 @@
 //! Laws of witnesses, and worked rows, as functions with no code.
-ghost use Rattle.std.specs.Prelude.{◌≡◌, ℕ, true, false, List, [], ◌∷◌, ◌++◌, All, None, Some, Ok, Err, codes, map};
-ghost use Rattle.base.specs.Lines.{whole_lines};
+ghost use Rattle.std.specs.Prelude.{◌≡◌, ◌↔◌, ℕ, ◌+◌, ◌<◌, ◌≤◌, true, false, List, [], ◌∷◌, ◌++◌, length, All, None, Some, Ok, Err, codes, map};
+ghost use Rattle.base.specs.Lines.{text_of_lines, whole_lines, unfinished};
 ghost use Rattle.btor2.specs.declared.item.Item.{Item};
 ghost use Rattle.btor2.specs.Check.{IsWellFormed};
 ghost use Rattle.btor2.specs.Lists.{HaveNexts};
@@ -8,10 +8,11 @@ ghost use Rattle.btor2.specs.Worked.{toggler, follower};
 ghost use Rattle.witness.specs.declared.why.Why.TheVariants as why;
 ghost use Rattle.witness.specs.declared.judgement.Judgement.{Judgement};
 ghost use Rattle.witness.specs.declared.judgement.Judgement.TheVariants as judgement;
-ghost use Rattle.witness.specs.Texts.{Shape, shape_of, has_free, Parts, Witness, AreFrames, Says};
+ghost use Rattle.witness.specs.Texts.{Shape, shape_of, has_free, Parts, Witness, AreFrames, Says, most_lines};
+ghost use Rattle.witness.specs.Beginnings.{IsBeginning};
 ghost use Rattle.witness.specs.Admits.{Read, read_text, witness_of};
 ghost use Rattle.witness.specs.Judgements.{words_of, given_frames, makes_no_claim, Judges};
-ghost use Rattle.witness.specs.WordReadings.{admitted_word_lines, closed_word_frames};
+ghost use Rattle.witness.specs.WordReadings.{word_reading, read_with, admitted_word_lines, closed_word_frames};
 ghost use Rattle.witness.specs.Worked.{constrained, wide, nothing_given, rises, follows};
 
 /// A law: over a well-formed model, a text that says a witness is read as it, and a text that is read says what it is
@@ -27,6 +28,34 @@ pub fn texts_read()
 pub fn one_reading()
     ensures { (items : List Item) (text : List ℕ) (w v : Witness) → IsWellFormed items → Says (shape_of items) text w
         → Says (shape_of items) text v → w ≡ v }
+{}
+
+/// A law: how far the whole lines of a text are admitted, on which the closed frames and the admitted lines rest, and what
+/// the text reads as, on which its judgement rests, are one reading.
+pub fn one_way_of_reading()
+    ensures { (shape : Shape) (text : List ℕ) → read_text shape text ≡ read_with (word_reading shape text) (unfinished text) }
+{}
+
+/// A law: over a well-formed model with a bad property, whole lines, four fewer than may be there at most, are all admitted
+/// exactly where further lines make them the text of a witness, four at most. And whatever makes a text that of a witness,
+/// all its whole lines are admitted.
+pub fn admitted_lines_begin_witnesses()
+    ensures exactly { (items : List Item) (text : List ℕ) → IsWellFormed items → 0 < (shape_of items).bads → unfinished text ≡ []
+        → length (whole_lines text) + 4 ≤ most_lines
+        → (admitted_word_lines (shape_of items) text ≡ length (whole_lines text)) ↔ IsBeginning (shape_of items) text }
+    ensures whatever_follows { (items : List Item) (text further : List ℕ) (w : Witness) → IsWellFormed items
+        → Says (shape_of items) (text ++ further) w → admitted_word_lines (shape_of items) text ≡ length (whole_lines text) }
+{}
+
+/// A law: over a well-formed model, the first whole line that is not admitted is the first with which nothing that follows
+/// makes a text that of a witness: with it nothing does, and before it, where the model has a bad property, four lines do.
+pub fn first_faulty_line()
+    ensures before { (items : List Item) (text : List ℕ) (lines : List (List ℕ)) (line : List ℕ) (behind : List (List ℕ)) → IsWellFormed items
+        → 0 < (shape_of items).bads → whole_lines text ≡ lines ++ line ∷ behind → admitted_word_lines (shape_of items) text ≡ length lines
+        → length lines + 4 ≤ most_lines → IsBeginning (shape_of items) (text_of_lines lines) }
+    ensures with_it { (items : List Item) (text : List ℕ) (lines : List (List ℕ)) (line : List ℕ) (behind : List (List ℕ)) (further : List ℕ) (w : Witness)
+        → IsWellFormed items → whole_lines text ≡ lines ++ line ∷ behind → admitted_word_lines (shape_of items) text ≡ length lines
+        → ¬ Says (shape_of items) (text_of_lines (lines ++ line ∷ []) ++ further) w }
 {}
 
 /// A law: where each state of a model has a next none is free, and where none is, a witness has no part of states
