@@ -3,7 +3,7 @@ use Rattle.std.proofs.Common.{◌≡◌, ℕ, zero, suc, ◌<◌, Bool, true, fa
 use Rattle.std.proofs.lemmas.Option.{slice_get_within, none-some, same_Some}
 use Rattle.btor2.specs.declared.item.Item.{Item}
 use Rattle.btor2.specs.declared.item.Body.{Body}
-use Rattle.btor2.specs.Items.{find_item, position_of, width_of_body, node_width, is_state, init_value, next_value, is_free, is_free_state, is_carried_state}
+use Rattle.btor2.specs.Items.{find_item, position_of, width_of_body, node_width, is_state, init_value, next_value, is_free, is_free_state, is_carried_state, init_word}
 use Rattle.btor2.specs.Check.{IsWellFormed}
 use Rattle.btor2.specs.Lists.{places, init_place, next_place, is_free_at, has_init_without_next, first_init_without_next, constant_at}
 use Rattle.btor2.proofs.LookUps.{found, init_some, init_none}
@@ -11,7 +11,6 @@ use Rattle.btor2.proofs.AppendLemmas.{then_parts, some_of}
 use Rattle.btor2.proofs.ModelLemmas.{IsIn-from_find, IsNextOf-from_value}
 use Rattle.aiger.specs.Net.{Net}
 use Rattle.blast.specs.Reads.{ReadsWord, RowReads, RowsRead}
-use Rattle.blast.specs.Leaves.{init_word}
 use Rattle.blast.specs.Rows.{row_at}
 use Rattle.blast.proofs.KindBlocks.{slice_get-behind}
 

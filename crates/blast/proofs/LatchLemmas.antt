@@ -6,7 +6,7 @@ use Rattle.std.proofs.lemmas.List.Elements.{All-nil, All-cons, All-append, All-g
 use Rattle.std.proofs.lemmas.List.Sums.{sum_by-cons}
 use Rattle.base.specs.Word.{bit, bits}
 use Rattle.btor2.specs.declared.item.Item.{Item}
-use Rattle.btor2.specs.Items.{node_width, is_state, is_carried_state, next_value}
+use Rattle.btor2.specs.Items.{node_width, is_state, is_carried_state, next_value, init_word}
 use Rattle.btor2.specs.Check.{IsWellFormed}
 use Rattle.btor2.specs.Lists.{places, first_init_without_next}
 use Rattle.btor2.specs.Trace.{bits_of, next_state}
@@ -20,7 +20,7 @@ use Rattle.aiger.specs.Net.{Net, IsDefined}
 use Rattle.aiger.specs.Circuit.{Circuit, net, with_latch, fresh_latch}
 use Rattle.blast.specs.Blocks.{block, blocks, written}
 use Rattle.blast.specs.Cost.{kind_width, carried_width}
-use Rattle.blast.specs.Leaves.{by_body, of_kind, reset_of_bit, resets_of_word, init_word, leaf_resets, leaf_bits}
+use Rattle.blast.specs.Leaves.{by_body, of_kind, reset_of_bit, resets_of_word, leaf_resets, leaf_bits}
 use Rattle.blast.specs.Reads.{ReadsWord, RowsRead, LatchesRead}
 use Rattle.blast.specs.Rows.{row_at, reset_at, row_latches, state_latches, item_latches}
 use Rattle.blast.proofs.KindBlocks.{written-nil, written-more, length-written, blocks-of_kind, of_kind-within, so_far, reached, so_far-none, so_far-all, so_far-room, so_far-more, reached-more}

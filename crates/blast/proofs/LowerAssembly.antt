@@ -6,7 +6,7 @@ use Rattle.std.proofs.lemmas.List.Sums.{sum_by-cons}
 use Rattle.std.proofs.lemmas.Bool.Decides.{nat_tests}
 use Rattle.base.proofs.BitLemmas.{length-bits}
 use Rattle.btor2.specs.declared.item.Item.{Item}
-use Rattle.btor2.specs.Items.{is_state, is_free, is_carried_state, find_item, names_state, next_value}
+use Rattle.btor2.specs.Items.{is_state, is_free, is_carried_state, find_item, names_state, next_value, init_word}
 use Rattle.btor2.specs.Check.{IsWellFormed}
 use Rattle.btor2.specs.Trace.{bits_of}
 use Rattle.btor2.proofs.ModelLemmas.{IsIn-from_find}
@@ -18,7 +18,7 @@ use Rattle.aiger.specs.Circuit.{Circuit, IsCircuit, net, fresh_latch}
 use Rattle.gates.specs.Made.{gates_only}
 use Rattle.blast.specs.declared.fault.LowerFault.TheVariants as fault
 use Rattle.blast.specs.Cost.{bound, kind_width, given_width, carried_width}
-use Rattle.blast.specs.Leaves.{of_kind, init_word, leaf_resets, resets_of_word, reset_of_bit}
+use Rattle.blast.specs.Leaves.{of_kind, leaf_resets, resets_of_word, reset_of_bit}
 use Rattle.blast.specs.Lowering.{Lowers}
 use Rattle.blast.specs.Properties.{TakesProperties}
 use Rattle.blast.specs.Sections.{TakesNames}

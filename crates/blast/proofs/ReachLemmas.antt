@@ -11,7 +11,7 @@ use Rattle.base.proofs.BitLemmas.{two_more, length-bits, word-bits, bits-word_of
 use Rattle.btor2.specs.declared.item.Item.{Item}
 use Rattle.btor2.specs.declared.item.Body.{Body}
 use Rattle.btor2.specs.declared.item.Body.TheVariants as body
-use Rattle.btor2.specs.Items.{find_item, is_input, is_state, is_free, is_free_state, is_carried_state, names_state, constant_of, init_for, init_value, next_value}
+use Rattle.btor2.specs.Items.{find_item, is_input, is_state, is_free, is_free_state, is_carried_state, names_state, constant_of, init_for, init_value, next_value, init_word}
 use Rattle.btor2.specs.Check.{IsWellFormed}
 use Rattle.btor2.specs.Trace.{Frame, bits_of, StateFits, StatesFit, InputFits, InputsFit, AreInputs, InitHolds, InitsHold, IsInitial, IsTrace}
 use Rattle.btor2.proofs.AppendLemmas.{then_parts}
@@ -26,7 +26,7 @@ use Rattle.aiger.specs.Net.{bits_from}
 use Rattle.aiger.specs.Circuit.{Circuit}
 use Rattle.aiger.specs.Trace.{AgreesWithReset, AreInitial, IsTrace as IsCircuitTrace, next_state as next_bits}
 use Rattle.blast.specs.Cost.{kind_width, input_width, given_width, carried_width}
-use Rattle.blast.specs.Leaves.{by_body, of_kind, leaf_bits, init_word, leaf_resets, resets_of_word, reset_of_bit, input_bits, state_bits, state_resets}
+use Rattle.blast.specs.Leaves.{by_body, of_kind, leaf_bits, leaf_resets, resets_of_word, reset_of_bit, input_bits, state_bits, state_resets}
 use Rattle.blast.specs.Lowering.{Lowers, ShowSame}
 use Rattle.blast.proofs.KindRows.{free_parts}
 use Rattle.blast.proofs.NodeLemmas.{length-leaves}

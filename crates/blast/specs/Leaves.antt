@@ -1,10 +1,10 @@
 -- What a lowering makes of the leaves and the observed lines of a model, in file order ("Btor2, BtorMC and Boolector 3.0" on one side, "AIGER 1.9 and Beyond" on the other; how the one becomes the other is this project's profile).
-use Rattle.std.specs.Prelude.{ℕ, zero, suc, Bool, true, false, List, [], ◌∷◌, ◌++◌, ◌==◌, Option, Some, None, if◌then◌else◌, option_and_then, map, replicate, decimal}
+use Rattle.std.specs.Prelude.{ℕ, zero, suc, Bool, true, false, List, [], ◌∷◌, ◌++◌, ◌==◌, Option, Some, None, if◌then◌else◌, map, replicate, decimal}
 use Rattle.base.specs.Word.{bits}
 use Rattle.btor2.specs.declared.item.Item.{Item}
 use Rattle.btor2.specs.declared.item.Body.{Body}
 use Rattle.btor2.specs.declared.item.Body.TheVariants as body
-use Rattle.btor2.specs.Items.{is_input, is_bad, is_constraint, is_free_state, is_carried_state, constant_of, init_value}
+use Rattle.btor2.specs.Items.{is_input, is_bad, is_constraint, is_free_state, is_carried_state, init_word}
 use Rattle.btor2.specs.Trace.{Frame, bits_of}
 use Rattle.aiger.specs.declared.circuit.Reset.{Reset}
 use Rattle.aiger.specs.declared.circuit.Reset.TheVariants as reset
@@ -74,10 +74,6 @@ reset_of_bit false = reset.Zero
 abbrev pub resets_of_word : ℕ → Option ℕ → List Reset
 resets_of_word width None = replicate width reset.Free
 resets_of_word width (Some x) = map reset_of_bit (bits width x)
-
--- the word that a state of a model begins with, where it has an init line: that of the constant that the line names
-abbrev pub init_word : List Item → ℕ → Option ℕ
-init_word items id = option_and_then (constant_of items) (init_value items id)
 
 -- how the latches of one state of a model begin: with the bits of its word
 abbrev pub leaf_resets : List Item → Item → List Reset

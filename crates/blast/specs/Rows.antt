@@ -2,11 +2,11 @@
 use Rattle.std.specs.Prelude.{ℕ, suc, Bool, true, false, List, [], ◌∷◌, ◌==◌, Option, Some, None, if◌then◌else◌, option_and_then, unwrap_or, map, slice_get}
 use Rattle.base.specs.Word.{bit, bits}
 use Rattle.btor2.specs.declared.item.Item.{Item}
-use Rattle.btor2.specs.Items.{position_of, next_value, is_carried_state}
+use Rattle.btor2.specs.Items.{position_of, next_value, is_carried_state, init_word}
 use Rattle.aiger.specs.declared.circuit.Latch.{Latch}
 use Rattle.aiger.specs.declared.circuit.Reset.{Reset}
 use Rattle.aiger.specs.declared.circuit.Reset.TheVariants as reset
-use Rattle.blast.specs.Leaves.{reset_of_bit, init_word}
+use Rattle.blast.specs.Leaves.{reset_of_bit}
 
 -- the row of the node that an id may name, and none of no node
 unfoldable pub row_at : List Item → List (List ℕ) → Option ℕ → List ℕ

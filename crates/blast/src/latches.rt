@@ -1,7 +1,7 @@
 //! The latches of a circuit: how they begin, and what they take in the next frame.
 ghost use Rattle.std.specs.Prelude.{◌≡◌, ℕ, ◌+◌, ◌<◌, ◌≤◌, true, length, replicate, Some, None, All, is_some, slice_get, slice_index};
 ghost use Rattle.btor2.specs.Check.{IsWellFormed};
-ghost use Rattle.btor2.specs.Items.{is_state, init_value, next_value};
+ghost use Rattle.btor2.specs.Items.{is_state, init_value, next_value, init_word};
 ghost use Rattle.btor2.specs.Lists.{places, first_init_without_next};
 ghost use Rattle.aiger.specs.Net.{IsDefined};
 ghost use Rattle.aiger.specs.Limits.{greatest_count};
@@ -9,7 +9,6 @@ ghost use Rattle.aiger.specs.Circuit.{net, with_latch, fresh_latch};
 ghost use Rattle.blast.specs.Blocks.{written};
 ghost use Rattle.blast.specs.Cost.{carried_width};
 ghost use Rattle.blast.specs.Reads.{RowsRead, LatchesRead};
-ghost use Rattle.blast.specs.Leaves.{init_word};
 ghost use Rattle.blast.specs.Rows.{row_at, reset_at, row_latches, state_latches, item_latches};
 
 use crate::items::item_at;

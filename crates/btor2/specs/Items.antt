@@ -126,6 +126,10 @@ abbrev pub init_value : List Item → ℕ → Option ℕ
 init_value [] id = None
 init_value (x ∷ xs) id = option_or (init_for id x.body) (init_value xs id)
 
+-- the word that a state begins with, where it has an init line: that of the constant that the line names
+abbrev pub init_word : List Item → ℕ → Option ℕ
+init_word items id = option_and_then (constant_of items) (init_value items id)
+
 abbrev pub next_value : List Item → ℕ → Option ℕ
 next_value [] id = None
 next_value (x ∷ xs) id = option_or (next_for id x.body) (next_value xs id)

@@ -1,5 +1,5 @@
 -- The lists of a model: its inputs, states, bad properties and constraints in file order.
-use Rattle.std.specs.Prelude.{◌≡◌, ℕ, suc, true, Bool, false, ◌&&◌, List, [], ◌∷◌, ◌++◌, Option, Some, None, if◌then◌else◌, is_none, is_some, option_and_then, option_map, unwrap_or, slice_get}
+use Rattle.std.specs.Prelude.{◌≡◌, ℕ, suc, true, Bool, false, ◌&&◌, List, [], ◌∷◌, ◌++◌, Option, Some, None, if◌then◌else◌, is_none, is_some, option_and_then, option_map, unwrap_or, slice_get, filter}
 use Rattle.btor2.specs.declared.item.Item.{Item}
 use Rattle.btor2.specs.declared.item.Body.{Body}
 use Rattle.btor2.specs.Items.{position_of, is_state, init_value, next_value, is_free, width_of_body, constant_of_body}
@@ -8,6 +8,10 @@ use Rattle.btor2.specs.Items.{position_of, is_state, init_value, next_value, is_
 abbrev pub places : (Body → Bool) → ℕ → List Item → List ℕ
 places test at [] = []
 places test at (x ∷ xs) = if test x.body then at ∷ places test (suc at) xs else places test (suc at) xs
+
+-- the items whose bodies pass a test, in file order
+abbrev pub of_kind : (Body → Bool) → List Item → List Item
+of_kind test items = filter (λ x. test x.body) items
 
 -- a list of places, with one more where a test is passed
 abbrev pub with_place : Bool → ℕ → List ℕ → List ℕ

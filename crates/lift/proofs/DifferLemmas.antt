@@ -10,7 +10,7 @@ use Rattle.base.proofs.BitLemmas.{length-bits, word-bits}
 use Rattle.btor2.specs.declared.item.Item.{Item}
 use Rattle.btor2.specs.declared.item.Body.{Body}
 use Rattle.btor2.specs.declared.item.Body.TheVariants as body
-use Rattle.btor2.specs.Items.{find_item, is_state, is_free, is_carried_state, names_state, init_for, init_value, next_value, constant_of}
+use Rattle.btor2.specs.Items.{find_item, is_state, is_free, is_carried_state, names_state, init_for, init_value, next_value, constant_of, init_word}
 use Rattle.btor2.specs.Check.{IsWellFormed}
 use Rattle.btor2.specs.Trace.{Frame, bits_of, InitHolds, InitsHold}
 use Rattle.btor2.proofs.ModelLemmas.{IsIn, IsIn-from_find, IsAccepted-at, IsInitOf-from_value}
@@ -20,7 +20,7 @@ use Rattle.aiger.specs.declared.circuit.Latch.{Latch}
 use Rattle.aiger.specs.declared.circuit.Reset.{Reset}
 use Rattle.aiger.specs.declared.circuit.Reset.TheVariants as reset
 use Rattle.blast.specs.Leaves.{of_kind, leaf_bits, leaf_resets, resets_of_word, reset_of_bit, state_bits, state_resets}
-use Rattle.witness.specs.Judgements.{init_constant, differs, first_different}
+use Rattle.witness.specs.Judgements.{differs, first_different}
 use Rattle.witness.specs.BitJudgements.{differs_from_reset, first_reset_differing}
 use Rattle.lift.specs.Verdicts.{owners, latch_states}
 use Rattle.lift.proofs.AssignedLemmas.{leaves_of, takes_carried}
@@ -137,12 +137,12 @@ abbrev bits_in : List Item → Frame → List Item → List Bool
 bits_in items f xs = of_kind (takes_carried items) (leaf_bits items f) xs
 
 abbrev different : List Item → Frame → Item → Bool
-different items f x = differs (init_constant items x.id) (f x.id)
+different items f x = differs (init_word items x.id) (f x.id)
 
 abbrev InitsFit : List Item → Type 0
-InitsFit items = (id c : ℕ) → init_constant items id ≡ Some c → c < 2 ^ bits_of items id
+InitsFit items = (id c : ℕ) → init_word items id ≡ Some c → c < 2 ^ bits_of items id
 
-free_has_no_init : (items : List Item) (id : ℕ) → is_free items id ≡ true → init_constant items id ≡ None
+free_has_no_init : (items : List Item) (id : ℕ) → is_free items id ≡ true → init_word items id ≡ None
 free_has_no_init items id h = by (init_value items id) (and_parts (is_none (init_value items id)) (is_none (next_value items id)) h).0
   where
     by : (o : Option ℕ) → is_none o ≡ true → option_and_then (constant_of items) o ≡ None
@@ -185,9 +185,9 @@ module _ (items : List Item) (f : Frame) (k index : ℕ) (x : Item) (xs : List I
 
   carried_belongs : InitsFit items → f x.id < 2 ^ bits_of items x.id → Rest
       → Belongs (replicate (bits_of items x.id) index ++ owners items (suc index) xs) k (first_differing k (leaf_resets items x ++ resets_in items xs) (leaf_bits items f x ++ bits_in items f xs)) (cond (different items f x) (Some index) (position_from (different items f) (index + 1) xs))
-  carried_belongs inits fits rest = by (init_constant items x.id) refl
+  carried_belongs inits fits rest = by (init_word items x.id) refl
     where
-      by : (o : Option ℕ) → init_constant items x.id ≡ o
+      by : (o : Option ℕ) → init_word items x.id ≡ o
           → Belongs (replicate (bits_of items x.id) index ++ owners items (suc index) xs) k (first_differing k (resets_of_word (bits_of items x.id) o ++ resets_in items xs) (leaf_bits items f x ++ bits_in items f xs)) (cond (differs o (f x.id)) (Some index) (position_from (different items f) (index + 1) xs))
       by None e = passes_freely rest
       by (Some c) e = by_constant c (inits x.id c e) fits rest
@@ -278,8 +278,8 @@ init_agrees items f w none t v e =
     let y = state_item items t of.state in
     let split : position_from (different items f) 0 (leaves_of is_state (y.1.before ++ y.0 ∷ y.1.after)) ≡ None = subst (λ (l : List Item). position_from (different items f) 0 (leaves_of is_state l) ≡ None) y.1.splits none in
     let same : different items f y.0 ≡ false = none_differs items f 0 y.1.before y.1.after y.0 y.3 split in
-    let given : init_constant items t ≡ Some of.constant = ap (option_and_then (constant_of items)) e ∙ of.word in
-    let own : differs (Some of.constant) (f t) ≡ false = ap (λ (o : Option ℕ). differs o (f t)) (sym given) ∙ (ap (λ (n : ℕ). differs (init_constant items n) (f n)) y.2 ∙ same) in
+    let given : init_word items t ≡ Some of.constant = ap (option_and_then (constant_of items)) e ∙ of.word in
+    let own : differs (Some of.constant) (f t) ≡ false = ap (λ (o : Option ℕ). differs o (f t)) (sym given) ∙ (ap (λ (n : ℕ). differs (init_word items n) (f n)) y.2 ∙ same) in
     of.word ∙ ap (λ (n : ℕ). Some n) (same_constant of.constant (f t) own)
 
 init_line_holds : (items : List Item) (state : Frame) → IsWellFormed items → ((t v : ℕ) → init_value items t ≡ Some v → constant_of items v ≡ Some (state t))

@@ -7,7 +7,7 @@ use Rattle.std.proofs.lemmas.Bool.{not-true}
 use Rattle.btor2.specs.declared.item.Item.{Item}
 use Rattle.btor2.specs.declared.item.Body.{Body}
 use Rattle.btor2.specs.declared.item.Body.TheVariants as body
-use Rattle.btor2.specs.Items.{is_input, is_state, is_free, names_state, init_value, constant_of}
+use Rattle.btor2.specs.Items.{is_input, is_state, is_free, names_state, init_value, constant_of, init_word}
 use Rattle.btor2.specs.Check.{IsWellFormed}
 use Rattle.btor2.specs.Trace.{Frame, bits_of, InputFits, StateFits, InputsFit, StatesFit, IsState, AreInputs}
 use Rattle.btor2.proofs.AppendLemmas.{then_parts}
@@ -16,7 +16,7 @@ use Rattle.btor2.proofs.ConstantLemmas.{constant_below}
 use Rattle.blast.specs.Cost.{input_width, given_width, carried_width}
 use Rattle.blast.specs.Leaves.{input_bits, state_bits}
 use Rattle.witness.specs.Texts.{shape_of, has_free}
-use Rattle.witness.specs.Judgements.{FrameWords, Words, index_of, pairs_of, frame_words, words_of, given_to, init_constant, initial_part, initial_words, given_words, given_frames}
+use Rattle.witness.specs.Judgements.{FrameWords, Words, index_of, pairs_of, frame_words, words_of, given_to, initial_part, initial_words, given_words, given_frames}
 use Rattle.witness.specs.BitTexts.{BitWitness}
 use Rattle.lift.proofs.AssignedLemmas.{assign, assigned, leaves_of, any_leaf, takes_free, takes_carried, assigned_inputs, assigned_carried, assigned_free, first_parts, later_parts, lifted_frames, lifted_witness}
 use Rattle.lift.proofs.LiftedWitness.{AreWide}
@@ -148,10 +148,10 @@ pub initial_again : (items : List Item) (b : BitWitness) → IsWellFormed items 
 initial_again items b w some long = carried_bits items (initial_words items (words_lifted items b)) b.initial w long (by b.frames some)
   where
     by : (frames : List (List Bool)) → frames ≢ [] → (id v : ℕ) → word_for items (takes_carried items) (leaves_of is_state items) b.initial id ≡ Some v
-        → unwrap_or (option_or (given_to is_state items (initial_part (map frame_words (lifted_frames items b.initial frames))) id) (init_constant items id)) 0 ≡ v
+        → unwrap_or (option_or (given_to is_state items (initial_part (map frame_words (lifted_frames items b.initial frames))) id) (init_word items id)) 0 ≡ v
     by [] some id v e = absurd (some refl)
     by (bs ∷ more) some id v e =
-        ap (λ (o : Option ℕ). unwrap_or (option_or o (init_constant items id)) 0)
+        ap (λ (o : Option ℕ). unwrap_or (option_or o (init_word items id)) 0)
         (first_given items b.initial bs id ∙ ap (λ (o : Option ℕ). option_or o (word_for items (takes_free items) (leaves_of is_state items) (drop (input_width items) bs) id)) e)
 
 -- ---- the words fit
@@ -176,14 +176,14 @@ below_word : (items : List Item) (takes : Item → Bool) (xs : List Item) (bs : 
 unfolding Below
 below_word items takes xs bs id v e = word_fits items takes xs bs id v e
 
-pub constant_fits : (items : List Item) (id c : ℕ) → IsWellFormed items → init_constant items id ≡ Some c → c < 2 ^ bits_of items id
+pub constant_fits : (items : List Item) (id c : ℕ) → IsWellFormed items → init_word items id ≡ Some c → c < 2 ^ bits_of items id
 constant_fits items id c w e =
     let parts = then_parts (constant_of items) (init_value items id) c e in
     let of = IsInitOf-from_value items id parts.0 w parts.1 in
     let wide : bits_of items parts.0 ≡ bits_of items id = ap (λ (o : Option ℕ). unwrap_or o 0) (of.of_value ∙ sym of.of_state) in
     subst (λ (n : ℕ). c < 2 ^ n) wide (constant_below items parts.0 c w parts.2)
 
-below_constant : (items : List Item) (id : ℕ) → IsWellFormed items → Below (bits_of items id) (init_constant items id)
+below_constant : (items : List Item) (id : ℕ) → IsWellFormed items → Below (bits_of items id) (init_word items id)
 unfolding Below
 below_constant items id w c e = constant_fits items id c w e
 
@@ -196,11 +196,11 @@ first_below items initial bs id =
 pub initial_below : (items : List Item) (b : BitWitness) (id : ℕ) → IsWellFormed items → b.frames ≢ [] → initial_words items (words_lifted items b) id < 2 ^ bits_of items id
 initial_below items b id w some = by b.frames some
   where
-    by : (frames : List (List Bool)) → frames ≢ [] → unwrap_or (option_or (given_to is_state items (initial_part (map frame_words (lifted_frames items b.initial frames))) id) (init_constant items id)) 0 < 2 ^ bits_of items id
+    by : (frames : List (List Bool)) → frames ≢ [] → unwrap_or (option_or (given_to is_state items (initial_part (map frame_words (lifted_frames items b.initial frames))) id) (init_word items id)) 0 < 2 ^ bits_of items id
     by [] some = absurd (some refl)
     by (bs ∷ more) some =
         let first : Option ℕ = given_to is_state items (frame_words (first_parts items b.initial bs)).states id in
-        below_or_0 (bits_of items id) (option_or first (init_constant items id)) (below_either (bits_of items id) first (init_constant items id) (first_below items b.initial bs id) (below_constant items id w))
+        below_or_0 (bits_of items id) (option_or first (init_word items id)) (below_either (bits_of items id) first (init_word items id) (first_below items b.initial bs id) (below_constant items id w))
 
 words_below : (items : List Item) (parts : FrameWords) (bs : List Bool) (id : ℕ) → parts.inputs ≡ pairs_of (assigned_inputs items bs) → Below (bits_of items id) (given_to is_state items parts.states id) → given_words items parts id < 2 ^ bits_of items id
 words_below items parts bs id is h = by (names_state items id)

@@ -11,7 +11,8 @@ use Rattle.btor2.proofs.AppendLemmas.{is_some_from}
 use Rattle.btor2.proofs.ModelLemmas.{IsNextOf-from_value}
 use Rattle.btor2.proofs.TraceLemmas.{frame_exists}
 use Rattle.runs.specs.declared.nodes.Node.{Node}
-use Rattle.runs.specs.Frames.{has_value, is_leaf, is_constant, of_kind, ids_of, rank, given, given_leaves}
+use Rattle.btor2.specs.Lists.{of_kind}
+use Rattle.runs.specs.Frames.{has_value, is_leaf, is_constant, ids_of, rank, given, given_leaves}
 use Rattle.runs.specs.Run.{zeros}
 use Rattle.runs.specs.Nodes.{slot, words_at, word_where, IsInside}
 use Rattle.runs.specs.Holds.{next_slot, LeavesFit, ConstantsStand, HoldsFrame, Keeps}

@@ -7,12 +7,12 @@ use Rattle.btor2.specs.declared.item.Item.{Item}
 use Rattle.btor2.specs.declared.item.Body.{Body}
 use Rattle.btor2.specs.Items.{find_item, node_width, width_of_body, is_input, is_state}
 use Rattle.btor2.specs.Check.{IsWellFormed}
-use Rattle.btor2.specs.Lists.{places, width_at}
+use Rattle.btor2.specs.Lists.{places, width_at, of_kind}
 use Rattle.btor2.specs.Trace.{Frame, bits_of, IsFrame}
 use Rattle.btor2.proofs.AppendLemmas.{some_of}
 use Rattle.btor2.proofs.ModelLemmas.{node_width-at}
 use Rattle.runs.specs.declared.nodes.Node.{Node}
-use Rattle.runs.specs.Frames.{has_value, is_leaf, of_kind, ids_of, rank, given, given_leaves}
+use Rattle.runs.specs.Frames.{has_value, is_leaf, ids_of, rank, given, given_leaves}
 use Rattle.runs.specs.Run.{Run}
 use Rattle.runs.specs.Nodes.{slot, nodes_of, words_at, NodesFit, settled_values}
 use Rattle.runs.specs.Holds.{LeavesFit, ConstantsStand, Keeps}

@@ -10,7 +10,8 @@ use Rattle.btor2.specs.Trace.{Frame, bits_of, LineHolds}
 use Rattle.btor2.proofs.AppendLemmas.{find_item-append, sort_width-append, node_width-append, then_parts, is_some_from}
 use Rattle.btor2.proofs.AcceptedLemmas.{BodyIsAccepted}
 use Rattle.btor2.proofs.ModelLemmas.{IsWellFormed-front, sort_width-range}
-use Rattle.runs.specs.Frames.{has_value, is_leaf, is_constant, of_kind}
+use Rattle.btor2.specs.Lists.{of_kind}
+use Rattle.runs.specs.Frames.{has_value, is_leaf, is_constant}
 use Rattle.runs.specs.Nodes.{slot, operator_of, standing_word, operator_value, OperatorFits, IsWordAt}
 use Rattle.runs.proofs.RankLemmas.{rank-below}
 

@@ -6,9 +6,8 @@ use Rattle.btor2.specs.declared.item.Item.{Item}
 use Rattle.btor2.specs.declared.item.Body.{Body}
 use Rattle.btor2.specs.declared.item.Body.TheVariants as body
 use Rattle.btor2.specs.Items.{is_bad, is_constraint}
-use Rattle.btor2.specs.Lists.{places}
+use Rattle.btor2.specs.Lists.{places, of_kind}
 use Rattle.btor2.proofs.AppendLemmas.{some_of, then_parts}
-use Rattle.runs.specs.Frames.{of_kind}
 use Rattle.runs.specs.Run.{is_property, property_id, property_at}
 use Rattle.runs.specs.Nodes.{slot, property_slot}
 use Rattle.runs.proofs.RankLemmas.{nth, length-places}

@@ -7,9 +7,9 @@ use Rattle.btor2.specs.declared.item.Body.{Body}
 use Rattle.btor2.specs.declared.item.Body.TheVariants as body
 use Rattle.btor2.specs.Items.{find_item, is_input, is_state, names_state}
 use Rattle.btor2.specs.Check.{IsWellFormed}
-use Rattle.btor2.specs.Lists.{places}
+use Rattle.btor2.specs.Lists.{places, of_kind}
 use Rattle.btor2.proofs.ModelLemmas.{IsIn, IsAccepted-at, find_item-in}
-use Rattle.runs.specs.Frames.{has_value, is_leaf, is_constant, of_kind, ids_of, rank, given, given_leaves}
+use Rattle.runs.specs.Frames.{has_value, is_leaf, is_constant, ids_of, rank, given, given_leaves}
 use Rattle.runs.specs.Nodes.{slot, words_at}
 
 -- what a kind's leaves are

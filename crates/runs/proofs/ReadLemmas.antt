@@ -5,13 +5,13 @@ use Rattle.btor2.specs.declared.item.Item.{Item}
 use Rattle.btor2.specs.declared.item.Body.{Body}
 use Rattle.btor2.specs.declared.item.Body.TheVariants as body
 use Rattle.btor2.specs.Items.{find_item, node_sort, sort_width, node_width, width_of_body, operands, is_state, is_bad, is_constraint}
-use Rattle.btor2.specs.Lists.{places, width_at}
+use Rattle.btor2.specs.Lists.{places, width_at, of_kind}
 use Rattle.btor2.specs.Trace.{Frame, IsFrame}
 use Rattle.btor2.proofs.AppendLemmas.{some_of, then_parts, is_some_from}
 use Rattle.btor2.proofs.AcceptedLemmas.{Each}
 use Rattle.btor2.proofs.ModelLemmas.{find_item-at}
 use Rattle.runs.specs.declared.nodes.Node.{Node}
-use Rattle.runs.specs.Frames.{has_value, of_kind, given, given_leaves}
+use Rattle.runs.specs.Frames.{has_value, given, given_leaves}
 use Rattle.runs.specs.Run.{property_id}
 use Rattle.runs.specs.Nodes.{slot, words_at}
 use Rattle.runs.specs.Holds.{Keeps}

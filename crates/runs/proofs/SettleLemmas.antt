@@ -12,7 +12,8 @@ use Rattle.btor2.proofs.AppendLemmas.{find_item-append, found_cases}
 use Rattle.btor2.proofs.ModelLemmas.{IsIn, IsAccepted-at, find_item-in}
 use Rattle.runs.specs.declared.nodes.Node.{Node}
 use Rattle.runs.specs.declared.nodes.Operator.{Operator}
-use Rattle.runs.specs.Frames.{has_value, is_leaf, is_constant, of_kind}
+use Rattle.btor2.specs.Lists.{of_kind}
+use Rattle.runs.specs.Frames.{has_value, is_leaf, is_constant}
 use Rattle.runs.specs.Nodes.{slot, operator_of, with_node, nodes_of, operator_value, OperatorFits, NodesFit, settled_values}
 use Rattle.runs.specs.Holds.{ConstantsStand, HoldsFrame}
 use Rattle.runs.proofs.RankLemmas.{rank-below, slot-one}

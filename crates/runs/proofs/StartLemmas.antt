@@ -8,11 +8,11 @@ use Rattle.btor2.specs.declared.item.Body.{Body}
 use Rattle.btor2.specs.declared.item.Body.TheVariants as body
 use Rattle.btor2.specs.Items.{find_item, width_of_body, constant_word, constant_of, is_input, is_state, is_bad, is_constraint, init_value}
 use Rattle.btor2.specs.Check.{IsWellFormed}
-use Rattle.btor2.specs.Lists.{places}
+use Rattle.btor2.specs.Lists.{places, of_kind}
 use Rattle.btor2.specs.Trace.{bits_of}
 use Rattle.btor2.proofs.ModelLemmas.{IsInitOf, IsInitOf-from_value}
 use Rattle.runs.specs.declared.nodes.Node.{Node}
-use Rattle.runs.specs.Frames.{has_value, of_kind, ids_of, rank}
+use Rattle.runs.specs.Frames.{has_value, ids_of, rank}
 use Rattle.runs.specs.Run.{property_id, first_word, zeros}
 use Rattle.runs.specs.Nodes.{slot, nodes_of, standing_word, words_at}
 use Rattle.runs.specs.Holds.{next_slot, LeavesFit, ConstantsStand, Keeps}

@@ -8,10 +8,10 @@ use Rattle.btor2.specs.declared.item.Item.{Item}
 use Rattle.btor2.specs.declared.item.Body.{Body}
 use Rattle.btor2.specs.Items.{position_of, node_width, is_state, init_value, next_value}
 use Rattle.btor2.specs.Check.{IsWellFormed}
-use Rattle.btor2.specs.Lists.{places, id_at, init_place, next_place, constant_at}
+use Rattle.btor2.specs.Lists.{places, id_at, init_place, next_place, constant_at, of_kind}
 use Rattle.btor2.proofs.AppendLemmas.{then_parts, is_some_from}
 use Rattle.btor2.proofs.ModelLemmas.{IsIn-from_place, IsAccepted-at, IsNextOf-from_value}
-use Rattle.runs.specs.Frames.{has_value, of_kind, ids_of}
+use Rattle.runs.specs.Frames.{has_value, ids_of}
 use Rattle.runs.specs.declared.nodes.Node.{Node}
 use Rattle.runs.specs.declared.nodes.Operator.{Operator}
 use Rattle.runs.specs.Nodes.{slot, operator_of, with_node, nodes_of}

@@ -9,7 +9,8 @@ use Rattle.btor2.specs.Check.{IsWellFormed}
 use Rattle.btor2.specs.Trace.{Frame, bits_of, LineHolds, LinesHold, IsFrame, StateFits, InputFits, StatesFit, InputsFit, IsState, IsInput}
 use Rattle.btor2.proofs.ModelLemmas.{IsIn, find_item-in}
 use Rattle.btor2.proofs.TraceLemmas.{words_fit_frame, frame_exists}
-use Rattle.runs.specs.Frames.{has_value, is_leaf, of_kind, ids_of, given, given_leaves}
+use Rattle.btor2.specs.Lists.{of_kind}
+use Rattle.runs.specs.Frames.{has_value, is_leaf, ids_of, given, given_leaves}
 use Rattle.runs.specs.Nodes.{slot, nodes_of, words_at, NodesFit, settled_values}
 use Rattle.runs.specs.Holds.{LeavesFit, ConstantsStand, HoldsFrame}
 use Rattle.runs.proofs.RankLemmas.{state_is_leaf, leaf_has_value, constant_has_value, nth, nth-found, length-ids, given-at, leaf_cases, state_leaf, input_leaf, either_word}

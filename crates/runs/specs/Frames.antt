@@ -1,10 +1,10 @@
 -- Frames of given words: the k-th state, and the k-th input, in file order has the k-th word of a list.
 use Rattle.std.specs.Prelude.{ℕ, suc, Bool, true, false, List, [], ◌∷◌, map, ◌==◌, if◌then◌else◌, is_some, slice_index}
-use Rattle.std.specs.List.{filter}
 use Rattle.btor2.specs.declared.item.Item.{Item}
 use Rattle.btor2.specs.declared.item.Body.{Body}
 use Rattle.btor2.specs.declared.item.Body.TheVariants as body
 use Rattle.btor2.specs.Items.{node_sort, is_input, is_state, names_state}
+use Rattle.btor2.specs.Lists.{of_kind}
 use Rattle.btor2.specs.Trace.{Frame}
 
 -- whether a line has a value: a leaf, a constant or an operator
@@ -27,10 +27,7 @@ is_constant (body.Constd s v) = true
 is_constant (body.Consth s d v) = true
 is_constant _ = false
 
--- the items whose bodies pass a test, in file order, and their ids
-abbrev pub of_kind : (Body → Bool) → List Item → List Item
-of_kind test items = filter (λ x. test x.body) items
-
+-- the ids of the items whose bodies pass a test, in file order
 abbrev pub ids_of : (Body → Bool) → List Item → List ℕ
 ids_of test items = map (λ x. x.id) (of_kind test items)
 

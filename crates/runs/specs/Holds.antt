@@ -7,7 +7,8 @@ use Rattle.btor2.specs.Trace.{Frame, IsFrame, bits_of}
 use Rattle.runs.specs.declared.nodes.Node.{Node}
 use Rattle.runs.specs.declared.resolving.Slots.{Slots}
 use Rattle.runs.specs.declared.word_run.WordRun.TheInside.{Inside}
-use Rattle.runs.specs.Frames.{has_value, is_leaf, is_constant, of_kind, ids_of, given, given_leaves}
+use Rattle.btor2.specs.Lists.{of_kind}
+use Rattle.runs.specs.Frames.{has_value, is_leaf, is_constant, ids_of, given, given_leaves}
 use Rattle.runs.specs.Run.{Run, property_id}
 use Rattle.runs.specs.Nodes.{slot, nodes_of, standing_word, words_at}
 

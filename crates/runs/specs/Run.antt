@@ -5,9 +5,10 @@ pub use Rattle.base.specs.Steps.{more_steps}
 use Rattle.btor2.specs.declared.item.Item.{Item}
 use Rattle.btor2.specs.declared.item.Body.{Body}
 use Rattle.btor2.specs.declared.item.Body.TheVariants as body
-use Rattle.btor2.specs.Items.{is_input, is_state, init_value, constant_of}
+use Rattle.btor2.specs.Items.{is_input, is_state, init_word}
 use Rattle.btor2.specs.Trace.{Frame, IsFrame}
-use Rattle.runs.specs.Frames.{has_value, of_kind, ids_of, given, given_leaves}
+use Rattle.btor2.specs.Lists.{of_kind}
+use Rattle.runs.specs.Frames.{has_value, ids_of, given, given_leaves}
 
 -- The words of the states and of the inputs are in file order. It is settled where no word was set since the last settling and
 -- the run has not advanced since. The steps are all that it has taken.
@@ -38,7 +39,7 @@ state_count items = length (of_kind is_state items)
 
 -- the word that a state begins with: that of its init line, or 0, as where it is free
 abbrev pub first_word : List Item → ℕ → ℕ
-first_word items id = unwrap_or (option_and_then (constant_of items) (init_value items id)) 0
+first_word items id = unwrap_or (init_word items id) 0
 
 -- the words of inputs that were not set: 0 each
 abbrev pub zeros : List Item → List ℕ

@@ -2,8 +2,8 @@
 ghost use Rattle.std.specs.Prelude.{◌≡◌, ℕ, ◌<◌, ◌≤◌, true, Some, map, length, is_some, slice_get, slice_index, option_copied, IfOk};
 ghost use Rattle.btor2.specs.Items.{is_state};
 ghost use Rattle.btor2.specs.Check.{IsWellFormed};
-ghost use Rattle.btor2.specs.Lists.{places};
-ghost use Rattle.runs.specs.Frames.{has_value, of_kind, ids_of};
+ghost use Rattle.btor2.specs.Lists.{places, of_kind};
+ghost use Rattle.runs.specs.Frames.{has_value, ids_of};
 ghost use Rattle.runs.specs.Nodes.{slot, nodes_of, standing_word, property_slot};
 ghost use Rattle.runs.specs.Holds.{next_slot, AreSlotsOf};
 ghost use Rattle.runs.specs.Run.{first_word, property_at};

@@ -9,7 +9,7 @@ use Rattle.btor2.specs.Check.{IsWellFormed}
 use Rattle.btor2.specs.Trace.{bits_of}
 use Rattle.btor2.proofs.ModelLemmas.{few_items}
 use Rattle.witness.specs.Texts.{shape_of}
-use Rattle.witness.specs.Judgements.{of_kind}
+use Rattle.btor2.specs.Lists.{of_kind}
 use Rattle.witness.proofs.ReadLemmas.{IsSmall}
 
 -- of a kind there are no more items than in all

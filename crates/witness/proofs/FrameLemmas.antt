@@ -6,16 +6,16 @@ use Rattle.std.proofs.lemmas.List.{length-map, drop_all}
 use Rattle.btor2.specs.declared.item.Item.{Item}
 use Rattle.btor2.specs.declared.item.Body.{Body}
 use Rattle.btor2.specs.declared.item.Body.TheVariants as body
-use Rattle.btor2.specs.Items.{operands, is_input, is_state, is_bad, is_constraint, constant_of, init_value, next_value}
+use Rattle.btor2.specs.Items.{operands, is_input, is_state, is_bad, is_constraint, constant_of, init_value, next_value, init_word}
 use Rattle.btor2.specs.Check.{IsWellFormed}
-use Rattle.btor2.specs.Lists.{places}
+use Rattle.btor2.specs.Lists.{places, of_kind}
 use Rattle.btor2.specs.Trace.{Frame, state_word, LineHolds, LinesHold, IsFrame, IsTrace, next_state}
 use Rattle.btor2.proofs.ModelLemmas.{find_item-in}
 use Rattle.runs.specs.Run.{property_id, is_one}
 use Rattle.runs.proofs.RankLemmas.{nth, length-places}
 use Rattle.runs.proofs.PlaceLemmas.{map_read}
 use Rattle.runs.proofs.StateLemmas.{nth-get}
-use Rattle.witness.specs.Judgements.{of_kind, nodes_of, init_constant, differs, first_different}
+use Rattle.witness.specs.Judgements.{nodes_of, differs, first_different}
 use Rattle.witness.proofs.GivenLemmas.{SameAt}
 
 -- ---- frames from words that agree
@@ -49,18 +49,18 @@ free_differs_not : (items : List Item) (o n : Option ℕ) (word given_word carri
 free_differs_not items None n word given_word carried e = refl
 free_differs_not items (Some v) n word given_word carried e = ap (differs (constant_of items v)) e
 
-state_differs : (items : List Item) (s i f : Frame) (x : Item) → is_state x.body ≡ true → LineHolds items s i f x.id x.body → differs (init_constant items x.id) (f x.id) ≡ differs (init_constant items x.id) (s x.id)
+state_differs : (items : List Item) (s i f : Frame) (x : Item) → is_state x.body ≡ true → LineHolds items s i f x.id x.body → differs (init_word items x.id) (f x.id) ≡ differs (init_word items x.id) (s x.id)
 state_differs items s i f x is h = free_differs_not items (init_value items x.id) (next_value items x.id) (f x.id) (i x.id) (s x.id) (line_state items s i f x.id x.body is h)
 
 different_from : (items : List Item) (s i f : Frame) (n : ℕ) (rest : List Item) → LinesHold items s i f rest
-    → position_from (λ (x : Item). differs (init_constant items x.id) (f x.id)) n (of_kind is_state rest) ≡ position_from (λ (x : Item). differs (init_constant items x.id) (s x.id)) n (of_kind is_state rest)
+    → position_from (λ (x : Item). differs (init_word items x.id) (f x.id)) n (of_kind is_state rest) ≡ position_from (λ (x : Item). differs (init_word items x.id) (s x.id)) n (of_kind is_state rest)
 different_from items s i f n [] h = refl
 different_from items s i f n (x ∷ xs) h = by (λ m. different_from items s i f m xs h.1) (is_state x.body) refl
   where
-    by : ((m : ℕ) → position_from (λ (y : Item). differs (init_constant items y.id) (f y.id)) m (of_kind is_state xs) ≡ position_from (λ (y : Item). differs (init_constant items y.id) (s y.id)) m (of_kind is_state xs))
+    by : ((m : ℕ) → position_from (λ (y : Item). differs (init_word items y.id) (f y.id)) m (of_kind is_state xs) ≡ position_from (λ (y : Item). differs (init_word items y.id) (s y.id)) m (of_kind is_state xs))
         → (b : Bool) → is_state x.body ≡ b
-        → position_from (λ (y : Item). differs (init_constant items y.id) (f y.id)) n (cond b (x ∷ of_kind is_state xs) (of_kind is_state xs))
-        ≡ position_from (λ (y : Item). differs (init_constant items y.id) (s y.id)) n (cond b (x ∷ of_kind is_state xs) (of_kind is_state xs))
+        → position_from (λ (y : Item). differs (init_word items y.id) (f y.id)) n (cond b (x ∷ of_kind is_state xs) (of_kind is_state xs))
+        ≡ position_from (λ (y : Item). differs (init_word items y.id) (s y.id)) n (cond b (x ∷ of_kind is_state xs) (of_kind is_state xs))
     by later true is = ap₂ (λ (b : Bool) (o : Option ℕ). cond b (Some n) o) (state_differs items s i f x is h.0) (later (n + 1))
     by later false is = later n
 

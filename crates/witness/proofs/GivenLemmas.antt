@@ -9,14 +9,15 @@ use Rattle.std.proofs.lemmas.List.{length-map, get_or-map, length-set, get_or-se
 use Rattle.btor2.specs.declared.item.Item.{Item}
 use Rattle.btor2.specs.declared.item.Body.{Body}
 use Rattle.btor2.specs.declared.item.Body.TheVariants as body
-use Rattle.btor2.specs.Items.{find_item, is_input, is_state, names_state, init_value, next_value, constant_of, is_free}
+use Rattle.btor2.specs.Items.{find_item, is_input, is_state, names_state, init_value, next_value, constant_of, is_free, init_word}
 use Rattle.btor2.specs.Trace.{Frame, next_state}
 use Rattle.runs.specs.Frames.{ids_of, rank}
 use Rattle.runs.specs.Frames.{given as given_at}
 use Rattle.runs.specs.Run.{first_word, zeros}
 use Rattle.runs.proofs.RankLemmas.{rank-below, ids-rank, length-ids}
 use Rattle.witness.specs.Texts.{Shape, shape_of, is_free_index, are_distinct}
-use Rattle.witness.specs.Judgements.{FrameWords, Words, of_kind, index_of, given, given_to, init_constant, initial_part, initial_words, given_words}
+use Rattle.btor2.specs.Lists.{of_kind}
+use Rattle.witness.specs.Judgements.{FrameWords, Words, index_of, given, given_to, initial_part, initial_words, given_words}
 use Rattle.witness.specs.Fits.{LaterFits, StandsAt, StandsBefore, words_put}
 
 -- ---- words that fit
@@ -112,7 +113,7 @@ pub states_given : (items : List Item) (w : Words) → are_distinct (map (λ (p 
 states_given items w d id y found is =
     let g : Option ℕ = given_to is_state items (initial_part w.frames) id in
     put_given is_state items (map (first_word items) (ids_of is_state items)) (initial_part w.frames) (length-map (ids_of is_state items) (first_word items)) d id y found is
-    ∙ (ap (unwrap_or g) (words_of_kind is_state items (first_word items) id y found is) ∙ or_else g (init_constant items id))
+    ∙ (ap (unwrap_or g) (words_of_kind is_state items (first_word items) id y found is) ∙ or_else g (init_word items id))
 
 -- the words of the inputs after a frame's part was given
 pub inputs_given : (items : List Item) (frame : FrameWords) → are_distinct (map (λ (p : ℕ × ℕ). p.0) frame.inputs) ≡ true
@@ -203,7 +204,7 @@ first_stands items w words [] e same = tt
 first_stands items w words (frame ∷ more) e same = λ id named.
     let there = state_there items id named in
     let g : Option ℕ = given_to is_state items frame.states id in
-    let own : initial_words items w id ≡ unwrap_or (option_or g (init_constant items id)) 0 = ap (λ (l : List FrameWords). unwrap_or (option_or (given_to is_state items (initial_part l) id) (init_constant items id)) 0) e in
+    let own : initial_words items w id ≡ unwrap_or (option_or g (init_word items id)) 0 = ap (λ (l : List FrameWords). unwrap_or (option_or (given_to is_state items (initial_part l) id) (init_word items id)) 0) e in
     ap (unwrap_or g) (same id there.0 there.1.0 there.1.1 ∙ own)
     ∙ (first_cases items g (init_value items id) (next_value items id)
     ∙ (ap (λ (v : ℕ). cond (is_free items id) (unwrap_or g 0) v) (sym own)

@@ -14,7 +14,8 @@ use Rattle.witness.specs.declared.judgement.Judgement.{Judgement}
 use Rattle.witness.specs.declared.judgement.Judgement.TheVariants as judgement
 use Rattle.witness.specs.Texts.{shape_of}
 use Rattle.witness.specs.Admits.{Read, Fault, read_text, witness_of}
-use Rattle.witness.specs.Judgements.{Words, of_kind, initial_words, given_frames, nodes_of, first_different, violated_at, violation_from, never_rises, unreached_from, when_reached, when_kept, when_begun, verdict, words_of, makes_no_claim, JudgesWords, JudgesRead, JudgesText, Judges}
+use Rattle.btor2.specs.Lists.{of_kind}
+use Rattle.witness.specs.Judgements.{Words, initial_words, given_frames, nodes_of, first_different, violated_at, violation_from, never_rises, unreached_from, when_reached, when_kept, when_begun, verdict, words_of, makes_no_claim, JudgesWords, JudgesRead, JudgesText, Judges}
 use Rattle.base.specs.Lines.{whole_lines}
 
 -- ---- the nodes of properties have values

@@ -6,8 +6,8 @@ use Rattle.std.proofs.lemmas.Bool.{cases_eq}
 use Rattle.std.proofs.lemmas.Option.{get_or_from_slice_get}
 use Rattle.std.specs.List.{position_from, list_any}
 use Rattle.btor2.specs.declared.item.Item.{Item}
-use Rattle.btor2.specs.Items.{find_item, position_of, init_value, is_free, is_state, is_constraint}
-use Rattle.btor2.specs.Lists.{places, init_place, constant_at}
+use Rattle.btor2.specs.Items.{find_item, position_of, init_value, is_free, is_state, is_constraint, init_word}
+use Rattle.btor2.specs.Lists.{places, init_place, constant_at, of_kind}
 use Rattle.btor2.proofs.LookUps.{found}
 use Rattle.btor2.specs.Check.{IsWellFormed}
 use Rattle.btor2.specs.Trace.{Frame, state_word, IsFrame, IsTrace, next_state}
@@ -19,7 +19,7 @@ use Rattle.runs.proofs.RankLemmas.{IsNth, nth, length-ids, length-places, state_
 use Rattle.runs.proofs.StateLemmas.{nth-get, init_at}
 use Rattle.witness.specs.Texts.{shape_of}
 use Rattle.witness.specs.Fits.{is_set, FirstFits, StandsAt, RisesAmong, NoneIsSet, words_put}
-use Rattle.witness.specs.Judgements.{FrameWords, of_kind, nodes_of, init_constant, differs, given_to, initial_words, given_words, given_frames, Words, never_rises, unreached_from}
+use Rattle.witness.specs.Judgements.{FrameWords, nodes_of, differs, given_to, initial_words, given_words, given_frames, Words, never_rises, unreached_from}
 use Rattle.witness.proofs.GivenLemmas.{put_given, named_state, inputs_given}
 use Rattle.witness.proofs.FrameLemmas.{frame_agrees, trace_length, first_step, constraint_names, length-nodes, property_at}
 use Rattle.btor2.proofs.LookUps.{init_some, init_none}
@@ -94,18 +94,18 @@ constraint_inside items i h = omega (arith, length-nodes is_constraint items con
 pub record StateTest (items : List Item) (k : ℕ) (f : Frame) (b : Bool) : Type 0 where
   pub item : Item
   pub inside : k < length (of_kind is_state items)
-  pub test : differs (init_constant items (get_or (of_kind is_state items) k item).id) (f (get_or (of_kind is_state items) k item).id) ≡ b
+  pub test : differs (init_word items (get_or (of_kind is_state items) k item).id) (f (get_or (of_kind is_state items) k item).id) ≡ b
 
-pub state_test : (items : List Item) (k : ℕ) (f : Frame) (b b' : Bool) → k < length (places is_state 0 items) → IfSome (slice_get (of_kind is_state items) k) (λ x. b ≡ differs (init_constant items x.id) (f x.id)) → b ≡ b' → StateTest items k f b'
+pub state_test : (items : List Item) (k : ℕ) (f : Frame) (b b' : Bool) → k < length (places is_state 0 items) → IfSome (slice_get (of_kind is_state items) k) (λ x. b ≡ differs (init_word items x.id) (f x.id)) → b ≡ b' → StateTest items k f b'
 state_test items k f b b' h says e =
     let inside : k < length (of_kind is_state items) = omega (arith, length-places is_state 0 items) in
     let there = nth is_state items k inside in
     let x = there.0 in
-    let own : b ≡ differs (init_constant items x.id) (f x.id) = subst (λ (o : Option Item). IfSome o (λ y. b ≡ differs (init_constant items y.id) (f y.id))) there.1.stands says in
+    let own : b ≡ differs (init_word items x.id) (f x.id) = subst (λ (o : Option Item). IfSome o (λ y. b ≡ differs (init_word items y.id) (f y.id))) there.1.stands says in
     record {
       item = x;
       inside = inside;
-      test = ap (λ (y : Item). differs (init_constant items y.id) (f y.id)) (get_or_from_slice_get (of_kind is_state items) k x x there.1.stands) ∙ sym own ∙ e;
+      test = ap (λ (y : Item). differs (init_word items y.id) (f y.id)) (get_or_from_slice_get (of_kind is_state items) k x x there.1.stands) ∙ sym own ∙ e;
     }
 
 -- ---- the init line of a state
@@ -113,12 +113,12 @@ state_test items k f b b' h says e =
 -- what is known of the k-th state, by its init line's place and constant
 module _ (items : List Item) (k : ℕ) (f : Frame) (h : k < length (places is_state 0 items)) where
   abbrev pub Differs : Bool → Type 0
-  Differs b = IfSome (slice_get (of_kind is_state items) k) (λ x. b ≡ differs (init_constant items x.id) (f x.id))
+  Differs b = IfSome (slice_get (of_kind is_state items) k) (λ x. b ≡ differs (init_word items x.id) (f x.id))
 
-  by_item : (b : Bool) → ((x : Item) → IsNth is_state items k x → b ≡ differs (init_constant items x.id) (f x.id)) → Differs b
+  by_item : (b : Bool) → ((x : Item) → IsNth is_state items k x → b ≡ differs (init_word items x.id) (f x.id)) → Differs b
   by_item b says =
       let there = nth is_state items k (omega (arith, length-places is_state 0 items)) in
-      subst (λ (o : Option Item). IfSome o (λ x. b ≡ differs (init_constant items x.id) (f x.id))) (sym there.1.stands) (says there.0 there.1)
+      subst (λ (o : Option Item). IfSome o (λ x. b ≡ differs (init_word items x.id) (f x.id))) (sym there.1.stands) (says there.0 there.1)
 
   own_place : (x : Item) → IsNth is_state items k x → init_place items (get_or (places is_state 0 items) k 0) ≡ option_and_then (position_of items) (init_value items x.id)
   own_place x n =
@@ -127,7 +127,7 @@ module _ (items : List Item) (k : ℕ) (f : Frame) (h : k < length (places is_st
   pub differs-none : None ≡ init_place items (get_or (places is_state 0 items) k 0) → Differs false
   differs-none e = by_item false (λ x n. ap (λ (o : Option ℕ). differs o (f x.id)) (sym (init_none items (init_value items x.id) (sym (own_place x n) ∙ sym e))))
 
-  own_constant : (place : ℕ) (x : Item) → IsNth is_state items k x → Some place ≡ init_place items (get_or (places is_state 0 items) k 0) → constant_at items place ≡ init_constant items x.id
+  own_constant : (place : ℕ) (x : Item) → IsNth is_state items k x → Some place ≡ init_place items (get_or (places is_state 0 items) k 0) → constant_at items place ≡ init_word items x.id
   own_constant place x n e = (init_some items (init_value items x.id) place (sym (own_place x n) ∙ sym e)).0
 
   differs-no_constant : (place : ℕ) → Some place ≡ init_place items (get_or (places is_state 0 items) k 0) → None ≡ constant_at items place → Differs false

@@ -1,12 +1,13 @@
 -- The judgement of a text over a model ("Btor2, BtorMC and Boolector 3.0", semantics of witnesses; the order of the six answers is this project's).
-use Rattle.std.specs.Prelude.{◌≡◌, ℕ, suc, ◌+◌, Bool, true, false, not, ◌&&◌, ◌||◌, ◌==◌, nat_le, List, [], ◌∷◌, Option, Some, None, Result, Ok, Err, codes, map, length, filter, flat_map, find, option_map, option_and_then, unwrap_or, if◌then◌else◌}
+use Rattle.std.specs.Prelude.{◌≡◌, ℕ, suc, ◌+◌, Bool, true, false, not, ◌&&◌, ◌||◌, ◌==◌, nat_le, List, [], ◌∷◌, Option, Some, None, Result, Ok, Err, codes, map, length, flat_map, find, option_map, option_and_then, unwrap_or, if◌then◌else◌}
 use Rattle.std.specs.List.{list_any, list_all, position_from}
 use Rattle.std.specs.Option.{option_or}
 use Rattle.std.specs.Str.{bytes_eq}
 use Rattle.base.specs.Lines.{whole_lines}
 use Rattle.btor2.specs.declared.item.Item.{Item}
 use Rattle.btor2.specs.declared.item.Body.{Body}
-use Rattle.btor2.specs.Items.{is_input, is_state, is_bad, is_constraint, names_state, operands, constant_of, init_value}
+use Rattle.btor2.specs.Items.{is_input, is_state, is_bad, is_constraint, names_state, operands, init_word}
+use Rattle.btor2.specs.Lists.{of_kind}
 use Rattle.btor2.specs.Trace.{Frame, IsTrace}
 use Rattle.witness.specs.declared.judgement.Judgement.{Judgement}
 use Rattle.witness.specs.declared.judgement.Judgement.TheVariants as judgement
@@ -15,10 +16,7 @@ use Rattle.witness.specs.Admits.{Read, Fault, read_text, witness_of}
 
 -- ---- the words that a witness gives
 
--- the items of a kind, in file order, and which of them an id names
-abbrev pub of_kind : (Body → Bool) → List Item → List Item
-of_kind kind items = filter (λ x. kind x.body) items
-
+-- which of the items of a kind, in file order, an id names
 abbrev pub index_of : (Body → Bool) → List Item → ℕ → Option ℕ
 index_of kind items id = position_from (λ x. id == x.id) 0 (of_kind kind items)
 
@@ -47,10 +45,6 @@ given list k = option_map (λ p. p.1) (find (λ p. p.0 == k) list)
 abbrev pub given_to : (Body → Bool) → List Item → List (ℕ × ℕ) → ℕ → Option ℕ
 given_to kind items list id = option_and_then (given list) (index_of kind items id)
 
--- the constant of a state's init line
-abbrev pub init_constant : List Item → ℕ → Option ℕ
-init_constant items id = option_and_then (constant_of items) (init_value items id)
-
 -- the words of states in the first frame
 abbrev pub initial_part : List FrameWords → List (ℕ × ℕ)
 initial_part [] = []
@@ -59,7 +53,7 @@ initial_part (first ∷ later) = first.states
 -- The words that are carried into the first frame: a state has the word that it is given there, else that of its init line, else 0. They mean something
 -- at the states that are not free.
 abbrev pub initial_words : List Item → Words → Frame
-initial_words items w id = unwrap_or (option_or (given_to is_state items (initial_part w.frames) id) (init_constant items id)) 0
+initial_words items w id = unwrap_or (option_or (given_to is_state items (initial_part w.frames) id) (init_word items id)) 0
 
 -- The words that are given in a frame: a state has the word of the states' part, an input that of the inputs', else 0. They mean something at the inputs and
 -- at the states that are free.
@@ -79,7 +73,7 @@ differs (Some c) x = not (c == x)
 
 -- the first state whose word is not that of its init line
 abbrev pub first_different : List Item → Frame → Option ℕ
-first_different items state = position_from (λ x. differs (init_constant items x.id) (state x.id)) 0 (of_kind is_state items)
+first_different items state = position_from (λ x. differs (init_word items x.id) (state x.id)) 0 (of_kind is_state items)
 
 -- the nodes of the bad properties, or of the constraints
 abbrev pub nodes_of : (Body → Bool) → List Item → List ℕ

@@ -1,12 +1,12 @@
 //! What a run of a model says in one frame, and what was found in frames.
 ghost use Rattle.std.specs.Prelude.{◌≡◌, ℕ, ◌<◌, ◌||◌, Bool, List, IfSome, length, false, true, slice_get};
 ghost use Rattle.std.specs.Option.{option_or};
-ghost use Rattle.btor2.specs.Items.{is_state, is_bad, is_constraint};
+ghost use Rattle.btor2.specs.Items.{is_state, is_bad, is_constraint, init_word};
 ghost use Rattle.btor2.specs.Check.{IsWellFormed};
-ghost use Rattle.btor2.specs.Lists.{places};
+ghost use Rattle.btor2.specs.Lists.{places, of_kind};
 ghost use Rattle.btor2.specs.Trace.{Frame};
 ghost use Rattle.runs.specs.Run.{IsNow};
-ghost use Rattle.witness.specs.Judgements.{of_kind, nodes_of, init_constant, differs, first_different, first_violated, violated_at, unreached_from};
+ghost use Rattle.witness.specs.Judgements.{nodes_of, differs, first_different, first_violated, violated_at, unreached_from};
 ghost use Rattle.witness.specs.Fits.{RisesIn, RisesAmong, NoneIsSet, AreClaimed};
 
 use btor2::Model;
@@ -45,7 +45,7 @@ fn differs_from_init(model: &Model, run: &WordRun<'_>, k: usize) -> bool
     requires well_formed { IsWellFormed model.now }
     requires settled { run.now.settled ≡ true }
     requires there { k < length (places is_state 0 model.now) }
-    ensures { (f : Frame) → IsNow run.now f → IfSome (slice_get (of_kind is_state model.now) k) (λ x. result ≡ differs (init_constant model.now x.id) (f x.id)) }
+    ensures { (f : Frame) → IsNow run.now f → IfSome (slice_get (of_kind is_state model.now) k) (λ x. result ≡ differs (init_word model.now x.id) (f x.id)) }
 {
     match model.init_of(k) {
         Some(place) => differs(model.constant(place), run.value(model.states()[k])),

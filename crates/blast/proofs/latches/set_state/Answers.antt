@@ -1,8 +1,7 @@
 use Rattle.std.proofs.Common.{ℕ, List, All, length, ap, sym, subst, ◌∙◌, arith}
-use Rattle.btor2.specs.Items.{next_value}
+use Rattle.btor2.specs.Items.{next_value, init_word}
 use Rattle.aiger.specs.Net.{IsDefined}
 use Rattle.aiger.specs.Circuit.{net}
-use Rattle.blast.specs.Leaves.{init_word}
 use Rattle.blast.specs.Rows.{row_at}
 use Rattle.blast.proofs.LatchLemmas.{length-row_latches, next_row-short, next_row-defined}
 use Rattle.blast.proofs.latches.set_state.Goals as goal

@@ -1,7 +1,8 @@
 use Rattle.std.proofs.Common.{◌≡◌, ◌≤◌, List, length, map, take, slice_get, Some, ap, sym, ◌∙◌, arith}
 use Rattle.std.proofs.lemmas.List.{take_all}
 use Rattle.btor2.specs.declared.item.Item.{Item}
-use Rattle.runs.specs.Frames.{has_value, of_kind}
+use Rattle.btor2.specs.Lists.{of_kind}
+use Rattle.runs.specs.Frames.{has_value}
 use Rattle.runs.specs.Nodes.{slot}
 use Rattle.runs.proofs.StateLemmas.{slot-next, count_more, count_same, count_below, item_at, map_push}
 use Rattle.runs.proofs.resolving.node_slots.Goals as goal

@@ -1,5 +1,6 @@
 use Rattle.std.proofs.Common.{◌≡◌, length, map, take}
-use Rattle.runs.specs.Frames.{has_value, of_kind}
+use Rattle.btor2.specs.Lists.{of_kind}
+use Rattle.runs.specs.Frames.{has_value}
 use Rattle.runs.specs.Nodes.{slot}
 use Rattle.runs.proofs.resolving.node_slots.Given as goal
 

@@ -2,7 +2,8 @@ use Rattle.std.proofs.Common.{◌≡◌, ◌≤◌, ℕ, List, Option, Some, Vec
 use Rattle.std.proofs.lemmas.List.{take_all}
 use Rattle.btor2.specs.declared.item.Item.{Item}
 use Rattle.btor2.specs.Items.{constant_of_body}
-use Rattle.runs.specs.Frames.{has_value, of_kind}
+use Rattle.btor2.specs.Lists.{of_kind}
+use Rattle.runs.specs.Frames.{has_value}
 use Rattle.runs.specs.Nodes.{standing_word}
 use Rattle.runs.proofs.StateLemmas.{item_at, made_more, made_same}
 use Rattle.runs.proofs.resolving.standing_words.Goals as goal

@@ -1,5 +1,6 @@
 use Rattle.std.proofs.Common.{◌≡◌, map, take}
-use Rattle.runs.specs.Frames.{has_value, of_kind}
+use Rattle.btor2.specs.Lists.{of_kind}
+use Rattle.runs.specs.Frames.{has_value}
 use Rattle.runs.specs.Nodes.{standing_word}
 use Rattle.runs.proofs.resolving.standing_words.Given as goal
 
