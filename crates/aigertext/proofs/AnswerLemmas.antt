@@ -7,8 +7,8 @@ use Rattle.aigertext.specs.declared.fault.Why.TheVariants as why
 use Rattle.aigertext.specs.declared.fault.ReadFault.{ReadFault}
 use Rattle.aigertext.specs.AsciiReading.{AnswersText, IsFaultOf, GivesCircuit}
 use Rattle.aigertext.specs.Passes.{ReadsText}
-use Rattle.aigertext.specs.Spelling.{Spells}
-use Rattle.aigertext.proofs.AsciiStandsLemmas.{IsCircuitLaw, read-spells}
+use Rattle.aigertext.specs.Spelling.{IsAsciiText, Spells}
+use Rattle.aigertext.proofs.AsciiStandsLemmas.{IsCircuitLaw, ascii-read, read-spells}
 use Rattle.aigertext.proofs.ReadStandsLemmas.{NameLaw}
 use Rattle.aigertext.proofs.BackLemmas.{ok_same}
 use Rattle.aigertext.proofs.GateBackLemmas.{AreBytes}
@@ -66,6 +66,21 @@ fault (Some all) text (Ok c) same read = tt
 fault None text (Err e) same read = tt
 fault (Some all) text (Err e) same (inl full) = inr (inl (ap (λ (f : ReadFault). f.why) full))
 fault (Some all) text (Err e) same (inr f) = inr (inr (subst (λ (t : List ℕ). IsFaultOf t e) same f))
+
+-- a circuit that was read as the one that the bytes spell
+pub circuit_found : IsCircuitLaw → (known : Option (List ℕ)) (c : Circuit) → IfSome known (λ all. IsAsciiText all c) → IfSome known (λ all. AnswersText all (Ok c))
+circuit_found law None c is = tt
+circuit_found law (Some all) c is = ascii-read law all c is
+
+pub circuit_spells : (known : Option (List ℕ)) (c : Circuit) → IfSome known (λ all. IsAsciiText all c) → IfSome known (λ all. Spells all c)
+circuit_spells None c is = tt
+circuit_spells (Some all) c is = inl is
+
+pub circuit_only : IsCircuitLaw → OneAnswer → (known : Option (List ℕ)) (c : Circuit) → IfSome known (λ all. IsAsciiText all c) → (all : List ℕ) (d : Circuit) → known ≡ Some all → AnswersText all (Ok d) → c ≡ d
+circuit_only law one_answer None c is all d e answers = absurd cc
+circuit_only law one_answer (Some other) c is all d e answers =
+    let same : all ≡ other = cc in
+    ok_same c d (one_answer other (Ok c) (Ok d) (ascii-read law other c is) (subst (λ (t : List ℕ). AnswersText t (Ok d)) same answers))
 
 memory_is_no_device : why.NoMemory ≡ why.Device → ⊥
 memory_is_no_device e = cc

@@ -19,7 +19,7 @@ use Rattle.aigertext.proofs.WrittenLemmas.{written_header, written_reset, writte
 
 -- ---- lines
 
-written_inputs : (first n : ℕ) → AreLines IsInputLine (own_inputs first n) (input_lines first n)
+pub written_inputs : (first n : ℕ) → AreLines IsInputLine (own_inputs first n) (input_lines first n)
 written_inputs first zero = refl
 written_inputs first (suc n) = (numbers_line (2 * first ∷ []), (input_lines (suc first) n, (refl, refl, written_inputs (suc first) n)))
 
@@ -37,7 +37,7 @@ written_latches first (l ∷ ls) = (
   ),
 )
 
-written_gates : (first : ℕ) (gs : List Gate) → AreLines IsGateLine (own_gates first gs) (gate_lines first gs)
+pub written_gates : (first : ℕ) (gs : List Gate) → AreLines IsGateLine (own_gates first gs) (gate_lines first gs)
 written_gates first [] = refl
 written_gates first (g ∷ gs) = (numbers_line (2 * first ∷ g.rhs0 ∷ g.rhs1 ∷ []), (gate_lines (suc first) gs, (refl, refl, written_gates (suc first) gs)))
 
@@ -86,7 +86,7 @@ module _ (own_valid : OwnValid) (own_numbered : OwnNumbered) (own_many : OwnMany
   same_counts : counts_of_file (variables (net c)) (own_lists (record c { names = [] })) ≡ counts_in c
   same_counts = let many = own_many c in rw (many.0, many.1, many.2) refl
 
-  up_to : AreUpTo (2 * variables (net c) + 1) (own_lists (record c { names = [] }))
+  pub up_to : AreUpTo (2 * variables (net c) + 1) (own_lists (record c { names = [] }))
   up_to =
       let uses = circuit_up_to c valid in
       record {

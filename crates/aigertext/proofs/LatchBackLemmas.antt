@@ -90,7 +90,7 @@ reset-back own r field small e = by (number_of field) refl e
 abbrev IsLatchAt : ℕ → ℕ → Latch → List ℕ → Type 0
 IsLatchAt greatest own l bytes = IsNextLine own l bytes × (l.next ≤ greatest)
 
-latch_by : (greatest own : ℕ) (l : Latch) (fs : List (List ℕ)) → greatest < 2 ^ 64 - 1 → own < 2 ^ 64 - 1 → next_fields greatest own fs ≡ Ok l → IsLatchAt greatest own l (spaced fs ++ 10 ∷ [])
+pub latch_by : (greatest own : ℕ) (l : Latch) (fs : List (List ℕ)) → greatest < 2 ^ 64 - 1 → own < 2 ^ 64 - 1 → next_fields greatest own fs ≡ Ok l → IsLatchAt greatest own l (spaced fs ++ 10 ∷ [])
 unfolding next_fields
 latch_by greatest own l [] g_small o_small e = absurd (not_err _ _ e)
 latch_by greatest own l (next ∷ []) g_small o_small e = by (within why.BadLatch greatest (number_of next)) refl e

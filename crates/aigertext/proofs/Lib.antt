@@ -27,6 +27,9 @@ mod ListLemmas
 mod PropertyListLemmas
 mod NamingLemmas
 mod SectionReadLemmas
+mod OwnLatchLemmas
+mod PutsLemmas
+mod InOrderLemmas
 mod WhyLemmas
 mod AnswerLemmas
 mod FileLemmas

@@ -8,8 +8,10 @@ use Rattle.aiger.specs.Net.{variables}
 use Rattle.aiger.specs.Circuit.{Circuit, net, fresh_circuit, fresh_latch}
 use Rattle.aigertext.specs.declared.reading.counts.Counts.{Counts}
 use Rattle.aigertext.specs.declared.fault.Stop.{Stop}
+use Rattle.aigertext.specs.declared.forms.Form.{Form}
+use Rattle.aigertext.specs.declared.forms.Form.TheVariants.{Binary}
 use Rattle.aigertext.specs.Reading.{◌>>=◌, Properties, lists_of, literals_at, sizes_at, nexts_at, gates_at, properties_at, names_at, binary_at, nameless}
-use Rattle.aigertext.specs.Passes.{behind, behind_lines_of, total_from, Takes, lists_at, with_gates, with_latches, with_properties}
+use Rattle.aigertext.specs.Passes.{behind, latches_in, behind_lines_of, total_from, Takes, lists_at, with_gates, with_latches, with_properties}
 use Rattle.aigertext.specs.PropertyLists.{no_lists, circuit_lists}
 use Rattle.aigertext.proofs.BackLemmas.{ok_same, not_err, bind-back}
 use Rattle.aigertext.proofs.ListLemmas.{in_lists, lists-together}
@@ -127,7 +129,7 @@ pub same_greatest : (m n : ℕ) → m ≡ n → 2 * m + 1 ≡ 2 * n + 1
 same_greatest m n is = ap (λ (k : ℕ). 2 * k + 1) is
 
 -- what stands behind lines that were read
-behind_back : {A : Type 0} (r : Result (A × List ℕ) Stop) (t : List ℕ) → behind r ≡ Ok t → (x : A) × (r ≡ Ok (x, t))
+pub behind_back : {A : Type 0} (r : Result (A × List ℕ) Stop) (t : List ℕ) → behind r ≡ Ok t → (x : A) × (r ≡ Ok (x, t))
 behind_back (Ok x) t e = (x.0, ap (λ (u : List ℕ). Ok (x.0, u)) (ok_same x.1 t e))
 behind_back (Err w) t e = absurd (not_err _ _ e)
 
@@ -139,23 +141,24 @@ behind_stop (Err w) e is = ap (λ (v : Stop). Err v) (err_same w e is)
 abbrev latches_at : Counts → ℕ → List ℕ → Result (List Latch × List ℕ) Stop
 latches_at h first text = nexts_at (2 * h.variables + 1) first h.latches text
 
-one_more : (n : ℕ) → 2 * (n + 1) ≡ 2 * suc n
+pub one_more : (n : ℕ) → 2 * (n + 1) ≡ 2 * suc n
 one_more n = omega arith
+
+-- the first pass, in both forms
+module _ (form : Form) (h : Counts) (text : List ℕ) where
+  pub lines_left : (t : List ℕ) → behind (latches_in form (2 * h.variables + 1) (2 * (h.inputs + 1)) h.latches text) ≡ Ok t → behind (properties_at h t) ≡ behind_lines_of form h text
+  lines_left t e =
+      let first : behind (latches_in form (2 * h.variables + 1) (2 * suc h.inputs) h.latches text) ≡ Ok t = subst (λ (n : ℕ). behind (latches_in form (2 * h.variables + 1) n h.latches text) ≡ Ok t) (one_more h.inputs) e in
+      rw first refl
+
+  pub lines_stop : (e : Stop) → behind (latches_in form (2 * h.variables + 1) (2 * (h.inputs + 1)) h.latches text) ≡ Err e → behind_lines_of form h text ≡ Err e
+  lines_stop e is =
+      let first : behind (latches_in form (2 * h.variables + 1) (2 * suc h.inputs) h.latches text) ≡ Err e = subst (λ (n : ℕ). behind (latches_in form (2 * h.variables + 1) n h.latches text) ≡ Err e) (one_more h.inputs) is in
+      rw first refl
 
 module _ (h : Counts) (text : List ℕ) where
   own_first : {R : Result (List Latch × List ℕ) Stop} → latches_at h (2 * (h.inputs + 1)) text ≡ R → latches_at h (2 * suc h.inputs) text ≡ R
   own_first {R} e = subst (λ (n : ℕ). latches_at h n text ≡ R) (one_more h.inputs) e
-
-  -- the first pass
-  pub lines_left : (t : List ℕ) → behind (latches_at h (2 * (h.inputs + 1)) text) ≡ Ok t → behind (properties_at h t) ≡ behind_lines_of h text
-  lines_left t e =
-      let first : behind (latches_at h (2 * suc h.inputs) text) ≡ Ok t = subst (λ (n : ℕ). behind (latches_at h n text) ≡ Ok t) (one_more h.inputs) e in
-      rw first refl
-
-  pub lines_stop : (e : Stop) → behind (latches_at h (2 * (h.inputs + 1)) text) ≡ Err e → behind_lines_of h text ≡ Err e
-  lines_stop e is =
-      let first : behind (latches_at h (2 * suc h.inputs) text) ≡ Err e = subst (λ (n : ℕ). behind (latches_at h n text) ≡ Err e) (one_more h.inputs) is in
-      rw first refl
 
   -- where the first pass stops, reading stops
   stops_by : (e : Stop) (r : Result (List Latch × List ℕ) Stop) → latches_at h (2 * suc h.inputs) text ≡ r → (behind r >>= (λ t. behind (properties_at h t))) ≡ Err e → binary_at h text ≡ Err e
@@ -163,7 +166,7 @@ module _ (h : Counts) (text : List ℕ) where
   stops_by e (Ok x) n f = let q = behind_stop (properties_at h x.1) e f in rw (n, q) refl
   stops_by e (Err w) n f = rw n (ap (λ (v : Stop). Err v) (err_same w e f))
 
-  pub stops_before : (e : Stop) → behind_lines_of h text ≡ Err e → binary_at h text ≡ Err e
+  pub stops_before : (e : Stop) → behind_lines_of Binary h text ≡ Err e → binary_at h text ≡ Err e
   stops_before e is = stops_by e (latches_at h (2 * suc h.inputs) text) refl is
 
   -- the second pass
@@ -175,7 +178,7 @@ module _ (h : Counts) (text : List ℕ) where
   unfolding binary_at
   stops_at_property ls t e n q = rw (own_first n, q) refl
 
-  module _ (gates : List ℕ) (seen : behind_lines_of h text ≡ Ok gates) where
+  module _ (gates : List ℕ) (seen : behind_lines_of Binary h text ≡ Ok gates) where
     pub stops_at_gate : (e : Stop) → gates_at (2 * (h.inputs + h.latches + 1)) h.gates gates ≡ Err e → binary_at h text ≡ Err e
     unfolding binary_at
     stops_at_gate e is =
@@ -192,7 +195,7 @@ module _ (h : Counts) (text : List ℕ) where
     unfolding binary_at
     names_left ls t g2 names p gs c0 c1 c2 c3 n q g is0 is1 is2 is3 =
         let m : latches_at h (2 * suc h.inputs) text ≡ Ok (ls, t) = own_first n in
-        let again : behind_lines_of h text ≡ Ok g2 = rw (m, q) refl in
+        let again : behind_lines_of Binary h text ≡ Ok g2 = rw (m, q) refl in
         let same : gates ≡ g2 = ok_same gates g2 (sym seen ∙ again) in
         let rest : gates_at (2 * suc (h.inputs + h.latches)) h.gates g2 ≡ Ok (gs, names) =
         ap (λ (k : ℕ). gates_at k h.gates g2) (sym (one_more (h.inputs + h.latches))) ∙ ap (gates_at (2 * (h.inputs + h.latches + 1)) h.gates) (sym same) ∙ g in

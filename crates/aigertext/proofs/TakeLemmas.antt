@@ -11,8 +11,9 @@ use Rattle.aiger.specs.Literal.{variable}
 use Rattle.aiger.specs.Net.{variables}
 use Rattle.aiger.specs.Circuit.{Circuit, net, with_gate, with_latch, literal_refusal, gate_refusal}
 use Rattle.aigertext.specs.declared.fault.Stop.{Stop}
-use Rattle.aigertext.specs.Reading.{line_at, literal_of, next_of, gate_at, literals_at, nexts_at, gates_at}
-use Rattle.aigertext.specs.Passes.{onto, with_gates, with_latches}
+use Rattle.aigertext.specs.declared.forms.Form.{Form}
+use Rattle.aigertext.specs.Reading.{line_at, literal_of, gate_at, literals_at, gates_at}
+use Rattle.aigertext.specs.Passes.{onto, latch_in, latches_in, with_gates, with_latches}
 use Rattle.aigertext.proofs.PassLemmas.{onto_step, onto_stop, onto_done, gates_step, gates_stop, gates_done}
 
 -- an error of a call that nothing refuses is want of memory
@@ -69,24 +70,24 @@ push_done add greatest count index before now text rest p all =
 
 -- ---- latches
 
-pub record AreSet (greatest first count index : ℕ) (before now : Circuit) (text rest : List ℕ) : Type 0 where
+pub record AreSet (form : Form) (greatest first count index : ℕ) (before now : Circuit) (text rest : List ℕ) : Type 0 where
   pub latches : List Latch
   pub is : now ≡ with_latches before (latches ++ drop index before.latches)
   pub many : length latches ≡ index
-  pub read : onto latches (nexts_at greatest (first + 2 * index) (count - index) rest) ≡ nexts_at greatest first count text
+  pub read : onto latches (latches_in form greatest (first + 2 * index) (count - index) rest) ≡ latches_in form greatest first count text
 
-pub set_begins : (greatest first count : ℕ) (c : Circuit) (text : List ℕ) → AreSet greatest first count 0 c c text text
-set_begins greatest first count c text =
+pub set_begins : (form : Form) (greatest first count : ℕ) (c : Circuit) (text : List ℕ) → AreSet form greatest first count 0 c c text text
+set_begins form greatest first count c text =
     let here : first + 2 * 0 ≡ first = omega arith in
     record {
       latches = [];
       is = refl;
       many = refl;
-      read = ap (λ (k : ℕ). onto [] (nexts_at greatest k (count - 0) text)) here ∙ ap (λ (k : ℕ). onto [] (nexts_at greatest first k text)) (less_nothing count) ∙ onto_nothing (nexts_at greatest first count text);
+      read = ap (λ (k : ℕ). onto [] (latches_in form greatest k (count - 0) text)) here ∙ ap (λ (k : ℕ). onto [] (latches_in form greatest first k text)) (less_nothing count) ∙ onto_nothing (latches_in form greatest first count text);
     }
 
-module _ (greatest first count index : ℕ) (before now : Circuit) (text rest : List ℕ) (p : AreSet greatest first count index before now text rest) (more : index < count) where
-  pub set_step : (l : Latch) (after : List ℕ) (next : Circuit) → count ≡ length before.latches → line_at (next_of greatest (first + 2 * index)) rest ≡ Ok (l, after) → next ≡ with_latch now index l → AreSet greatest first count (index + 1) before next text after
+module _ (form : Form) (greatest first count index : ℕ) (before now : Circuit) (text rest : List ℕ) (p : AreSet form greatest first count index before now text rest) (more : index < count) where
+  pub set_step : (l : Latch) (after : List ℕ) (next : Circuit) → count ≡ length before.latches → line_at (latch_in form greatest (first + 2 * index)) rest ≡ Ok (l, after) → next ≡ with_latch now index l → AreSet form greatest first count (index + 1) before next text after
   set_step l after next all one is =
       let inside : index < length before.latches = omega (arith, all, more) in
       let others : drop index before.latches ≡ get_or before.latches index l ∷ drop (index + 1) before.latches = drop_more before.latches index l inside in
@@ -98,11 +99,11 @@ module _ (greatest first count index : ℕ) (before now : Circuit) (text rest : 
         latches = p.latches ++ l ∷ [];
         is = is ∙ ap (λ (c : Circuit). with_latch c index l) p.is ∙ ap (λ (ls : List Latch). with_latches before ls) changed;
         many = length-append p.latches (l ∷ []) ∙ ap (λ (k : ℕ). k + 1) p.many;
-        read = onto_step (next_of greatest) (λ o l. o + 2) (first + 2 * index) (count - index) (count - (index + 1)) rest (omega arith) p.latches l after (first + 2 * (index + 1)) (nexts_at greatest first count text) (omega arith) one p.read;
+        read = onto_step (latch_in form greatest) (λ o l. o + 2) (first + 2 * index) (count - index) (count - (index + 1)) rest (omega arith) p.latches l after (first + 2 * (index + 1)) (latches_in form greatest first count text) (omega arith) one p.read;
       }
 
-  pub set_stop : (e : Stop) → line_at (next_of greatest (first + 2 * index)) rest ≡ Err e → nexts_at greatest first count text ≡ Err e
-  set_stop e one = onto_stop (next_of greatest) (λ o l. o + 2) (first + 2 * index) (count - index) (count - (index + 1)) rest (omega arith) p.latches e (nexts_at greatest first count text) one p.read
+  pub set_stop : (e : Stop) → line_at (latch_in form greatest (first + 2 * index)) rest ≡ Err e → latches_in form greatest first count text ≡ Err e
+  set_stop e one = onto_stop (latch_in form greatest) (λ o l. o + 2) (first + 2 * index) (count - index) (count - (index + 1)) rest (omega arith) p.latches e (latches_in form greatest first count text) one p.read
 
   pub many_latches : count ≡ length before.latches → length now.latches ≡ length before.latches
   many_latches all =
@@ -116,16 +117,16 @@ module _ (greatest first count index : ℕ) (before now : Circuit) (text rest : 
       let defined : nat_lt (variables (net now)) (variable l) ≡ false = ap (λ (v : ℕ). nat_lt v (variable l)) same ∙ in_range greatest (variables (net before)) l is small in
       rw defined refl
 
-pub set_done : (greatest first count index : ℕ) (before now : Circuit) (text rest : List ℕ) (p : AreSet greatest first count index before now text rest) → count ≤ index → count ≡ length before.latches
-    → (nexts_at greatest first count text ≡ Ok (p.latches, rest)) × (now ≡ with_latches before p.latches)
-set_done greatest first count index before now text rest p all lines =
+pub set_done : (form : Form) (greatest first count index : ℕ) (before now : Circuit) (text rest : List ℕ) (p : AreSet form greatest first count index before now text rest) → count ≤ index → count ≡ length before.latches
+    → (latches_in form greatest first count text ≡ Ok (p.latches, rest)) × (now ≡ with_latches before p.latches)
+set_done form greatest first count index before now text rest p all lines =
     let none : drop index before.latches ≡ [] = drop_all index before.latches (omega (arith, all, lines)) in (
-      onto_done (next_of greatest) (λ o l. o + 2) (first + 2 * index) (count - index) rest (omega arith) p.latches (nexts_at greatest first count text) p.read,
+      onto_done (latch_in form greatest) (λ o l. o + 2) (first + 2 * index) (count - index) rest (omega arith) p.latches (latches_in form greatest first count text) p.read,
       p.is ∙ ap (λ (ls : List Latch). with_latches before ls) (ap (λ (ls : List Latch). p.latches ++ ls) none ∙ append-nil p.latches),
     )
 
-pub set_many : (greatest first count index : ℕ) (before now : Circuit) (text rest : List ℕ) (p : AreSet greatest first count index before now text rest) → count ≤ index → index ≤ count → count ≡ length before.latches → length now.latches ≡ length before.latches
-set_many greatest first count index before now text rest p all within' lines =
+pub set_many : (form : Form) (greatest first count index : ℕ) (before now : Circuit) (text rest : List ℕ) (p : AreSet form greatest first count index before now text rest) → count ≤ index → index ≤ count → count ≡ length before.latches → length now.latches ≡ length before.latches
+set_many form greatest first count index before now text rest p all within' lines =
     ap (λ (c : Circuit). length c.latches) p.is ∙ length-append p.latches (drop index before.latches)
     ∙ omega (arith, p.many, length-drop index before.latches, all, within', lines)
 

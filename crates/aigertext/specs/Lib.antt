@@ -7,4 +7,5 @@ pub mod AsciiReading
 pub mod Counts
 pub mod PropertyLists
 pub mod Passes
+pub mod InOrder
 pub mod Worked

@@ -1,5 +1,5 @@
--- Words between the parts of the reader, which goes over a text twice: what stands behind the lines that were looked at, and what a circuit has of those that were read.
-use Rattle.std.specs.Prelude.{◌≡◌, ℕ, zero, suc, ◌+◌, ◌*◌, List, [], ◌∷◌, ◌++◌, Result, Ok, Err, ◌⊎◌}
+-- Words between the parts of the reader, which goes over the lines of latches and properties twice: what stands behind the lines that were looked at, and what a circuit has of those that were read.
+use Rattle.std.specs.Prelude.{◌≡◌, ℕ, zero, suc, ◌+◌, ◌*◌, Bool, false, ◌==◌, List, [], ◌∷◌, ◌++◌, Option, Some, None, Result, Ok, Err, ◌⊎◌, if◌then◌else◌}
 use Rattle.std.specs.List.{sum}
 use Rattle.aiger.specs.declared.circuit.Gate.{Gate}
 use Rattle.aiger.specs.declared.circuit.Latch.{Latch}
@@ -12,7 +12,31 @@ use Rattle.aigertext.specs.declared.fault.ReadFault.{ReadFault}
 use Rattle.aigertext.specs.declared.fault.Stop.{Stop}
 use Rattle.aigertext.specs.declared.fault.Why.{Why}
 use Rattle.aigertext.specs.declared.fault.Why.TheVariants as why
-use Rattle.aigertext.specs.Reading.{◌>>=◌, line_at, size_of, literals_at, nexts_at, properties_at, delta_at, below, at_or_below, Properties, lists_of}
+use Rattle.base.specs.Decimals.{number_of}
+use Rattle.aigertext.specs.declared.forms.Form.{Form}
+use Rattle.aigertext.specs.declared.forms.Form.TheVariants.{Ascii, Binary}
+use Rattle.aigertext.specs.Reading.{◌>>=◌, fields, line_at, lines_at, size_of, literals_at, next_fields, next_of, properties_at, delta_at, below, at_or_below, Properties, lists_of}
+
+-- ---- latches in both forms
+
+-- whether a field is a number
+abbrev pub is_number : ℕ → Option ℕ → Bool
+is_number own None = false
+is_number own (Some n) = n == own
+
+-- a latch of the ascii form whose own literal is given: it is the first field
+unfoldable pub own_fields : ℕ → ℕ → List (List ℕ) → Result Latch Why
+own_fields greatest own [] = Err why.BadLatch
+own_fields greatest own (current ∷ others) = if is_number own (number_of current) then next_fields greatest own others else Err why.BadLatch
+
+-- the latch of a line of a form, whose own literal is given
+abbrev pub latch_in : Form → ℕ → ℕ → List ℕ → Result Latch Why
+latch_in Ascii greatest own line = own_fields greatest own (fields line)
+latch_in Binary greatest own line = next_of greatest own line
+
+-- so many of them, the first of which has the given literal
+abbrev pub latches_in : Form → ℕ → ℕ → ℕ → List ℕ → Result (List Latch × List ℕ) Stop
+latches_in form greatest own n text = lines_at (latch_in form greatest) (λ o l. o + 2) own n text
 
 -- ---- the first pass: only what stands behind the lines
 
@@ -22,8 +46,8 @@ behind (Ok x) = Ok x.1
 behind (Err e) = Err e
 
 -- the text behind the lines before the gates, which are those of the latches and of all properties
-abbrev pub behind_lines_of : Counts → List ℕ → Result (List ℕ) Stop
-behind_lines_of h text = behind (nexts_at (2 * h.variables + 1) (2 * suc h.inputs) h.latches text) >>= (λ t. behind (properties_at h t))
+abbrev pub behind_lines_of : Form → Counts → List ℕ → Result (List ℕ) Stop
+behind_lines_of form h text = behind (latches_in form (2 * h.variables + 1) (2 * suc h.inputs) h.latches text) >>= (λ t. behind (properties_at h t))
 
 -- the sum of the sizes that were read and of those before them, and the text behind
 abbrev pub total_from : ℕ → Result (List ℕ × List ℕ) Stop → Result (ℕ × List ℕ) Stop

@@ -14,15 +14,18 @@ mod ascii_definitions;
 mod ascii_lines;
 mod binary;
 mod binary_definitions;
-mod binary_latches;
 mod counts;
 mod deltas;
 mod fields;
+mod finishing;
 mod first_pass;
 mod header;
+mod in_order;
+mod latches;
 mod lines;
 mod names;
 mod numbers;
+mod pieces;
 mod plain_numbers;
 mod properties;
 
@@ -31,10 +34,11 @@ use crate::forms::Form;
 use crate::laws::one_answer;
 use crate::reading::ascii::read_file;
 use crate::reading::binary::read_sections;
+use crate::reading::in_order::{Taken, take};
 use crate::reading::lines::header_line;
 use aiger::Circuit;
 use aiger::laws::{circuit_with_a_name, one_renumbering};
-use base::{ReadAllFault, Source, read_all};
+use base::{ReadAllFault, Source};
 use std::alloc::Global;
 
 /// The circuit that a text spells; its first word decides the form.
@@ -80,7 +84,7 @@ fn read_text(alloc: Global, text: &[u8]) -> Result<Circuit, ReadFault>
 }
 
 /// The circuit that a source's bytes spell; the first word decides the form ("AIGER 1.9 and Beyond", ascii and binary
-/// format). The source is read to its end first.
+/// format). The source is read to its end, also behind a fault; the gates of an ascii text in order are not held as text.
 ///
 /// Errors: `Device` where the source failed in this call and `NoMemory` where a growth was refused, with place 0;
 /// else the first why of the first line or delta that has one, at its place.
@@ -103,8 +107,9 @@ pub fn read<S: Source>(alloc: Global, source: &mut S) -> Result<Circuit, ReadFau
 {
     one_answer();
     one_renumbering();
-    match read_all(alloc, source) {
-        Ok(text) => read_text(alloc, text.as_slice()),
+    match take(alloc, source) {
+        Ok(Taken::Circuit(circuit)) => Ok(circuit),
+        Ok(Taken::Text(text)) => read_text(alloc, text.as_slice()),
         Err(ReadAllFault::Device) => Err(ReadFault {
             place: 0,
             why: Why::Device,

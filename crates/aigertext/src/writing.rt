@@ -9,7 +9,7 @@ ghost use Rattle.aigertext.specs.Binary.{binary_text, circuit_text};
 mod gates;
 mod header;
 mod inputs_and_latches;
-mod line;
+pub(crate) mod line;
 mod names;
 mod properties;
 

@@ -5,8 +5,8 @@ ghost use Rattle.aigertext.specs.Reading.{Gives, line_at};
 ghost use Rattle.aigertext.specs.AsciiReading.{IsNew, defining, input_of, own_by, latch_fields, latch_of, gate_fields, gate_of};
 
 use crate::fault::Why;
-use crate::reading::binary_latches::{next_literal, reset};
 use crate::reading::fields::{first_field, next_field};
+use crate::reading::latches::{next_literal, reset};
 use crate::reading::numbers::literal;
 use crate::reading::plain_numbers::three_numbers;
 use aiger::{GateLine, LatchLine, Lit, Loose, Reset};

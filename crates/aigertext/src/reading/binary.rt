@@ -7,8 +7,10 @@ ghost use Rattle.aigertext.specs.Passes.{Reads, behind_lines_of};
 ghost use Rattle.aigertext.specs.Counts.{AreSmall, Fits};
 
 use crate::fault::Stop;
-use crate::reading::binary_definitions::{push_gates, set_latches};
+use crate::forms::Form;
+use crate::reading::binary_definitions::push_gates;
 use crate::reading::counts::Counts;
+use crate::reading::finishing::set_latches;
 use crate::reading::first_pass::check_lines;
 use crate::reading::lines::stop;
 use crate::reading::names::give_names;
@@ -27,7 +29,7 @@ fn push_sections(
     requires fresh { circuit.old ≡ fresh_circuit counts.now.inputs counts.now.latches }
     requires small { AreSmall counts.now }
     requires fits { Fits form.Binary counts.now }
-    requires gates { behind_lines_of counts.now text.now ≡ Ok gates.now }
+    requires gates { behind_lines_of form.Binary counts.now text.now ≡ Ok gates.now }
     ensures { Reads (λ u. circuit.new) result (binary_at counts.now text.now) }
 {
     let greatest = 2 * counts.variables + 1;
@@ -37,7 +39,14 @@ fn push_sections(
         Ok(names) => names,
         Err(stop) => return Err(stop),
     };
-    let properties = match set_latches(circuit, text, greatest, latch, counts.latches) {
+    let properties = match set_latches(
+        Form::Binary,
+        circuit,
+        text,
+        greatest,
+        latch,
+        counts.latches,
+    ) {
         Ok(properties) => properties,
         Err(stop) => return Err(stop),
     };
@@ -54,7 +63,7 @@ pub fn read_sections(alloc: Global, counts: &Counts, text: &[u8]) -> Result<Circ
     requires fits { Fits form.Binary counts.now }
     ensures { Reads (λ c. c) result (binary_at counts.now text.now) }
 {
-    let gates = match check_lines(text, counts) {
+    let gates = match check_lines(Form::Binary, text, counts) {
         Ok(gates) => gates,
         Err(stop) => return Err(stop),
     };

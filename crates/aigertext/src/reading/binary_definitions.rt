@@ -1,44 +1,15 @@
-//! The latches and gates of a binary text, read onto a circuit.
+//! The gates of a binary text, read onto a circuit.
 ghost use Rattle.std.specs.Prelude.{◌≡◌, ◌+◌, ◌*◌, ◌≤◌, length, OnOk};
 ghost use Rattle.aiger.specs.Circuit.{net};
 ghost use Rattle.aiger.specs.Net.{variables};
-ghost use Rattle.aigertext.specs.Reading.{nexts_at, gates_at};
-ghost use Rattle.aigertext.specs.Passes.{Takes, with_latches, with_gates};
+ghost use Rattle.aigertext.specs.Reading.{gates_at};
+ghost use Rattle.aigertext.specs.Passes.{Takes, with_gates};
 
 use crate::fault::Stop;
 use crate::reading::deltas::gate;
-use crate::reading::lines::{next_latch_line, stop};
+use crate::reading::lines::stop;
 use crate::reading::properties::want_of_memory;
 use aiger::Circuit;
-
-/// Sets all latches by their lines, the first of which has the given literal, and answers the text behind them.
-pub fn set_latches<'a>(
-    circuit: &mut Circuit,
-    text: &'a [u8],
-    greatest: u32,
-    first: u32,
-    count: u32,
-) -> Result<&'a [u8], Stop>
-    requires all { count ≡ length circuit.old.latches }
-    requires defined { greatest ≡ 2 * variables (net circuit.old) + 1 }
-    requires fits { first + 2 * count ≤ 4294967295 }
-    ensures read { Takes (λ x. x.now) result (with_latches circuit.old) circuit.new (nexts_at greatest first count text.now) }
-    ensures count { OnOk result (length circuit.new.latches ≡ length circuit.old.latches) }
-{
-    let mut rest = text;
-    for index in 0..count {
-        let (latch, after) = match next_latch_line(rest, greatest, first + 2 * index) {
-            Ok(found) => found,
-            Err(stop) => return Err(stop),
-        };
-        match circuit.set_latch(index as usize, latch.next, latch.reset) {
-            Ok(()) => {}
-            Err(_) => unreachable!(),
-        }
-        rest = after;
-    }
-    Ok(rest)
-}
 
 /// Adds so many gates, the first of which has the given literal, and answers the text behind them.
 pub fn push_gates<'a>(

@@ -1,22 +1,28 @@
-//! The first pass over the lines before the gates of a binary text: only whether each says what it may.
+//! The first pass over the lines of latches and properties: only whether each says what it may.
 ghost use Rattle.std.specs.Prelude.{◌+◌, ◌*◌, ◌≤◌};
-ghost use Rattle.aigertext.specs.declared.forms.Form.TheVariants as form;
-ghost use Rattle.aigertext.specs.Reading.{Gives, nexts_at, literals_at, sizes_at, properties_at};
-ghost use Rattle.aigertext.specs.Passes.{behind, behind_lines_of, total_from};
-ghost use Rattle.aigertext.specs.Counts.{AreSmall, Fits};
+ghost use Rattle.aigertext.specs.Reading.{Gives, literals_at, sizes_at, properties_at};
+ghost use Rattle.aigertext.specs.Passes.{behind, latches_in, behind_lines_of, total_from};
+ghost use Rattle.aigertext.specs.Counts.{AreSmall};
 
 use crate::fault::Stop;
+use crate::forms::Form;
 use crate::reading::counts::Counts;
-use crate::reading::lines::{literal_line, next_latch_line, size_line};
+use crate::reading::lines::{latch_line, literal_line, size_line};
 
 /// The text behind the lines of so many latches, the first of which has the given literal.
-fn check_latches(text: &[u8], greatest: u32, first: u32, count: u32) -> Result<&[u8], Stop>
+fn check_latches(
+    form: Form,
+    text: &[u8],
+    greatest: u32,
+    first: u32,
+    count: u32,
+) -> Result<&[u8], Stop>
     requires { first + 2 * count ≤ 4294967295 }
-    ensures { Gives (λ x. x.now) result (behind (nexts_at greatest first count text.now)) }
+    ensures { Gives (λ x. x.now) result (behind (latches_in form greatest first count text.now)) }
 {
     let mut rest = text;
     for index in 0..count {
-        let (_, after) = match next_latch_line(rest, greatest, first + 2 * index) {
+        let (_, after) = match latch_line(form, rest, greatest, first + 2 * index) {
             Ok(found) => found,
             Err(stop) => return Err(stop),
         };
@@ -72,14 +78,15 @@ fn check_properties<'a>(text: &'a [u8], counts: &Counts) -> Result<&'a [u8], Sto
     check_literals(rest, greatest, counts.fair)
 }
 
-/// The text behind the lines before the gates: those of the latches and of all properties.
-pub fn check_lines<'a>(text: &'a [u8], counts: &Counts) -> Result<&'a [u8], Stop>
+/// The text behind the lines of the latches and of all properties in a form.
+pub fn check_lines<'a>(form: Form, text: &'a [u8], counts: &Counts) -> Result<&'a [u8], Stop>
     requires small { AreSmall counts.now }
-    requires fits { Fits form.Binary counts.now }
-    ensures { Gives (λ x. x.now) result (behind_lines_of counts.now text.now) }
+    requires fits { counts.now.inputs + counts.now.latches ≤ counts.now.variables }
+    ensures { Gives (λ x. x.now) result (behind_lines_of form counts.now text.now) }
 {
     let greatest = 2 * counts.variables + 1;
-    match check_latches(text, greatest, 2 * (counts.inputs + 1), counts.latches) {
+    let latch = 2 * (counts.inputs + 1);
+    match check_latches(form, text, greatest, latch, counts.latches) {
         Ok(properties) => check_properties(properties, counts),
         Err(stop) => Err(stop),
     }

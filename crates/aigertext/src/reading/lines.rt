@@ -1,12 +1,13 @@
 //! What stands at the front of a text: a line, and what it says.
 ghost use Rattle.std.specs.Prelude.{◌≡◌, ◌+◌, ◌≤◌, Ok, IfOk};
-ghost use Rattle.aigertext.specs.Reading.{Gives, stop, line_at, header_of, next_of, literal_of, size_of};
+ghost use Rattle.aigertext.specs.Reading.{Gives, stop, line_at, header_of, literal_of, size_of};
+ghost use Rattle.aigertext.specs.Passes.{latch_in};
 
 use crate::fault::{Stop, Why};
 use crate::forms::Form;
-use crate::reading::binary_latches::next_latch;
 use crate::reading::counts::Counts;
 use crate::reading::header::header;
+use crate::reading::latches::latch_in;
 use crate::reading::numbers::{literal, size};
 use aiger::{Latch, Lit};
 use base::next_line;
@@ -42,13 +43,13 @@ pub fn header_line(text: &[u8]) -> Result<((Form, Counts), &[u8]), Stop>
     }
 }
 
-/// The latch of the first line, whose own literal is given, and the text behind it.
-pub fn next_latch_line(text: &[u8], greatest: u32, own: u32) -> Result<(Latch, &[u8]), Stop>
-    ensures gives { Gives (λ x. (x.0, x.1.now)) result (line_at (next_of greatest own) text.now) }
+/// The latch of the first line of a text of a form, whose own literal is given, and the text behind it.
+pub fn latch_line(form: Form, text: &[u8], greatest: u32, own: u32) -> Result<(Latch, &[u8]), Stop>
+    ensures gives { Gives (λ x. (x.0, x.1.now)) result (line_at (latch_in form greatest own) text.now) }
     ensures small { IfOk result (λ x. x.0.next ≤ greatest) }
 {
     let (bytes, behind) = line(text)?;
-    match next_latch(bytes, greatest, own) {
+    match latch_in(form, bytes, greatest, own) {
         Ok(latch) => Ok((latch, behind)),
         Err(why) => Err(stop(text, why)),
     }

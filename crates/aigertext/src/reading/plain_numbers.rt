@@ -8,7 +8,7 @@ const ROOM: u32 = u32::MAX / 10 - 1;
 /// The number that stands at the front of a text up to this byte, and the text behind the byte, where the number is a
 /// decimal with room below 2^32; else nothing. Each byte is looked at once.
 #[inline(always)]
-fn number_before(text: &[u8], end: u8) -> Option<(u32, &[u8])>
+pub(crate) fn number_before(text: &[u8], end: u8) -> Option<(u32, &[u8])>
     ensures { IfSome result (λ x. text.now ≡ decimal x.0 ++ end ∷ x.1.now) }
 {
     let mut value = match text {

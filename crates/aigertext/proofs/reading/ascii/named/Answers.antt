@@ -9,11 +9,11 @@ returns-in-Err c =
     ]
 
 pub returns-in-Ok-give_names : goal.returns-in-Ok-give_names
-returns-in-Ok-give_names c = (c.inputs-valid.ensures.valid, inl (record { circuit = c.in-Ok.circuit; is_renumbered = c.in-Ok.ensures; is = sym c.in-Ok-give_names.ensures }))
+returns-in-Ok-give_names c = (c.inputs-valid.ensures.valid, inl (record { circuit = c.in-Ok.circuit; is_renumbered = c.in-Ok.ensures; is = sym c.in-Ok-give_names.ensures.reads }))
 
 pub returns-in-Err-give_names : goal.returns-in-Err-give_names
 returns-in-Err-give_names c =
-    elim c.in-Err-give_names.ensures [
+    elim c.in-Err-give_names.ensures.reads [
       | inl full ↦ inl full
       | inr read ↦ inr (c.inputs-valid.ensures.valid, inl (record { circuit = c.in-Ok.circuit; is_renumbered = c.in-Ok.ensures; is = sym read }))
     ]

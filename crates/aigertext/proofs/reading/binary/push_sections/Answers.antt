@@ -49,7 +49,7 @@ returns-in-Ok-push_properties c =
     (names_left c.args.counts.now c.args.text.now c.args.gates.now c.requires.gates c.in-Ok-set_latches.ensures.read.0 c.in-Ok-set_latches.properties.now c.in-Ok-push_properties.field-0.now c.in-Ok.names.now
     c.in-Ok-push_properties.ensures.0 c.in-Ok.ensures.read.0 c.args.circuit.now c.push_gates.new.circuit c.set_latches.new.circuit c.push_properties.new.lists
     c.in-Ok-set_latches.ensures.read.1.0 c.in-Ok-push_properties.ensures.1.0 c.in-Ok.ensures.read.1.0 c.requires.fresh c.in-Ok.ensures.read.1.1 c.in-Ok-set_latches.ensures.read.1.1 c.in-Ok-push_properties.ensures.1.1)
-    c.give_names.ensures
+    c.give_names.ensures.reads
 
 pub returns-in-Err-push_properties : goal.returns-in-Err-push_properties
 returns-in-Err-push_properties c =

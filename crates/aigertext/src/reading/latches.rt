@@ -1,10 +1,12 @@
-//! Reading the line of a latch in the binary form.
+//! Reading the line of a latch whose own literal is given.
 ghost use Rattle.std.specs.Prelude.{◌≡◌, ◌≤◌, ◌∷◌, [], IfOk};
-ghost use Rattle.aigertext.specs.Reading.{Gives, within, reset_of, next_fields, next_of};
+ghost use Rattle.aigertext.specs.Reading.{Gives, within, reset_of, fields, fields_behind, next_fields, next_of};
+ghost use Rattle.aigertext.specs.Passes.{own_fields, latch_in};
 ghost use Rattle.aigertext.specs.declared.fault.Why.TheVariants as why;
 ghost use Rattle.base.specs.Decimals.{number_of};
 
 use crate::fault::Why;
+use crate::forms::Form;
 use crate::reading::fields::{first_field, next_field};
 use aiger::{Latch, Lit, Reset};
 use base::decimal;
@@ -70,21 +72,61 @@ fn latch_with(next: &[u8], begins: &[u8], greatest: u32, own: u32) -> Result<Lat
     Ok(Latch { next, reset })
 }
 
-/// The latch of a line: its next literal, which is at most the greatest one, and how it begins; its own literal is
-/// given.
-///
-/// Error: `BadLatch`.
+/// The latch of a next literal and what stands behind it on its line, which may say how the latch begins.
 #[tactic(auto, unfolding(crate::specs::Reading::next_fields))]
-pub fn next_latch(line: &[u8], greatest: u32, own: u32) -> Result<Latch, Why>
-    ensures gives { Gives (λ x. x) result (next_of greatest own line.now) }
+fn latch_behind(next: &[u8], rest: &[u8], greatest: u32, own: u32) -> Result<Latch, Why>
+    ensures gives { Gives (λ x. x) result (next_fields greatest own (next.now ∷ fields_behind rest.now)) }
     ensures small { IfOk result (λ l. l.next ≤ greatest) }
 {
-    let (next, rest) = first_field(line);
     match next_field(rest) {
         None => plain_latch(next, greatest, own),
         Some((begins, rest)) => match next_field(rest) {
             None => latch_with(next, begins, greatest, own),
             Some(_) => Err(Why::BadLatch),
         },
+    }
+}
+
+/// The latch of a line of the binary form: its next literal, which is at most the greatest one, and how it begins.
+fn next_latch(line: &[u8], greatest: u32, own: u32) -> Result<Latch, Why>
+    ensures gives { Gives (λ x. x) result (next_of greatest own line.now) }
+    ensures small { IfOk result (λ l. l.next ≤ greatest) }
+{
+    let (next, rest) = first_field(line);
+    latch_behind(next, rest, greatest, own)
+}
+
+/// The latch of a line of the ascii form, which begins with the given own literal.
+#[tactic(auto, unfolding(crate::specs::Passes::own_fields, crate::specs::Reading::next_fields))]
+fn own_latch(line: &[u8], greatest: u32, own: u32) -> Result<Latch, Why>
+    ensures gives { Gives (λ x. x) result (own_fields greatest own (fields line.now)) }
+    ensures small { IfOk result (λ l. l.next ≤ greatest) }
+{
+    let (current, rest) = first_field(line);
+    match decimal(current) {
+        None => Err(Why::BadLatch),
+        Some(number) => {
+            if number != u64::from(own) {
+                return Err(Why::BadLatch);
+            }
+            match next_field(rest) {
+                None => Err(Why::BadLatch),
+                Some((next, rest)) => latch_behind(next, rest, greatest, own),
+            }
+        }
+    }
+}
+
+/// The latch of a line of a form, whose own literal is given: its next literal, which is at most the greatest one, and
+/// how it begins.
+///
+/// Error: `BadLatch`.
+pub fn latch_in(form: Form, line: &[u8], greatest: u32, own: u32) -> Result<Latch, Why>
+    ensures gives { Gives (λ x. x) result (latch_in form greatest own line.now) }
+    ensures small { IfOk result (λ l. l.next ≤ greatest) }
+{
+    match form {
+        Form::Ascii => own_latch(line, greatest, own),
+        Form::Binary => next_latch(line, greatest, own),
     }
 }

@@ -1,0 +1,63 @@
+//! Reading a source piece by piece behind bytes that are held.
+ghost use Rattle.std.specs.Prelude.{vec_len, vec_capacity, ◌≡◌, ◌+◌, ◌<◌, ◌≤◌, ◌++◌, true, false, length, drop, Ok, OnOk, IsErrOf};
+ghost use Rattle.std.specs.Io.KnownBytes.{prepend_known, Keeps, IsAtEnd};
+ghost use Rattle.base.specs.Device.{HasRisen};
+
+use base::{DeviceFault, ReadAllFault, Source};
+
+/// How many bytes one call of a source is asked for.
+const PIECE: usize = 65536;
+
+/// Reads a piece of a source behind some bytes, and answers whether there was one; there is none at the end.
+pub fn read_piece<S: Source>(bytes: &mut Vec<u8>, source: &mut S) -> Result<bool, ReadAllFault>
+    ensures bytes { OnOk result (Keeps (prepend_known bytes.old.items (S.to_come source.old)) (prepend_known bytes.new.items (S.to_come source.new))) }
+    ensures end { result ≡ Ok false → IsAtEnd (S.to_come source.new) }
+    ensures ends { result ≡ Ok true → S.calls_left source.new < S.calls_left source.old }
+    ensures counted { OnOk result (S.failures source.new ≡ S.failures source.old) }
+    ensures device { IsErrOf result ReadAllFault.Device → HasRisen (S.failures source.old) (S.failures source.new) }
+    ensures memory { IsErrOf result ReadAllFault.NoMemory → S.failures source.new ≡ S.failures source.old }
+{
+    if bytes.reserve(PIECE).is_err() {
+        return Err(ReadAllFault::NoMemory);
+    }
+    let mut piece = [0u8; PIECE];
+    match source.read(&mut piece) {
+        Err(DeviceFault::Failed) => Err(ReadAllFault::Device),
+        Ok(count) => {
+            append(bytes, &piece[..count]);
+            Ok(count > 0)
+        }
+    }
+}
+
+/// Reads all that a source has left behind some bytes.
+pub fn read_rest<S: Source>(bytes: &mut Vec<u8>, source: &mut S) -> Result<(), ReadAllFault>
+    ensures bytes { OnOk result (Keeps (prepend_known bytes.old.items (S.to_come source.old)) (prepend_known bytes.new.items (S.to_come source.new))) }
+    ensures end { OnOk result (IsAtEnd (S.to_come source.new)) }
+    ensures counted { OnOk result (S.failures source.new ≡ S.failures source.old) }
+    ensures device { IsErrOf result ReadAllFault.Device → HasRisen (S.failures source.old) (S.failures source.new) }
+    ensures memory { IsErrOf result ReadAllFault.NoMemory → S.failures source.new ≡ S.failures source.old }
+{
+    while read_piece(bytes, source)? {}
+    Ok(())
+}
+
+/// Drops the first n bytes of a buffer.
+pub fn remove_front(bytes: &mut Vec<u8>, n: usize)
+    requires { n ≤ length bytes.old.items }
+    ensures { bytes.new.items ≡ drop n bytes.old.items }
+{
+    let len = bytes.len();
+    bytes.as_mut_slice().copy_within(n..len, 0);
+    bytes.truncate(len - n);
+}
+
+/// Puts a piece behind a buffer that has room for it.
+fn append(bytes: &mut Vec<u8>, piece: &[u8])
+    requires { vec_len bytes.old + length piece.now ≤ vec_capacity bytes.old }
+    ensures { bytes.new.items ≡ bytes.old.items ++ piece.now }
+{
+    let Ok(()) = bytes.extend_from_slice(piece) else {
+        unreachable!()
+    };
+}
