@@ -25,6 +25,7 @@ pub mod LastLineLemmas
 pub mod BitFinishLemmas
 pub mod FeedLemmas
 pub mod WordValueLemmas
+pub mod EightDigitLemmas
 pub mod WordFieldLemmas
 pub mod PlainLineLemmas
 pub mod ClaimScanLemmas

@@ -1,10 +1,10 @@
 //! The value of an assignment.
-ghost use Rattle.std.specs.Prelude.{◌≡◌, ◌<◌, ◌≤◌, ◌^◌, true, false, length, IfOk, MatchOption, if◌then◌else◌};
+ghost use Rattle.std.specs.Prelude.{◌≡◌, ◌-◌, ◌<◌, ◌≤◌, ◌^◌, true, false, length, IfOk, MatchOption, if◌then◌else◌};
 ghost use Rattle.std.specs.List.{list_all};
 ghost use Rattle.base.specs.Word.{bit_number};
 ghost use Rattle.witness.specs.declared.why.Why.TheVariants as why;
 ghost use Rattle.witness.specs.Admits.{is_value_byte, value_of};
-ghost use Rattle.witness.specs.WordValues.{Gives, IsKnown, is_known, is_one};
+ghost use Rattle.witness.specs.WordValues.{Gives, IsKnown, is_known, is_one, digits_word};
 
 use crate::why::Why;
 use base::Width;
@@ -33,17 +33,61 @@ fn known_bit(byte: u8) -> Option<u64>
     Some(u64::from(byte - b'0'))
 }
 
-/// The word that at most 64 bytes write, each of them `0` or `1`, the highest first; none for other bytes.
-pub(crate) fn known_word(bytes: &[u8]) -> Option<u64>
-    requires { length bytes.now ≤ 64 }
-    ensures { MatchOption result (list_all is_known bytes.now ≡ false) (λ word. IsKnown word bytes.now) }
+/// Eight bytes `0` as one number.
+const ZEROS: u64 = 0x3030_3030_3030_3030;
+
+/// The bits of eight bytes that none of `0` and `1` has beside those of `0`.
+const EXCESS: u64 = 0xfefe_fefe_fefe_fefe;
+
+/// What gathers the lowest bits of eight bytes in the highest byte of a product, in which no two of them meet.
+const GATHER: u64 = 0x8040_2010_0804_0201;
+
+/// The word that eight bytes write, each of them `0` or `1`, the first the highest; none for other bytes. All eight are
+/// tested at once, and their bits gathered by one product.
+#[inline(always)]
+fn eight_bits(bytes: &[u8; 8]) -> Option<u64>
+    ensures { MatchOption result (list_all is_known bytes.now ≡ false) (λ word. (list_all is_known bytes.now ≡ true) × (word ≡ digits_word 0 bytes.now)) }
 {
-    let mut word = 0;
+    let read = u64::from_le_bytes(*bytes);
+    let bare = read ^ ZEROS;
+    let excess = bare & EXCESS;
+    if excess != 0 {
+        return None;
+    }
+    let gathered = bare.wrapping_mul(GATHER);
+    Some(gathered >> 56)
+}
+
+/// The word that bytes write behind others that write a word, each of them `0` or `1`; none for other bytes.
+#[inline(always)]
+fn known_behind(front: u64, bytes: &[u8]) -> Option<u64>
+    requires few { length bytes.now ≤ 64 }
+    requires room { front < 2 ^ (64 - length bytes.now) }
+    ensures { MatchOption result (list_all is_known bytes.now ≡ false) (λ word. (list_all is_known bytes.now ≡ true) × (word ≡ digits_word front bytes.now)) }
+{
+    let mut word = front;
     for byte in bytes {
         let bit = known_bit(*byte)?;
         word = word * 2 + bit;
     }
     Some(word)
+}
+
+/// The word that at most 64 bytes write, each of them `0` or `1`, the highest first; none for other bytes. Eight are
+/// read at a time, and then the others.
+#[inline(always)]
+pub(crate) fn known_word(bytes: &[u8]) -> Option<u64>
+    requires { length bytes.now ≤ 64 }
+    ensures { MatchOption result (list_all is_known bytes.now ≡ false) (λ word. IsKnown word bytes.now) }
+{
+    let mut word = 0;
+    let mut rest = bytes;
+    while let Some((eight, behind)) = rest.split_first_chunk::<8>() {
+        let bits = eight_bits(eight)?;
+        word = word * 256 + bits;
+        rest = behind;
+    }
+    known_behind(word, rest)
 }
 
 /// Why as many bytes as a word has bits write none.

@@ -1,7 +1,10 @@
-use Rattle.std.proofs.Common.{take}
+use Rattle.std.proofs.Common.{◌≡◌, List, ℕ, ◌++◌, length}
 use Rattle.witness.specs.WordValues.{IsKnown}
 use Rattle.witness.proofs.word_value.known_word.Given as goal
 
--- the bytes before are digits
-abbrev pub invariant-loop-byte : goal.invariant-loop-byte
-invariant-loop-byte l = IsKnown l.word (take l.byte-index l.bytes)
+-- the bytes in front of the rest are digits
+abbrev pub invariant-loop-eight : goal.invariant-loop-eight
+invariant-loop-eight l = (front : List ℕ) × ((l.bytes ≡ front ++ l.rest) × IsKnown l.word front)
+
+abbrev pub decreases-loop-eight : goal.decreases-loop-eight
+decreases-loop-eight l = length l.rest
