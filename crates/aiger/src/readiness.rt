@@ -35,7 +35,7 @@ pub fn order_of_readiness(
         Ok(list) => list,
         Err(_) => return Err(AllocError),
     };
-    let mut order = Vec::new(alloc);
+    let mut order = Vec::with_capacity(alloc, gates)?;
     take_in_turn(&users, &mut waiting, &mut ready, &mut order, &mut marks)?;
     Ok((order, marks))
 }
@@ -75,7 +75,7 @@ fn chains(alloc: Global, slots: Vec<u32>, gates: usize) -> Result<Users, AllocEr
         Ok(list) => list,
         Err(_) => return Err(AllocError),
     };
-    let mut nexts = Vec::new(alloc);
+    let mut nexts = Vec::with_capacity(alloc, slots.len())?;
     for s in 0..slots.len() {
         let next = link(&mut heads, slots[s], s as u32);
         match nexts.push(next) {
@@ -111,7 +111,7 @@ fn first_waits(alloc: Global, slots: &[u32], gates: usize) -> Result<Vec<u8>, Al
     requires { AreSlots slots.now gates }
     ensures { IfOk result (λ r. CountsWaits slots.now gates [] r.items) }
 {
-    let mut waiting = Vec::new(alloc);
+    let mut waiting = Vec::with_capacity(alloc, gates)?;
     for gate in 0..gates {
         let count = u8::from(slots[2 * gate] != 0) + u8::from(slots[2 * gate + 1] != 0);
         match waiting.push(count) {
