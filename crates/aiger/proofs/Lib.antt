@@ -9,6 +9,7 @@ mod RenumberingLemmas
 mod OrderLemmas
 mod KnownLemmas
 mod ReadinessLemmas
+mod BitTreeLemmas
 mod NumberingLemmas
 pub mod PlacesLemmas
 mod LooseTraceLemmas

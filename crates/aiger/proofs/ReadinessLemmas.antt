@@ -7,9 +7,6 @@ use Rattle.std.proofs.Math.Seq.{get_or-append_seam}
 use Rattle.std.specs.Int.{from_bool}
 use Rattle.std.proofs.lemmas.List.Folds.{list_any-append}
 use Rattle.std.proofs.lemmas.List.Sums.{sum_by-set}
-use Rattle.std.specs.Ordering.{is_eq, is_gt, nat_cmp}
-use Rattle.std.specs.Cmp.{nat_cmp_is}
-use Rattle.std.specs.declared.cmp.Ordering.TheVariants.{Less, Equal, Greater}
 use Rattle.std.specs.List.{list_any, count_by}
 use Rattle.aiger.specs.Readiness.{slot_at, waits, last_user, may_be_next, AreSlots, HasChains, CountsWaits, waits_for_nothing, IsFirstNext, FollowInTurn, MarksDone, IsBetween, IsTaken}
 
@@ -95,17 +92,6 @@ waits_at-after slots done g s e =
     let l : last_user slots g s ≤ s = last_user-le slots g s in
     let b : nat_lt s (last_user slots g s) ≡ false = grind (arith, nat_tests) in
     waits_at-user slots done g (last_user slots g s) s e ∙ ap (λ (x : Bool). if x then 1 else 0) b
-
--- equal numbers by their order
-pub eq_by_nat_cmp : (a b : ℕ) → is_eq (nat_cmp a b) ≡ nat_eq a b
-eq_by_nat_cmp a b =
-    ⊎_elim (λ (s : a ≡ b). let t : nat_eq a b ≡ true = grind (arith, nat_tests) in ap is_eq (sym (nat_cmp_is a b Equal s)) ∙ sym t)
-    (λ (o : (a < b) ⊎ (b < a)). let t : nat_eq a b ≡ false = ⊎_elim (λ (x : a < b). grind (arith, nat_tests)) (λ (x : b < a). grind (arith, nat_tests)) o in
-    ⊎_elim (λ (x : a < b). ap is_eq (sym (nat_cmp_is a b Less x)) ∙ sym t) (λ (x : b < a). ap is_eq (sym (nat_cmp_is a b Greater x)) ∙ sym t) o)
-    (cases_order a b)
-
-pub greater_by_nat_cmp : (a b : ℕ) → b < a → is_gt (nat_cmp a b) ≡ true
-greater_by_nat_cmp a b h = ap is_gt (sym (nat_cmp_is a b Greater h))
 
 -- a gate whose slot is next to be released waits for it
 pub waits_yet : (slots : List ℕ) (n : ℕ) (done : List ℕ) (g s : ℕ) (waiting : List ℕ) (is_in : ℕ → Bool) → AreSlots slots n → IsReleasing slots n done g (suc s) waiting is_in → (s / 2 < n) × (1 ≤ slice_index_or waiting (s / 2) 0)
@@ -338,41 +324,40 @@ marks_push n done marks k m low new =
     }
 
 -- a gate is taken from those that are ready
-pub taken : (slots : List ℕ) (n : ℕ) (done waiting : List ℕ) (marks : List Bool) (is_in now_in : ℕ → Bool) (k : ℕ) → IsBetween slots n done waiting marks is_in → is_in k ≡ true → ((q : ℕ) → is_in q ≡ true → is_gt (nat_cmp k q) ≡ false) → ((q : ℕ) → now_in q ≡ cond (is_eq (nat_cmp k q)) false (is_in q))
+pub taken : (slots : List ℕ) (n : ℕ) (done waiting : List ℕ) (marks : List Bool) (is_in now_in : ℕ → Bool) (k : ℕ) → IsBetween slots n done waiting marks is_in → is_in k ≡ true → ((i : ℕ) → i < k → is_in i ≡ false) → ((i : ℕ) → now_in i ≡ (is_in i && not (nat_eq k i)))
     → IsTaken slots n (done ++ k ∷ []) waiting now_in × FollowInTurn slots n [] (done ++ k ∷ []) × MarksDone n (done ++ k ∷ []) (slice_set marks k true) × (k < n)
 taken slots n done waiting marks is_in now_in k b member least now =
     let parts = nothing_parts n done waiting k (sym (b.ready k) ∙ member) in
     let still : (i : ℕ) → now_in i ≡ waits_for_nothing n (done ++ k ∷ []) waiting i = λ i.
-    let a : now_in i ≡ cond (nat_eq k i) false (is_in i) = now i ∙ ap (λ (t : Bool). cond t false (is_in i)) (eq_by_nat_cmp k i) in
     let c = list_any-append (nat_eq i) done (k ∷ []) in
     let d = b.ready i in
-    still_by i (nat_eq k i) refl a c d in
+    still_by i (nat_eq k i) refl (now i) c d in
     let first : IsFirstNext slots n done k =
     record {
       next = may_be_next_is slots n done waiting b.waits k ∙ (sym (b.ready k) ∙ member);
-      first = λ i low. may_be_next_is slots n done waiting b.waits i ∙ (sym (b.ready i) ∙ not_in i low (is_in i) refl);
+      first = λ i low. may_be_next_is slots n done waiting b.waits i ∙ (sym (b.ready i) ∙ least i low);
     } in
     (record { done = done; gate = k; last = refl; within = parts.0; new = parts.1; waits = b.waits; free = parts.2; ready = still }, FollowInTurn-push slots n [] done k b.in_turn first, marks_push n done marks k b.marked parts.0 parts.1, parts.0)
   where
-    still_by : (i : ℕ) (t : Bool) → nat_eq k i ≡ t → now_in i ≡ cond (nat_eq k i) false (is_in i) → list_any (nat_eq i) (done ++ k ∷ []) ≡ (list_any (nat_eq i) done || list_any (nat_eq i) (k ∷ [])) → is_in i ≡ waits_for_nothing n done waiting i → now_in i ≡ waits_for_nothing n (done ++ k ∷ []) waiting i
+    and_false : (x : Bool) → (x && false) ≡ false
+    and_false true = refl
+    and_false false = refl
+
+    and_true : (x : Bool) → (x && true) ≡ x
+    and_true true = refl
+    and_true false = refl
+
+    still_by : (i : ℕ) (t : Bool) → nat_eq k i ≡ t → now_in i ≡ (is_in i && not (nat_eq k i)) → list_any (nat_eq i) (done ++ k ∷ []) ≡ (list_any (nat_eq i) done || list_any (nat_eq i) (k ∷ [])) → is_in i ≡ waits_for_nothing n done waiting i → now_in i ≡ waits_for_nothing n (done ++ k ∷ []) waiting i
     still_by i true t a c d =
         let s : nat_eq i k ≡ true = grind (arith, nat_tests) in
         let m : list_any (nat_eq i) (done ++ k ∷ []) ≡ true = grind (arith, nat_tests, c, s) in
-        let u : now_in i ≡ false = a ∙ ap (λ (x : Bool). cond x false (is_in i)) t in
+        let u : now_in i ≡ false = a ∙ (ap (λ (x : Bool). is_in i && not x) t ∙ and_false (is_in i)) in
         u ∙ sym (ap (λ (x : Bool). nat_lt i n && (not x && nat_eq (slice_index_or waiting i 0) 0)) m ∙ and_false (nat_lt i n))
-      where
-        and_false : (x : Bool) → (x && false) ≡ false
-        and_false true = refl
-        and_false false = refl
     still_by i false t a c d =
         let s : nat_eq i k ≡ false = grind (arith, nat_tests) in
         let m : list_any (nat_eq i) (done ++ k ∷ []) ≡ list_any (nat_eq i) done = grind (arith, nat_tests, c, s) in
-        let u : now_in i ≡ is_in i = a ∙ ap (λ (x : Bool). cond x false (is_in i)) t in
+        let u : now_in i ≡ is_in i = a ∙ (ap (λ (x : Bool). is_in i && not x) t ∙ and_true (is_in i)) in
         u ∙ (d ∙ ap (λ (x : Bool). nat_lt i n && (not x && nat_eq (slice_index_or waiting i 0) 0)) (sym m))
-
-    not_in : (i : ℕ) → i < k → (x : Bool) → is_in i ≡ x → is_in i ≡ false
-    not_in i low true e = absurd (let z : true ≡ false = sym (greater_by_nat_cmp k i low) ∙ least i e in cc)
-    not_in i low false e = e
 
 -- in the course of the release of the last gate of an order
 pub record InRelease (slots : List ℕ) (n : ℕ) (order : List ℕ) (gate at : ℕ) (waiting : List ℕ) (is_in : ℕ → Bool) : Type 0 where

@@ -74,19 +74,16 @@ after_page old new page variable number is before size =
     after_entry in_page (λ v. v / 16) (λ v. v % 16) old new (slice_set page (variable % 16) number) variable number (λ v p q. omega (arith, p, q)) is
     (λ i. set_at page (variable % 16) number i (omega (arith, size)) ∙ ap (λ (n : ℕ). cond (nat_eq (variable % 16) i) number n) (before i))
 
--- no variable of a new page has a number
-pub empty_page : (i : ℕ) → ◌≡◌ {A = ℕ} (slice_index_or (replicate 16 0) i 0) 0
-empty_page i = zeros 16 i
-  where
-    zeros : (n i : ℕ) → ◌≡◌ {A = ℕ} (slice_index_or (replicate n 0) i 0) 0
-    zeros zero i = refl
-    zeros (suc n) zero = refl
-    zeros (suc n) (suc i) = zeros n i
+-- a place of a list of zeros has a zero
+pub zeros : (n i : ℕ) → ◌≡◌ {A = ℕ} (slice_index_or (replicate n 0) i 0) 0
+zeros zero i = refl
+zeros (suc n) zero = refl
+zeros (suc n) (suc i) = zeros n i
 
 -- ---- marks
 
 -- the bits of a number after one was set
-set_bit : (bits place i : ℕ) → place < 64 → nat_eq (bit_at (bit_or bits (1 * 2 ^ place % 2 ^ 64)) i) 1 ≡ cond (nat_eq place i) true (nat_eq (bit_at bits i) 1)
+pub set_bit : (bits place i : ℕ) → place < 64 → nat_eq (bit_at (bit_or bits (1 * 2 ^ place % 2 ^ 64)) i) 1 ≡ cond (nat_eq place i) true (nat_eq (bit_at bits i) 1)
 set_bit bits place i low = by (nat_eq place i) refl
   where
     by : (b : Bool) → nat_eq place i ≡ b → nat_eq (bit_at (bit_or bits (1 * 2 ^ place % 2 ^ 64)) i) 1 ≡ cond b true (nat_eq (bit_at bits i) 1)

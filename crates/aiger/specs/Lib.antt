@@ -17,6 +17,8 @@ pub mod View
 pub mod LooseView
 pub mod Trace
 pub mod Readiness
+pub mod BitTree
+pub mod ReadyGates
 pub mod Numbering
 pub mod OwnLists
 pub mod Worked

@@ -13,6 +13,7 @@ mod names;
 mod numbering;
 mod numbers;
 mod readiness;
+mod ready_gates;
 mod undefined;
 mod variable_numbers;
 mod variable_pages;

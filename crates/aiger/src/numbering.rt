@@ -1,5 +1,5 @@
 //! The lists of a file as a circuit: their variables get the numbers of a circuit.
-ghost use Rattle.std.specs.Prelude.{◌≡◌, ◌+◌, ◌++◌, map, ◌<◌, ◌≤◌, length, not, All, None, IfOk};
+ghost use Rattle.std.specs.Prelude.{◌≡◌, ◌+◌, ◌++◌, [], map, ◌<◌, ◌≤◌, length, not, All, None, IfOk, OnOk};
 ghost use Rattle.std.specs.List.{position};
 ghost use Rattle.aiger.specs.Limits.{greatest_count};
 ghost use Rattle.aiger.specs.Literal.{variable};
@@ -96,7 +96,8 @@ impl Loose {
         requires few { length (numbered self.now order.now) ≤ greatest_count }
         ensures { IfOk result (λ n. n ≡ numbered self.now order.now) }
     {
-        let mut numbers = self.leaf_numbers(alloc, order.len())?;
+        let mut numbers = self.room_for(alloc, self.leaf_count() + order.len())?;
+        self.push_leaves(&mut numbers)?;
         numbers.push_in_order(self.gates(), order)?;
         Ok(numbers)
     }
@@ -109,18 +110,40 @@ impl Loose {
         self.inputs().len() + self.latches().len()
     }
 
-    /// The variables of inputs and latches in file order, with room for those of so many gates.
-    fn leaf_numbers(&self, alloc: Global, gates: usize) -> Result<Numbers, AllocError>
-        requires { gates ≤ greatest_count }
-        ensures numbers { IfOk result (λ n. n ≡ map variable self.now.inputs ++ map latch_variable self.now.latches) }
+    /// The variables of inputs and latches in file order, behind none.
+    fn push_leaves(&self, numbers: &mut Numbers) -> Result<(), AllocError>
+        requires { numbers.old ≡ [] }
+        ensures numbers { OnOk result (numbers.new ≡ map variable self.now.inputs ++ map latch_variable self.now.latches) }
         ensures valid { IsLoose self.now }
     {
-        let count = self.leaf_count() + gates;
-        let room = if self.define_in_turn() { 0 } else { count };
-        let mut numbers = Numbers::with_room(alloc, room)?;
         numbers.push_inputs(self.inputs())?;
-        numbers.push_latches(self.latches())?;
-        Ok(numbers)
+        numbers.push_latches(self.latches())
+    }
+
+    /// No variables yet, and room for so many. Their numbers stand in a list where no defined variable is above four times
+    /// as many, which takes no hash.
+    fn room_for(&self, alloc: Global, count: usize) -> Result<Numbers, AllocError>
+        requires { count ≤ 2147483648 }
+        ensures { IfOk result (λ n. n ≡ []) }
+    {
+        let greatest = self.greatest_defined() as usize;
+        let low = if greatest <= 4 * count {
+            greatest
+        } else {
+            count
+        };
+        Numbers::with_room(alloc, count, low + 1)
+    }
+
+    /// The greatest variable that a line defines, or 0.
+    fn greatest_defined(&self) -> u32 {
+        let inputs = self.inputs().iter().map(|lit| lit.var()).max();
+        let latches = self.latches().iter().map(|line| line.current.var()).max();
+        let gates = self.gates().iter().map(|line| line.lhs.var()).max();
+        inputs
+            .unwrap_or(0)
+            .max(latches.unwrap_or(0))
+            .max(gates.unwrap_or(0))
     }
 
     /// The defined variables by their places: inputs, latches and gates, each in file order.
@@ -128,7 +151,13 @@ impl Loose {
         ensures numbers { IfOk result (λ n. n ≡ defined_variables self.now) }
         ensures valid { IsLoose self.now }
     {
-        let mut numbers = self.leaf_numbers(alloc, self.gates().len())?;
+        let count = self.leaf_count() + self.gates().len();
+        let mut numbers = if self.define_in_turn() {
+            Numbers::with_room(alloc, 0, 0)?
+        } else {
+            self.room_for(alloc, count)?
+        };
+        self.push_leaves(&mut numbers)?;
         numbers.push_gates(self.gates())?;
         Ok(numbers)
     }

@@ -40,12 +40,13 @@ impl Model for Numbers {
 }
 
 impl Numbers {
-    /// No variables yet, and room for so many that have other numbers than their own.
-    pub fn with_room(alloc: Global, count: usize) -> Result<Numbers, AllocError>
+    /// No variables yet, and room for so many that have other numbers than their own. Those of the variables below `low`
+    /// will be found without a hash.
+    pub fn with_room(alloc: Global, count: usize, low: usize) -> Result<Numbers, AllocError>
         ensures { IfOk result (λ n. n ≡ []) }
     {
         let variables = Vec::with_capacity(alloc, count)?;
-        let numbers = VariableNumbers::new(alloc, count + 1)?;
+        let numbers = VariableNumbers::new(alloc, low)?;
         Ok(Numbers {
             in_turn: 0,
             variables,

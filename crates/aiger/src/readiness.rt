@@ -1,11 +1,10 @@
 //! The order of readiness: each time the first gate of those that wait for no other.
 ghost use Rattle.std.specs.Prelude.{◌≡◌, ℕ, suc, ◌+◌, ◌-◌, ◌*◌, ◌<◌, ◌≤◌, [], ◌∷◌, ◌++◌, ◌&&◌, ◌||◌, length, slice_index_or, nat_lt, nat_eq, IfOk, OnOk, slice_set, if◌then◌else◌};
-ghost use Rattle.std.specs.Ordering.{nat_cmp};
-ghost use Rattle.std.specs.BTreeSet.{contains};
 ghost use Rattle.aiger.specs.Readiness.{AreSlots, HasChains, CountsWaits, waits_for_nothing, IsBetween, IsTaken, IsWholeOrder};
+ghost use Rattle.aiger.specs.ReadyGates.{is_ready, room};
 
+use crate::ready_gates::ReadyGates;
 use std::alloc::{AllocError, Global};
-use std::collections::BTreeSet;
 
 /// Who waits for whom.
 ///
@@ -36,7 +35,7 @@ pub fn order_of_readiness(
         Ok(list) => list,
         Err(_) => return Err(AllocError),
     };
-    let mut order = Vec::new(alloc);
+    let mut order = Vec::with_capacity(alloc, gates)?;
     take_in_turn(&users, &mut waiting, &mut ready, &mut order, &mut marks)?;
     Ok((order, marks))
 }
@@ -45,13 +44,14 @@ pub fn order_of_readiness(
 fn take_in_turn(
     users: &Users,
     waiting: &mut Vec<u8>,
-    ready: &mut BTreeSet<u32>,
+    ready: &mut ReadyGates,
     order: &mut Vec<u32>,
     marks: &mut Vec<bool>,
 ) -> Result<(), AllocError>
     requires slots { AreSlots users.now.slots.items (length waiting.old.items) }
     requires chains { HasChains users.now.slots.items (length waiting.old.items) users.now.heads.items users.now.nexts.items }
-    requires between { IsBetween users.now.slots.items (length waiting.old.items) order.old.items waiting.old.items marks.old.items (contains nat_cmp ready.old) }
+    requires between { IsBetween users.now.slots.items (length waiting.old.items) order.old.items waiting.old.items marks.old.items (is_ready ready.old) }
+    requires room { length waiting.old.items ≤ room ready.old }
     ensures { OnOk result (IsWholeOrder users.now.slots.items (length waiting.old.items) order.new.items marks.new.items) }
 {
     while let Some(gate) = ready.pop_first() {
@@ -60,10 +60,7 @@ fn take_in_turn(
             Err(_) => return Err(AllocError),
         }
         marks[gate as usize] = true;
-        match release(users, order, waiting, ready) {
-            Ok(()) => {}
-            Err(_) => return Err(AllocError),
-        }
+        release(users, order, waiting, ready);
     }
     Ok(())
 }
@@ -78,7 +75,7 @@ fn chains(alloc: Global, slots: Vec<u32>, gates: usize) -> Result<Users, AllocEr
         Ok(list) => list,
         Err(_) => return Err(AllocError),
     };
-    let mut nexts = Vec::new(alloc);
+    let mut nexts = Vec::with_capacity(alloc, slots.len())?;
     for s in 0..slots.len() {
         let next = link(&mut heads, slots[s], s as u32);
         match nexts.push(next) {
@@ -114,7 +111,7 @@ fn first_waits(alloc: Global, slots: &[u32], gates: usize) -> Result<Vec<u8>, Al
     requires { AreSlots slots.now gates }
     ensures { IfOk result (λ r. CountsWaits slots.now gates [] r.items) }
 {
-    let mut waiting = Vec::new(alloc);
+    let mut waiting = Vec::with_capacity(alloc, gates)?;
     for gate in 0..gates {
         let count = u8::from(slots[2 * gate] != 0) + u8::from(slots[2 * gate + 1] != 0);
         match waiting.push(count) {
@@ -126,42 +123,39 @@ fn first_waits(alloc: Global, slots: &[u32], gates: usize) -> Result<Vec<u8>, Al
 }
 
 /// The gates that wait for nothing, before any gate is done.
-fn first_ready(alloc: Global, waiting: &[u8]) -> Result<BTreeSet<u32>, AllocError>
+fn first_ready(alloc: Global, waiting: &[u8]) -> Result<ReadyGates, AllocError>
     requires { length waiting.now ≤ 1073741824 }
-    ensures { IfOk result (λ r. (i : ℕ) → contains nat_cmp r i ≡ waits_for_nothing (length waiting.now) [] waiting.now i) }
+    ensures ready { IfOk result (λ r. (i : ℕ) → is_ready r i ≡ waits_for_nothing (length waiting.now) [] waiting.now i) }
+    ensures room { IfOk result (λ r. length waiting.now ≤ room r) }
 {
-    let mut ready = BTreeSet::new(alloc);
+    let mut ready = ReadyGates::new(alloc, waiting.len())?;
     for gate in 0..waiting.len() {
-        note(&mut ready, gate as u32, waiting[gate])?;
+        note(&mut ready, gate as u32, waiting[gate]);
     }
     Ok(ready)
 }
 
 /// Notes a gate as ready where nothing is left that it waits for.
-fn note(ready: &mut BTreeSet<u32>, gate: u32, left: u8) -> Result<(), AllocError>
-    ensures { OnOk result ((i : ℕ) → contains nat_cmp ready.new i ≡ (contains nat_cmp ready.old i || (nat_eq gate i && nat_eq left 0))) }
+fn note(ready: &mut ReadyGates, gate: u32, left: u8)
+    requires { gate < room ready.old }
+    ensures noted { (i : ℕ) → is_ready ready.new i ≡ (is_ready ready.old i || (nat_eq gate i && nat_eq left 0)) }
+    ensures room { room ready.new ≡ room ready.old }
 {
     if left != 0 {
-        return Ok(());
+        return;
     }
-    match ready.insert(gate) {
-        Ok(_) => Ok(()),
-        Err(_) => Err(AllocError),
-    }
+    ready.insert(gate);
 }
 
 /// Each slot of the last gate of an order waits no longer.
-fn release(
-    users: &Users,
-    order: &[u32],
-    waiting: &mut Vec<u8>,
-    ready: &mut BTreeSet<u32>,
-) -> Result<(), AllocError>
+fn release(users: &Users, order: &[u32], waiting: &mut Vec<u8>, ready: &mut ReadyGates)
     requires slots { AreSlots users.now.slots.items (length waiting.old.items) }
     requires chains { HasChains users.now.slots.items (length waiting.old.items) users.now.heads.items users.now.nexts.items }
-    requires taken { IsTaken users.now.slots.items (length waiting.old.items) order.now waiting.old.items (contains nat_cmp ready.old) }
-    ensures waits { OnOk result (CountsWaits users.now.slots.items (length waiting.old.items) order.now waiting.new.items) }
-    ensures ready { OnOk result ((i : ℕ) → contains nat_cmp ready.new i ≡ waits_for_nothing (length waiting.old.items) order.now waiting.new.items i) }
+    requires taken { IsTaken users.now.slots.items (length waiting.old.items) order.now waiting.old.items (is_ready ready.old) }
+    requires room { length waiting.old.items ≤ room ready.old }
+    ensures waits { CountsWaits users.now.slots.items (length waiting.old.items) order.now waiting.new.items }
+    ensures ready { (i : ℕ) → is_ready ready.new i ≡ waits_for_nothing (length waiting.old.items) order.now waiting.new.items i }
+    ensures room { room ready.new ≡ room ready.old }
 {
     let gate = order[order.len() - 1] as usize;
     let mut at = users.heads[gate];
@@ -169,8 +163,7 @@ fn release(
         let slot = at as usize - 1;
         let left = waiting[slot / 2] - 1;
         waiting[slot / 2] = left;
-        note(ready, (slot / 2) as u32, left)?;
+        note(ready, (slot / 2) as u32, left);
         at = users.nexts[slot];
     }
-    Ok(())
 }

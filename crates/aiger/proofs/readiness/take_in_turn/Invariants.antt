@@ -1,12 +1,12 @@
-use Rattle.std.proofs.Common.{not, length}
+use Rattle.std.proofs.Common.{◌≤◌, not, length}
 use Rattle.std.specs.List.{count_by}
-use Rattle.std.specs.Ordering.{nat_cmp}
-use Rattle.std.specs.BTreeSet.{contains}
+use Rattle.aiger.specs.ReadyGates.{is_ready, room}
 use Rattle.aiger.specs.Readiness.{IsBetween}
 use Rattle.aiger.proofs.readiness.take_in_turn.Given as goal
 
 abbrev pub invariant-loop-gate : goal.invariant-loop-gate
-invariant-loop-gate l = IsBetween l.users.slots.items (length l.fn.waiting.items) l.order.items l.waiting.items l.marks.items (contains nat_cmp l.ready)
+invariant-loop-gate l =
+    record { between : IsBetween l.users.slots.items (length l.fn.waiting.items) l.order.items l.waiting.items l.marks.items (is_ready l.ready); within : length l.fn.waiting.items ≤ room l.ready }
 
 abbrev pub decreases-loop-gate : goal.decreases-loop-gate
 decreases-loop-gate l = count_by not l.marks.items

@@ -10,5 +10,5 @@ pub push_in_order-requires-clause-once : goal.push_in_order-requires-clause-once
 push_in_order-requires-clause-once c =
     let l : Loose = c.args.self.now in
     let leaves : List ℕ = map variable l.inputs ++ map latch_variable l.latches in
-    let e : c.in_ok-numbers.numbers ++ map (name_in c.gates.result.now) c.args.order.now ≡ numbered l c.args.order.now = ap (λ (xs : List ℕ). xs ++ map (name_in c.gates.result.now) c.args.order.now) c.in_ok-numbers.ensures.numbers ∙ ap (λ (lines : List GateLine). leaves ++ map (name_in lines) c.args.order.now) c.gates.ensures.items in
+    let e : c.push_leaves.new.numbers ++ map (name_in c.gates.result.now) c.args.order.now ≡ numbered l c.args.order.now = ap (λ (xs : List ℕ). xs ++ map (name_in c.gates.result.now) c.args.order.now) c.in_ok-push_leaves.ensures.numbers ∙ ap (λ (lines : List GateLine). leaves ++ map (name_in lines) c.args.order.now) c.gates.ensures.items in
     subst IsOnce (sym e) c.requires.once

@@ -1,7 +1,7 @@
 use Rattle.std.proofs.Common.{rules, ◌≡◌, ◌/◌, ◌%◌, nat_eq, cond, Some, slice_set, length, replicate, ap, refl, ◌∙◌}
 use Rattle.std.specs.HashMap.{get}
 use Rattle.aiger.specs.VariablePages.{in_page}
-use Rattle.aiger.proofs.VariablePagesLemmas.{after_page, empty_page}
+use Rattle.aiger.proofs.VariablePagesLemmas.{after_page, zeros}
 use Rattle.aiger.proofs.variable_pages.VariablePages.set.Goals as goal
 
 pub returns-in-Some-clause-set : goal.returns-in-Some-clause-set
@@ -19,4 +19,4 @@ returns-in-Ok-clause-set c =
     let page = slice_set (replicate 16 0) (c.args.variable % 16) c.args.number in
     after_page (get nat_eq c.args.self.now.pages) (get nat_eq c.insert.new.self) (replicate 16 0) c.args.variable c.args.number
     (λ q. c.in-Ok.ensures.updates.0 q ∙ ap (λ m. cond (nat_eq (c.args.variable / 16) q) (Some page) (get nat_eq m q)) c.get_mut.follows.holds-at-none)
-    (λ i. empty_page i ∙ ap (λ p. in_page p i) c.in_default.ensures.value) refl
+    (λ i. zeros 16 i ∙ ap (λ p. in_page p i) c.in_default.ensures.value) refl
