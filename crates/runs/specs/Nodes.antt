@@ -9,6 +9,12 @@ use Rattle.btor2.specs.Trace.{bits_of}
 use Rattle.runs.specs.declared.nodes.Node.{Node}
 use Rattle.runs.specs.declared.nodes.Operator.{Operator}
 use Rattle.runs.specs.declared.nodes.Operator.TheVariants as operator
+use Rattle.runs.specs.declared.nodes.Single.{Single}
+use Rattle.runs.specs.declared.nodes.Single.TheVariants as single
+use Rattle.runs.specs.declared.nodes.Wider.{Wider}
+use Rattle.runs.specs.declared.nodes.Wider.TheVariants as wider
+use Rattle.runs.specs.declared.nodes.Pair.{Pair}
+use Rattle.runs.specs.declared.nodes.Pair.TheVariants as pair
 use Rattle.runs.specs.Frames.{has_value, rank}
 use Rattle.runs.specs.Run.{property_at}
 
@@ -22,12 +28,12 @@ property_slot items place = slot items (unwrap_or (property_at items place) 0)
 
 -- the operator of a line that has one
 abbrev pub operator_of : List Item → Body → Option Operator
-operator_of items (body.Uext s a by) = Some (operator.Uext (bits_of items a) (slot items a) by)
-operator_of items (body.Sext s a by) = Some (operator.Sext (bits_of items a) (slot items a) by)
-operator_of items (body.Slice s a u l) = Some (operator.Slice (bits_of items a) (slot items a) u l)
-operator_of items (body.Unary op s a) = Some (operator.Unary op (bits_of items a) (slot items a))
-operator_of items (body.Binary op s a b) = Some (operator.Binary op (bits_of items a) (slot items a) (slot items b))
-operator_of items (body.Concat s a b) = Some (operator.Concat (bits_of items a) (slot items a) (bits_of items b) (slot items b))
+operator_of items (body.Uext s a by) = Some (operator.Single (single.Wider (wider.Uext (bits_of items a) (slot items a) by)))
+operator_of items (body.Sext s a by) = Some (operator.Single (single.Wider (wider.Sext (bits_of items a) (slot items a) by)))
+operator_of items (body.Slice s a u l) = Some (operator.Single (single.Slice (bits_of items a) (slot items a) u l))
+operator_of items (body.Unary op s a) = Some (operator.Single (single.Unary op (bits_of items a) (slot items a)))
+operator_of items (body.Binary op s a b) = Some (operator.Pair (pair.Binary op (bits_of items a) (slot items a) (slot items b)))
+operator_of items (body.Concat s a b) = Some (operator.Pair (pair.Concat (bits_of items a) (slot items a) (bits_of items b) (slot items b)))
 operator_of items (body.Ite s c t e) = Some (operator.Ite (bits_of items t) (slot items c) (slot items t) (slot items e))
 operator_of items b = None
 
@@ -45,13 +51,22 @@ abbrev pub standing_word : List Item → Body → ℕ
 standing_word items b = unwrap_or (constant_of_body items b) 0
 
 -- the word that an operator gives from a list of now-values
+abbrev pub wider_value : Wider → List ℕ → ℕ
+wider_value (wider.Uext w a by) values = uext_value (slice_index values a)
+wider_value (wider.Sext w a by) values = sext_value w (slice_index values a) by
+
+abbrev pub single_value : Single → List ℕ → ℕ
+single_value (single.Unary op w a) values = unary_value op w (slice_index values a)
+single_value (single.Slice w a u l) values = slice_value (slice_index values a) u l
+single_value (single.Wider o) values = wider_value o values
+
+abbrev pub pair_value : Pair → List ℕ → ℕ
+pair_value (pair.Binary op w a b) values = binary_value op w (slice_index values a) (slice_index values b)
+pair_value (pair.Concat m a n b) values = concat_value (slice_index values a) n (slice_index values b)
+
 abbrev pub operator_value : Operator → List ℕ → ℕ
-operator_value (operator.Uext w a by) values = uext_value (slice_index values a)
-operator_value (operator.Sext w a by) values = sext_value w (slice_index values a) by
-operator_value (operator.Slice w a u l) values = slice_value (slice_index values a) u l
-operator_value (operator.Unary op w a) values = unary_value op w (slice_index values a)
-operator_value (operator.Binary op w a b) values = binary_value op w (slice_index values a) (slice_index values b)
-operator_value (operator.Concat m a n b) values = concat_value (slice_index values a) n (slice_index values b)
+operator_value (operator.Single o) values = single_value o values
+operator_value (operator.Pair o) values = pair_value o values
 operator_value (operator.Ite w c t e) values = ite_value (slice_index values c) (slice_index values t) (slice_index values e)
 
 -- a place of a list that has a word of so many bits
@@ -59,13 +74,22 @@ abbrev pub IsWordAt : List ℕ → ℕ → ℕ → Type 0
 IsWordAt values w a = (a < length values) × (slice_index values a < 2 ^ w)
 
 -- the operands of an operator are there, and fit
+abbrev pub WiderFits : Wider → List ℕ → Type 0
+WiderFits (wider.Uext w a by) values = IsWordAt values w a × (w + by ≤ 64)
+WiderFits (wider.Sext w a by) values = IsWordAt values w a × (w + by ≤ 64)
+
+abbrev pub SingleFits : Single → List ℕ → Type 0
+SingleFits (single.Unary op w a) values = IsWordAt values w a
+SingleFits (single.Slice w a u l) values = IsWordAt values w a × (l ≤ u) × (u < w)
+SingleFits (single.Wider o) values = WiderFits o values
+
+abbrev pub PairFits : Pair → List ℕ → Type 0
+PairFits (pair.Binary op w a b) values = IsWordAt values w a × IsWordAt values w b
+PairFits (pair.Concat m a n b) values = IsWordAt values m a × IsWordAt values n b × (m + n ≤ 64)
+
 abbrev pub OperatorFits : Operator → List ℕ → Type 0
-OperatorFits (operator.Uext w a by) values = IsWordAt values w a × (w + by ≤ 64)
-OperatorFits (operator.Sext w a by) values = IsWordAt values w a × (w + by ≤ 64)
-OperatorFits (operator.Slice w a u l) values = IsWordAt values w a × (l ≤ u) × (u < w)
-OperatorFits (operator.Unary op w a) values = IsWordAt values w a
-OperatorFits (operator.Binary op w a b) values = IsWordAt values w a × IsWordAt values w b
-OperatorFits (operator.Concat m a n b) values = IsWordAt values m a × IsWordAt values n b × (m + n ≤ 64)
+OperatorFits (operator.Single o) values = SingleFits o values
+OperatorFits (operator.Pair o) values = PairFits o values
 OperatorFits (operator.Ite w c t e) values = IsWordAt values 1 c × IsWordAt values w t × IsWordAt values w e
 
 -- the now-values after some nodes have given their words, one after another

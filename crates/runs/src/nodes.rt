@@ -4,25 +4,37 @@ ghost use Rattle.base.specs.Steps.{one_more};
 ghost use Rattle.btor2.specs.Items.{node_width};
 ghost use Rattle.btor2.specs.Check.{IsWellFormed};
 ghost use Rattle.btor2.specs.Trace.{bits_of};
-ghost use Rattle.runs.specs.Nodes.{slot, operator_of, operator_value, OperatorFits};
+ghost use Rattle.runs.specs.Nodes.{slot, operator_of, operator_value, OperatorFits, single_value, SingleFits, wider_value, WiderFits, pair_value, PairFits};
 
 use base::{Binary, Tally, Unary, Width};
 use btor2::{Body, Item, Model};
 
 /// An operator: its operands are places in the list of now-values, `width` is that of its operands.
+///
+/// It is told from others by few tests, each of two or three cases, which a processor foresees better than a jump.
 #[derive(Clone, Copy, Drop)]
 pub(crate) enum Operator {
-    /// An operand before which stand `by` zeros.
-    Uext {
+    /// One of one operand.
+    Single(Single),
+    /// One of two operands.
+    Pair(Pair),
+    /// `first` where the condition is 1, else `second`.
+    Ite {
         width: Width,
-        operand: usize,
-        by: u64,
+        condition: usize,
+        first: usize,
+        second: usize,
     },
-    /// An operand before which its sign stands `by` times.
-    Sext {
+}
+
+/// An operator of one operand.
+#[derive(Clone, Copy, Drop)]
+pub(crate) enum Single {
+    /// One that takes nothing else.
+    Unary {
+        operator: Unary,
         width: Width,
         operand: usize,
-        by: u64,
     },
     /// The bits `upper` down to `lower` of an operand.
     Slice {
@@ -31,13 +43,31 @@ pub(crate) enum Operator {
         upper: u64,
         lower: u64,
     },
-    /// An operator of one operand.
-    Unary {
-        operator: Unary,
+    /// An extension.
+    Wider(Wider),
+}
+
+/// An extension of an operand.
+#[derive(Clone, Copy, Drop)]
+pub(crate) enum Wider {
+    /// `by` zeros stand before it.
+    Uext {
         width: Width,
         operand: usize,
+        by: u64,
     },
-    /// An operator of two operands.
+    /// Its sign stands `by` times before it.
+    Sext {
+        width: Width,
+        operand: usize,
+        by: u64,
+    },
+}
+
+/// An operator of two operands.
+#[derive(Clone, Copy, Drop)]
+pub(crate) enum Pair {
+    /// One of operands of the same width.
     Binary {
         operator: Binary,
         width: Width,
@@ -50,13 +80,6 @@ pub(crate) enum Operator {
         high: usize,
         low_width: Width,
         low: usize,
-    },
-    /// `first` where the condition is 1, else `second`.
-    Ite {
-        width: Width,
-        condition: usize,
-        first: usize,
-        second: usize,
     },
 }
 
@@ -75,37 +98,52 @@ fn word_at(values: &[u64], place: usize) -> u64
     values[place]
 }
 
-/// The word that an operator gives from the now-values. One step.
-pub(crate) fn operator_word(operator: &Operator, values: &[u64], tally: &mut Tally) -> u64
-    requires { OperatorFits operator.now values.now }
-    ensures value { result ≡ operator_value operator.now values.now }
+/// The word that an extension gives from the now-values. One step.
+fn wider_word(operator: Wider, values: &[u64], tally: &mut Tally) -> u64
+    requires { WiderFits operator values.now }
+    ensures value { result ≡ wider_value operator values.now }
     ensures step { tally.new ≡ one_more tally.old }
 {
-    match *operator {
-        Operator::Uext { width, operand, by } => base::uext(
+    match operator {
+        Wider::Uext { width, operand, by } => {
+            base::uext(width, word_at(values, operand), by, tally)
+        }
+        Wider::Sext { width, operand, by } => {
+            base::sext(width, word_at(values, operand), by, tally)
+        }
+    }
+}
+
+/// The word that an operator of one operand gives from the now-values. One step.
+fn single_word(operator: Single, values: &[u64], tally: &mut Tally) -> u64
+    requires { SingleFits operator values.now }
+    ensures value { result ≡ single_value operator values.now }
+    ensures step { tally.new ≡ one_more tally.old }
+{
+    match operator {
+        Single::Unary {
+            operator,
             width,
-            word_at(values, operand),
-            by,
-            tally,
-        ),
-        Operator::Sext { width, operand, by } => base::sext(
-            width,
-            word_at(values, operand),
-            by,
-            tally,
-        ),
-        Operator::Slice {
+            operand,
+        } => base::unary(operator, width, word_at(values, operand), tally),
+        Single::Slice {
             width,
             operand,
             upper,
             lower,
         } => base::slice(width, word_at(values, operand), upper, lower, tally),
-        Operator::Unary {
-            operator,
-            width,
-            operand,
-        } => base::unary(operator, width, word_at(values, operand), tally),
-        Operator::Binary {
+        Single::Wider(wider) => wider_word(wider, values, tally),
+    }
+}
+
+/// The word that an operator of two operands gives from the now-values. One step.
+fn pair_word(operator: Pair, values: &[u64], tally: &mut Tally) -> u64
+    requires { PairFits operator values.now }
+    ensures value { result ≡ pair_value operator values.now }
+    ensures step { tally.new ≡ one_more tally.old }
+{
+    match operator {
+        Pair::Binary {
             operator,
             width,
             left,
@@ -117,7 +155,7 @@ pub(crate) fn operator_word(operator: &Operator, values: &[u64], tally: &mut Tal
             word_at(values, right),
             tally,
         ),
-        Operator::Concat {
+        Pair::Concat {
             high_width,
             high,
             low_width,
@@ -129,6 +167,18 @@ pub(crate) fn operator_word(operator: &Operator, values: &[u64], tally: &mut Tal
             word_at(values, low),
             tally,
         ),
+    }
+}
+
+/// The word that an operator gives from the now-values. One step.
+pub(crate) fn operator_word(operator: &Operator, values: &[u64], tally: &mut Tally) -> u64
+    requires { OperatorFits operator.now values.now }
+    ensures value { result ≡ operator_value operator.now values.now }
+    ensures step { tally.new ≡ one_more tally.old }
+{
+    match *operator {
+        Operator::Single(single) => single_word(single, values, tally),
+        Operator::Pair(pair) => pair_word(pair, values, tally),
         Operator::Ite {
             width,
             condition,
@@ -181,11 +231,11 @@ pub(crate) fn operator_of(
             ..
         } => {
             let (width, operand) = operand(model, slots, *id);
-            Some(Operator::Uext {
+            Some(Operator::Single(Single::Wider(Wider::Uext {
                 width,
                 operand,
                 by: *by,
-            })
+            })))
         }
         Body::Sext {
             operand: id,
@@ -193,11 +243,11 @@ pub(crate) fn operator_of(
             ..
         } => {
             let (width, operand) = operand(model, slots, *id);
-            Some(Operator::Sext {
+            Some(Operator::Single(Single::Wider(Wider::Sext {
                 width,
                 operand,
                 by: *by,
-            })
+            })))
         }
         Body::Slice {
             operand: id,
@@ -206,12 +256,12 @@ pub(crate) fn operator_of(
             ..
         } => {
             let (width, operand) = operand(model, slots, *id);
-            Some(Operator::Slice {
+            Some(Operator::Single(Single::Slice {
                 width,
                 operand,
                 upper: *upper,
                 lower: *lower,
-            })
+            }))
         }
         Body::Unary {
             operator,
@@ -219,11 +269,11 @@ pub(crate) fn operator_of(
             ..
         } => {
             let (width, operand) = operand(model, slots, *id);
-            Some(Operator::Unary {
+            Some(Operator::Single(Single::Unary {
                 operator: *operator,
                 width,
                 operand,
-            })
+            }))
         }
         Body::Binary {
             operator,
@@ -233,22 +283,22 @@ pub(crate) fn operator_of(
         } => {
             let (width, left) = operand(model, slots, *left);
             let (_, right) = operand(model, slots, *right);
-            Some(Operator::Binary {
+            Some(Operator::Pair(Pair::Binary {
                 operator: *operator,
                 width,
                 left,
                 right,
-            })
+            }))
         }
         Body::Concat { high, low, .. } => {
             let (high_width, high) = operand(model, slots, *high);
             let (low_width, low) = operand(model, slots, *low);
-            Some(Operator::Concat {
+            Some(Operator::Pair(Pair::Concat {
                 high_width,
                 high,
                 low_width,
                 low,
-            })
+            }))
         }
         Body::Ite {
             condition,
