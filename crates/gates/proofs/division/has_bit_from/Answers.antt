@@ -1,4 +1,4 @@
-use Rattle.std.proofs.Common.{◌≡◌, ℕ, ◌+◌, ◌-◌, ◌∷◌, List, [], length, drop, get_or, sym, ap₂, ◌∙◌, arith, rules, ap}
+use Rattle.std.proofs.Common.{◌≡◌, ℕ, ◌+◌, ◌-◌, ◌∷◌, [], length, drop, get_or, sym, ap₂, ◌∙◌, arith, rules, ap}
 use Rattle.std.proofs.lemmas.List.{drop_more, drop_all}
 use Rattle.gates.specs.Made.{Refuses}
 use Rattle.gates.proofs.LaterLemmas.{IsDefined-of_word}
