@@ -17,4 +17,6 @@ mod operator_tables;
 mod refused_memory;
 pub mod samples;
 #[cfg(test)]
+mod sizes;
+#[cfg(test)]
 mod sources_and_sinks;

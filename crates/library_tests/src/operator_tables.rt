@@ -89,7 +89,7 @@ const INPUTS: u32 = 192;
 /// The literals of so many inputs behind the first ones.
 pub(crate) fn inputs(before: u32, width: u32) -> Bits
     requires before { before ≤ 128 }
-    requires width { width ≤ 64 }
+    requires width { width ≤ 128 }
     ensures wide { length result.items ≡ width }
     ensures defined { All (λ l. l < 2 * (before + width + 1)) result.items }
 {
