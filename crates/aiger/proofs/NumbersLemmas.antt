@@ -34,7 +34,7 @@ place_missed p xs e = by (nat_lt (position_or_len p xs) (length xs)) refl e
     by false t e = let h : length xs ≤ position_or_len p xs = grind (arith, nat_tests) in omega (arith, h, place-le p xs)
 
 -- what stands nowhere has the place behind all
-not_found : (v : ℕ) (names : List ℕ) → list_any (nat_eq v) names ≡ false → position_or_len (nat_eq v) names ≡ length names
+pub not_found : (v : ℕ) (names : List ℕ) → list_any (nat_eq v) names ≡ false → position_or_len (nat_eq v) names ≡ length names
 not_found v [] none = refl
 not_found v (x ∷ names) none =
     let here : nat_eq v x ≡ false = grind (arith, nat_tests) in

@@ -1,5 +1,5 @@
 -- The first line of a list of lines that is joined from parts.
-use Rattle.std.proofs.Common.{◌≡◌, ℕ, suc, ◌+◌, ◌≤◌, Bool, true, false, not, ◌&&◌, List, [], ◌∷◌, ◌++◌, map, length, Option, Some, None, nat_lt, cond, refl, ap, sym, ◌∙◌, arith, length-append}
+use Rattle.std.proofs.Common.{◌≡◌, ℕ, suc, ◌+◌, ◌-◌, ◌<◌, ◌≤◌, ◌==◌, ◌||◌, if◌then◌else◌, nat_eq, Bool, true, false, not, ◌&&◌, List, [], ◌∷◌, ◌++◌, map, length, Option, Some, None, nat_lt, cond, refl, ap, sym, ◌∙◌, arith, length-append, append-nil}
 use Rattle.std.proofs.lemmas.Bool.Decides.{nat_tests}
 use Rattle.std.proofs.lemmas.List.Sums.{sum_by-cons}
 use Rattle.aiger.specs.Limits.{greatest_count}
@@ -8,9 +8,12 @@ use Rattle.std.specs.List.{list_any, position, position_or_len, concat, sum_by}
 use Rattle.std.proofs.lemmas.Bool.{or_parts}
 use Rattle.aiger.specs.declared.loose.GateLine.{GateLine}
 use Rattle.aiger.specs.declared.loose.LatchLine.{LatchLine}
-use Rattle.aiger.specs.Loose.{Loose, IsLoose}
-use Rattle.aiger.specs.Renumbering.{alone, is_known, used_lines}
-use Rattle.aiger.specs.Numbering.{is_unknown}
+use Rattle.aiger.specs.Literal.{variable}
+use Rattle.aiger.specs.Loose.{Loose, IsLoose, defined_variables, is_defined}
+use Rattle.aiger.specs.Renumbering.{alone, is_known, first_undefined}
+use Rattle.aiger.specs.Numbering.{WaitForEarlier, is_unknown, line_in, lines_with, slot_of}
+use Rattle.aiger.proofs.NumbersLemmas.{not_found}
+use Rattle.aiger.proofs.PlacesLemmas.{length_defined}
 
 -- the first place where the first one passes, and where it does not
 place_yes : {X : Type 0} (p : X → Bool) (x : X) (xs : List X) → p x ≡ true → position p (x ∷ xs) ≡ Some 0
@@ -113,7 +116,45 @@ pub few_justice : (l : Loose) → IsLoose l → length (concat l.justice) ≤ gr
 few_justice l valid = omega (arith, length_concat l.justice, valid.few.justice_literals)
 
 -- the lines that use literals, from the lists
-pub are_used_lines : (l : Loose) (nexts : List LatchLine) (outputs bads constraints justice fair : List ℕ) (gates : List GateLine)
-    → nexts ≡ l.latches → outputs ≡ l.outputs → bads ≡ l.bads → constraints ≡ l.constraints → justice ≡ concat l.justice → fair ≡ l.fair → gates ≡ l.gates
-    → map (λ line. line.next ∷ []) nexts ++ map alone outputs ++ map alone bads ++ map alone constraints ++ map alone justice ++ map alone fair ++ map (λ line. line.rhs0 ∷ line.rhs1 ∷ []) gates ≡ used_lines l
-are_used_lines l nexts outputs bads constraints justice fair gates a b c d e f g = rw (a, b, c, d, e, f, g) refl
+pub are_used_lines : (l : Loose) (nexts : List LatchLine) (outputs bads constraints justice fair : List ℕ) (gates now : List GateLine)
+    → nexts ≡ l.latches → outputs ≡ l.outputs → bads ≡ l.bads → constraints ≡ l.constraints → justice ≡ concat l.justice → fair ≡ l.fair → gates ≡ now
+    → map (λ line. line.next ∷ []) nexts ++ map alone outputs ++ map alone bads ++ map alone constraints ++ map alone justice ++ map alone fair ++ map (λ line. line.rhs0 ∷ line.rhs1 ∷ []) gates ≡ lines_with l now
+are_used_lines l nexts outputs bads constraints justice fair gates now a b c d e f g = rw (a, b, c, d, e, f, g) refl
+
+-- ---- with no gates
+
+abbrev lines_before : Loose → List (List ℕ)
+lines_before l = map (λ line. line.next ∷ []) l.latches ++ map alone l.outputs ++ map alone l.bads ++ map alone l.constraints ++ map alone (concat l.justice) ++ map alone l.fair
+
+-- a line that is undefined before the gates is the first of all
+pub undefined_in_front : (l : Loose) (k : ℕ) → position (is_unknown l) (lines_with l []) ≡ Some k → first_undefined l ≡ Some k
+undefined_in_front l k e = place_in_front (is_unknown l) (lines_before l) (map (λ line. line.rhs0 ∷ line.rhs1 ∷ []) l.gates) k (ap (position (is_unknown l)) (sym (append-nil (lines_before l))) ∙ e)
+
+-- an operand that waits for a gate of the file, or for none, is known
+known_by_slot : (l : Loose) (lit : ℕ) → slot_of (defined_variables l) (length l.inputs + length l.latches) lit ≤ length l.gates → is_known l lit ≡ true
+known_by_slot l lit low = by (variable lit == 0) (list_any (nat_eq (variable lit)) (defined_variables l)) refl refl
+  where
+    by : (a b : Bool) → (variable lit == 0) ≡ a → list_any (nat_eq (variable lit)) (defined_variables l) ≡ b → is_known l lit ≡ true
+    by true b e f = ap (λ (t : Bool). t || is_defined l (variable lit)) e
+    by false true e f = ap (λ (t : Bool). t || is_defined l (variable lit)) e ∙ f
+    by false false e f =
+        let slot : slot_of (defined_variables l) (length l.inputs + length l.latches) lit ≡ suc (position_or_len (nat_eq (variable lit)) (defined_variables l)) - (length l.inputs + length l.latches) =
+        ap (λ (t : Bool). if t then 0 else suc (position_or_len (nat_eq (variable lit)) (defined_variables l)) - (length l.inputs + length l.latches)) e in
+        absurd (omega (arith, low, slot, not_found (variable lit) (defined_variables l) f, length_defined l))
+
+-- where gates wait for earlier ones, all that they use is known
+pub known_in_order : (l : Loose) → position (is_unknown l) (lines_with l []) ≡ None → WaitForEarlier (defined_variables l) (length l.inputs + length l.latches) l.gates → first_undefined l ≡ None
+known_in_order l e wait =
+    place_behind (is_unknown l) (lines_before l) (map (λ line. line.rhs0 ∷ line.rhs1 ∷ []) l.gates) (ap (position (is_unknown l)) (sym (append-nil (lines_before l))) ∙ e)
+    ∙ ap (option_map (λ k. length (lines_before l) + k)) (none_passes (is_unknown l) (map (λ line. line.rhs0 ∷ line.rhs1 ∷ []) l.gates) (none l.gates (λ j h. j_known j h)))
+  where
+    none : (lines : List GateLine) → ((j : ℕ) → j < length lines → (is_known l (line_in lines j).rhs0 ≡ true) × (is_known l (line_in lines j).rhs1 ≡ true)) → list_any (is_unknown l) (map (λ line. line.rhs0 ∷ line.rhs1 ∷ []) lines) ≡ false
+    none [] h = refl
+    none (x ∷ lines) h =
+        let a = h 0 (omega arith) in
+        let rest : list_any (is_unknown l) (map (λ line. line.rhs0 ∷ line.rhs1 ∷ []) lines) ≡ false = none lines (λ j low. h (suc j) (omega (arith, low))) in
+        let here : is_unknown l (x.rhs0 ∷ x.rhs1 ∷ []) ≡ false = ap (λ (t : Bool). not (t && (is_known l x.rhs1 && true))) a.0 ∙ ap (λ (t : Bool). not (t && true)) a.1 in
+        ap (λ (t : Bool). t || list_any (is_unknown l) (map (λ line. line.rhs0 ∷ line.rhs1 ∷ []) lines)) here ∙ rest
+
+    j_known : (j : ℕ) → j < length l.gates → (is_known l (line_in l.gates j).rhs0 ≡ true) × (is_known l (line_in l.gates j).rhs1 ≡ true)
+    j_known j h = let w = wait j h in (known_by_slot l (line_in l.gates j).rhs0 (omega (arith, w.0, h)), known_by_slot l (line_in l.gates j).rhs1 (omega (arith, w.1, h)))

@@ -31,27 +31,52 @@ impl Loose {
     pub fn number(&self, alloc: Global) -> Result<Circuit, LooseFault>
         ensures { AnswersNumber self.now result }
     {
-        match self.undefined_line() {
-            Some(line) => Err(LooseFault::Undefined(line)),
-            None => self.number_known(alloc),
+        match self.places(alloc) {
+            Ok(places) => self.number_by_places(alloc, places),
+            Err(_) => self.number_without_memory(),
         }
     }
 
-    /// The circuit that the lists are where each variable that they use is defined. Gates that stand behind their
-    /// operands are ready as they stand.
-    fn number_known(&self, alloc: Global) -> Result<Circuit, LooseFault>
-        requires { first_undefined self.now ≡ None }
+    /// What there is to say where memory is wanting: that is told only where each variable is defined.
+    fn number_without_memory(&self) -> Result<Circuit, LooseFault>
         ensures { AnswersNumber self.now result }
     {
-        let places = self.places(alloc)?;
+        match self.undefined_line() {
+            Some(line) => Err(LooseFault::Undefined(line)),
+            None => Err(LooseFault::NoMemory),
+        }
+    }
+
+    /// The circuit that the lists are, by the places of the defined variables. Gates that stand behind their operands are
+    /// ready as they stand, and use no variable that is not defined.
+    fn number_by_places(&self, alloc: Global, places: Numbers) -> Result<Circuit, LooseFault>
+        requires { places ≡ defined_variables self.now }
+        ensures { AnswersNumber self.now result }
+    {
         if places.are_in_order(self.leaf_count(), self.gates()) {
             return self.number_in_order(alloc, &places);
         }
-        self.number_by_readiness(alloc, places)
+        match self.undefined_line() {
+            Some(line) => Err(LooseFault::Undefined(line)),
+            None => self.number_by_readiness(alloc, places),
+        }
     }
 
-    /// The circuit of lists whose gates stand behind their operands.
+    /// The circuit that lists whose gates stand behind their operands are.
     fn number_in_order(&self, alloc: Global, places: &Numbers) -> Result<Circuit, LooseFault>
+        requires places { places.now ≡ defined_variables self.now }
+        requires in_order { WaitForEarlier (defined_variables self.now) (length self.now.inputs + length self.now.latches) self.now.gates }
+        requires valid { IsLoose self.now }
+        ensures { AnswersNumber self.now result }
+    {
+        match self.undefined_with(&[]) {
+            Some(line) => Err(LooseFault::Undefined(line)),
+            None => self.number_as_it_stands(alloc, places),
+        }
+    }
+
+    /// The circuit of lists whose gates stand behind their operands, where each variable is defined.
+    fn number_as_it_stands(&self, alloc: Global, places: &Numbers) -> Result<Circuit, LooseFault>
         requires known { first_undefined self.now ≡ None }
         requires places { places.now ≡ defined_variables self.now }
         requires in_order { WaitForEarlier (defined_variables self.now) (length self.now.inputs + length self.now.latches) self.now.gates }

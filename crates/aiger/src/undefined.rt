@@ -2,8 +2,9 @@
 ghost use Rattle.std.specs.Prelude.{◌≡◌, ℕ, ◌+◌, ◌≤◌, List, [], ◌∷◌, ◌++◌, map, not, length, ◌&&◌, IfSome};
 ghost use Rattle.std.specs.List.{position};
 ghost use Rattle.std.specs.Option.{option_map};
+ghost use Rattle.aiger.specs.Limits.{greatest_count};
 ghost use Rattle.aiger.specs.Renumbering.{alone, is_known, first_undefined};
-ghost use Rattle.aiger.specs.Numbering.{is_unknown};
+ghost use Rattle.aiger.specs.Numbering.{is_unknown, lines_with};
 
 use crate::literal::Lit;
 use crate::loose::{GateLine, LatchLine, Loose};
@@ -14,6 +15,14 @@ impl Loose {
     /// counted, in this order and from 0. It takes no memory.
     pub(crate) fn undefined_line(&self) -> Option<usize>
         ensures { result ≡ first_undefined self.now }
+    {
+        self.undefined_with(self.gates())
+    }
+
+    /// The first such line where these gates stand for all.
+    pub(crate) fn undefined_with(&self, gates: &[GateLine]) -> Option<usize>
+        requires { length gates.now ≤ greatest_count }
+        ensures { result ≡ position (is_unknown self.now) (lines_with self.now gates.now) }
     {
         let unknown = self.unknown_next(self.latches());
         let count = self.latches().len();
@@ -27,7 +36,7 @@ impl Loose {
         let count = count + self.justice_literals().len();
         let unknown = self.or_unknown(unknown, count, self.fair());
         let count = count + self.fair().len();
-        self.or_unknown_gate(unknown, count, self.gates())
+        self.or_unknown_gate(unknown, count, gates)
     }
 
     /// The unknown line that was found, or else the first of these literals that is unknown, behind

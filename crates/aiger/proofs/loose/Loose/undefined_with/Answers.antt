@@ -1,4 +1,4 @@
-use Rattle.std.proofs.Common.{◌≡◌, ℕ, ◌+◌, List, [], ◌∷◌, ◌++◌, map, length, ap, ◌∙◌, arith, length-append}
+use Rattle.std.proofs.Common.{refl, ◌≡◌, ℕ, ◌+◌, List, [], ◌∷◌, ◌++◌, map, length, ap, ◌∙◌, arith, length-append}
 use Rattle.std.proofs.lemmas.List.{length-map}
 use Rattle.std.specs.List.{position}
 use Rattle.aiger.specs.Loose.{Loose, IsLoose}
@@ -6,7 +6,7 @@ use Rattle.aiger.specs.declared.loose.LatchLine.{LatchLine}
 use Rattle.aiger.specs.Renumbering.{alone}
 use Rattle.aiger.specs.Numbering.{is_unknown}
 use Rattle.aiger.proofs.UndefinedLemmas.{unknown_nexts, few_justice, are_used_lines}
-use Rattle.aiger.proofs.loose.Loose.undefined_line.Goals as goal
+use Rattle.aiger.proofs.loose.Loose.undefined_with.Goals as goal
 
 pub or_unknown-unknown-requires-4 : goal.or_unknown-unknown-requires-4
 or_unknown-unknown-requires-4 c =
@@ -21,7 +21,7 @@ or_unknown-unknown-requires-5 c =
 pub or_unknown_gate-requires : goal.or_unknown_gate-requires
 or_unknown_gate-requires c =
     let valid : IsLoose c.args.self.now = c.latches-count.ensures.valid in
-    omega (arith, ap length c.latches-count.ensures.items, ap length c.outputs-2.ensures.items, ap length c.bads-2.ensures.items, ap length c.constraints-2.ensures.items, ap length c.justice_literals-2.ensures.items, ap length c.fair-2.ensures.items, ap length c.gates.ensures.items, few_justice c.args.self.now valid, valid.few.defined, valid.few.outputs, valid.few.bads, valid.few.constraints, valid.few.fair)
+    omega (arith, ap length c.latches-count.ensures.items, ap length c.outputs-2.ensures.items, ap length c.bads-2.ensures.items, ap length c.constraints-2.ensures.items, ap length c.justice_literals-2.ensures.items, ap length c.fair-2.ensures.items, few_justice c.args.self.now valid, valid.few.defined, valid.few.outputs, valid.few.bads, valid.few.constraints, valid.few.fair)
 
 pub returns : goal.returns
 returns c =
@@ -45,4 +45,4 @@ returns c =
     let n5 : length c.latches-count.result.now + length c.outputs-2.result.now + length c.bads-2.result.now + length c.constraints-2.result.now + length c.justice_literals-2.result.now + length c.fair-2.result.now ≡ length g = omega (arith, n4, length-append f (map alone c.fair.result.now), length-map c.fair.result.now alone, ap length c.fair.ensures.items, ap length c.fair-2.ensures.items) in
     let r5 = c.or_unknown-unknown-5.ensures f r4 n4 in
     let r6 = c.or_unknown_gate.ensures g r5 n5 in
-    r6 ∙ ap (position (is_unknown l)) (are_used_lines l c.latches.result.now c.outputs.result.now c.bads.result.now c.constraints.result.now c.justice_literals.result.now c.fair.result.now c.gates.result.now c.latches.ensures.items c.outputs.ensures.items c.bads.ensures.items c.constraints.ensures.items c.justice_literals.ensures.items c.fair.ensures.items c.gates.ensures.items)
+    r6 ∙ ap (position (is_unknown l)) (are_used_lines l c.latches.result.now c.outputs.result.now c.bads.result.now c.constraints.result.now c.justice_literals.result.now c.fair.result.now c.args.gates.now c.args.gates.now c.latches.ensures.items c.outputs.ensures.items c.bads.ensures.items c.constraints.ensures.items c.justice_literals.ensures.items c.fair.ensures.items refl)
