@@ -14,9 +14,9 @@ use Rattle.witness.specs.WordReadings.{Reading, nothing_admitted, one_more_line,
 use Rattle.witness.proofs.PieceLemmas.{decimal_without}
 use Rattle.witness.proofs.ClaimLemmas.{claims_at-claims_line}
 use Rattle.witness.proofs.ReadLemmas.{IsSmall, admit_all, admitted, parts_of, at_claims, at_parts, in_states, in_free, in_frame, at_end, status_line, line_of_claims, frames_begin, states_end, free_end, last_line}
-use Rattle.witness.proofs.SaidLemmas.{before_frames, Told, ToldComments, ToldStatus, ToldClaims, ToldStates, ToldFree, ToldFrame, ToldAll}
-use Rattle.witness.proofs.ToldLemmas.{told_lines, lines_were_read, read_says}
-use Rattle.witness.proofs.WholeLemmas.{all_read, admit_parts, frames_have_lines, lines_are_read, says_read}
+use Rattle.witness.proofs.AdmittedLineLemmas.{before_frames, Told, ToldComments, ToldStatus, ToldClaims, ToldStates, ToldFree, ToldFrame, ToldAll}
+use Rattle.witness.proofs.ReadTextLemmas.{told_lines, lines_were_read, read_says}
+use Rattle.witness.proofs.WitnessTextLemmas.{all_read, admit_parts, frames_have_lines, lines_are_read, says_read}
 use Rattle.witness.proofs.WordReadingLemmas.{so_far, stays, lines_append}
 
 -- ---- the lines that end a witness

@@ -16,7 +16,7 @@ use Rattle.runs.proofs.RankLemmas.{nth, length-places}
 use Rattle.runs.proofs.PlaceLemmas.{map_read}
 use Rattle.runs.proofs.StateLemmas.{nth-get}
 use Rattle.witness.specs.Judgements.{nodes_of, differs, first_different}
-use Rattle.witness.proofs.GivenLemmas.{SameAt}
+use Rattle.witness.proofs.GivenWordLemmas.{SameAt}
 
 -- ---- frames from words that agree
 

@@ -5,10 +5,10 @@ pub mod PieceLemmas
 pub mod ClaimLemmas
 pub mod AssignmentLemmas
 pub mod ReadLemmas
-pub mod WholeLemmas
-pub mod SaidLemmas
-pub mod ToldLemmas
-pub mod GivenLemmas
+pub mod WitnessTextLemmas
+pub mod AdmittedLineLemmas
+pub mod ReadTextLemmas
+pub mod GivenWordLemmas
 pub mod FrameLemmas
 pub mod VerdictLemmas
 pub mod FitLemmas
@@ -36,7 +36,7 @@ pub mod KeptLineLemmas
 pub mod WordReadingLemmas
 pub mod BeginningLemmas
 pub mod BitBeginningLemmas
-pub mod WordGivenLemmas
+pub mod WordPartLemmas
 pub mod WordReaderLemmas
 pub mod WordJudgeLemmas
 pub mod WordFinishLemmas

@@ -20,7 +20,7 @@ use Rattle.runs.proofs.StateLemmas.{nth-get, init_at}
 use Rattle.witness.specs.Texts.{shape_of}
 use Rattle.witness.specs.Fits.{is_set, FirstFits, StandsAt, RisesAmong, NoneIsSet, words_put}
 use Rattle.witness.specs.Judgements.{FrameWords, nodes_of, differs, given_to, initial_words, given_words, given_frames, Words, never_rises, unreached_from}
-use Rattle.witness.proofs.GivenLemmas.{put_given, named_state, inputs_given}
+use Rattle.witness.proofs.GivenWordLemmas.{put_given, named_state, inputs_given}
 use Rattle.witness.proofs.FrameLemmas.{frame_agrees, trace_length, first_step, constraint_names, length-nodes, property_at}
 use Rattle.btor2.proofs.LookUps.{init_some, init_none}
 

@@ -17,7 +17,7 @@ use Rattle.witness.specs.Texts.{Shape, shape_of}
 use Rattle.witness.specs.Fits.{is_set, PartFits, FirstFits, LaterFits, FramesFit, StandsAt, words_put, RisesIn, RisesAmong, NoneIsSet}
 use Rattle.witness.specs.Judgements.{FrameWords, Violation, violated_at, violation_from, never_rises, nodes_of, first_different, first_violated, given_to, initial_words, given_words}
 use Rattle.witness.specs.WordPlays.{WordPlay, frame_steps, steps_of, frames_alone, carried_behind, Fresh, Traced, TracedBy, Plays, nothing_given}
-use Rattle.witness.proofs.GivenLemmas.{put_given, words_of_kind, state_there, states_given, first_stands, next_stands}
+use Rattle.witness.proofs.GivenWordLemmas.{put_given, words_of_kind, state_there, states_given, first_stands, next_stands}
 use Rattle.witness.proofs.FrameLemmas.{different_of}
 use Rattle.witness.proofs.VerdictLemmas.{settled_now}
 

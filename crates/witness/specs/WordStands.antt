@@ -6,8 +6,8 @@ use Rattle.btor2.specs.Items.{is_input}
 use Rattle.witness.specs.declared.why.Why.{Why}
 use Rattle.witness.specs.declared.judgement.Judgement.{Judgement}
 use Rattle.witness.specs.declared.judgement.Judgement.TheVariants as judgement
-use Rattle.witness.specs.declared.place.Place.{Place as CodePlace}
-use Rattle.witness.specs.declared.place.Place.TheVariants as code
+use Rattle.witness.specs.declared.word_place.Place.{Place as CodePlace}
+use Rattle.witness.specs.declared.word_place.Place.TheVariants as code
 use Rattle.witness.specs.declared.word_claims.ClaimScan.{ClaimScan}
 use Rattle.witness.specs.Texts.{widths_of, has_free, shape_of}
 use Rattle.witness.specs.Admits.{Place, AtStatus, AtClaims, AtParts, InStates, InFree, InFrame, AtEnd, Read, admit}

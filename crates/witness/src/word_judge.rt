@@ -17,10 +17,10 @@ ghost use Rattle.witness.specs.WordStands.{IsOfLines, StandsFor, JudgesLine, Tak
 use crate::judgement::Judgement;
 use crate::kept_line::KeptLine;
 use crate::last_line::{are_most, last_refusal};
-use crate::place::Place;
 use crate::verdicts::either;
 use crate::why::Why;
 use crate::word_line::is_word;
+use crate::word_place::Place;
 use crate::word_play::WordPlay;
 use crate::word_reader::WordReader;
 use base::next_line;

@@ -10,18 +10,18 @@ ghost use Rattle.witness.specs.Admits.{Read, nothing_read, opens_states, names_f
 ghost use Rattle.base.specs.Decimals.{number_of};
 ghost use Rattle.witness.specs.Judgements.{nodes_of, unreached_from};
 ghost use Rattle.witness.specs.Fits.{NoneIsSet, RisesAmong, AreClaimed};
-ghost use Rattle.witness.specs.declared.place.Place.TheVariants as place;
+ghost use Rattle.witness.specs.declared.word_place.Place.TheVariants as place;
 ghost use Rattle.witness.specs.KeptLines.{AreAlike};
 ghost use Rattle.witness.specs.WordStands.{Reads, GivesLine, TakesLine, NoPlainLine, is_alone, place_of};
 ghost use Rattle.witness.specs.PlainLines.{NoFrameLine};
 
-use crate::place::Place;
 use crate::plain_line::behind_frame_line;
 use crate::verdicts::first_unreached;
 use crate::why::Why;
 use crate::word_claims::ClaimScan;
 use crate::word_fields::index_of;
 use crate::word_line::{begins_part, is_comment, is_numbered, is_word};
+use crate::word_place::Place;
 use crate::word_play::{WordPlay, no_flags};
 use btor2::Model;
 use runs::NewFault;

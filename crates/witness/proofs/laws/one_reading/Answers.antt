@@ -1,6 +1,6 @@
 use Rattle.witness.specs.Texts.{shape_of}
 use Rattle.witness.proofs.FitLemmas.{shape_is_small}
-use Rattle.witness.proofs.ToldLemmas.{says_one}
+use Rattle.witness.proofs.ReadTextLemmas.{says_one}
 use Rattle.witness.proofs.laws.one_reading.Goals as goal
 
 pub returns : goal.returns

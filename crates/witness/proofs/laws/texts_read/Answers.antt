@@ -1,8 +1,8 @@
 use Rattle.std.proofs.Common.{refl}
 use Rattle.witness.specs.Texts.{shape_of}
 use Rattle.witness.proofs.FitLemmas.{shape_is_small}
-use Rattle.witness.proofs.WholeLemmas.{all_read, says_read}
-use Rattle.witness.proofs.ToldLemmas.{read_says}
+use Rattle.witness.proofs.WitnessTextLemmas.{all_read, says_read}
+use Rattle.witness.proofs.ReadTextLemmas.{read_says}
 use Rattle.witness.proofs.laws.texts_read.Goals as goal
 
 pub returns-clause-read : goal.returns-clause-read

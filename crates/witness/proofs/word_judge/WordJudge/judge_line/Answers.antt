@@ -1,6 +1,6 @@
 use Rattle.std.proofs.Common.{◌≡◌, Bool, ◌||◌, ◌&&◌, None, ◌<◌, ◌^◌, sym, subst, ap, ap₂, ◌∙◌}
 use Rattle.std.proofs.lemmas.Bool.{leb-true, leb-false}
-use Rattle.witness.specs.declared.place.Place.{Place as CodePlace}
+use Rattle.witness.specs.declared.word_place.Place.{Place as CodePlace}
 use Rattle.witness.specs.Texts.{shape_of}
 use Rattle.witness.specs.WordReadings.{nothing_admitted, lines_behind}
 use Rattle.witness.specs.WordStands.{WordJudge, IsOfLines, is_status, place_of}

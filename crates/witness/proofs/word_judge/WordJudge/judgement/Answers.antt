@@ -2,7 +2,7 @@ use Rattle.std.proofs.Common.{◌≡◌, Bool, subst, sym, ap, ap₂, ◌∙◌}
 use Rattle.base.specs.Lines.{unfinished}
 use Rattle.witness.specs.LastLines.{last_refusal}
 use Rattle.witness.specs.Admits.{is_at_end, is_nothing}
-use Rattle.witness.specs.declared.place.Place.{Place as CodePlace}
+use Rattle.witness.specs.declared.word_place.Place.{Place as CodePlace}
 use Rattle.witness.specs.Judgements.{Judges}
 use Rattle.witness.specs.WordPlays.{WordPlay}
 use Rattle.witness.specs.WordStands.{WordJudge, StandsFor, place_of, judgement_of}

@@ -9,7 +9,7 @@ use Rattle.witness.specs.Judgements.{pairs_of}
 use Rattle.witness.specs.WordPlays.{WordPlay, Plays, input_given}
 use Rattle.witness.proofs.ShapeLemmas.{length-widths}
 use Rattle.witness.proofs.WordAssignLemmas.{Tells, assigned_tells}
-use Rattle.witness.proofs.WordGivenLemmas.{input_plays}
+use Rattle.witness.proofs.WordPartLemmas.{input_plays}
 use Rattle.witness.proofs.word_play.WordPlay.assign_input.Goals as goal
 
 pub returns-in-Ok-clause-line : goal.returns-in-Ok-clause-line

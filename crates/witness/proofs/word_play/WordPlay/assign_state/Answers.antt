@@ -9,7 +9,7 @@ use Rattle.witness.specs.Judgements.{pairs_of}
 use Rattle.witness.specs.WordPlays.{WordPlay, Plays, state_given}
 use Rattle.witness.proofs.ShapeLemmas.{length-widths}
 use Rattle.witness.proofs.WordAssignLemmas.{Tells, assigned_tells}
-use Rattle.witness.proofs.WordGivenLemmas.{state_plays}
+use Rattle.witness.proofs.WordPartLemmas.{state_plays}
 use Rattle.witness.proofs.word_play.WordPlay.assign_state.Goals as goal
 
 pub returns-in-Ok-clause-line : goal.returns-in-Ok-clause-line

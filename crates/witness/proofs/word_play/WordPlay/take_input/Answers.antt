@@ -4,7 +4,7 @@ use Rattle.btor2.specs.Items.{is_input}
 use Rattle.btor2.specs.Lists.{places}
 use Rattle.witness.specs.WordPlays.{WordPlay, TakesInput}
 use Rattle.witness.proofs.ShapeLemmas.{length-widths}
-use Rattle.witness.proofs.WordGivenLemmas.{input_taken}
+use Rattle.witness.proofs.WordPartLemmas.{input_taken}
 use Rattle.witness.proofs.word_play.WordPlay.take_input.Goals as goal
 
 pub returns-in-Some-clause-line : goal.returns-in-Some-clause-line

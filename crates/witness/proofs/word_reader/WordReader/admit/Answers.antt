@@ -1,7 +1,7 @@
 use Rattle.std.proofs.Common.{◌≡◌, List, true, sym, ap, subst, ◌∙◌}
 use Rattle.btor2.specs.declared.item.Item.{Item}
-use Rattle.witness.specs.declared.place.Place.{Place as CodePlace}
-use Rattle.witness.specs.declared.place.Place.TheVariants as code
+use Rattle.witness.specs.declared.word_place.Place.{Place as CodePlace}
+use Rattle.witness.specs.declared.word_place.Place.TheVariants as code
 use Rattle.witness.specs.Texts.{shape_of}
 use Rattle.witness.specs.KeptLines.{IsSmall}
 use Rattle.witness.specs.WordStands.{WordReader, is_alone, place_of}

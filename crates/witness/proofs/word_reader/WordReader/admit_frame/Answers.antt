@@ -1,7 +1,7 @@
 use Rattle.std.proofs.Common.{◌≡◌, ℕ, suc, ◌&&◌, Bool, false, List, [], ◌∷◌, ◌++◌, map, length, unwrap_or, decimal, refl, sym, ap, subst, ◌∙◌, arith}
 use Rattle.std.proofs.lemmas.List.{length-map}
 use Rattle.btor2.specs.declared.item.Item.{Item}
-use Rattle.witness.specs.declared.place.Place.TheVariants as code
+use Rattle.witness.specs.declared.word_place.Place.TheVariants as code
 use Rattle.witness.specs.Admits.{InFrame, begins_part, opens_frame, opens_states}
 use Rattle.witness.specs.Judgements.{pairs_of, frame_words}
 use Rattle.witness.specs.WordPlays.{Plays, GivesInput, nothing_given}

@@ -1,5 +1,5 @@
 use Rattle.std.proofs.Common.{◌≡◌, sym, ap, subst, ◌∙◌, arith}
-use Rattle.witness.specs.declared.place.Place.TheVariants as code
+use Rattle.witness.specs.declared.word_place.Place.TheVariants as code
 use Rattle.witness.specs.WordStands.{WordReader, Reads}
 use Rattle.witness.proofs.WordReaderLemmas.{states_opened, frame_opened, parts_refused}
 use Rattle.witness.proofs.word_reader.WordReader.admit_parts.Goals as goal

@@ -1,6 +1,6 @@
 use Rattle.std.proofs.Common.{◌≡◌, List, [], map, sym, ap, subst, ◌∙◌, arith}
 use Rattle.btor2.specs.declared.item.Item.{Item}
-use Rattle.witness.specs.declared.place.Place.TheVariants as code
+use Rattle.witness.specs.declared.word_place.Place.TheVariants as code
 use Rattle.witness.specs.Judgements.{pairs_of, frame_words}
 use Rattle.witness.specs.WordPlays.{MayGive, Plays, GivesState}
 use Rattle.witness.specs.WordStands.{WordReader, Reads}

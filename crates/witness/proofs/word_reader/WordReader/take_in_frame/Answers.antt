@@ -1,8 +1,8 @@
 use Rattle.std.proofs.Common.{◌≡◌, ℕ, suc, ◌+◌, ◌<◌, ◌^◌, ◌&&◌, Bool, List, [], IfSome, IfNone, Ok, map, length, unwrap_or, decimal, ap, sym, subst, ◌∙◌}
 use Rattle.btor2.specs.declared.item.Item.{Item}
 use Rattle.btor2.specs.Items.{is_input}
-use Rattle.witness.specs.declared.place.Place.{Place as CodePlace}
-use Rattle.witness.specs.declared.place.Place.TheVariants as code
+use Rattle.witness.specs.declared.word_place.Place.{Place as CodePlace}
+use Rattle.witness.specs.declared.word_place.Place.TheVariants as code
 use Rattle.witness.specs.Texts.{widths_of, assignment_line}
 use Rattle.witness.specs.Judgements.{pairs_of, frame_words}
 use Rattle.witness.specs.PlainLines.{NoAssignment, NoFrameLine}

@@ -1,8 +1,8 @@
 use Rattle.std.proofs.Common.{◌≡◌, ℕ, suc, ◌+◌, List, ◌∷◌, ◌++◌, map, length, unwrap_or, [], decimal, ap, sym, subst, ◌∙◌, arith}
 use Rattle.std.proofs.lemmas.List.{length-map}
 use Rattle.btor2.specs.declared.item.Item.{Item}
-use Rattle.witness.specs.declared.place.Place.{Place as CodePlace}
-use Rattle.witness.specs.declared.place.Place.TheVariants as code
+use Rattle.witness.specs.declared.word_place.Place.{Place as CodePlace}
+use Rattle.witness.specs.declared.word_place.Place.TheVariants as code
 use Rattle.witness.specs.Admits.{InFrame, opens_frame}
 use Rattle.witness.specs.Judgements.{pairs_of, frame_words}
 use Rattle.witness.specs.WordPlays.{Plays, nothing_given}

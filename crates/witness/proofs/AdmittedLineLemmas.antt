@@ -15,7 +15,7 @@ use Rattle.witness.specs.Admits.{begins_part, opens_states, assignment_at, free_
 use Rattle.witness.proofs.ClaimLemmas.{AreBelow, AreClaims, claims_are_line}
 use Rattle.witness.proofs.AssignmentLemmas.{stands_in, IsAssigned, assignment_is_line, IsFreeAssigned, free_assignment_is_line}
 use Rattle.witness.proofs.ReadLemmas.{IsSmall, indices, stands_in-indices, was_false, parts_of, at_claims, at_parts, in_states, in_free, in_frame, at_end, frame_lines-behind}
-use Rattle.witness.proofs.WholeLemmas.{all_read}
+use Rattle.witness.proofs.WitnessTextLemmas.{all_read}
 
 -- ---- what one line adds
 

@@ -18,7 +18,7 @@ use Rattle.witness.specs.WordPlays.{WordPlay, Traced, TracedBy, Plays, MayGive, 
 use Rattle.witness.specs.PlainLines.{BeginsAssignment}
 use Rattle.witness.proofs.AssignmentLemmas.{IsAssigned, assignment_at-assignment_line, assignment_is_line, free_assignment_is_line}
 use Rattle.witness.proofs.WordAssignLemmas.{flag_of}
-use Rattle.witness.proofs.SaidLemmas.{distinct_with}
+use Rattle.witness.proofs.AdmittedLineLemmas.{distinct_with}
 use Rattle.witness.proofs.ReadLemmas.{IsSmall}
 use Rattle.witness.proofs.FitLemmas.{shape_is_small}
 

@@ -2,7 +2,7 @@ use Rattle.std.proofs.Common.{List, ℕ, []}
 use Rattle.witness.specs.Judgements.{Judges}
 use Rattle.witness.specs.WordStands.{StandsFor}
 use Rattle.witness.proofs.FeedLemmas.{if_some_then}
-use Rattle.witness.proofs.judging.judge_words.Goals as goal
+use Rattle.witness.proofs.word_judging.judge_words.Goals as goal
 
 pub returns-in-Ok-feed_all-clause-judged : goal.returns-in-Ok-feed_all-clause-judged
 returns-in-Ok-feed_all-clause-judged g c =

@@ -13,8 +13,8 @@ use Rattle.witness.specs.Admits.{Read, nothing_read, admit, is_at_end, is_nothin
 use Rattle.witness.proofs.ClaimLemmas.{AreClaims}
 use Rattle.witness.proofs.AssignmentLemmas.{IsAssigned, IsFreeAssigned}
 use Rattle.witness.proofs.ReadLemmas.{IsSmall, admit_all, admitted, parts_of, at_claims, at_parts, in_states, in_free, in_frame}
-use Rattle.witness.proofs.WholeLemmas.{all_read, frames_and_end, admit_parts, says_read}
-use Rattle.witness.proofs.SaidLemmas.{behind_comments, behind_status, behind_claims, behind_states, behind_free, BehindFrame, NextFrame, NextStates, TheEnd, OneMore, behind_frame, behind_end, part_more, empty_part, free_more, empty_free, later_frame, frame_lines-assignment, frame_lines-frame, frame_lines-states, states_lines-assignment, frame_lines-behind_states, AreComments, IsClaimed, before_frames, AreOpen, Told, ToldComments, ToldStatus, ToldClaims, ToldStates, ToldFree, ToldFrame, ToldAll}
+use Rattle.witness.proofs.WitnessTextLemmas.{all_read, frames_and_end, admit_parts, says_read}
+use Rattle.witness.proofs.AdmittedLineLemmas.{behind_comments, behind_status, behind_claims, behind_states, behind_free, BehindFrame, NextFrame, NextStates, TheEnd, OneMore, behind_frame, behind_end, part_more, empty_part, free_more, empty_free, later_frame, frame_lines-assignment, frame_lines-frame, frame_lines-states, states_lines-assignment, frame_lines-behind_states, AreComments, IsClaimed, before_frames, AreOpen, Told, ToldComments, ToldStatus, ToldClaims, ToldStates, ToldFree, ToldFrame, ToldAll}
 
 -- ---- one more line
 
