@@ -135,10 +135,7 @@ static ROWS: [Row; 8] = [
         word: "vectors",
         task: Task::Vectors,
         about: "Compare what operators give, in the evaluator and in a circuit, with lines of vectors",
-        file: (
-            "FILE",
-            "The file of vector lines, or - for standard input",
-        ),
+        file: ("FILE", "The file of vector lines, or - for standard input"),
         witness: None,
         has_forms: false,
     },
