@@ -1,8 +1,6 @@
 -- Tokens that write no number of a width, and lines that write no vector.
 use Rattle.std.proofs.Common.{◌≡◌, ◌≢◌, ℕ, ◌^◌, ◌<◌, ◌≤◌, Bool, true, false, cond, subst, ◌==◌, List, [], ◌∷◌, ◌++◌, decimal, Some, None, refl, sym, ap, ◌∙◌, inl, inr, arith}
-use Rattle.std.specs.List.{list_any}
 use Rattle.std.proofs.lemmas.Bool.{or_parts, or_from, and_parts, ne_eqb, eq-eqb, false≢true}
-use Rattle.std.proofs.lemmas.List.Folds.{list_any-append}
 use Rattle.std.proofs.Math.Pow.{pow_mono}
 use Rattle.base.specs.Lines.{HasNone}
 use Rattle.base.specs.declared.operators.Unary.{Unary}

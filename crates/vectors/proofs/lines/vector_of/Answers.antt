@@ -1,4 +1,4 @@
-use Rattle.std.proofs.Common.{◌≡◌, ℕ, List, sym, ◌∙◌, subst}
+use Rattle.std.proofs.Common.{ℕ, List, sym, ◌∙◌, subst}
 use Rattle.vectors.specs.Vectors.{NamesOperator, numbers}
 use Rattle.vectors.proofs.NoneLemmas.{same_cut}
 use Rattle.vectors.proofs.lines.vector_of.Goals as goal
