@@ -1,5 +1,5 @@
 -- What the exit statuses 0 and 1 of a command say.
-use Rattle.std.specs.Prelude.{◌≡◌, ◌≢◌, ℕ, List, [], ◌∷◌, ◌++◌, length, Option, None, IfSome, codes, decimal}
+use Rattle.std.specs.Prelude.{◌≡◌, ◌≢◌, ℕ, Bool, true, false, List, [], ◌∷◌, ◌++◌, length, Option, None, IfSome, codes, decimal}
 use Rattle.std.specs.List.{All}
 use Rattle.std.specs.Io.KnownBytes.{Appends}
 use Rattle.btor2.specs.declared.item.Item.{Item}
@@ -24,6 +24,8 @@ use Rattle.lift.specs.Verdicts.{KeepsVerdict}
 use Rattle.witness.specs.Printed.{judgement_text}
 use Rattle.vectors.specs.declared.lines.Vector.{Vector}
 use Rattle.vectors.specs.Vectors.{AreVectorsOf, IsRight, numbered, differing, report}
+use Rattle.commands.specs.declared.answers.Answer.{Answer}
+use Rattle.commands.specs.declared.answers.Answer.TheVariants as answer
 use Rattle.commands.specs.declared.orders.Task.{Task}
 use Rattle.commands.specs.declared.orders.Task.TheVariants as task
 
@@ -71,17 +73,26 @@ pub record IsLifted (model witness before now : Option (List ℕ)) (verdict : Ju
   pub lifted : IfSome witness (λ text. Appends before now (lifted_text items circuit text))
   pub kept : IfSome witness (λ text. KeepsVerdict items circuit text verdict)
 
--- a witness is judged so, and accepted, and what was written says so
-pub record Accepts (IsJudgedSo : Judgement → Type 0) : Type 0 where
-  pub verdict : Judgement
-  pub is_judged : IsJudgedSo verdict
-  pub accepted : IsAccepted verdict
+-- a witness is accepted where an answer is that all is done, and else it is not
+abbrev pub IsSo : Answer → Judgement → Type 0
+IsSo answer.Done verdict = IsAccepted verdict
+IsSo answer.NotAccepted verdict = ¬ IsAccepted verdict
 
--- a witness has another judgement, and what was written says which
-pub record AcceptsNot (IsJudgedSo : Judgement → Type 0) : Type 0 where
+-- the exit status of an answer
+abbrev pub status_of : Answer → ℕ
+status_of answer.Done = 0
+status_of answer.NotAccepted = 1
+
+-- a witness is judged so, and an answer says whether it is accepted
+pub record Judged (IsJudgedSo : Judgement → Type 0) (answer : Answer) : Type 0 where
   pub verdict : Judgement
   pub is_judged : IsJudgedSo verdict
-  pub not_accepted : ¬ IsAccepted verdict
+  pub so : IsSo answer verdict
+
+-- a witness is lifted and judged so, and what was told is the line of that judgement
+pub record IsLiftedAndTold (model witness before now told told' : Option (List ℕ)) (verdict : Judgement) : Type 0 where
+  pub lifted : IsLifted model witness before now verdict
+  pub line : Appends told told' (judgement_line verdict)
 
 -- the line that tells how many items, inputs, states, bad properties and constraints a model has
 abbrev pub counts_line : List Item → List ℕ
@@ -132,21 +143,31 @@ pub record Differ (known before now : Option (List ℕ)) : Type 0 where
   pub some : differing (numbered 1 vectors) ≢ []
   pub appends : Appends before now (report (differing (numbered 1 vectors)) (length vectors))
 
--- the conversion is done, or the witness is accepted, or the model is shown, or its cost is told, or the circuit is written, or the witness is lifted and accepted, or the vectors agree
-abbrev pub IsDone : Task → Form → Option (List ℕ) → Option (List ℕ) → Option (List ℕ) → Option (List ℕ) → Type 0
-IsDone task.Lower form first second before now = Converts first before now form
-IsDone task.CheckBtor form first second before now = Accepts (IsJudged first second before now)
-IsDone task.Show form first second before now = Shows first before now
-IsDone task.Cost form first second before now = TellsCost first before now
-IsDone task.AigConvert form first second before now = Rewrites first before now form
-IsDone task.CheckAig form first second before now = Accepts (IsJudgedOver first second before now)
-IsDone task.Lift form first second before now = Accepts (IsLifted first second before now)
-IsDone task.Vectors form first second before now = Agree first before now
+-- all vectors are right, or at least one is not, as an answer says
+abbrev pub Compares : Option (List ℕ) → Option (List ℕ) → Option (List ℕ) → Answer → Type 0
+Compares known before now answer.Done = Agree known before now
+Compares known before now answer.NotAccepted = Differ known before now
 
--- a witness is judged, and not accepted, or vectors differ
-abbrev pub IsNotAccepted : Task → Option (List ℕ) → Option (List ℕ) → Option (List ℕ) → Option (List ℕ) → Type 0
-IsNotAccepted task.CheckBtor first second before now = AcceptsNot (IsJudged first second before now)
-IsNotAccepted task.CheckAig first second before now = AcceptsNot (IsJudgedOver first second before now)
-IsNotAccepted task.Lift first second before now = AcceptsNot (IsLifted first second before now)
-IsNotAccepted task.Vectors first second before now = Differ first before now
-IsNotAccepted _ first second before now = ⊥
+-- what a command has done that answers so. Of `first` and `second` all bytes that were to come are known, or none are; `before` and `now` stand on standard output, `told` and `told'` on standard error
+abbrev pub Answers : Task → Form → Answer → Option (List ℕ) → Option (List ℕ) → Option (List ℕ) → Option (List ℕ) → Option (List ℕ) → Option (List ℕ) → Type 0
+Answers task.Lower form answer.Done first second before now told told' = Converts first before now form
+Answers task.CheckBtor form a first second before now told told' = Judged (IsJudged first second before now) a
+Answers task.Show form answer.Done first second before now told told' = Shows first before now
+Answers task.Cost form answer.Done first second before now told told' = TellsCost first before now
+Answers task.AigConvert form answer.Done first second before now told told' = Rewrites first before now form
+Answers task.CheckAig form a first second before now told told' = Judged (IsJudgedOver first second before now) a
+Answers task.Lift form a first second before now told told' = Judged (IsLiftedAndTold first second before now told told') a
+Answers task.Vectors form a first second before now told told' = Compares first before now a
+Answers _ form a first second before now told told' = ⊥
+
+-- a command has one file
+abbrev pub has_one_file : Task → Bool
+has_one_file task.CheckBtor = false
+has_one_file task.CheckAig = false
+has_one_file task.Lift = false
+has_one_file _ = true
+
+-- a command that is done tells nothing on standard error
+abbrev pub is_quiet : Task → Bool
+is_quiet task.Lift = false
+is_quiet _ = true

@@ -1,3 +1,6 @@
 -- What commands ask for, and what the exit statuses say.
+pub mod Conversions
 pub mod Done
 pub mod Orders
+pub mod Refusals
+pub mod Statuses

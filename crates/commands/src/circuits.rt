@@ -1,82 +1,85 @@
 //! The commands on circuits.
 
-ghost use Rattle.std.specs.Prelude.{◌≡◌, ◌≤◌, ◌⊎◌, IfOk};
-ghost use Rattle.commands.specs.Done.{Rewrites, Accepts, AcceptsNot, IsJudgedOver};
+ghost use Rattle.std.specs.Prelude.{◌≡◌, ℕ, List, Option, IfOk, IfErr, OnOk};
+ghost use Rattle.aiger.specs.Circuit.{IsCircuit};
+ghost use Rattle.commands.specs.Done.{IsCircuitText, IsJudgedOver, Judged, Rewrites};
+ghost use Rattle.commands.specs.Refusals.{IsNoCircuit};
+ghost use Rattle.commands.specs.Statuses.{Counts, IfInput, IsOfNoInput};
 
-use crate::orders::Order;
-use crate::running::{refuse_witness, tell};
-use crate::statuses::{DEVICE, DONE, REFUSED};
-use crate::telling::say;
-use aigertext::{ReadFault, Why, read, write};
+use crate::answers::Answer;
+use crate::judgements::write_judgement;
+use crate::refusals::{Device, Refusal};
+use aiger::Circuit;
+use aigertext::{Form, read, write};
 use base::{Sink, Source};
-use std::alloc::{AllocError, Global};
+use std::alloc::Global;
 use witness::judge_bits;
 
-/// Reads a circuit of either form and writes it in one, and answers the exit status.
-pub(crate) fn convert_circuit<A: Source, O: Sink, E: Sink>(
-    alloc: Global,
-    order: &Order<'_>,
-    first: &mut A,
-    out: &mut O,
-    err: &mut E,
-) -> u8
-    ensures done { result ≡ 0 → Rewrites (A.to_come first.old) (O.written out.old) (O.written out.new) order.now.form }
-    ensures statuses { (result ≡ 0) ⊎ ((2 ≤ result) × (result ≤ 3)) }
+/// Reads the first file as a circuit of either form.
+fn read_circuit<A: Source>(alloc: Global, first: &mut A) -> Result<Circuit, Refusal>
+    ensures read { IfOk result (IsCircuitText (A.to_come first.old)) }
+    ensures refused { IfErr result (IfInput (IsNoCircuit (A.to_come first.old))) }
+    ensures counted { (s o e : ℕ) → Counts result (A.failures first.old) (A.failures first.new) s s o o e e }
 {
-    let circuit = match read(alloc, first) {
-        Ok(circuit) => circuit,
-        Err(fault) => return refuse_circuit(alloc, order.first, &fault, err),
-    };
-    let _ = circuit.inputs();
-    match write(&circuit, order.form, out) {
-        Ok(()) => DONE,
-        Err(_) => say(err, DEVICE, b"output: device\n"),
+    match read(alloc, first) {
+        Ok(circuit) => Ok(circuit),
+        Err(fault) => Err(Refusal::from(fault)),
     }
 }
 
-/// Judges a witness over a circuit, and answers the exit status.
-pub(crate) fn check_circuit<A: Source, B: Source, O: Sink, E: Sink>(
+/// Reads a circuit of either form and writes it in one.
+pub(crate) fn convert_circuit<A: Source, O: Sink>(
     alloc: Global,
-    order: &Order<'_>,
+    form: Form,
+    first: &mut A,
+    out: &mut O,
+) -> Result<Answer, Refusal>
+    ensures done { OnOk result (Rewrites (A.to_come first.old) (O.written out.old) (O.written out.new) form) }
+    ensures answer { IfOk result (λ answer. answer ≡ Answer.Done) }
+    ensures refused { IfErr result (IfInput (IsNoCircuit (A.to_come first.old))) }
+    ensures unwritten { IfErr result (IfInput (λ _. out.new ≡ out.old)) }
+    ensures counted { (s e : ℕ) → Counts result (A.failures first.old) (A.failures first.new) s s (O.failures out.old) (O.failures out.new) e e }
+{
+    let circuit = read_circuit(alloc, first)?;
+    // the lists of a circuit are one
+    let _ = circuit.inputs();
+    match write(&circuit, form, out) {
+        Ok(()) => Ok(Answer::Done),
+        Err(_) => Err(Refusal::Failed(Device::Output)),
+    }
+}
+
+/// Judges a witness over a circuit.
+pub(crate) fn check_circuit<A: Source, B: Source, O: Sink>(
+    alloc: Global,
     first: &mut A,
     second: &mut B,
     out: &mut O,
-    err: &mut E,
-) -> u8
-    ensures accepted { result ≡ 0 → Accepts (IsJudgedOver (A.to_come first.old) (B.to_come second.old) (O.written out.old) (O.written out.new)) }
-    ensures not_accepted { result ≡ 1 → AcceptsNot (IsJudgedOver (A.to_come first.old) (B.to_come second.old) (O.written out.old) (O.written out.new)) }
-    ensures statuses { result ≤ 3 }
+) -> Result<Answer, Refusal>
+    ensures done { IfOk result (Judged (IsJudgedOver (A.to_come first.old) (B.to_come second.old) (O.written out.old) (O.written out.new))) }
+    ensures refused { IfErr result (IfInput (IsNoCircuit (A.to_come first.old))) }
+    ensures unwritten { IfErr result (IfInput (λ _. out.new ≡ out.old)) }
+    ensures counted { (e : ℕ) → Counts result (A.failures first.old) (A.failures first.new) (B.failures second.old) (B.failures second.new) (O.failures out.old) (O.failures out.new) e e }
 {
-    let circuit = match read(alloc, first) {
-        Ok(circuit) => circuit,
-        Err(fault) => return refuse_circuit(alloc, order.first, &fault, err),
-    };
+    let circuit = read_circuit(alloc, first)?;
+    check_over(alloc, &circuit, second, out)
+}
+
+/// Judges a witness over a circuit that was read.
+fn check_over<B: Source, O: Sink>(
+    alloc: Global,
+    circuit: &Circuit,
+    second: &mut B,
+    out: &mut O,
+) -> Result<Answer, Refusal>
+    ensures done { (known : Option (List ℕ)) → IsCircuitText known circuit.now → IfOk result (Judged (IsJudgedOver known (B.to_come second.old) (O.written out.old) (O.written out.new))) }
+    ensures no_input { IsOfNoInput result }
+    ensures counted { (f e : ℕ) → Counts result f f (B.failures second.old) (B.failures second.new) (O.failures out.old) (O.failures out.new) e e }
+{
+    // the lists of a circuit are one
     let _ = circuit.inputs();
-    match judge_bits(alloc, &circuit, second) {
-        Ok(judgement) => tell(alloc, &judgement, out, err),
-        Err(fault) => refuse_witness(alloc, order, &fault, err),
-    }
-}
-
-/// Writes the line of a text that is no circuit, and answers the exit status, 2 or 3.
-fn refuse_circuit<E: Sink>(alloc: Global, file: &str, fault: &ReadFault, err: &mut E) -> u8
-    ensures { (2 ≤ result) × (result ≤ 3) }
-{
-    let status = match fault.why {
-        Why::Device => DEVICE,
-        _ => REFUSED,
-    };
-    match refusal_line(alloc, file, fault) {
-        Ok(line) => say(err, status, line.as_bytes()),
-        Err(_) => say(err, DEVICE, b"no memory\n"),
-    }
-}
-
-/// The line of a text that is no circuit; none where memory was wanting, then or for the line.
-fn refusal_line(alloc: Global, file: &str, fault: &ReadFault) -> Result<String, AllocError> {
-    match fault.why {
-        Why::Device => format!(in alloc; "{file}: device\n"),
-        Why::NoMemory => Err(AllocError),
-        _ => format!(in alloc; "{file}: {fault}\n"),
+    match judge_bits(alloc, circuit, second) {
+        Ok(judgement) => write_judgement(alloc, &judgement, out),
+        Err(fault) => Err(Refusal::from(fault)),
     }
 }

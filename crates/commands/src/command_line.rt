@@ -28,19 +28,6 @@ Exit statuses:
   3  a device failed, or memory was wanting
   4  the words of the command line are refused";
 
-/// What help says of a file of a model, and of one of a witness.
-const MODEL: &str = "The file of a BTOR2 model, or - for standard input";
-
-const WITNESS: &str = "The file of a BTOR2 witness, or - for standard input";
-
-/// What help says of a file of a circuit, and of one of its witness.
-const CIRCUIT: &str = "The file of an AIGER circuit of either form, or - for standard input";
-
-const AIGER_WITNESS: &str = "The file of an AIGER witness, or - for standard input";
-
-/// What help says of a file of vectors.
-const VECTOR_LINES: &str = "The file of vector lines, or - for standard input";
-
 /// What is told of words that are no text.
 const NO_TEXT: &str = "words: not UTF-8\n";
 
@@ -55,37 +42,103 @@ const ASCII: &str = "ascii";
 
 const BINARY: &str = "binary";
 
-/// The word of the command that judges a witness.
-const CHECK_BTOR: &str = "check-btor";
+/// The name of the second file of a command that has one.
+const WITNESS: &str = "WITNESS";
 
-/// The word of the command that writes a model.
-const SHOW: &str = "show";
+/// A command of this program: its word, its task, what help says of it, and its files.
+struct Row {
+    word: &'static str,
+    task: Task,
+    about: &'static str,
+    /// The first file: its name and what help says of it.
+    file: (&'static str, &'static str),
+    /// The second file, where the command has one.
+    witness: Option<&'static str>,
+    /// Whether flags choose the form of a circuit that is written.
+    has_forms: bool,
+}
 
-/// The word of the command that tells the cost of a lowering.
-const COST: &str = "cost";
+/// The first file of commands on models, and what help says of it.
+const MODEL: (&str, &str) = (
+    "MODEL",
+    "The file of a BTOR2 model, or - for standard input",
+);
 
-/// The word of the command that writes a circuit in a form.
-const AIG_CONVERT: &str = "aig-convert";
+/// The first file of commands on circuits.
+const CIRCUIT: (&str, &str) = (
+    "CIRCUIT",
+    "The file of an AIGER circuit of either form, or - for standard input",
+);
 
-/// The word of the command that judges a witness over a circuit.
-const CHECK_AIG: &str = "check-aig";
+/// What help says of a witness of a circuit.
+const AIGER_WITNESS: &str = "The file of an AIGER witness, or - for standard input";
 
-/// The word of the command that lifts a witness.
-const LIFT: &str = "lift";
-
-/// The word of the command that judges vectors.
-const VECTORS: &str = "vectors";
-
-/// The tasks, in the order in which help lists their commands.
-const TASKS: [Task; 8] = [
-    Task::Lower,
-    Task::CheckBtor,
-    Task::Show,
-    Task::Cost,
-    Task::AigConvert,
-    Task::CheckAig,
-    Task::Lift,
-    Task::Vectors,
+/// The commands, in the order in which help lists them.
+static ROWS: [Row; 8] = [
+    Row {
+        word: "lower",
+        task: Task::Lower,
+        about: "Lower a BTOR2 model to an AIGER circuit on standard output",
+        file: MODEL,
+        witness: None,
+        has_forms: true,
+    },
+    Row {
+        word: "check-btor",
+        task: Task::CheckBtor,
+        about: "Judge a BTOR2 witness over a model",
+        file: MODEL,
+        witness: Some("The file of a BTOR2 witness, or - for standard input"),
+        has_forms: false,
+    },
+    Row {
+        word: "show",
+        task: Task::Show,
+        about: "Write a BTOR2 model in the one spelling that this program gives",
+        file: MODEL,
+        witness: None,
+        has_forms: false,
+    },
+    Row {
+        word: "cost",
+        task: Task::Cost,
+        about: "Tell how many gates and variables the circuit of a BTOR2 model has at most",
+        file: MODEL,
+        witness: None,
+        has_forms: false,
+    },
+    Row {
+        word: "aig-convert",
+        task: Task::AigConvert,
+        about: "Write an AIGER circuit of either form in one, its variables numbered as in the binary form",
+        file: CIRCUIT,
+        witness: None,
+        has_forms: true,
+    },
+    Row {
+        word: "check-aig",
+        task: Task::CheckAig,
+        about: "Judge an AIGER witness over a circuit",
+        file: CIRCUIT,
+        witness: Some(AIGER_WITNESS),
+        has_forms: false,
+    },
+    Row {
+        word: "lift",
+        task: Task::Lift,
+        about: "Lift an AIGER witness of a model's circuit to a BTOR2 witness on standard output",
+        file: MODEL,
+        witness: Some(AIGER_WITNESS),
+        has_forms: false,
+    },
+    Row {
+        word: "vectors",
+        task: Task::Vectors,
+        about: "Compare what operators give, in the evaluator and in a circuit, with lines of vectors",
+        file: ("FILE", "The file of vector lines, or - for standard input"),
+        witness: None,
+        has_forms: false,
+    },
 ];
 
 /// A word that names a file.
@@ -96,30 +149,6 @@ fn file_name<'a>(alloc: Global, name: &'a str, help: &'a str) -> Arg<'a> {
         .help(help)
 }
 
-/// A command that reads a file.
-fn reads_file<'a>(
-    alloc: Global,
-    command: &'a str,
-    about: &'a str,
-    file: Arg<'a>,
-) -> Result<Command<'a>, AllocError> {
-    Command::new(alloc, command)
-        .about(about)
-        .after_help(STATUSES)
-        .arg(file)
-}
-
-/// A command that reads a file and a witness.
-fn reads_witness<'a>(
-    alloc: Global,
-    command: &'a str,
-    about: &'a str,
-    file: Arg<'a>,
-    witness: &'a str,
-) -> Result<Command<'a>, AllocError> {
-    reads_file(alloc, command, about, file)?.arg(file_name(alloc, "WITNESS", witness))
-}
-
 /// A flag that chooses a form.
 fn form_flag<'a>(alloc: Global, form: &'a str, help: &'a str) -> Arg<'a> {
     Arg::new(alloc, form)
@@ -128,89 +157,22 @@ fn form_flag<'a>(alloc: Global, form: &'a str, help: &'a str) -> Arg<'a> {
         .help(help)
 }
 
-/// A command that writes a circuit in a form, which a flag chooses.
-fn writes_circuit<'a>(
-    alloc: Global,
-    command: &'a str,
-    about: &'a str,
-    file: Arg<'a>,
-) -> Result<Command<'a>, AllocError> {
-    reads_file(alloc, command, about, file)?
-        .arg(form_flag(alloc, ASCII, "Write the ascii form (the default)"))?
-        .arg(form_flag(alloc, BINARY, "Write the binary form"))
-}
-
-/// The words of `lower`.
-fn lower<'a>(alloc: Global) -> Result<Command<'a>, AllocError> {
-    let about = "Lower a BTOR2 model to an AIGER circuit on standard output";
-    writes_circuit(alloc, "lower", about, file_name(alloc, "MODEL", MODEL))
-}
-
-/// The words of `aig-convert`.
-fn aig_convert<'a>(alloc: Global) -> Result<Command<'a>, AllocError> {
-    let about =
-        "Write an AIGER circuit of either form in one, its variables numbered as in the binary form";
-    let file = file_name(alloc, "CIRCUIT", CIRCUIT);
-    writes_circuit(alloc, AIG_CONVERT, about, file)
-}
-
-/// The words of `check-aig`.
-fn check_aig<'a>(alloc: Global) -> Result<Command<'a>, AllocError> {
-    let about = "Judge an AIGER witness over a circuit";
-    let file = file_name(alloc, "CIRCUIT", CIRCUIT);
-    reads_witness(alloc, CHECK_AIG, about, file, AIGER_WITNESS)
-}
-
-/// The words of `lift`.
-fn lift<'a>(alloc: Global) -> Result<Command<'a>, AllocError> {
-    let about = "Lift an AIGER witness of a model's circuit to a BTOR2 witness on standard output";
-    let file = file_name(alloc, "MODEL", MODEL);
-    reads_witness(alloc, LIFT, about, file, AIGER_WITNESS)
-}
-
-/// The words of `check-btor`.
-fn check_btor<'a>(alloc: Global) -> Result<Command<'a>, AllocError> {
-    let about = "Judge a BTOR2 witness over a model";
-    let file = file_name(alloc, "MODEL", MODEL);
-    reads_witness(alloc, CHECK_BTOR, about, file, WITNESS)
-}
-
-/// The words of `show`.
-fn show<'a>(alloc: Global) -> Result<Command<'a>, AllocError> {
-    let about = "Write a BTOR2 model in the one spelling that this program gives";
-    reads_file(alloc, SHOW, about, file_name(alloc, "MODEL", MODEL))
-}
-
-/// The words of `cost`.
-fn cost<'a>(alloc: Global) -> Result<Command<'a>, AllocError> {
-    let about = "Tell how many gates and variables the circuit of a BTOR2 model has at most";
-    reads_file(alloc, COST, about, file_name(alloc, "MODEL", MODEL))
-}
-
-/// The words of `vectors`.
-fn vectors<'a>(alloc: Global) -> Result<Command<'a>, AllocError> {
-    let about =
-        "Compare what operators give, in the evaluator and in a circuit, with lines of vectors";
-    reads_file(
-        alloc,
-        VECTORS,
-        about,
-        file_name(alloc, "FILE", VECTOR_LINES),
-    )
-}
-
-/// The words of a task's command.
-fn command_of<'a>(alloc: Global, task: Task) -> Result<Command<'a>, AllocError> {
-    match task {
-        Task::Lower => lower(alloc),
-        Task::CheckBtor => check_btor(alloc),
-        Task::Show => show(alloc),
-        Task::Cost => cost(alloc),
-        Task::AigConvert => aig_convert(alloc),
-        Task::CheckAig => check_aig(alloc),
-        Task::Lift => lift(alloc),
-        Task::Vectors => vectors(alloc),
+/// The words of a command.
+fn command_of<'a>(alloc: Global, row: &'a Row) -> Result<Command<'a>, AllocError> {
+    let (name, help) = row.file;
+    let mut command = Command::new(alloc, row.word)
+        .about(row.about)
+        .after_help(STATUSES)
+        .arg(file_name(alloc, name, help))?;
+    if let Some(help) = row.witness {
+        command = command.arg(file_name(alloc, WITNESS, help))?;
     }
+    if row.has_forms {
+        command = command
+            .arg(form_flag(alloc, ASCII, "Write the ascii form (the default)"))?
+            .arg(form_flag(alloc, BINARY, "Write the binary form"))?;
+    }
+    Ok(command)
 }
 
 /// The commands and their words.
@@ -223,48 +185,31 @@ fn commands<'a>(alloc: Global) -> Result<Command<'a>, AllocError> {
             "Word-level BTOR2 models to AIGER circuits, and their witnesses. Without any word: lower standard input.",
         )
         .subcommand_required(true);
-    for task in TASKS {
-        commands = commands.subcommand(command_of(alloc, task)?)?;
+    for row in &ROWS {
+        commands = commands.subcommand(command_of(alloc, row)?)?;
     }
     Ok(commands)
 }
 
-/// The task of a command's word.
-fn task_of(command: &str) -> Task {
-    if command == CHECK_BTOR {
-        Task::CheckBtor
-    } else if command == SHOW {
-        Task::Show
-    } else if command == COST {
-        Task::Cost
-    } else if command == AIG_CONVERT {
-        Task::AigConvert
-    } else if command == CHECK_AIG {
-        Task::CheckAig
-    } else if command == LIFT {
-        Task::Lift
-    } else if command == VECTORS {
-        Task::Vectors
-    } else {
-        Task::Lower
-    }
+/// The row of a command's word.
+fn row_of(word: &str) -> Option<&'static Row> {
+    ROWS.iter().find(|row| row.word == word)
 }
 
 /// The order that matches name.
 fn order_of<'a>(matches: &ArgMatches<'a>) -> Option<Order<'a>> {
-    let (command, words) = matches.subcommand()?;
+    let (word, words) = matches.subcommand()?;
+    let row = row_of(word)?;
+    let (name, _) = row.file;
     Some(Order {
-        task: task_of(command),
+        task: row.task,
         form: if words.get_flag(BINARY) {
             Form::Binary
         } else {
             Form::Ascii
         },
-        first: words
-            .get_str("MODEL")
-            .or(words.get_str("CIRCUIT"))
-            .or(words.get_str("FILE"))?,
-        second: words.get_str("WITNESS"),
+        first: words.get_str(name)?,
+        second: words.get_str(WITNESS),
     })
 }
 

@@ -1,11 +1,15 @@
 //! What the program does: the words of its command line, and each command over sources and sinks.
 #![tactic(auto)]
 
+mod answers;
 mod circuits;
 mod command_line;
 mod files;
+mod judgements;
 mod lifting;
+mod models;
 mod orders;
+mod refusals;
 mod running;
 mod statuses;
 mod telling;

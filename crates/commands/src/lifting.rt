@@ -1,88 +1,55 @@
 //! The command that lifts witnesses.
 
-ghost use Rattle.std.specs.Prelude.{◌≡◌, ◌≢◌, ◌≤◌, ◌⊎◌, ℕ, List, Option};
-ghost use Rattle.commands.specs.Done.{Accepts, AcceptsNot, IsLifted, IsAccepted, IsModelOf};
+ghost use Rattle.std.specs.Prelude.{◌≡◌, ℕ, List, Option, IfOk, IfErr};
+ghost use Rattle.commands.specs.Done.{IsLiftedAndTold, IsModelOf, Judged};
+ghost use Rattle.commands.specs.Refusals.{IsNotLowered};
+ghost use Rattle.commands.specs.Statuses.{Counts, IfInput, ErrUntold};
 
-use crate::orders::{Order, STANDARD_INPUT};
-use crate::running::{judgement_status, refuse};
-use crate::statuses::DEVICE;
-use crate::telling::say;
+use crate::answers::Answer;
+use crate::judgements::tell_judgement;
+use crate::models::read_model;
+use crate::refusals::Refusal;
 use base::{Sink, Source};
-use blast::{ConvertFault, lower};
+use blast::lower;
 use btor2::Model;
-use btor2text::read;
-use lift::{LiftFault, lift};
-use std::alloc::{AllocError, Global};
-use witness::Judgement;
+use lift::lift;
+use std::alloc::Global;
 
-/// Lowers a model, lifts a witness of its circuit to standard output, tells its judgement on standard error, and answers
-/// the exit status.
+/// Lowers a model, lifts a witness of its circuit to standard output, and tells its judgement on standard error.
 pub(crate) fn lift_witness<A: Source, B: Source, O: Sink, E: Sink>(
     alloc: Global,
-    order: &Order<'_>,
     first: &mut A,
     second: &mut B,
     out: &mut O,
     err: &mut E,
-) -> u8
-    ensures accepted { result ≡ 0 → Accepts (IsLifted (A.to_come first.old) (B.to_come second.old) (O.written out.old) (O.written out.new)) }
-    ensures not_accepted { result ≡ 1 → AcceptsNot (IsLifted (A.to_come first.old) (B.to_come second.old) (O.written out.old) (O.written out.new)) }
-    ensures statuses { result ≤ 3 }
+) -> Result<Answer, Refusal>
+    ensures done { IfOk result (Judged (IsLiftedAndTold (A.to_come first.old) (B.to_come second.old) (O.written out.old) (O.written out.new) (E.written err.old) (E.written err.new))) }
+    ensures refused { IfErr result (IfInput (IsNotLowered (A.to_come first.old))) }
+    ensures unwritten { IfErr result (IfInput (λ _. out.new ≡ out.old)) }
+    ensures untold { ErrUntold result (err.new ≡ err.old) }
+    ensures counted { Counts result (A.failures first.old) (A.failures first.new) (B.failures second.old) (B.failures second.new) (O.failures out.old) (O.failures out.new) (E.failures err.old) (E.failures err.new) }
 {
-    let model = match read(alloc, first) {
-        Ok(model) => model,
-        Err(fault) => return refuse(alloc, order.first, &ConvertFault::Read(fault), err),
-    };
-    lift_over(alloc, order, &model, second, out, err)
+    let model = read_model(alloc, first)?;
+    lift_over(alloc, &model, second, out, err)
 }
 
 /// The same over a model that was read.
 fn lift_over<B: Source, O: Sink, E: Sink>(
     alloc: Global,
-    order: &Order<'_>,
     model: &Model,
     second: &mut B,
     out: &mut O,
     err: &mut E,
-) -> u8
-    ensures accepted { (known : Option (List ℕ)) → IsModelOf known model.now → result ≡ 0 → Accepts (IsLifted known (B.to_come second.old) (O.written out.old) (O.written out.new)) }
-    ensures not_accepted { (known : Option (List ℕ)) → IsModelOf known model.now → result ≡ 1 → AcceptsNot (IsLifted known (B.to_come second.old) (O.written out.old) (O.written out.new)) }
-    ensures statuses { result ≤ 3 }
+) -> Result<Answer, Refusal>
+    ensures done { (known : Option (List ℕ)) → IsModelOf known model.now → IfOk result (Judged (IsLiftedAndTold known (B.to_come second.old) (O.written out.old) (O.written out.new) (E.written err.old) (E.written err.new))) }
+    ensures refused { (known : Option (List ℕ)) → IsModelOf known model.now → IfErr result (IfInput (IsNotLowered known)) }
+    ensures unwritten { IfErr result (IfInput (λ _. out.new ≡ out.old)) }
+    ensures untold { ErrUntold result (err.new ≡ err.old) }
+    ensures counted { (f : ℕ) → Counts result f f (B.failures second.old) (B.failures second.new) (O.failures out.old) (O.failures out.new) (E.failures err.old) (E.failures err.new) }
 {
-    let circuit = match lower(alloc, model) {
-        Ok(circuit) => circuit,
-        Err(fault) => return refuse(alloc, order.first, &ConvertFault::Lower(fault), err),
-    };
-    match lift(alloc, model, &circuit, second, out) {
-        Ok(judgement) => tell_verdict(alloc, &judgement, err),
-        Err(fault) => refuse_lifting(alloc, order, &fault, err),
-    }
-}
-
-/// Tells a judgement on standard error, and answers the exit status: 0 accepted, 1 not accepted, 3 where it can't be told.
-fn tell_verdict<E: Sink>(alloc: Global, judgement: &Judgement, err: &mut E) -> u8
-    ensures accepted { result ≡ 0 → IsAccepted judgement.now }
-    ensures not_accepted { result ≡ 1 → ¬ IsAccepted judgement.now }
-    ensures statuses { (result ≤ 1) ⊎ (result ≡ 3) }
-{
-    match format!(in alloc; "{judgement}\n") {
-        Ok(line) => say(err, judgement_status(judgement), line.as_bytes()),
-        Err(_) => say(err, DEVICE, b"no memory\n"),
-    }
-}
-
-/// Writes the line of a witness that is not lifted, and answers the exit status, 3.
-fn refuse_lifting<E: Sink>(alloc: Global, order: &Order<'_>, fault: &LiftFault, err: &mut E) -> u8
-    ensures { result ≡ 3 }
-{
-    let witness = order.second.unwrap_or(STANDARD_INPUT);
-    let line = match fault {
-        LiftFault::Read => format!(in alloc; "{witness}: device\n"),
-        LiftFault::Write => format!(in alloc; "output: device\n"),
-        LiftFault::NoMemory => Err(AllocError),
-    };
-    match line {
-        Ok(line) => say(err, DEVICE, line.as_bytes()),
-        Err(_) => say(err, DEVICE, b"no memory\n"),
-    }
+    // a model's items are well-formed
+    let _ = model.items();
+    let circuit = lower(alloc, model)?;
+    let judgement = lift(alloc, model, &circuit, second, out)?;
+    tell_judgement(alloc, &judgement, err)
 }

@@ -1,11 +1,11 @@
 -- Lines of vectors that are read one by one.
 use native.Mathlib.Omega.{arith}
-use Rattle.std.proofs.Common.{◌≡◌, ℕ, ◌+◌, length, List, [], ◌∷◌, ◌++◌, refl, sym, ap, ap₂, ◌∙◌, append_assoc}
+use Rattle.std.proofs.Common.{◌≡◌, ℕ, suc, ◌+◌, inl, inr, length, List, [], ◌∷◌, ◌++◌, refl, sym, ap, ap₂, ◌∙◌, append_assoc}
 use Rattle.std.proofs.lemmas.List.{append-nil}
-use Rattle.base.specs.Lines.{text_of_lines}
+use Rattle.base.specs.Lines.{text_of_lines, IsLine}
 use Rattle.vectors.specs.declared.lines.Vector.{Vector}
 use Rattle.std.specs.Prelude.{◌<◌, flat_map}
-use Rattle.vectors.specs.Vectors.{Writes, WriteAll, AreVectorsOf, NumberedVector, numbered, differs_line}
+use Rattle.vectors.specs.Vectors.{Writes, WriteAll, AreVectorsOf, IsFirstBad, NumberedVector, numbered, differs_line}
 use Rattle.vectors.proofs.DifferingLemmas.{numbered_more, length-numbered}
 
 -- the lines read so far write the vectors read so far, and behind them stands the rest of the text
@@ -56,6 +56,39 @@ one_numbered text rest line after read more v r e w m =
 
 pub all_numbered : (text rest : List ℕ) (read : List NumberedVector) → length rest ≡ 0 → NumberedSoFar text rest read → (vectors : List Vector) × AreVectorsOf text vectors × (read ≡ numbered 1 vectors)
 all_numbered text rest read e r = (r.vectors, all_read text rest r.vectors e r.so_far, r.numbers)
+
+same_count : (lines : List (List ℕ)) (vectors : List Vector) → WriteAll lines vectors → length lines ≡ length vectors
+same_count [] [] all = refl
+same_count [] (v ∷ vs) all = absurd all
+same_count (line ∷ lines) [] all = absurd all
+same_count (line ∷ lines) (v ∷ vs) all = ap suc (same_count lines vs all.1)
+
+counted : (text rest : List ℕ) (read : List NumberedVector) (k : ℕ) → (r : NumberedSoFar text rest read) → k ≡ length read → k + 1 ≡ length r.so_far.lines + 1
+counted text rest read k r e = omega (arith, e, ap length r.numbers, length-numbered 1 r.vectors, same_count r.so_far.lines r.vectors r.so_far.written)
+
+-- the first line of the rest writes no vector
+pub first_bad : (text rest line after : List ℕ) (read : List NumberedVector) (k : ℕ) → NumberedSoFar text rest read → k ≡ length read → rest ≡ line ++ 10 ∷ after → IsLine line → ((v : Vector) → Writes line v → ⊥) → IsFirstBad text (k + 1)
+first_bad text rest line after read k r e cut whole bad = record {
+  lines = r.so_far.lines;
+  vectors = r.vectors;
+  rest = rest;
+  parts = r.so_far.is;
+  written = r.so_far.written;
+  number = counted text rest read k r e;
+  bad = inr (record { line = line; after = after; parts = cut; whole = whole; bad = bad });
+}
+
+-- the rest has no byte 10
+pub first_unfinished : (text rest : List ℕ) (read : List NumberedVector) (k : ℕ) → NumberedSoFar text rest read → k ≡ length read → IsLine rest → (rest ≡ [] → ⊥) → IsFirstBad text (k + 1)
+first_unfinished text rest read k r e line some = record {
+  lines = r.so_far.lines;
+  vectors = r.vectors;
+  rest = rest;
+  parts = r.so_far.is;
+  written = r.so_far.written;
+  number = counted text rest read k r e;
+  bad = inl (record { line = line; some = some });
+}
 
 -- the lines of vectors that differ are all written where no vector is left
 pub none_behind : (written all rest : List ℕ) → written ++ flat_map differs_line rest ≡ all → length rest < 1 → written ≡ all

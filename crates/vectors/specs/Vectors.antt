@@ -1,10 +1,12 @@
 -- Vectors of operators: the lines that write them, and which of them are right.
-use Rattle.std.specs.Prelude.{◌≡◌, ◌≢◌, ℕ, suc, ◌==◌, if◌then◌else◌, ◌≤◌, ◌<◌, ◌^◌, ◌-◌, Bool, true, false, List, [], ◌∷◌, ◌++◌, length, Some, flat_map, decimal, codes}
+use Rattle.std.specs.Prelude.{◌≡◌, ◌≢◌, ℕ, suc, ◌==◌, if◌then◌else◌, ◌≤◌, ◌<◌, ◌^◌, ◌-◌, Bool, true, false, List, [], ◌∷◌, ◌++◌, length, Some, flat_map, decimal, codes, ◌⊎◌, ◌+◌}
 use Rattle.std.specs.List.{All}
-use Rattle.base.specs.Lines.{text_of_lines}
+use Rattle.base.specs.Lines.{text_of_lines, HasNone, IsLine}
 use Rattle.base.specs.Widths.{is_of_bits, unary_width, binary_width}
 use Rattle.base.specs.Operator.{unary_value, binary_value}
 use Rattle.btor2text.specs.Words.{unary_of, binary_of}
+use Rattle.vectors.specs.declared.lines.LinesFault.{LinesFault}
+use Rattle.vectors.specs.declared.lines.LinesFault.TheVariants as lines_fault
 use Rattle.vectors.specs.declared.lines.Vector.{Vector}
 use Rattle.vectors.specs.declared.lines.Vector.TheVariants as vector
 
@@ -23,9 +25,10 @@ abbrev pub numbers : Vector → List ℕ
 numbers (vector.Unary op n a r) = decimal n ++ 32 ∷ (decimal a ++ 32 ∷ decimal r)
 numbers (vector.Binary op n a b r) = decimal n ++ 32 ∷ (decimal a ++ 32 ∷ (decimal b ++ 32 ∷ decimal r))
 
--- a line, without its byte 10, writes a vector: the operator's word, a space, and the numbers, which fit
+-- a line, without its byte 10, writes a vector: the operator's word, which has no space, a space, and the numbers, which fit
 pub record Writes (line : List ℕ) (v : Vector) : Type 0 where
   pub word : List ℕ
+  pub plain : HasNone 32 word
   pub named : NamesOperator word v
   pub is : line ≡ word ++ 32 ∷ numbers v
   pub fits : IsVector v
@@ -90,3 +93,31 @@ pub record IsReportOf (text told : List ℕ) (all_agree : Bool) : Type 0 where
   pub vectors : List Vector
   pub are : AreVectorsOf text vectors
   pub tells : Tells told all_agree vectors
+
+-- the first line of a text writes no vector
+pub record BeginsBad (text : List ℕ) : Type 0 where
+  pub line : List ℕ
+  pub after : List ℕ
+  pub parts : text ≡ line ++ 10 ∷ after
+  pub whole : IsLine line
+  pub bad : (v : Vector) → ¬ Writes line v
+
+-- a text ends in bytes without a byte 10
+pub record IsUnfinished (text : List ℕ) : Type 0 where
+  pub line : IsLine text
+  pub some : text ≢ []
+
+-- The line of this number, from 1, is the first of a text that writes no vector: those before it write some, and it writes none or has no byte 10.
+pub record IsFirstBad (text : List ℕ) (n : ℕ) : Type 0 where
+  pub lines : List (List ℕ)
+  pub vectors : List Vector
+  pub rest : List ℕ
+  pub parts : text ≡ text_of_lines lines ++ rest
+  pub written : WriteAll lines vectors
+  pub number : n ≡ length lines + 1
+  pub bad : IsUnfinished rest ⊎ BeginsBad rest
+
+-- what a fault says of the line that it names
+abbrev pub IfBad : (ℕ → Type 0) → LinesFault → Type 0
+IfBad P (lines_fault.Bad n) = P n
+IfBad P lines_fault.NoMemory = Unit {0}

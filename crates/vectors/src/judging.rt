@@ -1,10 +1,10 @@
 //! Judging vectors of operators.
 
-ghost use Rattle.std.specs.Prelude.{◌≡◌, ◌≢◌, ◌≤◌, ◌⊎◌, ◌++◌, ◌∷◌, List, [], length, flat_map, IfOk, OnOk, All};
+ghost use Rattle.std.specs.Prelude.{◌≡◌, ◌≢◌, ◌≤◌, ◌⊎◌, ◌++◌, ◌∷◌, List, [], length, flat_map, IfOk, IfErr, OnOk, All};
 ghost use Rattle.std.specs.String.{string_bytes};
 ghost use Rattle.blast.specs.Lowering.{Lowers};
 ghost use Rattle.vectors.specs.declared.lines.Vector.{Vector};
-ghost use Rattle.vectors.specs.Vectors.{IsVector, IsReportOf, Tells, value_of, said, report, differs_line, numbered, differing};
+ghost use Rattle.vectors.specs.Vectors.{IsVector, IfBad, IsFirstBad, IsReportOf, Tells, value_of, said, report, differs_line, numbered, differing};
 ghost use Rattle.vectors.specs.OperatorModels.{items_of};
 ghost use Rattle.vectors.specs.CircuitRuns.{IsRunOf};
 
@@ -201,7 +201,8 @@ fn judged(alloc: Global, vectors: &mut Vec<Numbered>) -> Result<Report, AllocErr
 /// Errors: `Bad` with the first line that writes no vector or has no byte 10, from 1; `NoMemory`. Nothing is evaluated
 /// before all lines have been read.
 pub fn judge_vectors(alloc: Global, text: &[u8]) -> Result<Report, LinesFault>
-    ensures { IfOk result (λ told. IsReportOf text.now (string_bytes told.text) told.all_agree) }
+    ensures report { IfOk result (λ told. IsReportOf text.now (string_bytes told.text) told.all_agree) }
+    ensures bad { IfErr result (IfBad (IsFirstBad text.now)) }
 {
     let mut vectors = read_vectors(alloc, text)?;
     match judged(alloc, &mut vectors) {

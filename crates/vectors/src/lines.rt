@@ -1,11 +1,14 @@
 //! Vectors of operators, and the lines that write them.
 
-ghost use Rattle.std.specs.Prelude.{◌≡◌, ◌<◌, ◌^◌, ◌++◌, ◌∷◌, List, ℕ, Some, true, IfOk, IfSome, decimal};
+ghost use Rattle.std.specs.Prelude.{◌≡◌, ◌≢◌, ◌<◌, ◌≤◌, ◌^◌, ◌++◌, ◌∷◌, List, ℕ, Some, None, true, IfOk, IfErr, IfSome, decimal};
 ghost use Rattle.base.specs.Widths.{is_of_bits};
 ghost use Rattle.btor2text.specs.Words.{unary_of, binary_of};
+ghost use Rattle.base.specs.declared.operators.Unary.{Unary};
+ghost use Rattle.base.specs.declared.operators.Binary.{Binary};
 ghost use Rattle.vectors.specs.declared.lines.Vector.{Vector};
+ghost use Rattle.vectors.specs.declared.lines.Vector.TheVariants as vector;
 ghost use Rattle.vectors.specs.OperatorModels.{items_of};
-ghost use Rattle.vectors.specs.Vectors.{IsVector, NamesOperator, numbers, Writes, AreVectorsOf, numbered};
+ghost use Rattle.vectors.specs.Vectors.{IsVector, NamesOperator, numbers, Writes, AreVectorsOf, IfBad, IsFirstBad, numbered};
 
 use base::{Binary, Unary, Width, cut_at, decimal, next_line, ones};
 use btor2text::{binary_of, unary_of};
@@ -139,7 +142,9 @@ const GREATEST: &[u8] = b"18446744073709551615";
 
 /// The number below 2 to the 64 that a token writes as a decimal.
 fn number(token: &[u8]) -> Option<u64>
-    ensures { IfSome result (λ n. token.now ≡ decimal n) }
+    ensures written { IfSome result (λ n. token.now ≡ decimal n) }
+    ensures fits { IfSome result (λ n. n < 2 ^ 64) }
+    ensures none { result ≡ None → (n : ℕ) → n < 2 ^ 64 → token.now ≢ decimal n }
 {
     match decimal(token) {
         Some(value) => {
@@ -159,16 +164,25 @@ fn number(token: &[u8]) -> Option<u64>
 fn word(width: Width, token: &[u8]) -> Option<u64>
     ensures written { IfSome result (λ n. token.now ≡ decimal n) }
     ensures fits { IfSome result (λ n. n < 2 ^ width) }
+    ensures none { result ≡ None → (n : ℕ) → n < 2 ^ width → token.now ≢ decimal n }
 {
     match number(token) {
-        Some(number) if number <= ones(width) => Some(number),
-        _ => None,
+        Some(number) => {
+            if number <= ones(width) {
+                Some(number)
+            } else {
+                None
+            }
+        }
+        None => None,
     }
 }
 
 /// The width that the first token of a line writes, and what stands behind it.
 fn first_width(line: &[u8]) -> Option<(Width, &[u8])>
-    ensures { IfSome result (λ x. line.now ≡ decimal x.0 ++ 32 ∷ x.1.now) }
+    ensures written { IfSome result (λ x. line.now ≡ decimal x.0 ++ 32 ∷ x.1.now) }
+    ensures fits { IfSome result (λ x. x.0 ≤ 64) }
+    ensures none { result ≡ None → (n : ℕ) (rest : List ℕ) → 1 ≤ n → n ≤ 64 → line.now ≢ decimal n ++ 32 ∷ rest }
 {
     match cut_at(line, b' ') {
         Some((token, behind)) => match number(token) {
@@ -186,6 +200,7 @@ fn first_width(line: &[u8]) -> Option<(Width, &[u8])>
 fn first_word(width: Width, line: &[u8]) -> Option<(u64, &[u8])>
     ensures written { IfSome result (λ x. line.now ≡ decimal x.0 ++ 32 ∷ x.1.now) }
     ensures fits { IfSome result (λ x. x.0 < 2 ^ width) }
+    ensures none { result ≡ None → width ≤ 64 → (n : ℕ) (rest : List ℕ) → n < 2 ^ width → line.now ≢ decimal n ++ 32 ∷ rest }
 {
     match cut_at(line, b' ') {
         Some((token, behind)) => match word(width, token) {
@@ -200,6 +215,7 @@ fn first_word(width: Width, line: &[u8]) -> Option<(u64, &[u8])>
 fn word_of_bits(bits: u64, token: &[u8]) -> Option<u64>
     ensures written { IfSome result (λ n. token.now ≡ decimal n) }
     ensures fits { IfSome result (λ n. n < 2 ^ bits) }
+    ensures none { result ≡ None → 1 ≤ bits → bits ≤ 64 → (n : ℕ) → n < 2 ^ bits → token.now ≢ decimal n }
 {
     match Width::new(bits) {
         Some(width) => word(width, token),
@@ -212,6 +228,7 @@ fn with_operand(operator: Unary, width: Width, line: &[u8]) -> Option<Vector>
     ensures written { IfSome result (λ v. decimal width ++ 32 ∷ line.now ≡ numbers v) }
     ensures fits { IfSome result IsVector }
     ensures named { (word : List ℕ) → unary_of word ≡ Some operator → IfSome result (NamesOperator word) }
+    ensures none { result ≡ None → (a r : ℕ) → IsVector (vector.Unary operator width a r) → line.now ≢ decimal a ++ 32 ∷ decimal r }
 {
     let bits = width.bits();
     match first_word(width, line) {
@@ -235,6 +252,7 @@ fn with_right(operator: Binary, width: Width, left: u64, line: &[u8]) -> Option<
     ensures written { IfSome result (λ v. decimal width ++ 32 ∷ (decimal left ++ 32 ∷ line.now) ≡ numbers v) }
     ensures fits { IfSome result IsVector }
     ensures named { (word : List ℕ) → binary_of word ≡ Some operator → IfSome result (NamesOperator word) }
+    ensures none { result ≡ None → (b r : ℕ) → IsVector (vector.Binary operator width left b r) → line.now ≢ decimal b ++ 32 ∷ decimal r }
 {
     let bits = width.bits();
     match first_word(width, line) {
@@ -257,6 +275,7 @@ fn with_operands(operator: Binary, width: Width, line: &[u8]) -> Option<Vector>
     ensures written { IfSome result (λ v. decimal width ++ 32 ∷ line.now ≡ numbers v) }
     ensures fits { IfSome result IsVector }
     ensures named { (word : List ℕ) → binary_of word ≡ Some operator → IfSome result (NamesOperator word) }
+    ensures none { result ≡ None → (a b r : ℕ) → IsVector (vector.Binary operator width a b r) → line.now ≢ decimal a ++ 32 ∷ (decimal b ++ 32 ∷ decimal r) }
 {
     if operator.is_of_bits() && width.bits() != 1 {
         return None;
@@ -272,6 +291,7 @@ fn unary_vector(operator: Unary, rest: &[u8]) -> Option<Vector>
     ensures written { IfSome result (λ v. rest.now ≡ numbers v) }
     ensures fits { IfSome result IsVector }
     ensures named { (word : List ℕ) → unary_of word ≡ Some operator → IfSome result (NamesOperator word) }
+    ensures none { result ≡ None → (n a r : ℕ) → IsVector (vector.Unary operator n a r) → rest.now ≢ numbers (vector.Unary operator n a r) }
 {
     match first_width(rest) {
         Some((width, behind)) => with_operand(operator, width, behind),
@@ -284,6 +304,7 @@ fn binary_vector(operator: Binary, rest: &[u8]) -> Option<Vector>
     ensures written { IfSome result (λ v. rest.now ≡ numbers v) }
     ensures fits { IfSome result IsVector }
     ensures named { (word : List ℕ) → binary_of word ≡ Some operator → IfSome result (NamesOperator word) }
+    ensures none { result ≡ None → (n a b r : ℕ) → IsVector (vector.Binary operator n a b r) → rest.now ≢ numbers (vector.Binary operator n a b r) }
 {
     match first_width(rest) {
         Some((width, behind)) => with_operands(operator, width, behind),
@@ -291,19 +312,53 @@ fn binary_vector(operator: Binary, rest: &[u8]) -> Option<Vector>
     }
 }
 
+/// The vector of an operator of one operand that a word names, and the rest of a line writes.
+fn named_unary(name: &[u8], rest: &[u8]) -> Option<Vector>
+    ensures written { IfSome result (λ v. rest.now ≡ numbers v) }
+    ensures fits { IfSome result IsVector }
+    ensures named { IfSome result (NamesOperator name.now) }
+    ensures none { result ≡ None → (op : Unary) (n a r : ℕ) → unary_of name.now ≡ Some op → IsVector (vector.Unary op n a r) → rest.now ≢ numbers (vector.Unary op n a r) }
+{
+    match unary_of(name) {
+        Some(operator) => unary_vector(operator, rest),
+        None => None,
+    }
+}
+
+/// The vector of an operator of two operands that a word names, and the rest of a line writes.
+fn named_binary(name: &[u8], rest: &[u8]) -> Option<Vector>
+    ensures written { IfSome result (λ v. rest.now ≡ numbers v) }
+    ensures fits { IfSome result IsVector }
+    ensures named { IfSome result (NamesOperator name.now) }
+    ensures none { result ≡ None → (op : Binary) (n a b r : ℕ) → binary_of name.now ≡ Some op → IsVector (vector.Binary op n a b r) → rest.now ≢ numbers (vector.Binary op n a b r) }
+{
+    match binary_of(name) {
+        Some(operator) => binary_vector(operator, rest),
+        None => None,
+    }
+}
+
+/// The vector of an operator that a word names, and the rest of a line writes.
+fn named_vector(name: &[u8], rest: &[u8]) -> Option<Vector>
+    ensures written { IfSome result (λ v. rest.now ≡ numbers v) }
+    ensures fits { IfSome result IsVector }
+    ensures named { IfSome result (NamesOperator name.now) }
+    ensures none { result ≡ None → (v : Vector) → NamesOperator name.now v → IsVector v → rest.now ≢ numbers v }
+{
+    match named_unary(name, rest) {
+        Some(vector) => Some(vector),
+        None => named_binary(name, rest),
+    }
+}
+
 /// The vector that a line writes, without its byte 10.
 pub(crate) fn vector_of(line: &[u8]) -> Option<Vector>
     ensures written { IfSome result (Writes line.now) }
     ensures fits { IfSome result IsVector }
+    ensures none { result ≡ None → (v : Vector) → ¬ Writes line.now v }
 {
     match cut_at(line, b' ') {
-        Some((name, rest)) => match unary_of(name) {
-            Some(operator) => unary_vector(operator, rest),
-            None => match binary_of(name) {
-                Some(operator) => binary_vector(operator, rest),
-                None => None,
-            },
-        },
+        Some((name, rest)) => named_vector(name, rest),
         None => None,
     }
 }
@@ -313,7 +368,8 @@ pub(crate) fn vector_of(line: &[u8]) -> Option<Vector>
 /// Errors: `Bad` with the first line that writes none or has no byte 10, from 1; `NoMemory`.
 #[tactic(auto, using(crate::proofs::VectorLemmas::all_numbered))]
 pub(crate) fn read_vectors(alloc: Global, text: &[u8]) -> Result<Vec<Numbered>, LinesFault>
-    ensures { IfOk result (λ read. (vectors : List Vector) × AreVectorsOf text.now vectors × (read.items ≡ numbered 1 vectors)) }
+    ensures read { IfOk result (λ read. (vectors : List Vector) × AreVectorsOf text.now vectors × (read.items ≡ numbered 1 vectors)) }
+    ensures bad { IfErr result (IfBad (IsFirstBad text.now)) }
 {
     let mut vectors = Vec::new(alloc);
     let mut rest = text;

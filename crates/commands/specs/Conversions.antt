@@ -1,0 +1,76 @@
+-- What a command answers where a call of a library does not give what it was asked for.
+use Rattle.base.specs.declared.sources.ReadAllFault.{ReadAllFault}
+use Rattle.base.specs.declared.sources.ReadAllFault.TheVariants as all
+use Rattle.btor2text.specs.declared.fault.ReadFault.{ReadFault}
+use Rattle.btor2text.specs.declared.fault.Why.{Why}
+use Rattle.btor2text.specs.declared.fault.Why.TheVariants as why
+use Rattle.aigertext.specs.declared.fault.ReadFault.{ReadFault as CircuitFault}
+use Rattle.aigertext.specs.declared.fault.Why.{Why as CircuitWhy}
+use Rattle.aigertext.specs.declared.fault.Why.TheVariants as circuit_why
+use Rattle.blast.specs.declared.fault.LowerFault.{LowerFault}
+use Rattle.blast.specs.declared.fault.LowerFault.TheVariants as lower
+use Rattle.blast.specs.declared.fault.ConvertFault.{ConvertFault}
+use Rattle.blast.specs.declared.fault.ConvertFault.TheVariants as convert
+use Rattle.witness.specs.declared.fault.JudgeFault.{JudgeFault}
+use Rattle.witness.specs.declared.fault.JudgeFault.TheVariants as judge
+use Rattle.lift.specs.declared.fault.LiftFault.{LiftFault}
+use Rattle.lift.specs.declared.fault.LiftFault.TheVariants as lift
+use Rattle.vectors.specs.declared.lines.LinesFault.{LinesFault}
+use Rattle.vectors.specs.declared.lines.LinesFault.TheVariants as lines
+use Rattle.commands.specs.declared.refusals.Device.TheVariants as device
+use Rattle.commands.specs.declared.refusals.Fault.TheVariants as fault
+use Rattle.commands.specs.declared.refusals.Refusal.{Refusal}
+use Rattle.commands.specs.declared.refusals.Refusal.TheVariants as refusal
+
+-- of the text of a model, by the why of its fault
+abbrev pub of_reading_for : ReadFault → Why → Refusal
+of_reading_for e why.Device = refusal.Failed device.First
+of_reading_for e why.NoMemory = refusal.NoMemory
+of_reading_for e _ = refusal.Input (fault.Model e)
+
+-- of the text of a model
+abbrev pub of_reading : ReadFault → Refusal
+of_reading e = of_reading_for e e.why
+
+-- of the text of a circuit, by the why of its fault
+abbrev pub of_circuit_reading_for : CircuitFault → CircuitWhy → Refusal
+of_circuit_reading_for e circuit_why.Device = refusal.Failed device.First
+of_circuit_reading_for e circuit_why.NoMemory = refusal.NoMemory
+of_circuit_reading_for e _ = refusal.Input (fault.Circuit e)
+
+-- of the text of a circuit
+abbrev pub of_circuit_reading : CircuitFault → Refusal
+of_circuit_reading e = of_circuit_reading_for e e.why
+
+-- of lowering a model
+abbrev pub of_lowering : LowerFault → Refusal
+of_lowering lower.NoMemory = refusal.NoMemory
+of_lowering e = refusal.Input (fault.Lowering e)
+
+-- of converting a text
+abbrev pub of_conversion : ConvertFault → Refusal
+of_conversion (convert.Read e) = of_reading e
+of_conversion (convert.Lower e) = of_lowering e
+of_conversion (convert.Write e) = refusal.Failed device.Output
+
+-- of judging a witness
+abbrev pub of_judging : JudgeFault → Refusal
+of_judging (judge.NoNext id) = refusal.Input (fault.NoNext id)
+of_judging judge.Device = refusal.Failed device.Second
+of_judging judge.NoMemory = refusal.NoMemory
+
+-- of lifting a witness
+abbrev pub of_lifting : LiftFault → Refusal
+of_lifting lift.Read = refusal.Failed device.Second
+of_lifting lift.Write = refusal.Failed device.Output
+of_lifting lift.NoMemory = refusal.NoMemory
+
+-- of reading the first file whole
+abbrev pub of_reading_all : ReadAllFault → Refusal
+of_reading_all all.Device = refusal.Failed device.First
+of_reading_all all.NoMemory = refusal.NoMemory
+
+-- of the lines of vectors
+abbrev pub of_lines : LinesFault → Refusal
+of_lines (lines.Bad n) = refusal.Input (fault.Vector n)
+of_lines lines.NoMemory = refusal.NoMemory

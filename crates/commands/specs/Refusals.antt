@@ -1,0 +1,119 @@
+-- What a command says that is not done: the fault that its input has, or which file or stream failed, and the line that tells it.
+use Rattle.std.specs.Prelude.{◌≡◌, ℕ, List, [], ◌∷◌, ◌++◌, Option, Some, IfSome, Result, Err, unwrap_or, option_map, codes, decimal}
+use Rattle.base.specs.Device.{HasRisen}
+use Rattle.btor2.specs.declared.item.Item.{Item}
+use Rattle.btor2.specs.Check.{IsWellFormed}
+use Rattle.btor2.specs.Lists.{first_init_without_next}
+use Rattle.btor2text.specs.FirstFault.{IsFaultOf}
+use Rattle.btor2text.specs.Whys.{printed_number, name_of}
+use Rattle.aigertext.specs.AsciiReading.{IsFaultOf as IsCircuitFaultOf}
+use Rattle.aigertext.specs.Whys.{why_number, why_name}
+use Rattle.blast.specs.declared.fault.LowerFault.{LowerFault}
+use Rattle.blast.specs.declared.fault.LowerFault.TheVariants as lower
+use Rattle.blast.specs.Faults.{lower_number, lower_name}
+use Rattle.blast.specs.Refusal.{lowering_refusal}
+use Rattle.vectors.specs.Vectors.{IsFirstBad}
+use Rattle.commands.specs.declared.orders.Order.{Order}
+use Rattle.commands.specs.declared.orders.Task.{Task}
+use Rattle.commands.specs.declared.orders.Task.TheVariants as task
+use Rattle.commands.specs.declared.refusals.Device.{Device}
+use Rattle.commands.specs.declared.refusals.Device.TheVariants as device
+use Rattle.commands.specs.declared.refusals.Fault.{Fault}
+use Rattle.commands.specs.declared.refusals.Fault.TheVariants as fault
+use Rattle.commands.specs.declared.refusals.Refusal.{Refusal}
+use Rattle.commands.specs.declared.refusals.Refusal.TheVariants as refusal
+use Rattle.commands.specs.Done.{IsModelOf}
+
+-- ---- lines
+
+-- what is said of a file
+abbrev pub about : List ℕ → List ℕ → List ℕ
+about file says = file ++ (codes ": " ++ says)
+
+-- what is said of a place, which is counted
+abbrev pub at : List ℕ → ℕ → List ℕ → List ℕ
+at counted n says = counted ++ (decimal n ++ (codes ": " ++ says))
+
+-- a number and a name, which end a line
+abbrev pub numbered_name : ℕ → List ℕ → List ℕ
+numbered_name number name = decimal number ++ (codes " " ++ (name ++ codes "\n"))
+
+-- what is said of the item that a lowering is refused for, or of the model as a whole
+abbrev pub at_item : LowerFault → List ℕ → List ℕ
+at_item (lower.Justice id) says = at (codes "item ") id says
+at_item (lower.Fair id) says = at (codes "item ") id says
+at_item (lower.NoNext id) says = at (codes "item ") id says
+at_item _ says = says
+
+-- the line that tells a fault of a file
+abbrev pub fault_line : List ℕ → Fault → List ℕ
+fault_line file (fault.Model e) = about file (at (codes "line ") e.line (numbered_name (printed_number e.why) (name_of e.why)))
+fault_line file (fault.Circuit e) = about file (at (codes "byte ") e.place (numbered_name (why_number e.why) (why_name e.why)))
+fault_line file (fault.Lowering e) = about file (at_item e (numbered_name (lower_number e) (lower_name e)))
+fault_line file (fault.NoNext id) = about file (at (codes "item ") id (codes "70 NoNext\n"))
+fault_line file (fault.Vector n) = about file (at (codes "line ") n (codes "bad vector\n"))
+
+-- the name by which a file or a stream is told
+abbrev pub device_name : List ℕ → Option (List ℕ) → Device → List ℕ
+device_name first second device.First = first
+device_name first second device.Second = unwrap_or second (codes "-")
+device_name first second device.Output = codes "output"
+device_name first second device.Error = []
+
+-- the line that tells a refusal, by the names of the files
+abbrev pub refusal_line : List ℕ → Option (List ℕ) → Refusal → List ℕ
+refusal_line first second (refusal.Input f) = fault_line first f
+refusal_line first second (refusal.Failed d) = about (device_name first second d) (codes "device\n")
+refusal_line first second refusal.NoMemory = codes "no memory\n"
+
+-- ---- the fault of an input
+
+-- the first text is no model, and this is the fault of its first faulty line
+abbrev pub IsNoModel : Option (List ℕ) → Fault → Type 0
+IsNoModel known (fault.Model e) = IfSome known (λ text. IsFaultOf text e)
+IsNoModel known _ = ⊥
+
+-- the first text is of a model, and this is the first that speaks against lowering it
+pub record IsUnlowered (known : Option (List ℕ)) (e : LowerFault) : Type 0 where
+  pub items : List Item
+  pub text : IsModelOf known items
+  pub well_formed : IsWellFormed items
+  pub first : lowering_refusal items ≡ Some e
+
+-- the first text is no model, or is of one that is not lowered
+abbrev pub IsNotLowered : Option (List ℕ) → Fault → Type 0
+IsNotLowered known (fault.Lowering e) = IsUnlowered known e
+IsNotLowered known f = IsNoModel known f
+
+-- the first text is of a model, and this is its first state with an init and no next
+pub record LacksNext (known : Option (List ℕ)) (id : ℕ) : Type 0 where
+  pub items : List Item
+  pub text : IsModelOf known items
+  pub well_formed : IsWellFormed items
+  pub first : first_init_without_next items items ≡ Some id
+
+-- the first text is no model, or is of one over which nothing is judged
+abbrev pub IsNotJudged : Option (List ℕ) → Fault → Type 0
+IsNotJudged known (fault.NoNext id) = LacksNext known id
+IsNotJudged known f = IsNoModel known f
+
+-- the first text is no circuit, and this is its first fault
+abbrev pub IsNoCircuit : Option (List ℕ) → Fault → Type 0
+IsNoCircuit known (fault.Circuit e) = IfSome known (λ text. IsCircuitFaultOf text e)
+IsNoCircuit known _ = ⊥
+
+-- the first text is no list of vectors, and this is its first line that writes none
+abbrev pub IsNoVectorList : Option (List ℕ) → Fault → Type 0
+IsNoVectorList known (fault.Vector n) = IfSome known (λ text. IsFirstBad text n)
+IsNoVectorList known _ = ⊥
+
+-- the first text has this fault, for which a command refuses it
+abbrev pub Refuses : Task → Option (List ℕ) → Fault → Type 0
+Refuses task.Lower known f = IsNotLowered known f
+Refuses task.CheckBtor known f = IsNotJudged known f
+Refuses task.Show known f = IsNoModel known f
+Refuses task.Cost known f = IsNoModel known f
+Refuses task.AigConvert known f = IsNoCircuit known f
+Refuses task.CheckAig known f = IsNoCircuit known f
+Refuses task.Lift known f = IsNotLowered known f
+Refuses task.Vectors known f = IsNoVectorList known f

@@ -1,0 +1,67 @@
+-- What the exit statuses of a command say, and what is told with them.
+use Rattle.std.specs.Prelude.{◌≡◌, ℕ, List, Option, Result, Ok, Err, ◌⊎◌, codes}
+use Rattle.std.specs.Io.KnownBytes.{Appends}
+use Rattle.base.specs.Device.{HasRisen}
+use Rattle.commands.specs.declared.orders.Task.{Task}
+use Rattle.commands.specs.declared.refusals.Device.TheVariants as device
+use Rattle.commands.specs.declared.refusals.Fault.{Fault}
+use Rattle.commands.specs.declared.refusals.Refusal.{Refusal}
+use Rattle.commands.specs.declared.refusals.Refusal.TheVariants as refusal
+use Rattle.commands.specs.Refusals.{Refuses, fault_line, refusal_line}
+
+-- the counts of failures of the first file, the second, standard output and standard error, before and after: one more of the one that is told, and no other
+abbrev pub Counts : {T : Type 0} → Result T Refusal → ℕ → ℕ → ℕ → ℕ → ℕ → ℕ → ℕ → ℕ → Type 0
+Counts (Err (refusal.Failed device.First)) f f' s s' o o' e e' = HasRisen f f' × (s' ≡ s) × (o' ≡ o) × (e' ≡ e)
+Counts (Err (refusal.Failed device.Second)) f f' s s' o o' e e' = (f' ≡ f) × HasRisen s s' × (o' ≡ o) × (e' ≡ e)
+Counts (Err (refusal.Failed device.Output)) f f' s s' o o' e e' = (f' ≡ f) × (s' ≡ s) × HasRisen o o' × (e' ≡ e)
+Counts (Err (refusal.Failed device.Error)) f f' s s' o o' e e' = (f' ≡ f) × (s' ≡ s) × (o' ≡ o) × HasRisen e e'
+Counts _ f f' s s' o o' e e' = (f' ≡ f) × (s' ≡ s) × (o' ≡ o) × (e' ≡ e)
+
+-- a refusal is none of an input
+abbrev pub IsOfNoInput : {T : Type 0} → Result T Refusal → Type 0
+IsOfNoInput (Err (refusal.Input f)) = ⊥
+IsOfNoInput _ = Unit {0}
+
+-- nothing was told before a refusal, but where standard error failed
+abbrev pub ErrUntold : {T : Type 0} → Result T Refusal → Type 0 → Type 0
+ErrUntold (Err (refusal.Failed device.Error)) unchanged = Unit {0}
+ErrUntold (Err r) unchanged = unchanged
+ErrUntold (Ok x) unchanged = Unit {0}
+
+-- what a refusal of an input says of its fault
+abbrev pub IfInput : (Fault → Type 0) → Refusal → Type 0
+IfInput P (refusal.Input f) = P f
+IfInput P _ = Unit {0}
+
+-- Status 2: the first text has a fault for which the command refuses it, and the line that tells that fault was written.
+pub record IsRefused (task : Task) (file : List ℕ) (first told told' : Option (List ℕ)) : Type 0 where
+  pub fault : Fault
+  pub has : Refuses task first fault
+  pub line : Appends told told' (fault_line file fault)
+
+-- a refusal is none of an input, and standard error did not fail
+abbrev pub IsTold : Refusal → Type 0
+IsTold (refusal.Input f) = ⊥
+IsTold (refusal.Failed device.Error) = ⊥
+IsTold _ = Unit {0}
+
+-- a file or standard output failed, no other did, and the line that names it was written; or none failed, and `no memory` was written
+pub record TellsFailure (file : List ℕ) (second : Option (List ℕ)) (told told' : Option (List ℕ)) (f f' s s' o o' e e' : ℕ) : Type 0 where
+  pub why : Refusal
+  pub is_told : IsTold why
+  pub counted : Counts {T = Unit {0}} (Err why) f f' s s' o o' e e'
+  pub line : Appends told told' (refusal_line file second why)
+
+-- Status 3: standard error failed, or a failure was told.
+abbrev pub HasFailed : List ℕ → Option (List ℕ) → Option (List ℕ) → Option (List ℕ) → ℕ → ℕ → ℕ → ℕ → ℕ → ℕ → ℕ → ℕ → Type 0
+HasFailed file second told told' f f' s s' o o' e e' = HasRisen e e' ⊎ TellsFailure file second told told' f f' s s' o o' e e'
+
+-- what was told of the fault of a file, and the status: its line, or `no memory` where there was none for the line
+abbrev pub TellsFault : List ℕ → Fault → ℕ → Option (List ℕ) → Option (List ℕ) → Type 0
+TellsFault file fault status told told' = ((status ≡ 2) × Appends told told' (fault_line file fault)) ⊎ ((status ≡ 3) × Appends told told' (codes "no memory\n"))
+
+-- what was told of a refusal, and the status
+abbrev pub Tells : List ℕ → Option (List ℕ) → Refusal → ℕ → Option (List ℕ) → Option (List ℕ) → Type 0
+Tells file second (refusal.Input f) status told told' = TellsFault file f status told told'
+Tells file second (refusal.Failed device.Error) status told told' = status ≡ 3
+Tells file second r status told told' = (status ≡ 3) × Appends told told' (refusal_line file second r)

@@ -1,0 +1,169 @@
+//! The commands on models.
+
+ghost use Rattle.std.specs.Prelude.{◌≡◌, ◌++◌, ℕ, List, Option, IfOk, IfErr, OnOk};
+ghost use Rattle.std.specs.Io.KnownBytes.{Appends};
+ghost use Rattle.std.specs.String.{string_bytes};
+ghost use Rattle.btor2text.specs.Writing.{written};
+ghost use Rattle.blast.specs.Conversion.{Converts};
+ghost use Rattle.commands.specs.Done.{IsJudged, IsModelOf, Judged, Shows, TellsCost, counts_line, cost_lines};
+ghost use Rattle.commands.specs.Refusals.{IsNoModel, IsNotJudged, IsNotLowered};
+ghost use Rattle.commands.specs.Statuses.{Counts, IfInput, IsOfNoInput};
+
+use crate::answers::Answer;
+use crate::judgements::write_judgement;
+use crate::refusals::{Device, Refusal};
+use crate::telling::write_result;
+use aigertext::Form;
+use base::{Sink, Source};
+use blast::{convert, cost_and_bound};
+use btor2::Model;
+use btor2text::{read, write};
+use std::alloc::{AllocError, Global};
+use witness::judge_words;
+
+/// Reads the first file as a model.
+pub(crate) fn read_model<A: Source>(alloc: Global, first: &mut A) -> Result<Model, Refusal>
+    ensures read { IfOk result (IsModelOf (A.to_come first.old)) }
+    ensures refused { IfErr result (IfInput (IsNoModel (A.to_come first.old))) }
+    ensures counted { (s o e : ℕ) → Counts result (A.failures first.old) (A.failures first.new) s s o o e e }
+{
+    match read(alloc, first) {
+        Ok(model) => Ok(model),
+        Err(fault) => Err(Refusal::from(fault)),
+    }
+}
+
+/// Lowers a model.
+pub(crate) fn lower_model<A: Source, O: Sink>(
+    alloc: Global,
+    form: Form,
+    first: &mut A,
+    out: &mut O,
+) -> Result<Answer, Refusal>
+    ensures done { OnOk result (Converts (A.to_come first.old) (O.written out.old) (O.written out.new) form) }
+    ensures answer { IfOk result (λ answer. answer ≡ Answer.Done) }
+    ensures refused { IfErr result (IfInput (IsNotLowered (A.to_come first.old))) }
+    ensures unwritten { IfErr result (IfInput (λ _. out.new ≡ out.old)) }
+    ensures counted { (s e : ℕ) → Counts result (A.failures first.old) (A.failures first.new) s s (O.failures out.old) (O.failures out.new) e e }
+{
+    match convert(alloc, first, out, form) {
+        Ok(()) => Ok(Answer::Done),
+        Err(fault) => Err(Refusal::from(fault)),
+    }
+}
+
+/// Judges a witness over a model.
+pub(crate) fn check_model<A: Source, B: Source, O: Sink>(
+    alloc: Global,
+    first: &mut A,
+    second: &mut B,
+    out: &mut O,
+) -> Result<Answer, Refusal>
+    ensures done { IfOk result (Judged (IsJudged (A.to_come first.old) (B.to_come second.old) (O.written out.old) (O.written out.new))) }
+    ensures refused { IfErr result (IfInput (IsNotJudged (A.to_come first.old))) }
+    ensures unwritten { IfErr result (IfInput (λ _. out.new ≡ out.old)) }
+    ensures counted { (e : ℕ) → Counts result (A.failures first.old) (A.failures first.new) (B.failures second.old) (B.failures second.new) (O.failures out.old) (O.failures out.new) e e }
+{
+    let model = read_model(alloc, first)?;
+    check_over(alloc, &model, second, out)
+}
+
+/// Judges a witness over a model that was read.
+fn check_over<B: Source, O: Sink>(
+    alloc: Global,
+    model: &Model,
+    second: &mut B,
+    out: &mut O,
+) -> Result<Answer, Refusal>
+    ensures done { (known : Option (List ℕ)) → IsModelOf known model.now → IfOk result (Judged (IsJudged known (B.to_come second.old) (O.written out.old) (O.written out.new))) }
+    ensures refused { (known : Option (List ℕ)) → IsModelOf known model.now → IfErr result (IfInput (IsNotJudged known)) }
+    ensures unwritten { IfErr result (IfInput (λ _. out.new ≡ out.old)) }
+    ensures counted { (f e : ℕ) → Counts result f f (B.failures second.old) (B.failures second.new) (O.failures out.old) (O.failures out.new) e e }
+{
+    match judge_words(alloc, model, second) {
+        Ok(judgement) => write_judgement(alloc, &judgement, out),
+        Err(fault) => Err(Refusal::from(fault)),
+    }
+}
+
+/// Writes a model in the writer's form and the line of its counts.
+pub(crate) fn show<A: Source, O: Sink>(
+    alloc: Global,
+    first: &mut A,
+    out: &mut O,
+) -> Result<Answer, Refusal>
+    ensures done { OnOk result (Shows (A.to_come first.old) (O.written out.old) (O.written out.new)) }
+    ensures answer { IfOk result (λ answer. answer ≡ Answer.Done) }
+    ensures refused { IfErr result (IfInput (IsNoModel (A.to_come first.old))) }
+    ensures unwritten { IfErr result (IfInput (λ _. out.new ≡ out.old)) }
+    ensures counted { (s e : ℕ) → Counts result (A.failures first.old) (A.failures first.new) s s (O.failures out.old) (O.failures out.new) e e }
+{
+    let model = read_model(alloc, first)?;
+    show_model(alloc, &model, out)
+}
+
+/// Writes the writer's text of a model and the line of its counts.
+fn show_model<O: Sink>(alloc: Global, model: &Model, out: &mut O) -> Result<Answer, Refusal>
+    ensures done { OnOk result (Appends (O.written out.old) (O.written out.new) (written model.now ++ counts_line model.now)) }
+    ensures answer { IfOk result (λ answer. answer ≡ Answer.Done) }
+    ensures no_input { IsOfNoInput result }
+    ensures counted { (f s e : ℕ) → Counts result f f s s (O.failures out.old) (O.failures out.new) e e }
+{
+    let line = counts_line(alloc, model)?;
+    match write(model, out) {
+        Ok(()) => {}
+        Err(_) => return Err(Refusal::Failed(Device::Output)),
+    }
+    write_result(out, line.as_bytes())?;
+    Ok(Answer::Done)
+}
+
+/// The line that tells how many items, inputs, states, bad properties and constraints a model has.
+fn counts_line(alloc: Global, model: &Model) -> Result<String, AllocError>
+    ensures { IfOk result (λ line. string_bytes line ≡ counts_line model.now) }
+{
+    let items = model.items().len();
+    let inputs = model.inputs().len();
+    let states = model.states().len();
+    let bads = model.bads().len();
+    let constraints = model.constraints().len();
+    format!(in alloc;
+        "; {items} items, {inputs} inputs, {states} states, {bads} bad, {constraints} constraints\n"
+    )
+}
+
+/// Writes how many gates and variables the lowering of a model has at most.
+pub(crate) fn tell_cost<A: Source, O: Sink>(
+    alloc: Global,
+    first: &mut A,
+    out: &mut O,
+) -> Result<Answer, Refusal>
+    ensures done { OnOk result (TellsCost (A.to_come first.old) (O.written out.old) (O.written out.new)) }
+    ensures answer { IfOk result (λ answer. answer ≡ Answer.Done) }
+    ensures refused { IfErr result (IfInput (IsNoModel (A.to_come first.old))) }
+    ensures unwritten { IfErr result (IfInput (λ _. out.new ≡ out.old)) }
+    ensures counted { (s e : ℕ) → Counts result (A.failures first.old) (A.failures first.new) s s (O.failures out.old) (O.failures out.new) e e }
+{
+    let model = read_model(alloc, first)?;
+    tell_cost_of(alloc, &model, out)
+}
+
+/// Writes how many gates and variables the lowering of a model that was read has at most.
+fn tell_cost_of<O: Sink>(alloc: Global, model: &Model, out: &mut O) -> Result<Answer, Refusal>
+    ensures done { OnOk result (Appends (O.written out.old) (O.written out.new) (cost_lines model.now)) }
+    ensures answer { IfOk result (λ answer. answer ≡ Answer.Done) }
+    ensures no_input { IsOfNoInput result }
+    ensures counted { (f s e : ℕ) → Counts result f f s s (O.failures out.old) (O.failures out.new) e e }
+{
+    let lines = cost_lines(alloc, model)?;
+    write_result(out, lines.as_bytes())?;
+    Ok(Answer::Done)
+}
+
+/// The lines that tell how many gates and variables the lowering of a model has at most.
+fn cost_lines(alloc: Global, model: &Model) -> Result<String, AllocError>
+    ensures { IfOk result (λ lines. string_bytes lines ≡ cost_lines model.now) }
+{
+    let (gates, variables) = cost_and_bound(model);
+    format!(in alloc; "gates {gates}\nvariables {variables}\n")
+}

@@ -1,0 +1,202 @@
+//! Why a command is not done, and the lines that tell it.
+
+ghost use Rattle.std.specs.Prelude.{◌≡◌, IfOk};
+ghost use Rattle.std.specs.String.{string_bytes};
+ghost use Rattle.commands.specs.declared.refusals.Fault.TheVariants as fault_is;
+ghost use Rattle.commands.specs.declared.refusals.Refusal.TheVariants as refusal;
+ghost use Rattle.commands.specs.Refusals.{fault_line};
+ghost use Rattle.commands.specs.Conversions.{of_reading, of_circuit_reading, of_lowering, of_conversion, of_judging, of_lifting, of_reading_all, of_lines};
+
+use base::ReadAllFault;
+use blast::{ConvertFault, LowerFault};
+use lift::LiftFault;
+use std::alloc::{AllocError, Global};
+use vectors::LinesFault;
+use witness::JudgeFault;
+
+/// What is wrong with the first file.
+#[derive(Clone, Copy)]
+pub(crate) enum Fault {
+    /// The text is no model.
+    Model(btor2text::ReadFault),
+    /// The text is no circuit.
+    Circuit(aigertext::ReadFault),
+    /// The model is not lowered.
+    Lowering(LowerFault),
+    /// The state of this id has an init and no next, and nothing is judged over it.
+    NoNext(u64),
+    /// This line, from 1, writes no vector.
+    Vector(u64),
+}
+
+/// The files and streams of a command.
+#[derive(Clone, Copy, PartialEq, Eq)]
+pub(crate) enum Device {
+    /// The first file.
+    First,
+    /// The second file.
+    Second,
+    /// Standard output.
+    Output,
+    /// Standard error.
+    Error,
+}
+
+/// Why a command is not done.
+#[derive(Clone, Copy)]
+pub(crate) enum Refusal {
+    /// The first file has this fault. Nothing was written.
+    Input(Fault),
+    /// This file or stream failed.
+    Failed(Device),
+    /// A growth was refused.
+    NoMemory,
+}
+
+impl From<btor2text::ReadFault> for Refusal {
+    ghost from_gives = { λ e r. r ≡ of_reading e };
+
+    fn from(fault: btor2text::ReadFault) -> Refusal {
+        match fault.why {
+            btor2text::Why::Device => Refusal::Failed(Device::First),
+            btor2text::Why::NoMemory => Refusal::NoMemory,
+            _ => Refusal::Input(Fault::Model(fault)),
+        }
+    }
+}
+
+impl From<aigertext::ReadFault> for Refusal {
+    ghost from_gives = { λ e r. r ≡ of_circuit_reading e };
+
+    fn from(fault: aigertext::ReadFault) -> Refusal {
+        match fault.why {
+            aigertext::Why::Device => Refusal::Failed(Device::First),
+            aigertext::Why::NoMemory => Refusal::NoMemory,
+            _ => Refusal::Input(Fault::Circuit(fault)),
+        }
+    }
+}
+
+impl From<LowerFault> for Refusal {
+    ghost from_gives = { λ e r. r ≡ of_lowering e };
+
+    fn from(fault: LowerFault) -> Refusal {
+        match fault {
+            LowerFault::NoMemory => Refusal::NoMemory,
+            _ => Refusal::Input(Fault::Lowering(fault)),
+        }
+    }
+}
+
+impl From<ConvertFault> for Refusal {
+    ghost from_gives = { λ e r. r ≡ of_conversion e };
+
+    fn from(fault: ConvertFault) -> Refusal {
+        match fault {
+            ConvertFault::Read(fault) => Refusal::from(fault),
+            ConvertFault::Lower(fault) => Refusal::from(fault),
+            ConvertFault::Write(_) => Refusal::Failed(Device::Output),
+        }
+    }
+}
+
+impl From<JudgeFault> for Refusal {
+    ghost from_gives = { λ e r. r ≡ of_judging e };
+
+    fn from(fault: JudgeFault) -> Refusal {
+        match fault {
+            JudgeFault::NoNext(id) => Refusal::Input(Fault::NoNext(id)),
+            JudgeFault::Device => Refusal::Failed(Device::Second),
+            JudgeFault::NoMemory => Refusal::NoMemory,
+        }
+    }
+}
+
+impl From<LiftFault> for Refusal {
+    ghost from_gives = { λ e r. r ≡ of_lifting e };
+
+    fn from(fault: LiftFault) -> Refusal {
+        match fault {
+            LiftFault::Read => Refusal::Failed(Device::Second),
+            LiftFault::Write => Refusal::Failed(Device::Output),
+            LiftFault::NoMemory => Refusal::NoMemory,
+        }
+    }
+}
+
+impl From<ReadAllFault> for Refusal {
+    ghost from_gives = { λ e r. r ≡ of_reading_all e };
+
+    fn from(fault: ReadAllFault) -> Refusal {
+        match fault {
+            ReadAllFault::Device => Refusal::Failed(Device::First),
+            ReadAllFault::NoMemory => Refusal::NoMemory,
+        }
+    }
+}
+
+impl From<LinesFault> for Refusal {
+    ghost from_gives = { λ e r. r ≡ of_lines e };
+
+    fn from(fault: LinesFault) -> Refusal {
+        match fault {
+            LinesFault::Bad(line) => Refusal::Input(Fault::Vector(line)),
+            LinesFault::NoMemory => Refusal::NoMemory,
+        }
+    }
+}
+
+impl From<AllocError> for Refusal {
+    ghost from_gives = { λ _ r. r ≡ refusal.NoMemory };
+
+    fn from(_: AllocError) -> Refusal {
+        Refusal::NoMemory
+    }
+}
+
+impl Fault {
+    /// The line that tells it of a file.
+    pub(crate) fn line(&self, alloc: Global, file: &str) -> Result<String, AllocError>
+        ensures { IfOk result (λ line. string_bytes line ≡ fault_line file.now self.now) }
+    {
+        match self {
+            Fault::Model(fault) => {
+                let line = fault.line;
+                let number = fault.why.printed_number();
+                let name = fault.why.name();
+                format!(in alloc; "{file}: line {line}: {number} {name}\n")
+            }
+            Fault::Circuit(fault) => {
+                let place = fault.place;
+                let number = fault.why.number();
+                let name = fault.why.name();
+                format!(in alloc; "{file}: byte {place}: {number} {name}\n")
+            }
+            Fault::Lowering(fault) => lowering_line(alloc, file, *fault),
+            Fault::NoNext(id) => {
+                let id = *id;
+                format!(in alloc; "{file}: item {id}: 70 NoNext\n")
+            }
+            Fault::Vector(line) => {
+                let line = *line;
+                format!(in alloc; "{file}: line {line}: bad vector\n")
+            }
+        }
+    }
+}
+
+/// The line that tells of a file why its model is not lowered.
+fn lowering_line(alloc: Global, file: &str, fault: LowerFault) -> Result<String, AllocError>
+    ensures { IfOk result (λ line. string_bytes line ≡ fault_line file.now (fault_is.Lowering fault)) }
+{
+    let number = fault.number();
+    let name = fault.name();
+    match fault {
+        LowerFault::Justice(id) | LowerFault::Fair(id) | LowerFault::NoNext(id) => {
+            format!(in alloc; "{file}: item {id}: {number} {name}\n")
+        }
+        LowerFault::TooBig | LowerFault::NoMemory => {
+            format!(in alloc; "{file}: {number} {name}\n")
+        }
+    }
+}
