@@ -1,7 +1,7 @@
 -- The word that the digits of a value write.
 use Rattle.std.proofs.Common.{◌≡◌, ℕ, suc, ◌+◌, ◌-◌, ◌*◌, ◌<◌, ◌≤◌, ◌^◌, ◌==◌, Bool, true, false, ◌&&◌, List, [], ◌∷◌, ◌++◌, Ok, Err, length, map, reverse, length-append, refl, sym, ap, ◌∙◌, arith, inl, inr, if◌then◌else◌}
 use Rattle.std.specs.List.{list_any, list_all}
-use Rattle.std.proofs.Math.Nat.{pow-suc, pow-le-pow_right}
+use Rattle.std.proofs.Math.Nat.{pow-suc}
 use Rattle.std.proofs.lemmas.Bool.{cases_Bool, and_parts, and_from, eqb-true, eqb-false, ne_eqb, eq-eqb}
 use Rattle.std.proofs.lemmas.List.{reverse-append}
 use Rattle.std.proofs.lemmas.List.Folds.{list_all-append}
@@ -32,11 +32,6 @@ bit_most bit b is = omega (arith, is, bit_small (is_one b))
 
 pub known_nothing : IsKnown 0 []
 known_nothing = record { small = omega arith; known = refl; word = refl }
-
-pub known_below : (x : ℕ) (bytes : List ℕ) → length bytes < 64 → IsKnown x bytes → x < 2 ^ 63
-known_below x bytes fewer h =
-    let power : 2 ^ length bytes ≤ 2 ^ 63 = pow-le-pow_right {n = 2} (omega arith) {i = length bytes} {j = 63} (omega (arith, fewer)) in
-    omega (arith, power, h.small)
 
 map-more : (bytes : List ℕ) (b : ℕ) → map is_one (bytes ++ b ∷ []) ≡ map is_one bytes ++ is_one b ∷ []
 map-more [] b = refl
