@@ -1,17 +1,17 @@
 -- The first line of a list of lines that is joined from parts.
-use Rattle.std.proofs.Common.{◌≡◌, ℕ, suc, ◌+◌, ◌-◌, ◌<◌, ◌≤◌, ◌==◌, ◌||◌, if◌then◌else◌, nat_eq, Bool, true, false, not, ◌&&◌, List, [], ◌∷◌, ◌++◌, map, length, Option, Some, None, nat_lt, cond, refl, ap, sym, ◌∙◌, arith, length-append, append-nil}
+use Rattle.std.proofs.Common.{◌≡◌, ℕ, suc, ◌+◌, ◌-◌, ◌<◌, ◌≤◌, ◌==◌, ◌||◌, if◌then◌else◌, nat_eq, Bool, true, false, not, ◌&&◌, List, [], ◌∷◌, ◌++◌, map, length, Option, Some, None, nat_le, nat_lt, cond, refl, ap, sym, ◌∙◌, arith, length-append, append-nil}
 use Rattle.std.proofs.lemmas.Bool.Decides.{nat_tests}
 use Rattle.std.proofs.lemmas.List.Sums.{sum_by-cons}
 use Rattle.aiger.specs.Limits.{greatest_count}
 use Rattle.std.specs.Option.{option_map}
-use Rattle.std.specs.List.{list_any, position, position_or_len, concat, sum_by}
-use Rattle.std.proofs.lemmas.Bool.{or_parts}
+use Rattle.std.specs.List.{list_all, list_any, position, position_or_len, concat, sum_by}
+use Rattle.std.proofs.lemmas.Bool.{or_parts, and_parts, leb-true}
 use Rattle.aiger.specs.declared.loose.GateLine.{GateLine}
 use Rattle.aiger.specs.declared.loose.LatchLine.{LatchLine}
 use Rattle.aiger.specs.Literal.{variable}
 use Rattle.aiger.specs.Loose.{Loose, IsLoose, defined_variables, is_defined}
 use Rattle.aiger.specs.Renumbering.{alone, is_known, first_undefined}
-use Rattle.aiger.specs.Numbering.{WaitForEarlier, is_unknown, line_in, lines_with, slot_of}
+use Rattle.aiger.specs.Numbering.{WaitForEarlier, is_unknown, line_in, lines_with, slot_of, slots_of}
 use Rattle.aiger.proofs.NumbersLemmas.{not_found}
 use Rattle.aiger.proofs.PlacesLemmas.{length_defined}
 
@@ -141,6 +141,28 @@ known_by_slot l lit low = by (variable lit == 0) (list_any (nat_eq (variable lit
         let slot : slot_of (defined_variables l) (length l.inputs + length l.latches) lit ≡ suc (position_or_len (nat_eq (variable lit)) (defined_variables l)) - (length l.inputs + length l.latches) =
         ap (λ (t : Bool). if t then 0 else suc (position_or_len (nat_eq (variable lit)) (defined_variables l)) - (length l.inputs + length l.latches)) e in
         absurd (omega (arith, low, slot, not_found (variable lit) (defined_variables l) f, length_defined l))
+
+-- gates whose slots are known
+gates_known : (l : Loose) (lines : List GateLine) → list_all (λ slot. nat_le slot (length l.gates)) (slots_of (defined_variables l) (length l.inputs + length l.latches) lines) ≡ true → list_any (is_unknown l) (map (λ line. line.rhs0 ∷ line.rhs1 ∷ []) lines) ≡ false
+gates_known l [] t = refl
+gates_known l (x ∷ lines) t =
+    let a = and_parts (nat_le (slot_of (defined_variables l) (length l.inputs + length l.latches) x.rhs0) (length l.gates)) _ t in
+    let b = and_parts (nat_le (slot_of (defined_variables l) (length l.inputs + length l.latches) x.rhs1) (length l.gates)) _ a.1 in
+    let first : is_known l x.rhs0 ≡ true = known_by_slot l x.rhs0 (leb-true _ _ a.0) in
+    let second : is_known l x.rhs1 ≡ true = known_by_slot l x.rhs1 (leb-true _ _ b.0) in
+    let here : is_unknown l (x.rhs0 ∷ x.rhs1 ∷ []) ≡ false = ap (λ (t : Bool). not (t && (is_known l x.rhs1 && true))) first ∙ ap (λ (t : Bool). not (t && true)) second in
+    ap (λ (t : Bool). t || list_any (is_unknown l) (map (λ line. line.rhs0 ∷ line.rhs1 ∷ []) lines)) here ∙ gates_known l lines b.1
+
+-- where no slot is behind all gates, the first undefined line is none of a gate
+pub undefined_by_slots : (l : Loose) → list_all (λ slot. nat_le slot (length l.gates)) (slots_of (defined_variables l) (length l.inputs + length l.latches) l.gates) ≡ true → position (is_unknown l) (lines_with l []) ≡ first_undefined l
+undefined_by_slots l t = by (position (is_unknown l) (lines_with l [])) refl
+  where
+    by : (o : Option ℕ) → position (is_unknown l) (lines_with l []) ≡ o → position (is_unknown l) (lines_with l []) ≡ first_undefined l
+    by (Some k) e = e ∙ sym (undefined_in_front l k e)
+    by None e =
+        e
+        ∙ sym (place_behind (is_unknown l) (lines_before l) (map (λ line. line.rhs0 ∷ line.rhs1 ∷ []) l.gates) (ap (position (is_unknown l)) (sym (append-nil (lines_before l))) ∙ e)
+        ∙ ap (option_map (λ k. length (lines_before l) + k)) (none_passes (is_unknown l) (map (λ line. line.rhs0 ∷ line.rhs1 ∷ []) l.gates) (gates_known l l.gates t)))
 
 -- where gates wait for earlier ones, all that they use is known
 pub known_in_order : (l : Loose) → position (is_unknown l) (lines_with l []) ≡ None → WaitForEarlier (defined_variables l) (length l.inputs + length l.latches) l.gates → first_undefined l ≡ None

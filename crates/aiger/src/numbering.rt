@@ -1,6 +1,6 @@
 //! The lists of a file as a circuit: their variables get the numbers of a circuit.
-ghost use Rattle.std.specs.Prelude.{◌≡◌, ◌+◌, ◌++◌, [], map, ◌<◌, ◌≤◌, length, not, All, None, IfOk, OnOk};
-ghost use Rattle.std.specs.List.{position};
+ghost use Rattle.std.specs.Prelude.{◌≡◌, ◌+◌, ◌++◌, [], map, ◌<◌, ◌≤◌, length, nat_le, not, All, None, IfOk, OnOk};
+ghost use Rattle.std.specs.List.{list_all, position};
 ghost use Rattle.aiger.specs.Limits.{greatest_count};
 ghost use Rattle.aiger.specs.Literal.{variable};
 ghost use Rattle.aiger.specs.Loose.{IsLoose, defined_variables, latch_variable};
@@ -56,9 +56,9 @@ impl Loose {
         if places.are_in_order(self.leaf_count(), self.gates()) {
             return self.number_in_order(alloc, &places);
         }
-        match self.undefined_line() {
-            Some(line) => Err(LooseFault::Undefined(line)),
-            None => self.number_by_readiness(alloc, places),
+        match self.slots(alloc, places) {
+            Ok(slots) => self.number_by_slots(alloc, slots),
+            Err(_) => self.number_without_memory(),
         }
     }
 
@@ -87,13 +87,36 @@ impl Loose {
         Ok(Circuit::renumbered(alloc, self, places, gates)?)
     }
 
-    /// The circuit of lists whose gates may stand in any order.
-    fn number_by_readiness(&self, alloc: Global, places: Numbers) -> Result<Circuit, LooseFault>
-        requires known { first_undefined self.now ≡ None }
-        requires places { places ≡ defined_variables self.now }
+    /// The circuit that lists whose gates may stand in any order are, by what their gates wait for.
+    fn number_by_slots(&self, alloc: Global, slots: Vec<u32>) -> Result<Circuit, LooseFault>
+        requires { slots.items ≡ slots_of (defined_variables self.now) (length self.now.inputs + length self.now.latches) self.now.gates }
         ensures { AnswersNumber self.now result }
     {
-        let (order, marks) = self.gate_order(alloc, places)?;
+        match self.undefined_by_slots(&slots) {
+            Some(line) => Err(LooseFault::Undefined(line)),
+            None => self.number_by_readiness(alloc, slots),
+        }
+    }
+
+    /// The first line that uses a variable that is neither 0 nor defined, by what the gates wait for: a place behind all
+    /// gates is that of no variable.
+    fn undefined_by_slots(&self, slots: &[u32]) -> Option<usize>
+        requires { slots.now ≡ slots_of (defined_variables self.now) (length self.now.inputs + length self.now.latches) self.now.gates }
+        ensures { result ≡ first_undefined self.now }
+    {
+        if are_within(slots, self.gates().len()) {
+            return self.undefined_with(&[]);
+        }
+        self.undefined_line()
+    }
+
+    /// The circuit of lists whose gates may stand in any order, where each variable is defined.
+    fn number_by_readiness(&self, alloc: Global, slots: Vec<u32>) -> Result<Circuit, LooseFault>
+        requires known { first_undefined self.now ≡ None }
+        requires slots { slots.items ≡ slots_of (defined_variables self.now) (length self.now.inputs + length self.now.latches) self.now.gates }
+        ensures { AnswersNumber self.now result }
+    {
+        let (order, marks) = self.gate_order(alloc, slots)?;
         match first_left(&marks) {
             Some(gate) => Err(LooseFault::Cycle(gate)),
             None => self.number_by_order(alloc, &order),
@@ -192,14 +215,13 @@ impl Loose {
     fn gate_order(
         &self,
         alloc: Global,
-        places: Numbers,
+        slots: Vec<u32>,
     ) -> Result<(Vec<u32>, Vec<bool>), AllocError>
         requires known { first_undefined self.now ≡ None }
-        requires places { places ≡ defined_variables self.now }
+        requires slots { slots.items ≡ slots_of (defined_variables self.now) (length self.now.inputs + length self.now.latches) self.now.gates }
         ensures order { IfOk result (λ r. IsReadyOrder self.now r.0.items r.1.items) }
         ensures valid { IsLoose self.now }
     {
-        let slots = self.slots(alloc, places)?;
         order_of_readiness(alloc, slots, self.gates().len())
     }
 
@@ -212,6 +234,13 @@ impl Loose {
     {
         places.gate_slots(alloc, self.leaf_count(), self.gates())
     }
+}
+
+/// Whether all slots are at most so great.
+fn are_within(slots: &[u32], most: usize) -> bool
+    ensures { result ≡ list_all (λ slot. nat_le slot most) slots.now }
+{
+    slots.iter().all(|slot| *slot as usize <= most)
 }
 
 /// The first gate that has no number, if there is one.
