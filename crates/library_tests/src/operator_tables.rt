@@ -395,14 +395,26 @@ fn equal_gates(alloc: Global) -> Option<usize> {
 /// How many gates a shift of a word of two bits takes.
 fn shift_gates(alloc: Global) -> Option<usize> {
     let mut g = HashGates::new(alloc, INPUTS, 0).ok()?;
-    shift(&mut g, Binary::Sll, inputs(0, 2).as_slice(), inputs(64, 2).as_slice()).ok()?;
+    shift(
+        &mut g,
+        Binary::Sll,
+        inputs(0, 2).as_slice(),
+        inputs(64, 2).as_slice(),
+    )
+    .ok()?;
     Some(g.finish().gates().len())
 }
 
 /// How many gates a rotation of a word of two bits takes.
 fn rotation_gates(alloc: Global) -> Option<usize> {
     let mut g = HashGates::new(alloc, INPUTS, 0).ok()?;
-    rotate(&mut g, Binary::Rol, inputs(0, 2).as_slice(), inputs(64, 2).as_slice()).ok()?;
+    rotate(
+        &mut g,
+        Binary::Rol,
+        inputs(0, 2).as_slice(),
+        inputs(64, 2).as_slice(),
+    )
+    .ok()?;
     Some(g.finish().gates().len())
 }
 
