@@ -1,0 +1,233 @@
+//! Witnesses that are fed to a judge in two pieces, cut at each place, and byte by byte. Among them are texts with long lines,
+//! of 341, 342 and 343 bytes, since a judge of models' witnesses keeps the first 342 bytes of a line that is cut.
+use aiger::Circuit;
+use btor2::Model;
+use std::alloc::{AllocError, Global};
+use std::test::Fail;
+use witness::{BitJudge, Judgement, Why, WordJudge};
+
+/// A text and its judgement.
+type Judged = (&'static str, Judgement);
+
+/// A text that is no witness, its faulty line, and why.
+type Faulty = (&'static str, u64, Why);
+
+/// Whether a text that is fed to a judge in two pieces is judged so.
+fn is_judged_cut(
+    alloc: Global,
+    model: &Model,
+    text: &[u8],
+    cut: usize,
+    wanted: &Judgement,
+) -> bool {
+    let (front, rest) = text.split_at(cut.min(text.len()));
+    match WordJudge::new(alloc, model) {
+        Ok(mut judge) => {
+            judge.feed(front);
+            judge.feed(rest);
+            judge.finish() == *wanted
+        }
+        Err(_) => false,
+    }
+}
+
+/// Whether a text that is fed to a judge byte by byte is judged so.
+fn is_judged_by_bytes(alloc: Global, model: &Model, text: &[u8], wanted: &Judgement) -> bool {
+    match WordJudge::new(alloc, model) {
+        Ok(mut judge) => {
+            for byte in text {
+                judge.feed(&[*byte]);
+            }
+            judge.finish() == *wanted
+        }
+        Err(_) => false,
+    }
+}
+
+/// Whether a text is judged so byte by byte, and cut at each place.
+fn is_judged(alloc: Global, model: &Model, text: &[u8], wanted: &Judgement) -> bool {
+    for cut in 0..text.len() {
+        if !is_judged_cut(alloc, model, text, cut, wanted) {
+            return false;
+        }
+    }
+    is_judged_by_bytes(alloc, model, text, wanted)
+}
+
+/// The model of a text.
+fn model_of(alloc: Global, text: &str) -> Result<Model, Fail> {
+    Ok(btor2text::read(alloc, &mut text.as_bytes())?)
+}
+
+/// An input of 64 bits, which is bad where it is not 0.
+const WIDE: &str = "1 sort bitvec 64\n2 sort bitvec 1\n3 input 1 x\n4 redor 2 3\n5 bad 4\n";
+
+/// The beginning of a text, a byte, how often it stands behind the beginning where its line is to have 341 bytes, the end,
+/// and the faulty line and why, or none where one frame is accepted.
+type Long = (&'static str, u8, usize, &'static str, Option<(u64, Why)>);
+
+/// Texts over it with a long line.
+const OF_WIDE: [Long; 9] = [
+    (
+        ";",
+        b'x',
+        340,
+        "\nsat\nb0\n@0\n0 0000000000000000000000000000000000000000000000000000000000000001\n.\n",
+        None,
+    ),
+    ("", b's', 341, "\nb0\n", Some((1, Why::BadHeader))),
+    ("sat\nb", b'1', 340, "\n@0\n.\n", Some((2, Why::BadClaim))),
+    ("sat\nb0\n@", b'0', 340, "\n.\n", Some((3, Why::FrameOrder))),
+    (
+        "sat\nb0\n@0\n",
+        b'1',
+        339,
+        " 0\n.\n",
+        Some((4, Why::BadIndex)),
+    ),
+    (
+        "sat\nb0\n@0\n0 ",
+        b'1',
+        339,
+        "\n.\n",
+        Some((4, Why::BadValue)),
+    ),
+    (
+        "sat\nb0\n@0\n0 0000000000000000000000000000000000000000000000000000000000000001 ",
+        b'n',
+        274,
+        "\n.\n",
+        Some((4, Why::BadSymbol)),
+    ),
+    (
+        "sat\nb0\n@0\n0 000000000000000000000000000000000000000000000000000000000000000x ",
+        b' ',
+        274,
+        "\n.\n",
+        Some((4, Why::Undetermined)),
+    ),
+    ("sat\nb0\n@0\n0 ", b'1', 339, "", Some((4, Why::Truncated))),
+];
+
+/// The text of a row with so many bytes more.
+fn long_text(alloc: Global, row: &Long, more: usize) -> Result<Vec<u8>, AllocError> {
+    let (beginning, byte, count, end, _) = *row;
+    let mut line = vec![in alloc; byte; count.saturating_add(more)]?;
+    let mut text = Vec::from_slice(alloc, beginning.as_bytes())?;
+    text.append(&mut line)?;
+    text.extend_from_slice(end.as_bytes())?;
+    Ok(text)
+}
+
+/// What is judged of a row's text.
+fn wanted_of(row: &Long) -> Judgement {
+    match row.4 {
+        Some((line, why)) => Judgement::Malformed { line, why },
+        None => Judgement::Accepted { frames: 1 },
+    }
+}
+
+#[test]
+fn long_lines_in_two_pieces(rt: HostRuntime) -> Result<(), Fail> {
+    let model = model_of(rt.alloc(), WIDE)?;
+    for row in &OF_WIDE {
+        for more in 0..3 {
+            let text = long_text(rt.alloc(), row, more)?;
+            let is_judged = is_judged(rt.alloc(), &model, text.as_slice(), &wanted_of(row));
+            assert!(rt; is_judged, "{} {more}", row.0);
+        }
+    }
+    Ok(())
+}
+
+/// An input, a latch that has its bit a frame later, and the gate of both, which is bad.
+const TWICE: &[u8] = b"aag 3 1 1 0 1 1\n2\n4 2\n6\n6 4 2\n";
+
+/// Witnesses over it.
+const OF_TWICE: [Judged; 4] = [
+    ("1\nb0\n0\n1\n1\n.\n", Judgement::Accepted { frames: 2 }),
+    ("1\nb0\n0\n1\n0\n.\n", Judgement::NotReached { claim: 0 }),
+    ("1\nb0\n1\n1\n.\n", Judgement::InitDiffers { index: 0 }),
+    ("2\nx", Judgement::NoClaim),
+];
+
+/// Texts over it that are none.
+const NONE_OF_TWICE: [Faulty; 9] = [
+    ("sat\nb0\n", 1, Why::BadHeader),
+    ("1\nb1\n0\n", 2, Why::BadClaim),
+    ("1\nj0\n0\n", 2, Why::JusticeClaim),
+    ("1\nb0\n00\n", 3, Why::BadValue),
+    ("1\nb0\n0\nx\n.\n", 4, Why::Undetermined),
+    ("1\nb0\n0\n.\n", 4, Why::FrameOrder),
+    ("1\nb0\n0\n1\n.\n.\n", 6, Why::Trailing),
+    ("1\nb0\n0\n1\n", 5, Why::Truncated),
+    ("1\nb0\n0\n1", 4, Why::Truncated),
+];
+
+/// Whether a text that is fed to a judge of circuits' witnesses in two pieces is judged so.
+fn are_bits_judged_cut(
+    alloc: Global,
+    circuit: &Circuit,
+    text: &[u8],
+    cut: usize,
+    wanted: &Judgement,
+) -> bool {
+    let (front, rest) = text.split_at(cut.min(text.len()));
+    match BitJudge::new(alloc, circuit) {
+        Ok(mut judge) => {
+            judge.feed(front);
+            judge.feed(rest);
+            judge.finish() == *wanted
+        }
+        Err(_) => false,
+    }
+}
+
+/// Whether a text that is fed to such a judge byte by byte is judged so.
+fn are_bits_judged_by_bytes(
+    alloc: Global,
+    circuit: &Circuit,
+    text: &[u8],
+    wanted: &Judgement,
+) -> bool {
+    match BitJudge::new(alloc, circuit) {
+        Ok(mut judge) => {
+            for byte in text {
+                judge.feed(&[*byte]);
+            }
+            judge.finish() == *wanted
+        }
+        Err(_) => false,
+    }
+}
+
+/// Whether a text is judged so byte by byte, and cut at each place.
+fn are_bits_judged(alloc: Global, circuit: &Circuit, text: &[u8], wanted: &Judgement) -> bool {
+    for cut in 0..text.len() {
+        if !are_bits_judged_cut(alloc, circuit, text, cut, wanted) {
+            return false;
+        }
+    }
+    are_bits_judged_by_bytes(alloc, circuit, text, wanted)
+}
+
+#[test]
+fn witnesses_of_circuits_in_two_pieces(rt: HostRuntime) -> Result<(), Fail> {
+    let mut source = TWICE;
+    let circuit = aigertext::read(rt.alloc(), &mut source)?;
+    for (text, wanted) in &OF_TWICE {
+        assert!(rt;
+            are_bits_judged(rt.alloc(), &circuit, text.as_bytes(), wanted),
+            "{text}"
+        );
+    }
+    for (text, line, why) in &NONE_OF_TWICE {
+        let (line, why) = (*line, *why);
+        let wanted = Judgement::Malformed { line, why };
+        assert!(rt;
+            are_bits_judged(rt.alloc(), &circuit, text.as_bytes(), &wanted),
+            "{text}"
+        );
+    }
+    Ok(())
+}
