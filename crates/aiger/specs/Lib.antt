@@ -22,3 +22,4 @@ pub mod ReadyGates
 pub mod Numbering
 pub mod OwnLists
 pub mod Worked
+pub mod Reachability

@@ -31,7 +31,8 @@ use Rattle.blast.specs.Lowering.{Lowers, ShowSame}
 use Rattle.blast.proofs.KindRows.{free_parts}
 use Rattle.blast.proofs.NodeLemmas.{length-leaves}
 use Rattle.blast.proofs.LowerAssembly.{length-resets, length-state_resets}
-use Rattle.blast.specs.Reachability.{Shown, model_shows, circuit_shows, rises_within, CanRise, CanRiseInCircuit}
+use Rattle.aiger.specs.Reachability.{Shown, circuit_shows, rises_within, CanRiseInCircuit}
+use Rattle.blast.specs.Reachability.{model_shows, CanRise}
 
 -- ---- bits that agree with resets
 

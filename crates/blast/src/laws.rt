@@ -18,7 +18,8 @@ ghost use Rattle.btor2.specs.Items.{is_input, is_state};
 ghost use Rattle.btor2.specs.Lists.{HaveNexts};
 ghost use Rattle.blast.specs.Leaves.{by_body, of_kind, leaf_bits, leaf_names, leaf_resets, bit_name, input_bits, state_bits, input_names, state_names, output_names, bad_names, constraint_names, resets_of_word, state_resets, output_bits, bad_values, constraint_values};
 ghost use Rattle.blast.specs.Lowering.{Lowers};
-ghost use Rattle.blast.specs.Reachability.{CanRise, CanRiseInCircuit, rises_within};
+ghost use Rattle.aiger.specs.Reachability.{CanRiseInCircuit, rises_within};
+ghost use Rattle.blast.specs.Reachability.{CanRise};
 ghost use Rattle.blast.specs.Refusal.{form_refusal, lowering_refusal};
 ghost use Rattle.blast.specs.Worked.{masked, named_toggler, named_follower, follower_circuit, free_alone, one_input, one_latch, init_alone, gated, unsatisfied, named_inverter, inverter_circuit, without_outputs, named_keeper, keeper_circuit, fair_first, justice_first};
 
