@@ -10,6 +10,7 @@ use Rattle.btor2.specs.Items.{node_width, is_state, is_carried_state, next_value
 use Rattle.btor2.specs.Check.{IsWellFormed}
 use Rattle.btor2.specs.Lists.{places, first_init_without_next}
 use Rattle.btor2.specs.Trace.{bits_of, next_state}
+use Rattle.btor2.specs.Leaves.{kind_width}
 use Rattle.btor2.proofs.AppendLemmas.{some_of}
 use Rattle.btor2.proofs.ModelLemmas.{IsNextOf-from_value, node_width-range}
 use Rattle.aiger.specs.declared.circuit.Latch.{Latch}
@@ -19,7 +20,7 @@ use Rattle.aiger.specs.Literal.{literal_value}
 use Rattle.aiger.specs.Net.{Net, IsDefined}
 use Rattle.aiger.specs.Circuit.{Circuit, net, with_latch, fresh_latch}
 use Rattle.blast.specs.Blocks.{block, blocks, written}
-use Rattle.blast.specs.Cost.{kind_width, carried_width}
+use Rattle.blast.specs.Cost.{carried_width}
 use Rattle.blast.specs.Leaves.{by_body, of_kind, reset_of_bit, resets_of_word, leaf_resets, leaf_bits}
 use Rattle.blast.specs.Reads.{ReadsWord, RowsRead, LatchesRead}
 use Rattle.blast.specs.Rows.{row_at, reset_at, row_latches, state_latches, item_latches}

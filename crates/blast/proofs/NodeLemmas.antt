@@ -1,5 +1,5 @@
 -- The rows of nodes: what stays as gates are added, and what each form makes.
-use Rattle.std.proofs.Common.{◌≡◌, ℕ, zero, suc, ◌+◌, ◌*◌, ◌<◌, ◌≤◌, Bool, true, false, cond, List, [], ◌∷◌, ◌++◌, length, Option, Some, None, IfSome, unwrap_or, option_and_then, slice_get, get_or, take, drop, map, All, refl, sym, ap, ap₂, subst, ◌∙◌, arith, length-append, append_assoc}
+use Rattle.std.proofs.Common.{◌≡◌, ℕ, zero, suc, ◌+◌, ◌*◌, ◌<◌, ◌≤◌, Bool, true, cond, List, [], ◌∷◌, ◌++◌, length, Option, Some, None, IfSome, unwrap_or, option_and_then, slice_get, get_or, take, drop, map, All, refl, sym, ap, ap₂, subst, ◌∙◌, arith, length-append, append_assoc}
 use Rattle.std.specs.List.{range_with_len}
 use Rattle.std.proofs.lemmas.Option.{none-some, same_Some, slice_get-get_or}
 use Rattle.std.proofs.lemmas.List.{take_at, drop_at, length-map}
@@ -15,6 +15,7 @@ use Rattle.btor2.specs.declared.item.Item.{Item}
 use Rattle.btor2.specs.Items.{find_item, position_of, width_of_body, node_width}
 use Rattle.btor2.specs.Check.{IsWellFormed}
 use Rattle.btor2.specs.Trace.{Frame, bits_of, LineHolds, LinesHold, IsFrame}
+use Rattle.btor2.specs.Leaves.{kind_width}
 use Rattle.btor2.proofs.AppendLemmas.{is_some_from, then_parts, node_width-append}
 use Rattle.btor2.proofs.ModelLemmas.{IsIn-from_find, node_width-at, node_width-range, position_of-at}
 use Rattle.aiger.specs.Literal.{Valuation, literal_value}
@@ -24,9 +25,10 @@ use Rattle.gates.specs.Bound.{unary_bound, binary_bound, ite_bound}
 use Rattle.gates.specs.Made.{Grows, MakesWord, word_value}
 use Rattle.gates.proofs.GrowthLemmas.{Grows-refl, Grows-weaker, Satisfies-earlier, All-defined-grown}
 use Rattle.blast.specs.Leaves.{of_kind, leaf_bits}
-use Rattle.blast.specs.Cost.{line_cost, kind_width}
+use Rattle.blast.specs.Cost.{line_cost}
 use Rattle.blast.specs.Reads.{Together, ReadsWord, RowsRead}
 use Rattle.blast.specs.Table.{MakesNode, MakesRow, IsOperand}
+use Rattle.blast.proofs.KindBlocks.{length-of_kind}
 use Rattle.btor2.proofs.TraceLemmas.{words_fit_frame}
 
 -- What stays as gates are added.
@@ -216,16 +218,8 @@ of_kind-append kind give [] ys = refl
 of_kind-append {A} kind give (x ∷ xs) ys =
     ap (λ (l : List A). cond (kind x) (give x) [] ++ l) (of_kind-append kind give xs ys) ∙ sym (append_assoc (cond (kind x) (give x) []) (of_kind kind give xs) (of_kind kind give ys))
 
-length-leaf : (items : List Item) (f : Frame) (x : Item) (b : Bool) → length (cond b (leaf_bits items f x) []) ≡ cond b (bits_of items x.id) 0
-length-leaf items f x true = length-bits (bits_of items x.id) (f x.id)
-length-leaf items f x false = refl
-
 pub length-leaves : (items : List Item) (kind : Item → Bool) (f : Frame) (xs : List Item) → length (of_kind kind (leaf_bits items f) xs) ≡ kind_width items kind xs
-length-leaves items kind f [] = refl
-length-leaves items kind f (x ∷ xs) =
-    length-append (cond (kind x) (leaf_bits items f x) []) (of_kind kind (leaf_bits items f) xs)
-    ∙ ap₂ ◌+◌ (length-leaf items f x (kind x)) (length-leaves items kind f xs)
-    ∙ sym (sum_by-cons (λ (y : Item). cond (kind y) (bits_of items y.id) 0) x xs)
+length-leaves items kind f xs = length-of_kind items kind (leaf_bits items f) xs (λ x. length-bits (bits_of items x.id) (f x.id))
 
 -- the middle parts of two equal lists that are cut at equal lengths
 same_middle : (a b c x y z : List Bool) → a ++ (b ++ c) ≡ x ++ (y ++ z) → length a ≡ length x → length b ≡ length y → b ≡ y

@@ -17,9 +17,11 @@ use Rattle.btor2.specs.Items.{width_of_body, sort_width, is_input, is_state, is_
 use Rattle.btor2.specs.Lists.{places, is_free_at}
 use Rattle.btor2.specs.Check.{IsWellFormed}
 use Rattle.btor2.specs.Trace.{Frame, bits_of, LineHolds}
+use Rattle.btor2.specs.Leaves.{kind_width}
 use Rattle.btor2.proofs.AppendLemmas.{sort_width-append, node_width-append}
 use Rattle.btor2.proofs.AcceptedLemmas.{BodyIsAccepted}
 use Rattle.btor2.proofs.ModelLemmas.{IsIn-from_place, IsAccepted-at}
+use Rattle.btor2.proofs.LeafLemmas.{bits_of-at, free_at}
 use Rattle.aiger.specs.Literal.{Valuation}
 use Rattle.aiger.specs.Net.{Net, variables, bits_from}
 use Rattle.aiger.proofs.NetLemmas.{length-bits_from, bits_from-append}
@@ -27,12 +29,11 @@ use Rattle.gates.specs.Bound.{unary_bound, binary_bound}
 use Rattle.gates.specs.Made.{Grows}
 use Rattle.gates.proofs.GrowthLemmas.{Grows-refl, Grows-trans, variables-grown}
 use Rattle.blast.specs.Leaves.{by_body, of_kind, leaf_bits, input_bits}
-use Rattle.blast.specs.Cost.{line_cost, cost, kind_width, input_width, free_width, given_width, bound}
+use Rattle.blast.specs.Cost.{line_cost, cost, input_width, free_width, given_width, bound}
 use Rattle.blast.specs.declared.nodes.NextLeaf.{NextLeaf}
 use Rattle.blast.specs.Reads.{Together, RowReads, leaves_only, LowersNodes}
 use Rattle.blast.specs.Table.{MakesNode, MakesRow, IsOperand, cost_among, next_leaf, next_after, LowersFront}
-use Rattle.blast.proofs.WidthLemmas.{bits_of-at, leaves_width}
-use Rattle.blast.proofs.KindRows.{is_free-at}
+use Rattle.blast.proofs.WidthLemmas.{leaves_width}
 use Rattle.blast.proofs.NodeLemmas.{MakesRow-from_node, MakesNode-variables, length-leaves, leaf_variables, same_parts, length-range, LineHolds-at, IsOperand-from_front, RowsRead-later}
 
 -- The rows so far.
@@ -322,7 +323,7 @@ IsNextState-from_front items place x next at is e =
 
 -- whether that state is free
 pub IsNextState-free : (items : List Item) (place k : ℕ) (x : Item) (b : Bool) → IsNextState items place k → slice_get items place ≡ Some x → b ≡ is_free_at items (get_or (places is_state 0 items) k 0) → is_free items x.id ≡ b
-IsNextState-free items place k x b n at e = sym (e ∙ ap (is_free_at items) n.at ∙ is_free-at items place x at)
+IsNextState-free items place k x b n at e = sym (e ∙ ap (is_free_at items) n.at ∙ free_at items place x at)
 
 -- what the leaf behind a state has
 pub after_state : (items : List Item) (x : Item) (next : NextLeaf) (b : Bool) → is_state x.body ≡ true → is_free items x.id ≡ b

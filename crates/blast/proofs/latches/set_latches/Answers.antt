@@ -1,11 +1,11 @@
 use Rattle.std.proofs.Common.{◌≡◌, ℕ, ◌+◌, ◌≤◌, Some, length, get_or, slice_get, refl, ap, subst, sym, ◌∙◌, arith}
 use Rattle.btor2.specs.Items.{is_state}
+use Rattle.btor2.proofs.LeafLemmas.{place_within, place_kind}
 use Rattle.aiger.specs.Circuit.{Circuit, net}
 use Rattle.blast.specs.Blocks.{written}
 use Rattle.blast.specs.Reads.{LatchesRead}
 use Rattle.blast.specs.Rows.{item_latches}
-use Rattle.blast.proofs.KindBlocks.{reached, reached-none, place-within}
-use Rattle.blast.proofs.KindRows.{place-kind}
+use Rattle.blast.proofs.KindBlocks.{reached, reached-none}
 use Rattle.blast.proofs.LatchLemmas.{WithStates-none, WithStates-room, WithStates-more, WithStates-all, reached-state, other_latches, LatchesRead-made}
 use Rattle.blast.proofs.latches.set_latches.Goals as goal
 
@@ -20,11 +20,11 @@ loop-k-init c =
 
 pub item_at-item-requires : goal.item_at-item-requires
 item_at-item-requires c =
-    omega (arith, ap length c.items-items.ensures.items, place-within is_state c.args.model.now c.states-states.result.now c.loop-k.k c.states-states.ensures c.loop-k-test.true)
+    omega (arith, ap length c.items-items.ensures.items, place_within is_state c.args.model.now c.states-states.result.now c.loop-k.k c.states-states.ensures c.loop-k-test.true)
 
 pub set_unless_free-first-requires-clause-state : goal.set_unless_free-first-requires-clause-state
 set_unless_free-first-requires-clause-state c =
-    place-kind is_state c.args.model.now c.states-states.result.now c.loop-k.k c.item_at-item.result.now c.states-states.ensures c.loop-k-test.true (rw c.items-items.ensures.items at c.item_at-item.ensures)
+    place_kind is_state c.args.model.now c.states-states.result.now c.loop-k.k c.item_at-item.result.now c.states-states.ensures c.loop-k-test.true (rw c.items-items.ensures.items at c.item_at-item.ensures)
 
 pub set_unless_free-first-requires-clause-room : goal.set_unless_free-first-requires-clause-room
 set_unless_free-first-requires-clause-room c =

@@ -8,11 +8,11 @@ pub returns-in_err-put_leaf-clause-puts : goal.returns-in_err-put_leaf-clause-pu
 returns-in_err-put_leaf-clause-puts g c =
     let is = err_from_is_err_and c.from_residual.result c.from_residual.ensures.1 in
     rw is.1 (put_fails _ _ _ _ _ _ _ _ _ c.loop-index.invariant.put c.in_err-put_leaf.ensures.puts
-    (leaves_step c.args.leaves c.args.model.now c.loop-index.index _ _ _ _ _ c.cut.result.1.now (omega (arith, c.loop-index-test.true, ap length c.places-index-end.ensures)) c.width.ensures.width c.takes.ensures c.cut.ensures.front c.cut.ensures.behind))
+    (leaves_step c.args.leaves c.args.model.now c.loop-index.index _ _ _ _ _ c.cut.result.1.now (omega (arith, c.loop-index-test.true, ap length c.places-index-end.ensures)) c.width.ensures.value c.has.ensures c.cut.ensures.front c.cut.ensures.behind))
 
 pub loop-index-preserved : goal.loop-index-preserved
 loop-index-preserved g c = record {
   put = put_more _ _ _ _ _ _ _ _ _ _ c.loop-index.invariant.put c.in_ok-put_leaf.ensures.puts
-      (leaves_step c.args.leaves c.args.model.now c.loop-index.index _ _ _ _ _ c.cut.result.1.now (omega (arith, c.loop-index-test.true, ap length c.places-index-end.ensures)) c.width.ensures.width c.takes.ensures c.cut.ensures.front c.cut.ensures.behind);
+      (leaves_step c.args.leaves c.args.model.now c.loop-index.index _ _ _ _ _ c.cut.result.1.now (omega (arith, c.loop-index-test.true, ap length c.places-index-end.ensures)) c.width.ensures.value c.has.ensures c.cut.ensures.front c.cut.ensures.behind);
   counted = search rules;
 }
