@@ -2,6 +2,7 @@
 use Rattle.std.proofs.Common.{◌≡◌, ℕ, ◌-◌, ◌/◌, ◌%◌, ◌<◌, rules, Bool, not, ◌==◌, List, [], ◌∷◌, refl, sym, ap, ap₂, ◌∙◌, arith, ◌≤◌, length, map}
 use Rattle.std.specs.Fmt.{digits}
 use Rattle.std.proofs.lemmas.Bool.Decides.{nat_tests}
+use Rattle.std.proofs.lemmas.List.Elements.{All-nil, All-cons}
 use Rattle.base.specs.Word.{bits}
 use Rattle.btor2.specs.declared.item.Item.{Item}
 use Rattle.btor2.specs.Check.{IsWellFormed}
@@ -11,7 +12,7 @@ use Rattle.btor2.proofs.TraceLemmas.{next_state_fits}
 use Rattle.aiger.specs.Literal.{Valuation}
 use Rattle.aiger.specs.declared.circuit.Reset.{Reset}
 use Rattle.aiger.specs.declared.circuit.Section.TheVariants as section
-use Rattle.aiger.specs.Circuit.{Circuit, IsCircuit, Names, net, section_names}
+use Rattle.aiger.specs.Circuit.{Circuit, IsCircuit, IsName, Names, net, section_names}
 use Rattle.aiger.specs.Worked.{toggler as toggler_circuit}
 use Rattle.blast.specs.Worked.{named_follower, follower_circuit, free_alone, one_input, named_inverter, inverter_circuit, named_keeper, keeper_circuit}
 use Rattle.blast.specs.Cost.{cost, given_width}
@@ -194,3 +195,13 @@ keeper_observes well =
 pub keeper_lowered : IsWellFormed named_keeper → IsCircuit keeper_circuit → Lowers named_keeper keeper_circuit
 unfolding digits
 keeper_lowered well circuit = lowers_as_said named_keeper keeper_circuit refl refl (omega arith) (keeper_observes well) well circuit
+
+-- the name of a bit of a symbol of one byte is a name
+pub bit_is_name : (n i : ℕ) → (32 ≤ n) × (n ≤ 126) → (32 ≤ i) × (i ≤ 126) → IsName (n ∷ 91 ∷ i ∷ 93 ∷ [])
+bit_is_name n i p q =
+    let good : ℕ → Type 0 = λ x. (32 ≤ x) × (x ≤ 126) in
+    record {
+      some = omega arith;
+      short = omega arith;
+      printable = All-cons good n (91 ∷ i ∷ 93 ∷ []) p (All-cons good 91 (i ∷ 93 ∷ []) (omega arith, omega arith) (All-cons good i (93 ∷ []) q (All-cons good 93 [] (omega arith, omega arith) (All-nil good))));
+    }
