@@ -114,12 +114,3 @@ pub through_fault : (S F : Type 0) (e : F) (items : List Item) (c : Circuit) (so
     → IfSome source (Takes {T = S} {E = F} (Err e) old new [] left before after) → IfSome source (λ text. AppendsBeginning old new (lifted_text items c text))
 through_fault S F e items c None old new left before after h t = tt
 through_fault S F e items c (Some text) old new left before after h t = t.takes items c [] old h (sent_nothing items c old)
-
--- each of two things that hold of a text, where it is known
-pub first_of_both : (o : Option (List ℕ)) (P Q : List ℕ → Type 0) → IfSome o (λ x. P x × Q x) → IfSome o P
-first_of_both None P Q h = tt
-first_of_both (Some x) P Q h = h.0
-
-pub second_of_both : (o : Option (List ℕ)) (P Q : List ℕ → Type 0) → IfSome o (λ x. P x × Q x) → IfSome o Q
-second_of_both None P Q h = tt
-second_of_both (Some x) P Q h = h.1
