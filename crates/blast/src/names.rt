@@ -69,31 +69,8 @@ pub(crate) fn give_name(
     }
 }
 
-/// Names the bits of a leaf with a symbol: so many positions from a first one on.
+/// Names the bits of a leaf, where it has a symbol: so many positions from a first one on.
 fn name_bits(
-    section: Section,
-    first: usize,
-    symbol: &Symbol,
-    count: u64,
-    circuit: &mut Circuit,
-) -> Result<(), LowerFault>
-    requires free { IsBlank None first count (section_names section circuit.old) }
-    requires room { first + count ≤ length (section_names section circuit.old) }
-    requires few { length (section_names section circuit.old) ≤ greatest_count }
-    requires count { count ≤ 64 }
-    ensures ok { OnOk result (Renames section circuit.old (written (section_names section circuit.old) first (bit_names (Some symbol.now) 0 count)) circuit.new) }
-    ensures err { IfErr result (λ e. e ≡ fault.NoMemory) }
-{
-    for bit in 0..count {
-        let mut name = ArrayVec::new();
-        write_bit_name(symbol.bytes(), bit, &mut name);
-        give_name(section, first + bit as usize, name.as_slice(), circuit)?;
-    }
-    Ok(())
-}
-
-/// Names the bits of a leaf, where it has a symbol.
-fn name_word(
     section: Section,
     first: usize,
     symbol: &Option<Symbol>,
@@ -108,7 +85,14 @@ fn name_word(
     ensures err { IfErr result (λ e. e ≡ fault.NoMemory) }
 {
     match symbol {
-        Some(symbol) => name_bits(section, first, symbol, count, circuit),
+        Some(symbol) => {
+            for bit in 0..count {
+                let mut name = ArrayVec::new();
+                write_bit_name(symbol.bytes(), bit, &mut name);
+                give_name(section, first + bit as usize, name.as_slice(), circuit)?;
+            }
+            Ok(())
+        }
         None => Ok(()),
     }
 }
@@ -132,7 +116,7 @@ fn name_leaf(
     ensures err { IfErr result (λ e. e ≡ fault.NoMemory) }
 {
     let count = bit_count(model, place, item);
-    name_word(section, first, &item.symbol, count, circuit)?;
+    name_bits(section, first, &item.symbol, count, circuit)?;
     Ok(count as usize)
 }
 
