@@ -134,53 +134,39 @@ pub bits_of_word : (v : Valuation) (row : List ℕ) (width value : ℕ) → leng
 bits_of_word v row width value wide is =
     sym (bits-word_of_length width (map (literal_value v) row) (length-map row (literal_value v) ∙ wide)) ∙ ap (bits width) is
 
+-- a row made as a word that is the node's in each frame
+MakesNode-from_word : (items : List Item) (old new : Net) (most width : ℕ) (made : Valuation → ℕ) (value : Frame → ℕ) (row : List ℕ) → MakesWord old new most width made row
+    → ((state input f : Frame) (v : Valuation) → Together items old state input f v → made v ≡ value f) → MakesNode items old new most width value row
+MakesNode-from_word items old new most width made value row m is =
+    record {
+      grows = m.grows;
+      wide = m.wide;
+      defined = m.defined;
+      bits = λ state input f v t. bits_of_word v row width (value f) m.wide (m.means v t.satisfied ∙ is state input f v (Together-earlier items old new most m.grows state input f v t));
+    }
+
 -- an operator of one operand
 pub MakesNode-unary : (items : List Item) (old new : Net) (rows : List (List ℕ)) (op : Unary) (id : ℕ) (a row : List ℕ) → IsWellFormed items → (o : IsOperand items old rows id) → Some o.row ≡ Some a
     → MakesWord old new (unary_bound op (length a)) (unary_width op (length a)) (λ v. unary_value op (length a) (word_value v a)) row
     → MakesNode items old new (unary_bound op (bits_of items id)) (unary_width op (bits_of items id)) (λ f. unary_value op (bits_of items id) (f id)) row
 MakesNode-unary items old new rows op id a row w o same m =
+    let n = bits_of items id in
     let is : o.row ≡ a = same_Some o.row a same in
-    let wide : length a ≡ bits_of items id = ap length (sym is) ∙ o.reads.wide in
-    from (length a) wide (subst (λ (l : List ℕ). MakesWord old new (unary_bound op (length a)) (unary_width op (length a)) (λ v. unary_value op (length a) (word_value v l)) row) (sym is) m)
-  where
-    from : (n : ℕ) → n ≡ bits_of items id → MakesWord old new (unary_bound op n) (unary_width op n) (λ v. unary_value op n (word_value v o.row)) row
-        → MakesNode items old new (unary_bound op (bits_of items id)) (unary_width op (bits_of items id)) (λ f. unary_value op (bits_of items id) (f id)) row
-    from n e m =
-        let k : MakesWord old new (unary_bound op (bits_of items id)) (unary_width op (bits_of items id)) (λ v. unary_value op (bits_of items id) (word_value v o.row)) row = rw e at m in
-        record {
-          grows = k.grows;
-          wide = k.wide;
-          defined = k.defined;
-          bits = λ state input f v t.
-              bits_of_word v row (unary_width op (bits_of items id)) (unary_value op (bits_of items id) (f id)) k.wide
-              (k.means v t.satisfied ∙ ap (unary_value op (bits_of items id)) (word_of_operand items old rows id w o state input f v (Together-earlier items old new (unary_bound op (bits_of items id)) k.grows state input f v t)));
-        }
+    let wide : bits_of items id ≡ length a = sym o.reads.wide ∙ ap length is in
+    MakesNode-from_word items old new (unary_bound op n) (unary_width op n) (λ v. unary_value op n (word_value v o.row)) (λ f. unary_value op n (f id)) row (rw (wide, is) m)
+    (λ state input f v t. ap (unary_value op n) (word_of_operand items old rows id w o state input f v t))
 
 -- an operator of two operands
 pub MakesNode-binary : (items : List Item) (old new : Net) (rows : List (List ℕ)) (op : Binary) (x y : ℕ) (a b row : List ℕ) → IsWellFormed items → (o : IsOperand items old rows x) → (p : IsOperand items old rows y) → Some o.row ≡ Some a → Some p.row ≡ Some b
     → MakesWord old new (binary_bound op (length a)) (binary_width op (length a)) (λ v. binary_value op (length a) (word_value v a) (word_value v b)) row
     → MakesNode items old new (binary_bound op (bits_of items x)) (binary_width op (bits_of items x)) (λ f. binary_value op (bits_of items x) (f x) (f y)) row
 MakesNode-binary items old new rows op x y a b row w o p same_a same_b m =
+    let n = bits_of items x in
     let is_a : o.row ≡ a = same_Some o.row a same_a in
     let is_b : p.row ≡ b = same_Some p.row b same_b in
-    let wide : length a ≡ bits_of items x = ap length (sym is_a) ∙ o.reads.wide in
-    let m_b = subst (λ (l : List ℕ). MakesWord old new (binary_bound op (length a)) (binary_width op (length a)) (λ v. binary_value op (length a) (word_value v a) (word_value v l)) row) (sym is_b) m in
-    from (length a) wide (subst (λ (l : List ℕ). MakesWord old new (binary_bound op (length a)) (binary_width op (length a)) (λ v. binary_value op (length a) (word_value v l) (word_value v p.row)) row) (sym is_a) m_b)
-  where
-    from : (n : ℕ) → n ≡ bits_of items x → MakesWord old new (binary_bound op n) (binary_width op n) (λ v. binary_value op n (word_value v o.row) (word_value v p.row)) row
-        → MakesNode items old new (binary_bound op (bits_of items x)) (binary_width op (bits_of items x)) (λ f. binary_value op (bits_of items x) (f x) (f y)) row
-    from n e m =
-        let n_x = bits_of items x in
-        let k : MakesWord old new (binary_bound op n_x) (binary_width op n_x) (λ v. binary_value op n_x (word_value v o.row) (word_value v p.row)) row = rw e at m in
-        record {
-          grows = k.grows;
-          wide = k.wide;
-          defined = k.defined;
-          bits = λ state input f v t.
-              let earlier = Together-earlier items old new (binary_bound op n_x) k.grows state input f v t in
-              bits_of_word v row (binary_width op n_x) (binary_value op n_x (f x) (f y)) k.wide
-              (k.means v t.satisfied ∙ ap₂ (binary_value op n_x) (word_of_operand items old rows x w o state input f v earlier) (word_of_operand items old rows y w p state input f v earlier));
-        }
+    let wide : bits_of items x ≡ length a = sym o.reads.wide ∙ ap length is_a in
+    MakesNode-from_word items old new (binary_bound op n) (binary_width op n) (λ v. binary_value op n (word_value v o.row) (word_value v p.row)) (λ f. binary_value op n (f x) (f y)) row (rw (wide, is_b, is_a) m)
+    (λ state input f v t. ap₂ (binary_value op n) (word_of_operand items old rows x w o state input f v t) (word_of_operand items old rows y w p state input f v t))
 
 -- a choice
 pub MakesNode-ite : (items : List Item) (old new : Net) (rows : List (List ℕ)) (x y z : ℕ) (c a b row : List ℕ) → IsWellFormed items → (q : IsOperand items old rows x) → (o : IsOperand items old rows y) → (p : IsOperand items old rows z)
@@ -188,27 +174,15 @@ pub MakesNode-ite : (items : List Item) (old new : Net) (rows : List (List ℕ))
     → MakesWord old new (ite_bound (length a)) (length a) (λ v. ite_value (word_value v c) (word_value v a) (word_value v b)) row
     → MakesNode items old new (ite_bound (bits_of items y)) (bits_of items y) (λ f. ite_value (f x) (f y) (f z)) row
 MakesNode-ite items old new rows x y z c a b row w q o p same_c same_a same_b m =
+    let n = bits_of items y in
     let is_c : q.row ≡ c = same_Some q.row c same_c in
     let is_a : o.row ≡ a = same_Some o.row a same_a in
     let is_b : p.row ≡ b = same_Some p.row b same_b in
-    let wide : length a ≡ bits_of items y = ap length (sym is_a) ∙ o.reads.wide in
-    from (length a) wide (rw (is_c, is_b, is_a) m)
-  where
-    from : (n : ℕ) → n ≡ bits_of items y → MakesWord old new (ite_bound n) n (λ v. ite_value (word_value v q.row) (word_value v o.row) (word_value v p.row)) row
-        → MakesNode items old new (ite_bound (bits_of items y)) (bits_of items y) (λ f. ite_value (f x) (f y) (f z)) row
-    from n e m =
-        let n_y = bits_of items y in
-        let k : MakesWord old new (ite_bound n_y) n_y (λ v. ite_value (word_value v q.row) (word_value v o.row) (word_value v p.row)) row = rw e at m in
-        record {
-          grows = k.grows;
-          wide = k.wide;
-          defined = k.defined;
-          bits = λ state input f v t.
-              let earlier = Together-earlier items old new (ite_bound n_y) k.grows state input f v t in
-              bits_of_word v row n_y (ite_value (f x) (f y) (f z)) k.wide
-              (k.means v t.satisfied ∙ ap (λ (i : ℕ). ite_value i (word_value v o.row) (word_value v p.row)) (word_of_operand items old rows x w q state input f v earlier)
-              ∙ ap₂ (ite_value (f x)) (word_of_operand items old rows y w o state input f v earlier) (word_of_operand items old rows z w p state input f v earlier));
-        }
+    let wide : bits_of items y ≡ length a = sym o.reads.wide ∙ ap length is_a in
+    MakesNode-from_word items old new (ite_bound n) n (λ v. ite_value (word_value v q.row) (word_value v o.row) (word_value v p.row)) (λ f. ite_value (f x) (f y) (f z)) row (rw (wide, is_c, is_b, is_a) m)
+    (λ state input f v t.
+    ap (λ (i : ℕ). ite_value i (word_value v o.row) (word_value v p.row)) (word_of_operand items old rows x w q state input f v t)
+    ∙ ap₂ (ite_value (f x)) (word_of_operand items old rows y w o state input f v t) (word_of_operand items old rows z w p state input f v t))
 
 -- Leaves.
 
