@@ -1,4 +1,4 @@
-use Rattle.std.proofs.Common.{◌≡◌, ℕ, Option, Bool, true, false, not, cond, List, [], All, length, sym, ap, ap₂, subst, ◌∙◌, arith}
+use Rattle.std.proofs.Common.{◌≡◌, ℕ, Option, Bool, false, not, cond, List, [], All, length, sym, ap, ap₂, subst, ◌∙◌, arith}
 use Rattle.btor2.specs.Items.{is_carried_state, next_value, init_word}
 use Rattle.aiger.specs.declared.circuit.Latch.{Latch}
 use Rattle.aiger.specs.Net.{IsDefined}
