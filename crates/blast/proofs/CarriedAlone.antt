@@ -1,13 +1,13 @@
 -- Models in which each state has a next line: no state is free.
-use Rattle.std.proofs.Common.{◌≡◌, ℕ, suc, Bool, true, false, not, ◌&&◌, cond, List, [], ◌∷◌, ◌++◌, ◌+◌, Some, slice_get, refl, sym, ap, ap₂, ◌∙◌, append-nil, arith}
-use Rattle.std.proofs.lemmas.List.Sums.{sum_by-cons}
+use Rattle.std.proofs.Common.{◌≡◌, ℕ, suc, Bool, true, false, not, ◌&&◌, cond, List, [], ◌∷◌, ◌++◌, Some, slice_get, refl, sym, ap, ap₂, ◌∙◌, append-nil, arith, length}
 use Rattle.btor2.specs.declared.item.Item.{Item}
 use Rattle.btor2.specs.Items.{is_state, is_free, is_free_state, is_carried_state}
-use Rattle.btor2.specs.Trace.{bits_of}
 use Rattle.btor2.proofs.StateWords.{not_free}
-use Rattle.blast.specs.Cost.{kind_width, input_width, state_width, given_width, carried_width}
+use Rattle.blast.specs.Cost.{input_width, state_width, given_width, carried_width}
 use Rattle.btor2.specs.Lists.{HaveNexts}
-use Rattle.blast.specs.Leaves.{by_body, of_kind}
+use Rattle.btor2.specs.Leaves.{kind_width}
+use Rattle.blast.specs.Leaves.{by_body, of_kind, leaf_bits}
+use Rattle.blast.proofs.NodeLemmas.{length-leaves}
 
 -- kinds that are the same of some items give the same of them, and a kind that none is of gives nothing
 of_kind-alike : {A : Type 0} (kind other : Item → Bool) (give : Item → List A) (xs : List Item) → ((place : ℕ) (x : Item) → slice_get xs place ≡ Some x → kind x ≡ other x) → of_kind kind give xs ≡ of_kind other give xs
@@ -43,17 +43,10 @@ carried_alone items give h = of_kind-alike (is_carried_state items) (by_body is_
 
 -- the same of widths
 width-alike : (items : List Item) (kind other : Item → Bool) (xs : List Item) → ((place : ℕ) (x : Item) → slice_get xs place ≡ Some x → kind x ≡ other x) → kind_width items kind xs ≡ kind_width items other xs
-width-alike items kind other [] same = refl
-width-alike items kind other (x ∷ xs) same =
-    sum_by-cons (λ (y : Item). cond (kind y) (bits_of items y.id) 0) x xs
-    ∙ ap₂ ◌+◌ (ap (λ (b : Bool). cond b (bits_of items x.id) 0) (same 0 x refl)) (width-alike items kind other xs (λ place y at. same (suc place) y at))
-    ∙ sym (sum_by-cons (λ (y : Item). cond (other y) (bits_of items y.id) 0) x xs)
+width-alike items kind other xs same = sym (length-leaves items kind (λ id. 0) xs) ∙ ap length (of_kind-alike kind other (leaf_bits items (λ id. 0)) xs same) ∙ length-leaves items other (λ id. 0) xs
 
 width-none : (items : List Item) (kind : Item → Bool) (xs : List Item) → ((place : ℕ) (x : Item) → slice_get xs place ≡ Some x → kind x ≡ false) → kind_width items kind xs ≡ 0
-width-none items kind [] none = refl
-width-none items kind (x ∷ xs) none =
-    sum_by-cons (λ (y : Item). cond (kind y) (bits_of items y.id) 0) x xs
-    ∙ ap₂ ◌+◌ (ap (λ (b : Bool). cond b (bits_of items x.id) 0) (none 0 x refl)) (width-none items kind xs (λ place y at. none (suc place) y at))
+width-none items kind xs none = sym (length-leaves items kind (λ id. 0) xs) ∙ ap length (of_kind-none kind (leaf_bits items (λ id. 0)) xs none)
 
 pub given_width_alone : (items : List Item) → HaveNexts items → given_width items ≡ input_width items
 given_width_alone items h = omega (arith, width-none items (is_free_state items) items (none_free items h))

@@ -1,10 +1,13 @@
 -- Blocks of a list, one for each item of a kind, written one after another over entries that are blank.
-use Rattle.std.proofs.Common.{◌≡◌, ℕ, zero, suc, ◌+◌, ◌<◌, ◌≤◌, Bool, true, false, cond, List, [], ◌∷◌, ◌++◌, length, take, drop, set, get_or, replicate, Option, Some, slice_get, refl, sym, ap, ap₂, subst, ◌∙◌, append_assoc, append-nil, length-append, arith}
+use Rattle.std.proofs.Common.{◌≡◌, ℕ, zero, suc, ◌+◌, ◌<◌, ◌≤◌, Bool, true, false, cond, List, [], ◌∷◌, ◌++◌, length, take, drop, set, get_or, replicate, Option, Some, slice_get, refl, sym, ap, ap₂, ◌∙◌, append_assoc, append-nil, length-append, arith}
 use Rattle.std.proofs.lemmas.List.{length-replicate, take_at, drop_at, drop-drop, take_more, drop_more, take_all, drop_all, set_at, replicate-append-replicate, take-append-drop, length-take-le}
+use Rattle.std.proofs.lemmas.List.Sums.{sum_by-cons}
 use Rattle.std.proofs.lemmas.Option.{same_Some}
 use Rattle.btor2.specs.declared.item.Item.{Item}
 use Rattle.btor2.specs.declared.item.Body.{Body}
 use Rattle.btor2.specs.Lists.{places}
+use Rattle.btor2.specs.Trace.{bits_of}
+use Rattle.btor2.specs.Leaves.{kind_width}
 use Rattle.blast.specs.Leaves.{by_body, of_kind}
 use Rattle.blast.specs.Blocks.{block, blocks, written, IsBlank}
 
@@ -169,6 +172,17 @@ kind_blocks kind give before (x ∷ xs) n e =
 pub blocks-of_kind : {A : Type 0} (kind : Body → Bool) (give : Item → List A) (items : List Item) → blocks give items (places kind 0 items) ≡ of_kind (by_body kind) give items
 blocks-of_kind kind give items = kind_blocks kind give [] items 0 refl
 
+-- where each item gives an entry for each of its bits, those of a kind give as many as they have bits
+pub length-of_kind : {A : Type 0} (items : List Item) (kind : Item → Bool) (give : Item → List A) (xs : List Item) → ((x : Item) → length (give x) ≡ bits_of items x.id) → length (of_kind kind give xs) ≡ kind_width items kind xs
+length-of_kind items kind give [] wide = refl
+length-of_kind items kind give (x ∷ xs) wide =
+    length-append (cond (kind x) (give x) []) (of_kind kind give xs) ∙ ap₂ ◌+◌ (by (kind x)) (length-of_kind items kind give xs wide)
+    ∙ sym (sum_by-cons (λ (y : Item). cond (kind y) (bits_of items y.id) 0) x xs)
+  where
+    by : (b : Bool) → length (cond b (give x) []) ≡ cond b (bits_of items x.id) 0
+    by true = wide x
+    by false = refl
+
 -- where the items of a kind are among those of a wider kind, what the wider kind gives is what they give
 pub of_kind-within : {A : Type 0} (wide kind : Item → Bool) (give : Item → List A) (xs : List Item) → ((x : Item) → kind x ≡ true → wide x ≡ true)
     → of_kind wide (λ x. cond (kind x) (give x) []) xs ≡ of_kind kind give xs
@@ -254,21 +268,3 @@ so_far-more blank give items ps k h =
     ap (λ (l : List _). written l (length front) next) (so_far_cut blank give items ps k h)
     ∙ written-at front (replicate (length next) blank) next rest (length front) refl (length-replicate (length next) blank)
     ∙ ap (λ (l : List _). l ++ rest) (sym (blocks-more give items ps k h))
-
--- The places of a kind are those of items.
-first_or_later : (n m k : ℕ) (ps : List ℕ) → n < m → ((j : ℕ) → j < length ps → get_or ps j 0 < m) → k < suc (length ps) → get_or (n ∷ ps) k 0 < m
-first_or_later n m zero ps first later h = first
-first_or_later n m (suc k) ps first later h = later k (omega arith)
-
-places_within : (kind : Body → Bool) (n : ℕ) (xs : List Item) (k : ℕ) → k < length (places kind n xs) → get_or (places kind n xs) k 0 < n + length xs
-places_within kind n [] k h = absurd (omega arith)
-places_within kind n (x ∷ xs) k h =
-    let later : (j : ℕ) → j < length (places kind (suc n) xs) → get_or (places kind (suc n) xs) j 0 < n + suc (length xs) = λ j l. omega (arith, places_within kind (suc n) xs j l) in
-    elim (kind x.body) as (λ b. k < length (cond b (n ∷ places kind (suc n) xs) (places kind (suc n) xs)) → get_or (cond b (n ∷ places kind (suc n) xs) (places kind (suc n) xs)) k 0 < n + suc (length xs)) [
-      | true ↦ λ l. first_or_later n (n + suc (length xs)) k (places kind (suc n) xs) (omega arith) later l
-      | false ↦ λ l. later k l
-    ] h
-
-pub place-within : (kind : Body → Bool) (items : List Item) (ps : List ℕ) (k : ℕ) → ps ≡ places kind 0 items → k < length ps → get_or ps k 0 < length items
-place-within kind items ps k e h =
-    subst (λ (l : List ℕ). k < length l → get_or l k 0 < length items) (sym e) (λ b. omega (arith, places_within kind 0 items k b)) h

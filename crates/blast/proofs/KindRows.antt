@@ -1,18 +1,20 @@
 -- Rows of nodes: that they are there, and what they read as.
-use Rattle.std.proofs.Common.{◌≡◌, ℕ, zero, suc, ◌<◌, Bool, true, false, cond, List, [], ◌∷◌, ◌++◌, length, Option, Some, None, is_some, is_none, unwrap_or, option_and_then, option_map, MatchOption, slice_get, get_or, ◌&&◌, not, if◌then◌else◌, refl, sym, ap, subst, ◌∙◌, append_assoc, length-append, arith}
-use Rattle.std.proofs.lemmas.Option.{slice_get_within, none-some, same_Some}
+use Rattle.std.proofs.Common.{◌≡◌, ℕ, zero, suc, ◌<◌, Bool, true, false, List, [], ◌∷◌, length, Option, Some, None, is_some, unwrap_or, option_and_then, MatchOption, slice_get, get_or, ◌&&◌, not, refl, sym, ap, subst, ◌∙◌, arith, if◌then◌else◌}
+use Rattle.std.proofs.lemmas.Option.{slice_get_within, none-some}
+use Rattle.std.proofs.lemmas.Bool.{and_parts, not-true}
 use Rattle.btor2.specs.declared.item.Item.{Item}
-use Rattle.btor2.specs.declared.item.Body.{Body}
+use Rattle.btor2.specs.declared.leaves.Leaves.TheVariants as leaves
 use Rattle.btor2.specs.Items.{find_item, position_of, width_of_body, node_width, is_state, init_value, next_value, is_free, is_free_state, is_carried_state, init_word}
 use Rattle.btor2.specs.Check.{IsWellFormed}
 use Rattle.btor2.specs.Lists.{places, init_place, next_place, is_free_at, has_init_without_next, first_init_without_next, constant_at}
 use Rattle.btor2.proofs.LookUps.{found, init_some, init_none}
 use Rattle.btor2.proofs.AppendLemmas.{then_parts, some_of}
-use Rattle.btor2.proofs.ModelLemmas.{IsIn-from_find, IsNextOf-from_value}
+use Rattle.btor2.proofs.ModelLemmas.{IsIn-from_find, IsNextOf-from_value, IsIn-from_place}
+use Rattle.btor2.proofs.LeafLemmas.{leaf_at, state_there}
+use Rattle.btor2.proofs.NextLemmas.{has_next}
 use Rattle.aiger.specs.Net.{Net}
 use Rattle.blast.specs.Reads.{ReadsWord, RowReads, RowsRead}
 use Rattle.blast.specs.Rows.{row_at}
-use Rattle.blast.proofs.KindBlocks.{slice_get-behind}
 
 -- a found item has a place
 place_of : (items : List Item) (id : ℕ) (x : Item) (o : Option ℕ) → MatchOption o (find_item items id ≡ None) (λ k. slice_get items k ≡ find_item items id) → find_item items id ≡ Some x
@@ -85,70 +87,25 @@ init_word-within items id place e = (init_some items (init_value items id) place
 pub init_word-none : (items : List Item) (id : ℕ) → None ≡ option_and_then (position_of items) (init_value items id) → None ≡ init_word items id
 init_word-none items id e = sym (init_none items (init_value items id) (sym e))
 
--- an item at a place of a kind is of the kind
-kind_first : (kind : Body → Bool) (items : List Item) (y : Item) (ps : List ℕ) (n k : ℕ) (x : Item) → kind y.body ≡ true → slice_get items n ≡ Some y
-    → ((j : ℕ) → j < length ps → slice_get items (get_or ps j 0) ≡ Some x → kind x.body ≡ true)
-    → k < suc (length ps) → slice_get items (get_or (n ∷ ps) k 0) ≡ Some x → kind x.body ≡ true
-kind_first kind items y ps n zero x test own rest low at = ap (λ (z : Item). kind z.body) (sym (same_Some y x (sym own ∙ at))) ∙ test
-kind_first kind items y ps n (suc k) x test own rest low at = rest k (omega arith) at
-
-kind_step : (kind : Body → Bool) (items : List Item) (b : Bool) (y : Item) (ps : List ℕ) (n k : ℕ) (x : Item) → kind y.body ≡ b → slice_get items n ≡ Some y
-    → ((j : ℕ) → j < length ps → slice_get items (get_or ps j 0) ≡ Some x → kind x.body ≡ true)
-    → k < length (cond b (n ∷ ps) ps) → slice_get items (get_or (cond b (n ∷ ps) ps) k 0) ≡ Some x → kind x.body ≡ true
-kind_step kind items true y ps n k x test own rest low at = kind_first kind items y ps n k x test own rest low at
-kind_step kind items false y ps n k x test own rest low at = rest k low at
-
-kind_from : (kind : Body → Bool) (before xs : List Item) (n k : ℕ) (x : Item) → length before ≡ n → k < length (places kind n xs) → slice_get (before ++ xs) (get_or (places kind n xs) k 0) ≡ Some x → kind x.body ≡ true
-kind_from kind before [] n k x e low at = absurd (omega arith)
-kind_from kind before (y ∷ ys) n k x e low at =
-    let own : slice_get (before ++ y ∷ ys) n ≡ Some y = ap (slice_get (before ++ y ∷ ys)) (omega arith) ∙ slice_get-behind before (y ∷ ys) n 0 e in
-    let rest : (j : ℕ) → j < length (places kind (suc n) ys) → slice_get (before ++ y ∷ ys) (get_or (places kind (suc n) ys) j 0) ≡ Some x → kind x.body ≡ true =
-    λ j l h. kind_from kind (before ++ y ∷ []) ys (suc n) j x (omega (arith, length-append before (y ∷ []))) l
-    (ap (λ (list : List Item). slice_get list (get_or (places kind (suc n) ys) j 0)) (append_assoc before (y ∷ []) ys) ∙ h) in
-    kind_step kind (before ++ y ∷ ys) (kind y.body) y (places kind (suc n) ys) n k x refl own rest low at
-
-pub place-kind : (kind : Body → Bool) (items : List Item) (ps : List ℕ) (k : ℕ) (x : Item) → ps ≡ places kind 0 items → k < length ps → slice_get items (get_or ps k 0) ≡ Some x → kind x.body ≡ true
-place-kind kind items ps k x e low at =
-    subst (λ (l : List ℕ). k < length l → slice_get items (get_or l k 0) ≡ Some x → kind x.body ≡ true) (sym e) (λ b h. kind_from kind [] items 0 k x refl b h) low at
-
 -- whether the state with a number is free, and whether it is carried
-pub is_free-at : (items : List Item) (place : ℕ) (x : Item) → slice_get items place ≡ Some x → is_free_at items place ≡ is_free items x.id
-is_free-at items place x at = ap (λ (o : Option Item). unwrap_or (option_map (is_free items) (option_and_then (λ (y : Item). Some y.id) o)) false) at
-
 pub state_by_number : (items : List Item) (k : ℕ) (x : Item) (b : Bool) → k < length (places is_state 0 items) → slice_get items (get_or (places is_state 0 items) k 0) ≡ Some x → b ≡ is_free_at items (get_or (places is_state 0 items) k 0)
     → (b ≡ is_free_state items x) × (not b ≡ is_carried_state items x)
 state_by_number items k x b low at e =
-    let state : is_state x.body ≡ true = place-kind is_state items (places is_state 0 items) k x refl low at in
-    let free : b ≡ is_free items x.id = e ∙ is_free-at items (get_or (places is_state 0 items) k 0) x at in
-    (free ∙ sym (ap (λ (s : Bool). s && is_free items x.id) state), ap not free ∙ sym (ap (λ (s : Bool). s && not (is_free items x.id)) state))
-
--- where no state has an init line alone, the first item has a next line if it is a state that is not free, and the others have theirs
-some_next : (items ys : List Item) (id : ℕ) (i o : Option ℕ) → (if true && (is_some i && is_none o) then Some id else first_init_without_next items ys) ≡ None → (is_none i && is_none o) ≡ false → is_some o ≡ true
-some_next items ys id i (Some v) h carried = refl
-some_next items ys id (Some v) None h carried = absurd (none-some id (sym h))
-some_next items ys id None None h carried = absurd (cc)
+    let place : ℕ = get_or (places is_state 0 items) k 0 in
+    let there = state_there items k b low e in
+    (there.0 ∙ leaf_at items leaves.Free place x at, there.1 ∙ leaf_at items leaves.Carried place x at)
 
 -- what a state is that is carried
 pub carried_parts : (items : List Item) (x : Item) → is_carried_state items x ≡ true → (is_state x.body ≡ true) × (is_free items x.id ≡ false)
-carried_parts items x h = by (is_state x.body) (is_free items x.id) h
-  where
-    by : (b c : Bool) → (b && not c) ≡ true → (b ≡ true) × (c ≡ false)
-    by true false h = (refl, refl)
-    by true true h = absurd (cc)
-    by false c h = absurd (cc)
+carried_parts items x h =
+    let parts = and_parts (is_state x.body) (not (is_free items x.id)) h in
+    (parts.0, not-true (is_free items x.id) parts.1)
 
-pub free_parts : (items : List Item) (x : Item) → is_free_state items x ≡ true → (is_state x.body ≡ true) × (is_free items x.id ≡ true)
-free_parts items x h = by (is_state x.body) (is_free items x.id) h
-  where
-    by : (b c : Bool) → (b && c) ≡ true → (b ≡ true) × (c ≡ true)
-    by true true h = (refl, refl)
-    by true false h = absurd (cc)
-    by false c h = absurd (cc)
-
+-- where no state has an init line alone, a state that is carried has a next line
 pub head_next : (items : List Item) (y : Item) (ys : List Item) → first_init_without_next items (y ∷ ys) ≡ None → is_carried_state items y ≡ true → is_some (next_value items y.id) ≡ true
 head_next items y ys h carried =
     let parts = carried_parts items y carried in
-    some_next items ys y.id (init_value items y.id) (next_value items y.id) (subst (λ (b : Bool). (if b && has_init_without_next items y.id then Some y.id else first_init_without_next items ys) ≡ None) parts.0 h) parts.1
+    has_next items [] ys y h parts.0 parts.1
 
 later_next : (items ys : List Item) (id : ℕ) (b : Bool) → (if b then Some id else first_init_without_next items ys) ≡ None → first_init_without_next items ys ≡ None
 later_next items ys id true h = absurd (none-some id (sym h))
@@ -157,10 +114,8 @@ later_next items ys id false h = h
 pub tail_next : (items : List Item) (y : Item) (ys : List Item) → first_init_without_next items (y ∷ ys) ≡ None → first_init_without_next items ys ≡ None
 tail_next items y ys h = later_next items ys y.id (is_state y.body && has_init_without_next items y.id) h
 
--- where no state has an init line alone, this one has a next line, if it is not free
 pub next-given : (items xs : List Item) (k : ℕ) (x : Item) → first_init_without_next items xs ≡ None → slice_get xs k ≡ Some x → is_carried_state items x ≡ true → is_some (next_value items x.id) ≡ true
-next-given items [] k x h at carried = absurd (none-some x at)
-next-given items (y ∷ ys) zero x h at carried =
-    let same = same_Some y x at in
-    ap (λ (z : Item). is_some (next_value items z.id)) (sym same) ∙ head_next items y ys h (ap (λ (z : Item). is_carried_state items z) same ∙ carried)
-next-given items (y ∷ ys) (suc k) x h at carried = next-given items ys k x (tail_next items y ys h) at carried
+next-given items xs k x h at carried =
+    let there = (IsIn-from_place xs k x at).0 in
+    let parts = carried_parts items x carried in
+    has_next items there.before there.after x (subst (λ (l : List Item). first_init_without_next items l ≡ None) there.splits h) parts.0 parts.1

@@ -1,5 +1,5 @@
 -- The latches of states.
-use Rattle.std.proofs.Common.{◌≡◌, ℕ, zero, suc, ◌+◌, ◌*◌, ◌/◌, ◌%◌, ◌^◌, ◌<◌, ◌≤◌, Bool, true, false, cond, ◌==◌, List, [], ◌∷◌, ◌++◌, length, map, set, get_or, take, replicate, All, Option, Some, None, is_some, unwrap_or, option_map, slice_get, refl, sym, ap, ap₂, subst, ◌∙◌, length-append, arith}
+use Rattle.std.proofs.Common.{◌≡◌, ℕ, zero, suc, ◌+◌, ◌*◌, ◌/◌, ◌%◌, ◌^◌, ◌<◌, ◌≤◌, Bool, true, false, cond, ◌==◌, List, [], ◌∷◌, ◌++◌, length, map, set, get_or, take, replicate, All, Option, Some, None, is_some, unwrap_or, option_map, slice_get, refl, sym, ap, ap₂, subst, ◌∙◌, length-append, arith, not}
 use Rattle.std.proofs.Math.Nat.{pow-suc, div-div-eq-div-mul}
 use Rattle.std.proofs.lemmas.List.{map-append, take_more, length-take-le}
 use Rattle.std.proofs.lemmas.List.Elements.{All-nil, All-cons, All-append, All-get_or, All-head, All-tail}
@@ -8,8 +8,9 @@ use Rattle.base.specs.Word.{bit, bits}
 use Rattle.btor2.specs.declared.item.Item.{Item}
 use Rattle.btor2.specs.Items.{node_width, is_state, is_carried_state, next_value, init_word}
 use Rattle.btor2.specs.Check.{IsWellFormed}
-use Rattle.btor2.specs.Lists.{places, first_init_without_next}
+use Rattle.btor2.specs.Lists.{places, first_init_without_next, is_free_at}
 use Rattle.btor2.specs.Trace.{bits_of, next_state}
+use Rattle.btor2.specs.Leaves.{kind_width}
 use Rattle.btor2.proofs.AppendLemmas.{some_of}
 use Rattle.btor2.proofs.ModelLemmas.{IsNextOf-from_value, node_width-range}
 use Rattle.aiger.specs.declared.circuit.Latch.{Latch}
@@ -19,12 +20,12 @@ use Rattle.aiger.specs.Literal.{literal_value}
 use Rattle.aiger.specs.Net.{Net, IsDefined}
 use Rattle.aiger.specs.Circuit.{Circuit, net, with_latch, fresh_latch}
 use Rattle.blast.specs.Blocks.{block, blocks, written}
-use Rattle.blast.specs.Cost.{kind_width, carried_width}
+use Rattle.blast.specs.Cost.{carried_width}
 use Rattle.blast.specs.Leaves.{by_body, of_kind, reset_of_bit, resets_of_word, leaf_resets, leaf_bits}
 use Rattle.blast.specs.Reads.{ReadsWord, RowsRead, LatchesRead}
 use Rattle.blast.specs.Rows.{row_at, reset_at, row_latches, state_latches, item_latches}
 use Rattle.blast.proofs.KindBlocks.{written-nil, written-more, length-written, blocks-of_kind, of_kind-within, so_far, reached, so_far-none, so_far-all, so_far-room, so_far-more, reached-more}
-use Rattle.blast.proofs.KindRows.{row_at-reads, carried_parts, head_next, tail_next}
+use Rattle.blast.proofs.KindRows.{row_at-reads, carried_parts, head_next, tail_next, state_by_number, next-given}
 
 -- The latches of a row.
 
@@ -281,3 +282,17 @@ pub other_latches : (cur new : Circuit) (first : ℕ) (latches : List Latch) →
 other_latches cur new first latches e room =
     let n = length-written cur.latches first latches room in
     (ap (λ (c : Circuit). length c.latches) e ∙ n, ap net e ∙ same_net cur (written cur.latches first latches) n)
+
+-- a state that is not free has a next line, and latches
+pub record CarriedState (items : List Item) (rows : List (List ℕ)) (x : Item) : Type 0 where
+  pub next : is_some (next_value items x.id) ≡ true
+  pub latches : item_latches items rows x ≡ state_latches items rows x
+
+pub CarriedState-from : (items : List Item) (rows : List (List ℕ)) (k : ℕ) (x : Item) (b : Bool) → k < length (places is_state 0 items) → slice_get items (get_or (places is_state 0 items) k 0) ≡ Some x → first_init_without_next items items ≡ None
+    → b ≡ is_free_at items (get_or (places is_state 0 items) k 0) → b ≡ false → CarriedState items rows x
+CarriedState-from items rows k x b low at nexts free not_free =
+    let carried : is_carried_state items x ≡ true = sym (state_by_number items k x b low at free).1 ∙ ap not not_free in
+    record {
+      next = next-given items items (get_or (places is_state 0 items) k 0) x nexts at carried;
+      latches = ap (λ (b : Bool). cond b (state_latches items rows x) []) carried;
+    }

@@ -12,6 +12,7 @@ pub mod RefusalLemmas
 pub mod PropertyLemmas
 pub mod LowerLemmas
 pub mod LowerAssembly
+pub mod LeafWords
 pub mod ReachLemmas
 pub mod WorkedLowering
 pub mod CarriedAlone

@@ -1,15 +1,13 @@
 -- The parts of a lowering, put together.
-use Rattle.std.proofs.Common.{◌≡◌, ℕ, ◌+◌, ◌≤◌, Bool, true, false, List, [], ◌∷◌, ◌++◌, length, replicate, nat_lt, Option, Some, None, is_some, if◌then◌else◌, ◌&&◌, refl, sym, ap, ◌∙◌, subst, arith, length-append}
+use Rattle.std.proofs.Common.{◌≡◌, ℕ, ◌+◌, ◌≤◌, Bool, true, false, List, [], ◌∷◌, ◌++◌, length, replicate, nat_lt, Option, Some, None, is_some, if◌then◌else◌, ◌&&◌, refl, sym, ap, ◌∙◌, subst, arith}
 use Rattle.std.proofs.lemmas.List.{length-map, length-replicate}
 use Rattle.std.specs.Option.{option_or}
-use Rattle.std.proofs.lemmas.List.Sums.{sum_by-cons}
 use Rattle.std.proofs.lemmas.Bool.Decides.{nat_tests}
 use Rattle.base.proofs.BitLemmas.{length-bits}
 use Rattle.btor2.specs.declared.item.Item.{Item}
-use Rattle.btor2.specs.Items.{is_state, is_free, is_carried_state, find_item, names_state, next_value, init_word}
+use Rattle.btor2.specs.Items.{is_state, is_free, is_carried_state, names_state, next_value, init_word}
 use Rattle.btor2.specs.Check.{IsWellFormed}
 use Rattle.btor2.specs.Trace.{bits_of}
-use Rattle.btor2.proofs.ModelLemmas.{IsIn-from_find}
 use Rattle.btor2.proofs.TraceLemmas.{next_state_fits}
 use Rattle.aiger.specs.Limits.{greatest_count}
 use Rattle.aiger.specs.Net.{Net}
@@ -17,7 +15,7 @@ use Rattle.aiger.specs.declared.circuit.Gate.{Gate}
 use Rattle.aiger.specs.Circuit.{Circuit, IsCircuit, net, fresh_latch}
 use Rattle.gates.specs.Made.{gates_only}
 use Rattle.blast.specs.declared.fault.LowerFault.TheVariants as fault
-use Rattle.blast.specs.Cost.{bound, kind_width, given_width, carried_width}
+use Rattle.blast.specs.Cost.{bound, given_width, carried_width}
 use Rattle.blast.specs.Leaves.{of_kind, leaf_resets, resets_of_word, reset_of_bit}
 use Rattle.blast.specs.Lowering.{Lowers}
 use Rattle.blast.specs.Properties.{TakesProperties}
@@ -26,11 +24,14 @@ use Rattle.blast.specs.Reads.{leaves_only, LowersNodes, RowsRead, LatchesRead, O
 use Rattle.btor2.specs.declared.item.Body.{Body}
 use Rattle.btor2.specs.declared.item.Body.TheVariants as body
 use Rattle.btor2.specs.Lists.{has_init_without_next, first_init_without_next}
+use Rattle.btor2.specs.Leaves.{kind_width}
 use Rattle.blast.specs.declared.fault.LowerFault.{LowerFault}
 use Rattle.blast.specs.Refusal.{IsOfProfile, line_refusal, first_refusal, form_refusal, lowering_refusal, too_big}
 use Rattle.blast.proofs.WidthLemmas.{leaves_width}
 use Rattle.blast.proofs.LowerLemmas.{Observes, show_same}
+use Rattle.blast.proofs.KindBlocks.{length-of_kind}
 use Rattle.btor2.proofs.NextLemmas.{has_next}
+use Rattle.btor2.proofs.IdLemmas.{state_item}
 
 -- where nothing speaks against some items, none of them is a state with an init line alone
 no_lacking : (items : List Item) (id : ℕ) (b : Body) → line_refusal items id b ≡ None → (is_state b && has_init_without_next items id) ≡ false
@@ -79,19 +80,10 @@ leaves_given items e = omega (arith, bound_given items e, leaves_width items)
 
 -- each state that is not free has a next line, by ids
 pub nexts_by_id : (items : List Item) → first_init_without_next items items ≡ None → (id : ℕ) → names_state items id ≡ true → is_free items id ≡ false → is_some (next_value items id) ≡ true
-nexts_by_id items none id names carried = by_item (find_item items id) refl names
-  where
-    state_of : (x : Item) (b : Bool) → is_state x.body ≡ b → is_some (if b then Some x else None) ≡ true → is_state x.body ≡ true
-    state_of x true is some = is
-    state_of x false is some = absurd (cc)
-
-    by_item : (o : Option Item) → find_item items id ≡ o → names_state items id ≡ true → is_some (next_value items id) ≡ true
-    by_item None is names = let e : false ≡ true = rw is at names in absurd (cc)
-    by_item (Some x) is names =
-        let known = IsIn-from_find items id x is in
-        let some = rw is at names in
-        let whole : first_init_without_next items (known.0.before ++ x ∷ known.0.after) ≡ None = subst (λ (l : List Item). first_init_without_next items l ≡ None) known.0.splits none in
-        rw known.1 (has_next items known.0.before known.0.after x whole (state_of x (is_state x.body) refl some) (subst (λ (k : ℕ). is_free items k ≡ false) known.1 carried))
+nexts_by_id items none id names carried =
+    let y = state_item items id names in
+    let whole : first_init_without_next items (y.1.before ++ y.0 ∷ y.1.after) ≡ None = subst (λ (l : List Item). first_init_without_next items l ≡ None) y.1.splits none in
+    subst (λ (k : ℕ). is_some (next_value items k) ≡ true) (sym y.2) (has_next items y.1.before y.1.after y.0 whole y.3 (subst (λ (k : ℕ). is_free items k ≡ false) y.2 carried))
 
 -- as many resets as bits
 pub length-resets : (w : ℕ) (o : Option ℕ) → length (resets_of_word w o) ≡ w
@@ -100,14 +92,7 @@ length-resets w (Some x) = length-map _ reset_of_bit ∙ length-bits w x
 
 -- the states' resets are as many as their bits
 pub length-state_resets : (items xs : List Item) → length (of_kind (is_carried_state items) (leaf_resets items) xs) ≡ kind_width items (is_carried_state items) xs
-length-state_resets items [] = refl
-length-state_resets items (x ∷ xs) =
-    by_kind (is_carried_state items x) (length-state_resets items xs) ∙ sym (sum_by-cons (λ (y : Item). if is_carried_state items y then bits_of items y.id else 0) x xs)
-  where
-    by_kind : (b : Bool) → length (of_kind (is_carried_state items) (leaf_resets items) xs) ≡ kind_width items (is_carried_state items) xs
-        → length ((if b then leaf_resets items x else []) ++ of_kind (is_carried_state items) (leaf_resets items) xs) ≡ (if b then bits_of items x.id else 0) + kind_width items (is_carried_state items) xs
-    by_kind true rest = length-append (leaf_resets items x) (of_kind (is_carried_state items) (leaf_resets items) xs) ∙ rw (length-resets (bits_of items x.id) (init_word items x.id), rest) refl
-    by_kind false rest = rest ∙ omega arith
+length-state_resets items xs = length-of_kind items (is_carried_state items) (leaf_resets items) xs (λ x. length-resets (bits_of items x.id) (init_word items x.id))
 
 -- latches that read as the states are as many as the bits that are carried
 latch_count : (items : List Item) (n : Net) (c : Circuit) → LatchesRead items n items c.latches → length c.latches ≡ carried_width items

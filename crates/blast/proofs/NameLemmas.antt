@@ -1,20 +1,20 @@
 -- Names of bits and of properties.
-use Rattle.std.proofs.Common.{◌≡◌, ℕ, zero, suc, ◌+◌, ◌%◌, ◌^◌, ◌<◌, ◌≤◌, Bool, true, false, not, cond, ◌==◌, ◌&&◌, List, [], ◌∷◌, ◌++◌, length, take, set, get_or, replicate, Option, Some, None, is_some, if◌then◌else◌, unwrap_or, option_and_then, slice_get, refl, sym, ap, ap₂, subst, ◌∙◌, length-append, arith, nat_le, decimal}
+use Rattle.std.proofs.Common.{◌≡◌, ℕ, zero, suc, ◌+◌, ◌%◌, ◌^◌, ◌<◌, ◌≤◌, Bool, true, false, not, cond, ◌==◌, ◌&&◌, List, [], ◌∷◌, ◌++◌, length, take, set, get_or, replicate, Option, Some, None, is_some, if◌then◌else◌, slice_get, refl, sym, ap, ap₂, subst, ◌∙◌, length-append, arith, nat_le, decimal}
 use Rattle.std.specs.List.{list_all}
 use Rattle.std.proofs.lemmas.Bool.Decides.{nat_tests}
 use Rattle.std.proofs.lemmas.Bool.{and_parts, lt-ltb, le-leb, leb-true}
 use Rattle.std.proofs.lemmas.List.{take_all}
 use Rattle.std.proofs.lemmas.List.Folds.{list_all-append}
-use Rattle.std.proofs.lemmas.List.Sums.{sum_by-cons}
 use Rattle.std.proofs.lemmas.Fmt.{decimal_by_steps}
 use Rattle.std.proofs.lemmas.Option.{same_Some, slice_get_within}
 use Rattle.btor2.specs.declared.item.Item.{Item}
-use Rattle.btor2.specs.Items.{width_of_body, is_input, is_free_state, is_carried_state}
+use Rattle.btor2.specs.declared.leaves.Leaves.{Leaves}
+use Rattle.btor2.specs.declared.leaves.Leaves.TheVariants as leaves
 use Rattle.btor2.specs.Symbols.{is_symbol, is_printed}
-use Rattle.btor2.specs.Check.{IsWellFormed}
-use Rattle.btor2.specs.Lists.{places, width_at}
+use Rattle.btor2.specs.Lists.{places}
 use Rattle.btor2.specs.Trace.{bits_of}
-use Rattle.btor2.proofs.ModelLemmas.{node_width-at}
+use Rattle.btor2.specs.Leaves.{list_of, kind_of, kind_width}
+use Rattle.btor2.proofs.LeafLemmas.{leaf_in_list}
 use Rattle.aiger.specs.declared.circuit.Section.{Section}
 use Rattle.aiger.specs.declared.circuit.Section.TheVariants as section
 use Rattle.aiger.specs.Limits.{greatest_count}
@@ -22,17 +22,14 @@ use Rattle.aiger.specs.declared.fault.CircuitFault.TheVariants as fault
 use Rattle.aiger.specs.Names.{NameMap, Names, is_name, is_printable}
 use Rattle.aiger.specs.Circuit.{Circuit, IsCircuit, section_count, section_names, name_of, with_name, name_refusal}
 use Rattle.aiger.proofs.SectionNameLemmas.{length-section_names, slice_get-section_names, section_names-unnamed, section_names-with_name, section_names-other_section, few_positions}
-use Rattle.blast.specs.Cost.{kind_width, given_width, carried_width}
-use Rattle.blast.specs.declared.parts.Part.{Part}
-use Rattle.blast.specs.declared.parts.Part.TheVariants as part
-use Rattle.blast.specs.Leaves.{by_body, of_kind, bit_name, bit_names, leaf_names}
+use Rattle.blast.specs.Cost.{given_width, carried_width}
+use Rattle.blast.specs.Leaves.{by_body, bit_name, bit_names, leaf_names}
 use Rattle.blast.specs.declared.properties.Property.{Property}
 use Rattle.blast.specs.declared.properties.Property.TheVariants as property
 use Rattle.blast.specs.Blocks.{block, blocks, written, IsBlank}
 use Rattle.blast.specs.Properties.{name_by, names_by}
-use Rattle.blast.specs.Sections.{kind_of, list_of, section_of, part_names, names_given, Renames, TakesNames}
-use Rattle.blast.proofs.KindBlocks.{slice_get-replicate, written-nil, length-written, written-more, written-behind, written-blank, written-further, written-whole, blocks-of_kind, blocks-more, of_kind-within, reached, reached-is, reached-more, reached-within, reached-all}
-use Rattle.blast.proofs.WidthLemmas.{part_in_list}
+use Rattle.blast.specs.Sections.{section_of, part_names, names_given, Renames, TakesNames}
+use Rattle.blast.proofs.KindBlocks.{slice_get-replicate, written-nil, length-written, written-more, written-behind, written-blank, written-further, written-whole, blocks-of_kind, blocks-more, of_kind-within, reached, reached-is, reached-more, reached-within, reached-all, length-of_kind}
 
 -- a byte of a symbol is one of a name
 printed_is_printable : (b : ℕ) → is_printed b ≡ true → is_printable b ≡ true
@@ -204,30 +201,24 @@ unnamed_leaf s c first count free room =
 
 -- Items.
 
--- the bits of the item at a place
-pub bits_of-at : (items : List Item) (place : ℕ) (x : Item) → IsWellFormed items → slice_get items place ≡ Some x → unwrap_or (width_at items place) 0 ≡ bits_of items x.id
-bits_of-at items place x h at =
-    ap (λ (o : Option Item). unwrap_or (option_and_then (λ (y : Item). width_of_body items y.body) o) 0) at
-    ∙ ap (λ (o : Option ℕ). unwrap_or o 0) (sym (node_width-at items place x h at))
-
 pub length-leaf_names : (items : List Item) (x : Item) → length (leaf_names items x) ≡ bits_of items x.id
 length-leaf_names items x = length-bit_names x.symbol 0 (bits_of items x.id)
 
 -- what the items of a part's list give it are the names of the part
-pub part_blocks : (items : List Item) (p : Part) (ps : List ℕ) → ps ≡ places (list_of p) 0 items → blocks (names_given items p) items ps ≡ part_names items p
+pub part_blocks : (items : List Item) (p : Leaves) (ps : List ℕ) → ps ≡ places (list_of p) 0 items → blocks (names_given items p) items ps ≡ part_names items p
 part_blocks items p ps e =
     ap (blocks (names_given items p) items) e ∙ blocks-of_kind (list_of p) (names_given items p) items
-    ∙ of_kind-within (by_body (list_of p)) (kind_of items p) (leaf_names items) items (part_in_list items p)
+    ∙ of_kind-within (by_body (list_of p)) (kind_of items p) (leaf_names items) items (leaf_in_list items p)
 
 -- so far: the circuit with the names of the first so many items of a part's list, from a first position on
-abbrev pub WithItems : List Item → Part → List ℕ → ℕ → Circuit → Circuit → ℕ → Type 0
+abbrev pub WithItems : List Item → Leaves → List ℕ → ℕ → Circuit → Circuit → ℕ → Type 0
 WithItems items p ps first old cur k = Renames (section_of p) old (written (section_names (section_of p) old) first (blocks (names_given items p) items (take k ps))) cur
 
-pub WithItems-none : (items : List Item) (p : Part) (ps : List ℕ) (first : ℕ) (c : Circuit) → WithItems items p ps first c c 0
+pub WithItems-none : (items : List Item) (p : Leaves) (ps : List ℕ) (first : ℕ) (c : Circuit) → WithItems items p ps first c c 0
 unfolding blocks
 WithItems-none items p ps first c = Renames-equal (section_of p) c c (section_names (section_of p) c) _ (sym (written-nil (section_names (section_of p) c) first)) (Renames-own (section_of p) c)
 
-pub WithItems-all : (items : List Item) (p : Part) (ps : List ℕ) (first : ℕ) (old new : Circuit) (k : ℕ) → ps ≡ places (list_of p) 0 items → length ps ≤ k → WithItems items p ps first old new k
+pub WithItems-all : (items : List Item) (p : Leaves) (ps : List ℕ) (first : ℕ) (old new : Circuit) (k : ℕ) → ps ≡ places (list_of p) 0 items → length ps ≤ k → WithItems items p ps first old new k
     → Renames (section_of p) old (written (section_names (section_of p) old) first (part_names items p)) new
 WithItems-all items p ps first old new k e end h =
     Renames-equal (section_of p) old new _ _
@@ -236,17 +227,17 @@ WithItems-all items p ps first old new k e end h =
     h
 
 -- the item at the next place
-next_block : (items : List Item) (p : Part) (ps : List ℕ) (k : ℕ) (x : Item) → slice_get items (get_or ps k 0) ≡ Some x → block (names_given items p) (slice_get items (get_or ps k 0)) ≡ names_given items p x
+next_block : (items : List Item) (p : Leaves) (ps : List ℕ) (k : ℕ) (x : Item) → slice_get items (get_or ps k 0) ≡ Some x → block (names_given items p) (slice_get items (get_or ps k 0)) ≡ names_given items p x
 next_block items p ps k x at = ap (block (names_given items p)) at
 
 -- its names are within those of the part
-pub item_within : (items : List Item) (p : Part) (ps : List ℕ) (k : ℕ) (x : Item) → ps ≡ places (list_of p) 0 items → k < length ps → slice_get items (get_or ps k 0) ≡ Some x
+pub item_within : (items : List Item) (p : Leaves) (ps : List ℕ) (k : ℕ) (x : Item) → ps ≡ places (list_of p) 0 items → k < length ps → slice_get items (get_or ps k 0) ≡ Some x
     → length (blocks (names_given items p) items (take k ps)) + length (names_given items p x) ≤ length (part_names items p)
 item_within items p ps k x e low at =
     omega
     (arith, reached-within (names_given items p) items ps k low, reached-is (names_given items p) items ps k, ap length (next_block items p ps k x at), ap length (part_blocks items p ps e))
 
-pub WithItems-length : (items : List Item) (p : Part) (ps : List ℕ) (first : ℕ) (old cur : Circuit) (k : ℕ) → WithItems items p ps first old cur k
+pub WithItems-length : (items : List Item) (p : Leaves) (ps : List ℕ) (first : ℕ) (old cur : Circuit) (k : ℕ) → WithItems items p ps first old cur k
     → first + length (blocks (names_given items p) items (take k ps)) ≤ length (section_names (section_of p) old) → length (section_names (section_of p) cur) ≡ length (section_names (section_of p) old)
 WithItems-length items p ps first old cur k r room = ap length r.own ∙ length-written (section_names (section_of p) old) first (blocks (names_given items p) items (take k ps)) room
 
@@ -256,7 +247,7 @@ pub record IsOpen (s : Section) (c : Circuit) (first count : ℕ) : Type 0 where
   pub room : first + count ≤ length (section_names s c)
 
 -- the positions of the next item
-pub WithItems-open : (items : List Item) (p : Part) (ps : List ℕ) (first : ℕ) (old cur : Circuit) (k next : ℕ) (x : Item) → ps ≡ places (list_of p) 0 items → next ≡ first + reached (names_given items p) items ps k
+pub WithItems-open : (items : List Item) (p : Leaves) (ps : List ℕ) (first : ℕ) (old cur : Circuit) (k next : ℕ) (x : Item) → ps ≡ places (list_of p) 0 items → next ≡ first + reached (names_given items p) items ps k
     → IsOpen (section_of p) old first (length (part_names items p)) → WithItems items p ps first old cur k → k < length ps → slice_get items (get_or ps k 0) ≡ Some x
     → IsOpen (section_of p) cur next (length (names_given items p x))
 WithItems-open items p ps first old cur k next x e is_next free r low at =
@@ -275,7 +266,7 @@ WithItems-open items p ps first old cur k next x e is_next free r low at =
       room = omega (arith, free.room, WithItems-length items p ps first old cur k r room);
     }
 
-pub WithItems-more : (items : List Item) (p : Part) (ps : List ℕ) (first : ℕ) (old cur new : Circuit) (k next : ℕ) (x : Item) → ps ≡ places (list_of p) 0 items → next ≡ first + reached (names_given items p) items ps k
+pub WithItems-more : (items : List Item) (p : Leaves) (ps : List ℕ) (first : ℕ) (old cur new : Circuit) (k next : ℕ) (x : Item) → ps ≡ places (list_of p) 0 items → next ≡ first + reached (names_given items p) items ps k
     → IsOpen (section_of p) old first (length (part_names items p)) → WithItems items p ps first old cur k → k < length ps → slice_get items (get_or ps k 0) ≡ Some x
     → Renames (section_of p) cur (written (section_names (section_of p) cur) next (names_given items p x)) new
     → WithItems items p ps first old new (k + 1)
@@ -291,41 +282,32 @@ WithItems-more items p ps first old cur new k next x e is_next free r low at giv
     (Renames-then (section_of p) old cur new (written names first front) (λ (l : Names). written l next (names_given items p x)) r given)
 
 -- where the next item's positions begin
-pub reached-item : (items : List Item) (p : Part) (ps : List ℕ) (k : ℕ) (x : Item) → k < length ps → slice_get items (get_or ps k 0) ≡ Some x
+pub reached-item : (items : List Item) (p : Leaves) (ps : List ℕ) (k : ℕ) (x : Item) → k < length ps → slice_get items (get_or ps k 0) ≡ Some x
     → reached (names_given items p) items ps (k + 1) ≡ reached (names_given items p) items ps k + length (names_given items p x)
 reached-item items p ps k x low at =
     reached-more (names_given items p) items ps k low ∙ ap (λ (names : Names). reached (names_given items p) items ps k + length names) (next_block items p ps k x at)
 
 -- and where those behind the last begin
-pub reached-part : (items : List Item) (p : Part) (ps : List ℕ) (k : ℕ) → ps ≡ places (list_of p) 0 items → length ps ≤ k → reached (names_given items p) items ps k ≡ length (part_names items p)
+pub reached-part : (items : List Item) (p : Leaves) (ps : List ℕ) (k : ℕ) → ps ≡ places (list_of p) 0 items → length ps ≤ k → reached (names_given items p) items ps k ≡ length (part_names items p)
 reached-part items p ps k e end = reached-all (names_given items p) items ps k end ∙ ap length (part_blocks items p ps e)
 
 -- an item of another part gives no names
-pub no_names : (items : List Item) (p : Part) (c : Circuit) (first : ℕ) (x : Item) → kind_of items p x ≡ false → Renames (section_of p) c (written (section_names (section_of p) c) first (names_given items p x)) c
+pub no_names : (items : List Item) (p : Leaves) (c : Circuit) (first : ℕ) (x : Item) → kind_of items p x ≡ false → Renames (section_of p) c (written (section_names (section_of p) c) first (names_given items p x)) c
 no_names items p c first x h =
     Renames-equal (section_of p) c c (section_names (section_of p) c) _
     (sym (ap (λ (b : Bool). written (section_names (section_of p) c) first (cond b (leaf_names items x) [])) h ∙ written-nil (section_names (section_of p) c) first))
     (Renames-own (section_of p) c)
 
 -- the names of leaves are as many as their bits
-pub length-leaves : (kind : Item → Bool) (items xs : List Item) → length (of_kind kind (leaf_names items) xs) ≡ kind_width items kind xs
-length-leaves kind items [] = refl
-length-leaves kind items (x ∷ xs) =
-    let rest = length-leaves kind items xs in
-    let head : length (cond (kind x) (leaf_names items x) []) ≡ cond (kind x) (bits_of items x.id) 0 =
-    elim (kind x) as (λ b. length (cond b (leaf_names items x) []) ≡ cond b (bits_of items x.id) 0) [
-      | true ↦ length-leaf_names items x
-      | false ↦ refl
-    ] in
-    length-append (cond (kind x) (leaf_names items x) []) (of_kind kind (leaf_names items) xs) ∙ ap₂ ◌+◌ head rest
-    ∙ sym (sum_by-cons (λ (y : Item). cond (kind y) (bits_of items y.id) 0) x xs)
+length-part : (items : List Item) (l : Leaves) → length (part_names items l) ≡ kind_width items (kind_of items l) items
+length-part items l = length-of_kind items (kind_of items l) (leaf_names items) items (length-leaf_names items)
 
 -- a model gives as many names as bits that are given, and that are carried
-pub length-given : (items : List Item) → length (part_names items part.Inputs) + length (part_names items part.FreeStates) ≡ given_width items
-length-given items = ap₂ ◌+◌ (length-leaves (by_body is_input) items items) (length-leaves (is_free_state items) items items)
+pub length-given : (items : List Item) → length (part_names items leaves.Inputs) + length (part_names items leaves.Free) ≡ given_width items
+length-given items = ap₂ ◌+◌ (length-part items leaves.Inputs) (length-part items leaves.Free)
 
-pub length-carried : (items : List Item) → length (part_names items part.CarriedStates) ≡ carried_width items
-length-carried items = length-leaves (is_carried_state items) items items
+pub length-carried : (items : List Item) → length (part_names items leaves.Carried) ≡ carried_width items
+length-carried items = length-part items leaves.Carried
 
 -- the sections of a circuit without names are blank, also when others were named
 pub open_section : (s : Section) (c cur : Circuit) (first count : ℕ) → c.names ≡ [] → first + count ≤ section_count s c → section_names s cur ≡ section_names s c → IsOpen s cur first count
@@ -372,15 +354,15 @@ two_parts s c cur new next names more count e a b =
     ∙ written-whole (section_names s c) (names ++ more) (omega (arith, length-append names more))
 
 -- the three parts one after another
-pub TakesNames-made : (items : List Item) (c0 c1 c2 c3 : Circuit) (next : ℕ) → c0.inputs ≡ given_width items → length c0.latches ≡ carried_width items → next ≡ 0 + length (part_names items part.Inputs)
-    → Renames section.Input c0 (written (section_names section.Input c0) 0 (part_names items part.Inputs)) c1
-    → Renames section.Input c1 (written (section_names section.Input c1) next (part_names items part.FreeStates)) c2
-    → Renames section.Latch c2 (written (section_names section.Latch c2) 0 (part_names items part.CarriedStates)) c3
+pub TakesNames-made : (items : List Item) (c0 c1 c2 c3 : Circuit) (next : ℕ) → c0.inputs ≡ given_width items → length c0.latches ≡ carried_width items → next ≡ 0 + length (part_names items leaves.Inputs)
+    → Renames section.Input c0 (written (section_names section.Input c0) 0 (part_names items leaves.Inputs)) c1
+    → Renames section.Input c1 (written (section_names section.Input c1) next (part_names items leaves.Free)) c2
+    → Renames section.Latch c2 (written (section_names section.Latch c2) 0 (part_names items leaves.Carried)) c3
     → TakesNames items c0 c3
 TakesNames-made items c0 c1 c2 c3 next inputs latches e a b l =
     record {
-      inputs = l.others section.Input (λ q. cc) ∙ two_parts section.Input c0 c1 c2 next (part_names items part.Inputs) (part_names items part.FreeStates) (inputs ∙ sym (length-given items)) e a b;
-      latches = one_part section.Latch c0 c2 c3 (part_names items part.CarriedStates) (latches ∙ sym (length-carried items)) (b.others section.Latch (λ q. cc) ∙ a.others section.Latch (λ q. cc)) l;
+      inputs = l.others section.Input (λ q. cc) ∙ two_parts section.Input c0 c1 c2 next (part_names items leaves.Inputs) (part_names items leaves.Free) (inputs ∙ sym (length-given items)) e a b;
+      latches = one_part section.Latch c0 c2 c3 (part_names items leaves.Carried) (latches ∙ sym (length-carried items)) (b.others section.Latch (λ q. cc) ∙ a.others section.Latch (λ q. cc)) l;
       rest = l.rest ∙ ap last b.rest ∙ ap last a.rest;
     }
   where

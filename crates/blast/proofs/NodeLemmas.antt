@@ -1,5 +1,5 @@
 -- The rows of nodes: what stays as gates are added, and what each form makes.
-use Rattle.std.proofs.Common.{◌≡◌, ℕ, zero, suc, ◌+◌, ◌*◌, ◌<◌, ◌≤◌, Bool, true, false, cond, List, [], ◌∷◌, ◌++◌, length, Option, Some, None, IfSome, unwrap_or, option_and_then, slice_get, get_or, take, drop, map, All, refl, sym, ap, ap₂, subst, ◌∙◌, arith, length-append, append_assoc}
+use Rattle.std.proofs.Common.{◌≡◌, ℕ, zero, suc, ◌+◌, ◌*◌, ◌<◌, ◌≤◌, Bool, true, cond, List, [], ◌∷◌, ◌++◌, length, Option, Some, None, IfSome, unwrap_or, option_and_then, slice_get, get_or, take, drop, map, All, refl, sym, ap, ap₂, subst, ◌∙◌, arith, length-append, append_assoc}
 use Rattle.std.specs.List.{range_with_len}
 use Rattle.std.proofs.lemmas.Option.{none-some, same_Some, slice_get-get_or}
 use Rattle.std.proofs.lemmas.List.{take_at, drop_at, length-map}
@@ -15,6 +15,7 @@ use Rattle.btor2.specs.declared.item.Item.{Item}
 use Rattle.btor2.specs.Items.{find_item, position_of, width_of_body, node_width}
 use Rattle.btor2.specs.Check.{IsWellFormed}
 use Rattle.btor2.specs.Trace.{Frame, bits_of, LineHolds, LinesHold, IsFrame}
+use Rattle.btor2.specs.Leaves.{kind_width}
 use Rattle.btor2.proofs.AppendLemmas.{is_some_from, then_parts, node_width-append}
 use Rattle.btor2.proofs.ModelLemmas.{IsIn-from_find, node_width-at, node_width-range, position_of-at}
 use Rattle.aiger.specs.Literal.{Valuation, literal_value}
@@ -24,9 +25,10 @@ use Rattle.gates.specs.Bound.{unary_bound, binary_bound, ite_bound}
 use Rattle.gates.specs.Made.{Grows, MakesWord, word_value}
 use Rattle.gates.proofs.GrowthLemmas.{Grows-refl, Grows-weaker, Satisfies-earlier, All-defined-grown}
 use Rattle.blast.specs.Leaves.{of_kind, leaf_bits}
-use Rattle.blast.specs.Cost.{line_cost, kind_width}
+use Rattle.blast.specs.Cost.{line_cost}
 use Rattle.blast.specs.Reads.{Together, ReadsWord, RowsRead}
 use Rattle.blast.specs.Table.{MakesNode, MakesRow, IsOperand}
+use Rattle.blast.proofs.KindBlocks.{length-of_kind}
 use Rattle.btor2.proofs.TraceLemmas.{words_fit_frame}
 
 -- What stays as gates are added.
@@ -132,53 +134,39 @@ pub bits_of_word : (v : Valuation) (row : List ℕ) (width value : ℕ) → leng
 bits_of_word v row width value wide is =
     sym (bits-word_of_length width (map (literal_value v) row) (length-map row (literal_value v) ∙ wide)) ∙ ap (bits width) is
 
+-- a row made as a word that is the node's in each frame
+MakesNode-from_word : (items : List Item) (old new : Net) (most width : ℕ) (made : Valuation → ℕ) (value : Frame → ℕ) (row : List ℕ) → MakesWord old new most width made row
+    → ((state input f : Frame) (v : Valuation) → Together items old state input f v → made v ≡ value f) → MakesNode items old new most width value row
+MakesNode-from_word items old new most width made value row m is =
+    record {
+      grows = m.grows;
+      wide = m.wide;
+      defined = m.defined;
+      bits = λ state input f v t. bits_of_word v row width (value f) m.wide (m.means v t.satisfied ∙ is state input f v (Together-earlier items old new most m.grows state input f v t));
+    }
+
 -- an operator of one operand
 pub MakesNode-unary : (items : List Item) (old new : Net) (rows : List (List ℕ)) (op : Unary) (id : ℕ) (a row : List ℕ) → IsWellFormed items → (o : IsOperand items old rows id) → Some o.row ≡ Some a
     → MakesWord old new (unary_bound op (length a)) (unary_width op (length a)) (λ v. unary_value op (length a) (word_value v a)) row
     → MakesNode items old new (unary_bound op (bits_of items id)) (unary_width op (bits_of items id)) (λ f. unary_value op (bits_of items id) (f id)) row
 MakesNode-unary items old new rows op id a row w o same m =
+    let n = bits_of items id in
     let is : o.row ≡ a = same_Some o.row a same in
-    let wide : length a ≡ bits_of items id = ap length (sym is) ∙ o.reads.wide in
-    from (length a) wide (subst (λ (l : List ℕ). MakesWord old new (unary_bound op (length a)) (unary_width op (length a)) (λ v. unary_value op (length a) (word_value v l)) row) (sym is) m)
-  where
-    from : (n : ℕ) → n ≡ bits_of items id → MakesWord old new (unary_bound op n) (unary_width op n) (λ v. unary_value op n (word_value v o.row)) row
-        → MakesNode items old new (unary_bound op (bits_of items id)) (unary_width op (bits_of items id)) (λ f. unary_value op (bits_of items id) (f id)) row
-    from n e m =
-        let k : MakesWord old new (unary_bound op (bits_of items id)) (unary_width op (bits_of items id)) (λ v. unary_value op (bits_of items id) (word_value v o.row)) row = rw e at m in
-        record {
-          grows = k.grows;
-          wide = k.wide;
-          defined = k.defined;
-          bits = λ state input f v t.
-              bits_of_word v row (unary_width op (bits_of items id)) (unary_value op (bits_of items id) (f id)) k.wide
-              (k.means v t.satisfied ∙ ap (unary_value op (bits_of items id)) (word_of_operand items old rows id w o state input f v (Together-earlier items old new (unary_bound op (bits_of items id)) k.grows state input f v t)));
-        }
+    let wide : bits_of items id ≡ length a = sym o.reads.wide ∙ ap length is in
+    MakesNode-from_word items old new (unary_bound op n) (unary_width op n) (λ v. unary_value op n (word_value v o.row)) (λ f. unary_value op n (f id)) row (rw (wide, is) m)
+    (λ state input f v t. ap (unary_value op n) (word_of_operand items old rows id w o state input f v t))
 
 -- an operator of two operands
 pub MakesNode-binary : (items : List Item) (old new : Net) (rows : List (List ℕ)) (op : Binary) (x y : ℕ) (a b row : List ℕ) → IsWellFormed items → (o : IsOperand items old rows x) → (p : IsOperand items old rows y) → Some o.row ≡ Some a → Some p.row ≡ Some b
     → MakesWord old new (binary_bound op (length a)) (binary_width op (length a)) (λ v. binary_value op (length a) (word_value v a) (word_value v b)) row
     → MakesNode items old new (binary_bound op (bits_of items x)) (binary_width op (bits_of items x)) (λ f. binary_value op (bits_of items x) (f x) (f y)) row
 MakesNode-binary items old new rows op x y a b row w o p same_a same_b m =
+    let n = bits_of items x in
     let is_a : o.row ≡ a = same_Some o.row a same_a in
     let is_b : p.row ≡ b = same_Some p.row b same_b in
-    let wide : length a ≡ bits_of items x = ap length (sym is_a) ∙ o.reads.wide in
-    let m_b = subst (λ (l : List ℕ). MakesWord old new (binary_bound op (length a)) (binary_width op (length a)) (λ v. binary_value op (length a) (word_value v a) (word_value v l)) row) (sym is_b) m in
-    from (length a) wide (subst (λ (l : List ℕ). MakesWord old new (binary_bound op (length a)) (binary_width op (length a)) (λ v. binary_value op (length a) (word_value v l) (word_value v p.row)) row) (sym is_a) m_b)
-  where
-    from : (n : ℕ) → n ≡ bits_of items x → MakesWord old new (binary_bound op n) (binary_width op n) (λ v. binary_value op n (word_value v o.row) (word_value v p.row)) row
-        → MakesNode items old new (binary_bound op (bits_of items x)) (binary_width op (bits_of items x)) (λ f. binary_value op (bits_of items x) (f x) (f y)) row
-    from n e m =
-        let n_x = bits_of items x in
-        let k : MakesWord old new (binary_bound op n_x) (binary_width op n_x) (λ v. binary_value op n_x (word_value v o.row) (word_value v p.row)) row = rw e at m in
-        record {
-          grows = k.grows;
-          wide = k.wide;
-          defined = k.defined;
-          bits = λ state input f v t.
-              let earlier = Together-earlier items old new (binary_bound op n_x) k.grows state input f v t in
-              bits_of_word v row (binary_width op n_x) (binary_value op n_x (f x) (f y)) k.wide
-              (k.means v t.satisfied ∙ ap₂ (binary_value op n_x) (word_of_operand items old rows x w o state input f v earlier) (word_of_operand items old rows y w p state input f v earlier));
-        }
+    let wide : bits_of items x ≡ length a = sym o.reads.wide ∙ ap length is_a in
+    MakesNode-from_word items old new (binary_bound op n) (binary_width op n) (λ v. binary_value op n (word_value v o.row) (word_value v p.row)) (λ f. binary_value op n (f x) (f y)) row (rw (wide, is_b, is_a) m)
+    (λ state input f v t. ap₂ (binary_value op n) (word_of_operand items old rows x w o state input f v t) (word_of_operand items old rows y w p state input f v t))
 
 -- a choice
 pub MakesNode-ite : (items : List Item) (old new : Net) (rows : List (List ℕ)) (x y z : ℕ) (c a b row : List ℕ) → IsWellFormed items → (q : IsOperand items old rows x) → (o : IsOperand items old rows y) → (p : IsOperand items old rows z)
@@ -186,27 +174,15 @@ pub MakesNode-ite : (items : List Item) (old new : Net) (rows : List (List ℕ))
     → MakesWord old new (ite_bound (length a)) (length a) (λ v. ite_value (word_value v c) (word_value v a) (word_value v b)) row
     → MakesNode items old new (ite_bound (bits_of items y)) (bits_of items y) (λ f. ite_value (f x) (f y) (f z)) row
 MakesNode-ite items old new rows x y z c a b row w q o p same_c same_a same_b m =
+    let n = bits_of items y in
     let is_c : q.row ≡ c = same_Some q.row c same_c in
     let is_a : o.row ≡ a = same_Some o.row a same_a in
     let is_b : p.row ≡ b = same_Some p.row b same_b in
-    let wide : length a ≡ bits_of items y = ap length (sym is_a) ∙ o.reads.wide in
-    from (length a) wide (rw (is_c, is_b, is_a) m)
-  where
-    from : (n : ℕ) → n ≡ bits_of items y → MakesWord old new (ite_bound n) n (λ v. ite_value (word_value v q.row) (word_value v o.row) (word_value v p.row)) row
-        → MakesNode items old new (ite_bound (bits_of items y)) (bits_of items y) (λ f. ite_value (f x) (f y) (f z)) row
-    from n e m =
-        let n_y = bits_of items y in
-        let k : MakesWord old new (ite_bound n_y) n_y (λ v. ite_value (word_value v q.row) (word_value v o.row) (word_value v p.row)) row = rw e at m in
-        record {
-          grows = k.grows;
-          wide = k.wide;
-          defined = k.defined;
-          bits = λ state input f v t.
-              let earlier = Together-earlier items old new (ite_bound n_y) k.grows state input f v t in
-              bits_of_word v row n_y (ite_value (f x) (f y) (f z)) k.wide
-              (k.means v t.satisfied ∙ ap (λ (i : ℕ). ite_value i (word_value v o.row) (word_value v p.row)) (word_of_operand items old rows x w q state input f v earlier)
-              ∙ ap₂ (ite_value (f x)) (word_of_operand items old rows y w o state input f v earlier) (word_of_operand items old rows z w p state input f v earlier));
-        }
+    let wide : bits_of items y ≡ length a = sym o.reads.wide ∙ ap length is_a in
+    MakesNode-from_word items old new (ite_bound n) n (λ v. ite_value (word_value v q.row) (word_value v o.row) (word_value v p.row)) (λ f. ite_value (f x) (f y) (f z)) row (rw (wide, is_c, is_b, is_a) m)
+    (λ state input f v t.
+    ap (λ (i : ℕ). ite_value i (word_value v o.row) (word_value v p.row)) (word_of_operand items old rows x w q state input f v t)
+    ∙ ap₂ (ite_value (f x)) (word_of_operand items old rows y w o state input f v t) (word_of_operand items old rows z w p state input f v t))
 
 -- Leaves.
 
@@ -216,16 +192,8 @@ of_kind-append kind give [] ys = refl
 of_kind-append {A} kind give (x ∷ xs) ys =
     ap (λ (l : List A). cond (kind x) (give x) [] ++ l) (of_kind-append kind give xs ys) ∙ sym (append_assoc (cond (kind x) (give x) []) (of_kind kind give xs) (of_kind kind give ys))
 
-length-leaf : (items : List Item) (f : Frame) (x : Item) (b : Bool) → length (cond b (leaf_bits items f x) []) ≡ cond b (bits_of items x.id) 0
-length-leaf items f x true = length-bits (bits_of items x.id) (f x.id)
-length-leaf items f x false = refl
-
 pub length-leaves : (items : List Item) (kind : Item → Bool) (f : Frame) (xs : List Item) → length (of_kind kind (leaf_bits items f) xs) ≡ kind_width items kind xs
-length-leaves items kind f [] = refl
-length-leaves items kind f (x ∷ xs) =
-    length-append (cond (kind x) (leaf_bits items f x) []) (of_kind kind (leaf_bits items f) xs)
-    ∙ ap₂ ◌+◌ (length-leaf items f x (kind x)) (length-leaves items kind f xs)
-    ∙ sym (sum_by-cons (λ (y : Item). cond (kind y) (bits_of items y.id) 0) x xs)
+length-leaves items kind f xs = length-of_kind items kind (leaf_bits items f) xs (λ x. length-bits (bits_of items x.id) (f x.id))
 
 -- the middle parts of two equal lists that are cut at equal lengths
 same_middle : (a b c x y z : List Bool) → a ++ (b ++ c) ≡ x ++ (y ++ z) → length a ≡ length x → length b ≡ length y → b ≡ y

@@ -13,13 +13,15 @@ use Rattle.base.specs.declared.operators.Binary.{Binary}
 use Rattle.btor2.specs.declared.item.Item.{Item}
 use Rattle.btor2.specs.declared.item.Body.{Body}
 use Rattle.btor2.specs.declared.item.Body.TheVariants as body
-use Rattle.btor2.specs.Items.{width_of_body, sort_width, is_input, is_state, is_free, is_free_state, is_carried_state}
+use Rattle.btor2.specs.Items.{width_of_body, sort_width, is_input, is_state, is_free, is_free_state, is_carried_state, node_width}
 use Rattle.btor2.specs.Lists.{places, is_free_at}
 use Rattle.btor2.specs.Check.{IsWellFormed}
 use Rattle.btor2.specs.Trace.{Frame, bits_of, LineHolds}
+use Rattle.btor2.specs.Leaves.{kind_width}
 use Rattle.btor2.proofs.AppendLemmas.{sort_width-append, node_width-append}
 use Rattle.btor2.proofs.AcceptedLemmas.{BodyIsAccepted}
-use Rattle.btor2.proofs.ModelLemmas.{IsIn-from_place, IsAccepted-at}
+use Rattle.btor2.proofs.ModelLemmas.{IsIn-from_place, IsAccepted-at, IsIn}
+use Rattle.btor2.proofs.LeafLemmas.{bits_of-at, free_at}
 use Rattle.aiger.specs.Literal.{Valuation}
 use Rattle.aiger.specs.Net.{Net, variables, bits_from}
 use Rattle.aiger.proofs.NetLemmas.{length-bits_from, bits_from-append}
@@ -27,12 +29,11 @@ use Rattle.gates.specs.Bound.{unary_bound, binary_bound}
 use Rattle.gates.specs.Made.{Grows}
 use Rattle.gates.proofs.GrowthLemmas.{Grows-refl, Grows-trans, variables-grown}
 use Rattle.blast.specs.Leaves.{by_body, of_kind, leaf_bits, input_bits}
-use Rattle.blast.specs.Cost.{line_cost, cost, kind_width, input_width, free_width, given_width, bound}
+use Rattle.blast.specs.Cost.{line_cost, cost, input_width, free_width, given_width, bound}
 use Rattle.blast.specs.declared.nodes.NextLeaf.{NextLeaf}
 use Rattle.blast.specs.Reads.{Together, RowReads, leaves_only, LowersNodes}
 use Rattle.blast.specs.Table.{MakesNode, MakesRow, IsOperand, cost_among, next_leaf, next_after, LowersFront}
-use Rattle.blast.proofs.WidthLemmas.{bits_of-at, leaves_width}
-use Rattle.blast.proofs.KindRows.{is_free-at}
+use Rattle.blast.proofs.WidthLemmas.{leaves_width}
 use Rattle.blast.proofs.NodeLemmas.{MakesRow-from_node, MakesNode-variables, length-leaves, leaf_variables, same_parts, length-range, LineHolds-at, IsOperand-from_front, RowsRead-later}
 
 -- The rows so far.
@@ -146,6 +147,34 @@ MakesRow-state items place n rows next x s row w front at is row_is = by (is_fre
         (omega (arith, front.grows.inputs, front.grows.latches)) (ap (λ (l : NextLeaf). l.carried) front.leaves ∙ omega arith) row_is
         (λ state inp f v t. (ap₂ (λ (i l : ℕ). bits_from (suc i) l v) (sym front.grows.inputs) (sym front.grows.latches) ∙ t.latches, word_of false e state inp f v t))
 
+-- Operands and sorts of a line in a well-formed list.
+
+pub operand_at : (items : List Item) (place : ℕ) (n : Net) (rows : List (List ℕ)) (next : NextLeaf) (x : Item) (a width : ℕ) → IsWellFormed items → LowersFront items place n rows next → (there : (w : IsIn items x) × (length w.before ≡ place))
+    → node_width there.0.before a ≡ Some width → IsOperand items n rows a × (bits_of items a ≡ width)
+operand_at items place n rows next x a width w front there node = (
+  IsOperand-from_front items there.0.before (x ∷ there.0.after) n rows a width w there.0.splits node (front.all ∙ sym there.1) front.reads,
+  ap (λ (l : List Item). bits_of l a) there.0.splits ∙ ap (λ (o : Option ℕ). unwrap_or o 0) (node_width-append there.0.before (x ∷ there.0.after) a width node),
+)
+
+pub sort_at : (items : List Item) (x : Item) (s width : ℕ) → (i : IsIn items x) → sort_width i.before s ≡ Some width → sort_width items s ≡ Some width
+sort_at items x s width i h = ap (λ (l : List Item). sort_width l s) i.splits ∙ sort_width-append i.before (x ∷ i.after) s width h
+
+pub sort_wide : (items : List Item) (s width : ℕ) → sort_width items s ≡ Some width → unwrap_or (sort_width items s) 0 ≡ width
+sort_wide items s width h = ap (λ (o : Option ℕ). unwrap_or o 0) h
+
+-- the row of a line of a form from what the form makes
+pub MakesRow-form : (items : List Item) (place : ℕ) (old new : Net) (x : Item) (b : Body) (width : ℕ) (value : Frame → ℕ) (row : List ℕ) → slice_get items place ≡ Some x → x.body ≡ b → unwrap_or (width_of_body items b) 0 ≡ width
+    → ((state input f : Frame) → LineHolds items state input f x.id b → f x.id ≡ value f) → MakesNode items old new (line_cost items b) width value row → MakesRow items old new x row
+MakesRow-form items place old new x b width value row at is wide says m =
+    let same : line_cost items x.body ≡ line_cost items b = ap (line_cost items) is in
+    MakesRow-from_node items old new x (line_cost items b) width value row (omega (arith, same)) (ap (λ (c : Body). unwrap_or (width_of_body items c) 0) is ∙ wide)
+    (λ state input f h. says state input f (subst (LineHolds items state input f x.id) is (LineHolds-at items state input f items place x h at))) m
+
+-- and its gates fit
+pub form_fits : (items : List Item) (place : ℕ) (n : Net) (rows : List (List ℕ)) (next : NextLeaf) (x : Item) (b : Body) → LowersFront items place n rows next → slice_get items place ≡ Some x → bound items ≤ 1073741824 → x.body ≡ b
+    → variables n + line_cost items b ≤ 1073741824
+form_fits items place n rows next x b front at fits is = subst (λ (c : Body). variables n + line_cost items c ≤ 1073741824) is (line_fits items place n rows next x front at fits)
+
 -- what a line of one operand is in a well-formed list
 pub record UnaryStands (items : List Item) (n : Net) (rows : List (List ℕ)) (op : Unary) (s a : ℕ) : Type 0 where
   pub operand : IsOperand items n rows a
@@ -155,23 +184,17 @@ pub UnaryStands-at : (items : List Item) (place : ℕ) (n : Net) (rows : List (L
     → x.body ≡ body.Unary op s a → UnaryStands items n rows op s a
 UnaryStands-at items place n rows next x op s a w front at is =
     let there = IsIn-from_place items place x at in
-    let i = there.0 in
-    let says = subst (BodyIsAccepted i.before) is (IsAccepted-at items x w i).says in
-    let number : bits_of items a ≡ says.0 = ap (λ (l : List Item). bits_of l a) i.splits ∙ ap (λ (o : Option ℕ). unwrap_or o 0) (node_width-append i.before (x ∷ i.after) a says.0 says.1) in
-    let sort : unwrap_or (sort_width items s) 0 ≡ unary_width op says.0 = ap (λ (l : List Item). unwrap_or (sort_width l s) 0) i.splits ∙ ap (λ (o : Option ℕ). unwrap_or o 0) (sort_width-append i.before (x ∷ i.after) s (unary_width op says.0) says.2) in
+    let says = subst (BodyIsAccepted there.0.before) is (IsAccepted-at items x w there.0).says in
+    let of_a = operand_at items place n rows next x a says.0 w front there says.1 in
     record {
-      operand = IsOperand-from_front items i.before (x ∷ i.after) n rows a says.0 w i.splits says.1 (front.all ∙ sym there.1) front.reads;
-      wide = sort ∙ ap (unary_width op) (sym number);
+      operand = of_a.0;
+      wide = sort_wide items s (unary_width op says.0) (sort_at items x s (unary_width op says.0) there.0 says.2) ∙ ap (unary_width op) (sym of_a.1);
     }
 
 pub MakesRow-unary : (items : List Item) (place : ℕ) (old new : Net) (rows : List (List ℕ)) (next : NextLeaf) (x : Item) (op : Unary) (s a : ℕ) (row : List ℕ) → IsWellFormed items → LowersFront items place old rows next → slice_get items place ≡ Some x
     → x.body ≡ body.Unary op s a → MakesNode items old new (unary_bound op (bits_of items a)) (unary_width op (bits_of items a)) (λ f. unary_value op (bits_of items a) (f a)) row → MakesRow items old new x row
 MakesRow-unary items place old new rows next x op s a row w front at is m =
-    let there = UnaryStands-at items place old rows next x op s a w front at is in
-    let same : line_cost items x.body ≡ unary_bound op (bits_of items a) = ap (line_cost items) is in
-    MakesRow-from_node items old new x (unary_bound op (bits_of items a)) (unary_width op (bits_of items a)) (λ f. unary_value op (bits_of items a) (f a)) row (omega (arith, same))
-    (ap (λ (b : Body). unwrap_or (width_of_body items b) 0) is ∙ there.wide)
-    (λ state input f h. subst (LineHolds items state input f x.id) is (LineHolds-at items state input f items place x h at)) m
+    MakesRow-form items place old new x (body.Unary op s a) (unary_width op (bits_of items a)) (λ f. unary_value op (bits_of items a) (f a)) row at is (UnaryStands-at items place old rows next x op s a w front at is).wide (λ state input f h. h) m
 
 -- a number that is tested to be one
 is_one : (n : ℕ) → (n == 1) ≡ true → n ≡ 1
@@ -189,40 +212,21 @@ pub BinaryStands-at : (items : List Item) (place : ℕ) (n : Net) (rows : List (
     → x.body ≡ body.Binary op s a b → BinaryStands items n rows op s a b
 BinaryStands-at items place n rows next x op s a b w front at is =
     let there = IsIn-from_place items place x at in
-    let i = there.0 in
-    let says = subst (BodyIsAccepted i.before) is (IsAccepted-at items x w i).says in
-    let of_a : bits_of items a ≡ says.0 = ap (λ (l : List Item). bits_of l a) i.splits ∙ ap (λ (o : Option ℕ). unwrap_or o 0) (node_width-append i.before (x ∷ i.after) a says.0 says.1) in
-    let of_b : bits_of items b ≡ says.0 = ap (λ (l : List Item). bits_of l b) i.splits ∙ ap (λ (o : Option ℕ). unwrap_or o 0) (node_width-append i.before (x ∷ i.after) b says.0 says.2) in
-    let sort : unwrap_or (sort_width items s) 0 ≡ binary_width op says.0 = ap (λ (l : List Item). unwrap_or (sort_width l s) 0) i.splits ∙ ap (λ (o : Option ℕ). unwrap_or o 0) (sort_width-append i.before (x ∷ i.after) s (binary_width op says.0) says.3) in
+    let says = subst (BodyIsAccepted there.0.before) is (IsAccepted-at items x w there.0).says in
+    let of_a = operand_at items place n rows next x a says.0 w front there says.1 in
+    let of_b = operand_at items place n rows next x b says.0 w front there says.2 in
     record {
-      left = IsOperand-from_front items i.before (x ∷ i.after) n rows a says.0 w i.splits says.1 (front.all ∙ sym there.1) front.reads;
-      right = IsOperand-from_front items i.before (x ∷ i.after) n rows b says.0 w i.splits says.2 (front.all ∙ sym there.1) front.reads;
-      equal = of_b ∙ sym of_a;
-      of_bits = λ single. let one : (not true || (says.0 == 1)) ≡ true = rw single at says.4 in of_a ∙ is_one says.0 one;
-      wide = sort ∙ ap (binary_width op) (sym of_a);
+      left = of_a.0;
+      right = of_b.0;
+      equal = of_b.1 ∙ sym of_a.1;
+      of_bits = λ single. let one : (not true || (says.0 == 1)) ≡ true = rw single at says.4 in of_a.1 ∙ is_one says.0 one;
+      wide = sort_wide items s (binary_width op says.0) (sort_at items x s (binary_width op says.0) there.0 says.3) ∙ ap (binary_width op) (sym of_a.1);
     }
 
 pub MakesRow-binary : (items : List Item) (place : ℕ) (old new : Net) (rows : List (List ℕ)) (next : NextLeaf) (x : Item) (op : Binary) (s a b : ℕ) (row : List ℕ) → IsWellFormed items → LowersFront items place old rows next → slice_get items place ≡ Some x
     → x.body ≡ body.Binary op s a b → MakesNode items old new (binary_bound op (bits_of items a)) (binary_width op (bits_of items a)) (λ f. binary_value op (bits_of items a) (f a) (f b)) row → MakesRow items old new x row
 MakesRow-binary items place old new rows next x op s a b row w front at is m =
-    let there = BinaryStands-at items place old rows next x op s a b w front at is in
-    let same : line_cost items x.body ≡ binary_bound op (bits_of items a) = ap (line_cost items) is in
-    MakesRow-from_node items old new x (binary_bound op (bits_of items a)) (binary_width op (bits_of items a)) (λ f. binary_value op (bits_of items a) (f a) (f b)) row (omega (arith, same))
-    (ap (λ (b : Body). unwrap_or (width_of_body items b) 0) is ∙ there.wide)
-    (λ state input f h. subst (LineHolds items state input f x.id) is (LineHolds-at items state input f items place x h at)) m
-
--- the gates of an operator's line fit
-pub unary_fits : (items : List Item) (place : ℕ) (n : Net) (rows : List (List ℕ)) (next : NextLeaf) (x : Item) (op : Unary) (s a : ℕ) → LowersFront items place n rows next → slice_get items place ≡ Some x → bound items ≤ 1073741824
-    → x.body ≡ body.Unary op s a → variables n + unary_bound op (bits_of items a) ≤ 1073741824
-unary_fits items place n rows next x op s a front at fits is =
-    let same : line_cost items x.body ≡ unary_bound op (bits_of items a) = ap (line_cost items) is in
-    omega (arith, same, line_fits items place n rows next x front at fits)
-
-pub binary_fits : (items : List Item) (place : ℕ) (n : Net) (rows : List (List ℕ)) (next : NextLeaf) (x : Item) (op : Binary) (s a b : ℕ) → LowersFront items place n rows next → slice_get items place ≡ Some x → bound items ≤ 1073741824
-    → x.body ≡ body.Binary op s a b → variables n + binary_bound op (bits_of items a) ≤ 1073741824
-binary_fits items place n rows next x op s a b front at fits is =
-    let same : line_cost items x.body ≡ binary_bound op (bits_of items a) = ap (line_cost items) is in
-    omega (arith, same, line_fits items place n rows next x front at fits)
+    MakesRow-form items place old new x (body.Binary op s a b) (binary_width op (bits_of items a)) (λ f. binary_value op (bits_of items a) (f a) (f b)) row at is (BinaryStands-at items place old rows next x op s a b w front at is).wide (λ state input f h. h) m
 
 -- What the next leaf has.
 
@@ -322,7 +326,7 @@ IsNextState-from_front items place x next at is e =
 
 -- whether that state is free
 pub IsNextState-free : (items : List Item) (place k : ℕ) (x : Item) (b : Bool) → IsNextState items place k → slice_get items place ≡ Some x → b ≡ is_free_at items (get_or (places is_state 0 items) k 0) → is_free items x.id ≡ b
-IsNextState-free items place k x b n at e = sym (e ∙ ap (is_free_at items) n.at ∙ is_free-at items place x at)
+IsNextState-free items place k x b n at e = sym (e ∙ ap (is_free_at items) n.at ∙ free_at items place x at)
 
 -- what the leaf behind a state has
 pub after_state : (items : List Item) (x : Item) (next : NextLeaf) (b : Bool) → is_state x.body ≡ true → is_free items x.id ≡ b

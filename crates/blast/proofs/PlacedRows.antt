@@ -1,5 +1,5 @@
 -- The rows of lines that take no gate, and of choices: what stands before them, and that they read as their words.
-use Rattle.std.proofs.Common.{◌≡◌, ℕ, ◌+◌, ◌-◌, ◌<◌, ◌≤◌, Bool, true, false, List, ◌∷◌, ◌++◌, length, Option, Some, None, IfSome, is_some, unwrap_or, option_and_then, slice_get, take, drop, map, replicate, refl, sym, ap, ap₂, subst, ◌∙◌, arith}
+use Rattle.std.proofs.Common.{◌≡◌, ℕ, ◌+◌, ◌-◌, ◌<◌, ◌≤◌, Bool, true, false, List, ◌++◌, length, Option, Some, None, IfSome, is_some, unwrap_or, option_and_then, slice_get, take, drop, map, replicate, refl, sym, ap, ap₂, subst, ◌∙◌, arith}
 use Rattle.std.proofs.lemmas.Option.{none-some, same_Some}
 use Rattle.base.specs.Word.{bits}
 use Rattle.base.specs.Operator.{ones, ite_value, slice_value, uext_value, sext_value, concat_value}
@@ -12,36 +12,23 @@ use Rattle.base.specs.declared.operators.Binary.{Binary}
 use Rattle.btor2.specs.Items.{is_input, is_state, node_width, width_of_body, sort_width, constant_word, constant_of_body}
 use Rattle.btor2.specs.Lists.{constant_at}
 use Rattle.btor2.specs.Check.{IsWellFormed}
-use Rattle.btor2.specs.Trace.{Frame, bits_of, line_word, LineHolds, IsFrame}
-use Rattle.btor2.proofs.AppendLemmas.{sort_width-append, node_width-append, is_some_from}
+use Rattle.btor2.specs.Trace.{Frame, bits_of, line_word}
+use Rattle.btor2.proofs.AppendLemmas.{is_some_from}
 use Rattle.btor2.proofs.AcceptedLemmas.{BodyIsAccepted}
 use Rattle.btor2.proofs.ModelLemmas.{IsIn, IsIn-from_place, IsAccepted-at, node_width-at, sort_width-range}
-use Rattle.aiger.specs.Net.{Net, variables}
+use Rattle.aiger.specs.Net.{Net}
 use Rattle.gates.specs.Bound.{ite_bound}
 use Rattle.gates.proofs.GrowthLemmas.{Grows-refl}
-use Rattle.blast.specs.Cost.{line_cost, bound}
+use Rattle.blast.specs.Cost.{line_cost}
 use Rattle.blast.specs.declared.nodes.NextLeaf.{NextLeaf}
 use Rattle.blast.specs.Reads.{ReadsWord}
 use Rattle.blast.specs.Rows.{bit_literal, word_literals}
 use Rattle.blast.specs.Table.{MakesNode, MakesRow, IsOperand, LowersFront, row_of, next_after}
-use Rattle.blast.proofs.NodeLemmas.{MakesRow-from_node, LineHolds-at, IsOperand-from_front}
-use Rattle.blast.proofs.NodeRows.{line_fits}
+use Rattle.blast.proofs.NodeLemmas.{MakesRow-from_node, LineHolds-at}
+use Rattle.blast.proofs.NodeRows.{operand_at, sort_at, sort_wide, MakesRow-form}
 use Rattle.blast.proofs.PlacedLemmas.{top, MakesNode-constant, MakesNode-uext, MakesNode-sext, MakesNode-slice, MakesNode-concat}
 
--- Operands and sorts of a line in a well-formed list.
-
-operand_at : (items : List Item) (place : ℕ) (n : Net) (rows : List (List ℕ)) (next : NextLeaf) (x : Item) (a width : ℕ) → IsWellFormed items → LowersFront items place n rows next → (there : (w : IsIn items x) × (length w.before ≡ place))
-    → node_width there.0.before a ≡ Some width → IsOperand items n rows a × (bits_of items a ≡ width)
-operand_at items place n rows next x a width w front there node = (
-  IsOperand-from_front items there.0.before (x ∷ there.0.after) n rows a width w there.0.splits node (front.all ∙ sym there.1) front.reads,
-  ap (λ (l : List Item). bits_of l a) there.0.splits ∙ ap (λ (o : Option ℕ). unwrap_or o 0) (node_width-append there.0.before (x ∷ there.0.after) a width node),
-)
-
-sort_at : (items : List Item) (x : Item) (s width : ℕ) → (i : IsIn items x) → sort_width i.before s ≡ Some width → sort_width items s ≡ Some width
-sort_at items x s width i h = ap (λ (l : List Item). sort_width l s) i.splits ∙ sort_width-append i.before (x ∷ i.after) s width h
-
-sort_wide : (items : List Item) (s width : ℕ) → sort_width items s ≡ Some width → unwrap_or (sort_width items s) 0 ≡ width
-sort_wide items s width h = ap (λ (o : Option ℕ). unwrap_or o 0) h
+-- Operands.
 
 -- the row that is found is the operand's
 pub own_row : (items : List Item) (n : Net) (rows : List (List ℕ)) (id : ℕ) (r : List ℕ) → (o : IsOperand items n rows id) → row_of items rows id ≡ Some r → o.row ≡ r
@@ -52,13 +39,6 @@ own_wide items n rows id r o h = ap length (sym (own_row items n rows id r o h))
 
 pub row_there : (items : List Item) (n : Net) (rows : List (List ℕ)) (id : ℕ) → IsOperand items n rows id → is_some (row_of items rows id) ≡ true
 row_there items n rows id o = is_some_from (row_of items rows id) o.row o.at
-
--- what the line says of a frame
-says_of : (items : List Item) (place : ℕ) (x : Item) (b : Body) → slice_get items place ≡ Some x → x.body ≡ b → (state input f : Frame) → IsFrame items state input f → LineHolds items state input f x.id b
-says_of items place x b at is state input f h = subst (LineHolds items state input f x.id) is (LineHolds-at items state input f items place x h at)
-
-body_wide : (items : List Item) (x : Item) (b : Body) (width : ℕ) → x.body ≡ b → unwrap_or (width_of_body items b) 0 ≡ width → unwrap_or (width_of_body items x.body) 0 ≡ width
-body_wide items x b width is h = ap (λ (c : Body). unwrap_or (width_of_body items c) 0) is ∙ h
 
 -- Wider words.
 
@@ -97,21 +77,16 @@ pub MakesRow-uext : (items : List Item) (place : ℕ) (n : Net) (rows : List (Li
     → x.body ≡ body.Uext s a by → row_of items rows a ≡ Some r → row ≡ r ++ replicate by 0 → MakesRow items n n x row
 MakesRow-uext items place n rows next x s a by r row w front at is found row_is =
     let there = UextStands-at items place n rows next x s a by w front at is in
-    let same : o_row there.operand ++ replicate by 0 ≡ row = ap (λ (l : List ℕ). l ++ replicate by 0) (own_row items n rows a r there.operand found) ∙ sym row_is in
-    MakesRow-from_node items n n x 0 (bits_of items a + by) (λ f. uext_value (f a)) row (omega arith) (body_wide items x (body.Uext s a by) (bits_of items a + by) is there.wide)
-    (says_of items place x (body.Uext s a by) at is)
-    (subst (MakesNode items n n 0 (bits_of items a + by) (λ f. uext_value (f a))) same (MakesNode-uext items n rows a by w there.operand))
-  where
-    o_row : IsOperand items n rows a → List ℕ
-    o_row o = o.row
+    let value : Frame → ℕ = λ f. uext_value (f a) in
+    MakesRow-form items place n n x (body.Uext s a by) (bits_of items a + by) value row at is there.wide (λ state input f h. h)
+    (subst (MakesNode items n n 0 (bits_of items a + by) value) (ap (λ (l : List ℕ). l ++ replicate by 0) (own_row items n rows a r there.operand found) ∙ sym row_is) (MakesNode-uext items n rows a by w there.operand))
 
 pub MakesRow-sext : (items : List Item) (place : ℕ) (n : Net) (rows : List (List ℕ)) (next : NextLeaf) (x : Item) (s a by : ℕ) (r row : List ℕ) → IsWellFormed items → LowersFront items place n rows next → slice_get items place ≡ Some x
     → x.body ≡ body.Sext s a by → row_of items rows a ≡ Some r → row ≡ r ++ replicate by (top r) → MakesRow items n n x row
 MakesRow-sext items place n rows next x s a by r row w front at is found row_is =
     let there = SextStands-at items place n rows next x s a by w front at is in
     let value : Frame → ℕ = λ f. sext_value (bits_of items a) (f a) by in
-    MakesRow-from_node items n n x 0 (bits_of items a + by) value row (omega arith) (body_wide items x (body.Sext s a by) (bits_of items a + by) is there.wide)
-    (says_of items place x (body.Sext s a by) at is)
+    MakesRow-form items place n n x (body.Sext s a by) (bits_of items a + by) value row at is there.wide (λ state input f h. h)
     (subst (MakesNode items n n 0 (bits_of items a + by) value) (ap (λ (l : List ℕ). l ++ replicate by (top l)) (own_row items n rows a r there.operand found) ∙ sym row_is) (MakesNode-sext items n rows a by w there.operand))
 
 -- Slices.
@@ -140,8 +115,7 @@ pub MakesRow-slice : (items : List Item) (place : ℕ) (n : Net) (rows : List (L
 MakesRow-slice items place n rows next x s a u l r row w front at is found row_is =
     let there = SliceStands-at items place n rows next x s a u l w front at is in
     let value : Frame → ℕ = λ f. slice_value (f a) u l in
-    MakesRow-from_node items n n x 0 (u - l + 1) value row (omega arith) (body_wide items x (body.Slice s a u l) (u - l + 1) is there.wide)
-    (says_of items place x (body.Slice s a u l) at is)
+    MakesRow-form items place n n x (body.Slice s a u l) (u - l + 1) value row at is there.wide (λ state input f h. h)
     (subst (MakesNode items n n 0 (u - l + 1) value) (ap (λ (k : List ℕ). take (u - l + 1) (drop l k)) (own_row items n rows a r there.operand found) ∙ sym row_is) (MakesNode-slice items n rows a u l w there.operand there.order there.within))
 
 -- One word before another.
@@ -174,8 +148,7 @@ MakesRow-concat items place n rows next x s a b high low row w front at is found
     let there = ConcatStands-at items place n rows next x s a b w front at is in
     let value : Frame → ℕ = λ f. concat_value (f a) (bits_of items b) (f b) in
     let width = bits_of items a + bits_of items b in
-    MakesRow-from_node items n n x 0 width value row (omega arith) (body_wide items x (body.Concat s a b) width is there.wide)
-    (says_of items place x (body.Concat s a b) at is)
+    MakesRow-form items place n n x (body.Concat s a b) width value row at is there.wide (λ state input f h. h)
     (subst (MakesNode items n n 0 width value) (ap₂ (λ (k l : List ℕ). k ++ l) (own_row items n rows b low there.low found_b) (own_row items n rows a high there.high found_a) ∙ sym row_is) (MakesNode-concat items n rows a b w there.high there.low))
 
 -- Choices.
@@ -208,16 +181,7 @@ IteStands-at items place n rows next x s c t e w front at is =
 pub MakesRow-ite : (items : List Item) (place : ℕ) (old new : Net) (rows : List (List ℕ)) (next : NextLeaf) (x : Item) (s c t e : ℕ) (row : List ℕ) → IsWellFormed items → LowersFront items place old rows next → slice_get items place ≡ Some x
     → x.body ≡ body.Ite s c t e → MakesNode items old new (ite_bound (bits_of items t)) (bits_of items t) (λ f. ite_value (f c) (f t) (f e)) row → MakesRow items old new x row
 MakesRow-ite items place old new rows next x s c t e row w front at is m =
-    let there = IteStands-at items place old rows next x s c t e w front at is in
-    let same : line_cost items x.body ≡ ite_bound (bits_of items t) = ap (line_cost items) is in
-    MakesRow-from_node items old new x (ite_bound (bits_of items t)) (bits_of items t) (λ f. ite_value (f c) (f t) (f e)) row (omega (arith, same))
-    (body_wide items x (body.Ite s c t e) (bits_of items t) is there.wide) (says_of items place x (body.Ite s c t e) at is) m
-
-pub ite_fits : (items : List Item) (place : ℕ) (n : Net) (rows : List (List ℕ)) (next : NextLeaf) (x : Item) (s c t e : ℕ) → LowersFront items place n rows next → slice_get items place ≡ Some x → bound items ≤ 1073741824
-    → x.body ≡ body.Ite s c t e → variables n + ite_bound (bits_of items t) ≤ 1073741824
-ite_fits items place n rows next x s c t e front at fits is =
-    let same : line_cost items x.body ≡ ite_bound (bits_of items t) = ap (line_cost items) is in
-    omega (arith, same, line_fits items place n rows next x front at fits)
+    MakesRow-form items place old new x (body.Ite s c t e) (bits_of items t) (λ f. ite_value (f c) (f t) (f e)) row at is (IteStands-at items place old rows next x s c t e w front at is).wide (λ state input f h. h) m
 
 -- Constants, and lines without a value.
 

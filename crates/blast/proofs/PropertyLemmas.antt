@@ -15,6 +15,7 @@ use Rattle.btor2.proofs.AppendLemmas.{node_width-append, is_some_from}
 use Rattle.btor2.proofs.AcceptedLemmas.{BodyIsAccepted}
 use Rattle.btor2.proofs.ModelLemmas.{IsAccepted-at, IsIn, IsIn-from_place, few_items}
 use Rattle.btor2.proofs.TraceLemmas.{words_fit_frame}
+use Rattle.btor2.proofs.LeafLemmas.{bits_of-most}
 use Rattle.aiger.specs.declared.circuit.Section.{Section}
 use Rattle.aiger.specs.declared.circuit.Section.TheVariants as section
 use Rattle.aiger.specs.Limits.{greatest_count}
@@ -34,7 +35,6 @@ use Rattle.blast.specs.Table.{row_of}
 use Rattle.blast.proofs.KindBlocks.{slice_get-behind}
 use Rattle.blast.proofs.KindRows.{row_at-reads, node_place, entry}
 use Rattle.blast.proofs.NameLemmas.{names_by-more, names_by-output}
-use Rattle.blast.proofs.WidthLemmas.{bits_of-most}
 
 -- What an item of a well-formed list says.
 

@@ -1,37 +1,31 @@
 -- From initial words to initial bits and back, and what rises in a model and in a circuit that lowers it.
-use Rattle.std.proofs.Common.{◌≡◌, ℕ, zero, suc, ◌+◌, ◌*◌, ◌/◌, ◌^◌, ◌<◌, ◌≤◌, Bool, true, false, cond, nat_eq, eqb-true, eq-eqb, List, [], ◌∷◌, ◌++◌, length, map, take, drop, replicate, All, Option, Some, None, is_some, is_none, ◌&&◌, not, option_and_then, unwrap_or, refl, sym, ap, ap₂, subst, ◌∙◌, pow_pos, append_assoc, length-append, take-append-drop, arith}
+use Rattle.std.proofs.Common.{◌≡◌, ℕ, zero, suc, ◌+◌, ◌/◌, ◌^◌, ◌<◌, Bool, true, false, List, [], ◌∷◌, ◌++◌, length, map, drop, replicate, All, Option, Some, None, ◌&&◌, not, option_and_then, unwrap_or, refl, sym, ap, ap₂, subst, ◌∙◌, length-append, arith}
 use Rattle.std.specs.Prelude.{if◌then◌else◌}
-use Rattle.std.specs.Option.{option_or}
-use Rattle.std.proofs.lemmas.Option.{none-some, same_Some}
-use Rattle.std.proofs.lemmas.List.{length-map, length-take-le, length-drop}
-use Rattle.std.proofs.lemmas.List.Sums.{sum_by-cons}
+use Rattle.std.proofs.lemmas.List.{length-map}
 use Rattle.std.proofs.lemmas.List.Elements.{All-nil, All-cons, All-head, All-tail}
-use Rattle.base.specs.Word.{bit_number, word, bits}
-use Rattle.base.proofs.BitLemmas.{two_more, length-bits, word-bits, bits-word_of_length}
+use Rattle.base.specs.Word.{word, bits}
+use Rattle.base.proofs.BitLemmas.{length-bits, word-bits}
 use Rattle.btor2.specs.declared.item.Item.{Item}
-use Rattle.btor2.specs.declared.item.Body.{Body}
-use Rattle.btor2.specs.declared.item.Body.TheVariants as body
-use Rattle.btor2.specs.Items.{find_item, is_input, is_state, is_free, is_free_state, is_carried_state, names_state, constant_of, init_for, init_value, next_value, init_word}
+use Rattle.btor2.specs.Items.{is_input, is_free_state, is_carried_state, names_state, constant_of, init_value, init_word}
 use Rattle.btor2.specs.Check.{IsWellFormed}
-use Rattle.btor2.specs.Trace.{Frame, bits_of, StateFits, StatesFit, InputFits, InputsFit, AreInputs, InitHolds, InitsHold, IsInitial, IsTrace}
-use Rattle.btor2.proofs.AppendLemmas.{then_parts}
-use Rattle.btor2.proofs.ModelLemmas.{IsIn, find_item-in, IsIn-from_find, IsAccepted-at, IsInitOf-from_value}
-use Rattle.btor2.proofs.AcceptedLemmas.{BodyIsAccepted}
-use Rattle.btor2.proofs.ConstantLemmas.{constant_below, inits_say, init_value-after}
+use Rattle.btor2.specs.Trace.{Frame, bits_of, AreInputs, IsInitial, IsTrace}
+use Rattle.btor2.proofs.ModelLemmas.{IsInitOf-from_value}
+use Rattle.btor2.proofs.IdLemmas.{state_item}
+use Rattle.btor2.proofs.InitLemmas.{fitting_inputs, fitting_states, init_word_below, init_words_say, inits_hold, init_not_free}
 use Rattle.aiger.specs.declared.circuit.Latch.{Latch}
 use Rattle.aiger.specs.declared.circuit.Reset.{Reset}
 use Rattle.aiger.specs.declared.circuit.Reset.TheVariants as reset
 use Rattle.aiger.specs.Literal.{Valuation}
-use Rattle.aiger.specs.Net.{bits_from}
 use Rattle.aiger.specs.Circuit.{Circuit}
 use Rattle.aiger.specs.Trace.{AgreesWithReset, AreInitial, IsTrace as IsCircuitTrace, next_state as next_bits}
-use Rattle.blast.specs.Cost.{kind_width, input_width, given_width, carried_width}
+use Rattle.blast.specs.Cost.{input_width, given_width, carried_width}
 use Rattle.blast.specs.Leaves.{by_body, of_kind, leaf_bits, leaf_resets, resets_of_word, reset_of_bit, input_bits, state_bits, state_resets}
 use Rattle.blast.specs.Lowering.{Lowers, ShowSame}
-use Rattle.blast.proofs.KindRows.{free_parts}
 use Rattle.blast.proofs.NodeLemmas.{length-leaves}
 use Rattle.blast.proofs.LowerAssembly.{length-resets, length-state_resets}
+use Rattle.blast.proofs.LeafWords.{word_for, word_fits, input_named, free_named, state_bits_are, input_bits_are, below_or_0}
 use Rattle.aiger.specs.Reachability.{Shown, circuit_shows, rises_within, CanRiseInCircuit}
+use Rattle.aiger.proofs.NetLemmas.{length-bits_from}
 use Rattle.blast.specs.Reachability.{model_shows, CanRise}
 
 -- ---- bits that agree with resets
@@ -120,11 +114,6 @@ states_agree items state says (x ∷ xs) = by (is_carried_state items x) (states
         (word_agrees (bits_of items x.id) (state x.id) (init_word items x.id) (says x.id)) rest
     by false rest = rest
 
-init_words_say : (items : List Item) (state : Frame) → InitsHold items state items → (id k : ℕ) → init_word items id ≡ Some k → k ≡ state id
-init_words_say items state h id k e =
-    let parts = then_parts (constant_of items) (init_value items id) k e in
-    same_Some k (state id) (sym parts.2 ∙ inits_say items items state id parts.0 h parts.1)
-
 pub initial_bits : (items : List Item) (c : Circuit) → Lowers items c → (state : Frame) → IsInitial items state → AreInitial c.latches (state_bits items state)
 initial_bits items c l state initial =
     initial_from_agree c.latches (state_bits items state)
@@ -150,170 +139,41 @@ input_counts items c l (f ∷ fs) =
 
 -- ---- the words that bits stand for
 
--- the words of the leaves of a kind among some items, from the bits of all of them
-words_from : List Item → (Item → Bool) → List Item → List Bool → Frame
-words_from items kind [] bs id = 0
-words_from items kind (x ∷ xs) bs id =
-    if kind x
-    then (if nat_eq id x.id then word (take (bits_of items x.id) bs) else words_from items kind xs (drop (bits_of items x.id) bs) id)
-    else words_from items kind xs bs id
-
--- a word of so many bits at most
-taken_below : (n : ℕ) (bs : List Bool) → word (take n bs) < 2 ^ n
-taken_below zero bs = pow_pos 0
-taken_below (suc n) [] = pow_pos (suc n)
-taken_below (suc n) (b ∷ bs) = word_step b (word (take n bs)) n (taken_below n bs)
-  where
-    word_step : (b : Bool) (w n : ℕ) → w < 2 ^ n → bit_number b + 2 * w < 2 ^ suc n
-    word_step true w n h = omega (arith, two_more n)
-    word_step false w n h = omega (arith, two_more n)
-
-words_fit : (items : List Item) (kind : Item → Bool) (xs : List Item) (bs : List Bool) (id : ℕ) → words_from items kind xs bs id < 2 ^ bits_of items id
-unfolding words_from
-words_fit items kind [] bs id = pow_pos (bits_of items id)
-words_fit items kind (x ∷ xs) bs id =
-    by (kind x) (nat_eq id x.id) refl (words_fit items kind xs (drop (bits_of items x.id) bs) id) (words_fit items kind xs bs id)
-  where
-    by : (b c : Bool) → nat_eq id x.id ≡ c → words_from items kind xs (drop (bits_of items x.id) bs) id < 2 ^ bits_of items id → words_from items kind xs bs id < 2 ^ bits_of items id
-        → (if b then (if c then word (take (bits_of items x.id) bs) else words_from items kind xs (drop (bits_of items x.id) bs) id) else words_from items kind xs bs id) < 2 ^ bits_of items id
-    by true true e rest other = subst (λ (n : ℕ). word (take (bits_of items x.id) bs) < 2 ^ bits_of items n) (sym (eqb-true id x.id e)) (taken_below (bits_of items x.id) bs)
-    by true false e rest other = rest
-    by false c e rest other = other
-
--- the ids of the items behind an item are others
-AreFresh : List Item → Type 0
-AreFresh [] = Unit {0}
-AreFresh (x ∷ xs) = ((y : Item) → IsIn xs y → nat_eq y.id x.id ≡ false) × AreFresh xs
-
-other_id : (front rest : List Item) (x : Item) (id : ℕ) → find_item (front ++ x ∷ rest) id ≡ None → nat_eq id x.id ≡ false
-other_id [] rest x id h = by (nat_eq id x.id) refl h
-  where
-    by : (b : Bool) → nat_eq id x.id ≡ b → cond b (Some x) (find_item rest id) ≡ None → nat_eq id x.id ≡ false
-    by true e h = absurd (none-some x (sym h))
-    by false e h = e
-other_id (z ∷ front) rest x id h = by (nat_eq id z.id) (other_id front rest x id) h
-  where
-    by : (b : Bool) → (find_item (front ++ x ∷ rest) id ≡ None → nat_eq id x.id ≡ false) → cond b (Some z) (find_item (front ++ x ∷ rest) id) ≡ None → nat_eq id x.id ≡ false
-    by true more h = absurd (none-some z (sym h))
-    by false more h = more h
-
-fresh_behind : (front xs : List Item) → IsWellFormed (front ++ xs) → AreFresh xs
-unfolding AreFresh
-fresh_behind front [] w = tt
-fresh_behind front (x ∷ xs) w = (
-  λ y at.
-      let splits : front ++ x ∷ xs ≡ (front ++ x ∷ at.before) ++ y ∷ at.after = ap (λ (l : List Item). front ++ x ∷ l) at.splits ∙ sym (append_assoc front (x ∷ at.before) (y ∷ at.after)) in
-      let here : IsIn (front ++ x ∷ xs) y = record { before = front ++ x ∷ at.before; after = at.after; splits = splits } in
-      other_id front at.before x y.id (IsAccepted-at (front ++ x ∷ xs) y w here).fresh,
-  fresh_behind (front ++ x ∷ []) xs (subst IsWellFormed (sym (append_assoc front (x ∷ []) xs)) w),
-)
-
-behind : (x y : Item) (xs : List Item) → IsIn xs y → IsIn (x ∷ xs) y
-behind x y xs at = record { before = x ∷ at.before; after = at.after; splits = ap (λ (l : List Item). x ∷ l) at.splits }
-
-no_bits : (bs : List Bool) → length bs ≡ 0 → [] ≡ bs
-no_bits [] e = refl
-no_bits (b ∷ bs) e = absurd (omega arith)
-
--- words that are those which bits stand for have these bits
-bits_again : (items : List Item) (kind : Item → Bool) (f : Frame) (xs : List Item) (bs : List Bool) → AreFresh xs → length bs ≡ kind_width items kind xs
-    → ((y : Item) → IsIn xs y → kind y ≡ true → f y.id ≡ words_from items kind xs bs y.id) → of_kind kind (leaf_bits items f) xs ≡ bs
-unfolding AreFresh words_from
-bits_again items kind f [] bs fresh many same = no_bits bs many
-bits_again items kind f (x ∷ xs) bs fresh many same =
-    by (kind x) refl (many ∙ sum_by-cons (λ (y : Item). if kind y then bits_of items y.id else 0) x xs) same
-    (λ cs. bits_again items kind f xs cs fresh.1)
-  where
-    w : ℕ
-    w = bits_of items x.id
-
-    other : (y : Item) → IsIn xs y → (n m : ℕ) → (if nat_eq y.id x.id then n else m) ≡ m
-    other y at n m = ap (λ (b : Bool). if b then n else m) (fresh.0 y at)
-
-    by : (b : Bool) → kind x ≡ b → length bs ≡ (if b then bits_of items x.id else 0) + kind_width items kind xs
-        → ((y : Item) → IsIn (x ∷ xs) y → kind y ≡ true → f y.id ≡ (if b then (if nat_eq y.id x.id then word (take (bits_of items x.id) bs) else words_from items kind xs (drop (bits_of items x.id) bs) y.id) else words_from items kind xs bs y.id))
-        → ((cs : List Bool) → length cs ≡ kind_width items kind xs → ((y : Item) → IsIn xs y → kind y ≡ true → f y.id ≡ words_from items kind xs cs y.id) → of_kind kind (leaf_bits items f) xs ≡ cs)
-        → (if b then leaf_bits items f x else []) ++ of_kind kind (leaf_bits items f) xs ≡ bs
-    by true is many same rest =
-        let enough : bits_of items x.id ≤ length bs = omega arith in
-        let own : f x.id ≡ word (take (bits_of items x.id) bs) = same x (record { before = []; after = xs; splits = refl }) is ∙ ap (λ (b : Bool). if b then word (take (bits_of items x.id) bs) else words_from items kind xs (drop (bits_of items x.id) bs) x.id) (eq-eqb x.id x.id refl) in
-        let first : leaf_bits items f x ≡ take (bits_of items x.id) bs = ap (bits (bits_of items x.id)) own ∙ bits-word_of_length (bits_of items x.id) (take (bits_of items x.id) bs) (length-take-le (bits_of items x.id) bs enough) in
-        let more : of_kind kind (leaf_bits items f) xs ≡ drop (bits_of items x.id) bs =
-        rest (drop (bits_of items x.id) bs) (omega (arith, length-drop (bits_of items x.id) bs))
-        (λ y at h. same y (behind x y xs at) h ∙ ap (λ (b : Bool). if b then word (take (bits_of items x.id) bs) else words_from items kind xs (drop (bits_of items x.id) bs) y.id) (fresh.0 y at)) in
-        ap₂ ◌++◌ first more ∙ take-append-drop (bits_of items x.id) bs
-    by false is many same rest = rest bs (omega arith) (λ y at h. same y (behind x y xs at) h)
-
-fitting_state : (items : List Item) (f : Frame) → ((id : ℕ) → f id < 2 ^ bits_of items id) → (xs : List Item) → StatesFit items f xs
-fitting_state items f fits [] = tt
-fitting_state items f fits (x ∷ xs) = (by x.id x.body, fitting_state items f fits xs)
-  where
-    by : (id : ℕ) (b : Body) → StateFits items f id b
-    by id (body.State s) = λ carried. fits id
-    by id _ = tt
-
-fitting_input : (items : List Item) (f : Frame) → ((id : ℕ) → f id < 2 ^ bits_of items id) → (xs : List Item) → InputsFit items f xs
-fitting_input items f fits [] = tt
-fitting_input items f fits (x ∷ xs) = (by x.id x.body, fitting_input items f fits xs)
-  where
-    by : (id : ℕ) (b : Body) → InputFits items f id b
-    by id (body.Input s) = fits id
-    by id (body.State s) = λ free. fits id
-    by id _ = tt
-
 abbrev states_from : List Item → List Bool → Frame
-states_from items bs = words_from items (is_carried_state items) items bs
+states_from items bs id = unwrap_or (word_for items (is_carried_state items) items bs id) 0
 
 -- the words that are given: those of free states from the bits behind those of the inputs
 abbrev inputs_from : List Item → List Bool → Frame
 inputs_from items bs id =
-    if names_state items id
-    then words_from items (is_free_state items) items (drop (input_width items) bs) id
-    else words_from items (by_body is_input) items (take (input_width items) bs) id
+    unwrap_or (if names_state items id then word_for items (is_free_state items) items (drop (input_width items) bs) id else word_for items (by_body is_input) items bs id) 0
+
+states_below : (items : List Item) (bs : List Bool) (id : ℕ) → states_from items bs id < 2 ^ bits_of items id
+states_below items bs id = below_or_0 (bits_of items id) (word_for items (is_carried_state items) items bs id) (word_fits items (is_carried_state items) items bs id)
+
+inputs_below : (items : List Item) (bs : List Bool) (id : ℕ) → inputs_from items bs id < 2 ^ bits_of items id
+inputs_below items bs id = by (names_state items id)
+  where
+    by : (b : Bool) → unwrap_or (if b then word_for items (is_free_state items) items (drop (input_width items) bs) id else word_for items (by_body is_input) items bs id) 0 < 2 ^ bits_of items id
+    by true = below_or_0 (bits_of items id) (word_for items (is_free_state items) items (drop (input_width items) bs) id) (word_fits items (is_free_state items) items (drop (input_width items) bs) id)
+    by false = below_or_0 (bits_of items id) (word_for items (by_body is_input) items bs id) (word_fits items (by_body is_input) items bs id)
 
 state_bits_again : (items : List Item) (bs : List Bool) → IsWellFormed items → length bs ≡ carried_width items → state_bits items (states_from items bs) ≡ bs
-state_bits_again items bs w many = bits_again items (is_carried_state items) (states_from items bs) items bs (fresh_behind [] items w) many (λ y at h. refl)
-
--- an item's id names a state where it is one
-names_by_item : (items : List Item) (x : Item) (b : Bool) → IsWellFormed items → IsIn items x → is_state x.body ≡ b → names_state items x.id ≡ b
-names_by_item items x b w at h =
-    ap (λ (o : Option Item). is_some (option_and_then (λ (y : Item). cond (is_state y.body) (Some y) None) o)) (find_item-in items x w at) ∙ ap (λ (c : Bool). is_some (cond c (Some x) None)) h ∙ same b
-  where
-    same : (c : Bool) → is_some (cond c (Some x) None) ≡ c
-    same true = refl
-    same false = refl
-
-input_is_no_state : (b : Body) → is_input b ≡ true → is_state b ≡ false
-input_is_no_state (body.State s) h = absurd (cc)
-input_is_no_state _ h = refl
+state_bits_again items bs w many = state_bits_are items (states_from items bs) bs w many (λ id v e. ap (λ (o : Option ℕ). unwrap_or o 0) e)
 
 input_bits_again : (items : List Item) (bs : List Bool) → IsWellFormed items → length bs ≡ given_width items → input_bits items (inputs_from items bs) ≡ bs
 input_bits_again items bs w many =
-    let front : List Bool = take (input_width items) bs in
-    let back : List Bool = drop (input_width items) bs in
-    let enough : input_width items ≤ length bs = omega arith in
-    ap₂ ◌++◌
-    (bits_again items (by_body is_input) (inputs_from items bs) items front (fresh_behind [] items w) (length-take-le (input_width items) bs enough)
-    (λ y at h. ap (λ (b : Bool). if b then words_from items (is_free_state items) items back y.id else words_from items (by_body is_input) items front y.id) (names_by_item items y false w at (input_is_no_state y.body h))))
-    (bits_again items (is_free_state items) (inputs_from items bs) items back (fresh_behind [] items w) (omega (arith, length-drop (input_width items) bs))
-    (λ y at h. ap (λ (b : Bool). if b then words_from items (is_free_state items) items back y.id else words_from items (by_body is_input) items front y.id) (names_by_item items y true w at (free_parts items y h).0)))
-    ∙ take-append-drop (input_width items) bs
+    let either : ℕ → Bool → Option ℕ = λ id b. if b then word_for items (is_free_state items) items (drop (input_width items) bs) id else word_for items (by_body is_input) items bs id in
+    input_bits_are items (inputs_from items bs) bs w many
+    (λ id v e. ap (λ (o : Option ℕ). unwrap_or o 0) (ap (either id) (input_named items bs id v w e) ∙ e))
+    (λ id v e. ap (λ (o : Option ℕ). unwrap_or o 0) (ap (either id) (free_named items (drop (input_width items) bs) id v w e) ∙ e))
 
 input_lists_again : (items : List Item) (inputs : List (List Bool)) → IsWellFormed items → All (λ input. length input ≡ given_width items) inputs → map (input_bits items) (map (inputs_from items) inputs) ≡ inputs
 input_lists_again items [] w many = refl
 input_lists_again items (input ∷ inputs) w many = ap₂ ◌∷◌ (input_bits_again items input w (All-head (λ (i : List Bool). length i ≡ given_width items) input inputs many)) (input_lists_again items inputs w (All-tail (λ (i : List Bool). length i ≡ given_width items) input inputs many))
 
-given_fit : (items : List Item) (bs : List Bool) (id : ℕ) → inputs_from items bs id < 2 ^ bits_of items id
-given_fit items bs id =
-    by (names_state items id) (words_fit items (is_free_state items) items (drop (input_width items) bs) id) (words_fit items (by_body is_input) items (take (input_width items) bs) id)
-  where
-    by : (b : Bool) → {x y n : ℕ} → x < n → y < n → cond b x y < n
-    by true p q = p
-    by false p q = q
-
 inputs_fit : (items : List Item) (inputs : List (List Bool)) → AreInputs items (map (inputs_from items) inputs)
 inputs_fit items [] = tt
-inputs_fit items (input ∷ inputs) = (fitting_input items (inputs_from items input) (given_fit items input) items, inputs_fit items inputs)
+inputs_fit items (input ∷ inputs) = (fitting_inputs items (inputs_from items input) (inputs_below items input) items, inputs_fit items inputs)
 
 -- ---- initial words from initial bits
 
@@ -337,24 +197,6 @@ leaf_agrees items state (z ∷ before) after y is h = by (is_carried_state items
     by true rest h = rest (agree_split (leaf_resets items z) _ (leaf_bits items state z) _ (leaf_lengths items state z) h).1
     by false rest h = rest h
 
--- the item of a state
-state_item : (items : List Item) (id : ℕ) → names_state items id ≡ true → (y : Item) × IsIn items y × (id ≡ y.id) × (is_state y.body ≡ true)
-state_item items id names = by (find_item items id) refl names
-  where
-    is_one : (x : Item) (b : Bool) → is_state x.body ≡ b → is_some (if b then Some x else None) ≡ true → is_state x.body ≡ true
-    is_one x true is some = is
-    is_one x false is some = absurd (cc)
-
-    by : (o : Option Item) → find_item items id ≡ o → is_some (option_and_then (λ (x : Item). if is_state x.body then Some x else None) o) ≡ true → (y : Item) × IsIn items y × (id ≡ y.id) × (is_state y.body ≡ true)
-    by None is some = absurd (cc)
-    by (Some y) is some =
-        let at = IsIn-from_find items id y is in
-        (y, at.0, at.1, is_one y (is_state y.body) refl some)
-
--- a state with an init line is not free
-init_not_free : (items : List Item) (id v : ℕ) → init_value items id ≡ Some v → is_free items id ≡ false
-init_not_free items id v e = ap (λ (o : Option ℕ). is_none o && is_none (next_value items id)) e
-
 -- a state whose bits agree with its resets has the word of its init line
 init_agrees : (items : List Item) (state : Frame) → IsWellFormed items → ((id : ℕ) → state id < 2 ^ bits_of items id) → Agree (state_resets items) (state_bits items state)
     → (t v : ℕ) → init_value items t ≡ Some v → constant_of items v ≡ Some (state t)
@@ -366,26 +208,9 @@ init_agrees items state w fits agree t v e =
     let leaf = leaf_agrees items state y.1.before y.1.after y.0 carried whole in
     let given : init_word items y.0.id ≡ Some of.constant = subst (λ (n : ℕ). init_word items n ≡ Some of.constant) y.2 (ap (option_and_then (constant_of items)) e ∙ of.word) in
     let same = bits_same (bits (bits_of items y.0.id) of.constant) (leaf_bits items state y.0) (subst (λ (o : Option ℕ). Agree (resets_of_word (bits_of items y.0.id) o) (leaf_bits items state y.0)) given leaf) in
-    let wide : bits_of items v ≡ bits_of items t = ap (λ (o : Option ℕ). unwrap_or o 0) (of.of_value ∙ sym of.of_state) in
-    let below : of.constant < 2 ^ bits_of items y.0.id = subst (λ (n : ℕ). of.constant < 2 ^ bits_of items n) y.2 (subst (λ (n : ℕ). of.constant < 2 ^ n) wide (constant_below items v of.constant w of.word)) in
+    let below : of.constant < 2 ^ bits_of items y.0.id = init_word_below items y.0.id of.constant w given in
     let equal : of.constant ≡ state y.0.id = sym (word-bits (bits_of items y.0.id) of.constant below) ∙ ap word same ∙ word-bits (bits_of items y.0.id) (state y.0.id) (fits y.0.id) in
     of.word ∙ ap (λ (n : ℕ). Some n) (equal ∙ sym (ap state y.2))
-
-init_line_holds : (items : List Item) (state : Frame) → IsWellFormed items → ((t v : ℕ) → init_value items t ≡ Some v → constant_of items v ≡ Some (state t))
-    → (x : Item) → IsIn items x → InitHolds items state x.body
-init_line_holds items state w says x at = by x.body refl
-  where
-    by : (b : Body) → x.body ≡ b → InitHolds items state b
-    by (body.Init s t v) e =
-        let accepted = subst (BodyIsAccepted at.before) e (IsAccepted-at items x w at).says in
-        let own : init_value (x ∷ at.after) t ≡ Some v = ap (λ (b : Body). option_or (init_for t b) (init_value at.after t)) e ∙ ap (λ (b : Bool). option_or (cond b (Some v) None) (init_value at.after t)) (eq-eqb t t refl) in
-        says t v (ap (λ (l : List Item). init_value l t) at.splits ∙ init_value-after at.before (x ∷ at.after) t accepted.7 ∙ own)
-    by _ e = tt
-
-inits_from : (items : List Item) (state : Frame) → ((x : Item) → IsIn items x → InitHolds items state x.body) → (front xs : List Item) → items ≡ front ++ xs → InitsHold items state xs
-inits_from items state holds front [] e = tt
-inits_from items state holds front (x ∷ xs) e =
-    (holds x (record { before = front; after = xs; splits = e }), inits_from items state holds (front ++ x ∷ []) xs (e ∙ sym (append_assoc front (x ∷ []) xs)))
 
 -- ---- what rises
 
@@ -397,10 +222,6 @@ shows_equal items c (f ∷ fs) (v ∷ vs) h = ap₂ ◌∷◌ (same (sym h.0.bad
   where
     same : {a b d e : List Bool} → a ≡ b → d ≡ e → (let s : Shown = record { bads = a; constraints = d } in s) ≡ record { bads = b; constraints = e }
     same p q = rw (p, q) refl
-
-length-bits_from : (first count : ℕ) (v : Valuation) → length (bits_from first count v) ≡ count
-length-bits_from first zero v = refl
-length-bits_from first (suc count) v = ap suc (length-bits_from (suc first) count v)
 
 trace_inputs : (c : Circuit) (state : List Bool) (inputs : List (List Bool)) (vs : List Valuation) → IsCircuitTrace c state inputs vs → All (λ input. length input ≡ c.inputs) inputs
 trace_inputs c state [] vs t = All-nil (λ input. length input ≡ c.inputs)
@@ -435,9 +256,9 @@ rises_in_model items c b l exists h =
     let bits_are : state_bits items state ≡ h.state = state_bits_again items h.state w many in
     let wide : All (λ input. length input ≡ given_width items) h.inputs = subst (λ (n : ℕ). All (λ input. length input ≡ n) h.inputs) l.inputs (trace_inputs c h.state h.inputs h.frames h.trace) in
     let lists_are : map (input_bits items) inputs ≡ h.inputs = input_lists_again items h.inputs w wide in
-    let fits = words_fit items (is_carried_state items) items h.state in
+    let fits = states_below items h.state in
     let says = init_agrees items state w fits (subst (Agree (state_resets items)) (sym bits_are) agree) in
-    let initial : IsInitial items state = record { fits = fitting_state items state fits items; inits = inits_from items state (init_line_holds items state w says) [] items refl } in
+    let initial : IsInitial items state = record { fits = fitting_states items state fits items; inits = inits_hold items state w says } in
     let there = exists state inputs in
     let trace : IsCircuitTrace c (state_bits items state) (map (input_bits items) inputs) h.frames =
     subst (λ (s : List Bool). IsCircuitTrace c s (map (input_bits items) inputs) h.frames) (sym bits_are) (subst (λ (i : List (List Bool)). IsCircuitTrace c h.state i h.frames) (sym lists_are) h.trace) in

@@ -7,10 +7,11 @@ use Rattle.btor2.specs.declared.item.Item.{Item}
 use Rattle.btor2.specs.Items.{position_of, is_state, init_value, next_value}
 use Rattle.btor2.specs.Check.{IsWellFormed}
 use Rattle.btor2.specs.Lists.{places, next_place, is_free_at, has_init_without_next}
+use Rattle.btor2.proofs.LeafLemmas.{free_at}
 use Rattle.blast.specs.declared.fault.LowerFault.{LowerFault}
 use Rattle.blast.specs.Refusal.{line_refusal, first_refusal}
 use Rattle.blast.specs.Table.{next_leaf}
-use Rattle.blast.proofs.KindRows.{is_free-at, next_place-at, next_there}
+use Rattle.blast.proofs.KindRows.{next_place-at, next_there}
 use Rattle.blast.proofs.NodeRows.{IsNextState, IsNextState-from_front}
 
 -- from a place on
@@ -51,7 +52,7 @@ next_missing items k x o w at e = ap is_none (e ∙ next_place-at items (get_or 
 -- a state that is not free and has no next line has an init line alone
 pub lacks_next : (items : List Item) (k : ℕ) (x : Item) (b : Bool) → slice_get items (get_or (places is_state 0 items) k 0) ≡ Some x → b ≡ is_free_at items (get_or (places is_state 0 items) k 0)
     → (not b && is_none (next_value items x.id)) ≡ has_init_without_next items x.id
-lacks_next items k x b at e = ap (λ (c : Bool). not c && is_none (next_value items x.id)) (e ∙ is_free-at items (get_or (places is_state 0 items) k 0) x at) ∙ by (init_value items x.id) (next_value items x.id)
+lacks_next items k x b at e = ap (λ (c : Bool). not c && is_none (next_value items x.id)) (e ∙ free_at items (get_or (places is_state 0 items) k 0) x at) ∙ by (init_value items x.id) (next_value items x.id)
   where
     by : (i n : Option ℕ) → (not (is_none i && is_none n) && is_none n) ≡ (is_some i && is_none n)
     by None None = refl

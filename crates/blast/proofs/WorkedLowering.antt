@@ -1,16 +1,23 @@
 -- The circuits of small models, worked out by hand.
-use Rattle.std.proofs.Common.{◌≡◌, ℕ, ◌-◌, ◌/◌, ◌%◌, ◌<◌, rules, Bool, not, ◌==◌, List, [], ◌∷◌, refl, sym, ap, ap₂, ◌∙◌, arith}
+use Rattle.std.proofs.Common.{◌≡◌, ℕ, ◌-◌, ◌/◌, ◌%◌, ◌<◌, rules, Bool, not, ◌==◌, List, [], ◌∷◌, refl, sym, ap, ap₂, ◌∙◌, arith, ◌≤◌, length, map}
 use Rattle.std.specs.Fmt.{digits}
 use Rattle.std.proofs.lemmas.Bool.Decides.{nat_tests}
+use Rattle.std.proofs.lemmas.List.Elements.{All-nil, All-cons}
 use Rattle.base.specs.Word.{bits}
+use Rattle.btor2.specs.declared.item.Item.{Item}
 use Rattle.btor2.specs.Check.{IsWellFormed}
 use Rattle.btor2.specs.Trace.{Frame}
 use Rattle.btor2.specs.Worked.{toggler}
 use Rattle.btor2.proofs.TraceLemmas.{next_state_fits}
 use Rattle.aiger.specs.Literal.{Valuation}
-use Rattle.aiger.specs.Circuit.{IsCircuit, net}
+use Rattle.aiger.specs.declared.circuit.Reset.{Reset}
+use Rattle.aiger.specs.declared.circuit.Section.TheVariants as section
+use Rattle.aiger.specs.Circuit.{Circuit, IsCircuit, IsName, Names, net, section_names}
 use Rattle.aiger.specs.Worked.{toggler as toggler_circuit}
 use Rattle.blast.specs.Worked.{named_follower, follower_circuit, free_alone, one_input, named_inverter, inverter_circuit, named_keeper, keeper_circuit}
+use Rattle.blast.specs.Cost.{cost, given_width}
+use Rattle.blast.specs.Leaves.{input_names, state_names, state_resets, output_names, bad_names, constraint_names}
+use Rattle.blast.specs.Refusal.{IsOfProfile}
 use Rattle.blast.specs.Lowering.{Lowers}
 use Rattle.blast.specs.Reads.{Together}
 use Rattle.blast.proofs.LowerAssembly.{nexts_by_id}
@@ -25,6 +32,36 @@ bit_negated x h = grind (arith, nat_tests)
 
 head_same : {A : Type 0} (x y : A) → (let l : List A = x ∷ [] in l) ≡ y ∷ [] → x ≡ y
 head_same x y e = cc
+
+-- what a circuit has beside its gates, and what it has as a lowering of a model: inputs, names and resets, no justice and no fairness
+abbrev Said : Type 0
+Said = ℕ × Names × Names × List Reset × Names × Names × Names × List (List ℕ) × List ℕ
+
+abbrev said_by : Circuit → Said
+said_by c =
+    (c.inputs, section_names section.Input c, section_names section.Latch c, map (λ latch. latch.reset) c.latches, section_names section.Output c, section_names section.Bad c, section_names section.Constraint c, c.justice, c.fair)
+
+abbrev said_of : List Item → Said
+said_of items = (given_width items, input_names items, state_names items, state_resets items, output_names items, bad_names items, constraint_names items, [], [])
+
+lowers_as_said : (items : List Item) (c : Circuit) → IsOfProfile items → said_by c ≡ said_of items → length c.gates ≤ cost items → Observes items c → IsWellFormed items → IsCircuit c → Lowers items c
+lowers_as_said items c profile same few observes well circuit =
+    record {
+      well_formed = well;
+      of_profile = profile;
+      circuit = circuit;
+      inputs = ap (λ (s : Said). s.0) same;
+      input_names = ap (λ (s : Said). s.1) same;
+      latch_names = ap (λ (s : Said). s.2) same;
+      resets = ap (λ (s : Said). s.3) same;
+      output_names = ap (λ (s : Said). s.4) same;
+      bad_names = ap (λ (s : Said). s.5) same;
+      constraint_names = ap (λ (s : Said). s.6) same;
+      no_justice = ap (λ (s : Said). s.7) same;
+      no_fair = ap (λ (s : Said). s.8) same;
+      few_gates = few;
+      frames = λ state inputs initial in_fit fs t vs u. show_same items c observes state inputs fs vs initial.fits in_fit t u;
+    }
 
 -- The model that toggles a bit.
 
@@ -52,23 +89,7 @@ observes well =
     }
 
 pub toggler_lowered : IsWellFormed toggler → IsCircuit toggler_circuit → Lowers toggler toggler_circuit
-toggler_lowered well circuit =
-    record {
-      well_formed = well;
-      of_profile = refl;
-      circuit = circuit;
-      inputs = refl;
-      input_names = refl;
-      latch_names = refl;
-      resets = refl;
-      output_names = refl;
-      bad_names = refl;
-      constraint_names = refl;
-      no_justice = refl;
-      no_fair = refl;
-      few_gates = omega arith;
-      frames = λ state inputs initial in_fit fs t vs u. show_same toggler toggler_circuit (observes well) state inputs fs vs initial.fits in_fit t u;
-    }
+toggler_lowered well circuit = lowers_as_said toggler toggler_circuit refl refl (omega arith) (observes well) well circuit
 
 -- The model in which a state follows a free state.
 
@@ -97,23 +118,7 @@ follower_observes well =
 
 pub follower_lowered : IsWellFormed named_follower → IsCircuit follower_circuit → Lowers named_follower follower_circuit
 unfolding digits
-follower_lowered well circuit =
-    record {
-      well_formed = well;
-      of_profile = refl;
-      circuit = circuit;
-      inputs = refl;
-      input_names = refl;
-      latch_names = refl;
-      resets = refl;
-      output_names = refl;
-      bad_names = refl;
-      constraint_names = refl;
-      no_justice = refl;
-      no_fair = refl;
-      few_gates = omega arith;
-      frames = λ state inputs initial in_fit fs t vs u. show_same named_follower follower_circuit (follower_observes well) state inputs fs vs initial.fits in_fit t u;
-    }
+follower_lowered well circuit = lowers_as_said named_follower follower_circuit refl refl (omega arith) (follower_observes well) well circuit
 
 -- The model of a free state alone.
 
@@ -128,23 +133,7 @@ free_alone_observes well =
     }
 
 pub free_alone_lowered : IsWellFormed free_alone → IsCircuit one_input → Lowers free_alone one_input
-free_alone_lowered well circuit =
-    record {
-      well_formed = well;
-      of_profile = refl;
-      circuit = circuit;
-      inputs = refl;
-      input_names = refl;
-      latch_names = refl;
-      resets = refl;
-      output_names = refl;
-      bad_names = refl;
-      constraint_names = refl;
-      no_justice = refl;
-      no_fair = refl;
-      few_gates = omega arith;
-      frames = λ state inputs initial in_fit fs t vs u. show_same free_alone one_input (free_alone_observes well) state inputs fs vs initial.fits in_fit t u;
-    }
+free_alone_lowered well circuit = lowers_as_said free_alone one_input refl refl (omega arith) (free_alone_observes well) well circuit
 
 -- The model that shows two bits negated.
 
@@ -182,23 +171,7 @@ inverter_observes well =
 
 pub inverter_lowered : IsWellFormed named_inverter → IsCircuit inverter_circuit → Lowers named_inverter inverter_circuit
 unfolding digits
-inverter_lowered well circuit =
-    record {
-      well_formed = well;
-      of_profile = refl;
-      circuit = circuit;
-      inputs = refl;
-      input_names = refl;
-      latch_names = refl;
-      resets = refl;
-      output_names = refl;
-      bad_names = refl;
-      constraint_names = refl;
-      no_justice = refl;
-      no_fair = refl;
-      few_gates = omega arith;
-      frames = λ state inputs initial in_fit fs t vs u. show_same named_inverter inverter_circuit (inverter_observes well) state inputs fs vs initial.fits in_fit t u;
-    }
+inverter_lowered well circuit = lowers_as_said named_inverter inverter_circuit refl refl (omega arith) (inverter_observes well) well circuit
 
 -- The model that keeps two bits.
 
@@ -221,20 +194,14 @@ keeper_observes well =
 
 pub keeper_lowered : IsWellFormed named_keeper → IsCircuit keeper_circuit → Lowers named_keeper keeper_circuit
 unfolding digits
-keeper_lowered well circuit =
+keeper_lowered well circuit = lowers_as_said named_keeper keeper_circuit refl refl (omega arith) (keeper_observes well) well circuit
+
+-- the name of a bit of a symbol of one byte is a name
+pub bit_is_name : (n i : ℕ) → (32 ≤ n) × (n ≤ 126) → (32 ≤ i) × (i ≤ 126) → IsName (n ∷ 91 ∷ i ∷ 93 ∷ [])
+bit_is_name n i p q =
+    let good : ℕ → Type 0 = λ x. (32 ≤ x) × (x ≤ 126) in
     record {
-      well_formed = well;
-      of_profile = refl;
-      circuit = circuit;
-      inputs = refl;
-      input_names = refl;
-      latch_names = refl;
-      resets = refl;
-      output_names = refl;
-      bad_names = refl;
-      constraint_names = refl;
-      no_justice = refl;
-      no_fair = refl;
-      few_gates = omega arith;
-      frames = λ state inputs initial in_fit fs t vs u. show_same named_keeper keeper_circuit (keeper_observes well) state inputs fs vs initial.fits in_fit t u;
+      some = omega arith;
+      short = omega arith;
+      printable = All-cons good n (91 ∷ i ∷ 93 ∷ []) p (All-cons good 91 (i ∷ 93 ∷ []) (omega arith, omega arith) (All-cons good i (93 ∷ []) q (All-cons good 93 [] (omega arith, omega arith) (All-nil good))));
     }

@@ -1,10 +1,11 @@
 -- How many AND gates and variables a lowering takes at most (the bounds of this project's profile).
-use Rattle.std.specs.Prelude.{ℕ, ◌+◌, Bool, List, if◌then◌else◌, sum_by}
+use Rattle.std.specs.Prelude.{ℕ, ◌+◌, List, sum_by}
 use Rattle.btor2.specs.declared.item.Item.{Item}
 use Rattle.btor2.specs.declared.item.Body.{Body}
 use Rattle.btor2.specs.declared.item.Body.TheVariants as body
 use Rattle.btor2.specs.Items.{is_input, is_state, is_free_state, is_carried_state}
 use Rattle.btor2.specs.Trace.{bits_of}
+use Rattle.btor2.specs.Leaves.{kind_width}
 use Rattle.gates.specs.Bound.{unary_bound, binary_bound, ite_bound}
 use Rattle.blast.specs.Leaves.{by_body}
 
@@ -18,10 +19,6 @@ line_cost items _ = 0
 -- the gate bound of a model: the sum of those of its lines
 abbrev pub cost : List Item → ℕ
 cost items = sum_by (λ x. line_cost items x.body) items
-
--- how many bits the items of a kind have together, among some items of a model, the last list
-abbrev pub kind_width : List Item → (Item → Bool) → List Item → ℕ
-kind_width items kind some = sum_by (λ x. if kind x then bits_of items x.id else 0) some
 
 -- how many bits the inputs, the states, the free states and the other states of a model have together
 abbrev pub input_width : List Item → ℕ

@@ -5,10 +5,11 @@ use Rattle.btor2.specs.declared.item.Item.{Item}
 use Rattle.btor2.specs.Items.{is_input, is_state, is_free, is_free_state, is_carried_state, position_of, node_width}
 use Rattle.btor2.specs.Lists.{places}
 use Rattle.btor2.specs.Trace.{Frame, bits_of}
+use Rattle.btor2.specs.Leaves.{kind_width}
 use Rattle.aiger.specs.Literal.{Valuation, literal_value}
 use Rattle.aiger.specs.Net.{Net, IsDefined}
 use Rattle.gates.specs.Made.{Grows}
-use Rattle.blast.specs.Cost.{line_cost, kind_width, input_width, given_width}
+use Rattle.blast.specs.Cost.{line_cost, input_width, given_width}
 use Rattle.blast.specs.Leaves.{by_body}
 use Rattle.blast.specs.declared.nodes.NextLeaf.{NextLeaf}
 use Rattle.blast.specs.Reads.{Together, ReadsWord, RowReads, RowsRead, leaves_only}

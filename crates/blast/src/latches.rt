@@ -85,34 +85,9 @@ fn next_row<'a>(model: &Model, table: &'a Table, k: usize, item: &Item) -> &'a [
     }
 }
 
-/// Sets the latches of a state from a first one on, and answers how many they are. `k` counts the states.
+/// Sets the latches of a state from a first one on, and answers how many they are: a free state has none. `k` counts the
+/// states.
 fn set_state(
-    model: &Model,
-    table: &Table,
-    k: usize,
-    item: &Item,
-    first: usize,
-    circuit: &mut Circuit,
-) -> usize
-    requires there { k < length (places is_state 0 model.now) }
-    requires place { slice_get model.now (slice_index (places is_state 0 model.now) k) ≡ Some item.now }
-    requires well_formed { IsWellFormed model.now }
-    requires all { length table.now ≡ length model.now }
-    requires next { is_some (next_value model.now item.now.id) ≡ true }
-    requires reads { RowsRead model.now (net circuit.old) table.now }
-    requires room { first + length (state_latches model.now table.now item.now) ≤ length circuit.old.latches }
-    requires few { length circuit.old.latches ≤ greatest_count }
-    ensures latches { circuit.new ≡ record circuit.old { latches = written circuit.old.latches first (state_latches model.now table.now item.now) } }
-    ensures count { result ≡ length (state_latches model.now table.now item.now) }
-{
-    let row = next_row(model, table, k, item);
-    set_row(first, row, init_of(model, k, item), circuit);
-    row.len()
-}
-
-/// Sets the latches of a state that is not free from a first one on, and answers how many they are: a free state has
-/// none. `k` counts the states.
-fn set_unless_free(
     model: &Model,
     table: &Table,
     k: usize,
@@ -133,10 +108,11 @@ fn set_unless_free(
     ensures count { result ≡ length (item_latches model.now table.now item.now) }
 {
     if model.is_free(k) {
-        0
-    } else {
-        set_state(model, table, k, item, first, circuit)
+        return 0;
     }
+    let row = next_row(model, table, k, item);
+    set_row(first, row, init_of(model, k, item), circuit);
+    row.len()
 }
 
 /// Sets the latches to the bits of the states that are not free: they begin as the states do, and take the bits of
@@ -159,6 +135,6 @@ pub(crate) fn set_latches(model: &Model, table: &Table, circuit: &mut Circuit)
     let mut first = 0;
     for k in 0..states.len() {
         let item = item_at(items, states[k]);
-        first += set_unless_free(model, table, k, item, first, circuit);
+        first += set_state(model, table, k, item, first, circuit);
     }
 }

@@ -9,7 +9,6 @@ pub mod laws;
 mod lowering;
 mod names;
 mod nodes;
-mod parts;
 mod placed;
 mod properties;
 mod refusals;

@@ -9,15 +9,25 @@ ghost use Rattle.blast.specs.declared.fault.LowerFault.TheVariants as fault;
 ghost use Rattle.blast.specs.Cost.{given_width, carried_width};
 ghost use Rattle.blast.specs.Leaves.{bit_name, bit_names, leaf_names};
 ghost use Rattle.blast.specs.Blocks.{written, IsBlank};
-ghost use Rattle.blast.specs.Sections.{list_of, section_of, part_names, names_given, Renames, TakesNames};
+ghost use Rattle.btor2.specs.Leaves.{list_of};
+ghost use Rattle.blast.specs.Sections.{section_of, part_names, names_given, Renames, TakesNames};
 
 use crate::fault::LowerFault;
 use crate::items::{bit_count, item_at};
-use crate::parts::{Part, is_of_part, part_list, part_section};
 use aiger::{Circuit, CircuitFault, LONGEST_NAME, Section};
 use arrayvec::ArrayVec;
-use btor2::{Item, Model, Symbol};
+use btor2::{Item, Leaves, Model, Symbol};
 use itoa::Buffer;
+
+/// The section in which the positions of leaves of a kind stand: those of free states behind those of all inputs.
+fn section_of(leaves: Leaves) -> Section
+    ensures { result ≡ section_of leaves }
+{
+    match leaves {
+        Leaves::Inputs | Leaves::Free => Section::Input,
+        Leaves::Carried => Section::Latch,
+    }
+}
 
 /// Writes the name of a bit: the symbol, and the bit's number in brackets.
 pub(crate) fn write_bit_name(symbol: &[u8], bit: u64, name: &mut ArrayVec<u8, LONGEST_NAME>)
@@ -59,31 +69,8 @@ pub(crate) fn give_name(
     }
 }
 
-/// Names the bits of a leaf with a symbol: so many positions from a first one on.
+/// Names the bits of a leaf, where it has a symbol: so many positions from a first one on.
 fn name_bits(
-    section: Section,
-    first: usize,
-    symbol: &Symbol,
-    count: u64,
-    circuit: &mut Circuit,
-) -> Result<(), LowerFault>
-    requires free { IsBlank None first count (section_names section circuit.old) }
-    requires room { first + count ≤ length (section_names section circuit.old) }
-    requires few { length (section_names section circuit.old) ≤ greatest_count }
-    requires count { count ≤ 64 }
-    ensures ok { OnOk result (Renames section circuit.old (written (section_names section circuit.old) first (bit_names (Some symbol.now) 0 count)) circuit.new) }
-    ensures err { IfErr result (λ e. e ≡ fault.NoMemory) }
-{
-    for bit in 0..count {
-        let mut name = ArrayVec::new();
-        write_bit_name(symbol.bytes(), bit, &mut name);
-        give_name(section, first + bit as usize, name.as_slice(), circuit)?;
-    }
-    Ok(())
-}
-
-/// Names the bits of a leaf, where it has a symbol.
-fn name_word(
     section: Section,
     first: usize,
     symbol: &Option<Symbol>,
@@ -98,7 +85,14 @@ fn name_word(
     ensures err { IfErr result (λ e. e ≡ fault.NoMemory) }
 {
     match symbol {
-        Some(symbol) => name_bits(section, first, symbol, count, circuit),
+        Some(symbol) => {
+            for bit in 0..count {
+                let mut name = ArrayVec::new();
+                write_bit_name(symbol.bytes(), bit, &mut name);
+                give_name(section, first + bit as usize, name.as_slice(), circuit)?;
+            }
+            Ok(())
+        }
         None => Ok(()),
     }
 }
@@ -122,15 +116,15 @@ fn name_leaf(
     ensures err { IfErr result (λ e. e ≡ fault.NoMemory) }
 {
     let count = bit_count(model, place, item);
-    name_word(section, first, &item.symbol, count, circuit)?;
+    name_bits(section, first, &item.symbol, count, circuit)?;
     Ok(count as usize)
 }
 
-/// Names the positions that an item gives a part, and answers how many they are: none where it is of another. `k` counts
-/// the list of the part.
+/// Names the positions of an item, and answers how many they are: none where it is no leaf of the kind. `k` counts the list
+/// that the leaves are among.
 fn name_item(
     model: &Model,
-    part: Part,
+    leaves: Leaves,
     k: usize,
     place: usize,
     first: usize,
@@ -138,44 +132,44 @@ fn name_item(
     circuit: &mut Circuit,
 ) -> Result<usize, LowerFault>
     requires well_formed { IsWellFormed model.now }
-    requires there { k < length (places (list_of part) 0 model.now) }
-    requires here { place ≡ slice_index (places (list_of part) 0 model.now) k }
+    requires there { k < length (places (list_of leaves) 0 model.now) }
+    requires here { place ≡ slice_index (places (list_of leaves) 0 model.now) k }
     requires place { slice_get model.now place ≡ Some item.now }
-    requires free { IsBlank None first (length (names_given model.now part item.now)) (section_names (section_of part) circuit.old) }
-    requires room { first + length (names_given model.now part item.now) ≤ length (section_names (section_of part) circuit.old) }
-    requires few { length (section_names (section_of part) circuit.old) ≤ greatest_count }
-    ensures ok { OnOk result (Renames (section_of part) circuit.old (written (section_names (section_of part) circuit.old) first (names_given model.now part item.now)) circuit.new) }
-    ensures count { IfOk result (λ n. n ≡ length (names_given model.now part item.now)) }
+    requires free { IsBlank None first (length (names_given model.now leaves item.now)) (section_names (section_of leaves) circuit.old) }
+    requires room { first + length (names_given model.now leaves item.now) ≤ length (section_names (section_of leaves) circuit.old) }
+    requires few { length (section_names (section_of leaves) circuit.old) ≤ greatest_count }
+    ensures ok { OnOk result (Renames (section_of leaves) circuit.old (written (section_names (section_of leaves) circuit.old) first (names_given model.now leaves item.now)) circuit.new) }
+    ensures count { IfOk result (λ n. n ≡ length (names_given model.now leaves item.now)) }
     ensures err { IfErr result (λ e. e ≡ fault.NoMemory) }
 {
-    if is_of_part(model, part, k) {
-        name_leaf(model, place, part_section(part), first, item, circuit)
+    if leaves.has(model, k) {
+        name_leaf(model, place, section_of(leaves), first, item, circuit)
     } else {
         Ok(0)
     }
 }
 
-/// Names the positions of a part from a first one on, and answers the position behind them.
+/// Names the positions of leaves of a kind from a first one on, and answers the position behind them.
 fn name_part(
     model: &Model,
-    part: Part,
+    leaves: Leaves,
     first: usize,
     circuit: &mut Circuit,
 ) -> Result<usize, LowerFault>
-    requires blank { IsBlank None first (length (part_names model.now part)) (section_names (section_of part) circuit.old) }
-    requires room { first + length (part_names model.now part) ≤ length (section_names (section_of part) circuit.old) }
-    requires few { length (section_names (section_of part) circuit.old) ≤ greatest_count }
-    ensures ok { OnOk result (Renames (section_of part) circuit.old (written (section_names (section_of part) circuit.old) first (part_names model.now part)) circuit.new) }
-    ensures next { IfOk result (λ n. n ≡ first + length (part_names model.now part)) }
+    requires blank { IsBlank None first (length (part_names model.now leaves)) (section_names (section_of leaves) circuit.old) }
+    requires room { first + length (part_names model.now leaves) ≤ length (section_names (section_of leaves) circuit.old) }
+    requires few { length (section_names (section_of leaves) circuit.old) ≤ greatest_count }
+    ensures ok { OnOk result (Renames (section_of leaves) circuit.old (written (section_names (section_of leaves) circuit.old) first (part_names model.now leaves)) circuit.new) }
+    ensures next { IfOk result (λ n. n ≡ first + length (part_names model.now leaves)) }
     ensures err { IfErr result (λ e. e ≡ fault.NoMemory) }
 {
     let items = model.items();
-    let list = part_list(model, part);
+    let list = leaves.places(model);
     let mut next = first;
     for k in 0..list.len() {
         let place = list[k];
         let item = item_at(items, place);
-        let count = name_item(model, part, k, place, next, item, circuit)?;
+        let count = name_item(model, leaves, k, place, next, item, circuit)?;
         next += count;
     }
     Ok(next)
@@ -195,8 +189,8 @@ pub(crate) fn set_names(model: &Model, circuit: &mut Circuit) -> Result<(), Lowe
 {
     // a circuit has at most 2^30 positions of a section, so their counts fit
     let _ = circuit.variables();
-    let inputs = name_part(model, Part::Inputs, 0, circuit)?;
-    name_part(model, Part::FreeStates, inputs, circuit)?;
-    name_part(model, Part::CarriedStates, 0, circuit)?;
+    let inputs = name_part(model, Leaves::Inputs, 0, circuit)?;
+    name_part(model, Leaves::Free, inputs, circuit)?;
+    name_part(model, Leaves::Carried, 0, circuit)?;
     Ok(())
 }

@@ -146,19 +146,11 @@ fn push_row(
 fn operand_of(property: Property, body: &Body) -> Option<u32>
     ensures { result ≡ property_operand property body.now }
 {
-    match property {
-        Property::Output => match body {
-            Body::Output { operand } => Some(*operand),
-            _ => None,
-        },
-        Property::Bad => match body {
-            Body::Bad { operand } => Some(*operand),
-            _ => None,
-        },
-        Property::Constraint => match body {
-            Body::Constraint { operand } => Some(*operand),
-            _ => None,
-        },
+    match (property, body) {
+        (Property::Output, Body::Output { operand })
+        | (Property::Bad, Body::Bad { operand })
+        | (Property::Constraint, Body::Constraint { operand }) => Some(*operand),
+        _ => None,
     }
 }
 

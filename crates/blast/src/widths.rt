@@ -1,15 +1,12 @@
 //! How many gates and variables a lowering takes at most.
-ghost use Rattle.std.specs.Prelude.{◌≡◌, ◌≤◌, ◌<◌, ◌^◌, true, false, Some, is_some, length, slice_get, slice_index, if◌then◌else◌};
+ghost use Rattle.std.specs.Prelude.{◌≡◌, ◌≤◌, ◌<◌, ◌^◌, true, false, Some, is_some, slice_get};
 ghost use Rattle.btor2.specs.Items.{node_width};
 ghost use Rattle.btor2.specs.Check.{IsWellFormed};
-ghost use Rattle.btor2.specs.Lists.{places};
 ghost use Rattle.btor2.specs.Trace.{bits_of};
-ghost use Rattle.blast.specs.Cost.{line_cost, cost, kind_width, input_width, state_width, given_width, carried_width, bound};
-ghost use Rattle.blast.specs.Sections.{kind_of, list_of};
+ghost use Rattle.blast.specs.Cost.{line_cost, cost, input_width, state_width, given_width, carried_width, bound};
 
-use crate::items::{bit_count, item_at};
-use crate::parts::{Part, is_of_part, part_list};
-use btor2::{Body, Item, Model};
+use crate::items::bit_count;
+use btor2::{Body, Item, Leaves, Model};
 use gates::{Op, gate_bound};
 
 /// The width of the node with an id.
@@ -26,36 +23,6 @@ pub(crate) fn node_bits(model: &Model, id: u32) -> u64
         },
         None => unreachable!(),
     }
-}
-
-/// The bits of the item at a place, where it is of a part, and else 0. `k` counts the list of the part.
-fn part_bits(model: &Model, part: Part, k: usize, place: usize, item: &Item) -> u64
-    requires well_formed { IsWellFormed model.now }
-    requires there { k < length (places (list_of part) 0 model.now) }
-    requires place { place ≡ slice_index (places (list_of part) 0 model.now) k }
-    requires at { slice_get model.now place ≡ Some item.now }
-    ensures { result ≡ (if kind_of model.now part item.now then bits_of model.now item.now.id else 0) }
-{
-    if is_of_part(model, part, k) {
-        bit_count(model, place, item)
-    } else {
-        0
-    }
-}
-
-/// The bits of the items of a part.
-fn part_width(model: &Model, part: Part) -> u64
-    ensures value { result ≡ kind_width model.now (kind_of model.now part) model.now }
-    ensures small { result < 2 ^ 39 }
-{
-    let items = model.items();
-    let list = part_list(model, part);
-    let mut total = 0;
-    for k in 0..list.len() {
-        let place = list[k];
-        total += part_bits(model, part, k, place, item_at(items, place));
-    }
-    total
 }
 
 /// The width of an operand of the operator on a line.
@@ -110,7 +77,7 @@ pub(crate) fn input_width(model: &Model) -> u64
     ensures value { result ≡ input_width model.now }
     ensures small { result < 2 ^ 39 }
 {
-    part_width(model, Part::Inputs)
+    Leaves::Inputs.bits(model)
 }
 
 /// The bits that are given in each frame: of the inputs and of the free states.
@@ -118,7 +85,7 @@ pub(crate) fn given_width(model: &Model) -> u64
     ensures value { result ≡ given_width model.now }
     ensures small { result < 2 ^ 40 }
 {
-    input_width(model) + part_width(model, Part::FreeStates)
+    input_width(model) + Leaves::Free.bits(model)
 }
 
 /// The bits that are carried from frame to frame: of the states that are not free.
@@ -126,7 +93,7 @@ pub(crate) fn carried_width(model: &Model) -> u64
     ensures value { result ≡ carried_width model.now }
     ensures small { result < 2 ^ 39 }
 {
-    part_width(model, Part::CarriedStates)
+    Leaves::Carried.bits(model)
 }
 
 /// The bits of the states: each is free or carried.
@@ -134,7 +101,7 @@ fn state_width(model: &Model) -> u64
     ensures value { result ≡ state_width model.now }
     ensures small { result < 2 ^ 40 }
 {
-    part_width(model, Part::FreeStates) + carried_width(model)
+    Leaves::Free.bits(model) + carried_width(model)
 }
 
 /// How many AND gates the lowering of a model has at most: the gate bounds of all items.

@@ -9,3 +9,6 @@ pub mod PushLemmas
 pub mod TraceLemmas
 pub mod StateWords
 pub mod ConstantLemmas
+pub mod IdLemmas
+pub mod InitLemmas
+pub mod LeafLemmas

@@ -8,4 +8,5 @@ pub mod Lists
 pub mod Entries
 pub mod Index
 pub mod Trace
+pub mod Leaves
 pub mod Worked

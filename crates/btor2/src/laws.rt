@@ -8,6 +8,8 @@ ghost use Rattle.btor2.specs.declared.fault.PushFault.TheVariants as fault;
 ghost use Rattle.btor2.specs.Items.{node_width, names_state, next_value, is_free};
 ghost use Rattle.btor2.specs.Check.{IsWellFormed, refusal};
 ghost use Rattle.btor2.specs.Lists.{first_init_without_next};
+ghost use Rattle.btor2.specs.declared.leaves.Leaves.TheVariants as leaves;
+ghost use Rattle.btor2.specs.Leaves.{kind_of, is_leaf_at, leaf_width, kind_width};
 ghost use Rattle.btor2.specs.Trace.{Frame, bits_of, IsFrame, IsInput, IsState, IsTrace, SameTrace, next_state, InputFits, StateFits};
 ghost use Rattle.btor2.specs.Worked.{line, toggler, counter, open_ends, follower, shapes, nibble};
 
@@ -102,6 +104,18 @@ pub fn worked_given_words()
     ensures too_wide { IsInput follower (λ id. if id == 2 then 2 else 0) → ⊥ }
     ensures carried_fits { IsState follower (λ id. if id == 3 then 1 else 2) }
     ensures carried_too_wide { IsState follower (λ id. 2) → ⊥ }
+{}
+
+/// Worked rows: which items of a model are leaves of a kind, by their places, and how many bits they have; of a free state, one
+/// that follows it and an input, and of a state of two bits.
+pub fn worked_leaves()
+    ensures free { is_leaf_at follower leaves.Free 1 ≡ true }
+    ensures not_carried { is_leaf_at follower leaves.Carried 1 ≡ false }
+    ensures carried { leaf_width follower leaves.Carried 2 ≡ 1 }
+    ensures input { leaf_width follower leaves.Inputs 3 ≡ 1 }
+    ensures not_an_input { leaf_width follower leaves.Inputs 2 ≡ 0 }
+    ensures two_bits { kind_width counter (kind_of counter leaves.Carried) counter ≡ 2 }
+    ensures none_free { kind_width counter (kind_of counter leaves.Free) counter ≡ 0 }
 {}
 
 /// Worked rows: an item for each row of the table of refusals.

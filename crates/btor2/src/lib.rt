@@ -4,6 +4,7 @@
 mod fault;
 mod item;
 pub mod laws;
+mod leaves;
 mod model;
 mod name_bytes;
 mod operands;
@@ -11,6 +12,7 @@ mod symbol;
 
 pub use fault::PushFault;
 pub use item::{Body, Item};
+pub use leaves::Leaves;
 pub use model::Model;
 pub use operands::Operands;
 pub use symbol::{Symbol, SymbolFault};

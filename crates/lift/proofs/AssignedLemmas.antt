@@ -1,16 +1,18 @@
 -- The witness over a model that a witness of its circuit is lifted to: its words, its lines, and that it is one.
-use Rattle.std.proofs.Common.{◌≡◌, ℕ, suc, ◌+◌, ◌<◌, ◌≤◌, ◌^◌, ◌==◌, ◌&&◌, ◌||◌, not, nat_eq, eq-eqb, eqb-true, Bool, true, false, List, [], ◌∷◌, ◌++◌, Some, None, map, reverse, filter, length, take, drop, get_or, decimal, length-append, length-drop, length-take-le, append_assoc, append-nil, refl, sym, ap, ap₂, subst, ◌∙◌, arith}
+use Rattle.std.proofs.Common.{◌≡◌, ℕ, suc, ◌+◌, ◌<◌, ◌≤◌, ◌^◌, ◌==◌, ◌&&◌, ◌||◌, not, nat_eq, eq-eqb, eqb-true, Bool, true, false, List, [], ◌∷◌, ◌++◌, Some, None, map, reverse, length, take, drop, get_or, decimal, length-append, length-drop, length-take-le, append_assoc, append-nil, refl, sym, ap, ap₂, subst, ◌∙◌, arith}
 use Rattle.std.specs.Prelude.{if◌then◌else◌}
 use Rattle.std.specs.List.{list_any, AllByRecursion}
 use Rattle.std.proofs.Math.Seq.{get_or-append_seam}
 use Rattle.std.proofs.lemmas.Bool.{and_parts, not-true, false_from_ne_true}
 use Rattle.std.proofs.lemmas.List.Folds.{list_any-append}
+use Rattle.std.proofs.lemmas.List.Sums.{sum_by-cons}
 use Rattle.base.specs.Word.{word, bits}
 use Rattle.base.proofs.BitLemmas.{word_below, bits-word_of_length}
 use Rattle.btor2.specs.declared.item.Item.{Item}
-use Rattle.btor2.specs.declared.item.Body.{Body}
 use Rattle.btor2.specs.Items.{is_input, is_state, is_free}
 use Rattle.btor2.specs.Trace.{bits_of}
+use Rattle.btor2.specs.Lists.{of_kind as leaves_of}
+use Rattle.btor2.specs.Leaves.{kind_width}
 use Rattle.blast.specs.Cost.{input_width}
 use Rattle.witness.specs.Texts.{Assignment, Parts, Witness, shape_of, has_free, is_free_index, free_of, digit, binary, assignment_line, assignment_lines, are_distinct, IsAssignment}
 use Rattle.witness.specs.BitTexts.{BitWitness}
@@ -30,15 +32,7 @@ assigned items takes index (x ∷ xs) bits =
     then assign index (take (bits_of items x.id) bits) ∷ assigned items takes (suc index) xs (drop (bits_of items x.id) bits)
     else assigned items takes (suc index) xs bits
 
--- how many bits they take
-abbrev pub wide : List Item → (Item → Bool) → List Item → ℕ
-wide items takes [] = 0
-wide items takes (x ∷ xs) = (if takes x then bits_of items x.id else 0) + wide items takes xs
-
--- the leaves of a kind, and the states by whether they are free
-abbrev pub leaves_of : (Body → Bool) → List Item → List Item
-leaves_of kind items = filter (λ x. kind x.body) items
-
+-- which leaves of a kind take bits: all, or states by whether they are free
 abbrev pub any_leaf : Item → Bool
 any_leaf = λ x. true
 
@@ -93,6 +87,10 @@ behind_at whole front rest y d k h = ap (λ l. get_or l k d) h.0 ∙ seam front 
 behind_within : {A : Type 0} (whole front rest : List A) (y : A) (k : ℕ) → Behind whole front (y ∷ rest) k → k < length whole
 behind_within whole front rest y k h = omega (arith, ap length h.0, length-append front (y ∷ rest), h.1)
 
+-- the bits of one leaf more
+one_leaf_more : (items : List Item) (takes : Item → Bool) (x : Item) (xs : List Item) (n : ℕ) → kind_width items takes (x ∷ xs) ≤ n → (if takes x then bits_of items x.id else 0) + kind_width items takes xs ≤ n
+one_leaf_more items takes x xs n h = subst (λ (k : ℕ). k ≤ n) (sum_by-cons (λ (y : Item). if takes y then bits_of items y.id else 0) x xs) h
+
 -- ---- lines
 
 one_line : (widths : List ℕ) (index n : ℕ) (bs : List Bool) → get_or widths index 0 ≡ n → length bs ≡ n → assignment_line widths (assign index bs) ≡ word_line index bs
@@ -103,14 +101,14 @@ one_line widths index n bs at long =
 abbrev widths_in : List Item → List Item → List ℕ
 widths_in items xs = map (λ (x : Item). bits_of items x.id) xs
 
-pub assigned_lines : (items : List Item) (takes : Item → Bool) (widths front : List ℕ) (index : ℕ) (xs : List Item) (bs : List Bool) → Behind widths front (widths_in items xs) index → wide items takes xs ≤ length bs
+pub assigned_lines : (items : List Item) (takes : Item → Bool) (widths front : List ℕ) (index : ℕ) (xs : List Item) (bs : List Bool) → Behind widths front (widths_in items xs) index → kind_width items takes xs ≤ length bs
     → assignment_lines widths (assigned items takes index xs bs) ≡ word_lines items takes index xs bs
 assigned_lines items takes widths front index [] bs at long = refl
 assigned_lines items takes widths front index (x ∷ xs) bs at long =
-    by (takes x) long (λ cs. assigned_lines items takes widths (front ++ bits_of items x.id ∷ []) (suc index) xs cs (next_behind widths front (widths_in items xs) (bits_of items x.id) index at))
+    by (takes x) (one_leaf_more items takes x xs (length bs) long) (λ cs. assigned_lines items takes widths (front ++ bits_of items x.id ∷ []) (suc index) xs cs (next_behind widths front (widths_in items xs) (bits_of items x.id) index at))
   where
-    by : (b : Bool) → (if b then bits_of items x.id else 0) + wide items takes xs ≤ length bs
-        → ((cs : List Bool) → wide items takes xs ≤ length cs → assignment_lines widths (assigned items takes (suc index) xs cs) ≡ word_lines items takes (suc index) xs cs)
+    by : (b : Bool) → (if b then bits_of items x.id else 0) + kind_width items takes xs ≤ length bs
+        → ((cs : List Bool) → kind_width items takes xs ≤ length cs → assignment_lines widths (assigned items takes (suc index) xs cs) ≡ word_lines items takes (suc index) xs cs)
         → assignment_lines widths (if b then assign index (take (bits_of items x.id) bs) ∷ assigned items takes (suc index) xs (drop (bits_of items x.id) bs) else assigned items takes (suc index) xs bs)
         ≡ (if b then word_line index (take (bits_of items x.id) bs) ∷ word_lines items takes (suc index) xs (drop (bits_of items x.id) bs) else word_lines items takes (suc index) xs bs)
     by true long rest =
@@ -125,14 +123,14 @@ one_fits : (widths : List ℕ) (index n : ℕ) (bs : List Bool) → index < leng
 one_fits widths index n bs within at long =
     record { index = within; word = subst (λ (k : ℕ). word bs < 2 ^ k) (long ∙ sym at) (word_below bs); symbol = tt }
 
-pub assigned_fit : (items : List Item) (takes : Item → Bool) (widths front : List ℕ) (index : ℕ) (xs : List Item) (bs : List Bool) → Behind widths front (widths_in items xs) index → wide items takes xs ≤ length bs
+pub assigned_fit : (items : List Item) (takes : Item → Bool) (widths front : List ℕ) (index : ℕ) (xs : List Item) (bs : List Bool) → Behind widths front (widths_in items xs) index → kind_width items takes xs ≤ length bs
     → AllByRecursion (IsAssignment widths) (assigned items takes index xs bs)
 assigned_fit items takes widths front index [] bs at long = tt
 assigned_fit items takes widths front index (x ∷ xs) bs at long =
-    by (takes x) long (λ cs. assigned_fit items takes widths (front ++ bits_of items x.id ∷ []) (suc index) xs cs (next_behind widths front (widths_in items xs) (bits_of items x.id) index at))
+    by (takes x) (one_leaf_more items takes x xs (length bs) long) (λ cs. assigned_fit items takes widths (front ++ bits_of items x.id ∷ []) (suc index) xs cs (next_behind widths front (widths_in items xs) (bits_of items x.id) index at))
   where
-    by : (b : Bool) → (if b then bits_of items x.id else 0) + wide items takes xs ≤ length bs
-        → ((cs : List Bool) → wide items takes xs ≤ length cs → AllByRecursion (IsAssignment widths) (assigned items takes (suc index) xs cs))
+    by : (b : Bool) → (if b then bits_of items x.id else 0) + kind_width items takes xs ≤ length bs
+        → ((cs : List Bool) → kind_width items takes xs ≤ length cs → AllByRecursion (IsAssignment widths) (assigned items takes (suc index) xs cs))
         → AllByRecursion (IsAssignment widths) (if b then assign index (take (bits_of items x.id) bs) ∷ assigned items takes (suc index) xs (drop (bits_of items x.id) bs) else assigned items takes (suc index) xs bs)
     by true long rest = (
       one_fits widths index (bits_of items x.id) (take (bits_of items x.id) bs) (behind_within widths front (widths_in items xs) (bits_of items x.id) index at) (behind_at widths front (widths_in items xs) (bits_of items x.id) 0 index at)

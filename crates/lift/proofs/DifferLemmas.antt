@@ -1,21 +1,18 @@
 -- An initial bit differs from its latch's reset where the word of the latch's state differs from its init line, and none does where none differs.
-use Rattle.std.proofs.Common.{◌≡◌, ℕ, zero, suc, ◌+◌, ◌/◌, ◌<◌, ◌^◌, ◌&&◌, not, nat_eq, eq-eqb, eqb-true, Bool, true, false, cond, List, [], ◌∷◌, ◌++◌, Option, Some, None, is_none, is_some, option_and_then, map, replicate, length, slice_get, append_assoc, refl, sym, ap, ap₂, subst, ◌∙◌, arith, true≢false, ◌⊎◌, inl, inr}
+use Rattle.std.proofs.Common.{◌≡◌, ℕ, zero, suc, ◌+◌, ◌/◌, ◌<◌, ◌^◌, ◌&&◌, not, nat_eq, eq-eqb, eqb-true, Bool, true, false, cond, List, [], ◌∷◌, ◌++◌, Option, Some, None, is_none, option_and_then, map, replicate, length, slice_get, refl, sym, ap, ap₂, subst, ◌∙◌, arith, true≢false, ◌⊎◌, inl, inr}
 use Rattle.std.specs.Prelude.{if◌then◌else◌}
 use Rattle.std.specs.List.{position_from}
-use Rattle.std.specs.Option.{option_or}
 use Rattle.std.proofs.lemmas.Bool.{and_parts, false_from_ne_true}
 use Rattle.std.proofs.lemmas.Option.{none-some}
 use Rattle.base.specs.Word.{word, bits}
 use Rattle.base.proofs.BitLemmas.{length-bits, word-bits}
 use Rattle.btor2.specs.declared.item.Item.{Item}
-use Rattle.btor2.specs.declared.item.Body.{Body}
-use Rattle.btor2.specs.declared.item.Body.TheVariants as body
-use Rattle.btor2.specs.Items.{find_item, is_state, is_free, is_carried_state, names_state, init_for, init_value, next_value, constant_of, init_word}
+use Rattle.btor2.specs.Items.{is_state, is_free, is_carried_state, init_value, next_value, constant_of, init_word}
 use Rattle.btor2.specs.Check.{IsWellFormed}
-use Rattle.btor2.specs.Trace.{Frame, bits_of, InitHolds, InitsHold}
-use Rattle.btor2.proofs.ModelLemmas.{IsIn, IsIn-from_find, IsAccepted-at, IsInitOf-from_value}
-use Rattle.btor2.proofs.AcceptedLemmas.{BodyIsAccepted}
-use Rattle.btor2.proofs.ConstantLemmas.{init_value-after}
+use Rattle.btor2.specs.Trace.{Frame, bits_of}
+use Rattle.btor2.specs.Lists.{of_kind as leaves_of}
+use Rattle.btor2.proofs.ModelLemmas.{IsInitOf-from_value}
+use Rattle.btor2.proofs.IdLemmas.{state_item}
 use Rattle.aiger.specs.declared.circuit.Latch.{Latch}
 use Rattle.aiger.specs.declared.circuit.Reset.{Reset}
 use Rattle.aiger.specs.declared.circuit.Reset.TheVariants as reset
@@ -23,7 +20,7 @@ use Rattle.blast.specs.Leaves.{of_kind, leaf_bits, leaf_resets, resets_of_word, 
 use Rattle.witness.specs.Judgements.{differs, first_different}
 use Rattle.witness.specs.BitJudgements.{differs_from_reset, first_reset_differing}
 use Rattle.lift.specs.Verdicts.{owners, latch_states}
-use Rattle.lift.proofs.AssignedLemmas.{leaves_of, takes_carried}
+use Rattle.lift.proofs.AssignedLemmas.{takes_carried}
 
 -- ---- resets alone
 
@@ -251,20 +248,6 @@ none_differs items f index (z ∷ before) after y is h = by (is_state z.body) h 
     by true h rest = test (different items f z) rest h
     by false h rest = rest index h
 
--- the item of a state
-state_item : (items : List Item) (id : ℕ) → names_state items id ≡ true → (y : Item) × IsIn items y × (id ≡ y.id) × (is_state y.body ≡ true)
-state_item items id names = by (find_item items id) refl names
-  where
-    is_one : (x : Item) (b : Bool) → is_state x.body ≡ b → is_some (if b then Some x else None) ≡ true → is_state x.body ≡ true
-    is_one x true is some = is
-    is_one x false is some = absurd (cc)
-
-    by : (o : Option Item) → find_item items id ≡ o → is_some (option_and_then (λ (x : Item). if is_state x.body then Some x else None) o) ≡ true → (y : Item) × IsIn items y × (id ≡ y.id) × (is_state y.body ≡ true)
-    by None is some = absurd (cc)
-    by (Some y) is some =
-        let at = IsIn-from_find items id y is in
-        (y, at.0, at.1, is_one y (is_state y.body) refl some)
-
 same_constant : (c x : ℕ) → not (nat_eq c x) ≡ false → c ≡ x
 same_constant c x h = by (nat_eq c x) refl h
   where
@@ -272,7 +255,7 @@ same_constant c x h = by (nat_eq c x) refl h
     by true e h = eqb-true c x e
     by false e h = absurd (true≢false h)
 
-init_agrees : (items : List Item) (f : Frame) → IsWellFormed items → first_different items f ≡ None → (t v : ℕ) → init_value items t ≡ Some v → constant_of items v ≡ Some (f t)
+pub init_agrees : (items : List Item) (f : Frame) → IsWellFormed items → first_different items f ≡ None → (t v : ℕ) → init_value items t ≡ Some v → constant_of items v ≡ Some (f t)
 init_agrees items f w none t v e =
     let of = IsInitOf-from_value items t v w e in
     let y = state_item items t of.state in
@@ -281,22 +264,3 @@ init_agrees items f w none t v e =
     let given : init_word items t ≡ Some of.constant = ap (option_and_then (constant_of items)) e ∙ of.word in
     let own : differs (Some of.constant) (f t) ≡ false = ap (λ (o : Option ℕ). differs o (f t)) (sym given) ∙ (ap (λ (n : ℕ). differs (init_word items n) (f n)) y.2 ∙ same) in
     of.word ∙ ap (λ (n : ℕ). Some n) (same_constant of.constant (f t) own)
-
-init_line_holds : (items : List Item) (state : Frame) → IsWellFormed items → ((t v : ℕ) → init_value items t ≡ Some v → constant_of items v ≡ Some (state t))
-    → (x : Item) → IsIn items x → InitHolds items state x.body
-init_line_holds items state w says x at = by x.body refl
-  where
-    by : (b : Body) → x.body ≡ b → InitHolds items state b
-    by (body.Init s t v) e =
-        let accepted = subst (BodyIsAccepted at.before) e (IsAccepted-at items x w at).says in
-        let own : init_value (x ∷ at.after) t ≡ Some v = ap (λ (b : Body). option_or (init_for t b) (init_value at.after t)) e ∙ ap (λ (b : Bool). option_or (cond b (Some v) None) (init_value at.after t)) (eq-eqb t t refl) in
-        says t v (ap (λ (l : List Item). init_value l t) at.splits ∙ init_value-after at.before (x ∷ at.after) t accepted.7 ∙ own)
-    by _ e = tt
-
-inits_from : (items : List Item) (state : Frame) → ((x : Item) → IsIn items x → InitHolds items state x.body) → (front xs : List Item) → items ≡ front ++ xs → InitsHold items state xs
-inits_from items state holds front [] e = tt
-inits_from items state holds front (x ∷ xs) e =
-    (holds x (record { before = front; after = xs; splits = e }), inits_from items state holds (front ++ x ∷ []) xs (e ∙ sym (append_assoc front (x ∷ []) xs)))
-
-pub inits_hold : (items : List Item) (f : Frame) → IsWellFormed items → first_different items f ≡ None → InitsHold items f items
-inits_hold items f w none = inits_from items f (init_line_holds items f w (init_agrees items f w none)) [] items refl

@@ -8,10 +8,9 @@ use Rattle.std.proofs.lemmas.List.Elements.{All-nil, recursion_from_All}
 use Rattle.base.specs.Lines.{IsLine, text_of_lines, onto_first, whole_lines, unfinished}
 use Rattle.base.proofs.LineLemmas.{EachLine, lines_of_text}
 use Rattle.btor2.specs.declared.item.Item.{Item}
-use Rattle.btor2.specs.declared.item.Body.{Body}
-use Rattle.btor2.specs.declared.item.Body.TheVariants as body
 use Rattle.btor2.specs.Items.{is_bad}
 use Rattle.btor2.specs.Trace.{Frame, IsTrace, IsInitial}
+use Rattle.btor2.proofs.InitLemmas.{init_word_below, inits_hold}
 use Rattle.aiger.specs.Literal.{Valuation}
 use Rattle.aiger.specs.declared.circuit.Section.TheVariants as section
 use Rattle.aiger.specs.Circuit.{Circuit}
@@ -30,21 +29,19 @@ use Rattle.witness.specs.BitTexts.{BitWitness, bit_line, bit_witness_lines, BitS
 use Rattle.witness.specs.BitAdmits.{BitRead, BitReading, nothing_admitted, lines_behind, bit_reading, read_or_fault, read_bit_text, bit_witness_of, admitted_lines}
 use Rattle.witness.specs.BitJudgements.{makes_no_bit_claim, bit_verdict, JudgesBits, JudgesBitRead, JudgesBitText, BitJudges}
 use Rattle.witness.proofs.PieceLemmas.{decimal_without}
+use Rattle.witness.proofs.BitReadLemmas.{bits_are_a_line}
+use Rattle.witness.proofs.FrameLemmas.{bad_names, length-nodes}
+use Rattle.witness.proofs.ShapeLemmas.{length-places}
 use Rattle.lift.specs.Lifted.{lifted_lines, lifted_text}
 use Rattle.lift.specs.Verdicts.{IsSameVerdict, KeepsVerdict}
 use Rattle.lift.proofs.LineLemmas.{counted}
 use Rattle.lift.proofs.AssignedLemmas.{lifted_witness}
 use Rattle.lift.proofs.LiftedWitness.{AreWide, lines_are_witness, lifted_is_witness}
-use Rattle.lift.proofs.LiftedWords.{words_lifted, given_again, initial_again, constant_fits, initial_below, initial_fits, given_fit}
-use Rattle.lift.proofs.DifferLemmas.{latch_belongs, inits_hold}
+use Rattle.lift.proofs.LiftedWords.{words_lifted, given_again, initial_again, initial_below, initial_fits, given_fit}
+use Rattle.lift.proofs.DifferLemmas.{latch_belongs, init_agrees}
 use Rattle.lift.proofs.SameLemmas.{same_verdict}
 
 -- ---- the lines of the source
-
-bits_are_a_line : (bits : List Bool) → IsLine (bit_line bits)
-bits_are_a_line [] = refl
-bits_are_a_line (true ∷ bits) = bits_are_a_line bits
-bits_are_a_line (false ∷ bits) = bits_are_a_line bits
 
 frames_are_lines : (frames : List (List Bool)) → EachLine (map bit_line frames ++ codes "." ∷ [])
 frames_are_lines [] = (refl, tt)
@@ -85,23 +82,17 @@ at_least (line ∷ lines) = omega (arith, one_line_more line (text_of_lines line
 
 -- ---- as many bad properties
 
-bad_named : (b : Body) (x : Item) (xs : List Item) → x.body ≡ b → length (of_kind (by_body is_bad) own_name xs) ≡ length (filter (λ (y : Item). is_bad y.body) xs)
-    → length (of_kind (by_body is_bad) own_name (x ∷ xs)) ≡ length (filter (λ (y : Item). is_bad y.body) (x ∷ xs))
-bad_named (body.Bad a) x xs is rest = rw is (ap suc rest)
-bad_named _ x xs is rest = rw is rest
-
 bads_named : (xs : List Item) → length (of_kind (by_body is_bad) own_name xs) ≡ length (filter (λ (y : Item). is_bad y.body) xs)
 bads_named [] = refl
-bads_named (x ∷ xs) = bad_named x.body x xs refl (bads_named xs)
+bads_named (x ∷ xs) = by (is_bad x.body) (bads_named xs)
+  where
+    by : (b : Bool) → length (of_kind (by_body is_bad) own_name xs) ≡ length (filter (λ (y : Item). is_bad y.body) xs)
+        → length ((if b then own_name x else []) ++ of_kind (by_body is_bad) own_name xs) ≡ length (if b then x ∷ filter (λ (y : Item). is_bad y.body) xs else filter (λ (y : Item). is_bad y.body) xs)
+    by true rest = ap suc rest
+    by false rest = rest
 
-bad_node : (b : Body) (x : Item) (xs : List Item) → x.body ≡ b → length (nodes_of is_bad xs) ≡ length (filter (λ (y : Item). is_bad y.body) xs)
-    → length (nodes_of is_bad (x ∷ xs)) ≡ length (filter (λ (y : Item). is_bad y.body) (x ∷ xs))
-bad_node (body.Bad a) x xs is rest = rw is (ap suc rest)
-bad_node _ x xs is rest = rw is rest
-
-bad_nodes : (xs : List Item) → length (nodes_of is_bad xs) ≡ length (filter (λ (y : Item). is_bad y.body) xs)
-bad_nodes [] = refl
-bad_nodes (x ∷ xs) = bad_node x.body x xs refl (bad_nodes xs)
+bad_nodes : (items : List Item) → length (nodes_of is_bad items) ≡ length (filter (λ (y : Item). is_bad y.body) items)
+bad_nodes items = length-nodes is_bad items bad_names ∙ length-places is_bad 0 items
 
 bads_count : (items : List Item) (c : Circuit) → Lowers items c → length c.bads ≡ (shape_of items).bads
 bads_count items c l = sym (length-section_names section.Bad c) ∙ (ap length l.bad_names ∙ bads_named items)
@@ -163,14 +154,14 @@ module _ (items : List Item) (c : Circuit) (text : List ℕ) (b : BitWitness) (l
       → first_different items (initial_words items (words_lifted items b)) ≡ None → ShowSame items c fs vs
   shown_same fs vs trace bits none =
       let initial : IsInitial items (initial_words items (words_lifted items b)) =
-      record { fits = initial_fits items b l.well_formed says.valid.some_frame; inits = inits_hold items (initial_words items (words_lifted items b)) l.well_formed none } in
+      record { fits = initial_fits items b l.well_formed says.valid.some_frame; inits = inits_hold items (initial_words items (words_lifted items b)) l.well_formed (init_agrees items (initial_words items (words_lifted items b)) l.well_formed none) } in
       l.frames (initial_words items (words_lifted items b)) (given_frames items (words_lifted items b)) initial (given_fit items b) fs trace vs (lowered_trace vs bits)
 
   verdicts_same : (fs : List Frame) (vs : List Valuation) → IsTrace items (initial_words items (words_lifted items b)) (given_frames items (words_lifted items b)) fs → IsCircuitTrace c b.initial b.frames vs
       → IsSameVerdict items (bit_verdict c b vs) (verdict items (words_lifted items b) fs)
   verdicts_same fs vs trace bits =
       same_verdict items c b (words_lifted items b) fs vs refl says.valid.claim (omega (arith, says.valid.claim, bads_count items c l, bad_nodes items))
-      (latch_belongs items c.latches (initial_words items (words_lifted items b)) b.initial (λ id k e. constant_fits items id k l.well_formed e) (λ id. initial_below items b id l.well_formed says.valid.some_frame) l.resets
+      (latch_belongs items c.latches (initial_words items (words_lifted items b)) b.initial (λ id k e. init_word_below items id k l.well_formed e) (λ id. initial_below items b id l.well_formed says.valid.some_frame) l.resets
       (initial_again items b l.well_formed says.valid.some_frame initial_wide))
       (shown_same fs vs trace bits)
 

@@ -64,8 +64,8 @@ bits_more k line b h few =
           absurd (cc (full, lt-ltb k.count (length k.bits) below))
     ]
 
-same_room : (k : KeptLine) (b : ℕ) → length (kept_more k b).bits ≡ length k.bits
-same_room k b =
+pub room_more : (k : KeptLine) (b : ℕ) → length (kept_more k b).bits ≡ length k.bits
+room_more k b =
     elim (cases_Bool (nat_lt k.count (length k.bits))) [
       | inl fits ↦ rw fits (length-set k.bits k.count (b == 49))
       | inr full ↦ rw full refl
@@ -109,13 +109,10 @@ keeps_more k line b h =
       bits = λ few.
           let short : length line + 1 ≤ length (kept_more k b).bits = omega (arith, few, long) in
           ap (λ (n : ℕ). take n (kept_more k b).bits) long ∙ bits_more k line b h short ∙ sym (map-append (λ (c : ℕ). c == 49) line (b ∷ []));
-      count = count_more k line b h ∙ ap₂ (λ (n m : ℕ). min n (m + 1)) (sym long) (sym (same_room k b));
+      count = count_more k line b h ∙ ap₂ (λ (n m : ℕ). min n (m + 1)) (sym long) (sym (room_more k b));
       first = first_more k line b h;
       number = number_of_more k line b h;
     }
-
-pub room_more : (k : KeptLine) (b : ℕ) → length (kept_more k b).bits ≡ length k.bits
-room_more k b = same_room k b
 
 -- the bits of a line that fits
 pub kept_line_bits : (k : KeptLine) (line : List ℕ) → Keeps k line → length line ≤ length k.bits → kept_bits k ≡ line_bits line

@@ -2,8 +2,6 @@
 use Rattle.std.proofs.Common.{◌≡◌, ◌≢◌, ℕ, suc, ◌+◌, ◌<◌, ◌≤◌, ◌==◌, ◌&&◌, Bool, true, false, List, [], ◌∷◌, ◌++◌, Some, None, IfSome, All, map, length, drop, decimal, codes, length-drop, append_assoc, refl, sym, ap, ap₂, ◌∙◌, arith, true≢false}
 use Rattle.std.specs.Prelude.{if◌then◌else◌}
 use Rattle.std.specs.List.{list_any, AllByRecursion}
-use Rattle.std.specs.Str.{bytes_eq}
-use Rattle.std.specs.Fmt.{digits}
 use Rattle.std.proofs.lemmas.Bool.{false_from_ne_true}
 use Rattle.std.proofs.lemmas.List.{map-append}
 use Rattle.std.proofs.lemmas.List.Sums.{sum_by-cons}
@@ -12,46 +10,50 @@ use Rattle.btor2.specs.declared.item.Item.{Item}
 use Rattle.btor2.specs.declared.item.Body.{Body}
 use Rattle.btor2.specs.Items.{is_input, is_state, is_free_state, is_carried_state}
 use Rattle.btor2.specs.Trace.{bits_of}
+use Rattle.btor2.specs.Leaves.{kind_width}
+use Rattle.btor2.specs.Lists.{of_kind as leaves_of}
 use Rattle.blast.specs.Leaves.{by_body}
-use Rattle.blast.specs.Cost.{kind_width, input_width, free_width, given_width, carried_width}
+use Rattle.blast.specs.Cost.{input_width, free_width, given_width, carried_width}
 use Rattle.witness.specs.Texts.{Shape, Assignment, shape_of, has_free, is_free_index, claim, assignment_line, assignment_lines, states_lines, frame_lines, witness_lines, are_distinct, IsAssignment, IsPart, IsFreePart, IsLater, AreFrames, IsWitness}
 use Rattle.witness.specs.BitTexts.{BitWitness, bit_line, bit_witness_lines}
 use Rattle.witness.proofs.PieceLemmas.{bits_of_digits}
+use Rattle.witness.proofs.BitReadLemmas.{bits_are_no_end}
 use Rattle.lift.specs.Lifted.{input_lines, carried_lines, free_lines, initial_piece, free_piece, frame_piece, line_bits, piece, lifted_lines}
-use Rattle.lift.proofs.AssignedLemmas.{wide, leaves_of, any_leaf, takes_free, takes_carried, assigned_inputs, assigned_carried, assigned_free, later_parts, lifted_frames, lifted_witness, assigned_lines, assigned_fit, indices, assigned_distinct, both_distinct, flag_of_index, free_flags, carried_flags}
+use Rattle.lift.proofs.AssignedLemmas.{any_leaf, takes_free, takes_carried, assigned_inputs, assigned_carried, assigned_free, later_parts, lifted_frames, lifted_witness, assigned_lines, assigned_fit, indices, assigned_distinct, both_distinct, flag_of_index, free_flags, carried_flags}
+use Rattle.lift.proofs.PutLemmas.{hash}
 
 -- ---- how many bits the leaves take
 
-wide_of_kind : (items : List Item) (kind : Body → Bool) (takes k : Item → Bool) → ((x : Item) → k x ≡ (kind x.body && takes x)) → (xs : List Item) → kind_width items k xs ≡ wide items takes (leaves_of kind xs)
-wide_of_kind items kind takes k same [] = refl
-wide_of_kind items kind takes k same (x ∷ xs) =
-    sum_by-cons (λ (y : Item). if k y then bits_of items y.id else 0) x xs ∙ ap₂ (λ (b : Bool) (n : ℕ). (if b then bits_of items x.id else 0) + n) (same x) (wide_of_kind items kind takes k same xs) ∙ by (kind x.body)
+width_among : (items : List Item) (kind : Body → Bool) (takes k : Item → Bool) → ((x : Item) → k x ≡ (kind x.body && takes x)) → (xs : List Item) → kind_width items k xs ≡ kind_width items takes (leaves_of kind xs)
+width_among items kind takes k same [] = refl
+width_among items kind takes k same (x ∷ xs) =
+    sum_by-cons (λ (y : Item). if k y then bits_of items y.id else 0) x xs ∙ ap₂ (λ (b : Bool) (n : ℕ). (if b then bits_of items x.id else 0) + n) (same x) (width_among items kind takes k same xs) ∙ by (kind x.body)
   where
-    by : (b : Bool) → (if b && takes x then bits_of items x.id else 0) + wide items takes (leaves_of kind xs) ≡ wide items takes (if b then x ∷ leaves_of kind xs else leaves_of kind xs)
-    by true = refl
+    by : (b : Bool) → (if b && takes x then bits_of items x.id else 0) + kind_width items takes (leaves_of kind xs) ≡ kind_width items takes (if b then x ∷ leaves_of kind xs else leaves_of kind xs)
+    by true = sym (sum_by-cons (λ (y : Item). if takes y then bits_of items y.id else 0) x (leaves_of kind xs))
     by false = omega arith
 
 pub and_any : (b : Bool) → b ≡ (b && true)
 and_any true = refl
 and_any false = refl
 
-pub wide_inputs : (items : List Item) → input_width items ≡ wide items any_leaf (leaves_of is_input items)
-wide_inputs items = wide_of_kind items is_input any_leaf (by_body is_input) (λ x. and_any (is_input x.body)) items
+wide_inputs : (items : List Item) → input_width items ≡ kind_width items any_leaf (leaves_of is_input items)
+wide_inputs items = width_among items is_input any_leaf (by_body is_input) (λ x. and_any (is_input x.body)) items
 
-pub wide_free : (items : List Item) → free_width items ≡ wide items (takes_free items) (leaves_of is_state items)
-wide_free items = wide_of_kind items is_state (takes_free items) (is_free_state items) (λ x. refl) items
+wide_free : (items : List Item) → free_width items ≡ kind_width items (takes_free items) (leaves_of is_state items)
+wide_free items = width_among items is_state (takes_free items) (is_free_state items) (λ x. refl) items
 
-pub wide_carried : (items : List Item) → carried_width items ≡ wide items (takes_carried items) (leaves_of is_state items)
-wide_carried items = wide_of_kind items is_state (takes_carried items) (is_carried_state items) (λ x. refl) items
+wide_carried : (items : List Item) → carried_width items ≡ kind_width items (takes_carried items) (leaves_of is_state items)
+wide_carried items = width_among items is_state (takes_carried items) (is_carried_state items) (λ x. refl) items
 
 -- the bits of a frame are enough for its leaves
-inputs_enough : (items : List Item) (bs : List Bool) → length bs ≡ given_width items → wide items any_leaf (leaves_of is_input items) ≤ length bs
+inputs_enough : (items : List Item) (bs : List Bool) → length bs ≡ given_width items → kind_width items any_leaf (leaves_of is_input items) ≤ length bs
 inputs_enough items bs h = omega (arith, h, wide_inputs items)
 
-free_enough : (items : List Item) (bs : List Bool) → length bs ≡ given_width items → wide items (takes_free items) (leaves_of is_state items) ≤ length (drop (input_width items) bs)
+free_enough : (items : List Item) (bs : List Bool) → length bs ≡ given_width items → kind_width items (takes_free items) (leaves_of is_state items) ≤ length (drop (input_width items) bs)
 free_enough items bs h = omega (arith, h, wide_free items, length-drop (input_width items) bs)
 
-carried_enough : (items : List Item) (bs : List Bool) → length bs ≡ carried_width items → wide items (takes_carried items) (leaves_of is_state items) ≤ length bs
+carried_enough : (items : List Item) (bs : List Bool) → length bs ≡ carried_width items → kind_width items (takes_carried items) (leaves_of is_state items) ≤ length bs
 carried_enough items bs h = omega (arith, h, wide_carried items)
 
 abbrev pub AreWide : List Item → List (List Bool) → Type 0
@@ -70,13 +72,8 @@ carried_written items bs h = assigned_lines items (takes_carried items) (shape_o
 
 -- ---- the lines of frames
 
-no_end : (bs : List Bool) → bytes_eq (bit_line bs) (codes ".") ≡ false
-no_end [] = refl
-no_end (true ∷ bs) = refl
-no_end (false ∷ bs) = refl
-
 frame_is : (items : List Item) (k : ℕ) (bs : List Bool) → piece items (suc (suc (suc k))) (bit_line bs) ≡ frame_piece items k bs
-frame_is items k bs = ap (λ (b : Bool). if b then bit_line bs ∷ [] else frame_piece items k (line_bits (bit_line bs))) (no_end bs) ∙ ap (frame_piece items k) (bits_of_digits bs)
+frame_is items k bs = ap (λ (b : Bool). if b then bit_line bs ∷ [] else frame_piece items k (line_bits (bit_line bs))) (bits_are_no_end bs) ∙ ap (frame_piece items k) (bits_of_digits bs)
 
 later_states : (items : List Item) (k : ℕ) (bs : List Bool) → length bs ≡ given_width items → states_lines (shape_of items).states (suc k) (later_parts items bs).states ≡ free_piece items (suc k) (drop (input_width items) bs)
 later_states items k bs h = by (has_free (shape_of items))
@@ -101,10 +98,6 @@ later_lines items k (bs ∷ more) h =
 -- the first frame behind the initial bits
 regroup_first : {A : Type 0} (h : A) (c f t e : List A) → (h ∷ c) ++ ((f ++ t) ++ e) ≡ ((h ∷ (c ++ f)) ++ t) ++ e
 regroup_first h c f t e = ap (λ l. h ∷ l) (sym (append_assoc c (f ++ t) e) ∙ ap (λ l. l ++ e) (sym (append_assoc c f t)))
-
-hash : (35 ∷ decimal 0) ≡ codes "#0"
-unfolding digits
-hash = refl
 
 first_lines : (items : List Item) (initial bs : List Bool) (more : List (List Bool)) → length initial ≡ carried_width items → AreWide items (bs ∷ more)
     → lifted_lines items 2 (bit_line initial ∷ (map bit_line (bs ∷ more) ++ codes "." ∷ [])) ≡ frame_lines (shape_of items) 0 (lifted_frames items initial (bs ∷ more)) ++ codes "." ∷ []

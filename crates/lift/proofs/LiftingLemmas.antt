@@ -1,7 +1,7 @@
 -- A whole source is lifted.
 use Rattle.std.proofs.Common.{◌≡◌, ℕ, List, [], ◌++◌, Option, Some, None, Result, Ok, Err, IfSome, refl, sym, ap, subst, take, OnOk, OnErr, MatchResult, ◌∙◌, append_assoc, append-nil}
 use Rattle.std.specs.Io.KnownBytes.{Consumes, IsAtEnd, Appends}
-use Rattle.std.proofs.KnownBytes.{Appends-trans, Appends-nil}
+use Rattle.std.proofs.KnownBytes.{Appends-trans, Appends-nil, Consumes-nil, Consumes-trans, Consumes-whole}
 use Rattle.base.specs.Device.{Sent, AppendsBeginning}
 use Rattle.base.proofs.DeviceLemmas.{beginning_longer}
 use Rattle.base.proofs.PieceLemmas.{rest_fails}
@@ -13,21 +13,6 @@ use Rattle.lift.specs.Stands.{Lifter, Lifts, Takes}
 use Rattle.lift.proofs.LineLemmas.{lifted_begins}
 
 -- ---- what a source gives
-
-consumes_none : (old : Option (List ℕ)) → Consumes old old []
-consumes_none None = tt
-consumes_none (Some xs) = refl
-
-consumes_more : (old mid now : Option (List ℕ)) (front more : List ℕ) → Consumes old mid front → Consumes mid now more → Consumes old now (front ++ more)
-consumes_more None mid now front more a b = tt
-consumes_more (Some xs) None now front more a b = absurd a
-consumes_more (Some xs) (Some ys) None front more a b = absurd b
-consumes_more (Some xs) (Some ys) (Some zs) front more a b = a ∙ (ap (λ (l : List ℕ). front ++ l) b ∙ sym (append_assoc front more zs))
-
-whole_given : (old now : Option (List ℕ)) (front : List ℕ) (P : List ℕ → Type 0) → Consumes old now front → IsAtEnd now → P front → IfSome old P
-whole_given None now front P a b h = tt
-whole_given (Some xs) None front P a b h = absurd a
-whole_given (Some xs) (Some ys) front P a b h = subst P (sym (a ∙ ap (λ (l : List ℕ). front ++ l) b ∙ append-nil front)) h
 
 part_given : (old now : Option (List ℕ)) (front : List ℕ) (P : List ℕ → Type 0) → Consumes old now front → ((rest : List ℕ) → P (front ++ rest)) → IfSome old P
 part_given None now front P a h = tt
@@ -49,7 +34,7 @@ pub record Given (source source' old now : Option (List ℕ)) (kept left : List 
 pub given_nothing : (source old : Option (List ℕ)) (kept : List ℕ) (l : Lifter) → Given source source old old kept kept l l
 given_nothing source old kept l = record {
   front = [];
-  consumes = consumes_none source;
+  consumes = Consumes-nil source;
   takes = λ items c text start h s. subst (λ (t : List ℕ). Lifts items c l t × Sent start old (lifted_text items c t) kept) (sym (append-nil text)) (h, s);
 }
 
@@ -57,7 +42,7 @@ pub given_more : (source source' source'' old mid now : Option (List ℕ)) (kept
     → Given source source' old mid kept mid_kept before l → Consumes source' source'' more → TakesFront mid now mid_kept left l after more → Given source source'' old now kept left before after
 given_more source source' source'' old mid now kept mid_kept left before l after more g consumes takes = record {
   front = g.front ++ more;
-  consumes = consumes_more source source' source'' g.front more g.consumes consumes;
+  consumes = Consumes-trans source source' source'' g.front more g.consumes consumes;
   takes = λ items c text start h s.
       let one = g.takes items c text start h s in
       subst (λ (t : List ℕ). Lifts items c after t × Sent start now (lifted_text items c t) left) (append_assoc text g.front more) (takes items c (text ++ g.front) start one.0 one.1);
@@ -68,8 +53,8 @@ pub all_taken : (T E : Type 0) (x : T) (source source' source'' old now : Option
     → Consumes source' source'' (take n buf) → n ≡ 0 → IsAtEnd source'' → IfSome source (Takes {T = T} {E = E} (Ok x) old now kept left before after)
 all_taken T E x source source' source'' old now kept left before after n buf g consumes none end =
     let nothing : Consumes source' source'' [] = subst (λ (k : ℕ). Consumes source' source'' (take k buf)) none consumes in
-    let all : Consumes source source'' g.front = subst (Consumes source source'') (append-nil g.front) (consumes_more source source' source'' g.front [] g.consumes nothing) in
-    whole_given source source'' g.front (Takes {T = T} {E = E} (Ok x) old now kept left before after) all end (record { takes = g.takes })
+    let all : Consumes source source'' g.front = subst (Consumes source source'') (append-nil g.front) (Consumes-trans source source' source'' g.front [] g.consumes nothing) in
+    Consumes-whole source source'' g.front (Takes {T = T} {E = E} (Ok x) old now kept left before after) all end (record { takes = g.takes })
 
 begun_longer : (items : List Item) (c : Circuit) (text front rest : List ℕ) (start now : Option (List ℕ)) → AppendsBeginning start now (lifted_text items c (text ++ front)) → AppendsBeginning start now (lifted_text items c (text ++ (front ++ rest)))
 begun_longer items c text front rest start now h =
@@ -93,7 +78,7 @@ pub write_failed : (T E : Type 0) (e : E) (source source' source'' old mid now :
     → ((items : List Item) (c : Circuit) (text : List ℕ) (start : Option (List ℕ)) → Lifts items c l text → Sent start mid (lifted_text items c text) mid_kept → AppendsBeginning start now (lifted_text items c (text ++ more)))
     → IfSome source (Takes {T = T} {E = E} (Err e) old now kept left before after)
 write_failed T E e source source' source'' old mid now kept mid_kept left before l after more g consumes fails =
-    part_given source source'' (g.front ++ more) (Takes {T = T} {E = E} (Err e) old now kept left before after) (consumes_more source source' source'' g.front more g.consumes consumes)
+    part_given source source'' (g.front ++ more) (Takes {T = T} {E = E} (Err e) old now kept left before after) (Consumes-trans source source' source'' g.front more g.consumes consumes)
     (λ rest. record {
       takes = λ items c text start h s.
           let one = g.takes items c text start h s in
@@ -129,12 +114,3 @@ pub through_fault : (S F : Type 0) (e : F) (items : List Item) (c : Circuit) (so
     → IfSome source (Takes {T = S} {E = F} (Err e) old new [] left before after) → IfSome source (λ text. AppendsBeginning old new (lifted_text items c text))
 through_fault S F e items c None old new left before after h t = tt
 through_fault S F e items c (Some text) old new left before after h t = t.takes items c [] old h (sent_nothing items c old)
-
--- each of two things that hold of a text, where it is known
-pub first_of_both : (o : Option (List ℕ)) (P Q : List ℕ → Type 0) → IfSome o (λ x. P x × Q x) → IfSome o P
-first_of_both None P Q h = tt
-first_of_both (Some x) P Q h = h.0
-
-pub second_of_both : (o : Option (List ℕ)) (P Q : List ℕ → Type 0) → IfSome o (λ x. P x × Q x) → IfSome o Q
-second_of_both None P Q h = tt
-second_of_both (Some x) P Q h = h.1

@@ -1,6 +1,7 @@
 -- The parts of pieces, as they are put.
-use Rattle.std.proofs.Common.{◌≡◌, ℕ, zero, suc, ◌+◌, ◌-◌, ◌<◌, ◌≤◌, ◌||◌, Bool, true, false, List, [], ◌∷◌, ◌++◌, length, map, reverse, take, drop, get_or, set, codes, decimal, refl, sym, ap, subst, ◌∙◌, append_assoc, append-nil, drop-cons, add-one, arith}
+use Rattle.std.proofs.Common.{◌≡◌, ℕ, zero, suc, ◌+◌, ◌-◌, ◌<◌, ◌≤◌, ◌||◌, Bool, true, false, List, [], ◌∷◌, ◌++◌, length, map, reverse, take, drop, get_or, set, codes, decimal, refl, sym, ap, subst, ◌∙◌, append_assoc, append-nil, drop-cons, add-one, arith, ap₂}
 use Rattle.std.specs.List.{list_any}
+use Rattle.std.specs.Fmt.{digits}
 use Rattle.std.proofs.Math.Seq.{take_all}
 use Rattle.std.proofs.lemmas.Bool.{or_from, or_right}
 use Rattle.std.proofs.lemmas.List.{reverse-append, take_more_set}
@@ -11,14 +12,15 @@ use Rattle.base.specs.Lines.{text_of_lines}
 use Rattle.btor2.specs.declared.item.Item.{Item}
 use Rattle.btor2.specs.Items.{is_state}
 use Rattle.btor2.specs.Lists.{places, is_free_at}
+use Rattle.btor2.specs.declared.leaves.Leaves.{Leaves}
+use Rattle.btor2.specs.declared.leaves.Leaves.TheVariants as leaves
+use Rattle.btor2.specs.Leaves.{list_of, is_leaf_at, leaf_width}
 use Rattle.btor2.specs.Check.{IsWellFormed}
 use Rattle.blast.specs.Cost.{input_width}
 use Rattle.witness.specs.Texts.{digit, shape_of, has_free}
 use Rattle.witness.proofs.ShapeLemmas.{free_at_places}
 use Rattle.lift.specs.Lifted.{word_line, initial_piece, free_piece, frame_piece, input_lines}
-use Rattle.lift.specs.declared.leaves.Leaves.{Leaves}
-use Rattle.lift.specs.declared.leaves.Leaves.TheVariants as leaves
-use Rattle.lift.specs.Kept.{KeptLine, kept_bits, kept_frame, kept_piece, leaf_places, leaf_takes, taken_width, taken_line, placed_lines, leaf_lines}
+use Rattle.lift.specs.Kept.{KeptLine, kept_bits, kept_frame, kept_piece, taken_line, placed_lines, leaf_lines}
 use Rattle.lift.proofs.LeafLemmas.{inputs_placed, carried_placed, free_placed}
 
 -- the digits of a word, of which the highest is left
@@ -30,17 +32,21 @@ digits_left bits left b d lt at =
 
 -- the leaves behind some others
 pub leaves_left : (l : Leaves) (items : List Item) (index p d : ℕ) (ps : List ℕ) (bits : List Bool) → index < length ps → p ≡ get_or ps index d
-    → placed_lines l items index (drop index ps) bits ≡ taken_line (leaf_takes l items p) index (take (taken_width l items p) bits) ++ placed_lines l items (index + 1) (drop (index + 1) ps) (drop (taken_width l items p) bits)
+    → placed_lines l items index (drop index ps) bits ≡ taken_line (is_leaf_at items l p) index (take (leaf_width items l p) bits) ++ placed_lines l items (index + 1) (drop (index + 1) ps) (drop (leaf_width items l p) bits)
 leaves_left l items index p d ps bits lt at =
-    subst (λ (x : ℕ). placed_lines l items index (drop index ps) bits ≡ taken_line (leaf_takes l items x) index (take (taken_width l items x) bits) ++ placed_lines l items (index + 1) (drop (index + 1) ps) (drop (taken_width l items x) bits))
+    subst (λ (x : ℕ). placed_lines l items index (drop index ps) bits ≡ taken_line (is_leaf_at items l x) index (take (leaf_width items l x) bits) ++ placed_lines l items (index + 1) (drop (index + 1) ps) (drop (leaf_width items l x) bits))
     (sym at) (rw (drop-cons ps index d lt, add-one index) refl)
 
 -- the pieces
 pub word_parts : (index : ℕ) (bits : List Bool) → word_line index bits ++ 10 ∷ [] ≡ decimal index ++ ((32 ∷ []) ++ (map digit (reverse bits) ++ 10 ∷ []))
 word_parts index bits = append_assoc (decimal index) (32 ∷ map digit (reverse bits)) (10 ∷ [])
 
-pub initial_parts : (items : List Item) (bits : List Bool) → IsWellFormed items → text_of_lines (initial_piece items bits) ≡ codes "#0\n" ++ leaf_lines leaves.Carried items bits
-initial_parts items bits w = ap (λ (l : List ℕ). codes "#0\n" ++ l) (sym (carried_placed items bits w))
+pub hash : (35 ∷ decimal 0) ≡ codes "#0"
+unfolding digits
+hash = refl
+
+pub initial_parts : (items : List Item) (bits : List Bool) → IsWellFormed items → text_of_lines (initial_piece items bits) ≡ ((35 ∷ []) ++ (decimal 0 ++ 10 ∷ [])) ++ leaf_lines leaves.Carried items bits
+initial_parts items bits w = ap₂ (λ (h l : List ℕ). (h ++ 10 ∷ []) ++ l) (sym hash) (sym (carried_placed items bits w))
 
 pub first_free : (items : List Item) (frame : ℕ) (bits : List Bool) → IsWellFormed items → frame ≡ 0 → text_of_lines (free_piece items frame bits) ≡ leaf_lines leaves.Free items bits
 first_free items frame bits w e = ap (λ (k : ℕ). text_of_lines (free_piece items k bits)) e ∙ sym (free_placed items bits w)
@@ -107,15 +113,15 @@ all_written bits digits done all h =
     ap (λ (n : ℕ). take n digits) (sym all) ∙ (sym (append-nil (take done digits)) ∙ (ap (λ (l : List ℕ). take done digits ++ l) (sym rest) ∙ h))
 
 -- the leaves, in a loop
-pub leaves_step : (l : Leaves) (items : List Item) (index d w : ℕ) (t : Bool) (bits word behind : List Bool) → index < length (leaf_places l items)
-    → w ≡ taken_width l items (get_or (leaf_places l items) index d) → t ≡ leaf_takes l items (get_or (leaf_places l items) index d) → word ≡ take w bits → behind ≡ drop w bits
-    → placed_lines l items index (drop index (leaf_places l items)) bits ≡ taken_line t index word ++ placed_lines l items (index + 1) (drop (index + 1) (leaf_places l items)) behind
+pub leaves_step : (l : Leaves) (items : List Item) (index d w : ℕ) (t : Bool) (bits word behind : List Bool) → index < length (places (list_of l) 0 items)
+    → w ≡ leaf_width items l (get_or (places (list_of l) 0 items) index d) → t ≡ is_leaf_at items l (get_or (places (list_of l) 0 items) index d) → word ≡ take w bits → behind ≡ drop w bits
+    → placed_lines l items index (drop index (places (list_of l) 0 items)) bits ≡ taken_line t index word ++ placed_lines l items (index + 1) (drop (index + 1) (places (list_of l) 0 items)) behind
 leaves_step l items index d w t bits word behind lt width takes front rest =
-    leaves_left l items index (get_or (leaf_places l items) index d) d (leaf_places l items) bits lt refl
-    ∙ ap (λ (n : ℕ). taken_line (leaf_takes l items (get_or (leaf_places l items) index d)) index (take n bits) ++ placed_lines l items (index + 1) (drop (index + 1) (leaf_places l items)) (drop n bits)) (sym width)
-    ∙ ap (λ (b : Bool). taken_line b index (take w bits) ++ placed_lines l items (index + 1) (drop (index + 1) (leaf_places l items)) (drop w bits)) (sym takes)
-    ∙ ap (λ (bs : List Bool). taken_line t index bs ++ placed_lines l items (index + 1) (drop (index + 1) (leaf_places l items)) (drop w bits)) (sym front)
-    ∙ ap (λ (bs : List Bool). taken_line t index word ++ placed_lines l items (index + 1) (drop (index + 1) (leaf_places l items)) bs) (sym rest)
+    leaves_left l items index (get_or (places (list_of l) 0 items) index d) d (places (list_of l) 0 items) bits lt refl
+    ∙ ap (λ (n : ℕ). taken_line (is_leaf_at items l (get_or (places (list_of l) 0 items) index d)) index (take n bits) ++ placed_lines l items (index + 1) (drop (index + 1) (places (list_of l) 0 items)) (drop n bits)) (sym width)
+    ∙ ap (λ (b : Bool). taken_line b index (take w bits) ++ placed_lines l items (index + 1) (drop (index + 1) (places (list_of l) 0 items)) (drop w bits)) (sym takes)
+    ∙ ap (λ (bs : List Bool). taken_line t index bs ++ placed_lines l items (index + 1) (drop (index + 1) (places (list_of l) 0 items)) (drop w bits)) (sym front)
+    ∙ ap (λ (bs : List Bool). taken_line t index word ++ placed_lines l items (index + 1) (drop (index + 1) (places (list_of l) 0 items)) bs) (sym rest)
 
 -- ---- whether there is a free state
 

@@ -1,16 +1,15 @@
 -- What is kept of a line of a witness that is not yet admitted.
-use Rattle.std.specs.Prelude.{◌≡◌, ℕ, zero, suc, ◌<◌, ◌+◌, ◌≤◌, ◌==◌, nat_lt, min, Bool, true, false, List, [], ◌∷◌, codes, ◌++◌, if◌then◌else◌, not, length, take, drop, unwrap_or, slice_index_or, slice_set}
+use Rattle.std.specs.Prelude.{◌≡◌, ℕ, zero, suc, ◌<◌, ◌+◌, ◌≤◌, ◌==◌, nat_lt, min, Bool, true, false, List, [], ◌∷◌, codes, ◌++◌, if◌then◌else◌, length, take, drop, slice_index_or, slice_set}
 use Rattle.std.specs.Str.{bytes_eq}
 use Rattle.base.specs.Decimals.{are_digits, capped_value}
 use Rattle.btor2.specs.declared.item.Item.{Item}
-use Rattle.btor2.specs.Items.{is_input, is_state}
-use Rattle.btor2.specs.Lists.{places, width_at, is_free_at}
+use Rattle.btor2.specs.Lists.{places}
+use Rattle.btor2.specs.declared.leaves.Leaves.{Leaves}
+use Rattle.btor2.specs.Leaves.{list_of, is_leaf_at, leaf_width}
 use Rattle.aiger.specs.Circuit.{Circuit}
 use Rattle.witness.specs.Texts.{claim}
 use Rattle.witness.specs.BitScans.{behind_first, number_more}
 use Rattle.lift.specs.Lifted.{word_line, line_bits, initial_piece, frame_piece}
-use Rattle.lift.specs.declared.leaves.Leaves.{Leaves}
-use Rattle.lift.specs.declared.leaves.Leaves.TheVariants as leaves
 
 -- as many bits as fit, how many bytes there are, at most one more than fit, the first of them, and the number that the others write, where the first is a `b`
 pub record KeptLine : Type 0 where
@@ -65,21 +64,6 @@ IsAdmitted c (suc (suc (suc n))) line = IsFrameOrEnd c line (bytes_eq line (code
 
 -- ---- the leaves, by their places in the model
 
--- a kind of leaves of a model: the places of those of which the indices count, and whether the one at a place takes bits
-abbrev pub leaf_places : Leaves → List Item → List ℕ
-leaf_places leaves.Inputs items = places is_input 0 items
-leaf_places leaves.Carried items = places is_state 0 items
-leaf_places leaves.Free items = places is_state 0 items
-
-abbrev pub leaf_takes : Leaves → List Item → ℕ → Bool
-leaf_takes leaves.Inputs items place = true
-leaf_takes leaves.Carried items place = not (is_free_at items place)
-leaf_takes leaves.Free items place = is_free_at items place
-
--- so many bits does it take
-abbrev pub taken_width : Leaves → List Item → ℕ → ℕ
-taken_width l items place = if leaf_takes l items place then unwrap_or (width_at items place) 0 else 0
-
 -- the line of a leaf that takes bits
 abbrev pub taken_line : Bool → ℕ → List Bool → List ℕ
 taken_line takes index bits = if takes then word_line index bits ++ 10 ∷ [] else []
@@ -88,13 +72,8 @@ taken_line takes index bits = if takes then word_line index bits ++ 10 ∷ [] el
 abbrev pub placed_lines : Leaves → List Item → ℕ → List ℕ → List Bool → List ℕ
 placed_lines l items index [] bits = []
 placed_lines l items index (p ∷ ps) bits =
-    taken_line (leaf_takes l items p) index (take (taken_width l items p) bits) ++ placed_lines l items (suc index) ps (drop (taken_width l items p) bits)
+    taken_line (is_leaf_at items l p) index (take (leaf_width items l p) bits) ++ placed_lines l items (suc index) ps (drop (leaf_width items l p) bits)
 
 -- the lines of all leaves of a kind
 abbrev pub leaf_lines : Leaves → List Item → List Bool → List ℕ
-leaf_lines l items bits = placed_lines l items 0 (leaf_places l items) bits
-
--- the bits behind those that the leaves at some places take
-abbrev pub bits_behind : Leaves → List Item → List ℕ → List Bool → List Bool
-bits_behind l items [] bits = bits
-bits_behind l items (p ∷ ps) bits = bits_behind l items ps (drop (taken_width l items p) bits)
+leaf_lines l items bits = placed_lines l items 0 (places (list_of l) 0 items) bits

@@ -4,7 +4,6 @@
 mod fault;
 mod kept;
 pub mod laws;
-mod leaves;
 mod lifter;
 mod lifting;
 mod pieces;

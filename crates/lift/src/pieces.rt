@@ -6,12 +6,11 @@ ghost use Rattle.base.specs.Lines.{text_of_lines};
 ghost use Rattle.blast.specs.Cost.{input_width};
 ghost use Rattle.witness.specs.Texts.{digit, claim, shape_of, has_free};
 ghost use Rattle.lift.specs.Lifted.{word_line, initial_piece, free_piece, frame_piece};
-ghost use Rattle.lift.specs.Kept.{kept_frame, kept_piece, leaf_places, leaf_lines, bits_behind, taken_line};
+ghost use Rattle.lift.specs.Kept.{kept_frame, kept_piece, leaf_lines, taken_line};
 
 use crate::kept::KeptLine;
-use crate::leaves::Leaves;
 use base::{DeviceFault, Outbox, Sink};
-use btor2::Model;
+use btor2::{Leaves, Model};
 use itoa::Buffer;
 
 /// Puts bytes.
@@ -137,23 +136,36 @@ fn put_leaves<K: Sink>(
 {
     let mut rest = bits;
     for index in 0..leaves.places(model).len() {
-        let (word, behind) = cut(rest, leaves.width(model, index));
-        put_leaf(outbox, sink, leaves.takes(model, index), index, word)?;
+        let (word, behind) = cut(rest, leaves.width(model, index) as usize);
+        put_leaf(outbox, sink, leaves.has(model, index), index, word)?;
         rest = behind;
     }
     Ok(())
 }
 
-/// The bits behind those that the leaves of a kind take.
-fn behind_leaves<'a>(model: &Model, leaves: Leaves, bits: &'a [bool]) -> &'a [bool]
-    ensures { result.now ≡ bits_behind leaves model.now (leaf_places leaves model.now) bits.now }
+/// Puts the line that opens a part, a byte and a number, and behind it the lines of the leaves of a kind.
+fn put_part<K: Sink>(
+    outbox: &mut Outbox,
+    sink: &mut K,
+    model: &Model,
+    mark: &[u8],
+    number: u64,
+    leaves: Leaves,
+    bits: &[bool],
+) -> Result<(), DeviceFault>
+    ensures puts { Puts result (K.written sink.old) (K.written sink.new) outbox.old outbox.new ((mark.now ++ (decimal number ++ 10 ∷ [])) ++ leaf_lines leaves model.now bits.now) }
+    ensures failures { CountsFaults result (K.failures sink.old) (K.failures sink.new) }
 {
-    let mut rest = bits;
-    for index in 0..leaves.places(model).len() {
-        let (_, behind) = cut(rest, leaves.width(model, index));
-        rest = behind;
-    }
-    rest
+    put_mark(outbox, sink, mark, number)?;
+    put_leaves(outbox, sink, model, leaves, bits)
+}
+
+/// The bits of a frame behind those of the inputs.
+fn behind_inputs<'a>(model: &Model, bits: &'a [bool]) -> &'a [bool]
+    ensures { result.now ≡ drop (input_width model.now) bits.now }
+{
+    let (_, behind) = cut(bits, Leaves::Inputs.bits(model) as usize);
+    behind
 }
 
 /// Whether a model has a free state.
@@ -179,37 +191,12 @@ fn put_initial<K: Sink>(
     ensures failures { CountsFaults result (K.failures sink.old) (K.failures sink.new) }
 {
     let _items = model.items();
-    put_bytes(outbox, sink, b"#0\n")?;
-    put_leaves(outbox, sink, model, Leaves::Carried, bits)
+    put_part(outbox, sink, model, b"#", 0, Leaves::Carried, bits)
 }
 
-/// Puts the words of the free states in a frame: those of the first stand behind the initial words, and those of a later
-/// one behind a line of their own.
+/// Puts the words of the free states in a frame, whose bits stand behind those of the inputs: those of the first frame stand
+/// behind the initial words, and those of a later one behind a line of their own.
 fn put_free<K: Sink>(
-    outbox: &mut Outbox,
-    sink: &mut K,
-    model: &Model,
-    some_free: bool,
-    frame: u64,
-    bits: &[bool],
-) -> Result<(), DeviceFault>
-    requires { some_free ≡ has_free (shape_of model.now) }
-    ensures puts { Puts result (K.written sink.old) (K.written sink.new) outbox.old outbox.new (text_of_lines (free_piece model.now frame bits.now)) }
-    ensures failures { CountsFaults result (K.failures sink.old) (K.failures sink.new) }
-{
-    let _items = model.items();
-    if frame == 0 {
-        return put_leaves(outbox, sink, model, Leaves::Free, bits);
-    }
-    if !some_free {
-        return Ok(());
-    }
-    put_mark(outbox, sink, b"#", frame)?;
-    put_leaves(outbox, sink, model, Leaves::Free, bits)
-}
-
-/// The same, of all bits of a frame, in which those of the free states stand behind those of the inputs.
-fn put_free_behind<K: Sink>(
     outbox: &mut Outbox,
     sink: &mut K,
     model: &Model,
@@ -222,11 +209,27 @@ fn put_free_behind<K: Sink>(
     ensures failures { CountsFaults result (K.failures sink.old) (K.failures sink.new) }
 {
     let _items = model.items();
-    if frame != 0 && !some_free {
+    if frame == 0 {
+        return put_leaves(
+            outbox,
+            sink,
+            model,
+            Leaves::Free,
+            behind_inputs(model, bits),
+        );
+    }
+    if !some_free {
         return Ok(());
     }
-    let free = behind_leaves(model, Leaves::Inputs, bits);
-    put_free(outbox, sink, model, some_free, frame, free)
+    put_part(
+        outbox,
+        sink,
+        model,
+        b"#",
+        frame,
+        Leaves::Free,
+        behind_inputs(model, bits),
+    )
 }
 
 /// Puts the piece of the bits of a frame.
@@ -243,9 +246,8 @@ fn put_frame<K: Sink>(
     ensures failures { CountsFaults result (K.failures sink.old) (K.failures sink.new) }
 {
     let _items = model.items();
-    put_free_behind(outbox, sink, model, some_free, frame, bits)?;
-    put_mark(outbox, sink, b"@", frame)?;
-    put_leaves(outbox, sink, model, Leaves::Inputs, bits)
+    put_free(outbox, sink, model, some_free, frame, bits)?;
+    put_part(outbox, sink, model, b"@", frame, Leaves::Inputs, bits)
 }
 
 /// Puts the piece of a line in the place of a frame, which may be the end.

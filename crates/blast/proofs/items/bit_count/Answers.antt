@@ -1,5 +1,5 @@
 use Rattle.std.proofs.Common.{ℕ, Option, unwrap_or, ap, ◌∙◌}
-use Rattle.blast.proofs.NameLemmas.{bits_of-at}
+use Rattle.btor2.proofs.LeafLemmas.{bits_of-at}
 use Rattle.blast.proofs.items.bit_count.Goals as goal
 
 pub returns-in-Some-clause-value : goal.returns-in-Some-clause-value

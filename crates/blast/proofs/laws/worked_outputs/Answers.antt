@@ -1,12 +1,12 @@
-use Rattle.std.proofs.Common.{ℕ, ◌≤◌, [], ◌∷◌, codes, refl, rules, arith}
+use Rattle.std.proofs.Common.{[], ◌∷◌, codes, refl, rules, arith}
 use Rattle.std.specs.Fmt.{digits}
 use Rattle.std.specs.List.Sorted.{IsStrictlySortedBy}
 use Rattle.std.proofs.lemmas.List.Elements.{All-nil, All-cons}
 use Rattle.btor2.specs.Check.{refusal, id_is_out_of_range, id_is_taken, sort_is_missing, operand_is_missing, state_is_none, width_is_out_of_range, widths_differ, init_is_not_constant, is_second_init, is_second_next, slice_is_out_of_range, constant_does_not_fit, justice_is_empty}
 use Rattle.aiger.specs.declared.circuit.Section.TheVariants as section
-use Rattle.aiger.specs.Circuit.{IsName, IsNamed, HasFew, HasDefined, net}
+use Rattle.aiger.specs.Circuit.{IsNamed, HasFew, HasDefined, net}
 use Rattle.blast.specs.Worked.{inverter_circuit, keeper_circuit}
-use Rattle.blast.proofs.WorkedLowering.{inverter_lowered, keeper_lowered}
+use Rattle.blast.proofs.WorkedLowering.{inverter_lowered, keeper_lowered, bit_is_name}
 use Rattle.blast.proofs.laws.worked_outputs.Goals as goal
 
 pub returns-clause-inverter_is_model : goal.returns-clause-inverter_is_model
@@ -17,26 +17,15 @@ pub returns-clause-keeper_is_model : goal.returns-clause-keeper_is_model
 unfolding refusal id_is_out_of_range id_is_taken sort_is_missing operand_is_missing state_is_none width_is_out_of_range widths_differ init_is_not_constant is_second_init is_second_next slice_is_out_of_range constant_does_not_fit justice_is_empty
 returns-clause-keeper_is_model c = (refl, (refl, (refl, (refl, (refl, (refl, tt))))))
 
--- a name of four bytes
-four_bytes : (a b c d : ℕ) → (32 ≤ a) × (a ≤ 126) → (32 ≤ b) × (b ≤ 126) → (32 ≤ c) × (c ≤ 126) → (32 ≤ d) × (d ≤ 126) → IsName (a ∷ b ∷ c ∷ d ∷ [])
-four_bytes a b c d p q r s =
-    let good : ℕ → Type 0 = λ x. (32 ≤ x) × (x ≤ 126) in
-    record {
-      some = omega arith;
-      short = omega arith;
-      printable = All-cons good a (b ∷ c ∷ d ∷ []) p (All-cons good b (c ∷ d ∷ []) q (All-cons good c (d ∷ []) r (All-cons good d [] s (All-nil good))));
-    }
-
 pub returns-clause-inverter_is_circuit : goal.returns-clause-inverter_is_circuit
 unfolding IsStrictlySortedBy
 returns-clause-inverter_is_circuit c =
     let few : HasFew inverter_circuit = search rules in
     let defined : HasDefined (net inverter_circuit) inverter_circuit = search rules in
-    let bit : (n i : ℕ) → (32 ≤ n) × (n ≤ 126) → (32 ≤ i) × (i ≤ 126) → IsName (n ∷ 91 ∷ i ∷ 93 ∷ []) = λ n i p q. four_bytes n 91 i 93 p (omega arith, omega arith) q (omega arith, omega arith) in
-    let n0 : IsNamed inverter_circuit ((0, 0), codes "x[0]") = record { section = section.Input; is_section = refl; position = omega arith; name = bit 120 48 (omega arith, omega arith) (omega arith, omega arith) } in
-    let n1 : IsNamed inverter_circuit ((0, 1), codes "x[1]") = record { section = section.Input; is_section = refl; position = omega arith; name = bit 120 49 (omega arith, omega arith) (omega arith, omega arith) } in
-    let n2 : IsNamed inverter_circuit ((2, 0), codes "y[0]") = record { section = section.Output; is_section = refl; position = omega arith; name = bit 121 48 (omega arith, omega arith) (omega arith, omega arith) } in
-    let n3 : IsNamed inverter_circuit ((2, 1), codes "y[1]") = record { section = section.Output; is_section = refl; position = omega arith; name = bit 121 49 (omega arith, omega arith) (omega arith, omega arith) } in
+    let n0 : IsNamed inverter_circuit ((0, 0), codes "x[0]") = record { section = section.Input; is_section = refl; position = omega arith; name = bit_is_name 120 48 (omega arith, omega arith) (omega arith, omega arith) } in
+    let n1 : IsNamed inverter_circuit ((0, 1), codes "x[1]") = record { section = section.Input; is_section = refl; position = omega arith; name = bit_is_name 120 49 (omega arith, omega arith) (omega arith, omega arith) } in
+    let n2 : IsNamed inverter_circuit ((2, 0), codes "y[0]") = record { section = section.Output; is_section = refl; position = omega arith; name = bit_is_name 121 48 (omega arith, omega arith) (omega arith, omega arith) } in
+    let n3 : IsNamed inverter_circuit ((2, 1), codes "y[1]") = record { section = section.Output; is_section = refl; position = omega arith; name = bit_is_name 121 49 (omega arith, omega arith) (omega arith, omega arith) } in
     record {
       small = omega arith;
       few = few;
@@ -53,9 +42,8 @@ unfolding IsStrictlySortedBy
 returns-clause-keeper_is_circuit c =
     let few : HasFew keeper_circuit = search rules in
     let defined : HasDefined (net keeper_circuit) keeper_circuit = search rules in
-    let bit : (n i : ℕ) → (32 ≤ n) × (n ≤ 126) → (32 ≤ i) × (i ≤ 126) → IsName (n ∷ 91 ∷ i ∷ 93 ∷ []) = λ n i p q. four_bytes n 91 i 93 p (omega arith, omega arith) q (omega arith, omega arith) in
-    let n0 : IsNamed keeper_circuit ((1, 0), codes "s[0]") = record { section = section.Latch; is_section = refl; position = omega arith; name = bit 115 48 (omega arith, omega arith) (omega arith, omega arith) } in
-    let n1 : IsNamed keeper_circuit ((1, 1), codes "s[1]") = record { section = section.Latch; is_section = refl; position = omega arith; name = bit 115 49 (omega arith, omega arith) (omega arith, omega arith) } in
+    let n0 : IsNamed keeper_circuit ((1, 0), codes "s[0]") = record { section = section.Latch; is_section = refl; position = omega arith; name = bit_is_name 115 48 (omega arith, omega arith) (omega arith, omega arith) } in
+    let n1 : IsNamed keeper_circuit ((1, 1), codes "s[1]") = record { section = section.Latch; is_section = refl; position = omega arith; name = bit_is_name 115 49 (omega arith, omega arith) (omega arith, omega arith) } in
     record {
       small = omega arith;
       few = few;

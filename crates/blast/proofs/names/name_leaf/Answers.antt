@@ -4,12 +4,12 @@ use Rattle.blast.specs.Blocks.{IsBlank}
 use Rattle.blast.proofs.NameLemmas.{length-leaf_names}
 use Rattle.blast.proofs.names.name_leaf.Goals as goal
 
-pub name_word-requires-clause-free : goal.name_word-requires-clause-free
-name_word-requires-clause-free c =
+pub name_bits-requires-clause-free : goal.name_bits-requires-clause-free
+name_bits-requires-clause-free c =
     subst (λ (n : ℕ). IsBlank None c.args.first n (section_names c.args.section c.args.circuit.now)) (length-leaf_names c.args.model.now c.args.item.now ∙ sym c.bit_count-count.ensures.value) c.requires.free
 
-pub name_word-requires-clause-room : goal.name_word-requires-clause-room
-name_word-requires-clause-room c = omega (arith, length-leaf_names c.args.model.now c.args.item.now)
+pub name_bits-requires-clause-room : goal.name_bits-requires-clause-room
+name_bits-requires-clause-room c = omega (arith, length-leaf_names c.args.model.now c.args.item.now)
 
 pub returns-clause-count : goal.returns-clause-count
 returns-clause-count c = c.bit_count-count.ensures.value ∙ sym (length-leaf_names c.args.model.now c.args.item.now)

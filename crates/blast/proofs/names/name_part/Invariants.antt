@@ -7,6 +7,6 @@ use Rattle.blast.proofs.names.name_part.Given as goal
 abbrev pub invariant-loop-k : goal.invariant-loop-k
 invariant-loop-k l =
     record {
-      next : l.next ≡ l.first + reached (names_given l.model l.part) l.model l.list l.k;
-      names : WithItems l.model l.part l.list l.first l.fn.circuit l.circuit l.k;
+      next : l.next ≡ l.first + reached (names_given l.model l.leaves) l.model l.list l.k;
+      names : WithItems l.model l.leaves l.list l.first l.fn.circuit l.circuit l.k;
     }

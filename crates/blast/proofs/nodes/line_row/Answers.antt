@@ -2,8 +2,8 @@ use Rattle.std.proofs.Common.{◌≡◌, true, ap, arith}
 use Rattle.btor2.specs.Items.{is_input, is_state}
 use Rattle.blast.proofs.PlacedRows.{is_plain}
 use Rattle.std.proofs.lemmas.Result.{IfOk-weaker}
-use Rattle.blast.proofs.NodeRows.{UnaryStands-at, BinaryStands-at, MakesRow-input, MakesRow-state, MakesRow-unary, MakesRow-binary, unary_fits, binary_fits}
-use Rattle.blast.proofs.PlacedRows.{row_there, own_wide, UextStands-at, SextStands-at, SliceStands-at, ConcatStands-at, IteStands-at, MakesRow-uext, MakesRow-sext, MakesRow-slice, MakesRow-concat, MakesRow-ite, MakesRow-plain, plain_from, plain_next, ite_fits}
+use Rattle.blast.proofs.NodeRows.{UnaryStands-at, BinaryStands-at, MakesRow-input, MakesRow-state, MakesRow-unary, MakesRow-binary, form_fits}
+use Rattle.blast.proofs.PlacedRows.{row_there, own_wide, UextStands-at, SextStands-at, SliceStands-at, ConcatStands-at, IteStands-at, MakesRow-uext, MakesRow-sext, MakesRow-slice, MakesRow-concat, MakesRow-ite, MakesRow-plain, plain_from, plain_next}
 use Rattle.blast.proofs.nodes.line_row.Goals as goal
 
 pub unary_row-requires-clause-operand : goal.unary_row-requires-clause-operand
@@ -12,7 +12,7 @@ unary_row-requires-clause-operand g c =
 
 pub unary_row-requires-clause-fits : goal.unary_row-requires-clause-fits
 unary_row-requires-clause-fits g c =
-    unary_fits c.args.model.now c.args.place (g.G.Gates.made c.args.gates.now) c.args.table.now c.args.next.now c.args.item.now c.in-Unary.operator c.in-Unary.sort c.in-Unary.operand c.requires.front c.requires.at c.requires.fits c.in-Unary.is
+    form_fits c.args.model.now c.args.place (g.G.Gates.made c.args.gates.now) c.args.table.now c.args.next.now c.args.item.now _ c.requires.front c.requires.at c.requires.fits c.in-Unary.is
 
 pub binary_row-requires-clause-left : goal.binary_row-requires-clause-left
 binary_row-requires-clause-left g c =
@@ -32,7 +32,7 @@ binary_row-requires-clause-of_bits g c =
 
 pub binary_row-requires-clause-fits : goal.binary_row-requires-clause-fits
 binary_row-requires-clause-fits g c =
-    binary_fits c.args.model.now c.args.place (g.G.Gates.made c.args.gates.now) c.args.table.now c.args.next.now c.args.item.now c.in-Binary.operator c.in-Binary.sort c.in-Binary.left c.in-Binary.right c.requires.front c.requires.at c.requires.fits c.in-Binary.is
+    form_fits c.args.model.now c.args.place (g.G.Gates.made c.args.gates.now) c.args.table.now c.args.next.now c.args.item.now _ c.requires.front c.requires.at c.requires.fits c.in-Binary.is
 
 pub input_row-requires-clause-input : goal.input_row-requires-clause-input
 input_row-requires-clause-input g c = ap is_input c.in-Input.is
@@ -74,7 +74,7 @@ pub ite_row-requires-clause-equal : goal.ite_row-requires-clause-equal
 ite_row-requires-clause-equal g c = (IteStands-at c.args.model.now c.args.place (g.G.Gates.made c.args.gates.now) c.args.table.now c.args.next.now c.args.item.now c.in-Ite.sort c.in-Ite.condition c.in-Ite.first c.in-Ite.second c.requires.well_formed c.requires.front c.requires.at c.in-Ite.is).equal
 
 pub ite_row-requires-clause-fits : goal.ite_row-requires-clause-fits
-ite_row-requires-clause-fits g c = ite_fits c.args.model.now c.args.place (g.G.Gates.made c.args.gates.now) c.args.table.now c.args.next.now c.args.item.now c.in-Ite.sort c.in-Ite.condition c.in-Ite.first c.in-Ite.second c.requires.front c.requires.at c.requires.fits c.in-Ite.is
+ite_row-requires-clause-fits g c = form_fits c.args.model.now c.args.place (g.G.Gates.made c.args.gates.now) c.args.table.now c.args.next.now c.args.item.now _ c.requires.front c.requires.at c.requires.fits c.in-Ite.is
 
 pub returns-in-Ite-clause-ok : goal.returns-in-Ite-clause-ok
 returns-in-Ite-clause-ok g c =

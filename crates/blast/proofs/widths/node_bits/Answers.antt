@@ -2,11 +2,12 @@ use Rattle.std.proofs.Common.{◌≡◌, ℕ, Option, Some, None, is_some, unwra
 use Rattle.std.proofs.lemmas.Bool.{false≢true}
 use Rattle.btor2.specs.Items.{node_width, position_of}
 use Rattle.btor2.specs.Lists.{width_at}
-use Rattle.blast.proofs.WidthLemmas.{IsThere-from_position, width_at-position, no_node}
+use Rattle.btor2.proofs.LookUps.{place_below}
+use Rattle.blast.proofs.WidthLemmas.{width_at-position, no_node}
 use Rattle.blast.proofs.widths.node_bits.Goals as goal
 
 pub width_of-requires : goal.width_of-requires
-width_of-requires c = (IsThere-from_position c.args.model.now c.args.id c.in-Some.place (ap (position_of c.args.model.now) (sym c.from.ensures) ∙ sym c.in-Some.ensures)).within
+width_of-requires c = place_below c.args.model.now c.args.id c.in-Some.place (ap (position_of c.args.model.now) (sym c.from.ensures) ∙ sym c.in-Some.ensures)
 
 pub unreachable-requires : goal.unreachable-requires
 unreachable-requires c =

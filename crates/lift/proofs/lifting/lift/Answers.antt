@@ -5,14 +5,12 @@ use Rattle.witness.proofs.FeedLemmas.{if_some_then}
 use Rattle.lift.specs.Lifted.{lifted_text}
 use Rattle.lift.specs.Stands.{Lifts}
 use Rattle.lift.specs.Verdicts.{KeepsVerdict}
-use Rattle.lift.proofs.LiftingLemmas.{first_of_both, second_of_both}
 use Rattle.lift.proofs.lifting.lift.Goals as goal
 
 pub returns-in-Ok-lift_through-clause-judged : goal.returns-in-Ok-lift_through-clause-judged
 returns-in-Ok-lift_through-clause-judged g c =
-    if_some_then _ (λ (text : List ℕ). Lifts c.args.model.now c.args.circuit.now c.lift_through.new.lifter text) (λ (text : List ℕ). BitJudges c.args.circuit.now text c.finish.result) (c.finish.ensures c.args.model.now c.args.circuit.now)
-    (first_of_both _ (λ (text : List ℕ). Lifts c.args.model.now c.args.circuit.now c.lift_through.new.lifter text) (λ (text : List ℕ). Appends (g.K.Sink.written c.args.sink.now) (g.K.Sink.written c.lift_through.new.sink) (lifted_text c.args.model.now c.args.circuit.now text))
-    (c.in-Ok-lift_through.ensures.lifts c.args.model.now c.args.circuit.now c.in-Ok.ensures))
+    if_some_then _ (λ (text : List ℕ). Lifts c.args.model.now c.args.circuit.now c.lift_through.new.lifter text × Appends (g.K.Sink.written c.args.sink.now) (g.K.Sink.written c.lift_through.new.sink) (lifted_text c.args.model.now c.args.circuit.now text))
+    (λ (text : List ℕ). BitJudges c.args.circuit.now text c.finish.result) (λ text both. c.finish.ensures c.args.model.now c.args.circuit.now text both.0) (c.in-Ok-lift_through.ensures.lifts c.args.model.now c.args.circuit.now c.in-Ok.ensures)
 
 pub returns-in-Ok-lift_through-clause-kept : goal.returns-in-Ok-lift_through-clause-kept
 returns-in-Ok-lift_through-clause-kept g c =
@@ -21,8 +19,8 @@ returns-in-Ok-lift_through-clause-kept g c =
 
 pub returns-in-Ok-lift_through-clause-written : goal.returns-in-Ok-lift_through-clause-written
 returns-in-Ok-lift_through-clause-written g c =
-    second_of_both _ (λ (text : List ℕ). Lifts c.args.model.now c.args.circuit.now c.lift_through.new.lifter text) (λ (text : List ℕ). Appends (g.K.Sink.written c.args.sink.now) (g.K.Sink.written c.lift_through.new.sink) (lifted_text c.args.model.now c.args.circuit.now text))
-    (c.in-Ok-lift_through.ensures.lifts c.args.model.now c.args.circuit.now c.in-Ok.ensures)
+    if_some_then _ (λ (text : List ℕ). Lifts c.args.model.now c.args.circuit.now c.lift_through.new.lifter text × Appends (g.K.Sink.written c.args.sink.now) (g.K.Sink.written c.lift_through.new.sink) (lifted_text c.args.model.now c.args.circuit.now text))
+    (λ (text : List ℕ). Appends (g.K.Sink.written c.args.sink.now) (g.K.Sink.written c.lift_through.new.sink) (lifted_text c.args.model.now c.args.circuit.now text)) (λ text both. both.1) (c.in-Ok-lift_through.ensures.lifts c.args.model.now c.args.circuit.now c.in-Ok.ensures)
 
 pub returns-in-Err-lift_through-clause-beginning : goal.returns-in-Err-lift_through-clause-beginning
 returns-in-Err-lift_through-clause-beginning g c = c.in-Err-lift_through.ensures.lifts c.args.model.now c.args.circuit.now c.in-Ok.ensures
