@@ -1,7 +1,7 @@
 //! The latches of an engine form.
 ghost use Rattle.std.specs.Prelude.{◌≡◌, ◌<◌, ◌≤◌, ◌++◌, suc, true, length, map, drop, replicate, All, if◌then◌else◌};
 ghost use Rattle.aiger.specs.declared.circuit.Reset.TheVariants.{Zero};
-ghost use Rattle.aiger.specs.Literal.{variable};
+ghost use Rattle.aiger.specs.Literal.{variable, negation};
 ghost use Rattle.aiger.specs.Net.{IsDefined, variables};
 ghost use Rattle.aiger.specs.Circuit.{IsCircuit, net, with_latch, fresh_latch};
 ghost use Rattle.engine.specs.EngineForm.{latch_count};
@@ -58,6 +58,13 @@ fn set_where(wanted: bool, k: usize, next: Lit, circuit: &mut Circuit)
     }
 }
 
+/// What the latch takes that says that a constraint was 0, from what says that all held so far.
+fn broken(met: Lit) -> Lit
+    ensures { result ≡ negation met }
+{
+    met.not()
+}
+
 /// Sets the latches of an engine form: those that stand for the circuit's, then the one that is 0 in the first frame alone
 /// and the one that says that a constraint was 0, where they are wanted.
 ///
@@ -82,10 +89,6 @@ pub(crate) fn set_latches(
     set_kept(table, circuit.latches(), form);
     set_where(sizes.has_free, own, Lit::TRUE, form);
     // the one on constraints is the last one
-    set_where(
-        sizes.has_constraint,
-        sizes.latches as usize - 1,
-        met.not(),
-        form,
-    );
+    let last = sizes.latches as usize - 1;
+    set_where(sizes.has_constraint, last, broken(met), form);
 }

@@ -3,13 +3,24 @@ ghost use Rattle.std.specs.Prelude.{◌≡◌, ℕ, ◌+◌, ◌<◌, ◌&&◌, 
 ghost use Rattle.std.specs.List.{list_all};
 ghost use Rattle.aiger.specs.Literal.{variable, literal_value};
 ghost use Rattle.aiger.specs.Net.{IsDefined};
-ghost use Rattle.gates.specs.Made.{MakesLiteral, Refuses};
+ghost use Rattle.gates.specs.Made.{MakesAnd, MakesLiteral, Refuses};
 ghost use Rattle.engine.specs.Reads.{literal_of, BadsRead};
 
 use crate::variables::literal_of;
 use aiger::Lit;
 use gates::{GateFault, Gates};
 use std::alloc::Global;
+
+/// The literal that is true where another one is and a constraint holds.
+fn held<G: Gates>(g: &mut G, table: &[Lit], constraint: Lit, met: Lit) -> Result<Lit, GateFault>
+    requires inside { variable constraint < length table.now }
+    requires defined { All (IsDefined (G.made g.old)) table.now }
+    requires met { IsDefined (G.made g.old) met }
+    ensures ok { IfOk result (MakesAnd (G.made g.old) (G.made g.new) met (literal_of table.now constraint)) }
+    ensures refused { IfErr result (Refuses (G.made g.old) (G.made g.new) 1) }
+{
+    g.and(met, literal_of(table, constraint))
+}
 
 /// The literal that is true where another one is and all constraints hold.
 pub(crate) fn all_hold<G: Gates>(
@@ -26,7 +37,7 @@ pub(crate) fn all_hold<G: Gates>(
 {
     let mut met = met;
     for constraint in constraints {
-        met = g.and(met, literal_of(table, *constraint))?;
+        met = held(g, table, *constraint, met)?;
     }
     Ok(met)
 }

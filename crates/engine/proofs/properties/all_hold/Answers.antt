@@ -1,4 +1,4 @@
-use Rattle.std.proofs.Common.{◌≡◌, ℕ, ◌&&◌, List, length, take, ap, arith}
+use Rattle.std.proofs.Common.{◌≡◌, ℕ, ◌&&◌, List, length, take, ap, refl, arith}
 use Rattle.std.proofs.lemmas.List.{take_all}
 use Rattle.std.specs.List.{list_all}
 use Rattle.aiger.specs.Literal.{literal_value}
@@ -9,7 +9,7 @@ use Rattle.engine.proofs.properties.all_hold.Goals as goal
 
 pub loop-constraint-preserved : goal.loop-constraint-preserved
 loop-constraint-preserved g c =
-    hold-more _ _ _ c.args.table.now c.args.constraints.now c.args.met c.loop-constraint.constraint-index c.constraint-item.result c.loop-constraint.met c.literal_of.result c.in_ok-met.met (omega arith) (cc) c.literal_of.ensures c.loop-constraint.invariant c.in_ok-met.ensures.ok
+    hold-more _ _ _ c.args.table.now c.args.constraints.now c.args.met c.loop-constraint.constraint-index c.constraint-item.result c.loop-constraint.met (literal_of c.args.table.now c.constraint-item.result) c.in_ok-met.met (omega arith) (cc) refl c.loop-constraint.invariant c.in_ok-met.ensures.ok
 
 pub returns-clause-ok : goal.returns-clause-ok
 returns-clause-ok g c =
