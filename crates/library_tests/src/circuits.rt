@@ -58,7 +58,7 @@ pub(crate) fn done(alloc: Global, circuit: &mut Circuit, call: Call) -> Result<(
 }
 
 /// The circuit of some inputs and latches and some calls.
-fn circuit_of(
+pub(crate) fn circuit_of(
     alloc: Global,
     inputs: u32,
     latches: u32,

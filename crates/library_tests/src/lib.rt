@@ -8,6 +8,8 @@ mod circuits;
 #[cfg(test)]
 mod devices;
 #[cfg(test)]
+mod engine_forms;
+#[cfg(test)]
 mod gate_makers;
 #[cfg(test)]
 mod models;

@@ -1,0 +1,7 @@
+mod AssemblyLemmas
+mod FormLemmas
+mod LatchLemmas
+mod MadeLemmas
+mod RiseLemmas
+mod TableLemmas
+mod WorkedLemmas

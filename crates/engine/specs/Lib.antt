@@ -1,0 +1,5 @@
+pub mod EngineForm
+pub mod Faults
+pub mod Reads
+pub mod Refusal
+pub mod Worked

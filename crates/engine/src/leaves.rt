@@ -1,0 +1,95 @@
+//! The literals that stand for false, and for the inputs and latches of a circuit.
+ghost use Rattle.std.specs.Prelude.{◌≡◌, ℕ, ◌+◌, ◌*◌, ◌<◌, ◌≤◌, ◌++◌, List, length, map, All, IfOk, IfErr, OnOk};
+ghost use Rattle.std.specs.List.{range_with_len};
+ghost use Rattle.aiger.specs.Literal.{literal_value};
+ghost use Rattle.aiger.specs.Limits.{greatest_count};
+ghost use Rattle.aiger.specs.Net.{IsDefined, variables};
+ghost use Rattle.gates.specs.Made.{MakesLiteral, Refuses};
+ghost use Rattle.engine.specs.EngineForm.{taken_bits, free_count};
+ghost use Rattle.engine.specs.Reads.{latch_value, LatchesRead};
+
+use crate::sizes::taken_bits;
+use aiger::{Latch, Lit, Reset};
+use gates::{GateFault, Gates, mux};
+use std::alloc::Global;
+
+/// The literal of a variable.
+pub(crate) fn variable_literal(variable: u32) -> Lit
+    requires { variable ≤ greatest_count }
+    ensures { result ≡ 2 * variable }
+{
+    Lit::new(2 * variable)
+}
+
+/// The literals that stand for false and the inputs: their own.
+///
+/// Error: `NoMemory`.
+pub(crate) fn input_literals(alloc: Global, inputs: u32) -> Result<Vec<Lit>, GateFault>
+    requires { inputs ≤ greatest_count }
+    ensures ok { IfOk result (λ table. table.items ≡ map (λ k. 2 * k) (range_with_len 0 (inputs + 1))) }
+    ensures memory { IfErr result (λ e. e ≡ GateFault.NoMemory) }
+{
+    let mut table = Vec::new(alloc);
+    for k in 0..inputs + 1 {
+        if table.push(variable_literal(k)).is_err() {
+            return Err(GateFault::NoMemory);
+        }
+    }
+    Ok(table)
+}
+
+/// The literal that stands for a latch: what is kept of it, or its negation; where it has no initial value the input in the
+/// first frame, and then what is kept of it.
+fn latch_literal<G: Gates>(
+    g: &mut G,
+    reset: Reset,
+    own: Lit,
+    input: Lit,
+    started: Lit,
+) -> Result<Lit, GateFault>
+    requires own { IsDefined (G.made g.old) own }
+    requires input { IsDefined (G.made g.old) input }
+    requires started { IsDefined (G.made g.old) started }
+    ensures ok { IfOk result (MakesLiteral (G.made g.old) (G.made g.new) (3 * taken_bits reset) (λ v. latch_value reset (literal_value v own) (literal_value v input) (literal_value v started))) }
+    ensures refused { IfErr result (Refuses (G.made g.old) (G.made g.new) (3 * taken_bits reset)) }
+{
+    match reset {
+        Reset::Zero => Ok(own),
+        Reset::One => Ok(own.not()),
+        Reset::Free => mux(g, started, own, input),
+    }
+}
+
+/// Adds the literals that stand for the latches, whose kept bits and given bits stand from two variables on.
+pub(crate) fn push_latches<G: Gates>(
+    g: &mut G,
+    latches: &[Latch],
+    own: u32,
+    input: u32,
+    started: Lit,
+    table: &mut Vec<Lit>,
+) -> Result<(), GateFault>
+    requires some { 0 < input }
+    requires inputs { input + free_count latches.now ≤ own }
+    requires own { own + length latches.now ≤ variables (G.made g.old) + 1 }
+    requires small { variables (G.made g.old) ≤ greatest_count }
+    requires started { IsDefined (G.made g.old) started }
+    ensures ok { OnOk result ((more : List ℕ) × (table.new.items ≡ table.old.items ++ more) × LatchesRead (G.made g.old) (G.made g.new) (3 * free_count latches.now) latches.now own input started more) }
+    ensures refused { IfErr result (Refuses (G.made g.old) (G.made g.new) (3 * free_count latches.now)) }
+{
+    let mut input = input;
+    for (j, latch) in latches.iter().enumerate() {
+        let lit = latch_literal(
+            g,
+            latch.reset,
+            variable_literal(own + j as u32),
+            variable_literal(input),
+            started,
+        )?;
+        if table.push(lit).is_err() {
+            return Err(GateFault::NoMemory);
+        }
+        input += taken_bits(latch.reset);
+    }
+    Ok(())
+}
