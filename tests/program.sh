@@ -124,6 +124,84 @@ expect_line "help" out "  2  the input is refused"
 expect "version" 0 ""
 expect_line "version" out "hwtool 0.1.0"
 
+# refusals are explained as the tables of docs/REFUSALS.md say, which may have `|` in a cell as `\|`
+"$program" explain >out 2>err; status=$?
+expect "explain" 0 ""
+sed 's/\\|/\x01/g' "$top/docs/REFUSALS.md" | awk -F ' *[|] *' '
+    /^## / { part = substr($0, 4) }
+    /^[|] [0-9]+ [A-Za-z]+ [|]/ { print $2 " (" part ")\n  when: " $3 "\n  do: " $4 }' | tr '\001' '|' >tables
+count=$((count + 1))
+if ! diff tables out >differences; then
+    echo "explain: docs/REFUSALS.md says otherwise"
+    cat differences
+    failed=$((failed + 1))
+fi
+"$program" explain 20 >out 2>err; status=$?
+expect "explain 20" 0 ""
+expect_line "explain 20" out "20 BadToken (Texts of models)"
+"$program" explain frobnicate >out 2>err; status=$?
+expect "explain of no refusal" 4 "words: frobnicate is no number and no name of a refusal; hwtool explain tells all"
+
+# results that go to a file, which is there only when all of one is written
+"$program" lower -o result model.btor2 >out 2>err; status=$?
+expect "lower -o" 0 ""
+expect_line "lower -o" result "aag 1 0 1 0 0 1"
+expect_nothing "lower -o" out
+"$program" lift --output result model.btor2 bits >out 2>err; status=$?
+expect "lift --output" 0 "accepted 2 frames"
+expect_line "lift --output" result "sat"
+echo "1 sort bitvec 65" | "$program" lower -o result - >out 2>err; status=$?
+expect "lower -o of a refused model" 2 "-: line 1: 5 WidthOutOfRange"
+expect_line "lower -o of a refused model" result "sat"
+"$program" show -o result missing.btor2 >out 2>err; status=$?
+expect "show -o of a missing file" 3 "missing.btor2: device"
+expect_line "show -o of a missing file" result "sat"
+"$program" lift -o result model.btor2 - <&- >out 2>err; status=$?
+expect "lift -o that is cut off" 3 "-: device"
+expect_line "lift -o that is cut off" result "sat"
+"$program" show -o missing/result model.btor2 >out 2>err; status=$?
+expect "show -o in no folder" 3 "output: device"
+"$program" show -o "$folder" model.btor2 >out 2>err; status=$?
+expect "show -o onto a folder" 3 "output: device"
+"$program" show -o /dev/full model.btor2 >out 2>err; status=$?
+expect "show -o onto a full device" 3 "output: device"
+[ -c /dev/full ] || echo "show -o onto a full device: it is none any more"
+"$program" show -o - model.btor2 >out 2>err; status=$?
+expect "show -o -" 0 ""
+expect_line "show -o -" out "7 bad 3"
+ls result.* ./-* >left 2>/dev/null
+expect_nothing "parts of results" left
+
+# terminals
+if command -v script >/dev/null; then
+    script -qec "'$program' lower --binary model.btor2" /dev/null </dev/null >out 2>&1; status=$?
+    tr -d '\r' <out >lines
+    : >err
+    expect "lower --binary to a terminal" 4 ""
+    expect_line "lower --binary to a terminal" lines \
+        "words: a binary circuit goes to no terminal: redirect standard output, or give -o FILE"
+    script -qec "'$program' lower --binary -o result model.btor2" /dev/null </dev/null >out 2>&1; status=$?
+    expect "lower --binary -o at a terminal" 0 ""
+    expect_line "lower --binary -o at a terminal" result "aig 1 0 1 0 0 1"
+    script -qec "'$program'" /dev/null </dev/null >out 2>&1; status=$?
+    tr -d '\r' <out >lines
+    expect "no words at a terminal" 0 ""
+    expect_line "no words at a terminal" lines "Usage: hwtool <COMMAND>"
+    script -qec "'$program' lower model.btor2" /dev/null </dev/null >out 2>&1; status=$?
+    tr -d '\r' <out >lines
+    expect "lower to a terminal" 0 ""
+    expect_line "lower to a terminal" lines "aag 1 0 1 0 0 1"
+fi
+
+# a model of a hundred kilobytes whose circuit would have more than 2^30 variables by its bound
+{
+    printf '1 sort bitvec 64\n2 sort bitvec 1\n3 input 1\n4 input 1\n'
+    seq 5 6548 | sed 's/$/ smulo 2 3 4/'
+} >big.btor2
+"$program" lower big.btor2 >out 2>err; status=$?
+expect "a model that is too big" 2 "big.btor2: 93 TooBig"
+expect_nothing "a model that is too big" out
+
 # full and closed devices
 for words in "--help" "--version" "lower model.btor2" "lower --binary model.btor2" "show model.btor2" "cost model.btor2" \
     "aig-convert circuit" "aig-convert --binary circuit" "check-btor model.btor2 witness" "check-aig circuit bits" \

@@ -201,8 +201,8 @@ def functions(text, start, end):
         if not found:
             return
         place = found.end()
-        # the signature ends at a clause, at the body or at a semicolon
-        stop = re.compile(r"\b(?:requires|ensures)\b|[{;]").search(text, place, end)
+        # the signature ends at a clause, at the body or at a semicolon that is none of an array's type
+        stop = re.compile(r"\b(?:requires|ensures)\b|\{|;(?! \w+\])").search(text, place, end)
         place, clauses = stop.start(), []
         while True:
             clause = CLAUSE.match(text, place, end)

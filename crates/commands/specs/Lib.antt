@@ -1,6 +1,8 @@
 -- What commands ask for, and what the exit statuses say.
 pub mod Conversions
 pub mod Done
+pub mod Explanations
+pub mod Files
 pub mod Orders
 pub mod Refusals
 pub mod Statuses

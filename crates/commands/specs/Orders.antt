@@ -1,12 +1,28 @@
--- What a command asks of standard input.
-use Rattle.std.specs.Prelude.{ℕ, Bool, false, ◌&&◌, List, Option, Some, None, codes}
+-- What a command asks of standard input, and what the file of a result is called.
+use Rattle.std.specs.Prelude.{ℕ, Bool, true, false, ◌&&◌, List, ◌++◌, Option, Some, None, codes, decimal}
 use Rattle.std.specs.Str.{bytes_eq}
+use Rattle.aigertext.specs.declared.forms.Form.{Form}
+use Rattle.aigertext.specs.declared.forms.Form.TheVariants as form
 
 -- the name of a file stands for standard input
 abbrev pub is_standard_input : List ℕ → Bool
 is_standard_input name = bytes_eq name (codes "-")
 
+-- there is a name of a file, and it stands for standard input
+abbrev pub names_standard_input : Option (List ℕ) → Bool
+names_standard_input None = false
+names_standard_input (Some name) = is_standard_input name
+
 -- both files of a command are standard input
 abbrev pub reads_input_twice : List ℕ → Option (List ℕ) → Bool
 reads_input_twice first None = false
 reads_input_twice first (Some second) = is_standard_input first && is_standard_input second
+
+-- the name that a result has while it is written: that of its file and the number of a process
+abbrev pub part_name : List ℕ → ℕ → List ℕ
+part_name name process = name ++ (codes "." ++ (decimal process ++ codes ".part"))
+
+-- the binary form of a circuit goes to standard output
+abbrev pub shows_binary : Form → Option (List ℕ) → Bool
+shows_binary form.Binary None = true
+shows_binary _ _ = false

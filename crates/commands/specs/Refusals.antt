@@ -1,6 +1,5 @@
 -- What a command says that is not done: the fault that its input has, or which file or stream failed, and the line that tells it.
-use Rattle.std.specs.Prelude.{◌≡◌, ℕ, List, [], ◌∷◌, ◌++◌, Option, Some, IfSome, Result, Err, unwrap_or, option_map, codes, decimal}
-use Rattle.base.specs.Device.{HasRisen}
+use Rattle.std.specs.Prelude.{◌≡◌, ℕ, List, [], ◌++◌, Option, Some, IfSome, unwrap_or, codes, decimal}
 use Rattle.btor2.specs.declared.item.Item.{Item}
 use Rattle.btor2.specs.Check.{IsWellFormed}
 use Rattle.btor2.specs.Lists.{first_init_without_next}
@@ -13,7 +12,8 @@ use Rattle.blast.specs.declared.fault.LowerFault.TheVariants as lower
 use Rattle.blast.specs.Faults.{lower_number, lower_name}
 use Rattle.blast.specs.Refusal.{lowering_refusal}
 use Rattle.vectors.specs.Vectors.{IsFirstBad}
-use Rattle.commands.specs.declared.orders.Order.{Order}
+use Rattle.witness.specs.Answers.{judge_number, judge_name}
+use Rattle.witness.specs.declared.fault.JudgeFault.TheVariants as judge
 use Rattle.commands.specs.declared.orders.Task.{Task}
 use Rattle.commands.specs.declared.orders.Task.TheVariants as task
 use Rattle.commands.specs.declared.refusals.Device.{Device}
@@ -38,6 +38,10 @@ at counted n says = counted ++ (decimal n ++ (codes ": " ++ says))
 abbrev pub numbered_name : ℕ → List ℕ → List ℕ
 numbered_name number name = decimal number ++ (codes " " ++ (name ++ codes "\n"))
 
+-- the line that tells a number and a name of an item of a file
+abbrev pub item_line : List ℕ → ℕ → ℕ → List ℕ → List ℕ
+item_line file id number name = about file (at (codes "item ") id (numbered_name number name))
+
 -- what is said of the item that a lowering is refused for, or of the model as a whole
 abbrev pub at_item : LowerFault → List ℕ → List ℕ
 at_item (lower.Justice id) says = at (codes "item ") id says
@@ -50,7 +54,7 @@ abbrev pub fault_line : List ℕ → Fault → List ℕ
 fault_line file (fault.Model e) = about file (at (codes "line ") e.line (numbered_name (printed_number e.why) (name_of e.why)))
 fault_line file (fault.Circuit e) = about file (at (codes "byte ") e.place (numbered_name (why_number e.why) (why_name e.why)))
 fault_line file (fault.Lowering e) = about file (at_item e (numbered_name (lower_number e) (lower_name e)))
-fault_line file (fault.NoNext id) = about file (at (codes "item ") id (codes "70 NoNext\n"))
+fault_line file (fault.NoNext id) = item_line file id (judge_number (judge.NoNext id)) (judge_name (judge.NoNext id))
 fault_line file (fault.Vector n) = about file (at (codes "line ") n (codes "bad vector\n"))
 
 -- the name by which a file or a stream is told

@@ -3,7 +3,9 @@
 ghost use Rattle.std.specs.Prelude.{◌≡◌, IfOk, false, option_map};
 ghost use Rattle.commands.specs.Orders.{reads_input_twice};
 
-use crate::orders::{Order, STANDARD_INPUT, Stop, Task};
+use crate::explaining::explain;
+use crate::explanations::refusal_table;
+use crate::orders::{Order, STANDARD_INPUT, STANDARD_OUTPUT, Stop, Task};
 use aigertext::Form;
 use clap::error::ErrorKind;
 use clap::{Arg, ArgAction, ArgMatches, Command, Error};
@@ -19,7 +21,14 @@ const PROGRAM: &str = "hwtool";
 const VERSION: &str = "0.1.0";
 
 /// The end of each help.
-const STATUSES: &str = "The file - is standard input.
+const HELP_END: &str = "The file - is standard input.
+
+hwtool explain tells what a refusal means and what to do about it, as in hwtool explain 20.
+
+Limits: words of 1 to 64 bits; ids up to 4,294,967,295; 1,048,576 items and no arrays in a model; symbols of 1 to 255
+bytes from 33 to 126; 2^30 variables of a circuit, with names of 1 to 300 bytes; 2^62 lines of a witness.
+
+Formats: docs/FORMATS.md describes them, after \"Btor2, BtorMC and Boolector 3.0\" and \"AIGER 1.9 and Beyond\".
 
 Exit statuses:
   0  the command is done, the witness is accepted, all vectors agree, or help or the version is shown
@@ -45,6 +54,25 @@ const BINARY: &str = "binary";
 /// The name of the second file of a command that has one.
 const WITNESS: &str = "WITNESS";
 
+/// The name of the option for the file that a result goes to.
+const OUTPUT: &str = "output";
+
+/// The word that asks what refusals mean, and the name of the number or the name that may stand behind it.
+const EXPLAIN: &str = "explain";
+
+const REFUSAL: &str = "REFUSAL";
+
+/// What a command writes.
+#[derive(Clone, Copy, PartialEq, Eq)]
+enum Product {
+    /// A line or a few.
+    Lines,
+    /// A text.
+    Text,
+    /// A circuit, in one of two forms.
+    Circuit,
+}
+
 /// A command of this program: its word, its task, what help says of it, and its files.
 struct Row {
     word: &'static str,
@@ -54,8 +82,8 @@ struct Row {
     file: (&'static str, &'static str),
     /// The second file, where the command has one.
     witness: Option<&'static str>,
-    /// Whether flags choose the form of a circuit that is written.
-    has_forms: bool,
+    /// What is written.
+    product: Product,
 }
 
 /// The first file of commands on models, and what help says of it.
@@ -81,7 +109,7 @@ static ROWS: [Row; 8] = [
         about: "Lower a BTOR2 model to an AIGER circuit on standard output",
         file: MODEL,
         witness: None,
-        has_forms: true,
+        product: Product::Circuit,
     },
     Row {
         word: "check-btor",
@@ -89,7 +117,7 @@ static ROWS: [Row; 8] = [
         about: "Judge a BTOR2 witness over a model",
         file: MODEL,
         witness: Some("The file of a BTOR2 witness, or - for standard input"),
-        has_forms: false,
+        product: Product::Lines,
     },
     Row {
         word: "show",
@@ -97,7 +125,7 @@ static ROWS: [Row; 8] = [
         about: "Write a BTOR2 model in the one spelling that this program gives",
         file: MODEL,
         witness: None,
-        has_forms: false,
+        product: Product::Text,
     },
     Row {
         word: "cost",
@@ -105,7 +133,7 @@ static ROWS: [Row; 8] = [
         about: "Tell how many gates and variables the circuit of a BTOR2 model has at most",
         file: MODEL,
         witness: None,
-        has_forms: false,
+        product: Product::Lines,
     },
     Row {
         word: "aig-convert",
@@ -113,7 +141,7 @@ static ROWS: [Row; 8] = [
         about: "Write an AIGER circuit of either form in one, its variables numbered as in the binary form",
         file: CIRCUIT,
         witness: None,
-        has_forms: true,
+        product: Product::Circuit,
     },
     Row {
         word: "check-aig",
@@ -121,7 +149,7 @@ static ROWS: [Row; 8] = [
         about: "Judge an AIGER witness over a circuit",
         file: CIRCUIT,
         witness: Some(AIGER_WITNESS),
-        has_forms: false,
+        product: Product::Lines,
     },
     Row {
         word: "lift",
@@ -129,7 +157,7 @@ static ROWS: [Row; 8] = [
         about: "Lift an AIGER witness of a model's circuit to a BTOR2 witness on standard output",
         file: MODEL,
         witness: Some(AIGER_WITNESS),
-        has_forms: false,
+        product: Product::Text,
     },
     Row {
         word: "vectors",
@@ -137,7 +165,7 @@ static ROWS: [Row; 8] = [
         about: "Compare what operators give, in the evaluator and in a circuit, with lines of vectors",
         file: ("FILE", "The file of vector lines, or - for standard input"),
         witness: None,
-        has_forms: false,
+        product: Product::Lines,
     },
 ];
 
@@ -157,17 +185,32 @@ fn form_flag<'a>(alloc: Global, form: &'a str, help: &'a str) -> Arg<'a> {
         .help(help)
 }
 
+/// The option for the file that a result goes to.
+fn output_option<'a>(alloc: Global) -> Arg<'a> {
+    Arg::new(alloc, OUTPUT)
+        .short('o')
+        .long(OUTPUT)
+        .value_name("FILE")
+        .action(ArgAction::Set)
+        .help(
+            "Write to this file, which is made or replaced only when all is written; - is standard output",
+        )
+}
+
 /// The words of a command.
 fn command_of<'a>(alloc: Global, row: &'a Row) -> Result<Command<'a>, AllocError> {
     let (name, help) = row.file;
     let mut command = Command::new(alloc, row.word)
         .about(row.about)
-        .after_help(STATUSES)
+        .after_help(HELP_END)
         .arg(file_name(alloc, name, help))?;
     if let Some(help) = row.witness {
         command = command.arg(file_name(alloc, WITNESS, help))?;
     }
-    if row.has_forms {
+    if row.product != Product::Lines {
+        command = command.arg(output_option(alloc))?;
+    }
+    if row.product == Product::Circuit {
         command = command
             .arg(form_flag(alloc, ASCII, "Write the ascii form (the default)"))?
             .arg(form_flag(alloc, BINARY, "Write the binary form"))?;
@@ -175,12 +218,22 @@ fn command_of<'a>(alloc: Global, row: &'a Row) -> Result<Command<'a>, AllocError
     Ok(command)
 }
 
+/// The words that ask what refusals mean.
+fn explain_command<'a>(alloc: Global) -> Result<Command<'a>, AllocError> {
+    let refusal = Arg::new(alloc, REFUSAL).action(ArgAction::Set).help(
+        "The number or the name of a refusal; without one all are told",
+    );
+    Command::new(alloc, EXPLAIN)
+        .about("Tell what a refusal means and what to do about it")
+        .arg(refusal)
+}
+
 /// The commands and their words.
 fn commands<'a>(alloc: Global) -> Result<Command<'a>, AllocError> {
     let mut commands = Command::new(alloc, PROGRAM)
         .bin_name(PROGRAM)?
         .version(VERSION)
-        .after_help(STATUSES)
+        .after_help(HELP_END)
         .about(
             "Word-level BTOR2 models to AIGER circuits, and their witnesses. Without any word: lower standard input.",
         )
@@ -188,12 +241,20 @@ fn commands<'a>(alloc: Global) -> Result<Command<'a>, AllocError> {
     for row in &ROWS {
         commands = commands.subcommand(command_of(alloc, row)?)?;
     }
-    Ok(commands)
+    commands.subcommand(explain_command(alloc)?)
 }
 
 /// The row of a command's word.
 fn row_of(word: &str) -> Option<&'static Row> {
     ROWS.iter().find(|row| row.word == word)
+}
+
+/// The name of the file that a result goes to. Without one, and where it is `-`, it goes to standard output.
+fn output_of<'a>(words: &ArgMatches<'a>) -> Option<&'a str> {
+    match words.get_str(OUTPUT) {
+        Some(STANDARD_OUTPUT) => None,
+        name => name,
+    }
 }
 
 /// The order that matches name.
@@ -210,6 +271,7 @@ fn order_of<'a>(matches: &ArgMatches<'a>) -> Option<Order<'a>> {
         },
         first: words.get_str(name)?,
         second: words.get_str(WITNESS),
+        output: output_of(words),
     })
 }
 
@@ -232,10 +294,25 @@ fn reads_input_twice(order: &Order<'_>) -> bool
 }
 
 /// What stands in place of a command where words are refused with a line of this program's own.
-fn refused(alloc: Global, line: &str) -> Stop {
+pub(crate) fn refused(alloc: Global, line: &str) -> Stop {
     match String::from_str(alloc, line) {
         Ok(text) => Stop::refused(text),
         Err(_) => Stop::no_memory(alloc),
+    }
+}
+
+/// The order that some words give, or what stands in its place.
+fn order_or_stop<'a>(alloc: Global, matches: &ArgMatches<'a>) -> Result<Order<'a>, Stop>
+    ensures { IfOk result (λ order. reads_input_twice order.first.now (option_map (λ name. name.now) order.second) ≡ false) }
+{
+    if let Some((EXPLAIN, words)) = matches.subcommand() {
+        return Err(explain(alloc, &refusal_table(), words.get_str(REFUSAL)));
+    }
+    match order_of(matches) {
+        Some(_) if chooses_both_forms(matches) => Err(refused(alloc, TWO_FORMS)),
+        Some(order) if reads_input_twice(&order) => Err(refused(alloc, INPUT_TWICE)),
+        Some(order) => Ok(order),
+        None => Err(Stop::no_memory(alloc)),
     }
 }
 
@@ -269,8 +346,9 @@ pub fn given_words<R: Env + AllocGlobal>(rt: &R) -> Result<Vec<String>, Stop> {
 
 /// Reads the words after the program's name. Without any it is `lower` on standard input.
 ///
-/// Errors: a `Stop` with status 0 and the text of help or of the version; with 4 where the words are no command, also
-/// where they name standard input twice, which can be read once, or choose both forms of a circuit; with 3 where there was no memory.
+/// Errors: a `Stop` with status 0 and the text of help, of the version or of what refusals mean; with 4 where the words
+/// are no command, also where they name standard input twice, which can be read once, or choose both forms of a circuit;
+/// with 3 where there was no memory.
 pub fn order<'a, S: AsStr>(alloc: Global, words: &'a [S]) -> Result<Order<'a>, Stop>
     // standard input is read once
     ensures { IfOk result (λ order. reads_input_twice order.first.now (option_map (λ name. name.now) order.second) ≡ false) }
@@ -281,6 +359,7 @@ pub fn order<'a, S: AsStr>(alloc: Global, words: &'a [S]) -> Result<Order<'a>, S
             form: Form::Ascii,
             first: STANDARD_INPUT,
             second: None,
+            output: None,
         });
     }
     let command = match commands(alloc) {
@@ -288,12 +367,7 @@ pub fn order<'a, S: AsStr>(alloc: Global, words: &'a [S]) -> Result<Order<'a>, S
         Err(_) => return Err(Stop::no_memory(alloc)),
     };
     match command.try_get_matches_from(words) {
-        Ok(matches) => match order_of(&matches) {
-            Some(_) if chooses_both_forms(&matches) => Err(refused(alloc, TWO_FORMS)),
-            Some(order) if reads_input_twice(&order) => Err(refused(alloc, INPUT_TWICE)),
-            Some(order) => Ok(order),
-            None => Err(Stop::no_memory(alloc)),
-        },
+        Ok(matches) => order_or_stop(alloc, &matches),
         Err(error) => Err(stop_of(alloc, &error)),
     }
 }

@@ -4,19 +4,27 @@
 mod answers;
 mod circuits;
 mod command_line;
+mod explaining;
+mod explanations;
 mod files;
 mod judgements;
 mod lifting;
 mod models;
 mod orders;
+mod outputs;
 mod refusals;
 mod running;
 mod statuses;
 mod telling;
+mod terminals;
 mod vector_reports;
 
 pub use command_line::{given_words, order};
-pub use files::NoFile;
+pub use explaining::explain;
+pub use explanations::{Explanation, Part, refusal_table};
+pub use files::{Input, NoFile, open_input};
 pub use orders::{Order, STANDARD_INPUT, Stop, Task};
+pub use outputs::run_to_file;
 pub use running::run;
 pub use telling::end;
+pub use terminals::{Terminals, order_at};

@@ -10,6 +10,9 @@ use std::alloc::Global;
 /// The file name that stands for standard input.
 pub const STANDARD_INPUT: &str = "-";
 
+/// The name of a result's file that stands for standard output.
+pub(crate) const STANDARD_OUTPUT: &str = "-";
+
 /// The commands.
 #[derive(Clone, Copy, PartialEq, Eq)]
 pub enum Task {
@@ -42,6 +45,8 @@ pub struct Order<'a> {
     pub first: &'a str,
     /// The name of the second file, for a command that has one; `-` is standard input.
     pub second: Option<&'a str>,
+    /// The name of the file that the result goes to; without one it goes to standard output.
+    pub output: Option<&'a str>,
 }
 
 /// What stands in place of a command: help or the version, refused words, or want of memory while the words are read.

@@ -4,7 +4,7 @@ ghost use Rattle.std.specs.Prelude.{◌≡◌, IfOk};
 ghost use Rattle.std.specs.String.{string_bytes};
 ghost use Rattle.commands.specs.declared.refusals.Fault.TheVariants as fault_is;
 ghost use Rattle.commands.specs.declared.refusals.Refusal.TheVariants as refusal;
-ghost use Rattle.commands.specs.Refusals.{fault_line};
+ghost use Rattle.commands.specs.Refusals.{fault_line, item_line};
 ghost use Rattle.commands.specs.Conversions.{of_reading, of_circuit_reading, of_lowering, of_conversion, of_judging, of_lifting, of_reading_all, of_lines};
 
 use base::ReadAllFault;
@@ -174,8 +174,8 @@ impl Fault {
             }
             Fault::Lowering(fault) => lowering_line(alloc, file, *fault),
             Fault::NoNext(id) => {
-                let id = *id;
-                format!(in alloc; "{file}: item {id}: 70 NoNext\n")
+                let fault = JudgeFault::NoNext(*id);
+                item_line(alloc, file, *id, fault.number(), fault.name())
             }
             Fault::Vector(line) => {
                 let line = *line;
@@ -183,6 +183,19 @@ impl Fault {
             }
         }
     }
+}
+
+/// The line that tells of a file the number and the name of what speaks against one of its items.
+fn item_line(
+    alloc: Global,
+    file: &str,
+    id: u64,
+    number: u32,
+    name: &str,
+) -> Result<String, AllocError>
+    ensures { IfOk result (λ line. string_bytes line ≡ item_line file.now id number name.now) }
+{
+    format!(in alloc; "{file}: item {id}: {number} {name}\n")
 }
 
 /// The line that tells of a file why its model is not lowered.
@@ -193,7 +206,7 @@ fn lowering_line(alloc: Global, file: &str, fault: LowerFault) -> Result<String,
     let name = fault.name();
     match fault {
         LowerFault::Justice(id) | LowerFault::Fair(id) | LowerFault::NoNext(id) => {
-            format!(in alloc; "{file}: item {id}: {number} {name}\n")
+            item_line(alloc, file, id, number, name)
         }
         LowerFault::TooBig | LowerFault::NoMemory => {
             format!(in alloc; "{file}: {number} {name}\n")

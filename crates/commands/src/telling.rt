@@ -41,8 +41,15 @@ fn tell_device<E: Sink>(device: &str, err: &mut E) -> Result<u8, DeviceFault>
     Ok(DEVICE)
 }
 
+/// Tells that a result could not be written, and answers the exit status.
+pub(crate) fn tell_output<E: Sink>(err: &mut E) -> u8
+    ensures { result ≡ 3 }
+{
+    tell_device("output", err).unwrap_or(DEVICE)
+}
+
 /// Tells that memory was wanting. It takes none.
-fn tell_no_memory<E: Sink>(err: &mut E) -> Result<u8, DeviceFault>
+pub(crate) fn tell_no_memory<E: Sink>(err: &mut E) -> Result<u8, DeviceFault>
     ensures status { IfOk result (λ status. status ≡ 3) }
     ensures told { OnOk result (Appends (E.written err.old) (E.written err.new) (codes "no memory\n")) }
     ensures counted { CountsFaults result (E.failures err.old) (E.failures err.new) }
@@ -108,7 +115,7 @@ pub fn end<O: Sink, E: Sink>(stop: &Stop, out: &mut O, err: &mut E) -> u8
     match stop.status {
         DONE => match write_all(out, text) {
             Ok(()) => DONE,
-            Err(_) => tell_device("output", err).unwrap_or(DEVICE),
+            Err(_) => tell_output(err),
         },
         DEVICE => tell_no_memory(err).unwrap_or(DEVICE),
         status => match write_all(err, text) {

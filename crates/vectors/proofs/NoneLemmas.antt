@@ -13,19 +13,11 @@ use Rattle.base.proofs.DecimalLemmas.{digit_range, decimal_are_digits, number_of
 
 -- ---- cuts
 
--- a list has a byte that stands in it
-pub has_byte : (byte : ℕ) (front rest : List ℕ) → HasNone byte (front ++ byte ∷ rest) → ⊥
-has_byte byte [] rest h = false≢true (sym (or_parts (byte == byte) _ h).0 ∙ eq-eqb byte byte refl)
-has_byte byte (b ∷ bs) rest h = has_byte byte bs rest (or_parts (b == byte) _ h).1
-
 head_is : (b c : ℕ) (bs cs : List ℕ) → b ∷ bs ≡ c ∷ cs → b ≡ c
 head_is b c bs cs e = cc
 
 tail_is : (b c : ℕ) (bs cs : List ℕ) → b ∷ bs ≡ c ∷ cs → bs ≡ cs
 tail_is b c bs cs e = cc
-
-not_first : (byte : ℕ) (bs : List ℕ) → HasNone byte (byte ∷ bs) → ⊥
-not_first byte bs h = has_byte byte [] bs h
 
 -- what stands before the first byte of a kind, and what stands behind it
 pub same_cut : (byte : ℕ) (front rest front' rest' : List ℕ) → HasNone byte front → HasNone byte front' → front ++ byte ∷ rest ≡ front' ++ byte ∷ rest' → (front ≡ front') × (rest ≡ rest')

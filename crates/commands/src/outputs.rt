@@ -1,0 +1,117 @@
+//! Results that go to a file, which has another name until all of one is written.
+
+ghost use Rattle.std.specs.Prelude.{◌≡◌, ◌≤◌, true, IfOk};
+ghost use Rattle.std.specs.String.{string_bytes};
+ghost use Rattle.commands.specs.Done.{has_one_file, is_quiet};
+ghost use Rattle.commands.specs.Orders.{part_name};
+ghost use Rattle.commands.specs.Statuses.{IsRefused};
+
+use crate::files::NoFile;
+use crate::orders::Order;
+use crate::running::run;
+use crate::statuses::{DEVICE, NOT_ACCEPTED};
+use crate::telling::{tell_no_memory, tell_output};
+use base::{Sink, Source, ToWriter};
+use std::alloc::{AllocError, Global};
+use std::fs::{self, OpenOptions};
+use std::io::{self, Write};
+use std::rt::Files;
+
+/// The name that a result has while it is written: that of its file and the number of this process.
+fn part_name(alloc: Global, name: &str, process: u32) -> Result<String, AllocError>
+    ensures { IfOk result (λ part. string_bytes part ≡ part_name name.now process) }
+{
+    format!(in alloc; "{name}.{process}.part")
+}
+
+/// Whether something stands at a name that is no file, as a device, a pipe or a link: a file can't take its place.
+fn is_other<R: Files>(rt: &R, name: &str) -> bool {
+    match fs::symlink_metadata(rt, name) {
+        Ok(about) => !about.is_file(),
+        Err(_) => false,
+    }
+}
+
+/// Opens a file that is not there yet.
+fn create_new<R: Files>(rt: &R, name: &str) -> io::Result<R::File> {
+    OpenOptions::new()
+        .write(true)
+        .create_new(true)
+        .open(rt, name)
+}
+
+/// Does a command whose result goes to a file that was opened; where it could not be, every write fails.
+fn run_onto<W: Write + Drop, A: Source, B: Source, E: Sink>(
+    alloc: Global,
+    order: &Order<'_>,
+    first: &mut A,
+    second: &mut B,
+    file: io::Result<W>,
+    err: &mut E,
+) -> u8
+    ensures refused { result ≡ 2 → IsRefused order.now.task order.now.first.now (A.to_come first.old) (E.written err.old) (E.written err.new) }
+    ensures unfailed { result ≤ 2 → (A.failures first.new ≡ A.failures first.old) × (B.failures second.new ≡ B.failures second.old) × (E.failures err.new ≡ E.failures err.old) }
+    ensures quiet { result ≤ 1 → is_quiet order.now.task ≡ true → err.new ≡ err.old }
+    ensures one_file { has_one_file order.now.task ≡ true → second.new ≡ second.old }
+    ensures statuses { result ≤ 3 }
+{
+    match file {
+        Ok(file) => run(alloc, order, first, second, &mut ToWriter::new(file), err),
+        Err(_) => run(alloc, order, first, second, &mut NoFile::new(), err),
+    }
+}
+
+/// Gives a result that is written its name, and answers the status.
+fn give_name<R: Files, E: Sink>(rt: &R, part: &str, name: &str, status: u8, err: &mut E) -> u8
+    requires { status ≤ 3 }
+    ensures kept { result ≤ 2 → result ≡ status }
+    ensures untold { result ≤ 2 → err.new ≡ err.old }
+    ensures statuses { result ≤ 3 }
+{
+    match fs::rename(rt, part, name) {
+        Ok(()) => status,
+        Err(_) => {
+            let _ = fs::remove_file(rt, part);
+            tell_output(err)
+        }
+    }
+}
+
+/// Does a command whose result goes to a file, and answers the exit status, as `run` does.
+///
+/// The result is written beside that file, to one of its name with the number of this process, and takes its place when
+/// all is written; so a command that is not done leaves the file as it was. What is no file, as a device, a pipe or a link,
+/// is written as it stands.
+///
+/// With status 3 also a file could not be made or take its name.
+pub fn run_to_file<R: Files, A: Source, B: Source, E: Sink>(
+    rt: &R,
+    alloc: Global,
+    order: &Order<'_>,
+    first: &mut A,
+    second: &mut B,
+    output: (&str, u32),
+    err: &mut E,
+) -> u8
+    ensures refused { result ≡ 2 → IsRefused order.now.task order.now.first.now (A.to_come first.old) (E.written err.old) (E.written err.new) }
+    ensures unfailed { result ≤ 2 → (A.failures first.new ≡ A.failures first.old) × (B.failures second.new ≡ B.failures second.old) × (E.failures err.new ≡ E.failures err.old) }
+    ensures quiet { result ≤ 1 → is_quiet order.now.task ≡ true → err.new ≡ err.old }
+    ensures one_file { has_one_file order.now.task ≡ true → second.new ≡ second.old }
+    ensures statuses { result ≤ 3 }
+{
+    let (name, process) = output;
+    if is_other(rt, name) {
+        return run_onto(alloc, order, first, second, fs::create(rt, name), err);
+    }
+    let part = match part_name(alloc, name, process) {
+        Ok(part) => part,
+        Err(_) => return tell_no_memory(err).unwrap_or(DEVICE),
+    };
+    let part = part.as_str();
+    let status = run_onto(alloc, order, first, second, create_new(rt, part), err);
+    if status <= NOT_ACCEPTED {
+        return give_name(rt, part, name, status, err);
+    }
+    let _ = fs::remove_file(rt, part);
+    status
+}
