@@ -1,5 +1,6 @@
 //! Witnesses that are fed to a judge in two pieces, cut at each place, and byte by byte. Among them are texts with long lines,
 //! of 341, 342 and 343 bytes, since a judge of models' witnesses keeps the first 342 bytes of a line that is cut.
+use crate::models::model_of;
 use aiger::Circuit;
 use btor2::Model;
 use std::alloc::{AllocError, Global};
@@ -52,11 +53,6 @@ fn is_judged(alloc: Global, model: &Model, text: &[u8], wanted: &Judgement) -> b
         }
     }
     is_judged_by_bytes(alloc, model, text, wanted)
-}
-
-/// The model of a text.
-fn model_of(alloc: Global, text: &str) -> Result<Model, Fail> {
-    Ok(btor2text::read(alloc, &mut text.as_bytes())?)
 }
 
 /// An input of 64 bits, which is bad where it is not 0.

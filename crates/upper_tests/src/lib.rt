@@ -5,6 +5,10 @@
 #[cfg(test)]
 mod cuts;
 #[cfg(test)]
+mod large;
+#[cfg(test)]
+mod models;
+#[cfg(test)]
 mod no_memory_left;
 #[cfg(test)]
 mod sizes;

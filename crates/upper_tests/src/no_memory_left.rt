@@ -2,6 +2,7 @@
 //! later one is; what a test stands on may be refused first, which ends it with that error. What takes no memory answers as
 //! ever, and what takes some tells that none was there, and has read and written nothing then. That there is an answer with
 //! ample memory is shown elsewhere. `tests/refused_memory.py` refuses the allocations.
+use crate::models::model_of;
 use aiger::Circuit;
 use aigertext::{Form, Why, read, write};
 use base::VecSink;
@@ -15,11 +16,6 @@ use runs::NewFault;
 use std::alloc::Global;
 use std::test::Fail;
 use witness::{BitJudge, Judgement, WordJudge, judge_bits};
-
-/// The model of a text.
-fn model_of(alloc: Global, text: &str) -> Result<Model, Fail> {
-    Ok(btor2text::read(alloc, &mut text.as_bytes())?)
-}
 
 /// The circuit of a text.
 fn circuit_of(alloc: Global, text: &[u8]) -> Result<Circuit, Fail> {

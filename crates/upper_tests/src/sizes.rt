@@ -1,4 +1,5 @@
 //! Models that are too big, and long witnesses. What small ones answer is shown by rows.
+use crate::models::model_of;
 use aiger::Circuit;
 use blast::{LowerFault, bound, cost, lower};
 use btor2::Model;
@@ -60,11 +61,6 @@ fn models_that_are_too_big(rt: HostRuntime) -> Result<(), Fail> {
         assert!(rt; refused == (Some(*fault), *bound, *cost), "{count} {last}");
     }
     Ok(())
-}
-
-/// The model of a text.
-fn model_of(alloc: Global, text: &str) -> Result<Model, Fail> {
-    Ok(read(alloc, &mut text.as_bytes())?)
 }
 
 /// A witness of so many frames, each with these lines, all but its last byte.
