@@ -24,10 +24,11 @@ use Rattle.blast.proofs.LowerAssembly.{length-state_resets}
 use Rattle.witness.specs.declared.why.Why.{Why}
 use Rattle.witness.specs.declared.judgement.Judgement.{Judgement}
 use Rattle.witness.specs.Texts.{Witness, shape_of, is_comment, most_lines, witness_lines, Says}
-use Rattle.witness.specs.Admits.{Read, Fault, read_text, witness_of}
+use Rattle.witness.specs.Admits.{Read, read_text, witness_of}
 use Rattle.witness.specs.Judgements.{words_of, initial_words, given_frames, nodes_of, first_different, verdict, makes_no_claim, JudgesWords, JudgesRead, JudgesText, Judges}
 use Rattle.witness.specs.BitTexts.{BitWitness, bit_line, bit_witness_lines, BitSays}
-use Rattle.witness.specs.BitAdmits.{BitRead, BitReading, nothing_admitted, lines_behind, bit_reading, read_or_fault, read_bit_text, bit_witness_of, admitted_lines}
+use Rattle.witness.specs.Readings.{Reading, lines_read, reading, Fault, read_or_fault}
+use Rattle.witness.specs.BitAdmits.{BitRead, is_done, bit_reader, read_bit_text, bit_witness_of, admitted_lines}
 use Rattle.witness.specs.BitJudgements.{makes_no_bit_claim, bit_verdict, JudgesBits, JudgesBitRead, JudgesBitText, BitJudges}
 use Rattle.witness.proofs.PieceLemmas.{decimal_without}
 use Rattle.lift.specs.Lifted.{lifted_lines, lifted_text}
@@ -53,15 +54,15 @@ frames_are_lines (bits ∷ frames) = (bits_are_a_line bits, frames_are_lines fra
 source_lines : (w : BitWitness) → w.claim < 2 ^ 64 → EachLine (bit_witness_lines w)
 source_lines w small = (refl, (decimal_without 10 w.claim (omega arith) small, (bits_are_a_line w.initial, frames_are_lines w.frames)))
 
-none_refused : (g : BitReading) (last : List ℕ) (o : Option Why) (r : BitRead) → read_or_fault g last o ≡ Ok r → o ≡ None
+none_refused : (g : Reading BitRead) (last : List ℕ) (o : Option Why) (r : BitRead) → read_or_fault (λ s. is_done s.place) g last o ≡ Ok r → o ≡ None
 none_refused g last None r e = refl
 none_refused g last (Some w) r e = absurd (cc)
 
 -- all lines of a source that is read are admitted
 all_admitted : (c : Circuit) (text : List ℕ) (r : BitRead) → read_bit_text c text ≡ Ok r → admitted_lines c text ≡ length (whole_lines text)
-unfolding bit_reading
+unfolding reading
 all_admitted c text r e =
-    (counted c (whole_lines text)).all (none_refused (lines_behind c nothing_admitted (whole_lines text)) (unfinished text) (lines_behind c nothing_admitted (whole_lines text)).refused r e)
+    (counted c (whole_lines text)).all (none_refused (lines_read (bit_reader c) (whole_lines text)) (unfinished text) (lines_read (bit_reader c) (whole_lines text)).refused r e)
 
 -- ---- the lines of the lifted text
 

@@ -10,7 +10,7 @@ use Rattle.aiger.specs.Trace.{SameFrame, SameTrace}
 use Rattle.aiger.proofs.TraceLemmas.{literal_value-agree, trace_exists, trace_unique}
 use Rattle.witness.specs.declared.judgement.Judgement.{Judgement}
 use Rattle.witness.specs.declared.judgement.Judgement.TheVariants as judgement
-use Rattle.witness.specs.Admits.{Fault}
+use Rattle.witness.specs.Readings.{Fault}
 use Rattle.witness.specs.Judgements.{violated_at}
 use Rattle.witness.specs.BitTexts.{BitWitness, IsBitWitness}
 use Rattle.witness.specs.BitAdmits.{BitRead, read_bit_text, bit_witness_of}

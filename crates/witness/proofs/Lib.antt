@@ -4,6 +4,8 @@ pub mod WorkedLemmas
 pub mod PieceLemmas
 pub mod ClaimLemmas
 pub mod AssignmentLemmas
+pub mod TextEndLemmas
+pub mod ReadingLemmas
 pub mod ReadLemmas
 pub mod WitnessTextLemmas
 pub mod AdmittedLineLemmas
@@ -19,9 +21,10 @@ pub mod BitWorkedLemmas
 pub mod BitScanLemmas
 pub mod BitPlayLemmas
 pub mod BitReaderLemmas
+pub mod LastLineLemmas
+pub mod StandsLemmas
 pub mod BitJudgeLemmas
 pub mod BitLineLemmas
-pub mod LastLineLemmas
 pub mod BitFinishLemmas
 pub mod FeedLemmas
 pub mod WordValueLemmas
@@ -33,7 +36,6 @@ pub mod WordLineLemmas
 pub mod WordPlayLemmas
 pub mod WordAssignLemmas
 pub mod KeptLineLemmas
-pub mod WordReadingLemmas
 pub mod BeginningLemmas
 pub mod BitBeginningLemmas
 pub mod WordPartLemmas

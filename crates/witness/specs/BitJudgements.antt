@@ -11,7 +11,7 @@ use Rattle.aiger.specs.Circuit.{Circuit}
 use Rattle.aiger.specs.Trace.{IsTrace}
 use Rattle.witness.specs.declared.judgement.Judgement.{Judgement}
 use Rattle.witness.specs.declared.judgement.Judgement.TheVariants as judgement
-use Rattle.witness.specs.Admits.{Fault}
+use Rattle.witness.specs.Readings.{Fault}
 use Rattle.witness.specs.Judgements.{Violation, violated_at}
 use Rattle.witness.specs.BitTexts.{BitWitness}
 use Rattle.witness.specs.BitAdmits.{BitRead, read_bit_text, bit_witness_of}

@@ -12,7 +12,8 @@ use Rattle.btor2.specs.Trace.{Frame, IsTrace}
 use Rattle.witness.specs.declared.judgement.Judgement.{Judgement}
 use Rattle.witness.specs.declared.judgement.Judgement.TheVariants as judgement
 use Rattle.witness.specs.Texts.{Assignment, Parts, Witness, shape_of, is_comment, most_lines}
-use Rattle.witness.specs.Admits.{Read, Fault, read_text, witness_of}
+use Rattle.witness.specs.Readings.{Fault}
+use Rattle.witness.specs.Admits.{Read, read_text, witness_of}
 
 -- ---- the words that a witness gives
 

@@ -1,6 +1,7 @@
 -- The definitions of texts of witnesses and of their judgement.
 pub mod Numbers
 pub mod Texts
+pub mod Readings
 pub mod Admits
 pub mod Judgements
 pub mod Worked
@@ -13,6 +14,7 @@ pub mod BitAdmits
 pub mod BitJudgements
 pub mod BitScans
 pub mod BitPlays
+pub mod Stands
 pub mod BitStands
 pub mod KeptLines
 pub mod WordClaims

@@ -12,16 +12,16 @@ ghost use Rattle.witness.specs.WordPlays.{steps_of};
 ghost use Rattle.witness.specs.WordReadings.{admitted_word_lines, closed_word_frames};
 ghost use Rattle.base.specs.Lines.{IsLine, unfinished};
 ghost use Rattle.witness.specs.KeptLines.{AreAlike};
-ghost use Rattle.witness.specs.WordStands.{IsOfLines, StandsFor, JudgesLine, TakesPlain, NoPlainLine, is_alone, is_status, judgement_of, place_of};
+ghost use Rattle.witness.specs.Stands.{IsOfLines};
+ghost use Rattle.witness.specs.WordStands.{StandsFor, JudgesLine, TakesPlain, NoPlainLine, is_alone, is_status, place_of, word_judging};
 
 use crate::judgement::Judgement;
 use crate::kept_line::KeptLine;
 use crate::last_line::{are_most, last_refusal};
-use crate::verdicts::either;
+use crate::verdicts::{either, judgement_of};
 use crate::why::Why;
 use crate::word_line::is_word;
 use crate::word_place::Place;
-use crate::word_play::WordPlay;
 use crate::word_reader::WordReader;
 use base::next_line;
 use btor2::Model;
@@ -84,27 +84,6 @@ fn has_ended(place: Place) -> bool
     }
 }
 
-/// What is judged of a whole witness by its frames, and by the first claim that is not reached.
-fn judgement_of(play: &WordPlay<'_>, unreached: Option<u64>) -> Judgement
-    ensures { result ≡ judgement_of play.now unreached }
-{
-    if let Some(index) = play.differs() {
-        return Judgement::InitDiffers { index };
-    }
-    if let Some(breach) = play.breach() {
-        return Judgement::Violated {
-            frame: breach.frame,
-            constraint: breach.constraint,
-        };
-    }
-    if let Some(claim) = unreached {
-        return Judgement::NotReached { claim };
-    }
-    Judgement::Accepted {
-        frames: play.frames(),
-    }
-}
-
 impl<'a> WordJudge<'a> {
     /// A judge of witnesses over a model, which stands for the empty text.
     ///
@@ -125,7 +104,7 @@ impl<'a> WordJudge<'a> {
 
     /// A line has ended behind the whole lines, none of which was refused. Of its bytes the first 342 are enough.
     fn judge_line(&mut self, line: &[u8])
-        ensures lines { (items : List Item) (lines : List (List ℕ)) (bytes : List ℕ) → IsOfLines items self.old lines bytes → AreAlike line.now bytes → self.old.refused ≡ None → IsOfLines items self.new (lines ++ bytes ∷ []) [] }
+        ensures lines { (items : List Item) (lines : List (List ℕ)) (bytes : List ℕ) → IsOfLines (word_judging items) self.old lines bytes → AreAlike line.now bytes → self.old.refused ≡ None → IsOfLines (word_judging items) self.new (lines ++ bytes ∷ []) [] }
         ensures line { self.new.line ≡ self.old.line }
     {
         if are_most(self.admitted) {
@@ -261,7 +240,13 @@ impl<'a> WordJudge<'a> {
         if let Some(why) = last_refusal(ended, self.admitted, self.line.is_empty()) {
             return Judgement::Malformed { line, why };
         }
-        judgement_of(self.reader.play(), self.reader.unreached())
+        let play = self.reader.play();
+        judgement_of(
+            play.differs(),
+            play.breach(),
+            self.reader.unreached(),
+            play.frames(),
+        )
     }
 
     /// The judgement of the text: of every one that the judge stands for.
@@ -280,6 +265,7 @@ impl<'a> WordJudge<'a> {
 
     /// The steps that the run has taken: for each closed frame one for each node with a value and one for each state. The
     /// count stays at its greatest value, 2^128 - 1, once it is there.
+    #[tactic(auto, unfolding(crate::specs::Readings::reading))]
     pub fn steps(&self) -> u128
         ensures { (items : List Item) (text : List ℕ) → StandsFor items self.now text → result ≡ steps_of items (closed_word_frames (shape_of items) text) }
     {
@@ -288,6 +274,7 @@ impl<'a> WordJudge<'a> {
 
     /// How many frames are closed: those whose closing lines, the next `@<k>` or `#<k>` or the last line, have ended before
     /// the first faulty line.
+    #[tactic(auto, unfolding(crate::specs::Readings::reading))]
     pub fn closed_frames(&self) -> u64
         ensures { (items : List Item) (text : List ℕ) → StandsFor items self.now text → result ≡ closed_word_frames (shape_of items) text }
     {
@@ -295,6 +282,7 @@ impl<'a> WordJudge<'a> {
     }
 
     /// How many whole lines stand before the first faulty line.
+    #[tactic(auto, unfolding(crate::specs::Readings::reading))]
     pub fn admitted_lines(&self) -> u64
         ensures { (items : List Item) (text : List ℕ) → StandsFor items self.now text → result ≡ admitted_word_lines (shape_of items) text }
     {

@@ -1,5 +1,7 @@
-use Rattle.witness.proofs.WordReadingLemmas.{text_as_admitted}
+use Rattle.std.proofs.Common.{refl}
+use Rattle.witness.specs.Admits.{read_text}
 use Rattle.witness.proofs.laws.one_way_of_reading.Goals as goal
 
 pub returns : goal.returns
-returns c = text_as_admitted
+unfolding read_text
+returns c shape text = refl
