@@ -25,11 +25,12 @@ use Rattle.witness.specs.declared.why.Why.{Why}
 use Rattle.witness.specs.declared.judgement.Judgement.{Judgement}
 use Rattle.witness.specs.Texts.{Witness, shape_of, is_comment, most_lines, witness_lines, Says}
 use Rattle.witness.specs.Admits.{Read, read_text, witness_of}
-use Rattle.witness.specs.Judgements.{words_of, initial_words, given_frames, nodes_of, first_different, verdict, makes_no_claim, JudgesWords, JudgesRead, JudgesText, Judges}
+use Rattle.witness.specs.Judgements.{words_of, initial_words, given_frames, nodes_of, first_different, verdict, makes_no_claim, JudgesWords, Judges}
 use Rattle.witness.specs.BitTexts.{BitWitness, bit_line, bit_witness_lines, BitSays}
 use Rattle.witness.specs.Readings.{Reading, lines_read, reading, Fault, read_or_fault}
 use Rattle.witness.specs.BitAdmits.{BitRead, is_done, bit_reader, read_bit_text, bit_witness_of, admitted_lines}
-use Rattle.witness.specs.BitJudgements.{makes_no_bit_claim, bit_verdict, JudgesBits, JudgesBitRead, JudgesBitText, BitJudges}
+use Rattle.witness.specs.BitJudgements.{makes_no_bit_claim, bit_verdict, JudgesBits, BitJudges}
+use Rattle.witness.proofs.JudgedLemmas.{judged_says}
 use Rattle.witness.proofs.PieceLemmas.{decimal_without}
 use Rattle.lift.specs.Lifted.{lifted_lines, lifted_text}
 use Rattle.lift.specs.Verdicts.{IsSameVerdict, KeepsVerdict}
@@ -179,14 +180,15 @@ module _ (items : List Item) (c : Circuit) (text : List ℕ) (b : BitWitness) (l
 
   judged_bits : (j : Judgement) (r : BitRead) → read_bit_text c text ≡ Ok r → bit_witness_of r ≡ b → BitJudges c text j → JudgesBits c b j
   judged_bits j r read is h =
-      let claims : JudgesBitRead c (read_bit_text c text) j = subst (λ (t : Bool). JudgesBitText c text t j) source_claims h in
-      subst (λ (w : BitWitness). JudgesBits c w j) is (subst (λ (o : Result BitRead Fault). JudgesBitRead c o j) read claims)
+      subst (λ (w : BitWitness). JudgesBits c w j) is
+      (judged_says (λ (s : BitRead). JudgesBits c (bit_witness_of s)) (makes_no_bit_claim (whole_lines text)) (read_bit_text c text) r j source_claims read h)
 
   judged_words : (k : Judgement) (r : BitRead) (q : Read) → read_bit_text c text ≡ Ok r → read_text (shape_of items) (lifted_text items c text) ≡ Ok q → witness_of q ≡ lifted_witness items b → Judges items (lifted_text items c text) k
       → JudgesWords items (words_lifted items b) k
   judged_words k r q bits read is h =
-      let claims : JudgesRead items (read_text (shape_of items) (lifted_text items c text)) k = subst (λ (t : Bool). JudgesText items (lifted_text items c text) t k) (lifted_claims r bits) h in
-      subst (λ (w : Witness). JudgesWords items (words_of w) k) is (subst (λ (o : Result Read Fault). JudgesRead items o k) read claims)
+      let all : List ℕ = lifted_text items c text in
+      subst (λ (w : Witness). JudgesWords items (words_of w) k) is
+      (judged_says (λ (s : Read). JudgesWords items (words_of (witness_of s))) (makes_no_claim 0 (whole_lines all)) (read_text (shape_of items) all) q k (lifted_claims r bits) read h)
 
   pub kept_verdict : (j k : Judgement) (r : BitRead) (q : Read) (fs : List Frame) (vs : List Valuation) → read_bit_text c text ≡ Ok r → bit_witness_of r ≡ b
       → read_text (shape_of items) (lifted_text items c text) ≡ Ok q → witness_of q ≡ lifted_witness items b

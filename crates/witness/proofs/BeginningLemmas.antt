@@ -73,7 +73,6 @@ lines_end shape lines r small some few (ToldAll comments marked w valid whole is
 
 -- of a text that others make that of a witness all whole lines are admitted
 pub beginning_is_admitted : (shape : Shape) (text further : List ℕ) (w : Witness) → IsSmall shape → Says shape (text ++ further) w → admitted_word_lines shape text ≡ length (whole_lines text)
-unfolding read_text
 beginning_is_admitted shape text further w small says = reading_is_admitted (word_reader shape) text further (all_read w) (says_read shape (text ++ further) w small says)
 
 module _ (shape : Shape) (small : IsSmall shape) (some : 0 < shape.bads) where
@@ -81,7 +80,6 @@ module _ (shape : Shape) (small : IsSmall shape) (some : 0 < shape.bads) where
   each_ends lines r few h = lines_end shape lines r small some few (told_lines shape [] lines nothing_read r small (ToldComments [] tt refl refl) h)
 
   is_beginning : (text : List ℕ) → Begins (word_reader shape) 4 text → IsBeginning shape text
-  unfolding read_text
   is_beginning text b =
       record {
         more = b.more;
@@ -103,6 +101,5 @@ module _ (shape : Shape) (small : IsSmall shape) (some : 0 < shape.bads) where
 -- with it they are none
 pub no_beginning_with : (shape : Shape) (text : List ℕ) (before : List (List ℕ)) (line : List ℕ) (behind : List (List ℕ)) (further : List ℕ) (w : Witness) → IsSmall shape
     → whole_lines text ≡ before ++ line ∷ behind → admitted_word_lines shape text ≡ length before → Says shape (text_of_lines (before ++ line ∷ []) ++ further) w → ⊥
-unfolding read_text
 no_beginning_with shape text before line behind further w small split count says =
     none_begins (word_reader shape) text before line behind further (all_read w) split count (says_read shape (text_of_lines (before ++ line ∷ []) ++ further) w small says)

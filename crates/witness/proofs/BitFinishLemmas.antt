@@ -1,22 +1,18 @@
 -- The judgement of a text by what a judge of witnesses of a circuit holds.
-use Rattle.std.proofs.Common.{◌≡◌, ℕ, suc, Bool, true, false, cond, List, [], ◌∷◌, Option, Some, None, Result, Ok, Err, length, refl, sym, ap, ap₂, subst, ◌∙◌}
+use Rattle.std.proofs.Common.{◌≡◌, ℕ, suc, Bool, true, false, cond, List, [], ◌∷◌, Option, Some, None, length, refl, sym, ap, ap₂, subst, ◌∙◌}
 use Rattle.base.specs.Lines.{whole_lines, unfinished}
 use Rattle.aiger.specs.Circuit.{Circuit}
 use Rattle.aiger.specs.Literal.{Valuation}
 use Rattle.aiger.specs.Trace.{IsTrace, next_state}
-use Rattle.witness.specs.declared.why.Why.{Why}
 use Rattle.witness.specs.declared.judgement.Judgement.{Judgement}
-use Rattle.witness.specs.declared.judgement.Judgement.TheVariants as judgement
-use Rattle.witness.specs.Readings.{lines_read, is_nothing, Fault}
-use Rattle.witness.specs.LastLines.{last_refusal}
+use Rattle.witness.specs.Readings.{lines_read}
 use Rattle.witness.specs.Judgements.{Violation}
 use Rattle.witness.specs.BitTexts.{BitWitness}
-use Rattle.witness.specs.BitAdmits.{BitPlace, AtDone, BitRead, is_done, bit_reader, read_bit_text, bit_witness_of}
-use Rattle.witness.specs.BitJudgements.{first_reset_differing, bit_violation_from, bit_rises, when_risen, when_unbroken, when_reset, bit_verdict, JudgesBitRead, JudgesBitText, BitJudges}
+use Rattle.witness.specs.BitAdmits.{BitPlace, AtDone, BitRead, is_done, bit_reader, bit_witness_of}
+use Rattle.witness.specs.BitJudgements.{first_reset_differing, bit_violation_from, bit_rises, when_risen, when_unbroken, when_reset, bit_verdict, JudgesBits}
 use Rattle.witness.specs.BitPlays.{BitPlay, Plays, Traced}
 use Rattle.witness.specs.Stands.{first_of}
-use Rattle.witness.specs.BitStands.{place_of, PlaysAt, BitJudge, bit_judging, StandsFor}
-use Rattle.witness.proofs.StandsLemmas.{whole_text}
+use Rattle.witness.specs.BitStands.{place_of, PlaysAt, BitJudge, StandsFor}
 
 -- ---- the verdict
 
@@ -52,26 +48,18 @@ done : (at : BitPlace) → is_done at ≡ true → at ≡ AtDone
 done AtDone h = refl
 done _ h = absurd cc
 
-module _ (c : Circuit) (text : List ℕ) (j : BitJudge) (stands : StandsFor c j text) where
-  pub claims_none : j.no_claim ≡ true → BitJudges c text judgement.NoClaim
-  claims_none e = subst (λ b. JudgesBitText c text b judgement.NoClaim) (sym (sym stands.lines.no_claim ∙ e)) refl
+abbrev pub Says : Circuit → BitRead → Judgement → Type 0
+Says c r = JudgesBits c (bit_witness_of r)
 
-  judged_read : (result : Judgement) (r : Result BitRead Fault) → j.no_claim ≡ false → read_bit_text c text ≡ r → JudgesBitRead c r result → BitJudges c text result
-  judged_read result r e is h =
-      subst (λ b. JudgesBitText c text b result) (sym (sym stands.lines.no_claim ∙ e)) (subst (λ r. JudgesBitRead c r result) (sym is) h)
+pub ended_at : (c : Circuit) (text : List ℕ) (j : BitJudge) → StandsFor c j text → j.refused ≡ None → is_done (place_of j.reader.place) ≡ is_done (lines_read (bit_reader c) (whole_lines text)).read.place
+ended_at c text j stands none = ap is_done (stands.lines.reads none).place
 
-  pub malformed : (w : Why) (n : ℕ) → j.no_claim ≡ false → read_bit_text c text ≡ Err (record { line = n; why = w }) → BitJudges c text (judgement.Malformed n w)
-  malformed w n e is = judged_read (judgement.Malformed n w) (Err (record { line = n; why = w })) e is refl
-
-  pub ended_at : j.refused ≡ None → is_done (place_of j.reader.place) ≡ is_done (lines_read (bit_reader c) (whole_lines text)).read.place
-  ended_at none = ap is_done (stands.lines.reads none).place
-
-  pub whole_witness : (o : Option ℕ) → j.no_claim ≡ false → (none : j.refused ≡ None) → last_refusal (is_done (place_of j.reader.place)) j.admitted (is_nothing (unfinished text)) ≡ None → o ≡ cond j.reader.play.rose None (Some j.reader.claim)
-      → BitJudges c text (first_of j.reader.play.differs j.reader.play.breach o j.reader.play.frames)
-  whole_witness o e none last unreached =
-      let whole = whole_text (bit_judging c) text j stands (is_done (place_of j.reader.place)) none (ended_at none) last in
-      let r : BitRead = (lines_read (bit_reader c) (whole_lines text)).read in
-      let reads = stands.lines.reads none in
-      let plays : PlaysAt c r j.reader.play (unfinished text) AtDone = subst (PlaysAt c r j.reader.play (unfinished text)) (done r.place whole.1) reads.play in
-      judged_read (first_of j.reader.play.differs j.reader.play.breach o j.reader.play.frames) (Ok r) e whole.0
-      (λ vs t. judged_whole c (bit_witness_of r) j.reader.play vs plays t o (unreached ∙ ap (λ (i : ℕ). cond j.reader.play.rose None (Some i)) reads.claim))
+-- what is judged of a whole witness
+pub whole_witness : (c : Circuit) (text : List ℕ) (j : BitJudge) (o : Option ℕ) → StandsFor c j text → j.refused ≡ None → o ≡ cond j.reader.play.rose None (Some j.reader.claim)
+    → is_done (lines_read (bit_reader c) (whole_lines text)).read.place ≡ true
+    → Says c (lines_read (bit_reader c) (whole_lines text)).read (first_of j.reader.play.differs j.reader.play.breach o j.reader.play.frames)
+whole_witness c text j o stands none unreached at_end vs t =
+    let r : BitRead = (lines_read (bit_reader c) (whole_lines text)).read in
+    let reads = stands.lines.reads none in
+    let plays : PlaysAt c r j.reader.play (unfinished text) AtDone = subst (PlaysAt c r j.reader.play (unfinished text)) (done r.place at_end) reads.play in
+    judged_whole c (bit_witness_of r) j.reader.play vs plays t o (unreached ∙ ap (λ (i : ℕ). cond j.reader.play.rose None (Some i)) reads.claim)

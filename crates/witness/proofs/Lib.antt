@@ -5,6 +5,7 @@ pub mod PieceLemmas
 pub mod ClaimLemmas
 pub mod AssignmentLemmas
 pub mod TextEndLemmas
+pub mod LastLineLemmas
 pub mod ReadingLemmas
 pub mod ReadLemmas
 pub mod WitnessTextLemmas
@@ -14,6 +15,7 @@ pub mod GivenWordLemmas
 pub mod FrameLemmas
 pub mod VerdictLemmas
 pub mod FitLemmas
+pub mod JudgedLemmas
 pub mod OneJudgement
 pub mod BitReadLemmas
 pub mod BitOneJudgement
@@ -21,7 +23,6 @@ pub mod BitWorkedLemmas
 pub mod BitScanLemmas
 pub mod BitPlayLemmas
 pub mod BitReaderLemmas
-pub mod LastLineLemmas
 pub mod StandsLemmas
 pub mod BitJudgeLemmas
 pub mod BitLineLemmas

@@ -11,12 +11,12 @@ use Rattle.btor2.proofs.AcceptedLemmas.{Each, HasWidth}
 use Rattle.btor2.proofs.ModelLemmas.{IsAccepted-at}
 use Rattle.btor2.proofs.TraceLemmas.{trace_exists, trace_unique}
 use Rattle.witness.specs.declared.judgement.Judgement.{Judgement}
-use Rattle.witness.specs.declared.judgement.Judgement.TheVariants as judgement
 use Rattle.witness.specs.Texts.{shape_of}
-use Rattle.witness.specs.Admits.{read_text, witness_of}
+use Rattle.witness.specs.Admits.{Read, read_text, witness_of}
 use Rattle.btor2.specs.Lists.{of_kind}
-use Rattle.witness.specs.Judgements.{Words, initial_words, given_frames, nodes_of, first_different, violated_at, violation_from, never_rises, unreached_from, when_reached, when_kept, when_begun, verdict, words_of, makes_no_claim, JudgesWords, JudgesRead, JudgesText, Judges}
+use Rattle.witness.specs.Judgements.{Words, initial_words, given_frames, nodes_of, first_different, violated_at, violation_from, never_rises, unreached_from, when_reached, when_kept, when_begun, verdict, words_of, makes_no_claim, JudgesWords, Judges}
 use Rattle.base.specs.Lines.{whole_lines}
+use Rattle.witness.proofs.JudgedLemmas.{some_judged, judged_once}
 
 -- ---- the nodes of properties have values
 
@@ -118,23 +118,9 @@ words_judged_once items w j k well first second =
 -- a text has a judgement
 pub some_judgement : (items : List Item) (text : List ℕ) → IsWellFormed items → (j : Judgement) × Judges items text j
 some_judgement items text well =
-    elim (makes_no_claim 0 (whole_lines text)) as (λ b. (j : Judgement) × JudgesText items text b j) [
-      | true ↦ (judgement.NoClaim, refl)
-      | false ↦
-          elim (read_text (shape_of items) text) as (λ r. (j : Judgement) × JudgesRead items r j) [
-            | Err e ↦ (judgement.Malformed e.line e.why, refl)
-            | Ok r ↦ words_judged items (words_of (witness_of r)) well
-          ]
-    ]
+    some_judged (λ (r : Read). JudgesWords items (words_of (witness_of r))) (makes_no_claim 0 (whole_lines text)) (read_text (shape_of items) text) (λ r is. words_judged items (words_of (witness_of r)) well)
 
 -- and no other
 pub same_judgement : (items : List Item) (text : List ℕ) (j k : Judgement) → IsWellFormed items → Judges items text j → Judges items text k → j ≡ k
 same_judgement items text j k well =
-    elim (makes_no_claim 0 (whole_lines text)) as (λ b. JudgesText items text b j → JudgesText items text b k → j ≡ k) [
-      | true ↦ λ first second. first ∙ sym second
-      | false ↦
-          elim (read_text (shape_of items) text) as (λ r. JudgesRead items r j → JudgesRead items r k → j ≡ k) [
-            | Err e ↦ λ first second. first ∙ sym second
-            | Ok r ↦ words_judged_once items (words_of (witness_of r)) j k well
-          ]
-    ]
+    judged_once (λ (r : Read). JudgesWords items (words_of (witness_of r))) (makes_no_claim 0 (whole_lines text)) (read_text (shape_of items) text) j k (λ r is. words_judged_once items (words_of (witness_of r)) j k well)

@@ -187,7 +187,6 @@ told_says shape text r (ToldAll comments marked w valid whole is) done ended few
 
 -- a text that is read says what it is read as
 pub read_says : (shape : Shape) (text : List ℕ) (r : Read) → IsSmall shape → read_text shape text ≡ Ok r → Says shape text (witness_of r)
-unfolding read_text
 read_says shape text r small h =
     let were = text_was_read (word_reader shape) text r h in
     told_says shape text r (told_lines shape [] (whole_lines text) nothing_read r small (ToldComments [] tt refl refl) were.all) were.done were.rest were.few

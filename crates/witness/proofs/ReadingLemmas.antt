@@ -3,13 +3,13 @@ use Rattle.std.proofs.Common.{◌≡◌, ◌⊎◌, ℕ, suc, ◌+◌, ◌<◌, 
 use Rattle.std.proofs.lemmas.Bool.{and_parts, cases_lt, le-leb, lt-leb}
 use Rattle.std.proofs.lemmas.List.{append-nil}
 use Rattle.base.specs.Lines.{IsLine, text_of_lines, whole_lines, unfinished}
-use Rattle.base.proofs.DecimalLemmas.{chosen}
 use Rattle.base.proofs.LineLemmas.{EachLine, each_front, lines_are_lines, lines_of_text, parts_of_text, unfinished_of_text, unfinished-lines}
 use Rattle.witness.specs.declared.why.Why.{Why}
 use Rattle.witness.specs.declared.why.Why.TheVariants as why
 use Rattle.witness.specs.Texts.{most_lines}
+use Rattle.witness.proofs.LastLineLemmas.{whole_is}
 use Rattle.witness.proofs.TextEndLemmas.{lines_behind_text}
-use Rattle.witness.specs.Readings.{Reader, Reading, so_far, nothing_admitted, one_more_line, next_line_of, next_line, lines_behind, lines_read, reading, is_nothing, last_why, fault_at, read_or_fault, text_read}
+use Rattle.witness.specs.Readings.{Reader, Reading, so_far, nothing_admitted, one_more_line, next_line_of, next_line, lines_behind, lines_read, reading, is_nothing, last_refusal, refused_for, read_or_fault, text_read}
 
 -- ---- line by line
 
@@ -158,13 +158,14 @@ module _ {R : Type 0} (reader : Reader R) where
       let last : List ℕ = unfinished text in
       let n : ℕ = 0 + length (whole_lines text) in
       let here : read_or_fault reader.ended (so_far n r) last None ≡ Ok final = sym (ap (λ (g : Reading R). read_or_fault reader.ended g last g.refused) behind) ∙ h in
-      elim (chosen (reader.ended r && is_nothing last) (Ok r) (Err (fault_at n (last_why reader.ended n r last))) (Ok final) here) [
-        | inl e ↦
-            let parts = and_parts (reader.ended r) (is_nothing last) e.0 in
-            let is : r ≡ final = cc (e.1) in
-            record { all = read ∙ ap Ok is; done = subst (λ (s : R). reader.ended s ≡ true) is parts.0; rest = nothing_there last parts.1; few = omega arith }
-        | inr e ↦ absurd (cc (e.1))
-      ]
+      by (last_refusal (reader.ended r) n (is_nothing last)) refl here
+    where
+      by : (o : Option Why) → last_refusal (reader.ended r) (0 + length (whole_lines text)) (is_nothing (unfinished text)) ≡ o → refused_for (so_far (0 + length (whole_lines text)) r) o ≡ Ok final → WasRead text final
+      by (Some w) e h = absurd cc
+      by None e h =
+          let whole = whole_is (reader.ended r) (0 + length (whole_lines text)) (is_nothing (unfinished text)) e in
+          let is : r ≡ final = cc in
+          record { all = read ∙ ap Ok is; done = subst (λ (s : R). reader.ended s ≡ true) is whole.0; rest = nothing_there (unfinished text) whole.1; few = omega arith }
   read_was text final (Until m s w above below room behind) h =
       let here : read_or_fault reader.ended (stopped m s w) (unfinished text) (Some w) ≡ Ok final = sym (ap (λ (g : Reading R). read_or_fault reader.ended g (unfinished text) g.refused) behind) ∙ h in
       absurd (cc here)

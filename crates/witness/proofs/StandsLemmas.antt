@@ -4,11 +4,14 @@ use Rattle.std.proofs.lemmas.Bool.{le-leb, lt-leb}
 use Rattle.base.specs.Lines.{IsLine, whole_lines, unfinished}
 use Rattle.witness.specs.declared.why.Why.{Why}
 use Rattle.witness.specs.declared.why.Why.TheVariants as why
-use Rattle.witness.specs.LastLines.{last_refusal}
+use Rattle.witness.specs.declared.judgement.Judgement.{Judgement}
+use Rattle.witness.specs.declared.judgement.Judgement.TheVariants as judgement
 use Rattle.witness.specs.Texts.{most_lines}
-use Rattle.witness.specs.Readings.{Reading, so_far, nothing_admitted, next_line, lines_read, reading, is_nothing, Fault, read_or_fault, text_read}
+use Rattle.witness.specs.Readings.{Reading, so_far, nothing_admitted, next_line, lines_read, reading, is_nothing, last_refusal, Fault, refused_for, read_or_fault, text_read}
+use Rattle.witness.specs.Judgements.{JudgesAs}
 use Rattle.witness.specs.Stands.{Judge, Judging, IsOfLines, StandsFor}
-use Rattle.witness.proofs.LastLineLemmas.{RefusedFor, refusal_is, whole_is}
+use Rattle.witness.proofs.LastLineLemmas.{whole_is}
+use Rattle.witness.proofs.JudgedLemmas.{no_claim_judged, read_judged}
 use Rattle.witness.proofs.TextEndLemmas.{whole_lines-part, unfinished-part}
 use Rattle.witness.proofs.ReadingLemmas.{goes, lines_append, few_read}
 
@@ -145,32 +148,41 @@ module _ {R Q L : Type 0} (g : Judging R Q L) where
 
 -- ---- the end of a text
 
-module _ {R Q L : Type 0} (g : Judging R Q L) (text : List ℕ) (j : Judge Q L) (stands : StandsFor g j text) where
+-- by what is judged of what it says
+module _ {R Q L : Type 0} (g : Judging R Q L) (Says : R → Judgement → Type 0) (text : List ℕ) (j : Judge Q L) (stands : StandsFor g j text) where
   abbrev all : Reading R
   all = lines_read g.reader (whole_lines text)
 
-  -- what is read of the text, by the whole lines
-  by_lines : (o : Option Why) (answer : Result R Fault) → j.refused ≡ o → read_or_fault g.reader.ended all (unfinished text) o ≡ answer → text_read g.reader text ≡ answer
+  abbrev Judged : Judgement → Type 0
+  Judged result = JudgesAs Says (g.makes_no_claim (whole_lines text)) (text_read g.reader text) result
+
+  pub claims_none : j.no_claim ≡ true → Judged judgement.NoClaim
+  claims_none e = no_claim_judged Says (g.makes_no_claim (whole_lines text)) (text_read g.reader text) (sym stands.lines.no_claim ∙ e)
+
+  -- by the whole lines
+  by_lines : (o : Option Why) (read : Result R Fault) (result : Judgement) → j.no_claim ≡ false → j.refused ≡ o → read_or_fault g.reader.ended all (unfinished text) o ≡ read → JudgesAs Says false read result → Judged result
   unfolding reading
-  by_lines o answer refused is = ap (read_or_fault g.reader.ended all (unfinished text)) (sym stands.lines.refused ∙ refused) ∙ is
+  by_lines o read result claims refused is =
+      read_judged Says (g.makes_no_claim (whole_lines text)) (text_read g.reader text) read result (sym stands.lines.no_claim ∙ claims)
+      (ap (read_or_fault g.reader.ended all (unfinished text)) (sym stands.lines.refused ∙ refused) ∙ is)
 
   number : (n : ℕ) → n ≡ min (j.admitted + 1) (2 ^ 64 - 1) → n ≡ all.admitted + 1
   number n e = omega (arith, e, few_read g.reader (whole_lines text) (goes g.reader 0 g.reader.nothing (whole_lines text) (omega arith)), stands.lines.admitted)
 
-  pub refused_line : (w : Why) (n : ℕ) → j.refused ≡ Some w → n ≡ min (j.admitted + 1) (2 ^ 64 - 1) → text_read g.reader text ≡ Err (record { line = n; why = w })
-  refused_line w n refused is = by_lines (Some w) (Err (record { line = n; why = w })) refused (ap (λ (m : ℕ). Err (record { line = m; why = w })) (sym (number n is)))
+  pub refused_line : (w : Why) (n : ℕ) → j.no_claim ≡ false → j.refused ≡ Some w → n ≡ min (j.admitted + 1) (2 ^ 64 - 1) → Judged (judgement.Malformed n w)
+  refused_line w n claims refused is =
+      by_lines (Some w) (Err (record { line = n; why = w })) (judgement.Malformed n w) claims refused (ap (λ (m : ℕ). Err (record { line = m; why = w })) (sym (number n is))) refl
 
-  pub refused_last : (w : Why) (n : ℕ) (ended : Bool) → j.refused ≡ None → ended ≡ g.reader.ended all.read → last_refusal ended j.admitted (is_nothing (unfinished text)) ≡ Some w
-      → n ≡ min (j.admitted + 1) (2 ^ 64 - 1) → text_read g.reader text ≡ Err (record { line = n; why = w })
-  refused_last w n ended none same last is =
-      let h : RefusedFor (g.reader.ended all.read) all.admitted (is_nothing (unfinished text)) w =
-      refusal_is (g.reader.ended all.read) all.admitted (is_nothing (unfinished text)) w
-      (subst (λ (b : Bool). last_refusal b all.admitted (is_nothing (unfinished text)) ≡ Some w) same (subst (λ (m : ℕ). last_refusal ended m (is_nothing (unfinished text)) ≡ Some w) stands.lines.admitted last)) in
-      by_lines None (Err (record { line = n; why = w })) none (rw h.refused (ap₂ (λ (m : ℕ) (v : Why). Err (record { line = m; why = v })) (sym (number n is)) h.is))
+  same_refusal : (ended : Bool) → ended ≡ g.reader.ended all.read → last_refusal ended j.admitted (is_nothing (unfinished text)) ≡ last_refusal (g.reader.ended all.read) all.admitted (is_nothing (unfinished text))
+  same_refusal ended same = ap₂ (λ (b : Bool) (m : ℕ). last_refusal b m (is_nothing (unfinished text))) same stands.lines.admitted
 
-  pub whole_text : (ended : Bool) → j.refused ≡ None → ended ≡ g.reader.ended all.read → last_refusal ended j.admitted (is_nothing (unfinished text)) ≡ None
-      → (text_read g.reader text ≡ Ok all.read) × (g.reader.ended all.read ≡ true)
-  whole_text ended none same last =
-      let whole = whole_is ended j.admitted (is_nothing (unfinished text)) last in
-      let done : g.reader.ended all.read ≡ true = sym same ∙ whole.0 in
-      (by_lines None (Ok all.read) none (rw (done, whole.1) refl), done)
+  pub refused_last : (w : Why) (n : ℕ) (ended : Bool) → j.no_claim ≡ false → j.refused ≡ None → ended ≡ g.reader.ended all.read → last_refusal ended j.admitted (is_nothing (unfinished text)) ≡ Some w
+      → n ≡ min (j.admitted + 1) (2 ^ 64 - 1) → Judged (judgement.Malformed n w)
+  refused_last w n ended claims none same last is =
+      by_lines None (Err (record { line = n; why = w })) (judgement.Malformed n w) claims none
+      (ap (refused_for all) (sym (same_refusal ended same) ∙ last) ∙ ap (λ (m : ℕ). Err (record { line = m; why = w })) (sym (number n is))) refl
+
+  pub whole_text : (ended : Bool) (result : Judgement) → j.no_claim ≡ false → j.refused ≡ None → ended ≡ g.reader.ended all.read → last_refusal ended j.admitted (is_nothing (unfinished text)) ≡ None
+      → (g.reader.ended all.read ≡ true → Says all.read result) → Judged result
+  whole_text ended result claims none same last says =
+      by_lines None (Ok all.read) result claims none (ap (refused_for all) (sym (same_refusal ended same) ∙ last)) (says (sym same ∙ (whole_is ended j.admitted (is_nothing (unfinished text)) last).0))

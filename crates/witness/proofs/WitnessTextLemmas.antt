@@ -125,7 +125,6 @@ each_witness_line shape comments w small lines valid few =
 
 -- a text that says a witness is read as it
 pub says_read : (shape : Shape) (text : List ℕ) (w : Witness) → IsSmall shape → Says shape text w → read_text shape text ≡ Ok (all_read w)
-unfolding read_text
 says_read shape text w small says =
     let lines : List (List ℕ) = witness_lines shape says.comments w in
     let each = each_witness_line shape says.comments w small (recursion_from_All IsLine says.comments says.lines) says.valid says.few in

@@ -1,23 +1,19 @@
 -- The judgement of a text by what a judge of witnesses over a model holds.
-use Rattle.std.proofs.Common.{◌≡◌, ℕ, Bool, true, false, List, [], ◌∷◌, Option, Some, None, Result, Ok, Err, map, length, refl, sym, ap, ap₂, subst, ◌∙◌}
+use Rattle.std.proofs.Common.{◌≡◌, ℕ, Bool, true, false, List, [], ◌∷◌, Option, Some, None, map, length, refl, sym, ap, ap₂, subst, ◌∙◌}
 use Rattle.base.specs.Lines.{whole_lines, unfinished}
 use Rattle.btor2.specs.declared.item.Item.{Item}
 use Rattle.btor2.specs.Items.{is_bad}
 use Rattle.btor2.specs.Trace.{Frame, IsTrace}
-use Rattle.witness.specs.declared.why.Why.{Why}
 use Rattle.witness.specs.declared.judgement.Judgement.{Judgement}
-use Rattle.witness.specs.declared.judgement.Judgement.TheVariants as judgement
-use Rattle.witness.specs.LastLines.{last_refusal}
 use Rattle.witness.specs.Texts.{shape_of, Parts}
-use Rattle.witness.specs.Readings.{lines_read, is_nothing, Fault, text_read}
-use Rattle.witness.specs.Admits.{Place, AtEnd, Read, is_at_end, word_reader, read_text, witness_of}
-use Rattle.witness.specs.Judgements.{FrameWords, frame_words, words_of, Words, initial_words, given_words, given_frames, nodes_of, first_different, Violation, violation_from, unreached_from, when_reached, when_kept, when_begun, verdict, JudgesRead, JudgesText, Judges}
+use Rattle.witness.specs.Readings.{lines_read}
+use Rattle.witness.specs.Admits.{Place, AtEnd, Read, is_at_end, word_reader, witness_of}
+use Rattle.witness.specs.Judgements.{FrameWords, frame_words, words_of, Words, initial_words, given_words, given_frames, nodes_of, first_different, Violation, violation_from, unreached_from, when_reached, when_kept, when_begun, verdict, JudgesWords}
 use Rattle.witness.specs.Fits.{AreClaimed, NoneIsSet, RisesAmong}
 use Rattle.witness.specs.WordPlays.{WordPlay, Plays, Traced, TracedBy, frames_alone, nothing_given}
 use Rattle.witness.specs.Stands.{first_of}
-use Rattle.witness.specs.WordStands.{place_of, WordReader, Reads, ClaimsAt, here_of, WordJudge, word_judging, StandsFor}
+use Rattle.witness.specs.WordStands.{place_of, WordReader, Reads, ClaimsAt, here_of, WordJudge, StandsFor}
 use Rattle.witness.proofs.VerdictLemmas.{as_many_frames}
-use Rattle.witness.proofs.StandsLemmas.{whole_text}
 use Rattle.witness.proofs.WordJudgeLemmas.{in_frames}
 
 -- ---- a whole witness
@@ -75,29 +71,21 @@ ended : (at : Place) → is_at_end at ≡ true → at ≡ AtEnd
 ended AtEnd h = refl
 ended _ h = absurd cc
 
-module _ (items : List Item) (text : List ℕ) (j : WordJudge) (stands : StandsFor items j text) where
-  pub claims_none : j.no_claim ≡ true → Judges items text judgement.NoClaim
-  claims_none e = subst (λ b. JudgesText items text b judgement.NoClaim) (sym (sym stands.lines.no_claim ∙ e)) refl
+abbrev pub Says : List Item → Read → Judgement → Type 0
+Says items r = JudgesWords items (words_of (witness_of r))
 
-  judged_read : (result : Judgement) (r : Result Read Fault) → j.no_claim ≡ false → text_read (word_reader (shape_of items)) text ≡ r → JudgesRead items r result → Judges items text result
-  unfolding read_text
-  judged_read result r e is h = subst (λ b. JudgesText items text b result) (sym (sym stands.lines.no_claim ∙ e)) (subst (λ r. JudgesRead items r result) (sym is) h)
+pub ended_at : (items : List Item) (text : List ℕ) (j : WordJudge) → StandsFor items j text → j.refused ≡ None → is_at_end (place_of j.reader.place) ≡ is_at_end (lines_read (word_reader (shape_of items)) (whole_lines text)).read.place
+ended_at items text j stands none = ap is_at_end (stands.lines.reads none).place
 
-  pub malformed : (w : Why) (n : ℕ) → j.no_claim ≡ false → text_read (word_reader (shape_of items)) text ≡ Err (record { line = n; why = w }) → Judges items text (judgement.Malformed n w)
-  malformed w n e is = judged_read (judgement.Malformed n w) (Err (record { line = n; why = w })) e is refl
-
-  pub ended_at : j.refused ≡ None → is_at_end (place_of j.reader.place) ≡ is_at_end (lines_read (word_reader (shape_of items)) (whole_lines text)).read.place
-  ended_at none = ap is_at_end (stands.lines.reads none).place
-
-  pub whole_witness : (o : Option ℕ) → j.no_claim ≡ false → (none : j.refused ≡ None) → last_refusal (is_at_end (place_of j.reader.place)) j.admitted (is_nothing (unfinished text)) ≡ None
-      → ((claims : List ℕ) (gs : List Frame) (none : List Bool) → AreClaimed j.reader.claimed claims → NoneIsSet none → RisesAmong (nodes_of is_bad j.reader.play.items) gs none j.reader.play.rose
-      → o ≡ unreached_from claims gs 0 (nodes_of is_bad j.reader.play.items))
-      → Judges items text (first_of j.reader.play.differs j.reader.play.breach o j.reader.play.frames)
-  whole_witness o e none last says =
-      let whole = whole_text (word_judging items) text j stands (is_at_end (place_of j.reader.place)) none (ended_at none) last in
-      let r : Read = (lines_read (word_reader (shape_of items)) (whole_lines text)).read in
-      let reads = stands.lines.reads none in
-      let at : r.place ≡ AtEnd = ended r.place whole.1 in
-      let some = (in_frames (shape_of items) (whole_lines text)).1 at in
-      judged_read (first_of j.reader.play.differs j.reader.play.breach o j.reader.play.frames) (Ok r) e whole.0
-      (λ fs t. judged_whole items j.reader r (unfinished text) reads at some fs t o (unreached items j.reader r (unfinished text) reads at some fs t o says))
+-- what is judged of a whole witness
+pub whole_witness : (items : List Item) (text : List ℕ) (j : WordJudge) (o : Option ℕ) → StandsFor items j text → j.refused ≡ None
+    → ((claims : List ℕ) (gs : List Frame) (none : List Bool) → AreClaimed j.reader.claimed claims → NoneIsSet none → RisesAmong (nodes_of is_bad j.reader.play.items) gs none j.reader.play.rose
+    → o ≡ unreached_from claims gs 0 (nodes_of is_bad j.reader.play.items))
+    → is_at_end (lines_read (word_reader (shape_of items)) (whole_lines text)).read.place ≡ true
+    → Says items (lines_read (word_reader (shape_of items)) (whole_lines text)).read (first_of j.reader.play.differs j.reader.play.breach o j.reader.play.frames)
+whole_witness items text j o stands none says done fs t =
+    let r : Read = (lines_read (word_reader (shape_of items)) (whole_lines text)).read in
+    let reads = stands.lines.reads none in
+    let at : r.place ≡ AtEnd = ended r.place done in
+    let some = (in_frames (shape_of items) (whole_lines text)).1 at in
+    judged_whole items j.reader r (unfinished text) reads at some fs t o (unreached items j.reader r (unfinished text) reads at some fs t o says)

@@ -200,7 +200,7 @@ abbrev pub word_reader : Shape → Reader Read
 word_reader shape = record { nothing = nothing_read; admit = admit shape; ended = λ r. is_at_end r.place }
 
 -- what a text reads as, or its fault
-unfoldable pub read_text : Shape → List ℕ → Result Read Fault
+abbrev pub read_text : Shape → List ℕ → Result Read Fault
 read_text shape text = text_read (word_reader shape) text
 
 -- what the admitted lines of a whole text say

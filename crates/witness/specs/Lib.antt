@@ -8,7 +8,6 @@ pub mod Worked
 pub mod Fits
 pub mod Answers
 pub mod Printed
-pub mod LastLines
 pub mod BitTexts
 pub mod BitAdmits
 pub mod BitJudgements

@@ -55,11 +55,11 @@ abbrev pub is_nothing : List ℕ → Bool
 is_nothing [] = true
 is_nothing (b ∷ bs) = false
 
--- the why of the line after the last whole line, of which there are n and which has these bytes
-abbrev pub last_why : {R : Type 0} → (R → Bool) → ℕ → R → List ℕ → Why
-last_why ended n r last =
-    if nat_le most_lines n && not (is_nothing last) then why.TooLong
-    else (if ended r && not (is_nothing last) then why.Trailing else why.Truncated)
+-- why the line after the last whole one is refused, of which there are n; nothing where it is empty and the witness has ended
+abbrev pub last_refusal : Bool → ℕ → Bool → Option Why
+last_refusal ended n empty =
+    if ended && empty then None
+    else (if nat_le most_lines n && not empty then Some why.TooLong else (if ended then Some why.Trailing else Some why.Truncated))
 
 -- the faulty line, counted from 1, and its why
 pub record Fault : Type 0 where
@@ -69,10 +69,14 @@ pub record Fault : Type 0 where
 abbrev pub fault_at : ℕ → Why → Fault
 fault_at n w = record { line = n + 1; why = w }
 
+abbrev pub refused_for : {R : Type 0} → Reading R → Option Why → Result R Fault
+refused_for g None = Ok g.read
+refused_for g (Some w) = Err (fault_at g.admitted w)
+
 -- what the lines read as, with the bytes behind the last of them, or the fault
 abbrev pub read_or_fault : {R : Type 0} → (R → Bool) → Reading R → List ℕ → Option Why → Result R Fault
-read_or_fault ended g last (Some w) = Err (fault_at g.admitted w)
-read_or_fault ended g last None = if ended g.read && is_nothing last then Ok g.read else Err (fault_at g.admitted (last_why ended g.admitted g.read last))
+read_or_fault ended g last (Some w) = refused_for g (Some w)
+read_or_fault ended g last None = refused_for g (last_refusal (ended g.read) g.admitted (is_nothing last))
 
 -- what a text reads as, or its fault: the first whole line that is not admitted, else the line after the last whole one
 abbrev pub text_read : {R : Type 0} → Reader R → List ℕ → Result R Fault

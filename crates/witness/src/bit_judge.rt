@@ -54,25 +54,14 @@ impl<'a> Model for BitJudge<'a> {
 fn says_no_claim(place: BitPlace, line: Scan) -> bool
     ensures { (bytes : List ℕ) → Scans line bytes → result ≡ (is_header (place_of place) && (bytes_eq bytes (codes "0") || bytes_eq bytes (codes "2"))) }
 {
-    match place {
-        BitPlace::Header => line.is_byte(b'0') || line.is_byte(b'2'),
-        BitPlace::Claim | BitPlace::Initial | BitPlace::First | BitPlace::Later | BitPlace::Done =>
-            false,
-    }
+    matches!(place, BitPlace::Header) && (line.is_byte(b'0') || line.is_byte(b'2'))
 }
 
 /// Whether the last line of a witness is admitted.
 fn has_ended(place: BitPlace) -> bool
     ensures { result ≡ is_done (place_of place) }
 {
-    match place {
-        BitPlace::Done => true,
-        BitPlace::Header
-        | BitPlace::Claim
-        | BitPlace::Initial
-        | BitPlace::First
-        | BitPlace::Later => false,
-    }
+    matches!(place, BitPlace::Done)
 }
 
 impl<'a> BitJudge<'a> {

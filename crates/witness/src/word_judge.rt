@@ -55,33 +55,18 @@ impl<'a> std::marker::Model for WordJudge<'a> {
     ghost view = { λ j. record { reader = j.reader; line = j.line; admitted = j.admitted; refused = j.refused; no_claim = j.no_claim } };
 }
 
-/// Whether a line says that there is no claim.
-fn is_no_claim(line: &[u8]) -> bool
-    ensures { result ≡ (bytes_eq line.now (codes "unsat") || bytes_eq line.now (codes "unknown")) }
-{
-    is_word(line, b"unsat") || is_word(line, b"unknown")
-}
-
 /// Whether a line says that there is no claim, where it may be the status.
 fn says_no_claim(place: Place, line: &[u8]) -> bool
     ensures { result ≡ (is_status (place_of place) && (bytes_eq line.now (codes "unsat") || bytes_eq line.now (codes "unknown"))) }
 {
-    match place {
-        Place::Status => is_no_claim(line),
-        Place::Claims | Place::Parts | Place::States | Place::Free | Place::Frame | Place::End =>
-            false,
-    }
+    matches!(place, Place::Status) && (is_word(line, b"unsat") || is_word(line, b"unknown"))
 }
 
 /// Whether the last line of a witness is admitted.
 fn has_ended(place: Place) -> bool
     ensures { result ≡ is_at_end (place_of place) }
 {
-    match place {
-        Place::End => true,
-        Place::Status | Place::Claims | Place::Parts | Place::States | Place::Free | Place::Frame =>
-            false,
-    }
+    matches!(place, Place::End)
 }
 
 impl<'a> WordJudge<'a> {

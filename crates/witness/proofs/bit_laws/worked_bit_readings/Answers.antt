@@ -9,14 +9,12 @@ use Rattle.witness.specs.Worked.{toggles_once}
 use Rattle.witness.proofs.BitReadLemmas.{all_bits_read}
 use Rattle.witness.proofs.bit_laws.worked_bit_readings.Goals as goal
 
-pub returns-clause-read : goal.returns-clause-read
+pub returns : goal.returns
 unfolding digits reading next_line bit_admit number_of capped_value is_decimal
-returns-clause-read c = (all_bits_read toggles_once, (refl, refl))
-
-pub returns-clause-said : goal.returns-clause-said
-unfolding digits reading next_line bit_admit number_of capped_value is_decimal
-returns-clause-said c =
+returns c =
     record {
+      read = (all_bits_read toggles_once, (refl, refl));
+      said = record {
       whole = refl;
       valid =
           record {
@@ -26,20 +24,9 @@ returns-clause-said c =
             frames = All-from_recursion (λ bits. length bits ≡ 0) ([] ∷ [] ∷ []) (refl, (refl, tt));
           };
       few = lit≤ tt;
+    };
+      whole = (refl, refl);
+      unended = (refl, refl);
+      behind_fault = (refl, refl);
+      half_a_frame = (refl, refl);
     }
-
-pub returns-clause-whole : goal.returns-clause-whole
-unfolding digits reading next_line bit_admit number_of capped_value is_decimal
-returns-clause-whole c = (refl, refl)
-
-pub returns-clause-unended : goal.returns-clause-unended
-unfolding digits reading next_line bit_admit number_of capped_value is_decimal
-returns-clause-unended c = (refl, refl)
-
-pub returns-clause-behind_fault : goal.returns-clause-behind_fault
-unfolding digits reading next_line bit_admit number_of capped_value is_decimal
-returns-clause-behind_fault c = (refl, refl)
-
-pub returns-clause-half_a_frame : goal.returns-clause-half_a_frame
-unfolding digits reading next_line bit_admit number_of capped_value is_decimal
-returns-clause-half_a_frame c = (refl, refl)
