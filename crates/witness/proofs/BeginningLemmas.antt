@@ -3,7 +3,7 @@ use Rattle.std.proofs.Common.{◌≡◌, ℕ, ◌+◌, ◌<◌, ◌≤◌, List,
 use Rattle.std.proofs.lemmas.List.Elements.{All-from_recursion}
 use Rattle.base.specs.Lines.{IsLine, text_of_lines, whole_lines, unfinished}
 use Rattle.witness.specs.Texts.{Shape, Assignment, Parts, Witness, claims_line, states_lines, frame_lines, most_lines, Says}
-use Rattle.witness.specs.Admits.{Read, nothing_read, word_reader, read_text, witness_of}
+use Rattle.witness.specs.Admits.{Read, nothing_read, word_reader, witness_of}
 use Rattle.witness.specs.Beginnings.{IsBeginning}
 use Rattle.witness.specs.WordReadings.{admitted_word_lines}
 use Rattle.witness.proofs.PieceLemmas.{decimal_without}

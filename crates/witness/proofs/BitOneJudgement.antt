@@ -1,5 +1,5 @@
 -- A text has one judgement over a circuit: the circuit has one trace, and a judgement looks only at its literals.
-use Rattle.std.proofs.Common.{◌≡◌, ℕ, suc, ◌+◌, ◌<◌, Bool, true, false, cond, not, ◌||◌, List, [], ◌∷◌, length, Option, Some, None, Result, Ok, Err, slice_index, refl, sym, ap, ap₂, ◌∙◌, arith}
+use Rattle.std.proofs.Common.{◌≡◌, ℕ, suc, ◌+◌, ◌<◌, Bool, cond, not, ◌||◌, List, [], ◌∷◌, length, Option, Some, None, slice_index, refl, sym, ap, ap₂, ◌∙◌, arith}
 use Rattle.std.specs.List.{position_from, AllByRecursion}
 use Rattle.std.proofs.lemmas.List.Elements.{recursion_from_All, All-get_or}
 use Rattle.base.specs.Lines.{whole_lines}

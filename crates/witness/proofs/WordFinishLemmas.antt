@@ -1,5 +1,5 @@
 -- The judgement of a text by what a judge of witnesses over a model holds.
-use Rattle.std.proofs.Common.{◌≡◌, ℕ, Bool, true, false, List, [], ◌∷◌, Option, Some, None, map, length, refl, sym, ap, ap₂, subst, ◌∙◌}
+use Rattle.std.proofs.Common.{◌≡◌, ℕ, Bool, true, List, [], ◌∷◌, Option, Some, None, map, length, refl, ap, ap₂, subst, ◌∙◌}
 use Rattle.base.specs.Lines.{whole_lines, unfinished}
 use Rattle.btor2.specs.declared.item.Item.{Item}
 use Rattle.btor2.specs.Items.{is_bad}

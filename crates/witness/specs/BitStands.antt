@@ -5,6 +5,7 @@ use Rattle.aiger.specs.Circuit.{Circuit}
 use Rattle.witness.specs.declared.why.Why.{Why}
 use Rattle.witness.specs.declared.bit_place.BitPlace.{BitPlace as CodePlace}
 use Rattle.witness.specs.declared.bit_place.BitPlace.TheVariants as code
+use Rattle.witness.specs.declared.bit_reader.BitReader.{BitReader}
 use Rattle.witness.specs.declared.bit_scan.Scan.{Scan}
 use Rattle.witness.specs.Stands.{Judge, Judging}
 use Rattle.witness.specs.Stands.{StandsFor as JudgeStandsFor}
@@ -21,12 +22,6 @@ place_of code.Initial = AtInitial
 place_of code.First = AtFirst
 place_of code.Later = AtLater
 place_of code.Done = AtDone
-
--- what is kept of the admitted lines
-pub record BitReader : Type 0 where
-  pub play : BitPlay
-  pub place : CodePlace
-  pub claim : ℕ
 
 -- the play at each place, with these bytes of the next line
 abbrev pub PlaysAt : Circuit → BitRead → BitPlay → List ℕ → BitPlace → Type 0

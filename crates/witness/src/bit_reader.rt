@@ -14,7 +14,6 @@ use crate::why::Why;
 use aiger::Circuit;
 use runs::NewFault;
 use std::alloc::Global;
-use std::marker::Model;
 
 /// What the admitted lines of a witness of a circuit say, and the bits of the line that may go on.
 #[derive(Drop)]
@@ -22,14 +21,6 @@ pub(crate) struct BitReader<'a> {
     play: BitPlay<'a>,
     place: BitPlace,
     claim: u64,
-}
-
-impl<'a> Model for BitReader<'a> {
-    ghost use Rattle.witness.specs.BitStands.{BitReader as BitReaderValue};
-
-    ghost Value = { BitReaderValue };
-
-    ghost view = { λ q. record { play = q.play; place = q.place; claim = q.claim } };
 }
 
 impl<'a> BitReader<'a> {

@@ -15,16 +15,16 @@ returns c =
     record {
       read = (all_bits_read toggles_once, (refl, refl));
       said = record {
-      whole = refl;
-      valid =
-          record {
-            claim = lit< tt;
-            initial = refl;
-            some_frame = λ e. cc;
-            frames = All-from_recursion (λ bits. length bits ≡ 0) ([] ∷ [] ∷ []) (refl, (refl, tt));
-          };
-      few = lit≤ tt;
-    };
+        whole = refl;
+        valid =
+            record {
+              claim = lit< tt;
+              initial = refl;
+              some_frame = λ e. cc;
+              frames = All-from_recursion (λ bits. length bits ≡ 0) ([] ∷ [] ∷ []) (refl, (refl, tt));
+            };
+        few = lit≤ tt;
+      };
       whole = (refl, refl);
       unended = (refl, refl);
       behind_fault = (refl, refl);

@@ -24,35 +24,35 @@ returns c =
     record {
       read = (all_of follows.frames, (refl, refl));
       said = let shape : Shape = shape_of follower in
-    let inputs : IsPart (1 ∷ []) (one 0 0 ∷ []) =
-    record { each = All-from_recursion (IsAssignment (1 ∷ [])) (one 0 0 ∷ []) (record { index = lit< tt; word = lit< tt; symbol = tt }, tt); distinct = refl } in
-    let both : IsPart (1 ∷ 1 ∷ []) (one 0 1 ∷ one 1 0 ∷ []) =
-    record {
-      each = All-from_recursion (IsAssignment (1 ∷ 1 ∷ [])) (one 0 1 ∷ one 1 0 ∷ []) (record { index = lit< tt; word = lit< tt; symbol = tt }, (record { index = lit< tt; word = lit< tt; symbol = tt }, tt));
-      distinct = refl;
-    } in
-    let first : IsPart (1 ∷ 1 ∷ []) (one 0 0 ∷ []) =
-    record { each = All-from_recursion (IsAssignment (1 ∷ 1 ∷ [])) (one 0 0 ∷ []) (record { index = lit< tt; word = lit< tt; symbol = tt }, tt); distinct = refl } in
-    let second : Parts = record { states = Some (one 0 0 ∷ []); inputs = one 0 0 ∷ [] } in
-    let later : IsLater shape second =
-    record {
-      states = record { some = refl; part = first; free = All-from_recursion (λ (a : Assignment). is_free_index shape a.index ≡ true) (one 0 0 ∷ []) (refl, tt) };
-      inputs = inputs;
-    } in
-    record {
-      comments = [];
-      lines = All-nil IsLine;
-      marked = All-nil (λ (line : List ℕ). is_comment line ≡ true);
-      whole = refl;
-      valid =
+          let inputs : IsPart (1 ∷ []) (one 0 0 ∷ []) =
+          record { each = All-from_recursion (IsAssignment (1 ∷ [])) (one 0 0 ∷ []) (record { index = lit< tt; word = lit< tt; symbol = tt }, tt); distinct = refl } in
+          let both : IsPart (1 ∷ 1 ∷ []) (one 0 1 ∷ one 1 0 ∷ []) =
           record {
-            some_claim = λ e. cc;
-            claims = All-from_recursion (λ i. i < 1) (0 ∷ []) (lit< tt, tt);
+            each = All-from_recursion (IsAssignment (1 ∷ 1 ∷ [])) (one 0 1 ∷ one 1 0 ∷ []) (record { index = lit< tt; word = lit< tt; symbol = tt }, (record { index = lit< tt; word = lit< tt; symbol = tt }, tt));
             distinct = refl;
-            frames = (record { states = both; inputs = inputs }, All-from_recursion (IsLater shape) (second ∷ []) (later, tt));
+          } in
+          let first : IsPart (1 ∷ 1 ∷ []) (one 0 0 ∷ []) =
+          record { each = All-from_recursion (IsAssignment (1 ∷ 1 ∷ [])) (one 0 0 ∷ []) (record { index = lit< tt; word = lit< tt; symbol = tt }, tt); distinct = refl } in
+          let second : Parts = record { states = Some (one 0 0 ∷ []); inputs = one 0 0 ∷ [] } in
+          let later : IsLater shape second =
+          record {
+            states = record { some = refl; part = first; free = All-from_recursion (λ (a : Assignment). is_free_index shape a.index ≡ true) (one 0 0 ∷ []) (refl, tt) };
+            inputs = inputs;
+          } in
+          record {
+            comments = [];
+            lines = All-nil IsLine;
+            marked = All-nil (λ (line : List ℕ). is_comment line ≡ true);
+            whole = refl;
+            valid =
+                record {
+                  some_claim = λ e. cc;
+                  claims = All-from_recursion (λ i. i < 1) (0 ∷ []) (lit< tt, tt);
+                  distinct = refl;
+                  frames = (record { states = both; inputs = inputs }, All-from_recursion (IsLater shape) (second ∷ []) (later, tt));
+                };
+            few = lit≤ tt;
           };
-      few = lit≤ tt;
-    };
       empty_part = (all_of (nothing_given ∷ record { states = Some []; inputs = [] } ∷ []), (refl, refl));
       not_kept = (all_of (record { states = Some (one 0 1 ∷ []); inputs = [] } ∷ nothing_given ∷ record { states = Some (one 0 1 ∷ []); inputs = [] } ∷ []), (refl, refl));
     }

@@ -18,29 +18,29 @@ returns c =
     record {
       read = (record { place = AtEnd; claims = 0 ∷ []; closed = rises.frames; states = None; open_part = [] }, (refl, refl));
       said = record {
-      comments = codes "; note" ∷ [];
-      lines = All-from_recursion IsLine (codes "; note" ∷ []) (refl, tt);
-      marked = All-from_recursion (λ line. is_comment line ≡ true) (codes "; note" ∷ []) (refl, tt);
-      whole = refl;
-      valid =
-          record {
-            some_claim = λ e. cc;
-            claims = All-from_recursion (λ i. i < 1) (0 ∷ []) (lit< tt, tt);
-            distinct = refl;
-            frames = (
-              record {
-                states =
-                    record {
-                      each = All-from_recursion (IsAssignment (1 ∷ [])) (record { index = 0; word = 0; symbol = Some (codes "t") } ∷ []) (record { index = lit< tt; word = lit< tt; symbol = refl }, tt);
-                      distinct = refl;
-                    };
-                inputs = record { each = All-nil (IsAssignment []); distinct = refl };
-              },
-              All-from_recursion (IsLater (shape_of toggler)) (nothing_given ∷ []) (record { states = tt; inputs = record { each = All-nil (IsAssignment []); distinct = refl } }, tt),
-            );
-          };
-      few = lit≤ tt;
-    };
+        comments = codes "; note" ∷ [];
+        lines = All-from_recursion IsLine (codes "; note" ∷ []) (refl, tt);
+        marked = All-from_recursion (λ line. is_comment line ≡ true) (codes "; note" ∷ []) (refl, tt);
+        whole = refl;
+        valid =
+            record {
+              some_claim = λ e. cc;
+              claims = All-from_recursion (λ i. i < 1) (0 ∷ []) (lit< tt, tt);
+              distinct = refl;
+              frames = (
+                record {
+                  states =
+                      record {
+                        each = All-from_recursion (IsAssignment (1 ∷ [])) (record { index = 0; word = 0; symbol = Some (codes "t") } ∷ []) (record { index = lit< tt; word = lit< tt; symbol = refl }, tt);
+                        distinct = refl;
+                      };
+                  inputs = record { each = All-nil (IsAssignment []); distinct = refl };
+                },
+                All-from_recursion (IsLater (shape_of toggler)) (nothing_given ∷ []) (record { states = tt; inputs = record { each = All-nil (IsAssignment []); distinct = refl } }, tt),
+              );
+            };
+        few = lit≤ tt;
+      };
       wide_is_model = (refl, (refl, (refl, (refl, (refl, tt)))));
       words = (record { place = AtEnd; claims = 0 ∷ []; closed = record { states = None; inputs = record { index = 0; word = 4; symbol = None } ∷ [] } ∷ nothing_given ∷ []; states = None; open_part = [] }, (refl, refl));
     }

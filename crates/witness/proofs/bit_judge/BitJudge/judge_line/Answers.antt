@@ -5,7 +5,8 @@ use Rattle.witness.specs.declared.bit_place.BitPlace.{BitPlace as CodePlace}
 use Rattle.witness.specs.Readings.{lines_read}
 use Rattle.witness.specs.BitAdmits.{BitRead, bit_reader}
 use Rattle.witness.specs.Stands.{IsOfLines}
-use Rattle.witness.specs.BitStands.{BitReader, Counts, Admits, BitJudge, bit_judging, is_header, place_of}
+use Rattle.witness.specs.declared.bit_reader.BitReader.{BitReader}
+use Rattle.witness.specs.BitStands.{Counts, Admits, BitJudge, bit_judging, is_header, place_of}
 use Rattle.witness.proofs.StandsLemmas.{too_many, not_admitted, line_admitted}
 use Rattle.witness.proofs.BitJudgeLemmas.{claims_more, few_frames}
 use Rattle.witness.proofs.bit_judge.BitJudge.judge_line.Goals as goal
