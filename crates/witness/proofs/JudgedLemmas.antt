@@ -22,9 +22,6 @@ module _ {R : Type 0} (Says : R → Judgement → Type 0) (none : Bool) (read : 
       by (Err e) is first second = first ∙ sym second
       by (Ok r) is first second = once r is first second
 
-  pub no_claim_judged : none ≡ true → JudgesAs Says none read judgement.NoClaim
-  no_claim_judged e = subst (λ (b : Bool). JudgesAs Says b read judgement.NoClaim) (sym e) refl
-
   pub read_judged : (o : Result R Fault) (j : Judgement) → none ≡ false → read ≡ o → JudgesAs Says false o j → JudgesAs Says none read j
   read_judged o j e is h = subst (λ (b : Bool). JudgesAs Says b read j) (sym e) (subst (λ (r : Result R Fault). JudgesAs Says false r j) (sym is) h)
 

@@ -11,7 +11,7 @@ use Rattle.witness.specs.Readings.{Reading, so_far, nothing_admitted, next_line,
 use Rattle.witness.specs.Judgements.{JudgesAs}
 use Rattle.witness.specs.Stands.{Judge, Judging, IsOfLines, StandsFor}
 use Rattle.witness.proofs.LastLineLemmas.{whole_is}
-use Rattle.witness.proofs.JudgedLemmas.{no_claim_judged, read_judged}
+use Rattle.witness.proofs.JudgedLemmas.{read_judged}
 use Rattle.witness.proofs.TextEndLemmas.{whole_lines-part, unfinished-part}
 use Rattle.witness.proofs.ReadingLemmas.{goes, lines_append, few_read}
 
@@ -155,9 +155,6 @@ module _ {R Q L : Type 0} (g : Judging R Q L) (Says : R → Judgement → Type 0
 
   abbrev Judged : Judgement → Type 0
   Judged result = JudgesAs Says (g.makes_no_claim (whole_lines text)) (text_read g.reader text) result
-
-  pub claims_none : j.no_claim ≡ true → Judged judgement.NoClaim
-  claims_none e = no_claim_judged Says (g.makes_no_claim (whole_lines text)) (text_read g.reader text) (sym stands.lines.no_claim ∙ e)
 
   -- by the whole lines
   by_lines : (o : Option Why) (read : Result R Fault) (result : Judgement) → j.no_claim ≡ false → j.refused ≡ o → read_or_fault g.reader.ended all (unfinished text) o ≡ read → JudgesAs Says false read result → Judged result

@@ -30,12 +30,6 @@ unfinished-part text part is = rest_behind_text text part ∙ unfinished-last (u
 pub one_byte : (b : ℕ) → (b ≡ 10 → ⊥) → IsLine (b ∷ [])
 one_byte b other = or_from (b == 10) false (ne_eqb b 10 other) refl
 
-pub whole_lines-byte : (text : List ℕ) (b : ℕ) → (b ≡ 10 → ⊥) → whole_lines (text ++ b ∷ []) ≡ whole_lines text
-whole_lines-byte text b other = whole_lines-part text (b ∷ []) (one_byte b other)
-
-pub unfinished-byte : (text : List ℕ) (b : ℕ) → (b ≡ 10 → ⊥) → unfinished (text ++ b ∷ []) ≡ unfinished text ++ b ∷ []
-unfinished-byte text b other = unfinished-part text (b ∷ []) (one_byte b other)
-
 pub whole_lines-end : (text : List ℕ) → whole_lines (text ++ 10 ∷ []) ≡ whole_lines text ++ unfinished text ∷ []
 whole_lines-end text = lines_behind_text text (10 ∷ []) ∙ ap (λ (ls : List (List ℕ)). whole_lines text ++ ls) (whole_lines-line (unfinished text) [] (unfinished_is_line text))
 
