@@ -12,7 +12,8 @@ use Rattle.witness.specs.declared.why.Why.{Why}
 use Rattle.witness.specs.declared.why.Why.TheVariants as why
 use Rattle.witness.specs.Texts.{digit, claim, most_lines}
 use Rattle.witness.specs.BitTexts.{bit_line}
-use Rattle.witness.specs.BitAdmits.{claim_at, bits_at, BitPlace, AtHeader, AtClaim, AtInitial, AtFirst, AtLater, AtDone, BitRead, BitReading, nothing_admitted, one_more_line, after_claim, after_initial, after_frame, bit_admit_at, bit_admit, next_line, lines_behind}
+use Rattle.witness.specs.Readings.{Reading, nothing_admitted, one_more_line, next_line, lines_behind, lines_read}
+use Rattle.witness.specs.BitAdmits.{claim_at, bits_at, BitPlace, AtHeader, AtClaim, AtInitial, AtFirst, AtLater, AtDone, BitRead, after_claim, after_initial, after_frame, bit_admit_at, bit_admit, bit_reader}
 use Rattle.witness.proofs.BitReadLemmas.{bits_are_line, claim_is_line}
 use Rattle.witness.proofs.PieceLemmas.{decimal_digits}
 use Rattle.lift.specs.Lifted.{piece, line_bits, initial_piece, frame_piece}
@@ -71,15 +72,15 @@ place_step c n r next line AtLater at h =
     ]
 place_step c n r next line AtDone at h = absurd cc
 
-abbrev Placed : BitReading → ℕ → Type 0
+abbrev Placed : Reading BitRead → ℕ → Type 0
 Placed g n = g.refused ≡ None → PlaceAt n g.read.place
 
-placed_read : (c : Circuit) (g : BitReading) (n : ℕ) (line : List ℕ) (o : Result BitRead Why) → bit_admit c g.read line ≡ o → g.refused ≡ None → Placed g n → Placed (one_more_line g o) (n + 1)
+placed_read : (c : Circuit) (g : Reading BitRead) (n : ℕ) (line : List ℕ) (o : Result BitRead Why) → bit_admit c g.read line ≡ o → g.refused ≡ None → Placed g n → Placed (one_more_line g o) (n + 1)
 unfolding bit_admit
 placed_read c g n line (Ok r) is none h e = place_step c n g.read r line g.read.place (h none) is
 placed_read c g n line (Err w) is none h e = absurd cc
 
-placed_line : (c : Circuit) (g : BitReading) (n : ℕ) (line : List ℕ) (o : Option Why) → g.refused ≡ o → Placed g n → Placed (next_line c g line) (n + 1)
+placed_line : (c : Circuit) (g : Reading BitRead) (n : ℕ) (line : List ℕ) (o : Option Why) → g.refused ≡ o → Placed g n → Placed (next_line (bit_reader c) g line) (n + 1)
 unfolding next_line
 placed_line c g n line (Some w) is h = rw is (λ e. absurd cc)
 placed_line c g n line None is h =
@@ -88,19 +89,19 @@ placed_line c g n line None is h =
       | inr few ↦ rw (is, few) (placed_read c g n line (bit_admit c g.read line) refl is h)
     ]
 
-placed_from : (c : Circuit) (g : BitReading) (n : ℕ) (lines : List (List ℕ)) → Placed g n → Placed (lines_behind c g lines) (n + length lines)
+placed_from : (c : Circuit) (g : Reading BitRead) (n : ℕ) (lines : List (List ℕ)) → Placed g n → Placed (lines_behind (bit_reader c) g lines) (n + length lines)
 placed_from c g n [] h = let same : n + 0 ≡ n = omega arith in subst (Placed g) (sym same) h
 placed_from c g n (line ∷ lines) h =
     let same : n + 1 + length lines ≡ n + suc (length lines) = omega arith in
-    subst (Placed (lines_behind c (next_line c g line) lines)) same (placed_from c (next_line c g line) (n + 1) lines (placed_line c g n line g.refused refl h))
+    subst (Placed (lines_behind (bit_reader c) (next_line (bit_reader c) g line) lines)) same (placed_from c (next_line (bit_reader c) g line) (n + 1) lines (placed_line c g n line g.refused refl h))
 
-nothing_placed : Placed nothing_admitted 0
-nothing_placed e = refl
+nothing_placed : (c : Circuit) → Placed (nothing_admitted (bit_reader c)) 0
+nothing_placed c e = refl
 
-place_of_lines : (c : Circuit) (lines : List (List ℕ)) → (lines_behind c nothing_admitted lines).refused ≡ None → PlaceAt (length lines) (lines_behind c nothing_admitted lines).read.place
+place_of_lines : (c : Circuit) (lines : List (List ℕ)) → (lines_read (bit_reader c) lines).refused ≡ None → PlaceAt (length lines) (lines_read (bit_reader c) lines).read.place
 place_of_lines c lines none =
     let same : 0 + length lines ≡ length lines = omega arith in
-    subst (λ (n : ℕ). PlaceAt n (lines_behind c nothing_admitted lines).read.place) same (placed_from c nothing_admitted 0 lines nothing_placed none)
+    subst (λ (n : ℕ). PlaceAt n (lines_read (bit_reader c) lines).read.place) same (placed_from c (nothing_admitted (bit_reader c)) 0 lines (nothing_placed c) none)
 
 -- ---- what the line is
 
@@ -149,11 +150,11 @@ admitted_at c n r next line AtLater small at h =
     ]
 admitted_at c n r next line AtDone small at h = absurd cc
 
-pub is_admitted : (c : Circuit) (lines : List (List ℕ)) (next : BitRead) (line : List ℕ) → length c.bads < 2 ^ 64 → (lines_behind c nothing_admitted lines).refused ≡ None
-    → bit_admit c (lines_behind c nothing_admitted lines).read line ≡ Ok next → IsAdmitted c (length lines) line
+pub is_admitted : (c : Circuit) (lines : List (List ℕ)) (next : BitRead) (line : List ℕ) → length c.bads < 2 ^ 64 → (lines_read (bit_reader c) lines).refused ≡ None
+    → bit_admit c (lines_read (bit_reader c) lines).read line ≡ Ok next → IsAdmitted c (length lines) line
 unfolding bit_admit
 is_admitted c lines next line small none h =
-    admitted_at c (length lines) (lines_behind c nothing_admitted lines).read next line (lines_behind c nothing_admitted lines).read.place small (place_of_lines c lines none) h
+    admitted_at c (length lines) (lines_read (bit_reader c) lines).read next line (lines_read (bit_reader c) lines).read.place small (place_of_lines c lines none) h
 
 -- ---- its piece
 

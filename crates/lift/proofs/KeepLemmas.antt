@@ -23,11 +23,13 @@ use Rattle.blast.proofs.LowerAssembly.{length-state_resets}
 use Rattle.witness.specs.declared.why.Why.{Why}
 use Rattle.witness.specs.declared.judgement.Judgement.{Judgement}
 use Rattle.witness.specs.Texts.{Witness, shape_of, is_comment, most_lines, witness_lines, Says}
-use Rattle.witness.specs.Admits.{Read, Fault, read_text, witness_of}
-use Rattle.witness.specs.Judgements.{words_of, initial_words, given_frames, nodes_of, first_different, verdict, makes_no_claim, JudgesWords, JudgesRead, JudgesText, Judges}
+use Rattle.witness.specs.Admits.{Read, read_text, witness_of}
+use Rattle.witness.specs.Judgements.{words_of, initial_words, given_frames, nodes_of, first_different, verdict, makes_no_claim, JudgesWords, Judges}
 use Rattle.witness.specs.BitTexts.{BitWitness, bit_line, bit_witness_lines, BitSays}
-use Rattle.witness.specs.BitAdmits.{BitRead, BitReading, nothing_admitted, lines_behind, bit_reading, read_or_fault, read_bit_text, bit_witness_of, admitted_lines}
-use Rattle.witness.specs.BitJudgements.{makes_no_bit_claim, bit_verdict, JudgesBits, JudgesBitRead, JudgesBitText, BitJudges}
+use Rattle.witness.specs.Readings.{Reading, lines_read, reading, Fault, read_or_fault}
+use Rattle.witness.specs.BitAdmits.{BitRead, is_done, bit_reader, read_bit_text, bit_witness_of, admitted_lines}
+use Rattle.witness.specs.BitJudgements.{makes_no_bit_claim, bit_verdict, JudgesBits, BitJudges}
+use Rattle.witness.proofs.JudgedLemmas.{judged_says}
 use Rattle.witness.proofs.PieceLemmas.{decimal_without}
 use Rattle.witness.proofs.BitReadLemmas.{bits_are_a_line}
 use Rattle.witness.proofs.FrameLemmas.{bad_names, length-nodes}
@@ -50,15 +52,15 @@ frames_are_lines (bits ∷ frames) = (bits_are_a_line bits, frames_are_lines fra
 source_lines : (w : BitWitness) → w.claim < 2 ^ 64 → EachLine (bit_witness_lines w)
 source_lines w small = (refl, (decimal_without 10 w.claim (omega arith) small, (bits_are_a_line w.initial, frames_are_lines w.frames)))
 
-none_refused : (g : BitReading) (last : List ℕ) (o : Option Why) (r : BitRead) → read_or_fault g last o ≡ Ok r → o ≡ None
+none_refused : (g : Reading BitRead) (last : List ℕ) (o : Option Why) (r : BitRead) → read_or_fault (λ s. is_done s.place) g last o ≡ Ok r → o ≡ None
 none_refused g last None r e = refl
 none_refused g last (Some w) r e = absurd (cc)
 
 -- all lines of a source that is read are admitted
 all_admitted : (c : Circuit) (text : List ℕ) (r : BitRead) → read_bit_text c text ≡ Ok r → admitted_lines c text ≡ length (whole_lines text)
-unfolding bit_reading
+unfolding reading
 all_admitted c text r e =
-    (counted c (whole_lines text)).all (none_refused (lines_behind c nothing_admitted (whole_lines text)) (unfinished text) (lines_behind c nothing_admitted (whole_lines text)).refused r e)
+    (counted c (whole_lines text)).all (none_refused (lines_read (bit_reader c) (whole_lines text)) (unfinished text) (lines_read (bit_reader c) (whole_lines text)).refused r e)
 
 -- ---- the lines of the lifted text
 
@@ -169,14 +171,15 @@ module _ (items : List Item) (c : Circuit) (text : List ℕ) (b : BitWitness) (l
 
   judged_bits : (j : Judgement) (r : BitRead) → read_bit_text c text ≡ Ok r → bit_witness_of r ≡ b → BitJudges c text j → JudgesBits c b j
   judged_bits j r read is h =
-      let claims : JudgesBitRead c (read_bit_text c text) j = subst (λ (t : Bool). JudgesBitText c text t j) source_claims h in
-      subst (λ (w : BitWitness). JudgesBits c w j) is (subst (λ (o : Result BitRead Fault). JudgesBitRead c o j) read claims)
+      subst (λ (w : BitWitness). JudgesBits c w j) is
+      (judged_says (λ (s : BitRead). JudgesBits c (bit_witness_of s)) (makes_no_bit_claim (whole_lines text)) (read_bit_text c text) r j source_claims read h)
 
   judged_words : (k : Judgement) (r : BitRead) (q : Read) → read_bit_text c text ≡ Ok r → read_text (shape_of items) (lifted_text items c text) ≡ Ok q → witness_of q ≡ lifted_witness items b → Judges items (lifted_text items c text) k
       → JudgesWords items (words_lifted items b) k
   judged_words k r q bits read is h =
-      let claims : JudgesRead items (read_text (shape_of items) (lifted_text items c text)) k = subst (λ (t : Bool). JudgesText items (lifted_text items c text) t k) (lifted_claims r bits) h in
-      subst (λ (w : Witness). JudgesWords items (words_of w) k) is (subst (λ (o : Result Read Fault). JudgesRead items o k) read claims)
+      let all : List ℕ = lifted_text items c text in
+      subst (λ (w : Witness). JudgesWords items (words_of w) k) is
+      (judged_says (λ (s : Read). JudgesWords items (words_of (witness_of s))) (makes_no_claim 0 (whole_lines all)) (read_text (shape_of items) all) q k (lifted_claims r bits) read h)
 
   pub kept_verdict : (j k : Judgement) (r : BitRead) (q : Read) (fs : List Frame) (vs : List Valuation) → read_bit_text c text ≡ Ok r → bit_witness_of r ≡ b
       → read_text (shape_of items) (lifted_text items c text) ≡ Ok q → witness_of q ≡ lifted_witness items b

@@ -11,9 +11,10 @@ use Rattle.base.proofs.DeviceLemmas.{sent_on, sent_then_beginning, beginning_lon
 use Rattle.base.proofs.LineLemmas.{parts_of_text, unfinished-lines, unfinished-last, unfinished_is_line, whole_lines-last}
 use Rattle.btor2.specs.declared.item.Item.{Item}
 use Rattle.aiger.specs.Circuit.{Circuit, IsCircuit}
-use Rattle.witness.specs.BitAdmits.{nothing_admitted, lines_behind, bit_reading, admitted_lines}
+use Rattle.witness.specs.Readings.{lines_read, reading}
+use Rattle.witness.specs.BitAdmits.{admitted_lines, bit_reader}
 use Rattle.witness.specs.BitStands.{StandsFor}
-use Rattle.witness.proofs.BitJudgeLemmas.{whole_lines-end, unfinished-line_end}
+use Rattle.witness.proofs.TextEndLemmas.{whole_lines-end, unfinished-line_end}
 use Rattle.lift.specs.Lifted.{piece, lifted_text}
 use Rattle.lift.specs.Kept.{Keeps, kept_piece}
 use Rattle.lift.specs.Stands.{Lifter, Lifts, admitted_piece}
@@ -56,18 +57,18 @@ lifts_bytes items c text bytes before after is h same stands keeps room =
 few_bads : (c : Circuit) → IsCircuit c → length c.bads < 2 ^ 64
 few_bads c valid = omega (arith, valid.few.bads)
 
-admitted_by_lines : (c : Circuit) (text : List ℕ) → admitted_lines c text ≡ (lines_behind c nothing_admitted (whole_lines text)).admitted
-unfolding bit_reading
+admitted_by_lines : (c : Circuit) (text : List ℕ) → admitted_lines c text ≡ (lines_read (bit_reader c) (whole_lines text)).admitted
+unfolding reading
 admitted_by_lines c text = refl
 
 same_admitted : (c : Circuit) (text bytes : List ℕ) → IsLine bytes → admitted_lines c text ≡ admitted_lines c (text ++ bytes)
-same_admitted c text bytes is = admitted_by_lines c text ∙ ap (λ (ls : List (List ℕ)). (lines_behind c nothing_admitted ls).admitted) (sym (same_lines text bytes is)) ∙ sym (admitted_by_lines c (text ++ bytes))
+same_admitted c text bytes is = admitted_by_lines c text ∙ ap (λ (ls : List (List ℕ)). (lines_read (bit_reader c) ls).admitted) (sym (same_lines text bytes is)) ∙ sym (admitted_by_lines c (text ++ bytes))
 
 lifted_end_by_lines : (items : List Item) (c : Circuit) (text : List ℕ) → lifted_text items c (text ++ 10 ∷ []) ≡ text_of_lines (lifted_of items c (whole_lines text ++ unfinished text ∷ []))
 lifted_end_by_lines items c text = lifted_by_lines items c (text ++ 10 ∷ []) ∙ ap (λ (ls : List (List ℕ)). text_of_lines (lifted_of items c ls)) (whole_lines-end text)
 
-admitted_end : (c : Circuit) (text : List ℕ) → admitted_lines c (text ++ 10 ∷ []) ≡ (lines_behind c nothing_admitted (whole_lines text ++ unfinished text ∷ [])).admitted
-admitted_end c text = admitted_by_lines c (text ++ 10 ∷ []) ∙ ap (λ (ls : List (List ℕ)). (lines_behind c nothing_admitted ls).admitted) (whole_lines-end text)
+admitted_end : (c : Circuit) (text : List ℕ) → admitted_lines c (text ++ 10 ∷ []) ≡ (lines_read (bit_reader c) (whole_lines text ++ unfinished text ∷ [])).admitted
+admitted_end c text = admitted_by_lines c (text ++ 10 ∷ []) ∙ ap (λ (ls : List (List ℕ)). (lines_read (bit_reader c) ls).admitted) (whole_lines-end text)
 
 -- what is kept is of this line, over the model and the circuit
 record Holds (items : List Item) (c : Circuit) (l : Lifter) (line : List ℕ) : Type 0 where

@@ -7,7 +7,7 @@ use Rattle.base.proofs.DeviceLemmas.{beginning_longer}
 use Rattle.base.proofs.PieceLemmas.{rest_fails}
 use Rattle.btor2.specs.declared.item.Item.{Item}
 use Rattle.aiger.specs.Circuit.{Circuit}
-use Rattle.witness.specs.BitAdmits.{bit_reading}
+use Rattle.witness.specs.Readings.{reading}
 use Rattle.lift.specs.Lifted.{lifted_text}
 use Rattle.lift.specs.Stands.{Lifter, Lifts, Takes}
 use Rattle.lift.proofs.LineLemmas.{lifted_begins}
@@ -90,7 +90,7 @@ write_failed T E e source source' source'' old mid now kept mid_kept left before
 -- ---- what is written at the end
 
 nothing_yet : (items : List Item) (c : Circuit) → lifted_text items c [] ≡ []
-unfolding lifted_text bit_reading
+unfolding lifted_text reading
 nothing_yet items c = refl
 
 sent_nothing : (items : List Item) (c : Circuit) (old : Option (List ℕ)) → Sent old old (lifted_text items c []) []

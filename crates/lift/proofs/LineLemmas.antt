@@ -10,22 +10,23 @@ use Rattle.btor2.specs.declared.item.Item.{Item}
 use Rattle.aiger.specs.Circuit.{Circuit}
 use Rattle.witness.specs.declared.why.Why.{Why}
 use Rattle.witness.specs.Texts.{most_lines}
-use Rattle.witness.specs.BitAdmits.{BitRead, BitReading, nothing_admitted, one_more_line, bit_admit, next_line, lines_behind, bit_reading, admitted_lines}
-use Rattle.witness.proofs.BitJudgeLemmas.{lines_more}
+use Rattle.witness.specs.Readings.{Reading, nothing_admitted, one_more_line, next_line, lines_behind, lines_read, reading}
+use Rattle.witness.specs.BitAdmits.{BitRead, bit_admit, admitted_lines, bit_reader}
+use Rattle.witness.proofs.ReadingLemmas.{lines_append}
 use Rattle.lift.specs.Lifted.{piece, lifted_lines, lifted_text}
 
 -- ---- lines that are admitted
 
 -- how many lines are admitted of so many
-pub record Counted (g : BitReading) (n : ℕ) : Type 0 where
+pub record Counted (g : Reading BitRead) (n : ℕ) : Type 0 where
   pub few : g.admitted ≤ n
   pub all : g.refused ≡ None → g.admitted ≡ n
 
-counted_read : (g : BitReading) (n : ℕ) (o : Result BitRead Why) → Counted g n → g.refused ≡ None → Counted (one_more_line g o) (n + 1)
+counted_read : (g : Reading BitRead) (n : ℕ) (o : Result BitRead Why) → Counted g n → g.refused ≡ None → Counted (one_more_line g o) (n + 1)
 counted_read g n (Ok r) h none = record { few = omega (arith, h.few); all = λ e. ap (λ (k : ℕ). k + 1) (h.all none) }
 counted_read g n (Err w) h none = record { few = omega (arith, h.few); all = λ e. absurd cc }
 
-counted_line : (c : Circuit) (g : BitReading) (n : ℕ) (line : List ℕ) (o : Option Why) → g.refused ≡ o → Counted g n → Counted (next_line c g line) (n + 1)
+counted_line : (c : Circuit) (g : Reading BitRead) (n : ℕ) (line : List ℕ) (o : Option Why) → g.refused ≡ o → Counted g n → Counted (next_line (bit_reader c) g line) (n + 1)
 unfolding next_line
 counted_line c g n line (Some w) is h = rw is (record { few = omega (arith, h.few); all = λ e. absurd cc })
 counted_line c g n line None is h =
@@ -34,21 +35,21 @@ counted_line c g n line None is h =
       | inr few ↦ rw (is, few) (counted_read g n (bit_admit c g.read line) h is)
     ]
 
-counted_from : (c : Circuit) (g : BitReading) (n : ℕ) (lines : List (List ℕ)) → Counted g n → Counted (lines_behind c g lines) (n + length lines)
+counted_from : (c : Circuit) (g : Reading BitRead) (n : ℕ) (lines : List (List ℕ)) → Counted g n → Counted (lines_behind (bit_reader c) g lines) (n + length lines)
 counted_from c g n [] h = let same : n + 0 ≡ n = omega arith in subst (Counted g) (sym same) h
 counted_from c g n (line ∷ lines) h =
     let same : n + 1 + length lines ≡ n + suc (length lines) = omega arith in
-    subst (Counted (lines_behind c (next_line c g line) lines)) same (counted_from c (next_line c g line) (n + 1) lines (counted_line c g n line g.refused refl h))
+    subst (Counted (lines_behind (bit_reader c) (next_line (bit_reader c) g line) lines)) same (counted_from c (next_line (bit_reader c) g line) (n + 1) lines (counted_line c g n line g.refused refl h))
 
-pub counted : (c : Circuit) (lines : List (List ℕ)) → Counted (lines_behind c nothing_admitted lines) (length lines)
+pub counted : (c : Circuit) (lines : List (List ℕ)) → Counted (lines_read (bit_reader c) lines) (length lines)
 counted c lines =
     let same : 0 + length lines ≡ length lines = omega arith in
-    subst (Counted (lines_behind c nothing_admitted lines)) same (counted_from c nothing_admitted 0 lines (record { few = omega arith; all = λ e. refl }))
+    subst (Counted (lines_read (bit_reader c) lines)) same (counted_from c (nothing_admitted (bit_reader c)) 0 lines (record { few = omega arith; all = λ e. refl }))
 
 -- ---- lines that are lifted
 
 abbrev pub lifted_of : List Item → Circuit → List (List ℕ) → List (List ℕ)
-lifted_of items c lines = lifted_lines items 0 (take (lines_behind c nothing_admitted lines).admitted lines)
+lifted_of items c lines = lifted_lines items 0 (take (lines_read (bit_reader c) lines).admitted lines)
 
 lifted-append : (items : List Item) (n : ℕ) (xs ys : List (List ℕ)) → lifted_lines items n (xs ++ ys) ≡ lifted_lines items n xs ++ lifted_lines items (n + length xs) ys
 lifted-append items n [] ys = let same : n + 0 ≡ n = omega arith in rw same refl
@@ -59,34 +60,34 @@ lifted-append items n (x ∷ xs) ys =
 
 -- a line behind others is not admitted, and lifted to nothing, or it is, and lifted to its piece
 pub record Passes (items : List Item) (c : Circuit) (lines : List (List ℕ)) (line : List ℕ) : Type 0 where
-  pub count : (lines_behind c nothing_admitted (lines ++ line ∷ [])).admitted ≡ (lines_behind c nothing_admitted lines).admitted
+  pub count : (lines_read (bit_reader c) (lines ++ line ∷ [])).admitted ≡ (lines_read (bit_reader c) lines).admitted
   pub lifted : lifted_of items c (lines ++ line ∷ []) ≡ lifted_of items c lines
 
 pub record Adds (items : List Item) (c : Circuit) (lines : List (List ℕ)) (line : List ℕ) : Type 0 where
   pub next : BitRead
-  pub going : (lines_behind c nothing_admitted lines).refused ≡ None
-  pub before : (lines_behind c nothing_admitted lines).admitted ≡ length lines
-  pub count : (lines_behind c nothing_admitted (lines ++ line ∷ [])).admitted ≡ length lines + 1
-  pub reads : bit_admit c (lines_behind c nothing_admitted lines).read line ≡ Ok next
+  pub going : (lines_read (bit_reader c) lines).refused ≡ None
+  pub before : (lines_read (bit_reader c) lines).admitted ≡ length lines
+  pub count : (lines_read (bit_reader c) (lines ++ line ∷ [])).admitted ≡ length lines + 1
+  pub reads : bit_admit c (lines_read (bit_reader c) lines).read line ≡ Ok next
   pub lifted : lifted_of items c (lines ++ line ∷ []) ≡ lifted_of items c lines ++ piece items (length lines) line
 
 -- with as many lines admitted as before
-same_count : (items : List Item) (c : Circuit) (lines : List (List ℕ)) (line : List ℕ) → (next_line c (lines_behind c nothing_admitted lines) line).admitted ≡ (lines_behind c nothing_admitted lines).admitted → Passes items c lines line
+same_count : (items : List Item) (c : Circuit) (lines : List (List ℕ)) (line : List ℕ) → (next_line (bit_reader c) (lines_read (bit_reader c) lines) line).admitted ≡ (lines_read (bit_reader c) lines).admitted → Passes items c lines line
 same_count items c lines line e =
-    let g : BitReading = lines_behind c nothing_admitted lines in
-    let count : (lines_behind c nothing_admitted (lines ++ line ∷ [])).admitted ≡ g.admitted = ap (λ (x : BitReading). x.admitted) (lines_more c nothing_admitted lines line) ∙ e in
+    let g : Reading BitRead = lines_read (bit_reader c) lines in
+    let count : (lines_read (bit_reader c) (lines ++ line ∷ [])).admitted ≡ g.admitted = ap (λ (x : Reading BitRead). x.admitted) (lines_append (bit_reader c) (nothing_admitted (bit_reader c)) lines (line ∷ [])) ∙ e in
     record {
       count = count;
       lifted = ap (λ (n : ℕ). lifted_lines items 0 (take n (lines ++ line ∷ []))) count ∙ ap (lifted_lines items 0) (take-append-le g.admitted lines (line ∷ []) (counted c lines).few);
     }
 
 -- with one more
-one_more : (items : List Item) (c : Circuit) (lines : List (List ℕ)) (line : List ℕ) (next : BitRead) → (lines_behind c nothing_admitted lines).refused ≡ None → bit_admit c (lines_behind c nothing_admitted lines).read line ≡ Ok next
-    → (next_line c (lines_behind c nothing_admitted lines) line).admitted ≡ (lines_behind c nothing_admitted lines).admitted + 1 → Adds items c lines line
+one_more : (items : List Item) (c : Circuit) (lines : List (List ℕ)) (line : List ℕ) (next : BitRead) → (lines_read (bit_reader c) lines).refused ≡ None → bit_admit c (lines_read (bit_reader c) lines).read line ≡ Ok next
+    → (next_line (bit_reader c) (lines_read (bit_reader c) lines) line).admitted ≡ (lines_read (bit_reader c) lines).admitted + 1 → Adds items c lines line
 one_more items c lines line next going reads e =
-    let g : BitReading = lines_behind c nothing_admitted lines in
+    let g : Reading BitRead = lines_read (bit_reader c) lines in
     let before : g.admitted ≡ length lines = (counted c lines).all going in
-    let count : (lines_behind c nothing_admitted (lines ++ line ∷ [])).admitted ≡ length lines + 1 = ap (λ (x : BitReading). x.admitted) (lines_more c nothing_admitted lines line) ∙ e ∙ ap (λ (n : ℕ). n + 1) before in
+    let count : (lines_read (bit_reader c) (lines ++ line ∷ [])).admitted ≡ length lines + 1 = ap (λ (x : Reading BitRead). x.admitted) (lines_append (bit_reader c) (nothing_admitted (bit_reader c)) lines (line ∷ [])) ∙ e ∙ ap (λ (n : ℕ). n + 1) before in
     let all : take (length lines + 1) (lines ++ line ∷ []) ≡ lines ++ line ∷ [] = ap (λ (n : ℕ). take n (lines ++ line ∷ [])) (sym (length-append lines (line ∷ []))) ∙ take-length (lines ++ line ∷ []) in
     let same : 0 + length lines ≡ length lines = omega arith in
     let last : lifted_lines items (0 + length lines) (line ∷ []) ≡ piece items (length lines) line = ap (λ (n : ℕ). piece items n line ++ []) same ∙ append-nil (piece items (length lines) line) in
@@ -101,8 +102,8 @@ one_more items c lines line next going reads e =
           ∙ ap₂ (λ (l m : List (List ℕ)). l ++ m) (sym (ap (lifted_lines items 0) (ap (λ (n : ℕ). take n lines) before ∙ take-length lines))) last;
     }
 
-judged_line : (items : List Item) (c : Circuit) (lines : List (List ℕ)) (line : List ℕ) (o : Result BitRead Why) → (lines_behind c nothing_admitted lines).refused ≡ None → nat_le most_lines (lines_behind c nothing_admitted lines).admitted ≡ false
-    → bit_admit c (lines_behind c nothing_admitted lines).read line ≡ o → Passes items c lines line ⊎ Adds items c lines line
+judged_line : (items : List Item) (c : Circuit) (lines : List (List ℕ)) (line : List ℕ) (o : Result BitRead Why) → (lines_read (bit_reader c) lines).refused ≡ None → nat_le most_lines (lines_read (bit_reader c) lines).admitted ≡ false
+    → bit_admit c (lines_read (bit_reader c) lines).read line ≡ o → Passes items c lines line ⊎ Adds items c lines line
 unfolding next_line
 judged_line items c lines line (Ok next) going few is = inr (one_more items c lines line next going is (rw (going, few, is) refl))
 judged_line items c lines line (Err w) going few is = inl (same_count items c lines line (rw (going, few, is) refl))
@@ -110,7 +111,7 @@ judged_line items c lines line (Err w) going few is = inl (same_count items c li
 pub line_more : (items : List Item) (c : Circuit) (lines : List (List ℕ)) (line : List ℕ) → Passes items c lines line ⊎ Adds items c lines line
 unfolding next_line
 line_more items c lines line =
-    let g : BitReading = lines_behind c nothing_admitted lines in
+    let g : Reading BitRead = lines_read (bit_reader c) lines in
     let cases = elim (g.refused) as (λ o. g.refused ≡ o → Passes items c lines line ⊎ Adds items c lines line) [
       | Some w ↦ λ h. inl (same_count items c lines line (rw h refl))
       | None ↦ λ h.
@@ -150,7 +151,7 @@ lines_behind_text text rest =
 
 -- what is lifted is that of the whole lines
 pub lifted_by_lines : (items : List Item) (c : Circuit) (text : List ℕ) → lifted_text items c text ≡ text_of_lines (lifted_of items c (whole_lines text))
-unfolding lifted_text bit_reading
+unfolding lifted_text reading
 lifted_by_lines items c text = refl
 
 pub lifted_begins : (items : List Item) (c : Circuit) (front rest : List ℕ) → BeginsWith (lifted_text items c (front ++ rest)) (lifted_text items c front)

@@ -1,20 +1,18 @@
 -- The judgement of a text by what a judge of witnesses of a circuit holds.
-use Rattle.std.proofs.Common.{◌≡◌, ℕ, suc, ◌+◌, ◌-◌, ◌^◌, min, Bool, true, false, List, [], ◌∷◌, Some, None, Result, Ok, Err, length, refl, sym, ap, subst, ◌∙◌, arith}
+use Rattle.std.proofs.Common.{◌≡◌, ℕ, suc, Bool, true, false, cond, List, [], ◌∷◌, Option, Some, None, length, refl, sym, ap, ap₂, subst, ◌∙◌}
 use Rattle.base.specs.Lines.{whole_lines, unfinished}
 use Rattle.aiger.specs.Circuit.{Circuit}
 use Rattle.aiger.specs.Literal.{Valuation}
 use Rattle.aiger.specs.Trace.{IsTrace, next_state}
-use Rattle.witness.specs.declared.why.Why.{Why}
 use Rattle.witness.specs.declared.judgement.Judgement.{Judgement}
-use Rattle.witness.specs.declared.judgement.Judgement.TheVariants as judgement
-use Rattle.witness.specs.Admits.{is_nothing, Fault, fault_at}
-use Rattle.witness.specs.LastLines.{last_refusal}
+use Rattle.witness.specs.Readings.{lines_read}
+use Rattle.witness.specs.Judgements.{Violation}
 use Rattle.witness.specs.BitTexts.{BitWitness}
-use Rattle.witness.specs.BitAdmits.{BitPlace, AtDone, BitRead, BitReading, nothing_admitted, lines_behind, bit_reading, is_done, read_or_fault, read_bit_text, bit_witness_of}
-use Rattle.witness.specs.BitJudgements.{first_reset_differing, bit_violation_from, bit_rises, when_risen, when_unbroken, when_reset, bit_verdict, JudgesBitRead, JudgesBitText, BitJudges}
+use Rattle.witness.specs.BitAdmits.{BitPlace, AtDone, BitRead, is_done, bit_reader, bit_witness_of}
+use Rattle.witness.specs.BitJudgements.{first_reset_differing, bit_violation_from, bit_rises, when_risen, when_unbroken, when_reset, bit_verdict, JudgesBits}
 use Rattle.witness.specs.BitPlays.{BitPlay, Plays, Traced}
-use Rattle.witness.proofs.LastLineLemmas.{RefusedFor, refusal_is, whole_is}
-use Rattle.witness.specs.BitStands.{place_of, PlaysAt, BitJudge, StandsFor, with_rise, with_breach, with_differing, judgement_of}
+use Rattle.witness.specs.Stands.{first_of}
+use Rattle.witness.specs.BitStands.{place_of, PlaysAt, BitJudge, StandsFor}
 
 -- ---- the verdict
 
@@ -28,21 +26,21 @@ module _ (c : Circuit) (w : BitWitness) (p : BitPlay) (vs : List Valuation) (pla
   traced : Traced c w.claim w.initial p vs
   traced = plays.traced vs trace
 
-  risen : with_rise p w.claim p.rose ≡ when_risen w.claim (length vs) (bit_rises c w.claim vs)
-  risen =
+  -- the claim, where it is not reached
+  pub judged_whole : (o : Option ℕ) → o ≡ cond p.rose None (Some w.claim) → first_of p.differs p.breach o p.frames ≡ bit_verdict c w vs
+  judged_whole o e =
       let count : p.frames ≡ length vs = plays.count ∙ sym (trace_length c w.initial w.frames vs trace) in
-      ap (with_rise p w.claim) traced.rose
-      ∙ elim (bit_rises c w.claim vs) as (λ b. with_rise p w.claim b ≡ when_risen w.claim (length vs) b) [ true ↦ ap judgement.Accepted count | false ↦ refl ]
-
-  unbroken : with_breach p w.claim p.breach ≡ when_unbroken c w vs (bit_violation_from c 0 vs)
-  unbroken =
-      ap (with_breach p w.claim) traced.breach
-      ∙ elim (bit_violation_from c 0 vs) as (λ o. with_breach p w.claim o ≡ when_unbroken c w vs o) [ Some v ↦ refl | None ↦ risen ]
-
-  pub judged_whole : judgement_of p w.claim ≡ bit_verdict c w vs
-  judged_whole =
-      ap (with_differing p w.claim) plays.differs
-      ∙ elim (first_reset_differing 0 c.latches w.initial) as (λ o. with_differing p w.claim o ≡ when_reset c w vs o) [ Some k ↦ refl | None ↦ unbroken ]
+      let reached : o ≡ cond (bit_rises c w.claim vs) None (Some w.claim) = e ∙ ap (λ (b : Bool). cond b None (Some w.claim)) traced.rose in
+      let unbroken : first_of None p.breach o p.frames ≡ when_unbroken c w vs (bit_violation_from c 0 vs) =
+      ap (λ (v : Option Violation). first_of None v o p.frames) traced.breach
+      ∙ elim (bit_violation_from c 0 vs) as (λ v. first_of None v o p.frames ≡ when_unbroken c w vs v) [
+        | Some v ↦ refl
+        | None ↦
+            ap₂ (λ (u : Option ℕ) (n : ℕ). first_of None None u n) reached count
+            ∙ elim (bit_rises c w.claim vs) as (λ b. first_of None None (cond b None (Some w.claim)) (length vs) ≡ when_risen w.claim (length vs) b) [ true ↦ refl | false ↦ refl ]
+      ] in
+      ap (λ (d : Option ℕ). first_of d p.breach o p.frames) plays.differs
+      ∙ elim (first_reset_differing 0 c.latches w.initial) as (λ d. first_of d p.breach o p.frames ≡ when_reset c w vs d) [ Some k ↦ refl | None ↦ unbroken ]
 
 -- ---- the judgement
 
@@ -50,50 +48,18 @@ done : (at : BitPlace) → is_done at ≡ true → at ≡ AtDone
 done AtDone h = refl
 done _ h = absurd cc
 
-module _ (c : Circuit) (text : List ℕ) (j : BitJudge) (stands : StandsFor c j text) where
-  abbrev so_far : BitReading
-  so_far = lines_behind c nothing_admitted (whole_lines text)
+abbrev pub Says : Circuit → BitRead → Judgement → Type 0
+Says c r = JudgesBits c (bit_witness_of r)
 
-  pub claims_none : j.no_claim ≡ true → BitJudges c text judgement.NoClaim
-  claims_none e = subst (λ b. JudgesBitText c text b judgement.NoClaim) (sym (sym stands.lines.no_claim ∙ e)) refl
+pub ended_at : (c : Circuit) (text : List ℕ) (j : BitJudge) → StandsFor c j text → j.refused ≡ None → is_done (place_of j.reader.place) ≡ is_done (lines_read (bit_reader c) (whole_lines text)).read.place
+ended_at c text j stands none = ap is_done (stands.lines.reads none).place
 
-  judged_read : (result : Judgement) (r : Result BitRead Fault) → j.no_claim ≡ false → read_bit_text c text ≡ r → JudgesBitRead c r result → BitJudges c text result
-  judged_read result r e is h =
-      subst (λ b. JudgesBitText c text b result) (sym (sym stands.lines.no_claim ∙ e)) (subst (λ r. JudgesBitRead c r result) (sym is) h)
-
-  number : (n : ℕ) → n ≡ min (j.admitted + 1) (2 ^ 64 - 1) → n ≡ so_far.admitted + 1
-  number n e =
-      let few = stands.lines.few in
-      omega (arith, e, few, stands.lines.admitted)
-
-  pub refused_line : (w : Why) (n : ℕ) → j.no_claim ≡ false → j.refused ≡ Some w → n ≡ min (j.admitted + 1) (2 ^ 64 - 1) → BitJudges c text (judgement.Malformed n w)
-  unfolding bit_reading
-  refused_line w n e refused is =
-      judged_read (judgement.Malformed n w) (Err (fault_at so_far.admitted w)) e
-      (ap (read_or_fault so_far (unfinished text)) (sym stands.lines.refused ∙ refused))
-      (ap (λ (n : ℕ). judgement.Malformed n w) (number n is))
-
-  pub refused_last : (w : Why) (n : ℕ) → j.no_claim ≡ false → j.refused ≡ None → last_refusal (is_done (place_of j.reader.place)) j.admitted (is_nothing (unfinished text)) ≡ Some w → n ≡ min (j.admitted + 1) (2 ^ 64 - 1) → BitJudges c text (judgement.Malformed n w)
-  unfolding bit_reading
-  refused_last w n e none last is =
-      let reads = stands.lines.reads none in
-      let h : RefusedFor (is_done so_far.read.place) so_far.admitted (is_nothing (unfinished text)) w =
-      refusal_is (is_done so_far.read.place) so_far.admitted (is_nothing (unfinished text)) w
-      (subst (λ (at : BitPlace). last_refusal (is_done at) so_far.admitted (is_nothing (unfinished text)) ≡ Some w) reads.place
-      (subst (λ (m : ℕ). last_refusal (is_done (place_of j.reader.place)) m (is_nothing (unfinished text)) ≡ Some w) stands.lines.admitted last)) in
-      let read : read_or_fault so_far (unfinished text) None ≡ Err (fault_at so_far.admitted w) = rw h.refused (ap (λ (w : Why). Err (fault_at so_far.admitted w)) h.is) in
-      judged_read (judgement.Malformed n w) (Err (fault_at so_far.admitted w)) e
-      (ap (read_or_fault so_far (unfinished text)) (sym stands.lines.refused ∙ none) ∙ read)
-      (ap (λ (n : ℕ). judgement.Malformed n w) (number n is))
-
-  pub whole_text : j.no_claim ≡ false → j.refused ≡ None → last_refusal (is_done (place_of j.reader.place)) j.admitted (is_nothing (unfinished text)) ≡ None → BitJudges c text (judgement_of j.reader.play j.reader.claim)
-  unfolding bit_reading
-  whole_text e none last =
-      let reads = stands.lines.reads none in
-      let whole = whole_is (is_done (place_of j.reader.place)) j.admitted (is_nothing (unfinished text)) last in
-      let at : so_far.read.place ≡ AtDone = sym reads.place ∙ done (place_of j.reader.place) whole.0 in
-      let plays : PlaysAt c so_far.read j.reader.play (unfinished text) AtDone = subst (PlaysAt c so_far.read j.reader.play (unfinished text)) at reads.play in
-      let read : read_or_fault so_far (unfinished text) None ≡ Ok so_far.read = rw (at, whole.1) refl in
-      judged_read (judgement_of j.reader.play j.reader.claim) (Ok so_far.read) e
-      (ap (read_or_fault so_far (unfinished text)) (sym stands.lines.refused ∙ none) ∙ read)
-      (λ vs t. ap (judgement_of j.reader.play) reads.claim ∙ judged_whole c (bit_witness_of so_far.read) j.reader.play vs plays t)
+-- what is judged of a whole witness
+pub whole_witness : (c : Circuit) (text : List ℕ) (j : BitJudge) (o : Option ℕ) → StandsFor c j text → j.refused ≡ None → o ≡ cond j.reader.play.rose None (Some j.reader.claim)
+    → is_done (lines_read (bit_reader c) (whole_lines text)).read.place ≡ true
+    → Says c (lines_read (bit_reader c) (whole_lines text)).read (first_of j.reader.play.differs j.reader.play.breach o j.reader.play.frames)
+whole_witness c text j o stands none unreached at_end vs t =
+    let r : BitRead = (lines_read (bit_reader c) (whole_lines text)).read in
+    let reads = stands.lines.reads none in
+    let plays : PlaysAt c r j.reader.play (unfinished text) AtDone = subst (PlaysAt c r j.reader.play (unfinished text)) (done r.place at_end) reads.play in
+    judged_whole c (bit_witness_of r) j.reader.play vs plays t o (unreached ∙ ap (λ (i : ℕ). cond j.reader.play.rose None (Some i)) reads.claim)

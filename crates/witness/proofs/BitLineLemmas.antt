@@ -9,7 +9,7 @@ use Rattle.witness.specs.BitTexts.{bit_line}
 use Rattle.witness.specs.BitAdmits.{bits_at}
 use Rattle.witness.specs.BitScans.{is_bit, is_one_bit}
 use Rattle.witness.proofs.BitReadLemmas.{bits_at-bit_line}
-use Rattle.witness.proofs.BitJudgeLemmas.{or-false}
+use Rattle.witness.proofs.StandsLemmas.{or-false}
 
 bit_byte : (b : ℕ) → is_bit b ≡ true → b ≡ digit (is_one_bit b)
 bit_byte b h =

@@ -1,5 +1,5 @@
 -- A text has one judgement over a circuit: the circuit has one trace, and a judgement looks only at its literals.
-use Rattle.std.proofs.Common.{◌≡◌, ℕ, suc, ◌+◌, ◌<◌, Bool, true, false, cond, not, ◌||◌, List, [], ◌∷◌, length, Option, Some, None, Result, Ok, Err, slice_index, refl, sym, ap, ap₂, ◌∙◌, arith}
+use Rattle.std.proofs.Common.{◌≡◌, ℕ, suc, ◌+◌, ◌<◌, Bool, cond, not, ◌||◌, List, [], ◌∷◌, length, Option, Some, None, slice_index, refl, sym, ap, ap₂, ◌∙◌, arith}
 use Rattle.std.specs.List.{position_from, AllByRecursion}
 use Rattle.std.proofs.lemmas.List.Elements.{recursion_from_All, All-get_or}
 use Rattle.base.specs.Lines.{whole_lines}
@@ -9,13 +9,12 @@ use Rattle.aiger.specs.Circuit.{Circuit, IsCircuit, net}
 use Rattle.aiger.specs.Trace.{SameFrame, SameTrace}
 use Rattle.aiger.proofs.TraceLemmas.{literal_value-agree, trace_exists, trace_unique}
 use Rattle.witness.specs.declared.judgement.Judgement.{Judgement}
-use Rattle.witness.specs.declared.judgement.Judgement.TheVariants as judgement
-use Rattle.witness.specs.Admits.{Fault}
 use Rattle.witness.specs.Judgements.{violated_at}
 use Rattle.witness.specs.BitTexts.{BitWitness, IsBitWitness}
 use Rattle.witness.specs.BitAdmits.{BitRead, read_bit_text, bit_witness_of}
-use Rattle.witness.specs.BitJudgements.{first_reset_differing, bit_violation_from, bit_rises, when_risen, when_unbroken, when_reset, bit_verdict, makes_no_bit_claim, JudgesBits, JudgesBitRead, JudgesBitText, BitJudges}
+use Rattle.witness.specs.BitJudgements.{first_reset_differing, bit_violation_from, bit_rises, when_risen, when_unbroken, when_reset, bit_verdict, makes_no_bit_claim, JudgesBits, BitJudges}
 use Rattle.witness.proofs.BitReadLemmas.{bit_read_says}
+use Rattle.witness.proofs.JudgedLemmas.{some_judged, judged_once}
 
 -- ---- traces that are the same have the same verdict
 
@@ -75,26 +74,13 @@ bits_judged_once c w j k circuit valid first second =
     let trace = trace_exists c w.initial w.frames circuit valid.initial valid.frames in
     first trace.0 trace.1 ∙ sym (second trace.0 trace.1)
 
-read_judged : (c : Circuit) (text : List ℕ) (r : Result BitRead Fault) → IsCircuit c → read_bit_text c text ≡ r → (j : Judgement) × JudgesBitRead c r j
-read_judged c text (Err e) circuit is = (judgement.Malformed e.line e.why, refl)
-read_judged c text (Ok r) circuit is = bits_judged c (bit_witness_of r) circuit (bit_read_says c text r circuit is).valid
-
-read_judged_once : (c : Circuit) (text : List ℕ) (r : Result BitRead Fault) (j k : Judgement) → IsCircuit c → read_bit_text c text ≡ r → JudgesBitRead c r j → JudgesBitRead c r k → j ≡ k
-read_judged_once c text (Err e) j k circuit is first second = first ∙ sym second
-read_judged_once c text (Ok r) j k circuit is first second = bits_judged_once c (bit_witness_of r) j k circuit (bit_read_says c text r circuit is).valid first second
-
-text_judged : (c : Circuit) (text : List ℕ) (b : Bool) → IsCircuit c → (j : Judgement) × JudgesBitText c text b j
-text_judged c text true circuit = (judgement.NoClaim, refl)
-text_judged c text false circuit = read_judged c text (read_bit_text c text) circuit refl
-
-text_judged_once : (c : Circuit) (text : List ℕ) (b : Bool) (j k : Judgement) → IsCircuit c → JudgesBitText c text b j → JudgesBitText c text b k → j ≡ k
-text_judged_once c text true j k circuit first second = first ∙ sym second
-text_judged_once c text false j k circuit first second = read_judged_once c text (read_bit_text c text) j k circuit refl first second
-
 -- a text has a judgement
 pub some_bit_judgement : (c : Circuit) (text : List ℕ) → IsCircuit c → (j : Judgement) × BitJudges c text j
-some_bit_judgement c text circuit = text_judged c text (makes_no_bit_claim (whole_lines text)) circuit
+some_bit_judgement c text circuit =
+    some_judged (λ (r : BitRead). JudgesBits c (bit_witness_of r)) (makes_no_bit_claim (whole_lines text)) (read_bit_text c text) (λ r is. bits_judged c (bit_witness_of r) circuit (bit_read_says c text r circuit is).valid)
 
 -- and no other
 pub same_bit_judgement : (c : Circuit) (text : List ℕ) (j k : Judgement) → IsCircuit c → BitJudges c text j → BitJudges c text k → j ≡ k
-same_bit_judgement c text j k circuit first second = text_judged_once c text (makes_no_bit_claim (whole_lines text)) j k circuit first second
+same_bit_judgement c text j k circuit =
+    judged_once (λ (r : BitRead). JudgesBits c (bit_witness_of r)) (makes_no_bit_claim (whole_lines text)) (read_bit_text c text) j k
+    (λ r is. bits_judged_once c (bit_witness_of r) j k circuit (bit_read_says c text r circuit is).valid)

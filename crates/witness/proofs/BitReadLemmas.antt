@@ -1,8 +1,8 @@
 -- Witnesses of circuits: a text that says one is read as it, and what is read was said.
-use Rattle.std.proofs.Common.{◌≡◌, ◌↔◌, ℕ, suc, ◌+◌, ◌<◌, ◌≤◌, ◌^◌, ◌==◌, nat_lt, nat_le, Bool, true, false, cond, ◌&&◌, ◌||◌, List, [], ◌∷◌, ◌++◌, Option, Some, None, Result, Ok, Err, map, length, codes, length-append, append_assoc, refl, sym, ap, ap₂, subst, ◌∙◌, arith, inl, inr}
+use Rattle.std.proofs.Common.{◌≡◌, ◌↔◌, ℕ, suc, ◌<◌, ◌≤◌, ◌^◌, ◌==◌, nat_lt, Bool, true, false, cond, ◌&&◌, ◌||◌, List, [], ◌∷◌, ◌++◌, Option, Some, None, Result, Ok, Err, map, length, codes, append_assoc, refl, sym, ap, ap₂, subst, ◌∙◌, arith, inl, inr}
 use Rattle.std.specs.List.{list_any, list_all, AllByRecursion}
 use Rattle.std.specs.Str.{bytes_eq}
-use Rattle.std.proofs.lemmas.Bool.{cases_Bool, cases_lt, le-leb, and_parts, eqb-true, eq-eqb, ltb-true, lt-ltb, leb-true, false_from_ne_true}
+use Rattle.std.proofs.lemmas.Bool.{cases_Bool, and_parts, eqb-true, eq-eqb, ltb-true, lt-ltb}
 use Rattle.std.proofs.lemmas.List.{length-map, append-nil}
 use Rattle.std.proofs.lemmas.Slice.Eq.{bytes_eq-Decides}
 use Rattle.std.proofs.lemmas.List.Elements.{recursion_from_All, All-from_recursion}
@@ -17,10 +17,12 @@ use Rattle.aiger.specs.Trace.{AgreesWithReset, AreInitial}
 use Rattle.witness.specs.declared.why.Why.{Why}
 use Rattle.witness.specs.declared.why.Why.TheVariants as why
 use Rattle.witness.specs.Texts.{digit, claim, most_lines}
-use Rattle.witness.specs.Admits.{Claim, claim_of, is_value_byte, is_nothing, fault_at}
+use Rattle.witness.specs.Readings.{next_line, lines_read, reading}
+use Rattle.witness.specs.Admits.{Claim, claim_of, is_value_byte}
 use Rattle.witness.specs.BitTexts.{BitWitness, bit_line, bit_witness_lines, IsBitWitness, BitSays}
-use Rattle.witness.specs.BitAdmits.{judged_claim, claim_at, bits_at, AtClaim, AtInitial, AtFirst, AtLater, AtDone, BitRead, no_line_read, after_claim, after_initial, after_frame, bit_admit, BitReading, nothing_admitted, one_more_line, next_line, lines_behind, bit_reading, is_done, last_why, read_or_fault, read_with, read_bit_text, bit_witness_of}
+use Rattle.witness.specs.BitAdmits.{judged_claim, claim_at, bits_at, BitPlace, AtClaim, AtInitial, AtFirst, AtLater, AtDone, BitRead, no_line_read, after_claim, after_initial, after_frame, bit_admit, is_done, bit_reader, read_bit_text, bit_witness_of}
 use Rattle.witness.specs.BitJudgements.{differs_from_reset, first_reset_differing, makes_no_bit_claim}
+use Rattle.witness.proofs.ReadingLemmas.{admit_all, admit_parts, admitted, stopped, stays, text_is_read, text_was_read}
 use Rattle.witness.proofs.PieceLemmas.{decimal_without, digits_are_values, digits_determine, bits_of_digits, digits_of_bits}
 use Rattle.witness.proofs.ClaimLemmas.{piece_is_claim}
 
@@ -90,115 +92,67 @@ claim_of_line bads line (Some c) i small of h =
 pub claim_is_line : (bads : ℕ) (line : List ℕ) (i : ℕ) → bads < 2 ^ 64 → claim_at bads line ≡ Ok i → IsClaimOf bads line i
 claim_is_line bads line i small h = claim_of_line bads line (claim_of line) i small refl h
 
--- ---- whole lines one by one
-
--- so many lines are admitted, and none is refused
-abbrev pub going : ℕ → BitRead → BitReading
-going n r = record { admitted = n; read = r; refused = None }
-
-pub few_lines : (n : ℕ) → n < most_lines → nat_le most_lines n ≡ false
-few_lines n h = false_from_ne_true (nat_le most_lines n) (λ e. absurd (omega (arith, leb-true most_lines n e)))
-
--- a line that is admitted
-pub line_admitted : (c : Circuit) (n : ℕ) (r next : BitRead) (line : List ℕ) (lines : List (List ℕ)) → n < most_lines → bit_admit c r line ≡ Ok next
-    → lines_behind c (going n r) (line ∷ lines) ≡ lines_behind c (going (n + 1) next) lines
-unfolding next_line
-line_admitted c n r next line lines h e = rw (few_lines n h, e) refl
-
--- behind a refused line nothing changes
-pub stays_refused : (c : Circuit) (n : ℕ) (r : BitRead) (w : Why) (lines : List (List ℕ)) → lines_behind c (record { admitted = n; read = r; refused = Some w }) lines ≡ record { admitted = n; read = r; refused = Some w }
-unfolding next_line
-stays_refused c n r w [] = refl
-stays_refused c n r w (line ∷ lines) = stays_refused c n r w lines
-
-pub record WasAdmitted (c : Circuit) (n : ℕ) (r : BitRead) (line : List ℕ) (lines : List (List ℕ)) (g : BitReading) : Type 0 where
-  pub next : BitRead
-  pub few : n < most_lines
-  pub read : bit_admit c r line ≡ Ok next
-  pub others : lines_behind c (going (n + 1) next) lines ≡ g
-
-was_read : (c : Circuit) (n : ℕ) (r : BitRead) (line : List ℕ) (lines : List (List ℕ)) (g : BitReading) (o : Result BitRead Why) → n < most_lines → bit_admit c r line ≡ o
-    → lines_behind c (one_more_line (going n r) o) lines ≡ g → g.refused ≡ None → WasAdmitted c n r line lines g
-was_read c n r line lines g (Ok next) few is h none = record { next = next; few = few; read = is; others = h }
-was_read c n r line lines g (Err w) few is h none =
-    let refused : g.refused ≡ Some w = ap (λ (x : BitReading). x.refused) (sym h ∙ stays_refused c n r w lines) in
-    absurd (cc (refused, none))
-
--- a line before others of which none is refused was admitted
-pub was_admitted : (c : Circuit) (n : ℕ) (r : BitRead) (line : List ℕ) (lines : List (List ℕ)) (g : BitReading) → lines_behind c (going n r) (line ∷ lines) ≡ g → g.refused ≡ None → WasAdmitted c n r line lines g
-unfolding next_line
-was_admitted c n r line lines g h none =
-    elim (cases_lt n most_lines) [
-      | inr above ↦
-          let many : nat_le most_lines n ≡ true = le-leb most_lines n above in
-          let stopped : lines_behind c (record { admitted = n; read = r; refused = Some why.TooLong }) lines ≡ g = rw many at h in
-          let refused : g.refused ≡ Some why.TooLong = ap (λ (x : BitReading). x.refused) (sym stopped ∙ stays_refused c n r why.TooLong lines) in
-          absurd (cc (refused, none))
-      | inl room ↦ was_read c n r line lines g (bit_admit c r line) room refl (rw (few_lines n room) at h) none
-    ]
-
 -- ---- what is read at each place
 
-abbrev at_header : BitRead
-at_header = no_line_read
-
-abbrev at_claim : BitRead
-at_claim = record { place = AtClaim; claim = 0; initial = []; frames = [] }
-
-abbrev at_initial : ℕ → BitRead
-at_initial i = record { place = AtInitial; claim = i; initial = []; frames = [] }
-
-abbrev at_first : ℕ → List Bool → BitRead
-at_first i initial = record { place = AtFirst; claim = i; initial = initial; frames = [] }
-
-abbrev at_later : ℕ → List Bool → List (List Bool) → BitRead
-at_later i initial frames = record { place = AtLater; claim = i; initial = initial; frames = frames }
-
-abbrev pub at_done : ℕ → List Bool → List (List Bool) → BitRead
-at_done i initial frames = record { place = AtDone; claim = i; initial = initial; frames = frames }
+abbrev pub bits_read : BitPlace → ℕ → List Bool → List (List Bool) → BitRead
+bits_read place i initial frames = record { place = place; claim = i; initial = initial; frames = frames }
 
 -- the lines of frames, and the last
 abbrev frame_lines_and_end : List (List Bool) → List (List ℕ)
 frame_lines_and_end frames = map bit_line frames ++ codes "." ∷ []
 
-module _ (c : Circuit) (i : ℕ) (initial : List Bool) where
-  frame_read : (before : List (List Bool)) (bits : List Bool) → length bits ≡ c.inputs → bit_admit c (at_later i initial before) (bit_line bits) ≡ Ok (at_later i initial (before ++ bits ∷ []))
-  unfolding bit_admit
-  frame_read before bits h = rw (bits_are_no_end bits, bits_at-bit_line c.inputs bits h) refl
-
-  frames_read : (n : ℕ) (before more : List (List Bool)) → n + length more < most_lines → AllByRecursion (λ bits. length bits ≡ c.inputs) more
-      → lines_behind c (going n (at_later i initial before)) (frame_lines_and_end more) ≡ going (n + length more + 1) (at_done i initial (before ++ more))
-  unfolding bit_admit
-  frames_read n before [] few many =
-      line_admitted c n (at_later i initial before) (at_done i initial before) (codes ".") [] (omega arith) refl
-      ∙ ap₂ (λ (m : ℕ) (frames : List (List Bool)). going m (at_done i initial frames)) (omega arith) (sym (append-nil before))
-  frames_read n before (bits ∷ more) few many =
-      line_admitted c n (at_later i initial before) (at_later i initial (before ++ bits ∷ [])) (bit_line bits) (frame_lines_and_end more) (omega arith) (frame_read before bits many.0)
-      ∙ (frames_read (n + 1) (before ++ bits ∷ []) more (omega arith) many.1
-      ∙ ap₂ (λ (m : ℕ) (frames : List (List Bool)). going m (at_done i initial frames)) (omega arith) (append_assoc before (bits ∷ []) more))
-
-  first_read : (n : ℕ) (frames : List (List Bool)) → (frames ≡ [] → ⊥) → n + length frames < most_lines → AllByRecursion (λ bits. length bits ≡ c.inputs) frames
-      → lines_behind c (going n (at_first i initial)) (frame_lines_and_end frames) ≡ going (n + length frames + 1) (at_done i initial frames)
-  unfolding bit_admit
-  first_read n [] some few many = absurd (some refl)
-  first_read n (bits ∷ more) some few many =
-      line_admitted c n (at_first i initial) (at_later i initial (bits ∷ [])) (bit_line bits) (frame_lines_and_end more) (omega arith)
-      (rw (bits_are_no_end bits, bits_at-bit_line c.inputs bits many.0) refl)
-      ∙ (frames_read (n + 1) (bits ∷ []) more (omega arith) many.1
-      ∙ ap (λ (m : ℕ). going m (at_done i initial (bits ∷ more))) (omega arith))
-
--- all lines of a witness are admitted
-witness_read : (c : Circuit) (w : BitWitness) → length c.bads < 2 ^ 64 → IsBitWitness c w → length (bit_witness_lines w) ≤ most_lines
-    → lines_behind c nothing_admitted (bit_witness_lines w) ≡ going (3 + length w.frames + 1) (at_done w.claim w.initial w.frames)
+pub header_line : (c : Circuit) → bit_admit c no_line_read (codes "1") ≡ Ok (bits_read AtClaim 0 [] [])
 unfolding bit_admit
-witness_read c w small valid few =
-    let many = recursion_from_All (λ bits. length bits ≡ c.inputs) w.frames valid.frames in
-    let room : 3 + length w.frames < most_lines = omega (arith, few, length-append (map bit_line w.frames) (codes "." ∷ []), length-map w.frames bit_line) in
+header_line c = refl
+
+pub claim_line : (c : Circuit) (i : ℕ) → length c.bads < 2 ^ 64 → i < length c.bads → bit_admit c (bits_read AtClaim 0 [] []) (claim i) ≡ Ok (bits_read AtInitial i [] [])
+unfolding bit_admit
+claim_line c i small below = rw (claim_at-claim (length c.bads) i below small) refl
+
+module _ (c : Circuit) (i : ℕ) (initial : List Bool) where
+  pub initial_line : length initial ≡ length c.latches → bit_admit c (bits_read AtInitial i [] []) (bit_line initial) ≡ Ok (bits_read AtFirst i initial [])
+  unfolding bit_admit
+  initial_line many = rw (bits_at-bit_line (length c.latches) initial many) refl
+
+  pub first_frame_line : (bits : List Bool) → length bits ≡ c.inputs → bit_admit c (bits_read AtFirst i initial []) (bit_line bits) ≡ Ok (bits_read AtLater i initial (bits ∷ []))
+  unfolding bit_admit
+  first_frame_line bits many = rw (bits_are_no_end bits, bits_at-bit_line c.inputs bits many) refl
+
+  frame_line : (before : List (List Bool)) (bits : List Bool) → length bits ≡ c.inputs → bit_admit c (bits_read AtLater i initial before) (bit_line bits) ≡ Ok (bits_read AtLater i initial (before ++ bits ∷ []))
+  unfolding bit_admit
+  frame_line before bits many = rw (bits_are_no_end bits, bits_at-bit_line c.inputs bits many) refl
+
+  pub end_line : (frames : List (List Bool)) → bit_admit c (bits_read AtLater i initial frames) (codes ".") ≡ Ok (bits_read AtDone i initial frames)
+  unfolding bit_admit
+  end_line frames = refl
+
+  frames_read : (before more : List (List Bool)) → AllByRecursion (λ bits. length bits ≡ c.inputs) more
+      → admit_all (bit_reader c) (bits_read AtLater i initial before) (frame_lines_and_end more) ≡ Ok (bits_read AtDone i initial (before ++ more))
+  frames_read before [] many =
+      admitted (bit_reader c) (bits_read AtLater i initial before) (codes ".") (bits_read AtDone i initial before) [] (end_line before)
+      ∙ ap (λ (frames : List (List Bool)). Ok (bits_read AtDone i initial frames)) (sym (append-nil before))
+  frames_read before (bits ∷ more) many =
+      admitted (bit_reader c) (bits_read AtLater i initial before) (bit_line bits) (bits_read AtLater i initial (before ++ bits ∷ [])) (frame_lines_and_end more) (frame_line before bits many.0)
+      ∙ (frames_read (before ++ bits ∷ []) more many.1 ∙ ap (λ (frames : List (List Bool)). Ok (bits_read AtDone i initial frames)) (append_assoc before (bits ∷ []) more))
+
+  all_frames_read : (frames : List (List Bool)) → (frames ≡ [] → ⊥) → AllByRecursion (λ bits. length bits ≡ c.inputs) frames
+      → admit_all (bit_reader c) (bits_read AtFirst i initial []) (frame_lines_and_end frames) ≡ Ok (bits_read AtDone i initial frames)
+  all_frames_read [] some many = absurd (some refl)
+  all_frames_read (bits ∷ more) some many =
+      admitted (bit_reader c) (bits_read AtFirst i initial []) (bit_line bits) (bits_read AtLater i initial (bits ∷ [])) (frame_lines_and_end more) (first_frame_line bits many.0)
+      ∙ frames_read (bits ∷ []) more many.1
+
+abbrev pub all_bits_read : BitWitness → BitRead
+all_bits_read w = bits_read AtDone w.claim w.initial w.frames
+
+-- all lines of a witness are read
+witness_read : (c : Circuit) (w : BitWitness) → length c.bads < 2 ^ 64 → IsBitWitness c w → admit_all (bit_reader c) no_line_read (bit_witness_lines w) ≡ Ok (all_bits_read w)
+witness_read c w small valid =
     let frames = frame_lines_and_end w.frames in
-    line_admitted c 0 at_header at_claim (codes "1") (claim w.claim ∷ (bit_line w.initial ∷ frames)) (omega arith) refl
-    ∙ (line_admitted c 1 at_claim (at_initial w.claim) (claim w.claim) (bit_line w.initial ∷ frames) (omega arith) (rw (claim_at-claim (length c.bads) w.claim valid.claim small) refl)
-    ∙ (line_admitted c 2 (at_initial w.claim) (at_first w.claim w.initial) (bit_line w.initial) frames (omega arith) (rw (bits_at-bit_line (length c.latches) w.initial valid.initial) refl)
-    ∙ first_read c w.claim w.initial 3 w.frames valid.some_frame room many))
+    admitted (bit_reader c) no_line_read (codes "1") (bits_read AtClaim 0 [] []) (claim w.claim ∷ (bit_line w.initial ∷ frames)) (header_line c)
+    ∙ (admitted (bit_reader c) (bits_read AtClaim 0 [] []) (claim w.claim) (bits_read AtInitial w.claim [] []) (bit_line w.initial ∷ frames) (claim_line c w.claim small valid.claim)
+    ∙ (admitted (bit_reader c) (bits_read AtInitial w.claim [] []) (bit_line w.initial) (bits_read AtFirst w.claim w.initial []) frames (initial_line c w.claim w.initial valid.initial)
+    ∙ all_frames_read c w.claim w.initial w.frames valid.some_frame (recursion_from_All (λ bits. length bits ≡ c.inputs) w.frames valid.frames)))
 
 -- ---- no line has a byte 10
 
@@ -211,251 +165,144 @@ frames_are_lines : (frames : List (List Bool)) → EachLine (frame_lines_and_end
 frames_are_lines [] = (refl, tt)
 frames_are_lines (bits ∷ frames) = (bits_are_a_line bits, frames_are_lines frames)
 
-witness_lines_are_lines : (c : Circuit) (w : BitWitness) → length c.bads < 2 ^ 64 → IsBitWitness c w → EachLine (bit_witness_lines w)
-witness_lines_are_lines c w small valid =
-    let lt : w.claim < 2 ^ 64 = omega (arith, valid.claim) in
-    (refl, (decimal_without 10 w.claim (omega arith) lt, (bits_are_a_line w.initial, frames_are_lines w.frames)))
-
 -- ---- the whole text
-
-abbrev pub all_bits_read : BitWitness → BitRead
-all_bits_read w = at_done w.claim w.initial w.frames
 
 -- a text that says a witness is read as it
 pub bit_says_read : (c : Circuit) (text : List ℕ) (w : BitWitness) → IsCircuit c → BitSays c text w → read_bit_text c text ≡ Ok (all_bits_read w)
-unfolding bit_reading
 bit_says_read c text w circuit says =
     let small : length c.bads < 2 ^ 64 = omega (arith, circuit.few.bads) in
     let lines : List (List ℕ) = bit_witness_lines w in
-    let each = witness_lines_are_lines c w small says.valid in
+    let lt : w.claim < 2 ^ 64 = omega (arith, says.valid.claim) in
+    let each : EachLine lines = (refl, (decimal_without 10 w.claim (omega arith) lt, (bits_are_a_line w.initial, frames_are_lines w.frames))) in
     let whole : whole_lines text ≡ lines = ap whole_lines says.whole ∙ lines_of_text lines each in
     let rest : unfinished text ≡ [] = ap unfinished says.whole ∙ unfinished_of_text lines in
-    let read : lines_behind c nothing_admitted (whole_lines text) ≡ going (3 + length w.frames + 1) (all_bits_read w) = ap (lines_behind c nothing_admitted) whole ∙ witness_read c w small says.valid says.few in
-    ap₂ read_with read rest
+    text_is_read (bit_reader c) text (all_bits_read w) (ap (admit_all (bit_reader c) no_line_read) whole ∙ witness_read c w small says.valid) refl rest (omega (arith, says.few, ap length whole))
 
 -- ---- what is read was said
 
--- the lines from a place on are those of frames and the last one
-record AreFrameLines (c : Circuit) (n : ℕ) (lines : List (List ℕ)) (more : List (List Bool)) : Type 0 where
-  spelled : lines ≡ frame_lines_and_end more
-  many : AllByRecursion (λ bits. length bits ≡ c.inputs) more
-  few : n + length lines ≤ most_lines
-
 -- which bits a line of a frame has
 frame_bits : (c : Circuit) (r next : BitRead) (line : List ℕ) (o : Result (List Bool) Why) → bits_at c.inputs line ≡ o → after_frame r o ≡ Ok next
-    → (bits : List Bool) × (AreBitsOf c.inputs line bits × (next ≡ record r { place = AtLater; frames = r.frames ++ bits ∷ [] }))
+    → (bits : List Bool) × (AreBitsOf c.inputs line bits × (record r { place = AtLater; frames = r.frames ++ bits ∷ [] } ≡ next))
 frame_bits c r next line (Ok bits) is h = (bits, (bits_are_line c.inputs line bits is, cc))
 frame_bits c r next line (Err w) is h = absurd cc
 
-done_is_last : (c : Circuit) (n i : ℕ) (initial : List Bool) (frames : List (List Bool)) (lines : List (List ℕ)) (g : BitReading) → lines_behind c (going n (at_done i initial frames)) lines ≡ g → g.refused ≡ None
-    → (lines ≡ []) × (g.read ≡ at_done i initial frames)
+-- no line is read behind the last
+done_is_last : (c : Circuit) (i : ℕ) (initial : List Bool) (frames : List (List Bool)) (lines : List (List ℕ)) (final : BitRead) → admit_all (bit_reader c) (bits_read AtDone i initial frames) lines ≡ Ok final
+    → (lines ≡ []) × (final ≡ bits_read AtDone i initial frames)
 unfolding bit_admit
-done_is_last c n i initial frames [] g h none = (refl, ap (λ (x : BitReading). x.read) (sym h))
-done_is_last c n i initial frames (line ∷ lines) g h none =
-    let was = was_admitted c n (at_done i initial frames) line lines g h none in
-    absurd (cc (was.read))
+done_is_last c i initial frames [] final h = (refl, cc)
+done_is_last c i initial frames (line ∷ lines) final h = absurd cc
 
 -- a line that is one byte string
 is_the_line : (line text : List ℕ) → bytes_eq line text ≡ true → line ≡ text
 is_the_line line text h = (bytes_eq-Decides line text).0 h
 
-abbrev FramesWere : Circuit → ℕ → List (List Bool) → ℕ → List (List ℕ) → BitReading → List Bool → Type 0
-FramesWere c i before n lines g initial = (more : List (List Bool)) × (AreFrameLines c n lines more × (g.read ≡ at_done i initial (before ++ more)))
+-- before the last line
+not_done : (c : Circuit) (r final : BitRead) → is_done r.place ≡ false → admit_all (bit_reader c) r [] ≡ Ok final → is_done final.place ≡ true → ⊥
+not_done c r final other h done =
+    let is : r ≡ final = cc in
+    cc (ap (λ (s : BitRead). is_done s.place) is, other, done)
+
+abbrev FramesWere : Circuit → ℕ → List Bool → List (List Bool) → List (List ℕ) → BitRead → Type 0
+FramesWere c i initial before lines final =
+    (more : List (List Bool)) × ((lines ≡ frame_lines_and_end more) × (AllByRecursion (λ bits. length bits ≡ c.inputs) more × (final ≡ bits_read AtDone i initial (before ++ more))))
 
 module _ (c : Circuit) (i : ℕ) (initial : List Bool) where
-  last_frames : (n : ℕ) (before : List (List Bool)) (line : List ℕ) (lines : List (List ℕ)) (g : BitReading) (next : BitRead) → n < most_lines → bytes_eq line (codes ".") ≡ true → at_done i initial before ≡ next → lines_behind c (going (n + 1) next) lines ≡ g → g.refused ≡ None
-      → FramesWere c i before n (line ∷ lines) g initial
-  last_frames n before line lines g next few e is others none =
-      let done = done_is_last c (n + 1) i initial before lines g (ap (λ (r : BitRead). lines_behind c (going (n + 1) r) lines) is ∙ others) none in
-      let one : line ≡ codes "." = is_the_line line (codes ".") e in
-      let long : length (line ∷ lines) ≡ 1 = ap (λ (ls : List (List ℕ)). length (line ∷ ls)) done.0 in
-      ([], (record { spelled = ap₂ (λ (l : List ℕ) (ls : List (List ℕ)). l ∷ ls) one done.0; many = tt; few = omega arith }, done.1 ∙ ap (at_done i initial) (sym (append-nil before))))
-
-  frames_were : (n : ℕ) (before : List (List Bool)) (lines : List (List ℕ)) (g : BitReading) → lines_behind c (going n (at_later i initial before)) lines ≡ g → g.refused ≡ None → is_done g.read.place ≡ true
-      → FramesWere c i before n lines g initial
+  frames_were : (before : List (List Bool)) (lines : List (List ℕ)) (final : BitRead) → admit_all (bit_reader c) (bits_read AtLater i initial before) lines ≡ Ok final → is_done final.place ≡ true
+      → FramesWere c i initial before lines final
   unfolding bit_admit
-  frames_were n before [] g h none done =
-      let not : is_done g.read.place ≡ false = ap (λ (x : BitReading). is_done x.read.place) (sym h) in
-      absurd (cc (not, done))
-  frames_were n before (line ∷ lines) g h none done =
-      let was = was_admitted c n (at_later i initial before) line lines g h none in
-      let few = was.few in
-      elim (chosen (bytes_eq line (codes ".")) (Ok (at_done i initial before)) (after_frame (at_later i initial before) (bits_at c.inputs line)) (Ok was.next) was.read) [
-        | inl e ↦ last_frames n before line lines g was.next few e.0 (cc (e.1)) was.others none
+  frames_were before [] final h done = absurd (not_done c (bits_read AtLater i initial before) final refl h done)
+  frames_were before (line ∷ lines) final h done =
+      let at : BitRead = bits_read AtLater i initial before in
+      let parts = admit_parts (bit_admit c at line) (λ next. admit_all (bit_reader c) next lines) final h in
+      elim (chosen (bytes_eq line (codes ".")) (Ok (bits_read AtDone i initial before)) (after_frame at (bits_at c.inputs line)) (Ok parts.0) parts.1.0) [
+        | inl e ↦
+            let is : bits_read AtDone i initial before ≡ parts.0 = cc (e.1) in
+            let last = done_is_last c i initial before lines final (ap (λ (r : BitRead). admit_all (bit_reader c) r lines) is ∙ parts.1.1) in
+            ([], (ap₂ (λ (l : List ℕ) (ls : List (List ℕ)). l ∷ ls) (is_the_line line (codes ".") e.0) last.0, (tt, last.1 ∙ ap (bits_read AtDone i initial) (sym (append-nil before)))))
         | inr e ↦
-            let one = frame_bits c (at_later i initial before) was.next line (bits_at c.inputs line) refl e.1 in
-            let rest = frames_were (n + 1) (before ++ one.0 ∷ []) lines g (ap (λ (r : BitRead). lines_behind c (going (n + 1) r) lines) (sym one.1.1) ∙ was.others) none done in
-            let fewer = rest.1.0.few in (
-              one.0 ∷ rest.0,
-              (
-                record { spelled = ap₂ (λ (l : List ℕ) (ls : List (List ℕ)). l ∷ ls) one.1.0.spelled rest.1.0.spelled; many = (one.1.0.many, rest.1.0.many); few = omega (arith, fewer) },
-                rest.1.1 ∙ ap (at_done i initial) (append_assoc before (one.0 ∷ []) rest.0),
-              ),
-            )
+            let one = frame_bits c at parts.0 line (bits_at c.inputs line) refl e.1 in
+            let rest = frames_were (before ++ one.0 ∷ []) lines final (ap (λ (r : BitRead). admit_all (bit_reader c) r lines) one.1.1 ∙ parts.1.1) done in
+            (one.0 ∷ rest.0, (ap₂ (λ (l : List ℕ) (ls : List (List ℕ)). l ∷ ls) one.1.0.spelled rest.1.0, ((one.1.0.many, rest.1.1.0), rest.1.1.1 ∙ ap (bits_read AtDone i initial) (append_assoc before (one.0 ∷ []) rest.0))))
       ]
 
   -- the first of the frames, and the others
-  all_frames_were : (n : ℕ) (lines : List (List ℕ)) (g : BitReading) → lines_behind c (going n (at_first i initial)) lines ≡ g → g.refused ≡ None → is_done g.read.place ≡ true
-      → (bits : List Bool) × ((more : List (List Bool)) × (AreFrameLines c n lines (bits ∷ more) × (g.read ≡ at_done i initial (bits ∷ more))))
+  all_frames_were : (lines : List (List ℕ)) (final : BitRead) → admit_all (bit_reader c) (bits_read AtFirst i initial []) lines ≡ Ok final → is_done final.place ≡ true
+      → (frames : List (List Bool)) × (((frames ≡ [] → ⊥) × (lines ≡ frame_lines_and_end frames)) × (AllByRecursion (λ bits. length bits ≡ c.inputs) frames × (final ≡ bits_read AtDone i initial frames)))
   unfolding bit_admit
-  all_frames_were n [] g h none done =
-      let not : is_done g.read.place ≡ false = ap (λ (x : BitReading). is_done x.read.place) (sym h) in
-      absurd (cc (not, done))
-  all_frames_were n (line ∷ lines) g h none done =
-      let was = was_admitted c n (at_first i initial) line lines g h none in
-      let few = was.few in
-      elim (chosen (bytes_eq line (codes ".")) (Err why.FrameOrder) (after_frame (at_first i initial) (bits_at c.inputs line)) (Ok was.next) was.read) [
+  all_frames_were [] final h done = absurd (not_done c (bits_read AtFirst i initial []) final refl h done)
+  all_frames_were (line ∷ lines) final h done =
+      let at : BitRead = bits_read AtFirst i initial [] in
+      let parts = admit_parts (bit_admit c at line) (λ next. admit_all (bit_reader c) next lines) final h in
+      elim (chosen (bytes_eq line (codes ".")) (Err why.FrameOrder) (after_frame at (bits_at c.inputs line)) (Ok parts.0) parts.1.0) [
         | inl e ↦ absurd (cc (e.1))
         | inr e ↦
-            let one = frame_bits c (at_first i initial) was.next line (bits_at c.inputs line) refl e.1 in
-            let rest = frames_were (n + 1) (one.0 ∷ []) lines g (ap (λ (r : BitRead). lines_behind c (going (n + 1) r) lines) (sym one.1.1) ∙ was.others) none done in
-            let fewer = rest.1.0.few in (
-              one.0,
-              (
-                rest.0,
-                (
-                  record { spelled = ap₂ (λ (l : List ℕ) (ls : List (List ℕ)). l ∷ ls) one.1.0.spelled rest.1.0.spelled; many = (one.1.0.many, rest.1.0.many); few = omega (arith, fewer) },
-                  rest.1.1,
-                ),
-              ),
-            )
+            let one = frame_bits c at parts.0 line (bits_at c.inputs line) refl e.1 in
+            let rest = frames_were (one.0 ∷ []) lines final (ap (λ (r : BitRead). admit_all (bit_reader c) r lines) one.1.1 ∙ parts.1.1) done in
+            (one.0 ∷ rest.0, ((λ e. cc, ap₂ (λ (l : List ℕ) (ls : List (List ℕ)). l ∷ ls) one.1.0.spelled rest.1.0), ((one.1.0.many, rest.1.1.0), rest.1.1.1)))
       ]
 
--- what the lines from the initial bits on say
-record SaysFrom (c : Circuit) (i : ℕ) (n : ℕ) (lines : List (List ℕ)) (read : BitRead) : Type 0 where
-  initial : List Bool
-  first : List Bool
-  later : List (List Bool)
-  spelled : lines ≡ bit_line initial ∷ frame_lines_and_end (first ∷ later)
-  many_latches : length initial ≡ length c.latches
-  many_inputs : AllByRecursion (λ bits. length bits ≡ c.inputs) (first ∷ later)
-  few : n + length lines ≤ most_lines
-  is : read ≡ at_done i initial (first ∷ later)
+-- what lines from the status on say
+record SaysLines (c : Circuit) (lines : List (List ℕ)) (final : BitRead) : Type 0 where
+  w : BitWitness
+  spelled : lines ≡ bit_witness_lines w
+  valid : IsBitWitness c w
+  is : final ≡ all_bits_read w
 
-initial_bits : (c : Circuit) (r next : BitRead) (line : List ℕ) (o : Result (List Bool) Why) → bits_at (length c.latches) line ≡ o → after_initial r o ≡ Ok next
-    → (bits : List Bool) × (AreBitsOf (length c.latches) line bits × (next ≡ record r { place = AtFirst; initial = bits }))
-initial_bits c r next line (Ok bits) is h = (bits, (bits_are_line (length c.latches) line bits is, cc))
-initial_bits c r next line (Err w) is h = absurd cc
-
-initial_was : (c : Circuit) (i n : ℕ) (lines : List (List ℕ)) (g : BitReading) → lines_behind c (going n (at_initial i)) lines ≡ g → g.refused ≡ None → is_done g.read.place ≡ true → SaysFrom c i n lines g.read
-unfolding bit_admit
-initial_was c i n [] g h none done =
-    let not : is_done g.read.place ≡ false = ap (λ (x : BitReading). is_done x.read.place) (sym h) in
-    absurd (cc (not, done))
-initial_was c i n (line ∷ lines) g h none done =
-    let was = was_admitted c n (at_initial i) line lines g h none in
-    let one = initial_bits c (at_initial i) was.next line (bits_at (length c.latches) line) refl was.read in
-    let rest = all_frames_were c i one.0 (n + 1) lines g (ap (λ (r : BitRead). lines_behind c (going (n + 1) r) lines) (sym one.1.1) ∙ was.others) none done in
-    let fewer = rest.1.1.0.few in
+initial_was : (c : Circuit) (i : ℕ) (line : List ℕ) (lines : List (List ℕ)) (next final : BitRead) (o : Result (List Bool) Why) → i < length c.bads → bits_at (length c.latches) line ≡ o
+    → after_initial (bits_read AtInitial i [] []) o ≡ Ok next → admit_all (bit_reader c) next lines ≡ Ok final → is_done final.place ≡ true → SaysLines c (codes "1" ∷ (claim i ∷ (line ∷ lines))) final
+initial_was c i line lines next final (Err w) below bits h rest done = absurd cc
+initial_was c i line lines next final (Ok initial) below bits h rest done =
+    let are = bits_are_line (length c.latches) line initial bits in
+    let is : bits_read AtFirst i initial [] ≡ next = cc in
+    let were = all_frames_were c i initial lines final (ap (λ (r : BitRead). admit_all (bit_reader c) r lines) is ∙ rest) done in
     record {
-      initial = one.0;
-      first = rest.0;
-      later = rest.1.0;
-      spelled = ap₂ (λ (l : List ℕ) (ls : List (List ℕ)). l ∷ ls) one.1.0.spelled rest.1.1.0.spelled;
-      many_latches = one.1.0.many;
-      many_inputs = rest.1.1.0.many;
-      few = omega (arith, fewer);
-      is = rest.1.1.1;
+      w = record { claim = i; initial = initial; frames = were.0 };
+      spelled = ap₂ (λ (l : List ℕ) (ls : List (List ℕ)). codes "1" ∷ (claim i ∷ (l ∷ ls))) are.spelled were.1.0.1;
+      valid = record { claim = below; initial = are.many; some_frame = were.1.0.0; frames = All-from_recursion (λ bits. length bits ≡ c.inputs) were.0 were.1.1.0 };
+      is = were.1.1.1;
     }
 
-record SaysAfterClaim (c : Circuit) (n : ℕ) (lines : List (List ℕ)) (read : BitRead) : Type 0 where
-  index : ℕ
-  others : List (List ℕ)
-  below : index < length c.bads
-  spelled : lines ≡ claim index ∷ others
-  from : SaysFrom c index (n + 1) others read
-
-claimed : (c : Circuit) (r next : BitRead) (line : List ℕ) (o : Result ℕ Why) → length c.bads < 2 ^ 64 → claim_at (length c.bads) line ≡ o → after_claim r o ≡ Ok next
-    → (i : ℕ) × (IsClaimOf (length c.bads) line i × (next ≡ record r { place = AtInitial; claim = i }))
-claimed c r next line (Ok i) small is h = (i, (claim_is_line (length c.bads) line i small is, cc))
-claimed c r next line (Err w) small is h = absurd cc
-
-claim_was : (c : Circuit) (n : ℕ) (lines : List (List ℕ)) (g : BitReading) → length c.bads < 2 ^ 64 → lines_behind c (going n at_claim) lines ≡ g → g.refused ≡ None → is_done g.read.place ≡ true → SaysAfterClaim c n lines g.read
+claim_was : (c : Circuit) (line : List ℕ) (lines : List (List ℕ)) (next final : BitRead) (o : Result ℕ Why) → length c.bads < 2 ^ 64 → claim_at (length c.bads) line ≡ o
+    → after_claim (bits_read AtClaim 0 [] []) o ≡ Ok next → admit_all (bit_reader c) next lines ≡ Ok final → is_done final.place ≡ true → SaysLines c (codes "1" ∷ (line ∷ lines)) final
 unfolding bit_admit
-claim_was c n [] g small h none done =
-    let not : is_done g.read.place ≡ false = ap (λ (x : BitReading). is_done x.read.place) (sym h) in
-    absurd (cc (not, done))
-claim_was c n (line ∷ lines) g small h none done =
-    let was = was_admitted c n at_claim line lines g h none in
-    let one = claimed c at_claim was.next line (claim_at (length c.bads) line) small refl was.read in
-    record {
-      index = one.0;
-      others = lines;
-      below = one.1.0.below;
-      spelled = ap (λ (l : List ℕ). l ∷ lines) one.1.0.spelled;
-      from = initial_was c one.0 (n + 1) lines g (ap (λ (r : BitRead). lines_behind c (going (n + 1) r) lines) (sym one.1.1) ∙ was.others) none done;
-    }
+claim_was c line lines next final (Err w) small claims h rest done = absurd cc
+claim_was c line [] next final (Ok i) small claims h rest done =
+    let is : bits_read AtInitial i [] [] ≡ next = cc in
+    absurd (not_done c (bits_read AtInitial i [] []) final refl (ap (λ (r : BitRead). admit_all (bit_reader c) r []) is ∙ rest) done)
+claim_was c line (l ∷ lines) next final (Ok i) small claims h rest done =
+    let one = claim_is_line (length c.bads) line i small claims in
+    let is : bits_read AtInitial i [] [] ≡ next = cc in
+    let parts = admit_parts (bit_admit c (bits_read AtInitial i [] []) l) (λ next. admit_all (bit_reader c) next lines) final (ap (λ (r : BitRead). admit_all (bit_reader c) r (l ∷ lines)) is ∙ rest) in
+    subst (λ (x : List ℕ). SaysLines c (codes "1" ∷ (x ∷ (l ∷ lines))) final) (sym one.spelled) (initial_was c i l lines parts.0 final (bits_at (length c.latches) l) one.below refl parts.1.0 parts.1.1 done)
 
--- the bytes behind the last whole line are none
-is_empty : (bytes : List ℕ) → is_nothing bytes ≡ true → bytes ≡ []
-is_empty [] h = refl
-is_empty (b ∷ bs) h = absurd cc
-
--- lines that say a witness
-told : (c : Circuit) (text : List ℕ) (r : BitRead) (lines : List (List ℕ)) → SaysAfterClaim c 1 lines r → text ≡ text_of_lines (codes "1" ∷ lines) → BitSays c text (bit_witness_of r)
-told c text r lines says whole =
-    let from = says.from in
-    let w : BitWitness = record { claim = says.index; initial = from.initial; frames = from.first ∷ from.later } in
-    let lines_are : codes "1" ∷ lines ≡ bit_witness_lines w = ap (λ (ls : List (List ℕ)). codes "1" ∷ ls) (says.spelled ∙ ap (λ (ls : List (List ℕ)). claim says.index ∷ ls) from.spelled) in
-    let is : bit_witness_of r ≡ w = ap bit_witness_of from.is in
-    let fewer = from.few in
-    let long : length (bit_witness_lines w) ≡ suc (suc (length says.others)) = ap length (sym lines_are) ∙ ap (λ (ls : List (List ℕ)). suc (length ls)) says.spelled in
-    subst (BitSays c text) (sym is)
-    (record {
-      whole = whole ∙ ap text_of_lines lines_are;
-      valid =
-          record {
-            claim = says.below;
-            initial = from.many_latches;
-            some_frame = λ e. cc;
-            frames = All-from_recursion (λ bits. length bits ≡ c.inputs) (from.first ∷ from.later) from.many_inputs;
-          };
-      few = omega (arith, fewer, long);
-    })
-
-header_was : (c : Circuit) (text : List ℕ) (lines : List (List ℕ)) (g : BitReading) → length c.bads < 2 ^ 64 → lines_behind c nothing_admitted lines ≡ g → g.refused ≡ None → is_done g.read.place ≡ true → text ≡ text_of_lines lines → BitSays c text (bit_witness_of g.read)
+lines_were : (c : Circuit) (lines : List (List ℕ)) (final : BitRead) → length c.bads < 2 ^ 64 → admit_all (bit_reader c) no_line_read lines ≡ Ok final → is_done final.place ≡ true → SaysLines c lines final
 unfolding bit_admit
-header_was c text [] g small h none done whole =
-    let not : is_done g.read.place ≡ false = ap (λ (x : BitReading). is_done x.read.place) (sym h) in
-    absurd (cc (not, done))
-header_was c text (line ∷ lines) g small h none done whole =
-    let was = was_admitted c 0 at_header line lines g h none in
-    elim (chosen (bytes_eq line (codes "1")) (Ok at_claim) (Err why.BadHeader) (Ok was.next) was.read) [
+lines_were c [] final small h done = absurd (not_done c no_line_read final refl h done)
+lines_were c (line ∷ lines) final small h done =
+    let parts = admit_parts (bit_admit c no_line_read line) (λ next. admit_all (bit_reader c) next lines) final h in
+    elim (chosen (bytes_eq line (codes "1")) (Ok (bits_read AtClaim 0 [] [])) (Err why.BadHeader) (Ok parts.0) parts.1.0) [
       | inl e ↦
-          let is : at_claim ≡ was.next = cc (e.1) in
-          let one : line ≡ codes "1" = is_the_line line (codes "1") e.0 in
-          told c text g.read lines
-          (claim_was c 1 lines g small (ap (λ (r : BitRead). lines_behind c (going 1 r) lines) is ∙ was.others) none done)
-          (whole ∙ ap (λ (l : List ℕ). text_of_lines (l ∷ lines)) one)
+          let is : bits_read AtClaim 0 [] [] ≡ parts.0 = cc (e.1) in
+          subst (λ (l : List ℕ). SaysLines c (l ∷ lines) final) (sym (is_the_line line (codes "1") e.0)) (behind_header lines (ap (λ (r : BitRead). admit_all (bit_reader c) r lines) is ∙ parts.1.1))
       | inr e ↦ absurd (cc (e.1))
     ]
-
-pub record WasRead (g : BitReading) (last : List ℕ) (r : BitRead) : Type 0 where
-  pub none : g.refused ≡ None
-  pub done : is_done g.read.place ≡ true
-  pub empty : last ≡ []
-  pub is : g.read ≡ r
-
-pub read_was : (g : BitReading) (last : List ℕ) (r : BitRead) (o : Option Why) → g.refused ≡ o → read_or_fault g last o ≡ Ok r → WasRead g last r
-read_was g last r (Some w) refused h = absurd cc
-read_was g last r None refused h =
-    elim (chosen (is_done g.read.place && is_nothing last) (Ok g.read) (Err (fault_at g.admitted (last_why g.admitted g.read last))) (Ok r) h) [
-      | inl e ↦
-          let parts = and_parts (is_done g.read.place) (is_nothing last) e.0 in
-          record { none = refused; done = parts.0; empty = is_empty last parts.1; is = cc (e.1) }
-      | inr e ↦ absurd (cc (e.1))
-    ]
+  where
+    behind_header : (lines : List (List ℕ)) → admit_all (bit_reader c) (bits_read AtClaim 0 [] []) lines ≡ Ok final → SaysLines c (codes "1" ∷ lines) final
+    behind_header [] h = absurd (not_done c (bits_read AtClaim 0 [] []) final refl h done)
+    behind_header (l ∷ others) h =
+        let parts = admit_parts (bit_admit c (bits_read AtClaim 0 [] []) l) (λ next. admit_all (bit_reader c) next others) final h in
+        claim_was c l others parts.0 final (claim_at (length c.bads) l) small refl parts.1.0 parts.1.1 done
 
 -- a text that is read says what it is read as
 pub bit_read_says : (c : Circuit) (text : List ℕ) (r : BitRead) → IsCircuit c → read_bit_text c text ≡ Ok r → BitSays c text (bit_witness_of r)
-unfolding bit_reading
 bit_read_says c text r circuit h =
-    let small : length c.bads < 2 ^ 64 = omega (arith, circuit.few.bads) in
-    let g : BitReading = lines_behind c nothing_admitted (whole_lines text) in
-    let was = read_was g (unfinished text) r g.refused refl h in
+    let were = text_was_read (bit_reader c) text r h in
+    let says = lines_were c (whole_lines text) r (omega (arith, circuit.few.bads)) were.all were.done in
     let whole : text ≡ text_of_lines (whole_lines text) =
-    sym (parts_of_text text) ∙ (ap (λ (rest : List ℕ). text_of_lines (whole_lines text) ++ rest) was.empty ∙ append-nil (text_of_lines (whole_lines text))) in
-    subst (λ (x : BitRead). BitSays c text (bit_witness_of x)) was.is (header_was c text (whole_lines text) g small refl was.none was.done whole)
+    sym (parts_of_text text) ∙ (ap (λ (rest : List ℕ). text_of_lines (whole_lines text) ++ rest) were.rest ∙ append-nil (text_of_lines (whole_lines text))) in
+    subst (BitSays c text) (sym (ap bit_witness_of says.is))
+    (record { whole = whole ∙ ap text_of_lines says.spelled; valid = says.valid; few = subst (λ (ls : List (List ℕ)). length ls ≤ most_lines) says.spelled were.few })
 
 -- a text says one witness
 pub bit_says_one : (c : Circuit) (text : List ℕ) (w v : BitWitness) → IsCircuit c → BitSays c text w → BitSays c text v → w ≡ v
@@ -477,14 +324,14 @@ other_header line h =
           ap (λ (l : List ℕ). bytes_eq l (codes "1")) (is_the_line line (codes "2") two)
     ]
 
-refused_first : (c : Circuit) (lines : List (List ℕ)) → makes_no_bit_claim lines ≡ true → lines_behind c nothing_admitted lines ≡ record nothing_admitted { refused = Some why.BadHeader }
+refused_first : (c : Circuit) (lines : List (List ℕ)) → makes_no_bit_claim lines ≡ true → lines_read (bit_reader c) lines ≡ stopped 0 no_line_read why.BadHeader
 unfolding next_line bit_admit
 refused_first c [] h = absurd cc
-refused_first c (line ∷ lines) h = rw (other_header line h) (stays_refused c 0 no_line_read why.BadHeader lines)
+refused_first c (line ∷ lines) h = rw (other_header line h) (stays (bit_reader c) 0 no_line_read why.BadHeader lines)
 
 -- so it is refused
-pub no_claim_is_refused : (c : Circuit) (text : List ℕ) → makes_no_bit_claim (whole_lines text) ≡ true → bit_reading c text ≡ record nothing_admitted { refused = Some why.BadHeader }
-unfolding bit_reading
+pub no_claim_is_refused : (c : Circuit) (text : List ℕ) → makes_no_bit_claim (whole_lines text) ≡ true → reading (bit_reader c) text ≡ stopped 0 no_line_read why.BadHeader
+unfolding reading
 no_claim_is_refused c text h = refused_first c (whole_lines text) h
 
 -- ---- initial bits

@@ -15,7 +15,8 @@ use Rattle.witness.specs.declared.bit_place.BitPlace.TheVariants as code
 use Rattle.witness.specs.BitAdmits.{AtClaim, AtInitial, AtFirst, AtLater, AtDone, BitRead, claim_at, bits_at, after_frame, bit_admit}
 use Rattle.witness.specs.BitScans.{is_one_bit}
 use Rattle.witness.specs.BitPlays.{BitPlay, play_start, frame_steps, Begins, Traced, Plays}
-use Rattle.witness.specs.BitStands.{place_of, BitReader, PlaysAt, Counts, Reads, GivesLine, is_frame}
+use Rattle.witness.specs.declared.bit_reader.BitReader.{BitReader}
+use Rattle.witness.specs.BitStands.{place_of, PlaysAt, Counts, Reads, GivesLine, is_frame}
 use Rattle.witness.proofs.BitReadLemmas.{claim_is_line, bits_are_line}
 use Rattle.witness.proofs.BitPlayLemmas.{none_left}
 

@@ -12,7 +12,8 @@ use Rattle.btor2.specs.declared.item.Item.{Item}
 use Rattle.witness.specs.declared.why.Why.{Why}
 use Rattle.witness.specs.declared.why.Why.TheVariants as why
 use Rattle.witness.specs.Texts.{Shape, Assignment, is_comment, shape_of}
-use Rattle.witness.specs.Admits.{Cut, to_front, cut_at_space, value_of, with_symbol, with_index, assignment_at, names_free, free_assignment_at, Place, AtStatus, AtClaims, AtParts, InStates, InFree, InFrame, AtEnd, Read, begins_part, admit_at, admit, is_nothing}
+use Rattle.witness.specs.Readings.{is_nothing}
+use Rattle.witness.specs.Admits.{Cut, to_front, cut_at_space, value_of, with_symbol, with_index, assignment_at, names_free, free_assignment_at, Place, AtStatus, AtClaims, AtParts, InStates, InFree, InFrame, AtEnd, Read, begins_part, admit_at, admit}
 use Rattle.witness.specs.KeptLines.{kept, AreAlike, IsSmall, AreSmall}
 use Rattle.witness.specs.WordStands.{WordReader, GivesLine, is_alone}
 use Rattle.witness.proofs.WordValueLemmas.{other_length}

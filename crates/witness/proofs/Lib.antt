@@ -4,6 +4,9 @@ pub mod WorkedLemmas
 pub mod PieceLemmas
 pub mod ClaimLemmas
 pub mod AssignmentLemmas
+pub mod TextEndLemmas
+pub mod LastLineLemmas
+pub mod ReadingLemmas
 pub mod ReadLemmas
 pub mod WitnessTextLemmas
 pub mod AdmittedLineLemmas
@@ -12,6 +15,7 @@ pub mod GivenWordLemmas
 pub mod FrameLemmas
 pub mod VerdictLemmas
 pub mod FitLemmas
+pub mod JudgedLemmas
 pub mod OneJudgement
 pub mod BitReadLemmas
 pub mod BitOneJudgement
@@ -19,9 +23,9 @@ pub mod BitWorkedLemmas
 pub mod BitScanLemmas
 pub mod BitPlayLemmas
 pub mod BitReaderLemmas
+pub mod StandsLemmas
 pub mod BitJudgeLemmas
 pub mod BitLineLemmas
-pub mod LastLineLemmas
 pub mod BitFinishLemmas
 pub mod FeedLemmas
 pub mod WordValueLemmas
@@ -33,7 +37,6 @@ pub mod WordLineLemmas
 pub mod WordPlayLemmas
 pub mod WordAssignLemmas
 pub mod KeptLineLemmas
-pub mod WordReadingLemmas
 pub mod BeginningLemmas
 pub mod BitBeginningLemmas
 pub mod WordPartLemmas

@@ -1,5 +1,5 @@
 -- A text has one judgement over a well-formed model: the model has one trace, and a judgement looks only at nodes with a value.
-use Rattle.std.proofs.Common.{◌≡◌, ℕ, suc, ◌+◌, Bool, true, false, cond, not, ◌&&◌, nat_eq, List, [], ◌∷◌, ◌++◌, length, flat_map, Option, Some, None, Result, Ok, Err, refl, sym, ap, ap₂, subst, ◌∙◌, append_assoc}
+use Rattle.std.proofs.Common.{◌≡◌, ℕ, suc, ◌+◌, Bool, true, false, cond, not, ◌&&◌, nat_eq, List, [], ◌∷◌, ◌++◌, length, flat_map, Option, Some, None, refl, sym, ap, ap₂, subst, ◌∙◌, append_assoc}
 use Rattle.std.specs.List.{list_any, position_from}
 use Rattle.btor2.specs.declared.item.Item.{Item}
 use Rattle.btor2.specs.declared.item.Body.{Body}
@@ -11,12 +11,12 @@ use Rattle.btor2.proofs.AcceptedLemmas.{Each, HasWidth}
 use Rattle.btor2.proofs.ModelLemmas.{IsAccepted-at}
 use Rattle.btor2.proofs.TraceLemmas.{trace_exists, trace_unique}
 use Rattle.witness.specs.declared.judgement.Judgement.{Judgement}
-use Rattle.witness.specs.declared.judgement.Judgement.TheVariants as judgement
 use Rattle.witness.specs.Texts.{shape_of}
-use Rattle.witness.specs.Admits.{Read, Fault, read_text, witness_of}
+use Rattle.witness.specs.Admits.{Read, read_text, witness_of}
 use Rattle.btor2.specs.Lists.{of_kind}
-use Rattle.witness.specs.Judgements.{Words, initial_words, given_frames, nodes_of, first_different, violated_at, violation_from, never_rises, unreached_from, when_reached, when_kept, when_begun, verdict, words_of, makes_no_claim, JudgesWords, JudgesRead, JudgesText, Judges}
+use Rattle.witness.specs.Judgements.{Words, initial_words, given_frames, nodes_of, first_different, violated_at, violation_from, never_rises, unreached_from, when_reached, when_kept, when_begun, verdict, words_of, makes_no_claim, JudgesWords, Judges}
 use Rattle.base.specs.Lines.{whole_lines}
+use Rattle.witness.proofs.JudgedLemmas.{some_judged, judged_once}
 
 -- ---- the nodes of properties have values
 
@@ -115,26 +115,12 @@ words_judged_once items w j k well first second =
     let trace = trace_exists items (initial_words items w) (given_frames items w) well in
     first trace.0 trace.1 ∙ sym (second trace.0 trace.1)
 
-read_judged : (items : List Item) (r : Result Read Fault) → IsWellFormed items → (j : Judgement) × JudgesRead items r j
-read_judged items (Err e) well = (judgement.Malformed e.line e.why, refl)
-read_judged items (Ok r) well = words_judged items (words_of (witness_of r)) well
-
-read_judged_once : (items : List Item) (r : Result Read Fault) (j k : Judgement) → IsWellFormed items → JudgesRead items r j → JudgesRead items r k → j ≡ k
-read_judged_once items (Err e) j k well first second = first ∙ sym second
-read_judged_once items (Ok r) j k well first second = words_judged_once items (words_of (witness_of r)) j k well first second
-
-text_judged : (items : List Item) (text : List ℕ) (b : Bool) → IsWellFormed items → (j : Judgement) × JudgesText items text b j
-text_judged items text true well = (judgement.NoClaim, refl)
-text_judged items text false well = read_judged items (read_text (shape_of items) text) well
-
-text_judged_once : (items : List Item) (text : List ℕ) (b : Bool) (j k : Judgement) → IsWellFormed items → JudgesText items text b j → JudgesText items text b k → j ≡ k
-text_judged_once items text true j k well first second = first ∙ sym second
-text_judged_once items text false j k well first second = read_judged_once items (read_text (shape_of items) text) j k well first second
-
 -- a text has a judgement
 pub some_judgement : (items : List Item) (text : List ℕ) → IsWellFormed items → (j : Judgement) × Judges items text j
-some_judgement items text well = text_judged items text (makes_no_claim 0 (whole_lines text)) well
+some_judgement items text well =
+    some_judged (λ (r : Read). JudgesWords items (words_of (witness_of r))) (makes_no_claim 0 (whole_lines text)) (read_text (shape_of items) text) (λ r is. words_judged items (words_of (witness_of r)) well)
 
 -- and no other
 pub same_judgement : (items : List Item) (text : List ℕ) (j k : Judgement) → IsWellFormed items → Judges items text j → Judges items text k → j ≡ k
-same_judgement items text j k well first second = text_judged_once items text (makes_no_claim 0 (whole_lines text)) j k well first second
+same_judgement items text j k well =
+    judged_once (λ (r : Read). JudgesWords items (words_of (witness_of r))) (makes_no_claim 0 (whole_lines text)) (read_text (shape_of items) text) j k (λ r is. words_judged_once items (words_of (witness_of r)) j k well)

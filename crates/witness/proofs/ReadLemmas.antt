@@ -1,5 +1,5 @@
 -- A text that says a witness is read as it.
-use Rattle.std.proofs.Common.{◌≡◌, ℕ, suc, ◌<◌, ◌^◌, ◌==◌, Bool, true, false, not, ◌||◌, List, [], ◌∷◌, ◌++◌, Option, Some, None, Result, Ok, Err, IfSome, length, map, decimal, codes, append_assoc, length-append, refl, sym, ap, ◌∙◌, arith}
+use Rattle.std.proofs.Common.{◌≡◌, ℕ, suc, ◌<◌, ◌^◌, ◌==◌, Bool, true, false, not, ◌||◌, List, [], ◌∷◌, ◌++◌, Option, Some, None, Ok, IfSome, length, map, decimal, codes, append_assoc, length-append, refl, sym, ap, ◌∙◌, arith}
 use Rattle.std.specs.Fmt.{digits}
 use Rattle.std.specs.List.{list_any, AllByRecursion}
 use Rattle.std.specs.Str.{bytes_eq}
@@ -8,9 +8,9 @@ use Rattle.std.proofs.lemmas.List.{append-nil, map-append}
 use Rattle.std.proofs.lemmas.List.Elements.{recursion_from_All}
 use Rattle.std.proofs.lemmas.List.Folds.{list_any-append}
 use Rattle.std.proofs.lemmas.Slice.Eq.{bytes_eq-Decides}
-use Rattle.witness.specs.declared.why.Why.{Why}
 use Rattle.witness.specs.Texts.{Shape, is_free_index, has_free, Assignment, Parts, assignment_line, assignment_lines, states_lines, frame_lines, is_comment, are_distinct, IsAssignment, IsPart, IsFreePart, IsLater}
-use Rattle.witness.specs.Admits.{assignment_at, free_assignment_at, claims_at, AtClaims, AtParts, InStates, InFree, InFrame, AtEnd, Read, nothing_read, admit}
+use Rattle.witness.specs.Admits.{assignment_at, free_assignment_at, claims_at, AtClaims, AtParts, InStates, InFree, InFrame, AtEnd, Read, nothing_read, admit, word_reader}
+use Rattle.witness.proofs.ReadingLemmas.{admit_all, admitted}
 use Rattle.witness.proofs.AssignmentLemmas.{stands_in, assignment_at-assignment_line, free_assignment_at-assignment_line, IsPlain, assignment_line_is_plain}
 
 -- the decimals of a model's properties, states and inputs can be read
@@ -46,19 +46,6 @@ none_before (x ∷ xs) y ys h =
     rw first (none_before xs y ys parts.1)
 
 -- ---- line by line
-
-abbrev pub admit_then : Result Read Why → (Read → Result Read Why) → Result Read Why
-admit_then (Ok r) others = others r
-admit_then (Err w) others = Err w
-
--- what some lines say behind those that were read
-abbrev pub admit_all : Shape → Read → List (List ℕ) → Result Read Why
-admit_all shape r [] = Ok r
-admit_all shape r (line ∷ lines) = admit_then (admit shape r line) (λ next. admit_all shape next lines)
-
-pub admitted : (shape : Shape) (r : Read) (line : List ℕ) (next : Read) (lines : List (List ℕ)) → admit shape r line ≡ Ok next
-    → admit_all shape r (line ∷ lines) ≡ admit_all shape next lines
-admitted shape r line next lines h = ap (λ (o : Result Read Why). admit_then o (λ s. admit_all shape s lines)) h
 
 -- the parts of a frame
 abbrev pub parts_of : Option (List Assignment) → List Assignment → Parts
@@ -165,41 +152,41 @@ moved : (before : List Assignment) (a : Assignment) (list : List Assignment) →
 moved before a list h = ap (λ (l : List Assignment). are_distinct (indices l)) (append_assoc before (a ∷ []) list) ∙ h
 
 pub states_part : (shape : Shape) (claims : List ℕ) (before list : List Assignment) (tail : List (List ℕ)) → IsSmall shape → AllByRecursion (IsAssignment shape.states) list → are_distinct (indices (before ++ list)) ≡ true
-    → admit_all shape (in_states claims before) (assignment_lines shape.states list ++ tail) ≡ admit_all shape (in_states claims (before ++ list)) tail
-states_part shape claims before [] tail small each distinct = ap (λ (l : List Assignment). admit_all shape (in_states claims l) tail) (sym (append-nil before))
+    → admit_all (word_reader shape) (in_states claims before) (assignment_lines shape.states list ++ tail) ≡ admit_all (word_reader shape) (in_states claims (before ++ list)) tail
+states_part shape claims before [] tail small each distinct = ap (λ (l : List Assignment). admit_all (word_reader shape) (in_states claims l) tail) (sym (append-nil before))
 states_part shape claims before (a ∷ list) tail small each distinct =
     let widths : List ℕ = shape.states in
     let line : List ℕ = assignment_line widths a in
     let read = assignment_at-assignment_line widths before a small.states each.0 (new_index before a list distinct) in
     let step = line_in_states shape claims before line (before ++ a ∷ []) (assignment_line_is_plain widths a small.states each.0) read in
-    admitted shape (in_states claims before) line (in_states claims (before ++ a ∷ [])) (assignment_lines widths list ++ tail) step
+    admitted (word_reader shape) (in_states claims before) line (in_states claims (before ++ a ∷ [])) (assignment_lines widths list ++ tail) step
     ∙ (states_part shape claims (before ++ a ∷ []) list tail small each.1 (moved before a list distinct)
-    ∙ ap (λ (l : List Assignment). admit_all shape (in_states claims l) tail) (append_assoc before (a ∷ []) list))
+    ∙ ap (λ (l : List Assignment). admit_all (word_reader shape) (in_states claims l) tail) (append_assoc before (a ∷ []) list))
 
 free_part : (shape : Shape) (claims : List ℕ) (closed : List Parts) (before list : List Assignment) (tail : List (List ℕ)) → IsSmall shape → AllByRecursion (IsAssignment shape.states) list
     → AllByRecursion (λ (a : Assignment). is_free_index shape a.index ≡ true) list → are_distinct (indices (before ++ list)) ≡ true
-    → admit_all shape (in_free claims closed before) (assignment_lines shape.states list ++ tail) ≡ admit_all shape (in_free claims closed (before ++ list)) tail
-free_part shape claims closed before [] tail small each free distinct = ap (λ (l : List Assignment). admit_all shape (in_free claims closed l) tail) (sym (append-nil before))
+    → admit_all (word_reader shape) (in_free claims closed before) (assignment_lines shape.states list ++ tail) ≡ admit_all (word_reader shape) (in_free claims closed (before ++ list)) tail
+free_part shape claims closed before [] tail small each free distinct = ap (λ (l : List Assignment). admit_all (word_reader shape) (in_free claims closed l) tail) (sym (append-nil before))
 free_part shape claims closed before (a ∷ list) tail small each free distinct =
     let widths : List ℕ = shape.states in
     let line : List ℕ = assignment_line widths a in
     let read = free_assignment_at-assignment_line shape before a small.states each.0 free.0 (new_index before a list distinct) in
     let step = line_in_free shape claims closed before line (before ++ a ∷ []) (assignment_line_is_plain widths a small.states each.0) read in
-    admitted shape (in_free claims closed before) line (in_free claims closed (before ++ a ∷ [])) (assignment_lines widths list ++ tail) step
+    admitted (word_reader shape) (in_free claims closed before) line (in_free claims closed (before ++ a ∷ [])) (assignment_lines widths list ++ tail) step
     ∙ (free_part shape claims closed (before ++ a ∷ []) list tail small each.1 free.1 (moved before a list distinct)
-    ∙ ap (λ (l : List Assignment). admit_all shape (in_free claims closed l) tail) (append_assoc before (a ∷ []) list))
+    ∙ ap (λ (l : List Assignment). admit_all (word_reader shape) (in_free claims closed l) tail) (append_assoc before (a ∷ []) list))
 
 inputs_part : (shape : Shape) (claims : List ℕ) (closed : List Parts) (states : Option (List Assignment)) (before list : List Assignment) (tail : List (List ℕ)) → IsSmall shape → AllByRecursion (IsAssignment shape.inputs) list → are_distinct (indices (before ++ list)) ≡ true
-    → admit_all shape (in_frame claims closed states before) (assignment_lines shape.inputs list ++ tail) ≡ admit_all shape (in_frame claims closed states (before ++ list)) tail
-inputs_part shape claims closed states before [] tail small each distinct = ap (λ (l : List Assignment). admit_all shape (in_frame claims closed states l) tail) (sym (append-nil before))
+    → admit_all (word_reader shape) (in_frame claims closed states before) (assignment_lines shape.inputs list ++ tail) ≡ admit_all (word_reader shape) (in_frame claims closed states (before ++ list)) tail
+inputs_part shape claims closed states before [] tail small each distinct = ap (λ (l : List Assignment). admit_all (word_reader shape) (in_frame claims closed states l) tail) (sym (append-nil before))
 inputs_part shape claims closed states before (a ∷ list) tail small each distinct =
     let widths : List ℕ = shape.inputs in
     let line : List ℕ = assignment_line widths a in
     let read = assignment_at-assignment_line widths before a small.inputs each.0 (new_index before a list distinct) in
     let step = line_in_frame shape claims closed states before line (before ++ a ∷ []) (assignment_line_is_plain widths a small.inputs each.0) read in
-    admitted shape (in_frame claims closed states before) line (in_frame claims closed states (before ++ a ∷ [])) (assignment_lines widths list ++ tail) step
+    admitted (word_reader shape) (in_frame claims closed states before) line (in_frame claims closed states (before ++ a ∷ [])) (assignment_lines widths list ++ tail) step
     ∙ (inputs_part shape claims closed states (before ++ a ∷ []) list tail small each.1 (moved before a list distinct)
-    ∙ ap (λ (l : List Assignment). admit_all shape (in_frame claims closed states l) tail) (append_assoc before (a ∷ []) list))
+    ∙ ap (λ (l : List Assignment). admit_all (word_reader shape) (in_frame claims closed states l) tail) (append_assoc before (a ∷ []) list))
 
 -- ---- the frames, and the line behind them
 
@@ -214,27 +201,27 @@ frame_lines-behind shape k next more behind =
 
 -- a frame behind another begins, by its states or by its line
 next_begins : (shape : Shape) (claims : List ℕ) (closed : List Parts) (states : Option (List Assignment)) (list : List Assignment) (next : Option (List Assignment)) (tail : List (List ℕ)) → IsSmall shape → IfSome next (IsFreePart shape)
-    → admit_all shape (in_frame claims closed states list) (states_lines shape.states (suc (length closed)) next ++ ((64 ∷ decimal (suc (length closed))) ∷ tail))
-    ≡ admit_all shape (in_frame claims (closed ++ parts_of states list ∷ []) next []) tail
+    → admit_all (word_reader shape) (in_frame claims closed states list) (states_lines shape.states (suc (length closed)) next ++ ((64 ∷ decimal (suc (length closed))) ∷ tail))
+    ≡ admit_all (word_reader shape) (in_frame claims (closed ++ parts_of states list ∷ []) next []) tail
 next_begins shape claims closed states list None tail small part =
     let k : ℕ = suc (length closed) in
-    admitted shape (in_frame claims closed states list) (64 ∷ decimal k) (in_frame claims (closed ++ parts_of states list ∷ []) None []) tail (next_frame shape claims closed states list)
+    admitted (word_reader shape) (in_frame claims closed states list) (64 ∷ decimal k) (in_frame claims (closed ++ parts_of states list ∷ []) None []) tail (next_frame shape claims closed states list)
 next_begins shape claims closed states list (Some free) tail small part =
     let k : ℕ = suc (length closed) in
     let others : List Parts = closed ++ parts_of states list ∷ [] in
     let count : k ≡ length others = omega (arith, length-append closed (parts_of states list ∷ [])) in
     let each = recursion_from_All (IsAssignment shape.states) free part.part.each in
     let all_free = recursion_from_All (λ (a : Assignment). is_free_index shape a.index ≡ true) free part.free in
-    admitted shape (in_frame claims closed states list) (35 ∷ decimal k) (in_free claims others []) (assignment_lines shape.states free ++ ((64 ∷ decimal k) ∷ tail)) (next_states shape claims closed states list part.some)
+    admitted (word_reader shape) (in_frame claims closed states list) (35 ∷ decimal k) (in_free claims others []) (assignment_lines shape.states free ++ ((64 ∷ decimal k) ∷ tail)) (next_states shape claims closed states list part.some)
     ∙ (free_part shape claims others [] free ((64 ∷ decimal k) ∷ tail) small each all_free part.part.distinct
-    ∙ (ap (λ (n : ℕ). admit_all shape (in_free claims others free) ((64 ∷ decimal n) ∷ tail)) count
-    ∙ admitted shape (in_free claims others free) (64 ∷ decimal (length others)) (in_frame claims others (Some free) []) tail (free_end shape claims others free)))
+    ∙ (ap (λ (n : ℕ). admit_all (word_reader shape) (in_free claims others free) ((64 ∷ decimal n) ∷ tail)) count
+    ∙ admitted (word_reader shape) (in_free claims others free) (64 ∷ decimal (length others)) (in_frame claims others (Some free) []) tail (free_end shape claims others free)))
 
 pub frames_part : (shape : Shape) (claims : List ℕ) (closed : List Parts) (states : Option (List Assignment)) (list : List Assignment) (more : List Parts) → IsSmall shape → IsPart shape.inputs list → AllByRecursion (IsLater shape) more
-    → admit_all shape (in_frame claims closed states []) (assignment_lines shape.inputs list ++ (frame_lines shape (suc (length closed)) more ++ codes "." ∷ [])) ≡ Ok (at_end claims (closed ++ parts_of states list ∷ more))
+    → admit_all (word_reader shape) (in_frame claims closed states []) (assignment_lines shape.inputs list ++ (frame_lines shape (suc (length closed)) more ++ codes "." ∷ [])) ≡ Ok (at_end claims (closed ++ parts_of states list ∷ more))
 frames_part shape claims closed states list [] small part parts =
     inputs_part shape claims closed states [] list (codes "." ∷ []) small (recursion_from_All (IsAssignment shape.inputs) list part.each) part.distinct
-    ∙ admitted shape (in_frame claims closed states list) (codes ".") (at_end claims (closed ++ parts_of states list ∷ [])) [] (last_line shape claims closed states list)
+    ∙ admitted (word_reader shape) (in_frame claims closed states list) (codes ".") (at_end claims (closed ++ parts_of states list ∷ [])) [] (last_line shape claims closed states list)
 frames_part shape claims closed states list (next ∷ more) small part parts =
     let k : ℕ = suc (length closed) in
     let others : List Parts = closed ++ parts_of states list ∷ [] in
@@ -242,8 +229,8 @@ frames_part shape claims closed states list (next ∷ more) small part parts =
     let here : List (List ℕ) = assignment_lines shape.inputs next.inputs in
     let tail : List (List ℕ) = frame_lines shape (suc k) more ++ codes "." ∷ [] in
     inputs_part shape claims closed states [] list (frame_lines shape k (next ∷ more) ++ codes "." ∷ []) small (recursion_from_All (IsAssignment shape.inputs) list part.each) part.distinct
-    ∙ (ap (admit_all shape (in_frame claims closed states list)) (frame_lines-behind shape k next more (codes "." ∷ []))
+    ∙ (ap (admit_all (word_reader shape) (in_frame claims closed states list)) (frame_lines-behind shape k next more (codes "." ∷ []))
     ∙ (next_begins shape claims closed states list next.states (here ++ tail) small parts.0.states
-    ∙ (ap (λ (n : ℕ). admit_all shape (in_frame claims others next.states []) (here ++ (frame_lines shape n more ++ codes "." ∷ []))) count
+    ∙ (ap (λ (n : ℕ). admit_all (word_reader shape) (in_frame claims others next.states []) (here ++ (frame_lines shape n more ++ codes "." ∷ []))) count
     ∙ (frames_part shape claims others next.states next.inputs more small parts.0.inputs parts.1
     ∙ ap (λ (fs : List Parts). Ok (at_end claims fs)) (append_assoc closed (parts_of states list ∷ []) (next ∷ more))))))

@@ -1,19 +1,16 @@
 -- A text that is read says what it is read as: all its lines.
-use Rattle.std.proofs.Common.{◌≡◌, ℕ, suc, ◌+◌, ◌<◌, ◌≤◌, nat_le, true, ◌&&◌, List, [], ◌∷◌, ◌++◌, Option, Some, None, Result, Ok, Err, length, decimal, codes, append_assoc, inl, inr, refl, sym, ap, ap₂, subst, ◌∙◌, arith}
-use Rattle.std.proofs.lemmas.Bool.{and_parts, leb-false}
+use Rattle.std.proofs.Common.{◌≡◌, ℕ, suc, ◌<◌, ◌≤◌, true, List, [], ◌∷◌, ◌++◌, Option, Some, None, Ok, length, decimal, codes, append_assoc, inl, inr, refl, sym, ap, ap₂, subst, ◌∙◌}
 use Rattle.std.proofs.lemmas.List.{append-nil}
 use Rattle.std.proofs.lemmas.List.Elements.{All-from_recursion, All-nil}
 use Rattle.base.specs.Lines.{IsLine, text_of_lines, whole_lines, unfinished}
-use Rattle.base.proofs.DecimalLemmas.{chosen}
 use Rattle.base.proofs.LineLemmas.{EachLine, each_front, lines_are_lines, parts_of_text}
-use Rattle.witness.specs.declared.why.Why.{Why}
-use Rattle.witness.specs.declared.why.Why.TheVariants as why
 use Rattle.witness.specs.Texts.{Shape, Assignment, Parts, Witness, assignment_line, claims_line, states_lines, frame_lines, witness_lines, is_comment, IsPart, IsFreePart, IsLater, AreFrames, IsWitness, most_lines, Says}
-use Rattle.witness.specs.Admits.{Read, nothing_read, admit, is_at_end, is_nothing, end_why, Fault, fault_at, then_lines, read_lines, read_text, witness_of}
+use Rattle.witness.specs.Admits.{Read, nothing_read, admit, is_at_end, word_reader, read_text, witness_of}
 use Rattle.witness.proofs.ClaimLemmas.{AreClaims}
 use Rattle.witness.proofs.AssignmentLemmas.{IsAssigned, IsFreeAssigned}
-use Rattle.witness.proofs.ReadLemmas.{IsSmall, admit_all, admitted, parts_of, at_claims, at_parts, in_states, in_free, in_frame}
-use Rattle.witness.proofs.WitnessTextLemmas.{all_read, frames_and_end, admit_parts, says_read}
+use Rattle.witness.proofs.ReadingLemmas.{admit_all, admit_parts, text_was_read}
+use Rattle.witness.proofs.ReadLemmas.{IsSmall, parts_of, at_claims, at_parts, in_states, in_free, in_frame}
+use Rattle.witness.proofs.WitnessTextLemmas.{all_read, frames_and_end, says_read}
 use Rattle.witness.proofs.AdmittedLineLemmas.{behind_comments, behind_status, behind_claims, behind_states, behind_free, BehindFrame, NextFrame, NextStates, TheEnd, OneMore, behind_frame, behind_end, part_more, empty_part, free_more, empty_free, later_frame, frame_lines-assignment, frame_lines-frame, frame_lines-states, states_lines-assignment, frame_lines-behind_states, AreComments, IsClaimed, before_frames, AreOpen, Told, ToldComments, ToldStatus, ToldClaims, ToldStates, ToldFree, ToldFrame, ToldAll}
 
 -- ---- one more line
@@ -154,52 +151,14 @@ told_line shape lines r line next small (ToldAll comments marked w valid whole i
 
 -- ---- all lines
 
-pub told_lines : (shape : Shape) (before lines : List (List ℕ)) (r final : Read) → IsSmall shape → Told shape before r → admit_all shape r lines ≡ Ok final → Told shape (before ++ lines) final
+pub told_lines : (shape : Shape) (before lines : List (List ℕ)) (r final : Read) → IsSmall shape → Told shape before r → admit_all (word_reader shape) r lines ≡ Ok final → Told shape (before ++ lines) final
 told_lines shape before [] r final small told h =
     let is : r ≡ final = cc in
     subst (λ (s : Read). Told shape (before ++ []) s) is (subst (λ (ls : List (List ℕ)). Told shape ls r) (sym (append-nil before)) told)
 told_lines shape before (line ∷ lines) r final small told h =
-    let parts = admit_parts (admit shape r line) (λ next. admit_all shape next lines) final h in
+    let parts = admit_parts (admit shape r line) (λ next. admit_all (word_reader shape) next lines) final h in
     let next : Read = parts.0 in
     subst (λ (ls : List (List ℕ)). Told shape ls final) (append_assoc before (line ∷ []) lines) (told_lines shape (before ++ line ∷ []) lines next final small (told_line shape before r line next small told parts.1.0) parts.1.1)
-
--- lines that were read, where no line was refused
-pub record AreRead (shape : Shape) (n : ℕ) (r : Read) (lines : List (List ℕ)) (last : List ℕ) (final : Read) : Type 0 where
-  pub admitted : admit_all shape r lines ≡ Ok final
-  pub done : is_at_end final.place ≡ true
-  pub ended : last ≡ []
-  pub few : n + length lines ≤ most_lines
-
-nothing : (bytes : List ℕ) → is_nothing bytes ≡ true → bytes ≡ []
-nothing [] h = refl
-nothing (b ∷ bs) h = absurd cc
-
-then_parts : (n : ℕ) (o : Result Read Why) (others : Read → Result Read Fault) (final : Read) → then_lines n o others ≡ Ok final → (next : Read) × ((o ≡ Ok next) × (others next ≡ Ok final))
-then_parts n (Ok r) others final h = (r, (refl, h))
-then_parts n (Err w) others final h = absurd cc
-
-pub lines_were_read : (shape : Shape) (n : ℕ) (r : Read) (lines : List (List ℕ)) (last : List ℕ) (final : Read) → n ≤ most_lines → read_lines shape n r lines last ≡ Ok final → AreRead shape n r lines last final
-unfolding read_lines
-lines_were_read shape n r [] last final room h =
-    elim (chosen (is_at_end r.place && is_nothing last) (Ok r) (Err (fault_at n (end_why n r last))) (Ok final) h) [
-      | inl e ↦
-          let parts = and_parts (is_at_end r.place) (is_nothing last) e.0 in
-          let is : r ≡ final = cc (e.1) in
-          let same : admit_all shape r [] ≡ Ok final = ap Ok is in
-          record { admitted = same; done = subst (λ (s : Read). is_at_end s.place ≡ true) is parts.0; ended = nothing last parts.1; few = omega arith }
-      | inr e ↦ absurd (cc (e.1))
-    ]
-lines_were_read shape n r (line ∷ lines) last final room h =
-    let others : Read → Result Read Fault = λ next. read_lines shape (n + 1) next lines last in
-    elim (chosen (nat_le most_lines n) (Err (fault_at n why.TooLong)) (then_lines n (admit shape r line) others) (Ok final) h) [
-      | inl e ↦ absurd (cc (e.1))
-      | inr e ↦
-          let below : n < most_lines = leb-false most_lines n e.0 in
-          let parts = then_parts n (admit shape r line) others final e.1 in
-          let rest = lines_were_read shape (n + 1) parts.0 lines last final (omega arith) parts.1.1 in
-          let fewer = rest.few in
-          record { admitted = admitted shape r line parts.0 lines parts.1.0 ∙ rest.admitted; done = rest.done; ended = rest.ended; few = omega arith }
-    ]
 
 -- what was told of all lines is what the text says
 told_says : (shape : Shape) (text : List ℕ) (r : Read) → Told shape (whole_lines text) r → is_at_end r.place ≡ true → unfinished text ≡ [] → length (whole_lines text) ≤ most_lines → Says shape text (witness_of r)
@@ -228,12 +187,9 @@ told_says shape text r (ToldAll comments marked w valid whole is) done ended few
 
 -- a text that is read says what it is read as
 pub read_says : (shape : Shape) (text : List ℕ) (r : Read) → IsSmall shape → read_text shape text ≡ Ok r → Says shape text (witness_of r)
-unfolding read_text
 read_says shape text r small h =
-    let were = lines_were_read shape 0 nothing_read (whole_lines text) (unfinished text) r (omega arith) h in
-    let few = were.few in
-    let told = told_lines shape [] (whole_lines text) nothing_read r small (ToldComments [] tt refl refl) were.admitted in
-    told_says shape text r told were.done were.ended (omega arith)
+    let were = text_was_read (word_reader shape) text r h in
+    told_says shape text r (told_lines shape [] (whole_lines text) nothing_read r small (ToldComments [] tt refl refl) were.all) were.done were.rest were.few
 
 -- a text says one witness
 pub says_one : (shape : Shape) (text : List ℕ) (w v : Witness) → IsSmall shape → Says shape text w → Says shape text v → w ≡ v

@@ -1,17 +1,16 @@
 -- A text that says a witness is read as it: its lines together.
-use Rattle.std.proofs.Common.{◌≡◌, ℕ, suc, ◌+◌, ◌<◌, ◌≤◌, ◌^◌, true, List, [], ◌∷◌, ◌++◌, Option, Some, None, Result, Ok, Err, IfSome, length, decimal, codes, length-append, refl, ap, ap₂, ◌∙◌, arith}
+use Rattle.std.proofs.Common.{◌≡◌, ℕ, suc, ◌+◌, ◌<◌, ◌≤◌, ◌^◌, true, List, [], ◌∷◌, ◌++◌, Option, Some, None, Ok, IfSome, length, decimal, codes, length-append, refl, ap, ◌∙◌, arith}
 use Rattle.std.specs.List.{AllByRecursion}
-use Rattle.std.proofs.lemmas.Bool.{lt-leb}
 use Rattle.std.proofs.lemmas.List.Elements.{recursion_from_All}
 use Rattle.base.specs.Lines.{IsLine, whole_lines, unfinished}
 use Rattle.base.proofs.LineLemmas.{EachLine, lines_of_text, unfinished_of_text}
-use Rattle.witness.specs.declared.why.Why.{Why}
 use Rattle.witness.specs.Texts.{Shape, Assignment, Parts, Witness, assignment_lines, claims_line, states_lines, frame_lines, witness_lines, is_comment, IsAssignment, IsPart, IsFreePart, IsFirst, IsLater, AreFrames, IsWitness, most_lines, Says}
-use Rattle.witness.specs.Admits.{Read, nothing_read, admit, is_at_end, read_lines, read_text}
+use Rattle.witness.specs.Admits.{Read, nothing_read, word_reader, read_text}
+use Rattle.witness.proofs.ReadingLemmas.{admit_all, admitted, text_is_read}
 use Rattle.witness.proofs.PieceLemmas.{decimal_without}
 use Rattle.witness.proofs.ClaimLemmas.{claims_at-claims_line}
 use Rattle.witness.proofs.AssignmentLemmas.{assignment_line_is_line, claims_line_is_line}
-use Rattle.witness.proofs.ReadLemmas.{IsSmall, admit_then, admit_all, admitted, at_claims, at_parts, in_states, in_frame, at_end, comment_line, status_line, line_of_claims, states_begin, frames_begin, states_end, states_part, frame_lines-behind, frames_part}
+use Rattle.witness.proofs.ReadLemmas.{IsSmall, at_claims, at_parts, in_states, in_frame, at_end, comment_line, status_line, line_of_claims, states_begin, frames_begin, states_end, states_part, frame_lines-behind, frames_part}
 
 -- ---- the frames behind the claims
 
@@ -21,47 +20,47 @@ frames_and_end shape frames = frame_lines shape 0 frames ++ codes "." ∷ []
 
 -- the first frame begins, by its states or by its line
 first_begins : (shape : Shape) (claims : List ℕ) (states : Option (List Assignment)) (tail : List (List ℕ)) → IsSmall shape → IfSome states (IsPart shape.states)
-    → admit_all shape (at_parts claims) (states_lines shape.states 0 states ++ ((64 ∷ decimal 0) ∷ tail)) ≡ admit_all shape (in_frame claims [] states []) tail
-first_begins shape claims None tail small part = admitted shape (at_parts claims) (64 ∷ decimal 0) (in_frame claims [] None []) tail (frames_begin shape claims)
+    → admit_all (word_reader shape) (at_parts claims) (states_lines shape.states 0 states ++ ((64 ∷ decimal 0) ∷ tail)) ≡ admit_all (word_reader shape) (in_frame claims [] states []) tail
+first_begins shape claims None tail small part = admitted (word_reader shape) (at_parts claims) (64 ∷ decimal 0) (in_frame claims [] None []) tail (frames_begin shape claims)
 first_begins shape claims (Some list) tail small part =
     let lines : List (List ℕ) = (64 ∷ decimal 0) ∷ tail in
-    admitted shape (at_parts claims) (35 ∷ decimal 0) (in_states claims []) (assignment_lines shape.states list ++ lines) (states_begin shape claims)
+    admitted (word_reader shape) (at_parts claims) (35 ∷ decimal 0) (in_states claims []) (assignment_lines shape.states list ++ lines) (states_begin shape claims)
     ∙ (states_part shape claims [] list lines small (recursion_from_All (IsAssignment shape.states) list part.each) part.distinct
-    ∙ admitted shape (in_states claims list) (64 ∷ decimal 0) (in_frame claims [] (Some list) []) tail (states_end shape claims list))
+    ∙ admitted (word_reader shape) (in_states claims list) (64 ∷ decimal 0) (in_frame claims [] (Some list) []) tail (states_end shape claims list))
 
 frames_read : (shape : Shape) (claims : List ℕ) (first : Parts) (more : List Parts) → IsSmall shape → IsFirst shape first → AllByRecursion (IsLater shape) more
-    → admit_all shape (at_parts claims) (frames_and_end shape (first ∷ more)) ≡ Ok (at_end claims (first ∷ more))
+    → admit_all (word_reader shape) (at_parts claims) (frames_and_end shape (first ∷ more)) ≡ Ok (at_end claims (first ∷ more))
 frames_read shape claims first more small parts later =
     let tail : List (List ℕ) = assignment_lines shape.inputs first.inputs ++ (frame_lines shape 1 more ++ codes "." ∷ []) in
-    ap (admit_all shape (at_parts claims)) (frame_lines-behind shape 0 first more (codes "." ∷ []))
+    ap (admit_all (word_reader shape) (at_parts claims)) (frame_lines-behind shape 0 first more (codes "." ∷ []))
     ∙ (first_begins shape claims first.states tail small parts.states
     ∙ frames_part shape claims [] first.states first.inputs more small parts.inputs later)
 
 -- ---- the comments, the status and the claims
 
 comments_read : (shape : Shape) (comments lines : List (List ℕ)) → AllByRecursion (λ line. is_comment line ≡ true) comments
-    → admit_all shape nothing_read (comments ++ lines) ≡ admit_all shape nothing_read lines
+    → admit_all (word_reader shape) nothing_read (comments ++ lines) ≡ admit_all (word_reader shape) nothing_read lines
 comments_read shape [] lines each = refl
 comments_read shape (line ∷ comments) lines each =
-    admitted shape nothing_read line nothing_read (comments ++ lines) (comment_line shape line each.0) ∙ comments_read shape comments lines each.1
+    admitted (word_reader shape) nothing_read line nothing_read (comments ++ lines) (comment_line shape line each.0) ∙ comments_read shape comments lines each.1
 
 -- what a witness says is what its lines are read as
 abbrev pub all_read : Witness → Read
 all_read w = at_end w.claims w.frames
 
 all_frames_read : (shape : Shape) (claims : List ℕ) (frames : List Parts) → IsSmall shape → AreFrames shape frames
-    → admit_all shape (at_parts claims) (frames_and_end shape frames) ≡ Ok (at_end claims frames)
+    → admit_all (word_reader shape) (at_parts claims) (frames_and_end shape frames) ≡ Ok (at_end claims frames)
 all_frames_read shape claims [] small valid = absurd valid
 all_frames_read shape claims (first ∷ more) small valid = frames_read shape claims first more small valid.0 (recursion_from_All (IsLater shape) more valid.1)
 
 witness_read : (shape : Shape) (comments : List (List ℕ)) (w : Witness) → IsSmall shape → AllByRecursion (λ line. is_comment line ≡ true) comments → IsWitness shape w
-    → admit_all shape nothing_read (witness_lines shape comments w) ≡ Ok (all_read w)
+    → admit_all (word_reader shape) nothing_read (witness_lines shape comments w) ≡ Ok (all_read w)
 witness_read shape comments w small marked valid =
     let after : List (List ℕ) = frames_and_end shape w.frames in
     let claims = line_of_claims shape (claims_line w.claims) w.claims (claims_at-claims_line shape.bads w.claims small.bads valid.some_claim (recursion_from_All (λ i. i < shape.bads) w.claims valid.claims) valid.distinct) in
     comments_read shape comments (codes "sat" ∷ claims_line w.claims ∷ after) marked
-    ∙ (admitted shape nothing_read (codes "sat") at_claims (claims_line w.claims ∷ after) (status_line shape)
-    ∙ (admitted shape at_claims (claims_line w.claims) (at_parts w.claims) after claims
+    ∙ (admitted (word_reader shape) nothing_read (codes "sat") at_claims (claims_line w.claims ∷ after) (status_line shape)
+    ∙ (admitted (word_reader shape) at_claims (claims_line w.claims) (at_parts w.claims) after claims
     ∙ all_frames_read shape w.claims w.frames small valid.frames))
 
 -- ---- no line has a byte 10
@@ -124,30 +123,12 @@ each_witness_line shape comments w small lines valid few =
 
 -- ---- the whole text
 
-pub admit_parts : (o : Result Read Why) (others : Read → Result Read Why) (final : Read) → admit_then o others ≡ Ok final → (next : Read) × ((o ≡ Ok next) × (others next ≡ Ok final))
-admit_parts (Ok r) others final h = (r, (refl, h))
-admit_parts (Err w) others final h = absurd cc
-
--- lines that are all read, at most so many, end a witness
-pub lines_are_read : (shape : Shape) (n : ℕ) (r : Read) (lines : List (List ℕ)) (final : Read) → n + length lines ≤ most_lines → admit_all shape r lines ≡ Ok final → is_at_end final.place ≡ true
-    → read_lines shape n r lines [] ≡ Ok final
-unfolding read_lines
-lines_are_read shape n r [] final few h done =
-    let is : r ≡ final = cc in
-    rw (is, done) refl
-lines_are_read shape n r (line ∷ lines) final few h done =
-    let parts = admit_parts (admit shape r line) (λ next. admit_all shape next lines) final h in
-    let room : n < most_lines = omega arith in
-    let fewer : (n + 1) + length lines ≤ most_lines = omega arith in
-    rw (lt-leb most_lines n room, parts.1.0) (lines_are_read shape (n + 1) parts.0 lines final fewer parts.1.1 done)
-
 -- a text that says a witness is read as it
 pub says_read : (shape : Shape) (text : List ℕ) (w : Witness) → IsSmall shape → Says shape text w → read_text shape text ≡ Ok (all_read w)
-unfolding read_text
 says_read shape text w small says =
     let lines : List (List ℕ) = witness_lines shape says.comments w in
     let each = each_witness_line shape says.comments w small (recursion_from_All IsLine says.comments says.lines) says.valid says.few in
     let whole : whole_lines text ≡ lines = ap whole_lines says.whole ∙ lines_of_text lines each in
     let rest : unfinished text ≡ [] = ap unfinished says.whole ∙ unfinished_of_text lines in
     let read = witness_read shape says.comments w small (recursion_from_All (λ line. is_comment line ≡ true) says.comments says.marked) says.valid in
-    ap₂ (read_lines shape 0 nothing_read) whole rest ∙ lines_are_read shape 0 nothing_read lines (all_read w) (omega (arith, says.few)) read refl
+    text_is_read (word_reader shape) text (all_read w) (ap (admit_all (word_reader shape) nothing_read) whole ∙ read) refl rest (omega (arith, says.few, ap length whole))

@@ -1,24 +1,26 @@
--- What a judge of witnesses over a model holds, line by line and part by part.
-use Rattle.std.proofs.Common.{◌≡◌, ℕ, suc, ◌+◌, ◌<◌, ◌≤◌, nat_le, ◌^◌, Bool, true, false, not, cond, ◌&&◌, ◌||◌, List, [], ◌∷◌, ◌++◌, Some, None, is_some, Result, Ok, Err, codes, length, map, length-append, refl, sym, ap, ap₂, subst, ◌∙◌, arith, inl, inr}
+-- What a judge of witnesses over a model holds: what an admitted line changes, and whether there is a claim.
+use Rattle.std.proofs.Common.{◌≡◌, ℕ, suc, ◌+◌, ◌<◌, ◌≤◌, nat_le, ◌^◌, Bool, true, false, not, cond, ◌&&◌, ◌||◌, List, [], ◌∷◌, ◌++◌, None, Result, Ok, Err, codes, length, map, length-append, refl, sym, ap, subst, ◌∙◌, arith, inl, inr}
 use Rattle.std.specs.Str.{bytes_eq}
-use Rattle.std.proofs.lemmas.Bool.{cases_Bool, le-leb, leb-true, eqb-true, false_from_ne_true}
+use Rattle.std.proofs.lemmas.Bool.{cases_Bool, eqb-true, false_from_ne_true}
 use Rattle.std.proofs.lemmas.List.{length-map}
 use Rattle.std.proofs.lemmas.Slice.Eq.{bytes_eq-Decides}
-use Rattle.base.specs.Lines.{IsLine, whole_lines, unfinished}
+use Rattle.base.specs.Lines.{whole_lines, unfinished}
 use Rattle.base.proofs.DecimalLemmas.{chosen}
 use Rattle.btor2.specs.declared.item.Item.{Item}
 use Rattle.witness.specs.declared.why.Why.{Why}
 use Rattle.witness.specs.declared.why.Why.TheVariants as why
 use Rattle.witness.specs.Texts.{Shape, Assignment, Parts, has_free, is_comment, shape_of, most_lines}
-use Rattle.witness.specs.Admits.{claims_at, assignment_at, free_assignment_at, is_nothing, Place, AtStatus, AtClaims, AtParts, InStates, InFree, InFrame, AtEnd, Read, nothing_read, states_closed, frame_closed, opens_frame, opens_states, begins_part, after_claims, after_assignment, in_part, admit_at, admit}
+use Rattle.witness.specs.Readings.{Reading, so_far, nothing_admitted, one_more_line, next_line_of, next_line, lines_behind, lines_read, reading, is_nothing}
+use Rattle.witness.specs.Admits.{claims_at, assignment_at, free_assignment_at, Place, AtStatus, AtClaims, AtParts, InStates, InFree, InFrame, AtEnd, Read, nothing_read, states_closed, frame_closed, opens_frame, opens_states, begins_part, after_claims, after_assignment, in_part, admit_at, admit, word_reader}
 use Rattle.witness.specs.Judgements.{frame_words, makes_no_claim}
-use Rattle.witness.specs.KeptLines.{kept}
-use Rattle.witness.specs.WordPlays.{WordPlay, steps_of}
-use Rattle.witness.specs.WordReadings.{Reading, nothing_admitted, one_more_line, next_line_of, lines_behind, closed_word_frames}
-use Rattle.witness.specs.WordStands.{place_of, WordReader, Reads, GivesLine, TakesLine, is_status, Counts, WordJudge, IsOfLines, StandsFor}
-use Rattle.witness.proofs.WordReadingLemmas.{stays, lines_append}
-use Rattle.witness.proofs.BitJudgeLemmas.{or-false, whole_lines-part, unfinished-part, whole_lines-line_end, unfinished-line_end}
-use Rattle.witness.proofs.KeptLineLemmas.{kept_more, nothing_kept}
+use Rattle.witness.specs.WordPlays.{steps_of}
+use Rattle.witness.specs.WordReadings.{closed_word_frames}
+use Rattle.witness.specs.Stands.{IsOfLines}
+use Rattle.witness.specs.WordStands.{place_of, WordReader, Reads, GivesLine, TakesLine, is_status, Counts, WordJudge, word_judging, StandsFor}
+use Rattle.witness.proofs.TextEndLemmas.{whole_lines-line_end, unfinished-line_end}
+use Rattle.witness.proofs.ReadingLemmas.{stopped, stays, holds_behind}
+use Rattle.witness.proofs.StandsLemmas.{or-false, awaits, none_awaited, ClaimsMore, line_admitted, with_bytes, line_ended}
+use Rattle.witness.proofs.KeptLineLemmas.{nothing_kept}
 use Rattle.witness.proofs.WordReaderLemmas.{reads_of_other}
 
 -- ---- what an admitted line changes
@@ -147,13 +149,6 @@ admitted_moves shape r next line h = line_moves shape r next line r.place refl h
 abbrev says_none : List ℕ → Bool
 says_none line = bytes_eq line (codes "unsat") || bytes_eq line (codes "unknown")
 
--- the next line may be the status
-abbrev awaits : Reading → Bool
-awaits g = not (is_some g.refused) && (not (nat_le most_lines g.admitted) && is_status g.read.place)
-
-abbrev so_far : ℕ → Read → Reading
-so_far n r = record { admitted = n; read = r; refused = None }
-
 is_awaited : (at : Place) → is_status at ≡ true → at ≡ AtStatus
 is_awaited AtStatus h = refl
 is_awaited _ h = absurd cc
@@ -163,25 +158,21 @@ silent : (line : List ℕ) → is_comment line ≡ true → says_none line ≡ f
 silent [] h = absurd cc
 silent (b ∷ bs) h = subst (λ (x : ℕ). says_none (x ∷ bs) ≡ false) (sym (eqb-true b 59 h)) refl
 
+abbrev status : Read → Bool
+status r = is_status r.place
+
 -- behind the status none is awaited
+moved : (shape : Shape) (g : Reading Read) (lines : List (List ℕ)) → is_status g.read.place ≡ false → awaits status (lines_behind (word_reader shape) g lines) ≡ false
+moved shape g lines e =
+    none_awaited status (lines_behind (word_reader shape) g lines) (holds_behind (word_reader shape) (λ (n : ℕ) (r : Read). is_status r.place ≡ false) line_more g lines e)
+  where
+    line_more : (n : ℕ) (r next : Read) (line : List ℕ) → admit shape r line ≡ Ok next → is_status r.place ≡ false → is_status next.place ≡ false
+    line_more n r next line is other = false_from_ne_true (is_status next.place) (λ s. absurd (cc ((admitted_moves shape r next line is).status s, other)))
+
 moved_by : (shape : Shape) (n : ℕ) (r : Read) (lines : List (List ℕ)) (o : Result Read Why) → ((next : Read) → o ≡ Ok next → is_status next.place ≡ false)
-    → ((next : Read) → is_status next.place ≡ false → awaits (lines_behind shape (so_far (n + 1) next) lines) ≡ false) → awaits (lines_behind shape (one_more_line (so_far n r) o) lines) ≡ false
-moved_by shape n r lines (Ok next) moved rest = rest next (moved next refl)
-moved_by shape n r lines (Err w) moved rest = ap awaits (stays shape n r w lines)
-
-none_awaited : (n : ℕ) (r : Read) → is_status r.place ≡ false → awaits (so_far n r) ≡ false
-none_awaited n r e = elim (nat_le most_lines n) as (λ b. (not b && is_status r.place) ≡ false) [ true ↦ refl | false ↦ e ]
-
-moved : (shape : Shape) (n : ℕ) (r : Read) (lines : List (List ℕ)) → is_status r.place ≡ false → awaits (lines_behind shape (so_far n r) lines) ≡ false
-moved shape n r [] e = none_awaited n r e
-moved shape n r (line ∷ lines) e =
-    elim (nat_le most_lines n) as (λ b. awaits (lines_behind shape (cond b (record { admitted = n; read = r; refused = Some why.TooLong }) (one_more_line (so_far n r) (admit shape r line))) lines) ≡ false) [
-      | true ↦ ap awaits (stays shape n r why.TooLong lines)
-      | false ↦
-          moved_by shape n r lines (admit shape r line)
-          (λ next a. false_from_ne_true (is_status next.place) (λ s. absurd (cc ((admitted_moves shape r next line a).status s, e))))
-          (λ next s. moved shape (n + 1) next lines s)
-    ]
+    → awaits status (lines_behind (word_reader shape) (one_more_line (so_far n r) o) lines) ≡ false
+moved_by shape n r lines (Ok next) behind = moved shape (so_far (n + 1) next) lines (behind next refl)
+moved_by shape n r lines (Err w) behind = ap (awaits status) (stays (word_reader shape) n r w lines)
 
 -- a first line that is no comment
 status_moves : (shape : Shape) (r next : Read) (line : List ℕ) → r.place ≡ AtStatus → is_comment line ≡ false → admit shape r line ≡ Ok next → is_status next.place ≡ false
@@ -201,7 +192,8 @@ comment_stays shape r line at is = rw (at, is) refl
 
 -- whether there is a claim, behind a line more
 claim_more : (shape : Shape) (n : ℕ) (r : Read) (lines : List (List ℕ)) (line : List ℕ) → is_status r.place ≡ true
-    → makes_no_claim n (lines ++ line ∷ []) ≡ (makes_no_claim n lines || (awaits (lines_behind shape (so_far n r) lines) && says_none line))
+    → makes_no_claim n (lines ++ line ∷ []) ≡ (makes_no_claim n lines || (awaits status (lines_behind (word_reader shape) (so_far n r) lines) && says_none line))
+unfolding next_line
 claim_more shape n r [] line at =
     rw at (elim (nat_le most_lines n) as (λ b. cond b false (cond (is_comment line) false (says_none line)) ≡ ((not b && true) && says_none line)) [
       | true ↦ refl
@@ -213,14 +205,14 @@ claim_more shape n r [] line at =
     ])
 claim_more shape n r (l ∷ lines) line at =
     elim (nat_le most_lines n) as (λ b. cond b false (cond (is_comment l) (makes_no_claim (n + 1) (lines ++ line ∷ [])) (says_none l))
-    ≡ (cond b false (cond (is_comment l) (makes_no_claim (n + 1) lines) (says_none l)) || (awaits (lines_behind shape (cond b (record { admitted = n; read = r; refused = Some why.TooLong }) (one_more_line (so_far n r) (admit shape r l))) lines) && says_none line))) [
-      | true ↦ sym (ap (λ (g : Reading). awaits g && says_none line) (stays shape n r why.TooLong lines))
+    ≡ (cond b false (cond (is_comment l) (makes_no_claim (n + 1) lines) (says_none l)) || (awaits status (lines_behind (word_reader shape) (cond b (stopped n r why.TooLong) (one_more_line (so_far n r) (admit shape r l))) lines) && says_none line))) [
+      | true ↦ sym (ap (λ (g : Reading Read). awaits status g && says_none line) (stays (word_reader shape) n r why.TooLong lines))
       | false ↦
           elim (cases_Bool (is_comment l)) [
             | inl e ↦ rw (e, comment_stays shape r l (is_awaited r.place at) e) (claim_more shape (n + 1) r lines line at)
             | inr e ↦
-                let none : awaits (lines_behind shape (one_more_line (so_far n r) (admit shape r l)) lines) ≡ false =
-                moved_by shape n r lines (admit shape r l) (λ next a. status_moves shape r next l (is_awaited r.place at) e a) (λ next s. moved shape (n + 1) next lines s) in
+                let none : awaits status (lines_behind (word_reader shape) (one_more_line (so_far n r) (admit shape r l)) lines) ≡ false =
+                moved_by shape n r lines (admit shape r l) (λ next a. status_moves shape r next l (is_awaited r.place at) e a) in
                 rw (e, none) (sym (or-false (says_none l)))
           ]
     ]
@@ -234,7 +226,8 @@ unfolding admit
 none_is_refused shape r line at other none = rw (at, other, says_not line none) refl
 
 -- so nothing is read then
-nothing_said : (shape : Shape) (n : ℕ) (r : Read) (lines : List (List ℕ)) → r.place ≡ AtStatus → makes_no_claim n lines ≡ true → (lines_behind shape (so_far n r) lines).read ≡ r
+nothing_said : (shape : Shape) (n : ℕ) (r : Read) (lines : List (List ℕ)) → r.place ≡ AtStatus → makes_no_claim n lines ≡ true → (lines_behind (word_reader shape) (so_far n r) lines).read ≡ r
+unfolding next_line
 nothing_said shape n r [] at h = absurd cc
 nothing_said shape n r (line ∷ lines) at h =
     elim (chosen (nat_le most_lines n) false (cond (is_comment line) (makes_no_claim (n + 1) lines) (says_none line)) true h) [
@@ -242,175 +235,59 @@ nothing_said shape n r (line ∷ lines) at h =
       | inr e ↦
           elim (chosen (is_comment line) (makes_no_claim (n + 1) lines) (says_none line) true e.1) [
             | inl d ↦
-                let next : next_line_of shape (so_far n r) line None ≡ so_far (n + 1) r = rw (e.0, comment_stays shape r line at d.0) refl in
-                ap (λ (g : Reading). (lines_behind shape g lines).read) next ∙ nothing_said shape (n + 1) r lines at d.1
+                let next : next_line_of (word_reader shape) (so_far n r) line None ≡ so_far (n + 1) r = rw (e.0, comment_stays shape r line at d.0) refl in
+                ap (λ (g : Reading Read). (lines_behind (word_reader shape) g lines).read) next ∙ nothing_said shape (n + 1) r lines at d.1
             | inr d ↦
-                let next : next_line_of shape (so_far n r) line None ≡ record (so_far n r) { refused = Some why.BadHeader } = rw (e.0, none_is_refused shape r line at d.0 d.1) refl in
-                ap (λ (g : Reading). (lines_behind shape g lines).read) next ∙ ap (λ (g : Reading). g.read) (stays shape n r why.BadHeader lines)
+                let next : next_line_of (word_reader shape) (so_far n r) line None ≡ stopped n r why.BadHeader = rw (e.0, none_is_refused shape r line at d.0 d.1) refl in
+                ap (λ (g : Reading Read). (lines_behind (word_reader shape) g lines).read) next ∙ ap (λ (g : Reading Read). g.read) (stays (word_reader shape) n r why.BadHeader lines)
           ]
     ]
 
 pub closes_nothing : (shape : Shape) (text : List ℕ) → makes_no_claim 0 (whole_lines text) ≡ true → closed_word_frames shape text ≡ 0
+unfolding reading
 closes_nothing shape text h = ap (λ (r : Read). length r.closed) (nothing_said shape 0 nothing_read (whole_lines text) refl h)
 
 -- ---- what is held behind a line
+
+-- as many frames at most as lines, and behind the last line one at least
+abbrev InFrames : ℕ → Read → Type 0
+InFrames n r = (length r.closed ≤ n) × (r.place ≡ AtEnd → r.closed ≡ [] → ⊥)
+
+pub in_frames : (shape : Shape) (lines : List (List ℕ)) → InFrames (lines_read (word_reader shape) lines).admitted (lines_read (word_reader shape) lines).read
+in_frames shape lines = holds_behind (word_reader shape) InFrames line_more (nothing_admitted (word_reader shape)) lines (omega arith, λ e none. cc)
+  where
+    line_more : (n : ℕ) (r next : Read) (line : List ℕ) → admit shape r line ≡ Ok next → InFrames n r → InFrames (n + 1) next
+    line_more n r next line is h =
+        let moves = admitted_moves shape r next line is in
+        let grown = moves.frames in
+        let before = h.0 in
+        (omega (arith, grown, before), moves.whole)
+
+pub few_frames : (items : List Item) (lines : List (List ℕ)) (line : List ℕ) (j : WordJudge) → IsOfLines (word_judging items) j lines line → j.admitted < most_lines
+    → length (lines_read (word_reader (shape_of items)) lines).read.closed < 2 ^ 62
+few_frames items lines line j is few =
+    let count = (in_frames (shape_of items) lines).0 in
+    omega (arith, count, few, is.admitted)
+
+pub claims_more : (items : List Item) → ClaimsMore (word_judging items)
+claims_more items lines line = claim_more (shape_of items) 0 nothing_read lines line refl
 
 pub counts_of : (items : List Item) (q : WordReader) (r : Read) (line : List ℕ) → Reads items q r line → Counts items q.play r
 counts_of items q r line reads =
     let many : length (map frame_words r.closed) ≡ length r.closed = length-map r.closed frame_words in
     record { items_are = reads.play.items_are; frames = reads.play.count ∙ many; steps = reads.play.steps ∙ ap (steps_of items) many }
 
-module _ (items : List Item) (lines : List (List ℕ)) (line : List ℕ) (j : WordJudge) (is : IsOfLines items j lines line) where
-  abbrev now : Reading
-  now = lines_behind (shape_of items) nothing_admitted lines
-
-  claim_with : (awaited : Bool) → awaits now ≡ awaited → (j.no_claim || (awaited && says_none line)) ≡ makes_no_claim 0 (lines ++ line ∷ [])
-  claim_with awaited e =
-      ap₂ (λ (b c : Bool). b || (c && says_none line)) is.no_claim (sym e) ∙ sym (claim_more (shape_of items) 0 nothing_read lines line refl)
-
-  claim_stays : awaits now ≡ false → j.no_claim ≡ makes_no_claim 0 (lines ++ line ∷ [])
-  claim_stays e = sym (or-false j.no_claim) ∙ claim_with false e
-
-  -- it is refused
-  refused_then : (q : WordReader) (w : Why) (no_claim : Bool) → next_line_of (shape_of items) now line now.refused ≡ record now { refused = Some w } → no_claim ≡ makes_no_claim 0 (lines ++ line ∷ []) → q.play ≡ j.reader.play
-      → IsOfLines items (record j { reader = q; refused = Some w; no_claim = no_claim }) (lines ++ line ∷ []) []
-  refused_then q w no_claim next claims same =
-      let g : lines_behind (shape_of items) nothing_admitted (lines ++ line ∷ []) ≡ record now { refused = Some w } = lines_append (shape_of items) nothing_admitted lines (line ∷ []) ∙ next in
-      let counts : Counts items q.play now.read = subst (λ (p : WordPlay). Counts items p now.read) (sym same) is.counts in
-      record {
-        admitted = is.admitted ∙ ap (λ (g : Reading). g.admitted) (sym g);
-        refused = ap (λ (g : Reading). g.refused) (sym g);
-        no_claim = claims;
-        few = is.few;
-        frames = subst (λ (g : Reading). length g.read.closed ≤ j.admitted) (sym g) is.frames;
-        whole = subst (λ (g : Reading). g.read.place ≡ AtEnd → g.read.closed ≡ [] → ⊥) (sym g) is.whole;
-        counts = subst (λ (g : Reading). Counts items q.play g.read) (sym g) counts;
-        reads = λ e. absurd cc;
-      }
-
-  -- behind a refused line nothing changes
-  pub stays_refused : (w : Why) → j.refused ≡ Some w → (s : List ℕ) → IsOfLines items (record j { line = s }) (lines ++ line ∷ []) []
-  stays_refused w refused s =
-      let was : now.refused ≡ Some w = sym is.refused ∙ refused in
-      let g : lines_behind (shape_of items) nothing_admitted (lines ++ line ∷ []) ≡ now = lines_append (shape_of items) nothing_admitted lines (line ∷ []) ∙ ap (next_line_of (shape_of items) now line) was in
-      record {
-        admitted = is.admitted ∙ ap (λ (g : Reading). g.admitted) (sym g);
-        refused = is.refused ∙ ap (λ (g : Reading). g.refused) (sym g);
-        no_claim = claim_stays (rw was refl);
-        few = is.few;
-        frames = subst (λ (g : Reading). length g.read.closed ≤ j.admitted) (sym g) is.frames;
-        whole = subst (λ (g : Reading). g.read.place ≡ AtEnd → g.read.closed ≡ [] → ⊥) (sym g) is.whole;
-        counts = subst (λ (g : Reading). Counts items j.reader.play g.read) (sym g) is.counts;
-        reads = λ none. absurd (cc (none, refused));
-      }
-
-  module _ (none : j.refused ≡ None) where
-    not_refused : now.refused ≡ None
-    not_refused = sym is.refused ∙ none
-
-    pub too_many : most_lines ≤ j.admitted → IsOfLines items (record j { refused = Some why.TooLong }) (lines ++ line ∷ []) []
-    too_many many =
-        let full : nat_le most_lines now.admitted ≡ true = ap (nat_le most_lines) (sym is.admitted) ∙ le-leb most_lines j.admitted many in
-        refused_then j.reader why.TooLong j.no_claim (rw (not_refused, full) refl) (claim_stays (rw (not_refused, full) refl)) refl
-
-    module _ (few : j.admitted < most_lines) where
-      room : nat_le most_lines now.admitted ≡ false
-      room = ap (nat_le most_lines) (sym is.admitted) ∙ false_from_ne_true (nat_le most_lines j.admitted) (λ e. absurd (omega (arith, leb-true most_lines j.admitted e, few)))
-
-      claim_now : (no_claim : Bool) → no_claim ≡ (j.no_claim || (is_status (place_of j.reader.place) && says_none line)) → no_claim ≡ makes_no_claim 0 (lines ++ line ∷ [])
-      claim_now no_claim e =
-          e ∙ claim_with (is_status (place_of j.reader.place)) (rw (not_refused, room) (ap is_status (sym (is.reads none).place)))
-
-      pub few_frames : length now.read.closed < 2 ^ 62
-      few_frames = omega (arith, is.frames, few)
-
-      pub not_admitted : (q : WordReader) (w : Why) (no_claim : Bool) → q.play ≡ j.reader.play → admit (shape_of items) now.read line ≡ Err w → no_claim ≡ (j.no_claim || (is_status (place_of j.reader.place) && says_none line))
-          → IsOfLines items (record j { reader = q; refused = Some w; no_claim = no_claim }) (lines ++ line ∷ []) []
-      not_admitted q w no_claim same refuses claims = refused_then q w no_claim (rw (not_refused, room, refuses) refl) (claim_now no_claim claims) same
-
-      pub line_admitted : (q : WordReader) (no_claim : Bool) → GivesLine items now.read line q (Ok tt) → no_claim ≡ (j.no_claim || (is_status (place_of j.reader.place) && says_none line))
-          → IsOfLines items (record j { reader = q; admitted = j.admitted + 1; no_claim = no_claim }) (lines ++ line ∷ []) []
-      line_admitted q no_claim gives claims =
-          let next : Read = gives.0 in
-          let one : next_line_of (shape_of items) now line now.refused ≡ so_far (now.admitted + 1) next = rw (not_refused, room, gives.1.0) refl in
-          let g : lines_behind (shape_of items) nothing_admitted (lines ++ line ∷ []) ≡ so_far (now.admitted + 1) next = lines_append (shape_of items) nothing_admitted lines (line ∷ []) ∙ one in
-          let moves = admitted_moves (shape_of items) now.read next line gives.1.0 in
-          let grown = moves.frames in
-          let before = is.frames in
-          record {
-            admitted = ap (λ (n : ℕ). n + 1) is.admitted ∙ ap (λ (g : Reading). g.admitted) (sym g);
-            refused = none ∙ ap (λ (g : Reading). g.refused) (sym g);
-            no_claim = claim_now no_claim claims;
-            few = omega (arith, few);
-            frames = subst (λ (g : Reading). length g.read.closed ≤ j.admitted + 1) (sym g) (omega (arith, grown, before));
-            whole = subst (λ (g : Reading). g.read.place ≡ AtEnd → g.read.closed ≡ [] → ⊥) (sym g) moves.whole;
-            counts = subst (λ (g : Reading). Counts items q.play g.read) (sym g) (counts_of items q next [] gives.1.1);
-            reads = λ e. subst (λ (g : Reading). Reads items q g.read []) (sym g) gives.1.1;
-          }
-
--- ---- what is held behind a part of a line
-
-pub part_more : (items : List Item) (text part : List ℕ) (j : WordJudge) (q : WordReader) → IsLine part → StandsFor items j text
-    → Counts items q.play (lines_behind (shape_of items) nothing_admitted (whole_lines text)).read
-    → (j.refused ≡ None → Reads items q (lines_behind (shape_of items) nothing_admitted (whole_lines text)).read (unfinished text ++ part))
-    → StandsFor items (record j { reader = q; line = kept (j.line ++ part) }) (text ++ part)
-part_more items text part j q one stands counts reads =
-    let is = stands.lines in
-    let new : WordJudge = record j { reader = q; line = kept (j.line ++ part) } in
-    let lines : IsOfLines items new (whole_lines text) (unfinished text ++ part) = record {
-      admitted = is.admitted;
-      refused = is.refused;
-      no_claim = is.no_claim;
-      few = is.few;
-      frames = is.frames;
-      whole = is.whole;
-      counts = counts;
-      reads = reads;
-    } in
-    record {
-      lines = subst (λ (ls : List (List ℕ)). IsOfLines items new ls (unfinished (text ++ part))) (sym (whole_lines-part text part one)) (subst (IsOfLines items new (whole_lines text)) (sym (unfinished-part text part one)) lines);
-      line = ap (λ (l : List ℕ). kept (l ++ part)) stands.line ∙ (kept_more (unfinished text) part ∙ ap kept (sym (unfinished-part text part one)));
-    }
-
 pub nothing_there : (line : List ℕ) → is_nothing line ≡ true → line ≡ []
 nothing_there [] h = refl
 nothing_there (b ∷ line) h = absurd (cc h)
 
--- behind the end of a line
-pub line_ended : (items : List Item) (text : List ℕ) (lines : List (List ℕ)) (j : WordJudge) → whole_lines text ≡ lines → unfinished text ≡ [] → IsOfLines items j lines [] → j.line ≡ [] → StandsFor items j text
-line_ended items text lines j whole none is empty =
-    record {
-      lines = subst (λ (ls : List (List ℕ)). IsOfLines items j ls (unfinished text)) (sym whole) (subst (IsOfLines items j lines) (sym none) is);
-      line = empty ∙ ap kept (sym none);
-    }
-
--- the bytes behind the lines are others
-pub with_bytes : (items : List Item) (lines : List (List ℕ)) (line next : List ℕ) (j : WordJudge) → IsOfLines items j lines line → (j.refused ≡ None → Reads items j.reader (lines_behind (shape_of items) nothing_admitted lines).read next) → IsOfLines items j lines next
-with_bytes items lines line next j is reads =
-    record {
-      admitted = is.admitted;
-      refused = is.refused;
-      no_claim = is.no_claim;
-      few = is.few;
-      frames = is.frames;
-      whole = is.whole;
-      counts = is.counts;
-      reads = reads;
-    }
-
--- the line in hand is another field
-pub with_line : (items : List Item) (lines : List (List ℕ)) (line : List ℕ) (j : WordJudge) (s : List ℕ) → IsOfLines items j lines line → IsOfLines items (record j { line = s }) lines line
-with_line items lines line j s is =
-    record {
-      admitted = is.admitted;
-      refused = is.refused;
-      no_claim = is.no_claim;
-      few = is.few;
-      frames = is.frames;
-      whole = is.whole;
-      counts = is.counts;
-      reads = is.reads;
-    }
+-- behind a line that is given to the reader
+pub given_line : (items : List Item) (lines : List (List ℕ)) (line taken : List ℕ) (j : WordJudge) (q : WordReader) (no_claim : Bool) → IsOfLines (word_judging items) j lines taken → j.refused ≡ None → j.admitted < most_lines
+    → GivesLine items (lines_read (word_reader (shape_of items)) lines).read line q (Ok tt) → no_claim ≡ (j.no_claim || (is_status (place_of j.reader.place) && says_none line))
+    → IsOfLines (word_judging items) (record j { reader = q; admitted = j.admitted + 1; no_claim = no_claim }) (lines ++ line ∷ []) []
+given_line items lines line taken j q no_claim is fresh few gives claims =
+    line_admitted (word_judging items) (claims_more items) lines line taken j is fresh few q gives.0 no_claim (is_status (place_of j.reader.place)) gives.1.0 gives.1.1 (counts_of items q gives.0 [] gives.1.1)
+    (ap is_status (is.reads fresh).place) claims
 
 -- behind a line that was taken at its place
 pub line_taken : (items : List Item) (text : List ℕ) (j : WordJudge) (q : WordReader) (all rest : List ℕ) (taken : TakesLine j.reader q all rest) → j.refused ≡ None → j.admitted < most_lines → j.line ≡ [] → StandsFor items j text
@@ -418,11 +295,11 @@ pub line_taken : (items : List Item) (text : List ℕ) (j : WordJudge) (q : Word
 line_taken items text j q all rest taken fresh few none stands =
     let line : List ℕ = taken.line in
     let lines : List (List ℕ) = whole_lines text in
-    let read : Read = (lines_behind (shape_of items) nothing_admitted lines).read in
+    let read : Read = (lines_read (word_reader (shape_of items)) lines).read in
     let empty : unfinished text ≡ [] = nothing_there (unfinished text) (sym (nothing_kept (unfinished text)) ∙ ap is_nothing (sym stands.line ∙ none)) in
     let reads : Reads items j.reader read line = reads_of_other items read (unfinished text) j.reader (stands.lines.reads fresh) line taken.alone in
-    let here : IsOfLines items j lines line = with_bytes items lines (unfinished text) line j stands.lines (λ _. reads) in
-    let gives : GivesLine items read line q (Ok tt) = taken.gives items read reads (few_frames items lines line j here fresh few) in
+    let here : IsOfLines (word_judging items) j lines line = with_bytes (word_judging items) lines (unfinished text) line j j.reader j.line stands.lines stands.lines.counts (λ _. reads) in
+    let gives : GivesLine items read line q (Ok tt) = taken.gives items read reads (few_frames items lines line j here few) in
     let silent : j.no_claim ≡ (j.no_claim || (is_status (place_of j.reader.place) && says_none line)) = sym (ap (λ (b : Bool). j.no_claim || (b && says_none line)) taken.behind ∙ or-false j.no_claim) in
-    line_ended items (text ++ (line ++ 10 ∷ [])) (lines ++ line ∷ []) (record j { reader = q; admitted = j.admitted + 1 }) (whole_lines-line_end text line taken.whole ∙ ap (λ (l : List ℕ). lines ++ (l ++ line) ∷ []) empty) (unfinished-line_end text line)
-    (line_admitted items lines line j here fresh few q j.no_claim gives silent) none
+    line_ended (word_judging items) (text ++ (line ++ 10 ∷ [])) (lines ++ line ∷ []) (record j { reader = q; admitted = j.admitted + 1 }) (whole_lines-line_end text line taken.whole ∙ ap (λ (l : List ℕ). lines ++ (l ++ line) ∷ []) empty)
+    (unfinished-line_end text line) (given_line items lines line line j q j.no_claim here fresh few gives silent) none

@@ -80,6 +80,21 @@ module _ (items : List Item) (r : Read) (line : List ℕ) (q : WordReader) (read
         play = reads.play;
       }
 
+  -- an assignment more in the part that is open
+  given_more : (x : CodePlace) (p : WordPlay) (list : List Assignment) → q.place ≡ x → SaidAt (record r { open_part = list }) (place_of x) → ClaimsAt (record q { play = p }) (record r { open_part = list }) [] (place_of x)
+      → Plays items (map frame_words r.closed) (here_of (record r { open_part = list }) (place_of x)) p → Reads items (record q { play = p }) (record r { open_part = list }) []
+  given_more x p list e said claims plays =
+      let at = sym (is_at x e) in
+      let next : Read = record r { open_part = list } in
+      record {
+        free = reads.free;
+        many = reads.many;
+        place = reads.place;
+        said = subst (SaidAt next) at said;
+        claims = subst (ClaimsAt (record q { play = p }) next []) at claims;
+        play = subst (λ (y : Place). Plays items (map frame_words r.closed) (here_of next y) p) at plays;
+      }
+
   -- ---- the status and the claims
 
   pub comment_admitted : q.place ≡ code.Status → is_comment line ≡ true → Passes items r line q
@@ -156,21 +171,7 @@ module _ (items : List Item) (r : Read) (line : List ℕ) (q : WordReader) (read
   unfolding admit
   state_more p (Err w) e other plain gives = rw (is_at code.States e, other, plain, gives) refl
   state_more p (Ok u) e other plain gives =
-      let at = is_at code.States e in
-      let next : Read = record r { open_part = gives.0 } in (
-        next,
-        (
-          rw (at, other, plain, gives.1.0) refl,
-          record {
-            free = reads.free;
-            many = reads.many;
-            place = reads.place;
-            said = subst (SaidAt next) (sym at) (said_at code.States e);
-            claims = subst (ClaimsAt (record q { play = p }) next []) (sym at) (claims_there code.States e);
-            play = subst (λ (x : Place). Plays items (map frame_words r.closed) (here_of next x) p) (sym at) gives.1.1;
-          },
-        ),
-      )
+      (record r { open_part = gives.0 }, (rw (is_at code.States e, other, plain, gives.1.0) refl, given_more code.States p gives.0 e (said_at code.States e) (claims_there code.States e) gives.1.1))
 
   pub may_give_free : (closed : List FrameWords) → names_free (shape_of items) (number_of (cut_at_space line).0) ≡ true → MayGive items closed line
   may_give_free [] free = tt
@@ -193,21 +194,7 @@ module _ (items : List Item) (r : Read) (line : List ℕ) (q : WordReader) (read
   unfolding admit free_assignment_at
   free_more p (Err w) e other plain free gives = rw (is_at code.Free e, other, plain, free, gives) refl
   free_more p (Ok u) e other plain free gives =
-      let at = is_at code.Free e in
-      let next : Read = record r { open_part = gives.0 } in (
-        next,
-        (
-          rw (at, other, plain, free, gives.1.0) refl,
-          record {
-            free = reads.free;
-            many = reads.many;
-            place = reads.place;
-            said = subst (SaidAt next) (sym at) tt;
-            claims = subst (ClaimsAt (record q { play = p }) next []) (sym at) (claims_there code.Free e);
-            play = subst (λ (x : Place). Plays items (map frame_words r.closed) (here_of next x) p) (sym at) gives.1.1;
-          },
-        ),
-      )
+      (record r { open_part = gives.0 }, (rw (is_at code.Free e, other, plain, free, gives.1.0) refl, given_more code.Free p gives.0 e tt (claims_there code.Free e) gives.1.1))
 
   -- ---- a frame
 
@@ -249,22 +236,8 @@ module _ (items : List Item) (r : Read) (line : List ℕ) (q : WordReader) (read
       let no = ap (λ (b : Bool). opens_states (suc (length r.closed)) line && b) (sym reads.free) ∙ none in
       rw (is_at code.Frame e, other, no, fails, plain, gives) refl
   input_more p (Ok u) e other none fails plain gives =
-      let at = is_at code.Frame e in
       let no = ap (λ (b : Bool). opens_states (suc (length r.closed)) line && b) (sym reads.free) ∙ none in
-      let next : Read = record r { open_part = gives.0 } in (
-        next,
-        (
-          rw (at, other, no, fails, plain, gives.1.0) refl,
-          record {
-            free = reads.free;
-            many = reads.many;
-            place = reads.place;
-            said = subst (SaidAt next) (sym at) tt;
-            claims = subst (ClaimsAt (record q { play = p }) next []) (sym at) (claims_there code.Frame e);
-            play = subst (λ (x : Place). Plays items (map frame_words r.closed) (here_of next x) p) (sym at) gives.1.1;
-          },
-        ),
-      )
+      (record r { open_part = gives.0 }, (rw (is_at code.Frame e, other, no, fails, plain, gives.1.0) refl, given_more code.Frame p gives.0 e tt (claims_there code.Frame e) gives.1.1))
 
   pub trailing_refused : q.place ≡ code.End → admit (shape_of items) r line ≡ Err why.Trailing
   unfolding admit

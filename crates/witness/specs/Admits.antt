@@ -1,15 +1,15 @@
 -- Lines of a witness, admitted one by one after the lines before them, and the first why of a line that is not ("Btor2, BtorMC and Boolector 3.0", witness
 -- format; the whys and their order are this project's).
-use Rattle.std.specs.Prelude.{ℕ, suc, ◌+◌, Bool, true, false, not, ◌&&◌, ◌||◌, ◌==◌, nat_lt, nat_le, List, [], ◌∷◌, ◌++◌, Option, Some, None, Result, Ok, Err, codes, decimal, map, length, reverse, slice_index, if◌then◌else◌}
+use Rattle.std.specs.Prelude.{ℕ, suc, Bool, true, false, ◌&&◌, ◌||◌, ◌==◌, nat_lt, List, [], ◌∷◌, ◌++◌, Option, Some, None, Result, Ok, Err, codes, decimal, map, length, reverse, slice_index, if◌then◌else◌}
 use Rattle.std.specs.List.{list_any, list_all}
 use Rattle.std.specs.Str.{bytes_eq}
 use Rattle.base.specs.Word.{word}
 use Rattle.base.specs.Decimals.{number_of}
-use Rattle.base.specs.Lines.{whole_lines, unfinished}
 use Rattle.btor2.specs.Symbols.{is_symbol}
 use Rattle.witness.specs.declared.why.Why.{Why}
 use Rattle.witness.specs.declared.why.Why.TheVariants as why
-use Rattle.witness.specs.Texts.{Shape, is_free_index, has_free, Assignment, Parts, Witness, is_comment, are_distinct, most_lines}
+use Rattle.witness.specs.Texts.{Shape, is_free_index, has_free, Assignment, Parts, Witness, is_comment, are_distinct}
+use Rattle.witness.specs.Readings.{Reader, Fault, text_read}
 
 -- ---- a line's pieces
 
@@ -196,38 +196,12 @@ abbrev pub is_at_end : Place → Bool
 is_at_end AtEnd = true
 is_at_end _ = false
 
-abbrev pub is_nothing : List ℕ → Bool
-is_nothing [] = true
-is_nothing (b ∷ bs) = false
-
--- the why of the line after the last whole line, of which there are n and which has these bytes
-abbrev pub end_why : ℕ → Read → List ℕ → Why
-end_why n r last =
-    if nat_le most_lines n && not (is_nothing last) then why.TooLong
-    else (if is_at_end r.place && not (is_nothing last) then why.Trailing else why.Truncated)
-
--- the faulty line, counted from 1, and its why
-pub record Fault : Type 0 where
-  pub line : ℕ
-  pub why : Why
-
-abbrev pub fault_at : ℕ → Why → Fault
-fault_at n w = record { line = n + 1; why = w }
-
-abbrev pub then_lines : ℕ → Result Read Why → (Read → Result Read Fault) → Result Read Fault
-then_lines n (Ok r) others = others r
-then_lines n (Err w) others = Err (fault_at n w)
-
--- what the lines behind n admitted ones give, with the bytes behind the last of them; no line is admitted behind 2 ^ 62
-unfoldable pub read_lines : Shape → ℕ → Read → List (List ℕ) → List ℕ → Result Read Fault
-read_lines shape n r [] last = if is_at_end r.place && is_nothing last then Ok r else Err (fault_at n (end_why n r last))
-read_lines shape n r (line ∷ lines) last =
-    if nat_le most_lines n then Err (fault_at n why.TooLong)
-    else then_lines n (admit shape r line) (λ next. read_lines shape (n + 1) next lines last)
+abbrev pub word_reader : Shape → Reader Read
+word_reader shape = record { nothing = nothing_read; admit = admit shape; ended = λ r. is_at_end r.place }
 
 -- what a text reads as, or its fault
-unfoldable pub read_text : Shape → List ℕ → Result Read Fault
-read_text shape text = read_lines shape 0 nothing_read (whole_lines text) (unfinished text)
+abbrev pub read_text : Shape → List ℕ → Result Read Fault
+read_text shape text = text_read (word_reader shape) text
 
 -- what the admitted lines of a whole text say
 abbrev pub witness_of : Read → Witness

@@ -1,14 +1,13 @@
 -- Lines of a witness of a circuit, admitted one by one after the lines before them, and the first why of a line that is not (the AIGER format's witnesses;
 -- the whys and their order are this project's).
-use Rattle.std.specs.Prelude.{ℕ, ◌+◌, Bool, true, false, not, ◌&&◌, ◌==◌, nat_lt, nat_le, List, [], ◌∷◌, ◌++◌, Option, Some, None, Result, Ok, Err, codes, map, length, if◌then◌else◌}
+use Rattle.std.specs.Prelude.{ℕ, Bool, true, false, ◌&&◌, ◌==◌, nat_lt, List, [], ◌∷◌, ◌++◌, Option, Some, None, Result, Ok, Err, codes, map, length, if◌then◌else◌}
 use Rattle.std.specs.List.{list_any, list_all}
 use Rattle.std.specs.Str.{bytes_eq}
-use Rattle.base.specs.Lines.{whole_lines, unfinished}
 use Rattle.aiger.specs.Circuit.{Circuit}
 use Rattle.witness.specs.declared.why.Why.{Why}
 use Rattle.witness.specs.declared.why.Why.TheVariants as why
-use Rattle.witness.specs.Texts.{most_lines}
-use Rattle.witness.specs.Admits.{Claim, claim_of, is_value_byte, is_nothing, Fault, fault_at}
+use Rattle.witness.specs.Readings.{Reader, Fault, reading, text_read}
+use Rattle.witness.specs.Admits.{Claim, claim_of, is_value_byte}
 use Rattle.witness.specs.BitTexts.{BitWitness}
 
 -- ---- single lines
@@ -75,58 +74,16 @@ bit_admit c r line = bit_admit_at c r line r.place
 
 -- ---- a whole text
 
--- how far whole lines are admitted: how many are, what they say, and why the next of them is not, where there is one
-pub record BitReading : Type 0 where
-  pub admitted : ℕ
-  pub read : BitRead
-  pub refused : Option Why
-
-abbrev pub nothing_admitted : BitReading
-nothing_admitted = record { admitted = 0; read = no_line_read; refused = None }
-
-abbrev pub one_more_line : BitReading → Result BitRead Why → BitReading
-one_more_line g (Ok r) = record { admitted = g.admitted + 1; read = r; refused = None }
-one_more_line g (Err w) = record g { refused = Some w }
-
--- a whole line more: behind one that is not admitted none is, and none behind 2 ^ 62
-abbrev pub next_line_of : Circuit → BitReading → List ℕ → Option Why → BitReading
-next_line_of c g line (Some w) = g
-next_line_of c g line None =
-    if nat_le most_lines g.admitted then record g { refused = Some why.TooLong } else one_more_line g (bit_admit c g.read line)
-
-unfoldable pub next_line : Circuit → BitReading → List ℕ → BitReading
-next_line c g line = next_line_of c g line g.refused
-
-abbrev pub lines_behind : Circuit → BitReading → List (List ℕ) → BitReading
-lines_behind c g [] = g
-lines_behind c g (line ∷ lines) = lines_behind c (next_line c g line) lines
-
--- how far the whole lines of a text are admitted
-unfoldable pub bit_reading : Circuit → List ℕ → BitReading
-bit_reading c text = lines_behind c nothing_admitted (whole_lines text)
-
 abbrev pub is_done : BitPlace → Bool
 is_done AtDone = true
 is_done _ = false
 
--- the why of the line after the last whole line, of which there are n and which has these bytes
-abbrev pub last_why : ℕ → BitRead → List ℕ → Why
-last_why n r last =
-    if nat_le most_lines n && not (is_nothing last) then why.TooLong
-    else (if is_done r.place && not (is_nothing last) then why.Trailing else why.Truncated)
+abbrev pub bit_reader : Circuit → Reader BitRead
+bit_reader c = record { nothing = no_line_read; admit = bit_admit c; ended = λ r. is_done r.place }
 
--- what the lines read as, with the bytes behind the last of them, or the fault
-abbrev pub read_or_fault : BitReading → List ℕ → Option Why → Result BitRead Fault
-read_or_fault g last (Some w) = Err (fault_at g.admitted w)
-read_or_fault g last None =
-    if is_done g.read.place && is_nothing last then Ok g.read else Err (fault_at g.admitted (last_why g.admitted g.read last))
-
-abbrev pub read_with : BitReading → List ℕ → Result BitRead Fault
-read_with g last = read_or_fault g last g.refused
-
--- what a text reads as, or its fault: the first whole line that is not admitted, else the line after the last whole one
+-- what a text reads as, or its fault
 abbrev pub read_bit_text : Circuit → List ℕ → Result BitRead Fault
-read_bit_text c text = read_with (bit_reading c text) (unfinished text)
+read_bit_text c text = text_read (bit_reader c) text
 
 -- what the admitted lines of a whole text say
 abbrev pub bit_witness_of : BitRead → BitWitness
@@ -134,8 +91,8 @@ bit_witness_of r = record { claim = r.claim; initial = r.initial; frames = r.fra
 
 -- the whole lines before the faulty one, or all lines
 abbrev pub admitted_lines : Circuit → List ℕ → ℕ
-admitted_lines c text = (bit_reading c text).admitted
+admitted_lines c text = (reading (bit_reader c) text).admitted
 
 -- the frames that are closed: those whose lines are among them
 abbrev pub closed_frames : Circuit → List ℕ → ℕ
-closed_frames c text = length (bit_reading c text).read.frames
+closed_frames c text = length (reading (bit_reader c) text).read.frames

@@ -1,5 +1,5 @@
 -- The judgement of a text over a circuit ("AIGER 1.9 and Beyond", semantics; the order of the six answers is this project's).
-use Rattle.std.specs.Prelude.{◌≡◌, ℕ, suc, Bool, true, false, not, ◌||◌, List, [], ◌∷◌, Option, Some, None, Result, Ok, Err, codes, length, slice_index, if◌then◌else◌}
+use Rattle.std.specs.Prelude.{◌≡◌, ℕ, suc, Bool, true, false, not, ◌||◌, List, [], ◌∷◌, Option, Some, None, codes, length, slice_index, if◌then◌else◌}
 use Rattle.std.specs.List.{list_any, position_from}
 use Rattle.std.specs.Str.{bytes_eq}
 use Rattle.base.specs.Lines.{whole_lines}
@@ -11,10 +11,9 @@ use Rattle.aiger.specs.Circuit.{Circuit}
 use Rattle.aiger.specs.Trace.{IsTrace}
 use Rattle.witness.specs.declared.judgement.Judgement.{Judgement}
 use Rattle.witness.specs.declared.judgement.Judgement.TheVariants as judgement
-use Rattle.witness.specs.Admits.{Fault}
-use Rattle.witness.specs.Judgements.{Violation, violated_at}
+use Rattle.witness.specs.Judgements.{Violation, violated_at, JudgesAs}
 use Rattle.witness.specs.BitTexts.{BitWitness}
-use Rattle.witness.specs.BitAdmits.{BitRead, read_bit_text, bit_witness_of}
+use Rattle.witness.specs.BitAdmits.{read_bit_text, bit_witness_of}
 
 -- ---- what is looked for
 
@@ -70,14 +69,6 @@ makes_no_bit_claim (line ∷ lines) = bytes_eq line (codes "0") || bytes_eq line
 abbrev pub JudgesBits : Circuit → BitWitness → Judgement → Type 0
 JudgesBits c w j = (vs : List Valuation) → IsTrace c w.initial w.frames vs → j ≡ bit_verdict c w vs
 
-abbrev pub JudgesBitRead : Circuit → Result BitRead Fault → Judgement → Type 0
-JudgesBitRead c (Err e) j = j ≡ judgement.Malformed e.line e.why
-JudgesBitRead c (Ok r) j = JudgesBits c (bit_witness_of r) j
-
-abbrev pub JudgesBitText : Circuit → List ℕ → Bool → Judgement → Type 0
-JudgesBitText c text true j = j ≡ judgement.NoClaim
-JudgesBitText c text false j = JudgesBitRead c (read_bit_text c text) j
-
 -- the judgement of a text over a circuit
 abbrev pub BitJudges : Circuit → List ℕ → Judgement → Type 0
-BitJudges c text j = JudgesBitText c text (makes_no_bit_claim (whole_lines text)) j
+BitJudges c text j = JudgesAs (λ r. JudgesBits c (bit_witness_of r)) (makes_no_bit_claim (whole_lines text)) (read_bit_text c text) j

@@ -12,7 +12,8 @@ use Rattle.btor2.specs.Trace.{Frame, IsTrace}
 use Rattle.witness.specs.declared.judgement.Judgement.{Judgement}
 use Rattle.witness.specs.declared.judgement.Judgement.TheVariants as judgement
 use Rattle.witness.specs.Texts.{Assignment, Parts, Witness, shape_of, is_comment, most_lines}
-use Rattle.witness.specs.Admits.{Read, Fault, read_text, witness_of}
+use Rattle.witness.specs.Readings.{Fault}
+use Rattle.witness.specs.Admits.{read_text, witness_of}
 
 -- ---- the words that a witness gives
 
@@ -135,14 +136,12 @@ makes_no_claim n (line ∷ lines) =
 abbrev pub JudgesWords : List Item → Words → Judgement → Type 0
 JudgesWords items w j = (fs : List Frame) → IsTrace items (initial_words items w) (given_frames items w) fs → j ≡ verdict items w fs
 
-abbrev pub JudgesRead : List Item → Result Read Fault → Judgement → Type 0
-JudgesRead items (Err e) j = j ≡ judgement.Malformed e.line e.why
-JudgesRead items (Ok r) j = JudgesWords items (words_of (witness_of r)) j
-
-abbrev pub JudgesText : List Item → List ℕ → Bool → Judgement → Type 0
-JudgesText items text true j = j ≡ judgement.NoClaim
-JudgesText items text false j = JudgesRead items (read_text (shape_of items) text) j
+-- what is judged of a text, where its status says so of a claim and it reads so, by what is judged of what it says
+abbrev pub JudgesAs : {R : Type 0} → (R → Judgement → Type 0) → Bool → Result R Fault → Judgement → Type 0
+JudgesAs Says true read j = j ≡ judgement.NoClaim
+JudgesAs Says false (Err e) j = j ≡ judgement.Malformed e.line e.why
+JudgesAs Says false (Ok r) j = Says r j
 
 -- the judgement of a text over a model
 abbrev pub Judges : List Item → List ℕ → Judgement → Type 0
-Judges items text j = JudgesText items text (makes_no_claim 0 (whole_lines text)) j
+Judges items text j = JudgesAs (λ r. JudgesWords items (words_of (witness_of r))) (makes_no_claim 0 (whole_lines text)) (read_text (shape_of items) text) j

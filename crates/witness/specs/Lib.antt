@@ -1,18 +1,19 @@
 -- The definitions of texts of witnesses and of their judgement.
 pub mod Numbers
 pub mod Texts
+pub mod Readings
 pub mod Admits
 pub mod Judgements
 pub mod Worked
 pub mod Fits
 pub mod Answers
 pub mod Printed
-pub mod LastLines
 pub mod BitTexts
 pub mod BitAdmits
 pub mod BitJudgements
 pub mod BitScans
 pub mod BitPlays
+pub mod Stands
 pub mod BitStands
 pub mod KeptLines
 pub mod WordClaims

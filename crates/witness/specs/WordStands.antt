@@ -1,23 +1,23 @@
 -- What a judge of witnesses over a model holds, and which texts it stands for.
-use Rattle.std.specs.Prelude.{◌≡◌, ℕ, ◌+◌, ◌<◌, ◌≤◌, ◌^◌, Bool, true, false, List, [], ◌∷◌, ◌++◌, Option, Some, None, Result, Ok, Err, length, map}
-use Rattle.base.specs.Lines.{IsLine, whole_lines, unfinished}
+use Rattle.std.specs.Prelude.{◌≡◌, ℕ, ◌+◌, ◌<◌, ◌^◌, ◌||◌, Bool, true, false, List, [], ◌∷◌, ◌++◌, None, Result, Ok, Err, codes, length, map}
+use Rattle.std.specs.Str.{bytes_eq}
+use Rattle.base.specs.Lines.{IsLine}
 use Rattle.btor2.specs.declared.item.Item.{Item}
 use Rattle.btor2.specs.Items.{is_input}
 use Rattle.witness.specs.declared.why.Why.{Why}
-use Rattle.witness.specs.declared.judgement.Judgement.{Judgement}
-use Rattle.witness.specs.declared.judgement.Judgement.TheVariants as judgement
 use Rattle.witness.specs.declared.word_place.Place.{Place as CodePlace}
 use Rattle.witness.specs.declared.word_place.Place.TheVariants as code
 use Rattle.witness.specs.declared.word_claims.ClaimScan.{ClaimScan}
 use Rattle.witness.specs.Texts.{widths_of, has_free, shape_of}
-use Rattle.witness.specs.Admits.{Place, AtStatus, AtClaims, AtParts, InStates, InFree, InFrame, AtEnd, Read, admit}
-use Rattle.witness.specs.Judgements.{FrameWords, pairs_of, frame_words, Violation, makes_no_claim}
+use Rattle.witness.specs.Admits.{Place, AtStatus, AtClaims, AtParts, InStates, InFree, InFrame, AtEnd, Read, word_reader, admit}
+use Rattle.witness.specs.Judgements.{FrameWords, pairs_of, frame_words, makes_no_claim}
 use Rattle.witness.specs.Fits.{AreClaimed}
 use Rattle.witness.specs.WordClaims.{AreClaims}
 use Rattle.witness.specs.KeptLines.{kept}
 use Rattle.witness.specs.WordPlays.{WordPlay, Plays, nothing_given, steps_of}
 use Rattle.witness.specs.PlainLines.{NoFrameLine, NoAssignment}
-use Rattle.witness.specs.WordReadings.{nothing_admitted, lines_behind}
+use Rattle.witness.specs.Stands.{Judge, Judging}
+use Rattle.witness.specs.Stands.{StandsFor as JudgeStandsFor}
 
 -- which line comes next, as the code has it
 abbrev pub place_of : CodePlace → Place
@@ -109,30 +109,25 @@ pub record Counts (items : List Item) (p : WordPlay) (r : Read) : Type 0 where
   pub frames : p.frames ≡ length r.closed
   pub steps : p.run.steps ≡ steps_of items (length r.closed)
 
--- what a judge holds: what is kept of the admitted lines, the first bytes of the line that has not ended, how many lines are admitted, why the next whole line
--- was refused, where there was one, and whether the status says that there is no claim
-pub record WordJudge : Type 0 where
-  pub reader : WordReader
-  pub line : List ℕ
-  pub admitted : ℕ
-  pub refused : Option Why
-  pub no_claim : Bool
+-- what a judge holds, with the first bytes of the line that has not ended
+abbrev pub WordJudge : Type 0
+WordJudge = Judge WordReader (List ℕ)
 
--- it is of these whole lines, and of these bytes behind them
-pub record IsOfLines (items : List Item) (j : WordJudge) (lines : List (List ℕ)) (line : List ℕ) : Type 0 where
-  pub admitted : j.admitted ≡ (lines_behind (shape_of items) nothing_admitted lines).admitted
-  pub refused : j.refused ≡ (lines_behind (shape_of items) nothing_admitted lines).refused
-  pub no_claim : j.no_claim ≡ makes_no_claim 0 lines
-  pub few : j.admitted ≤ 2 ^ 62
-  pub frames : length (lines_behind (shape_of items) nothing_admitted lines).read.closed ≤ j.admitted
-  pub whole : (lines_behind (shape_of items) nothing_admitted lines).read.place ≡ AtEnd → (lines_behind (shape_of items) nothing_admitted lines).read.closed ≡ [] → ⊥
-  pub counts : Counts items j.reader.play (lines_behind (shape_of items) nothing_admitted lines).read
-  pub reads : j.refused ≡ None → Reads items j.reader (lines_behind (shape_of items) nothing_admitted lines).read line
+abbrev pub word_judging : List Item → Judging Read WordReader (List ℕ)
+word_judging items =
+    record {
+      reader = word_reader (shape_of items);
+      awaits_status = λ r. is_status r.place;
+      says_none = λ line. bytes_eq line (codes "unsat") || bytes_eq line (codes "unknown");
+      makes_no_claim = makes_no_claim 0;
+      Counts = λ q r. Counts items q.play r;
+      Reads = Reads items;
+      Keeps = λ bytes line. bytes ≡ kept line;
+    }
 
 -- it stands for a text
-pub record StandsFor (items : List Item) (j : WordJudge) (text : List ℕ) : Type 0 where
-  pub lines : IsOfLines items j (whole_lines text) (unfinished text)
-  pub line : j.line ≡ kept (unfinished text)
+abbrev pub StandsFor : List Item → WordJudge → List ℕ → Type 0
+StandsFor items j text = JudgeStandsFor (word_judging items) j text
 
 -- no whole line was refused, one more may be admitted, and the next begins in a frame
 pub record TakesPlain (j : WordJudge) : Type 0 where
@@ -146,19 +141,3 @@ pub record JudgesLine (old new : WordJudge) (text rest : List ℕ) : Type 0 wher
   pub line : List ℕ
   pub is : text ≡ (line ++ 10 ∷ []) ++ rest
   pub stands : (items : List Item) (before : List ℕ) → StandsFor items old before → StandsFor items new (before ++ (line ++ 10 ∷ []))
-
--- what is judged by what is kept of all frames, and by the first claim that is not reached, where there is one
-abbrev pub with_unreached : WordPlay → Option ℕ → Judgement
-with_unreached p (Some claim) = judgement.NotReached claim
-with_unreached p None = judgement.Accepted p.frames
-
-abbrev pub with_breach : WordPlay → Option ℕ → Option Violation → Judgement
-with_breach p unreached (Some v) = judgement.Violated v.frame v.constraint
-with_breach p unreached None = with_unreached p unreached
-
-abbrev pub with_differing : WordPlay → Option ℕ → Option ℕ → Judgement
-with_differing p unreached (Some k) = judgement.InitDiffers k
-with_differing p unreached None = with_breach p unreached p.breach
-
-abbrev pub judgement_of : WordPlay → Option ℕ → Judgement
-judgement_of p unreached = with_differing p unreached p.differs

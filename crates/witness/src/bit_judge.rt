@@ -8,15 +8,15 @@ ghost use Rattle.witness.specs.BitAdmits.{admitted_lines, closed_frames, is_done
 ghost use Rattle.witness.specs.BitJudgements.{BitJudges};
 ghost use Rattle.witness.specs.BitScans.{Scans};
 ghost use Rattle.witness.specs.BitPlays.{steps_of};
-ghost use Rattle.witness.specs.BitStands.{IsOfLines, StandsFor, is_first, judgement_of, place_of};
+ghost use Rattle.witness.specs.Stands.{IsOfLines};
+ghost use Rattle.witness.specs.BitStands.{StandsFor, bit_judging, is_header, place_of};
 
 use crate::bit_place::BitPlace;
-use crate::bit_play::BitPlay;
 use crate::bit_reader::BitReader;
 use crate::bit_scan::Scan;
 use crate::judgement::Judgement;
 use crate::last_line::{are_most, last_refusal};
-use crate::verdicts::either;
+use crate::verdicts::{either, judgement_of};
 use crate::why::Why;
 use aiger::Circuit;
 use base::next_line;
@@ -52,48 +52,16 @@ impl<'a> Model for BitJudge<'a> {
 
 /// Whether a line says that there is no claim, where it is the first.
 fn says_no_claim(place: BitPlace, line: Scan) -> bool
-    ensures { (bytes : List ℕ) → Scans line bytes → result ≡ (is_first place && (bytes_eq bytes (codes "0") || bytes_eq bytes (codes "2"))) }
+    ensures { (bytes : List ℕ) → Scans line bytes → result ≡ (is_header (place_of place) && (bytes_eq bytes (codes "0") || bytes_eq bytes (codes "2"))) }
 {
-    match place {
-        BitPlace::Header => line.is_byte(b'0') || line.is_byte(b'2'),
-        BitPlace::Claim | BitPlace::Initial | BitPlace::First | BitPlace::Later | BitPlace::Done =>
-            false,
-    }
+    matches!(place, BitPlace::Header) && (line.is_byte(b'0') || line.is_byte(b'2'))
 }
 
 /// Whether the last line of a witness is admitted.
 fn has_ended(place: BitPlace) -> bool
     ensures { result ≡ is_done (place_of place) }
 {
-    match place {
-        BitPlace::Done => true,
-        BitPlace::Header
-        | BitPlace::Claim
-        | BitPlace::Initial
-        | BitPlace::First
-        | BitPlace::Later => false,
-    }
-}
-
-/// What is judged of a whole witness by its frames.
-fn judgement_of(play: &BitPlay<'_>, claim: u64) -> Judgement
-    ensures { result ≡ judgement_of play.now claim }
-{
-    if let Some(index) = play.differs() {
-        return Judgement::InitDiffers { index };
-    }
-    if let Some(breach) = play.breach() {
-        return Judgement::Violated {
-            frame: breach.frame,
-            constraint: breach.constraint,
-        };
-    }
-    if !play.rose() {
-        return Judgement::NotReached { claim };
-    }
-    Judgement::Accepted {
-        frames: play.frames(),
-    }
+    matches!(place, BitPlace::Done)
 }
 
 impl<'a> BitJudge<'a> {
@@ -117,14 +85,14 @@ impl<'a> BitJudge<'a> {
 
     /// A line has ended behind the whole lines, none of which was refused.
     fn judge_line(&mut self, line: Scan)
-        ensures lines { (c : Circuit) (lines : List (List ℕ)) (bytes : List ℕ) → IsOfLines c self.old lines bytes → Scans line bytes → self.old.refused ≡ None → IsOfLines c self.new (lines ++ bytes ∷ []) [] }
+        ensures lines { (c : Circuit) (lines : List (List ℕ)) (bytes : List ℕ) → IsOfLines (bit_judging c) self.old lines bytes → Scans line bytes → self.old.refused ≡ None → IsOfLines (bit_judging c) self.new (lines ++ bytes ∷ []) [] }
         ensures line { self.new.line ≡ self.old.line }
     {
-        self.no_claim = either(self.no_claim, says_no_claim(self.reader.place(), line));
         if are_most(self.admitted) {
             self.refused = Some(Why::TooLong);
             return;
         }
+        self.no_claim = either(self.no_claim, says_no_claim(self.reader.place(), line));
         match self.reader.admit(line) {
             Ok(()) => self.admitted += 1,
             Err(why) => self.refused = Some(why),
@@ -245,7 +213,13 @@ impl<'a> BitJudge<'a> {
         if let Some(why) = last_refusal(ended, self.admitted, self.line.is_empty()) {
             return Judgement::Malformed { line, why };
         }
-        judgement_of(self.reader.play(), self.reader.claim())
+        let play = self.reader.play();
+        judgement_of(
+            play.differs(),
+            play.breach(),
+            self.reader.unreached(),
+            play.frames(),
+        )
     }
 
     /// The judgement of the text: of every one that the judge stands for.
@@ -264,7 +238,7 @@ impl<'a> BitJudge<'a> {
 
     /// The steps that the run has taken: for each closed frame one for each input, each gate and each latch. The count
     /// stays at its greatest value, 2^128 - 1, once it is there.
-    #[tactic(auto, unfolding(crate::specs::BitAdmits::bit_reading))]
+    #[tactic(auto, unfolding(crate::specs::Readings::reading))]
     pub fn steps(&self) -> u128
         ensures { (c : Circuit) (text : List ℕ) → StandsFor c self.now text → result ≡ steps_of c (closed_frames c text) }
     {
@@ -272,7 +246,7 @@ impl<'a> BitJudge<'a> {
     }
 
     /// How many frames are closed: those whose lines have ended before the first faulty line.
-    #[tactic(auto, unfolding(crate::specs::BitAdmits::bit_reading))]
+    #[tactic(auto, unfolding(crate::specs::Readings::reading))]
     pub fn closed_frames(&self) -> u64
         ensures { (c : Circuit) (text : List ℕ) → StandsFor c self.now text → result ≡ closed_frames c text }
     {
@@ -280,7 +254,7 @@ impl<'a> BitJudge<'a> {
     }
 
     /// How many whole lines stand before the first faulty line.
-    #[tactic(auto, unfolding(crate::specs::BitAdmits::bit_reading))]
+    #[tactic(auto, unfolding(crate::specs::Readings::reading))]
     pub fn admitted_lines(&self) -> u64
         ensures { (c : Circuit) (text : List ℕ) → StandsFor c self.now text → result ≡ admitted_lines c text }
     {

@@ -98,6 +98,12 @@ pub fn worked_bit_readings()
     ensures half_a_frame { (admitted_lines one_input (codes "1\nb0\n\n1\n0") ≡ 4) × (closed_frames one_input (codes "1\nb0\n\n1\n0") ≡ 1) }
 {}
 
+/// Worked rows: a text that is the beginning of a witness of the circuit that toggles, and one that is none.
+pub fn worked_bit_beginnings()
+    ensures frame { IsBitBeginning toggler (codes "1\nb0\n0\n\n") }
+    ensures no_such_bad { ¬ IsBitBeginning toggler (codes "1\nb1\n") }
+{}
+
 /// Worked rows: judgements of texts over the circuit that toggles, over it with a constraint, over two latches with no
 /// initial value, and over one input.
 pub fn worked_bit_judgements()

@@ -1,11 +1,11 @@
 //! The lines of a witness of a circuit, admitted one after the other.
-ghost use Rattle.std.specs.Prelude.{◌≡◌, ℕ, ◌<◌, ◌-◌, ◌^◌, min, Bool, true, false, List, [], ◌∷◌, ◌++◌, MatchResult, OnErr, Ok, Err, length, map};
+ghost use Rattle.std.specs.Prelude.{◌≡◌, ℕ, ◌<◌, ◌-◌, ◌^◌, min, Bool, true, false, List, [], ◌∷◌, ◌++◌, MatchResult, None, OnErr, Ok, Err, Some, length, map, if◌then◌else◌};
 ghost use Rattle.aiger.specs.Circuit.{Circuit};
 ghost use Rattle.runs.specs.CircuitRun.{circuit_held};
 ghost use Rattle.witness.specs.BitAdmits.{BitRead, AtLater, bits_at, bit_admit};
 ghost use Rattle.witness.specs.BitScans.{Scans, is_one_bit};
 ghost use Rattle.witness.specs.BitPlays.{play_start, Plays};
-ghost use Rattle.witness.specs.BitStands.{Reads, Admits, GivesLine, is_first, is_frame};
+ghost use Rattle.witness.specs.BitStands.{Reads, Admits, GivesLine, is_frame, is_header, place_of};
 
 use crate::bit_place::BitPlace;
 use crate::bit_play::BitPlay;
@@ -14,7 +14,6 @@ use crate::why::Why;
 use aiger::Circuit;
 use runs::NewFault;
 use std::alloc::Global;
-use std::marker::Model;
 
 /// What the admitted lines of a witness of a circuit say, and the bits of the line that may go on.
 #[derive(Drop)]
@@ -22,14 +21,6 @@ pub(crate) struct BitReader<'a> {
     play: BitPlay<'a>,
     place: BitPlace,
     claim: u64,
-}
-
-impl<'a> Model for BitReader<'a> {
-    ghost use Rattle.witness.specs.BitStands.{BitReader as BitReaderValue};
-
-    ghost Value = { BitReaderValue };
-
-    ghost view = { λ q. record { play = q.play; place = q.place; claim = q.claim } };
 }
 
 impl<'a> BitReader<'a> {
@@ -56,10 +47,14 @@ impl<'a> BitReader<'a> {
         &self.play
     }
 
-    pub(crate) fn claim(&self) -> u64
-        ensures { result ≡ self.now.claim }
+    /// The claimed bad property, where it rose in no closed frame.
+    pub(crate) fn unreached(&self) -> Option<u64>
+        ensures { result ≡ if self.now.play.rose then None else Some self.now.claim }
     {
-        self.claim
+        if self.play.rose() {
+            return None;
+        }
+        Some(self.claim)
     }
 
     /// Which line comes next.
@@ -126,7 +121,7 @@ impl<'a> BitReader<'a> {
     /// Takes a whole line of bits, where bits come next and the line has as many: it is admitted.
     pub(crate) fn take_line(&mut self, line: &[u8]) -> bool
         ensures taken { (c : Circuit) (r : BitRead) → Reads c self.old r [] → length r.frames < 2 ^ 62 → result ≡ true → Admits c r line.now self.new }
-        ensures later { result ≡ true → is_first self.old.place ≡ false }
+        ensures later { result ≡ true → is_header (place_of self.old.place) ≡ false }
         ensures kept { result ≡ false → self.new ≡ self.old }
     {
         match self.place {

@@ -3,7 +3,8 @@ ghost use Rattle.std.specs.Prelude.{◌≡◌, ℕ, ◌==◌, ◌&&◌, ◌<◌,
 ghost use Rattle.std.specs.List.{list_all};
 ghost use Rattle.std.specs.Str.{bytes_eq};
 ghost use Rattle.base.specs.Decimals.{is_digit, number_of};
-ghost use Rattle.witness.specs.Admits.{is_value_byte, is_nothing};
+ghost use Rattle.witness.specs.Readings.{is_nothing};
+ghost use Rattle.witness.specs.Admits.{is_value_byte};
 ghost use Rattle.witness.specs.BitAdmits.{claim_at, bits_at};
 ghost use Rattle.witness.specs.BitScans.{behind_first, Scans, number_more, scan_more, has_decimal, claimed, is_bit, is_one_bit};
 

@@ -1,6 +1,6 @@
 //! What is kept of a line that has not ended.
 ghost use Rattle.std.specs.Prelude.{◌≡◌, ℕ, ◌+◌, ◌≤◌, List, [], ◌++◌, length, take};
-ghost use Rattle.witness.specs.Admits.{is_nothing};
+ghost use Rattle.witness.specs.Readings.{is_nothing};
 ghost use Rattle.witness.specs.KeptLines.{kept};
 
 use std::marker::Model;

@@ -1,7 +1,7 @@
 //! The line behind the last whole line of a witness.
 ghost use Rattle.std.specs.Prelude.{◌≡◌, nat_le};
 ghost use Rattle.witness.specs.Texts.{most_lines};
-ghost use Rattle.witness.specs.LastLines.{last_refusal};
+ghost use Rattle.witness.specs.Readings.{last_refusal};
 
 use crate::why::Why;
 

@@ -142,6 +142,12 @@ pub fn worked_readings()
     ensures states_behind { (admitted_word_lines (shape_of follower) (codes "sat\nb0\n@0\n#1\n0 1\n") ≡ 5) × (closed_word_frames (shape_of follower) (codes "sat\nb0\n@0\n#1\n0 1\n") ≡ 1) }
 {}
 
+/// Worked rows: a text that is the beginning of a witness over the model of one bit that toggles, and one that is none.
+pub fn worked_beginnings()
+    ensures frame { IsBeginning (shape_of toggler) (codes "sat\nb0\n@0\n") }
+    ensures no_such_bad { ¬ IsBeginning (shape_of toggler) (codes "sat\nb1\n") }
+{}
+
 /// Worked rows: judgements of texts over the model of one bit that toggles, over it with a constraint, and over the model
 /// in which one state follows a free one.
 pub fn worked_judgements()

@@ -7,8 +7,10 @@ ghost use Rattle.btor2.specs.Lists.{places, of_kind};
 ghost use Rattle.btor2.specs.Trace.{Frame};
 ghost use Rattle.runs.specs.Run.{IsNow};
 ghost use Rattle.witness.specs.Judgements.{nodes_of, differs, first_different, first_violated, violated_at, unreached_from};
+ghost use Rattle.witness.specs.Stands.{first_of};
 ghost use Rattle.witness.specs.Fits.{RisesIn, RisesAmong, NoneIsSet, AreClaimed};
 
+use crate::judgement::Judgement;
 use btor2::Model;
 use runs::WordRun;
 
@@ -27,6 +29,31 @@ impl std::marker::Model for Breach {
     ghost view = { λ b. record { frame = b.frame; constraint = b.constraint } };
 
     ghost inverse = { λ v. record { frame = v.frame; constraint = v.constraint } };
+}
+
+/// What is judged of a whole witness of so many frames: by the first initial value that differs, else the first breach, else
+/// the first claim that is not reached.
+pub(crate) fn judgement_of(
+    differs: Option<u64>,
+    breach: Option<Breach>,
+    unreached: Option<u64>,
+    frames: u64,
+) -> Judgement
+    ensures { result ≡ first_of differs breach unreached frames }
+{
+    if let Some(index) = differs {
+        return Judgement::InitDiffers { index };
+    }
+    if let Some(breach) = breach {
+        return Judgement::Violated {
+            frame: breach.frame,
+            constraint: breach.constraint,
+        };
+    }
+    if let Some(claim) = unreached {
+        return Judgement::NotReached { claim };
+    }
+    Judgement::Accepted { frames }
 }
 
 /// Whether a word is another than a constant, where there is one.

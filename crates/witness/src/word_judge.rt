@@ -12,16 +12,16 @@ ghost use Rattle.witness.specs.WordPlays.{steps_of};
 ghost use Rattle.witness.specs.WordReadings.{admitted_word_lines, closed_word_frames};
 ghost use Rattle.base.specs.Lines.{IsLine, unfinished};
 ghost use Rattle.witness.specs.KeptLines.{AreAlike};
-ghost use Rattle.witness.specs.WordStands.{IsOfLines, StandsFor, JudgesLine, TakesPlain, NoPlainLine, is_alone, is_status, judgement_of, place_of};
+ghost use Rattle.witness.specs.Stands.{IsOfLines};
+ghost use Rattle.witness.specs.WordStands.{StandsFor, JudgesLine, TakesPlain, NoPlainLine, is_alone, is_status, place_of, word_judging};
 
 use crate::judgement::Judgement;
 use crate::kept_line::KeptLine;
 use crate::last_line::{are_most, last_refusal};
-use crate::verdicts::either;
+use crate::verdicts::{either, judgement_of};
 use crate::why::Why;
 use crate::word_line::is_word;
 use crate::word_place::Place;
-use crate::word_play::WordPlay;
 use crate::word_reader::WordReader;
 use base::next_line;
 use btor2::Model;
@@ -55,54 +55,18 @@ impl<'a> std::marker::Model for WordJudge<'a> {
     ghost view = { λ j. record { reader = j.reader; line = j.line; admitted = j.admitted; refused = j.refused; no_claim = j.no_claim } };
 }
 
-/// Whether a line says that there is no claim.
-fn is_no_claim(line: &[u8]) -> bool
-    ensures { result ≡ (bytes_eq line.now (codes "unsat") || bytes_eq line.now (codes "unknown")) }
-{
-    is_word(line, b"unsat") || is_word(line, b"unknown")
-}
-
 /// Whether a line says that there is no claim, where it may be the status.
 fn says_no_claim(place: Place, line: &[u8]) -> bool
     ensures { result ≡ (is_status (place_of place) && (bytes_eq line.now (codes "unsat") || bytes_eq line.now (codes "unknown"))) }
 {
-    match place {
-        Place::Status => is_no_claim(line),
-        Place::Claims | Place::Parts | Place::States | Place::Free | Place::Frame | Place::End =>
-            false,
-    }
+    matches!(place, Place::Status) && (is_word(line, b"unsat") || is_word(line, b"unknown"))
 }
 
 /// Whether the last line of a witness is admitted.
 fn has_ended(place: Place) -> bool
     ensures { result ≡ is_at_end (place_of place) }
 {
-    match place {
-        Place::End => true,
-        Place::Status | Place::Claims | Place::Parts | Place::States | Place::Free | Place::Frame =>
-            false,
-    }
-}
-
-/// What is judged of a whole witness by its frames, and by the first claim that is not reached.
-fn judgement_of(play: &WordPlay<'_>, unreached: Option<u64>) -> Judgement
-    ensures { result ≡ judgement_of play.now unreached }
-{
-    if let Some(index) = play.differs() {
-        return Judgement::InitDiffers { index };
-    }
-    if let Some(breach) = play.breach() {
-        return Judgement::Violated {
-            frame: breach.frame,
-            constraint: breach.constraint,
-        };
-    }
-    if let Some(claim) = unreached {
-        return Judgement::NotReached { claim };
-    }
-    Judgement::Accepted {
-        frames: play.frames(),
-    }
+    matches!(place, Place::End)
 }
 
 impl<'a> WordJudge<'a> {
@@ -125,7 +89,7 @@ impl<'a> WordJudge<'a> {
 
     /// A line has ended behind the whole lines, none of which was refused. Of its bytes the first 342 are enough.
     fn judge_line(&mut self, line: &[u8])
-        ensures lines { (items : List Item) (lines : List (List ℕ)) (bytes : List ℕ) → IsOfLines items self.old lines bytes → AreAlike line.now bytes → self.old.refused ≡ None → IsOfLines items self.new (lines ++ bytes ∷ []) [] }
+        ensures lines { (items : List Item) (lines : List (List ℕ)) (bytes : List ℕ) → IsOfLines (word_judging items) self.old lines bytes → AreAlike line.now bytes → self.old.refused ≡ None → IsOfLines (word_judging items) self.new (lines ++ bytes ∷ []) [] }
         ensures line { self.new.line ≡ self.old.line }
     {
         if are_most(self.admitted) {
@@ -261,7 +225,13 @@ impl<'a> WordJudge<'a> {
         if let Some(why) = last_refusal(ended, self.admitted, self.line.is_empty()) {
             return Judgement::Malformed { line, why };
         }
-        judgement_of(self.reader.play(), self.reader.unreached())
+        let play = self.reader.play();
+        judgement_of(
+            play.differs(),
+            play.breach(),
+            self.reader.unreached(),
+            play.frames(),
+        )
     }
 
     /// The judgement of the text: of every one that the judge stands for.
@@ -280,6 +250,7 @@ impl<'a> WordJudge<'a> {
 
     /// The steps that the run has taken: for each closed frame one for each node with a value and one for each state. The
     /// count stays at its greatest value, 2^128 - 1, once it is there.
+    #[tactic(auto, unfolding(crate::specs::Readings::reading))]
     pub fn steps(&self) -> u128
         ensures { (items : List Item) (text : List ℕ) → StandsFor items self.now text → result ≡ steps_of items (closed_word_frames (shape_of items) text) }
     {
@@ -288,6 +259,7 @@ impl<'a> WordJudge<'a> {
 
     /// How many frames are closed: those whose closing lines, the next `@<k>` or `#<k>` or the last line, have ended before
     /// the first faulty line.
+    #[tactic(auto, unfolding(crate::specs::Readings::reading))]
     pub fn closed_frames(&self) -> u64
         ensures { (items : List Item) (text : List ℕ) → StandsFor items self.now text → result ≡ closed_word_frames (shape_of items) text }
     {
@@ -295,6 +267,7 @@ impl<'a> WordJudge<'a> {
     }
 
     /// How many whole lines stand before the first faulty line.
+    #[tactic(auto, unfolding(crate::specs::Readings::reading))]
     pub fn admitted_lines(&self) -> u64
         ensures { (items : List Item) (text : List ℕ) → StandsFor items self.now text → result ≡ admitted_word_lines (shape_of items) text }
     {

@@ -76,11 +76,7 @@ fn has_free(model: &Model) -> bool
 fn is_alone(place: Place) -> bool
     ensures { result ≡ is_alone (place_of place) }
 {
-    match place {
-        Place::Claims => false,
-        Place::Status | Place::Parts | Place::States | Place::Free | Place::Frame | Place::End =>
-            true,
-    }
+    !matches!(place, Place::Claims)
 }
 
 impl<'a> WordReader<'a> {

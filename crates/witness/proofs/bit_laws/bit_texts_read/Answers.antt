@@ -2,8 +2,5 @@ use Rattle.std.proofs.Common.{refl}
 use Rattle.witness.proofs.BitReadLemmas.{all_bits_read, bit_says_read, bit_read_says}
 use Rattle.witness.proofs.bit_laws.bit_texts_read.Goals as goal
 
-pub returns-clause-read : goal.returns-clause-read
-returns-clause-read c circuit text w valid says = (all_bits_read w, (bit_says_read circuit text w valid says, refl))
-
-pub returns-clause-said : goal.returns-clause-said
-returns-clause-said c = bit_read_says
+pub returns : goal.returns
+returns c = record { read = λ circuit text w valid says. (all_bits_read w, (bit_says_read circuit text w valid says, refl)); said = bit_read_says }

@@ -3,42 +3,30 @@ use Rattle.std.proofs.Math.Dec.{lit<, lit≤}
 use Rattle.std.proofs.lemmas.List.Elements.{All-from_recursion}
 use Rattle.std.specs.Fmt.{digits}
 use Rattle.base.specs.Decimals.{is_decimal, capped_value, number_of}
-use Rattle.witness.specs.BitAdmits.{bit_admit, next_line, bit_reading}
+use Rattle.witness.specs.Readings.{next_line, reading}
+use Rattle.witness.specs.BitAdmits.{bit_admit}
 use Rattle.witness.specs.Worked.{toggles_once}
 use Rattle.witness.proofs.BitReadLemmas.{all_bits_read}
 use Rattle.witness.proofs.bit_laws.worked_bit_readings.Goals as goal
 
-pub returns-clause-read : goal.returns-clause-read
-unfolding digits bit_reading next_line bit_admit number_of capped_value is_decimal
-returns-clause-read c = (all_bits_read toggles_once, (refl, refl))
-
-pub returns-clause-said : goal.returns-clause-said
-unfolding digits bit_reading next_line bit_admit number_of capped_value is_decimal
-returns-clause-said c =
+pub returns : goal.returns
+unfolding digits reading next_line bit_admit number_of capped_value is_decimal
+returns c =
     record {
-      whole = refl;
-      valid =
-          record {
-            claim = lit< tt;
-            initial = refl;
-            some_frame = λ e. cc;
-            frames = All-from_recursion (λ bits. length bits ≡ 0) ([] ∷ [] ∷ []) (refl, (refl, tt));
-          };
-      few = lit≤ tt;
+      read = (all_bits_read toggles_once, (refl, refl));
+      said = record {
+        whole = refl;
+        valid =
+            record {
+              claim = lit< tt;
+              initial = refl;
+              some_frame = λ e. cc;
+              frames = All-from_recursion (λ bits. length bits ≡ 0) ([] ∷ [] ∷ []) (refl, (refl, tt));
+            };
+        few = lit≤ tt;
+      };
+      whole = (refl, refl);
+      unended = (refl, refl);
+      behind_fault = (refl, refl);
+      half_a_frame = (refl, refl);
     }
-
-pub returns-clause-whole : goal.returns-clause-whole
-unfolding digits bit_reading next_line bit_admit number_of capped_value is_decimal
-returns-clause-whole c = (refl, refl)
-
-pub returns-clause-unended : goal.returns-clause-unended
-unfolding digits bit_reading next_line bit_admit number_of capped_value is_decimal
-returns-clause-unended c = (refl, refl)
-
-pub returns-clause-behind_fault : goal.returns-clause-behind_fault
-unfolding digits bit_reading next_line bit_admit number_of capped_value is_decimal
-returns-clause-behind_fault c = (refl, refl)
-
-pub returns-clause-half_a_frame : goal.returns-clause-half_a_frame
-unfolding digits bit_reading next_line bit_admit number_of capped_value is_decimal
-returns-clause-half_a_frame c = (refl, refl)

@@ -1,5 +1,5 @@
-use Rattle.witness.proofs.WordReadingLemmas.{text_as_admitted}
+use Rattle.std.proofs.Common.{refl}
 use Rattle.witness.proofs.laws.one_way_of_reading.Goals as goal
 
 pub returns : goal.returns
-returns c = text_as_admitted
+returns c shape text = refl

@@ -5,8 +5,9 @@ use Rattle.witness.proofs.WitnessTextLemmas.{all_read, says_read}
 use Rattle.witness.proofs.ReadTextLemmas.{read_says}
 use Rattle.witness.proofs.laws.texts_read.Goals as goal
 
-pub returns-clause-read : goal.returns-clause-read
-returns-clause-read c items text w well says = (all_read w, (says_read (shape_of items) text w (shape_is_small items well) says, refl))
-
-pub returns-clause-said : goal.returns-clause-said
-returns-clause-said c items text r well read = read_says (shape_of items) text r (shape_is_small items well) read
+pub returns : goal.returns
+returns c =
+    record {
+      read = λ items text w well says. (all_read w, (says_read (shape_of items) text w (shape_is_small items well) says, refl));
+      said = λ items text r well. read_says (shape_of items) text r (shape_is_small items well);
+    }

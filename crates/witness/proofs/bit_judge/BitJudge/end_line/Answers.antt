@@ -1,9 +1,11 @@
-use Rattle.std.proofs.Common.{[], subst, sym}
+use Rattle.std.proofs.Common.{[], ◌∷◌, ◌++◌, subst, sym}
 use Rattle.base.specs.Lines.{whole_lines, unfinished}
 use Rattle.witness.specs.declared.bit_scan.Scan.{Scan}
 use Rattle.witness.specs.BitScans.{Scans}
-use Rattle.witness.specs.BitStands.{BitJudge, StandsFor}
-use Rattle.witness.proofs.BitJudgeLemmas.{end_more, stays_refused, with_line, no_refusal, some_refusal}
+use Rattle.witness.specs.BitStands.{BitJudge, bit_judging, StandsFor}
+use Rattle.witness.proofs.TextEndLemmas.{whole_lines-end, unfinished-end}
+use Rattle.witness.proofs.StandsLemmas.{stays_refused, with_bytes, line_ended, no_refusal, some_refusal}
+use Rattle.witness.proofs.BitJudgeLemmas.{claims_more}
 use Rattle.witness.proofs.bit_judge.BitJudge.end_line.Goals as goal
 
 pub returns-then-is_none : goal.returns-then-is_none
@@ -11,8 +13,8 @@ returns-then-is_none c circuit text stands =
     let j : BitJudge = record { reader = c.self.inside.reader; line = c.self.inside.line; admitted = c.self.inside.admitted; refused = c.self.inside.refused; no_claim = c.self.inside.no_claim } in
     let now : StandsFor circuit j text = subst (λ (j : BitJudge). StandsFor circuit j text) (sym c.self.view_is) stands in
     let none = no_refusal c.self.inside.refused c.if-is_none.ensures in
-    end_more circuit text c.judge_line.new.self
-    (c.judge_line.ensures.lines circuit (whole_lines text) (unfinished text) (with_line circuit (whole_lines text) (unfinished text) j c.new-self-inside.result now.lines) now.line none)
+    line_ended (bit_judging circuit) (text ++ 10 ∷ []) (whole_lines text ++ unfinished text ∷ []) c.judge_line.new.self (whole_lines-end text) (unfinished-end text)
+    (c.judge_line.ensures.lines circuit (whole_lines text) (unfinished text) (with_bytes (bit_judging circuit) (whole_lines text) (unfinished text) (unfinished text) j j.reader c.new-self-inside.result now.lines now.lines.counts now.lines.reads) now.line none)
     (subst (λ (s : Scan). Scans s []) (sym c.judge_line.ensures.line) c.new-self-inside.ensures)
 
 pub returns-else-is_none : goal.returns-else-is_none
@@ -20,5 +22,5 @@ returns-else-is_none c circuit text stands =
     let j : BitJudge = record { reader = c.self.inside.reader; line = c.self.inside.line; admitted = c.self.inside.admitted; refused = c.self.inside.refused; no_claim = c.self.inside.no_claim } in
     let now : StandsFor circuit j text = subst (λ (j : BitJudge). StandsFor circuit j text) (sym c.self.view_is) stands in
     let refused = some_refusal c.self.inside.refused c.if-is_none.ensures in
-    end_more circuit text (record j { line = c.new-self-inside.result })
-    (stays_refused circuit (whole_lines text) (unfinished text) j c.new-self-inside.result refused.0 now.lines refused.1) c.new-self-inside.ensures
+    line_ended (bit_judging circuit) (text ++ 10 ∷ []) (whole_lines text ++ unfinished text ∷ []) (record j { line = c.new-self-inside.result }) (whole_lines-end text) (unfinished-end text)
+    (stays_refused (bit_judging circuit) (claims_more circuit) (whole_lines text) (unfinished text) (unfinished text) j now.lines refused.0 refused.1 c.new-self-inside.result) c.new-self-inside.ensures

@@ -3,79 +3,58 @@ use Rattle.aiger.specs.Circuit.{Circuit}
 use Rattle.witness.specs.declared.bit_place.BitPlace.TheVariants as code
 use Rattle.witness.specs.BitAdmits.{claim_at, bits_at}
 use Rattle.witness.specs.BitScans.{is_one_bit}
-use Rattle.witness.specs.BitPlays.{Plays}
-use Rattle.witness.specs.BitStands.{BitReader, Reads}
 use Rattle.witness.proofs.BitReaderLemmas.{plays_at, header_refused, header_admitted, claim_refused, claim_admitted, initial_refused, initial_admitted, end_refused, end_admitted, trailing_refused, first_frame, later_frame, frame_gives}
 use Rattle.witness.proofs.bit_reader.BitReader.admit.Goals as goal
 
 pub returns-then-not-is_byte-clause-line : goal.returns-then-not-is_byte-clause-line
 returns-then-not-is_byte-clause-line c circuit r bytes reads scans few =
-    let q : BitReader = record { play = c.self.inside.play; place = c.self.inside.place; claim = c.self.inside.claim } in
-    header_refused circuit r bytes q (subst (λ (q : BitReader). Reads circuit q r bytes) (sym c.self.view_is) reads) c.in-Header.is (sym (c.is_byte.ensures bytes scans) ∙ c.if-not-is_byte.true)
+    header_refused circuit r bytes c.args.self.now reads c.in-Header.is (sym (c.is_byte.ensures bytes scans) ∙ c.if-not-is_byte.true)
 
 pub returns-else-not-is_byte-clause-line : goal.returns-else-not-is_byte-clause-line
 returns-else-not-is_byte-clause-line c circuit r bytes reads scans few =
-    let q : BitReader = record { play = c.self.inside.play; place = c.self.inside.place; claim = c.self.inside.claim } in
-    header_admitted circuit r bytes q (subst (λ (q : BitReader). Reads circuit q r bytes) (sym c.self.view_is) reads) c.in-Header.is (sym (c.is_byte.ensures bytes scans) ∙ c.if-not-is_byte.false)
+    header_admitted circuit r bytes c.args.self.now reads c.in-Header.is (sym (c.is_byte.ensures bytes scans) ∙ c.if-not-is_byte.false)
 
 pub returns-in-Ok-clause-line : goal.returns-in-Ok-clause-line
 returns-in-Ok-clause-line c circuit r bytes reads scans few =
-    let q : BitReader = record { play = c.self.inside.play; place = c.self.inside.place; claim = c.self.inside.claim } in
-    let now : Reads circuit q r bytes = subst (λ (q : BitReader). Reads circuit q r bytes) (sym c.self.view_is) reads in
-    let count : c.bads.result ≡ length circuit.bads = c.bads.ensures ∙ ap (λ (k : Circuit). length k.bads) now.counts.circuit in
+    let count : c.bads.result ≡ length circuit.bads = c.bads.ensures ∙ ap (λ (k : Circuit). length k.bads) reads.counts.circuit in
     let small : length circuit.bads < 2 ^ 64 = subst (λ n. n < 2 ^ 64) count c.bads.type_inv in
-    claim_admitted circuit r bytes q now c.in-Ok.claim c.in-Claim.is small (subst (λ n. claim_at n bytes ≡ Ok c.in-Ok.claim) count (sym (c.claim.ensures bytes scans) ∙ c.in-Ok.is))
+    claim_admitted circuit r bytes c.args.self.now reads c.in-Ok.claim c.in-Claim.is small (subst (λ n. claim_at n bytes ≡ Ok c.in-Ok.claim) count (sym (c.claim.ensures bytes scans) ∙ c.in-Ok.is))
 
 pub returns-in-Err-clause-line : goal.returns-in-Err-clause-line
 returns-in-Err-clause-line c circuit r bytes reads scans few =
-    let q : BitReader = record { play = c.self.inside.play; place = c.self.inside.place; claim = c.self.inside.claim } in
-    let now : Reads circuit q r bytes = subst (λ (q : BitReader). Reads circuit q r bytes) (sym c.self.view_is) reads in
-    let count : c.bads.result ≡ length circuit.bads = c.bads.ensures ∙ ap (λ (k : Circuit). length k.bads) now.counts.circuit in
-    claim_refused circuit r bytes q now c.in-Err.why c.in-Claim.is (subst (λ n. claim_at n bytes ≡ Err c.in-Err.why) count (sym (c.claim.ensures bytes scans) ∙ c.in-Err.is))
+    let count : c.bads.result ≡ length circuit.bads = c.bads.ensures ∙ ap (λ (k : Circuit). length k.bads) reads.counts.circuit in
+    claim_refused circuit r bytes c.args.self.now reads c.in-Err.why c.in-Claim.is (subst (λ n. claim_at n bytes ≡ Err c.in-Err.why) count (sym (c.claim.ensures bytes scans) ∙ c.in-Err.is))
 
 pub returns-in-Ok-bits-clause-line : goal.returns-in-Ok-bits-clause-line
 returns-in-Ok-bits-clause-line c circuit r bytes reads scans few =
-    let q : BitReader = record { play = c.self.inside.play; place = c.self.inside.place; claim = c.self.inside.claim } in
-    let now : Reads circuit q r bytes = subst (λ (q : BitReader). Reads circuit q r bytes) (sym c.self.view_is) reads in
-    let count : c.latches.result ≡ length circuit.latches = c.latches.ensures.count ∙ ap (λ (k : Circuit). length k.latches) now.counts.circuit in
-    initial_admitted circuit r bytes q now c.in-Initial.is (subst (λ n. bits_at n bytes ≡ Ok (map is_one_bit bytes)) count (c.in-Ok-bits.ensures bytes scans))
+    let count : c.latches.result ≡ length circuit.latches = c.latches.ensures.count ∙ ap (λ (k : Circuit). length k.latches) reads.counts.circuit in
+    initial_admitted circuit r bytes c.args.self.now reads c.in-Initial.is (subst (λ n. bits_at n bytes ≡ Ok (map is_one_bit bytes)) count (c.in-Ok-bits.ensures bytes scans))
 
 pub returns-in-Err-bits-clause-line : goal.returns-in-Err-bits-clause-line
 returns-in-Err-bits-clause-line c circuit r bytes reads scans few =
-    let q : BitReader = record { play = c.self.inside.play; place = c.self.inside.place; claim = c.self.inside.claim } in
-    let now : Reads circuit q r bytes = subst (λ (q : BitReader). Reads circuit q r bytes) (sym c.self.view_is) reads in
-    let count : c.latches.result ≡ length circuit.latches = c.latches.ensures.count ∙ ap (λ (k : Circuit). length k.latches) now.counts.circuit in
-    initial_refused circuit r bytes q now c.in-Err-bits.why c.in-Initial.is (subst (λ n. bits_at n bytes ≡ Err c.in-Err-bits.why) count (c.in-Err-bits.ensures bytes scans))
+    let count : c.latches.result ≡ length circuit.latches = c.latches.ensures.count ∙ ap (λ (k : Circuit). length k.latches) reads.counts.circuit in
+    initial_refused circuit r bytes c.args.self.now reads c.in-Err-bits.why c.in-Initial.is (subst (λ n. bits_at n bytes ≡ Err c.in-Err-bits.why) count (c.in-Err-bits.ensures bytes scans))
 
 pub returns-then-is_byte-clause-line : goal.returns-then-is_byte-clause-line
 returns-then-is_byte-clause-line c circuit r bytes reads scans few =
-    let q : BitReader = record { play = c.self.inside.play; place = c.self.inside.place; claim = c.self.inside.claim } in
-    end_refused circuit r bytes q (subst (λ (q : BitReader). Reads circuit q r bytes) (sym c.self.view_is) reads) c.in-First.is (sym (c.is_byte-in-First.ensures bytes scans) ∙ c.if-is_byte.true)
+    end_refused circuit r bytes c.args.self.now reads c.in-First.is (sym (c.is_byte-in-First.ensures bytes scans) ∙ c.if-is_byte.true)
 
 pub returns-then-is_byte-2-clause-line : goal.returns-then-is_byte-2-clause-line
 returns-then-is_byte-2-clause-line c circuit r bytes reads scans few =
-    let q : BitReader = record { play = c.self.inside.play; place = c.self.inside.place; claim = c.self.inside.claim } in
-    end_admitted circuit r bytes q (subst (λ (q : BitReader). Reads circuit q r bytes) (sym c.self.view_is) reads) c.in-Later.is (sym (c.is_byte-in-Later.ensures bytes scans) ∙ c.if-is_byte-2.true)
+    end_admitted circuit r bytes c.args.self.now reads c.in-Later.is (sym (c.is_byte-in-Later.ensures bytes scans) ∙ c.if-is_byte-2.true)
 
 pub returns-in-Done-clause-line : goal.returns-in-Done-clause-line
 returns-in-Done-clause-line c circuit r bytes reads scans few =
-    let q : BitReader = record { play = c.self.inside.play; place = c.self.inside.place; claim = c.self.inside.claim } in
-    trailing_refused circuit r bytes q (subst (λ (q : BitReader). Reads circuit q r bytes) (sym c.self.view_is) reads) c.in-Done.is
+    trailing_refused circuit r bytes c.args.self.now reads c.in-Done.is
 
 pub returns-else-is_byte-clause-line : goal.returns-else-is_byte-clause-line
 returns-else-is_byte-clause-line c circuit r bytes reads scans few =
-    let q : BitReader = record { play = c.self.inside.play; place = c.self.inside.place; claim = c.self.inside.claim } in
-    let now : Reads circuit q r bytes = subst (λ (q : BitReader). Reads circuit q r bytes) (sym c.self.view_is) reads in
-    let plays = plays_at circuit r bytes q now code.First c.in-First.is in
-    let old = subst (λ (q : BitReader). Plays circuit r.claim r.initial r.frames q.play bytes) c.self.view_is plays.0 in
-    frame_gives circuit r bytes q now c.admit_frame.new.self c.admit_frame.result (first_frame circuit r bytes q now c.in-First.is (sym (c.is_byte-in-First.ensures bytes scans) ∙ c.if-is_byte.false))
-    (c.admit_frame.ensures.frame circuit r bytes reads scans old plays.1 few)
+    let plays = plays_at circuit r bytes c.args.self.now reads code.First c.in-First.is in
+    frame_gives circuit r bytes c.args.self.now reads c.admit_frame.new.self c.admit_frame.result (first_frame circuit r bytes c.args.self.now reads c.in-First.is (sym (c.is_byte-in-First.ensures bytes scans) ∙ c.if-is_byte.false))
+    (c.admit_frame.ensures.frame circuit r bytes reads scans plays.0 plays.1 few)
 
 pub returns-else-is_byte-2-clause-line : goal.returns-else-is_byte-2-clause-line
 returns-else-is_byte-2-clause-line c circuit r bytes reads scans few =
-    let q : BitReader = record { play = c.self.inside.play; place = c.self.inside.place; claim = c.self.inside.claim } in
-    let now : Reads circuit q r bytes = subst (λ (q : BitReader). Reads circuit q r bytes) (sym c.self.view_is) reads in
-    let plays = plays_at circuit r bytes q now code.Later c.in-Later.is in
-    let old = subst (λ (q : BitReader). Plays circuit r.claim r.initial r.frames q.play bytes) c.self.view_is plays.0 in
-    frame_gives circuit r bytes q now c.admit_frame-in-Later.new.self c.admit_frame-in-Later.result (later_frame circuit r bytes q now c.in-Later.is (sym (c.is_byte-in-Later.ensures bytes scans) ∙ c.if-is_byte-2.false))
-    (c.admit_frame-in-Later.ensures.frame circuit r bytes reads scans old plays.1 few)
+    let plays = plays_at circuit r bytes c.args.self.now reads code.Later c.in-Later.is in
+    frame_gives circuit r bytes c.args.self.now reads c.admit_frame-in-Later.new.self c.admit_frame-in-Later.result (later_frame circuit r bytes c.args.self.now reads c.in-Later.is (sym (c.is_byte-in-Later.ensures bytes scans) ∙ c.if-is_byte-2.false))
+    (c.admit_frame-in-Later.ensures.frame circuit r bytes reads scans plays.0 plays.1 few)

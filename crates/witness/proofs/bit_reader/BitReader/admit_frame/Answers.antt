@@ -4,21 +4,18 @@ use Rattle.aiger.specs.Circuit.{Circuit}
 use Rattle.witness.specs.BitAdmits.{bits_at}
 use Rattle.witness.specs.BitScans.{is_one_bit}
 use Rattle.witness.specs.BitPlays.{Plays}
-use Rattle.witness.specs.BitStands.{BitReader, Reads}
 use Rattle.witness.proofs.BitReadLemmas.{bits_are_line}
 use Rattle.witness.proofs.BitReaderLemmas.{frame_read}
 use Rattle.witness.proofs.bit_reader.BitReader.admit_frame.Goals as goal
 
 pub returns-in-Ok-clause-frame : goal.returns-in-Ok-clause-frame
 returns-in-Ok-clause-frame c circuit r bytes reads scans plays below few =
-    let q : BitReader = record { play = c.self.inside.play; place = c.self.inside.place; claim = c.self.inside.claim } in
-    let now : Reads circuit q r bytes = subst (λ (q : BitReader). Reads circuit q r bytes) (sym c.self.view_is) reads in
-    let count : c.inputs.result ≡ circuit.inputs = c.inputs.ensures.count ∙ ap (λ (k : Circuit). k.inputs) now.counts.circuit in
+    let count : c.inputs.result ≡ circuit.inputs = c.inputs.ensures.count ∙ ap (λ (k : Circuit). k.inputs) reads.counts.circuit in
     let bits : bits_at circuit.inputs bytes ≡ Ok (map is_one_bit bytes) = subst (λ n. bits_at n bytes ≡ Ok (map is_one_bit bytes)) count (c.in-Ok.ensures bytes scans) in
     let are = bits_are_line circuit.inputs bytes (map is_one_bit bytes) bits in
     let whole : length bytes ≡ circuit.inputs = sym (length-map bytes is_one_bit) ∙ are.many in
-    let play : Plays circuit c.self.inside.claim r.initial r.frames c.self.inside.play bytes =
-    subst (λ i. Plays circuit i r.initial r.frames c.self.inside.play bytes) (sym now.claim) (subst (λ (q : BitReader). Plays circuit r.claim r.initial r.frames q.play bytes) (sym c.self.view_is) plays) in
-    let there = subst (λ i. i < length circuit.bads) (sym now.claim) below in
+    let play : Plays circuit c.args.self.now.claim r.initial r.frames c.args.self.now.play bytes =
+    subst (λ i. Plays circuit i r.initial r.frames c.args.self.now.play bytes) (sym reads.claim) plays in
+    let there = subst (λ i. i < length circuit.bads) (sym reads.claim) below in
     let closed = c.close.ensures circuit r.initial r.frames bytes play there few whole in
-    (bits, frame_read circuit r bytes q now c.close.new.self whole below (subst (λ i. Plays circuit i r.initial (r.frames ++ map is_one_bit bytes ∷ []) c.close.new.self []) now.claim closed))
+    (bits, frame_read circuit r bytes c.args.self.now reads c.close.new.self whole below (subst (λ i. Plays circuit i r.initial (r.frames ++ map is_one_bit bytes ∷ []) c.close.new.self []) reads.claim closed))

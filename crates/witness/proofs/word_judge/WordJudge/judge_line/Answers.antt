@@ -2,35 +2,40 @@ use Rattle.std.proofs.Common.{◌≡◌, Bool, ◌||◌, ◌&&◌, None, ◌<◌
 use Rattle.std.proofs.lemmas.Bool.{leb-true, leb-false}
 use Rattle.witness.specs.declared.word_place.Place.{Place as CodePlace}
 use Rattle.witness.specs.Texts.{shape_of}
-use Rattle.witness.specs.WordReadings.{nothing_admitted, lines_behind}
-use Rattle.witness.specs.WordStands.{WordJudge, IsOfLines, is_status, place_of}
-use Rattle.witness.proofs.WordJudgeLemmas.{too_many, not_admitted, line_admitted, few_frames}
+use Rattle.witness.specs.Readings.{lines_read}
+use Rattle.witness.specs.Admits.{word_reader}
+use Rattle.witness.specs.WordPlays.{WordPlay}
+use Rattle.witness.specs.Stands.{IsOfLines}
+use Rattle.witness.specs.WordStands.{Counts, WordJudge, word_judging, is_status, place_of}
+use Rattle.witness.proofs.StandsLemmas.{too_many, not_admitted}
+use Rattle.witness.proofs.WordJudgeLemmas.{claims_more, few_frames, given_line}
 use Rattle.witness.proofs.KeptLineLemmas.{status_alike}
 use Rattle.witness.proofs.word_judge.WordJudge.judge_line.Goals as goal
 
 pub returns-then-are_most-clause-lines : goal.returns-then-are_most-clause-lines
 returns-then-are_most-clause-lines c items lines bytes is alike none =
     let j : WordJudge = record { reader = c.self.inside.reader; line = c.self.inside.line; admitted = c.self.inside.admitted; refused = c.self.inside.refused; no_claim = c.self.inside.no_claim } in
-    let now : IsOfLines items j lines bytes = subst (λ (j : WordJudge). IsOfLines items j lines bytes) (sym c.self.view_is) is in
+    let now : IsOfLines (word_judging items) j lines bytes = subst (λ (j : WordJudge). IsOfLines (word_judging items) j lines bytes) (sym c.self.view_is) is in
     let fresh : j.refused ≡ None = ap (λ (j : WordJudge). j.refused) c.self.view_is ∙ none in
-    too_many items lines bytes j now fresh (leb-true (2 ^ 62) c.self.inside.admitted (sym c.are_most.ensures ∙ c.if-are_most.true))
+    too_many (word_judging items) (claims_more items) lines bytes bytes j now fresh (leb-true (2 ^ 62) c.self.inside.admitted (sym c.are_most.ensures ∙ c.if-are_most.true))
 
 pub returns-in-Ok-clause-lines : goal.returns-in-Ok-clause-lines
 returns-in-Ok-clause-lines c items lines bytes is alike none =
     let j : WordJudge = record { reader = c.self.inside.reader; line = c.self.inside.line; admitted = c.self.inside.admitted; refused = c.self.inside.refused; no_claim = c.self.inside.no_claim } in
-    let now : IsOfLines items j lines bytes = subst (λ (j : WordJudge). IsOfLines items j lines bytes) (sym c.self.view_is) is in
+    let now : IsOfLines (word_judging items) j lines bytes = subst (λ (j : WordJudge). IsOfLines (word_judging items) j lines bytes) (sym c.self.view_is) is in
     let fresh : j.refused ≡ None = ap (λ (j : WordJudge). j.refused) c.self.view_is ∙ none in
     let says = c.either-self-inside.ensures ∙ ap (λ (b : Bool). c.self.inside.no_claim || b) (c.says_no_claim.ensures ∙ ap₂ (λ (x : CodePlace) (b : Bool). is_status (place_of x) && b) c.place.ensures (status_alike c.args.line.now bytes alike)) in
     let few : c.self.inside.admitted < 2 ^ 62 = leb-false (2 ^ 62) c.self.inside.admitted (sym c.are_most.ensures ∙ c.if-are_most.false) in
-    let read = (lines_behind (shape_of items) nothing_admitted lines).read in
-    line_admitted items lines bytes j now fresh few c.admit.new.self c.either-self-inside.result (c.in-Ok.ensures.line items read bytes (now.reads fresh) alike (few_frames items lines bytes j now fresh few)) says
+    let read = (lines_read (word_reader (shape_of items)) lines).read in
+    given_line items lines bytes bytes j c.admit.new.self c.either-self-inside.result now fresh few (c.in-Ok.ensures.line items read bytes (now.reads fresh) alike (few_frames items lines bytes j now few)) says
 
 pub returns-in-Err-clause-lines : goal.returns-in-Err-clause-lines
 returns-in-Err-clause-lines c items lines bytes is alike none =
     let j : WordJudge = record { reader = c.self.inside.reader; line = c.self.inside.line; admitted = c.self.inside.admitted; refused = c.self.inside.refused; no_claim = c.self.inside.no_claim } in
-    let now : IsOfLines items j lines bytes = subst (λ (j : WordJudge). IsOfLines items j lines bytes) (sym c.self.view_is) is in
+    let now : IsOfLines (word_judging items) j lines bytes = subst (λ (j : WordJudge). IsOfLines (word_judging items) j lines bytes) (sym c.self.view_is) is in
     let fresh : j.refused ≡ None = ap (λ (j : WordJudge). j.refused) c.self.view_is ∙ none in
     let says = c.either-self-inside.ensures ∙ ap (λ (b : Bool). c.self.inside.no_claim || b) (c.says_no_claim.ensures ∙ ap₂ (λ (x : CodePlace) (b : Bool). is_status (place_of x) && b) c.place.ensures (status_alike c.args.line.now bytes alike)) in
     let few : c.self.inside.admitted < 2 ^ 62 = leb-false (2 ^ 62) c.self.inside.admitted (sym c.are_most.ensures ∙ c.if-are_most.false) in
-    let read = (lines_behind (shape_of items) nothing_admitted lines).read in
-    not_admitted items lines bytes j now fresh few c.admit.new.self c.in-Err.why c.either-self-inside.result c.in-Err.ensures.err (c.in-Err.ensures.line items read bytes (now.reads fresh) alike (few_frames items lines bytes j now fresh few)) says
+    let read = (lines_read (word_reader (shape_of items)) lines).read in
+    let counts : Counts items c.admit.new.self.play read = subst (λ (p : WordPlay). Counts items p read) (sym c.in-Err.ensures.err) now.counts in
+    not_admitted (word_judging items) (claims_more items) lines bytes bytes j now fresh few c.admit.new.self c.in-Err.why c.either-self-inside.result (is_status (place_of j.reader.place)) counts (c.in-Err.ensures.line items read bytes (now.reads fresh) alike (few_frames items lines bytes j now few)) (ap is_status (now.reads fresh).place) says

@@ -1,12 +1,15 @@
 use Rattle.std.proofs.Common.{◌≡◌, true, [], ◌∷◌, ◌++◌, List, ℕ, subst, sym, ap, ◌∙◌}
 use Rattle.base.specs.Lines.{whole_lines, unfinished}
 use Rattle.witness.specs.Texts.{shape_of}
-use Rattle.witness.specs.WordReadings.{nothing_admitted, lines_behind}
+use Rattle.witness.specs.Readings.{lines_read}
+use Rattle.witness.specs.Admits.{word_reader}
 use Rattle.witness.specs.KeptLines.{kept, AreAlike}
-use Rattle.witness.specs.WordStands.{WordJudge, StandsFor, IsOfLines, is_alone, place_of}
-use Rattle.witness.proofs.BitJudgeLemmas.{whole_lines-line_end, unfinished-line_end, no_refusal, some_refusal}
+use Rattle.witness.specs.Stands.{IsOfLines}
+use Rattle.witness.specs.WordStands.{WordJudge, word_judging, StandsFor, is_alone, place_of}
+use Rattle.witness.proofs.TextEndLemmas.{whole_lines-line_end, unfinished-line_end}
 use Rattle.witness.proofs.WordReaderLemmas.{reads_of_other}
-use Rattle.witness.proofs.WordJudgeLemmas.{line_ended, stays_refused, with_bytes}
+use Rattle.witness.proofs.StandsLemmas.{line_ended, stays_refused, with_bytes, no_refusal, some_refusal}
+use Rattle.witness.proofs.WordJudgeLemmas.{claims_more}
 use Rattle.witness.proofs.word_judge.WordJudge.take_line.Goals as goal
 
 pub returns-then-is_some : goal.returns-then-is_some
@@ -15,9 +18,8 @@ returns-then-is_some c items text line stands =
     let now : StandsFor items j text = subst (λ (j : WordJudge). StandsFor items j text) (sym c.self.view_is) stands in
     let bytes : List ℕ = c.args.bytes.now in
     let refused = some_refusal c.self.inside.refused (sym c.if-is_some.ensures) in
-    let here = with_bytes items (whole_lines text) (unfinished text) (unfinished text ++ bytes) j now.lines (λ none. absurd (cc (none, refused.1))) in
-    line_ended items (text ++ (bytes ++ 10 ∷ [])) (whole_lines text ++ (unfinished text ++ bytes) ∷ []) (record j { line = c.clear.new.self }) (whole_lines-line_end text bytes line) (unfinished-line_end text bytes)
-    (stays_refused items (whole_lines text) (unfinished text ++ bytes) j here refused.0 refused.1 c.clear.new.self) c.clear.ensures
+    line_ended (word_judging items) (text ++ (bytes ++ 10 ∷ [])) (whole_lines text ++ (unfinished text ++ bytes) ∷ []) (record j { line = c.clear.new.self }) (whole_lines-line_end text bytes line) (unfinished-line_end text bytes)
+    (stays_refused (word_judging items) (claims_more items) (whole_lines text) (unfinished text ++ bytes) (unfinished text) j now.lines refused.0 refused.1 c.clear.new.self) c.clear.ensures
 
 pub returns-then-takes_whole_lines : goal.returns-then-takes_whole_lines
 returns-then-takes_whole_lines c items text line stands =
@@ -26,11 +28,11 @@ returns-then-takes_whole_lines c items text line stands =
     let none = sym (ap (λ (j : WordJudge). j.refused) c.self.view_is) ∙ no_refusal c.self.inside.refused (sym c.if-is_some.ensures) in
     let alone : is_alone (place_of j.reader.place) ≡ true = c.takes_whole_lines.ensures.alone c.if-takes_whole_lines.true in
     let empty : unfinished text ≡ [] = c.takes_whole_lines.ensures.begins items text stands c.if-takes_whole_lines.true in
-    let here : IsOfLines items j (whole_lines text) (unfinished text ++ bytes) =
-    with_bytes items (whole_lines text) (unfinished text) (unfinished text ++ bytes) j stands.lines
-    (λ none. reads_of_other items (lines_behind (shape_of items) nothing_admitted (whole_lines text)).read (unfinished text) j.reader (stands.lines.reads none) (unfinished text ++ bytes) alone) in
+    let here : IsOfLines (word_judging items) j (whole_lines text) (unfinished text ++ bytes) =
+    with_bytes (word_judging items) (whole_lines text) (unfinished text) (unfinished text ++ bytes) j j.reader j.line stands.lines stands.lines.counts
+    (λ none. reads_of_other items (lines_read (word_reader (shape_of items)) (whole_lines text)).read (unfinished text) j.reader (stands.lines.reads none) (unfinished text ++ bytes) alone) in
     let alike : AreAlike bytes (unfinished text ++ bytes) = ap (λ (l : List ℕ). kept (l ++ bytes)) (sym empty) in
-    line_ended items (text ++ (bytes ++ 10 ∷ [])) (whole_lines text ++ (unfinished text ++ bytes) ∷ []) c.judge_line.new.self (whole_lines-line_end text bytes line) (unfinished-line_end text bytes)
+    line_ended (word_judging items) (text ++ (bytes ++ 10 ∷ [])) (whole_lines text ++ (unfinished text ++ bytes) ∷ []) c.judge_line.new.self (whole_lines-line_end text bytes line) (unfinished-line_end text bytes)
     (c.judge_line.ensures.lines items (whole_lines text) (unfinished text ++ bytes) here alike none)
     (c.judge_line.ensures.line ∙ (stands.line ∙ ap kept empty))
 

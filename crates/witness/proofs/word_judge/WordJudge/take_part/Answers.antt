@@ -1,10 +1,13 @@
-use Rattle.std.proofs.Common.{List, ℕ, ◌++◌, subst, sym}
+use Rattle.std.proofs.Common.{◌≡◌, List, ℕ, ◌++◌, ap, subst, sym, ◌∙◌}
 use Rattle.base.specs.Lines.{whole_lines, unfinished}
 use Rattle.witness.specs.Texts.{shape_of}
-use Rattle.witness.specs.WordReadings.{nothing_admitted, lines_behind}
-use Rattle.witness.specs.WordStands.{WordJudge, StandsFor}
-use Rattle.witness.proofs.BitJudgeLemmas.{no_refusal, some_refusal}
-use Rattle.witness.proofs.WordJudgeLemmas.{part_more, counts_of}
+use Rattle.witness.specs.Readings.{lines_read}
+use Rattle.witness.specs.Admits.{word_reader}
+use Rattle.witness.specs.KeptLines.{kept}
+use Rattle.witness.specs.WordStands.{WordJudge, word_judging, StandsFor}
+use Rattle.witness.proofs.KeptLineLemmas.{kept_more}
+use Rattle.witness.proofs.StandsLemmas.{part_more, no_refusal, some_refusal}
+use Rattle.witness.proofs.WordJudgeLemmas.{counts_of}
 use Rattle.witness.proofs.word_judge.WordJudge.take_part.Goals as goal
 
 pub returns-then-is_none-clause-stands : goal.returns-then-is_none-clause-stands
@@ -12,15 +15,15 @@ returns-then-is_none-clause-stands c items text one stands =
     let j : WordJudge = record { reader = c.self.inside.reader; line = c.self.inside.line; admitted = c.self.inside.admitted; refused = c.self.inside.refused; no_claim = c.self.inside.no_claim } in
     let now : StandsFor items j text = subst (λ (j : WordJudge). StandsFor items j text) (sym c.self.view_is) stands in
     let none = no_refusal c.self.inside.refused c.if-is_none.ensures in
-    let read = (lines_behind (shape_of items) nothing_admitted (whole_lines text)).read in
+    let read = (lines_read (word_reader (shape_of items)) (whole_lines text)).read in
     let reads = c.take.ensures items read (unfinished text) (now.lines.reads none) in
-    subst (λ (l : List ℕ). StandsFor items (record j { reader = c.take.new.self; line = l }) (text ++ c.args.bytes.now)) (sym c.extend.ensures)
-    (part_more items text c.args.bytes.now j c.take.new.self one now (counts_of items c.take.new.self read _ reads) (λ _. reads))
+    let keeps : c.extend.new.self ≡ kept (unfinished text ++ c.args.bytes.now) = c.extend.ensures ∙ (ap (λ (l : List ℕ). kept (l ++ c.args.bytes.now)) now.line ∙ kept_more (unfinished text) c.args.bytes.now) in
+    part_more (word_judging items) text c.args.bytes.now j c.take.new.self c.extend.new.self one now keeps (counts_of items c.take.new.self read _ reads) (λ _. reads)
 
 pub returns-else-is_none-clause-stands : goal.returns-else-is_none-clause-stands
 returns-else-is_none-clause-stands c items text one stands =
     let j : WordJudge = record { reader = c.self.inside.reader; line = c.self.inside.line; admitted = c.self.inside.admitted; refused = c.self.inside.refused; no_claim = c.self.inside.no_claim } in
     let now : StandsFor items j text = subst (λ (j : WordJudge). StandsFor items j text) (sym c.self.view_is) stands in
     let refused = some_refusal c.self.inside.refused c.if-is_none.ensures in
-    subst (λ (l : List ℕ). StandsFor items (record j { line = l }) (text ++ c.args.bytes.now)) (sym c.extend.ensures)
-    (part_more items text c.args.bytes.now j c.self.inside.reader one now now.lines.counts (λ none. absurd (cc (none, refused.1))))
+    let keeps : c.extend.new.self ≡ kept (unfinished text ++ c.args.bytes.now) = c.extend.ensures ∙ (ap (λ (l : List ℕ). kept (l ++ c.args.bytes.now)) now.line ∙ kept_more (unfinished text) c.args.bytes.now) in
+    part_more (word_judging items) text c.args.bytes.now j c.self.inside.reader c.extend.new.self one now keeps now.lines.counts (λ none. absurd (cc (none, refused.1)))

@@ -1,7 +1,7 @@
 use Rattle.std.proofs.Common.{◌≡◌, None, [], ◌∷◌, ◌<◌, ◌^◌, append_assoc, subst, sym, ◌∙◌}
 use Rattle.std.proofs.lemmas.Bool.{leb-false}
 use Rattle.witness.specs.WordStands.{WordJudge, StandsFor}
-use Rattle.witness.proofs.BitJudgeLemmas.{no_refusal}
+use Rattle.witness.proofs.StandsLemmas.{no_refusal}
 use Rattle.witness.proofs.WordJudgeLemmas.{nothing_there, line_taken}
 use Rattle.witness.proofs.word_judge.WordJudge.take_plain.Goals as goal
 

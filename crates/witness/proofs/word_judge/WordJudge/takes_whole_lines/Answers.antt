@@ -1,7 +1,7 @@
 use Rattle.std.proofs.Common.{subst, sym, ap, ◌∙◌}
 use Rattle.base.specs.Lines.{unfinished}
 use Rattle.witness.specs.WordStands.{WordJudge, StandsFor, is_alone, place_of}
-use Rattle.witness.specs.Admits.{is_nothing}
+use Rattle.witness.specs.Readings.{is_nothing}
 use Rattle.witness.proofs.KeptLineLemmas.{nothing_kept}
 use Rattle.witness.proofs.WordJudgeLemmas.{nothing_there}
 use Rattle.witness.proofs.word_judge.WordJudge.takes_whole_lines.Goals as goal
