@@ -1,7 +1,6 @@
 mod LineLemmas
 mod SectionLemmas
 mod DeltaLemmas
-mod BinaryLemmas
 mod FormLemmas
 mod FieldLemmas
 mod GateLemmas
@@ -27,7 +26,6 @@ mod ListLemmas
 mod PropertyListLemmas
 mod NamingLemmas
 mod SectionReadLemmas
-mod OwnLatchLemmas
 mod PutsLemmas
 mod InOrderLemmas
 mod WhyLemmas

@@ -29,7 +29,7 @@ use Rattle.aigertext.proofs.BackLemmas.{ok_same, not_err, bind-back, bind-then, 
 use Rattle.aigertext.proofs.FieldLemmas.{joined, numbers_line-joined}
 use Rattle.aigertext.proofs.GateBackLemmas.{AreBytes, bytes_behind, AreGatesAt, gates-back}
 use Rattle.aigertext.proofs.HeaderBackLemmas.{HeaderBack, header-back, AreCounts}
-use Rattle.aigertext.proofs.LatchBackLemmas.{AreLatchesAt, nexts-back}
+use Rattle.aigertext.proofs.LatchBackLemmas.{AreLatchesAt, latches-back}
 use Rattle.aigertext.proofs.NameBackLemmas.{names-back}
 use Rattle.aigertext.proofs.NameReadLemmas.{HasFewPositions}
 use Rattle.aigertext.proofs.ListLemmas.{literals_small}
@@ -195,7 +195,7 @@ property_is inputs ls p gs rest e =
 -- what stands behind a header is the circuit's sections
 module _ (h : Counts) (text : List ℕ) (c : Circuit) (ls : List Latch) (after : List ℕ) (p : Properties) (behind : List ℕ) (gs : List Gate) (end : List ℕ)
     (few_first : AreCounts (first_of_counts h)) (few_last : AreCounts (last_of_counts h)) (fits : h.variables ≡ h.inputs + h.latches + h.gates)
-    (l : AreLatchesAt (2 * h.variables + 1) (2 * suc h.inputs) h.latches text ls after) (q : PropertiesBack h after p behind) (g : AreGatesAt (suc (h.inputs + h.latches)) h.gates behind gs end) where
+    (l : AreLatchesAt Binary (2 * h.variables + 1) (suc h.inputs) h.latches text ls after) (q : PropertiesBack h after p behind) (g : AreGatesAt (suc (h.inputs + h.latches)) h.gates behind gs end) where
   bare : Circuit
   bare = nameless h.inputs ls p gs
 
@@ -271,7 +271,7 @@ binary-back law h text c few_first few_last fits bytes e =
     let l = bind-back (nexts_at (2 * h.variables + 1) (2 * suc h.inputs) h.latches text) _ c e in
     let p = bind-back (properties_at h l.value.1) _ c l.then' in
     let g = bind-back (gates_at (2 * suc (h.inputs + h.latches)) h.gates p.value.1) _ c p.then' in
-    let l' = nexts-back (2 * h.variables + 1) (2 * suc h.inputs) h.latches text l.value.0 l.value.1 (omega (arith, few_first.0)) (omega (arith, few_first.1.0, few_first.1.1.0)) l.was in
+    let l' = latches-back Binary (2 * h.variables + 1) (suc h.inputs) h.latches text l.value.0 l.value.1 (omega (arith, few_first.0)) (omega (arith, few_first.1.0, few_first.1.1.0)) l.was in
     let p' = properties-back h l.value.1 p.value.0 p.value.1 few_first.0 p.was in
     let bytes1 : AreBytes l.value.1 = bytes_after l'.bytes l.value.1 text bytes l'.parts in
     let bytes2 : AreBytes p.value.1 = bytes_after (property_lines (nameless 0 [] p.value.0 [])) p.value.1 l.value.1 bytes1 (p'.parts ∙ sym (property_is 0 [] p.value.0 [] p.value.1 p'.listed)) in

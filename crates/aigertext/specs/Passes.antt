@@ -6,7 +6,8 @@ use Rattle.aiger.specs.declared.circuit.Latch.{Latch}
 use Rattle.aiger.specs.Circuit.{Circuit}
 use Rattle.aiger.specs.Loose.{Loose}
 use Rattle.aiger.specs.Renumbering.{IsRenumbered}
-use Rattle.aigertext.specs.AsciiReading.{AnswersUndefined, AnswersCycle, AnswersText, IsFaultOf}
+use Rattle.aigertext.specs.AsciiReading.{AnswersUndefined, AnswersCycle, IsFaultOf}
+use Rattle.aigertext.specs.Spelling.{Spells}
 use Rattle.aigertext.specs.declared.reading.counts.Counts.{Counts}
 use Rattle.aigertext.specs.declared.fault.ReadFault.{ReadFault}
 use Rattle.aigertext.specs.declared.fault.Stop.{Stop}
@@ -114,7 +115,7 @@ with_properties c p =
 
 -- ---- whole texts
 
--- a text was read as a circuit or has the fault, unless memory ran out
+-- a text was read as a circuit that it spells or has the fault, unless memory ran out
 abbrev pub ReadsText : List ℕ → Result Circuit ReadFault → Type 0
-ReadsText text (Ok c) = AnswersText text (Ok c)
+ReadsText text (Ok c) = Spells text c
 ReadsText text (Err e) = (e ≡ record { place = 0; why = why.NoMemory }) ⊎ IsFaultOf text e

@@ -1,78 +1,103 @@
-//! Reading what stands behind the header of a binary text.
-ghost use Rattle.std.specs.Prelude.{◌≡◌, Ok};
+//! Reading a binary text straight onto a circuit. Of its gates' deltas only a piece is held.
+ghost use Rattle.std.specs.Prelude.{◌≡◌, ◌+◌, ◌-◌, ◌≤◌, ◌++◌, suc, length, take, IfOk, IfSome, OnOk, IsErrOf};
+ghost use Rattle.std.specs.Io.KnownBytes.{prepend_known, IsAtEnd};
+ghost use Rattle.base.specs.Device.{HasRisen};
 ghost use Rattle.aiger.specs.Circuit.{fresh_circuit};
-ghost use Rattle.aigertext.specs.declared.forms.Form.TheVariants as form;
-ghost use Rattle.aigertext.specs.Reading.{binary_at};
-ghost use Rattle.aigertext.specs.Passes.{Reads, behind_lines_of};
-ghost use Rattle.aigertext.specs.Counts.{AreSmall, Fits};
+ghost use Rattle.aigertext.specs.declared.forms.Form.TheVariants as variant;
+ghost use Rattle.aigertext.specs.Counts.{AreSmall};
+ghost use Rattle.aigertext.specs.Passes.{with_gates};
+ghost use Rattle.aigertext.specs.InOrder.{IsFront, text_with, ReadsOnto, IsTakenOnto};
 
-use crate::fault::Stop;
+use crate::fault::{Stop, Why};
 use crate::forms::Form;
-use crate::reading::binary_definitions::push_gates;
 use crate::reading::counts::Counts;
-use crate::reading::finishing::set_latches;
-use crate::reading::first_pass::check_lines;
-use crate::reading::lines::stop;
-use crate::reading::names::give_names;
-use crate::reading::properties::{push_properties, want_of_memory};
+use crate::reading::deltas::gate;
+use crate::reading::finishing::finish;
+use crate::reading::gates::{push_gates, read_gates};
+use crate::reading::lines::{fault, stop};
+use crate::reading::pieces::read_rest;
+use crate::reading::taking::Taken;
 use aiger::Circuit;
+use base::{ReadAllFault, Source};
 use std::alloc::Global;
 
-/// Reads what stands behind a header onto a circuit of so many inputs and latches, where the gates' text is known.
-fn push_sections(
+/// Reads what is left of a binary text onto a circuit that has the first of its gates, where the text behind those is
+/// given: the other gates, and what stands before and behind the gates.
+pub fn read_left(
     alloc: Global,
-    circuit: &mut Circuit,
     counts: &Counts,
     text: &[u8],
+    latches: &[u8],
     gates: &[u8],
+    circuit: &mut Circuit,
+    window: &[u8],
 ) -> Result<(), Stop>
-    requires fresh { circuit.old ≡ fresh_circuit counts.now.inputs counts.now.latches }
+    requires front { IsFront variant.Binary counts.now text.now latches.now gates.now }
     requires small { AreSmall counts.now }
-    requires fits { Fits form.Binary counts.now }
-    requires gates { behind_lines_of form.Binary counts.now text.now ≡ Ok gates.now }
-    ensures { Reads (λ u. circuit.new) result (binary_at counts.now text.now) }
+    requires bare { circuit.old ≡ with_gates (fresh_circuit counts.now.inputs counts.now.latches) circuit.old.gates }
+    requires few { length circuit.old.gates ≤ counts.now.gates }
+    ensures { ReadsOnto circuit.new (text_with variant.Binary counts.now text.now gates.now circuit.old.gates window.now) result }
 {
-    let greatest = 2 * counts.variables + 1;
-    let latch = 2 * (counts.inputs + 1);
-    let gate = 2 * (counts.inputs + counts.latches + 1);
-    let names = match push_gates(circuit, gates, gate, counts.gates) {
-        Ok(names) => names,
-        Err(stop) => return Err(stop),
-    };
-    let properties = match set_latches(
-        Form::Binary,
-        circuit,
-        text,
-        greatest,
-        latch,
-        counts.latches,
-    ) {
-        Ok(properties) => properties,
-        Err(stop) => return Err(stop),
-    };
-    match push_properties(alloc, circuit, properties, counts) {
-        Ok(_) => give_names(circuit, names),
+    let left = counts.gates as usize - circuit.gates().len();
+    let names = push_gates(Form::Binary, circuit, window, left);
+    let own = 2 * (circuit.variables() + 1);
+    if circuit.gates().len() == counts.gates as usize {
+        return finish(Form::Binary, alloc, circuit, counts, latches, gates, names);
+    }
+    match gate(names, own) {
+        Ok(_) => Err(stop(names, Why::NoMemory)),
         Err(stop) => Err(stop),
     }
 }
 
-/// The circuit behind a header of the binary form. The lines before the gates are looked at first, so that no list is
-/// made by a number of the header before so many lines were there.
-pub fn read_sections(alloc: Global, counts: &Counts, text: &[u8]) -> Result<Circuit, Stop>
-    requires small { AreSmall counts.now }
-    requires fits { Fits form.Binary counts.now }
-    ensures { Reads (λ c. c) result (binary_at counts.now text.now) }
+/// How many bytes these are together; nothing where that is not below 2^64.
+fn total(before: usize, passed: u64, behind: usize) -> Option<u64>
+    ensures { IfSome result (λ n. n ≡ before + (passed + behind)) }
 {
-    let gates = match check_lines(Form::Binary, text, counts) {
-        Ok(gates) => gates,
-        Err(stop) => return Err(stop),
+    passed
+        .checked_add(behind as u64)?
+        .checked_add(before as u64)
+}
+
+/// Reads the gates of a binary text whose lines before them are there, and all behind them, onto a fresh circuit, where the
+/// gates' text as far as it was read is held.
+pub fn read_binary<S: Source>(
+    alloc: Global,
+    counts: &Counts,
+    text: &[u8],
+    latches: &[u8],
+    gates: &[u8],
+    circuit: &mut Circuit,
+    window: &mut Vec<u8>,
+    source: &mut S,
+) -> Result<Option<Taken>, ReadAllFault>
+    requires front { IsFront variant.Binary counts.now text.now latches.now gates.now }
+    requires small { AreSmall counts.now }
+    requires fresh { circuit.old ≡ fresh_circuit counts.now.inputs counts.now.latches }
+    requires held { window.old.items ≡ gates.now }
+    ensures taken { IfOk result (IsTakenOnto (prepend_known text.now (S.to_come source.old)) circuit.new) }
+    ensures end { OnOk result (IsAtEnd (S.to_come source.new)) }
+    ensures counted { OnOk result (S.failures source.new ≡ S.failures source.old) }
+    ensures device { IsErrOf result ReadAllFault.Device → HasRisen (S.failures source.old) (S.failures source.new) }
+    ensures memory { IsErrOf result ReadAllFault.NoMemory → S.failures source.new ≡ S.failures source.old }
+{
+    let before = text.len() - gates.len();
+    let passed = read_gates(Form::Binary, circuit, window, counts.gates as usize, source)?;
+    read_rest(window, source)?;
+    let total = match total(before, passed, window.len()) {
+        Some(total) => total,
+        None => return Err(ReadAllFault::NoMemory),
     };
-    let mut circuit = match Circuit::new(alloc, counts.inputs, counts.latches) {
-        Ok(circuit) => circuit,
-        Err(fault) => return Err(stop(text, want_of_memory(fault))),
-    };
-    match push_sections(alloc, &mut circuit, counts, text, gates) {
-        Ok(()) => Ok(circuit),
-        Err(stop) => Err(stop),
+    match read_left(
+        alloc,
+        counts,
+        text,
+        latches,
+        gates,
+        circuit,
+        window.as_slice(),
+    ) {
+        Ok(()) => Ok(None),
+        Err(stop) => Ok(Some(Taken::Fault(fault(total, stop)))),
     }
 }

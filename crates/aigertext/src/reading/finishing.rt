@@ -1,5 +1,5 @@
 //! What stands before and behind the gates of a text, read onto a circuit whose gates are there.
-ghost use Rattle.std.specs.Prelude.{◌≡◌, ◌+◌, ◌*◌, ◌≤◌, Ok, length, OnOk, IfOk};
+ghost use Rattle.std.specs.Prelude.{◌≡◌, ◌+◌, ◌*◌, ◌≤◌, Ok, length, OnOk};
 ghost use Rattle.aiger.specs.Circuit.{net, fresh_circuit};
 ghost use Rattle.aiger.specs.Net.{variables};
 ghost use Rattle.aigertext.specs.declared.forms.Form.TheVariants as variant;
@@ -7,14 +7,13 @@ ghost use Rattle.aigertext.specs.Counts.{AreSmall, Fits};
 ghost use Rattle.aigertext.specs.Passes.{Takes, with_latches, with_gates, latches_in, behind_lines_of};
 ghost use Rattle.aigertext.specs.InOrder.{IsFinish};
 
-use crate::fault::{Stop, Why};
+use crate::fault::Stop;
 use crate::forms::Form;
 use crate::reading::counts::Counts;
 use crate::reading::lines::latch_line;
 use crate::reading::names::give_names;
 use crate::reading::properties::push_properties;
 use aiger::Circuit;
-use base::ReadAllFault;
 use std::alloc::Global;
 
 /// Sets all latches by their lines, the first of which has the given literal, and answers the text behind them.
@@ -48,48 +47,41 @@ pub fn set_latches<'a>(
     Ok(rest)
 }
 
-/// Sets the latches of a circuit in order and adds its properties by their lines in an ascii text, which were looked at,
-/// gives it the names of a text, and answers whether none of these was refused.
+/// Sets the latches of a circuit whose gates are there and adds its properties by their lines, which were looked at, and
+/// gives it the names of a text.
 ///
-/// Error: `NoMemory`.
+/// Errors: those of the names, and `NoMemory`.
 pub fn finish(
+    form: Form,
     alloc: Global,
     circuit: &mut Circuit,
     counts: &Counts,
     text: &[u8],
     gates: &[u8],
     names: &[u8],
-) -> Result<bool, ReadAllFault>
+) -> Result<(), Stop>
     requires bare { circuit.old ≡ with_gates (fresh_circuit counts.now.inputs counts.now.latches) circuit.old.gates }
     requires all { length circuit.old.gates ≡ counts.now.gates }
     requires small { AreSmall counts.now }
     requires fits { Fits variant.Binary counts.now }
-    requires seen { behind_lines_of variant.Ascii counts.now text.now ≡ Ok gates.now }
-    ensures { IfOk result (λ done. IsFinish done counts.now circuit.old.gates circuit.new text.now names.now) }
+    requires seen { behind_lines_of form counts.now text.now ≡ Ok gates.now }
+    ensures { IsFinish form counts.now circuit.old.gates circuit.new text.now names.now result }
 {
     let greatest = 2 * counts.variables + 1;
     let latch = 2 * (counts.inputs + 1);
-    let properties = match set_latches(
-        Form::Ascii,
-        circuit,
-        text,
-        greatest,
-        latch,
-        counts.latches,
-    ) {
+    let properties = match set_latches(form, circuit, text, greatest, latch, counts.latches) {
         Ok(properties) => properties,
-        Err(_) => return Ok(false),
+        Err(stop) => return Err(stop),
     };
     match push_properties(alloc, circuit, properties, counts) {
         Ok(_) => {}
-        Err(_) => return Err(ReadAllFault::NoMemory),
+        Err(stop) => return Err(stop),
     }
-    let _valid = circuit.variables();
+    let _bare = circuit.variables();
     match give_names(circuit, names) {
-        Ok(()) => Ok(true),
-        Err(stop) => match stop.why {
-            Why::NoMemory => Err(ReadAllFault::NoMemory),
-            _ => Ok(false),
-        },
+        Ok(()) => {}
+        Err(stop) => return Err(stop),
     }
+    let _named = circuit.variables();
+    Ok(())
 }
