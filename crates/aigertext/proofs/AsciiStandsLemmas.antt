@@ -11,7 +11,7 @@ use Rattle.aigertext.specs.declared.fault.Stop.{Stop}
 use Rattle.aigertext.specs.declared.forms.Form.{Form}
 use Rattle.aigertext.specs.declared.forms.Form.TheVariants.{Ascii, Binary}
 use Rattle.aigertext.specs.Counts.{AreSmall, Fits, counts_of_file}
-use Rattle.aigertext.specs.Spelling.{GiveNames, IsHeader, IsAsciiText, Spells, use_lines}
+use Rattle.aigertext.specs.Spelling.{IsHeader, IsAsciiText, Spells, use_lines}
 use Rattle.aigertext.specs.Reading.{line_at, header_of, names_at}
 use Rattle.aigertext.specs.AsciiReading.{lists_of_file, AnswersNamed, AnswersUndefined, AnswersCycle, AnswersLists, AnswersAscii, AnswersBody, AnswersHeader, AnswersText}
 use Rattle.aigertext.proofs.BackLemmas.{SaysAt, line-back}
@@ -21,9 +21,8 @@ use Rattle.aigertext.proofs.GateBackLemmas.{AreBytes}
 use Rattle.aigertext.proofs.HeaderBackLemmas.{HeaderBack, header-back}
 use Rattle.aigertext.proofs.HeaderLemmas.{header-read}
 use Rattle.aigertext.proofs.HeaderSmallLemmas.{header_small}
-use Rattle.aigertext.proofs.NameBackLemmas.{names-back}
 use Rattle.aigertext.proofs.NameReadLemmas.{names-read}
-use Rattle.aigertext.proofs.ReadStandsLemmas.{NameLaw, names_valid, names_alone, header_spelled, binary-stands}
+use Rattle.aigertext.proofs.ReadStandsLemmas.{NameLaw, names_valid, end-back, header_spelled, binary-stands}
 use Rattle.aigertext.proofs.StandsLemmas.{not_stopped, stands-read}
 
 -- the law that lists as numbered are a circuit
@@ -70,9 +69,8 @@ module _ (circuit : IsCircuitLaw) (text : List ℕ) (c : Circuit) (h : Counts) (
   of_lists : IsAsciiText text c
   of_lists =
       let few = λ (s : Section). few_positions s n.circuit (circuit l n.circuit valid n.is_renumbered) in
-      let names = names-back n.circuit end c few (sym n.is) in
       let bare : n.circuit.names ≡ [] = ap (λ (d : Circuit). d.names) n.is_renumbered.circuit ∙ b.unnamed in
-      let same : n.circuit ≡ record c { names = [] } = ap (λ (ns : NameMap). record n.circuit { names = ns }) bare ∙ names_alone n.circuit names.given c names.names in
+      let e = end-back n.circuit c end few (ap (λ (ns : NameMap). record n.circuit { names = ns }) bare) (sym n.is) in
       record {
         lists = l;
         valid = valid;
@@ -90,8 +88,8 @@ module _ (circuit : IsCircuitLaw) (text : List ℕ) (c : Circuit) (h : Counts) (
         gates = b.gates;
         are_gates = b.are_gates;
         end = end;
-        is_end = record { given = names.given; names = subst (λ (d : Circuit). GiveNames d names.given c) same names.names; comment = names.comment; is_comment = names.is_comment; spelled = names.parts };
-        is_renumbered = subst (IsRenumbered l) same n.is_renumbered;
+        is_end = e.is_end;
+        is_renumbered = subst (IsRenumbered l) e.same n.is_renumbered;
         whole = s.parts ∙ sym (append_assoc s.line (10 ∷ []) rest) ∙ ap (λ (t : List ℕ). (s.line ++ 10 ∷ []) ++ t) b.whole;
       }
 

@@ -1,5 +1,5 @@
 -- A text that was read onto a circuit spells it, or has the fault, and what was read of any text gives back its bytes.
-use Rattle.std.proofs.Common.{◌≡◌, ℕ, zero, suc, ◌+◌, ◌-◌, ◌*◌, ◌^◌, ◌<◌, ◌≤◌, List, [], ◌∷◌, ◌++◌, length, take, Option, Some, None, Result, Ok, Err, refl, sym, ap, subst, ◌∙◌, append_assoc, append-nil, length-append, inl, inr, arith}
+use Rattle.std.proofs.Common.{◌≡◌, ◌≢◌, ℕ, zero, suc, ◌+◌, ◌-◌, ◌*◌, ◌^◌, ◌<◌, ◌≤◌, List, [], ◌∷◌, ◌++◌, length, take, Option, Some, None, Result, Ok, Err, refl, sym, ap, subst, ◌∙◌, append_assoc, append-nil, length-append, inl, inr, arith}
 use Rattle.std.specs.Prelude.{IfSome}
 use Rattle.std.specs.List.{sum}
 use Rattle.std.specs.Io.KnownBytes.{prepend_known, Keeps, Consumes, IsAtEnd}
@@ -21,21 +21,23 @@ use Rattle.aigertext.specs.declared.forms.Form.TheVariants.{Ascii, Binary}
 use Rattle.aigertext.specs.Ascii.{input_lines, gate_lines, property_lines}
 use Rattle.aigertext.specs.Binary.{inputs_text, gate_deltas, gates_text}
 use Rattle.aigertext.specs.Counts.{counts_in, counts_of_file}
-use Rattle.aigertext.specs.Spelling.{IsHeader, IsEnd, GiveNames, AreUpTo, AreNextLines, IsAsciiText, IsBinaryText, Spells}
+use Rattle.aigertext.specs.Spelling.{IsHeader, AreUpTo, AreNextLines, IsAsciiText, IsBinaryText}
 use Rattle.aigertext.specs.Reading.{◌>>=◌, line_at, lines_at, literal_of, literals_at, size_of, sizes_at, header_of, gate_at, gates_at, names_at, binary_at, Properties, properties_at, nameless}
-use Rattle.aigertext.specs.AsciiReading.{AnswersHeader, AnswersText}
+use Rattle.aigertext.specs.AsciiReading.{lists_of_file, AnswersNamed, AnswersLists, AnswersAscii, AnswersHeader, AnswersText}
+use Rattle.aiger.specs.Loose.{Loose}
+use Rattle.base.specs.Lines.{IsLine}
 use Rattle.aigertext.specs.Passes.{behind, onto, with_gates, with_latches, latch_in, latches_in, behind_lines_of}
 use Rattle.aigertext.specs.PropertyLists.{circuit_with, lists_made}
-use Rattle.aigertext.specs.InOrder.{IsFront, text_with, PutsGates, finished, Finishes, IsFinish, ReadsOnto}
+use Rattle.aigertext.specs.InOrder.{IsFront, text_with, PutsGates, Finishes, IsFinish, ReadsOnto}
 use Rattle.aigertext.proofs.AsciiWrittenLemmas.{OwnValid, OwnNumbered, OwnMany, up_to, written_inputs, written_gates}
 use Rattle.aigertext.proofs.BackLemmas.{ok_same, bind-back, bind-then, lines-back, line-back}
 use Rattle.aigertext.proofs.FieldLemmas.{line_read}
 use Rattle.aigertext.proofs.GateLemmas.{gates-read, gates-read-on}
 use Rattle.aigertext.proofs.HeaderBackLemmas.{HeaderBack, header-back}
 use Rattle.aigertext.proofs.LatchBackLemmas.{AreLatchesAt, latches-back}
-use Rattle.aigertext.proofs.NameBackLemmas.{names-back}
 use Rattle.aigertext.proofs.PutsLemmas.{gates_text-none, gates_text-append, front_taken, rest_within}
-use Rattle.aigertext.proofs.ReadStandsLemmas.{PropertiesBack, properties-back, property_is, length_lists, names_alone, header_spelled}
+use Rattle.aigertext.proofs.ReadStandsLemmas.{PropertiesBack, properties-back, property_is, length_lists, end-back, header_spelled}
+use Rattle.aigertext.proofs.FileReadLemmas.{lists-read}
 use Rattle.aigertext.proofs.SectionReadLemmas.{err_same, behind_back, behind_stop}
 
 -- ---- what was read is the front of a text, behind which anything may stand
@@ -158,109 +160,128 @@ front-parts form h text latches gates f =
 
 -- ---- the circuit
 
--- what a text with such lines spells, where they and the names behind its gates were read onto a circuit
-record Spelled (form : Form) (h : Counts) (text latches gates : List ℕ) (gs : List Gate) (c : Circuit) (names : List ℕ) (f : Finishes form h gs c latches names) : Type 0 where
+-- what the lines before the gates of a text spell, where they were read onto a circuit
+record Spelled (form : Form) (h : Counts) (text latches gates : List ℕ) (gs : List Gate) (r : Result Circuit Stop) (names : List ℕ) (f : Finishes form h gs r latches names) : Type 0 where
   line : List ℕ
+  said : IsLine line × (header_of line ≡ Ok (form, h))
   k : HeaderBack form line h
   l : AreLatchesAt form (2 * h.variables + 1) (suc h.inputs) h.latches latches f.latches f.behind_latches
   p : PropertiesBack h f.behind_latches f.properties f.behind_properties
-  end : IsEnd c names
-  same : nameless h.inputs f.latches f.properties gs ≡ record c { names = [] }
   before : take (length text - length gates) text ≡ (line ++ 10 ∷ []) ++ (inputs_text form h.inputs ++ (l.bytes ++ property_lines (nameless h.inputs f.latches f.properties gs)))
 
-module _ (form : Form) (h : Counts) (text latches gates : List ℕ) (front : IsFront form h text latches gates) (gs : List Gate) (c : Circuit) (names : List ℕ) (f : Finishes form h gs c latches names) where
+module _ (form : Form) (h : Counts) (text latches gates : List ℕ) (front : IsFront form h text latches gates) (gs : List Gate) (r : Result Circuit Stop) (names : List ℕ) (f : Finishes form h gs r latches names) where
   same_gates : f.behind_properties ≡ gates
   same_gates =
       let seen : ◌≡◌ {A = Result (List ℕ) Stop} (Ok f.behind_properties) (Ok gates) = rw (f.are_latches, f.are_properties) at front.in_order.seen in
       ok_same f.behind_properties gates seen
 
-  spelled : Spelled form h text latches gates gs c names f
+  spelled : Spelled form h text latches gates gs r names f
   spelled =
-      let bare : Circuit = nameless h.inputs f.latches f.properties gs in
       let s = line-back header_of text (form, h) front.lines front.header in
       let k = header-back s.line form h s.said in
       let l = latches-back form (2 * h.variables + 1) (suc h.inputs) h.latches latches f.latches f.behind_latches (omega (arith, k.few_first.0)) (omega (arith, k.few_first.1.0, k.few_first.1.1.0)) f.are_latches in
       let p = properties-back h f.behind_latches f.properties f.behind_properties k.few_first.0 f.are_properties in
-      let few = λ (x : Section). few_positions x (nameless h.inputs f.latches f.properties gs) f.bare in
-      let n = names-back (nameless h.inputs f.latches f.properties gs) names c few f.are_names in
-      let alone : nameless h.inputs f.latches f.properties gs ≡ record c { names = [] } = names_alone (nameless h.inputs f.latches f.properties gs) n.given c n.names in
       let lines : text ≡ (s.line ++ 10 ∷ []) ++ (inputs_text form h.inputs ++ (l.bytes ++ (property_lines (nameless h.inputs f.latches f.properties gs) ++ gates))) =
       s.parts ∙ sym (append_assoc s.line (10 ∷ []) front.lines) ∙ ap (λ (t : List ℕ). (s.line ++ 10 ∷ []) ++ t) (front.in_order.inputs ∙ ap (λ (t : List ℕ). inputs_text form h.inputs ++ t)
       (l.parts ∙ ap (λ (t : List ℕ). l.bytes ++ t) (p.parts ∙ sym (property_is h.inputs f.latches f.properties gs f.behind_properties p.listed)
       ∙ ap (λ (t : List ℕ). property_lines (nameless h.inputs f.latches f.properties gs) ++ t) same_gates))) in
       record {
         line = s.line;
+        said = (s.whole, s.said);
         k = k;
         l = l;
         p = p;
-        end = record { given = n.given; names = subst (λ (d : Circuit). GiveNames d n.given c) alone n.names; comment = n.comment; is_comment = n.is_comment; spelled = n.parts };
-        same = alone;
         before = front_taken text ((s.line ++ 10 ∷ []) ++ (inputs_text form h.inputs ++ (l.bytes ++ property_lines (nameless h.inputs f.latches f.properties gs)))) gates
             (lines ∙ sym (four_parts (s.line ++ 10 ∷ []) (inputs_text form h.inputs) l.bytes (property_lines (nameless h.inputs f.latches f.properties gs)) gates));
       }
 
 -- a text with such lines, gates and names
-whole_text : (form : Form) (before line i l p gates names : List ℕ) → before ≡ line ++ (i ++ (l ++ p)) → before ++ (gates ++ names) ≡ line ++ (i ++ (l ++ (p ++ (gates ++ names))))
-whole_text form before line i l p gates names is = ap (λ (t : List ℕ). t ++ (gates ++ names)) is ∙ four_parts line i l p (gates ++ names)
+whole_text : (before line i l p gates names : List ℕ) → before ≡ line ++ (i ++ (l ++ p)) → before ++ (gates ++ names) ≡ line ++ (i ++ (l ++ (p ++ (gates ++ names))))
+whole_text before line i l p gates names is = ap (λ (t : List ℕ). t ++ (gates ++ names)) is ∙ four_parts line i l p (gates ++ names)
 
-module _ (h : Counts) (text latches gates : List ℕ) (gs : List Gate) (c : Circuit) (names : List ℕ) (many : length gs ≡ h.gates) (fits : h.variables ≡ h.inputs + h.latches + h.gates) where
-  binary-spelled : (f : Finishes Binary h gs c latches names) → Spelled Binary h text latches gates gs c names f → IsBinaryText (text_with Binary h text gates gs names) c
-  binary-spelled f s =
+module _ (h : Counts) (text latches gates : List ℕ) (gs : List Gate) (names : List ℕ) (many : length gs ≡ h.gates) (fits : h.variables ≡ h.inputs + h.latches + h.gates) where
+  binary-spelled : (c : Circuit) → IsCircuit c → (f : Finishes Binary h gs (Ok c) latches names) → Spelled Binary h text latches gates gs (Ok c) names f → IsBinaryText (text_with Binary h text gates gs names) c
+  binary-spelled c valid f s =
       let bare : Circuit = nameless h.inputs f.latches f.properties gs in
+      let e = end-back (nameless h.inputs f.latches f.properties gs) c names (λ (x : Section). few_positions x (nameless h.inputs f.latches f.properties gs) f.valid) refl f.are_names in
       let counts : h ≡ counts_in bare =
       rw (fits, s.l.count, s.p.outputs, many, s.p.bads, s.p.constraints, length_lists f.properties.sizes f.properties.listed ∙ s.p.sizes, s.p.fair) refl in
-      let own : h ≡ counts_in c = counts ∙ ap counts_in s.same in
+      let own : h ≡ counts_in c = counts ∙ ap counts_in e.same in
       record {
         header = s.line ++ 10 ∷ [];
         is_header = subst (λ (g : Counts). IsHeader Binary g (s.line ++ 10 ∷ [])) own (header_spelled Binary s.line h s.k);
         latches = s.l.bytes;
-        are_latches = subst (λ (d : Circuit). AreNextLines (2 * suc d.inputs) d.latches s.l.bytes) s.same s.l.lines;
+        are_latches = subst (λ (d : Circuit). AreNextLines (2 * suc d.inputs) d.latches s.l.bytes) e.same s.l.lines;
         end = names;
-        is_end = s.end;
-        valid = f.valid;
+        is_end = e.is_end;
+        valid = valid;
         whole =
-            whole_text Binary _ (s.line ++ 10 ∷ []) [] s.l.bytes (property_lines bare) (gate_deltas (suc (h.inputs + h.latches)) gs) names s.before
+            whole_text _ (s.line ++ 10 ∷ []) [] s.l.bytes (property_lines bare) (gate_deltas (suc (h.inputs + h.latches)) gs) names s.before
             ∙ ap (λ (n : ℕ). (s.line ++ 10 ∷ []) ++ (s.l.bytes ++ (property_lines bare ++ (gate_deltas (suc (h.inputs + n)) gs ++ names)))) (sym s.l.count)
-            ∙ ap (λ (d : Circuit). (s.line ++ 10 ∷ []) ++ (s.l.bytes ++ (property_lines d ++ (gate_deltas (suc (d.inputs + length d.latches)) d.gates ++ names)))) s.same;
+            ∙ ap (λ (d : Circuit). (s.line ++ 10 ∷ []) ++ (s.l.bytes ++ (property_lines d ++ (gate_deltas (suc (d.inputs + length d.latches)) d.gates ++ names)))) e.same;
       }
 
-  ascii-spelled : OwnValid → OwnNumbered → OwnMany → (f : Finishes Ascii h gs c latches names) → Spelled Ascii h text latches gates gs c names f → IsAsciiText (text_with Ascii h text gates gs names) c
-  ascii-spelled own_valid own_numbered own_many f s =
-      let bare : Circuit = nameless h.inputs f.latches f.properties gs in
-      let lists = own_many (nameless h.inputs f.latches f.properties gs) in
-      let all : h.inputs + length f.latches + length gs ≡ h.variables = omega (arith, s.l.count, many, fits) in
-      let counts : counts_of_file h.variables (own_lists (nameless h.inputs f.latches f.properties gs)) ≡ h =
-      rw (lists.0, lists.1, lists.2, s.l.count, many, s.p.outputs, s.p.bads, s.p.constraints, length_lists f.properties.sizes f.properties.listed, s.p.sizes, s.p.fair) refl in
-      record {
-        lists = own_lists (nameless h.inputs f.latches f.properties gs);
-        valid = own_valid (nameless h.inputs f.latches f.properties gs) f.bare;
-        unnamed = refl;
-        greatest = h.variables;
-        small = s.k.few_first.0;
-        enough = omega (arith, lists.0, lists.1, lists.2, all);
-        literals = subst (λ (m : ℕ). AreUpTo (2 * m + 1) (own_lists (nameless h.inputs f.latches f.properties gs))) all (up_to own_valid own_numbered own_many (nameless h.inputs f.latches f.properties gs) f.bare);
-        header = s.line ++ 10 ∷ [];
-        is_header = subst (λ (g : Counts). IsHeader Ascii g (s.line ++ 10 ∷ [])) (sym counts) (header_spelled Ascii s.line h s.k);
-        inputs = input_lines 1 h.inputs;
-        are_inputs = written_inputs 1 h.inputs;
-        latches = s.l.bytes;
-        are_latches = s.l.lines;
-        gates = gate_lines (suc (h.inputs + length f.latches)) gs;
-        are_gates = written_gates (suc (h.inputs + length f.latches)) gs;
-        end = names;
-        is_end = s.end;
-        is_renumbered = subst (IsRenumbered (own_lists (nameless h.inputs f.latches f.properties gs))) s.same (own_numbered (nameless h.inputs f.latches f.properties gs) f.bare);
-        whole =
-            whole_text Ascii _ (s.line ++ 10 ∷ []) (input_lines 1 h.inputs) s.l.bytes (property_lines bare) (gate_lines (suc (h.inputs + h.latches)) gs) names s.before
-            ∙ ap (λ (n : ℕ). (s.line ++ 10 ∷ []) ++ (input_lines 1 h.inputs ++ (s.l.bytes ++ (property_lines bare ++ (gate_lines (suc (h.inputs + n)) gs ++ names))))) (sym s.l.count);
-      }
+  module _ (own_valid : OwnValid) (own_numbered : OwnNumbered) (own_many : OwnMany) (r : Result Circuit Stop) (f : Finishes Ascii h gs r latches names) (s : Spelled Ascii h text latches gates gs r names f) where
+    all_variables : h.inputs + length f.latches + length gs ≡ h.variables
+    all_variables = omega (arith, s.l.count, many, fits)
 
-pub binary_read : (h : Counts) (text latches gates : List ℕ) → IsFront Binary h text latches gates → (gs : List Gate) (c : Circuit) (names : List ℕ) → Finishes Binary h gs c latches names → length gs ≡ h.gates → IsBinaryText (text_with Binary h text gates gs names) c
-binary_read h text latches gates front gs c names f many = binary-spelled h text latches gates gs c names many front.in_order.fits f (spelled Binary h text latches gates front gs c names f)
+    own_counts : counts_of_file h.variables (own_lists (nameless h.inputs f.latches f.properties gs)) ≡ h
+    own_counts =
+        let lists = own_many (nameless h.inputs f.latches f.properties gs) in
+        rw (lists.0, lists.1, lists.2, s.l.count, many, s.p.outputs, s.p.bads, s.p.constraints, length_lists f.properties.sizes f.properties.listed, s.p.sizes, s.p.fair) refl
 
-pub ascii_read : OwnValid → OwnNumbered → OwnMany → (h : Counts) (text latches gates : List ℕ) → IsFront Ascii h text latches gates → (gs : List Gate) (c : Circuit) (names : List ℕ) → Finishes Ascii h gs c latches names → length gs ≡ h.gates → IsAsciiText (text_with Ascii h text gates gs names) c
-ascii_read own_valid own_numbered own_many h text latches gates front gs c names f many =
-    ascii-spelled h text latches gates gs c names many front.in_order.fits own_valid own_numbered own_many f (spelled Ascii h text latches gates front gs c names f)
+    own_up_to : AreUpTo (2 * h.variables + 1) (own_lists (nameless h.inputs f.latches f.properties gs))
+    own_up_to = subst (λ (m : ℕ). AreUpTo (2 * m + 1) (own_lists (nameless h.inputs f.latches f.properties gs))) all_variables (up_to own_valid own_numbered own_many (nameless h.inputs f.latches f.properties gs) f.valid)
+
+    abbrev lists_text : List ℕ
+    lists_text = input_lines 1 h.inputs ++ (s.l.bytes ++ (property_lines (nameless h.inputs f.latches f.properties gs) ++ (gate_lines (suc (h.inputs + length f.latches)) gs ++ names)))
+
+    own_whole : text_with Ascii h text gates gs names ≡ (s.line ++ 10 ∷ []) ++ lists_text
+    own_whole =
+        whole_text _ (s.line ++ 10 ∷ []) (input_lines 1 h.inputs) s.l.bytes (property_lines (nameless h.inputs f.latches f.properties gs)) (gate_lines (suc (h.inputs + h.latches)) gs) names s.before
+        ∙ ap (λ (n : ℕ). (s.line ++ 10 ∷ []) ++ (input_lines 1 h.inputs ++ (s.l.bytes ++ (property_lines (nameless h.inputs f.latches f.properties gs) ++ (gate_lines (suc (h.inputs + n)) gs ++ names))))) (sym s.l.count)
+
+    -- such lists are read, and the answer is that of the names
+    ascii-answer : AnswersText (text_with Ascii h text gates gs names) r
+    unfolding AnswersText
+    ascii-answer =
+        let lists = own_lists (nameless h.inputs f.latches f.properties gs) in
+        let read : lists_of_file h lists_text ≡ Ok (lists, names) =
+        subst (λ (g : Counts). lists_of_file g lists_text ≡ Ok (lists, names)) own_counts
+        (lists-read h.variables (own_lists (nameless h.inputs f.latches f.properties gs)) (own_valid (nameless h.inputs f.latches f.properties gs) f.valid) refl s.k.few_first.0 own_up_to
+        (input_lines 1 h.inputs) s.l.bytes (gate_lines (suc (h.inputs + length f.latches)) gs) names (written_inputs 1 h.inputs) s.l.lines (written_gates (suc (h.inputs + length f.latches)) gs)) in
+        let named : AnswersNamed lists names r = record { circuit = nameless h.inputs f.latches f.properties gs; is_renumbered = own_numbered (nameless h.inputs f.latches f.properties gs) f.valid; is = sym f.are_names } in
+        let file : AnswersAscii h lists_text r =
+        subst (λ (x : Result (Loose × List ℕ) Stop). AnswersLists h lists_text x r) (sym read) (own_valid (nameless h.inputs f.latches f.properties gs) f.valid, inl named) in
+        let header : line_at header_of (text_with Ascii h text gates gs names) ≡ Ok ((Ascii, h), lists_text) =
+        ap (line_at header_of) (own_whole ∙ append_assoc s.line (10 ∷ []) lists_text) ∙ line_read header_of s.line lists_text (Ascii, h) s.said.0 s.said.1 in
+        subst (λ (x : Result ((Form × Counts) × List ℕ) Stop). AnswersHeader x r) (sym header) file
+
+    ascii-spelled : (c : Circuit) → r ≡ Ok c → IsAsciiText (text_with Ascii h text gates gs names) c
+    ascii-spelled c is =
+        let lists = own_many (nameless h.inputs f.latches f.properties gs) in
+        let e = end-back (nameless h.inputs f.latches f.properties gs) c names (λ (x : Section). few_positions x (nameless h.inputs f.latches f.properties gs) f.valid) refl (f.are_names ∙ is) in
+        record {
+          lists = own_lists (nameless h.inputs f.latches f.properties gs);
+          valid = own_valid (nameless h.inputs f.latches f.properties gs) f.valid;
+          unnamed = refl;
+          greatest = h.variables;
+          small = s.k.few_first.0;
+          enough = omega (arith, lists.0, lists.1, lists.2, all_variables);
+          literals = own_up_to;
+          header = s.line ++ 10 ∷ [];
+          is_header = subst (λ (g : Counts). IsHeader Ascii g (s.line ++ 10 ∷ [])) (sym own_counts) (header_spelled Ascii s.line h s.k);
+          inputs = input_lines 1 h.inputs;
+          are_inputs = written_inputs 1 h.inputs;
+          latches = s.l.bytes;
+          are_latches = s.l.lines;
+          gates = gate_lines (suc (h.inputs + length f.latches)) gs;
+          are_gates = written_gates (suc (h.inputs + length f.latches)) gs;
+          end = names;
+          is_end = e.is_end;
+          is_renumbered = subst (IsRenumbered (own_lists (nameless h.inputs f.latches f.properties gs))) e.same (own_numbered (nameless h.inputs f.latches f.properties gs) f.valid);
+          whole = own_whole;
+        }
 
 -- ---- where a binary text stops
 
@@ -280,7 +301,7 @@ module _ (h : Counts) (text latches gates : List ℕ) (front : IsFront Binary h 
       subst (λ (x : Result ((Form × Counts) × List ℕ) Stop). AnswersHeader x r) (sym header) (sym body)
 
   -- at the gate behind those that were read
-  pub stops_at_gate : (own : ℕ) (e : Stop) → length gs < h.gates → own ≡ 2 * (suc (h.inputs + h.latches) + length gs) → gate_at own window ≡ Err e → AnswersText (text_with Binary h text gates gs window) (Err e)
+  stops_at_gate : (own : ℕ) (e : Stop) → length gs < h.gates → own ≡ 2 * (suc (h.inputs + h.latches) + length gs) → gate_at own window ≡ Err e → AnswersText (text_with Binary h text gates gs window) (Err e)
   stops_at_gate own e more is stops = by h.gates refl more
     where
       by : (n : ℕ) → n ≡ h.gates → length gs < n → AnswersText (text_with Binary h text gates gs window) (Err e)
@@ -294,15 +315,17 @@ module _ (h : Counts) (text latches gates : List ℕ) (front : IsFront Binary h 
           answer_of t (Err e) (rw all refl)
 
   -- behind all gates
-  pub stops_at_name : (e : Stop) → length gs ≡ h.gates → finished Binary h gs latches window ≡ Err e → AnswersText (text_with Binary h text gates gs window) (Err e)
-  stops_at_name e many stops =
+  stops_at_name : (e : Stop) → length gs ≡ h.gates → (f : Finishes Binary h gs (Err e) latches window) → AnswersText (text_with Binary h text gates gs window) (Err e)
+  stops_at_name e many f =
       let t = front-parts Binary h text latches gates front in
       let all : gates_at (2 * suc (h.inputs + h.latches)) h.gates (gate_deltas (suc (h.inputs + h.latches)) gs ++ window) ≡ Ok (gs, window) =
       ap (λ (k : ℕ). gates_at (2 * suc (h.inputs + h.latches)) k (gate_deltas (suc (h.inputs + h.latches)) gs ++ window)) (sym many) ∙ gates-read (suc (h.inputs + h.latches)) gs window ordered few in
-      let one = t.are_latches (t.uses ++ gates) in
-      let two = t.are_properties gates in
-      let same : finished Binary h gs (t.lines ++ (t.uses ++ gates)) window ≡ names_at (nameless h.inputs t.ls t.properties gs) window = rw (one, two) refl in
-      let names : names_at (nameless h.inputs t.ls t.properties gs) window ≡ Err e = sym same ∙ ap (λ (l : List ℕ). finished Binary h gs l window) (sym t.latches_are) ∙ stops in
+      let one : (t.ls, t.uses ++ gates) ≡ (f.latches, f.behind_latches) =
+      ok_same (t.ls, t.uses ++ gates) (f.latches, f.behind_latches) (sym (t.are_latches (t.uses ++ gates)) ∙ ap (λ (l : List ℕ). latches_in Binary (2 * h.variables + 1) (2 * suc h.inputs) h.latches l) (sym t.latches_are) ∙ f.are_latches) in
+      let two : (t.properties, gates) ≡ (f.properties, f.behind_properties) =
+      ok_same (t.properties, gates) (f.properties, f.behind_properties) (sym (t.are_properties gates) ∙ ap (λ (x : List Latch × List ℕ). properties_at h x.1) one ∙ f.are_properties) in
+      let names : names_at (nameless h.inputs t.ls t.properties gs) window ≡ Err e =
+      ap (λ (x : List Latch × List ℕ). names_at (nameless h.inputs x.0 t.properties gs) window) one ∙ ap (λ (x : Properties × List ℕ). names_at (nameless h.inputs f.latches x.0 gs) window) two ∙ f.are_names in
       answer_of t (Err e) (rw all names)
 
 -- before its gates, where a property or a latch is wrong
@@ -409,10 +432,10 @@ module _ (form : Form) (h : Counts) (text latches gates : List ℕ) (front : IsF
       let own = gates_text form (suc (h.inputs + h.latches)) c1.gates in
       omega (arith, is, puts.long, ap (length {A = ℕ}) own_text, length-append (take (length text - length gates) text) (own ++ window2), length-append own window2, length-take (length text - length gates) text, gates_within form h text latches gates front)
 
--- ---- what is left of a binary text
+-- ---- what is left of a text
 
-module _ (h : Counts) (text latches gates : List ℕ) (front : IsFront Binary h text latches gates) (c0 c1 : Circuit) (n : ℕ) (window names : List ℕ)
-    (bare : c0 ≡ with_gates (fresh_circuit h.inputs h.latches) c0.gates) (puts : PutsGates Binary c0 c1 n (Some window) (Some names)) (valid : IsCircuit c1) where
+module _ (form : Form) (h : Counts) (text latches gates : List ℕ) (front : IsFront form h text latches gates) (c0 c1 : Circuit) (n : ℕ) (window names : List ℕ)
+    (bare : c0 ≡ with_gates (fresh_circuit h.inputs h.latches) c0.gates) (puts : PutsGates form c0 c1 n (Some window) (Some names)) (valid : IsCircuit c1) where
   own_gates : c1.gates ≡ c0.gates ++ puts.gates
   own_gates = ap (λ (c : Circuit). c.gates) puts.is
 
@@ -434,14 +457,14 @@ module _ (h : Counts) (text latches gates : List ℕ) (front : IsFront Binary h 
       by : (i l : ℕ) → i ≡ h.inputs → l ≡ h.latches → 2 * (i + l + length c1.gates + 1) ≡ 2 * (suc (h.inputs + h.latches) + length c1.gates)
       by i l is1 is2 = omega arith
 
-  text_then : text_with Binary h text gates c1.gates names ≡ text_with Binary h text gates c0.gates window
+  text_then : text_with form h text gates c1.gates names ≡ text_with form h text gates c0.gates window
   text_then =
       let before = take (length text - length gates) text in
       let first = suc (h.inputs + h.latches) in
-      let own : gates_text Binary first c1.gates ≡ gates_text Binary first c0.gates ++ gates_text Binary (suc (variables (net c0))) puts.gates =
-      ap (gates_text Binary first) own_gates ∙ gates_text-append Binary first c0.gates puts.gates ∙ ap (λ (k : ℕ). gates_text Binary first c0.gates ++ gates_text Binary k puts.gates) (sym first_are) in
+      let own : gates_text form first c1.gates ≡ gates_text form first c0.gates ++ gates_text form (suc (variables (net c0))) puts.gates =
+      ap (gates_text form first) own_gates ∙ gates_text-append form first c0.gates puts.gates ∙ ap (λ (k : ℕ). gates_text form first c0.gates ++ gates_text form k puts.gates) (sym first_are) in
       ap (λ (l : List ℕ). before ++ (l ++ names)) own
-      ∙ ap (λ (l : List ℕ). before ++ l) (append_assoc (gates_text Binary first c0.gates) (gates_text Binary (suc (variables (net c0))) puts.gates) names ∙ ap (λ (l : List ℕ). gates_text Binary first c0.gates ++ l) (sym puts.text))
+      ∙ ap (λ (l : List ℕ). before ++ l) (append_assoc (gates_text form first c0.gates) (gates_text form (suc (variables (net c0))) puts.gates) names ∙ ap (λ (l : List ℕ). gates_text form first c0.gates ++ l) (sym puts.text))
 
   in_order : AreOrderedFrom (suc (h.inputs + h.latches)) c1.gates
   in_order = subst (λ (m : ℕ). AreOrderedFrom (suc m) c1.gates) (ap (λ (i : ℕ). i + length c1.latches) (ap (λ (c : Circuit). c.inputs) bare_then) ∙ ap (λ (l : ℕ). h.inputs + l) latches_are) valid.ordered
@@ -452,16 +475,51 @@ module _ (h : Counts) (text latches gates : List ℕ) (front : IsFront Binary h 
       by : (i l : ℕ) → i ≡ h.inputs → l ≡ h.latches → i + l + length c1.gates ≤ greatest_count → suc (h.inputs + h.latches) + length c1.gates ≤ 2 ^ 32
       by i l is1 is2 small = omega (arith, small)
 
-  pub finish_reads : {X : Type 0} (c : Circuit) (r : Result X Stop) → length c1.gates ≡ h.gates → IsFinish Binary h c1.gates c latches names r → ReadsOnto c (text_with Binary h text gates c0.gates window) r
-  finish_reads c (Ok x) many f = subst (λ (t : List ℕ). Spells t c) text_then (inr (binary_read h text latches gates front c1.gates c names f many))
-  finish_reads c (Err e) many (inl full) = inl full
-  finish_reads c (Err e) many (inr stops) = inr (subst (λ (t : List ℕ). AnswersText t (Err e)) text_then (stops_at_name h text latches gates front c1.gates names in_order few_gates e many stops.0))
+-- the names were read, or reading stops at one
+finish_reads : OwnValid → OwnNumbered → OwnMany → {X : Type 0} (form : Form) (h : Counts) (text latches gates : List ℕ) → IsFront form h text latches gates → (gs : List Gate) (names : List ℕ) (c : Circuit) (r : Result X Stop)
+    → AreOrderedFrom (suc (h.inputs + h.latches)) gs → suc (h.inputs + h.latches) + length gs ≤ 2 ^ 32 → length gs ≡ h.gates → IsFinish form h gs c latches names r → ReadsOnto c (text_with form h text gates gs names) r
+finish_reads own_valid own_numbered own_many Ascii h text latches gates front gs names c (Ok x) ordered few many f =
+    inl (ascii-spelled h text latches gates gs names many front.in_order.fits own_valid own_numbered own_many (Ok c) f.0 (spelled Ascii h text latches gates front gs (Ok c) names f.0) c refl)
+finish_reads own_valid own_numbered own_many Binary h text latches gates front gs names c (Ok x) ordered few many f =
+    inr (binary-spelled h text latches gates gs names many front.in_order.fits c f.1 f.0 (spelled Binary h text latches gates front gs (Ok c) names f.0))
+finish_reads own_valid own_numbered own_many form h text latches gates front gs names c (Err e) ordered few many (inl full) = inl full
+finish_reads own_valid own_numbered own_many Ascii h text latches gates front gs names c (Err e) ordered few many (inr f) =
+    inr (ascii-answer h text latches gates gs names many front.in_order.fits own_valid own_numbered own_many (Err e) f (spelled Ascii h text latches gates front gs (Err e) names f))
+finish_reads own_valid own_numbered own_many Binary h text latches gates front gs names c (Err e) ordered few many (inr f) =
+    inr (stops_at_name h text latches gates front gs names ordered few e many f)
 
-  pub gate_stops : (e : Stop) (own : ℕ) → length c1.gates < h.gates → own ≡ 2 * (variables (net c1) + 1) → gate_at own names ≡ Err e → AnswersText (text_with Binary h text gates c0.gates window) (Err e)
-  gate_stops e own less is stops = subst (λ (t : List ℕ). AnswersText t (Err e)) text_then (stops_at_gate h text latches gates front c1.gates names in_order few_gates own e less (is ∙ own_after) stops)
+module _ (form : Form) (h : Counts) (text latches gates : List ℕ) (front : IsFront form h text latches gates) (c0 c1 : Circuit) (n : ℕ) (window names : List ℕ)
+    (bare : c0 ≡ with_gates (fresh_circuit h.inputs h.latches) c0.gates) (puts : PutsGates form c0 c1 n (Some window) (Some names)) (valid : IsCircuit c1) where
+  pub reads_left : OwnValid → OwnNumbered → OwnMany → {X : Type 0} (c : Circuit) (r : Result X Stop) → length c1.gates ≡ h.gates → IsFinish form h c1.gates c latches names r → ReadsOnto c (text_with form h text gates c0.gates window) r
+  reads_left own_valid own_numbered own_many c r many f =
+      subst (λ (t : List ℕ). ReadsOnto c t r) (text_then form h text latches gates front c0 c1 n window names bare puts valid)
+      (finish_reads own_valid own_numbered own_many form h text latches gates front c1.gates names c r (in_order form h text latches gates front c0 c1 n window names bare puts valid) (few_gates form h text latches gates front c0 c1 n window names bare puts valid) many f)
+
+pub gate_answer : (form : Form) (h : Counts) (text latches gates : List ℕ) (front : IsFront form h text latches gates) (c0 c1 : Circuit) (n : ℕ) (window names : List ℕ) (bare : c0 ≡ with_gates (fresh_circuit h.inputs h.latches) c0.gates)
+    (puts : PutsGates form c0 c1 n (Some window) (Some names)) (valid : IsCircuit c1) (e : Stop) (own : ℕ) → (form ≡ Ascii → length c0.gates ≡ h.gates) → length c1.gates ≤ h.gates → length c1.gates ≢ h.gates → own ≡ 2 * (variables (net c1) + 1) → gate_at own names ≡ Err e
+    → AnswersText (text_with form h text gates c0.gates window) (Err e)
+gate_answer Ascii h text latches gates front c0 c1 n window names bare puts valid e own all most other is stops =
+    absurd (other (omega (arith, all refl, most, ap (length {A = Gate}) (own_gates Ascii h text latches gates front c0 c1 n window names bare puts valid), length-append c0.gates puts.gates)))
+gate_answer Binary h text latches gates front c0 c1 n window names bare puts valid e own all most other is stops =
+    subst (λ (t : List ℕ). AnswersText t (Err e)) (text_then Binary h text latches gates front c0 c1 n window names bare puts valid)
+    (stops_at_gate h text latches gates front c1.gates names (in_order Binary h text latches gates front c0 c1 n window names bare puts valid) (few_gates Binary h text latches gates front c0 c1 n window names bare puts valid) own e (omega (arith, most, other))
+    (is ∙ own_after Binary h text latches gates front c0 c1 n window names bare puts valid) stops)
 
 -- ---- finishing
 
--- the circuit before its names
-pub nameless_made : (h : Counts) (c1 c2 c3 : Circuit) (gs : List Gate) (ls : List Latch) (p : Properties) → c1 ≡ with_gates (fresh_circuit h.inputs h.latches) gs → c2 ≡ with_latches c1 ls → c3 ≡ circuit_with c2 (lists_made p) → c3 ≡ nameless h.inputs ls p gs
-nameless_made h c1 c2 c3 gs ls p is1 is2 is3 = is3 ∙ ap (λ (c : Circuit). circuit_with c (lists_made p)) (is2 ∙ ap (λ (c : Circuit). with_latches c ls) is1)
+-- what a circuit is before its names, and what it is then
+pub finishes : (form : Form) (h : Counts) (c1 c2 c3 : Circuit) (ls : List Latch) (p : Properties) (t g text names : List ℕ) (r : Result Circuit Stop) → c1 ≡ with_gates (fresh_circuit h.inputs h.latches) c1.gates
+    → latches_in form (2 * h.variables + 1) (2 * suc h.inputs) h.latches text ≡ Ok (ls, t) → c2 ≡ with_latches c1 ls → properties_at h t ≡ Ok (p, g) → c3 ≡ circuit_with c2 (lists_made p) → IsCircuit c3 → names_at c3 names ≡ r
+    → Finishes form h c1.gates r text names
+finishes form h c1 c2 c3 ls p t g text names r is1 n is2 q is3 valid read =
+    let made : c3 ≡ nameless h.inputs ls p c1.gates = is3 ∙ ap (λ (c : Circuit). circuit_with c (lists_made p)) (is2 ∙ ap (λ (c : Circuit). with_latches c ls) is1) in
+    record {
+      latches = ls;
+      properties = p;
+      behind_latches = t;
+      behind_properties = g;
+      are_latches = n;
+      are_properties = q;
+      valid = subst IsCircuit made valid;
+      are_names = ap (λ (c : Circuit). names_at c names) (sym made) ∙ read;
+    }

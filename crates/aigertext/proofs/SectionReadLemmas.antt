@@ -2,16 +2,14 @@
 use Rattle.std.proofs.Common.{◌≡◌, ℕ, suc, ◌+◌, ◌*◌, List, [], length, Result, Ok, Err, inl, inr, refl, sym, ap, subst, ◌∙◌, arith}
 use Rattle.std.proofs.lemmas.List.{length-replicate}
 use Rattle.std.specs.List.{sum}
-use Rattle.aiger.specs.declared.circuit.Gate.{Gate}
 use Rattle.aiger.specs.declared.circuit.Latch.{Latch}
 use Rattle.aiger.specs.Net.{variables}
 use Rattle.aiger.specs.Circuit.{Circuit, net, fresh_circuit, fresh_latch}
 use Rattle.aigertext.specs.declared.reading.counts.Counts.{Counts}
 use Rattle.aigertext.specs.declared.fault.Stop.{Stop}
 use Rattle.aigertext.specs.declared.forms.Form.{Form}
-use Rattle.aigertext.specs.Reading.{Properties, lists_of, literals_at, sizes_at, properties_at, names_at, nameless}
+use Rattle.aigertext.specs.Reading.{Properties, lists_of, literals_at, sizes_at, properties_at}
 use Rattle.aigertext.specs.Passes.{behind, latches_in, behind_lines_of, total_from, Takes, lists_at, with_gates, with_latches}
-use Rattle.aigertext.specs.InOrder.{finished}
 use Rattle.aigertext.specs.PropertyLists.{no_lists, circuit_lists}
 use Rattle.aigertext.proofs.BackLemmas.{ok_same, not_err}
 use Rattle.aigertext.proofs.ListLemmas.{in_lists, lists-together}
@@ -137,23 +135,19 @@ module _ (form : Form) (h : Counts) (text : List ℕ) where
       let first : behind (latches_in form (2 * h.variables + 1) (2 * suc h.inputs) h.latches text) ≡ Err e = subst (λ (n : ℕ). behind (latches_in form (2 * h.variables + 1) n h.latches text) ≡ Err e) (one_more h.inputs) is in
       rw first refl
 
--- the second pass
-module _ (form : Form) (h : Counts) (gs : List Gate) (text names : List ℕ) where
-  own_first : {R : Result (List Latch × List ℕ) Stop} → latches_in form (2 * h.variables + 1) (2 * (h.inputs + 1)) h.latches text ≡ R → latches_in form (2 * h.variables + 1) (2 * suc h.inputs) h.latches text ≡ R
+-- the second pass: nothing stops it, since the first pass saw all lines
+module _ (form : Form) (h : Counts) (text gates : List ℕ) (seen : behind_lines_of form h text ≡ Ok gates) where
+  pub own_first : {R : Result (List Latch × List ℕ) Stop} → latches_in form (2 * h.variables + 1) (2 * (h.inputs + 1)) h.latches text ≡ R → latches_in form (2 * h.variables + 1) (2 * suc h.inputs) h.latches text ≡ R
   own_first {R} e = subst (λ (n : ℕ). latches_in form (2 * h.variables + 1) n h.latches text ≡ R) (one_more h.inputs) e
 
-  pub stops_at_latch : (e : Stop) → latches_in form (2 * h.variables + 1) (2 * (h.inputs + 1)) h.latches text ≡ Err e → finished form h gs text names ≡ Err e
-  stops_at_latch e n = rw (own_first n) refl
+  pub no_latch_stops : (e : Stop) → latches_in form (2 * h.variables + 1) (2 * (h.inputs + 1)) h.latches text ≡ Err e → ⊥
+  no_latch_stops e n =
+      let m = own_first n in
+      let again : behind_lines_of form h text ≡ Err e = rw m refl in
+      not_err e gates (sym again ∙ seen)
 
-  module _ (ls : List Latch) (t : List ℕ) (n : latches_in form (2 * h.variables + 1) (2 * (h.inputs + 1)) h.latches text ≡ Ok (ls, t)) where
-    -- no property stops it, since the first pass saw all of them
-    pub no_stop : (gates : List ℕ) (e : Stop) → behind_lines_of form h text ≡ Ok gates → properties_at h t ≡ Err e → ⊥
-    no_stop gates e seen q =
-        let m = own_first n in
-        let again : behind_lines_of form h text ≡ Err e = rw (m, q) refl in
-        not_err e gates (sym again ∙ seen)
-
-    pub names_left : (p : Properties) (g : List ℕ) (c : Circuit) → properties_at h t ≡ Ok (p, g) → c ≡ nameless h.inputs ls p gs → names_at c names ≡ finished form h gs text names
-    names_left p g c q is =
-        let m = own_first n in
-        rw (m, q) (ap (λ (d : Circuit). names_at d names) is)
+  pub no_property_stops : (ls : List Latch) (t : List ℕ) (e : Stop) → latches_in form (2 * h.variables + 1) (2 * (h.inputs + 1)) h.latches text ≡ Ok (ls, t) → properties_at h t ≡ Err e → ⊥
+  no_property_stops ls t e n q =
+      let m = own_first n in
+      let again : behind_lines_of form h text ≡ Err e = rw (m, q) refl in
+      not_err e gates (sym again ∙ seen)

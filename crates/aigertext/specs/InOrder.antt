@@ -17,7 +17,7 @@ use Rattle.aigertext.specs.Binary.{inputs_text, gates_text}
 use Rattle.aigertext.specs.Counts.{Fits}
 use Rattle.aigertext.specs.Spelling.{Spells}
 use Rattle.aigertext.specs.AsciiReading.{AnswersText}
-use Rattle.aigertext.specs.Reading.{◌>>=◌, line_at, header_of, Properties, properties_at, nameless, names_at}
+use Rattle.aigertext.specs.Reading.{line_at, header_of, Properties, properties_at, nameless, names_at}
 use Rattle.aigertext.specs.Passes.{with_gates, latches_in, behind_lines_of, ReadsText}
 
 -- ---- the text
@@ -48,29 +48,21 @@ pub record PutsGates (form : Form) (old new : Circuit) (passed : ℕ) (before af
   pub long : passed ≡ length (gates_text form (suc (variables (net old))) gates)
   pub text : Consumes before after (gates_text form (suc (variables (net old))) gates)
 
--- the circuit of these gates with the latches and properties of a text and the names of another one
-abbrev pub finished : Form → Counts → List Gate → List ℕ → List ℕ → Result Circuit Stop
-finished form h gates text names = do
-  l ← latches_in form (2 * h.variables + 1) (2 * suc h.inputs) h.latches text
-  p ← properties_at h l.1
-  names_at (nameless h.inputs l.0 p.0 gates) names
-
--- a circuit is that one
-pub record Finishes (form : Form) (h : Counts) (gates : List Gate) (c : Circuit) (text names : List ℕ) : Type 0 where
+-- a circuit of these gates with the latches and properties of a text has this answer for the names of another one
+pub record Finishes (form : Form) (h : Counts) (gates : List Gate) (answer : Result Circuit Stop) (text names : List ℕ) : Type 0 where
   pub latches : List Latch
   pub properties : Properties
   pub behind_latches : List ℕ
   pub behind_properties : List ℕ
   pub are_latches : latches_in form (2 * h.variables + 1) (2 * suc h.inputs) h.latches text ≡ Ok (latches, behind_latches)
   pub are_properties : properties_at h behind_latches ≡ Ok (properties, behind_properties)
-  pub bare : IsCircuit (nameless h.inputs latches properties gates)
-  pub are_names : names_at (nameless h.inputs latches properties gates) names ≡ Ok c
-  pub valid : IsCircuit c
+  pub valid : IsCircuit (nameless h.inputs latches properties gates)
+  pub are_names : names_at (nameless h.inputs latches properties gates) names ≡ answer
 
--- so it is, or reading stops and it still has the gates, or memory ran out
+-- so the names were read onto it, or reading stops at one, or memory ran out
 abbrev pub IsFinish : {X : Type 0} → Form → Counts → List Gate → Circuit → List ℕ → List ℕ → Result X Stop → Type 0
-IsFinish form h gates c text names (Ok x) = Finishes form h gates c text names
-IsFinish form h gates c text names (Err e) = (e.why ≡ why.NoMemory) ⊎ ((finished form h gates text names ≡ Err e) × (c.gates ≡ gates))
+IsFinish form h gates c text names (Ok x) = Finishes form h gates (Ok c) text names × IsCircuit c
+IsFinish form h gates c text names (Err e) = (e.why ≡ why.NoMemory) ⊎ Finishes form h gates (Err e) text names
 
 -- a text was read onto a circuit that it spells, or reading it stops, or memory ran out
 abbrev pub ReadsOnto : {X : Type 0} → Circuit → List ℕ → Result X Stop → Type 0

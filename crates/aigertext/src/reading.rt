@@ -15,7 +15,6 @@ ghost use Rattle.aigertext.specs.declared.fault.Why.TheVariants as why;
 mod ascii;
 mod ascii_definitions;
 mod ascii_lines;
-mod binary;
 mod counts;
 mod deltas;
 mod fields;
@@ -38,8 +37,8 @@ use crate::fault::{ReadFault, Stop, Why};
 use crate::forms::Form;
 use crate::laws::one_answer;
 use crate::reading::ascii::read_file;
-use crate::reading::binary::read_left;
 use crate::reading::counts::Counts;
+use crate::reading::finishing::read_left;
 use crate::reading::first_pass::check_lines;
 use crate::reading::lines::{fault, header_line, stop};
 use crate::reading::taking::{Taken, take};
@@ -64,7 +63,16 @@ fn read_lines(alloc: Global, counts: &Counts, text: &[u8], lines: &[u8]) -> Resu
         Ok(circuit) => circuit,
         Err(_) => return Err(stop(text, Why::NoMemory)),
     };
-    match read_left(alloc, counts, text, lines, gates, &mut circuit, gates) {
+    match read_left(
+        alloc,
+        Form::Binary,
+        counts,
+        text,
+        lines,
+        gates,
+        &mut circuit,
+        gates,
+    ) {
         Ok(()) => Ok(circuit),
         Err(stop) => Err(stop),
     }

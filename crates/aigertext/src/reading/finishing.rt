@@ -5,15 +5,18 @@ ghost use Rattle.aiger.specs.Net.{variables};
 ghost use Rattle.aigertext.specs.declared.forms.Form.TheVariants as variant;
 ghost use Rattle.aigertext.specs.Counts.{AreSmall, Fits};
 ghost use Rattle.aigertext.specs.Passes.{Takes, with_latches, with_gates, latches_in, behind_lines_of};
-ghost use Rattle.aigertext.specs.InOrder.{IsFinish};
+ghost use Rattle.aigertext.specs.InOrder.{IsFront, text_with, IsFinish, ReadsOnto};
 
-use crate::fault::Stop;
+use crate::fault::{Stop, Why};
 use crate::forms::Form;
 use crate::reading::counts::Counts;
-use crate::reading::lines::latch_line;
+use crate::reading::deltas::gate;
+use crate::reading::gates::push_gates;
+use crate::reading::lines::{latch_line, stop};
 use crate::reading::names::give_names;
 use crate::reading::properties::push_properties;
 use aiger::Circuit;
+use aiger::laws::own_numbers;
 use std::alloc::Global;
 
 /// Sets all latches by their lines, the first of which has the given literal, and answers the text behind them.
@@ -29,7 +32,6 @@ pub fn set_latches<'a>(
     requires defined { greatest ≡ 2 * variables (net circuit.old) + 1 }
     requires fits { first + 2 * count ≤ 4294967295 }
     ensures read { Takes (λ x. x.now) result (with_latches circuit.old) circuit.new (latches_in form greatest first count text.now) }
-    ensures gates { circuit.new.gates ≡ circuit.old.gates }
     ensures count { OnOk result (length circuit.new.latches ≡ length circuit.old.latches) }
 {
     let mut rest = text;
@@ -51,7 +53,7 @@ pub fn set_latches<'a>(
 /// gives it the names of a text.
 ///
 /// Errors: those of the names, and `NoMemory`.
-pub fn finish(
+fn finish(
     form: Form,
     alloc: Global,
     circuit: &mut Circuit,
@@ -84,4 +86,36 @@ pub fn finish(
     }
     let _named = circuit.variables();
     Ok(())
+}
+
+/// Reads what is left of a text onto a circuit that has the first of its gates, where the text behind those is given: the
+/// other gates, of a binary text, and what stands before and behind the gates.
+pub fn read_left(
+    alloc: Global,
+    form: Form,
+    counts: &Counts,
+    text: &[u8],
+    latches: &[u8],
+    gates: &[u8],
+    circuit: &mut Circuit,
+    window: &[u8],
+) -> Result<(), Stop>
+    requires front { IsFront form counts.now text.now latches.now gates.now }
+    requires small { AreSmall counts.now }
+    requires bare { circuit.old ≡ with_gates (fresh_circuit counts.now.inputs counts.now.latches) circuit.old.gates }
+    requires few { length circuit.old.gates ≤ counts.now.gates }
+    requires all { form ≡ variant.Ascii → length circuit.old.gates ≡ counts.now.gates }
+    ensures { ReadsOnto circuit.new (text_with form counts.now text.now gates.now circuit.old.gates window.now) result }
+{
+    own_numbers();
+    let left = counts.gates as usize - circuit.gates().len();
+    let names = push_gates(form, circuit, window, left);
+    let own = 2 * (circuit.variables() + 1);
+    if circuit.gates().len() == counts.gates as usize {
+        return finish(form, alloc, circuit, counts, latches, gates, names);
+    }
+    match gate(names, own) {
+        Ok(_) => Err(stop(names, Why::NoMemory)),
+        Err(stop) => Err(stop),
+    }
 }

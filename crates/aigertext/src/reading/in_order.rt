@@ -1,24 +1,12 @@
-//! Reading an ascii text whose variables have a circuit's numbers in turn, and whose gates stand behind their operands,
-//! straight onto a circuit. Of its gates' lines only a piece is held.
+//! An ascii text that was read onto a circuit up to a gate that is out of turn, put together again.
 ghost use Rattle.std.specs.Prelude.{◌≡◌, ◌+◌, ◌≤◌, ◌++◌, length, IfOk, OnOk, IsErrOf};
 ghost use Rattle.std.specs.Io.KnownBytes.{prepend_known, Keeps, IsAtEnd};
 ghost use Rattle.base.specs.Device.{HasRisen};
-ghost use Rattle.aiger.specs.Circuit.{fresh_circuit};
-ghost use Rattle.aigertext.specs.declared.forms.Form.TheVariants as variant;
 ghost use Rattle.aigertext.specs.Ascii.{gate_lines};
-ghost use Rattle.aigertext.specs.Counts.{AreSmall};
-ghost use Rattle.aigertext.specs.InOrder.{IsFront, IsTakenOnto};
 
-use crate::fault::Why;
-use crate::forms::Form;
-use crate::reading::counts::Counts;
-use crate::reading::finishing::finish;
-use crate::reading::gates::read_gates;
 use crate::reading::pieces::{copied, read_rest};
-use crate::reading::taking::Taken;
 use crate::writing::line::Line;
-use aiger::laws::own_numbers;
-use aiger::{Circuit, Gate};
+use aiger::Gate;
 use base::{ReadAllFault, Source};
 use std::alloc::{AllocError, Global};
 
@@ -58,7 +46,7 @@ fn restored(
 }
 
 /// The same text with all that a source has left behind it.
-fn read_on<S: Source>(
+pub fn read_on<S: Source>(
     alloc: Global,
     before: &[u8],
     first: u32,
@@ -78,65 +66,4 @@ fn read_on<S: Source>(
     };
     read_rest(&mut whole, source)?;
     Ok(whole)
-}
-
-/// Reads the gates of an ascii text whose lines before them are in order, and all behind them, onto a fresh circuit, where
-/// the gates' text as far as it was read is held; or answers all bytes, where these are no text in order. At the first line
-/// of a gate that is out of turn, and where the names are refused, the lines of the gates so far are written again.
-pub fn read_in_order<S: Source>(
-    alloc: Global,
-    counts: &Counts,
-    text: &[u8],
-    latches: &[u8],
-    gates: &[u8],
-    circuit: &mut Circuit,
-    window: &mut Vec<u8>,
-    source: &mut S,
-) -> Result<Option<Taken>, ReadAllFault>
-    requires front { IsFront variant.Ascii counts.now text.now latches.now gates.now }
-    requires small { AreSmall counts.now }
-    requires fresh { circuit.old ≡ fresh_circuit counts.now.inputs counts.now.latches }
-    requires held { window.old.items ≡ gates.now }
-    ensures taken { IfOk result (IsTakenOnto (prepend_known text.now (S.to_come source.old)) circuit.new) }
-    ensures end { OnOk result (IsAtEnd (S.to_come source.new)) }
-    ensures counted { OnOk result (S.failures source.new ≡ S.failures source.old) }
-    ensures device { IsErrOf result ReadAllFault.Device → HasRisen (S.failures source.old) (S.failures source.new) }
-    ensures memory { IsErrOf result ReadAllFault.NoMemory → S.failures source.new ≡ S.failures source.old }
-{
-    own_numbers();
-    let (before, _) = text.split_at(text.len() - gates.len());
-    let first = counts.inputs + counts.latches + 1;
-    read_gates(Form::Ascii, circuit, window, counts.gates as usize, source)?;
-    if circuit.gates().len() != counts.gates as usize {
-        return match read_on(
-            alloc,
-            before,
-            first,
-            circuit.gates(),
-            window.as_slice(),
-            source,
-        ) {
-            Ok(whole) => Ok(Some(Taken::Text(whole))),
-            Err(fault) => Err(fault),
-        };
-    }
-    read_rest(window, source)?;
-    match finish(
-        Form::Ascii,
-        alloc,
-        circuit,
-        counts,
-        latches,
-        gates,
-        window.as_slice(),
-    ) {
-        Ok(()) => Ok(None),
-        Err(stop) => match stop.why {
-            Why::NoMemory => Err(ReadAllFault::NoMemory),
-            _ => match restored(alloc, before, first, circuit.gates(), window.as_slice()) {
-                Ok(whole) => Ok(Some(Taken::Text(whole))),
-                Err(_) => Err(ReadAllFault::NoMemory),
-            },
-        },
-    }
 }

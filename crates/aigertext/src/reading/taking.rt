@@ -1,17 +1,20 @@
 //! Taking all of a source: straight onto a circuit where that can be, and else as a text.
-ghost use Rattle.std.specs.Prelude.{◌≡◌, IfOk, OnOk, IsErrOf};
+ghost use Rattle.std.specs.Prelude.{◌≡◌, ◌+◌, true, false, length, IfOk, IfSome, OnOk, IsErrOf};
 ghost use Rattle.std.specs.Io.KnownBytes.{prepend_known, IsAtEnd};
 ghost use Rattle.base.specs.Device.{HasRisen};
 ghost use Rattle.aiger.specs.Circuit.{fresh_circuit};
+ghost use Rattle.aigertext.specs.declared.forms.Form.TheVariants as variant;
 ghost use Rattle.aigertext.specs.Counts.{AreSmall};
 ghost use Rattle.aigertext.specs.InOrder.{IsFront, IsTaken, IsTakenOnto};
 
 use crate::fault::ReadFault;
 use crate::forms::Form;
-use crate::reading::binary::read_binary;
 use crate::reading::counts::Counts;
+use crate::reading::finishing::read_left;
 use crate::reading::front::{front, read_front};
-use crate::reading::in_order::read_in_order;
+use crate::reading::gates::read_gates;
+use crate::reading::in_order::read_on;
+use crate::reading::lines::fault;
 use crate::reading::pieces::{copied, read_rest};
 use aiger::Circuit;
 use base::{ReadAllFault, Source};
@@ -28,8 +31,28 @@ pub(crate) enum Taken {
     Text(Vec<u8>),
 }
 
-/// Reads the gates of a text of a form, and all behind them, onto a fresh circuit, where the gates' text as far as it was
-/// read is held.
+/// How many bytes these are together; nothing where that is not below 2^64.
+fn total(before: usize, passed: u64, behind: usize) -> Option<u64>
+    ensures { IfSome result (λ n. n ≡ before + (passed + behind)) }
+{
+    passed
+        .checked_add(behind as u64)?
+        .checked_add(before as u64)
+}
+
+/// Whether a text is of the ascii form, and not all of its gates are on the circuit.
+fn is_out_of_turn(form: Form, circuit: &Circuit, count: usize) -> bool
+    ensures ascii { result ≡ true → form ≡ variant.Ascii }
+    ensures all { result ≡ false → form ≡ variant.Ascii → length circuit.now.gates ≡ count }
+{
+    match form {
+        Form::Ascii => circuit.gates().len() != count,
+        Form::Binary => false,
+    }
+}
+
+/// Reads the gates of a text, and all behind them, onto a fresh circuit, where the gates' text as far as it was read is
+/// held. At the first line of an ascii text's gate that is out of turn the lines of the gates so far are written again.
 fn read_onto<S: Source>(
     alloc: Global,
     form: Form,
@@ -51,13 +74,39 @@ fn read_onto<S: Source>(
     ensures device { IsErrOf result ReadAllFault.Device → HasRisen (S.failures source.old) (S.failures source.new) }
     ensures memory { IsErrOf result ReadAllFault.NoMemory → S.failures source.new ≡ S.failures source.old }
 {
-    match form {
-        Form::Ascii => {
-            read_in_order(alloc, counts, text, latches, gates, circuit, window, source)
-        }
-        Form::Binary => {
-            read_binary(alloc, counts, text, latches, gates, circuit, window, source)
-        }
+    let (before, _) = text.split_at(text.len() - gates.len());
+    let passed = read_gates(form, circuit, window, counts.gates as usize, source)?;
+    if is_out_of_turn(form, circuit, counts.gates as usize) {
+        let first = counts.inputs + counts.latches + 1;
+        return match read_on(
+            alloc,
+            before,
+            first,
+            circuit.gates(),
+            window.as_slice(),
+            source,
+        ) {
+            Ok(whole) => Ok(Some(Taken::Text(whole))),
+            Err(fault) => Err(fault),
+        };
+    }
+    read_rest(window, source)?;
+    let total = match total(before.len(), passed, window.len()) {
+        Some(total) => total,
+        None => return Err(ReadAllFault::NoMemory),
+    };
+    match read_left(
+        alloc,
+        form,
+        counts,
+        text,
+        latches,
+        gates,
+        circuit,
+        window.as_slice(),
+    ) {
+        Ok(()) => Ok(None),
+        Err(stop) => Ok(Some(Taken::Fault(fault(total, stop)))),
     }
 }
 

@@ -9,11 +9,11 @@ returns-in-Err c =
     ]
 
 pub returns-in-Ok-give_names : goal.returns-in-Ok-give_names
-returns-in-Ok-give_names c = (c.inputs-valid.ensures.valid, inl (record { circuit = c.in-Ok.circuit; is_renumbered = c.in-Ok.ensures; is = sym c.in-Ok-give_names.ensures.reads }))
+returns-in-Ok-give_names c = (c.inputs-valid.ensures.valid, inl (record { circuit = c.in-Ok.circuit; is_renumbered = c.in-Ok.ensures; is = sym c.in-Ok-give_names.ensures }))
 
 pub returns-in-Err-give_names : goal.returns-in-Err-give_names
 returns-in-Err-give_names c =
-    elim c.in-Err-give_names.ensures.reads [
+    elim c.in-Err-give_names.ensures [
       | inl full ↦ inl full
       | inr read ↦ inr (c.inputs-valid.ensures.valid, inl (record { circuit = c.in-Ok.circuit; is_renumbered = c.in-Ok.ensures; is = sym read }))
     ]
