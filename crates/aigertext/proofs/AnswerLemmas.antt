@@ -1,14 +1,15 @@
 -- From what a text gives to what is promised of reading a source.
-use Rattle.std.proofs.Common.{◌≡◌, ℕ, ◌-◌, List, [], length, get_or, Fits, w8, Option, Some, None, Result, Ok, Err, sym, ap, subst, ◌∙◌, inl, inr, ◌⊎◌}
+use Rattle.std.proofs.Common.{◌≡◌, ℕ, ◌-◌, List, [], length, get_or, Fits, w8, Option, Some, None, Result, Ok, Err, refl, sym, ap, subst, ◌∙◌, inl, inr, ◌⊎◌}
 use Rattle.std.specs.Prelude.{IfOk, IfErr, IfSome}
 use Rattle.std.specs.Io.KnownBytes.{prepend_known, Keeps}
 use Rattle.base.specs.declared.sources.ReadAllFault.{ReadAllFault}
 use Rattle.aiger.specs.Circuit.{Circuit}
 use Rattle.aigertext.specs.declared.fault.Stop.{Stop}
+use Rattle.aigertext.specs.declared.fault.Why.{Why}
 use Rattle.aigertext.specs.declared.fault.Why.TheVariants as why
 use Rattle.aigertext.specs.declared.fault.ReadFault.{ReadFault}
 use Rattle.aigertext.specs.AsciiReading.{AnswersText, IsFaultOf, GivesCircuit}
-use Rattle.aigertext.specs.Passes.{ReadsText}
+use Rattle.aigertext.specs.Passes.{told, IsOfText, ReadsText}
 use Rattle.aigertext.specs.declared.reading.taking.Taken.{Taken}
 use Rattle.aigertext.specs.declared.reading.taking.Taken.TheVariants as taken
 use Rattle.aigertext.specs.InOrder.{IsReadOf, IsTaken}
@@ -18,22 +19,25 @@ use Rattle.aigertext.proofs.ReadStandsLemmas.{NameLaw}
 use Rattle.aigertext.proofs.BackLemmas.{ok_same}
 use Rattle.aigertext.proofs.GateBackLemmas.{bytes_of}
 use Rattle.aigertext.proofs.StandsLemmas.{not_stopped}
-use Rattle.aigertext.proofs.WhyLemmas.{IsOfText, text_stops}
 
 pub text_spells : IsCircuitLaw → NameLaw → (text : List ℕ) (c : Circuit) → ((i : ℕ) → Fits w8 (get_or text i 0)) → AnswersText text (Ok c) → Spells text c
 text_spells circuit law text c bytes answers = read-spells circuit law text c (bytes_of text bytes) answers
 
 -- ---- where reading stopped
 
-of_text : (text : List ℕ) (e : ReadFault) → IsFaultOf text e → IsOfText e.why
-of_text text e f = subst (λ (x : ReadFault). IsOfText x.why) (sym f.is) (text_stops text f.stop f.stops)
-
 -- the fault of a text of so many bytes at which reading stopped
-pub fault_read : (text : List ℕ) (total : ℕ) (s : Stop) (e : ReadFault) → length text ≡ total → (s.why ≡ why.NoMemory → e ≡ record { place = 0; why = why.NoMemory }) → ((s.why ≡ why.NoMemory → ⊥) → e ≡ record { place = total - s.left; why = s.why })
-    → (s.why ≡ why.NoMemory) ⊎ AnswersText text (Err s) → ReadsText text (Err e)
-fault_read text total s e long full placed (inl is) = inl (full is)
-fault_read text total s e long full placed (inr stops) =
-    inr (record { stop = s; stops = stops; is = placed (λ is. subst IsOfText is (text_stops text s stops)) ∙ ap (λ (n : ℕ). record { place = n - s.left; why = s.why }) (sym long) })
+fault_by : (w : Why) (text : List ℕ) (total : ℕ) (s : Stop) (e : ReadFault) → s.why ≡ w → length text ≡ total → e ≡ told total s.left w → (w ≡ why.NoMemory) ⊎ AnswersText text (Err s) → ReadsText text (Err e)
+fault_by w text total s e same long is (inl full) = inl (is ∙ ap (told total s.left) full)
+fault_by why.NoMemory text total s e same long is (inr stops) = inl is
+fault_by why.Device text total s e same long is (inr stops) = inl is
+fault_by w text total s e same long is (inr stops) =
+    inr (
+      subst IsOfText (sym (ap (λ (f : ReadFault). f.why) is)) tt,
+      record { stop = s; stops = stops; is = is ∙ ap (λ (n : ℕ). record { place = n - s.left; why = w }) (sym long) ∙ ap (λ (v : Why). record { place = length text - s.left; why = v }) (sym same) },
+    )
+
+pub fault_read : (text : List ℕ) (total : ℕ) (s : Stop) (e : ReadFault) → length text ≡ total → e ≡ told total s.left s.why → (s.why ≡ why.NoMemory) ⊎ AnswersText text (Err s) → ReadsText text (Err e)
+fault_read text total s e long is stops = fault_by s.why text total s e refl long is stops
 
 -- ---- a source
 
@@ -53,7 +57,7 @@ module _ (law : IsCircuitLaw) (one_answer : OneAnswer) where
   gives : (text : List ℕ) (r : Result Circuit ReadFault) (c : Circuit) → AnswersText text (Ok c) → ReadsText text r → GivesCircuit r c
   gives text (Ok d) c is read = ok_same d c (one_answer text (Ok d) (Ok c) (spells-read law text d read) is)
   gives text (Err e) c is (inl full) = inr (ap (λ (f : ReadFault). f.why) full)
-  gives text (Err e) c is (inr f) = absurd (not_stopped c f.stop (one_answer text (Ok c) (Err f.stop) is f.stops))
+  gives text (Err e) c is (inr f) = absurd (not_stopped c f.1.stop (one_answer text (Ok c) (Err f.1.stop) is f.1.stops))
 
   pub only : (known : Option (List ℕ)) (r : Result Circuit ReadFault) → IsReadOf known r → (all : List ℕ) (c : Circuit) → known ≡ Some all → AnswersText all (Ok c) → GivesCircuit r c
   only known r read all c is answers =
@@ -74,7 +78,7 @@ fault None (Err e) read = tt
 fault (Some all) (Err e) read =
     elim read.reads [
       | inl full ↦ inr (inl (ap (λ (f : ReadFault). f.why) full))
-      | inr f ↦ inr (inr (subst (λ (t : List ℕ). IsFaultOf t e) read.is f))
+      | inr f ↦ inr (inr (subst (λ (t : List ℕ). IsFaultOf t e) read.is f.1))
     ]
 
 memory_is_no_device : why.NoMemory ≡ why.Device → ⊥
@@ -82,7 +86,7 @@ memory_is_no_device e = cc
 
 no_device : (text : List ℕ) (e : ReadFault) → ReadsText text (Err e) → e.why ≡ why.Device → ⊥
 no_device text e (inl full) is = memory_is_no_device (sym (ap (λ (f : ReadFault). f.why) full) ∙ is)
-no_device text e (inr f) is = subst IsOfText is (of_text text e f)
+no_device text e (inr f) is = subst IsOfText is f.0
 
 pub device : (known : Option (List ℕ)) (r : Result Circuit ReadFault) (Risen : Type 0) → IsReadOf known r → IfErr r (λ e. e.why ≡ why.Device → Risen)
 device known (Ok c) Risen read = tt
@@ -93,8 +97,8 @@ place_of text e (inl full) is = ap (λ (f : ReadFault). f.place) full
 place_of text e (inr f) is = absurd (by is)
   where
     by : (e.why ≡ why.Device) ⊎ (e.why ≡ why.NoMemory) → ⊥
-    by (inl d) = subst IsOfText d (of_text text e f)
-    by (inr d) = subst IsOfText d (of_text text e f)
+    by (inl d) = subst IsOfText d f.0
+    by (inr d) = subst IsOfText d f.0
 
 pub place : (known : Option (List ℕ)) (r : Result Circuit ReadFault) → IsReadOf known r → IfErr r (λ e. (e.why ≡ why.Device) ⊎ (e.why ≡ why.NoMemory) → e.place ≡ 0)
 place known (Ok c) read = tt

@@ -61,7 +61,7 @@ fields-back (b ∷ bs) =
 -- ---- latches
 
 -- the number of a field that says how a latch begins
-pub reset-back : (own : ℕ) (r : Reset) (field : List ℕ) → own < 2 ^ 64 - 1 → reset_of own (number_of field) ≡ Ok r → (n : ℕ) × ((field ≡ decimal n) × IsReset own r (n ∷ []))
+reset-back : (own : ℕ) (r : Reset) (field : List ℕ) → own < 2 ^ 64 - 1 → reset_of own (number_of field) ≡ Ok r → (n : ℕ) × ((field ≡ decimal n) × IsReset own r (n ∷ []))
 reset-back own r field small e = by (number_of field) refl e
   where
     free : (n : ℕ) → (if_free : (n == own) ≡ true) → number_of field ≡ Some n → (Free ≡ r) → (m : ℕ) × ((field ≡ decimal m) × IsReset own r (m ∷ []))

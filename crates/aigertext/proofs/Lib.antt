@@ -28,7 +28,6 @@ mod NamingLemmas
 mod SectionReadLemmas
 mod PutsLemmas
 mod InOrderLemmas
-mod WhyLemmas
 mod AnswerLemmas
 mod FileLemmas
 mod PassOverLemmas

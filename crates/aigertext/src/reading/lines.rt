@@ -1,9 +1,8 @@
 //! What stands at the front of a text: a line, and what it says.
-ghost use Rattle.std.specs.Prelude.{◌≡◌, ◌+◌, ◌-◌, ◌≤◌, Ok, IfOk};
-ghost use Rattle.aigertext.specs.declared.fault.Why.TheVariants as why;
+ghost use Rattle.std.specs.Prelude.{◌≡◌, ◌+◌, ◌≤◌, Ok, IfOk};
 ghost use Rattle.aigertext.specs.Counts.{AreSmall, Fits};
 ghost use Rattle.aigertext.specs.Reading.{Gives, stop, line_at, header_of, literal_of, size_of};
-ghost use Rattle.aigertext.specs.Passes.{latch_in};
+ghost use Rattle.aigertext.specs.Passes.{latch_in, told};
 
 use crate::fault::{ReadFault, Stop, Why};
 use crate::forms::Form;
@@ -24,13 +23,13 @@ pub fn stop(text: &[u8], why: Why) -> Stop
     }
 }
 
-/// The fault of a text of so many bytes at which reading stopped; want of memory has place 0.
+/// The fault of a text of so many bytes at which reading stopped; want of memory has place 0, and is also told in place of
+/// a device's fault, which no text has.
 pub fn fault(total: u64, stop: Stop) -> ReadFault
-    ensures full { stop.why ≡ why.NoMemory → result ≡ record { place = 0; why = why.NoMemory } }
-    ensures placed { ¬ (stop.why ≡ why.NoMemory) → result ≡ record { place = total - stop.left; why = stop.why } }
+    ensures { result ≡ told total stop.left stop.why }
 {
     match stop.why {
-        Why::NoMemory => ReadFault {
+        Why::NoMemory | Why::Device => ReadFault {
             place: 0,
             why: Why::NoMemory,
         },

@@ -43,5 +43,5 @@ returns-in-Err-read_left-clause-taken g c = record {
       (text_long c.args.form c.args.counts.now c.args.text.now c.args.latches.now c.args.gates.now c.requires.front c.args.circuit.now c.read_gates.new.circuit c.in_ok-passed.passed c.args.window.now.items c.read_gates.new.window.items
       (g.S.Source.to_come c.args.source.now) (g.S.Source.to_come c.read_gates.new.source) (g.S.Source.to_come c.read_rest.new.source) c.requires.fresh c.requires.held c.in_ok-passed.ensures.puts
       c.in-Some.total c.read_rest.new.bytes.items (omega (arith, c.in-Some.ensures, c.len.ensures, c.split_at.ensures.front_len)))
-      c.fault.ensures.full c.fault.ensures.placed (rw c.as_slice-2.ensures.value at c.in-Err-read_left.ensures);
+      c.fault.ensures (rw c.as_slice-2.ensures.value at c.in-Err-read_left.ensures);
 }
