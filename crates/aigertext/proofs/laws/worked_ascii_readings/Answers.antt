@@ -34,19 +34,3 @@ returns-clause-nothing c = read
 
 pub returns-clause-no_fault : goal.returns-clause-no_fault
 returns-clause-no_fault c = λ stopped. not_stopped nothing (record { left = 0; why = why.Truncated }) (c.one_answer.ensures.unique (codes "aag 0 0 0 0 0\nc\nany") (Ok nothing) (Err (record { left = 0; why = why.Truncated })) read stopped)
-
-pub returns-clause-header : goal.returns-clause-header
-unfolding AnswersText lists_of_file input_of latch_fields next_fields gate_fields properties_at literal_of size_of header_fields form_of fitting counts_of count_of first_five last_four last_at number_at number_of capped_value is_decimal
-returns-clause-header c = refl
-
-pub returns-clause-counts : goal.returns-clause-counts
-unfolding AnswersText lists_of_file input_of latch_fields next_fields gate_fields properties_at literal_of size_of header_fields form_of fitting counts_of count_of first_five last_four last_at number_at number_of capped_value is_decimal
-returns-clause-counts c = refl
-
-pub returns-clause-no_input : goal.returns-clause-no_input
-unfolding AnswersText lists_of_file input_of latch_fields next_fields gate_fields properties_at literal_of size_of header_fields form_of fitting counts_of count_of first_five last_four last_at number_at number_of capped_value is_decimal
-returns-clause-no_input c = refl
-
-pub returns-clause-gate : goal.returns-clause-gate
-unfolding AnswersText lists_of_file input_of latch_fields next_fields gate_fields properties_at literal_of size_of header_fields form_of fitting counts_of count_of first_five last_four last_at number_at number_of capped_value is_decimal
-returns-clause-gate c = refl
