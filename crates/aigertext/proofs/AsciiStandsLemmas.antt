@@ -54,7 +54,7 @@ ascii-read circuit text c t =
     ap (names_at (record c { names = [] })) t.is_end.spelled ∙ names-read (record c { names = [] }) t.is_end.given c t.is_end.comment few t.is_end.names t.is_end.is_comment in
     let answers : AnswersNamed t.lists t.end (Ok c) = record { circuit = record c { names = [] }; is_renumbered = t.is_renumbered; is = sym names } in
     let file : AnswersAscii (counts_of_file t.greatest t.lists) behind (Ok c) =
-    subst (λ (r : Result (Loose × List ℕ) Stop). AnswersLists (counts_of_file t.greatest t.lists) behind r (Ok c)) (sym lists) (t.valid, inl answers) in
+    subst (λ (r : Result (Loose × List ℕ) Stop). AnswersLists (counts_of_file t.greatest t.lists) behind r (Ok c)) (sym lists) (inl answers) in
     subst (λ (r : Result ((Form × Counts) × List ℕ) Stop). AnswersHeader r (Ok c)) (sym header) file
 
 -- it is a circuit
@@ -102,13 +102,13 @@ ascii-stands circuit text c h rest header answers = by (lists_of_file h rest) re
     k : HeaderBack Ascii s.line h
     k = header-back s.line Ascii h s.said
 
-    named : (l : Loose) (end : List ℕ) → lists_of_file h rest ≡ Ok (l, end) → IsLoose l → AnswersNamed l end (Ok c) ⊎ (AnswersUndefined h rest l (Ok c) ⊎ AnswersCycle h rest l (Ok c)) → IsAsciiText text c
-    named l end e valid (inl n) = of_lists circuit text c h rest l end valid s k (lists-back h rest l end (header_small text rest Ascii h header).small k.fits e) n
-    named l end e valid (inr (inl u)) = absurd (not_stopped c _ u.is)
-    named l end e valid (inr (inr u)) = absurd (not_stopped c _ u.is)
+    named : (l : Loose) (end : List ℕ) → ListsBack h rest l end → AnswersNamed l end (Ok c) ⊎ (AnswersUndefined h rest l (Ok c) ⊎ AnswersCycle h rest l (Ok c)) → IsAsciiText text c
+    named l end b (inl n) = of_lists circuit text c h rest l end b.valid s k b n
+    named l end b (inr (inl u)) = absurd (not_stopped c _ u.is)
+    named l end b (inr (inr u)) = absurd (not_stopped c _ u.is)
 
     by : (r : Result (Loose × List ℕ) Stop) → lists_of_file h rest ≡ r → AnswersLists h rest r (Ok c) → IsAsciiText text c
-    by (Ok x) e a = named x.0 x.1 e a.0 a.1
+    by (Ok x) e a = named x.0 x.1 (lists-back h rest x.0 x.1 (header_small text rest Ascii h header).small k.fits e) a
     by (Err w) e a = absurd (not_stopped c w a)
 
 -- ---- either form

@@ -252,7 +252,7 @@ module _ (h : Counts) (text latches gates : List ℕ) (gs : List Gate) (names : 
         (input_lines 1 h.inputs) s.l.bytes (gate_lines (suc (h.inputs + length f.latches)) gs) names (written_inputs 1 h.inputs) s.l.lines (written_gates (suc (h.inputs + length f.latches)) gs)) in
         let named : AnswersNamed lists names r = record { circuit = nameless h.inputs f.latches f.properties gs; is_renumbered = own_numbered (nameless h.inputs f.latches f.properties gs) f.valid; is = sym f.are_names } in
         let file : AnswersAscii h lists_text r =
-        subst (λ (x : Result (Loose × List ℕ) Stop). AnswersLists h lists_text x r) (sym read) (own_valid (nameless h.inputs f.latches f.properties gs) f.valid, inl named) in
+        subst (λ (x : Result (Loose × List ℕ) Stop). AnswersLists h lists_text x r) (sym read) (inl named) in
         let header : line_at header_of (text_with Ascii h text gates gs names) ≡ Ok ((Ascii, h), lists_text) =
         ap (line_at header_of) (own_whole ∙ append_assoc s.line (10 ∷ []) lists_text) ∙ line_read header_of s.line lists_text (Ascii, h) s.said.0 s.said.1 in
         subst (λ (x : Result ((Form × Counts) × List ℕ) Stop). AnswersHeader x r) (sym header) file

@@ -5,7 +5,7 @@ use Rattle.aiger.specs.declared.loose.GateLine.{GateLine}
 use Rattle.aiger.specs.declared.loose.LatchLine.{LatchLine}
 use Rattle.aiger.specs.Circuit.{Circuit}
 use Rattle.aiger.specs.Literal.{variable}
-use Rattle.aiger.specs.Loose.{Loose, IsLoose, empty_loose, is_defined, is_defining, with_input_line, with_latch_line, with_gate_line}
+use Rattle.aiger.specs.Loose.{Loose, empty_loose, is_defined, is_defining, with_input_line, with_latch_line, with_gate_line}
 use Rattle.aiger.specs.Renumbering.{IsRenumbered, used_lines, first_undefined, IsFirstCyclic}
 use Rattle.aigertext.specs.declared.reading.counts.Counts.{Counts}
 use Rattle.aigertext.specs.declared.fault.Stop.{Stop}
@@ -129,10 +129,9 @@ pub record AnswersCycle (h : Counts) (text : List ℕ) (l : Loose) (answer : Res
   pub cyclic : IsFirstCyclic l gate
   pub is : answer ≡ Err (stop_behind text (lines_before h (use_of_gate l gate)) why.Cycle)
 
--- what the lists of a file, which keep what such lists keep, or where reading them stops, have for an answer
+-- what the lists of a file, or where reading them stops, have for an answer
 abbrev pub AnswersLists : Counts → List ℕ → Result (Loose × List ℕ) Stop → Result Circuit Stop → Type 0
-AnswersLists h text (Ok x) answer =
-    IsLoose x.0 × (AnswersNamed x.0 x.1 answer ⊎ (AnswersUndefined h text x.0 answer ⊎ AnswersCycle h text x.0 answer))
+AnswersLists h text (Ok x) answer = AnswersNamed x.0 x.1 answer ⊎ (AnswersUndefined h text x.0 answer ⊎ AnswersCycle h text x.0 answer)
 AnswersLists h text (Err e) answer = answer ≡ Err e
 
 -- reading what stands behind a header of the ascii form: the circuit that it spells, or where reading stops
