@@ -27,6 +27,7 @@ mod PropertyListLemmas
 mod NamingLemmas
 mod SectionReadLemmas
 mod PutsLemmas
+mod ReadFrontLemmas
 mod InOrderLemmas
 mod AnswerLemmas
 mod FileLemmas
