@@ -1,103 +1,121 @@
 -- From what a text gives to what is promised of reading a source.
-use Rattle.std.proofs.Common.{◌≡◌, ℕ, suc, List, [], ◌∷◌, get_or, Fits, w8, arith, Option, Some, None, Result, Ok, Err, sym, ap, subst, ◌∙◌, inl, inr, ◌⊎◌}
+use Rattle.std.proofs.Common.{◌≡◌, ℕ, ◌-◌, List, [], length, get_or, Fits, w8, Option, Some, None, Result, Ok, Err, refl, sym, ap, subst, ◌∙◌, inl, inr, ◌⊎◌}
 use Rattle.std.specs.Prelude.{IfOk, IfErr, IfSome}
+use Rattle.std.specs.Io.KnownBytes.{prepend_known, Keeps}
+use Rattle.base.specs.declared.sources.ReadAllFault.{ReadAllFault}
 use Rattle.aiger.specs.Circuit.{Circuit}
 use Rattle.aigertext.specs.declared.fault.Stop.{Stop}
+use Rattle.aigertext.specs.declared.fault.Why.{Why}
 use Rattle.aigertext.specs.declared.fault.Why.TheVariants as why
 use Rattle.aigertext.specs.declared.fault.ReadFault.{ReadFault}
 use Rattle.aigertext.specs.AsciiReading.{AnswersText, IsFaultOf, GivesCircuit}
-use Rattle.aigertext.specs.Passes.{ReadsText}
-use Rattle.aigertext.specs.Spelling.{IsAsciiText, Spells}
-use Rattle.aigertext.proofs.AsciiStandsLemmas.{IsCircuitLaw, ascii-read, read-spells}
+use Rattle.aigertext.specs.Passes.{told, IsOfText, ReadsText}
+use Rattle.aigertext.specs.declared.reading.taking.Taken.{Taken}
+use Rattle.aigertext.specs.declared.reading.taking.Taken.TheVariants as taken
+use Rattle.aigertext.specs.InOrder.{IsReadOf, IsTaken}
+use Rattle.aigertext.specs.Spelling.{Spells}
+use Rattle.aigertext.proofs.AsciiStandsLemmas.{IsCircuitLaw, spells-read, read-spells}
 use Rattle.aigertext.proofs.ReadStandsLemmas.{NameLaw}
 use Rattle.aigertext.proofs.BackLemmas.{ok_same}
-use Rattle.aigertext.proofs.GateBackLemmas.{AreBytes}
+use Rattle.aigertext.proofs.GateBackLemmas.{bytes_of}
 use Rattle.aigertext.proofs.StandsLemmas.{not_stopped}
-use Rattle.aigertext.proofs.WhyLemmas.{IsOfText, text_stops}
-
--- ---- bytes
-
-bytes_of : (text : List ℕ) → ((i : ℕ) → Fits w8 (get_or text i 0)) → AreBytes text
-bytes_of [] h = tt
-bytes_of (b ∷ bs) h = (omega (arith, h 0), bytes_of bs (λ i. h (suc i)))
 
 pub text_spells : IsCircuitLaw → NameLaw → (text : List ℕ) (c : Circuit) → ((i : ℕ) → Fits w8 (get_or text i 0)) → AnswersText text (Ok c) → Spells text c
 text_spells circuit law text c bytes answers = read-spells circuit law text c (bytes_of text bytes) answers
 
 -- ---- where reading stopped
 
-of_text : (text : List ℕ) (e : ReadFault) → IsFaultOf text e → IsOfText e.why
-of_text text e f = subst (λ (x : ReadFault). IsOfText x.why) (sym f.is) (text_stops text f.stop f.stops)
+-- the fault of a text of so many bytes at which reading stopped
+fault_by : (w : Why) (text : List ℕ) (total : ℕ) (s : Stop) (e : ReadFault) → s.why ≡ w → length text ≡ total → e ≡ told total s.left w → (w ≡ why.NoMemory) ⊎ AnswersText text (Err s) → ReadsText text (Err e)
+fault_by w text total s e same long is (inl full) = inl (is ∙ ap (told total s.left) full)
+fault_by why.NoMemory text total s e same long is (inr stops) = inl is
+fault_by why.Device text total s e same long is (inr stops) = inl is
+fault_by w text total s e same long is (inr stops) =
+    inr (
+      subst IsOfText (sym (ap (λ (f : ReadFault). f.why) is)) tt,
+      record { stop = s; stops = stops; is = is ∙ ap (λ (n : ℕ). record { place = n - s.left; why = w }) (sym long) ∙ ap (λ (v : Why). record { place = length text - s.left; why = v }) (sym same) },
+    )
+
+pub fault_read : (text : List ℕ) (total : ℕ) (s : Stop) (e : ReadFault) → length text ≡ total → e ≡ told total s.left s.why → (s.why ≡ why.NoMemory) ⊎ AnswersText text (Err s) → ReadsText text (Err e)
+fault_read text total s e long is stops = fault_by s.why text total s e refl long is stops
 
 -- ---- a source
-
-pub found : (known : Option (List ℕ)) (text : List ℕ) (r : Result Circuit ReadFault) → IfSome known (λ all. text ≡ all) → ReadsText text r → IfOk r (λ c. IfSome known (λ all. AnswersText all (Ok c)))
-found None text (Ok c) same read = tt
-found (Some all) text (Ok c) same read = subst (λ (t : List ℕ). AnswersText t (Ok c)) same read
-found known text (Err e) same read = tt
-
-pub spells : (known : Option (List ℕ)) (text : List ℕ) (r : Result Circuit ReadFault) → IfSome known (λ all. text ≡ all) → IfOk r (λ c. Spells text c) → IfOk r (λ c. IfSome known (λ all. Spells all c))
-spells None text (Ok c) same is = tt
-spells (Some all) text (Ok c) same is = subst (λ (t : List ℕ). Spells t c) same is
-spells known text (Err e) same is = tt
-
-known_is : (text all : List ℕ) (known : Option (List ℕ)) → known ≡ Some all → IfSome known (λ other. text ≡ other) → text ≡ all
-known_is text all None is same = absurd cc
-known_is text all (Some other) is same = same ∙ cc
 
 -- a text has one answer at most
 abbrev pub OneAnswer : Type 0
 OneAnswer = (text : List ℕ) (a b : Result Circuit Stop) → AnswersText text a → AnswersText text b → a ≡ b
 
-gives : OneAnswer → (text : List ℕ) (r : Result Circuit ReadFault) (c : Circuit) → AnswersText text (Ok c) → ReadsText text r → GivesCircuit r c
-gives one_answer text (Ok d) c is read = ok_same d c (one_answer text (Ok d) (Ok c) read is)
-gives one_answer text (Err e) c is (inl full) = inr (ap (λ (f : ReadFault). f.why) full)
-gives one_answer text (Err e) c is (inr f) = absurd (not_stopped c f.stop (one_answer text (Ok c) (Err f.stop) is f.stops))
-
-pub only : OneAnswer → (known : Option (List ℕ)) (text : List ℕ) (r : Result Circuit ReadFault) → IfSome known (λ all. text ≡ all) → ReadsText text r → (all : List ℕ) (c : Circuit) → known ≡ Some all → AnswersText all (Ok c) → GivesCircuit r c
-only one_answer known text r same read all c is answers = gives one_answer text r c (subst (λ (t : List ℕ). AnswersText t (Ok c)) (sym (known_is text all known is same)) answers) read
-
 abbrev pub Explained : Option (List ℕ) → ReadFault → Type 0
 Explained known e = IfSome known (λ text. (e.why ≡ why.Device) ⊎ ((e.why ≡ why.NoMemory) ⊎ IsFaultOf text e))
 
-pub fault : (known : Option (List ℕ)) (text : List ℕ) (r : Result Circuit ReadFault) → IfSome known (λ all. text ≡ all) → ReadsText text r → IfErr r (Explained known)
-fault None text (Ok c) same read = tt
-fault (Some all) text (Ok c) same read = tt
-fault None text (Err e) same read = tt
-fault (Some all) text (Err e) same (inl full) = inr (inl (ap (λ (f : ReadFault). f.why) full))
-fault (Some all) text (Err e) same (inr f) = inr (inr (subst (λ (t : List ℕ). IsFaultOf t e) same f))
+module _ (law : IsCircuitLaw) (one_answer : OneAnswer) where
+  pub found : (known : Option (List ℕ)) (r : Result Circuit ReadFault) → IsReadOf known r → IfOk r (λ c. IfSome known (λ all. AnswersText all (Ok c)))
+  found None (Ok c) read = tt
+  found (Some all) (Ok c) read = subst (λ (t : List ℕ). AnswersText t (Ok c)) read.is (spells-read law read.text c read.reads)
+  found known (Err e) read = tt
 
--- a circuit that was read as the one that the bytes spell
-pub circuit_found : IsCircuitLaw → (known : Option (List ℕ)) (c : Circuit) → IfSome known (λ all. IsAsciiText all c) → IfSome known (λ all. AnswersText all (Ok c))
-circuit_found law None c is = tt
-circuit_found law (Some all) c is = ascii-read law all c is
+  gives : (text : List ℕ) (r : Result Circuit ReadFault) (c : Circuit) → AnswersText text (Ok c) → ReadsText text r → GivesCircuit r c
+  gives text (Ok d) c is read = ok_same d c (one_answer text (Ok d) (Ok c) (spells-read law text d read) is)
+  gives text (Err e) c is (inl full) = inr (ap (λ (f : ReadFault). f.why) full)
+  gives text (Err e) c is (inr f) = absurd (not_stopped c f.1.stop (one_answer text (Ok c) (Err f.1.stop) is f.1.stops))
 
-pub circuit_spells : (known : Option (List ℕ)) (c : Circuit) → IfSome known (λ all. IsAsciiText all c) → IfSome known (λ all. Spells all c)
-circuit_spells None c is = tt
-circuit_spells (Some all) c is = inl is
+  pub only : (known : Option (List ℕ)) (r : Result Circuit ReadFault) → IsReadOf known r → (all : List ℕ) (c : Circuit) → known ≡ Some all → AnswersText all (Ok c) → GivesCircuit r c
+  only known r read all c is answers =
+      let same : read.text ≡ all = subst (λ (k : Option (List ℕ)). IfSome k (λ t. read.text ≡ t)) is read.is in
+      gives read.text r c (subst (λ (t : List ℕ). AnswersText t (Ok c)) (sym same) answers) read.reads
 
-pub circuit_only : IsCircuitLaw → OneAnswer → (known : Option (List ℕ)) (c : Circuit) → IfSome known (λ all. IsAsciiText all c) → (all : List ℕ) (d : Circuit) → known ≡ Some all → AnswersText all (Ok d) → c ≡ d
-circuit_only law one_answer None c is all d e answers = absurd cc
-circuit_only law one_answer (Some other) c is all d e answers =
-    let same : all ≡ other = cc in
-    ok_same c d (one_answer other (Ok c) (Ok d) (ascii-read law other c is) (subst (λ (t : List ℕ). AnswersText t (Ok d)) same answers))
+  pub each : (known : Option (List ℕ)) (r : Result Circuit ReadFault) → IsReadOf known r → (all : List ℕ) (c : Circuit) → known ≡ Some all → Spells all c → GivesCircuit r c
+  each known r read all c is spells = only known r read all c is (spells-read law all c spells)
+
+pub spells : (known : Option (List ℕ)) (r : Result Circuit ReadFault) → IsReadOf known r → IfOk r (λ c. IfSome known (λ all. Spells all c))
+spells None (Ok c) read = tt
+spells (Some all) (Ok c) read = subst (λ (t : List ℕ). Spells t c) read.is read.reads
+spells known (Err e) read = tt
+
+pub fault : (known : Option (List ℕ)) (r : Result Circuit ReadFault) → IsReadOf known r → IfErr r (Explained known)
+fault known (Ok c) read = tt
+fault None (Err e) read = tt
+fault (Some all) (Err e) read =
+    elim read.reads [
+      | inl full ↦ inr (inl (ap (λ (f : ReadFault). f.why) full))
+      | inr f ↦ inr (inr (subst (λ (t : List ℕ). IsFaultOf t e) read.is f.1))
+    ]
 
 memory_is_no_device : why.NoMemory ≡ why.Device → ⊥
 memory_is_no_device e = cc
 
 no_device : (text : List ℕ) (e : ReadFault) → ReadsText text (Err e) → e.why ≡ why.Device → ⊥
 no_device text e (inl full) is = memory_is_no_device (sym (ap (λ (f : ReadFault). f.why) full) ∙ is)
-no_device text e (inr f) is = subst IsOfText is (of_text text e f)
+no_device text e (inr f) is = subst IsOfText is f.0
 
-pub device : (text : List ℕ) (r : Result Circuit ReadFault) (Risen : Type 0) → ReadsText text r → IfErr r (λ e. e.why ≡ why.Device → Risen)
-device text (Ok c) Risen read = tt
-device text (Err e) Risen read = λ is. absurd (no_device text e read is)
+pub device : (known : Option (List ℕ)) (r : Result Circuit ReadFault) (Risen : Type 0) → IsReadOf known r → IfErr r (λ e. e.why ≡ why.Device → Risen)
+device known (Ok c) Risen read = tt
+device known (Err e) Risen read = λ is. absurd (no_device read.text e read.reads is)
 
-pub place : (text : List ℕ) (r : Result Circuit ReadFault) → ReadsText text r → IfErr r (λ e. (e.why ≡ why.Device) ⊎ (e.why ≡ why.NoMemory) → e.place ≡ 0)
-place text (Ok c) read = tt
-place text (Err e) (inl full) = λ is. ap (λ (f : ReadFault). f.place) full
-place text (Err e) (inr f) = λ is. absurd (by is)
+place_of : (text : List ℕ) (e : ReadFault) → ReadsText text (Err e) → (e.why ≡ why.Device) ⊎ (e.why ≡ why.NoMemory) → e.place ≡ 0
+place_of text e (inl full) is = ap (λ (f : ReadFault). f.place) full
+place_of text e (inr f) is = absurd (by is)
   where
     by : (e.why ≡ why.Device) ⊎ (e.why ≡ why.NoMemory) → ⊥
-    by (inl is) = subst IsOfText is (of_text text e f)
-    by (inr is) = subst IsOfText is (of_text text e f)
+    by (inl d) = subst IsOfText d f.0
+    by (inr d) = subst IsOfText d f.0
+
+pub place : (known : Option (List ℕ)) (r : Result Circuit ReadFault) → IsReadOf known r → IfErr r (λ e. (e.why ≡ why.Device) ⊎ (e.why ≡ why.NoMemory) → e.place ≡ 0)
+place known (Ok c) read = tt
+place known (Err e) read = place_of read.text e read.reads
+
+-- ---- a source of which the first bytes are held
+
+some_kept : (P : List ℕ → Type 0) (known now : Option (List ℕ)) → Keeps (prepend_known [] known) now → IfSome now P → IfSome known P
+some_kept P None now kept h = tt
+some_kept P (Some all) None kept h = absurd kept
+some_kept P (Some all) (Some other) kept h = subst P kept h
+
+pub taken_kept : (known now : Option (List ℕ)) (t : Taken) → Keeps (prepend_known [] known) now → IsTaken now t → IsTaken known t
+taken_kept known now (taken.Circuit c) kept is = record { text = is.text; is = some_kept (λ all. is.text ≡ all) known now kept is.is; reads = is.reads }
+taken_kept known now (taken.Fault e) kept is = record { text = is.text; is = some_kept (λ all. is.text ≡ all) known now kept is.is; reads = is.reads }
+taken_kept known now (taken.Text text) kept is = some_kept (λ all. text.items ≡ all) known now kept is
+
+pub all_taken : (known now : Option (List ℕ)) (r : Result Taken ReadAllFault) → Keeps (prepend_known [] known) now → IfOk r (IsTaken now) → IfOk r (IsTaken known)
+all_taken known now (Ok t) kept is = taken_kept known now t kept is
+all_taken known now (Err e) kept is = tt

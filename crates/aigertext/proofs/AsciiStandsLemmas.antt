@@ -11,7 +11,7 @@ use Rattle.aigertext.specs.declared.fault.Stop.{Stop}
 use Rattle.aigertext.specs.declared.forms.Form.{Form}
 use Rattle.aigertext.specs.declared.forms.Form.TheVariants.{Ascii, Binary}
 use Rattle.aigertext.specs.Counts.{AreSmall, Fits, counts_of_file}
-use Rattle.aigertext.specs.Spelling.{GiveNames, IsHeader, IsAsciiText, Spells, use_lines}
+use Rattle.aigertext.specs.Spelling.{IsHeader, IsAsciiText, Spells, use_lines}
 use Rattle.aigertext.specs.Reading.{line_at, header_of, names_at}
 use Rattle.aigertext.specs.AsciiReading.{lists_of_file, AnswersNamed, AnswersUndefined, AnswersCycle, AnswersLists, AnswersAscii, AnswersBody, AnswersHeader, AnswersText}
 use Rattle.aigertext.proofs.BackLemmas.{SaysAt, line-back}
@@ -21,9 +21,8 @@ use Rattle.aigertext.proofs.GateBackLemmas.{AreBytes}
 use Rattle.aigertext.proofs.HeaderBackLemmas.{HeaderBack, header-back}
 use Rattle.aigertext.proofs.HeaderLemmas.{header-read}
 use Rattle.aigertext.proofs.HeaderSmallLemmas.{header_small}
-use Rattle.aigertext.proofs.NameBackLemmas.{names-back}
 use Rattle.aigertext.proofs.NameReadLemmas.{names-read}
-use Rattle.aigertext.proofs.ReadStandsLemmas.{NameLaw, names_valid, names_alone, header_spelled, binary-stands}
+use Rattle.aigertext.proofs.ReadStandsLemmas.{NameLaw, names_valid, end-back, header_spelled, binary-stands}
 use Rattle.aigertext.proofs.StandsLemmas.{not_stopped, stands-read}
 
 -- the law that lists as numbered are a circuit
@@ -55,7 +54,7 @@ ascii-read circuit text c t =
     ap (names_at (record c { names = [] })) t.is_end.spelled ∙ names-read (record c { names = [] }) t.is_end.given c t.is_end.comment few t.is_end.names t.is_end.is_comment in
     let answers : AnswersNamed t.lists t.end (Ok c) = record { circuit = record c { names = [] }; is_renumbered = t.is_renumbered; is = sym names } in
     let file : AnswersAscii (counts_of_file t.greatest t.lists) behind (Ok c) =
-    subst (λ (r : Result (Loose × List ℕ) Stop). AnswersLists (counts_of_file t.greatest t.lists) behind r (Ok c)) (sym lists) (t.valid, inl answers) in
+    subst (λ (r : Result (Loose × List ℕ) Stop). AnswersLists (counts_of_file t.greatest t.lists) behind r (Ok c)) (sym lists) (inl answers) in
     subst (λ (r : Result ((Form × Counts) × List ℕ) Stop). AnswersHeader r (Ok c)) (sym header) file
 
 -- it is a circuit
@@ -70,9 +69,8 @@ module _ (circuit : IsCircuitLaw) (text : List ℕ) (c : Circuit) (h : Counts) (
   of_lists : IsAsciiText text c
   of_lists =
       let few = λ (s : Section). few_positions s n.circuit (circuit l n.circuit valid n.is_renumbered) in
-      let names = names-back n.circuit end c few (sym n.is) in
       let bare : n.circuit.names ≡ [] = ap (λ (d : Circuit). d.names) n.is_renumbered.circuit ∙ b.unnamed in
-      let same : n.circuit ≡ record c { names = [] } = ap (λ (ns : NameMap). record n.circuit { names = ns }) bare ∙ names_alone n.circuit names.given c names.names in
+      let e = end-back n.circuit c end few (ap (λ (ns : NameMap). record n.circuit { names = ns }) bare) (sym n.is) in
       record {
         lists = l;
         valid = valid;
@@ -90,8 +88,8 @@ module _ (circuit : IsCircuitLaw) (text : List ℕ) (c : Circuit) (h : Counts) (
         gates = b.gates;
         are_gates = b.are_gates;
         end = end;
-        is_end = record { given = names.given; names = subst (λ (d : Circuit). GiveNames d names.given c) same names.names; comment = names.comment; is_comment = names.is_comment; spelled = names.parts };
-        is_renumbered = subst (IsRenumbered l) same n.is_renumbered;
+        is_end = e.is_end;
+        is_renumbered = subst (IsRenumbered l) e.same n.is_renumbered;
         whole = s.parts ∙ sym (append_assoc s.line (10 ∷ []) rest) ∙ ap (λ (t : List ℕ). (s.line ++ 10 ∷ []) ++ t) b.whole;
       }
 
@@ -104,13 +102,13 @@ ascii-stands circuit text c h rest header answers = by (lists_of_file h rest) re
     k : HeaderBack Ascii s.line h
     k = header-back s.line Ascii h s.said
 
-    named : (l : Loose) (end : List ℕ) → lists_of_file h rest ≡ Ok (l, end) → IsLoose l → AnswersNamed l end (Ok c) ⊎ (AnswersUndefined h rest l (Ok c) ⊎ AnswersCycle h rest l (Ok c)) → IsAsciiText text c
-    named l end e valid (inl n) = of_lists circuit text c h rest l end valid s k (lists-back h rest l end (header_small text rest Ascii h header).small k.fits e) n
-    named l end e valid (inr (inl u)) = absurd (not_stopped c _ u.is)
-    named l end e valid (inr (inr u)) = absurd (not_stopped c _ u.is)
+    named : (l : Loose) (end : List ℕ) → ListsBack h rest l end → AnswersNamed l end (Ok c) ⊎ (AnswersUndefined h rest l (Ok c) ⊎ AnswersCycle h rest l (Ok c)) → IsAsciiText text c
+    named l end b (inl n) = of_lists circuit text c h rest l end b.valid s k b n
+    named l end b (inr (inl u)) = absurd (not_stopped c _ u.is)
+    named l end b (inr (inr u)) = absurd (not_stopped c _ u.is)
 
     by : (r : Result (Loose × List ℕ) Stop) → lists_of_file h rest ≡ r → AnswersLists h rest r (Ok c) → IsAsciiText text c
-    by (Ok x) e a = named x.0 x.1 e a.0 a.1
+    by (Ok x) e a = named x.0 x.1 (lists-back h rest x.0 x.1 (header_small text rest Ascii h header).small k.fits e) a
     by (Err w) e a = absurd (not_stopped c w a)
 
 -- ---- either form

@@ -7,7 +7,6 @@ use Rattle.std.proofs.lemmas.Bool.Decides.{nat_tests}
 use Rattle.std.proofs.lemmas.List.Elements.{All-weaker, All-nil}
 use Rattle.base.specs.Decimals.{number_of}
 use Rattle.base.proofs.DecimalLemmas.{chosen, number_is_decimal}
-use Rattle.aiger.specs.declared.circuit.Reset.TheVariants.{Zero}
 use Rattle.aiger.specs.declared.loose.GateLine.{GateLine}
 use Rattle.aiger.specs.declared.loose.LatchLine.{LatchLine}
 use Rattle.aiger.specs.Limits.{greatest_count}
@@ -21,11 +20,11 @@ use Rattle.aigertext.specs.declared.forms.Form.TheVariants.{Ascii}
 use Rattle.aigertext.specs.Ascii.{property_lines}
 use Rattle.aigertext.specs.Counts.{AreSmall, Fits, counts_of_file}
 use Rattle.aigertext.specs.Spelling.{AreLines, IsInputLine, IsLatchLine, IsGateLine, use_lines, AreUpTo}
-use Rattle.aigertext.specs.Reading.{some_or, fields, within, reset_of, Properties, lists_of, nameless, properties_at}
+use Rattle.aigertext.specs.Reading.{some_or, fields, within, Properties, lists_of, nameless, properties_at, next_fields}
 use Rattle.aigertext.specs.AsciiReading.{defining, input_by, input_of, own_by, latch_fields, latch_of, gate_fields, gate_of, onto_lists, with_properties_of, lists_of_file}
 use Rattle.aigertext.proofs.BackLemmas.{ok_same, not_err, bind-back, bind-then, within-back}
 use Rattle.aigertext.proofs.FileReadLemmas.{inputs_onto, latches_onto, gates_onto, HasInputs, HasLeaves, input_grows, latch_grows, gate_grows}
-use Rattle.aigertext.proofs.LatchBackLemmas.{spaced, fields-back, reset-back}
+use Rattle.aigertext.proofs.LatchBackLemmas.{spaced, fields-back, latch_by}
 use Rattle.aigertext.proofs.OntoLemmas.{OntoBack, onto-back}
 use Rattle.aigertext.proofs.ReadStandsLemmas.{PropertiesBack, properties-back, property_is, length_lists, lists_hold, lists_total}
 
@@ -93,47 +92,28 @@ module _ (greatest : ℕ) (small : greatest < 2 ^ 64 - 1) where
   abbrev IsLatchBack : Loose → LatchLine → List ℕ → Type 0
   IsLatchBack l x line = IsLatchLine x (line ++ 10 ∷ []) × (((x.current ≤ greatest) × (x.next ≤ greatest)) × IsDefining x.current) × (is_defined l (latch_variable x) ≡ false)
 
-  two_fields : (a b : List ℕ) → (a ++ 32 ∷ b) ++ 10 ∷ [] ≡ a ++ 32 ∷ (b ++ 10 ∷ [])
-  two_fields a b = simp append_assoc
-
   three_fields : (a b c : List ℕ) → (a ++ 32 ∷ (b ++ 32 ∷ c)) ++ 10 ∷ [] ≡ a ++ 32 ∷ (b ++ 32 ∷ (c ++ 10 ∷ []))
   three_fields a b c = simp append_assoc
 
-  latch_by : (l : Loose) (x : LatchLine) (fs : List (List ℕ)) → latch_fields greatest l fs ≡ Ok x → IsLatchBack l x (spaced fs)
-  unfolding latch_fields
-  latch_by l x [] e = absurd (not_err _ _ e)
-  latch_by l x (current ∷ []) e = absurd (not_err _ _ e)
-  latch_by l x (current ∷ next ∷ []) e =
+  latch_line-back : (l : Loose) (x : LatchLine) (fs : List (List ℕ)) → latch_fields greatest l fs ≡ Ok x → IsLatchBack l x (spaced fs)
+  unfolding latch_fields next_fields
+  latch_line-back l x [] e = absurd (not_err _ _ e)
+  latch_line-back l x (current ∷ []) e =
       let own = bind-back (own_by greatest l (number_of current)) _ x e in
-      let n = bind-back (within why.BadLatch greatest (number_of next)) _ x own.then' in
-      let is : ◌≡◌ {A = LatchLine} (record { current = own.value; next = n.value; reset = Zero }) x = ok_same _ x n.then' in
-      let c = own-is l current own.value (number_of current) refl own.was in
-      let d = within-is why.BadLatch next n.value n.was in
-      subst (λ (y : LatchLine). IsLatchBack l y (current ++ 32 ∷ next)) is
-      (record { reset = []; is_reset = inl refl; spelled = two_fields current next ∙ ap (λ (t : List ℕ). t ++ 32 ∷ (next ++ 10 ∷ [])) c.0 ∙ ap (λ (t : List ℕ). decimal own.value ++ 32 ∷ (t ++ 10 ∷ [])) d.0 }, ((c.1.0.0, d.1), c.1.0.1), c.1.1)
-  latch_by l x (current ∷ next ∷ begins ∷ []) e =
+      absurd (not_err _ _ own.then')
+  latch_line-back l x (current ∷ next ∷ others) e =
       let own = bind-back (own_by greatest l (number_of current)) _ x e in
-      let n = bind-back (within why.BadLatch greatest (number_of next)) _ x own.then' in
-      let r = bind-back (reset_of own.value (number_of begins)) _ x n.then' in
-      let is : ◌≡◌ {A = LatchLine} (record { current = own.value; next = n.value; reset = r.value }) x = ok_same _ x r.then' in
+      let n = bind-back (next_fields greatest own.value (next ∷ others)) _ x own.then' in
+      let is : ◌≡◌ {A = LatchLine} (record { current = own.value; next = n.value.next; reset = n.value.reset }) x = ok_same _ x n.then' in
       let c = own-is l current own.value (number_of current) refl own.was in
-      let d = within-is why.BadLatch next n.value n.was in
-      let b = reset-back own.value r.value begins (omega (arith, c.1.0.0)) r.was in
-      subst (λ (y : LatchLine). IsLatchBack l y (current ++ 32 ∷ (next ++ 32 ∷ begins))) is (
-        record {
-          reset = b.0 ∷ [];
-          is_reset = b.1.1;
-          spelled =
-              three_fields current next begins ∙ ap (λ (t : List ℕ). t ++ 32 ∷ (next ++ 32 ∷ (begins ++ 10 ∷ []))) c.0 ∙ ap (λ (t : List ℕ). decimal own.value ++ 32 ∷ (t ++ 32 ∷ (begins ++ 10 ∷ []))) d.0
-              ∙ ap (λ (t : List ℕ). decimal own.value ++ 32 ∷ (decimal n.value ++ 32 ∷ (t ++ 10 ∷ []))) b.1.0;
-        },
-        ((c.1.0.0, d.1), c.1.0.1),
-        c.1.1,
-      )
-  latch_by l x (current ∷ next ∷ begins ∷ more ∷ others) e = absurd (not_err _ _ e)
+      let line = latch_by greatest own.value n.value (next ∷ others) small (omega (arith, c.1.0.0)) n.was in
+      let text : (current ++ 32 ∷ spaced (next ∷ others)) ++ 10 ∷ [] ≡ decimal own.value ++ 32 ∷ (spaced (next ∷ others) ++ 10 ∷ []) =
+      append_assoc current (32 ∷ spaced (next ∷ others)) (10 ∷ []) ∙ ap (λ (t : List ℕ). t ++ 32 ∷ (spaced (next ∷ others) ++ 10 ∷ [])) c.0 in
+      subst (λ (y : LatchLine). IsLatchBack l y (spaced (current ∷ next ∷ others))) is
+      (record { reset = line.0.reset; is_reset = line.0.is_reset; spelled = text ∙ ap (λ (t : List ℕ). decimal own.value ++ 32 ∷ t) line.0.spelled }, ((c.1.0.0, line.1), c.1.0.1), c.1.1)
 
   latch-back : (l : Loose) (x : LatchLine) (line : List ℕ) → latch_of greatest l line ≡ Ok x → IsLatchBack l x line
-  latch-back l x line e = subst (IsLatchBack l x) (fields-back line) (latch_by l x (fields line) e)
+  latch-back l x line e = subst (IsLatchBack l x) (fields-back line) (latch_line-back l x (fields line) e)
 
   -- a gate
   abbrev IsGateBack : Loose → GateLine → List ℕ → Type 0

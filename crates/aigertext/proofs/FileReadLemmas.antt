@@ -21,7 +21,7 @@ use Rattle.aigertext.specs.declared.fault.Why.TheVariants as why
 use Rattle.aigertext.specs.Ascii.{numbers_line}
 use Rattle.aigertext.specs.Counts.{counts_of_file}
 use Rattle.aigertext.specs.Spelling.{AreLines, IsInputLine, IsLatchLine, IsGateLine, use_lines, AreUpTo}
-use Rattle.aigertext.specs.Reading.{within, reset_of, line_at}
+use Rattle.aigertext.specs.Reading.{within, reset_of, line_at, next_fields}
 use Rattle.aigertext.specs.AsciiReading.{defining, input_of, latch_fields, latch_of, gate_fields, gate_of, onto_lists, with_properties_of, lists_of_file}
 use Rattle.aigertext.proofs.FieldLemmas.{joined, fields-joined, numbers_read}
 use Rattle.aigertext.proofs.OntoLemmas.{all_onto, onto-read}
@@ -60,7 +60,7 @@ module _ (greatest : ℕ) (small : greatest < 2 ^ 64 - 1) where
       ap (λ (t : List ℕ). line_at (input_of greatest l) (t ++ rest)) is ∙ numbers_read (input_of greatest l) (n ∷ []) rest n (n_small, tt) says
 
   latch-read : (l : Loose) (x : LatchLine) (line rest : List ℕ) → ((x.current ≤ greatest) × (x.next ≤ greatest)) × IsDefining x.current → is_defined l (latch_variable x) ≡ false → IsLatchLine x line → line_at (latch_of greatest l) (line ++ rest) ≡ Ok (x, rest)
-  unfolding latch_fields
+  unfolding latch_fields next_fields
   latch-read l x line rest good new is =
       ap (λ (t : List ℕ). line_at (latch_of greatest l) (t ++ rest)) is.spelled ∙ by (reset-told x.current x.reset is.reset good.1.least current_small is.is_reset)
     where

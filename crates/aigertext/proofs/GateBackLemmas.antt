@@ -1,5 +1,5 @@
 -- From what reading gives back to the text: deltas and gates.
-use Rattle.std.proofs.Common.{◌≡◌, ℕ, zero, suc, ◌+◌, ◌-◌, ◌*◌, ◌/◌, ◌%◌, ◌<◌, ◌≤◌, ◌==◌, ◌||◌, nat_lt, List, [], ◌∷◌, ◌++◌, length, Result, Ok, Err, refl, sym, ap, subst, ◌∙◌, append_assoc, inl, inr, if◌then◌else◌, arith}
+use Rattle.std.proofs.Common.{◌≡◌, ℕ, zero, suc, ◌+◌, ◌-◌, ◌*◌, ◌/◌, ◌%◌, ◌<◌, ◌≤◌, ◌==◌, ◌||◌, nat_lt, List, [], ◌∷◌, ◌++◌, length, get_or, Fits, w8, Result, Ok, Err, refl, sym, ap, subst, ◌∙◌, append_assoc, inl, inr, if◌then◌else◌, arith}
 use Rattle.std.specs.List.{AllByRecursion}
 use Rattle.std.proofs.lemmas.Bool.{eqb-false, ltb-true, ltb-false, or_parts}
 use Rattle.base.proofs.DecimalLemmas.{chosen}
@@ -17,6 +17,10 @@ use Rattle.aigertext.proofs.GateLemmas.{next_literal}
 -- bytes
 abbrev pub AreBytes : List ℕ → Type 0
 AreBytes text = AllByRecursion (λ b. b < 256) text
+
+pub bytes_of : (text : List ℕ) → ((i : ℕ) → Fits w8 (get_or text i 0)) → AreBytes text
+bytes_of [] h = tt
+bytes_of (b ∷ bs) h = (omega (arith, h 0), bytes_of bs (λ i. h (suc i)))
 
 pub bytes_behind : (front rest : List ℕ) → AreBytes (front ++ rest) → AreBytes rest
 bytes_behind [] rest h = h
@@ -130,7 +134,7 @@ module _ (own : ℕ) (text : List ℕ) (g : Gate) (rest : List ℕ) (bytes : Are
   first_by (Err w) f e = absurd (not_err _ _ e)
   first_by (Ok x) f e = second_by x (◌>>=◌ {A = ℕ × List ℕ} {B = ℕ × List ℕ} {E = Why} (delta_at x.1) (at_or_below x.0)) (below-back own text x (delta_at text) bytes refl f) refl e
 
-  gate-back : gate_at own text ≡ Ok (g, rest) → IsGateAt own text g rest
+  pub gate-back : gate_at own text ≡ Ok (g, rest) → IsGateAt own text g rest
   unfolding gate_at
   gate-back e = first_by (◌>>=◌ {A = ℕ × List ℕ} {B = ℕ × List ℕ} {E = Why} (delta_at text) (below own)) refl e
 

@@ -1,11 +1,13 @@
 -- The deltas of gates are read again.
-use Rattle.std.proofs.Common.{◌≡◌, ◌≢◌, ℕ, zero, suc, ◌+◌, ◌-◌, ◌*◌, ◌/◌, ◌%◌, ◌^◌, ◌<◌, ◌≤◌, true, false, ◌==◌, nat_lt, List, [], ◌∷◌, ◌++◌, length, Ok, refl, ap, ◌∙◌, append_assoc, inl, inr, arith}
+use Rattle.std.proofs.Common.{◌≡◌, ◌≢◌, ℕ, zero, suc, ◌+◌, ◌-◌, ◌*◌, ◌/◌, ◌%◌, ◌^◌, ◌<◌, ◌≤◌, true, false, ◌==◌, nat_lt, List, [], ◌∷◌, ◌++◌, length, Result, Ok, Err, refl, sym, ap, ◌∙◌, append_assoc, append-nil, inl, inr, arith}
 use Rattle.std.proofs.lemmas.Bool.{cases_lt, ne_eqb}
 use Rattle.std.proofs.lemmas.Bool.Decides.{nat_tests}
 use Rattle.aiger.specs.declared.circuit.Gate.{Gate}
 use Rattle.aiger.specs.Net.{AreOrderedFrom}
 use Rattle.aigertext.specs.Binary.{digits_128, delta, gate_deltas}
-use Rattle.aigertext.specs.Reading.{more_digits, delta_at, below, at_or_below, gate_at, gates_at}
+use Rattle.aigertext.specs.declared.fault.Stop.{Stop}
+use Rattle.aigertext.specs.Passes.{onto}
+use Rattle.aigertext.specs.Reading.{◌>>=◌, more_digits, delta_at, below, at_or_below, gate_at, gates_at}
 use Rattle.aigertext.proofs.DeltaLemmas.{digits-more, digits-one}
 
 -- a byte below 128, and one that is not
@@ -82,11 +84,34 @@ gate-read own g rest below' ordered small =
 pub next_literal : (first : ℕ) → 2 * first + 2 ≡ 2 * suc first
 next_literal first = omega arith
 
+pub onto_nothing : {A : Type 0} (r : Result (List A × List ℕ) Stop) → onto [] r ≡ r
+onto_nothing (Ok x) = refl
+onto_nothing (Err e) = refl
+
+-- the gates, and so many behind them
+pub gates-read-on : (first more : ℕ) (gates : List Gate) (rest : List ℕ) → AreOrderedFrom first gates → first + length gates ≤ 2 ^ 32
+    → gates_at (2 * first) (length gates + more) (gate_deltas first gates ++ rest) ≡ onto gates (gates_at (2 * (first + length gates)) more rest)
+gates-read-on first more [] rest ordered few =
+    let none : 0 + more ≡ more = omega arith in
+    let here : first ≡ first + 0 = omega arith in
+    ap (λ (n : ℕ). gates_at (2 * first) n rest) none ∙ sym (onto_nothing (gates_at (2 * first) more rest)) ∙ ap (λ (k : ℕ). onto [] (gates_at (2 * k) more rest)) here
+gates-read-on first more (g ∷ gs) rest ordered few =
+    let text = append_assoc (delta (2 * first - g.rhs0) ++ delta (g.rhs0 - g.rhs1)) (gate_deltas (suc first) gs) rest in
+    let many : suc (length gs) + more ≡ suc (length gs + more) = omega arith in
+    let one : gate_at (2 * first) ((delta (2 * first - g.rhs0) ++ delta (g.rhs0 - g.rhs1)) ++ (gate_deltas (suc first) gs ++ rest)) ≡ Ok (g, gate_deltas (suc first) gs ++ rest) = gate-read (2 * first) g (gate_deltas (suc first) gs ++ rest) ordered.0 ordered.1 (omega arith) in
+    let next : suc first + length gs ≡ first + suc (length gs) = omega arith in
+    let others : gates_at (2 * first + 2) (length gs + more) (gate_deltas (suc first) gs ++ rest) ≡ onto gs (gates_at (2 * (first + suc (length gs))) more rest) =
+    ap (λ (own : ℕ). gates_at own (length gs + more) (gate_deltas (suc first) gs ++ rest)) (next_literal first) ∙ gates-read-on (suc first) more gs rest ordered.2 (omega arith)
+    ∙ ap (λ (k : ℕ). onto gs (gates_at (2 * k) more rest)) next in
+    ap (λ (n : ℕ). gates_at (2 * first) n (gate_deltas first (g ∷ gs) ++ rest)) many ∙ ap (gates_at (2 * first) (suc (length gs + more))) text ∙ (rw (one, others) (onto_one_more g gs (gates_at (2 * (first + suc (length gs))) more rest)))
+  where
+    onto_one_more : (g : Gate) (gs : List Gate) (r : Result (List Gate × List ℕ) Stop)
+        → ◌>>=◌ {A = List Gate × List ℕ} {B = List Gate × List ℕ} {E = Stop} (onto gs r) (λ ys. Ok (g ∷ ys.0, ys.1)) ≡ onto (g ∷ gs) r
+    onto_one_more g gs (Ok x) = refl
+    onto_one_more g gs (Err e) = refl
+
 -- the gates
 pub gates-read : (first : ℕ) (gates : List Gate) (rest : List ℕ) → AreOrderedFrom first gates → first + length gates ≤ 2 ^ 32 → gates_at (2 * first) (length gates) (gate_deltas first gates ++ rest) ≡ Ok (gates, rest)
-gates-read first [] rest ordered few = refl
-gates-read first (g ∷ gs) rest ordered few =
-    let text = append_assoc (delta (2 * first - g.rhs0) ++ delta (g.rhs0 - g.rhs1)) (gate_deltas (suc first) gs) rest in
-    let one : gate_at (2 * first) ((delta (2 * first - g.rhs0) ++ delta (g.rhs0 - g.rhs1)) ++ (gate_deltas (suc first) gs ++ rest)) ≡ Ok (g, gate_deltas (suc first) gs ++ rest) = gate-read (2 * first) g (gate_deltas (suc first) gs ++ rest) ordered.0 ordered.1 (omega arith) in
-    let more : gates_at (2 * first + 2) (length gs) (gate_deltas (suc first) gs ++ rest) ≡ Ok (gs, rest) = rw (next_literal first) (gates-read (suc first) gs rest ordered.2 (omega arith)) in
-    ap (gates_at (2 * first) (suc (length gs))) text ∙ (rw (one, more) refl)
+gates-read first gates rest ordered few =
+    let none : length gates ≡ length gates + 0 = omega arith in
+    ap (λ (n : ℕ). gates_at (2 * first) n (gate_deltas first gates ++ rest)) none ∙ gates-read-on first 0 gates rest ordered few ∙ ap (λ (gs : List Gate). Ok (gs, rest)) (append-nil gates)

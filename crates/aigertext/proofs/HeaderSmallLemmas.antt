@@ -11,10 +11,9 @@ pub record IsHeaderOf (form : Form) (h : Counts) : Type 0 where
   pub small : AreSmall h
   pub fits : Fits form h
 
-pub header_small : (text rest : List ℕ) (form : Form) (h : Counts) → line_at header_of text ≡ Ok ((form, h), rest) → IsHeaderOf form h
-header_small text rest form h e =
-    let s = line-back header_of text (form, h) rest e in
-    let k = header-back s.line form h s.said in
+pub header_says : (line : List ℕ) (form : Form) (h : Counts) → header_of line ≡ Ok (form, h) → IsHeaderOf form h
+header_says line form h said =
+    let k = header-back line form h said in
     record {
       small = record {
         variables = k.few_first.0;
@@ -29,3 +28,6 @@ header_small text rest form h e =
       };
       fits = k.fits;
     }
+
+pub header_small : (text rest : List ℕ) (form : Form) (h : Counts) → line_at header_of text ≡ Ok ((form, h), rest) → IsHeaderOf form h
+header_small text rest form h e = let s = line-back header_of text (form, h) rest e in header_says s.line form h s.said

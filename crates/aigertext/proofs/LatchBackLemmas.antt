@@ -6,13 +6,19 @@ use Rattle.base.specs.Lines.{onto_first}
 use Rattle.base.specs.Decimals.{number_of}
 use Rattle.base.proofs.DecimalLemmas.{chosen, number_is_decimal}
 use Rattle.aiger.specs.declared.circuit.Latch.{Latch}
+use Rattle.aiger.specs.declared.loose.LatchLine.{LatchLine}
+use Rattle.aiger.specs.OwnLists.{own_latches}
 use Rattle.aiger.specs.declared.circuit.Reset.{Reset}
 use Rattle.aiger.specs.declared.circuit.Reset.TheVariants.{Zero, One, Free}
 use Rattle.aigertext.specs.declared.fault.Why.{Why}
 use Rattle.aigertext.specs.declared.fault.Why.TheVariants as why
-use Rattle.aigertext.specs.Spelling.{IsReset, IsNextLine, AreNextLines}
-use Rattle.aigertext.specs.Reading.{◌>>=◌, fields, within, reset_of, next_of, next_fields, nexts_at}
+use Rattle.aigertext.specs.declared.forms.Form.{Form}
+use Rattle.aigertext.specs.declared.forms.Form.TheVariants.{Ascii, Binary}
+use Rattle.aigertext.specs.Spelling.{IsReset, IsNextLine, AreNextLines, AreLines, IsLatchLine}
+use Rattle.aigertext.specs.Reading.{◌>>=◌, fields, within, reset_of, next_fields}
+use Rattle.aigertext.specs.Passes.{is_number, own_fields, latch_in, latches_in}
 use Rattle.aigertext.proofs.BackLemmas.{ok_same, not_err, within-back, lines-back}
+use Rattle.aigertext.proofs.GateLemmas.{next_literal}
 
 -- fields with a space between
 abbrev pub spaced : List (List ℕ) → List ℕ
@@ -55,7 +61,7 @@ fields-back (b ∷ bs) =
 -- ---- latches
 
 -- the number of a field that says how a latch begins
-pub reset-back : (own : ℕ) (r : Reset) (field : List ℕ) → own < 2 ^ 64 - 1 → reset_of own (number_of field) ≡ Ok r → (n : ℕ) × ((field ≡ decimal n) × IsReset own r (n ∷ []))
+reset-back : (own : ℕ) (r : Reset) (field : List ℕ) → own < 2 ^ 64 - 1 → reset_of own (number_of field) ≡ Ok r → (n : ℕ) × ((field ≡ decimal n) × IsReset own r (n ∷ []))
 reset-back own r field small e = by (number_of field) refl e
   where
     free : (n : ℕ) → (if_free : (n == own) ≡ true) → number_of field ≡ Some n → (Free ≡ r) → (m : ℕ) × ((field ≡ decimal m) × IsReset own r (m ∷ []))
@@ -121,34 +127,89 @@ latch_by greatest own l (next ∷ begins ∷ []) g_small o_small e = by (within 
     by (Ok n) f g = let p = within-back why.BadLatch greatest n (number_of next) f in then' n (reset_of own (number_of begins)) p.0 p.1 refl g
 latch_by greatest own l (next ∷ begins ∷ more ∷ others) g_small o_small e = absurd (not_err _ _ e)
 
-latch-back : (greatest own : ℕ) (l : Latch) (line : List ℕ) → greatest < 2 ^ 64 - 1 → own < 2 ^ 64 - 1 → next_of greatest own line ≡ Ok l → IsLatchAt greatest own l (line ++ 10 ∷ [])
-latch-back greatest own l line g_small o_small e = subst (λ (t : List ℕ). IsLatchAt greatest own l (t ++ 10 ∷ [])) (fields-back line) (latch_by greatest own l (fields line) g_small o_small e)
+-- the line of a latch whose own literal is given
+abbrev pub with_own : ℕ → Latch → LatchLine
+with_own own l = record { current = own; next = l.next; reset = l.reset }
 
--- so many latches
-pub record AreLatchesAt (greatest own n : ℕ) (text : List ℕ) (ls : List Latch) (rest : List ℕ) : Type 0 where
+abbrev IsOwnAt : ℕ → ℕ → Latch → List ℕ → Type 0
+IsOwnAt greatest own l bytes = IsLatchLine (with_own own l) bytes × (l.next ≤ greatest)
+
+-- a field that is a number
+is_number-back : (own : ℕ) (field : List ℕ) (r : Option ℕ) → own < 2 ^ 64 - 1 → number_of field ≡ r → is_number own r ≡ true → field ≡ decimal own
+is_number-back own field None small was is = absurd cc
+is_number-back own field (Some n) small was is =
+    let same : n ≡ own = eqb-true n own is in
+    number_is_decimal field n was (omega (arith, same, small)) ∙ ap decimal same
+
+own_by : (greatest own : ℕ) (l : Latch) (fs : List (List ℕ)) → greatest < 2 ^ 64 - 1 → own < 2 ^ 64 - 1 → own_fields greatest own fs ≡ Ok l → IsOwnAt greatest own l (spaced fs ++ 10 ∷ [])
+unfolding own_fields next_fields
+own_by greatest own l [] g_small o_small e = absurd (not_err _ _ e)
+own_by greatest own l (current ∷ []) g_small o_small e =
+    elim (chosen (is_number own (number_of current)) (Err why.BadLatch) (Err why.BadLatch) (Ok l) e) [
+      | inl wrong ↦ absurd (not_err _ _ wrong.1)
+      | inr wrong ↦ absurd (not_err _ _ wrong.1)
+    ]
+own_by greatest own l (current ∷ next ∷ others) g_small o_small e =
+    elim (chosen (is_number own (number_of current)) (next_fields greatest own (next ∷ others)) (Err why.BadLatch) (Ok l) e) [
+      | inl said ↦
+          let line = latch_by greatest own l (next ∷ others) g_small o_small said.1 in
+          let first : current ≡ decimal own = is_number-back own current (number_of current) o_small refl said.0 in
+          let text : (current ++ 32 ∷ spaced (next ∷ others)) ++ 10 ∷ [] ≡ decimal own ++ 32 ∷ (spaced (next ∷ others) ++ 10 ∷ []) =
+          append_assoc current (32 ∷ spaced (next ∷ others)) (10 ∷ []) ∙ ap (λ (t : List ℕ). t ++ 32 ∷ (spaced (next ∷ others) ++ 10 ∷ [])) first in
+          (record { reset = line.0.reset; is_reset = line.0.is_reset; spelled = text ∙ ap (λ (t : List ℕ). decimal own ++ 32 ∷ t) line.0.spelled }, line.1)
+      | inr wrong ↦ absurd (not_err _ _ wrong.1)
+    ]
+
+-- the line of a latch in a form
+abbrev IsLineIn : Form → ℕ → ℕ → Latch → List ℕ → Type 0
+IsLineIn Ascii greatest own l bytes = IsOwnAt greatest own l bytes
+IsLineIn Binary greatest own l bytes = IsLatchAt greatest own l bytes
+
+latch-back : (form : Form) (greatest own : ℕ) (l : Latch) (line : List ℕ) → greatest < 2 ^ 64 - 1 → own < 2 ^ 64 - 1 → latch_in form greatest own line ≡ Ok l → IsLineIn form greatest own l (line ++ 10 ∷ [])
+latch-back Ascii greatest own l line g_small o_small e = subst (λ (t : List ℕ). IsOwnAt greatest own l (t ++ 10 ∷ [])) (fields-back line) (own_by greatest own l (fields line) g_small o_small e)
+latch-back Binary greatest own l line g_small o_small e = subst (λ (t : List ℕ). IsLatchAt greatest own l (t ++ 10 ∷ [])) (fields-back line) (latch_by greatest own l (fields line) g_small o_small e)
+
+-- lines of latches in a form, the first of which has the given variable
+abbrev pub AreLinesIn : Form → ℕ → List Latch → List ℕ → Type 0
+AreLinesIn Ascii first ls bytes = AreLines IsLatchLine (own_latches first ls) bytes
+AreLinesIn Binary first ls bytes = AreNextLines (2 * first) ls bytes
+
+no_lines : (form : Form) (first : ℕ) → AreLinesIn form first [] []
+no_lines Ascii first = refl
+no_lines Binary first = refl
+
+line_and_others : (form : Form) (greatest first : ℕ) (l : Latch) (ls : List Latch) (line bytes : List ℕ) → IsLineIn form greatest (2 * first) l line → AreLinesIn form (suc first) ls bytes → AreLinesIn form first (l ∷ ls) (line ++ bytes) × (l.next ≤ greatest)
+line_and_others Ascii greatest first l ls line bytes one others = ((line, (bytes, (refl, one.0, others))), one.1)
+line_and_others Binary greatest first l ls line bytes one others =
+    ((line, (bytes, (refl, one.0, subst (λ (own : ℕ). AreNextLines own ls bytes) (sym (next_literal first)) others))), one.1)
+
+-- so many latches, the first of which has the given variable
+pub record AreLatchesAt (form : Form) (greatest first n : ℕ) (text : List ℕ) (ls : List Latch) (rest : List ℕ) : Type 0 where
   pub bytes : List ℕ
-  pub lines : AreNextLines own ls bytes
+  pub lines : AreLinesIn form first ls bytes
   pub parts : text ≡ bytes ++ rest
   pub count : length ls ≡ n
   pub below : All (λ l. l.next ≤ greatest) ls
 
-pub nexts-back : (greatest own n : ℕ) (text : List ℕ) (ls : List Latch) (rest : List ℕ) → greatest < 2 ^ 64 - 1 → own + 2 * n < 2 ^ 64 - 1 → nexts_at greatest own n text ≡ Ok (ls, rest) → AreLatchesAt greatest own n text ls rest
-nexts-back greatest own zero text ls rest g_small o_small e =
+pub latches-back : (form : Form) (greatest first n : ℕ) (text : List ℕ) (ls : List Latch) (rest : List ℕ) → greatest < 2 ^ 64 - 1 → 2 * first + 2 * n < 2 ^ 64 - 1 → latches_in form greatest (2 * first) n text ≡ Ok (ls, rest) → AreLatchesAt form greatest first n text ls rest
+latches-back form greatest first zero text ls rest g_small o_small e =
     let is : ([], text) ≡ (ls, rest) = ok_same ([], text) (ls, rest) e in
-    subst (λ (p : List Latch × List ℕ). AreLatchesAt greatest own 0 text p.0 p.1) is (record { bytes = []; lines = refl; parts = refl; count = refl; below = All-nil (λ l. l.next ≤ greatest) })
-nexts-back greatest own (suc n) text ls rest g_small o_small e =
-    let b = lines-back (next_of greatest) (λ o l. o + 2) own n text ls rest e in
-    let others = nexts-back greatest (own + 2) n b.after b.others rest g_small (omega (arith, o_small)) b.more in
-    let line = latch-back greatest own b.first b.one.line g_small (omega (arith, o_small)) b.one.said in
+    subst (λ (p : List Latch × List ℕ). AreLatchesAt form greatest first 0 text p.0 p.1) is (record { bytes = []; lines = no_lines form first; parts = refl; count = refl; below = All-nil (λ l. l.next ≤ greatest) })
+latches-back form greatest first (suc n) text ls rest g_small o_small e =
+    let b = lines-back (latch_in form greatest) (λ o l. o + 2) (2 * first) n text ls rest e in
+    let more : latches_in form greatest (2 * suc first) n b.after ≡ Ok (b.others, rest) = subst (λ (own : ℕ). latches_in form greatest own n b.after ≡ Ok (b.others, rest)) (next_literal first) b.more in
+    let others = latches-back form greatest (suc first) n b.after b.others rest g_small (omega (arith, o_small)) more in
+    let line = latch-back form greatest (2 * first) b.first b.one.line g_small (omega (arith, o_small)) b.one.said in
+    let both = line_and_others form greatest first b.first b.others (b.one.line ++ 10 ∷ []) others.bytes line others.lines in
     let whole : text ≡ ((b.one.line ++ 10 ∷ []) ++ others.bytes) ++ rest =
     b.one.parts ∙ ap (λ (t : List ℕ). b.one.line ++ 10 ∷ t) others.parts ∙ joined b.one.line others.bytes rest in
-    subst (λ (all : List Latch). AreLatchesAt greatest own (suc n) text all rest) (sym b.all)
+    subst (λ (all : List Latch). AreLatchesAt form greatest first (suc n) text all rest) (sym b.all)
     (record {
       bytes = (b.one.line ++ 10 ∷ []) ++ others.bytes;
-      lines = (b.one.line ++ 10 ∷ [], (others.bytes, (refl, line.0, others.lines)));
+      lines = both.0;
       parts = whole;
       count = ap suc others.count;
-      below = All-cons (λ l. l.next ≤ greatest) b.first b.others line.1 others.below;
+      below = All-cons (λ l. l.next ≤ greatest) b.first b.others both.1 others.below;
     })
   where
     joined : (line bytes rest : List ℕ) → line ++ 10 ∷ (bytes ++ rest) ≡ ((line ++ 10 ∷ []) ++ bytes) ++ rest

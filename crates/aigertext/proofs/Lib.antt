@@ -1,7 +1,6 @@
 mod LineLemmas
 mod SectionLemmas
 mod DeltaLemmas
-mod BinaryLemmas
 mod FormLemmas
 mod FieldLemmas
 mod GateLemmas
@@ -27,10 +26,9 @@ mod ListLemmas
 mod PropertyListLemmas
 mod NamingLemmas
 mod SectionReadLemmas
-mod OwnLatchLemmas
 mod PutsLemmas
+mod ReadFrontLemmas
 mod InOrderLemmas
-mod WhyLemmas
 mod AnswerLemmas
 mod FileLemmas
 mod PassOverLemmas

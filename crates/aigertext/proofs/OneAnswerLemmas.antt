@@ -48,19 +48,19 @@ module _ (same_circuit : OneCircuit) (no_cycle : NoCycle) (h : Counts) (text : L
 
 pub one_answer : OneCircuit → NoCycle → (text : List ℕ) (a b : Result Circuit Stop) → AnswersText text a → AnswersText text b → a ≡ b
 unfolding AnswersText
-one_answer same_circuit no_cycle text a b = by (line_at header_of text)
+one_answer same_circuit no_cycle text a b = by (line_at header_of text) refl
   where
-    lists : (h : Counts) (rest : List ℕ) → (r : Result (Loose × List ℕ) Stop) → AnswersLists h rest r a → AnswersLists h rest r b → a ≡ b
-    lists h rest (Ok x) p q = one_of_lists same_circuit no_cycle h rest x.0 p.0 x.1 a b p.1 q.1
-    lists h rest (Err w) p q = p ∙ sym q
+    lists : (h : Counts) (rest : List ℕ) → IsHeaderOf Ascii h → (r : Result (Loose × List ℕ) Stop) → lists_of_file h rest ≡ r → AnswersLists h rest r a → AnswersLists h rest r b → a ≡ b
+    lists h rest is (Ok x) e p q = one_of_lists same_circuit no_cycle h rest x.0 (lists-back h rest x.0 x.1 is.small is.fits e).valid x.1 a b p q
+    lists h rest is (Err w) e p q = p ∙ sym q
 
-    body : (form : Form) (h : Counts) (rest : List ℕ) → AnswersBody form h rest a → AnswersBody form h rest b → a ≡ b
-    body Ascii h rest p q = lists h rest (lists_of_file h rest) p q
-    body Binary h rest p q = p ∙ sym q
+    body : (form : Form) (h : Counts) (rest : List ℕ) → IsHeaderOf form h → AnswersBody form h rest a → AnswersBody form h rest b → a ≡ b
+    body Ascii h rest is p q = lists h rest is (lists_of_file h rest) refl p q
+    body Binary h rest is p q = p ∙ sym q
 
-    by : (r : Result ((Form × Counts) × List ℕ) Stop) → AnswersHeader r a → AnswersHeader r b → a ≡ b
-    by (Ok x) p q = body x.0.0 x.0.1 x.1 p q
-    by (Err w) p q = p ∙ sym q
+    by : (r : Result ((Form × Counts) × List ℕ) Stop) → line_at header_of text ≡ r → AnswersHeader r a → AnswersHeader r b → a ≡ b
+    by (Ok x) e p q = body x.0.0 x.0.1 x.1 (header_small text x.1 x.0.0 x.0.1 e) p q
+    by (Err w) e p q = p ∙ sym q
 
 -- ---- there is one
 
@@ -71,13 +71,13 @@ pub some_answer : EitherLaw → (text : List ℕ) → (a : Result Circuit Stop) 
 unfolding AnswersText
 some_answer either text = by (line_at header_of text) refl
   where
-    defined : (h : Counts) (rest : List ℕ) (l : Loose) (end : List ℕ) → IsLoose l → first_undefined l ≡ None → ((c : Circuit) × IsRenumbered l c) ⊎ ((j : ℕ) × IsFirstCyclic l j) → (a : Result Circuit Stop) × AnswersLists h rest (Ok (l, end)) a
-    defined h rest l end valid known (inl c) = (names_at c.0 end, (valid, inl (record { circuit = c.0; is_renumbered = c.1; is = refl })))
-    defined h rest l end valid known (inr j) = (Err (stop_behind rest (lines_before h (use_of_gate l j.0)) why.Cycle), (valid, inr (inr (record { gate = j.0; known = known; cyclic = j.1; is = refl }))))
+    defined : (h : Counts) (rest : List ℕ) (l : Loose) (end : List ℕ) → first_undefined l ≡ None → ((c : Circuit) × IsRenumbered l c) ⊎ ((j : ℕ) × IsFirstCyclic l j) → (a : Result Circuit Stop) × AnswersLists h rest (Ok (l, end)) a
+    defined h rest l end known (inl c) = (names_at c.0 end, inl (record { circuit = c.0; is_renumbered = c.1; is = refl }))
+    defined h rest l end known (inr j) = (Err (stop_behind rest (lines_before h (use_of_gate l j.0)) why.Cycle), inr (inr (record { gate = j.0; known = known; cyclic = j.1; is = refl })))
 
     lists_by : (h : Counts) (rest : List ℕ) (l : Loose) (end : List ℕ) → IsLoose l → (r : Option ℕ) → first_undefined l ≡ r → (a : Result Circuit Stop) × AnswersLists h rest (Ok (l, end)) a
-    lists_by h rest l end valid (Some k) e = (Err (stop_behind rest (lines_before h k) why.Undefined), (valid, inr (inl (record { line = k; undefined = e; is = refl }))))
-    lists_by h rest l end valid None e = defined h rest l end valid e (either l valid e)
+    lists_by h rest l end valid (Some k) e = (Err (stop_behind rest (lines_before h k) why.Undefined), inr (inl (record { line = k; undefined = e; is = refl })))
+    lists_by h rest l end valid None e = defined h rest l end e (either l valid e)
 
     lists : (h : Counts) (rest : List ℕ) → AreSmall h → Fits Ascii h → (r : Result (Loose × List ℕ) Stop) → lists_of_file h rest ≡ r → (a : Result Circuit Stop) × AnswersLists h rest r a
     lists h rest small fits (Ok x) e = lists_by h rest x.0 x.1 (lists-back h rest x.0 x.1 small fits e).valid (first_undefined x.0) refl

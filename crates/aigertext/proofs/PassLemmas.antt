@@ -2,10 +2,9 @@
 use Rattle.std.proofs.Common.{◌≡◌, ℕ, suc, ◌+◌, List, [], ◌∷◌, ◌++◌, map, Result, Ok, Err, refl, sym, ap, ◌∙◌, append_assoc, append-nil, arith}
 use Rattle.std.specs.List.{sum}
 use Rattle.std.proofs.lemmas.List.Sums.{sum_by-cons, sum-map}
-use Rattle.aiger.specs.declared.circuit.Gate.{Gate}
 use Rattle.aigertext.specs.declared.fault.Stop.{Stop}
 use Rattle.aigertext.specs.declared.fault.Why.{Why}
-use Rattle.aigertext.specs.Reading.{◌>>=◌, line_at, lines_at, gate_at, gates_at, sizes_at, size_of, literals_at}
+use Rattle.aigertext.specs.Reading.{◌>>=◌, line_at, lines_at, sizes_at, size_of, literals_at}
 use Rattle.aigertext.specs.Passes.{behind, total_from, onto, lists_at}
 
 -- ---- one more and the others
@@ -84,26 +83,6 @@ module _ (before m n : ℕ) (text : List ℕ) (whole : Result (ℕ × List ℕ) 
   total_done none =
       let nothing : before + 0 ≡ before = omega arith in
       sym so_far ∙ ap (λ (k : ℕ). total_from before (sizes_at before k text)) none ∙ ap (λ (k : ℕ). Ok (k, text)) nothing
-
--- ---- gates
-
-module _ (own m n : ℕ) (text : List ℕ) (left : m ≡ suc n) where
-  gates_more : (g : Gate) (after : List ℕ) → gate_at own text ≡ Ok (g, after) → gates_at own m text ≡ onto (g ∷ []) (gates_at (own + 2) n after)
-  gates_more g after one = ap (λ (k : ℕ). gates_at own k text) left ∙ rw one (onto_one g (gates_at (own + 2) n after))
-
-  pub gates_step : (gs : List Gate) (g : Gate) (after : List ℕ) (then' : ℕ) (whole : Result (List Gate × List ℕ) Stop) → own + 2 ≡ then' → gate_at own text ≡ Ok (g, after) → onto gs (gates_at own m text) ≡ whole
-      → onto (gs ++ g ∷ []) (gates_at then' n after) ≡ whole
-  gates_step gs g after then' whole is one so_far =
-      ap (λ (o : ℕ). onto (gs ++ g ∷ []) (gates_at o n after)) (sym is)
-      ∙ sym (onto_onto gs (g ∷ []) (gates_at (own + 2) n after)) ∙ ap (onto gs) (sym (gates_more g after one)) ∙ so_far
-
-  pub gates_stop : (gs : List Gate) (e : Stop) (whole : Result (List Gate × List ℕ) Stop) → gate_at own text ≡ Err e → onto gs (gates_at own m text) ≡ whole → whole ≡ Err e
-  gates_stop gs e whole one so_far =
-      let stops : gates_at own m text ≡ Err e = ap (λ (k : ℕ). gates_at own k text) left ∙ rw one refl in
-      sym so_far ∙ ap (onto gs) stops
-
-pub gates_done : (own m : ℕ) (text : List ℕ) (gs : List Gate) (whole : Result (List Gate × List ℕ) Stop) → m ≡ 0 → onto gs (gates_at own m text) ≡ whole → whole ≡ Ok (gs, text)
-gates_done own m text gs whole left so_far = sym so_far ∙ ap (λ (k : ℕ). onto gs (gates_at own k text)) left ∙ ap (λ (l : List Gate). Ok (l, text)) (append-nil gs)
 
 -- ---- justice properties
 

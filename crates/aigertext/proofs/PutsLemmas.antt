@@ -1,12 +1,15 @@
--- Gates that are put onto a circuit by their lines, and lines of inputs in turn.
-use Rattle.std.proofs.Common.{◌≡◌, ℕ, zero, suc, ◌+◌, ◌-◌, ◌*◌, ◌≤◌, List, [], ◌∷◌, ◌++◌, length, drop, take, decimal, Option, Some, None, sym, ap, subst, ◌∙◌, append_assoc, append-nil, length-append, arith}
+-- Gates that are put onto a circuit by their text, and lines of inputs in turn.
+use Rattle.std.proofs.Common.{◌≡◌, ℕ, zero, suc, ◌+◌, ◌-◌, ◌*◌, ◌≤◌, List, [], ◌∷◌, ◌++◌, length, drop, take, decimal, Option, Some, None, refl, sym, ap, subst, ◌∙◌, append_assoc, append-nil, length-append, arith}
 use Rattle.std.specs.Io.KnownBytes.{prepend_known, Keeps, Consumes}
 use Rattle.std.proofs.KnownBytes.{Consumes-nil, Consumes-trans, Consumes-kept}
 use Rattle.std.proofs.lemmas.List.{drop_at, take_at}
 use Rattle.aiger.specs.declared.circuit.Gate.{Gate}
 use Rattle.aiger.specs.Net.{variables}
 use Rattle.aiger.specs.Circuit.{Circuit, net, with_gate}
-use Rattle.aigertext.specs.Ascii.{numbers_line, input_lines, gate_lines}
+use Rattle.aigertext.specs.declared.forms.Form.{Form}
+use Rattle.aigertext.specs.declared.forms.Form.TheVariants.{Ascii, Binary}
+use Rattle.aigertext.specs.Ascii.{numbers_line, input_lines}
+use Rattle.aigertext.specs.Binary.{gate_text, gates_text}
 use Rattle.aigertext.specs.Passes.{with_gates}
 use Rattle.aigertext.specs.InOrder.{PutsGates}
 
@@ -35,61 +38,91 @@ inputs_step index number text rest behind so_far line is =
 
 -- ---- gates
 
-pub gate_lines-append : (first : ℕ) (gs hs : List Gate) → gate_lines first (gs ++ hs) ≡ gate_lines first gs ++ gate_lines (first + length gs) hs
-gate_lines-append first [] hs = ap (λ (k : ℕ). gate_lines k hs) (plus_none first)
-gate_lines-append first (g ∷ gs) hs =
-    ap (λ (t : List ℕ). numbers_line (2 * first ∷ g.rhs0 ∷ g.rhs1 ∷ []) ++ t) (gate_lines-append (suc first) gs hs ∙ ap (λ (k : ℕ). gate_lines (suc first) gs ++ gate_lines k hs) (plus_suc first (length gs)))
-    ∙ sym (append_assoc (numbers_line (2 * first ∷ g.rhs0 ∷ g.rhs1 ∷ [])) (gate_lines (suc first) gs) (gate_lines (first + suc (length gs)) hs))
+pub gates_text-none : (form : Form) (first : ℕ) → [] ≡ gates_text form first []
+gates_text-none Ascii first = refl
+gates_text-none Binary first = refl
+
+gates_text-cons : (form : Form) (first : ℕ) (g : Gate) (gs : List Gate) → gates_text form first (g ∷ gs) ≡ gate_text form (2 * first) g ++ gates_text form (suc first) gs
+gates_text-cons Ascii first g gs = refl
+gates_text-cons Binary first g gs = refl
+
+pub gates_text-append : (form : Form) (first : ℕ) (gs hs : List Gate) → gates_text form first (gs ++ hs) ≡ gates_text form first gs ++ gates_text form (first + length gs) hs
+gates_text-append form first [] hs =
+    ap (λ (k : ℕ). gates_text form k hs) (plus_none first) ∙ ap (λ (t : List ℕ). t ++ gates_text form (first + 0) hs) (gates_text-none form first)
+gates_text-append form first (g ∷ gs) hs =
+    gates_text-cons form first g (gs ++ hs)
+    ∙ ap (λ (t : List ℕ). gate_text form (2 * first) g ++ t) (gates_text-append form (suc first) gs hs ∙ ap (λ (k : ℕ). gates_text form (suc first) gs ++ gates_text form k hs) (plus_suc first (length gs)))
+    ∙ sym (append_assoc (gate_text form (2 * first) g) (gates_text form (suc first) gs) (gates_text form (first + suc (length gs)) hs))
+    ∙ ap (λ (t : List ℕ). t ++ gates_text form (first + suc (length gs)) hs) (sym (gates_text-cons form first g gs))
 
 -- none yet
-pub puts_none : (c : Circuit) (known : Option (List ℕ)) → PutsGates c c known known
-puts_none c known = record { gates = []; is = ap (λ (gs : List Gate). record c { gates = gs }) (sym (append-nil c.gates)); lines = Consumes-nil known }
+pub puts_none : (form : Form) (c : Circuit) (known : Option (List ℕ)) → PutsGates form c c 0 known known
+puts_none form c known =
+    let none = gates_text-none form (suc (variables (net c))) in
+    record {
+      gates = [];
+      is = ap (λ (gs : List Gate). record c { gates = gs }) (sym (append-nil c.gates));
+      long = ap (length {A = ℕ}) none;
+      text = subst (Consumes known known) none (Consumes-nil known);
+    }
 
--- how many variables there are then
+-- how many variables and gates there are then
 pub variables_then : (old new : Circuit) (gs : List Gate) → new ≡ with_gates old gs → variables (net new) ≡ variables (net old) + length gs
 variables_then old new gs is = ap (λ (c : Circuit). variables (net c)) is ∙ omega (arith, length-append old.gates gs)
 
 -- more gates
-pub puts_then : (a b c : Circuit) (x y z : Option (List ℕ)) → PutsGates a b x y → PutsGates b c y z → PutsGates a c x z
-puts_then a b c x y z p q =
+pub puts_then : (form : Form) (a b c : Circuit) (m n s : ℕ) (x y z : Option (List ℕ)) → s ≡ m + n → PutsGates form a b m x y → PutsGates form b c n y z → PutsGates form a c s x z
+puts_then form a b c m n s x y z both_long p q =
     let first : suc (variables (net b)) ≡ suc (variables (net a)) + length p.gates = omega (arith, variables_then a b p.gates p.is) in
-    let lines : gate_lines (suc (variables (net a))) p.gates ++ gate_lines (suc (variables (net b))) q.gates ≡ gate_lines (suc (variables (net a))) (p.gates ++ q.gates) =
-    ap (λ (k : ℕ). gate_lines (suc (variables (net a))) p.gates ++ gate_lines k q.gates) first ∙ sym (gate_lines-append (suc (variables (net a))) p.gates q.gates) in
+    let both : gates_text form (suc (variables (net a))) p.gates ++ gates_text form (suc (variables (net b))) q.gates ≡ gates_text form (suc (variables (net a))) (p.gates ++ q.gates) =
+    ap (λ (k : ℕ). gates_text form (suc (variables (net a))) p.gates ++ gates_text form k q.gates) first ∙ sym (gates_text-append form (suc (variables (net a))) p.gates q.gates) in
     record {
       gates = p.gates ++ q.gates;
       is = q.is ∙ ap (λ (d : Circuit). with_gates d q.gates) p.is ∙ ap (λ (gs : List Gate). record a { gates = gs }) (append_assoc a.gates p.gates q.gates);
-      lines = subst (Consumes x z) lines (Consumes-trans x y z _ _ p.lines q.lines);
+      long =
+          both_long ∙ ap (λ (k : ℕ). k + n) p.long ∙ ap (λ (k : ℕ). length (gates_text form (suc (variables (net a))) p.gates) + k) q.long
+          ∙ sym (length-append (gates_text form (suc (variables (net a))) p.gates) (gates_text form (suc (variables (net b))) q.gates)) ∙ ap (length {A = ℕ}) both;
+      text = subst (Consumes x z) both (Consumes-trans x y z _ _ p.text q.text);
     }
 
--- one gate by its line
-puts_one : (c d : Circuit) (own a b : ℕ) (rest behind : List ℕ) → rest ≡ numbers_line (own ∷ a ∷ b ∷ []) ++ behind → own ≡ 2 * (variables (net c) + 1) → d ≡ with_gate c a b → PutsGates c d (Some rest) (Some behind)
-puts_one c d own a b rest behind line is next =
+-- where both texts are known, their lengths tell how many bytes the gates took
+pub puts_long : (form : Form) (c d : Circuit) (n : ℕ) (x y : List ℕ) → PutsGates form c d n (Some x) (Some y) → PutsGates form c d (length x - length y) (Some x) (Some y)
+puts_long form c d n x y p =
+    let taken : List ℕ = gates_text form (suc (variables (net c))) p.gates in
+    let long : length x ≡ length taken + length y = ap (length {A = ℕ}) p.text ∙ length-append taken y in
+    record { gates = p.gates; is = p.is; long = omega (arith, long); text = p.text }
+
+-- one gate by its text
+puts_one : (form : Form) (c d : Circuit) (own : ℕ) (g : Gate) (rest behind : List ℕ) → rest ≡ gate_text form own g ++ behind → own ≡ 2 * (variables (net c) + 1) → d ≡ with_gate c g.rhs0 g.rhs1
+    → PutsGates form c d (length (gate_text form own g)) (Some rest) (Some behind)
+puts_one form c d own g rest behind parts is next =
     let same : own ≡ 2 * suc (variables (net c)) = omega (arith, is) in
-    record {
-      gates = record { rhs0 = a; rhs1 = b } ∷ [];
-      is = next;
-      lines =
-          line ∙ ap (λ (n : ℕ). numbers_line (n ∷ a ∷ b ∷ []) ++ behind) same
-          ∙ ap (λ (t : List ℕ). t ++ behind) (sym (append-nil (numbers_line (2 * suc (variables (net c)) ∷ a ∷ b ∷ []))));
-    }
+    let one : gate_text form own g ≡ gates_text form (suc (variables (net c))) (g ∷ []) =
+    ap (λ (n : ℕ). gate_text form n g) same ∙ sym (append-nil (gate_text form (2 * suc (variables (net c))) g))
+    ∙ ap (λ (t : List ℕ). gate_text form (2 * suc (variables (net c))) g ++ t) (gates_text-none form (suc (suc (variables (net c))))) ∙ sym (gates_text-cons form (suc (variables (net c))) g []) in
+    record { gates = g ∷ []; is = next; long = ap (length {A = ℕ}) one; text = parts ∙ ap (λ (t : List ℕ). t ++ behind) one }
 
-pub puts_more : (c0 c d : Circuit) (own a b : ℕ) (text rest behind : List ℕ) → PutsGates c0 c (Some text) (Some rest) → rest ≡ numbers_line (own ∷ a ∷ b ∷ []) ++ behind → own ≡ 2 * (variables (net c) + 1) → d ≡ with_gate c a b
-    → PutsGates c0 d (Some text) (Some behind)
-puts_more c0 c d own a b text rest behind p line is next = puts_then c0 c d (Some text) (Some rest) (Some behind) p (puts_one c d own a b rest behind line is next)
+pub puts_more : (form : Form) (c0 c d : Circuit) (own n : ℕ) (g : Gate) (text rest behind : List ℕ) → PutsGates form c0 c n (Some text) (Some rest) → rest ≡ gate_text form own g ++ behind → own ≡ 2 * (variables (net c) + 1) → d ≡ with_gate c g.rhs0 g.rhs1
+    → PutsGates form c0 d (length text - length behind) (Some text) (Some behind)
+puts_more form c0 c d own n g text rest behind p parts is next =
+    puts_long form c0 d _ text behind (puts_then form c0 c d n _ _ (Some text) (Some rest) (Some behind) refl p (puts_one form c d own g rest behind parts is next))
 
 -- there is a variable more
-pub one_variable : (c d : Circuit) (a b : ℕ) → d ≡ with_gate c a b → variables (net d) ≡ variables (net c) + 1
-one_variable c d a b is = variables_then c d (record { rhs0 = a; rhs1 = b } ∷ []) is
+pub one_variable : (c d : Circuit) (g : Gate) → d ≡ with_gate c g.rhs0 g.rhs1 → variables (net d) ≡ variables (net c) + 1
+one_variable c d g is = variables_then c d (g ∷ []) is
+
+pub one_gate : (c d : Circuit) (g : Gate) → d ≡ with_gate c g.rhs0 g.rhs1 → length d.gates ≡ length c.gates + 1
+one_gate c d g is = ap (λ (x : Circuit). length x.gates) is ∙ length-append c.gates (g ∷ [])
 
 -- what is still to come behind what is held
-pub puts_held : (c d : Circuit) (held rest : List ℕ) (known : Option (List ℕ)) → PutsGates c d (Some held) (Some rest) → PutsGates c d (prepend_known held known) (prepend_known rest known)
-puts_held c d held rest None p = record { gates = p.gates; is = p.is; lines = tt }
-puts_held c d held rest (Some xs) p =
-    record { gates = p.gates; is = p.is; lines = ap (λ (t : List ℕ). t ++ xs) p.lines ∙ append_assoc (gate_lines (suc (variables (net c))) p.gates) rest xs }
+pub puts_held : (form : Form) (c d : Circuit) (n : ℕ) (held rest : List ℕ) (known : Option (List ℕ)) → PutsGates form c d n (Some held) (Some rest) → PutsGates form c d n (prepend_known held known) (prepend_known rest known)
+puts_held form c d n held rest None p = record { gates = p.gates; is = p.is; long = p.long; text = tt }
+puts_held form c d n held rest (Some xs) p =
+    record { gates = p.gates; is = p.is; long = p.long; text = ap (λ (t : List ℕ). t ++ xs) p.text ∙ append_assoc (gates_text form (suc (variables (net c))) p.gates) rest xs }
 
 -- what is still to come is held in another way
-pub puts_kept : (c d : Circuit) (x y z : Option (List ℕ)) → PutsGates c d x y → Keeps y z → PutsGates c d x z
-puts_kept c d x y z p kept = record { gates = p.gates; is = p.is; lines = Consumes-kept x y z _ p.lines kept }
+pub puts_kept : (form : Form) (c d : Circuit) (n : ℕ) (x y z : Option (List ℕ)) → PutsGates form c d n x y → Keeps y z → PutsGates form c d n x z
+puts_kept form c d n x y z p kept = record { gates = p.gates; is = p.is; long = p.long; text = Consumes-kept x y z _ p.text kept }
 
 -- ---- fronts
 

@@ -24,12 +24,12 @@ use Rattle.aigertext.specs.Ascii.{form_word, numbers_line, literal_lines, size_l
 use Rattle.aigertext.specs.Counts.{first_of_counts, last_of_counts, counts_in}
 use Rattle.aigertext.specs.Binary.{gate_deltas}
 use Rattle.aigertext.specs.Spelling.{IsHeader, AreNextLines, GiveNames, Given, IsEnd, IsBinaryText}
-use Rattle.aigertext.specs.Reading.{Properties, lists_of, line_at, size_within, size_of, literals_at, sizes_at, nexts_at, gates_at, properties_at, nameless, binary_at, header_of}
+use Rattle.aigertext.specs.Reading.{Properties, lists_of, line_at, size_within, size_of, literals_at, sizes_at, nexts_at, gates_at, properties_at, nameless, binary_at, names_at, header_of}
 use Rattle.aigertext.proofs.BackLemmas.{ok_same, not_err, bind-back, bind-then, lines-back, literals-back, sizes-back, SaysAt, line-back}
 use Rattle.aigertext.proofs.FieldLemmas.{joined, numbers_line-joined}
 use Rattle.aigertext.proofs.GateBackLemmas.{AreBytes, bytes_behind, AreGatesAt, gates-back}
 use Rattle.aigertext.proofs.HeaderBackLemmas.{HeaderBack, header-back, AreCounts}
-use Rattle.aigertext.proofs.LatchBackLemmas.{AreLatchesAt, nexts-back}
+use Rattle.aigertext.proofs.LatchBackLemmas.{AreLatchesAt, latches-back}
 use Rattle.aigertext.proofs.NameBackLemmas.{names-back}
 use Rattle.aigertext.proofs.NameReadLemmas.{HasFewPositions}
 use Rattle.aigertext.proofs.ListLemmas.{literals_small}
@@ -195,7 +195,7 @@ property_is inputs ls p gs rest e =
 -- what stands behind a header is the circuit's sections
 module _ (h : Counts) (text : List ℕ) (c : Circuit) (ls : List Latch) (after : List ℕ) (p : Properties) (behind : List ℕ) (gs : List Gate) (end : List ℕ)
     (few_first : AreCounts (first_of_counts h)) (few_last : AreCounts (last_of_counts h)) (fits : h.variables ≡ h.inputs + h.latches + h.gates)
-    (l : AreLatchesAt (2 * h.variables + 1) (2 * suc h.inputs) h.latches text ls after) (q : PropertiesBack h after p behind) (g : AreGatesAt (suc (h.inputs + h.latches)) h.gates behind gs end) where
+    (l : AreLatchesAt Binary (2 * h.variables + 1) (suc h.inputs) h.latches text ls after) (q : PropertiesBack h after p behind) (g : AreGatesAt (suc (h.inputs + h.latches)) h.gates behind gs end) where
   bare : Circuit
   bare = nameless h.inputs ls p gs
 
@@ -255,6 +255,22 @@ pub names_valid : NameLaw → (c : Circuit) (gs : List Given) (d : Circuit) → 
 names_valid law c [] d valid e = subst IsCircuit e valid
 names_valid law c (g ∷ gs) d valid e = names_valid law (with_name c g.section g.position g.name) gs d (law c g.section g.position g.name valid e.0) e.1
 
+-- the end of a text whose names were read onto a circuit without any
+pub record EndBack (bare c : Circuit) (text : List ℕ) : Type 0 where
+  pub is_end : IsEnd c text
+  pub same : bare ≡ record c { names = [] }
+  pub valid : NameLaw → IsCircuit bare → IsCircuit c
+
+pub end-back : (bare c : Circuit) (text : List ℕ) → HasFewPositions bare → ◌≡◌ {A = Circuit} bare (record bare { names = [] }) → names_at bare text ≡ Ok c → EndBack bare c text
+end-back bare c text few none read =
+    let n = names-back bare text c few read in
+    let alone : bare ≡ record c { names = [] } = none ∙ names_alone bare n.given c n.names in
+    record {
+      is_end = record { given = n.given; names = subst (λ (d : Circuit). GiveNames d n.given c) alone n.names; comment = n.comment; is_comment = n.is_comment; spelled = n.parts };
+      same = alone;
+      valid = λ law valid. names_valid law bare n.given c valid n.names;
+    }
+
 -- the sections and the end of a circuit's text
 pub record BinaryBack (h : Counts) (text : List ℕ) (c : Circuit) : Type 0 where
   pub end : List ℕ
@@ -271,19 +287,18 @@ binary-back law h text c few_first few_last fits bytes e =
     let l = bind-back (nexts_at (2 * h.variables + 1) (2 * suc h.inputs) h.latches text) _ c e in
     let p = bind-back (properties_at h l.value.1) _ c l.then' in
     let g = bind-back (gates_at (2 * suc (h.inputs + h.latches)) h.gates p.value.1) _ c p.then' in
-    let l' = nexts-back (2 * h.variables + 1) (2 * suc h.inputs) h.latches text l.value.0 l.value.1 (omega (arith, few_first.0)) (omega (arith, few_first.1.0, few_first.1.1.0)) l.was in
+    let l' = latches-back Binary (2 * h.variables + 1) (suc h.inputs) h.latches text l.value.0 l.value.1 (omega (arith, few_first.0)) (omega (arith, few_first.1.0, few_first.1.1.0)) l.was in
     let p' = properties-back h l.value.1 p.value.0 p.value.1 few_first.0 p.was in
     let bytes1 : AreBytes l.value.1 = bytes_after l'.bytes l.value.1 text bytes l'.parts in
     let bytes2 : AreBytes p.value.1 = bytes_after (property_lines (nameless 0 [] p.value.0 [])) p.value.1 l.value.1 bytes1 (p'.parts ∙ sym (property_is 0 [] p.value.0 [] p.value.1 p'.listed)) in
     let g' = gates-back (suc (h.inputs + h.latches)) h.gates p.value.1 g.value.0 g.value.1 bytes2 g.was in
     let few = few_bare h text c l.value.0 l.value.1 p.value.0 p.value.1 g.value.0 g.value.1 few_first few_last fits l' p' g' in
-    let n = names-back (nameless h.inputs l.value.0 p.value.0 g.value.0) g.value.1 c few g.then' in
-    let alone = names_alone (nameless h.inputs l.value.0 p.value.0 g.value.0) n.given c n.names in
+    let n = end-back (nameless h.inputs l.value.0 p.value.0 g.value.0) c g.value.1 few refl g.then' in
     record {
       end = g.value.1;
-      body = body_of h text g.value.1 c (subst (IsBody h text g.value.1) alone (body-is h text c l.value.0 l.value.1 p.value.0 p.value.1 g.value.0 g.value.1 few_first few_last fits l' p' g'));
-      valid = names_valid law (nameless h.inputs l.value.0 p.value.0 g.value.0) n.given c (bare_valid h text c l.value.0 l.value.1 p.value.0 p.value.1 g.value.0 g.value.1 few_first few_last fits l' p' g') n.names;
-      is_end = record { given = n.given; names = subst (λ (d : Circuit). GiveNames d n.given c) alone n.names; comment = n.comment; is_comment = n.is_comment; spelled = n.parts };
+      body = body_of h text g.value.1 c (subst (IsBody h text g.value.1) n.same (body-is h text c l.value.0 l.value.1 p.value.0 p.value.1 g.value.0 g.value.1 few_first few_last fits l' p' g'));
+      valid = n.valid law (bare_valid h text c l.value.0 l.value.1 p.value.0 p.value.1 g.value.0 g.value.1 few_first few_last fits l' p' g');
+      is_end = n.is_end;
     }
   where
     body_of : (h : Counts) (text end : List ℕ) (c : Circuit) → IsBody h text end (record c { names = [] }) → IsBody h text end c

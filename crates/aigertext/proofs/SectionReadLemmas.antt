@@ -1,19 +1,17 @@
--- The sections of a binary text, put together.
-use Rattle.std.proofs.Common.{◌≡◌, ℕ, suc, ◌+◌, ◌*◌, ◌≤◌, List, [], length, Result, Ok, Err, inl, inr, refl, sym, ap, subst, ◌∙◌, arith}
+-- The sections before the gates of a text, put together.
+use Rattle.std.proofs.Common.{◌≡◌, ℕ, suc, ◌+◌, ◌*◌, List, [], length, Result, Ok, Err, inl, inr, refl, sym, ap, subst, ◌∙◌, arith}
 use Rattle.std.proofs.lemmas.List.{length-replicate}
 use Rattle.std.specs.List.{sum}
-use Rattle.aiger.specs.declared.circuit.Gate.{Gate}
 use Rattle.aiger.specs.declared.circuit.Latch.{Latch}
 use Rattle.aiger.specs.Net.{variables}
 use Rattle.aiger.specs.Circuit.{Circuit, net, fresh_circuit, fresh_latch}
 use Rattle.aigertext.specs.declared.reading.counts.Counts.{Counts}
 use Rattle.aigertext.specs.declared.fault.Stop.{Stop}
 use Rattle.aigertext.specs.declared.forms.Form.{Form}
-use Rattle.aigertext.specs.declared.forms.Form.TheVariants.{Binary}
-use Rattle.aigertext.specs.Reading.{◌>>=◌, Properties, lists_of, literals_at, sizes_at, nexts_at, gates_at, properties_at, names_at, binary_at, nameless}
-use Rattle.aigertext.specs.Passes.{behind, latches_in, behind_lines_of, total_from, Takes, lists_at, with_gates, with_latches, with_properties}
+use Rattle.aigertext.specs.Reading.{Properties, lists_of, literals_at, sizes_at, properties_at}
+use Rattle.aigertext.specs.Passes.{behind, latches_in, behind_lines_of, total_from, Takes, lists_at, with_gates, with_latches}
 use Rattle.aigertext.specs.PropertyLists.{no_lists, circuit_lists}
-use Rattle.aigertext.proofs.BackLemmas.{ok_same, not_err, bind-back}
+use Rattle.aigertext.proofs.BackLemmas.{ok_same, not_err}
 use Rattle.aigertext.proofs.ListLemmas.{in_lists, lists-together}
 
 -- what the first pass over sizes tells of them
@@ -38,7 +36,7 @@ lists_seen ns (Ok x) lists rest e =
     record { listed = x.0; was = ap (λ (p : List (List ℕ) × List ℕ). Ok (x.0, p.1)) is; are = sym (ap (λ (p : List (List ℕ) × List ℕ). p.0) is) }
 lists_seen ns (Err w) lists rest e = absurd (not_err _ _ e)
 
-err_same : {A : Type 0} (w e : Stop) → ◌≡◌ {A = Result A Stop} (Err w) (Err e) → w ≡ e
+pub err_same : {A : Type 0} (w e : Stop) → ◌≡◌ {A = Result A Stop} (Err w) (Err e) → w ≡ e
 err_same w e is = cc
 
 none_listed : (ns : List ℕ) (r : Result (List ℕ × List ℕ) Stop) (e : Stop) → in_lists ns r ≡ Err e → r ≡ Err e
@@ -90,40 +88,25 @@ module _ (h : Counts) (text t1 t2 t3 t4 : List ℕ) (os bs cs : List ℕ) (n : �
 
 -- ---- the circuit before its names
 
--- how many variables a circuit has that begins with so many inputs and latches, and where its gates' literals begin
-module _ (h : Counts) (fits : h.variables ≡ h.inputs + h.latches + h.gates) (few : h.variables ≤ 1073741824) (c0 : Circuit) (is0 : c0 ≡ fresh_circuit h.inputs h.latches) where
-  fresh_variables : variables (net c0) ≡ h.inputs + h.latches
-  fresh_variables =
-      let latches : length c0.latches ≡ h.latches = ap (λ (c : Circuit). length c.latches) is0 ∙ length-replicate h.latches fresh_latch in
-      counted c0.inputs (length c0.latches) (length c0.gates) (ap (λ (c : Circuit). c.inputs) is0) latches (ap (λ (c : Circuit). length c.gates) is0)
+-- how many latches and variables a circuit has that begins with so many inputs and latches, once its gates are there
+module _ (h : Counts) (fits : h.variables ≡ h.inputs + h.latches + h.gates) (c1 : Circuit) (is1 : c1 ≡ with_gates (fresh_circuit h.inputs h.latches) c1.gates) (gates : length c1.gates ≡ h.gates) where
+  pub all_latches : h.latches ≡ length c1.latches
+  all_latches = sym (ap (λ (c : Circuit). length c.latches) is1 ∙ length-replicate h.latches fresh_latch)
+
+  pub all_variables : h.variables ≡ variables (net c1)
+  all_variables = counted c1.inputs (length c1.latches) (ap (λ (c : Circuit). c.inputs) is1) all_latches
     where
-      counted : (i l g : ℕ) → i ≡ h.inputs → l ≡ h.latches → g ≡ 0 → i + l + g ≡ h.inputs + h.latches
-      counted i l g is1 is2 is3 = omega arith
+      counted : (i l : ℕ) → i ≡ h.inputs → h.latches ≡ l → h.variables ≡ i + l + length c1.gates
+      counted i l are1 are2 = omega (arith, fits, gates)
 
-  pub first_own : 2 * (h.inputs + h.latches + 1) ≡ 2 * (variables (net c0) + 1)
-  first_own = ap (λ (n : ℕ). 2 * (n + 1)) (sym fresh_variables)
+  module _ (c2 : Circuit) (ls : List Latch) (is2 : c2 ≡ with_latches c1 ls) where
+    pub still_variables : length c2.latches ≡ length c1.latches → h.variables ≡ variables (net c2)
+    still_variables same =
+        all_variables ∙ ap (λ (n : ℕ). c1.inputs + n + length c1.gates) (sym same)
+        ∙ ap (λ (n : ℕ). n + length c2.latches + length c1.gates) (sym (ap (λ (c : Circuit). c.inputs) is2)) ∙ ap (λ (n : ℕ). c2.inputs + length c2.latches + n) (sym (ap (λ (c : Circuit). length c.gates) is2))
 
-  pub gates_few : variables (net c0) + h.gates ≤ 1073741824
-  gates_few = subst (λ (n : ℕ). n + h.gates ≤ 1073741824) (sym fresh_variables) (omega (arith, fits, few))
-
-  module _ (c1 : Circuit) (gs : List Gate) (is1 : c1 ≡ with_gates c0 gs) (gates : length c1.gates ≡ length c0.gates + h.gates) where
-    pub all_latches : h.latches ≡ length c1.latches
-    all_latches = sym (ap (λ (c : Circuit). length c.latches) is1 ∙ ap (λ (c : Circuit). length c.latches) is0 ∙ length-replicate h.latches fresh_latch)
-
-    pub all_variables : h.variables ≡ variables (net c1)
-    all_variables = counted c1.inputs (length c1.latches) (length c1.gates) (ap (λ (c : Circuit). c.inputs) is1 ∙ ap (λ (c : Circuit). c.inputs) is0) all_latches (gates ∙ ap (λ (c : Circuit). length c.gates + h.gates) is0)
-      where
-        counted : (i l g : ℕ) → i ≡ h.inputs → h.latches ≡ l → g ≡ 0 + h.gates → h.variables ≡ i + l + g
-        counted i l g are1 are2 are3 = omega (arith, fits)
-
-    module _ (c2 : Circuit) (ls : List Latch) (is2 : c2 ≡ with_latches c1 ls) where
-      pub still_variables : length c2.latches ≡ length c1.latches → h.variables ≡ variables (net c2)
-      still_variables same =
-          all_variables ∙ ap (λ (n : ℕ). c1.inputs + n + length c1.gates) (sym same)
-          ∙ ap (λ (n : ℕ). n + length c2.latches + length c1.gates) (sym (ap (λ (c : Circuit). c.inputs) is2)) ∙ ap (λ (n : ℕ). c2.inputs + length c2.latches + n) (sym (ap (λ (c : Circuit). length c.gates) is2))
-
-      pub none_yet : circuit_lists c2 ≡ no_lists
-      none_yet = ap circuit_lists (is2 ∙ ap (λ (c : Circuit). with_latches c ls) (is1 ∙ ap (λ (c : Circuit). with_gates c gs) is0))
+    pub none_yet : circuit_lists c2 ≡ no_lists
+    none_yet = ap circuit_lists (is2 ∙ ap (λ (c : Circuit). with_latches c ls) is1)
 
 pub same_greatest : (m n : ℕ) → m ≡ n → 2 * m + 1 ≡ 2 * n + 1
 same_greatest m n is = ap (λ (k : ℕ). 2 * k + 1) is
@@ -133,13 +116,9 @@ pub behind_back : {A : Type 0} (r : Result (A × List ℕ) Stop) (t : List ℕ) 
 behind_back (Ok x) t e = (x.0, ap (λ (u : List ℕ). Ok (x.0, u)) (ok_same x.1 t e))
 behind_back (Err w) t e = absurd (not_err _ _ e)
 
-behind_stop : {A : Type 0} (r : Result (A × List ℕ) Stop) (e : Stop) → behind r ≡ Err e → r ≡ Err e
+pub behind_stop : {A : Type 0} (r : Result (A × List ℕ) Stop) (e : Stop) → behind r ≡ Err e → r ≡ Err e
 behind_stop (Ok x) e is = absurd (not_err _ _ (sym is))
 behind_stop (Err w) e is = ap (λ (v : Stop). Err v) (err_same w e is)
-
--- the latches behind a header of the binary form, by the code's first literal
-abbrev latches_at : Counts → ℕ → List ℕ → Result (List Latch × List ℕ) Stop
-latches_at h first text = nexts_at (2 * h.variables + 1) first h.latches text
 
 pub one_more : (n : ℕ) → 2 * (n + 1) ≡ 2 * suc n
 one_more n = omega arith
@@ -156,49 +135,19 @@ module _ (form : Form) (h : Counts) (text : List ℕ) where
       let first : behind (latches_in form (2 * h.variables + 1) (2 * suc h.inputs) h.latches text) ≡ Err e = subst (λ (n : ℕ). behind (latches_in form (2 * h.variables + 1) n h.latches text) ≡ Err e) (one_more h.inputs) is in
       rw first refl
 
-module _ (h : Counts) (text : List ℕ) where
-  own_first : {R : Result (List Latch × List ℕ) Stop} → latches_at h (2 * (h.inputs + 1)) text ≡ R → latches_at h (2 * suc h.inputs) text ≡ R
-  own_first {R} e = subst (λ (n : ℕ). latches_at h n text ≡ R) (one_more h.inputs) e
+-- the second pass: nothing stops it, since the first pass saw all lines
+module _ (form : Form) (h : Counts) (text gates : List ℕ) (seen : behind_lines_of form h text ≡ Ok gates) where
+  pub own_first : {R : Result (List Latch × List ℕ) Stop} → latches_in form (2 * h.variables + 1) (2 * (h.inputs + 1)) h.latches text ≡ R → latches_in form (2 * h.variables + 1) (2 * suc h.inputs) h.latches text ≡ R
+  own_first {R} e = subst (λ (n : ℕ). latches_in form (2 * h.variables + 1) n h.latches text ≡ R) (one_more h.inputs) e
 
-  -- where the first pass stops, reading stops
-  stops_by : (e : Stop) (r : Result (List Latch × List ℕ) Stop) → latches_at h (2 * suc h.inputs) text ≡ r → (behind r >>= (λ t. behind (properties_at h t))) ≡ Err e → binary_at h text ≡ Err e
-  unfolding binary_at
-  stops_by e (Ok x) n f = let q = behind_stop (properties_at h x.1) e f in rw (n, q) refl
-  stops_by e (Err w) n f = rw n (ap (λ (v : Stop). Err v) (err_same w e f))
+  pub no_latch_stops : (e : Stop) → latches_in form (2 * h.variables + 1) (2 * (h.inputs + 1)) h.latches text ≡ Err e → ⊥
+  no_latch_stops e n =
+      let m = own_first n in
+      let again : behind_lines_of form h text ≡ Err e = rw m refl in
+      not_err e gates (sym again ∙ seen)
 
-  pub stops_before : (e : Stop) → behind_lines_of Binary h text ≡ Err e → binary_at h text ≡ Err e
-  stops_before e is = stops_by e (latches_at h (2 * suc h.inputs) text) refl is
-
-  -- the second pass
-  pub stops_at_latch : (e : Stop) → latches_at h (2 * (h.inputs + 1)) text ≡ Err e → binary_at h text ≡ Err e
-  unfolding binary_at
-  stops_at_latch e n = rw (own_first n) refl
-
-  pub stops_at_property : (ls : List Latch) (t : List ℕ) (e : Stop) → latches_at h (2 * (h.inputs + 1)) text ≡ Ok (ls, t) → properties_at h t ≡ Err e → binary_at h text ≡ Err e
-  unfolding binary_at
-  stops_at_property ls t e n q = rw (own_first n, q) refl
-
-  module _ (gates : List ℕ) (seen : behind_lines_of Binary h text ≡ Ok gates) where
-    pub stops_at_gate : (e : Stop) → gates_at (2 * (h.inputs + h.latches + 1)) h.gates gates ≡ Err e → binary_at h text ≡ Err e
-    unfolding binary_at
-    stops_at_gate e is =
-        let b = bind-back (behind (latches_at h (2 * suc h.inputs) text)) (λ (t : List ℕ). behind (properties_at h t)) gates seen in
-        let n = behind_back (latches_at h (2 * suc h.inputs) text) b.value b.was in
-        let q = behind_back (properties_at h b.value) gates b.then' in
-        let g : gates_at (2 * suc (h.inputs + h.latches)) h.gates gates ≡ Err e = subst (λ (k : ℕ). gates_at k h.gates gates ≡ Err e) (one_more (h.inputs + h.latches)) is in
-        rw (n.1, q.1, g) refl
-
-    -- what is left to be read is names
-    pub names_left : (ls : List Latch) (t g2 names : List ℕ) (p : Properties) (gs : List Gate) (c0 c1 c2 c3 : Circuit) → latches_at h (2 * (h.inputs + 1)) text ≡ Ok (ls, t) → properties_at h t ≡ Ok (p, g2)
-        → gates_at (2 * (h.inputs + h.latches + 1)) h.gates gates ≡ Ok (gs, names) → c0 ≡ fresh_circuit h.inputs h.latches → c1 ≡ with_gates c0 gs → c2 ≡ with_latches c1 ls → c3 ≡ with_properties c2 p
-        → names_at c3 names ≡ binary_at h text
-    unfolding binary_at
-    names_left ls t g2 names p gs c0 c1 c2 c3 n q g is0 is1 is2 is3 =
-        let m : latches_at h (2 * suc h.inputs) text ≡ Ok (ls, t) = own_first n in
-        let again : behind_lines_of Binary h text ≡ Ok g2 = rw (m, q) refl in
-        let same : gates ≡ g2 = ok_same gates g2 (sym seen ∙ again) in
-        let rest : gates_at (2 * suc (h.inputs + h.latches)) h.gates g2 ≡ Ok (gs, names) =
-        ap (λ (k : ℕ). gates_at k h.gates g2) (sym (one_more (h.inputs + h.latches))) ∙ ap (gates_at (2 * (h.inputs + h.latches + 1)) h.gates) (sym same) ∙ g in
-        let circuit : c3 ≡ nameless h.inputs ls p gs =
-        is3 ∙ ap (λ (c : Circuit). with_properties c p) (is2 ∙ ap (λ (c : Circuit). with_latches c ls) (is1 ∙ ap (λ (c : Circuit). with_gates c gs) is0)) in
-        rw (m, q, rest) (ap (λ (c : Circuit). names_at c names) circuit)
+  pub no_property_stops : (ls : List Latch) (t : List ℕ) (e : Stop) → latches_in form (2 * h.variables + 1) (2 * (h.inputs + 1)) h.latches text ≡ Ok (ls, t) → properties_at h t ≡ Err e → ⊥
+  no_property_stops ls t e n q =
+      let m = own_first n in
+      let again : behind_lines_of form h text ≡ Err e = rw (m, q) refl in
+      not_err e gates (sym again ∙ seen)

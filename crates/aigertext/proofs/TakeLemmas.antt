@@ -1,20 +1,19 @@
 -- What was read so far stands on the circuit, and the rest is still to be read.
-use Rattle.std.proofs.Common.{◌≡◌, ℕ, ◌+◌, ◌-◌, ◌*◌, ◌<◌, ◌≤◌, List, [], ◌∷◌, ◌++◌, length, drop, get_or, length-drop, Option, None, Some, Result, Ok, Err, ◌⊎◌, inl, inr, nat_lt, nat_le, false, refl, sym, ap, ◌∙◌, append_assoc, append-nil, length-append, arith, slice_set}
+use Rattle.std.proofs.Common.{◌≡◌, ℕ, ◌+◌, ◌-◌, ◌*◌, ◌<◌, ◌≤◌, List, [], ◌∷◌, ◌++◌, length, drop, get_or, length-drop, Option, None, Some, Ok, Err, ◌⊎◌, inl, inr, nat_lt, false, refl, sym, ap, ◌∙◌, append_assoc, append-nil, length-append, arith, slice_set}
 use Rattle.std.proofs.lemmas.Bool.Decides.{nat_tests}
 use Rattle.std.proofs.lemmas.List.{drop_more, drop_all, set_at}
-use Rattle.aiger.specs.declared.circuit.Gate.{Gate}
 use Rattle.aiger.specs.declared.circuit.Latch.{Latch}
 use Rattle.aiger.specs.declared.fault.CircuitFault.{CircuitFault}
 use Rattle.aiger.specs.declared.fault.CircuitFault.TheVariants.{NoMemory}
-use Rattle.aiger.specs.Limits.{greatest_count}
 use Rattle.aiger.specs.Literal.{variable}
 use Rattle.aiger.specs.Net.{variables}
-use Rattle.aiger.specs.Circuit.{Circuit, net, with_gate, with_latch, literal_refusal, gate_refusal}
+use Rattle.aiger.specs.Circuit.{Circuit, net, with_latch, literal_refusal}
 use Rattle.aigertext.specs.declared.fault.Stop.{Stop}
 use Rattle.aigertext.specs.declared.forms.Form.{Form}
-use Rattle.aigertext.specs.Reading.{line_at, literal_of, gate_at, literals_at, gates_at}
-use Rattle.aigertext.specs.Passes.{onto, latch_in, latches_in, with_gates, with_latches}
-use Rattle.aigertext.proofs.PassLemmas.{onto_step, onto_stop, onto_done, gates_step, gates_stop, gates_done}
+use Rattle.aigertext.specs.Reading.{line_at, literal_of, literals_at}
+use Rattle.aigertext.specs.Passes.{onto, latch_in, latches_in, with_latches}
+use Rattle.aigertext.proofs.PassLemmas.{onto_step, onto_stop, onto_done}
+use Rattle.aigertext.proofs.GateLemmas.{onto_nothing}
 
 -- an error of a call that nothing refuses is want of memory
 pub only_memory : (e : CircuitFault) (fault : Option CircuitFault) → fault ≡ None → (fault ≡ Some e) ⊎ ((fault ≡ None) × (e ≡ NoMemory)) → e ≡ NoMemory
@@ -28,10 +27,6 @@ no_fault none some = cc
 -- what a literal that is small enough is
 in_range : (g v l : ℕ) → g ≡ 2 * v + 1 → l ≤ g → nat_lt v (variable l) ≡ false
 in_range g v l is small = let low : variable l ≤ v = omega arith in grind (arith, nat_tests)
-
-onto_nothing : {A : Type 0} (r : Result (List A × List ℕ) Stop) → onto [] r ≡ r
-onto_nothing (Ok x) = refl
-onto_nothing (Err e) = refl
 
 less_nothing : (n : ℕ) → n - 0 ≡ n
 less_nothing n = omega arith
@@ -129,50 +124,3 @@ pub set_many : (form : Form) (greatest first count index : ℕ) (before now : Ci
 set_many form greatest first count index before now text rest p all within' lines =
     ap (λ (c : Circuit). length c.latches) p.is ∙ length-append p.latches (drop index before.latches)
     ∙ omega (arith, p.many, length-drop index before.latches, all, within', lines)
-
--- ---- gates
-
-pub record ArePushed (first count index : ℕ) (before now : Circuit) (text rest : List ℕ) : Type 0 where
-  pub gates : List Gate
-  pub is : now ≡ with_gates before gates
-  pub many : length gates ≡ index
-  pub read : onto gates (gates_at (first + 2 * index) (count - index) rest) ≡ gates_at first count text
-
-pub gates_begin : (first count : ℕ) (c : Circuit) (text : List ℕ) → ArePushed first count 0 c c text text
-gates_begin first count c text =
-    let here : first + 2 * 0 ≡ first = omega arith in
-    record {
-      gates = [];
-      is = ap (λ (gs : List Gate). record c { gates = gs }) (sym (append-nil c.gates));
-      many = refl;
-      read = ap (λ (k : ℕ). onto [] (gates_at k (count - 0) text)) here ∙ ap (λ (k : ℕ). onto [] (gates_at first k text)) (less_nothing count) ∙ onto_nothing (gates_at first count text);
-    }
-
-pub many_gates : (before now : Circuit) (gs : List Gate) → now ≡ with_gates before gs → length now.gates ≡ length before.gates + length gs
-many_gates before now gs is = ap (λ (c : Circuit). length c.gates) is ∙ length-append before.gates gs
-
-module _ (first count index : ℕ) (before now : Circuit) (text rest : List ℕ) (p : ArePushed first count index before now text rest) (more : index < count) where
-  pub gate_step : (g : Gate) (after : List ℕ) (next : Circuit) → gate_at (first + 2 * index) rest ≡ Ok (g, after) → next ≡ with_gate now g.rhs0 g.rhs1 → ArePushed first count (index + 1) before next text after
-  gate_step g after next one is = record {
-    gates = p.gates ++ g ∷ [];
-    is = is ∙ ap (λ (c : Circuit). with_gate c g.rhs0 g.rhs1) p.is ∙ ap (λ (gs : List Gate). record before { gates = gs }) (append_assoc before.gates p.gates (g ∷ []));
-    many = length-append p.gates (g ∷ []) ∙ ap (λ (k : ℕ). k + 1) p.many;
-    read = gates_step (first + 2 * index) (count - index) (count - (index + 1)) rest (omega arith) p.gates g after (first + 2 * (index + 1)) (gates_at first count text) (omega arith) one p.read;
-  }
-
-  pub gate_stop : (e : Stop) → gate_at (first + 2 * index) rest ≡ Err e → gates_at first count text ≡ Err e
-  gate_stop e one = gates_stop (first + 2 * index) (count - index) (count - (index + 1)) rest (omega arith) p.gates e (gates_at first count text) one p.read
-
-  pub gate_accepts : (x y : ℕ) → x < first + 2 * index → y ≤ x → first ≡ 2 * (variables (net before) + 1) → variables (net before) + count ≤ 1073741824 → gate_refusal now x y ≡ None
-  gate_accepts x y below' order next few =
-      let now_many : variables (net now) ≡ variables (net before) + index =
-      ap (λ (c : Circuit). c.inputs + length c.latches + length now.gates) p.is ∙ omega (arith, many_gates before now p.gates p.is, p.many) in
-      let first_in : nat_lt (variables (net now)) (variable x) ≡ false = let low : variable x ≤ variables (net now) = omega (arith, now_many, below', next) in grind (arith, nat_tests) in
-      let second_in : nat_lt (variables (net now)) (variable y) ≡ false = let low : variable y ≤ variables (net now) = omega (arith, now_many, below', order, next) in grind (arith, nat_tests) in
-      let ordered : nat_lt x y ≡ false = grind (arith, nat_tests) in
-      let room : variables (net now) < greatest_count = omega (arith, now_many, few, more) in
-      let free : nat_le greatest_count (variables (net now)) ≡ false = grind (arith, nat_tests) in
-      rw (first_in, second_in, ordered, free) refl
-
-pub gates_are_done : (first count index : ℕ) (before now : Circuit) (text rest : List ℕ) (p : ArePushed first count index before now text rest) → count ≤ index → gates_at first count text ≡ Ok (p.gates, rest)
-gates_are_done first count index before now text rest p all = gates_done (first + 2 * index) (count - index) rest p.gates (gates_at first count text) (omega arith) p.read

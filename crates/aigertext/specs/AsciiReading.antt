@@ -1,18 +1,17 @@
 -- Reading a circuit's ascii text from left to right ("AIGER 1.9 and Beyond", ascii format), with the first fault that is met: the lists of the file, then the circuit that they are, then its names; and reading a text of either form.
 use Rattle.std.specs.Prelude.{◌≡◌, ℕ, zero, suc, ◌+◌, ◌-◌, ◌*◌, ◌≤◌, ◌&&◌, true, not, List, [], ◌∷◌, length, Option, Some, None, Result, Ok, Err, nat_lt, nat_le, ◌⊎◌, if◌then◌else◌}
 use Rattle.base.specs.Decimals.{number_of}
-use Rattle.aiger.specs.declared.circuit.Reset.TheVariants as reset
 use Rattle.aiger.specs.declared.loose.GateLine.{GateLine}
 use Rattle.aiger.specs.declared.loose.LatchLine.{LatchLine}
 use Rattle.aiger.specs.Circuit.{Circuit}
 use Rattle.aiger.specs.Literal.{variable}
-use Rattle.aiger.specs.Loose.{Loose, IsLoose, empty_loose, is_defined, is_defining, with_input_line, with_latch_line, with_gate_line}
+use Rattle.aiger.specs.Loose.{Loose, empty_loose, is_defined, is_defining, with_input_line, with_latch_line, with_gate_line}
 use Rattle.aiger.specs.Renumbering.{IsRenumbered, used_lines, first_undefined, IsFirstCyclic}
 use Rattle.aigertext.specs.declared.reading.counts.Counts.{Counts}
 use Rattle.aigertext.specs.declared.fault.Stop.{Stop}
 use Rattle.aigertext.specs.declared.fault.Why.{Why}
 use Rattle.aigertext.specs.declared.fault.Why.TheVariants as why
-use Rattle.aigertext.specs.Reading.{◌>>=◌, stop, cut, fields, line_at, some_or, within, reset_of, header_of, lists_of, Properties, properties_at, names_at, binary_at, fault_of}
+use Rattle.aigertext.specs.Reading.{◌>>=◌, stop, cut, fields, line_at, some_or, within, next_fields, header_of, lists_of, Properties, properties_at, names_at, binary_at, fault_of}
 use Rattle.aigertext.specs.declared.forms.Form.{Form}
 use Rattle.aigertext.specs.declared.forms.Form.TheVariants.{Ascii, Binary}
 use Rattle.aigertext.specs.declared.fault.ReadFault.{ReadFault}
@@ -35,24 +34,17 @@ input_by greatest l (Some n) = defining why.BadNumber greatest l n
 unfoldable pub input_of : ℕ → Loose → List ℕ → Result ℕ Why
 input_of greatest l line = input_by greatest l (number_of line)
 
--- a latch: its own literal, its next literal, and how it begins
+-- a latch: its own literal, and what the binary form has of it
 abbrev pub own_by : ℕ → Loose → Option ℕ → Result ℕ Why
 own_by greatest l None = Err why.BadLatch
 own_by greatest l (Some n) = defining why.BadLatch greatest l n
 
 unfoldable pub latch_fields : ℕ → Loose → List (List ℕ) → Result LatchLine Why
 latch_fields greatest l [] = Err why.BadLatch
-latch_fields greatest l (current ∷ []) = Err why.BadLatch
-latch_fields greatest l (current ∷ next ∷ []) = do
+latch_fields greatest l (current ∷ others) = do
   own ← own_by greatest l (number_of current)
-  n ← within why.BadLatch greatest (number_of next)
-  Ok (record { current = own; next = n; reset = reset.Zero })
-latch_fields greatest l (current ∷ next ∷ begins ∷ []) = do
-  own ← own_by greatest l (number_of current)
-  n ← within why.BadLatch greatest (number_of next)
-  r ← reset_of own (number_of begins)
-  Ok (record { current = own; next = n; reset = r })
-latch_fields greatest l (current ∷ next ∷ begins ∷ more ∷ others) = Err why.BadLatch
+  x ← next_fields greatest own others
+  Ok (record { current = own; next = x.next; reset = x.reset })
 
 abbrev pub latch_of : ℕ → Loose → List ℕ → Result LatchLine Why
 latch_of greatest l line = latch_fields greatest l (fields line)
@@ -137,10 +129,9 @@ pub record AnswersCycle (h : Counts) (text : List ℕ) (l : Loose) (answer : Res
   pub cyclic : IsFirstCyclic l gate
   pub is : answer ≡ Err (stop_behind text (lines_before h (use_of_gate l gate)) why.Cycle)
 
--- what the lists of a file, which keep what such lists keep, or where reading them stops, have for an answer
+-- what the lists of a file, or where reading them stops, have for an answer
 abbrev pub AnswersLists : Counts → List ℕ → Result (Loose × List ℕ) Stop → Result Circuit Stop → Type 0
-AnswersLists h text (Ok x) answer =
-    IsLoose x.0 × (AnswersNamed x.0 x.1 answer ⊎ (AnswersUndefined h text x.0 answer ⊎ AnswersCycle h text x.0 answer))
+AnswersLists h text (Ok x) answer = AnswersNamed x.0 x.1 answer ⊎ (AnswersUndefined h text x.0 answer ⊎ AnswersCycle h text x.0 answer)
 AnswersLists h text (Err e) answer = answer ≡ Err e
 
 -- reading what stands behind a header of the ascii form: the circuit that it spells, or where reading stops

@@ -47,7 +47,12 @@ abbrev pub latches_text : Form → ℕ → List Latch → List ℕ
 latches_text Ascii first ls = latch_lines first ls
 latches_text Binary first ls = next_lines first ls
 
--- the gates in a form: lines or deltas
+-- a gate in a form: a line, or two deltas
+abbrev pub gate_text : Form → ℕ → Gate → List ℕ
+gate_text Ascii own g = numbers_line (own ∷ g.rhs0 ∷ g.rhs1 ∷ [])
+gate_text Binary own g = delta (own - g.rhs0) ++ delta (g.rhs0 - g.rhs1)
+
+-- the gates in a form, the first of which has the given variable
 abbrev pub gates_text : Form → ℕ → List Gate → List ℕ
 gates_text Ascii first gs = gate_lines first gs
 gates_text Binary first gs = gate_deltas first gs

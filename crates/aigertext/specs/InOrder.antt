@@ -1,55 +1,89 @@
--- Words between the parts of the reader of an ascii text whose variables have a circuit's numbers in turn, and whose gates stand behind their operands.
-use Rattle.std.specs.Prelude.{◌≡◌, ℕ, suc, ◌+◌, ◌*◌, Bool, true, false, List, ◌++◌, Option, Ok}
+-- Words between the parts of the reader of a text that is read straight onto a circuit, of whose gates a piece is held: a binary text, or an ascii text whose variables have a circuit's numbers in turn, and whose gates stand behind their operands.
+use Rattle.std.specs.Prelude.{◌≡◌, ℕ, suc, ◌+◌, ◌-◌, ◌*◌, List, ◌++◌, length, take, Option, Some, None, Result, Ok, Err, ◌⊎◌, IfSome}
 use Rattle.std.specs.Io.KnownBytes.{Consumes}
 use Rattle.aiger.specs.declared.circuit.Gate.{Gate}
 use Rattle.aiger.specs.declared.circuit.Latch.{Latch}
 use Rattle.aiger.specs.Net.{variables}
 use Rattle.aiger.specs.Circuit.{Circuit, IsCircuit, net}
 use Rattle.aigertext.specs.declared.reading.counts.Counts.{Counts}
-use Rattle.aigertext.specs.declared.forms.Form.TheVariants.{Ascii, Binary}
-use Rattle.aigertext.specs.declared.reading.in_order.Taken.{Taken}
-use Rattle.aigertext.specs.declared.reading.in_order.Taken.TheVariants as taken
-use Rattle.aigertext.specs.Ascii.{input_lines, gate_lines}
+use Rattle.aigertext.specs.declared.fault.ReadFault.{ReadFault}
+use Rattle.aigertext.specs.declared.fault.Stop.{Stop}
+use Rattle.aigertext.specs.declared.fault.Why.TheVariants as why
+use Rattle.aigertext.specs.declared.forms.Form.{Form}
+use Rattle.aigertext.specs.declared.forms.Form.TheVariants.{Binary}
+use Rattle.aigertext.specs.declared.reading.taking.Taken.{Taken}
+use Rattle.aigertext.specs.declared.reading.taking.Taken.TheVariants as taken
+use Rattle.aigertext.specs.Binary.{inputs_text, gates_text}
 use Rattle.aigertext.specs.Counts.{Fits}
-use Rattle.aigertext.specs.Spelling.{IsAsciiText}
+use Rattle.aigertext.specs.Spelling.{Spells}
+use Rattle.aigertext.specs.AsciiReading.{AnswersText}
 use Rattle.aigertext.specs.Reading.{line_at, header_of, Properties, properties_at, nameless, names_at}
-use Rattle.aigertext.specs.Passes.{with_gates, latches_in, behind_lines_of}
+use Rattle.aigertext.specs.Passes.{with_gates, latches_in, behind_lines_of, ReadsText}
 
--- the lines behind a header: inputs in turn, then those of latches and properties, behind which the gates stand
-pub record AreInOrder (h : Counts) (lines latches gates : List ℕ) : Type 0 where
+-- ---- the text
+
+-- the lines behind a header: those of the inputs in turn, where the form has them, then those of latches and properties, behind which the gates stand
+pub record AreInOrder (form : Form) (h : Counts) (lines latches gates : List ℕ) : Type 0 where
   pub fits : Fits Binary h
-  pub inputs : lines ≡ input_lines 1 h.inputs ++ latches
-  pub seen : behind_lines_of Ascii h latches ≡ Ok gates
+  pub inputs : lines ≡ inputs_text form h.inputs ++ latches
+  pub seen : behind_lines_of form h latches ≡ Ok gates
 
 -- a text that begins with a header and such lines
-pub record IsFront (h : Counts) (text latches gates : List ℕ) : Type 0 where
+pub record IsFront (form : Form) (h : Counts) (text latches gates : List ℕ) : Type 0 where
   pub lines : List ℕ
-  pub header : line_at header_of text ≡ Ok ((Ascii, h), lines)
-  pub in_order : AreInOrder h lines latches gates
+  pub header : line_at header_of text ≡ Ok ((form, h), lines)
+  pub in_order : AreInOrder form h lines latches gates
 
--- gates were put onto a circuit by their lines at the front of what was to come, each with the circuit's next variable
-pub record PutsGates (old new : Circuit) (before after : Option (List ℕ)) : Type 0 where
+-- what stands before the gates of such a text, these gates and what stands behind them
+abbrev pub text_with : Form → Counts → List ℕ → List ℕ → List Gate → List ℕ → List ℕ
+text_with form h text gates gs behind =
+    take (length text - length gates) text ++ (gates_text form (suc (h.inputs + h.latches)) gs ++ behind)
+
+-- ---- the circuit
+
+-- gates were put onto a circuit by their text at the front of what was to come, which has so many bytes; the first has the circuit's next variable
+pub record PutsGates (form : Form) (old new : Circuit) (passed : ℕ) (before after : Option (List ℕ)) : Type 0 where
   pub gates : List Gate
   pub is : new ≡ with_gates old gates
-  pub lines : Consumes before after (gate_lines (suc (variables (net old))) gates)
+  pub long : passed ≡ length (gates_text form (suc (variables (net old))) gates)
+  pub text : Consumes before after (gates_text form (suc (variables (net old))) gates)
 
--- a circuit has these gates, the latches and properties of a text, and the names of another one
-pub record Finishes (h : Counts) (gates : List Gate) (c : Circuit) (text names : List ℕ) : Type 0 where
+-- a circuit of these gates with the latches and properties of a text has this answer for the names of another one
+pub record Finishes (form : Form) (h : Counts) (gates : List Gate) (answer : Result Circuit Stop) (text names : List ℕ) : Type 0 where
   pub latches : List Latch
   pub properties : Properties
   pub behind_latches : List ℕ
   pub behind_properties : List ℕ
-  pub are_latches : latches_in Ascii (2 * h.variables + 1) (2 * suc h.inputs) h.latches text ≡ Ok (latches, behind_latches)
+  pub are_latches : latches_in form (2 * h.variables + 1) (2 * suc h.inputs) h.latches text ≡ Ok (latches, behind_latches)
   pub are_properties : properties_at h behind_latches ≡ Ok (properties, behind_properties)
   pub valid : IsCircuit (nameless h.inputs latches properties gates)
-  pub are_names : names_at (nameless h.inputs latches properties gates) names ≡ Ok c
+  pub are_names : names_at (nameless h.inputs latches properties gates) names ≡ answer
 
--- so it is, or it still has the gates
-abbrev pub IsFinish : Bool → Counts → List Gate → Circuit → List ℕ → List ℕ → Type 0
-IsFinish true h gates c text names = Finishes h gates c text names
-IsFinish false h gates c text names = c.gates ≡ gates
+-- so the names were read onto it, or reading stops at one, or memory ran out
+abbrev pub IsFinish : {X : Type 0} → Form → Counts → List Gate → Circuit → List ℕ → List ℕ → Result X Stop → Type 0
+IsFinish form h gates c text names (Ok x) = Finishes form h gates (Ok c) text names × IsCircuit c
+IsFinish form h gates c text names (Err e) = (e.why ≡ why.NoMemory) ⊎ Finishes form h gates (Err e) text names
 
--- what was taken from a source: the circuit that its bytes spell, or all of them
-abbrev pub IsTaken : List ℕ → Taken → Type 0
-IsTaken all (taken.Circuit c) = IsAsciiText all c
-IsTaken all (taken.Text text) = text.items ≡ all
+-- a text was read onto a circuit that it spells, or reading it stops, or memory ran out
+abbrev pub ReadsOnto : {X : Type 0} → Circuit → List ℕ → Result X Stop → Type 0
+ReadsOnto c text (Ok x) = Spells text c
+ReadsOnto c text (Err e) = (e.why ≡ why.NoMemory) ⊎ AnswersText text (Err e)
+
+-- ---- a source
+
+-- what was read is the circuit or the fault of a text that is the source's, where that is known
+pub record IsReadOf (known : Option (List ℕ)) (r : Result Circuit ReadFault) : Type 0 where
+  pub text : List ℕ
+  pub is : IfSome known (λ all. text ≡ all)
+  pub reads : ReadsText text r
+
+-- what was taken from a source: the circuit that its bytes spell, their fault, or all of them
+abbrev pub IsTaken : Option (List ℕ) → Taken → Type 0
+IsTaken known (taken.Circuit c) = IsReadOf known (Ok c)
+IsTaken known (taken.Fault e) = IsReadOf known (Err e)
+IsTaken known (taken.Text text) = IfSome known (λ all. text.items ≡ all)
+
+-- the same, where nothing stands for a circuit that was there before
+abbrev pub IsTakenOnto : Option (List ℕ) → Circuit → Option Taken → Type 0
+IsTakenOnto known c None = IsReadOf known (Ok c)
+IsTakenOnto known c (Some t) = IsTaken known t

@@ -1,12 +1,13 @@
 -- Words between the parts of the reader, which goes over the lines of latches and properties twice: what stands behind the lines that were looked at, and what a circuit has of those that were read.
-use Rattle.std.specs.Prelude.{◌≡◌, ℕ, zero, suc, ◌+◌, ◌*◌, Bool, false, ◌==◌, List, [], ◌∷◌, ◌++◌, Option, Some, None, Result, Ok, Err, ◌⊎◌, if◌then◌else◌}
+use Rattle.std.specs.Prelude.{◌≡◌, ℕ, zero, suc, ◌+◌, ◌-◌, ◌*◌, Bool, false, ◌==◌, List, [], ◌∷◌, ◌++◌, Option, Some, None, Result, Ok, Err, ◌⊎◌, if◌then◌else◌}
 use Rattle.std.specs.List.{sum}
 use Rattle.aiger.specs.declared.circuit.Gate.{Gate}
 use Rattle.aiger.specs.declared.circuit.Latch.{Latch}
 use Rattle.aiger.specs.Circuit.{Circuit}
 use Rattle.aiger.specs.Loose.{Loose}
 use Rattle.aiger.specs.Renumbering.{IsRenumbered}
-use Rattle.aigertext.specs.AsciiReading.{AnswersUndefined, AnswersCycle, AnswersText, IsFaultOf}
+use Rattle.aigertext.specs.AsciiReading.{AnswersUndefined, AnswersCycle, IsFaultOf}
+use Rattle.aigertext.specs.Spelling.{Spells}
 use Rattle.aigertext.specs.declared.reading.counts.Counts.{Counts}
 use Rattle.aigertext.specs.declared.fault.ReadFault.{ReadFault}
 use Rattle.aigertext.specs.declared.fault.Stop.{Stop}
@@ -114,7 +115,19 @@ with_properties c p =
 
 -- ---- whole texts
 
--- a text was read as a circuit or has the fault, unless memory ran out
+-- what is told where reading stops, of so many bytes: want of memory has place 0, and no text has a device's fault
+abbrev pub told : ℕ → ℕ → Why → ReadFault
+told total left why.NoMemory = record { place = 0; why = why.NoMemory }
+told total left why.Device = record { place = 0; why = why.NoMemory }
+told total left w = record { place = total - left; why = w }
+
+-- whether a why is one that a text has
+abbrev pub IsOfText : Why → Type 0
+IsOfText why.NoMemory = ⊥
+IsOfText why.Device = ⊥
+IsOfText w = Unit {0}
+
+-- a text was read as a circuit that it spells or has the fault, unless memory ran out
 abbrev pub ReadsText : List ℕ → Result Circuit ReadFault → Type 0
-ReadsText text (Ok c) = AnswersText text (Ok c)
-ReadsText text (Err e) = (e ≡ record { place = 0; why = why.NoMemory }) ⊎ IsFaultOf text e
+ReadsText text (Ok c) = Spells text c
+ReadsText text (Err e) = (e ≡ record { place = 0; why = why.NoMemory }) ⊎ (IsOfText e.why × IsFaultOf text e)

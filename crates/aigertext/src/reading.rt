@@ -1,9 +1,12 @@
 //! Reading circuits.
-ghost use Rattle.std.specs.Prelude.{◌≡◌, ◌⊎◌, ℕ, List, Some, Ok, IfOk, IfErr, IfSome, OnOk};
+ghost use Rattle.std.specs.Prelude.{◌≡◌, ◌⊎◌, ℕ, List, Option, Some, Ok, IfOk, IfErr, IfSome, OnOk};
 ghost use Rattle.std.specs.Io.KnownBytes.{IsAtEnd};
 ghost use Rattle.base.specs.Device.{HasRisen};
 ghost use Rattle.aiger.specs.Circuit.{Circuit as CircuitValue};
-ghost use Rattle.aigertext.specs.Reading.{fault_of};
+ghost use Rattle.aigertext.specs.Reading.{line_at, header_of};
+ghost use Rattle.aigertext.specs.Counts.{AreSmall, Fits};
+ghost use Rattle.aigertext.specs.InOrder.{IsTaken, IsReadOf};
+ghost use Rattle.aigertext.specs.declared.forms.Form.TheVariants as form;
 ghost use Rattle.aigertext.specs.AsciiReading.{AnswersText, IsFaultOf, GivesCircuit};
 ghost use Rattle.aigertext.specs.Spelling.{Spells};
 ghost use Rattle.aigertext.specs.Passes.{ReadsBy, ReadsText};
@@ -12,13 +15,13 @@ ghost use Rattle.aigertext.specs.declared.fault.Why.TheVariants as why;
 mod ascii;
 mod ascii_definitions;
 mod ascii_lines;
-mod binary;
-mod binary_definitions;
 mod counts;
 mod deltas;
 mod fields;
 mod finishing;
 mod first_pass;
+mod front;
+mod gates;
 mod header;
 mod in_order;
 mod latches;
@@ -28,18 +31,52 @@ mod numbers;
 mod pieces;
 mod plain_numbers;
 mod properties;
+mod taking;
 
 use crate::fault::{ReadFault, Stop, Why};
 use crate::forms::Form;
 use crate::laws::one_answer;
 use crate::reading::ascii::read_file;
-use crate::reading::binary::read_sections;
-use crate::reading::in_order::{Taken, take};
-use crate::reading::lines::header_line;
+use crate::reading::counts::Counts;
+use crate::reading::finishing::read_left;
+use crate::reading::first_pass::check_lines;
+use crate::reading::lines::{fault, header_line, stop};
+use crate::reading::taking::{Taken, take};
 use aiger::Circuit;
 use aiger::laws::{circuit_with_a_name, one_renumbering};
 use base::{ReadAllFault, Source};
 use std::alloc::Global;
+
+/// The circuit of a binary text whose lines behind the header are given.
+fn read_lines(alloc: Global, counts: &Counts, text: &[u8], lines: &[u8]) -> Result<Circuit, Stop>
+    requires header { line_at header_of text.now ≡ Ok ((form.Binary, counts.now), lines.now) }
+    requires small { AreSmall counts.now }
+    requires fits { Fits form.Binary counts.now }
+    ensures { ReadsBy (λ e. e.why) (λ c. c) result (AnswersText text.now) }
+{
+    one_renumbering();
+    let gates = match check_lines(Form::Binary, lines, counts) {
+        Ok(gates) => gates,
+        Err(stop) => return Err(stop),
+    };
+    let mut circuit = match Circuit::new(alloc, counts.inputs, counts.latches) {
+        Ok(circuit) => circuit,
+        Err(_) => return Err(stop(text, Why::NoMemory)),
+    };
+    match read_left(
+        alloc,
+        Form::Binary,
+        counts,
+        text,
+        lines,
+        gates,
+        &mut circuit,
+        gates,
+    ) {
+        Ok(()) => Ok(circuit),
+        Err(stop) => Err(stop),
+    }
+}
 
 /// The circuit that a text spells; its first word decides the form.
 #[tactic(auto, unfolding(crate::specs::AsciiReading::AnswersText))]
@@ -47,44 +84,38 @@ fn read_known(alloc: Global, text: &[u8]) -> Result<Circuit, Stop>
     ensures { ReadsBy (λ e. e.why) (λ c. c) result (AnswersText text.now) }
 {
     match header_line(text) {
-        Ok(((Form::Binary, counts), rest)) => read_sections(alloc, &counts, rest),
-        Ok(((Form::Ascii, counts), rest)) => read_file(alloc, &counts, rest),
+        Ok(((Form::Binary, counts), lines)) => read_lines(alloc, &counts, text, lines),
+        Ok(((Form::Ascii, counts), lines)) => read_file(alloc, &counts, lines),
         Err(stop) => Err(stop),
-    }
-}
-
-/// The fault of a text at which reading stopped; want of memory has place 0.
-fn fault(text: &[u8], stop: Stop) -> ReadFault
-    ensures full { stop.why ≡ why.NoMemory → result ≡ record { place = 0; why = why.NoMemory } }
-    ensures placed { ¬ (stop.why ≡ why.NoMemory) → result ≡ fault_of text.now stop }
-{
-    match stop.why {
-        Why::NoMemory => ReadFault {
-            place: 0,
-            why: Why::NoMemory,
-        },
-        why => ReadFault {
-            place: text.len().saturating_sub(stop.left) as u64,
-            why,
-        },
     }
 }
 
 /// The circuit that a text spells, or its fault.
 fn read_text(alloc: Global, text: &[u8]) -> Result<Circuit, ReadFault>
-    ensures reads { ReadsText text.now result }
-    ensures spells { IfOk result (λ c. Spells text.now c) }
+    ensures { ReadsText text.now result }
 {
     one_renumbering();
     circuit_with_a_name();
     match read_known(alloc, text) {
         Ok(circuit) => Ok(circuit),
-        Err(stop) => Err(fault(text, stop)),
+        Err(stop) => Err(fault(text.len() as u64, stop)),
+    }
+}
+
+/// The circuit of what was taken from a source, or its fault.
+fn read_taken(alloc: Global, taken: Taken) -> Result<Circuit, ReadFault>
+    ensures { (known : Option (List ℕ)) → IsTaken known taken → IsReadOf known result }
+{
+    match taken {
+        Taken::Circuit(circuit) => Ok(circuit),
+        Taken::Fault(fault) => Err(fault),
+        Taken::Text(text) => read_text(alloc, text.as_slice()),
     }
 }
 
 /// The circuit that a source's bytes spell; the first word decides the form ("AIGER 1.9 and Beyond", ascii and binary
-/// format). The source is read to its end, also behind a fault; the gates of an ascii text in order are not held as text.
+/// format). The source is read to its end, also behind a fault; the gates of
+/// a binary text, and of an ascii text in order, are not held as text.
 ///
 /// Errors: `Device` where the source failed in this call and `NoMemory` where a growth was refused, with place 0;
 /// else the first why of the first line or delta that has one, at its place.
@@ -108,8 +139,7 @@ pub fn read<S: Source>(alloc: Global, source: &mut S) -> Result<Circuit, ReadFau
     one_answer();
     one_renumbering();
     match take(alloc, source) {
-        Ok(Taken::Circuit(circuit)) => Ok(circuit),
-        Ok(Taken::Text(text)) => read_text(alloc, text.as_slice()),
+        Ok(taken) => read_taken(alloc, taken),
         Err(ReadAllFault::Device) => Err(ReadFault {
             place: 0,
             why: Why::Device,

@@ -137,7 +137,6 @@ fn named(
     requires { AreSmall counts.now }
     ensures { ReadsBy (λ e. e.why) (λ c. c) result (AnswersLists counts.now text.now (Ok (lists.now, names.now))) }
 {
-    let _valid = lists.inputs();
     let mut circuit = match numbered(alloc, lists, counts, text) {
         Ok(circuit) => circuit,
         Err(stop) => return Err(stop),

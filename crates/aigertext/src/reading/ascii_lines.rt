@@ -2,14 +2,14 @@
 ghost use Rattle.std.specs.Prelude.{◌≡◌, ◌≤◌, ◌∷◌, [], Ok, IfOk, IfSome};
 ghost use Rattle.base.specs.Decimals.{number_of};
 ghost use Rattle.aigertext.specs.Reading.{Gives, line_at};
-ghost use Rattle.aigertext.specs.AsciiReading.{IsNew, defining, input_of, own_by, latch_fields, latch_of, gate_fields, gate_of};
+ghost use Rattle.aigertext.specs.AsciiReading.{IsNew, defining, input_of, own_by, latch_of, gate_fields, gate_of};
 
 use crate::fault::Why;
 use crate::reading::fields::{first_field, next_field};
-use crate::reading::latches::{next_literal, reset};
+use crate::reading::latches::latch_behind;
 use crate::reading::numbers::literal;
 use crate::reading::plain_numbers::three_numbers;
-use aiger::{GateLine, LatchLine, Lit, Loose, Reset};
+use aiger::{GateLine, LatchLine, Lit, Loose};
 use base::decimal;
 
 /// The literal of a number, where it is even, at least 2 and at most the greatest, and no line defines its variable.
@@ -53,64 +53,27 @@ fn own_literal(field: &[u8], greatest: u32, lists: &Loose) -> Result<Lit, Why>
     }
 }
 
-/// A latch whose reset is left out.
-#[tactic(auto, unfolding(crate::specs::AsciiReading::latch_fields))]
-fn plain_latch(current: &[u8], next: &[u8], greatest: u32, lists: &Loose) -> Result<LatchLine, Why>
-    ensures gives { Gives (λ x. x) result (latch_fields greatest lists.now (current.now ∷ next.now ∷ [])) }
-    ensures new { IfOk result (λ l. IsNew greatest lists.now l.current) }
-    ensures small { IfOk result (λ l. l.next ≤ greatest) }
-{
-    let current = own_literal(current, greatest, lists)?;
-    let next = next_literal(next, greatest)?;
-    Ok(LatchLine {
-        current,
-        next,
-        reset: Reset::Zero,
-    })
-}
-
-/// A latch with a reset.
-#[tactic(auto, unfolding(crate::specs::AsciiReading::latch_fields))]
-fn latch_with(
-    current: &[u8],
-    next: &[u8],
-    begins: &[u8],
-    greatest: u32,
-    lists: &Loose,
-) -> Result<LatchLine, Why>
-    ensures gives { Gives (λ x. x) result (latch_fields greatest lists.now (current.now ∷ next.now ∷ begins.now ∷ [])) }
-    ensures new { IfOk result (λ l. IsNew greatest lists.now l.current) }
-    ensures small { IfOk result (λ l. l.next ≤ greatest) }
-{
-    let current = own_literal(current, greatest, lists)?;
-    let next = next_literal(next, greatest)?;
-    let reset = reset(begins, current.number())?;
-    Ok(LatchLine {
-        current,
-        next,
-        reset,
-    })
-}
-
 /// The latch of a line: its own literal, its next literal, and how it begins.
 ///
 /// Error: `BadLatch`.
-#[tactic(auto, unfolding(crate::specs::AsciiReading::latch_fields))]
+#[tactic(auto, unfolding(crate::specs::AsciiReading::latch_fields, crate::specs::Reading::next_fields))]
 pub fn latch(line: &[u8], greatest: u32, lists: &Loose) -> Result<LatchLine, Why>
     ensures gives { Gives (λ x. x) result (latch_of greatest lists.now line.now) }
     ensures new { IfOk result (λ l. IsNew greatest lists.now l.current) }
     ensures small { IfOk result (λ l. l.next ≤ greatest) }
 {
     let (current, rest) = first_field(line);
+    let current = own_literal(current, greatest, lists)?;
     match next_field(rest) {
         None => Err(Why::BadLatch),
-        Some((next, rest)) => match next_field(rest) {
-            None => plain_latch(current, next, greatest, lists),
-            Some((begins, rest)) => match next_field(rest) {
-                None => latch_with(current, next, begins, greatest, lists),
-                Some(_) => Err(Why::BadLatch),
-            },
-        },
+        Some((next, rest)) => {
+            let latch = latch_behind(next, rest, greatest, current.number())?;
+            Ok(LatchLine {
+                current,
+                next: latch.next,
+                reset: latch.reset,
+            })
+        }
     }
 }
 

@@ -1,20 +1,22 @@
 //! What stands before and behind the gates of a text, read onto a circuit whose gates are there.
-ghost use Rattle.std.specs.Prelude.{◌≡◌, ◌+◌, ◌*◌, ◌≤◌, Ok, length, OnOk, IfOk};
+ghost use Rattle.std.specs.Prelude.{◌≡◌, ◌+◌, ◌*◌, ◌≤◌, Ok, length, OnOk};
 ghost use Rattle.aiger.specs.Circuit.{net, fresh_circuit};
 ghost use Rattle.aiger.specs.Net.{variables};
 ghost use Rattle.aigertext.specs.declared.forms.Form.TheVariants as variant;
 ghost use Rattle.aigertext.specs.Counts.{AreSmall, Fits};
 ghost use Rattle.aigertext.specs.Passes.{Takes, with_latches, with_gates, latches_in, behind_lines_of};
-ghost use Rattle.aigertext.specs.InOrder.{IsFinish};
+ghost use Rattle.aigertext.specs.InOrder.{IsFront, text_with, IsFinish, ReadsOnto};
 
 use crate::fault::{Stop, Why};
 use crate::forms::Form;
 use crate::reading::counts::Counts;
-use crate::reading::lines::latch_line;
+use crate::reading::deltas::gate;
+use crate::reading::gates::push_gates;
+use crate::reading::lines::{latch_line, stop};
 use crate::reading::names::give_names;
 use crate::reading::properties::push_properties;
 use aiger::Circuit;
-use base::ReadAllFault;
+use aiger::laws::own_numbers;
 use std::alloc::Global;
 
 /// Sets all latches by their lines, the first of which has the given literal, and answers the text behind them.
@@ -30,7 +32,6 @@ pub fn set_latches<'a>(
     requires defined { greatest ≡ 2 * variables (net circuit.old) + 1 }
     requires fits { first + 2 * count ≤ 4294967295 }
     ensures read { Takes (λ x. x.now) result (with_latches circuit.old) circuit.new (latches_in form greatest first count text.now) }
-    ensures gates { circuit.new.gates ≡ circuit.old.gates }
     ensures count { OnOk result (length circuit.new.latches ≡ length circuit.old.latches) }
 {
     let mut rest = text;
@@ -48,48 +49,73 @@ pub fn set_latches<'a>(
     Ok(rest)
 }
 
-/// Sets the latches of a circuit in order and adds its properties by their lines in an ascii text, which were looked at,
-/// gives it the names of a text, and answers whether none of these was refused.
+/// Sets the latches of a circuit whose gates are there and adds its properties by their lines, which were looked at, and
+/// gives it the names of a text.
 ///
-/// Error: `NoMemory`.
-pub fn finish(
+/// Errors: those of the names, and `NoMemory`.
+fn finish(
+    form: Form,
     alloc: Global,
     circuit: &mut Circuit,
     counts: &Counts,
     text: &[u8],
     gates: &[u8],
     names: &[u8],
-) -> Result<bool, ReadAllFault>
+) -> Result<(), Stop>
     requires bare { circuit.old ≡ with_gates (fresh_circuit counts.now.inputs counts.now.latches) circuit.old.gates }
     requires all { length circuit.old.gates ≡ counts.now.gates }
     requires small { AreSmall counts.now }
     requires fits { Fits variant.Binary counts.now }
-    requires seen { behind_lines_of variant.Ascii counts.now text.now ≡ Ok gates.now }
-    ensures { IfOk result (λ done. IsFinish done counts.now circuit.old.gates circuit.new text.now names.now) }
+    requires seen { behind_lines_of form counts.now text.now ≡ Ok gates.now }
+    ensures { IsFinish form counts.now circuit.old.gates circuit.new text.now names.now result }
 {
     let greatest = 2 * counts.variables + 1;
     let latch = 2 * (counts.inputs + 1);
-    let properties = match set_latches(
-        Form::Ascii,
-        circuit,
-        text,
-        greatest,
-        latch,
-        counts.latches,
-    ) {
+    let properties = match set_latches(form, circuit, text, greatest, latch, counts.latches) {
         Ok(properties) => properties,
-        Err(_) => return Ok(false),
+        Err(stop) => return Err(stop),
     };
     match push_properties(alloc, circuit, properties, counts) {
         Ok(_) => {}
-        Err(_) => return Err(ReadAllFault::NoMemory),
+        Err(stop) => return Err(stop),
     }
-    let _valid = circuit.variables();
+    let _bare = circuit.variables();
     match give_names(circuit, names) {
-        Ok(()) => Ok(true),
-        Err(stop) => match stop.why {
-            Why::NoMemory => Err(ReadAllFault::NoMemory),
-            _ => Ok(false),
-        },
+        Ok(()) => {}
+        Err(stop) => return Err(stop),
+    }
+    let _named = circuit.variables();
+    Ok(())
+}
+
+/// Reads what is left of a text onto a circuit that has the first of its gates, where the text behind those is given: the
+/// other gates, of a binary text, and what stands before and behind the gates.
+pub fn read_left(
+    alloc: Global,
+    form: Form,
+    counts: &Counts,
+    text: &[u8],
+    latches: &[u8],
+    gates: &[u8],
+    circuit: &mut Circuit,
+    window: &[u8],
+) -> Result<(), Stop>
+    requires front { IsFront form counts.now text.now latches.now gates.now }
+    requires small { AreSmall counts.now }
+    requires bare { circuit.old ≡ with_gates (fresh_circuit counts.now.inputs counts.now.latches) circuit.old.gates }
+    requires few { length circuit.old.gates ≤ counts.now.gates }
+    requires all { form ≡ variant.Ascii → length circuit.old.gates ≡ counts.now.gates }
+    ensures { ReadsOnto circuit.new (text_with form counts.now text.now gates.now circuit.old.gates window.now) result }
+{
+    own_numbers();
+    let left = counts.gates as usize - circuit.gates().len();
+    let names = push_gates(form, circuit, window, left);
+    let own = 2 * (circuit.variables() + 1);
+    if circuit.gates().len() == counts.gates as usize {
+        return finish(form, alloc, circuit, counts, latches, gates, names);
+    }
+    match gate(names, own) {
+        Ok(_) => Err(stop(names, Why::NoMemory)),
+        Err(stop) => Err(stop),
     }
 }

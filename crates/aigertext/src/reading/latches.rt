@@ -12,7 +12,7 @@ use aiger::{Latch, Lit, Reset};
 use base::decimal;
 
 /// The next literal of a latch, which is at most the greatest one.
-pub fn next_literal(field: &[u8], greatest: u32) -> Result<Lit, Why>
+fn next_literal(field: &[u8], greatest: u32) -> Result<Lit, Why>
     ensures gives { Gives (λ x. x) result (within why.BadLatch greatest (number_of field.now)) }
     ensures small { IfOk result (λ l. l ≤ greatest) }
 {
@@ -29,7 +29,7 @@ pub fn next_literal(field: &[u8], greatest: u32) -> Result<Lit, Why>
 }
 
 /// How a latch begins: 0, 1, or its own literal where it has no initial value.
-pub fn reset(field: &[u8], own: u32) -> Result<Reset, Why>
+fn reset(field: &[u8], own: u32) -> Result<Reset, Why>
     ensures { Gives (λ x. x) result (reset_of own (number_of field.now)) }
 {
     match decimal(field) {
@@ -74,7 +74,7 @@ fn latch_with(next: &[u8], begins: &[u8], greatest: u32, own: u32) -> Result<Lat
 
 /// The latch of a next literal and what stands behind it on its line, which may say how the latch begins.
 #[tactic(auto, unfolding(crate::specs::Reading::next_fields))]
-fn latch_behind(next: &[u8], rest: &[u8], greatest: u32, own: u32) -> Result<Latch, Why>
+pub fn latch_behind(next: &[u8], rest: &[u8], greatest: u32, own: u32) -> Result<Latch, Why>
     ensures gives { Gives (λ x. x) result (next_fields greatest own (next.now ∷ fields_behind rest.now)) }
     ensures small { IfOk result (λ l. l.next ≤ greatest) }
 {

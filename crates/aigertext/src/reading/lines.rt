@@ -1,9 +1,10 @@
 //! What stands at the front of a text: a line, and what it says.
 ghost use Rattle.std.specs.Prelude.{◌≡◌, ◌+◌, ◌≤◌, Ok, IfOk};
+ghost use Rattle.aigertext.specs.Counts.{AreSmall, Fits};
 ghost use Rattle.aigertext.specs.Reading.{Gives, stop, line_at, header_of, literal_of, size_of};
-ghost use Rattle.aigertext.specs.Passes.{latch_in};
+ghost use Rattle.aigertext.specs.Passes.{latch_in, told};
 
-use crate::fault::{Stop, Why};
+use crate::fault::{ReadFault, Stop, Why};
 use crate::forms::Form;
 use crate::reading::counts::Counts;
 use crate::reading::header::header;
@@ -22,6 +23,23 @@ pub fn stop(text: &[u8], why: Why) -> Stop
     }
 }
 
+/// The fault of a text of so many bytes at which reading stopped; want of memory has place 0, and is also told in place of
+/// a device's fault, which no text has.
+pub fn fault(total: u64, stop: Stop) -> ReadFault
+    ensures { result ≡ told total stop.left stop.why }
+{
+    match stop.why {
+        Why::NoMemory | Why::Device => ReadFault {
+            place: 0,
+            why: Why::NoMemory,
+        },
+        why => ReadFault {
+            place: total.saturating_sub(stop.left as u64),
+            why,
+        },
+    }
+}
+
 /// The first line of a text, and the text behind it.
 pub fn line(text: &[u8]) -> Result<(&[u8], &[u8]), Stop>
     ensures { Gives (λ x. (x.0.now, x.1.now)) result (line_at Ok text.now) }
@@ -34,7 +52,9 @@ pub fn line(text: &[u8]) -> Result<(&[u8], &[u8]), Stop>
 
 /// What the header says, and the text behind it.
 pub fn header_line(text: &[u8]) -> Result<((Form, Counts), &[u8]), Stop>
-    ensures { Gives (λ x. (x.0, x.1.now)) result (line_at header_of text.now) }
+    ensures gives { Gives (λ x. (x.0, x.1.now)) result (line_at header_of text.now) }
+    ensures small { IfOk result (λ x. AreSmall x.0.1) }
+    ensures fits { IfOk result (λ x. Fits x.0.0 x.0.1) }
 {
     let (bytes, behind) = line(text)?;
     match header(bytes) {

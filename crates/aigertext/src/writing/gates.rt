@@ -4,8 +4,8 @@ ghost use Rattle.base.specs.Device.{CountsFaults};
 ghost use Rattle.base.specs.Pieces.{Puts};
 ghost use Rattle.aiger.specs.Circuit.{IsCircuit};
 ghost use Rattle.aiger.specs.Net.{AreOrderedFrom};
-ghost use Rattle.aigertext.specs.Ascii.{numbers_line, gate_lines};
-ghost use Rattle.aigertext.specs.Binary.{delta, gate_deltas, gates_text};
+ghost use Rattle.aigertext.specs.Ascii.{numbers_line};
+ghost use Rattle.aigertext.specs.Binary.{delta, gate_text, gates_text};
 
 use crate::forms::Form;
 use crate::writing::line::{Line, put_line};
@@ -33,30 +33,33 @@ pub fn put_gates<K: Sink>(
     ensures puts { Puts result (K.written sink.old) (K.written sink.new) outbox.old outbox.new (gates_text form first gates.now) }
     ensures failures { CountsFaults result (K.failures sink.old) (K.failures sink.new) }
 {
-    match form {
-        Form::Ascii => put_gate_lines(outbox, sink, first, gates),
-        Form::Binary => put_deltas(outbox, sink, first, gates),
-    }
-}
-
-/// Puts the lines of the gates, the first of which has the given variable.
-fn put_gate_lines<K: Sink>(
-    outbox: &mut Outbox,
-    sink: &mut K,
-    first: u32,
-    gates: &[Gate],
-) -> Result<(), DeviceFault>
-    requires { first + length gates.now ≤ 1073741825 }
-    ensures puts { Puts result (K.written sink.old) (K.written sink.new) outbox.old outbox.new (gate_lines first gates.now) }
-    ensures failures { CountsFaults result (K.failures sink.old) (K.failures sink.new) }
-{
     let mut line = Line::new();
     let mut variable = first;
     for gate in gates {
-        put_gate_line(outbox, sink, &mut line, 2 * variable, gate)?;
+        put_gate(outbox, sink, &mut line, form, 2 * variable, gate)?;
         variable += 1;
     }
     Ok(())
+}
+
+/// Puts a gate: a line, or two deltas.
+fn put_gate<K: Sink>(
+    outbox: &mut Outbox,
+    sink: &mut K,
+    line: &mut Line,
+    form: Form,
+    own: u32,
+    gate: &Gate,
+) -> Result<(), DeviceFault>
+    requires below { gate.now.rhs0 ≤ own }
+    requires ordered { gate.now.rhs1 ≤ gate.now.rhs0 }
+    ensures puts { Puts result (K.written sink.old) (K.written sink.new) outbox.old outbox.new (gate_text form own gate.now) }
+    ensures failures { CountsFaults result (K.failures sink.old) (K.failures sink.new) }
+{
+    match form {
+        Form::Ascii => put_gate_line(outbox, sink, line, own, gate),
+        Form::Binary => put_gate_deltas(outbox, sink, own, gate),
+    }
 }
 
 /// Puts the line of a gate: its literal and its operands.
@@ -74,26 +77,6 @@ fn put_gate_line<K: Sink>(
     line.before(gate.rhs0.number());
     line.before(own);
     put_line(outbox, sink, line)
-}
-
-/// Puts the deltas of the gates, the first of which has the given variable.
-fn put_deltas<K: Sink>(
-    outbox: &mut Outbox,
-    sink: &mut K,
-    first: u32,
-    gates: &[Gate],
-) -> Result<(), DeviceFault>
-    requires few { first + length gates.now ≤ 1073741825 }
-    requires ordered { AreOrderedFrom first gates.now }
-    ensures puts { Puts result (K.written sink.old) (K.written sink.new) outbox.old outbox.new (gate_deltas first gates.now) }
-    ensures failures { CountsFaults result (K.failures sink.old) (K.failures sink.new) }
-{
-    let mut variable = first;
-    for gate in gates {
-        put_gate_deltas(outbox, sink, 2 * variable, gate)?;
-        variable += 1;
-    }
-    Ok(())
 }
 
 /// Puts the two deltas of a gate.

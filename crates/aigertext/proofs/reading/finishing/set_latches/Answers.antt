@@ -1,5 +1,4 @@
-use Rattle.std.proofs.Common.{ap, arith, inr}
-use Rattle.aiger.specs.Circuit.{Circuit}
+use Rattle.std.proofs.Common.{arith, inr}
 use Rattle.aigertext.proofs.TakeLemmas.{set_begins, set_step, set_stop, set_accepts, set_done, many_latches, set_many, no_fault}
 use Rattle.aigertext.proofs.reading.finishing.set_latches.Goals as goal
 
@@ -29,12 +28,6 @@ pub returns-clause-read : goal.returns-clause-read
 returns-clause-read c =
     let d = set_done c.args.form c.args.greatest c.args.first c.args.count c.loop-index.index c.args.circuit.now c.loop-index.circuit c.args.text.now c.loop-index.rest.now c.loop-index.invariant c.loop-index-test.false c.requires.all in
     (c.loop-index.invariant.latches, d)
-
-pub returns-in-Err-clause-gates : goal.returns-in-Err-clause-gates
-returns-in-Err-clause-gates c = ap (λ (x : Circuit). x.gates) c.loop-index.invariant.is
-
-pub returns-clause-gates : goal.returns-clause-gates
-returns-clause-gates c = ap (λ (x : Circuit). x.gates) c.loop-index.invariant.is
 
 pub returns-clause-count : goal.returns-clause-count
 returns-clause-count c = set_many c.args.form c.args.greatest c.args.first c.args.count c.loop-index.index c.args.circuit.now c.loop-index.circuit c.args.text.now c.loop-index.rest.now c.loop-index.invariant c.loop-index-test.false c.loop-index.auto.index-end c.requires.all

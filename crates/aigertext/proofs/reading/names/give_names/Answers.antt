@@ -4,33 +4,30 @@ use Rattle.std.proofs.lemmas.Bool.{eqb-true, eqb-false}
 use Rattle.aigertext.proofs.NamingLemmas.{comment_ends, name_given, name_refused, names_end, names_cut}
 use Rattle.aigertext.proofs.reading.names.give_names.Goals as goal
 
-pub returns-then-eq-clause-reads : goal.returns-then-eq-clause-reads
-returns-then-eq-clause-reads c =
-    comment_ends c.loop-line.circuit c.loop-line.rest.now c.in-Some.line.now c.in-Some.after.now _ c.in-Some.ensures.0 c.in-Some.ensures.1 c.loop-line.invariant.read
+pub returns-then-eq : goal.returns-then-eq
+returns-then-eq c =
+    comment_ends c.loop-line.circuit c.loop-line.rest.now c.in-Some.line.now c.in-Some.after.now _ c.in-Some.ensures.0 c.in-Some.ensures.1 c.loop-line.invariant
     (ap (bytes_eq c.in-Some.line.now) (sym c.as_slice.ensures) ∙ sym c.if-eq.ensures)
 
 pub loop-line-preserved : goal.loop-line-preserved
-loop-line-preserved c = record {
-  read =
-      name_given c.loop-line.circuit c.loop-line.rest.now c.in-Some.line.now c.in-Some.after.now _ c.in-Some.ensures.0 c.in-Some.ensures.1 c.loop-line.invariant.read
-      (ap (bytes_eq c.in-Some.line.now) (sym c.as_slice.ensures) ∙ sym c.if-eq.ensures) c.give_line.new.circuit c.in-Ok.ensures.reads;
-  gates = c.give_line.ensures.gates ∙ c.loop-line.invariant.gates;
-}
+loop-line-preserved c =
+    name_given c.loop-line.circuit c.loop-line.rest.now c.in-Some.line.now c.in-Some.after.now _ c.in-Some.ensures.0 c.in-Some.ensures.1 c.loop-line.invariant
+    (ap (bytes_eq c.in-Some.line.now) (sym c.as_slice.ensures) ∙ sym c.if-eq.ensures) c.give_line.new.circuit c.in-Ok.ensures
 
-pub returns-in-Err-clause-reads : goal.returns-in-Err-clause-reads
-returns-in-Err-clause-reads c =
-    elim c.in-Err.ensures.reads [
+pub returns-in-Err : goal.returns-in-Err
+returns-in-Err c =
+    elim c.in-Err.ensures [
       | inl full ↦ inl (rw c.stop.ensures full)
       | inr read ↦
-          inr (rw c.stop.ensures (name_refused c.loop-line.circuit c.loop-line.rest.now c.in-Some.line.now c.in-Some.after.now _ c.in-Some.ensures.0 c.in-Some.ensures.1 c.loop-line.invariant.read
+          inr (rw c.stop.ensures (name_refused c.loop-line.circuit c.loop-line.rest.now c.in-Some.line.now c.in-Some.after.now _ c.in-Some.ensures.0 c.in-Some.ensures.1 c.loop-line.invariant
           (ap (bytes_eq c.in-Some.line.now) (sym c.as_slice.ensures) ∙ sym c.if-eq.ensures) c.in-Err.why read))
     ]
 
-pub returns-then-is_empty-clause-reads : goal.returns-then-is_empty-clause-reads
-returns-then-is_empty-clause-reads c =
+pub returns-then-is_empty : goal.returns-then-is_empty
+returns-then-is_empty c =
     let none : length c.loop-line.rest.now ≡ 0 = eqb-true _ 0 (sym c.if-is_empty.ensures) in
-    names_end c.loop-line.circuit _ c.loop-line.rest.now c.in_default.ensures none c.loop-line.invariant.read
+    names_end c.loop-line.circuit _ c.loop-line.rest.now c.in_default.ensures none c.loop-line.invariant
 
-pub returns-else-is_empty-clause-reads : goal.returns-else-is_empty-clause-reads
-returns-else-is_empty-clause-reads c =
-    inr (rw c.stop-else-is_empty.ensures (names_cut c.loop-line.circuit _ c.loop-line.rest.now c.in_default.ensures (eqb-false _ 0 (sym c.if-is_empty.ensures)) c.loop-line.invariant.read))
+pub returns-else-is_empty : goal.returns-else-is_empty
+returns-else-is_empty c =
+    inr (rw c.stop-else-is_empty.ensures (names_cut c.loop-line.circuit _ c.loop-line.rest.now c.in_default.ensures (eqb-false _ 0 (sym c.if-is_empty.ensures)) c.loop-line.invariant))
