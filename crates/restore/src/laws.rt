@@ -1,0 +1,32 @@
+//! Laws of the texts of counterexamples over an engine form, and worked rows: functions that do nothing, whose contracts are
+//! the laws.
+ghost use Rattle.std.specs.Prelude.{◌≡◌, ◌<◌, ℕ, List, [], ◌∷◌, Bool, true, false, Option, Some, All, Ok, Err, codes, length};
+ghost use Rattle.aiger.specs.Circuit.{Circuit};
+ghost use Rattle.engine.specs.EngineForm.{IsEngineFormOf};
+ghost use Rattle.witness.specs.BitTexts.{IsBitWitness};
+ghost use Rattle.restore.specs.Counterexample.{SaysFrames, restored};
+ghost use Rattle.restore.specs.Reading.{read_text};
+ghost use Rattle.restore.specs.declared.fault.RestoreWhy.TheVariants as why;
+
+/// A law: a text is read as some frames exactly where it says them.
+pub fn read_where_said()
+    ensures said { (width : ℕ) (text : List ℕ) (given : List (List Bool)) → 0 < width → SaysFrames width text given → read_text width text ≡ Ok given }
+    ensures read { (width : ℕ) (text : List ℕ) (given : List (List Bool)) → 0 < width → read_text width text ≡ Ok given → SaysFrames width text given }
+{}
+
+/// Worked rows: texts over a form of four inputs, and what they read as.
+pub fn worked_texts()
+    // One frame and the mark behind it.
+    ensures marked { read_text 4 (codes "00\n0110# DONE\n") ≡ Ok ((false ∷ true ∷ true ∷ false ∷ []) ∷ []) }
+    // Two frames, of which the last has no end, and the mark in a line of its own.
+    ensures open { read_text 1 (codes "\n0\n1") ≡ Ok ((false ∷ []) ∷ (true ∷ []) ∷ []) }
+    ensures own_line { read_text 1 (codes "0\n1\n# DONE") ≡ Ok ((true ∷ []) ∷ []) }
+    // What is wrong, and where.
+    ensures nothing { read_text 1 [] ≡ Err (record { line = 1; why = why.NoFrame }) }
+    ensures no_frame { read_text 1 (codes "00\n# DONE\n") ≡ Err (record { line = 2; why = why.NoFrame }) }
+    ensures one { read_text 1 (codes "01\n1\n") ≡ Err (record { line = 1; why = why.InitialOne }) }
+    ensures no_bit { read_text 1 (codes "0x1\n1\n") ≡ Err (record { line = 1; why = why.NoBit }) }
+    ensures no_frame_bit { read_text 2 (codes "0\n01\nx1\n") ≡ Err (record { line = 3; why = why.NoBit }) }
+    ensures short { read_text 2 (codes "0\n01\n1\n") ≡ Err (record { line = 3; why = why.WrongLength }) }
+    ensures empty_line { read_text 2 (codes "0\n01\n\n") ≡ Err (record { line = 3; why = why.WrongLength }) }
+{}
