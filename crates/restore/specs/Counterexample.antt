@@ -1,5 +1,6 @@
 -- Counterexamples over an engine form as texts (those that ABC writes by `write_cex -a`: a line of initial bits, then one of input bits for each frame), and what they are of the circuit.
-use Rattle.std.specs.Prelude.{◌≡◌, ◌≢◌, ℕ, Bool, List, [], ◌∷◌, ◌++◌, length, map, take, replicate, All, ◌⊎◌}
+use Rattle.std.specs.Prelude.{◌≡◌, ◌≢◌, ℕ, Bool, false, slice_get, unwrap_or, List, [], ◌∷◌, ◌++◌, length, map, take, replicate, All, ◌⊎◌}
+use Rattle.aiger.specs.Literal.{Valuation, literal_value}
 use Rattle.aiger.specs.Circuit.{Circuit}
 use Rattle.witness.specs.BitTexts.{BitWitness, bit_line}
 use Rattle.engine.specs.EngineForm.{begins}
@@ -32,3 +33,9 @@ pub record SaysFrames (width : ℕ) (text : List ℕ) (given : List (List Bool))
 -- what input frames of an engine form are of its circuit: a witness with the bits that the latches begin with by the first frame, and the circuit's own inputs of each
 abbrev pub restored : Circuit → ℕ → List (List Bool) → BitWitness
 restored c claim given = record { claim = claim; initial = begins c given; frames = map (take c.inputs) given }
+
+-- whether the first bad property of a form is 1 in the last of some frames
+abbrev pub ends_bad : Circuit → List Valuation → Bool
+ends_bad d [] = false
+ends_bad d (w ∷ []) = unwrap_or (slice_get (map (literal_value w) d.bads) 0) false
+ends_bad d (w ∷ next ∷ more) = ends_bad d (next ∷ more)

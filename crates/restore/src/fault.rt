@@ -2,11 +2,8 @@
 ghost use Rattle.std.specs.Prelude.{◌≡◌};
 ghost use Rattle.restore.specs.Faults.{why_number, why_name};
 
-use std::fmt;
-use thiserror::Error;
-
 /// What is wrong with a line.
-#[derive(Clone, Copy, Debug, PartialEq, Eq)]
+#[derive(Clone, Copy)]
 pub enum RestoreWhy {
     /// The text ends before a frame.
     NoFrame,
@@ -45,22 +42,10 @@ impl RestoreWhy {
 }
 
 /// The first faulty line of a text, from 1, and what is wrong with it.
-#[derive(Clone, Copy, Debug, PartialEq, Eq, Error)]
+#[derive(Clone, Copy)]
 pub struct RestoreFault {
     /// The line, from 1.
     pub line: u64,
     /// What is wrong with it.
     pub why: RestoreWhy,
-}
-
-impl fmt::Display for RestoreFault {
-    fn fmt<W: fmt::Write>(&self, f: &mut fmt::Formatter<W>) -> fmt::Result {
-        write!(
-            f,
-            "line {}: {} {}",
-            self.line,
-            self.why.number(),
-            self.why.name()
-        )
-    }
 }

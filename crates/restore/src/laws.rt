@@ -1,10 +1,14 @@
 //! Laws of the texts of counterexamples over an engine form, and worked rows: functions that do nothing, whose contracts are
 //! the laws.
-ghost use Rattle.std.specs.Prelude.{◌≡◌, ◌<◌, ℕ, List, [], ◌∷◌, Bool, true, false, Option, Some, All, Ok, Err, codes, length};
+ghost use Rattle.std.specs.Prelude.{◌≡◌, ◌≢◌, ◌<◌, ℕ, List, [], ◌∷◌, Bool, true, false, Some, All, Ok, Err, codes, length, replicate};
+ghost use Rattle.aiger.specs.Literal.{Valuation};
 ghost use Rattle.aiger.specs.Circuit.{Circuit};
+ghost use Rattle.aiger.specs.Trace.{IsTrace};
 ghost use Rattle.engine.specs.EngineForm.{IsEngineFormOf};
+ghost use Rattle.witness.specs.declared.judgement.Judgement.TheVariants as judgement;
 ghost use Rattle.witness.specs.BitTexts.{IsBitWitness};
-ghost use Rattle.restore.specs.Counterexample.{SaysFrames, restored};
+ghost use Rattle.witness.specs.BitJudgements.{JudgesBits};
+ghost use Rattle.restore.specs.Counterexample.{SaysFrames, restored, ends_bad};
 ghost use Rattle.restore.specs.Reading.{read_text};
 ghost use Rattle.restore.specs.declared.fault.RestoreWhy.TheVariants as why;
 
@@ -12,6 +16,18 @@ ghost use Rattle.restore.specs.declared.fault.RestoreWhy.TheVariants as why;
 pub fn read_where_said()
     ensures said { (width : ℕ) (text : List ℕ) (given : List (List Bool)) → 0 < width → SaysFrames width text given → read_text width text ≡ Ok given }
     ensures read { (width : ℕ) (text : List ℕ) (given : List (List Bool)) → 0 < width → read_text width text ≡ Ok given → SaysFrames width text given }
+{}
+
+/// A law: what is restored of input frames of a circuit's engine form is a witness of the circuit.
+pub fn restored_is_a_witness()
+    ensures { (c : Circuit) (k : ℕ) (d : Circuit) (given : List (List Bool)) → IsEngineFormOf c (Some k) d → given ≢ [] → All (λ bits. length bits ≡ d.inputs) given → IsBitWitness c (restored c k given) }
+{}
+
+/// A law: where the bad property of a circuit's engine form is 1 in the last of the frames that its inputs give, what is
+/// restored of these is judged accepted.
+pub fn restored_is_accepted()
+    ensures { (c : Circuit) (k : ℕ) (d : Circuit) (given : List (List Bool)) (ws : List Valuation) → IsEngineFormOf c (Some k) d
+        → IsTrace d (replicate (length d.latches) false) given ws → ends_bad d ws ≡ true → JudgesBits c (restored c k given) (judgement.Accepted (length given)) }
 {}
 
 /// Worked rows: texts over a form of four inputs, and what they read as.

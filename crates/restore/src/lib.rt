@@ -1,5 +1,5 @@
 //! Counterexamples over the engine form of a circuit as witnesses of the circuit: what their texts say, and what is wrong
-//! with one that says nothing.
+//! with one that says none.
 #![tactic(auto)]
 
 mod fault;
