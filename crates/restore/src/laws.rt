@@ -5,6 +5,7 @@ ghost use Rattle.aiger.specs.Literal.{Valuation};
 ghost use Rattle.aiger.specs.Circuit.{Circuit};
 ghost use Rattle.aiger.specs.Trace.{IsTrace};
 ghost use Rattle.engine.specs.EngineForm.{IsEngineFormOf};
+ghost use Rattle.engine.specs.Worked.{keeper, keeper_form};
 ghost use Rattle.witness.specs.declared.judgement.Judgement.TheVariants as judgement;
 ghost use Rattle.witness.specs.BitTexts.{IsBitWitness};
 ghost use Rattle.witness.specs.BitJudgements.{JudgesBits};
@@ -30,7 +31,7 @@ pub fn restored_is_accepted()
         → IsTrace d (replicate (length d.latches) false) given ws → ends_bad d ws ≡ true → JudgesBits c (restored c k given) (judgement.Accepted (length given)) }
 {}
 
-/// Worked rows: texts over a form of four inputs, and what they read as.
+/// Worked rows: texts over forms of one, two and four inputs, and what they read as.
 pub fn worked_texts()
     // One frame and the mark behind it.
     ensures marked { read_text 4 (codes "00\n0110# DONE\n") ≡ Ok ((false ∷ true ∷ true ∷ false ∷ []) ∷ []) }
@@ -45,4 +46,14 @@ pub fn worked_texts()
     ensures no_frame_bit { read_text 2 (codes "0\n01\nx1\n") ≡ Err (record { line = 3; why = why.NoBit }) }
     ensures short { read_text 2 (codes "0\n01\n1\n") ≡ Err (record { line = 3; why = why.WrongLength }) }
     ensures empty_line { read_text 2 (codes "0\n01\n\n") ≡ Err (record { line = 3; why = why.WrongLength }) }
+{}
+
+/// Worked rows: a latch that begins with the bit that the first frame gives and has no input of its own, and which frames
+/// of its form end with the bad property.
+pub fn worked_restorings()
+    ensures begins_with_1 { restored keeper 0 ((true ∷ []) ∷ (false ∷ []) ∷ []) ≡ record { claim = 0; initial = true ∷ []; frames = [] ∷ [] ∷ [] } }
+    ensures begins_with_0 { restored keeper 0 ((false ∷ []) ∷ []) ≡ record { claim = 0; initial = false ∷ []; frames = [] ∷ [] } }
+    ensures bad { ends_bad keeper_form ((λ k. true) ∷ (λ k. false) ∷ []) ≡ true }
+    ensures bad_before { ends_bad keeper_form ((λ k. false) ∷ (λ k. true) ∷ []) ≡ false }
+    ensures no_frame { ends_bad keeper_form [] ≡ false }
 {}
