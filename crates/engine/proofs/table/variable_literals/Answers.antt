@@ -1,10 +1,9 @@
 use Rattle.std.proofs.Common.{◌≡◌, ℕ, suc, ◌+◌, ◌*◌, ◌++◌, List, length, All, map, ap, sym, subst, ◌∙◌, length-append, arith}
 use Rattle.std.specs.List.{range_with_len}
 use Rattle.std.proofs.lemmas.List.FromFn.{length-map-range_with_len}
-use Rattle.std.proofs.lemmas.List.Elements.{All-append}
 use Rattle.aiger.specs.declared.circuit.Gate.{Gate}
 use Rattle.aiger.specs.Net.{IsDefined, AreOrderedFrom}
-use Rattle.gates.proofs.GrowthLemmas.{All-defined-grown}
+use Rattle.engine.proofs.TableLemmas.{both_defined}
 use Rattle.engine.proofs.MadeLemmas.{TableRead-made, LatchesRead-said, GatesRead-said, doubles_defined}
 use Rattle.engine.proofs.table.variable_literals.Goals as goal
 
@@ -36,4 +35,4 @@ push_gates-requires-clause-defined g c =
     let old = g.G.Gates.made c.args.g.now in
     let p = c.in_ok-push_latches.ensures.ok in
     let own : All (IsDefined old) c.in_ok-table.table.items = subst (All (IsDefined old)) (sym c.in_ok-table.ensures.ok) (doubles_defined old 0 (c.inputs.result + 1) (let e = c.inputs.ensures.count in let f = c.requires.latches in let h = c.requires.enough in omega arith)) in
-    subst (All (IsDefined (g.G.Gates.made c.push_latches.new.g))) (sym p.1) (All-append (IsDefined (g.G.Gates.made c.push_latches.new.g)) c.in_ok-table.table.items p.0 (All-defined-grown old (g.G.Gates.made c.push_latches.new.g) _ p.2.grows c.in_ok-table.table.items own) p.2.defined)
+    both_defined old (g.G.Gates.made c.push_latches.new.g) _ c.in_ok-table.table.items p.0 c.push_latches.new.table.items p.2.grows own p.2.defined p.1

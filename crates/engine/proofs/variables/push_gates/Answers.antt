@@ -3,7 +3,7 @@ use Rattle.std.proofs.lemmas.List.{length-take-le}
 use Rattle.gates.specs.Made.{Refuses}
 use Rattle.gates.proofs.LiteralLemmas.{Refuses-behind}
 use Rattle.engine.specs.Reads.{literal_of}
-use Rattle.engine.proofs.TableLemmas.{gates-more, gates-inside, gates-defined, pushed, IsDefined-literal_of}
+use Rattle.engine.proofs.TableLemmas.{gates-more, gates-inside, both_defined, pushed, IsDefined-literal_of}
 use Rattle.engine.proofs.variables.push_gates.Goals as goal
 
 pub literal_of-requires : goal.literal_of-requires
@@ -20,14 +20,14 @@ pub and-requires-clause-left : goal.and-requires-clause-left
 and-requires-clause-left g c =
     let k = c.loop-gate.invariant in
     let inside = gates-inside _ _ c.args.gates.now c.args.table.now.items k.0 c.deref.result.now c.loop-gate.gate-index c.gate-item.result c.requires.ordered c.loop-gate-test.true c.gate-item.is (c.deref.ensures.value ∙ k.1) k.2 in
-    rw c.literal_of.ensures (IsDefined-literal_of _ c.deref.result.now c.gate-item.result.rhs0 inside.0 (gates-defined _ _ _ _ c.args.table.now.items k.0 c.deref.result.now c.requires.defined (c.deref.ensures.value ∙ k.1) k.2))
+    rw c.literal_of.ensures (IsDefined-literal_of _ c.deref.result.now c.gate-item.result.rhs0 inside.0 (both_defined _ _ _ c.args.table.now.items k.0 c.deref.result.now k.2.grows c.requires.defined k.2.defined (c.deref.ensures.value ∙ k.1)))
 
 pub and-requires-clause-right : goal.and-requires-clause-right
 and-requires-clause-right g c =
     let k = c.loop-gate.invariant in
     let table = c.deref-in-loop-gate.result.now in
     let inside = gates-inside _ _ c.args.gates.now c.args.table.now.items k.0 table c.loop-gate.gate-index c.gate-item.result c.requires.ordered c.loop-gate-test.true c.gate-item.is (c.deref-in-loop-gate.ensures.value ∙ k.1) k.2 in
-    rw c.literal_of-in-loop-gate.ensures (IsDefined-literal_of _ table c.gate-item.result.rhs1 inside.1 (gates-defined _ _ _ _ c.args.table.now.items k.0 table c.requires.defined (c.deref-in-loop-gate.ensures.value ∙ k.1) k.2))
+    rw c.literal_of-in-loop-gate.ensures (IsDefined-literal_of _ table c.gate-item.result.rhs1 inside.1 (both_defined _ _ _ c.args.table.now.items k.0 table k.2.grows c.requires.defined k.2.defined (c.deref-in-loop-gate.ensures.value ∙ k.1)))
 
 pub returns-in_err-lit-clause-refused : goal.returns-in_err-lit-clause-refused
 returns-in_err-lit-clause-refused g c =

@@ -1,0 +1,18 @@
+-- What is printed of what is wrong with a counterexample over an engine form: a number, a space and a name.
+use Rattle.std.specs.Prelude.{ℕ, List, codes}
+use Rattle.restore.specs.declared.fault.RestoreWhy.{RestoreWhy}
+use Rattle.restore.specs.declared.fault.RestoreWhy.TheVariants.{NoFrame, InitialOne, NoBit, WrongLength}
+
+-- the number that is printed for what is wrong
+abbrev pub why_number : RestoreWhy → ℕ
+why_number NoFrame = 150
+why_number InitialOne = 151
+why_number NoBit = 152
+why_number WrongLength = 153
+
+-- and the name
+abbrev pub why_name : RestoreWhy → List ℕ
+why_name NoFrame = codes "NoFrame"
+why_name InitialOne = codes "InitialOne"
+why_name NoBit = codes "NoBit"
+why_name WrongLength = codes "WrongLength"

@@ -1,0 +1,3 @@
+pub mod Counterexample
+pub mod Faults
+pub mod Reading

@@ -1,0 +1,65 @@
+-- What a text of a counterexample over an engine form reads as: its input frames, or its first faulty line and why.
+use Rattle.std.specs.Prelude.{ℕ, suc, Bool, not, ◌||◌, ◌==◌, List, [], ◌∷◌, ◌++◌, length, map, Option, None, Some, Result, Ok, Err, if◌then◌else◌}
+use Rattle.std.specs.List.{list_all}
+use Rattle.base.specs.Lines.{whole_lines, unfinished}
+use Rattle.restore.specs.declared.fault.RestoreFault.{RestoreFault}
+use Rattle.restore.specs.declared.fault.RestoreWhy.{RestoreWhy}
+use Rattle.restore.specs.declared.fault.RestoreWhy.TheVariants.{NoFrame, InitialOne, NoBit, WrongLength}
+
+-- the bytes before the first mark, or all
+abbrev pub before_mark : List ℕ → List ℕ
+before_mark [] = []
+before_mark (b ∷ bs) = if b == 35 then [] else b ∷ before_mark bs
+
+-- a line where there is a byte of it
+abbrev pub line_of : List ℕ → List (List ℕ)
+line_of [] = []
+line_of (b ∷ bs) = (b ∷ bs) ∷ []
+
+-- all lines of a text, of which the last may have no end
+abbrev pub all_lines : List ℕ → List (List ℕ)
+all_lines text = whole_lines text ++ line_of (unfinished text)
+
+-- what is wrong with a line of initial bits: the first byte that is no 0
+abbrev pub initial_why : List ℕ → Option RestoreWhy
+initial_why [] = None
+initial_why (b ∷ bs) = if b == 48 then initial_why bs else (if b == 49 then Some InitialOne else Some NoBit)
+
+-- what is wrong with the line of a frame of so many bits: a byte that is no bit, and else its length
+abbrev pub frame_why : ℕ → List ℕ → Option RestoreWhy
+frame_why width line =
+    if not (list_all (λ b. b == 48 || b == 49) line) then Some NoBit
+    else (if length line == width then None else Some WrongLength)
+
+-- the bits of a line
+abbrev pub line_bits : List ℕ → List Bool
+line_bits line = map (λ b. b == 49) line
+
+-- a value behind others, where these are read
+abbrev pub read_before : List Bool → Result (List (List Bool)) RestoreFault → Result (List (List Bool)) RestoreFault
+read_before bits (Ok more) = Ok (bits ∷ more)
+read_before bits (Err e) = Err e
+
+-- a line that is read by one way where nothing is wrong with it
+abbrev pub unless_wrong : ℕ → Option RestoreWhy → Result (List (List Bool)) RestoreFault → Result (List (List Bool)) RestoreFault
+unless_wrong number None answer = answer
+unless_wrong number (Some why) answer = Err (record { line = number; why = why })
+
+-- the frames of lines, of which the first has this number
+abbrev pub read_frames : ℕ → ℕ → List (List ℕ) → Result (List (List Bool)) RestoreFault
+read_frames width number [] = Ok []
+read_frames width number (line ∷ more) = unless_wrong number (frame_why width line) (read_before (line_bits line) (read_frames width (suc number) more))
+
+-- at least one frame
+abbrev pub read_some : ℕ → List (List ℕ) → Result (List (List Bool)) RestoreFault
+read_some width [] = Err (record { line = 2; why = NoFrame })
+read_some width (line ∷ more) = read_frames width 2 (line ∷ more)
+
+-- the initial bits and the frames
+abbrev pub read_lines : ℕ → List (List ℕ) → Result (List (List Bool)) RestoreFault
+read_lines width [] = Err (record { line = 1; why = NoFrame })
+read_lines width (line ∷ more) = unless_wrong 1 (initial_why line) (read_some width more)
+
+-- what a text reads as, where each frame has so many bits
+abbrev pub read_text : ℕ → List ℕ → Result (List (List Bool)) RestoreFault
+read_text width text = read_lines width (all_lines (before_mark text))
