@@ -124,11 +124,13 @@ expect_line "help" out "  2  the input is refused"
 expect "version" 0 ""
 expect_line "version" out "hwtool 0.1.0"
 
-# refusals are explained as the tables of docs/REFUSALS.md say, which may have `|` in a cell as `\|`
+# refusals are explained as the tables of docs/REFUSALS.md say, which may have `|` in a cell as `\|`; those of
+# counterexamples over engine forms are of a library that the program does not call
 "$program" explain >out 2>err; status=$?
 expect "explain" 0 ""
 sed 's/\\|/\x01/g' "$top/docs/REFUSALS.md" | awk -F ' *[|] *' '
     /^## / { part = substr($0, 4) }
+    part == "Counterexamples over engine forms" { next }
     /^[|] [0-9]+ [A-Za-z]+ [|]/ { print $2 " (" part ")\n  when: " $3 "\n  do: " $4 }' | tr '\001' '|' >tables
 count=$((count + 1))
 if ! diff tables out >differences; then

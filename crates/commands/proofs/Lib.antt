@@ -1,3 +1,4 @@
 pub mod CountLemmas
+pub mod EngineLemmas
 pub mod TableLemmas
 pub mod ToldLemmas

@@ -7,6 +7,8 @@ use Rattle.btor2text.specs.declared.fault.Why.TheVariants as why
 use Rattle.aigertext.specs.declared.fault.ReadFault.{ReadFault as CircuitFault}
 use Rattle.aigertext.specs.declared.fault.Why.{Why as CircuitWhy}
 use Rattle.aigertext.specs.declared.fault.Why.TheVariants as circuit_why
+use Rattle.engine.specs.declared.fault.EngineFault.{EngineFault}
+use Rattle.engine.specs.declared.fault.EngineFault.TheVariants as engine
 use Rattle.blast.specs.declared.fault.LowerFault.{LowerFault}
 use Rattle.blast.specs.declared.fault.LowerFault.TheVariants as lower
 use Rattle.blast.specs.declared.fault.ConvertFault.{ConvertFault}
@@ -46,6 +48,11 @@ of_circuit_reading e = of_circuit_reading_for e e.why
 abbrev pub of_lowering : LowerFault → Refusal
 of_lowering lower.NoMemory = refusal.NoMemory
 of_lowering e = refusal.Input (fault.Lowering e)
+
+-- of making an engine form
+abbrev pub of_engine_form : EngineFault → Refusal
+of_engine_form engine.NoMemory = refusal.NoMemory
+of_engine_form e = refusal.Input (fault.Engine e)
 
 -- of converting a text
 abbrev pub of_conversion : ConvertFault → Refusal

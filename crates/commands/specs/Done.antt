@@ -1,5 +1,5 @@
 -- What the exit statuses 0 and 1 of a command say.
-use Rattle.std.specs.Prelude.{◌≡◌, ◌≢◌, ℕ, Bool, true, false, List, [], ◌∷◌, ◌++◌, length, Option, None, IfSome, codes, decimal}
+use Rattle.std.specs.Prelude.{◌≡◌, ◌≢◌, ◌↔◌, ℕ, Bool, true, false, List, [], ◌∷◌, ◌++◌, length, Option, Some, None, IfSome, codes, decimal}
 use Rattle.std.specs.List.{All}
 use Rattle.std.specs.Io.KnownBytes.{Appends}
 use Rattle.btor2.specs.declared.item.Item.{Item}
@@ -9,11 +9,15 @@ use Rattle.btor2.specs.Lists.{places, first_init_without_next}
 use Rattle.btor2text.specs.Spelling.{StandsFor}
 use Rattle.btor2text.specs.Writing.{written}
 use Rattle.aiger.specs.Circuit.{Circuit, IsCircuit}
+use Rattle.aiger.specs.Reachability.{CanRiseInCircuit}
 use Rattle.aigertext.specs.declared.forms.Form.{Form}
 use Rattle.aigertext.specs.Spelling.{Spells}
 use Rattle.aigertext.specs.Binary.{circuit_text}
 use Rattle.blast.specs.Conversion.{Converts}
 use Rattle.blast.specs.Cost.{cost, bound}
+use Rattle.blast.specs.Reachability.{CanRise}
+use Rattle.blast.specs.Refusal.{lowering_refusal}
+use Rattle.engine.specs.EngineForm.{IsEngineFormOf}
 use Rattle.witness.specs.declared.judgement.Judgement.{Judgement}
 use Rattle.witness.specs.declared.judgement.Judgement.TheVariants as judgement
 use Rattle.witness.specs.Judgements.{Judges}
@@ -129,6 +133,38 @@ pub record Rewrites (known before now : Option (List ℕ)) (form : Form) : Type 
   pub text : IsCircuitText known circuit
   pub appends : Appends before now (circuit_text form circuit)
 
+-- bad properties of a circuit can rise exactly where some can: each where that of the same position can, or, where one was chosen, the first where the chosen one can
+abbrev pub RiseAlike : (ℕ → Type 0) → Option ℕ → Circuit → Type 0
+RiseAlike can_rise None c = (b : ℕ) → can_rise b ↔ CanRiseInCircuit c b
+RiseAlike can_rise (Some b) c = can_rise b ↔ CanRiseInCircuit c 0
+
+-- what was written is the text of an engine form of a circuit
+pub record WritesEngineForm (original : Circuit) (choice : Option ℕ) (before now : Option (List ℕ)) (form : Form) : Type 0 where
+  pub circuit : Circuit
+  pub is_form : IsEngineFormOf original choice circuit
+  pub appends : Appends before now (circuit_text form circuit)
+
+-- All that was to come is a text of some model that nothing speaks against, and what was written is the text of an engine form of a circuit that lowers it. Its bad properties can rise exactly where those of the model can.
+pub record LowersForEngines (known before now : Option (List ℕ)) (form : Form) (choice : Option ℕ) : Type 0 where
+  pub items : List Item
+  pub lowered : Circuit
+  pub circuit : Circuit
+  pub text : IsModelOf known items
+  pub accepted : lowering_refusal items ≡ None
+  pub lowers : Lowers items lowered
+  pub is_form : IsEngineFormOf lowered choice circuit
+  pub rise_alike : RiseAlike (CanRise items) choice circuit
+  pub appends : Appends before now (circuit_text form circuit)
+
+-- All that was to come is a text of some circuit, and what was written is the text of an engine form of it. Its bad properties can rise exactly where those of the circuit can.
+pub record ConvertsForEngines (known before now : Option (List ℕ)) (form : Form) (choice : Option ℕ) : Type 0 where
+  pub original : Circuit
+  pub circuit : Circuit
+  pub text : IsCircuitText known original
+  pub is_form : IsEngineFormOf original choice circuit
+  pub rise_alike : RiseAlike (CanRiseInCircuit original) choice circuit
+  pub appends : Appends before now (circuit_text form circuit)
+
 -- all that was to come is a text of some vectors, each of which is right, and what was written is that all of them agree
 pub record Agree (known before now : Option (List ℕ)) : Type 0 where
   pub vectors : List Vector
@@ -151,10 +187,12 @@ Compares known before now answer.NotAccepted = Differ known before now
 -- what a command has done that answers so. Of `first` and `second` all bytes that were to come are known, or none are; `before` and `now` stand on standard output, `told` and `told'` on standard error
 abbrev pub Answers : Task → Form → Answer → Option (List ℕ) → Option (List ℕ) → Option (List ℕ) → Option (List ℕ) → Option (List ℕ) → Option (List ℕ) → Type 0
 Answers task.Lower form answer.Done first second before now told told' = Converts first before now form
+Answers (task.LowerForEngines choice) form answer.Done first second before now told told' = LowersForEngines first before now form choice
 Answers task.CheckBtor form a first second before now told told' = Judged (IsJudged first second before now) a
 Answers task.Show form answer.Done first second before now told told' = Shows first before now
 Answers task.Cost form answer.Done first second before now told told' = TellsCost first before now
 Answers task.AigConvert form answer.Done first second before now told told' = Rewrites first before now form
+Answers (task.ConvertForEngines choice) form answer.Done first second before now told told' = ConvertsForEngines first before now form choice
 Answers task.CheckAig form a first second before now told told' = Judged (IsJudgedOver first second before now) a
 Answers task.Lift form a first second before now told told' = Judged (IsLiftedAndTold first second before now told told') a
 Answers task.Vectors form a first second before now told told' = Compares first before now a

@@ -4,6 +4,7 @@ use Rattle.btor2.specs.declared.item.Item.{Item}
 use Rattle.btor2.specs.Check.{IsWellFormed}
 use Rattle.btor2.specs.Lists.{first_init_without_next}
 use Rattle.btor2text.specs.FirstFault.{IsFaultOf}
+use Rattle.aiger.specs.Circuit.{Circuit, IsCircuit}
 use Rattle.btor2text.specs.Whys.{printed_number, name_of}
 use Rattle.aigertext.specs.AsciiReading.{IsFaultOf as IsCircuitFaultOf}
 use Rattle.aigertext.specs.Whys.{why_number, why_name}
@@ -11,6 +12,10 @@ use Rattle.blast.specs.declared.fault.LowerFault.{LowerFault}
 use Rattle.blast.specs.declared.fault.LowerFault.TheVariants as lower
 use Rattle.blast.specs.Faults.{lower_number, lower_name}
 use Rattle.blast.specs.Refusal.{lowering_refusal}
+use Rattle.blast.specs.Lowering.{Lowers}
+use Rattle.engine.specs.Faults.{number_of as engine_number, name_of as engine_name}
+use Rattle.engine.specs.Refusal.{engine_refusal}
+use Rattle.engine.specs.declared.fault.EngineFault.{EngineFault}
 use Rattle.vectors.specs.Vectors.{IsFirstBad}
 use Rattle.witness.specs.Answers.{judge_number, judge_name}
 use Rattle.witness.specs.declared.fault.JudgeFault.TheVariants as judge
@@ -22,7 +27,7 @@ use Rattle.commands.specs.declared.refusals.Fault.{Fault}
 use Rattle.commands.specs.declared.refusals.Fault.TheVariants as fault
 use Rattle.commands.specs.declared.refusals.Refusal.{Refusal}
 use Rattle.commands.specs.declared.refusals.Refusal.TheVariants as refusal
-use Rattle.commands.specs.Done.{IsModelOf}
+use Rattle.commands.specs.Done.{IsCircuitText, IsModelOf}
 
 -- ---- lines
 
@@ -54,6 +59,7 @@ abbrev pub fault_line : List ℕ → Fault → List ℕ
 fault_line file (fault.Model e) = about file (at (codes "line ") e.line (numbered_name (printed_number e.why) (name_of e.why)))
 fault_line file (fault.Circuit e) = about file (at (codes "byte ") e.place (numbered_name (why_number e.why) (why_name e.why)))
 fault_line file (fault.Lowering e) = about file (at_item e (numbered_name (lower_number e) (lower_name e)))
+fault_line file (fault.Engine e) = about file (numbered_name (engine_number e) (engine_name e))
 fault_line file (fault.NoNext id) = item_line file id (judge_number (judge.NoNext id)) (judge_name (judge.NoNext id))
 fault_line file (fault.Vector n) = about file (at (codes "line ") n (codes "bad vector\n"))
 
@@ -111,13 +117,45 @@ abbrev pub IsNoVectorList : Option (List ℕ) → Fault → Type 0
 IsNoVectorList known (fault.Vector n) = IfSome known (λ text. IsFirstBad text n)
 IsNoVectorList known _ = ⊥
 
+-- this is the first that speaks against an engine form of a circuit
+abbrev pub IsWithoutForm : Circuit → Option ℕ → Fault → Type 0
+IsWithoutForm c choice (fault.Engine e) = engine_refusal c choice ≡ Some e
+IsWithoutForm c choice _ = ⊥
+
+-- the first text is of a model that is lowered, and this is the first that speaks against an engine form of its circuit
+pub record LowersWithoutForm (known : Option (List ℕ)) (choice : Option ℕ) (e : EngineFault) : Type 0 where
+  pub items : List Item
+  pub lowered : Circuit
+  pub text : IsModelOf known items
+  pub lowers : Lowers items lowered
+  pub first : engine_refusal lowered choice ≡ Some e
+
+-- the first text is no model, or is of one that is not lowered, or whose circuit has no such engine form
+abbrev pub IsNotLoweredForEngines : Option ℕ → Option (List ℕ) → Fault → Type 0
+IsNotLoweredForEngines choice known (fault.Engine e) = LowersWithoutForm known choice e
+IsNotLoweredForEngines choice known f = IsNotLowered known f
+
+-- the first text is of a circuit, and this is the first that speaks against an engine form of it
+pub record HasNoForm (known : Option (List ℕ)) (choice : Option ℕ) (e : EngineFault) : Type 0 where
+  pub circuit : Circuit
+  pub is_circuit : IsCircuit circuit
+  pub text : IsCircuitText known circuit
+  pub first : engine_refusal circuit choice ≡ Some e
+
+-- the first text is no circuit, or is of one that has no such engine form
+abbrev pub IsNotConvertedForEngines : Option ℕ → Option (List ℕ) → Fault → Type 0
+IsNotConvertedForEngines choice known (fault.Engine e) = HasNoForm known choice e
+IsNotConvertedForEngines choice known f = IsNoCircuit known f
+
 -- the first text has this fault, for which a command refuses it
 abbrev pub Refuses : Task → Option (List ℕ) → Fault → Type 0
 Refuses task.Lower known f = IsNotLowered known f
+Refuses (task.LowerForEngines choice) known f = IsNotLoweredForEngines choice known f
 Refuses task.CheckBtor known f = IsNotJudged known f
 Refuses task.Show known f = IsNoModel known f
 Refuses task.Cost known f = IsNoModel known f
 Refuses task.AigConvert known f = IsNoCircuit known f
+Refuses (task.ConvertForEngines choice) known f = IsNotConvertedForEngines choice known f
 Refuses task.CheckAig known f = IsNoCircuit known f
 Refuses task.Lift known f = IsNotLowered known f
 Refuses task.Vectors known f = IsNoVectorList known f

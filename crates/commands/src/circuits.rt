@@ -1,7 +1,9 @@
 //! The commands on circuits.
 
 ghost use Rattle.std.specs.Prelude.{◌≡◌, ℕ, List, Option, IfOk, IfErr, OnOk};
+ghost use Rattle.std.specs.Io.KnownBytes.{Appends};
 ghost use Rattle.aiger.specs.Circuit.{IsCircuit};
+ghost use Rattle.aigertext.specs.Binary.{circuit_text};
 ghost use Rattle.commands.specs.Done.{IsCircuitText, IsJudgedOver, Judged, Rewrites};
 ghost use Rattle.commands.specs.Refusals.{IsNoCircuit};
 ghost use Rattle.commands.specs.Statuses.{Counts, IfInput, IsOfNoInput};
@@ -16,7 +18,7 @@ use std::alloc::Global;
 use witness::judge_bits;
 
 /// Reads the first file as a circuit of either form.
-fn read_circuit<A: Source>(alloc: Global, first: &mut A) -> Result<Circuit, Refusal>
+pub(crate) fn read_circuit<A: Source>(alloc: Global, first: &mut A) -> Result<Circuit, Refusal>
     ensures read { IfOk result (IsCircuitText (A.to_come first.old)) }
     ensures refused { IfErr result (IfInput (IsNoCircuit (A.to_come first.old))) }
     ensures counted { (s o e : ℕ) → Counts result (A.failures first.old) (A.failures first.new) s s o o e e }
@@ -43,7 +45,21 @@ pub(crate) fn convert_circuit<A: Source, O: Sink>(
     let circuit = read_circuit(alloc, first)?;
     // the lists of a circuit are one
     let _ = circuit.inputs();
-    match write(&circuit, form, out) {
+    write_circuit(&circuit, form, out)
+}
+
+/// Writes a circuit in a form.
+pub(crate) fn write_circuit<O: Sink>(
+    circuit: &Circuit,
+    form: Form,
+    out: &mut O,
+) -> Result<Answer, Refusal>
+    ensures done { OnOk result (Appends (O.written out.old) (O.written out.new) (circuit_text form circuit.now)) }
+    ensures answer { IfOk result (λ answer. answer ≡ Answer.Done) }
+    ensures no_input { IsOfNoInput result }
+    ensures counted { (f s e : ℕ) → Counts result f f s s (O.failures out.old) (O.failures out.new) e e }
+{
+    match write(circuit, form, out) {
         Ok(()) => Ok(Answer::Done),
         Err(_) => Err(Refusal::Failed(Device::Output)),
     }

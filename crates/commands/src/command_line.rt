@@ -7,6 +7,7 @@ use crate::explaining::explain;
 use crate::explanations::refusal_table;
 use crate::orders::{Order, STANDARD_INPUT, STANDARD_OUTPUT, Stop, Task};
 use aigertext::Form;
+use base::decimal;
 use clap::error::ErrorKind;
 use clap::{Arg, ArgAction, ArgMatches, Command, Error};
 use std::alloc::{AllocError, AllocGlobal, Global};
@@ -46,6 +47,12 @@ const INPUT_TWICE: &str = "words: standard input is read once, so - stands for o
 /// What is told of words that choose both forms of a circuit.
 const TWO_FORMS: &str = "words: choose one form\n";
 
+/// What is told of words that choose a bad property and no engine form.
+const BAD_ALONE: &str = "words: --bad goes with --engine\n";
+
+/// What is told of words whose chosen bad property is no position.
+const NO_POSITION: &str = "words: --bad takes the position of a bad property, from 0\n";
+
 /// The flags that choose the form of a circuit that is written.
 const ASCII: &str = "ascii";
 
@@ -56,6 +63,11 @@ const WITNESS: &str = "WITNESS";
 
 /// The name of the option for the file that a result goes to.
 const OUTPUT: &str = "output";
+
+/// The flag for the engine form of a circuit, and the option for the bad property that it keeps.
+const ENGINE: &str = "engine";
+
+const BAD: &str = "bad";
 
 /// The word that asks what refusals mean, and the name of the number or the name that may stand behind it.
 const EXPLAIN: &str = "explain";
@@ -197,6 +209,15 @@ fn output_option<'a>(alloc: Global) -> Arg<'a> {
         )
 }
 
+/// The option for the bad property that an engine form keeps.
+fn bad_option<'a>(alloc: Global) -> Arg<'a> {
+    Arg::new(alloc, BAD)
+        .long(BAD)
+        .value_name("K")
+        .action(ArgAction::Set)
+        .help("With --engine, keep the bad property at this position alone, from 0")
+}
+
 /// The words of a command.
 fn command_of<'a>(alloc: Global, row: &'a Row) -> Result<Command<'a>, AllocError> {
     let (name, help) = row.file;
@@ -213,7 +234,13 @@ fn command_of<'a>(alloc: Global, row: &'a Row) -> Result<Command<'a>, AllocError
     if row.product == Product::Circuit {
         command = command
             .arg(form_flag(alloc, ASCII, "Write the ascii form (the default)"))?
-            .arg(form_flag(alloc, BINARY, "Write the binary form"))?;
+            .arg(form_flag(alloc, BINARY, "Write the binary form"))?
+            .arg(form_flag(
+                alloc,
+                ENGINE,
+                "Write a circuit that every engine reads alike: latches begin with 0, and there are bad properties alone",
+            ))?
+            .arg(bad_option(alloc))?;
     }
     Ok(command)
 }
@@ -257,13 +284,41 @@ fn output_of<'a>(words: &ArgMatches<'a>) -> Option<&'a str> {
     }
 }
 
-/// The order that matches name.
-fn order_of<'a>(matches: &ArgMatches<'a>) -> Option<Order<'a>> {
-    let (word, words) = matches.subcommand()?;
+/// The bad properties of the engine form that the words of a command ask for: all, or the one at a position; none where
+/// they ask for no engine form.
+///
+/// Errors: what is told of words that do not ask so.
+fn engine_properties(words: &ArgMatches<'_>) -> Result<Option<Option<usize>>, &'static str> {
+    match words.get_str(BAD) {
+        None if words.get_flag(ENGINE) => Ok(Some(None)),
+        None => Ok(None),
+        Some(_) if !words.get_flag(ENGINE) => Err(BAD_ALONE),
+        Some(word) => match decimal(word.as_bytes()) {
+            Some(position) => Ok(Some(Some(position as usize))),
+            None => Err(NO_POSITION),
+        },
+    }
+}
+
+/// A command, where an engine form is asked for the one that writes it.
+fn task_of(task: Task, engine: Option<Option<usize>>) -> Task {
+    match (task, engine) {
+        (Task::Lower, Some(choice)) => Task::LowerForEngines(choice),
+        (Task::AigConvert, Some(choice)) => Task::ConvertForEngines(choice),
+        (task, _) => task,
+    }
+}
+
+/// The order that the words of a command name, with the engine form that they ask for.
+fn order_of<'a>(
+    word: &str,
+    words: &ArgMatches<'a>,
+    engine: Option<Option<usize>>,
+) -> Option<Order<'a>> {
     let row = row_of(word)?;
     let (name, _) = row.file;
     Some(Order {
-        task: row.task,
+        task: task_of(row.task, engine),
         form: if words.get_flag(BINARY) {
             Form::Binary
         } else {
@@ -273,14 +328,6 @@ fn order_of<'a>(matches: &ArgMatches<'a>) -> Option<Order<'a>> {
         second: words.get_str(WITNESS),
         output: output_of(words),
     })
-}
-
-/// Whether the words of a command choose both forms.
-fn chooses_both_forms(matches: &ArgMatches<'_>) -> bool {
-    match matches.subcommand() {
-        Some((_, words)) => words.get_flag(ASCII) && words.get_flag(BINARY),
-        None => false,
-    }
 }
 
 /// Whether a command would read standard input twice.
@@ -301,15 +348,21 @@ pub(crate) fn refused(alloc: Global, line: &str) -> Stop {
     }
 }
 
-/// The order that some words give, or what stands in its place.
-fn order_or_stop<'a>(alloc: Global, matches: &ArgMatches<'a>) -> Result<Order<'a>, Stop>
+/// The order that the words of a command give, or what stands in its place.
+fn order_or_stop<'a>(alloc: Global, word: &str, words: &ArgMatches<'a>) -> Result<Order<'a>, Stop>
     ensures { IfOk result (λ order. reads_input_twice order.first.now (option_map (λ name. name.now) order.second) ≡ false) }
 {
-    if let Some((EXPLAIN, words)) = matches.subcommand() {
+    if word == EXPLAIN {
         return Err(explain(alloc, &refusal_table(), words.get_str(REFUSAL)));
     }
-    match order_of(matches) {
-        Some(_) if chooses_both_forms(matches) => Err(refused(alloc, TWO_FORMS)),
+    if words.get_flag(ASCII) && words.get_flag(BINARY) {
+        return Err(refused(alloc, TWO_FORMS));
+    }
+    let engine = match engine_properties(words) {
+        Ok(engine) => engine,
+        Err(line) => return Err(refused(alloc, line)),
+    };
+    match order_of(word, words, engine) {
         Some(order) if reads_input_twice(&order) => Err(refused(alloc, INPUT_TWICE)),
         Some(order) => Ok(order),
         None => Err(Stop::no_memory(alloc)),
@@ -347,7 +400,8 @@ pub fn given_words<R: Env + AllocGlobal>(rt: &R) -> Result<Vec<String>, Stop> {
 /// Reads the words after the program's name. Without any it is `lower` on standard input.
 ///
 /// Errors: a `Stop` with status 0 and the text of help, of the version or of what refusals mean; with 4 where the words
-/// are no command, also where they name standard input twice, which can be read once, or choose both forms of a circuit;
+/// are no command, also where they name standard input twice, which can be read once, choose both forms of a circuit, or a
+/// bad property of no engine form;
 /// with 3 where there was no memory.
 pub fn order<'a, S: AsStr>(alloc: Global, words: &'a [S]) -> Result<Order<'a>, Stop>
     // standard input is read once
@@ -367,7 +421,10 @@ pub fn order<'a, S: AsStr>(alloc: Global, words: &'a [S]) -> Result<Order<'a>, S
         Err(_) => return Err(Stop::no_memory(alloc)),
     };
     match command.try_get_matches_from(words) {
-        Ok(matches) => order_or_stop(alloc, &matches),
+        Ok(matches) => match matches.subcommand() {
+            Some((word, words)) => order_or_stop(alloc, word, words),
+            None => Err(Stop::no_memory(alloc)),
+        },
         Err(error) => Err(stop_of(alloc, &error)),
     }
 }

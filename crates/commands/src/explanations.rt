@@ -14,6 +14,8 @@ ghost use Rattle.btor2.specs.declared.symbol.SymbolFault.{SymbolFault};
 ghost use Rattle.btor2text.specs.Whys.{name_of, printed_number};
 ghost use Rattle.btor2text.specs.declared.fault.Why.{Why};
 ghost use Rattle.commands.specs.Explanations.{Explains};
+ghost use Rattle.engine.specs.Faults.{name_of as engine_name, number_of as engine_number};
+ghost use Rattle.engine.specs.declared.fault.EngineFault.{EngineFault};
 ghost use Rattle.gates.specs.Faults.{name_of as gate_name, number_of as gate_number};
 ghost use Rattle.gates.specs.declared.fault.GateFault.{GateFault};
 ghost use Rattle.lift.specs.Answers.{fault_name as lift_name, fault_number as lift_number};
@@ -56,7 +58,7 @@ pub struct Part {
 /// What all refusals mean and what to do about them. A refusal may have several cases, also in several parts.
 ///
 /// Each refusal of each library is there, by the number and the name that the library gives it.
-pub fn refusal_table() -> [Part; 12]
+pub fn refusal_table() -> [Part; 13]
     // the number of a why of a model's text that a push gives is its own, which is printed for it
     ensures models { (why : Why) → Explains result (printed_number why) (name_of why) }
     ensures symbols { (fault : SymbolFault) → Explains result (symbol_fault_number fault) (symbol_fault_name fault) }
@@ -69,6 +71,7 @@ pub fn refusal_table() -> [Part; 12]
     ensures circuits { (fault : CircuitFault) → Explains result (fault_number fault) (fault_name fault) }
     ensures lists { (fault : LooseFault) → Explains result (loose_fault_number fault) (loose_fault_name fault) }
     ensures liftings { (fault : LiftFault) → Explains result (lift_number fault) (lift_name fault) }
+    ensures engines { (fault : EngineFault) → Explains result (engine_number fault) (engine_name fault) }
     ensures texts { (why : CircuitWhy) → Explains result (why_number why) (why_name why) }
 {
     [
@@ -119,6 +122,10 @@ pub fn refusal_table() -> [Part; 12]
         Part {
             title: "Texts of circuits",
             rows: circuits::texts(),
+        },
+        Part {
+            title: "Engine forms",
+            rows: circuits::engines(),
         },
     ]
 }

@@ -18,6 +18,8 @@ pub(crate) const STANDARD_OUTPUT: &str = "-";
 pub enum Task {
     /// Lowers a model to a circuit.
     Lower,
+    /// Lowers a model, and writes the engine form of its circuit: with all bad properties, or with the one at a position.
+    LowerForEngines(Option<usize>),
     /// Judges a witness over a model.
     CheckBtor,
     /// Writes a model's text in the writer's form.
@@ -26,6 +28,8 @@ pub enum Task {
     Cost,
     /// Writes a circuit in a form.
     AigConvert,
+    /// Writes the engine form of a circuit, with all bad properties or with the one at a position.
+    ConvertForEngines(Option<usize>),
     /// Judges a witness over a circuit.
     CheckAig,
     /// Lifts a witness of a model's circuit to one of the model.

@@ -4,11 +4,12 @@ ghost use Rattle.std.specs.Prelude.{◌≡◌, IfOk};
 ghost use Rattle.std.specs.String.{string_bytes};
 ghost use Rattle.commands.specs.declared.refusals.Fault.TheVariants as fault_is;
 ghost use Rattle.commands.specs.declared.refusals.Refusal.TheVariants as refusal;
-ghost use Rattle.commands.specs.Refusals.{fault_line, item_line};
-ghost use Rattle.commands.specs.Conversions.{of_reading, of_circuit_reading, of_lowering, of_conversion, of_judging, of_lifting, of_reading_all, of_lines};
+ghost use Rattle.commands.specs.Refusals.{about, fault_line, item_line, numbered_name};
+ghost use Rattle.commands.specs.Conversions.{of_reading, of_circuit_reading, of_lowering, of_engine_form, of_conversion, of_judging, of_lifting, of_reading_all, of_lines};
 
 use base::ReadAllFault;
 use blast::{ConvertFault, LowerFault};
+use engine::EngineFault;
 use lift::LiftFault;
 use std::alloc::{AllocError, Global};
 use vectors::LinesFault;
@@ -23,6 +24,8 @@ pub(crate) enum Fault {
     Circuit(aigertext::ReadFault),
     /// The model is not lowered.
     Lowering(LowerFault),
+    /// The circuit has no such engine form.
+    Engine(EngineFault),
     /// The state of this id has an init and no next, and nothing is judged over it.
     NoNext(u64),
     /// This line, from 1, writes no vector.
@@ -84,6 +87,17 @@ impl From<LowerFault> for Refusal {
         match fault {
             LowerFault::NoMemory => Refusal::NoMemory,
             _ => Refusal::Input(Fault::Lowering(fault)),
+        }
+    }
+}
+
+impl From<EngineFault> for Refusal {
+    ghost from_gives = { λ e r. r ≡ of_engine_form e };
+
+    fn from(fault: EngineFault) -> Refusal {
+        match fault {
+            EngineFault::NoMemory => Refusal::NoMemory,
+            _ => Refusal::Input(Fault::Engine(fault)),
         }
     }
 }
@@ -173,6 +187,7 @@ impl Fault {
                 format!(in alloc; "{file}: byte {place}: {number} {name}\n")
             }
             Fault::Lowering(fault) => lowering_line(alloc, file, *fault),
+            Fault::Engine(fault) => plain_line(alloc, file, fault.number(), fault.name()),
             Fault::NoNext(id) => {
                 let fault = JudgeFault::NoNext(*id);
                 item_line(alloc, file, *id, fault.number(), fault.name())
@@ -198,6 +213,13 @@ fn item_line(
     format!(in alloc; "{file}: item {id}: {number} {name}\n")
 }
 
+/// The line that tells of a file as a whole the number and the name of what speaks against it.
+fn plain_line(alloc: Global, file: &str, number: u32, name: &str) -> Result<String, AllocError>
+    ensures { IfOk result (λ line. string_bytes line ≡ about file.now (numbered_name number name.now)) }
+{
+    format!(in alloc; "{file}: {number} {name}\n")
+}
+
 /// The line that tells of a file why its model is not lowered.
 fn lowering_line(alloc: Global, file: &str, fault: LowerFault) -> Result<String, AllocError>
     ensures { IfOk result (λ line. string_bytes line ≡ fault_line file.now (fault_is.Lowering fault)) }
@@ -208,8 +230,6 @@ fn lowering_line(alloc: Global, file: &str, fault: LowerFault) -> Result<String,
         LowerFault::Justice(id) | LowerFault::Fair(id) | LowerFault::NoNext(id) => {
             item_line(alloc, file, id, number, name)
         }
-        LowerFault::TooBig | LowerFault::NoMemory => {
-            format!(in alloc; "{file}: {number} {name}\n")
-        }
+        LowerFault::TooBig | LowerFault::NoMemory => plain_line(alloc, file, number, name),
     }
 }

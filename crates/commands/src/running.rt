@@ -8,6 +8,7 @@ ghost use Rattle.commands.specs.Statuses.{Counts, ErrUntold, HasFailed, IfInput,
 
 use crate::answers::Answer;
 use crate::circuits::{check_circuit, convert_circuit};
+use crate::engines::{convert_for_engines, lower_for_engines};
 use crate::lifting::lift_witness;
 use crate::models::{check_model, lower_model, show, tell_cost};
 use crate::orders::{Order, Task};
@@ -23,7 +24,8 @@ use std::alloc::Global;
 /// Results go to `out`; a refusal is one line on `err`, and so is the judgement of `lift`. Only a command of two files
 /// reads the second source.
 ///
-/// - 0: all of the circuit's text was written (that of a lowering of the model, or of the circuit that was read), the
+/// - 0: all of the circuit's text was written (that of a lowering of the model, or of the circuit that was read, or of the
+///   engine form of either, whose bad properties can rise exactly where those of the model or circuit can), the
 ///   witness is accepted and the line that says so was written, all of the model's text and the line of its counts were
 ///   written, or both lines of its cost, or the lifted text of a witness that is accepted, or that all vectors agree.
 /// - 1: the witness is judged and not accepted, and the line of its judgement, or what it is lifted to, was written; or the
@@ -81,10 +83,14 @@ fn obey<A: Source, B: Source, O: Sink, E: Sink>(
 {
     match order.task {
         Task::Lower => lower_model(alloc, order.form, first, out),
+        Task::LowerForEngines(choice) => lower_for_engines(alloc, order.form, choice, first, out),
         Task::CheckBtor => check_model(alloc, first, second, out),
         Task::Show => show(alloc, first, out),
         Task::Cost => tell_cost(alloc, first, out),
         Task::AigConvert => convert_circuit(alloc, order.form, first, out),
+        Task::ConvertForEngines(choice) => {
+            convert_for_engines(alloc, order.form, choice, first, out)
+        }
         Task::CheckAig => check_circuit(alloc, first, second, out),
         Task::Lift => lift_witness(alloc, first, second, out, err),
         Task::Vectors => compare_vectors(alloc, first, out),

@@ -7,6 +7,8 @@ ghost use Rattle.aiger.specs.declared.fault.LooseFault.{LooseFault};
 ghost use Rattle.aigertext.specs.Whys.{why_name, why_number};
 ghost use Rattle.aigertext.specs.declared.fault.Why.{Why};
 ghost use Rattle.commands.specs.Explanations.{Has};
+ghost use Rattle.engine.specs.Faults.{name_of as engine_name, number_of as engine_number};
+ghost use Rattle.engine.specs.declared.fault.EngineFault.{EngineFault};
 ghost use Rattle.gates.specs.Faults.{name_of, number_of};
 ghost use Rattle.gates.specs.declared.fault.GateFault.{GateFault};
 
@@ -22,6 +24,40 @@ const GATES: [Explanation; 2] = [
     },
     Explanation {
         number: 81,
+        name: "NoMemory",
+        when: "a growth was refused",
+        remedy: "give the program more memory",
+    },
+];
+
+/// Of engine forms.
+const ENGINES: [Explanation; 5] = [
+    Explanation {
+        number: 140,
+        name: "Justice",
+        when: "the circuit has a justice property; the first, at position 0, is meant",
+        remedy: "take the justice properties out, or turn them into bad properties",
+    },
+    Explanation {
+        number: 141,
+        name: "Fair",
+        when: "the circuit has a fairness constraint; the first, at position 0, is meant",
+        remedy: "take the fairness constraints out",
+    },
+    Explanation {
+        number: 142,
+        name: "NoSuchBad",
+        when: "there is no bad property at the chosen position",
+        remedy: "count bad properties from 0",
+    },
+    Explanation {
+        number: 143,
+        name: "TooBig",
+        when: "the inputs and latches of the form and the bound on its gates sum to more than 2^30",
+        remedy: "split the circuit",
+    },
+    Explanation {
+        number: 144,
         name: "NoMemory",
         when: "a growth was refused",
         remedy: "give the program more memory",
@@ -179,6 +215,13 @@ pub(super) fn gates() -> &'static [Explanation]
     ensures { (fault : GateFault) → Has result.now (number_of fault) (name_of fault) }
 {
     &GATES
+}
+
+/// The cases of engine forms.
+pub(super) fn engines() -> &'static [Explanation]
+    ensures { (fault : EngineFault) → Has result.now (engine_number fault) (engine_name fault) }
+{
+    &ENGINES
 }
 
 /// The cases of calls of circuits, and of the lists of a file.

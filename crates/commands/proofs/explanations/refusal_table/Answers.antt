@@ -2,6 +2,7 @@ use Rattle.std.proofs.Common.{Bool, List}
 use Rattle.aiger.specs.Refusal.{fault_name, fault_number}
 use Rattle.aiger.specs.Renumbering.{loose_fault_name, loose_fault_number}
 use Rattle.aigertext.specs.Whys.{why_name, why_number}
+use Rattle.engine.specs.Faults.{name_of as engine_name, number_of as engine_number}
 use Rattle.lift.specs.Answers.{fault_name as lift_name, fault_number as lift_number}
 use Rattle.commands.specs.Explanations.{has_row}
 use Rattle.commands.specs.declared.explanations.Explanation.{Explanation}
@@ -30,3 +31,8 @@ pub returns-clause-texts : goal.returns-clause-texts
 returns-clause-texts c = λ why.
     let has : List Explanation → Bool = has_row (why_number why) (why_name why) in
     behind_nine has c.often.result.now c.texts.result.now c.items.result.now c.names.result.now c.lowering.result.now c.runs.result.now c.witness_texts.result.now c.bit_texts.result.now c.gates.result.now _ (behind (has c.calls.result.now) _ (behind (has c.lifting.result.now) _ (here (has c.texts-2.result.now) _ (c.texts-2.ensures why))))
+
+pub returns-clause-engines : goal.returns-clause-engines
+returns-clause-engines c = λ fault.
+    let has : List Explanation → Bool = has_row (engine_number fault) (engine_name fault) in
+    behind_nine has c.often.result.now c.texts.result.now c.items.result.now c.names.result.now c.lowering.result.now c.runs.result.now c.witness_texts.result.now c.bit_texts.result.now c.gates.result.now _ (behind (has c.calls.result.now) _ (behind (has c.lifting.result.now) _ (behind (has c.texts-2.result.now) _ (here (has c.engines.result.now) _ (c.engines.ensures fault)))))

@@ -1,0 +1,114 @@
+//! The commands that write engine forms of circuits.
+
+ghost use Rattle.std.specs.Prelude.{◌≡◌, ℕ, List, Option, IfOk, IfErr, OnOk};
+ghost use Rattle.commands.specs.Done.{ConvertsForEngines, IsCircuitText, IsModelOf, LowersForEngines, WritesEngineForm};
+ghost use Rattle.commands.specs.Refusals.{IsNotConvertedForEngines, IsNotLoweredForEngines, IsWithoutForm};
+ghost use Rattle.commands.specs.Statuses.{Counts, IfInput};
+
+use crate::answers::Answer;
+use crate::circuits::{read_circuit, write_circuit};
+use crate::models::read_model;
+use crate::refusals::Refusal;
+use aiger::Circuit;
+use aigertext::Form;
+use base::{Sink, Source};
+use blast::lower;
+use btor2::Model;
+use engine::engine_form;
+use std::alloc::Global;
+
+/// Writes the engine form of a circuit, with all its bad properties or with a chosen one.
+fn write_engine_form<O: Sink>(
+    alloc: Global,
+    circuit: &Circuit,
+    form: Form,
+    choice: Option<usize>,
+    out: &mut O,
+) -> Result<Answer, Refusal>
+    ensures done { OnOk result (WritesEngineForm circuit.now choice (O.written out.old) (O.written out.new) form) }
+    ensures answer { IfOk result (λ answer. answer ≡ Answer.Done) }
+    ensures refused { IfErr result (IfInput (IsWithoutForm circuit.now choice)) }
+    ensures unwritten { IfErr result (IfInput (λ _. out.new ≡ out.old)) }
+    ensures counted { (f s e : ℕ) → Counts result f f s s (O.failures out.old) (O.failures out.new) e e }
+{
+    let plain = engine_form(alloc, circuit, choice)?;
+    write_circuit(&plain, form, out)
+}
+
+/// Lowers a model, and writes the engine form of its circuit.
+pub(crate) fn lower_for_engines<A: Source, O: Sink>(
+    alloc: Global,
+    form: Form,
+    choice: Option<usize>,
+    first: &mut A,
+    out: &mut O,
+) -> Result<Answer, Refusal>
+    ensures done { OnOk result (LowersForEngines (A.to_come first.old) (O.written out.old) (O.written out.new) form choice) }
+    ensures answer { IfOk result (λ answer. answer ≡ Answer.Done) }
+    ensures refused { IfErr result (IfInput (IsNotLoweredForEngines choice (A.to_come first.old))) }
+    ensures unwritten { IfErr result (IfInput (λ _. out.new ≡ out.old)) }
+    ensures counted { (s e : ℕ) → Counts result (A.failures first.old) (A.failures first.new) s s (O.failures out.old) (O.failures out.new) e e }
+{
+    let model = read_model(alloc, first)?;
+    lower_model_for_engines(alloc, &model, form, choice, out)
+}
+
+/// The same of a model that was read.
+fn lower_model_for_engines<O: Sink>(
+    alloc: Global,
+    model: &Model,
+    form: Form,
+    choice: Option<usize>,
+    out: &mut O,
+) -> Result<Answer, Refusal>
+    ensures done { (known : Option (List ℕ)) → IsModelOf known model.now → OnOk result (LowersForEngines known (O.written out.old) (O.written out.new) form choice) }
+    ensures answer { IfOk result (λ answer. answer ≡ Answer.Done) }
+    ensures refused { (known : Option (List ℕ)) → IsModelOf known model.now → IfErr result (IfInput (IsNotLoweredForEngines choice known)) }
+    ensures unwritten { IfErr result (IfInput (λ _. out.new ≡ out.old)) }
+    ensures counted { (f s e : ℕ) → Counts result f f s s (O.failures out.old) (O.failures out.new) e e }
+{
+    // a model's items are well-formed
+    let _ = model.items();
+    let circuit = lower(alloc, model)?;
+    blast::laws::bad_properties_rise_alike();
+    engine::laws::bad_properties_rise_alike();
+    write_engine_form(alloc, &circuit, form, choice, out)
+}
+
+/// Reads a circuit of either form, and writes its engine form.
+pub(crate) fn convert_for_engines<A: Source, O: Sink>(
+    alloc: Global,
+    form: Form,
+    choice: Option<usize>,
+    first: &mut A,
+    out: &mut O,
+) -> Result<Answer, Refusal>
+    ensures done { OnOk result (ConvertsForEngines (A.to_come first.old) (O.written out.old) (O.written out.new) form choice) }
+    ensures answer { IfOk result (λ answer. answer ≡ Answer.Done) }
+    ensures refused { IfErr result (IfInput (IsNotConvertedForEngines choice (A.to_come first.old))) }
+    ensures unwritten { IfErr result (IfInput (λ _. out.new ≡ out.old)) }
+    ensures counted { (s e : ℕ) → Counts result (A.failures first.old) (A.failures first.new) s s (O.failures out.old) (O.failures out.new) e e }
+{
+    let circuit = read_circuit(alloc, first)?;
+    convert_circuit_for_engines(alloc, &circuit, form, choice, out)
+}
+
+/// The same of a circuit that was read.
+fn convert_circuit_for_engines<O: Sink>(
+    alloc: Global,
+    circuit: &Circuit,
+    form: Form,
+    choice: Option<usize>,
+    out: &mut O,
+) -> Result<Answer, Refusal>
+    ensures done { (known : Option (List ℕ)) → IsCircuitText known circuit.now → OnOk result (ConvertsForEngines known (O.written out.old) (O.written out.new) form choice) }
+    ensures answer { IfOk result (λ answer. answer ≡ Answer.Done) }
+    ensures refused { (known : Option (List ℕ)) → IsCircuitText known circuit.now → IfErr result (IfInput (IsNotConvertedForEngines choice known)) }
+    ensures unwritten { IfErr result (IfInput (λ _. out.new ≡ out.old)) }
+    ensures counted { (f s e : ℕ) → Counts result f f s s (O.failures out.old) (O.failures out.new) e e }
+{
+    // the lists of a circuit are one
+    let _ = circuit.inputs();
+    engine::laws::bad_properties_rise_alike();
+    write_engine_form(alloc, circuit, form, choice, out)
+}
