@@ -1,9 +1,11 @@
 //! Models that are too big, and long witnesses. What small ones answer is shown by rows.
 use crate::models::model_of;
 use aiger::Circuit;
+use base::VecSink;
 use blast::{LowerFault, bound, cost, lower};
 use btor2::Model;
 use btor2text::read;
+use commands::{NoFile, order, run};
 use library_tests::samples::{DELAYED, TOGGLER, TOGGLES};
 use std::alloc::Global;
 use std::test::Fail;
@@ -60,6 +62,34 @@ fn models_that_are_too_big(rt: HostRuntime) -> Result<(), Fail> {
         let refused = refusal(rt.alloc(), text.as_str())?;
         assert!(rt; refused == (Some(*fault), *bound, *cost), "{count} {last}");
     }
+    Ok(())
+}
+
+/// Whether the command that lowers a model answers so of a text.
+fn is_lowered_to(alloc: Global, text: &str, status: u8, told: &[u8]) -> Result<bool, Fail> {
+    let order = match order(alloc, &["lower", "model"]) {
+        Ok(order) => order,
+        Err(_) => Err("a command")?,
+    };
+    let mut out = VecSink::new(alloc);
+    let mut err = VecSink::new(alloc);
+    let mut model = text.as_bytes();
+    let answer = run(
+        alloc,
+        &order,
+        &mut model,
+        &mut NoFile::new(),
+        &mut out,
+        &mut err,
+    );
+    Ok(answer == status && out.bytes().is_empty() && err.bytes() == told)
+}
+
+#[test]
+fn the_command_tells_a_model_that_is_too_big(rt: HostRuntime) -> Result<(), Fail> {
+    let text = products(rt.alloc(), 6544, "")?;
+    let is_told = is_lowered_to(rt.alloc(), text.as_str(), 2, b"model: 93 TooBig\n")?;
+    assert!(rt; is_told);
     Ok(())
 }
 
