@@ -1,0 +1,12 @@
+pub mod Literal
+pub mod Formula
+pub mod Propagation
+pub mod Faults
+pub mod Marked
+pub mod Flat
+pub mod Growth
+pub mod Propagator
+pub mod Lists
+pub mod Watched
+pub mod Added
+pub mod Worked
