@@ -9,3 +9,5 @@ pub mod WatchLemmas
 pub mod WalkLemmas
 pub mod AddLemmas
 pub mod WorkedLemmas
+pub mod JudgementLemmas
+pub mod WorkedJudgements

@@ -69,10 +69,10 @@ find_true a (l ∷ ls) =
     (find_true a ls))
     (cases_Bool (literal_bit a l))
 
-true_closed_all : (a : Assignment) (clauses : List (List ℕ)) → Satisfies a clauses → IsClosed clauses (literal_bit a)
+pub true_closed_all : (a : Assignment) (clauses : List (List ℕ)) → Satisfies a clauses → IsClosed clauses (literal_bit a)
 true_closed_all a clauses sat k h = true_closed a (get_or clauses k []) (sat k h)
 
-satisfies_more : (a : Assignment) (clauses : List (List ℕ)) (clause : List ℕ) → Satisfies a clauses → SatisfiesClause a clause → Satisfies a (clauses ++ clause ∷ [])
+pub satisfies_more : (a : Assignment) (clauses : List (List ℕ)) (clause : List ℕ) → Satisfies a clauses → SatisfiesClause a clause → Satisfies a (clauses ++ clause ∷ [])
 satisfies_more a clauses clause sat own k h =
     ⊎_elim
     (λ (old : k < length clauses). subst (SatisfiesClause a) (sym (get_or_append_left clauses (clause ∷ []) [] k old)) (sat k old))

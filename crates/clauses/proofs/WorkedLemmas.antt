@@ -5,11 +5,11 @@ use Rattle.std.proofs.lemmas.Bool.{cases_eq}
 use Rattle.std.proofs.lemmas.Bool.Decides.{nat_tests}
 use Rattle.clauses.specs.Literal.{negation, Assignment, literal_bit}
 use Rattle.clauses.specs.Formula.{IsUnsatisfiable}
-use Rattle.clauses.specs.Propagation.{Literals, AllNegated, OthersNegated, IsClosedUnder, IsClosed, Conflict, IsClosure, MeetsConflict, Implied}
+use Rattle.clauses.specs.Propagation.{Literals, nothing, AllNegated, OthersNegated, IsClosedUnder, IsClosed, Conflict, IsClosure, MeetsConflict, Implied}
 use Rattle.clauses.specs.Propagation.Conflict.{opposite, falsified}
-use Rattle.clauses.specs.Worked.{nothing, one, two, all_eight, twice, with_negation, chain}
+use Rattle.clauses.specs.Worked.{one, two, all_eight, twice, with_negation, chain}
 
-both_true : (a b : Bool) → a ≡ true → b ≡ true → (a && b) ≡ true
+pub both_true : (a b : Bool) → a ≡ true → b ≡ true → (a && b) ≡ true
 both_true true b p q = q
 both_true false b p q = p
 
@@ -33,7 +33,7 @@ left_true : (a b : Bool) → a ≡ true → (a || b) ≡ true
 left_true true b p = refl
 left_true false b p = absurd (cc)
 
-equal : (x y : ℕ) → (x == y) ≡ true → x ≡ y
+pub equal : (x y : ℕ) → (x == y) ≡ true → x ≡ y
 equal x y e = grind (arith, nat_tests)
 
 equal_true : (x y : ℕ) → x ≡ y → (x == y) ≡ true

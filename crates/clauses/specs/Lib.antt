@@ -1,6 +1,10 @@
 pub mod Literal
 pub mod Formula
+pub mod FormulaTexts
 pub mod Propagation
+pub mod Proofs
+pub mod Judgements
+pub mod Printed
 pub mod Faults
 pub mod Marked
 pub mod Flat

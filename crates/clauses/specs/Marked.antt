@@ -35,10 +35,6 @@ IsWithin m s = (l : ℕ) → set_of m l ≡ true → s l ≡ true
 abbrev pub IsConsistent : Marked → Type 0
 IsConsistent m = (l : ℕ) → set_of m l ≡ true → set_of m (negation l) ≡ true → ⊥
 
--- the literals are as many as they were, and an even number
-abbrev pub HasLimit : ℕ → Marked → Type 0
-HasLimit limit m = length m.marks ≡ limit
-
 -- a clause neither gives a literal that is not marked nor is falsified
 pub record IsSettled (clause : List ℕ) (s : Literals) : Type 0 where
   pub closed : IsClosedUnder clause s
@@ -58,10 +54,6 @@ IsEven m = length m.marks % 2 ≡ 0
 -- what is marked stays marked
 abbrev pub IsKept : Marked → Marked → Type 0
 IsKept old new = (l : ℕ) → set_of old l ≡ true → set_of new l ≡ true
-
--- nothing is marked
-abbrev pub IsBlank : Marked → Type 0
-IsBlank m = (l : ℕ) → set_of m l ≡ false
 
 -- what came stays in its place
 abbrev pub IsPrefix : Marked → Marked → Type 0

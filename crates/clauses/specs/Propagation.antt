@@ -1,12 +1,16 @@
 -- Unit propagation: a clause all of whose literals but one are negated gives that one (the steps that proofs of solvers consist of are checked by it: N.
 -- Wetzler, M. Heule, W. Hunt, "DRAT-trim: Efficient checking and trimming using expressive clausal proofs", SAT 2014).
-use Rattle.std.specs.Prelude.{◌≡◌, ◌≢◌, ℕ, ◌<◌, Bool, true, List, [], length, slice_index, slice_index_or}
+use Rattle.std.specs.Prelude.{◌≡◌, ◌≢◌, ℕ, ◌<◌, Bool, true, false, List, [], length, slice_index, slice_index_or}
 use Rattle.clauses.specs.Literal.{negation, Assignment, literal_bit}
 use Rattle.clauses.specs.Formula.{Satisfies}
 
 -- a set of literals
 abbrev pub Literals : Type 0
 Literals = ℕ → Bool
+
+-- no literals
+abbrev pub nothing : Literals
+nothing l = false
 
 -- the set has the negation of each literal of a clause
 abbrev pub AllNegated : List ℕ → Literals → Type 0

@@ -1,11 +1,10 @@
 -- Worked rows: all eight clauses of three variables, a clause with a literal twice, one with a literal and its negation, and one literal that gives another.
-use Rattle.std.specs.Prelude.{ℕ, ◌==◌, ◌||◌, false, List, [], ◌∷◌}
+use Rattle.std.specs.Prelude.{ℕ, ◌==◌, ◌||◌, List, [], ◌∷◌, None}
+use Rattle.clauses.specs.Formula.{Formula}
 use Rattle.clauses.specs.Propagation.{Literals}
+use Rattle.clauses.specs.Proofs.{Reading, ended, addition}
 
--- no literals, one, and two
-abbrev pub nothing : Literals
-nothing l = false
-
+-- one literal, and two
 abbrev pub one : ℕ → Literals
 one x l = l == x
 
@@ -34,3 +33,10 @@ with_negation = (2 ∷ 3 ∷ []) ∷ []
 -- the first variable, and by it the second
 abbrev pub chain : List (List ℕ)
 chain = (2 ∷ []) ∷ (3 ∷ 4 ∷ []) ∷ []
+
+-- the formula of all eight clauses, and what is read of a proof of it: two variables by the third, one by the second, and the other
+abbrev pub eight : Formula
+eight = record { variables = 3; clauses = all_eight }
+
+abbrev pub three_steps : Reading
+three_steps = record { steps = ended 1 (addition (2 ∷ 4 ∷ [])) ∷ ended 2 (addition (2 ∷ [])) ∷ ended 3 (addition (4 ∷ [])) ∷ []; fault = None }

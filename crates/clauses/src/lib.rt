@@ -1,7 +1,8 @@
-//! Formulas of clauses, and what follows from clauses by unit propagation.
+//! Formulas of clauses, what follows from clauses by unit propagation, and how proofs by it are judged.
 #![tactic(auto)]
 
 mod fault;
+mod judgement;
 pub mod laws;
 mod lists;
 mod literal;
@@ -9,6 +10,9 @@ mod passes;
 mod propagator;
 mod trail;
 mod watches;
+mod why;
 
 pub use fault::ClauseFault;
+pub use judgement::Judgement;
 pub use propagator::Propagator;
+pub use why::Why;
