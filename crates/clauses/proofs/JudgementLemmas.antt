@@ -3,15 +3,15 @@ use Rattle.std.proofs.Common.{◌≡◌, ℕ, zero, suc, ◌<◌, ◌≤◌, Lis
 use Rattle.std.specs.Prelude.{Option, Some, None}
 use Rattle.std.proofs.lemmas.Bool.{cases_lt}
 use Rattle.std.specs.List.{remove}
-use Rattle.std.specs.List.Sorted.{IsPermutation}
 use Rattle.clauses.specs.declared.judgement.Judgement.{Judgement}
 use Rattle.clauses.specs.declared.judgement.Judgement.TheVariants as judgement
 use Rattle.clauses.specs.Literal.{Assignment, literal_bit}
 use Rattle.clauses.specs.Formula.{Formula, SatisfiesClause, Satisfies, IsUnsatisfiable}
 use Rattle.clauses.specs.Propagation.{Literals, nothing, Holds, IsClosure, MeetsConflict, Implied, IsModel}
 use Rattle.clauses.specs.Proofs.{addition, deletion, Ended, ended, Fault, Reading, read_proof}
-use Rattle.clauses.specs.Judgements.{IsWithout, at_end, JudgesSteps, Judges}
-use Rattle.clauses.specs.Judgements.IsWithout.{last, none}
+use Rattle.clauses.specs.Without.{IsLastAlike, IsWithout}
+use Rattle.clauses.specs.Judgements.{at_end, JudgesSteps, Judges}
+use Rattle.clauses.specs.Without.IsWithout.{last, none}
 use Rattle.clauses.proofs.SoundLemmas.{true_closed_all, satisfies_more, is_satisfied, is_unsatisfied}
 
 -- ---- a clause taken away
@@ -23,23 +23,23 @@ remove_at (x ∷ xs) (suc k) zero h below = (0, omega arith, refl)
 remove_at (x ∷ xs) (suc k) (suc i) h below = let own = remove_at xs k i (omega (arith, h)) (omega (arith, below)) in (suc own.0, omega (arith, own.1), own.2)
 
 satisfies_without : (a : Assignment) (clauses : List (List ℕ)) (clause : List ℕ) (left : List (List ℕ)) → IsWithout clauses clause left → Satisfies a clauses → Satisfies a left
-satisfies_without a clauses clause left (last k h is later e) sat =
+satisfies_without a clauses clause left (last k own e) sat =
     subst (λ (cs : List (List ℕ)). Satisfies a cs) (sym e)
-    (λ i below. let own = remove_at clauses k i h below in subst (SatisfiesClause a) (sym own.2) (sat own.0 own.1))
+    (λ i below. let at = remove_at clauses k i own.inside below in subst (SatisfiesClause a) (sym at.2) (sat at.0 at.1))
 satisfies_without a clauses clause left (none not_there e) sat = subst (λ (cs : List (List ℕ)). Satisfies a cs) (sym e) sat
 
 model_without : (a : Assignment) (clauses : List (List ℕ)) (clause : List ℕ) (left : List (List ℕ)) (s : Literals) → IsWithout clauses clause left → IsModel a clauses s → IsModel a left s
 model_without a clauses clause left s w m = record { satisfies = satisfies_without a clauses clause left w m.satisfies; holds = m.holds }
 
-both_last : (clauses : List (List ℕ)) (clause : List ℕ) (k l : ℕ) → k < length clauses → IsPermutation clause (get_or clauses k []) → ((j : ℕ) → l < j → j < length clauses → IsPermutation clause (get_or clauses j []) → ⊥) → k ≤ l
-both_last clauses clause k l h is later = ⊎_elim (λ (less : l < k). absurd (later k less h is)) (λ (le : k ≤ l). le) (cases_lt l k)
+not_before : (clauses : List (List ℕ)) (clause : List ℕ) (k l : ℕ) → IsLastAlike clauses clause k → IsLastAlike clauses clause l → k ≤ l
+not_before clauses clause k l a b = ⊎_elim (λ (less : l < k). absurd (b.later k (omega arith) a.inside a.alike)) (λ (le : k ≤ l). le) (cases_lt l k)
 
 one_without : (clauses : List (List ℕ)) (clause : List ℕ) (left right : List (List ℕ)) → IsWithout clauses clause left → IsWithout clauses clause right → left ≡ right
-one_without clauses clause left right (last k h is later e) (last l h' is' later' e') =
-    let same : k ≡ l = omega (arith, both_last clauses clause k l h is later', both_last clauses clause l k h' is' later) in
+one_without clauses clause left right (last k a e) (last l b e') =
+    let same : k ≡ l = omega (arith, not_before clauses clause k l a b, not_before clauses clause l k b a) in
     e ∙ ap (remove clauses) same ∙ sym e'
-one_without clauses clause left right (last k h is later e) (none not_there' e') = absurd (not_there' k h is)
-one_without clauses clause left right (none not_there e) (last l h' is' later' e') = absurd (not_there l h' is')
+one_without clauses clause left right (last k a e) (none not_there e') = absurd (not_there k (omega arith) a.inside a.alike)
+one_without clauses clause left right (none not_there e) (last l b e') = absurd (not_there l (omega arith) b.inside b.alike)
 one_without clauses clause left right (none not_there e) (none not_there' e') = e ∙ sym e'
 
 -- ---- sets that agree

@@ -9,5 +9,7 @@ pub mod WatchLemmas
 pub mod WalkLemmas
 pub mod AddLemmas
 pub mod WorkedLemmas
+pub mod AlikeLemmas
+pub mod TakenLemmas
 pub mod JudgementLemmas
 pub mod WorkedJudgements

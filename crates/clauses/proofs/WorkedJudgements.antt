@@ -1,8 +1,6 @@
 -- Worked rows of proofs, and how they are judged.
-use Rattle.std.proofs.Common.{◌≡◌, ℕ, zero, suc, ◌<◌, true, List, [], ◌∷◌, ◌++◌, inl, inr, get_or, refl, sym, ap, subst, ◌∙◌, arith}
-use Rattle.std.specs.Prelude.{◌&&◌, Some, None, codes}
-use Rattle.std.specs.List.Sorted.{IsPermutation}
-use Rattle.std.proofs.lemmas.List.Sorted.{IsPermutation-swap, length_permutation}
+use Rattle.std.proofs.Common.{cond, ◌+◌, ◌≡◌, ℕ, zero, suc, true, List, [], ◌∷◌, ◌++◌, inl, inr, refl, sym, ap, subst, ◌∙◌, arith}
+use Rattle.std.specs.Prelude.{◌==◌, ◌&&◌, Some, None, codes}
 use Rattle.base.specs.Decimals.{is_decimal, capped_value, number_of}
 use Rattle.clauses.specs.declared.why.Why.TheVariants as why
 use Rattle.clauses.specs.declared.judgement.Judgement.{Judgement}
@@ -11,8 +9,9 @@ use Rattle.clauses.specs.Formula.{Formula}
 use Rattle.clauses.specs.Propagation.{Literals, nothing, IsClosed, Holds, IsClosure, MeetsConflict, Implied}
 use Rattle.clauses.specs.Propagation.Conflict.{opposite}
 use Rattle.clauses.specs.Proofs.{Reading, read_proof, ended, addition, deletion}
-use Rattle.clauses.specs.Judgements.{IsWithout, JudgesReading, Judges}
-use Rattle.clauses.specs.Judgements.IsWithout.{last, none}
+use Rattle.clauses.specs.Judgements.{JudgesReading, Judges}
+use Rattle.clauses.specs.Without.{AreAlike, NoneAlikeFrom, IsWithout}
+use Rattle.clauses.specs.Without.IsWithout.{last, none}
 use Rattle.clauses.specs.Worked.{one, all_eight, eight, three_steps}
 use Rattle.clauses.proofs.WorkedLemmas.{both_true, given, closed, no_conflict, nothing_consistent, one_consistent, equal, all_eight-implied, all_eight-not_implied, all_eight-free}
 
@@ -150,18 +149,21 @@ judges-by_itself = inl (λ s c holds. opposite 2 (given ((2 ∷ []) ∷ (3 ∷ [
 abbrev pair : List (List ℕ)
 pair = (2 ∷ 4 ∷ []) ∷ (4 ∷ 2 ∷ []) ∷ (6 ∷ []) ∷ []
 
-none_later : (j : ℕ) → 1 < j → j < 3 → IsPermutation {X = ℕ} (2 ∷ 4 ∷ []) (get_or pair j []) → ⊥
-none_later zero low h p = omega (arith, low)
-none_later (suc zero) low h p = omega (arith, low)
-none_later (suc (suc zero)) low h p = omega (arith, length_permutation (2 ∷ 4 ∷ []) (6 ∷ []) p)
-none_later (suc (suc (suc j))) low h p = omega (arith, h)
+swapped : AreAlike (2 ∷ 4 ∷ []) (4 ∷ 2 ∷ [])
+swapped l = let a : ℕ = cond (2 == l) 1 0 in let b : ℕ = cond (4 == l) 1 0 in let e : (0 + a) + b ≡ (0 + b) + a = omega arith in e
+
+none_later : NoneAlikeFrom pair (2 ∷ 4 ∷ []) 2
+none_later zero low h a = omega (arith, low)
+none_later (suc zero) low h a = omega (arith, low)
+none_later (suc (suc zero)) low h a = let e = a 2 in cc
+none_later (suc (suc (suc j))) low h a = omega (arith, h)
 
 pub without-last : IsWithout pair (2 ∷ 4 ∷ []) ((2 ∷ 4 ∷ []) ∷ (6 ∷ []) ∷ [])
-without-last = last 1 (omega arith) (IsPermutation-swap (2 ∷ 4 ∷ []) (4 ∷ 2 ∷ []) 0 1 (omega arith) (omega arith) refl) none_later refl
+without-last = last 1 (record { inside = omega arith; alike = swapped; later = none_later }) refl
 
-none_at : (j : ℕ) → j < 1 → IsPermutation {X = ℕ} (2 ∷ 4 ∷ []) (get_or ((2 ∷ 2 ∷ 4 ∷ []) ∷ []) j []) → ⊥
-none_at zero h p = omega (arith, length_permutation (2 ∷ 4 ∷ []) (2 ∷ 2 ∷ 4 ∷ []) p)
-none_at (suc j) h p = omega (arith, h)
+none_at : NoneAlikeFrom ((2 ∷ 2 ∷ 4 ∷ []) ∷ []) (2 ∷ 4 ∷ []) 0
+none_at zero low h a = let e = a 2 in cc
+none_at (suc j) low h a = omega (arith, h)
 
 pub without-none : IsWithout ((2 ∷ 2 ∷ 4 ∷ []) ∷ []) (2 ∷ 4 ∷ []) ((2 ∷ 2 ∷ 4 ∷ []) ∷ [])
 without-none = none none_at refl

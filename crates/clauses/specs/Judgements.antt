@@ -1,21 +1,13 @@
 -- How a proof over a formula is judged: each step by unit propagation, from the clauses that stand and the literals that followed so far (the checks by
 -- reverse unit propagation of DRUP, and the deletions of DRAT). This project's own: what followed stays when a clause is taken away, a deletion of a clause
 -- that does not stand is passed over, and where the same literals stand twice the last clause goes.
-use Rattle.std.specs.Prelude.{◌≡◌, ℕ, ◌<◌, ◌⊎◌, List, [], ◌∷◌, ◌++◌, length, slice_index_or, Option, Some, None}
-use Rattle.std.specs.List.{remove}
-use Rattle.std.specs.List.Sorted.{IsPermutation}
+use Rattle.std.specs.Prelude.{◌≡◌, ℕ, ◌⊎◌, List, [], ◌∷◌, ◌++◌, Option, Some, None}
 use Rattle.clauses.specs.declared.judgement.Judgement.{Judgement}
 use Rattle.clauses.specs.declared.judgement.Judgement.TheVariants as judgement
 use Rattle.clauses.specs.Formula.{Formula}
 use Rattle.clauses.specs.Propagation.{Literals, nothing, IsClosure, MeetsConflict, Implied}
+use Rattle.clauses.specs.Without.{IsWithout}
 use Rattle.clauses.specs.Proofs.{addition, deletion, Ended, ended, Fault, Reading, read_proof}
-
--- clauses without the last one that has the same literals as a clause, in some order; or they are the same, where there is none
-pub data IsWithout (clauses : List (List ℕ)) (clause : List ℕ) (left : List (List ℕ)) : Type 0 where
-  last : (k : ℕ) → k < length clauses → IsPermutation clause (slice_index_or clauses k [])
-      → ((j : ℕ) → k < j → j < length clauses → ¬ IsPermutation clause (slice_index_or clauses j []))
-      → left ≡ remove clauses k → IsWithout clauses clause left
-  none : ((j : ℕ) → j < length clauses → ¬ IsPermutation clause (slice_index_or clauses j [])) → left ≡ clauses → IsWithout clauses clause left
 
 -- where the steps have ended
 abbrev pub at_end : Option Fault → Judgement

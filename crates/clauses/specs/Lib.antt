@@ -3,6 +3,7 @@ pub mod Formula
 pub mod FormulaTexts
 pub mod Propagation
 pub mod Proofs
+pub mod Without
 pub mod Judgements
 pub mod Printed
 pub mod Faults

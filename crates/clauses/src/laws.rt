@@ -9,7 +9,8 @@ ghost use Rattle.clauses.specs.declared.judgement.Judgement.{Judgement};
 ghost use Rattle.clauses.specs.declared.judgement.Judgement.TheVariants as judgement;
 ghost use Rattle.clauses.specs.FormulaTexts.{formula_text};
 ghost use Rattle.clauses.specs.Proofs.{read_proof, ended, addition, deletion};
-ghost use Rattle.clauses.specs.Judgements.{Judges, IsWithout};
+ghost use Rattle.clauses.specs.Judgements.{Judges};
+ghost use Rattle.clauses.specs.Without.{IsWithout};
 ghost use Rattle.clauses.specs.Propagator.{State, Extended, in_list};
 
 /// A law: an implied clause is satisfied by whatever satisfies the clauses and what is given.

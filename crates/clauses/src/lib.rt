@@ -1,6 +1,7 @@
 //! Formulas of clauses, what follows from clauses by unit propagation, and how proofs by it are judged.
 #![tactic(auto)]
 
+mod alike;
 mod fault;
 mod judgement;
 pub mod laws;

@@ -7,9 +7,11 @@ ghost use Rattle.clauses.specs.Watched.{IsWatched, Stays, AreMet, UnitsMet, Brou
 ghost use Rattle.clauses.specs.Propagator.{AddedTo, in_list};
 ghost use Rattle.clauses.specs.Lists.{list_at, IsListed};
 ghost use Rattle.std.specs.Vec.{vec_len, vec_capacity};
+ghost use Rattle.clauses.specs.Without.{IsWithout};
 ghost use Rattle.clauses.specs.Added.{Added, Unchanged};
 ghost use Rattle.clauses.specs.Flat.{cut, standing, AreEnds};
 
+use crate::alike::last_alike;
 use crate::fault::ClauseFault;
 use crate::lists::Lists;
 use crate::literal::negation;
@@ -20,6 +22,9 @@ use std::alloc::Global;
 
 /// The most clauses: the number of a clause's second watch has 32 bits, and the greatest such number is none.
 const MOST_CLAUSES: usize = 2147483647;
+
+/// What a clause watches that was taken away.
+const NO_LITERAL: u32 = 4294967295;
 
 /// Assumes a literal's negation; whether the literal is marked.
 fn assume_one(literal: u32, trail: &mut Trail) -> bool
@@ -325,6 +330,22 @@ impl Propagator {
                     Err(error)
                 }
             },
+        }
+    }
+
+    /// Takes away the last clause that has the same literals as a clause, each as often, in whatever order; where none has,
+    /// nothing is changed. What followed stays.
+    pub fn delete(&mut self, clause: &[u32])
+        ensures left { IsWithout self.old.clauses clause.now self.new.clauses }
+        ensures followed { (self.new.followed ≡ self.old.followed) × (self.new.limit ≡ self.old.limit) }
+    {
+        match last_alike(&self.literals, &self.starts, &self.ends, clause) {
+            None => {}
+            Some(place) => {
+                self.ends[place] = self.starts[place];
+                self.watched[2 * place] = NO_LITERAL;
+                self.watched[2 * place + 1] = NO_LITERAL;
+            }
         }
     }
 }

@@ -11,7 +11,7 @@ ghost use Rattle.clauses.specs.Watched.{Watches, Visited, Entered, WalkedTo, Pro
 use crate::fault::ClauseFault;
 use crate::lists::Lists;
 use crate::literal::negation;
-use crate::passes::{clause_between, open_other};
+use crate::passes::{clause_of, open_other};
 use crate::trail::Trail;
 
 /// What is done with a watch of a clause.
@@ -46,15 +46,6 @@ pub(crate) fn look(clause: &[u32], other: u32, trail: &mut Trail) -> Visit
             Visit::Keep
         }
     }
-}
-
-/// The clause of a watch.
-fn clause_of<'a>(literals: &'a [u32], starts: &[usize], ends: &[usize], k: usize) -> &'a [u32]
-    requires ends { AreEnds (length literals.now) starts.now ends.now }
-    requires there { k < length ends.now }
-    ensures { result.now ≡ slice_index_or (cut literals.now starts.now ends.now) k [] }
-{
-    clause_between(literals, starts[k], ends[k])
 }
 
 /// Whether a number is that of a watch of a literal.
