@@ -13,3 +13,4 @@ pub mod AlikeLemmas
 pub mod TakenLemmas
 pub mod JudgementLemmas
 pub mod WorkedJudgements
+pub mod StepJudgeLemmas

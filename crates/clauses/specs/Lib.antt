@@ -15,3 +15,4 @@ pub mod Lists
 pub mod Watched
 pub mod Added
 pub mod Worked
+pub mod StepJudges

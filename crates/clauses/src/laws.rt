@@ -11,6 +11,7 @@ ghost use Rattle.clauses.specs.FormulaTexts.{formula_text};
 ghost use Rattle.clauses.specs.Proofs.{read_proof, ended, addition, deletion};
 ghost use Rattle.clauses.specs.Judgements.{Judges};
 ghost use Rattle.clauses.specs.Without.{IsWithout};
+ghost use Rattle.clauses.specs.StepJudges.{StepJudge, Begins, StandsFor};
 ghost use Rattle.clauses.specs.Propagator.{State, Extended, in_list};
 
 /// A law: an implied clause is satisfied by whatever satisfies the clauses and what is given.
@@ -37,6 +38,11 @@ pub fn derived_is_unsatisfiable()
 /// A law: over a formula a text is judged in one way at most.
 pub fn one_judgement()
     ensures { (formula : Formula) (text : List ℕ) (i j : Judgement) → Judges formula text i → Judges formula text j → i ≡ j }
+{}
+
+/// A law: a judge that has a formula's clauses and took no step stands for no steps over it.
+pub fn begun_judge_stands()
+    ensures { (formula : Formula) (judge : StepJudge) → Begins formula judge → StandsFor formula [] judge }
 {}
 
 /// Worked rows: of all eight clauses of three variables none gives a literal by itself, and nothing satisfies them; a clause
