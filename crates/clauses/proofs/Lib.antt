@@ -1,0 +1,16 @@
+pub mod TrailLemmas
+pub mod LiteralLemmas
+pub mod PassLemmas
+pub mod StandingLemmas
+pub mod ConflictLemmas
+pub mod SoundLemmas
+pub mod ListsLemmas
+pub mod WatchLemmas
+pub mod WalkLemmas
+pub mod AddLemmas
+pub mod WorkedLemmas
+pub mod AlikeLemmas
+pub mod TakenLemmas
+pub mod JudgementLemmas
+pub mod WorkedJudgements
+pub mod StepJudgeLemmas

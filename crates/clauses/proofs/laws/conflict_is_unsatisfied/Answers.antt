@@ -1,0 +1,5 @@
+use Rattle.clauses.proofs.SoundLemmas.{is_unsatisfied}
+use Rattle.clauses.proofs.laws.conflict_is_unsatisfied.Goals as goal
+
+pub returns : goal.returns
+returns c = is_unsatisfied

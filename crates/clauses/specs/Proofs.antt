@@ -1,0 +1,123 @@
+-- What is read of the text of a proof, in the ascii form of DRAT (N. Wetzler, M. Heule, W. Hunt, "DRAT-trim: Efficient checking and trimming using
+-- expressive clausal proofs", SAT 2014): a step is the literals of a clause and `0`, which adds the clause, and with a `d` before it takes the clause away.
+-- This project's own: blanks and ends of lines part words and mean nothing else, a line whose first byte is `c` is passed over, numbers have no zeros in
+-- front and no plus, and what the first fault is.
+use Rattle.std.specs.Prelude.{ℕ, suc, ◌+◌, ◌*◌, ◌^◌, Bool, true, false, not, ◌||◌, ◌==◌, nat_lt, if◌then◌else◌, List, [], ◌∷◌, ◌++◌, length, map, Option, Some, None, codes}
+use Rattle.std.specs.Str.{bytes_eq}
+use Rattle.base.specs.Decimals.{is_nothing, number_of}
+use Rattle.base.specs.Lines.{whole_lines, unfinished, onto_first}
+use Rattle.clauses.specs.declared.why.Why.{Why}
+use Rattle.clauses.specs.declared.why.Why.TheVariants as why
+
+-- ---- words
+
+-- a space, a tab, or a carriage return
+abbrev pub is_blank : ℕ → Bool
+is_blank b = b == 32 || b == 9 || b == 13
+
+-- a word ends where a blank follows, or nothing
+abbrev pub ends_word : List ℕ → Bool
+ends_word [] = true
+ends_word (b ∷ bs) = is_blank b
+
+-- the words of a line: its longest stretches without a blank
+abbrev pub words_of : List ℕ → List (List ℕ)
+words_of [] = []
+words_of (b ∷ bs) =
+    if is_blank b then words_of bs
+    else (if ends_word bs then (b ∷ []) ∷ words_of bs else onto_first b (words_of bs))
+
+-- What a word says: the end of a step, that the step takes a clause away, a literal, or that it is faulty.
+pub data Token : Type 0 where
+  ends : Token
+  deletes : Token
+  literal : ℕ → Token
+  faulty : Why → Token
+
+-- a variable's number, of a literal whose sign is 0 or of its negation whose sign is 1
+abbrev pub numbered : ℕ → ℕ → Option ℕ → Token
+numbered variables sign None = faulty why.BadWord
+numbered variables sign (Some n) = if n == 0 then faulty why.BadWord else (if nat_lt variables n then faulty why.BadVariable else literal (2 * n + sign))
+
+-- a literal: a decimal from 1 on, with a minus in front where it is a negation
+abbrev pub literal_of : ℕ → List ℕ → Token
+literal_of variables [] = faulty why.BadWord
+literal_of variables (b ∷ bs) = if b == 45 then numbered variables 1 (number_of bs) else numbered variables 0 (number_of (b ∷ bs))
+
+abbrev pub token_of : ℕ → List ℕ → Token
+token_of variables word =
+    if bytes_eq word (codes "0") then ends
+    else (if bytes_eq word (codes "d") then deletes else literal_of variables word)
+
+-- ---- lines
+
+-- what a word says, and the line in which it stands
+pub data Mark : Type 0 where
+  mark : ℕ → Token → Mark
+
+abbrev pub is_comment : List ℕ → Bool
+is_comment [] = false
+is_comment (b ∷ bs) = b == 99
+
+-- the most lines of a proof
+abbrev pub most_lines : ℕ
+most_lines = 2 ^ 62
+
+abbrev pub line_marks : ℕ → ℕ → List ℕ → List Mark
+line_marks variables n line =
+    if nat_lt most_lines n then mark n (faulty why.TooLong) ∷ []
+    else (if is_comment line then [] else map (λ word. mark n (token_of variables word)) (words_of line))
+
+-- of lines from one with a number on
+abbrev pub lines_marks : ℕ → ℕ → List (List ℕ) → List Mark
+lines_marks variables n [] = []
+lines_marks variables n (line ∷ lines) = line_marks variables n line ++ lines_marks variables (suc n) lines
+
+-- the lines of a text, and the rest behind them where there is one
+abbrev pub all_lines : List ℕ → List (List ℕ)
+all_lines text = whole_lines text ++ (if is_nothing (unfinished text) then [] else unfinished text ∷ [])
+
+-- ---- steps
+
+-- A step adds a clause, or takes one away.
+pub data Step : Type 0 where
+  addition : List ℕ → Step
+  deletion : List ℕ → Step
+
+-- a step, and the line of its `0`
+pub data Ended : Type 0 where
+  ended : ℕ → Step → Ended
+
+pub record Fault : Type 0 where
+  pub line : ℕ
+  pub why : Why
+
+-- the steps before the first fault, and that fault, where there is one
+pub record Reading : Type 0 where
+  pub steps : List Ended
+  pub fault : Option Fault
+
+abbrev pub step_of : Bool → List ℕ → Step
+step_of true clause = deletion clause
+step_of false clause = addition clause
+
+-- a step has begun with a `d`, or with literals
+abbrev pub has_begun : Bool → List ℕ → Bool
+has_begun deleting clause = deleting || not (is_nothing clause)
+
+abbrev pub refused : ℕ → Why → Reading
+refused n w = record { steps = []; fault = Some (record { line = n; why = w }) }
+
+-- what marks read as behind the beginning of a step, in a text that ends in a line
+abbrev pub reading_from : ℕ → Bool → List ℕ → List Mark → Reading
+reading_from last deleting clause [] = if has_begun deleting clause then refused last why.CutOff else record { steps = []; fault = None }
+reading_from last deleting clause (mark n ends ∷ marks) =
+    let behind : Reading = reading_from last false [] marks in
+    record behind { steps = ended n (step_of deleting clause) ∷ behind.steps }
+reading_from last deleting clause (mark n deletes ∷ marks) = if has_begun deleting clause then refused n why.BadWord else reading_from last true [] marks
+reading_from last deleting clause (mark n (literal l) ∷ marks) = reading_from last deleting (clause ++ l ∷ []) marks
+reading_from last deleting clause (mark n (faulty w) ∷ marks) = refused n w
+
+-- what a text reads as, over a formula of so many variables
+abbrev pub read_proof : ℕ → List ℕ → Reading
+read_proof variables text = reading_from (suc (length (whole_lines text))) false [] (lines_marks variables 1 (all_lines text))
