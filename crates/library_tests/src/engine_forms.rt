@@ -1,12 +1,11 @@
 //! Engine forms with ample memory, by their ascii texts, and what has none.
+use crate::circuits::{Call, circuit_of};
 use aiger::{Circuit, Reset, Section};
 use aigertext::write_ascii;
 use base::VecSink;
 use engine::{EngineFault, engine_form};
 use std::alloc::Global;
 use std::test::Fail;
-
-use crate::circuits::{Call, circuit_of};
 
 /// A circuit, by its inputs, latches and calls, and a choice of its bad properties.
 struct Row {
@@ -119,7 +118,10 @@ fn refusal(alloc: Global, calls: &[Call], choice: Option<usize>) -> Option<Engin
 #[test]
 fn circuits_without_a_form(rt: HostRuntime) {
     for (calls, choice, fault) in &REFUSED {
-        assert!(rt; refusal(rt.alloc(), calls, *choice) == Some(*fault), "{fault}");
+        assert!(rt;
+            refusal(rt.alloc(), calls, *choice) == Some(*fault),
+            "{fault}"
+        );
     }
 }
 
