@@ -1,5 +1,7 @@
 //! A model of a hundred thousand lines, and one of five thousand inputs and as many states, with ample memory: want of
 //! memory that is told where none is wanting shows at size alone.
+ghost use Rattle.std.specs.Prelude.{◌≤◌};
+
 use crate::models::model_of;
 use aigertext::Form;
 use blast::{convert, lower};
