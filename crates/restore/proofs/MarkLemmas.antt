@@ -1,5 +1,5 @@
 -- A line that is found, up to a mark, is the first of the lines of the text to come, or its last.
-use Rattle.std.proofs.Common.{◌≡◌, ℕ, Bool, true, false, List, [], ◌∷◌, ◌++◌, Option, None, Some, ◌==◌, refl, sym, ap, ap₂, subst, ◌∙◌, append_assoc, append-nil}
+use Rattle.std.proofs.Common.{◌≡◌, ℕ, Bool, true, false, List, [], ◌∷◌, ◌++◌, Option, None, Some, Ok, ◌==◌, refl, sym, ap, ap₂, subst, ◌∙◌, append_assoc, append-nil}
 use Rattle.std.specs.List.{list_any}
 use Rattle.std.specs.Io.KnownBytes.{prepend_known, Consumes, Keeps, IsAtEnd}
 use Rattle.std.proofs.lemmas.Bool.{or_parts}
@@ -65,10 +65,6 @@ rest_takes (Some text) (Some more) rest line is_marked is end kept cut =
 
 -- a line was found, or what is unfinished
 pub found_takes : (old new : Held) (before after : Option (List ℕ)) (whole : Bool) (line : List ℕ) (last : Bool) → Advances (Ok whole) old new before after → FindsLine new whole line last → Takes line last (prepend_known old.rest before) (prepend_known new.rest after)
-found_takes old new before after true line last step found = whole_takes _ _ new.line line last step.0 step.1 found
+found_takes old new before after true line last step found = whole_takes (prepend_known old.rest before) (prepend_known new.rest after) new.line line last step.0 step.1 found
 found_takes old new before after false line last step found =
-    subst (λ (l : Bool). Takes line l (prepend_known old.rest before) (prepend_known new.rest after)) (sym found.0) (rest_takes _ after new.rest line found.1.0 step.0.0 step.0.1 step.1.0 found.1.1)
-
-pub is_last_where_none : (held : Held) (whole : Bool) (line : List ℕ) (last : Bool) → FindsLine held whole line last → whole ≡ false → last ≡ true
-is_last_where_none held true line last found none = absurd (cc)
-is_last_where_none held false line last found none = found.0
+    subst (λ (l : Bool). Takes line l (prepend_known old.rest before) (prepend_known new.rest after)) (sym found.0) (rest_takes (prepend_known old.rest before) after new.rest line found.1.0 step.0.0 step.0.1 step.1.0 found.1.1)

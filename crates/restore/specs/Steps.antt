@@ -1,5 +1,5 @@
 -- What a step of a reader of frames does: what is left of a text's reading before it is the frame that it gives and what is left behind it.
-use Rattle.std.specs.Prelude.{◌≡◌, ◌≢◌, ℕ, suc, Bool, true, false, List, [], ◌∷◌, length, Option, None, Some, Result, Ok, Err, if◌then◌else◌, ◌⊎◌}
+use Rattle.std.specs.Prelude.{◌≡◌, ◌≢◌, ℕ, suc, Bool, true, false, List, [], ◌∷◌, length, Option, None, Some, Result, Ok, Err, IfSome, if◌then◌else◌, ◌⊎◌}
 use Rattle.std.specs.Io.KnownBytes.{IsAtEnd}
 use Rattle.base.specs.Device.{HasRisen}
 use Rattle.base.specs.Held.{lines_left}
@@ -69,11 +69,19 @@ unread_fault all.NoMemory = record { line = 0; why = why.NoMemory }
 abbrev pub IsUnread : RestoreFault → Type 0
 IsUnread e = (e ≡ unread_fault all.Device) ⊎ (e ≡ unread_fault all.NoMemory)
 
--- a step of a reader: a frame is found, and what was left is this frame and what is left now; or there is none, and none is left; or a fault is told, of the text or of the source. In these cases nothing is lost: what was left is what is left now
+-- what a reader gives of known bytes, where it knows any
+abbrev pub Gives : Reader → Option (List ℕ) → Reads → Type 0
+Gives r known reads = IfSome known (λ text. left r text ≡ reads)
+
+-- nothing is lost: what was left is what is left now, of which the bytes to come are no part once no line may follow
+abbrev pub LosesNothing : Reader → Reader → Option (List ℕ) → Option (List ℕ) → Type 0
+LosesNothing old new before after = Agree (left old) (left new) before after ⊎ ((is_open new.place ≡ false) × Gives old before (left new []))
+
+-- a step of a reader: a frame is found, and what was left is this frame and what is left now; or there is none, and none was left; or a fault is told, of the source or of the text, and nothing is lost
 abbrev pub StepsOn : Result Bool RestoreFault → Reader → Reader → Option (List ℕ) → Option (List ℕ) → Type 0
 StepsOn (Ok true) old new before after = Agree (left old) (λ rest. read_before new.frame (left new rest)) before after
-StepsOn (Ok false) old new before after = (new.place ≡ place.Ended) × Agree (left old) (left new) before after
-StepsOn (Err e) old new before after = (IsUnread e ⊎ (new.place ≡ place.Failed e)) × Agree (left old) (left new) before after
+StepsOn (Ok false) old new before after = (new.place ≡ place.Ended) × Gives old before (Ok [])
+StepsOn (Err e) old new before after = (IsUnread e ⊎ (new.place ≡ place.Failed e)) × LosesNothing old new before after
 
 -- why no frame more is told: the source failed, or the fault that was found is told once all of the source was read
 abbrev pub Tells : RestoreFault → Place → Option (List ℕ) → ℕ → ℕ → Type 0
