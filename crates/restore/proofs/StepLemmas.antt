@@ -1,15 +1,14 @@
 -- What is left of a text's reading before a line is what the line gives and what is left behind it.
-use Rattle.std.proofs.Common.{◌≡◌, ℕ, Bool, true, false, ◌==◌, List, [], ◌∷◌, length, Option, None, Some, Result, Ok, Err, refl, sym, ap, ◌∙◌, inl, inr}
+use Rattle.std.proofs.Common.{◌≡◌, ℕ, Bool, true, false, ◌==◌, List, [], ◌∷◌, length, Option, None, Some, Result, Ok, Err, refl, ap, ◌∙◌, inl, inr}
 use Rattle.std.specs.Prelude.{IfOk, IfErr}
 use Rattle.std.specs.Io.KnownBytes.{IsAtEnd}
 use Rattle.std.proofs.lemmas.Bool.{cases_Bool}
 use Rattle.restore.specs.declared.fault.RestoreWhy.{RestoreWhy}
-use Rattle.restore.specs.declared.fault.RestoreWhy.TheVariants as why
 use Rattle.restore.specs.declared.fault.RestoreFault.{RestoreFault}
 use Rattle.restore.specs.declared.place.Place.{Place}
 use Rattle.restore.specs.declared.place.Place.TheVariants as place
 use Rattle.restore.specs.Reading.{before_mark, all_lines, initial_why}
-use Rattle.restore.specs.Steps.{Reads, Reader, is_open, IsOfText, read_at, left, Agree, Gives, StepsOn, Tells, lines_from, given_by, Takes}
+use Rattle.restore.specs.Steps.{Reader, is_open, IsOfText, read_at, left, Agree, Gives, StepsOn, Tells, lines_from, given_by, Takes}
 
 pub initial_of_text : (line : List ℕ) (n : ℕ) (w : RestoreWhy) → initial_why line ≡ Some w → IsOfText (record { line = n; why = w })
 initial_of_text [] n w h = absurd (cc)
