@@ -1,2 +1,4 @@
+mod MarkLemmas
 mod ReadingLemmas
 mod RestoredLemmas
+mod StepLemmas

@@ -13,7 +13,7 @@ use Rattle.restore.specs.declared.fault.RestoreFault.{RestoreFault}
 use Rattle.restore.specs.declared.fault.RestoreWhy.{RestoreWhy}
 use Rattle.restore.specs.declared.fault.RestoreWhy.TheVariants.{NoFrame, NoBit, WrongLength}
 use Rattle.restore.specs.Counterexample.{IsClosed, IsEnd, joined, SaysFrames}
-use Rattle.restore.specs.Reading.{before_mark, line_of, all_lines, initial_why, frame_why, line_bits, read_before, unless_wrong, read_frames, read_lines, read_text}
+use Rattle.restore.specs.Reading.{before_mark, line_of, all_lines, initial_why, frame_why, line_bits, read_before, unless_wrong, line_after, read_frames, read_lines, read_text}
 
 -- ---- lines of bits
 
@@ -88,13 +88,13 @@ frames_right : (width n : ℕ) (given : List (List Bool)) → All (λ bits. leng
 frames_right width n [] all = refl
 frames_right width n (bits ∷ given) all =
     let own = frame_right width bits (All-head (λ (b : List Bool). length b ≡ width) bits given all) in
-    let rest = frames_right width (suc n) given (All-tail (λ (b : List Bool). length b ≡ width) bits given all) in
+    let rest = frames_right width (line_after n) given (All-tail (λ (b : List Bool). length b ≡ width) bits given all) in
     ap₂ (unless_wrong n) own (ap₂ read_before (bits_of_line bits) rest)
 
 frames_back : (width n : ℕ) (lines : List (List ℕ)) (given : List (List Bool)) → read_frames width n lines ≡ Ok given → (lines ≡ map bit_line given) × All (λ bits. length bits ≡ width) given
 frames_back width n [] [] h = (refl, All-nil (λ bits. length bits ≡ width))
 frames_back width n [] (bits ∷ given) h = absurd (cc)
-frames_back width n (line ∷ lines) given h = by (frame_why width line) (read_frames width (suc n) lines) refl (λ more e. frames_back width (suc n) lines more e) h
+frames_back width n (line ∷ lines) given h = by (frame_why width line) (read_frames width (line_after n) lines) refl (λ more e. frames_back width (line_after n) lines more e) h
   where
     Goal : List (List Bool) → Type 0
     Goal given = (line ∷ lines ≡ map bit_line given) × All (λ bits. length bits ≡ width) given
@@ -155,7 +155,7 @@ lines_back text line lines h = by (whole_lines text) (unfinished text) (parts_of
 
 -- ---- the mark
 
-before_front : (front rest : List ℕ) → HasNone 35 front → before_mark (front ++ rest) ≡ front ++ before_mark rest
+pub before_front : (front rest : List ℕ) → HasNone 35 front → before_mark (front ++ rest) ≡ front ++ before_mark rest
 before_front [] rest h = refl
 before_front (b ∷ front) rest h =
     let parts = or_parts (b == 35) (list_any (λ c. c == 35) front) h in

@@ -1,7 +1,7 @@
--- What is printed of what is wrong with a counterexample over an engine form: a number, a space and a name.
+-- What is printed of what is wrong with a counterexample over an engine form, or of why it is not read: a number, a space and a name.
 use Rattle.std.specs.Prelude.{ℕ, List, codes}
 use Rattle.restore.specs.declared.fault.RestoreWhy.{RestoreWhy}
-use Rattle.restore.specs.declared.fault.RestoreWhy.TheVariants.{NoFrame, InitialOne, NoBit, WrongLength}
+use Rattle.restore.specs.declared.fault.RestoreWhy.TheVariants.{NoFrame, InitialOne, NoBit, WrongLength, NoMemory, Device}
 
 -- the number that is printed for what is wrong
 abbrev pub why_number : RestoreWhy → ℕ
@@ -9,6 +9,8 @@ why_number NoFrame = 150
 why_number InitialOne = 151
 why_number NoBit = 152
 why_number WrongLength = 153
+why_number NoMemory = 154
+why_number Device = 155
 
 -- and the name
 abbrev pub why_name : RestoreWhy → List ℕ
@@ -16,3 +18,5 @@ why_name NoFrame = codes "NoFrame"
 why_name InitialOne = codes "InitialOne"
 why_name NoBit = codes "NoBit"
 why_name WrongLength = codes "WrongLength"
+why_name NoMemory = codes "NoMemory"
+why_name Device = codes "Device"

@@ -1,5 +1,5 @@
 -- What a text of a counterexample over an engine form reads as: its input frames, or its first faulty line and why.
-use Rattle.std.specs.Prelude.{ℕ, suc, Bool, not, ◌||◌, ◌==◌, List, [], ◌∷◌, ◌++◌, length, map, Option, None, Some, Result, Ok, Err, if◌then◌else◌}
+use Rattle.std.specs.Prelude.{ℕ, ◌+◌, ◌-◌, ◌^◌, min, Bool, not, ◌||◌, ◌==◌, List, [], ◌∷◌, ◌++◌, length, map, Option, None, Some, Result, Ok, Err, if◌then◌else◌}
 use Rattle.std.specs.List.{list_all}
 use Rattle.base.specs.Lines.{whole_lines, unfinished}
 use Rattle.restore.specs.declared.fault.RestoreFault.{RestoreFault}
@@ -45,10 +45,14 @@ abbrev pub unless_wrong : ℕ → Option RestoreWhy → Result (List (List Bool)
 unless_wrong number None answer = answer
 unless_wrong number (Some why) answer = Err (record { line = number; why = why })
 
+-- the number of the line behind line n, told up to 2 ^ 64 - 1
+abbrev pub line_after : ℕ → ℕ
+line_after n = min (n + 1) (2 ^ 64 - 1)
+
 -- the frames of lines, of which the first has this number
 abbrev pub read_frames : ℕ → ℕ → List (List ℕ) → Result (List (List Bool)) RestoreFault
 read_frames width number [] = Ok []
-read_frames width number (line ∷ more) = unless_wrong number (frame_why width line) (read_before (line_bits line) (read_frames width (suc number) more))
+read_frames width number (line ∷ more) = unless_wrong number (frame_why width line) (read_before (line_bits line) (read_frames width (line_after number) more))
 
 -- at least one frame
 abbrev pub read_some : ℕ → List (List ℕ) → Result (List (List Bool)) RestoreFault

@@ -1,9 +1,12 @@
-//! What is wrong with a text of a counterexample.
+//! What is wrong with a text of a counterexample, or why it is not read.
 ghost use Rattle.std.specs.Prelude.{◌≡◌};
 ghost use Rattle.restore.specs.Faults.{why_number, why_name};
 
-/// What is wrong with a line.
-#[derive(Clone, Copy)]
+use std::fmt;
+use thiserror::Error;
+
+/// What is wrong with a line, or why the lines are not read.
+#[derive(Clone, Copy, Debug, PartialEq, Eq, Error)]
 pub enum RestoreWhy {
     /// The text ends before a frame.
     NoFrame,
@@ -13,6 +16,10 @@ pub enum RestoreWhy {
     NoBit,
     /// A frame has another number of bits than the form has inputs.
     WrongLength,
+    /// A growth was refused.
+    NoMemory,
+    /// The source failed.
+    Device,
 }
 
 impl RestoreWhy {
@@ -25,6 +32,8 @@ impl RestoreWhy {
             RestoreWhy::InitialOne => 151,
             RestoreWhy::NoBit => 152,
             RestoreWhy::WrongLength => 153,
+            RestoreWhy::NoMemory => 154,
+            RestoreWhy::Device => 155,
         }
     }
 
@@ -37,14 +46,22 @@ impl RestoreWhy {
             RestoreWhy::InitialOne => "InitialOne",
             RestoreWhy::NoBit => "NoBit",
             RestoreWhy::WrongLength => "WrongLength",
+            RestoreWhy::NoMemory => "NoMemory",
+            RestoreWhy::Device => "Device",
         }
     }
 }
 
-/// The first faulty line of a text, from 1, and what is wrong with it.
-#[derive(Clone, Copy)]
+impl fmt::Display for RestoreWhy {
+    fn fmt<W: fmt::Write>(&self, f: &mut fmt::Formatter<W>) -> fmt::Result {
+        write!(f, "{} {}", self.number(), self.name())
+    }
+}
+
+/// The first faulty line of a text, and what is wrong with it; or why its lines are not read.
+#[derive(Clone, Copy, Debug, PartialEq, Eq)]
 pub struct RestoreFault {
-    /// The line, from 1.
+    /// The line, from 1, told up to 2^64 - 1; 0 for a failure of the source and for want of memory.
     pub line: u64,
     /// What is wrong with it.
     pub why: RestoreWhy,

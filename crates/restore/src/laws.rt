@@ -11,12 +11,19 @@ ghost use Rattle.witness.specs.BitTexts.{IsBitWitness};
 ghost use Rattle.witness.specs.BitJudgements.{JudgesBits};
 ghost use Rattle.restore.specs.Counterexample.{SaysFrames, restored, ends_bad};
 ghost use Rattle.restore.specs.Reading.{read_text};
+ghost use Rattle.restore.specs.Steps.{Reader, left};
 ghost use Rattle.restore.specs.declared.fault.RestoreWhy.TheVariants as why;
+ghost use Rattle.restore.specs.declared.place.Place.TheVariants.{Start};
 
 /// A law: a text is read as some frames exactly where it says them.
 pub fn read_where_said()
     ensures said { (width : ℕ) (text : List ℕ) (given : List (List Bool)) → 0 < width → SaysFrames width text given → read_text width text ≡ Ok given }
     ensures read { (width : ℕ) (text : List ℕ) (given : List (List Bool)) → 0 < width → read_text width text ≡ Ok given → SaysFrames width text given }
+{}
+
+/// A law: a reader at the begin of a text gives what the text reads as.
+pub fn reader_gives_the_text()
+    ensures { (reader : Reader) (text : List ℕ) → reader.place ≡ Start → left reader text ≡ read_text (length reader.frame) text }
 {}
 
 /// A law: what is restored of input frames of a circuit's engine form is a witness of the circuit.
