@@ -1,0 +1,9 @@
+use Rattle.std.proofs.Common.{ap, sym, subst, ◌∙◌}
+use Rattle.clauses.specs.StepReaders.{StepReader, StandsForWords}
+use Rattle.clauses.proofs.StepReaderLemmas.{stands_end}
+use Rattle.clauses.proofs.step_reader.StepReader.end_step.Goals as goal
+
+pub returns-clause-stands : goal.returns-clause-stands
+returns-clause-stands c f marks s =
+    stands_end f (record { judge = c.self.inside.judge; clause = c.self.inside.clause.items; deleting = c.self.inside.deleting; closed = c.self.inside.closed; failed = c.self.inside.failed }) marks c.args.line c.judge_step.new.judge c.clear.new.self.items (ap (λ (x : StepReader). x.closed) c.self.view_is ∙ c.requires) c.clear.ensures.items
+    (c.judge_step.ensures.stands f) (subst (λ (x : StepReader). StandsForWords f x marks) (sym c.self.view_is) s)
