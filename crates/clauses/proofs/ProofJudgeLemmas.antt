@@ -107,8 +107,8 @@ on_line v p n w byte m is plain ten next =
 
 stands_line : (f : Formula) (old : ProofJudge) (text : List ℕ) (byte : ℕ) (reader : StepReader) (word : Word) → old.reader.closed ≡ false → old.place ≡ place.Within → (byte == 10) ≡ true → EndsWord old reader word → StandsBefore f old text (byte ∷ [])
     → StandsThrough f (record { reader = reader; variables = old.variables; line = min (old.line + 1) (2 ^ 64 - 1); place = place.Begins; word = word }) text
-stands_line f old text byte reader word open within ten end b =
-    let s : Scanned old text (byte ∷ []) b.marks = scanned f old text (byte ∷ []) b open in
+stands_line f old text byte reader word going within ten end b =
+    let s : Scanned old text (byte ∷ []) b.marks = scanned f old text (byte ∷ []) b going in
     let few : old.line ≤ 2 ^ 62 = few_at old.place old.line within s.few in
     let next : min (old.line + 1) (2 ^ 64 - 1) ≡ suc old.line = omega (arith, few) in
     let enough : min (old.line + 1) (2 ^ 64 - 1) ≤ suc (2 ^ 62) = omega (arith, few) in
@@ -124,8 +124,8 @@ on_blank v p n w byte is plain not blank = rw is (record { marks = λ more. mark
 
 stands_blank : (f : Formula) (old : ProofJudge) (text : List ℕ) (byte : ℕ) (reader : StepReader) (word : Word) → old.reader.closed ≡ false → old.place ≡ place.Within → (byte == 10) ≡ false → is_blank byte ≡ true → EndsWord old reader word → StandsBefore f old text (byte ∷ [])
     → StandsThrough f (record { reader = reader; variables = old.variables; line = old.line; place = old.place; word = word }) text
-stands_blank f old text byte reader word open within not blank end b =
-    let s : Scanned old text (byte ∷ []) b.marks = scanned f old text (byte ∷ []) b open in
+stands_blank f old text byte reader word going within not blank end b =
+    let s : Scanned old text (byte ∷ []) b.marks = scanned f old text (byte ∷ []) b going in
     goes_on f old text (byte ∷ []) b s reader old.line old.place word [] (word_marks old.variables old.line s.word)
     (end.0 f b.marks s.word s.spells b.words) (end.1 s.word s.spells) (subst (λ (p : Place). IsWordAt p []) (sym within) refl) s.few
     (on_blank old.variables old.place old.line s.word byte within (plain_at old.place s.word within s.plain) not blank)
@@ -134,15 +134,15 @@ on_letter : (v : ℕ) (p : Place) (n : ℕ) (w : List ℕ) (byte : ℕ) → p �
 on_letter v p n w byte is not = rw is (record { marks = λ more. marks_letter v n w byte more not; lines = λ more. on_same n byte more not })
 
 plain_more : (w : List ℕ) (byte : ℕ) → list_any is_blank w ≡ false → is_blank byte ≡ false → list_any is_blank (w ++ byte ∷ []) ≡ false
-plain_more [] byte plain no = or_from (is_blank byte) false no refl
-plain_more (x ∷ xs) byte plain no = let parts = or_parts (is_blank x) (list_any is_blank xs) plain in or_from (is_blank x) (list_any is_blank (xs ++ byte ∷ [])) parts.0 (plain_more xs byte parts.1 no)
+plain_more [] byte plain apart = or_from (is_blank byte) false apart refl
+plain_more (x ∷ xs) byte plain apart = let parts = or_parts (is_blank x) (list_any is_blank xs) plain in or_from (is_blank x) (list_any is_blank (xs ++ byte ∷ [])) parts.0 (plain_more xs byte parts.1 apart)
 
 pub stands_letter : (f : Formula) (old : ProofJudge) (text : List ℕ) (byte : ℕ) (word : Word) → old.reader.closed ≡ false → old.place ≡ place.Within → (byte == 10) ≡ false → is_blank byte ≡ false
     → ((bytes : List ℕ) → Spells old.word bytes → Spells word (bytes ++ byte ∷ [])) → StandsBefore f old text (byte ∷ [])
     → StandsThrough f (record { reader = old.reader; variables = old.variables; line = old.line; place = old.place; word = word }) text
-stands_letter f old text byte word open within not no more b =
-    let s : Scanned old text (byte ∷ []) b.marks = scanned f old text (byte ∷ []) b open in
-    let plain : list_any is_blank (s.word ++ byte ∷ []) ≡ false = plain_more s.word byte (plain_at old.place s.word within s.plain) no in
+stands_letter f old text byte word going within not apart more b =
+    let s : Scanned old text (byte ∷ []) b.marks = scanned f old text (byte ∷ []) b going in
+    let plain : list_any is_blank (s.word ++ byte ∷ []) ≡ false = plain_more s.word byte (plain_at old.place s.word within s.plain) apart in
     goes_on f old text (byte ∷ []) b s old.reader old.line old.place word (s.word ++ byte ∷ []) []
     (no_more f old.reader b.marks b.words) (more s.word s.spells) (subst (λ (p : Place). IsWordAt p (s.word ++ byte ∷ [])) (sym within) plain) s.few
     (on_letter old.variables old.place old.line s.word byte within not)
@@ -156,14 +156,14 @@ same_judge P old mid same h =
 
 pub word_line : (f : Formula) (old mid new : ProofJudge) (text : List ℕ) (byte : ℕ) → old.reader.closed ≡ false → old.place ≡ place.Within → (byte == 10) ≡ true → EndsWord old mid.reader mid.word → KeepsPlace old mid
     → new ≡ record mid { line = min (mid.line + 1) (2 ^ 64 - 1); place = place.Begins } → StandsBefore f old text (byte ∷ []) → StandsThrough f new text
-word_line f old mid new text byte open within ten end same is b =
+word_line f old mid new text byte going within ten end same is b =
     subst (λ (x : ProofJudge). StandsThrough f x text) (sym is)
     (same_judge (λ (x : ProofJudge). StandsThrough f (record x { line = min (x.line + 1) (2 ^ 64 - 1); place = place.Begins }) text) old mid same
-    (stands_line f old text byte mid.reader mid.word open within ten end b))
+    (stands_line f old text byte mid.reader mid.word going within ten end b))
 
 pub word_blank : (f : Formula) (old mid : ProofJudge) (text : List ℕ) (byte : ℕ) → old.reader.closed ≡ false → old.place ≡ place.Within → (byte == 10) ≡ false → is_blank byte ≡ true → EndsWord old mid.reader mid.word → KeepsPlace old mid
     → StandsBefore f old text (byte ∷ []) → StandsThrough f mid text
-word_blank f old mid text byte open within not blank end same b = same_judge (λ (x : ProofJudge). StandsThrough f x text) old mid same (stands_blank f old text byte mid.reader mid.word open within not blank end b)
+word_blank f old mid text byte going within not blank end same b = same_judge (λ (x : ProofJudge). StandsThrough f x text) old mid same (stands_blank f old text byte mid.reader mid.word going within not blank end b)
 
 -- ---- the first byte of a line
 
@@ -176,8 +176,8 @@ begins_at v p n w rest is = rw is refl
 pub stands_too_long : (f : Formula) (old : ProofJudge) (text : List ℕ) (byte : ℕ) (reader : StepReader) → old.reader.closed ≡ false → old.place ≡ place.Begins → nat_lt most_lines old.line ≡ true → reader.closed ≡ true
     → ((f : Formula) (marks : List Mark) → StandsForWords f old.reader marks → StandsForWords f reader (marks ++ mark old.line (faulty why.TooLong) ∷ [])) → StandsBefore f old text (byte ∷ [])
     → StandsThrough f (record { reader = reader; variables = old.variables; line = old.line; place = old.place; word = old.word }) text
-stands_too_long f old text byte reader open begins many closed over b =
-    let s : Scanned old text (byte ∷ []) b.marks = scanned f old text (byte ∷ []) b open in
+stands_too_long f old text byte reader going begins many closed over b =
+    let s : Scanned old text (byte ∷ []) b.marks = scanned f old text (byte ∷ []) b going in
     let new : ProofJudge = record { reader = reader; variables = old.variables; line = old.line; place = old.place; word = old.word } in
     let m : Mark = mark old.line (faulty why.TooLong) in
     let behind = λ (more : List ℕ). lines_marks old.variables (suc old.line) (all_lines (next_lines (byte ∷ more))) in
@@ -193,8 +193,8 @@ few_lines n few = ltb-false most_lines n few
 
 pub stands_comment : (f : Formula) (old : ProofJudge) (text : List ℕ) (byte : ℕ) → old.reader.closed ≡ false → old.place ≡ place.Begins → nat_lt most_lines old.line ≡ false → (byte == 99) ≡ true → StandsBefore f old text (byte ∷ [])
     → StandsThrough f (record { reader = old.reader; variables = old.variables; line = old.line; place = place.Comment; word = old.word }) text
-stands_comment f old text byte open begins few is b =
-    let s : Scanned old text (byte ∷ []) b.marks = scanned f old text (byte ∷ []) b open in
+stands_comment f old text byte going begins few is b =
+    let s : Scanned old text (byte ∷ []) b.marks = scanned f old text (byte ∷ []) b going in
     let none : s.word ≡ [] = nothing_at old.place s.word begins s.plain in
     let one : byte ≡ 99 = eqb-true byte 99 is in
     let not : (byte == 10) ≡ false = rw one refl in
@@ -207,8 +207,8 @@ stands_comment f old text byte open begins few is b =
 
 pub stands_within : (f : Formula) (old : ProofJudge) (text : List ℕ) (byte : ℕ) → old.reader.closed ≡ false → old.place ≡ place.Begins → nat_lt most_lines old.line ≡ false → (byte == 99) ≡ false → StandsBefore f old text (byte ∷ [])
     → StandsBefore f (record { reader = old.reader; variables = old.variables; line = old.line; place = place.Within; word = old.word }) text (byte ∷ [])
-stands_within f old text byte open begins few not b =
-    let s : Scanned old text (byte ∷ []) b.marks = scanned f old text (byte ∷ []) b open in
+stands_within f old text byte going begins few not b =
+    let s : Scanned old text (byte ∷ []) b.marks = scanned f old text (byte ∷ []) b going in
     let new : ProofJudge = record { reader = old.reader; variables = old.variables; line = old.line; place = place.Within; word = old.word } in
     let none : s.word ≡ [] = nothing_at old.place s.word begins s.plain in
     let now : Scanned new text (byte ∷ []) b.marks = record {
@@ -228,8 +228,8 @@ comment_at v p n w rest is = rw is refl
 
 pub stands_comment_end : (f : Formula) (old : ProofJudge) (text : List ℕ) (byte : ℕ) → old.reader.closed ≡ false → old.place ≡ place.Comment → (byte == 10) ≡ true → StandsBefore f old text (byte ∷ [])
     → StandsThrough f (record { reader = old.reader; variables = old.variables; line = min (old.line + 1) (2 ^ 64 - 1); place = place.Begins; word = old.word }) text
-stands_comment_end f old text byte open comment ten b =
-    let s : Scanned old text (byte ∷ []) b.marks = scanned f old text (byte ∷ []) b open in
+stands_comment_end f old text byte going comment ten b =
+    let s : Scanned old text (byte ∷ []) b.marks = scanned f old text (byte ∷ []) b going in
     let few : old.line ≤ 2 ^ 62 = subst (λ (q : Place). IsFew q old.line) comment s.few in
     let none : s.word ≡ [] = subst (λ (q : Place). IsWordAt q s.word) comment s.plain in
     let next : min (old.line + 1) (2 ^ 64 - 1) ≡ suc old.line = omega (arith, few) in
@@ -245,8 +245,8 @@ stands_comment_end f old text byte open comment ten b =
     over more next = rw (ten, next) refl
 
 pub stands_comment_on : (f : Formula) (old : ProofJudge) (text : List ℕ) (byte : ℕ) → old.reader.closed ≡ false → old.place ≡ place.Comment → (byte == 10) ≡ false → StandsBefore f old text (byte ∷ []) → StandsThrough f old text
-stands_comment_on f old text byte open comment not b =
-    let s : Scanned old text (byte ∷ []) b.marks = scanned f old text (byte ∷ []) b open in
+stands_comment_on f old text byte going comment not b =
+    let s : Scanned old text (byte ∷ []) b.marks = scanned f old text (byte ∷ []) b going in
     goes_on f old text (byte ∷ []) b s old.reader old.line old.place old.word s.word []
     (no_more f old.reader b.marks b.words) s.spells s.plain s.few
     (record {
@@ -301,8 +301,8 @@ marks_all j text marks false reads last = (reads, last)
 
 ends_open : (f : Formula) (old : ProofJudge) (text : List ℕ) (reader : StepReader) (word : Word) → old.reader.closed ≡ false → EndsWord old reader word → StandsThrough f old text
     → EndsText f (record { reader = reader; variables = old.variables; line = old.line; place = old.place; word = word }) text
-ends_open f old text reader word open end b =
-    let s : Scanned old text [] b.marks = scanned f old text [] b open in
+ends_open f old text reader word going end b =
+    let s : Scanned old text [] b.marks = scanned f old text [] b going in
     let new : ProofJudge = record { reader = reader; variables = old.variables; line = old.line; place = old.place; word = word } in
     let marks : List Mark = b.marks ++ word_marks old.variables old.line s.word in
     let reads : lines_marks old.variables 1 (all_lines text) ≡ marks =
@@ -312,7 +312,7 @@ ends_open f old text reader word open end b =
     record { variables = b.variables; marks = marks; words = end.0 f b.marks s.word s.spells b.words; all = marks_all new text marks reader.closed reads last }
 
 pub ends_over : (f : Formula) (old mid : ProofJudge) (text : List ℕ) → old.reader.closed ≡ false → EndsWord old mid.reader mid.word → KeepsPlace old mid → StandsThrough f old text → EndsText f mid text
-ends_over f old mid text open end same b = same_judge (λ (x : ProofJudge). EndsText f x text) old mid same (ends_open f old text mid.reader mid.word open end b)
+ends_over f old mid text going end same b = same_judge (λ (x : ProofJudge). EndsText f x text) old mid same (ends_open f old text mid.reader mid.word going end b)
 
 pub reads_text : (f : Formula) (j : ProofJudge) (text : List ℕ) (e : EndsText f j text) → j.reader.failed ≡ false → read_proof f.variables text ≡ reading_from j.line false [] e.marks
 reads_text f j text e ok = ap (λ (v : ℕ). read_proof v text) (sym e.variables) ∙ at j.reader.closed (e.words ok) e.all

@@ -14,7 +14,7 @@ use Rattle.clauses.specs.StepJudges.{StepJudge, StandsFor, HasJudged}
 use Rattle.clauses.specs.StepReaders.{StepReader, behind_steps, Open, Closed, StandsAt, StandsForWords, HasReadAt, HasRead, BeginsReader}
 use Rattle.clauses.proofs.StepJudgeLemmas.{stands_begun as steps_begun}
 
-made : List Ended → Option Fault → Reading
+abbrev made : List Ended → Option Fault → Reading
 made steps fault = record { steps = steps; fault = fault }
 
 -- a word more, in front of what follows

@@ -39,7 +39,7 @@ this_is_all (b ∷ bs) h =
     let own = this_is_all bs parts.1 in
     rw parts.0 (ap (λ (t : List ℕ). b ∷ t) own.0, own.1)
 
-lines_with : List (List ℕ) → List ℕ → List (List ℕ)
+abbrev lines_with : List (List ℕ) → List ℕ → List (List ℕ)
 lines_with lines rest = lines ++ (if is_nothing rest then [] else rest ∷ [])
 
 all_lines-line : (line rest : List ℕ) → IsLine line → all_lines (line ++ 10 ∷ rest) ≡ line ∷ all_lines rest
@@ -68,7 +68,7 @@ lines_same b bs not = rw not (onto (whole_lines bs))
 
 -- ---- words
 
-single : List ℕ → List (List ℕ)
+abbrev single : List ℕ → List (List ℕ)
 single [] = []
 single (b ∷ bs) = (b ∷ bs) ∷ []
 
@@ -76,10 +76,10 @@ blanks : (x : ℕ) (xs : List ℕ) → list_any is_blank (x ∷ xs) ≡ false �
 blanks x xs h = or_parts (is_blank x) (list_any is_blank xs) h
 
 words_step : (x : ℕ) (ys : List ℕ) → is_blank x ≡ false → ends_word ys ≡ true → words_of (x ∷ ys) ≡ (x ∷ []) ∷ words_of ys
-words_step x ys no end = rw (no, end) refl
+words_step x ys apart end = rw (apart, end) refl
 
 words_onto : (x : ℕ) (ys : List ℕ) → is_blank x ≡ false → ends_word ys ≡ false → words_of (x ∷ ys) ≡ onto_first x (words_of ys)
-words_onto x ys no on = rw (no, on) refl
+words_onto x ys apart on = rw (apart, on) refl
 
 words_skip : (x : ℕ) (ys : List ℕ) → is_blank x ≡ true → words_of (x ∷ ys) ≡ words_of ys
 words_skip x ys blank = rw blank refl
@@ -117,7 +117,7 @@ next_ends : (b : ℕ) (more : List ℕ) → (b == 10) ≡ true → next_lines (b
 next_ends b more ten = rw ten refl
 
 -- the marks of a line of words, and of the lines behind it
-line_and_rest : ℕ → ℕ → List ℕ → List ℕ → List Mark
+abbrev line_and_rest : ℕ → ℕ → List ℕ → List ℕ → List Mark
 line_and_rest variables n line rest = map (λ x. mark n (token_of variables x)) (words_of line) ++ lines_marks variables (suc n) (all_lines rest)
 
 pub marks_blank : (variables n : ℕ) (w : List ℕ) (b : ℕ) (more : List ℕ) → list_any is_blank w ≡ false → (b == 10) ≡ false → is_blank b ≡ true

@@ -63,14 +63,20 @@ impl Word {
     pub(crate) fn is_empty(self) -> bool
         ensures { (bytes : List ℕ) → Spells self bytes → result ≡ is_nothing bytes }
     {
-        !self.negative && self.numeral.is_empty()
+        if self.negative {
+            return false;
+        }
+        self.numeral.is_empty()
     }
 
     /// Whether the word is `0`.
     fn is_end(self) -> bool
         ensures { (bytes : List ℕ) → Spells self bytes → result ≡ bytes_eq bytes (codes "0") }
     {
-        !self.negative && self.numeral.is_zero()
+        if self.negative {
+            return false;
+        }
+        self.numeral.is_zero()
     }
 
     /// The same with a byte behind it.

@@ -4,4 +4,4 @@ use Rattle.clauses.specs.ProofJudges.{ProofJudge}
 use Rattle.clauses.proofs.proof_judge.ProofJudge.end_line.Goals as goal
 
 pub returns : goal.returns
-returns c = rw c.saturating_add.ensures (ap (λ (x : ProofJudge). record x { line = min (x.line + 1) (2 ^ 64 - 1); place = place.Begins }) c.self.view_is)
+returns c = rw c.saturating_add-self-inside.ensures (ap (λ (x : ProofJudge). record x { line = min (x.line + 1) (2 ^ 64 - 1); place = place.Begins }) c.self.view_is)
