@@ -45,7 +45,7 @@ pub byte_passed : (f : Formula) (j : ProofJudge) (text : List ℕ) (byte : ℕ) 
 byte_passed f j text byte is b =
     let s : ScannedAt j text [] b.marks true = subst (ScannedAt j text [] b.marks) is b.scanned in
     let now : ScannedAt j (text ++ byte ∷ []) [] b.marks true = λ more.
-        ((s (byte ∷ more)).0, ap (λ (t : List ℕ). lines_marks j.variables 1 (all_lines t)) (append_assoc text (byte ∷ []) more) ∙ (s (byte ∷ more)).1) in
+    ((s (byte ∷ more)).0, ap (λ (t : List ℕ). lines_marks j.variables 1 (all_lines t)) (append_assoc text (byte ∷ []) more) ∙ (s (byte ∷ more)).1) in
     record { variables = b.variables; marks = b.marks; words = b.words; scanned = subst (ScannedAt j (text ++ byte ∷ []) [] b.marks) (sym is) now }
 
 -- how the state of a scan goes on over pending bytes, with words that end
@@ -181,11 +181,12 @@ stands_too_long f old text byte reader going begins many closed over b =
     let new : ProofJudge = record { reader = reader; variables = old.variables; line = old.line; place = old.place; word = old.word } in
     let m : Mark = mark old.line (faulty why.TooLong) in
     let behind = λ (more : List ℕ). lines_marks old.variables (suc old.line) (all_lines (next_lines (byte ∷ more))) in
-    let now : ScannedAt new text [] (b.marks ++ m ∷ []) true = λ more.
-        (behind more,
-          s.reads more
+    let now : ScannedAt new text [] (b.marks ++ m ∷ []) true = λ more. (
+      behind more,
+      s.reads more
           ∙ ap (λ (ms : List Mark). b.marks ++ ms) (begins_at old.variables old.place old.line s.word (byte ∷ more) begins ∙ marks_too_long old.variables old.line byte more many)
-          ∙ sym (append_assoc b.marks (m ∷ []) (behind more))) in
+          ∙ sym (append_assoc b.marks (m ∷ []) (behind more)),
+    ) in
     record { variables = b.variables; marks = b.marks ++ m ∷ []; words = over f b.marks b.words; scanned = subst (ScannedAt new text [] (b.marks ++ m ∷ [])) (sym closed) now }
 
 few_lines : (n : ℕ) → nat_lt most_lines n ≡ false → n ≤ most_lines

@@ -123,10 +123,10 @@ stands_literal f r marks line l clause is more_is s ok =
 
 pub stands_begun : (f : Formula) (r : StepReader) → BeginsReader f r → StandsForWords f r []
 stands_begun f r b = stands_open f r [] b.closed (record {
-      steps = [];
-      stands = steps_begun f r.judge b.begins;
-      reads = λ last more. ap₂ (λ (d : Bool) (c : List ℕ). reading_from last d c more) (sym b.deleting) (sym b.clause);
-    })
+  steps = [];
+  stands = steps_begun f r.judge b.begins;
+  reads = λ last more. ap₂ (λ (d : Bool) (c : List ℕ). reading_from last d c more) (sym b.deleting) (sym b.clause);
+})
 
 -- ---- the end
 

@@ -121,8 +121,7 @@ impl ProofJudge {
         if self.word.is_empty() {
             return;
         }
-        self.reader
-            .take(self.line, self.word.token(self.variables));
+        self.reader.take(self.line, self.word.token(self.variables));
         self.word = Word::new();
     }
 
