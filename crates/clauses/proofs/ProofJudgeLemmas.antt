@@ -20,7 +20,7 @@ use Rattle.clauses.proofs.TextLemmas.{lines_same, marks_blank, marks_line, marks
 -- ---- what was scanned
 
 scanned_any : (j : ProofJudge) (text pending : List ℕ) (marks : List Mark) (closed : Bool) → Scanned j text pending marks → ScannedAt j text pending marks closed
-scanned_any j text pending marks true s more = (marks_behind j.variables j.place j.line s.word (pending ++ more), s.reads more)
+scanned_any j text pending marks true s = λ more. (marks_behind j.variables j.place j.line s.word (pending ++ more), s.reads more)
 scanned_any j text pending marks false s = s
 
 scanned : (f : Formula) (j : ProofJudge) (text pending : List ℕ) (b : StandsBefore f j text pending) → j.reader.closed ≡ false → Scanned j text pending b.marks
@@ -150,8 +150,8 @@ stands_letter f old text byte word going within not apart more b =
 -- a judge of which the reader and the word are others
 same_judge : (P : ProofJudge → Type 0) (old mid : ProofJudge) → KeepsPlace old mid → P (record { reader = mid.reader; variables = old.variables; line = old.line; place = old.place; word = mid.word }) → P mid
 same_judge P old mid same h =
-    subst (λ (p : Place). P (record { reader = mid.reader; variables = mid.variables; line = mid.line; place = p; word = mid.word })) (sym same.1.1)
-    (subst (λ (n : ℕ). P (record { reader = mid.reader; variables = mid.variables; line = n; place = old.place; word = mid.word })) (sym same.1.0)
+    subst (λ (p : Place). P (record { reader = mid.reader; variables = mid.variables; line = mid.line; place = p; word = mid.word })) (sym same.2)
+    (subst (λ (n : ℕ). P (record { reader = mid.reader; variables = mid.variables; line = n; place = old.place; word = mid.word })) (sym same.1)
     (subst (λ (v : ℕ). P (record { reader = mid.reader; variables = v; line = old.line; place = old.place; word = mid.word })) (sym same.0) h))
 
 pub word_line : (f : Formula) (old mid new : ProofJudge) (text : List ℕ) (byte : ℕ) → old.reader.closed ≡ false → old.place ≡ place.Within → (byte == 10) ≡ true → EndsWord old mid.reader mid.word → KeepsPlace old mid

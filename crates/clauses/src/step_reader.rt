@@ -175,6 +175,7 @@ impl StepReader {
     fn close(&mut self, last: u64)
         ensures read { (f : Formula) (marks : List Mark) → StandsForWords f self.old marks → HasRead f self.new (reading_from last false [] marks) }
         ensures failed { self.new.failed ≡ self.old.failed }
+        ensures limit { self.new.judge.propagator.limit ≡ self.old.judge.propagator.limit }
     {
         if self.is_closed() {
             return;
@@ -199,7 +200,8 @@ impl StepReader {
     ///
     /// Errors: `NoMemory` where a growth was refused.
     pub(crate) fn finish(&mut self, last: u64) -> Result<Judgement, ClauseFault>
-        ensures { (f : Formula) (marks : List Mark) (reading : Reading) → StandsForWords f self.old marks → (self.old.failed ≡ false → reading ≡ reading_from last false [] marks) → IfOk result (λ j. JudgesReading f reading j) }
+        ensures judges { (f : Formula) (marks : List Mark) (reading : Reading) → StandsForWords f self.old marks → (self.old.failed ≡ false → reading ≡ reading_from last false [] marks) → IfOk result (λ j. JudgesReading f reading j) }
+        ensures limit { self.new.judge.propagator.limit ≡ self.old.judge.propagator.limit }
     {
         self.close(last);
         self.judgement()

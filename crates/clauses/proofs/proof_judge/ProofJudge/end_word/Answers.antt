@@ -27,4 +27,4 @@ returns-clause-words c f marks bytes spells s =
     (c.take.ensures.stands f marks (subst (λ (x : ProofJudge). StandsForWords f x.reader marks) (sym c.self.view_is) s)))
 
 pub returns-clause-word : goal.returns-clause-word
-returns-clause-word c bytes spells = c.new.ensures
+returns-clause-word c bytes spells = c.new-self-inside.ensures
