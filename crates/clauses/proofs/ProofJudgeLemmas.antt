@@ -1,5 +1,5 @@
 -- Judges of the texts of proofs.
-use Rattle.std.proofs.Common.{◌≡◌, ℕ, suc, ◌+◌, ◌*◌, ◌-◌, ◌^◌, ◌<◌, ◌≤◌, ◌==◌, min, Bool, true, false, List, [], ◌∷◌, ◌++◌, length, refl, sym, ap, subst, ◌∙◌, append_assoc, append-nil, arith}
+use Rattle.std.proofs.Common.{◌≡◌, ℕ, suc, ◌+◌, ◌-◌, ◌^◌, ◌≤◌, ◌==◌, min, Bool, true, false, List, [], ◌∷◌, ◌++◌, length, refl, sym, ap, subst, ◌∙◌, append_assoc, append-nil, arith}
 use Rattle.std.specs.Prelude.{nat_lt}
 use Rattle.std.specs.List.{list_any}
 use Rattle.std.proofs.lemmas.Bool.{eqb-true, ltb-false, or_parts, or_from}
@@ -10,9 +10,9 @@ use Rattle.clauses.specs.declared.word.Word.{Word}
 use Rattle.clauses.specs.declared.proof_judge.Place.{Place}
 use Rattle.clauses.specs.declared.proof_judge.Place.TheVariants as place
 use Rattle.clauses.specs.Formula.{Formula}
-use Rattle.clauses.specs.Proofs.{is_blank, token_of, Token, faulty, Mark, mark, most_lines, lines_marks, all_lines, Reading, reading_from, read_proof}
+use Rattle.clauses.specs.Proofs.{is_blank, token_of, Token, faulty, Mark, mark, most_lines, lines_marks, all_lines, reading_from, read_proof}
 use Rattle.clauses.specs.Words.{Spells}
-use Rattle.clauses.specs.StepReaders.{StepReader, Closed, StandsAt, StandsForWords, BeginsReader}
+use Rattle.clauses.specs.StepReaders.{StepReader, StandsAt, StandsForWords}
 use Rattle.clauses.specs.ProofJudges.{ProofJudge, next_lines, word_marks, marks_behind, IsWordAt, IsFew, Scanned, ScannedAt, StandsBefore, StandsThrough, BeginsText, StandsForText, AreMarksAt, EndsText}
 use Rattle.clauses.proofs.StepReaderLemmas.{stands_begun}
 use Rattle.clauses.proofs.TextLemmas.{lines_same, marks_blank, marks_line, marks_letter, marks_end, marks_too_long, marks_comment, marks_within}

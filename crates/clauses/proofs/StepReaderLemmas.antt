@@ -1,7 +1,7 @@
 -- Readers of steps.
 use Rattle.std.proofs.Common.{◌≡◌, ℕ, ◌==◌, length, Bool, true, false, List, [], ◌∷◌, ◌++◌, refl, sym, ap, ap₂, subst, ◌∙◌, append_assoc, append-nil, arith}
 use Rattle.std.proofs.lemmas.Bool.{ne_eqb}
-use Rattle.std.specs.Prelude.{Option, Some, None, Result, Ok, Err, IfOk}
+use Rattle.std.specs.Prelude.{Option, Some, None, Result, IfOk}
 use Rattle.base.specs.Decimals.{is_nothing}
 use Rattle.clauses.specs.declared.fault.ClauseFault.{ClauseFault}
 use Rattle.clauses.specs.declared.judgement.Judgement.{Judgement}

@@ -1,14 +1,13 @@
 -- What is kept of a word byte by byte is what its bytes say.
-use Rattle.std.proofs.Common.{◌≡◌, ℕ, ◌==◌, Bool, true, false, ◌&&◌, List, [], ◌∷◌, ◌++◌, Option, Some, None, get_or, codes, refl, sym, ap, subst, ◌∙◌}
+use Rattle.std.proofs.Common.{◌≡◌, ℕ, ◌==◌, Bool, true, false, ◌&&◌, List, [], ◌∷◌, ◌++◌, Option, codes, refl, sym, ap, subst, ◌∙◌}
 use Rattle.std.specs.Str.{bytes_eq}
 use Rattle.std.proofs.lemmas.Bool.{eqb-true}
 use Rattle.base.specs.Decimals.{is_nothing, is_decimal, number_of}
 use Rattle.base.proofs.DecimalLemmas.{nothing}
-use Rattle.clauses.specs.declared.why.Why.TheVariants as why
 use Rattle.clauses.specs.declared.word.Word.{Word}
 use Rattle.clauses.specs.declared.numeral.Numeral.{Numeral}
 use Rattle.clauses.specs.Numerals.{Counts, numeral_more}
-use Rattle.clauses.specs.Proofs.{Token, ends, deletes, literal, faulty, numbered, literal_of, token_of}
+use Rattle.clauses.specs.Proofs.{ends, deletes, numbered, literal_of, token_of}
 use Rattle.clauses.specs.Words.{Spells, signed, sign_of, IsFirst}
 use Rattle.clauses.proofs.NumeralLemmas.{counts_more}
 

@@ -1,5 +1,5 @@
 -- What is kept of the bytes of a word of which more may follow, and what a word says.
-use Rattle.std.specs.Prelude.{◌≡◌, ℕ, ◌<◌, Bool, true, false, ◌==◌, List, [], ◌∷◌, slice_index_or, codes}
+use Rattle.std.specs.Prelude.{◌≡◌, ℕ, ◌<◌, Bool, true, false, ◌==◌, List, ◌∷◌, slice_index_or, codes}
 use Rattle.std.specs.Str.{bytes_eq}
 use Rattle.clauses.specs.declared.word.Token.{Token as CodeToken}
 use Rattle.clauses.specs.declared.word.Token.TheVariants as code

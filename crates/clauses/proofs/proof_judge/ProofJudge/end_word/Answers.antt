@@ -1,4 +1,4 @@
-use Rattle.std.proofs.Common.{ℕ, List, [], ◌++◌, ap, sym, subst, ◌∙◌}
+use Rattle.std.proofs.Common.{ℕ, ◌++◌, sym, subst, ◌∙◌}
 use Rattle.base.proofs.DecimalLemmas.{nothing}
 use Rattle.clauses.specs.Words.{Spells, IsBelow, said}
 use Rattle.clauses.specs.StepReaders.{StandsForWords}
