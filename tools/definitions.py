@@ -37,8 +37,8 @@ GHOST_IMPORT = re.compile(r"\bghost\s+use\s+([\w.]+?)(?:\.\{([^}]*)\}|\s+as\s+(\
 HEAD = re.compile(r"^(?:(?:abbrev|unfoldable|opaque) pub|pub (?:record|data|abbrev|enum)) ([^\s:]+)", re.M)
 STEPS = "◌>>=◌"
 # the words that are carried: what a judge stands for, and the values of judges, which nothing else speaks of
-CARRIED = {("witness", "WordStands", "StandsFor"), ("witness", "BitStands", "StandsFor")}
-CARRIED_VALUES = {("witness", "WordStands", "WordJudge"), ("witness", "BitStands", "BitJudge")}
+CARRIED = {("witness", "WordStands", "StandsFor"), ("witness", "BitStands", "StandsFor"), ("clauses", "ProofJudges", "StandsForText")}
+CARRIED_VALUES = {("witness", "WordStands", "WordJudge"), ("witness", "BitStands", "BitJudge"), ("clauses", "ProofJudges", "ProofJudge")}
 
 
 def fail(text):
@@ -122,9 +122,10 @@ def named_in(modules, text, scope):
 def is_carried(word, clause):
     """Whether a clause names a word as one that is carried: of a value that is made, with nothing fed to it; as a premise on
     the value before; or as what such a premise gives of the value after."""
-    made = re.compile(r"\(λ (\w+)\. %s [\w.]+ \1 \[\]\)" % word)
-    premise = re.compile(r"\b%s \w+ self\.(?:old|now|entry) \w+ →" % word)
-    kept = re.compile(r"\b%s \w+ self\.new \([^()]*\)" % word)
+    term = r"(?:[\w.]+|\[\]|\([^()]*\))"
+    made = re.compile(r"\(λ (\w+)\. %s %s \1 \[\]\)" % (word, term))
+    premise = re.compile(r"\b%s %s self(?:\.(?:old|now|entry))? %s →" % (word, term, term))
+    kept = re.compile(r"\b%s %s self\.new %s" % (word, term, term))
     rest = made.sub("", clause)
     if premise.search(rest):
         rest = kept.sub("", premise.sub("", rest))

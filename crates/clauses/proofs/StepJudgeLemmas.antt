@@ -12,7 +12,7 @@ use Rattle.clauses.specs.Proofs.{addition, deletion, Ended, ended, Fault}
 use Rattle.clauses.specs.Without.{IsWithout}
 use Rattle.clauses.specs.Judgements.{JudgesSteps, JudgesReading}
 use Rattle.clauses.specs.Propagator.{State, Extended, in_list}
-use Rattle.clauses.specs.StepJudges.{StepJudge, Continues, StandsFor, LeadsOver, BeginsAt, Begins}
+use Rattle.clauses.specs.StepJudges.{StepJudge, Continues, StandsFor, HasJudged, LeadsOver, BeginsAt, Begins}
 
 pub leads_derived : (old : State) (clause : List ℕ) (line : ℕ) → Implied old.clauses (in_list old.followed) clause → MeetsConflict (old.clauses ++ clause ∷ []) (in_list old.followed) → LeadsOver old clause line old (Some (judgement.Derived line))
 leads_derived old clause line i met fault rest j e = inr (i, inl (met, e))
@@ -69,6 +69,33 @@ ends_found f steps judge d s ok is = ends f steps judge d s ok (subst (λ (o : O
 
 pub ends_without : (f : Formula) (steps : List Ended) (judge : StepJudge) → StandsFor f steps judge → judge.failed ≡ false → judge.found ≡ None → JudgesReading f (record { steps = steps; fault = None }) judgement.NotDerived
 ends_without f steps judge s ok is = ends f steps judge judgement.NotDerived s ok (subst (λ (o : Option Judgement). Continues judge.propagator o None [] judgement.NotDerived) (sym is) refl)
+
+-- ---- a fault behind the steps
+
+with_fault : (f : Formula) (steps : List Ended) (fault : Fault) (judge : StepJudge) (j : Judgement) → StandsFor f steps judge → judge.failed ≡ false → Continues judge.propagator judge.found (Some fault) [] j
+    → JudgesReading f (record { steps = steps; fault = Some fault }) j
+with_fault f steps fault judge j s ok h = subst (λ (xs : List Ended). JudgesReading f (record { steps = xs; fault = Some fault }) j) (append-nil steps) (s ok (Some fault) [] j h)
+
+pub judged_found : (f : Formula) (steps : List Ended) (fault : Fault) (judge : StepJudge) → is_some judge.found ≡ true → StandsFor f steps judge → HasJudged f steps fault judge
+judged_found f steps fault judge is s ok = at judge.found refl is
+  where
+    at : (found : Option Judgement) → judge.found ≡ found → is_some found ≡ true → (d : Judgement) × ((judge.found ≡ Some d) × JudgesReading f (record { steps = steps; fault = Some fault }) d)
+    at None e no_one = absurd (cc)
+    at (Some d) e one = (d, (e, with_fault f steps fault judge d s ok (subst (λ (o : Option Judgement). Continues judge.propagator o (Some fault) [] d) (sym e) refl)))
+
+pub judged_fault : (f : Formula) (steps : List Ended) (fault : Fault) (judge : StepJudge) → is_some judge.found ≡ false → StandsFor f steps judge
+    → HasJudged f steps fault (record { propagator = judge.propagator; found = Some (judgement.Malformed fault.line fault.why); failed = judge.failed })
+judged_fault f steps fault judge is s ok = (judgement.Malformed fault.line fault.why, (refl, with_fault f steps fault judge (judgement.Malformed fault.line fault.why) s ok (at judge.found is)))
+  where
+    at : (found : Option Judgement) → is_some found ≡ false → Continues judge.propagator found (Some fault) [] (judgement.Malformed fault.line fault.why)
+    at (Some d) no_one = absurd (cc)
+    at None none = refl
+
+pub fault_found : (f : Formula) (steps : List Ended) (fault : Fault) (judge : StepJudge) (d : Judgement) → HasJudged f steps fault judge → judge.failed ≡ false → judge.found ≡ Some d → JudgesReading f (record { steps = steps; fault = Some fault }) d
+fault_found f steps fault judge d h ok is = let own = h ok in let same : own.0 ≡ d = cc (sym own.1.0 ∙ is) in subst (JudgesReading f (record { steps = steps; fault = Some fault })) same own.1.1
+
+pub fault_without : (f : Formula) (steps : List Ended) (fault : Fault) (judge : StepJudge) (P : Type 0) → HasJudged f steps fault judge → judge.failed ≡ false → judge.found ≡ None → P
+fault_without f steps fault judge P h ok is = let own = h ok in let no : Some own.0 ≡ None = sym own.1.0 ∙ is in absurd (cc (no))
 
 -- ---- before any step
 

@@ -16,3 +16,7 @@ pub mod Watched
 pub mod Added
 pub mod Worked
 pub mod StepJudges
+pub mod Numerals
+pub mod Words
+pub mod StepReaders
+pub mod ProofJudges

@@ -25,6 +25,11 @@ StandsFor f steps judge =
     judge.failed ≡ false → (fault : Option Fault) (rest : List Ended) (j : Judgement) → Continues judge.propagator judge.found fault rest j
     → JudgesReading f (record { steps = steps ++ rest; fault = fault }) j
 
+-- where memory was not wanting, a judge has judged steps over a formula, with a fault of the text behind them
+abbrev pub HasJudged : Formula → List Ended → Fault → StepJudge → Type 0
+HasJudged f steps fault judge =
+    judge.failed ≡ false → (found : Judgement) × ((judge.found ≡ Some found) × JudgesReading f (record { steps = steps; fault = Some fault }) found)
+
 -- a step that adds a clause leads from one state to another, or something is found with it
 abbrev pub LeadsOver : State → List ℕ → ℕ → State → Option Judgement → Type 0
 LeadsOver old clause line new found =

@@ -1,13 +1,14 @@
 //! The judge of the steps of a proof.
-ghost use Rattle.std.specs.Prelude.{◌≡◌, ◌+◌, ◌*◌, ◌<◌, ◌++◌, ◌∷◌, [], List, All, IfOk, None};
+ghost use Rattle.std.specs.Prelude.{◌≡◌, ◌+◌, ◌*◌, ◌<◌, ◌++◌, ◌∷◌, [], List, All, IfOk, None, Some};
 ghost use Rattle.clauses.specs.Formula.{Formula};
-ghost use Rattle.clauses.specs.Proofs.{addition, deletion, Ended, ended};
+ghost use Rattle.clauses.specs.Proofs.{addition, deletion, Ended, ended, Fault};
 ghost use Rattle.clauses.specs.Judgements.{JudgesReading};
-ghost use Rattle.clauses.specs.StepJudges.{Begins, StandsFor, LeadsOver};
+ghost use Rattle.clauses.specs.StepJudges.{Begins, StandsFor, HasJudged, LeadsOver};
 
 use crate::fault::ClauseFault;
 use crate::judgement::Judgement;
 use crate::propagator::Propagator;
+use crate::why::Why;
 use std::alloc::Global;
 
 /// Judges a step that adds a clause: what is found with it, if anything is; else the clause is added with all that follows.
@@ -113,9 +114,22 @@ impl StepJudge {
         self.propagator.delete(clause);
     }
 
+    /// Takes a fault of the text behind the steps so far, in a line: a judge that stood for these has judged them with the
+    /// fault, and takes no more.
+    pub fn refuse(&mut self, line: u64, why: Why)
+        ensures judged { (f : Formula) (steps : List Ended) → StandsFor f steps self.old → HasJudged f steps (record { line = line; why = why }) self.new }
+        ensures limit { self.new.propagator.limit ≡ self.old.propagator.limit }
+    {
+        if self.found.is_some() {
+            return;
+        }
+        self.found = Some(Judgement::Malformed { line, why });
+    }
+
     /// The judgement of the steps so far.
-    fn judgement(&self) -> Result<Judgement, ClauseFault>
-        ensures { (f : Formula) (steps : List Ended) → StandsFor f steps self.now → IfOk result (λ j. JudgesReading f (record { steps = steps; fault = None }) j) }
+    pub(crate) fn judgement(&self) -> Result<Judgement, ClauseFault>
+        ensures steps { (f : Formula) (steps : List Ended) → StandsFor f steps self.now → IfOk result (λ j. JudgesReading f (record { steps = steps; fault = None }) j) }
+        ensures fault { (f : Formula) (steps : List Ended) (fault : Fault) → HasJudged f steps fault self.now → IfOk result (λ j. JudgesReading f (record { steps = steps; fault = Some fault }) j) }
     {
         if self.failed {
             return Err(ClauseFault::NoMemory);
@@ -126,11 +140,12 @@ impl StepJudge {
         }
     }
 
-    /// The judgement of the steps: of all that the judge stands for.
+    /// The judgement of the steps: of all that the judge stands for, or with the fault that it took.
     ///
     /// Errors: `NoMemory` where a growth was refused.
     pub fn finish(self) -> Result<Judgement, ClauseFault>
-        ensures { (f : Formula) (steps : List Ended) → StandsFor f steps self → IfOk result (λ j. JudgesReading f (record { steps = steps; fault = None }) j) }
+        ensures steps { (f : Formula) (steps : List Ended) → StandsFor f steps self → IfOk result (λ j. JudgesReading f (record { steps = steps; fault = None }) j) }
+        ensures fault { (f : Formula) (steps : List Ended) (fault : Fault) → HasJudged f steps fault self → IfOk result (λ j. JudgesReading f (record { steps = steps; fault = Some fault }) j) }
     {
         self.judgement()
     }

@@ -1,0 +1,45 @@
+-- What is kept of the bytes of a word of which more may follow, and what a word says.
+use Rattle.std.specs.Prelude.{◌≡◌, ℕ, ◌<◌, Bool, true, false, ◌==◌, List, ◌∷◌, slice_index_or, codes}
+use Rattle.std.specs.Str.{bytes_eq}
+use Rattle.clauses.specs.declared.word.Token.{Token as CodeToken}
+use Rattle.clauses.specs.declared.word.Token.TheVariants as code
+use Rattle.clauses.specs.declared.word.Word.{Word}
+use Rattle.clauses.specs.Proofs.{Token, ends, deletes, literal, faulty}
+use Rattle.clauses.specs.Numerals.{Counts}
+
+-- what a word says, as the code has it
+abbrev pub said : CodeToken → Token
+said code.Ends = ends
+said (code.Deletes) = deletes
+said (code.Literal l) = literal l
+said (code.Faulty w) = faulty w
+
+-- where it is a literal, it is below a limit
+abbrev pub IsBelow : ℕ → CodeToken → Type 0
+IsBelow limit code.Ends = Unit {0}
+IsBelow limit code.Deletes = Unit {0}
+IsBelow limit (code.Literal l) = l < limit
+IsBelow limit (code.Faulty w) = Unit {0}
+
+-- the sign of a literal with a minus, and without
+abbrev pub sign_of : Bool → ℕ
+sign_of true = 1
+sign_of false = 0
+
+-- bytes behind a minus where there is one
+abbrev pub signed : Bool → List ℕ → List ℕ
+signed true bytes = 45 ∷ bytes
+signed false bytes = bytes
+
+-- no minus is first where none was seen
+abbrev pub IsFirst : Bool → List ℕ → Type 0
+IsFirst true bytes = Unit {0}
+IsFirst false bytes = (slice_index_or bytes 0 0 == 45) ≡ false
+
+-- what is kept is that of these bytes
+pub record Spells (w : Word) (bytes : List ℕ) : Type 0 where
+  pub behind : List ℕ
+  pub is : bytes ≡ signed w.negative behind
+  pub first : IsFirst w.negative behind
+  pub numeral : Counts w.numeral behind
+  pub deletes : w.deletes ≡ bytes_eq bytes (codes "d")
