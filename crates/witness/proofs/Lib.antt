@@ -34,6 +34,7 @@ pub mod WordFieldLemmas
 pub mod PlainLineLemmas
 pub mod ClaimScanLemmas
 pub mod WordLineLemmas
+pub mod MoveLemmas
 pub mod WordPlayLemmas
 pub mod WordAssignLemmas
 pub mod KeptLineLemmas
@@ -43,3 +44,4 @@ pub mod WordPartLemmas
 pub mod WordReaderLemmas
 pub mod WordJudgeLemmas
 pub mod WordFinishLemmas
+pub mod ClosedLemmas

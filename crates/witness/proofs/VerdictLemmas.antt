@@ -1,5 +1,5 @@
 -- What one frame of a run says, in the words of judgements.
-use Rattle.std.proofs.Common.{◌≡◌, ◌≢◌, ◌&&◌, ◌||◌, set, ⊎_elim, ℕ, suc, ◌+◌, ◌<◌, ◌≤◌, Bool, true, false, List, length, map, get_or, drop, nat_eq, not, cond, slice_get, Option, Some, None, IfSome, unwrap_or, option_and_then, refl, sym, ap, ap₂, subst, ◌∙◌, arith}
+use Rattle.std.proofs.Common.{◌≡◌, ◌≢◌, ◌&&◌, ◌||◌, set, ⊎_elim, ℕ, suc, ◌+◌, ◌<◌, ◌≤◌, Bool, true, false, List, length, get_or, drop, nat_eq, not, cond, slice_get, Option, Some, None, IfSome, unwrap_or, option_and_then, refl, sym, ap, ap₂, subst, ◌∙◌, arith}
 use Rattle.std.proofs.Math.Seq.{drop-cons}
 use Rattle.std.proofs.lemmas.List.{drop_all, length-map, get_or-set_same, get_or-set_other}
 use Rattle.std.proofs.lemmas.Bool.{cases_eq}
@@ -10,11 +10,10 @@ use Rattle.btor2.specs.Items.{find_item, position_of, init_value, is_free, is_st
 use Rattle.btor2.specs.Lists.{places, init_place, constant_at, of_kind}
 use Rattle.btor2.proofs.LookUps.{found}
 use Rattle.btor2.specs.Check.{IsWellFormed}
-use Rattle.btor2.specs.Trace.{Frame, state_word, IsFrame, IsTrace, next_state}
-use Rattle.btor2.proofs.TraceLemmas.{frame_exists}
+use Rattle.btor2.specs.Trace.{Frame, state_word, IsFrame, IsTrace}
 use Rattle.runs.specs.Frames.{ids_of, given_leaves}
 use Rattle.runs.specs.Frames.{given as given_at}
-use Rattle.runs.specs.Run.{Run, IsNow, state_words, leaf_words, zeros, is_one}
+use Rattle.runs.specs.Run.{Run, IsNow, state_words, zeros, is_one}
 use Rattle.runs.proofs.RankLemmas.{IsNth, nth, length-ids, length-places, state_leaf, input_leaf, either_word}
 use Rattle.runs.proofs.StateLemmas.{nth-get, init_at}
 use Rattle.witness.specs.Texts.{shape_of}
@@ -63,13 +62,6 @@ module _ (items : List Item) (r r' r'' settled : Run) (frame : FrameWords) (w : 
       (λ id y found is. state_now carried stands id y found is
       ∙ sym (either_word (is_free items id) (given_at is_state items states id) (given_leaves items states inputs id) (given_at is_state items states id) refl (state_leaf items states inputs id y found is)))
       (λ id y found is. sym (inputs_given items frame fits.inputs.distinct id y found is) ∙ sym (input_leaf items states inputs id y found is)) h)
-
--- as many words as there are states, whatever the frame was
-pub advanced_many : (items : List Item) (settled after : Run) → IsWellFormed items → settled.items ≡ items → ((f : Frame) → IsNow settled f → after.states ≡ map (next_state settled.items f) (ids_of is_state settled.items))
-    → length after.states ≡ length (ids_of is_state items)
-advanced_many items settled after w same says =
-    let some = frame_exists settled.items (state_words settled) (leaf_words settled) (subst IsWellFormed (sym same) w) in
-    ap length (says some.0 some.1) ∙ length-map (ids_of is_state settled.items) (next_state settled.items some.0) ∙ ap (λ (l : List Item). length (ids_of is_state l)) same
 
 -- ---- the first of a list
 

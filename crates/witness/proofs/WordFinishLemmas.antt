@@ -1,20 +1,23 @@
 -- The judgement of a text by what a judge of witnesses over a model holds.
-use Rattle.std.proofs.Common.{◌≡◌, ℕ, Bool, true, List, [], ◌∷◌, Option, Some, None, map, length, refl, ap, ap₂, subst, ◌∙◌}
+use Rattle.std.proofs.Common.{◌≡◌, ℕ, Bool, true, cond, List, [], ◌∷◌, Option, Some, None, map, length, refl, ap, ap₂, subst, ◌∙◌}
 use Rattle.base.specs.Lines.{whole_lines, unfinished}
 use Rattle.btor2.specs.declared.item.Item.{Item}
 use Rattle.btor2.specs.Items.{is_bad}
 use Rattle.btor2.specs.Trace.{Frame, IsTrace}
 use Rattle.witness.specs.declared.judgement.Judgement.{Judgement}
 use Rattle.witness.specs.Texts.{shape_of, Parts}
-use Rattle.witness.specs.Readings.{lines_read}
+use Rattle.witness.specs.Readings.{lines_read, reading}
 use Rattle.witness.specs.Admits.{Place, AtEnd, Read, is_at_end, word_reader, witness_of}
 use Rattle.witness.specs.Judgements.{FrameWords, frame_words, words_of, Words, initial_words, given_words, given_frames, nodes_of, first_different, Violation, violation_from, unreached_from, when_reached, when_kept, when_begun, verdict, JudgesWords}
 use Rattle.witness.specs.Fits.{AreClaimed, NoneIsSet, RisesAmong}
-use Rattle.witness.specs.WordPlays.{WordPlay, Plays, Traced, TracedBy, frames_alone, nothing_given}
+use Rattle.witness.specs.WordPlays.{WordPlay, Plays, Traced, TracedBy, frames_alone, nothing_given, word_at}
+use Rattle.witness.specs.ClosedWords.{IsClosedTrace, last_word}
 use Rattle.witness.specs.Stands.{first_of}
 use Rattle.witness.specs.WordStands.{place_of, WordReader, Reads, ClaimsAt, here_of, WordJudge, StandsFor}
 use Rattle.witness.proofs.VerdictLemmas.{as_many_frames}
+use Rattle.runs.specs.Run.{IsNow}
 use Rattle.witness.proofs.WordJudgeLemmas.{in_frames}
+use Rattle.witness.proofs.WordPlayLemmas.{word_is}
 
 -- ---- a whole witness
 
@@ -89,3 +92,12 @@ whole_witness items text j o stands none says done fs t =
     let at : r.place ≡ AtEnd = ended r.place done in
     let some = (in_frames (shape_of items) (whole_lines text)).1 at in
     judged_whole items j.reader r (unfinished text) reads at some fs t o (unreached items j.reader r (unfinished text) reads at some fs t o says)
+
+-- ---- the word of a node in the frame that was closed last
+
+pub closed_word_is : (items : List Item) (text : List ℕ) (j : WordJudge) (fs : List Frame) (node : ℕ) (o : Option ℕ) → StandsFor items j text → IsClosedTrace items text fs
+    → ((f : Frame) → (j.reader.play.run.settled ≡ true → IsNow j.reader.play.run f) → o ≡ cond j.reader.play.run.settled (word_at j.reader.play.items f node) None) → o ≡ last_word items text fs node
+unfolding reading
+closed_word_is items text j fs node o stands trace says =
+    let r : Read = (lines_read (word_reader (shape_of items)) (whole_lines text)).read in
+    word_is items (map frame_words r.closed) (here_of r r.place) j.reader.play fs node o stands.lines.counts.plays trace says

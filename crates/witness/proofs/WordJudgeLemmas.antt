@@ -1,8 +1,8 @@
 -- What a judge of witnesses over a model holds: what an admitted line changes, and whether there is a claim.
-use Rattle.std.proofs.Common.{◌≡◌, ℕ, suc, ◌+◌, ◌<◌, ◌≤◌, nat_le, ◌^◌, Bool, true, false, not, cond, ◌&&◌, ◌||◌, List, [], ◌∷◌, ◌++◌, None, Result, Ok, Err, codes, length, map, length-append, refl, sym, ap, subst, ◌∙◌, arith, inl, inr}
+use Rattle.std.proofs.Common.{◌≡◌, ℕ, suc, ◌+◌, ◌<◌, ◌≤◌, nat_le, ◌^◌, Bool, true, false, not, cond, ◌&&◌, ◌||◌, List, [], ◌∷◌, ◌++◌, None, Result, Ok, Err, codes, length, map, length-append, refl, sym, ap, ap₂, subst, ◌∙◌, arith, inl, inr}
 use Rattle.std.specs.Str.{bytes_eq}
 use Rattle.std.proofs.lemmas.Bool.{cases_Bool, eqb-true, false_from_ne_true}
-use Rattle.std.proofs.lemmas.List.{length-map}
+use Rattle.std.proofs.lemmas.List.{length-map, map-append}
 use Rattle.std.proofs.lemmas.Slice.Eq.{bytes_eq-Decides}
 use Rattle.base.specs.Lines.{whole_lines, unfinished}
 use Rattle.base.proofs.DecimalLemmas.{chosen}
@@ -10,13 +10,16 @@ use Rattle.btor2.specs.declared.item.Item.{Item}
 use Rattle.witness.specs.declared.why.Why.{Why}
 use Rattle.witness.specs.declared.why.Why.TheVariants as why
 use Rattle.witness.specs.Texts.{Shape, Assignment, Parts, has_free, is_comment, shape_of, most_lines}
+use Rattle.witness.proofs.MoveLemmas.{goes_steps}
+use Rattle.witness.proofs.WordPlayLemmas.{between_behind}
 use Rattle.witness.specs.Readings.{Reading, so_far, nothing_admitted, one_more_line, next_line_of, next_line, lines_behind, lines_read, reading, is_nothing}
 use Rattle.witness.specs.Admits.{claims_at, assignment_at, free_assignment_at, Place, AtStatus, AtClaims, AtParts, InStates, InFree, InFrame, AtEnd, Read, nothing_read, states_closed, frame_closed, opens_frame, opens_states, begins_part, after_claims, after_assignment, in_part, admit_at, admit, word_reader}
 use Rattle.witness.specs.Judgements.{frame_words, makes_no_claim}
-use Rattle.witness.specs.WordPlays.{steps_of}
+use Rattle.witness.specs.WordPlays.{nothing_given, is_between, steps_of, steps_taken}
 use Rattle.witness.specs.WordReadings.{closed_word_frames}
+use Rattle.witness.specs.ClosedWords.{ClosesFrame, ClosesAtMostOne}
 use Rattle.witness.specs.Stands.{IsOfLines}
-use Rattle.witness.specs.WordStands.{place_of, WordReader, Reads, GivesLine, TakesLine, is_status, Counts, WordJudge, word_judging, StandsFor}
+use Rattle.witness.specs.WordStands.{place_of, WordReader, Reads, GivesLine, TakesLine, is_status, Counts, here_of, WordJudge, word_judging, StandsFor}
 use Rattle.witness.proofs.TextEndLemmas.{whole_lines-line_end, unfinished-line_end}
 use Rattle.witness.proofs.ReadingLemmas.{stopped, stays, holds_behind}
 use Rattle.witness.proofs.StandsLemmas.{or-false, awaits, none_awaited, ClaimsMore, line_admitted, with_bytes, line_ended}
@@ -28,11 +31,31 @@ use Rattle.witness.proofs.WordReaderLemmas.{reads_of_other}
 record Moves (r next : Read) : Type 0 where
   status : is_status next.place ≡ true → is_status r.place ≡ true
   frames : length next.closed ≤ length r.closed + 1
+  closes : ClosesAtMostOne r next
   whole : next.place ≡ AtEnd → next.closed ≡ [] → ⊥
 
 none_behind : (frames : List Parts) (last : Parts) → frames ++ last ∷ [] ≡ [] → ⊥
 none_behind [] last e = cc
 none_behind (x ∷ frames) last e = cc
+
+-- no word is given behind a frame that is closed
+nothing_here : (r : Read) (at : Place) → here_of (frame_closed at r) at ≡ nothing_given
+nothing_here r AtStatus = refl
+nothing_here r AtClaims = refl
+nothing_here r AtParts = refl
+nothing_here r InStates = refl
+nothing_here r InFree = refl
+nothing_here r InFrame = refl
+nothing_here r AtEnd = refl
+
+closes_frame : (r : Read) (at : Place) → ClosesFrame r (frame_closed at r)
+closes_frame r at =
+    let last : Parts = record { states = r.states; inputs = r.open_part } in
+    record {
+      parts = last;
+      closed = refl;
+      behind = ap₂ is_between (map-append frame_words r.closed (last ∷ [])) (nothing_here r at) ∙ between_behind (map frame_words r.closed) (frame_words last);
+    }
 
 -- to another place, with the same frames
 moves_to : (r next : Read) (at : Place) → next.place ≡ at → is_status at ≡ false → (at ≡ AtEnd → ⊥) → next.closed ≡ r.closed → Moves r next
@@ -40,6 +63,7 @@ moves_to r next at there other inside same =
     record {
       status = λ e. absurd (cc (e, ap is_status there, other));
       frames = omega (arith, ap length same);
+      closes = inl same;
       whole = λ e none. inside (sym there ∙ e);
     }
 
@@ -49,6 +73,7 @@ stays_at r next inside there same =
     record {
       status = λ e. sym (ap is_status there) ∙ e;
       frames = omega (arith, ap length same);
+      closes = inl same;
       whole = λ e none. inside (sym there ∙ e);
     }
 
@@ -83,7 +108,7 @@ frame_moves : (r next : Read) (at : Place) → is_status at ≡ false → says (
 frame_moves r next at other h =
     let e : frame_closed at r ≡ next = cc in
     let last : Parts = record { states = r.states; inputs = r.open_part } in
-    subst (Moves r) e (record { status = λ s. absurd (cc (s, other)); frames = omega (arith, length-append r.closed (last ∷ [])); whole = λ there. none_behind r.closed last })
+    subst (Moves r) e (record { status = λ s. absurd (cc (s, other)); frames = omega (arith, length-append r.closed (last ∷ [])); closes = inr (closes_frame r at); whole = λ there. none_behind r.closed last })
 
 line_moves : (shape : Shape) (r next : Read) (line : List ℕ) (at : Place) → r.place ≡ at → admit_at shape r line at ≡ Ok next → Moves r next
 line_moves shape r next line AtStatus at h =
@@ -143,6 +168,9 @@ line_moves shape r next line AtEnd at h = absurd cc
 admitted_moves : (shape : Shape) (r next : Read) (line : List ℕ) → admit shape r line ≡ Ok next → Moves r next
 unfolding admit
 admitted_moves shape r next line h = line_moves shape r next line r.place refl h
+
+pub line_closes : (shape : Shape) (r next : Read) (line : List ℕ) → admit shape r line ≡ Ok next → ClosesAtMostOne r next
+line_closes shape r next line h = (admitted_moves shape r next line h).closes
 
 -- ---- whether there is a claim
 
@@ -275,7 +303,8 @@ claims_more items lines line = claim_more (shape_of items) 0 nothing_read lines 
 pub counts_of : (items : List Item) (q : WordReader) (r : Read) (line : List ℕ) → Reads items q r line → Counts items q.play r
 counts_of items q r line reads =
     let many : length (map frame_words r.closed) ≡ length r.closed = length-map r.closed frame_words in
-    record { items_are = reads.play.items_are; frames = reads.play.count ∙ many; steps = reads.play.steps ∙ ap (steps_of items) many }
+    let steps : reads.play.ahead.steps ≡ steps_taken q.play.items q.play.run = goes_steps q.play.items q.play.run reads.play.ahead (reads.play.run ∙ sym reads.play.items_are) reads.play.goes in
+    record { items_are = reads.play.items_are; frames = reads.play.count ∙ many; steps = sym steps ∙ (reads.play.steps ∙ ap (steps_of items) many); plays = reads.play }
 
 pub nothing_there : (line : List ℕ) → is_nothing line ≡ true → line ≡ []
 nothing_there [] h = refl

@@ -1,5 +1,5 @@
 -- A word more in the open part of a witness over a model.
-use Rattle.std.proofs.Common.{◌≡◌, ℕ, ◌<◌, ◌^◌, ◌==◌, Bool, true, false, ◌||◌, List, [], ◌∷◌, ◌++◌, Ok, All, map, length, set, refl, sym, ap, subst, ◌∙◌, arith, inl, inr}
+use Rattle.std.proofs.Common.{◌≡◌, ℕ, ◌<◌, ◌^◌, ◌==◌, Bool, true, false, ◌||◌, ◌&&◌, List, [], ◌∷◌, ◌++◌, Ok, All, map, length, length-append, set, refl, sym, ap, subst, ◌∙◌, arith, inl, inr}
 use Rattle.std.specs.List.{list_any}
 use Rattle.std.proofs.lemmas.Bool.{cases_eq, eq-eqb, ne_eqb}
 use Rattle.std.proofs.lemmas.List.{map-append, get_or-set_same, get_or-set_other}
@@ -9,18 +9,19 @@ use Rattle.base.specs.Decimals.{number_of}
 use Rattle.btor2.specs.declared.item.Item.{Item}
 use Rattle.btor2.specs.Items.{is_input}
 use Rattle.btor2.specs.Check.{IsWellFormed}
-use Rattle.runs.specs.Run.{zeros}
+use Rattle.runs.specs.Run.{Run, zeros}
 use Rattle.witness.specs.Texts.{Shape, Assignment, widths_of, is_free_index, shape_of, are_distinct, assignment_line}
 use Rattle.witness.specs.Admits.{cut_at_space, names_free, assignment_at, free_assignment_at}
 use Rattle.witness.specs.Fits.{is_set, IsFlagged, PairFits, PartFits, LaterFits, FramesFit, words_put}
 use Rattle.witness.specs.Judgements.{FrameWords, pairs_of}
-use Rattle.witness.specs.WordPlays.{WordPlay, Traced, TracedBy, Plays, MayGive, TakesInput, state_given, input_given}
+use Rattle.witness.specs.WordPlays.{WordPlay, GoesOn, is_between, Traced, TracedBy, Plays, MayGive, TakesInput, state_given, input_given}
 use Rattle.witness.specs.PlainLines.{BeginsAssignment}
 use Rattle.witness.proofs.AssignmentLemmas.{IsAssigned, assignment_at-assignment_line, assignment_is_line, free_assignment_is_line}
 use Rattle.witness.proofs.WordAssignLemmas.{flag_of}
 use Rattle.witness.proofs.AdmittedLineLemmas.{distinct_with}
 use Rattle.witness.proofs.ReadLemmas.{IsSmall}
 use Rattle.witness.proofs.FitLemmas.{shape_is_small}
+use Rattle.witness.proofs.MoveLemmas.{one_ahead, goes_items}
 
 -- ---- a pair behind others
 
@@ -120,12 +121,14 @@ input_fits items (x ∷ frames) states before line list small is fit =
 
 -- ---- a word more
 
-still_traced : (items : List Item) (base : List ℕ) (p q : WordPlay) (frames : List FrameWords) → q.breach ≡ p.breach → q.rose ≡ p.rose → q.differs ≡ p.differs → TracedBy items base p frames → TracedBy items base q frames
-still_traced items base p q [] breach rose differs t = record { states = t.states; breach = breach ∙ t.breach; rose = λ i. ap (λ (l : List Bool). is_set l i) rose ∙ t.rose i }
-still_traced items base p q (x ∷ xs) breach rose differs t = λ fs trace.
+still_traced : (items : List Item) (base : List ℕ) (p q : WordPlay) (frames : List FrameWords) → q.breach ≡ p.breach → q.rose ≡ p.rose → q.differs ≡ p.differs → q.run.settled ≡ false → TracedBy items base p frames → TracedBy items base q frames
+still_traced items base p q [] breach rose differs open_frame t = record { states = t.states; breach = breach ∙ t.breach; rose = λ i. ap (λ (l : List Bool). is_set l i) rose ∙ t.rose i }
+still_traced items base p q (x ∷ xs) breach rose differs open_frame t = λ fs trace.
     let was : Traced items (x ∷ xs) base p fs = t fs trace in
     record {
       last = was.last;
+      is_last = was.is_last;
+      now = λ e. absurd (cc (e, open_frame));
       states = was.states;
       carried = was.carried;
       differs = differs ∙ was.differs;
@@ -133,48 +136,76 @@ still_traced items base p q (x ∷ xs) breach rose differs t = λ fs trace.
       rose = λ none clear i h. ap (λ (l : List Bool). is_set l i) rose ∙ was.rose none clear i h;
     }
 
-pub state_plays : (items : List Item) (frames : List FrameWords) (before list : List Assignment) (line : List ℕ) (p : WordPlay) (a : Assignment) → IsWellFormed items → assignment_at (shape_of items).states before line ≡ Ok list
-    → list ≡ before ++ a ∷ [] → a.index < length p.states_given → MayGive items frames line → Plays items frames (states_alone before) p → Plays items frames (states_alone list) (state_given p a.index a.word)
-state_plays items frames before list line p a w is all inside may plays =
+-- a word is given
+one_more : (before list : List Assignment) (a : Assignment) → list ≡ before ++ a ∷ [] → (length (pairs_of list) == 0) ≡ false
+one_more before list a all =
+    ne_eqb (length (pairs_of list)) 0 (λ e. omega (arith, e, ap (λ (l : List Assignment). length (pairs_of l)) all, ap length (pairs_more before a), length-append (pairs_of before) ((a.index, a.word) ∷ [])))
+
+state_between : (frames : List FrameWords) (before list : List Assignment) (a : Assignment) → list ≡ before ++ a ∷ [] → false ≡ is_between frames (states_alone list)
+state_between [] before list a all = refl
+state_between (x ∷ frames) before list a all = sym (ap (λ (b : Bool). b && true) (one_more before list a all))
+
+input_between : (frames : List FrameWords) (states : List (ℕ × ℕ)) (before list : List Assignment) (a : Assignment) → list ≡ before ++ a ∷ [] → false ≡ is_between frames (with_inputs states list)
+input_between [] states before list a all = refl
+input_between (x ∷ frames) states before list a all = sym (ap (λ (b : Bool). (length states == 0) && b) (one_more before list a all) ∙ and-false (length states == 0))
+  where
+    and-false : (b : Bool) → (b && false) ≡ false
+    and-false true = refl
+    and-false false = refl
+
+pub state_plays : (items : List Item) (frames : List FrameWords) (before list : List Assignment) (line : List ℕ) (p : WordPlay) (moved : Run) (a : Assignment) → IsWellFormed items → assignment_at (shape_of items).states before line ≡ Ok list
+    → list ≡ before ++ a ∷ [] → a.index < length p.states_given → MayGive items frames line → GoesOn p.run.settled p.run moved → Plays items frames (states_alone before) p
+    → Plays items frames (states_alone list) (state_given (record p { run = moved }) a.index a.word)
+state_plays items frames before list line p moved a w is all inside may goes plays =
     let pairs : pairs_of list ≡ pairs_of before ++ (a.index, a.word) ∷ [] = ap pairs_of all ∙ pairs_more before a in
+    let same : moved ≡ plays.ahead = one_ahead p.run.settled p.run moved plays.ahead (subst IsWellFormed (sym plays.run) w) goes plays.goes in
+    let next : WordPlay = state_given (record p { run = moved }) a.index a.word in
     record {
       items_are = plays.items_are;
-      run = plays.run;
+      run = goes_items p.run.settled p.run moved goes ∙ plays.run;
       fit = state_fits items frames before line list (shape_is_small items w) may is plays.fit;
       states_flagged = subst (IsFlagged (set p.states_given a.index true)) (sym pairs) (flag_more p.states_given (pairs_of before) a.index a.word inside plays.states_flagged);
       inputs_flagged = plays.inputs_flagged;
+      settled = state_between frames before list a all;
+      ahead = next.run;
+      goes = refl;
       base = plays.base;
       many = plays.many;
-      states = ap (λ (l : List ℕ). set l a.index a.word) plays.states ∙ (sym (put_more plays.base (pairs_of before) a.index a.word) ∙ ap (words_put plays.base) (sym pairs));
-      inputs = plays.inputs;
+      states = ap (λ (l : List ℕ). set l a.index a.word) (ap (λ (r : Run). r.states) same ∙ plays.states) ∙ (sym (put_more plays.base (pairs_of before) a.index a.word) ∙ ap (words_put plays.base) (sym pairs));
+      inputs = ap (λ (r : Run). r.inputs) same ∙ plays.inputs;
       count = plays.count;
-      steps = plays.steps;
-      traced = still_traced items plays.base p (state_given p a.index a.word) frames refl refl refl plays.traced;
+      steps = ap (λ (r : Run). r.steps) same ∙ plays.steps;
+      traced = still_traced items plays.base p next frames refl refl refl refl plays.traced;
     }
 
-pub input_plays : (items : List Item) (frames : List FrameWords) (states : List (ℕ × ℕ)) (before list : List Assignment) (line : List ℕ) (p : WordPlay) (a : Assignment) → IsWellFormed items → assignment_at (shape_of items).inputs before line ≡ Ok list
-    → list ≡ before ++ a ∷ [] → a.index < length p.inputs_given → Plays items frames (with_inputs states before) p → Plays items frames (with_inputs states list) (input_given p a.index a.word)
-input_plays items frames states before list line p a w is all inside plays =
+pub input_plays : (items : List Item) (frames : List FrameWords) (states : List (ℕ × ℕ)) (before list : List Assignment) (line : List ℕ) (p : WordPlay) (moved : Run) (a : Assignment) → IsWellFormed items → assignment_at (shape_of items).inputs before line ≡ Ok list
+    → list ≡ before ++ a ∷ [] → a.index < length p.inputs_given → GoesOn p.run.settled p.run moved → Plays items frames (with_inputs states before) p → Plays items frames (with_inputs states list) (input_given (record p { run = moved }) a.index a.word)
+input_plays items frames states before list line p moved a w is all inside goes plays =
     let pairs : pairs_of list ≡ pairs_of before ++ (a.index, a.word) ∷ [] = ap pairs_of all ∙ pairs_more before a in
+    let same : moved ≡ plays.ahead = one_ahead p.run.settled p.run moved plays.ahead (subst IsWellFormed (sym plays.run) w) goes plays.goes in
+    let next : WordPlay = input_given (record p { run = moved }) a.index a.word in
     record {
       items_are = plays.items_are;
-      run = plays.run;
+      run = goes_items p.run.settled p.run moved goes ∙ plays.run;
       fit = input_fits items frames states before line list (shape_is_small items w) is plays.fit;
       states_flagged = plays.states_flagged;
       inputs_flagged = subst (IsFlagged (set p.inputs_given a.index true)) (sym pairs) (flag_more p.inputs_given (pairs_of before) a.index a.word inside plays.inputs_flagged);
+      settled = input_between frames states before list a all;
+      ahead = next.run;
+      goes = refl;
       base = plays.base;
       many = plays.many;
-      states = plays.states;
-      inputs = ap (λ (l : List ℕ). set l a.index a.word) plays.inputs ∙ (sym (put_more (zeros items) (pairs_of before) a.index a.word) ∙ ap (words_put (zeros items)) (sym pairs));
+      states = ap (λ (r : Run). r.states) same ∙ plays.states;
+      inputs = ap (λ (l : List ℕ). set l a.index a.word) (ap (λ (r : Run). r.inputs) same ∙ plays.inputs) ∙ (sym (put_more (zeros items) (pairs_of before) a.index a.word) ∙ ap (words_put (zeros items)) (sym pairs));
       count = plays.count;
-      steps = plays.steps;
-      traced = still_traced items plays.base p (input_given p a.index a.word) frames refl refl refl plays.traced;
+      steps = ap (λ (r : Run). r.steps) same ∙ plays.steps;
+      traced = still_traced items plays.base p next frames refl refl refl refl plays.traced;
     }
 
 -- the line of an assignment to an input that has no word
-pub input_taken : (p : WordPlay) (text rest : List ℕ) (index word : ℕ) → IsWellFormed p.items → length p.inputs_given ≡ length (widths_of is_input p.items) → BeginsAssignment (widths_of is_input p.items) p.inputs_given text index word rest
-    → TakesInput p (input_given p index word) text rest
-input_taken p text rest index word w many begins =
+pub input_taken : (p : WordPlay) (moved : Run) (text rest : List ℕ) (index word : ℕ) → IsWellFormed p.items → length p.inputs_given ≡ length (widths_of is_input p.items) → GoesOn p.run.settled p.run moved
+    → BeginsAssignment (widths_of is_input p.items) p.inputs_given text index word rest → TakesInput p (input_given (record p { run = moved }) index word) text rest
+input_taken p moved text rest index word w many goes begins =
     let widths : List ℕ = widths_of is_input p.items in
     let a : Assignment = record { index = index; word = word; symbol = begins.symbol } in
     let inside : index < length widths = begins.valid.index in
@@ -185,5 +216,5 @@ input_taken p text rest index word w many begins =
       gives = λ frames states before plays.
           let new : list_any (λ b. b.index == index) before ≡ false = sym (flag_of before index) ∙ (sym (plays.inputs_flagged index) ∙ begins.fresh) in
           let is : assignment_at widths before (assignment_line widths a) ≡ Ok (before ++ a ∷ []) = assignment_at-assignment_line widths before a (shape_is_small p.items w).inputs begins.valid new in
-          (before ++ a ∷ [], (is, input_plays p.items frames states before (before ++ a ∷ []) (assignment_line widths a) p a w is refl (omega (arith, many, inside)) plays));
+          (before ++ a ∷ [], (is, input_plays p.items frames states before (before ++ a ∷ []) (assignment_line widths a) p moved a w is refl (omega (arith, many, inside)) goes plays));
     }

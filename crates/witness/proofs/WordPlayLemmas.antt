@@ -1,6 +1,7 @@
 -- Frames of a witness over a model, closed one after the other.
-use Rattle.std.proofs.Common.{◌≡◌, ℕ, zero, suc, ◌+◌, ◌*◌, ◌<◌, ◌≤◌, ◌-◌, ◌^◌, ◌==◌, min, Bool, true, false, not, cond, ◌&&◌, ◌||◌, List, [], ◌∷◌, ◌++◌, Option, Some, None, All, map, length, get_or, set, unwrap_or, length-append, refl, sym, ap, ap₂, subst, ◌∙◌, arith, inl, inr}
+use Rattle.std.proofs.Common.{◌≡◌, ℕ, zero, suc, ◌+◌, ◌*◌, ◌<◌, ◌≤◌, ◌-◌, ◌^◌, ◌==◌, min, Bool, true, false, not, cond, ◌&&◌, ◌||◌, List, [], ◌∷◌, ◌++◌, Option, Some, None, option_and_then, All, map, length, get_or, set, unwrap_or, length-append, refl, sym, ap, ap₂, subst, ◌∙◌, arith, inl, inr}
 use Rattle.std.specs.Option.{option_or}
+use Rattle.std.specs.List.{last_or}
 use Rattle.std.proofs.lemmas.Bool.{cases_lt, cases_eq, ne_eqb, eq-eqb}
 use Rattle.std.proofs.lemmas.List.{length-map, map-append, get_or-set_same, get_or-set_other}
 use Rattle.std.proofs.lemmas.List.Elements.{All-nil, All-cons, All-head, All-tail, All-push}
@@ -11,15 +12,17 @@ use Rattle.btor2.specs.Check.{IsWellFormed}
 use Rattle.btor2.specs.Trace.{Frame, IsFrame, IsTrace, next_state}
 use Rattle.runs.specs.Frames.{ids_of}
 use Rattle.runs.specs.Frames.{given as given_at}
-use Rattle.runs.specs.Run.{Run, IsNow, zeros, first_word, node_count, state_count, more_steps}
+use Rattle.runs.specs.Run.{Run, IsNow, state_words, leaf_words, zeros, first_word, node_count, state_count, more_steps}
 use Rattle.base.proofs.StepLemmas.{more_steps-sum}
+use Rattle.btor2.proofs.TraceLemmas.{frame_exists}
 use Rattle.witness.specs.Texts.{Shape, shape_of}
 use Rattle.witness.specs.Fits.{is_set, PartFits, FirstFits, LaterFits, FramesFit, StandsAt, words_put, RisesIn, RisesAmong, NoneIsSet}
 use Rattle.witness.specs.Judgements.{FrameWords, Violation, violated_at, violation_from, never_rises, nodes_of, first_different, first_violated, given_to, initial_words, given_words}
-use Rattle.witness.specs.WordPlays.{WordPlay, frame_steps, steps_of, frames_alone, carried_behind, Fresh, Traced, TracedBy, Plays, nothing_given}
+use Rattle.witness.specs.WordPlays.{WordPlay, frame_steps, steps_of, frames_alone, carried_behind, MovesOn, GoesOn, is_between, word_at, Fresh, Traced, TracedBy, Plays, nothing_given}
 use Rattle.witness.proofs.GivenWordLemmas.{put_given, words_of_kind, state_there, states_given, first_stands, next_stands}
 use Rattle.witness.proofs.FrameLemmas.{different_of}
 use Rattle.witness.proofs.VerdictLemmas.{settled_now}
+use Rattle.witness.proofs.MoveLemmas.{moves, one_ahead, goes_items}
 
 -- ---- flags
 
@@ -157,32 +160,62 @@ pub record Closes (items : List Item) (settled : Run) (old new : WordPlay) : Typ
   pub same : new.items ≡ items
   pub differs : (f : Frame) → IsNow settled f → new.differs ≡ cond (old.frames == 0) (first_different items f) old.differs
   pub frames : new.frames ≡ min (old.frames + 1) (2 ^ 64 - 1)
-  pub run : new.run ≡ record settled { states = new.run.states; inputs = zeros items; settled = false; steps = more_steps (state_count items) settled.steps }
-  pub states : (f : Frame) → IsNow settled f → new.run.states ≡ map (next_state items f) (ids_of is_state items)
-  pub many : length new.run.states ≡ length (ids_of is_state items)
+  pub run : new.run ≡ settled
   pub breach : (f : Frame) → IsNow settled f → new.breach ≡ option_or old.breach (violated_at old.frames (first_violated items f) None)
   pub rose : (f : Frame) → IsNow settled f → RisesIn (nodes_of is_bad items) f old.rose new.rose
   pub states_clear : NoneIsSet new.states_given
   pub inputs_clear : NoneIsSet new.inputs_given
 
-module _ (items : List Item) (here : FrameWords) (old new : WordPlay) (settled : Run) (w : IsWellFormed items)
-    (done : settled ≡ record old.run { settled = true; steps = more_steps (node_count old.run.items) old.run.steps }) (closes : Closes items settled old new) where
+last_behind : (fs : List Frame) (f : Frame) → last_or None (fs ++ f ∷ []) ≡ Some f
+last_behind [] f = refl
+last_behind (g ∷ []) f = refl
+last_behind (g ∷ h ∷ fs) f = last_behind (h ∷ fs) f
+
+pub between_behind : (frames : List FrameWords) (here : FrameWords) → is_between (frames ++ here ∷ []) nothing_given ≡ true
+between_behind [] here = refl
+between_behind (x ∷ frames) here = refl
+
+-- A run moves on where it has to, and is settled in the open frame.
+module _ (items : List Item) (here : FrameWords) (old new : WordPlay) (before settled : Run) (w : IsWellFormed items) (goes : GoesOn old.run.settled old.run before)
+    (done : settled ≡ record before { settled = true; steps = more_steps (node_count before.items) before.steps }) (closes : Closes items settled old new) where
+  -- the run that moved on is the one of the open frame
+  before_is : (frames : List FrameWords) (plays : Plays items frames here old) → before ≡ plays.ahead
+  before_is frames plays = one_ahead old.run.settled old.run before plays.ahead (subst IsWellFormed (sym plays.run) w) goes plays.goes
+
+  before_items : (frames : List FrameWords) (plays : Plays items frames here old) → before.items ≡ items
+  before_items frames plays = goes_items old.run.settled old.run before goes ∙ plays.run
+
+  settled_items : (frames : List FrameWords) (plays : Plays items frames here old) → settled.items ≡ items
+  settled_items frames plays = ap (λ (r : Run). r.items) done ∙ before_items frames plays
+
   now_in : (frames : List FrameWords) (plays : Plays items frames here old) (carried f : Frame) → StandsAt items carried here (given_at is_state items plays.base) → IsFrame items carried (given_words items here) f → IsNow settled f
   now_in frames plays carried f stands h =
-      let steps : ℕ = more_steps (node_count old.run.items) old.run.steps in
+      let steps : ℕ = more_steps (node_count before.items) before.steps in
       let r : Run = record { items = items; states = plays.base; inputs = zeros items; settled = false; steps = 0 } in
       let r' : Run = record { items = items; states = words_put plays.base here.states; inputs = zeros items; settled = false; steps = 0 } in
       let r'' : Run = record { items = items; states = words_put plays.base here.states; inputs = words_put (zeros items) here.inputs; settled = false; steps = 0 } in
+      let same = before_is frames plays in
       settled_now items r r' r'' settled here w refl plays.many refl (last_fits (shape_of items) frames here plays.fit) here.states here.inputs refl refl refl refl steps
-      (done ∙ run_by old.run items (words_put plays.base here.states) (words_put (zeros items) here.inputs) steps plays.run plays.states plays.inputs) carried f stands h
+      (done
+      ∙ run_by before items (words_put plays.base here.states) (words_put (zeros items) here.inputs) steps (before_items frames plays) (ap (λ (x : Run). x.states) same ∙ plays.states) (ap (λ (x : Run). x.inputs) same ∙ plays.inputs))
+      carried f stands h
 
-  steps_more : (frames : List FrameWords) → Plays items frames here old → new.run.steps ≡ steps_of items (length (frames ++ here ∷ []))
+  -- the run behind the frame
+  behind : (frames : List FrameWords) (plays : Plays items frames here old) → (ahead : Run) × MovesOn settled ahead
+  behind frames plays = moves settled (subst IsWellFormed (sym (settled_items frames plays)) w)
+
+  states_behind : (frames : List FrameWords) (plays : Plays items frames here old) (f : Frame) → IsNow settled f → (behind frames plays).0.states ≡ map (next_state items f) (ids_of is_state items)
+  states_behind frames plays f h =
+      (behind frames plays).1.states f h ∙ ap (λ (l : List Item). map (next_state l f) (ids_of is_state l)) (settled_items frames plays)
+
+  steps_more : (frames : List FrameWords) (plays : Plays items frames here old) → (behind frames plays).0.steps ≡ steps_of items (length (frames ++ here ∷ []))
   steps_more frames plays =
       let n = length frames in
       let long : length (frames ++ here ∷ []) ≡ n + 1 = length-append frames (here ∷ []) in
-      ap (λ (r : Run). r.steps) closes.run
-      ∙ (ap (λ (r : Run). more_steps (state_count items) r.steps) done
-      ∙ (ap₂ (λ (l : List Item) (s : ℕ). more_steps (state_count items) (more_steps (node_count l) s)) plays.run plays.steps
+      let steps : before.steps ≡ steps_of items n = ap (λ (r : Run). r.steps) (before_is frames plays) ∙ plays.steps in
+      ap (λ (r : Run). r.steps) (behind frames plays).1.others
+      ∙ (ap₂ (λ (l : List Item) (s : ℕ). more_steps (state_count l) s) (settled_items frames plays) (ap (λ (r : Run). r.steps) done)
+      ∙ (ap₂ (λ (l : List Item) (s : ℕ). more_steps (state_count items) (more_steps (node_count l) s)) (before_items frames plays) steps
       ∙ (ap (λ (s : ℕ). more_steps (state_count items) s) (more_steps-sum (n * frame_steps items) (node_count items) 0)
       ∙ (more_steps-sum (n * frame_steps items + node_count items) (state_count items) 0
       ∙ ap (λ (m : ℕ). more_steps m 0) (product n (node_count items) (state_count items) ∙ ap (λ (m : ℕ). m * frame_steps items) (sym long))))))
@@ -190,7 +223,10 @@ module _ (items : List Item) (here : FrameWords) (old new : WordPlay) (settled :
       product : (n s l : ℕ) → n * (s + l) + s + l ≡ (n + 1) * (s + l)
       product n s l = omega arith
 
-  first_closed : (plays : Plays items [] here old) → TracedBy items new.run.states new (here ∷ [])
+  run_now : (f : Frame) → IsNow settled f → IsNow new.run f
+  run_now f now = subst (λ (r : Run). IsNow r f) (sym closes.run) now
+
+  first_closed : (plays : Plays items [] here old) → TracedBy items (behind [] plays).0.states new (here ∷ [])
   first_closed plays [] t = absurd t
   first_closed plays (f ∷ g ∷ fs) t = absurd t.1
   first_closed plays (f ∷ []) t =
@@ -200,14 +236,16 @@ module _ (items : List Item) (here : FrameWords) (old new : WordPlay) (settled :
       let now = now_in [] plays carried f (start_stands items here plays.base plays.fit.0.states fresh.states) t.0 in
       record {
         last = f;
-        states = closes.states f now;
+        is_last = refl;
+        now = λ _. run_now f now;
+        states = states_behind [] plays f now;
         carried = refl;
         differs = closes.differs f now ∙ (ap (λ (b : Bool). cond b (first_different items f) old.differs) first ∙ different_of items carried (given_words items here) f t.0);
         breach = closes.breach f now ∙ ap₂ (λ (o : Option Violation) (n : ℕ). option_or o (violated_at n (first_violated items f) None)) fresh.breach plays.count;
         rose = λ none clear. rises_behind (nodes_of is_bad items) [] f none old.rose new.rose (λ i h. fresh.rose i ∙ sym (ap (λ (b : Bool). b || false) (clear i))) (closes.rose f now);
       }
 
-  later_closed : (x : FrameWords) (xs : List FrameWords) (plays : Plays items (x ∷ xs) here old) → TracedBy items new.run.states new (x ∷ (xs ++ here ∷ []))
+  later_closed : (x : FrameWords) (xs : List FrameWords) (plays : Plays items (x ∷ xs) here old) → TracedBy items (behind (x ∷ xs) plays).0.states new (x ∷ (xs ++ here ∷ []))
   later_closed x xs plays fs t =
       let carried = initial_words items (frames_alone (x ∷ xs)) in
       let s = split_trace items carried (map (given_words items) (x ∷ xs)) (given_words items here) fs (subst (λ (l : List Frame). IsTrace items carried l fs) (map-append (given_words items) (x ∷ xs) (here ∷ [])) t) in
@@ -220,7 +258,9 @@ module _ (items : List Item) (here : FrameWords) (old new : WordPlay) (settled :
       let number : old.frames ≡ 0 + length s.front = count ∙ (sym (length-map (x ∷ xs) (given_words items)) ∙ (sym s.many ∙ omega arith)) in
       record {
         last = s.f;
-        states = closes.states s.f now;
+        is_last = ap (last_or None) s.is ∙ last_behind s.front s.f;
+        now = λ _. run_now s.f now;
+        states = states_behind (x ∷ xs) plays s.f now;
         carried = ap (carried_behind items carried) s.is ∙ carried_more items carried s.front s.f;
         differs = closes.differs s.f now ∙ (ap (λ (b : Bool). cond b (first_different items s.f) old.differs) later ∙ was.differs);
         breach =
@@ -232,7 +272,7 @@ module _ (items : List Item) (here : FrameWords) (old new : WordPlay) (settled :
             (rises_behind (nodes_of is_bad items) s.front s.f none old.rose new.rose (was.rose none clear) (closes.rose s.f now));
       }
 
-  closed_by : (frames : List FrameWords) → Plays items frames here old → TracedBy items new.run.states new (frames ++ here ∷ [])
+  closed_by : (frames : List FrameWords) (plays : Plays items frames here old) → TracedBy items (behind frames plays).0.states new (frames ++ here ∷ [])
   closed_by [] plays = first_closed plays
   closed_by (x ∷ xs) plays = later_closed x xs plays
 
@@ -241,17 +281,37 @@ module _ (items : List Item) (here : FrameWords) (old new : WordPlay) (settled :
   plays_more frames plays few =
       let count = plays.count in
       let long = length-append frames (here ∷ []) in
+      let next = behind frames plays in
+      let is_settled : new.run.settled ≡ true = ap (λ (r : Run). r.settled) closes.run ∙ ap (λ (r : Run). r.settled) done in
+      let some = frame_exists settled.items (state_words settled) (leaf_words settled) (subst IsWellFormed (sym (settled_items frames plays)) w) in
       record {
         items_are = closes.same;
-        run = ap (λ (r : Run). r.items) closes.run ∙ (ap (λ (r : Run). r.items) done ∙ plays.run);
+        run = ap (λ (r : Run). r.items) closes.run ∙ settled_items frames plays;
         fit = fits_more (shape_of items) frames here plays.fit;
         states_flagged = closes.states_clear;
         inputs_flagged = closes.inputs_clear;
-        base = new.run.states;
-        many = closes.many;
+        settled = is_settled ∙ sym (between_behind frames here);
+        ahead = next.0;
+        goes = subst (λ (b : Bool). GoesOn b new.run next.0) (sym is_settled) (subst (λ (r : Run). MovesOn r next.0) (sym closes.run) next.1);
+        base = next.0.states;
+        many = ap length (states_behind frames plays some.0 some.1) ∙ length-map (ids_of is_state items) (next_state items some.0);
         states = refl;
-        inputs = ap (λ (r : Run). r.inputs) closes.run;
+        inputs = ap (λ (r : Run). r.inputs) next.1.others ∙ ap zeros (settled_items frames plays);
         count = closes.frames ∙ omega (arith, count, few, long);
         steps = steps_more frames plays;
         traced = closed_by frames plays;
       }
+
+-- ---- the word of a node in the frame that was closed last
+
+pub word_is : (items : List Item) (frames : List FrameWords) (here : FrameWords) (p : WordPlay) (fs : List Frame) (node : ℕ) (o : Option ℕ) → Plays items frames here p → IsTrace items (initial_words items (frames_alone frames)) (map (given_words items) frames) fs
+    → ((f : Frame) → (p.run.settled ≡ true → IsNow p.run f) → o ≡ cond p.run.settled (word_at p.items f node) None)
+    → o ≡ cond (is_between frames here) (option_and_then (λ f. word_at items f node) (last_or None fs)) None
+word_is items [] here p fs node o plays trace says =
+    let none : p.run.settled ≡ false = plays.settled in
+    says (λ id. 0) (λ e. absurd (cc (none, e))) ∙ ap (λ (b : Bool). cond b (word_at p.items (λ id. 0) node) None) none
+word_is items (x ∷ xs) here p fs node o plays trace says =
+    let t : Traced items (x ∷ xs) plays.base p fs = plays.traced fs trace in
+    says t.last t.now
+    ∙ (ap₂ (λ (b : Bool) (l : List Item). cond b (word_at l t.last node) None) plays.settled plays.items_are
+    ∙ ap (λ (l : Option Frame). cond (is_between (x ∷ xs) here) (option_and_then (λ f. word_at items f node) l) None) (sym t.is_last))

@@ -19,7 +19,7 @@ use Rattle.btor2.specs.Lists.{places, is_free_at}
 use Rattle.witness.specs.declared.word_claims.ClaimScan.{ClaimScan}
 use Rattle.witness.specs.WordClaims.{AreClaims}
 use Rattle.witness.proofs.ShapeLemmas.{free_at_places, length-places}
-use Rattle.witness.specs.WordPlays.{WordPlay, IsStart, Plays, frame_steps, MayGive, GivesState, GivesInput, nothing_given}
+use Rattle.witness.specs.WordPlays.{WordPlay, IsStart, GoesOn, Plays, frame_steps, MayGive, GivesState, GivesInput, nothing_given}
 use Rattle.witness.specs.WordStands.{WordReader, place_of, here_of, NoFrame, SaidAt, ClaimsAt, Reads, GivesLine, is_alone}
 use Rattle.std.proofs.lemmas.List.{map-append, length-map}
 use Rattle.std.proofs.lemmas.List.Elements.{All-nil}
@@ -304,6 +304,9 @@ plays_start items p h =
       fit = (record { states = record { each = All-nil _; distinct = refl }; inputs = record { each = All-nil _; distinct = refl } }, All-nil _);
       states_flagged = h.states;
       inputs_flagged = h.inputs;
+      settled = open_frame;
+      ahead = p.run;
+      goes = subst (λ (b : Bool). GoesOn b p.run p.run) (sym open_frame) refl;
       base = p.run.states;
       many = ap (λ (r : Run). length r.states) h.run ∙ length-map (ids_of is_state items) (first_word items);
       states = refl;
@@ -313,6 +316,9 @@ plays_start items p h =
       traced = record { states = ap (λ (r : Run). r.states) h.run; breach = h.breach; rose = h.rose };
     }
   where
+    open_frame : p.run.settled ≡ false
+    open_frame = ap (λ (r : Run). r.settled) h.run
+
     no_steps : (n : ℕ) → 0 ≡ more_steps (0 * n) 0
     no_steps n =
         let none : 0 * n ≡ 0 = omega arith in

@@ -1,5 +1,6 @@
 -- Worked traces: the words of the toggling model's frames, and what is judged of them.
-use Rattle.std.proofs.Common.{◌≡◌, ℕ, List, [], ◌∷◌, refl, ap, ◌∙◌}
+use Rattle.std.proofs.Common.{◌≡◌, ℕ, List, [], ◌∷◌, Option, Some, None, option_and_then, refl, ap, ◌∙◌}
+use Rattle.std.specs.List.{last_or}
 use Rattle.base.specs.Operator.{unary_value}
 use Rattle.base.specs.declared.operators.Unary.TheVariants as unary
 use Rattle.btor2.specs.Trace.{Frame, IsTrace}
@@ -7,6 +8,7 @@ use Rattle.btor2.specs.Worked.{toggler, follower}
 use Rattle.witness.specs.declared.judgement.Judgement.TheVariants as judgement
 use Rattle.witness.specs.Judgements.{FrameWords, Words, initial_words, given_frames, verdict}
 use Rattle.witness.specs.Worked.{constrained}
+use Rattle.witness.specs.WordPlays.{word_at}
 
 -- a frame in which nothing is given
 abbrev no_words : FrameWords
@@ -85,3 +87,33 @@ does_not_follow_judged (f ∷ g ∷ []) t =
     let second : g 3 ≡ 0 = t.1.0.1.1.0 ∙ free in
     rw (first, second) refl
 does_not_follow_judged (f ∷ g ∷ h ∷ fs) t = absurd t.1.1
+
+-- ---- the word of the toggling bit in the last of one frame, and of two, in which nothing is given
+
+abbrev word_told : List Frame → Option ℕ
+word_told fs = option_and_then (λ f. word_at toggler f 2) (last_or None fs)
+
+pub first_word_told : (fs : List Frame) → IsTrace toggler (initial_words toggler one_frame) (given_frames toggler one_frame) fs → word_told fs ≡ Some 0
+first_word_told [] t = absurd t
+first_word_told (f ∷ []) t =
+    let first : f 3 ≡ 0 = t.0.1.1.0 in
+    ap (λ (n : ℕ). Some n) first
+first_word_told (f ∷ g ∷ fs) t = absurd t.1
+
+abbrev two_empty_frames : Words
+two_empty_frames = record { claims = 0 ∷ []; frames = no_words ∷ no_words ∷ [] }
+
+pub second_word_told : (fs : List Frame) → IsTrace toggler (initial_words toggler two_empty_frames) (given_frames toggler two_empty_frames) fs → word_told fs ≡ Some 1
+second_word_told [] t = absurd t
+second_word_told (f ∷ []) t = absurd t.1
+second_word_told (f ∷ g ∷ []) t =
+    let first : f 3 ≡ 0 = t.0.1.1.0 in
+    let negated : f 5 ≡ 1 = not_word f 0 first t.0.1.1.1.1.0 in
+    let second : g 3 ≡ 1 = t.1.0.1.1.0 ∙ negated in
+    ap (λ (n : ℕ). Some n) second
+second_word_told (f ∷ g ∷ h ∷ fs) t = absurd t.1.1
+
+-- no word stands at a position with no node
+pub no_word_told : (o : Option Frame) → option_and_then (λ f. word_at toggler f 0) o ≡ None
+no_word_told None = refl
+no_word_told (Some f) = refl

@@ -18,9 +18,10 @@ pub mod BitStands
 pub mod KeptLines
 pub mod WordClaims
 pub mod WordValues
+pub mod WordReadings
+pub mod ClosedWords
 pub mod WordPlays
 pub mod WordStands
-pub mod WordReadings
 pub mod WordAssigns
 pub mod PlainLines
 pub mod Beginnings

@@ -1,18 +1,20 @@
 -- The frames of a witness over a model, played one after the other while its lines are read: what is kept of them, and which lines it is of.
-use Rattle.std.specs.Prelude.{◌≡◌, ℕ, ◌+◌, ◌*◌, Bool, true, false, List, [], ◌∷◌, ◌++◌, Option, None, Result, Ok, Err, map, length, slice_set}
+use Rattle.std.specs.Prelude.{◌≡◌, ℕ, ◌+◌, ◌*◌, Bool, true, false, if◌then◌else◌, List, [], ◌∷◌, ◌++◌, Option, Some, None, Result, Ok, Err, map, length, slice_set}
+use Rattle.std.specs.List.{last_or}
 use Rattle.base.specs.Decimals.{number_of}
 use Rattle.btor2.specs.declared.item.Item.{Item}
 use Rattle.btor2.specs.Items.{is_input, is_state, is_bad}
 use Rattle.btor2.specs.Trace.{Frame, IsTrace, next_state}
 use Rattle.runs.specs.Frames.{ids_of}
-use Rattle.runs.specs.Run.{Run, start, first_word, zeros, node_count, state_count, more_steps}
+use Rattle.runs.specs.Run.{Run, IsNow, start, first_word, zeros, node_count, state_count, more_steps}
 use Rattle.witness.specs.declared.why.Why.{Why}
 use Rattle.witness.specs.Texts.{widths_of, Assignment, shape_of, assignment_line, IsAssignment}
 use Rattle.witness.specs.Admits.{cut_at_space, names_free, assignment_at}
 use Rattle.witness.specs.Fits.{IsFlagged, FramesFit, words_put, RisesAmong, NoneIsSet}
+pub use Rattle.witness.specs.ClosedWords.{nothing_given, is_between, word_at}
 use Rattle.witness.specs.Judgements.{FrameWords, Words, pairs_of, initial_words, given_words, nodes_of, Violation, violation_from, first_different}
 
--- a run of the model; which states and inputs have a word in the frame that is open; the first state whose initial word is not that of its init line; how many
+-- a run of the model, which stays settled in the frame that was closed last until it has to move on; which states and inputs have a word in the frame that is open; the first state whose initial word is not that of its init line; how many
 -- frames are closed, the first constraint that did not hold in them, and which bad properties rose
 pub record WordPlay : Type 0 where
   pub items : List Item
@@ -57,9 +59,24 @@ pub record Fresh (items : List Item) (base : List ℕ) (p : WordPlay) : Type 0 w
   pub breach : p.breach ≡ None
   pub rose : NoneIsSet p.rose
 
+-- the run behind the frame that it is settled in; it is the same run where it is settled in none
+pub record MovesOn (r ahead : Run) : Type 0 where
+  pub states : (f : Frame) → IsNow r f → ahead.states ≡ map (next_state r.items f) (ids_of is_state r.items)
+  pub others : ahead ≡ record r { states = ahead.states; inputs = zeros r.items; settled = false; steps = more_steps (state_count r.items) r.steps }
+
+abbrev pub GoesOn : Bool → Run → Run → Type 0
+GoesOn true r ahead = MovesOn r ahead
+GoesOn false r ahead = ahead ≡ r
+
+-- the steps that it has taken then
+abbrev pub steps_taken : List Item → Run → ℕ
+steps_taken items r = if r.settled then more_steps (state_count items) r.steps else r.steps
+
 -- what a trace of the closed frames says of what is kept
 pub record Traced (items : List Item) (frames : List FrameWords) (base : List ℕ) (p : WordPlay) (fs : List Frame) : Type 0 where
   pub last : Frame
+  pub is_last : last_or None fs ≡ Some last
+  pub now : p.run.settled ≡ true → IsNow p.run last
   pub states : base ≡ map (next_state items last) (ids_of is_state items)
   pub carried : carried_behind items (initial_words items (frames_alone frames)) fs ≡ next_state items last
   pub differs : p.differs ≡ first_different items (initial_words items (frames_alone frames))
@@ -71,19 +88,22 @@ TracedBy items base p [] = Fresh items base p
 TracedBy items base p (x ∷ xs) =
     (fs : List Frame) → IsTrace items (initial_words items (frames_alone (x ∷ xs))) (map (given_words items) (x ∷ xs)) fs → Traced items (x ∷ xs) base p fs
 
--- these frames are closed, and these words are given in the next
+-- these frames are closed, and these words are given in the next; `ahead` is the run in that one
 pub record Plays (items : List Item) (frames : List FrameWords) (here : FrameWords) (p : WordPlay) : Type 0 where
   pub items_are : p.items ≡ items
   pub run : p.run.items ≡ items
   pub fit : FramesFit (shape_of items) (frames ++ here ∷ [])
   pub states_flagged : IsFlagged p.states_given here.states
   pub inputs_flagged : IsFlagged p.inputs_given here.inputs
+  pub settled : p.run.settled ≡ is_between frames here
+  pub ahead : Run
+  pub goes : GoesOn p.run.settled p.run ahead
   pub base : List ℕ
   pub many : length base ≡ length (ids_of is_state items)
-  pub states : p.run.states ≡ words_put base here.states
-  pub inputs : p.run.inputs ≡ words_put (zeros items) here.inputs
+  pub states : ahead.states ≡ words_put base here.states
+  pub inputs : ahead.inputs ≡ words_put (zeros items) here.inputs
   pub count : p.frames ≡ length frames
-  pub steps : p.run.steps ≡ steps_of items (length frames)
+  pub steps : ahead.steps ≡ steps_of items (length frames)
   pub traced : TracedBy items base p frames
 
 -- a state or an input has a word
@@ -92,10 +112,6 @@ state_given p k word = record p { run = record p.run { states = slice_set p.run.
 
 abbrev pub input_given : WordPlay → ℕ → ℕ → WordPlay
 input_given p k word = record p { run = record p.run { inputs = slice_set p.run.inputs k word; settled = false }; inputs_given = slice_set p.inputs_given k true }
-
--- nothing is given
-abbrev pub nothing_given : FrameWords
-nothing_given = record { states = []; inputs = [] }
 
 -- a line may give a word to a state in the open part: in a later frame to a free one
 abbrev pub MayGive : List Item → List FrameWords → List ℕ → Type 0

@@ -10,11 +10,12 @@ use Rattle.witness.specs.declared.word_place.Place.TheVariants as code
 use Rattle.witness.specs.declared.word_claims.ClaimScan.{ClaimScan}
 use Rattle.witness.specs.Texts.{widths_of, has_free, shape_of}
 use Rattle.witness.specs.Admits.{Place, AtStatus, AtClaims, AtParts, InStates, InFree, InFrame, AtEnd, Read, word_reader, admit}
-use Rattle.witness.specs.Judgements.{FrameWords, pairs_of, frame_words, makes_no_claim}
+use Rattle.witness.specs.Judgements.{frame_words, makes_no_claim}
 use Rattle.witness.specs.Fits.{AreClaimed}
+pub use Rattle.witness.specs.ClosedWords.{here_of}
 use Rattle.witness.specs.WordClaims.{AreClaims}
 use Rattle.witness.specs.KeptLines.{kept}
-use Rattle.witness.specs.WordPlays.{WordPlay, Plays, nothing_given, steps_of}
+use Rattle.witness.specs.WordPlays.{WordPlay, Plays, steps_of, steps_taken}
 use Rattle.witness.specs.PlainLines.{NoFrameLine, NoAssignment}
 use Rattle.witness.specs.Stands.{Judge, Judging}
 use Rattle.witness.specs.Stands.{StandsFor as JudgeStandsFor}
@@ -37,13 +38,6 @@ pub record WordReader : Type 0 where
   pub claims : ClaimScan
   pub claimed : List Bool
   pub has_free : Bool
-
--- the words that are given in the frame that is open
-abbrev pub here_of : Read → Place → FrameWords
-here_of r InStates = record { states = pairs_of r.open_part; inputs = [] }
-here_of r InFree = record { states = pairs_of r.open_part; inputs = [] }
-here_of r InFrame = frame_words (record { states = r.states; inputs = r.open_part })
-here_of r _ = nothing_given
 
 -- no frame is open
 pub record NoFrame (r : Read) : Type 0 where
@@ -107,7 +101,8 @@ pub record NoPlainLine (q : WordReader) (text : List ℕ) : Type 0 where
 pub record Counts (items : List Item) (p : WordPlay) (r : Read) : Type 0 where
   pub items_are : p.items ≡ items
   pub frames : p.frames ≡ length r.closed
-  pub steps : p.run.steps ≡ steps_of items (length r.closed)
+  pub steps : steps_taken p.items p.run ≡ steps_of items (length r.closed)
+  pub plays : Plays items (map frame_words r.closed) (here_of r r.place) p
 
 -- what a judge holds, with the first bytes of the line that has not ended
 abbrev pub WordJudge : Type 0

@@ -1,9 +1,10 @@
 //! Laws of witnesses, and worked rows, as functions with no code.
 ghost use Rattle.std.specs.Prelude.{◌≡◌, ◌↔◌, ℕ, ◌+◌, ◌<◌, ◌≤◌, true, false, List, [], ◌∷◌, ◌++◌, length, All, None, Some, Ok, Err, codes, map};
-ghost use Rattle.base.specs.Lines.{text_of_lines, whole_lines, unfinished};
+ghost use Rattle.base.specs.Lines.{text_of_lines, whole_lines, unfinished, IsLine};
 ghost use Rattle.btor2.specs.declared.item.Item.{Item};
 ghost use Rattle.btor2.specs.Check.{IsWellFormed};
 ghost use Rattle.btor2.specs.Lists.{HaveNexts};
+ghost use Rattle.btor2.specs.Trace.{Frame};
 ghost use Rattle.btor2.specs.Worked.{toggler, follower};
 ghost use Rattle.witness.specs.declared.why.Why.TheVariants as why;
 ghost use Rattle.witness.specs.declared.judgement.Judgement.{Judgement};
@@ -13,6 +14,7 @@ ghost use Rattle.witness.specs.Beginnings.{IsBeginning};
 ghost use Rattle.witness.specs.Admits.{Read, read_text, witness_of};
 ghost use Rattle.witness.specs.Judgements.{words_of, given_frames, makes_no_claim, Judges};
 ghost use Rattle.witness.specs.WordReadings.{word_reading, read_with, admitted_word_lines, closed_word_frames};
+ghost use Rattle.witness.specs.ClosedWords.{said_in, closed_words, IsClosedTrace, last_word, ClosesAtMostOne};
 ghost use Rattle.witness.specs.Worked.{constrained, wide, nothing_given, rises, follows};
 
 /// A law: over a well-formed model, a text that says a witness is read as it, and a text that is read says what it is
@@ -134,12 +136,30 @@ pub fn worked_witnesses()
     ensures words { (r : Read) × ((read_text (shape_of wide) (codes "sat\nb0\n@0\n0 100\n@1\n.\n") ≡ Ok r) × (map (λ f. f 2) (given_frames wide (words_of (witness_of r))) ≡ 4 ∷ 0 ∷ [])) }
 {}
 
+/// A law: a line more closes no frame of a text or one, behind which no word is given yet; the bytes of a line that has not
+/// ended close none; and the closed frames of a text are the first of those of a longer one.
+pub fn lines_close_frames()
+    ensures line { (items : List Item) (text bytes : List ℕ) → IsLine bytes → ClosesAtMostOne (said_in items text) (said_in items (text ++ (bytes ++ 10 ∷ []))) }
+    ensures part { (items : List Item) (text bytes : List ℕ) → IsLine bytes → said_in items (text ++ bytes) ≡ said_in items text }
+    ensures front { (items : List Item) (text more : List ℕ) → (behind : List Parts) × ((said_in items (text ++ more)).closed ≡ (said_in items text).closed ++ behind) }
+{}
+
 /// Worked rows: how many lines of texts are admitted, and how many frames they close.
 pub fn worked_readings()
     ensures whole { (admitted_word_lines (shape_of toggler) (codes "sat\nb0\n#0\n0 0\n@0\n@1\n.\n") ≡ 7) × (closed_word_frames (shape_of toggler) (codes "sat\nb0\n#0\n0 0\n@0\n@1\n.\n") ≡ 2) }
     ensures unended { (admitted_word_lines (shape_of toggler) (codes "sat\nb0\n@0\n@1\n.") ≡ 4) × (closed_word_frames (shape_of toggler) (codes "sat\nb0\n@0\n@1\n.") ≡ 1) }
     ensures behind_fault { (admitted_word_lines (shape_of toggler) (codes "sat\nb0\n@0\n@2\n.\n") ≡ 3) × (closed_word_frames (shape_of toggler) (codes "sat\nb0\n@0\n@2\n.\n") ≡ 0) }
     ensures states_behind { (admitted_word_lines (shape_of follower) (codes "sat\nb0\n@0\n#1\n0 1\n") ≡ 5) × (closed_word_frames (shape_of follower) (codes "sat\nb0\n@0\n#1\n0 1\n") ≡ 1) }
+{}
+
+/// Worked rows: the word of the bit that toggles in the last closed frame, which is there until a word is given in the next
+/// one; a position with no node has none.
+pub fn worked_last_words()
+    ensures none { (fs : List Frame) → IsClosedTrace toggler (codes "sat\nb0\n@0\n") fs → last_word toggler (codes "sat\nb0\n@0\n") fs 2 ≡ None }
+    ensures first { (fs : List Frame) → IsClosedTrace toggler (codes "sat\nb0\n@0\n@1\n") fs → last_word toggler (codes "sat\nb0\n@0\n@1\n") fs 2 ≡ Some 0 }
+    ensures last { (fs : List Frame) → IsClosedTrace toggler (codes "sat\nb0\n@0\n@1\n.\n") fs → last_word toggler (codes "sat\nb0\n@0\n@1\n.\n") fs 2 ≡ Some 1 }
+    ensures no_node { (fs : List Frame) → last_word toggler (codes "sat\nb0\n@0\n@1\n.\n") fs 0 ≡ None }
+    ensures given { (fs : List Frame) → last_word follower (codes "sat\nb0\n@0\n#1\n0 1\n") fs 1 ≡ None }
 {}
 
 /// Worked rows: a text that is the beginning of a witness over the model of one bit that toggles, and one that is none.

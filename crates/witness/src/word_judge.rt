@@ -3,6 +3,7 @@ ghost use Rattle.std.specs.Prelude.{◌≡◌, ℕ, ◌+◌, ◌&&◌, ◌||◌,
 ghost use Rattle.std.specs.Str.{bytes_eq};
 ghost use Rattle.btor2.specs.declared.item.Item.{Item};
 ghost use Rattle.btor2.specs.Lists.{first_init_without_next};
+ghost use Rattle.btor2.specs.Trace.{Frame};
 ghost use Rattle.runs.specs.Refusal.{AnswersNew};
 ghost use Rattle.runs.specs.Run.{node_count, state_count};
 ghost use Rattle.witness.specs.Texts.{shape_of};
@@ -10,6 +11,7 @@ ghost use Rattle.witness.specs.Admits.{is_at_end};
 ghost use Rattle.witness.specs.Judgements.{Judges};
 ghost use Rattle.witness.specs.WordPlays.{steps_of};
 ghost use Rattle.witness.specs.WordReadings.{admitted_word_lines, closed_word_frames};
+ghost use Rattle.witness.specs.ClosedWords.{IsClosedTrace, last_word};
 ghost use Rattle.base.specs.Lines.{IsLine, unfinished};
 ghost use Rattle.witness.specs.KeptLines.{AreAlike};
 ghost use Rattle.witness.specs.Stands.{IsOfLines};
@@ -248,8 +250,8 @@ impl<'a> WordJudge<'a> {
         self.reader.play().held()
     }
 
-    /// The steps that the run has taken: for each closed frame one for each node with a value and one for each state. The
-    /// count stays at its greatest value, 2^128 - 1, once it is there.
+    /// The steps that the run has taken: for each closed frame one for each node with a value and one for each state, those
+    /// of moving on from the last of them too. The count stays at its greatest value, 2^128 - 1, once it is there.
     #[tactic(auto, unfolding(crate::specs::Readings::reading))]
     pub fn steps(&self) -> u128
         ensures { (items : List Item) (text : List ℕ) → StandsFor items self.now text → result ≡ steps_of items (closed_word_frames (shape_of items) text) }
@@ -264,6 +266,14 @@ impl<'a> WordJudge<'a> {
         ensures { (items : List Item) (text : List ℕ) → StandsFor items self.now text → result ≡ closed_word_frames (shape_of items) text }
     {
         self.reader.play().frames()
+    }
+
+    /// The word of a node in the frame that was closed last, by its position in the model's items. There is one at a node
+    /// with a value, from the line that closes the frame on until a line gives a word in the next frame.
+    pub fn closed_word(&self, node: usize) -> Option<u64>
+        ensures { (items : List Item) (text : List ℕ) (fs : List Frame) → StandsFor items self.now text → IsClosedTrace items text fs → result ≡ last_word items text fs node }
+    {
+        self.reader.play().closed_word(node)
     }
 
     /// How many whole lines stand before the first faulty line.

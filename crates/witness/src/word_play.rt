@@ -1,8 +1,8 @@
 //! The frames of a witness over a model, played while its lines are read.
-ghost use Rattle.std.specs.Prelude.{◌≡◌, ℕ, ◌<◌, ◌+◌, ◌^◌, ◌==◌, true, false, Option, List, [], ◌∷◌, ◌++◌, if◌then◌else◌, IfErr, IfNone, IfOk, IfSome, MatchOption, OnErr, length};
+ghost use Rattle.std.specs.Prelude.{◌≡◌, ℕ, ◌<◌, ◌+◌, ◌^◌, ◌==◌, true, false, Option, None, List, [], ◌∷◌, ◌++◌, if◌then◌else◌, IfErr, IfNone, IfOk, IfSome, MatchOption, OnErr, is_some, length};
 ghost use Rattle.btor2.specs.Items.{is_input, is_state, is_bad};
 ghost use Rattle.btor2.specs.Check.{IsWellFormed};
-ghost use Rattle.btor2.specs.Lists.{places, first_init_without_next};
+ghost use Rattle.btor2.specs.Lists.{places, width_at, first_init_without_next};
 ghost use Rattle.btor2.specs.Trace.{Frame};
 ghost use Rattle.runs.specs.Run.{IsNow, node_count, state_count};
 ghost use Rattle.runs.specs.Refusal.{AnswersNew};
@@ -13,7 +13,7 @@ ghost use Rattle.witness.specs.WordValues.{Gives};
 ghost use Rattle.witness.specs.Fits.{NoneIsSet, PairFits};
 ghost use Rattle.witness.specs.WordAssigns.{assigned};
 ghost use Rattle.witness.specs.PlainLines.{BeginsAssignment, NoAssignment};
-ghost use Rattle.witness.specs.WordPlays.{IsStart, Plays, MayGive, GivesState, GivesInput, TakesInput, state_given, input_given, nothing_given};
+ghost use Rattle.witness.specs.WordPlays.{IsStart, GoesOn, Plays, MayGive, GivesState, GivesInput, TakesInput, state_given, input_given, nothing_given, word_at, steps_taken};
 
 use crate::plain_line::plain_assignment;
 use crate::verdicts::{Breach, earlier, first_different, first_violated, note_rises};
@@ -29,6 +29,7 @@ use std::alloc::{AllocError, Global};
 #[derive(Drop)]
 pub(crate) struct WordPlay<'a> {
     model: &'a Model,
+    // it stays settled in the frame that was closed last until a word of the next is given, or that is closed too
     run: WordRun<'a>,
     // for each state, and for each input, how many bits it has
     state_widths: Vec<Width>,
@@ -93,6 +94,28 @@ fn differing(model: &Model, run: &WordRun<'_>, frames: u64, found: Option<u64>) 
     } else {
         found
     }
+}
+
+/// Moves a run on from the frame that it is settled in.
+#[inline(always)]
+fn go_on(run: &mut WordRun<'_>)
+    ensures goes { GoesOn run.old.settled run.old run.new }
+    ensures same { run.new.items ≡ run.old.items }
+{
+    if !run.is_settled() {
+        return;
+    }
+    run.advance();
+}
+
+/// Whether a node with a value stands at a position in a model's items.
+fn has_value(model: &Model, node: usize) -> bool
+    ensures { result ≡ is_some (width_at model.now node) }
+{
+    if node >= model.items().len() {
+        return false;
+    }
+    model.width_of(node).is_some()
 }
 
 impl<'a> WordPlay<'a> {
@@ -201,6 +224,7 @@ impl<'a> WordPlay<'a> {
         let _items = self.model.items();
         match self.state_word(line) {
             Ok(given) => {
+                go_on(&mut self.run);
                 self.give_state(given.0 as usize, given.1);
                 Ok(())
             }
@@ -217,6 +241,7 @@ impl<'a> WordPlay<'a> {
         let _items = self.model.items();
         match self.input_word(line) {
             Ok(given) => {
+                go_on(&mut self.run);
                 self.give_input(given.0 as usize, given.1);
                 Ok(())
             }
@@ -236,6 +261,7 @@ impl<'a> WordPlay<'a> {
         let _items = self.model.items();
         match self.plain_input(text) {
             Some((index, word, rest)) => {
+                go_on(&mut self.run);
                 self.give_input(index as usize, word);
                 Some(rest)
             }
@@ -243,18 +269,19 @@ impl<'a> WordPlay<'a> {
         }
     }
 
-    /// Closes the open frame: settles it, looks at its constraints and at the bad properties, and moves on.
+    /// Closes the open frame: settles it, and looks at its constraints and at the bad properties. The run moves on later,
+    /// so that the frame's words can be read.
     pub(crate) fn close(&mut self)
         ensures more { (frames : List FrameWords) (here : FrameWords) → Plays self.old.items frames here self.old → length frames < 2 ^ 62 → Plays self.old.items (frames ++ here ∷ []) nothing_given self.new }
         ensures same { self.new.items ≡ self.old.items }
     {
         let _items = self.model.items();
+        go_on(&mut self.run);
         self.run.settle();
         let differs = differing(self.model, &self.run, self.frames, self.differs);
         let violated = first_violated(self.model, &self.run);
         let breach = earlier(self.breach, self.frames, violated);
         note_rises(&self.run, self.rose.as_mut_slice());
-        self.run.advance();
         clear(self.states_given.as_mut_slice());
         clear(self.inputs_given.as_mut_slice());
         self.differs = differs;
@@ -269,11 +296,29 @@ impl<'a> WordPlay<'a> {
         self.run.held()
     }
 
-    /// The steps that it has taken.
+    /// The steps of the closed frames, with those of moving on from the last of them.
     pub(crate) fn steps(&self) -> u128
-        ensures { result ≡ self.now.run.steps }
+        ensures { result ≡ steps_taken self.now.items self.now.run }
     {
-        self.run.steps()
+        if !self.run.is_settled() {
+            return self.run.steps();
+        }
+        let states = self.model.states().len() as u128;
+        self.run.steps().saturating_add(states)
+    }
+
+    /// The word of a node in the frame that was closed last, by its position in the model's items. There is one while the
+    /// run has not moved on from that frame, at a node with a value.
+    pub(crate) fn closed_word(&self, node: usize) -> Option<u64>
+        ensures { (f : Frame) → (self.now.run.settled ≡ true → IsNow self.now.run f) → result ≡ (if self.now.run.settled then word_at self.now.items f node else None) }
+    {
+        if !self.run.is_settled() {
+            return None;
+        }
+        if !has_value(self.model, node) {
+            return None;
+        }
+        Some(self.run.value(node))
     }
 
     /// The first state whose initial word is not that of its init line.

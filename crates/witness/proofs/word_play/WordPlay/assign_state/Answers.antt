@@ -6,7 +6,7 @@ use Rattle.witness.specs.declared.why.Why.{Why}
 use Rattle.witness.specs.Texts.{widths_of}
 use Rattle.witness.specs.Admits.{assignment_at}
 use Rattle.witness.specs.Judgements.{pairs_of}
-use Rattle.witness.specs.WordPlays.{WordPlay, Plays, state_given}
+use Rattle.witness.specs.WordPlays.{WordPlay, GoesOn, Plays, state_given}
 use Rattle.witness.proofs.ShapeLemmas.{length-widths}
 use Rattle.witness.proofs.WordAssignLemmas.{Tells, assigned_tells}
 use Rattle.witness.proofs.WordPartLemmas.{state_plays}
@@ -23,8 +23,9 @@ returns-in-Ok-clause-line c frames before plays may =
     let many : length p.states_given ≡ length (places is_state 0 p.items) = subst (λ (q : WordPlay). length q.states_given ≡ length (places is_state 0 q.items)) c.self.view_is c.self.invariant.1 in
     let there : a.index < length widths = subst (λ (q : ℕ × ℕ). q.0 < length widths) (sym told.1.1) c.in-Ok.ensures.fits.index in
     let well_formed = subst (λ (q : WordPlay). IsWellFormed q.items) c.self.view_is c.items-items.ensures.well_formed in
-    let more = state_plays p.items frames before (before ++ a ∷ []) c.args.line.now p a well_formed told.1.0 refl (omega (arith, many, there, length-widths is_state p.items)) may plays in
-    (before ++ a ∷ [], (told.1.0, subst (λ (q : WordPlay). Plays p.items frames (record { states = pairs_of (before ++ a ∷ []); inputs = [] }) q) (sym (c.give_state.ensures ∙ ap₂ (state_given p) index word)) more))
+    let goes : GoesOn p.run.settled p.run c.go_on.new.run = subst (λ (q : WordPlay). GoesOn q.run.settled q.run c.go_on.new.run) c.self.view_is c.go_on.ensures.goes in
+    let more = state_plays p.items frames before (before ++ a ∷ []) c.args.line.now p c.go_on.new.run a well_formed told.1.0 refl (omega (arith, many, there, length-widths is_state p.items)) may goes plays in
+    (before ++ a ∷ [], (told.1.0, subst (λ (q : WordPlay). Plays p.items frames (record { states = pairs_of (before ++ a ∷ []); inputs = [] }) q) (sym (c.give_state.ensures ∙ (ap (λ (q : WordPlay). state_given (record q { run = c.go_on.new.run }) c.in-Ok.given.0 c.in-Ok.given.1) c.self.view_is ∙ ap₂ (state_given (record p { run = c.go_on.new.run })) index word))) more))
 
 pub returns-in-Err-clause-line : goal.returns-in-Err-clause-line
 returns-in-Err-clause-line c frames before plays may =

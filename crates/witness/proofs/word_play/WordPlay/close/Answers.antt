@@ -1,16 +1,13 @@
-use Rattle.std.proofs.Common.{◌≡◌, ℕ, Bool, List, [], ◌∷◌, ◌++◌, Option, None, false, map, refl, sym, ap, subst, ◌∙◌, arith}
+use Rattle.std.proofs.Common.{◌≡◌, ℕ, Bool, List, [], ◌∷◌, ◌++◌, Option, None, refl, sym, ap, subst, ◌∙◌, arith}
 use Rattle.std.specs.Option.{option_or}
 use Rattle.std.specs.Vec.{with_items}
 use Rattle.std.proofs.lemmas.List.{with_items_is}
 use Rattle.btor2.specs.declared.item.Item.{Item}
-use Rattle.btor2.specs.Items.{is_state, is_bad}
-use Rattle.btor2.specs.Trace.{next_state}
-use Rattle.runs.specs.Frames.{ids_of}
-use Rattle.runs.specs.Run.{Run, zeros, state_count, more_steps}
+use Rattle.btor2.specs.Items.{is_bad}
+use Rattle.runs.specs.Run.{Run}
 use Rattle.witness.specs.Judgements.{violated_at, nodes_of}
 use Rattle.witness.specs.Fits.{RisesIn}
 use Rattle.witness.specs.WordPlays.{WordPlay, Plays, nothing_given}
-use Rattle.witness.proofs.VerdictLemmas.{advanced_many}
 use Rattle.witness.proofs.WordPlayLemmas.{Closes, plays_more}
 use Rattle.witness.proofs.word_play.WordPlay.close.Goals as goal
 
@@ -20,16 +17,14 @@ returns-clause-more c frames here plays few =
     let p : WordPlay = record { items = c.self.inside.model.now; run = c.self.inside.run; states_given = c.self.inside.states_given.items; inputs_given = c.self.inside.inputs_given.items; differs = c.self.inside.differs; frames = c.self.inside.frames; breach = c.self.inside.breach; rose = c.self.inside.rose.items } in
     let now : Plays items frames here p = subst (λ (q : WordPlay). Plays q.items frames here q) (sym c.self.view_is) plays in
     let settled : Run = c.settle.new.self in
-    let new : WordPlay = record { items = c.self.inside.model.now; run = c.advance.new.self; states_given = c.clear.new.flags; inputs_given = c.clear-2.new.flags; differs = c.differing-differs.result; frames = c.saturating_add-self-inside.result; breach = c.earlier-breach.result; rose = c.note_rises.new.rose } in
-    let same : settled.items ≡ items = ap (λ (r : Run). r.items) c.settle.ensures ∙ now.run in
+    let new : WordPlay = record { items = c.self.inside.model.now; run = c.settle.new.self; states_given = c.clear.new.flags; inputs_given = c.clear-2.new.flags; differs = c.differing-differs.result; frames = c.saturating_add-self-inside.result; breach = c.earlier-breach.result; rose = c.note_rises.new.rose } in
+    let same : settled.items ≡ items = ap (λ (r : Run). r.items) c.settle.ensures ∙ (c.go_on.ensures.same ∙ now.run) in
     let closes : Closes items settled p new =
     record {
       same = refl;
       differs = c.differing-differs.ensures;
       frames = c.saturating_add-self-inside.ensures;
-      run = c.advance.ensures.others ∙ ap (λ (l : List Item). record settled { states = c.advance.new.self.states; inputs = zeros l; settled = false; steps = more_steps (state_count l) settled.steps }) same;
-      states = λ f h. subst (λ (l : List Item). c.advance.new.self.states ≡ map (next_state l f) (ids_of is_state l)) same (c.advance.ensures.states f h);
-      many = advanced_many items settled c.advance.new.self c.items-items.ensures.well_formed same c.advance.ensures.states;
+      run = refl;
       breach = λ f h. c.earlier-breach.ensures ∙ ap (λ (o : Option ℕ). option_or p.breach (violated_at p.frames o None)) (c.first_violated-violated.ensures f h);
       rose = λ f h.
           subst (λ (l : List Item). RisesIn (nodes_of is_bad l) f c.self.inside.rose.items c.note_rises.new.rose) same
@@ -37,11 +32,11 @@ returns-clause-more c frames here plays few =
       states_clear = c.clear.ensures.none;
       inputs_clear = c.clear-2.ensures.none;
     } in
-    let made : List Bool → List Bool → List Bool → WordPlay = λ states inputs rose. record { items = c.self.inside.model.now; run = c.advance.new.self; states_given = states; inputs_given = inputs; differs = c.differing-differs.result; frames = c.saturating_add-self-inside.result; breach = c.earlier-breach.result; rose = rose } in
+    let made : List Bool → List Bool → List Bool → WordPlay = λ states inputs rose. record { items = c.self.inside.model.now; run = c.settle.new.self; states_given = states; inputs_given = inputs; differs = c.differing-differs.result; frames = c.saturating_add-self-inside.result; breach = c.earlier-breach.result; rose = rose } in
     let states_back = with_items_is c.self.inside.states_given c.clear.new.flags (omega arith) in
     let inputs_back = with_items_is c.self.inside.inputs_given c.clear-2.new.flags (omega arith) in
     let rose_back = with_items_is c.self.inside.rose c.note_rises.new.rose (omega arith) in
-    let more = plays_more items here p new settled c.items-items.ensures.well_formed c.settle.ensures closes frames now few in
+    let more = plays_more items here p new c.go_on.new.run settled c.items-items.ensures.well_formed c.go_on.ensures.goes c.settle.ensures closes frames now few in
     subst (λ (l : List Item). Plays l (frames ++ here ∷ []) nothing_given (made (with_items c.self.inside.states_given c.clear.new.flags).items (with_items c.self.inside.inputs_given c.clear-2.new.flags).items (with_items c.self.inside.rose c.note_rises.new.rose).items)) (ap (λ (q : WordPlay). q.items) c.self.view_is)
     (subst (λ (s : List Bool). Plays items (frames ++ here ∷ []) nothing_given (made s (with_items c.self.inside.inputs_given c.clear-2.new.flags).items (with_items c.self.inside.rose c.note_rises.new.rose).items)) (sym states_back)
     (subst (λ (i : List Bool). Plays items (frames ++ here ∷ []) nothing_given (made c.clear.new.flags i (with_items c.self.inside.rose c.note_rises.new.rose).items)) (sym inputs_back)
