@@ -1,4 +1,10 @@
+mod FrameOf
+mod HandingLemmas
 mod MarkLemmas
+mod PieceStepLemmas
+mod PlayLemmas
 mod ReadingLemmas
 mod RestoredLemmas
+mod RestorerLemmas
+mod RiseLemmas
 mod StepLemmas

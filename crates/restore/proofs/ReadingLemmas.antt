@@ -1,5 +1,5 @@
 -- A text of a counterexample is read as the frames that it says, and says those that it is read as.
-use Rattle.std.proofs.Common.{◌≡◌, ◌≢◌, if◌then◌else◌, ℕ, zero, suc, ◌<◌, Bool, true, false, not, ◌||◌, ◌==◌, List, [], ◌∷◌, ◌++◌, length, map, replicate, All, Option, None, Some, Result, Ok, Err, ◌⊎◌, inl, inr, refl, sym, ap, ap₂, subst, ◌∙◌, append_assoc, append-nil, ⊎_elim, arith}
+use Rattle.std.proofs.Common.{◌≡◌, ◌≢◌, if◌then◌else◌, ℕ, zero, suc, ◌<◌, Bool, true, false, not, ◌||◌, ◌==◌, List, [], ◌∷◌, ◌++◌, length, map, replicate, All, Option, None, Some, ◌⊎◌, inl, inr, refl, sym, ap, ap₂, subst, ◌∙◌, append_assoc, append-nil, ⊎_elim, arith}
 use Rattle.std.specs.List.{list_all, list_any, AllByRecursion}
 use Rattle.std.proofs.lemmas.Bool.{cases_Bool, eqb-true, eq-eqb, and_parts, or_parts}
 use Rattle.std.proofs.lemmas.List.{length-map}
@@ -13,7 +13,7 @@ use Rattle.restore.specs.declared.fault.RestoreFault.{RestoreFault}
 use Rattle.restore.specs.declared.fault.RestoreWhy.{RestoreWhy}
 use Rattle.restore.specs.declared.fault.RestoreWhy.TheVariants.{NoFrame, NoBit, WrongLength}
 use Rattle.restore.specs.Counterexample.{IsClosed, IsEnd, joined, SaysFrames}
-use Rattle.restore.specs.Reading.{before_mark, line_of, all_lines, initial_why, frame_why, line_bits, read_before, unless_wrong, line_after, read_frames, read_lines, read_text}
+use Rattle.restore.specs.Reading.{before_mark, line_of, all_lines, initial_why, frame_why, line_bits, Found, whole, faulty, read_before, unless_wrong, line_after, read_frames, read_lines, read_text}
 
 -- ---- lines of bits
 
@@ -84,31 +84,38 @@ frame_back width line h = by (list_all (λ b. b == 48 || b == 49) line) (length 
 
 -- ---- frames
 
-frames_right : (width n : ℕ) (given : List (List Bool)) → All (λ bits. length bits ≡ width) given → read_frames width n (map bit_line given) ≡ Ok given
+-- what is found with a fault or without
+abbrev with_fault : List (List Bool) → Option RestoreFault → Found
+with_fault frames fault = record { frames = frames; fault = fault }
+
+not_whole : (found given : List (List Bool)) (e : RestoreFault) → faulty found e ≡ whole given → ⊥
+not_whole found given e h = let some : Some e ≡ None = ap (λ (f : Found). f.fault) h in absurd (cc)
+
+frames_right : (width n : ℕ) (given : List (List Bool)) → All (λ bits. length bits ≡ width) given → read_frames width n (map bit_line given) ≡ whole given
 frames_right width n [] all = refl
 frames_right width n (bits ∷ given) all =
     let own = frame_right width bits (All-head (λ (b : List Bool). length b ≡ width) bits given all) in
     let rest = frames_right width (line_after n) given (All-tail (λ (b : List Bool). length b ≡ width) bits given all) in
     ap₂ (unless_wrong n) own (ap₂ read_before (bits_of_line bits) rest)
 
-frames_back : (width n : ℕ) (lines : List (List ℕ)) (given : List (List Bool)) → read_frames width n lines ≡ Ok given → (lines ≡ map bit_line given) × All (λ bits. length bits ≡ width) given
+frames_back : (width n : ℕ) (lines : List (List ℕ)) (given : List (List Bool)) → read_frames width n lines ≡ whole given → (lines ≡ map bit_line given) × All (λ bits. length bits ≡ width) given
 frames_back width n [] [] h = (refl, All-nil (λ bits. length bits ≡ width))
-frames_back width n [] (bits ∷ given) h = absurd (cc)
+frames_back width n [] (bits ∷ given) h = let e : [] ≡ bits ∷ given = ap (λ (f : Found). f.frames) h in absurd (cc)
 frames_back width n (line ∷ lines) given h = by (frame_why width line) (read_frames width (line_after n) lines) refl (λ more e. frames_back width (line_after n) lines more e) h
   where
     Goal : List (List Bool) → Type 0
     Goal given = (line ∷ lines ≡ map bit_line given) × All (λ bits. length bits ≡ width) given
 
-    by : (why : Option RestoreWhy) (rest : Result (List (List Bool)) RestoreFault) → frame_why width line ≡ why
-        → ((more : List (List Bool)) → rest ≡ Ok more → (lines ≡ map bit_line more) × All (λ bits. length bits ≡ width) more)
-        → unless_wrong n why (read_before (line_bits line) rest) ≡ Ok given → Goal given
-    by (Some why) rest e back h = absurd (cc)
-    by None (Err fault) e back h = absurd (cc)
-    by None (Ok more) e back h =
+    by : (why : Option RestoreWhy) (rest : Found) → frame_why width line ≡ why
+        → ((more : List (List Bool)) → rest ≡ whole more → (lines ≡ map bit_line more) × All (λ bits. length bits ≡ width) more)
+        → unless_wrong n why (read_before (line_bits line) rest) ≡ whole given → Goal given
+    by (Some why) rest e back h = absurd (not_whole [] given (record { line = n; why = why }) h)
+    by None rest e back h =
         let own = frame_back width line e in
-        let tail = back more refl in
-        let is : line_bits line ∷ more ≡ given = cc in
-        subst Goal is (ap₂ ◌∷◌ own.0 tail.0, All-cons (λ (bits : List Bool). length bits ≡ width) (line_bits line) more own.1 tail.1)
+        let none : rest.fault ≡ None = ap (λ (f : Found). f.fault) h in
+        let tail = back rest.frames (ap (with_fault rest.frames) none) in
+        let is : line_bits line ∷ rest.frames ≡ given = ap (λ (f : Found). f.frames) h in
+        subst Goal is (ap₂ ◌∷◌ own.0 tail.0, All-cons (λ (bits : List Bool). length bits ≡ width) (line_bits line) rest.frames own.1 tail.1)
 
 -- ---- the lines of a text
 
@@ -190,7 +197,7 @@ last_given : (width : ℕ) (first : List ℕ) (bits : List Bool) (given : List (
 last_given width first bits [] some all = let e = All-head (λ (b : List Bool). length b ≡ width) bits [] all in omega (arith, length-map bits digit)
 last_given width first bits (next ∷ given) some all = last_given width (bit_line bits) next given some (All-tail (λ (b : List Bool). length b ≡ width) bits (next ∷ given) all)
 
-pub said : (width : ℕ) (text : List ℕ) (given : List (List Bool)) → 0 < width → SaysFrames width text given → read_text width text ≡ Ok given
+pub said : (width : ℕ) (text : List ℕ) (given : List (List Bool)) → 0 < width → SaysFrames width text given → read_text width text ≡ whole given
 said width text [] some s = absurd (s.some_frame refl)
 said width text (bits ∷ given) some s =
     let first : List ℕ = replicate s.zeros 48 in
@@ -210,7 +217,7 @@ closed_end : (rest : List ℕ) → IsClosed rest → IsEnd rest
 closed_end [] h = tt
 closed_end (b ∷ rest) h = inl h
 
-pub read : (width : ℕ) (text : List ℕ) (given : List (List Bool)) → read_text width text ≡ Ok given → SaysFrames width text given
+pub read : (width : ℕ) (text : List ℕ) (given : List (List Bool)) → read_text width text ≡ whole given → SaysFrames width text given
 read width text given h = by (all_lines (before_mark text)) refl h
   where
     parts : (rest : List ℕ) × ((text ≡ before_mark text ++ rest) × IsClosed rest)
@@ -234,17 +241,17 @@ read width text given h = by (all_lines (before_mark text)) refl h
         (lines_back (before_mark text) line lines is)
 
     by_why : (line next : List ℕ) (more : List (List ℕ)) (why : Option RestoreWhy) → all_lines (before_mark text) ≡ line ∷ next ∷ more → initial_why line ≡ why
-        → unless_wrong 1 why (read_frames width 2 (next ∷ more)) ≡ Ok given → SaysFrames width text given
-    by_why line next more (Some why) is e h = absurd (cc)
+        → unless_wrong 1 why (read_frames width 2 (next ∷ more)) ≡ whole given → SaysFrames width text given
+    by_why line next more (Some why) is e h = absurd (not_whole [] given (record { line = 1; why = why }) h)
     by_why line next more None is e h =
         let back = frames_back width 2 (next ∷ more) given h in
         made line (next ∷ more) is (initial_back line e) back.0 (λ empty. let none : next ∷ more ≡ [] = back.0 ∙ ap (map bit_line) empty in absurd (cc)) back.1
 
-    no_frame : (why : Option RestoreWhy) → unless_wrong 1 why (Err (record { line = 2; why = NoFrame })) ≡ Ok given → ⊥
-    no_frame None h = absurd (cc)
-    no_frame (Some why) h = absurd (cc)
+    no_frame : (why : Option RestoreWhy) → unless_wrong 1 why (faulty [] (record { line = 2; why = NoFrame })) ≡ whole given → ⊥
+    no_frame None h = not_whole [] given (record { line = 2; why = NoFrame }) h
+    no_frame (Some why) h = not_whole [] given (record { line = 1; why = why }) h
 
-    by : (lines : List (List ℕ)) → all_lines (before_mark text) ≡ lines → read_lines width lines ≡ Ok given → SaysFrames width text given
-    by [] is h = absurd (cc)
+    by : (lines : List (List ℕ)) → all_lines (before_mark text) ≡ lines → read_lines width lines ≡ whole given → SaysFrames width text given
+    by [] is h = absurd (not_whole [] given (record { line = 1; why = NoFrame }) h)
     by (line ∷ []) is h = absurd (no_frame (initial_why line) h)
     by (line ∷ next ∷ more) is h = by_why line next more (initial_why line) is refl h

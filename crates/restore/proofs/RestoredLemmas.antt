@@ -21,11 +21,11 @@ use Rattle.restore.specs.Counterexample.{restored, ends_bad}
 
 -- ---- initial bits
 
-first_length : (ls : List Latch) (given : List Bool) → length (first_bits ls given) ≡ length ls
+pub first_length : (ls : List Latch) (given : List Bool) → length (first_bits ls given) ≡ length ls
 first_length [] given = refl
 first_length (l ∷ ls) given = ap suc (first_length ls (drop (taken_bits l.reset) given))
 
-begins_length : (c : Circuit) (given : List (List Bool)) → length (begins c given) ≡ length c.latches
+pub begins_length : (c : Circuit) (given : List (List Bool)) → length (begins c given) ≡ length c.latches
 begins_length c [] = first_length c.latches []
 begins_length c (bits ∷ given) = first_length c.latches (drop c.inputs bits)
 
@@ -38,13 +38,13 @@ none_differs k (l ∷ ls) given = rw (by l.reset) (none_differs (suc k) ls (drop
     by reset.One = refl
     by reset.Free = refl
 
-begins_as_reset : (c : Circuit) (given : List (List Bool)) → first_reset_differing 0 c.latches (begins c given) ≡ None
+pub begins_as_reset : (c : Circuit) (given : List (List Bool)) → first_reset_differing 0 c.latches (begins c given) ≡ None
 begins_as_reset c [] = none_differs 0 c.latches []
 begins_as_reset c (bits ∷ given) = none_differs 0 c.latches (drop c.inputs bits)
 
 -- ---- the claimed property
 
-chosen_at : (k : ℕ) (bads : List ℕ) → k < length bads → chosen (Some k) bads ≡ slice_index bads k ∷ []
+pub chosen_at : (k : ℕ) (bads : List ℕ) → k < length bads → chosen (Some k) bads ≡ slice_index bads k ∷ []
 chosen_at k [] h = absurd (omega arith)
 chosen_at zero (b ∷ bads) h = refl
 chosen_at (suc k) (b ∷ bads) h = chosen_at k bads (omega arith)
@@ -61,16 +61,16 @@ none_violated v n (l ∷ ls) h =
     let holds : not (literal_value v l) ≡ false = ap not parts.0 in
     rw holds (none_violated v (n + 1) ls parts.1)
 
-unbroken_more : (c : Circuit) (n : ℕ) (v : Valuation) (vs : List Valuation) → all_hold c v ≡ true → bit_violation_from c (suc n) vs ≡ None → bit_violation_from c n (v ∷ vs) ≡ None
+pub unbroken_more : (c : Circuit) (n : ℕ) (v : Valuation) (vs : List Valuation) → all_hold c v ≡ true → bit_violation_from c (suc n) vs ≡ None → bit_violation_from c n (v ∷ vs) ≡ None
 unbroken_more c n v vs holds rest = ap₂ (violated_at n) (none_violated v 0 c.constraints holds) rest
 
 -- ---- all frames
 
 -- what the frames of the circuit show where the last one of the form is bad
-record Shows (c : Circuit) (k : ℕ) (met : Bool) (n : ℕ) (vs : List Valuation) : Type 0 where
-  before : met ≡ true
-  unbroken : bit_violation_from c n vs ≡ None
-  rises : bit_rises c k vs ≡ true
+pub record Shows (c : Circuit) (k : ℕ) (met : Bool) (n : ℕ) (vs : List Valuation) : Type 0 where
+  pub before : met ≡ true
+  pub unbroken : bit_violation_from c n vs ≡ None
+  pub rises : bit_rises c k vs ≡ true
 
 shows_last : (c : Circuit) (k : ℕ) (d : Circuit) (first met : Bool) (n : ℕ) (vs ws : List Valuation) → k < length c.bads → ShowSame c (Some k) d first met vs ws → ends_bad d ws ≡ true → Shows c k met n vs
 shows_last c k d first met n [] [] there same bad = absurd (cc)
@@ -89,7 +89,7 @@ shows_last c k d first met n (v ∷ u ∷ vs) (w ∷ x ∷ ws) there same bad =
     let more = and_parts met (all_hold c v) rest.before in
     record { before = more.0; unbroken = unbroken_more c n v (u ∷ vs) more.1 rest.unbroken; rises = or_right (literal_value v (slice_index c.bads k)) (bit_rises c k (u ∷ vs)) rest.rises }
 
-trace_length : (c : Circuit) (state : List Bool) (inputs : List (List Bool)) (vs : List Valuation) → IsTrace c state inputs vs → length vs ≡ length inputs
+pub trace_length : (c : Circuit) (state : List Bool) (inputs : List (List Bool)) (vs : List Valuation) → IsTrace c state inputs vs → length vs ≡ length inputs
 trace_length c state [] [] t = refl
 trace_length c state [] (v ∷ vs) t = absurd t
 trace_length c state (input ∷ inputs) [] t = absurd t
@@ -108,7 +108,7 @@ accepted c k d given ws form t bad vs own =
 
 -- ---- a witness
 
-own_inputs : (n m : ℕ) (given : List (List Bool)) → n ≤ m → All (λ bits. length bits ≡ m) given → All (λ bits. length bits ≡ n) (map (take n) given)
+pub own_inputs : (n m : ℕ) (given : List (List Bool)) → n ≤ m → All (λ bits. length bits ≡ m) given → All (λ bits. length bits ≡ n) (map (take n) given)
 own_inputs n m [] le all = All-nil (λ (b : List Bool). length b ≡ n)
 own_inputs n m (bits ∷ given) le all =
     let own : length bits ≡ m = All-head (λ (b : List Bool). length b ≡ m) bits given all in

@@ -7,7 +7,7 @@ use Rattle.restore.specs.declared.fault.RestoreWhy.{RestoreWhy}
 use Rattle.restore.specs.declared.fault.RestoreFault.{RestoreFault}
 use Rattle.restore.specs.declared.place.Place.{Place}
 use Rattle.restore.specs.declared.place.Place.TheVariants as place
-use Rattle.restore.specs.Reading.{before_mark, all_lines, initial_why}
+use Rattle.restore.specs.Reading.{before_mark, all_lines, initial_why, whole}
 use Rattle.restore.specs.Steps.{Reader, is_open, IsOfText, read_at, left, Agree, Gives, StepsOn, Tells, lines_from, given_by, Takes}
 
 pub initial_of_text : (line : List ℕ) (n : ℕ) (w : RestoreWhy) → initial_why line ≡ Some w → IsOfText (record { line = n; why = w })
@@ -17,8 +17,8 @@ initial_of_text (b ∷ line) n w h =
       | inl zeroes ↦ initial_of_text line n w (let rest = rw zeroes at h in rest)
       | inr other ↦
           elim (cases_Bool (b == 49)) [
-            | inl one ↦ let e = rw (other, one) at h in (λ d. cc, λ d. cc)
-            | inr none ↦ let e = rw (other, none) at h in (λ d. cc, λ d. cc)
+            | inl one ↦ let e = rw (other, one) at h in (λ d. cc, (λ d. cc, λ d. cc))
+            | inr none ↦ let e = rw (other, none) at h in (λ d. cc, (λ d. cc, λ d. cc))
           ]
     ]
 
@@ -47,7 +47,7 @@ gives_closed None b old now same closed = tt
 gives_closed (Some x) None old now same closed = absurd same
 gives_closed (Some x) (Some y) old now same closed = same ∙ closed_gives now y [] closed
 
-gives_none : (a b : Option (List ℕ)) (old now : Reader) → Agree (left old) (left now) a b → now.place ≡ place.Ended → Gives old a (Ok [])
+gives_none : (a b : Option (List ℕ)) (old now : Reader) → Agree (left old) (left now) a b → now.place ≡ place.Ended → Gives old a (whole [])
 gives_none None b old now same ended = tt
 gives_none (Some x) None old now same ended = absurd same
 gives_none (Some x) (Some y) old now same ended = same ∙ ap (λ (p : Place). read_at p (length now.frame) (all_lines (before_mark y))) ended
@@ -60,4 +60,4 @@ pub ends_steps : (r : Result Bool RestoreFault) (old now : Reader) (p : Place) (
 ends_steps (Ok true) old now p a b c end fails failed same closed at none fault = absurd (let e = none.0 in cc)
 ends_steps (Ok false) old now p a b c end fails failed same closed at none fault = (at ∙ none.1.0, gives_none a b old now same (at ∙ none.1.0))
 ends_steps (Err e) old now p a b c end fails failed same closed at none (inl device) = (inl (inl device.0), inr (closed, gives_closed a b old now same closed))
-ends_steps (Err e) old now p a b c end fails failed same closed at none (inr told) = (inr (at ∙ told.0), inr (closed, gives_closed a b old now same closed))
+ends_steps (Err e) old now p a b c end fails failed same closed at none (inr told) = (inr (at ∙ told.0, told.1.0), inr (closed, gives_closed a b old now same closed))

@@ -1,5 +1,6 @@
 -- Counterexamples over an engine form as texts (those that ABC writes by `write_cex -a`: a line of initial bits, then one of input bits for each frame), and what they are of the circuit.
-use Rattle.std.specs.Prelude.{◌≡◌, ◌≢◌, ℕ, Bool, false, slice_get, unwrap_or, List, [], ◌∷◌, ◌++◌, length, map, take, replicate, All, ◌⊎◌}
+use Rattle.std.specs.Prelude.{◌≡◌, ◌≢◌, ℕ, Bool, false, Option, None, Some, slice_get, slice_index, unwrap_or, List, [], ◌∷◌, ◌++◌, length, map, take, replicate, All, ◌⊎◌}
+use Rattle.std.specs.List.{position_from}
 use Rattle.aiger.specs.Literal.{Valuation, literal_value}
 use Rattle.aiger.specs.Circuit.{Circuit}
 use Rattle.witness.specs.BitTexts.{BitWitness, bit_line}
@@ -39,3 +40,16 @@ abbrev pub ends_bad : Circuit → List Valuation → Bool
 ends_bad d [] = false
 ends_bad d (w ∷ []) = unwrap_or (slice_get (map (literal_value w) d.bads) 0) false
 ends_bad d (w ∷ next ∷ more) = ends_bad d (next ∷ more)
+
+-- an engine form has property k of its circuit: it was made with all properties, or with that one alone; and where it stands among those of the form
+abbrev pub HasProperty : Option ℕ → ℕ → Type 0
+HasProperty None k = Unit {0}
+HasProperty (Some j) k = j ≡ k
+
+abbrev pub place_in : Option ℕ → ℕ → ℕ
+place_in None k = k
+place_in (Some j) k = 0
+
+-- the first frame in which a bad property of a form is 1
+abbrev pub first_bad : Circuit → ℕ → List Valuation → Option ℕ
+first_bad d place ws = position_from (λ w. literal_value w (slice_index d.bads place)) 0 ws

@@ -1,5 +1,12 @@
+pub mod Accepted
+pub mod Answers
 pub mod Counterexample
 pub mod Faults
+pub mod Frames
+pub mod Holds
 pub mod Marks
+pub mod Pieces
 pub mod Reading
+pub mod Restored
 pub mod Steps
+pub mod Worked

@@ -1,5 +1,5 @@
--- What a text of a counterexample over an engine form reads as: its input frames, or its first faulty line and why.
-use Rattle.std.specs.Prelude.{ℕ, ◌+◌, ◌-◌, ◌^◌, min, Bool, not, ◌||◌, ◌==◌, List, [], ◌∷◌, ◌++◌, length, map, Option, None, Some, Result, Ok, Err, if◌then◌else◌}
+-- What a text of a counterexample over an engine form reads as: its input frames up to its first faulty line, and why that is refused.
+use Rattle.std.specs.Prelude.{ℕ, ◌+◌, ◌-◌, ◌^◌, min, Bool, not, ◌||◌, ◌==◌, List, [], ◌∷◌, ◌++◌, length, map, Option, None, Some, if◌then◌else◌}
 use Rattle.std.specs.List.{list_all}
 use Rattle.base.specs.Lines.{whole_lines, unfinished}
 use Rattle.restore.specs.declared.fault.RestoreFault.{RestoreFault}
@@ -35,35 +35,46 @@ frame_why width line =
 abbrev pub line_bits : List ℕ → List Bool
 line_bits line = map (λ b. b == 49) line
 
--- a value behind others, where these are read
-abbrev pub read_before : List Bool → Result (List (List Bool)) RestoreFault → Result (List (List Bool)) RestoreFault
-read_before bits (Ok more) = Ok (bits ∷ more)
-read_before bits (Err e) = Err e
+-- what lines give: their frames up to the first line with a fault, or all of them, and that fault, where there is one
+pub record Found : Type 0 where
+  pub frames : List (List Bool)
+  pub fault : Option RestoreFault
+
+-- frames with no fault behind them, and with one
+abbrev pub whole : List (List Bool) → Found
+whole frames = record { frames = frames; fault = None }
+
+abbrev pub faulty : List (List Bool) → RestoreFault → Found
+faulty frames e = record { frames = frames; fault = Some e }
+
+-- a frame before others
+abbrev pub read_before : List Bool → Found → Found
+read_before bits more = record { frames = bits ∷ more.frames; fault = more.fault }
 
 -- a line that is read by one way where nothing is wrong with it
-abbrev pub unless_wrong : ℕ → Option RestoreWhy → Result (List (List Bool)) RestoreFault → Result (List (List Bool)) RestoreFault
-unless_wrong number None answer = answer
-unless_wrong number (Some why) answer = Err (record { line = number; why = why })
+abbrev pub unless_wrong : ℕ → Option RestoreWhy → Found → Found
+unless_wrong number None found = found
+unless_wrong number (Some why) found = faulty [] (record { line = number; why = why })
 
 -- the number of the line behind line n, told up to 2 ^ 64 - 1
 abbrev pub line_after : ℕ → ℕ
 line_after n = min (n + 1) (2 ^ 64 - 1)
 
 -- the frames of lines, of which the first has this number
-abbrev pub read_frames : ℕ → ℕ → List (List ℕ) → Result (List (List Bool)) RestoreFault
-read_frames width number [] = Ok []
+abbrev pub read_frames : ℕ → ℕ → List (List ℕ) → Found
+read_frames width number [] = whole []
 read_frames width number (line ∷ more) = unless_wrong number (frame_why width line) (read_before (line_bits line) (read_frames width (line_after number) more))
 
 -- at least one frame
-abbrev pub read_some : ℕ → List (List ℕ) → Result (List (List Bool)) RestoreFault
-read_some width [] = Err (record { line = 2; why = NoFrame })
+abbrev pub read_some : ℕ → List (List ℕ) → Found
+read_some width [] = faulty [] (record { line = 2; why = NoFrame })
 read_some width (line ∷ more) = read_frames width 2 (line ∷ more)
 
 -- the initial bits and the frames
-abbrev pub read_lines : ℕ → List (List ℕ) → Result (List (List Bool)) RestoreFault
-read_lines width [] = Err (record { line = 1; why = NoFrame })
+abbrev pub read_lines : ℕ → List (List ℕ) → Found
+read_lines width [] = faulty [] (record { line = 1; why = NoFrame })
 read_lines width (line ∷ more) = unless_wrong 1 (initial_why line) (read_some width more)
 
 -- what a text reads as, where each frame has so many bits
-abbrev pub read_text : ℕ → List ℕ → Result (List (List Bool)) RestoreFault
+abbrev pub read_text : ℕ → List ℕ → Found
 read_text width text = read_lines width (all_lines (before_mark text))

@@ -10,11 +10,7 @@ use Rattle.restore.specs.declared.fault.RestoreWhy.{RestoreWhy}
 use Rattle.restore.specs.declared.fault.RestoreWhy.TheVariants as why
 use Rattle.restore.specs.declared.place.Place.{Place}
 use Rattle.restore.specs.declared.place.Place.TheVariants as place
-use Rattle.restore.specs.Reading.{before_mark, line_of, all_lines, line_bits, read_before, read_frames, read_some, read_lines}
-
--- what frames, or a fault, a text gives
-abbrev pub Reads : Type 0
-Reads = Result (List (List Bool)) RestoreFault
+use Rattle.restore.specs.Reading.{before_mark, line_of, all_lines, line_bits, Found, whole, faulty, read_before, read_frames, read_some, read_lines}
 
 -- a reader of frames: the frame that was found last, which has as many bits as each frame; where it is; and the bytes that were read of what follows
 pub record Reader : Type 0 where
@@ -30,9 +26,9 @@ is_open (place.Going number) = true
 is_open place.Ended = false
 is_open (place.Failed e) = false
 
--- a fault is that of a text: neither of its source nor for want of memory
+-- a fault is that of a text: neither of its source, nor for want of memory, nor of what is written to
 abbrev pub IsOfText : RestoreFault → Type 0
-IsOfText e = (e.why ≢ why.Device) × (e.why ≢ why.NoMemory)
+IsOfText e = (e.why ≢ why.Device) × ((e.why ≢ why.NoMemory) × (e.why ≢ why.Write))
 
 -- a fault that was found is that of a text
 abbrev pub FailsByText : Place → Type 0
@@ -43,19 +39,19 @@ FailsByText place.Ended = Unit {0}
 FailsByText (place.Failed e) = IsOfText e
 
 -- what lines give from a place on
-abbrev pub read_at : Place → ℕ → List (List ℕ) → Reads
+abbrev pub read_at : Place → ℕ → List (List ℕ) → Found
 read_at place.Start width lines = read_lines width lines
 read_at place.First width lines = read_some width lines
 read_at (place.Going number) width lines = read_frames width number lines
-read_at place.Ended width lines = Ok []
-read_at (place.Failed e) width lines = Err e
+read_at place.Ended width lines = whole []
+read_at (place.Failed e) width lines = faulty [] e
 
 -- what a reader still gives of the bytes to come
-abbrev pub left : Reader → List ℕ → Reads
+abbrev pub left : Reader → List ℕ → Found
 left r text = read_at r.place (length r.frame) (all_lines (before_mark text))
 
 -- known bytes before a step and those behind it give the same, in these two ways
-abbrev pub Agree : (List ℕ → Reads) → (List ℕ → Reads) → Option (List ℕ) → Option (List ℕ) → Type 0
+abbrev pub Agree : {A : Type 0} → (List ℕ → A) → (List ℕ → A) → Option (List ℕ) → Option (List ℕ) → Type 0
 Agree f g None after = Unit {0}
 Agree f g (Some text) None = ⊥
 Agree f g (Some text) (Some rest) = f text ≡ g rest
@@ -70,8 +66,8 @@ abbrev pub IsUnread : RestoreFault → Type 0
 IsUnread e = (e ≡ unread_fault all.Device) ⊎ (e ≡ unread_fault all.NoMemory)
 
 -- what a reader gives of known bytes, where it knows any
-abbrev pub Gives : Reader → Option (List ℕ) → Reads → Type 0
-Gives r known reads = IfSome known (λ text. left r text ≡ reads)
+abbrev pub Gives : Reader → Option (List ℕ) → Found → Type 0
+Gives r known found = IfSome known (λ text. left r text ≡ found)
 
 -- nothing is lost: what was left is what is left now, of which the bytes to come are no part once no line may follow
 abbrev pub LosesNothing : Reader → Reader → Option (List ℕ) → Option (List ℕ) → Type 0
@@ -80,8 +76,8 @@ LosesNothing old new before after = Agree (left old) (left new) before after ⊎
 -- a step of a reader: a frame is found, and what was left is this frame and what is left now; or there is none, and none was left; or a fault is told, of the source or of the text, and nothing is lost
 abbrev pub StepsOn : Result Bool RestoreFault → Reader → Reader → Option (List ℕ) → Option (List ℕ) → Type 0
 StepsOn (Ok true) old new before after = Agree (left old) (λ rest. read_before new.frame (left new rest)) before after
-StepsOn (Ok false) old new before after = (new.place ≡ place.Ended) × Gives old before (Ok [])
-StepsOn (Err e) old new before after = (IsUnread e ⊎ (new.place ≡ place.Failed e)) × LosesNothing old new before after
+StepsOn (Ok false) old new before after = (new.place ≡ place.Ended) × Gives old before (whole [])
+StepsOn (Err e) old new before after = (IsUnread e ⊎ ((new.place ≡ place.Failed e) × IsOfText e)) × LosesNothing old new before after
 
 -- why no frame more is told: the source failed, or the fault that was found is told once all of the source was read
 abbrev pub Tells : RestoreFault → Place → Option (List ℕ) → ℕ → ℕ → Type 0
@@ -105,7 +101,7 @@ lines_from line true more = line_of line
 lines_from line false more = line ∷ more
 
 -- what a frame, where there is one, and what is left behind it give
-abbrev pub given_by : Bool → List Bool → Reads → Reads
+abbrev pub given_by : Bool → List Bool → Found → Found
 given_by true frame more = read_before frame more
 given_by false frame more = more
 

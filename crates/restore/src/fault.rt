@@ -1,11 +1,11 @@
-//! What is wrong with a text of a counterexample, or why it is not read.
+//! What is wrong with a text of a counterexample, or why it is not read or restored.
 ghost use Rattle.std.specs.Prelude.{◌≡◌};
-ghost use Rattle.restore.specs.Faults.{why_number, why_name};
+ghost use Rattle.restore.specs.Faults.{why_number, why_name, is_of_text};
 
 use std::fmt;
 use thiserror::Error;
 
-/// What is wrong with a line, or why the lines are not read.
+/// What is wrong with a line, or why the lines are not read or written.
 #[derive(Clone, Copy, Debug, PartialEq, Eq, Error)]
 pub enum RestoreWhy {
     /// The text ends before a frame.
@@ -20,6 +20,8 @@ pub enum RestoreWhy {
     NoMemory,
     /// The source failed.
     Device,
+    /// The sink failed.
+    Write,
 }
 
 impl RestoreWhy {
@@ -34,6 +36,17 @@ impl RestoreWhy {
             RestoreWhy::WrongLength => 153,
             RestoreWhy::NoMemory => 154,
             RestoreWhy::Device => 155,
+            RestoreWhy::Write => 156,
+        }
+    }
+
+    /// Whether it is wrong with a text: neither with its source, nor with what is written to, nor for want of memory.
+    pub fn is_of_text(self) -> bool
+        ensures { result ≡ is_of_text self }
+    {
+        match self {
+            RestoreWhy::Device | RestoreWhy::NoMemory | RestoreWhy::Write => false,
+            _ => true,
         }
     }
 
@@ -48,6 +61,7 @@ impl RestoreWhy {
             RestoreWhy::WrongLength => "WrongLength",
             RestoreWhy::NoMemory => "NoMemory",
             RestoreWhy::Device => "Device",
+            RestoreWhy::Write => "Write",
         }
     }
 }
@@ -58,10 +72,10 @@ impl fmt::Display for RestoreWhy {
     }
 }
 
-/// The first faulty line of a text, and what is wrong with it; or why its lines are not read.
+/// The first faulty line of a text, and what is wrong with it; or why its lines are not read, or nothing is written of them.
 #[derive(Clone, Copy, Debug, PartialEq, Eq)]
 pub struct RestoreFault {
-    /// The line, from 1, told up to 2^64 - 1; 0 for a failure of the source and for want of memory.
+    /// The line, from 1, told up to 2^64 - 1; 0 for a failure of the source or the sink and for want of memory.
     pub line: u64,
     /// What is wrong with it.
     pub why: RestoreWhy,

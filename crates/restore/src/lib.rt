@@ -1,13 +1,21 @@
 //! Counterexamples over the engine form of a circuit as witnesses of the circuit: what their texts say, how they are read,
-//! and what is wrong with one that says none.
+//! what is wrong with one that says none, and what is restored of them.
 #![tactic(auto)]
 
+mod digits;
 mod fault;
 mod frame_reader;
 pub mod laws;
 mod marks;
 mod place;
+mod play;
 mod progress;
+mod restorer;
+mod restoring;
+mod stage;
+mod width;
 
 pub use fault::{RestoreFault, RestoreWhy};
 pub use frame_reader::FrameReader;
+pub use restorer::Restorer;
+pub use restoring::restore;

@@ -1,0 +1,59 @@
+use Rattle.std.proofs.Common.{◌≡◌, ℕ, Bool, false, ◌&&◌, List, length, get_or, sym, ap, ap₂, ◌∙◌}
+use Rattle.std.proofs.lemmas.List.{length-map, length-replicate}
+use Rattle.aiger.specs.declared.circuit.Latch.{Latch}
+use Rattle.aiger.specs.Literal.{Valuation, literal_value}
+use Rattle.aiger.specs.Circuit.{Circuit}
+use Rattle.aiger.specs.Trace.{next_state}
+use Rattle.runs.specs.Run.{more_steps}
+use Rattle.runs.specs.CircuitRun.{CircuitRun, IsFrameNow, no_inputs, settle_steps}
+use Rattle.engine.specs.EngineForm.{all_hold}
+use Rattle.restore.specs.Frames.{frame_of}
+use Rattle.restore.specs.Pieces.{Play as PlayValue, played, rises_with}
+use Rattle.restore.proofs.PlayLemmas.{settled_circuit, settled_now}
+use Rattle.restore.proofs.play.Play.advance.Goals as goal
+
+pub invariant_of-self : goal.invariant_of-self
+invariant_of-self c =
+    let k : Circuit = c.self.inside.circuit.now in
+    let inv = c.self.invariant in
+    let steps : ℕ = more_steps (settle_steps c.give_inputs.new.run.circuit) c.give_inputs.new.run.steps in
+    let many : length c.args.inputs.now ≡ k.inputs = c.requires ∙ ap (λ (p : PlayValue). p.circuit.inputs) (sym c.self.view_is) in
+    let now = settled_now k c.self.inside.run c.give_inputs.new.run steps c.args.inputs.now inv.valid inv.circuit inv.latches many c.give_inputs.ensures.circuit c.give_inputs.ensures.latches c.give_inputs.ensures.inputs c.settle.new.self c.settle.ensures in
+    let circuit : c.settle.new.self.circuit ≡ k = settled_circuit k c.self.inside.run c.give_inputs.new.run steps inv.circuit c.give_inputs.ensures.circuit c.settle.new.self c.settle.ensures in
+    let v : Valuation = frame_of k c.self.inside.run.latches c.args.inputs.now in
+    record {
+      valid = inv.valid;
+      circuit = ap (λ (r : CircuitRun). r.circuit) c.advance.ensures.others ∙ circuit;
+      latches =
+          ap length (c.advance.ensures.latches v now) ∙ (ap (λ (m : Circuit). length (next_state m v)) circuit ∙ length-map k.latches (λ (latch : Latch). literal_value v latch.next));
+      inputs = ap (λ (r : CircuitRun). length r.inputs) c.advance.ensures.others ∙ (ap (λ (m : Circuit). length (no_inputs m)) circuit ∙ length-replicate k.inputs false);
+      begins = inv.begins;
+      claim = inv.claim;
+    }
+
+pub returns-clause-rises : goal.returns-clause-rises
+returns-clause-rises c =
+    let k : Circuit = c.self.inside.circuit.now in
+    let inv = c.self.invariant in
+    let steps : ℕ = more_steps (settle_steps c.give_inputs.new.run.circuit) c.give_inputs.new.run.steps in
+    let many : length c.args.inputs.now ≡ k.inputs = c.requires ∙ ap (λ (p : PlayValue). p.circuit.inputs) (sym c.self.view_is) in
+    let now = settled_now k c.self.inside.run c.give_inputs.new.run steps c.args.inputs.now inv.valid inv.circuit inv.latches many c.give_inputs.ensures.circuit c.give_inputs.ensures.latches c.give_inputs.ensures.inputs c.settle.new.self c.settle.ensures in
+    let circuit : c.settle.new.self.circuit ≡ k = settled_circuit k c.self.inside.run c.give_inputs.new.run steps inv.circuit c.give_inputs.ensures.circuit c.settle.new.self c.settle.ensures in
+    let v : Valuation = frame_of k c.self.inside.run.latches c.args.inputs.now in
+    c.both.ensures
+    ∙ (ap₂ (λ (a b : Bool). a && b) (c.bad-bad.ensures v now ∙ ap (λ (m : Circuit). literal_value v (get_or m.bads c.self.inside.claim 0)) circuit)
+    (c.both-self-inside.ensures ∙ ap (λ (b : Bool). c.self.inside.met && b) (c.all_hold-holds.ensures v now))
+    ∙ ap (λ (p : PlayValue). rises_with p c.args.inputs.now) c.self.view_is)
+
+pub returns-clause-played : goal.returns-clause-played
+returns-clause-played c =
+    let k : Circuit = c.self.inside.circuit.now in
+    let inv = c.self.invariant in
+    let steps : ℕ = more_steps (settle_steps c.give_inputs.new.run.circuit) c.give_inputs.new.run.steps in
+    let many : length c.args.inputs.now ≡ k.inputs = c.requires ∙ ap (λ (p : PlayValue). p.circuit.inputs) (sym c.self.view_is) in
+    let now = settled_now k c.self.inside.run c.give_inputs.new.run steps c.args.inputs.now inv.valid inv.circuit inv.latches many c.give_inputs.ensures.circuit c.give_inputs.ensures.latches c.give_inputs.ensures.inputs c.settle.new.self c.settle.ensures in
+    let circuit : c.settle.new.self.circuit ≡ k = settled_circuit k c.self.inside.run c.give_inputs.new.run steps inv.circuit c.give_inputs.ensures.circuit c.settle.new.self c.settle.ensures in
+    let v : Valuation = frame_of k c.self.inside.run.latches c.args.inputs.now in
+    let now_is : List Bool → Bool → PlayValue = λ state met. record { circuit = k; claim = c.self.inside.claim; state = state; met = met; begins = c.self.inside.begins.items } in
+    ap₂ now_is (c.advance.ensures.latches v now ∙ ap (λ (m : Circuit). next_state m v) circuit) (c.both-self-inside.ensures ∙ ap (λ (b : Bool). c.self.inside.met && b) (c.all_hold-holds.ensures v now))
+    ∙ ap (λ (p : PlayValue). played p c.args.inputs.now) c.self.view_is
