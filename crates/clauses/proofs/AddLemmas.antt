@@ -5,7 +5,7 @@ use Rattle.std.proofs.lemmas.List.{get_or_append_left, drop-append-le, take-appe
 use Rattle.std.proofs.lemmas.List.Elements.{All-append, All-contains}
 use Rattle.std.proofs.Math.Seq.{get_or-append_seam}
 use Rattle.std.specs.Prelude.{All, Contains, slice_range}
-use Rattle.clauses.specs.Marked.{Marked, set_of, IsConsistent, AreMarked, ArePlaced}
+use Rattle.clauses.specs.Marked.{Marked, set_of, AreMarked, ArePlaced}
 use Rattle.clauses.specs.Growth.{Extends, Grows, GrowsBy, Falsifies, AreSettled}
 use Rattle.clauses.proofs.TrailLemmas.{same_order, prefix_take}
 use Rattle.clauses.proofs.WalkLemmas.{AreMet-stays, all_settled, units_kept}
@@ -19,7 +19,7 @@ use Rattle.clauses.proofs.WatchLemmas.{place_of, on_off}
 use Rattle.clauses.specs.Literal.{negation}
 use Rattle.clauses.specs.Flat.{cut, standing, AreEnds}
 use Rattle.clauses.specs.Lists.{list_at, IsListed}
-use Rattle.clauses.specs.Watched.{clause_at, IsWatched, IsUnit, Stays, AreMet, UnitsMet, IsMet, Chosen}
+use Rattle.clauses.specs.Watched.{clause_at, IsWatched, IsUnit, Stays, AreMet, UnitsMet, IsMet, Chosen, CanWatch}
 use Rattle.clauses.proofs.LiteralLemmas.{negation-inside, negation-even, negation-odd}
 use Rattle.clauses.proofs.PassLemmas.{length-cut, cut_equal, Grows-by}
 
@@ -31,10 +31,10 @@ take_whole : (xs : List ℕ) → take (length xs) xs ≡ xs
 take_whole [] = refl
 take_whole (x ∷ xs) = ap (λ (ys : List ℕ). x ∷ ys) (take_whole xs)
 
-range_kept : (xs ys : List ℕ) (a b : ℕ) → a ≤ b → b ≤ length xs → slice_range (xs ++ ys) a b ≡ slice_range xs a b
+pub range_kept : (xs ys : List ℕ) (a b : ℕ) → a ≤ b → b ≤ length xs → slice_range (xs ++ ys) a b ≡ slice_range xs a b
 range_kept xs ys a b low high = ap (λ (zs : List ℕ). take (b - a) zs) (drop-append-le a xs ys (omega arith)) ∙ take-append-le (b - a) (drop a xs) ys (omega (arith, length-drop a xs))
 
-range_last : (xs ys : List ℕ) → slice_range (xs ++ ys) (length xs) (length (xs ++ ys)) ≡ ys
+pub range_last : (xs ys : List ℕ) → slice_range (xs ++ ys) (length xs) (length (xs ++ ys)) ≡ ys
 range_last xs ys = ap (λ (zs : List ℕ). take (length (xs ++ ys) - length xs) zs) (drop_behind xs ys) ∙ (let e : length (xs ++ ys) - length xs ≡ length ys = omega (arith, length-append xs ys) in ap (λ (n : ℕ). take n ys) e ∙ take_whole ys)
 
 -- a stretch of the longer list: one that was there, and the last
@@ -230,11 +230,31 @@ module _ (clauses : List (List ℕ)) (clause : List ℕ) where
       (λ (c : AllNegated clause (set_of new)). last_falsified s (λ i h. all _ (c i h)))
       f
 
-  module _ (watched : List ℕ) (first second : ℕ) (m : Marked) (two_each : length watched ≡ 2 * length clauses) (consistent : IsConsistent m) (chosen : Chosen clause first second m) where
-    -- a clause whose watches are chosen has a marked literal, if one of them is negated, or if it has one literal
-    met_by_first : set_of m first ≡ true → IsMet clause m
-    met_by_first on = (first, chosen.first_in, on)
+  -- the two literals that were chosen can be watched
+  pub can_watch : (first second : ℕ) (m : Marked) → Chosen clause first second m → CanWatch clause first second m
+  can_watch first second m chosen = record {
+    first_in = chosen.first_in;
+    second_in = chosen.second_in;
+    only = chosen.only;
+    first_met = λ on.
+        ⊎_elim
+        (λ (marked : set_of m first ≡ true). (first, chosen.first_in, marked))
+        (λ (off : (set_of m (negation first) ≡ false) × (set_of m (negation second) ≡ false) × (second ≢ first)). absurd (on_off _ on off.0))
+        chosen.fit;
+    second_met = λ on.
+        ⊎_elim
+        (λ (marked : set_of m first ≡ true). (first, chosen.first_in, marked))
+        (λ (off : (set_of m (negation first) ≡ false) × (set_of m (negation second) ≡ false) × (second ≢ first)). absurd (on_off _ on off.1))
+        chosen.fit;
+    unit_met = λ unit.
+        ⊎_elim
+        (λ (marked : set_of m first ≡ true). (first, chosen.first_in, marked))
+        (λ (off : (set_of m (negation first) ≡ false) × (set_of m (negation second) ≡ false) × (second ≢ first)).
+        absurd (off.2 (sym (place_of clause second chosen.second_in) ∙ unit.1 chosen.second_in.0 chosen.second_in.1 ∙ sym (unit.1 chosen.first_in.0 chosen.first_in.1) ∙ place_of clause first chosen.first_in)))
+        chosen.fit;
+  }
 
+  module _ (watched : List ℕ) (first second : ℕ) (m : Marked) (two_each : length watched ≡ 2 * length clauses) (can : CanWatch clause first second m) where
     abbrev both : List ℕ
     both = (watched ++ first ∷ []) ++ second ∷ []
 
@@ -248,18 +268,14 @@ module _ (clauses : List (List ℕ)) (clause : List ℕ) where
         (λ (late : length watched ≤ n).
         subst (λ (c : List ℕ). IsMet c m) (sym (last_clause clauses clause (n / 2) (omega (arith, two_each, many, h, late))))
         (⊎_elim
-        (λ (marked : set_of m first ≡ true). met_by_first marked)
-        (λ (off : (set_of m (negation first) ≡ false) × (set_of m (negation second) ≡ false) × (second ≢ first)).
-        ⊎_elim
         (λ (e : n ≡ length watched).
         let here : get_or both n 0 ≡ first = get_or_append_left (watched ++ first ∷ []) (second ∷ []) 0 n (omega (arith, length-append watched (first ∷ []))) ∙ ap (λ (i : ℕ). get_or (watched ++ first ∷ []) i 0) e ∙ get_or-append_seam watched first [] 0 in
-        absurd (on_off _ (ap (λ (l : ℕ). set_of m (negation l)) (sym here) ∙ on) off.0))
+        can.first_met (ap (λ (l : ℕ). set_of m (negation l)) (sym here) ∙ on))
         (λ (ne : n ≢ length watched).
         let is : n ≡ length (watched ++ first ∷ []) = omega (arith, many, h, late, length-append watched (first ∷ [])) in
         let here : get_or both n 0 ≡ second = ap (λ (i : ℕ). get_or both i 0) is ∙ get_or-append_seam (watched ++ first ∷ []) second [] 0 in
-        absurd (on_off _ (ap (λ (l : ℕ). set_of m (negation l)) (sym here) ∙ on) off.1))
-        (cases_eq n (length watched)))
-        chosen.fit))
+        can.second_met (ap (λ (l : ℕ). set_of m (negation l)) (sym here) ∙ on))
+        (cases_eq n (length watched))))
         (cases_lt n (length watched))
 
     pub UnitsMet-add : UnitsMet clauses m → UnitsMet (clauses ++ clause ∷ []) m
@@ -268,19 +284,13 @@ module _ (clauses : List (List ℕ)) (clause : List ℕ) where
         (λ (old : k < length clauses). subst (λ (c : List ℕ). IsMet c m) (sym (old_clause clauses clause k old)) (met k old (subst IsUnit (old_clause clauses clause k old) one)))
         (λ (late : length clauses ≤ k).
         let is = last_clause clauses clause k (omega (arith, h, late, many_more)) in
-        let unit : IsUnit clause = subst IsUnit is one in
-        subst (λ (c : List ℕ). IsMet c m) (sym is)
-        (⊎_elim
-        (λ (marked : set_of m first ≡ true). met_by_first marked)
-        (λ (off : (set_of m (negation first) ≡ false) × (set_of m (negation second) ≡ false) × (second ≢ first)).
-        absurd (off.2 (sym (place_of clause second chosen.second_in) ∙ unit.1 chosen.second_in.0 chosen.second_in.1 ∙ sym (unit.1 chosen.first_in.0 chosen.first_in.1) ∙ place_of clause first chosen.first_in)))
-        chosen.fit))
+        subst (λ (c : List ℕ). IsMet c m) (sym is) (can.unit_met (subst IsUnit is one)))
         (cases_lt k (length clauses))
 
 -- After a clause is put behind the others.
 
 module _ (literals starts ends watched : List ℕ) (lists : List (List ℕ)) (trail : Marked) (clause : List ℕ) (first second : ℕ) (k : KeepsPropagator literals starts ends watched lists trail)
-    (low : All (λ l. l < length trail.marks) clause) (chosen : Chosen clause first second trail) where
+    (low : All (λ l. l < length trail.marks) clause) (can : CanWatch clause first second trail) where
   module _ (literals' starts' ends' watched' : List ℕ) (lists' : List (List ℕ)) (a : Added literals starts ends watched lists clause first second literals' starts' ends' watched' lists') where
     ends_is : ends' ≡ ends ++ length (literals ++ clause) ∷ []
     ends_is = a.ends_are ∙ ap (λ (ls : List ℕ). ends ++ length ls ∷ []) a.literals_are
@@ -302,12 +312,12 @@ module _ (literals starts ends watched : List ℕ) (lists : List (List ℕ)) (tr
           (subst (λ (ws : List ℕ). IsWatched (cut literals starts ends ++ clause ∷ []) ws lists' (length trail.marks)) (sym a.watched_are)
           (IsWatched-add (cut literals starts ends) clause watched lists lists' (length trail.marks) first second k.are_watched a.listed
           (subst (λ (n : ℕ). Contains (list_at lists' first) (2 * n)) (sym many) a.first_listed) (subst (λ (n : ℕ). Contains (list_at lists' second) (2 * n + 1)) (sym many) a.second_listed)
-          chosen.first_in chosen.second_in chosen.only (All-contains (λ l. l < length trail.marks) clause first low chosen.first_in) (All-contains (λ l. l < length trail.marks) clause second low chosen.second_in)));
+          can.first_in can.second_in can.only (All-contains (λ l. l < length trail.marks) clause first low can.first_in) (All-contains (λ l. l < length trail.marks) clause second low can.second_in)));
       are_met = subst (λ (cs : List (List ℕ)). AreMet cs watched' trail) (sym cut_is)
           (subst (λ (ws : List ℕ). AreMet (cut literals starts ends ++ clause ∷ []) ws trail) (sym a.watched_are)
-          (AreMet-add (cut literals starts ends) clause watched first second trail k.are_watched.two_each k.consistent chosen k.are_met));
+          (AreMet-add (cut literals starts ends) clause watched first second trail k.are_watched.two_each can k.are_met));
       units_met = subst (λ (cs : List (List ℕ)). UnitsMet cs trail) (sym cut_is)
-          (UnitsMet-add (cut literals starts ends) clause watched first second trail k.are_watched.two_each k.consistent chosen k.units_met);
+          (UnitsMet-add (cut literals starts ends) clause watched first second trail k.are_watched.two_each can k.units_met);
     }
 
 pub KeepsPropagator-same : (literals starts ends watched : List ℕ) (lists : List (List ℕ)) (trail : Marked) (literals' starts' ends' watched' : List ℕ) (lists' : List (List ℕ)) → KeepsPropagator literals starts ends watched lists trail → Unchanged literals starts ends watched lists literals' starts' ends' watched' lists' → KeepsPropagator literals' starts' ends' watched' lists' trail

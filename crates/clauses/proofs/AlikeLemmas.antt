@@ -1,23 +1,23 @@
 -- Clauses with the same literals, and the last of them.
-use Rattle.std.proofs.Common.{◌≡◌, ◌≢◌, ℕ, zero, suc, ◌+◌, ◌<◌, Bool, true, false, cond, List, [], ◌∷◌, ◌⊎◌, inl, inr, length, get_or, set, ⊎_elim, refl, sym, ap, subst, ◌∙◌, arith, zero-add}
+use Rattle.std.proofs.Common.{eqb-true, ◌≡◌, ◌≢◌, ℕ, zero, suc, ◌+◌, ◌<◌, Bool, true, false, cond, List, [], ◌∷◌, ◌⊎◌, inl, inr, length, get_or, set, ⊎_elim, refl, sym, ap, subst, ◌∙◌, arith, zero-add}
 use Rattle.std.specs.Prelude.{◌==◌, MatchBool}
 use Rattle.std.specs.List.{remove}
 use Rattle.std.proofs.lemmas.Bool.{cases_eq}
 use Rattle.std.proofs.lemmas.List.{set-get_or}
 use Rattle.std.proofs.lemmas.List.Sums.{sum_by-cons}
 use Rattle.std.proofs.lemmas.Bool.Decides.{nat_tests}
-use Rattle.clauses.specs.Flat.{standing}
+use Rattle.clauses.specs.Flat.{standing, AgreeAt}
 use Rattle.clauses.specs.Without.{times, AreAlike, NoneAlikeFrom, IsLastAlike, IsWithout}
 use Rattle.clauses.specs.Without.IsWithout.{last, none}
 use Rattle.clauses.proofs.StandingLemmas.{stood, place_inside}
 
-times_here : (l x : ℕ) (xs : List ℕ) → x ≡ l → times l (x ∷ xs) ≡ 1 + times l xs
+pub times_here : (l x : ℕ) (xs : List ℕ) → x ≡ l → times l (x ∷ xs) ≡ 1 + times l xs
 times_here l x xs e = let same : (x == l) ≡ true = grind (arith, nat_tests) in sum_by-cons (λ y. cond (y == l) 1 0) x xs ∙ ap (λ (b : Bool). cond b 1 0 + times l xs) same
 
-times_behind : (l x : ℕ) (xs : List ℕ) → x ≢ l → times l (x ∷ xs) ≡ times l xs
+pub times_behind : (l x : ℕ) (xs : List ℕ) → x ≢ l → times l (x ∷ xs) ≡ times l xs
 times_behind l x xs ne = let other : (x == l) ≡ false = grind (arith, nat_tests) in sum_by-cons (λ y. cond (y == l) 1 0) x xs ∙ ap (λ (b : Bool). cond b 1 0 + times l xs) other ∙ zero-add (times l xs)
 
-occurs : (l : ℕ) (xs : List ℕ) → ((i : ℕ) × (i < length xs) × (get_or xs i 0 ≡ l)) ⊎ (times l xs ≡ 0)
+pub occurs : (l : ℕ) (xs : List ℕ) → ((i : ℕ) × (i < length xs) × (get_or xs i 0 ≡ l)) ⊎ (times l xs ≡ 0)
 occurs l [] = inr refl
 occurs l (x ∷ xs) =
     ⊎_elim
@@ -48,7 +48,7 @@ alike_answer one other true a b = alike one other a b
 alike_answer one other false a differ = λ all. differ.1 (all differ.0)
 
 -- a clause with a literal is alike to none without
-some_literal : (one other : List ℕ) → AreAlike one other → 0 < length one → 0 < length other
+pub some_literal : (one other : List ℕ) → AreAlike one other → 0 < length one → 0 < length other
 some_literal [] other a h = absurd (omega (arith, h))
 some_literal (x ∷ xs) [] a h = absurd (omega (arith, a x, times_here x x xs refl))
 some_literal (x ∷ xs) (y ∷ ys) a h = omega arith
@@ -114,7 +114,7 @@ none_taken clauses clause n =
     none (λ j low high a. let own = stood clauses j high in n own.0 (omega arith) (place_inside clauses own.0 own.1) (subst (AreAlike clause) (sym own.2) a)) refl
 
 -- a clause without literals stands nowhere
-none_without_literals : (clauses : List (List ℕ)) (clause : List ℕ) → length clause ≡ 0 → IsWithout (standing clauses) clause (standing clauses)
+pub none_without_literals : (clauses : List (List ℕ)) (clause : List ℕ) → length clause ≡ 0 → IsWithout (standing clauses) clause (standing clauses)
 none_without_literals clauses clause z =
     none (λ j low high a. let own = stood clauses j high in absurd (omega (arith, z, some_literal (get_or (standing clauses) j []) clause (λ l. sym (a l)) (omega (arith, own.1, ap length own.2))))) refl
 
@@ -132,3 +132,48 @@ taken clauses clause k l =
     subst (λ (cs : List (List ℕ)). IsWithout (standing clauses) clause (standing cs)) (sym same) (none_without_literals clauses clause z))
     (λ (ne : length clause ≢ 0). taken_of clauses clause k (omega (arith, ne)) l)
     (cases_eq (length clause) 0)
+
+pub no_length : (xs : List ℕ) → true ≡ (length xs == 0) → length xs ≡ 0
+no_length [] h = refl
+no_length (x ∷ xs) h = absurd (omega (arith, eqb-true (suc (length xs)) 0 (sym h)))
+
+pub some_length : (xs : List ℕ) → false ≡ (length xs == 0) → 0 < length xs
+some_length [] h = let never : false ≡ true = h in absurd (cc)
+some_length (x ∷ xs) h = omega arith
+
+-- clauses of one length that agree at each place are alike
+alike_or : (one other whole whole' : List ℕ) → length one ≡ length other
+    → ((i : ℕ) → i < length one → get_or one i 0 ≢ get_or other i 0 → (times (get_or one i 0) whole ≡ times (get_or one i 0) whole') × (times (get_or other i 0) whole ≡ times (get_or other i 0) whole'))
+    → (l : ℕ) → (times l one ≡ times l other) ⊎ (times l whole ≡ times l whole')
+alike_or [] [] whole whole' n h l = inl refl
+alike_or [] (y ∷ ys) whole whole' n h l = absurd (omega (arith, n))
+alike_or (x ∷ xs) [] whole whole' n h l = absurd (omega (arith, n))
+alike_or (x ∷ xs) (y ∷ ys) whole whole' n h l =
+    let rest = alike_or xs ys whole whole' (omega (arith, n)) (λ i low. h (suc i) (omega (arith, low))) l in
+    ⊎_elim
+    (λ (e : x ≡ y).
+    ⊎_elim
+    (λ (same : times l xs ≡ times l ys).
+    inl (⊎_elim
+    (λ (f : x ≡ l). times_here l x xs f ∙ ap (λ (n : ℕ). 1 + n) same ∙ sym (times_here l y ys (sym e ∙ f)))
+    (λ (ne : x ≢ l). times_behind l x xs ne ∙ same ∙ sym (times_behind l y ys (λ f. ne (e ∙ f))))
+    (cases_eq x l)))
+    (λ (all : times l whole ≡ times l whole'). inr all)
+    rest)
+    (λ (differ : x ≢ y).
+    ⊎_elim
+    (λ (f : x ≡ l). inr (subst (λ (z : ℕ). times z whole ≡ times z whole') f (h 0 (omega arith) differ).0))
+    (λ (ne : x ≢ l).
+    ⊎_elim
+    (λ (f : y ≡ l). inr (subst (λ (z : ℕ). times z whole ≡ times z whole') f (h 0 (omega arith) differ).1))
+    (λ (ne' : y ≢ l).
+    ⊎_elim
+    (λ (same : times l xs ≡ times l ys). inl (times_behind l x xs ne ∙ same ∙ sym (times_behind l y ys ne')))
+    (λ (all : times l whole ≡ times l whole'). inr all)
+    rest)
+    (cases_eq y l))
+    (cases_eq x l))
+    (cases_eq x y)
+
+pub alike_by_places : (one other : List ℕ) → length one ≡ length other → ((i : ℕ) → i < length one → AgreeAt one other i) → AreAlike one other
+alike_by_places one other n h l = ⊎_elim (λ (e : times l one ≡ times l other). e) (λ (e : times l one ≡ times l other). e) (alike_or one other one other n h l)

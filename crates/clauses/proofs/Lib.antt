@@ -8,8 +8,12 @@ pub mod ListsLemmas
 pub mod WatchLemmas
 pub mod WalkLemmas
 pub mod AddLemmas
+pub mod FormulaLemmas
+pub mod FormulaTextLemmas
 pub mod WorkedLemmas
 pub mod AlikeLemmas
+pub mod PlacesLemmas
+pub mod SweepLemmas
 pub mod TakenLemmas
 pub mod JudgementLemmas
 pub mod WorkedJudgements

@@ -49,3 +49,8 @@ standing-one (l ∷ ls) some = refl
 
 pub standing-push : (clauses : List (List ℕ)) (clause : List ℕ) → 0 < length clause → standing (clauses ++ clause ∷ []) ≡ standing clauses ++ clause ∷ []
 standing-push clauses clause some = standing-append clauses (clause ∷ []) ∙ ap (λ (cs : List (List ℕ)). standing clauses ++ cs) (standing-one clause some)
+
+pub standing-twice : (clauses : List (List ℕ)) → standing (standing clauses) ≡ standing clauses
+standing-twice [] = refl
+standing-twice ([] ∷ cs) = standing-twice cs
+standing-twice ((l ∷ ls) ∷ cs) = ap (λ (xs : List (List ℕ)). (l ∷ ls) ∷ xs) (standing-twice cs)

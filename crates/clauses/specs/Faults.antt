@@ -2,6 +2,8 @@
 use Rattle.std.specs.Prelude.{ℕ, List, codes}
 use Rattle.clauses.specs.declared.fault.ClauseFault.{ClauseFault}
 use Rattle.clauses.specs.declared.fault.ClauseFault.TheVariants as fault
+use Rattle.clauses.specs.declared.fault.FormulaFault.{FormulaFault}
+use Rattle.clauses.specs.declared.fault.FormulaFault.TheVariants as formula
 
 -- the number that is printed for a fault
 abbrev pub clause_number : ClauseFault → ℕ
@@ -10,3 +12,13 @@ clause_number fault.NoMemory = 160
 -- the name that is printed for a fault
 abbrev pub clause_name : ClauseFault → List ℕ
 clause_name fault.NoMemory = codes "NoMemory"
+
+-- the number that is printed for a fault of a formula
+abbrev pub formula_number : FormulaFault → ℕ
+formula_number formula.BadLiteral = 165
+formula_number formula.NoMemory = 166
+
+-- the name that is printed for a fault of a formula
+abbrev pub formula_name : FormulaFault → List ℕ
+formula_name formula.BadLiteral = codes "BadLiteral"
+formula_name formula.NoMemory = codes "NoMemory"

@@ -1,5 +1,6 @@
 -- Clauses in one flat list of literals, each with the place of its start and its end. A clause that was taken away is empty there, and stands no longer.
-use Rattle.std.specs.Prelude.{◌≡◌, ℕ, ◌<◌, ◌≤◌, List, [], ◌∷◌, length, slice_index, slice_range}
+use Rattle.clauses.specs.Without.{times}
+use Rattle.std.specs.Prelude.{◌≢◌, ◌≡◌, ℕ, ◌<◌, ◌≤◌, List, [], ◌∷◌, length, slice_index, slice_range}
 
 -- the clauses, by their places
 abbrev pub cut : List ℕ → List ℕ → List ℕ → List (List ℕ)
@@ -17,3 +18,9 @@ standing ((l ∷ ls) ∷ clauses) = (l ∷ ls) ∷ standing clauses
 pub record AreEnds (size : ℕ) (starts ends : List ℕ) : Type 0 where
   pub as_many : length starts ≡ length ends
   pub stretch : (k : ℕ) → k < length ends → (slice_index starts k ≤ slice_index ends k) × (slice_index ends k ≤ size)
+
+-- two clauses have one literal at a place, or each of the two there stands as often in one as in the other
+abbrev pub AgreeAt : List ℕ → List ℕ → ℕ → Type 0
+AgreeAt one other i =
+    slice_index one i ≢ slice_index other i
+    → (times (slice_index one i) one ≡ times (slice_index one i) other) × (times (slice_index other i) one ≡ times (slice_index other i) other)

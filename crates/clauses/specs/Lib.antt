@@ -3,6 +3,7 @@ pub mod Formula
 pub mod FormulaTexts
 pub mod Propagation
 pub mod Proofs
+pub mod FormulaKept
 pub mod Without
 pub mod Judgements
 pub mod Printed
@@ -14,7 +15,9 @@ pub mod Propagator
 pub mod Lists
 pub mod Watched
 pub mod Added
+pub mod Swept
 pub mod Worked
+pub mod Places
 pub mod StepJudges
 pub mod Numerals
 pub mod Words

@@ -5,6 +5,7 @@ use Rattle.clauses.specs.Propagation.{Literals, IsClosure, Conflict, MeetsConfli
 use Rattle.clauses.specs.Marked.{Marked, IsEven, IsConsistent}
 use Rattle.clauses.specs.Watched.{IsWatched, AreMet, UnitsMet}
 use Rattle.clauses.specs.Flat.{cut, standing, AreEnds}
+use Rattle.clauses.specs.Places.{last_at, AreLinked}
 
 -- a literal's bit in a list tells whether it is in the set
 abbrev pub in_list : List Bool → Literals
@@ -43,5 +44,8 @@ pub record KeepsPropagator (literals starts ends watched : List ℕ) (lists : Li
   pub are_met : AreMet (cut literals starts ends) watched trail
   pub units_met : UnitsMet (cut literals starts ends) trail
 
+-- and the places of the clauses of each sum are kept
 abbrev pub IsPropagator : Inside → Type 0
-IsPropagator p = KeepsPropagator p.literals.items p.starts.items p.ends.items p.watched.items p.lists p.trail
+IsPropagator p =
+    KeepsPropagator p.literals.items p.starts.items p.ends.items p.watched.items p.lists p.trail
+    × AreLinked (cut p.literals.items p.starts.items p.ends.items) (last_at p.places) p.places.before.items

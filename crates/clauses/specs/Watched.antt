@@ -108,6 +108,15 @@ pub record Chosen (clause : List ℕ) (first second : ℕ) (m : Marked) : Type 0
   pub only : second ≡ first → (i : ℕ) → i < length clause → slice_index clause i ≡ first
   pub fit : (set_of m first ≡ true) ⊎ ((set_of m (negation first) ≡ false) × (set_of m (negation second) ≡ false) × (second ≢ first))
 
+-- two literals that a clause can watch: where one of them is negated, or the clause has one literal, another is marked
+pub record CanWatch (clause : List ℕ) (first second : ℕ) (m : Marked) : Type 0 where
+  pub first_in : Contains clause first
+  pub second_in : Contains clause second
+  pub only : second ≡ first → (i : ℕ) → i < length clause → slice_index clause i ≡ first
+  pub first_met : set_of m (negation first) ≡ true → IsMet clause m
+  pub second_met : set_of m (negation second) ≡ true → IsMet clause m
+  pub unit_met : IsUnit clause → IsMet clause m
+
 -- what a new clause brings: a conflict, or what follows of it and two literals to watch
 abbrev pub Brought : List (List ℕ) → List ℕ → List ℕ → Marked → Option (ℕ × ℕ) → Type 0
 Brought clauses clause watched m None = Falsifies clauses m ⊎ AllNegated clause (set_of m)

@@ -3,22 +3,28 @@
 
 mod alike;
 mod fault;
+mod formula;
+mod formula_text;
 mod judgement;
 pub mod laws;
 mod lists;
 mod literal;
 mod numeral;
 mod passes;
+mod places;
 mod proof_judge;
 mod propagator;
 mod step_judge;
 mod step_reader;
+mod sweep;
 mod trail;
 mod watches;
 mod why;
 mod word;
 
-pub use fault::ClauseFault;
+pub use fault::{ClauseFault, FormulaFault};
+pub use formula::Formula;
+pub use formula_text::write_formula;
 pub use judgement::Judgement;
 pub use proof_judge::ProofJudge;
 pub use propagator::Propagator;

@@ -37,6 +37,13 @@ impl Lists {
         Ok(Lists { lists })
     }
 
+    /// The limit that literals are below.
+    pub fn limit(&self) -> usize
+        ensures { result ≡ length self.now }
+    {
+        self.lists.len()
+    }
+
     /// How many numbers the list of a literal has.
     pub fn len_of(&self, literal: u32) -> usize
         requires { literal < length self.now }

@@ -37,7 +37,7 @@ pub(crate) fn open_other(clause: &[u32], one: u32, trail: &Trail) -> Option<u32>
 }
 
 /// A clause in the flat list.
-fn clause_between(literals: &[u32], start: usize, end: usize) -> &[u32]
+pub(crate) fn clause_between(literals: &[u32], start: usize, end: usize) -> &[u32]
     requires order { start ≤ end }
     requires inside { end ≤ length literals.now }
     ensures { result.now ≡ slice_range literals.now start end }

@@ -1,6 +1,6 @@
 //! The judge of the texts of proofs.
 ghost use Rattle.std.specs.Prelude.{◌≡◌, ◌+◌, ◌*◌, ◌-◌, ◌^◌, ◌<◌, ◌++◌, ◌∷◌, [], List, ℕ, false, min, nat_lt, All, IfOk};
-ghost use Rattle.clauses.specs.Formula.{Formula};
+ghost use Rattle.clauses.specs.Formula.{Formula as FormulaValue};
 ghost use Rattle.clauses.specs.Proofs.{is_blank, most_lines, Mark};
 ghost use Rattle.clauses.specs.Judgements.{Judges};
 ghost use Rattle.clauses.specs.Words.{Spells};
@@ -9,6 +9,7 @@ ghost use Rattle.clauses.specs.ProofJudges.{ProofJudge as ProofJudgeValue, word_
 ghost use Rattle.clauses.specs.declared.proof_judge.Place.TheVariants as place;
 
 use crate::fault::ClauseFault;
+use crate::formula::Formula;
 use crate::judgement::Judgement;
 use crate::step_reader::StepReader;
 use crate::why::Why;
@@ -88,10 +89,32 @@ impl ProofJudge {
         })
     }
 
+    /// A judge of proofs over a formula, which has its clauses and stands for the empty text.
+    ///
+    /// Errors: `NoMemory` where a growth was refused.
+    pub fn over(alloc: Global, formula: &Formula) -> Result<ProofJudge, ClauseFault>
+        ensures { IfOk result (λ judge. StandsForText formula.now judge []) }
+    {
+        let mut judge = ProofJudge::new(alloc, formula.variables())?;
+        judge.give_all(formula);
+        Ok(judge)
+    }
+
+    /// Takes all clauses of a formula of its variables.
+    fn give_all(&mut self, formula: &Formula)
+        requires variables { self.old.variables ≡ formula.now.variables }
+        requires begins { StandsForText (record { variables = formula.now.variables; clauses = [] }) self.old [] }
+        ensures { StandsForText formula.now self.new [] }
+    {
+        for k in 0..formula.clause_count() {
+            self.give(formula.clause(k));
+        }
+    }
+
     /// Takes a clause of the formula, behind those before, and before any byte of the text.
     pub fn give(&mut self, clause: &[u32])
         requires { All (λ l. l < 2 * self.old.variables + 2) clause.now }
-        ensures stands { (f : Formula) → StandsForText f self.old [] → StandsForText (record f { clauses = f.clauses ++ clause.now ∷ [] }) self.new [] }
+        ensures stands { (f : FormulaValue) → StandsForText f self.old [] → StandsForText (record f { clauses = f.clauses ++ clause.now ∷ [] }) self.new [] }
         ensures variables { self.new.variables ≡ self.old.variables }
     {
         self.reader.give(clause);
@@ -114,7 +137,7 @@ impl ProofJudge {
     /// The word that has begun ends, where one has.
     fn end_word(&mut self)
         requires { self.old.reader.closed ≡ false }
-        ensures words { (f : Formula) (marks : List Mark) (bytes : List ℕ) → Spells self.old.word bytes → StandsForWords f self.old.reader marks → StandsForWords f self.new.reader (marks ++ word_marks self.old.variables self.old.line bytes) }
+        ensures words { (f : FormulaValue) (marks : List Mark) (bytes : List ℕ) → Spells self.old.word bytes → StandsForWords f self.old.reader marks → StandsForWords f self.new.reader (marks ++ word_marks self.old.variables self.old.line bytes) }
         ensures word { (bytes : List ℕ) → Spells self.old.word bytes → Spells self.new.word [] }
         ensures same { (self.new.variables ≡ self.old.variables) × (self.new.line ≡ self.old.line) × (self.new.place ≡ self.old.place) }
     {
@@ -137,7 +160,7 @@ impl ProofJudge {
     fn take_within(&mut self, byte: u8)
         requires open { self.old.reader.closed ≡ false }
         requires within { self.old.place ≡ place.Within }
-        ensures stands { (f : Formula) (text : List ℕ) → StandsBefore f self.old text (byte ∷ []) → StandsThrough f self.new text }
+        ensures stands { (f : FormulaValue) (text : List ℕ) → StandsBefore f self.old text (byte ∷ []) → StandsThrough f self.new text }
         ensures variables { self.new.variables ≡ self.old.variables }
     {
         if byte == b'\n' {
@@ -156,7 +179,7 @@ impl ProofJudge {
     fn begin_line(&mut self, byte: u8)
         requires open { self.old.reader.closed ≡ false }
         requires begins { self.old.place ≡ place.Begins }
-        ensures stands { (f : Formula) (text : List ℕ) → StandsBefore f self.old text (byte ∷ []) → StandsThrough f self.new text }
+        ensures stands { (f : FormulaValue) (text : List ℕ) → StandsBefore f self.old text (byte ∷ []) → StandsThrough f self.new text }
         ensures variables { self.new.variables ≡ self.old.variables }
     {
         if is_too_many(self.line) {
@@ -175,7 +198,7 @@ impl ProofJudge {
     fn pass(&mut self, byte: u8)
         requires open { self.old.reader.closed ≡ false }
         requires comment { self.old.place ≡ place.Comment }
-        ensures stands { (f : Formula) (text : List ℕ) → StandsBefore f self.old text (byte ∷ []) → StandsThrough f self.new text }
+        ensures stands { (f : FormulaValue) (text : List ℕ) → StandsBefore f self.old text (byte ∷ []) → StandsThrough f self.new text }
         ensures variables { self.new.variables ≡ self.old.variables }
     {
         if byte == b'\n' {
@@ -185,7 +208,7 @@ impl ProofJudge {
 
     /// Takes a byte of the text behind those before.
     fn take(&mut self, byte: u8)
-        ensures stands { (f : Formula) (text : List ℕ) → StandsForText f self.old text → StandsForText f self.new (text ++ byte ∷ []) }
+        ensures stands { (f : FormulaValue) (text : List ℕ) → StandsForText f self.old text → StandsForText f self.new (text ++ byte ∷ []) }
         ensures variables { self.new.variables ≡ self.old.variables }
     {
         if self.is_closed() {
@@ -201,7 +224,7 @@ impl ProofJudge {
     /// Takes a piece of the text behind those before: a judge that stood for a text stands for that text with the piece
     /// behind it.
     pub fn feed(&mut self, bytes: &[u8])
-        ensures { (f : Formula) (text : List ℕ) → StandsForText f self.old text → StandsForText f self.new (text ++ bytes.now) }
+        ensures { (f : FormulaValue) (text : List ℕ) → StandsForText f self.old text → StandsForText f self.new (text ++ bytes.now) }
     {
         for byte in bytes {
             self.take(*byte);
@@ -210,7 +233,7 @@ impl ProofJudge {
 
     /// The text ends.
     fn end_text(&mut self)
-        ensures { (f : Formula) (text : List ℕ) → StandsForText f self.old text → EndsText f self.new text }
+        ensures { (f : FormulaValue) (text : List ℕ) → StandsForText f self.old text → EndsText f self.new text }
     {
         if self.is_closed() {
             return;
@@ -220,7 +243,7 @@ impl ProofJudge {
 
     /// The judgement of the text, which ends.
     fn judgement(&mut self) -> Result<Judgement, ClauseFault>
-        ensures { (f : Formula) (text : List ℕ) → StandsForText f self.old text → IfOk result (λ j. Judges f text j) }
+        ensures { (f : FormulaValue) (text : List ℕ) → StandsForText f self.old text → IfOk result (λ j. Judges f text j) }
     {
         self.end_text();
         self.reader.finish(self.line)
@@ -230,7 +253,7 @@ impl ProofJudge {
     ///
     /// Errors: `NoMemory` where a growth was refused.
     pub fn finish(self) -> Result<Judgement, ClauseFault>
-        ensures { (f : Formula) (text : List ℕ) → StandsForText f self text → IfOk result (λ j. Judges f text j) }
+        ensures { (f : FormulaValue) (text : List ℕ) → StandsForText f self text → IfOk result (λ j. Judges f text j) }
     {
         let mut judge = self;
         judge.judgement()

@@ -1,5 +1,5 @@
 //! Clauses, and what follows from them by unit propagation.
-ghost use Rattle.std.specs.Prelude.{◌≡◌, ◌<◌, ◌≤◌, ◌++◌, ◌∷◌, [], ◌↔◌, All, IsTrue, true, false, IfOk, OnErr, MatchResult, Contains, length, slice_index, slice_set, ℕ, ◌*◌, ◌+◌};
+ghost use Rattle.std.specs.Prelude.{◌≡◌, ◌<◌, ◌≤◌, ◌++◌, ◌∷◌, [], ◌↔◌, All, IsTrue, true, false, IfOk, OnOk, OnErr, MatchResult, Contains, length, slice_index, slice_set, ℕ, ◌*◌, ◌+◌};
 ghost use Rattle.clauses.specs.Marked.{IsConsistent, IsEven, set_of};
 ghost use Rattle.clauses.specs.Propagation.{Implied};
 ghost use Rattle.clauses.specs.Growth.{AssumedOne, Assumed, Extends, Grows};
@@ -10,12 +10,14 @@ ghost use Rattle.std.specs.Vec.{vec_len, vec_capacity};
 ghost use Rattle.clauses.specs.Without.{IsWithout};
 ghost use Rattle.clauses.specs.Added.{Added, Unchanged};
 ghost use Rattle.clauses.specs.Flat.{cut, standing, AreEnds};
+ghost use Rattle.clauses.specs.Places.{clause_sum, last_at, IsLinkedBehind};
 
-use crate::alike::last_alike;
 use crate::fault::ClauseFault;
 use crate::lists::Lists;
 use crate::literal::negation;
 use crate::passes::{open_literal, open_other};
+use crate::places::{Places, clause_sum, last_alike};
+use crate::sweep::without_dead;
 use crate::trail::Trail;
 use crate::watches::propagate;
 use std::alloc::Global;
@@ -176,18 +178,23 @@ fn push_in_room(numbers: &mut Vec<u32>, number: u32)
 }
 
 /// Puts a clause behind the others.
-fn put(
+pub(crate) fn put(
     literals: &mut Vec<u32>,
     starts: &mut Vec<usize>,
     ends: &mut Vec<usize>,
     watched: &mut Vec<u32>,
     lists: &mut Lists,
+    places: &mut Places,
     clause: &[u32],
     first: u32,
     second: u32,
 ) -> Result<(), ClauseFault>
     requires first { first < length lists.old }
     requires second { second < length lists.old }
+    ensures few { IfOk result (λ _. length ends.old.items < 2147483647) }
+    ensures linked { OnOk result (IsLinkedBehind places.old (clause_sum clause.now) (length ends.old.items) places.new) }
+    ensures last { OnErr result ((s : ℕ) → last_at places.new s ≡ last_at places.old s) }
+    ensures before { OnErr result (places.new.before.items ≡ places.old.before.items) }
     ensures ok { IfOk result (λ _. Added literals.old.items starts.old.items ends.old.items watched.old.items lists.old clause.now first second literals.new.items starts.new.items ends.new.items watched.new.items lists.new) }
     ensures err { OnErr result (Unchanged literals.old.items starts.old.items ends.old.items watched.old.items lists.old literals.new.items starts.new.items ends.new.items watched.new.items lists.new) }
 {
@@ -200,6 +207,7 @@ fn put(
     ends.reserve(1)?;
     watched.reserve(2)?;
     literals.reserve(clause.len())?;
+    places.make_room()?;
     list_watches(lists, first, second, watch)?;
     let start = literals.len();
     literals.extend_from_slice(clause)?;
@@ -213,6 +221,7 @@ fn put(
     }
     push_in_room(watched, first);
     push_in_room(watched, second);
+    places.link(clause_sum(clause), clauses as u32);
     Ok(())
 }
 
@@ -230,8 +239,13 @@ pub struct Propagator {
     // two literals of each clause, and for each literal the watches of it
     watched: Vec<u32>,
     lists: Lists,
+    // where the clauses of each sum stand
+    places: Places,
     // what followed
     trail: Trail,
+    // how many literals clauses had that were taken away since the last sweep
+    dead: usize,
+    alloc: Global,
 }
 
 impl std::marker::Model for Propagator {
@@ -284,7 +298,10 @@ impl Propagator {
             ends: Vec::new(alloc),
             watched: Vec::new(alloc),
             lists,
+            places: Places::new(alloc),
             trail,
+            dead: 0,
+            alloc,
         })
     }
 
@@ -320,6 +337,7 @@ impl Propagator {
                 &mut self.ends,
                 &mut self.watched,
                 &mut self.lists,
+                &mut self.places,
                 clause,
                 first,
                 second,
@@ -339,10 +357,62 @@ impl Propagator {
         ensures left { IsWithout self.old.clauses clause.now self.new.clauses }
         ensures followed { (self.new.followed ≡ self.old.followed) × (self.new.limit ≡ self.old.limit) }
     {
-        match last_alike(&self.literals, &self.starts, &self.ends, clause) {
+        self.take_away(clause);
+        self.sweep();
+    }
+
+    /// Puts the clauses that stand together anew where those that were taken away had as many literals, if there is memory.
+    fn sweep(&mut self)
+        ensures { self.new ≡ self.old }
+    {
+        if self.dead <= self.literals.len() / 2 {
+            return;
+        }
+        self.dead = 0;
+        match without_dead(
+            self.alloc,
+            &self.literals,
+            &self.starts,
+            &self.ends,
+            &self.watched,
+            &self.lists,
+            &self.trail,
+        ) {
+            Ok(clauses) => {
+                self.literals = clauses.literals;
+                self.starts = clauses.starts;
+                self.ends = clauses.ends;
+                self.watched = clauses.watched;
+                self.lists = clauses.lists;
+                self.places = clauses.places;
+            }
+            Err(_) => {}
+        }
+    }
+
+    /// Takes away the last clause that has the same literals, and leaves its place empty.
+    fn take_away(&mut self, clause: &[u32])
+        ensures left { IsWithout self.old.clauses clause.now self.new.clauses }
+        ensures followed { (self.new.followed ≡ self.old.followed) × (self.new.limit ≡ self.old.limit) }
+    {
+        let count = self.ends.len();
+        if clause.is_empty() {
+            return;
+        }
+        let sum = clause_sum(clause);
+        match last_alike(
+            &self.literals,
+            &self.starts,
+            &self.ends,
+            &self.places,
+            sum,
+            clause,
+        ) {
             None => {}
-            Some(place) => {
+            Some((place, behind)) => {
+                self.places.unlink(count, sum, place, behind);
                 self.ends[place] = self.starts[place];
+                self.dead = self.dead.saturating_add(clause.len());
                 self.watched[2 * place] = NO_LITERAL;
                 self.watched[2 * place + 1] = NO_LITERAL;
             }
