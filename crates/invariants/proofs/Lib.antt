@@ -1,0 +1,8 @@
+mod BitLemmas
+mod ClauseLemmas
+mod FormulaLemmas
+mod ObligationLemmas
+mod PutLemmas
+mod ReaderLemmas
+mod TraceLemmas
+mod WordLemmas
