@@ -1,0 +1,31 @@
+-- Worked rows: models whose lines have names, and frames of them.
+use Rattle.std.specs.Prelude.{ℕ, List, [], ◌∷◌, Some, codes, ◌==◌, if◌then◌else◌}
+use Rattle.btor2.specs.declared.item.Item.{Item}
+use Rattle.btor2.specs.declared.item.Body.{Body}
+use Rattle.btor2.specs.declared.item.Body.TheVariants as body
+use Rattle.base.specs.declared.operators.Binary.TheVariants as binary
+use Rattle.btor2.specs.Trace.{Frame}
+use Rattle.btor2.specs.Worked.{line}
+
+-- an item with a name
+abbrev pub named : ℕ → List ℕ → Body → Item
+named id symbol says = record { id = id; symbol = Some symbol; body = says }
+
+-- names that are plain and names that are not, an operator with a name and one without, and a property
+abbrev pub names : List Item
+names =
+    line 1 (body.Sort 4)
+    ∷ line 2 (body.Sort 1)
+    ∷ named 3 (codes "top.a_1") (body.Input 1)
+    ∷ named 4 (codes "mem[3]") (body.State 1)
+    ∷ named 5 (codes "$end") (body.Input 1)
+    ∷ line 6 (body.Binary binary.Add 1 3 5)
+    ∷ named 7 (codes "1st") (body.Binary binary.Eq 2 6 4)
+    ∷ named 8 (codes "reached") (body.Bad 7)
+    ∷ line 9 (body.Output 6)
+    ∷ line 10 (body.Next 1 4 6)
+    ∷ []
+
+-- a frame in which one node has a word, and all others 0
+abbrev pub one_word : ℕ → ℕ → Frame
+one_word node word id = if id == node then word else 0

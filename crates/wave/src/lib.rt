@@ -1,0 +1,16 @@
+//! Value change dumps of the frames of witnesses over models.
+#![tactic(auto)]
+
+mod changes;
+mod declarations;
+mod fault;
+pub mod laws;
+mod names;
+mod scope;
+mod signals;
+mod waver;
+mod waving;
+
+pub use fault::WaveFault;
+pub use scope::Shown;
+pub use waving::wave;
