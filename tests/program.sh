@@ -124,13 +124,11 @@ expect_line "help" out "  2  the input is refused"
 expect "version" 0 ""
 expect_line "version" out "hwtool 0.1.0"
 
-# refusals are explained as the tables of docs/REFUSALS.md say, which may have `|` in a cell as `\|`; those of
-# counterexamples over engine forms are of a library that the program does not call
+# refusals are explained as the tables of docs/REFUSALS.md say, which may have `|` in a cell as `\|`
 "$program" explain >out 2>err; status=$?
 expect "explain" 0 ""
 sed 's/\\|/\x01/g' "$top/docs/REFUSALS.md" | awk -F ' *[|] *' '
     /^## / { part = substr($0, 4) }
-    part == "Counterexamples over engine forms" { next }
     /^[|] [0-9]+ [A-Za-z]+ [|]/ { print $2 " (" part ")\n  when: " $3 "\n  do: " $4 }' | tr '\001' '|' >tables
 count=$((count + 1))
 if ! diff tables out >differences; then
@@ -193,6 +191,20 @@ if command -v script >/dev/null; then
     tr -d '\r' <out >lines
     expect "lower to a terminal" 0 ""
     expect_line "lower to a terminal" lines "aag 1 0 1 0 0 1"
+
+    # work of more than two seconds, of which a terminal shows how far it is, unless that is left out
+    slow="{ head -n 1 model.btor2; sleep 3; tail -n +2 model.btor2; }"
+    script -qec "$slow | '$program' lower - >circuit.aag" /dev/null </dev/null >out 2>&1; status=$?
+    expect "slow work at a terminal" 0 ""
+    tr '\r' '\n' <out >lines
+    expect_line "slow work at a terminal" lines "read 0 MB"
+    tail -n 1 lines | tr -d ' \n' >left
+    expect_nothing "slow work at a terminal: a line that is left" left
+    script -qec "$slow | '$program' lower --quiet - >circuit.aag" /dev/null </dev/null >out 2>&1; status=$?
+    expect "slow work at a terminal, quietly" 0 ""
+    expect_nothing "slow work at a terminal, quietly" out
+    sh -c "$slow" | "$program" lower - >out 2>err; status=$?
+    expect "slow work at no terminal" 0 ""
 fi
 
 # a model of a hundred kilobytes whose circuit would have more than 2^30 variables by its bound

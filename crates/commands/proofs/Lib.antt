@@ -1,4 +1,6 @@
 pub mod CountLemmas
 pub mod EngineLemmas
+pub mod RestoreLemmas
 pub mod TableLemmas
 pub mod ToldLemmas
+pub mod WaveLemmas

@@ -17,6 +17,8 @@ use Rattle.witness.specs.declared.fault.JudgeFault.{JudgeFault}
 use Rattle.witness.specs.declared.fault.JudgeFault.TheVariants as judge
 use Rattle.lift.specs.declared.fault.LiftFault.{LiftFault}
 use Rattle.lift.specs.declared.fault.LiftFault.TheVariants as lift
+use Rattle.wave.specs.declared.fault.WaveFault.{WaveFault}
+use Rattle.wave.specs.declared.fault.WaveFault.TheVariants as wave
 use Rattle.vectors.specs.declared.lines.LinesFault.{LinesFault}
 use Rattle.vectors.specs.declared.lines.LinesFault.TheVariants as lines
 use Rattle.commands.specs.declared.refusals.Device.TheVariants as device
@@ -65,6 +67,13 @@ abbrev pub of_judging : JudgeFault → Refusal
 of_judging (judge.NoNext id) = refusal.Input (fault.NoNext id)
 of_judging judge.Device = refusal.Failed device.Second
 of_judging judge.NoMemory = refusal.NoMemory
+
+-- of dumping the frames of a witness
+abbrev pub of_dumping : WaveFault → Refusal
+of_dumping (wave.NoNext id) = refusal.Input (fault.NoNext id)
+of_dumping wave.Read = refusal.Failed device.Second
+of_dumping wave.Write = refusal.Failed device.Output
+of_dumping wave.NoMemory = refusal.NoMemory
 
 -- of lifting a witness
 abbrev pub of_lifting : LiftFault → Refusal

@@ -1,5 +1,5 @@
 -- What the exit statuses 0 and 1 of a command say.
-use Rattle.std.specs.Prelude.{◌≡◌, ◌≢◌, ◌↔◌, ℕ, Bool, true, false, List, [], ◌∷◌, ◌++◌, length, Option, Some, None, IfSome, codes, decimal}
+use Rattle.std.specs.Prelude.{◌≡◌, ◌≢◌, ◌↔◌, ◌⊎◌, ℕ, Bool, true, false, List, [], ◌∷◌, ◌++◌, length, Option, Some, None, IfSome, codes, decimal}
 use Rattle.std.specs.List.{All}
 use Rattle.std.specs.Io.KnownBytes.{Appends}
 use Rattle.btor2.specs.declared.item.Item.{Item}
@@ -17,12 +17,22 @@ use Rattle.blast.specs.Conversion.{Converts}
 use Rattle.blast.specs.Cost.{cost, bound}
 use Rattle.blast.specs.Reachability.{CanRise}
 use Rattle.blast.specs.Refusal.{lowering_refusal}
-use Rattle.engine.specs.EngineForm.{IsEngineFormOf}
+use Rattle.engine.specs.EngineForm.{IsEngineFormOf, input_count}
+use Rattle.engine.specs.Refusal.{engine_refusal}
+use Rattle.restore.specs.declared.fault.RestoreFault.{RestoreFault}
+use Rattle.restore.specs.Accepted.{FindsAgain}
+use Rattle.restore.specs.Faults.{why_number, why_name}
+use Rattle.restore.specs.Reading.{read_text}
+use Rattle.restore.specs.Restored.{restored_text}
 use Rattle.witness.specs.declared.judgement.Judgement.{Judgement}
 use Rattle.witness.specs.declared.judgement.Judgement.TheVariants as judgement
 use Rattle.witness.specs.Judgements.{Judges}
 use Rattle.witness.specs.BitJudgements.{BitJudges}
 use Rattle.blast.specs.Lowering.{Lowers}
+use Rattle.btor2.specs.Trace.{Frame}
+use Rattle.witness.specs.ClosedWords.{IsClosedTrace}
+use Rattle.wave.specs.Dumps.{vcd_text}
+use Rattle.wave.specs.declared.scope.Shown.{Shown}
 use Rattle.lift.specs.Lifted.{lifted_text}
 use Rattle.lift.specs.Verdicts.{KeepsVerdict}
 use Rattle.witness.specs.Printed.{judgement_text}
@@ -165,6 +175,58 @@ pub record ConvertsForEngines (known before now : Option (List ℕ)) (form : For
   pub rise_alike : RiseAlike (CanRiseInCircuit original) choice circuit
   pub appends : Appends before now (circuit_text form circuit)
 
+-- The first text is of a model, each of whose states has a next or is free; the second is judged so over it; what was written is the dump of its closed frames, under some title; and what was told is the line of that judgement.
+pub record IsDumped (shown : Shown) (model witness before now told told' : Option (List ℕ)) (verdict : Judgement) : Type 0 where
+  pub items : List Item
+  pub title : List ℕ
+  pub text : IsModelOf model items
+  pub well_formed : IsWellFormed items
+  pub each_has_next_or_is_free : first_init_without_next items items ≡ None
+  pub judged : IfSome witness (λ text. Judges items text verdict)
+  pub dumped : IfSome witness (λ text. (fs : List Frame) → IsClosedTrace items text fs → Appends before now (vcd_text shown title items fs))
+  pub line : Appends told told' (judgement_line verdict)
+
+-- the bad property that a counterexample over an engine form claims: the chosen one, and without a choice the only one
+abbrev pub IsClaim : Option ℕ → Circuit → ℕ → Type 0
+IsClaim (Some k) c claim = claim ≡ k
+IsClaim None c claim = (length c.bads ≡ 1) × (claim ≡ 0)
+
+-- The first text is of a circuit that has an engine form for this bad property; and what was written is what the second is restored to, a counterexample over that form.
+pub record IsRestored (choice : Option ℕ) (circuit found before now : Option (List ℕ)) : Type 0 where
+  pub value : Circuit
+  pub claim : ℕ
+  pub is_circuit : IsCircuit value
+  pub text : IsCircuitText circuit value
+  pub is_claim : IsClaim choice value claim
+  pub accepted : engine_refusal value (Some claim) ≡ None
+  pub restored : IfSome found (λ text. Appends before now (restored_text value claim text))
+
+-- no line of a counterexample over the engine form of a circuit is faulty, and what it is restored to is judged so over the circuit: accepted, where the form's bad property is 1
+pub record IsRestoredSo (c : Circuit) (claim : ℕ) (found told told' : Option (List ℕ)) (verdict : Judgement) : Type 0 where
+  pub right : IfSome found (λ text. (read_text (input_count c) text).fault ≡ None)
+  pub judged : IfSome found (λ text. BitJudges c (restored_text c claim text) verdict)
+  pub again : IfSome found (λ text. FindsAgain c claim text verdict)
+  pub line : Appends told told' (judgement_line verdict)
+
+-- the line of the first faulty line of a counterexample
+abbrev pub malformed_line : RestoreFault → List ℕ
+malformed_line e = codes "malformed line " ++ (decimal e.line ++ (codes ": " ++ (decimal (why_number e.why) ++ (codes " " ++ (why_name e.why ++ codes "\n")))))
+
+-- this is the first faulty line of a counterexample over the engine form of a circuit, and it was told
+pub record IsMalformed (c : Circuit) (found told told' : Option (List ℕ)) : Type 0 where
+  pub fault : RestoreFault
+  pub first : IfSome found (λ text. (read_text (input_count c) text).fault ≡ Some fault)
+  pub line : Appends told told' (malformed_line fault)
+
+-- what was told of a counterexample, and whether it is accepted
+abbrev pub TellsRestored : Answer → Circuit → ℕ → Option (List ℕ) → Option (List ℕ) → Option (List ℕ) → Type 0
+TellsRestored a c claim found told told' = Judged (IsRestoredSo c claim found told told') a ⊎ ((a ≡ answer.NotAccepted) × IsMalformed c found told told')
+
+-- The first text is of a circuit; what was written is what the second is restored to, a counterexample over its engine form; and it was told how that is judged.
+pub record Restores (choice : Option ℕ) (circuit found before now told told' : Option (List ℕ)) (a : Answer) : Type 0 where
+  pub is_restored : IsRestored choice circuit found before now
+  pub tells : TellsRestored a is_restored.value is_restored.claim found told told'
+
 -- all that was to come is a text of some vectors, each of which is right, and what was written is that all of them agree
 pub record Agree (known before now : Option (List ℕ)) : Type 0 where
   pub vectors : List Vector
@@ -184,28 +246,42 @@ abbrev pub Compares : Option (List ℕ) → Option (List ℕ) → Option (List �
 Compares known before now answer.Done = Agree known before now
 Compares known before now answer.NotAccepted = Differ known before now
 
--- what a command has done that answers so. Of `first` and `second` all bytes that were to come are known, or none are; `before` and `now` stand on standard output, `told` and `told'` on standard error
-abbrev pub Answers : Task → Form → Answer → Option (List ℕ) → Option (List ℕ) → Option (List ℕ) → Option (List ℕ) → Option (List ℕ) → Option (List ℕ) → Type 0
-Answers task.Lower form answer.Done first second before now told told' = Converts first before now form
-Answers (task.LowerForEngines choice) form answer.Done first second before now told told' = LowersForEngines first before now form choice
-Answers task.CheckBtor form a first second before now told told' = Judged (IsJudged first second before now) a
-Answers task.Show form answer.Done first second before now told told' = Shows first before now
-Answers task.Cost form answer.Done first second before now told told' = TellsCost first before now
-Answers task.AigConvert form answer.Done first second before now told told' = Rewrites first before now form
-Answers (task.ConvertForEngines choice) form answer.Done first second before now told told' = ConvertsForEngines first before now form choice
-Answers task.CheckAig form a first second before now told told' = Judged (IsJudgedOver first second before now) a
-Answers task.Lift form a first second before now told told' = Judged (IsLiftedAndTold first second before now told told') a
-Answers task.Vectors form a first second before now told told' = Compares first before now a
-Answers _ form a first second before now told told' = ⊥
+-- what a command has done that answers so. Of `first`, `second` and `third` each, all bytes that were to come are known, or none are; `before` and `now` stand on standard output, `told` and `told'` on standard error
+abbrev pub Answers : Task → Form → Answer → Option (List ℕ) → Option (List ℕ) → Option (List ℕ) → Option (List ℕ) → Option (List ℕ) → Option (List ℕ) → Option (List ℕ) → Type 0
+Answers task.Lower form answer.Done first second third before now told told' = Converts first before now form
+Answers (task.LowerForEngines choice) form answer.Done first second third before now told told' = LowersForEngines first before now form choice
+Answers task.CheckBtor form a first second third before now told told' = Judged (IsJudged first second before now) a
+Answers task.Show form answer.Done first second third before now told told' = Shows first before now
+Answers task.Cost form answer.Done first second third before now told told' = TellsCost first before now
+Answers task.AigConvert form answer.Done first second third before now told told' = Rewrites first before now form
+Answers (task.ConvertForEngines choice) form answer.Done first second third before now told told' = ConvertsForEngines first before now form choice
+Answers task.CheckAig form a first second third before now told told' = Judged (IsJudgedOver first second before now) a
+Answers task.Lift form a first second third before now told told' = Judged (IsLiftedAndTold first second before now told told') a
+Answers (task.Wave shown) form a first second third before now told told' = Judged (IsDumped shown first second before now told told') a
+Answers (task.Restore choice) form a first second third before now told told' = Restores choice first second before now told told' a
+Answers task.Vectors form a first second third before now told told' = Compares first before now a
+Answers _ form a first second third before now told told' = ⊥
+
+-- what a command has done that answers so, on some output of which nothing is known
+abbrev pub AnswersSome : Task → Form → Answer → Option (List ℕ) → Option (List ℕ) → Option (List ℕ) → Option (List ℕ) → Option (List ℕ) → Type 0
+AnswersSome task form a first second third told told' = (before : Option (List ℕ)) × ((now : Option (List ℕ)) × Answers task form a first second third before now told told')
 
 -- a command has one file
 abbrev pub has_one_file : Task → Bool
 has_one_file task.CheckBtor = false
 has_one_file task.CheckAig = false
 has_one_file task.Lift = false
+has_one_file (task.Restore choice) = false
+has_one_file (task.Wave shown) = false
 has_one_file _ = true
+
+-- a command has three files
+abbrev pub has_three_files : Task → Bool
+has_three_files _ = false
 
 -- a command that is done tells nothing on standard error
 abbrev pub is_quiet : Task → Bool
 is_quiet task.Lift = false
+is_quiet (task.Restore choice) = false
+is_quiet (task.Wave shown) = false
 is_quiet _ = true

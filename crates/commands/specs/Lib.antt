@@ -5,4 +5,5 @@ pub mod Explanations
 pub mod Files
 pub mod Orders
 pub mod Refusals
+pub mod Restoring
 pub mod Statuses

@@ -1,5 +1,5 @@
 -- What a command asks of standard input, and what the file of a result is called.
-use Rattle.std.specs.Prelude.{ℕ, Bool, true, false, ◌&&◌, List, ◌++◌, Option, Some, None, codes, decimal}
+use Rattle.std.specs.Prelude.{ℕ, Bool, true, false, ◌&&◌, ◌||◌, List, ◌++◌, Option, Some, None, codes, decimal}
 use Rattle.std.specs.Str.{bytes_eq}
 use Rattle.aigertext.specs.declared.forms.Form.{Form}
 use Rattle.aigertext.specs.declared.forms.Form.TheVariants as form
@@ -13,10 +13,11 @@ abbrev pub names_standard_input : Option (List ℕ) → Bool
 names_standard_input None = false
 names_standard_input (Some name) = is_standard_input name
 
--- both files of a command are standard input
-abbrev pub reads_input_twice : List ℕ → Option (List ℕ) → Bool
-reads_input_twice first None = false
-reads_input_twice first (Some second) = is_standard_input first && is_standard_input second
+-- two of the files of a command are standard input
+abbrev pub reads_input_twice : List ℕ → Option (List ℕ) → Option (List ℕ) → Bool
+reads_input_twice first second third =
+    (is_standard_input first && (names_standard_input second || names_standard_input third))
+    || (names_standard_input second && names_standard_input third)
 
 -- the name that a result has while it is written: that of its file and the number of a process
 abbrev pub part_name : List ℕ → ℕ → List ℕ

@@ -1,5 +1,5 @@
 -- What a command says that is not done: the fault that its input has, or which file or stream failed, and the line that tells it.
-use Rattle.std.specs.Prelude.{◌≡◌, ℕ, List, [], ◌++◌, Option, Some, IfSome, unwrap_or, codes, decimal}
+use Rattle.std.specs.Prelude.{◌≡◌, ◌≢◌, ℕ, List, [], ◌++◌, length, Option, None, Some, IfSome, unwrap_or, codes, decimal}
 use Rattle.btor2.specs.declared.item.Item.{Item}
 use Rattle.btor2.specs.Check.{IsWellFormed}
 use Rattle.btor2.specs.Lists.{first_init_without_next}
@@ -27,7 +27,7 @@ use Rattle.commands.specs.declared.refusals.Fault.{Fault}
 use Rattle.commands.specs.declared.refusals.Fault.TheVariants as fault
 use Rattle.commands.specs.declared.refusals.Refusal.{Refusal}
 use Rattle.commands.specs.declared.refusals.Refusal.TheVariants as refusal
-use Rattle.commands.specs.Done.{IsCircuitText, IsModelOf}
+use Rattle.commands.specs.Done.{IsCircuitText, IsClaim, IsModelOf}
 
 -- ---- lines
 
@@ -62,19 +62,26 @@ fault_line file (fault.Lowering e) = about file (at_item e (numbered_name (lower
 fault_line file (fault.Engine e) = about file (numbered_name (engine_number e) (engine_name e))
 fault_line file (fault.NoNext id) = item_line file id (judge_number (judge.NoNext id)) (judge_name (judge.NoNext id))
 fault_line file (fault.Vector n) = about file (at (codes "line ") n (codes "bad vector\n"))
+fault_line file fault.Unchosen = about file (codes "--bad K says which bad property is claimed: ABC prints its number as Output K of miter was asserted\n")
+
+-- the exit status of a fault: words that leave a choice open are refused, and else the input is
+abbrev pub status_of_fault : Fault → ℕ
+status_of_fault fault.Unchosen = 4
+status_of_fault _ = 2
 
 -- the name by which a file or a stream is told
-abbrev pub device_name : List ℕ → Option (List ℕ) → Device → List ℕ
-device_name first second device.First = first
-device_name first second device.Second = unwrap_or second (codes "-")
-device_name first second device.Output = codes "output"
-device_name first second device.Error = []
+abbrev pub device_name : List ℕ → Option (List ℕ) → Option (List ℕ) → Device → List ℕ
+device_name first second third device.First = first
+device_name first second third device.Second = unwrap_or second (codes "-")
+device_name first second third device.Third = unwrap_or third (codes "-")
+device_name first second third device.Output = codes "output"
+device_name first second third device.Error = []
 
 -- the line that tells a refusal, by the names of the files
-abbrev pub refusal_line : List ℕ → Option (List ℕ) → Refusal → List ℕ
-refusal_line first second (refusal.Input f) = fault_line first f
-refusal_line first second (refusal.Failed d) = about (device_name first second d) (codes "device\n")
-refusal_line first second refusal.NoMemory = codes "no memory\n"
+abbrev pub refusal_line : List ℕ → Option (List ℕ) → Option (List ℕ) → Refusal → List ℕ
+refusal_line first second third (refusal.Input f) = fault_line first f
+refusal_line first second third (refusal.Failed d) = about (device_name first second third d) (codes "device\n")
+refusal_line first second third refusal.NoMemory = codes "no memory\n"
 
 -- ---- the fault of an input
 
@@ -147,6 +154,29 @@ abbrev pub IsNotConvertedForEngines : Option ℕ → Option (List ℕ) → Fault
 IsNotConvertedForEngines choice known (fault.Engine e) = HasNoForm known choice e
 IsNotConvertedForEngines choice known f = IsNoCircuit known f
 
+-- the first text is of a circuit, and this is the first that speaks against an engine form of it with the bad property that is claimed
+pub record HasNoFormClaimed (known : Option (List ℕ)) (choice : Option ℕ) (e : EngineFault) : Type 0 where
+  pub circuit : Circuit
+  pub claim : ℕ
+  pub is_circuit : IsCircuit circuit
+  pub text : IsCircuitText known circuit
+  pub is_claim : IsClaim choice circuit claim
+  pub first : engine_refusal circuit (Some claim) ≡ Some e
+
+-- the first text is of a circuit that has none or several bad properties, and none is chosen
+pub record IsUnchosen (known : Option (List ℕ)) (choice : Option ℕ) : Type 0 where
+  pub circuit : Circuit
+  pub is_circuit : IsCircuit circuit
+  pub text : IsCircuitText known circuit
+  pub none : choice ≡ None
+  pub not_one : length circuit.bads ≢ 1
+
+-- the first text is no circuit, or is of one over whose engine form no counterexample is restored
+abbrev pub IsNotRestored : Option ℕ → Option (List ℕ) → Fault → Type 0
+IsNotRestored choice known (fault.Engine e) = HasNoFormClaimed known choice e
+IsNotRestored choice known fault.Unchosen = IsUnchosen known choice
+IsNotRestored choice known f = IsNoCircuit known f
+
 -- the first text has this fault, for which a command refuses it
 abbrev pub Refuses : Task → Option (List ℕ) → Fault → Type 0
 Refuses task.Lower known f = IsNotLowered known f
@@ -158,4 +188,6 @@ Refuses task.AigConvert known f = IsNoCircuit known f
 Refuses (task.ConvertForEngines choice) known f = IsNotConvertedForEngines choice known f
 Refuses task.CheckAig known f = IsNoCircuit known f
 Refuses task.Lift known f = IsNotLowered known f
+Refuses (task.Restore choice) known f = IsNotRestored choice known f
+Refuses (task.Wave shown) known f = IsNotJudged known f
 Refuses task.Vectors known f = IsNoVectorList known f

@@ -7,15 +7,22 @@ use Rattle.commands.specs.declared.refusals.Device.TheVariants as device
 use Rattle.commands.specs.declared.refusals.Fault.{Fault}
 use Rattle.commands.specs.declared.refusals.Refusal.{Refusal}
 use Rattle.commands.specs.declared.refusals.Refusal.TheVariants as refusal
-use Rattle.commands.specs.Refusals.{Refuses, fault_line, refusal_line}
+use Rattle.commands.specs.declared.refusals.Fault.TheVariants as fault
+use Rattle.commands.specs.Refusals.{Refuses, fault_line, refusal_line, status_of_fault}
 
--- the counts of failures of the first file, the second, standard output and standard error, before and after: one more of the one that is told, and no other
+-- the counts of failures of the first file, the second, standard output and standard error, before and after, of a command that reads no third file: one more of the one that is told, and no other
 abbrev pub Counts : {T : Type 0} → Result T Refusal → ℕ → ℕ → ℕ → ℕ → ℕ → ℕ → ℕ → ℕ → Type 0
 Counts (Err (refusal.Failed device.First)) f f' s s' o o' e e' = HasRisen f f' × (s' ≡ s) × (o' ≡ o) × (e' ≡ e)
 Counts (Err (refusal.Failed device.Second)) f f' s s' o o' e e' = (f' ≡ f) × HasRisen s s' × (o' ≡ o) × (e' ≡ e)
 Counts (Err (refusal.Failed device.Output)) f f' s s' o o' e e' = (f' ≡ f) × (s' ≡ s) × HasRisen o o' × (e' ≡ e)
 Counts (Err (refusal.Failed device.Error)) f f' s s' o o' e e' = (f' ≡ f) × (s' ≡ s) × (o' ≡ o) × HasRisen e e'
+Counts (Err (refusal.Failed device.Third)) f f' s s' o o' e e' = ⊥
 Counts _ f f' s s' o o' e e' = (f' ≡ f) × (s' ≡ s) × (o' ≡ o) × (e' ≡ e)
+
+-- the same with the count of the third file behind that of the second
+abbrev pub CountsAll : {T : Type 0} → Result T Refusal → ℕ → ℕ → ℕ → ℕ → ℕ → ℕ → ℕ → ℕ → ℕ → ℕ → Type 0
+CountsAll (Err (refusal.Failed device.Third)) f f' s s' t t' o o' e e' = (f' ≡ f) × (s' ≡ s) × HasRisen t t' × (o' ≡ o) × (e' ≡ e)
+CountsAll r f f' s s' t t' o o' e e' = Counts r f f' s s' o o' e e' × (t' ≡ t)
 
 -- a refusal is none of an input
 abbrev pub IsOfNoInput : {T : Type 0} → Result T Refusal → Type 0
@@ -39,6 +46,11 @@ pub record IsRefused (task : Task) (file : List ℕ) (first told told' : Option 
   pub has : Refuses task first fault
   pub line : Appends told told' (fault_line file fault)
 
+-- Status 4: words leave open which bad property of the first text is claimed, and the line that says so was written.
+pub record IsLeftOpen (task : Task) (file : List ℕ) (first told told' : Option (List ℕ)) : Type 0 where
+  pub has : Refuses task first fault.Unchosen
+  pub line : Appends told told' (fault_line file fault.Unchosen)
+
 -- a refusal is none of an input, and standard error did not fail
 abbrev pub IsTold : Refusal → Type 0
 IsTold (refusal.Input f) = ⊥
@@ -46,22 +58,22 @@ IsTold (refusal.Failed device.Error) = ⊥
 IsTold _ = Unit {0}
 
 -- a file or standard output failed, no other did, and the line that names it was written; or none failed, and `no memory` was written
-pub record TellsFailure (file : List ℕ) (second : Option (List ℕ)) (told told' : Option (List ℕ)) (f f' s s' o o' e e' : ℕ) : Type 0 where
+pub record TellsFailure (file : List ℕ) (second third : Option (List ℕ)) (told told' : Option (List ℕ)) (f f' s s' t t' o o' e e' : ℕ) : Type 0 where
   pub why : Refusal
   pub is_told : IsTold why
-  pub counted : Counts {T = Unit {0}} (Err why) f f' s s' o o' e e'
-  pub line : Appends told told' (refusal_line file second why)
+  pub counted : CountsAll {T = Unit {0}} (Err why) f f' s s' t t' o o' e e'
+  pub line : Appends told told' (refusal_line file second third why)
 
 -- Status 3: standard error failed, or a failure was told.
-abbrev pub HasFailed : List ℕ → Option (List ℕ) → Option (List ℕ) → Option (List ℕ) → ℕ → ℕ → ℕ → ℕ → ℕ → ℕ → ℕ → ℕ → Type 0
-HasFailed file second told told' f f' s s' o o' e e' = HasRisen e e' ⊎ TellsFailure file second told told' f f' s s' o o' e e'
+abbrev pub HasFailed : List ℕ → Option (List ℕ) → Option (List ℕ) → Option (List ℕ) → Option (List ℕ) → ℕ → ℕ → ℕ → ℕ → ℕ → ℕ → ℕ → ℕ → ℕ → ℕ → Type 0
+HasFailed file second third told told' f f' s s' t t' o o' e e' = HasRisen e e' ⊎ TellsFailure file second third told told' f f' s s' t t' o o' e e'
 
--- what was told of the fault of a file, and the status: its line, or `no memory` where there was none for the line
+-- what was told of the fault of a file, and the status: its line and its own, or `no memory` where there was none for the line
 abbrev pub TellsFault : List ℕ → Fault → ℕ → Option (List ℕ) → Option (List ℕ) → Type 0
-TellsFault file fault status told told' = ((status ≡ 2) × Appends told told' (fault_line file fault)) ⊎ ((status ≡ 3) × Appends told told' (codes "no memory\n"))
+TellsFault file fault status told told' = ((status ≡ status_of_fault fault) × Appends told told' (fault_line file fault)) ⊎ ((status ≡ 3) × Appends told told' (codes "no memory\n"))
 
 -- what was told of a refusal, and the status
-abbrev pub Tells : List ℕ → Option (List ℕ) → Refusal → ℕ → Option (List ℕ) → Option (List ℕ) → Type 0
-Tells file second (refusal.Input f) status told told' = TellsFault file f status told told'
-Tells file second (refusal.Failed device.Error) status told told' = status ≡ 3
-Tells file second r status told told' = (status ≡ 3) × Appends told told' (refusal_line file second r)
+abbrev pub Tells : List ℕ → Option (List ℕ) → Option (List ℕ) → Refusal → ℕ → Option (List ℕ) → Option (List ℕ) → Type 0
+Tells file second third (refusal.Input f) status told told' = TellsFault file f status told told'
+Tells file second third (refusal.Failed device.Error) status told told' = status ≡ 3
+Tells file second third r status told told' = (status ≡ 3) × Appends told told' (refusal_line file second third r)

@@ -1,7 +1,7 @@
 //! The command line: the words that the program is given, and what they ask for.
 
 ghost use Rattle.std.specs.Prelude.{◌≡◌, IfOk, false, option_map};
-ghost use Rattle.commands.specs.Orders.{reads_input_twice};
+ghost use Rattle.commands.specs.Orders.{names_standard_input, reads_input_twice};
 
 use crate::explaining::explain;
 use crate::explanations::refusal_table;
@@ -14,6 +14,7 @@ use std::alloc::{AllocError, AllocGlobal, Global};
 use std::convert::AsStr;
 use std::env::Env;
 use std::{env, io};
+use wave::Shown;
 
 /// The program's name, with which each usage line begins.
 const PROGRAM: &str = "hwtool";
@@ -69,6 +70,15 @@ const ENGINE: &str = "engine";
 
 const BAD: &str = "bad";
 
+/// The flag for a counterexample in the form that ABC writes.
+const ABC: &str = "abc";
+
+/// The flag for a dump of all nodes that have a value.
+const ALL: &str = "all";
+
+/// The flag that leaves out how far work is.
+const QUIET: &str = "quiet";
+
 /// The word that asks what refusals mean, and the name of the number or the name that may stand behind it.
 const EXPLAIN: &str = "explain";
 
@@ -85,6 +95,17 @@ enum Product {
     Circuit,
 }
 
+/// What engine forms are to a command.
+#[derive(Clone, Copy, PartialEq, Eq)]
+enum Engine {
+    /// Nothing.
+    Unknown,
+    /// It writes one where that is asked for.
+    Written,
+    /// It reads a counterexample over one.
+    Read,
+}
+
 /// A command of this program: its word, its task, what help says of it, and its files.
 struct Row {
     word: &'static str,
@@ -96,6 +117,8 @@ struct Row {
     witness: Option<&'static str>,
     /// What is written.
     product: Product,
+    /// What engine forms are to it.
+    engine: Engine,
 }
 
 /// The first file of commands on models, and what help says of it.
@@ -110,11 +133,14 @@ const CIRCUIT: (&str, &str) = (
     "The file of an AIGER circuit of either form, or - for standard input",
 );
 
+/// What help says of a witness of a model.
+const BTOR_WITNESS: &str = "The file of a BTOR2 witness, or - for standard input";
+
 /// What help says of a witness of a circuit.
 const AIGER_WITNESS: &str = "The file of an AIGER witness, or - for standard input";
 
 /// The commands, in the order in which help lists them.
-static ROWS: [Row; 8] = [
+static ROWS: [Row; 10] = [
     Row {
         word: "lower",
         task: Task::Lower,
@@ -122,14 +148,16 @@ static ROWS: [Row; 8] = [
         file: MODEL,
         witness: None,
         product: Product::Circuit,
+        engine: Engine::Written,
     },
     Row {
         word: "check-btor",
         task: Task::CheckBtor,
         about: "Judge a BTOR2 witness over a model",
         file: MODEL,
-        witness: Some("The file of a BTOR2 witness, or - for standard input"),
+        witness: Some(BTOR_WITNESS),
         product: Product::Lines,
+        engine: Engine::Unknown,
     },
     Row {
         word: "show",
@@ -138,6 +166,7 @@ static ROWS: [Row; 8] = [
         file: MODEL,
         witness: None,
         product: Product::Text,
+        engine: Engine::Unknown,
     },
     Row {
         word: "cost",
@@ -146,6 +175,7 @@ static ROWS: [Row; 8] = [
         file: MODEL,
         witness: None,
         product: Product::Lines,
+        engine: Engine::Unknown,
     },
     Row {
         word: "aig-convert",
@@ -154,6 +184,7 @@ static ROWS: [Row; 8] = [
         file: CIRCUIT,
         witness: None,
         product: Product::Circuit,
+        engine: Engine::Written,
     },
     Row {
         word: "check-aig",
@@ -162,6 +193,7 @@ static ROWS: [Row; 8] = [
         file: CIRCUIT,
         witness: Some(AIGER_WITNESS),
         product: Product::Lines,
+        engine: Engine::Unknown,
     },
     Row {
         word: "lift",
@@ -170,6 +202,27 @@ static ROWS: [Row; 8] = [
         file: MODEL,
         witness: Some(AIGER_WITNESS),
         product: Product::Text,
+        engine: Engine::Unknown,
+    },
+    Row {
+        word: "restore",
+        task: Task::Restore(None),
+        about: "Restore a counterexample over the engine form of a circuit to an AIGER witness of the circuit on standard output",
+        file: CIRCUIT,
+        witness: Some(
+            "The file of a counterexample as ABC writes it by write_cex -a, or - for standard input",
+        ),
+        product: Product::Text,
+        engine: Engine::Read,
+    },
+    Row {
+        word: "wave",
+        task: Task::Wave(Shown::Named),
+        about: "Judge a BTOR2 witness over a model, and write its frames as a value change dump (VCD) to standard output",
+        file: MODEL,
+        witness: Some(BTOR_WITNESS),
+        product: Product::Text,
+        engine: Engine::Unknown,
     },
     Row {
         word: "vectors",
@@ -178,6 +231,7 @@ static ROWS: [Row; 8] = [
         file: ("FILE", "The file of vector lines, or - for standard input"),
         witness: None,
         product: Product::Lines,
+        engine: Engine::Unknown,
     },
 ];
 
@@ -189,10 +243,10 @@ fn file_name<'a>(alloc: Global, name: &'a str, help: &'a str) -> Arg<'a> {
         .help(help)
 }
 
-/// A flag that chooses a form.
-fn form_flag<'a>(alloc: Global, form: &'a str, help: &'a str) -> Arg<'a> {
-    Arg::new(alloc, form)
-        .long(form)
+/// A flag.
+fn flag<'a>(alloc: Global, name: &'a str, help: &'a str) -> Arg<'a> {
+    Arg::new(alloc, name)
+        .long(name)
         .action(ArgAction::SetTrue)
         .help(help)
 }
@@ -209,13 +263,13 @@ fn output_option<'a>(alloc: Global) -> Arg<'a> {
         )
 }
 
-/// The option for the bad property that an engine form keeps.
-fn bad_option<'a>(alloc: Global) -> Arg<'a> {
+/// The option for the bad property that an engine form keeps, or that a counterexample claims.
+fn bad_option<'a>(alloc: Global, help: &'a str) -> Arg<'a> {
     Arg::new(alloc, BAD)
         .long(BAD)
         .value_name("K")
         .action(ArgAction::Set)
-        .help("With --engine, keep the bad property at this position alone, from 0")
+        .help(help)
 }
 
 /// The words of a command.
@@ -224,7 +278,12 @@ fn command_of<'a>(alloc: Global, row: &'a Row) -> Result<Command<'a>, AllocError
     let mut command = Command::new(alloc, row.word)
         .about(row.about)
         .after_help(HELP_END)
-        .arg(file_name(alloc, name, help))?;
+        .arg(file_name(alloc, name, help))?
+        .arg(flag(
+            alloc,
+            QUIET,
+            "Do not tell on a terminal how far work is that takes more than two seconds",
+        ))?;
     if let Some(help) = row.witness {
         command = command.arg(file_name(alloc, WITNESS, help))?;
     }
@@ -233,16 +292,49 @@ fn command_of<'a>(alloc: Global, row: &'a Row) -> Result<Command<'a>, AllocError
     }
     if row.product == Product::Circuit {
         command = command
-            .arg(form_flag(alloc, ASCII, "Write the ascii form (the default)"))?
-            .arg(form_flag(alloc, BINARY, "Write the binary form"))?
-            .arg(form_flag(
+            .arg(flag(alloc, ASCII, "Write the ascii form (the default)"))?
+            .arg(flag(alloc, BINARY, "Write the binary form"))?;
+    }
+    if row.task == Task::Wave(Shown::Named) {
+        command = command.arg(flag(
+            alloc,
+            ALL,
+            "Show every node that has a value, not only those with a symbol",
+        ))?;
+    }
+    with_engine_words(alloc, command, row.engine)
+}
+
+/// The words of a command with those about engine forms.
+fn with_engine_words<'a>(
+    alloc: Global,
+    command: Command<'a>,
+    engine: Engine,
+) -> Result<Command<'a>, AllocError> {
+    match engine {
+        Engine::Unknown => Ok(command),
+        Engine::Written => command
+            .arg(flag(
                 alloc,
                 ENGINE,
                 "Write a circuit that every engine reads alike: latches begin with 0, and there are bad properties alone",
             ))?
-            .arg(bad_option(alloc))?;
+            .arg(bad_option(
+                alloc,
+                "With --engine, keep the bad property at this position alone, from 0",
+            )),
+        Engine::Read => command
+            .arg(flag(
+                alloc,
+                ABC,
+                "The counterexample is in the form that ABC writes",
+            )
+            .required(true))?
+            .arg(bad_option(
+                alloc,
+                "The position of the bad property that is claimed, from 0; needed where the circuit has more than one",
+            )),
     }
-    Ok(command)
 }
 
 /// The words that ask what refusals mean.
@@ -290,9 +382,9 @@ fn output_of<'a>(words: &ArgMatches<'a>) -> Option<&'a str> {
 /// Errors: what is told of words that do not ask so.
 fn engine_properties(words: &ArgMatches<'_>) -> Result<Option<Option<usize>>, &'static str> {
     match words.get_str(BAD) {
-        None if words.get_flag(ENGINE) => Ok(Some(None)),
+        None if words.get_flag(ENGINE) || words.get_flag(ABC) => Ok(Some(None)),
         None => Ok(None),
-        Some(_) if !words.get_flag(ENGINE) => Err(BAD_ALONE),
+        Some(_) if !words.get_flag(ENGINE) && !words.get_flag(ABC) => Err(BAD_ALONE),
         Some(word) => match decimal(word.as_bytes()) {
             Some(position) => Ok(Some(Some(position as usize))),
             None => Err(NO_POSITION),
@@ -300,11 +392,14 @@ fn engine_properties(words: &ArgMatches<'_>) -> Result<Option<Option<usize>>, &'
     }
 }
 
-/// A command, where an engine form is asked for the one that writes it.
-fn task_of(task: Task, engine: Option<Option<usize>>) -> Task {
+/// A command, where an engine form is asked for the one that writes it, and where all nodes are to be shown the one that
+/// does so.
+fn task_of(task: Task, engine: Option<Option<usize>>, all: bool) -> Task {
     match (task, engine) {
         (Task::Lower, Some(choice)) => Task::LowerForEngines(choice),
         (Task::AigConvert, Some(choice)) => Task::ConvertForEngines(choice),
+        (Task::Restore(_), Some(choice)) => Task::Restore(choice),
+        (Task::Wave(_), _) if all => Task::Wave(Shown::All),
         (task, _) => task,
     }
 }
@@ -318,7 +413,7 @@ fn order_of<'a>(
     let row = row_of(word)?;
     let (name, _) = row.file;
     Some(Order {
-        task: task_of(row.task, engine),
+        task: task_of(row.task, engine, words.get_flag(ALL)),
         form: if words.get_flag(BINARY) {
             Form::Binary
         } else {
@@ -326,18 +421,30 @@ fn order_of<'a>(
         },
         first: words.get_str(name)?,
         second: words.get_str(WITNESS),
+        third: None,
         output: output_of(words),
+        tells_progress: !words.get_flag(QUIET),
     })
+}
+
+/// Whether there is a name of a file, and it stands for standard input.
+fn names_standard_input(name: Option<&str>) -> bool
+    ensures { result ≡ names_standard_input (option_map (λ name. name.now) name.entry) }
+{
+    match name {
+        Some(name) => name == STANDARD_INPUT,
+        None => false,
+    }
 }
 
 /// Whether a command would read standard input twice.
 fn reads_input_twice(order: &Order<'_>) -> bool
-    ensures { result ≡ reads_input_twice order.now.first.now (option_map (λ name. name.now) order.now.second) }
+    ensures { result ≡ reads_input_twice order.now.first.now (option_map (λ name. name.now) order.now.second) (option_map (λ name. name.now) order.now.third) }
 {
-    match order.second {
-        Some(second) => order.first == STANDARD_INPUT && second == STANDARD_INPUT,
-        None => false,
-    }
+    let first = order.first == STANDARD_INPUT;
+    let second = names_standard_input(order.second);
+    let third = names_standard_input(order.third);
+    (first && (second || third)) || (second && third)
 }
 
 /// What stands in place of a command where words are refused with a line of this program's own.
@@ -350,7 +457,7 @@ pub(crate) fn refused(alloc: Global, line: &str) -> Stop {
 
 /// The order that the words of a command give, or what stands in its place.
 fn order_or_stop<'a>(alloc: Global, word: &str, words: &ArgMatches<'a>) -> Result<Order<'a>, Stop>
-    ensures { IfOk result (λ order. reads_input_twice order.first.now (option_map (λ name. name.now) order.second) ≡ false) }
+    ensures { IfOk result (λ order. reads_input_twice order.first.now (option_map (λ name. name.now) order.second) (option_map (λ name. name.now) order.third) ≡ false) }
 {
     if word == EXPLAIN {
         return Err(explain(alloc, &refusal_table(), words.get_str(REFUSAL)));
@@ -405,7 +512,7 @@ pub fn given_words<R: Env + AllocGlobal>(rt: &R) -> Result<Vec<String>, Stop> {
 /// with 3 where there was no memory.
 pub fn order<'a, S: AsStr>(alloc: Global, words: &'a [S]) -> Result<Order<'a>, Stop>
     // standard input is read once
-    ensures { IfOk result (λ order. reads_input_twice order.first.now (option_map (λ name. name.now) order.second) ≡ false) }
+    ensures { IfOk result (λ order. reads_input_twice order.first.now (option_map (λ name. name.now) order.second) (option_map (λ name. name.now) order.third) ≡ false) }
 {
     if words.is_empty() {
         return Ok(Order {
@@ -413,7 +520,9 @@ pub fn order<'a, S: AsStr>(alloc: Global, words: &'a [S]) -> Result<Order<'a>, S
             form: Form::Ascii,
             first: STANDARD_INPUT,
             second: None,
+            third: None,
             output: None,
+            tells_progress: true,
         });
     }
     let command = match commands(alloc) {

@@ -20,8 +20,12 @@ ghost use Rattle.gates.specs.Faults.{name_of as gate_name, number_of as gate_num
 ghost use Rattle.gates.specs.declared.fault.GateFault.{GateFault};
 ghost use Rattle.lift.specs.Answers.{fault_name as lift_name, fault_number as lift_number};
 ghost use Rattle.lift.specs.declared.fault.LiftFault.{LiftFault};
+ghost use Rattle.restore.specs.Faults.{why_name as restore_name, why_number as restore_number};
+ghost use Rattle.restore.specs.declared.fault.RestoreWhy.{RestoreWhy};
 ghost use Rattle.runs.specs.Faults.{new_name, new_number};
 ghost use Rattle.runs.specs.declared.fault.NewFault.{NewFault};
+ghost use Rattle.wave.specs.Answers.{fault_name as wave_name, fault_number as wave_number};
+ghost use Rattle.wave.specs.declared.fault.WaveFault.{WaveFault};
 ghost use Rattle.witness.specs.Answers.{judge_name, judge_number};
 ghost use Rattle.witness.specs.Numbers.{why_number as witness_number};
 ghost use Rattle.witness.specs.Printed.{why_name as witness_name};
@@ -58,7 +62,7 @@ pub struct Part {
 /// What all refusals mean and what to do about them. A refusal may have several cases, also in several parts.
 ///
 /// Each refusal of each library is there, by the number and the name that the library gives it.
-pub fn refusal_table() -> [Part; 13]
+pub fn refusal_table() -> [Part; 15]
     // the number of a why of a model's text that a push gives is its own, which is printed for it
     ensures models { (why : Why) → Explains result (printed_number why) (name_of why) }
     ensures symbols { (fault : SymbolFault) → Explains result (symbol_fault_number fault) (symbol_fault_name fault) }
@@ -72,6 +76,8 @@ pub fn refusal_table() -> [Part; 13]
     ensures lists { (fault : LooseFault) → Explains result (loose_fault_number fault) (loose_fault_name fault) }
     ensures liftings { (fault : LiftFault) → Explains result (lift_number fault) (lift_name fault) }
     ensures engines { (fault : EngineFault) → Explains result (engine_number fault) (engine_name fault) }
+    ensures counterexamples { (why : RestoreWhy) → Explains result (restore_number why) (restore_name why) }
+    ensures dumps { (fault : WaveFault) → Explains result (wave_number fault) (wave_name fault) }
     ensures texts { (why : CircuitWhy) → Explains result (why_number why) (why_name why) }
 {
     [
@@ -126,6 +132,14 @@ pub fn refusal_table() -> [Part; 13]
         Part {
             title: "Engine forms",
             rows: circuits::engines(),
+        },
+        Part {
+            title: "Counterexamples over engine forms",
+            rows: circuits::counterexamples(),
+        },
+        Part {
+            title: "Dumps",
+            rows: witnesses::dumps(),
         },
     ]
 }

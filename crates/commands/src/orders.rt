@@ -6,6 +6,7 @@ ghost use Rattle.std.specs.String.{string_bytes};
 use crate::statuses::{DEVICE, DONE, WORDS_REFUSED};
 use aigertext::Form;
 use std::alloc::Global;
+use wave::Shown;
 
 /// The file name that stands for standard input.
 pub const STANDARD_INPUT: &str = "-";
@@ -34,6 +35,11 @@ pub enum Task {
     CheckAig,
     /// Lifts a witness of a model's circuit to one of the model.
     Lift,
+    /// Restores a counterexample over the engine form of a circuit, in the form that ABC writes, to a witness of the circuit;
+    /// it claims the bad property at a position of the circuit, or the only one.
+    Restore(Option<usize>),
+    /// Judges a witness over a model, and dumps its frames.
+    Wave(Shown),
     /// Judges vectors of operators.
     Vectors,
 }
@@ -49,8 +55,12 @@ pub struct Order<'a> {
     pub first: &'a str,
     /// The name of the second file, for a command that has one; `-` is standard input.
     pub second: Option<&'a str>,
+    /// The name of the third file, for a command that has one; `-` is standard input.
+    pub third: Option<&'a str>,
     /// The name of the file that the result goes to; without one it goes to standard output.
     pub output: Option<&'a str>,
+    /// Whether it is told how far work is that takes long.
+    pub tells_progress: bool,
 }
 
 /// What stands in place of a command: help or the version, refused words, or want of memory while the words are read.

@@ -1,13 +1,15 @@
 //! Results that go to a file, which has another name until all of one is written.
 
-ghost use Rattle.std.specs.Prelude.{◌≡◌, ◌≤◌, true, IfOk};
+ghost use Rattle.std.specs.Prelude.{◌≡◌, ◌≢◌, ◌≤◌, true, false, IfOk};
 ghost use Rattle.std.specs.String.{string_bytes};
-ghost use Rattle.commands.specs.Done.{has_one_file, is_quiet};
+ghost use Rattle.commands.specs.declared.answers.Answer.TheVariants as answer;
+ghost use Rattle.commands.specs.Done.{AnswersSome, has_one_file, has_three_files, is_quiet};
 ghost use Rattle.commands.specs.Orders.{part_name};
-ghost use Rattle.commands.specs.Statuses.{IsRefused};
+ghost use Rattle.commands.specs.Statuses.{IsLeftOpen, IsRefused};
 
 use crate::files::NoFile;
 use crate::orders::Order;
+use crate::progress::{Progress, Watched, Work};
 use crate::running::run;
 use crate::statuses::{DEVICE, NOT_ACCEPTED};
 use crate::telling::{tell_no_memory, tell_output};
@@ -16,6 +18,18 @@ use std::alloc::{AllocError, Global};
 use std::fs::{self, OpenOptions};
 use std::io::{self, Write};
 use std::rt::Files;
+use std::time::Clock;
+
+/// A file that a result goes to.
+#[derive(Drop)]
+pub struct Output<'a, C: Clock, W: Write + Copy> {
+    /// Its name.
+    pub name: &'a str,
+    /// The number of this process, by which the result has a name of its own while it is written.
+    pub process: u32,
+    /// Where it is told how much is written.
+    pub progress: Progress<'a, C, W>,
+}
 
 /// The name that a result has while it is written: that of its file and the number of this process.
 fn part_name(alloc: Global, name: &str, process: u32) -> Result<String, AllocError>
@@ -41,23 +55,32 @@ fn create_new<R: Files>(rt: &R, name: &str) -> io::Result<R::File> {
 }
 
 /// Does a command whose result goes to a file that was opened; where it could not be, every write fails.
-fn run_onto<W: Write + Drop, A: Source, B: Source, E: Sink>(
+fn run_onto<F: Write + Drop, C: Clock, W: Write + Copy, A: Source, B: Source, T: Source, E: Sink>(
     alloc: Global,
     order: &Order<'_>,
     first: &mut A,
     second: &mut B,
-    file: io::Result<W>,
+    third: &mut T,
+    file: io::Result<F>,
+    progress: Progress<'_, C, W>,
     err: &mut E,
 ) -> u8
+    ensures done { result ≡ 0 → AnswersSome order.now.task order.now.form answer.Done (A.to_come first.old) (B.to_come second.old) (T.to_come third.old) (E.written err.old) (E.written err.new) }
+    ensures not_accepted { result ≡ 1 → AnswersSome order.now.task order.now.form answer.NotAccepted (A.to_come first.old) (B.to_come second.old) (T.to_come third.old) (E.written err.old) (E.written err.new) }
     ensures refused { result ≡ 2 → IsRefused order.now.task order.now.first.now (A.to_come first.old) (E.written err.old) (E.written err.new) }
-    ensures unfailed { result ≤ 2 → (A.failures first.new ≡ A.failures first.old) × (B.failures second.new ≡ B.failures second.old) × (E.failures err.new ≡ E.failures err.old) }
+    ensures left_open { result ≡ 4 → IsLeftOpen order.now.task order.now.first.now (A.to_come first.old) (E.written err.old) (E.written err.new) }
+    ensures unfailed { result ≢ 3 → (A.failures first.new ≡ A.failures first.old) × (B.failures second.new ≡ B.failures second.old) × (T.failures third.new ≡ T.failures third.old) × (E.failures err.new ≡ E.failures err.old) }
     ensures quiet { result ≤ 1 → is_quiet order.now.task ≡ true → err.new ≡ err.old }
     ensures one_file { has_one_file order.now.task ≡ true → second.new ≡ second.old }
-    ensures statuses { result ≤ 3 }
+    ensures no_third { has_three_files order.now.task ≡ false → third.new ≡ third.old }
+    ensures statuses { result ≤ 4 }
 {
     match file {
-        Ok(file) => run(alloc, order, first, second, &mut ToWriter::new(file), err),
-        Err(_) => run(alloc, order, first, second, &mut NoFile::new(), err),
+        Ok(file) => {
+            let mut out = Watched::new(ToWriter::new(file), Some(Work::Written), progress);
+            run(alloc, order, first, second, third, &mut out, err)
+        }
+        Err(_) => run(alloc, order, first, second, third, &mut NoFile::new(), err),
     }
 }
 
@@ -84,31 +107,43 @@ fn give_name<R: Files, E: Sink>(rt: &R, part: &str, name: &str, status: u8, err:
 /// is written as it stands.
 ///
 /// With status 3 also a file could not be made or take its name.
-pub fn run_to_file<R: Files, A: Source, B: Source, E: Sink>(
+pub fn run_to_file<R: Files, C: Clock, W: Write + Copy, A: Source, B: Source, T: Source, E: Sink>(
     rt: &R,
     alloc: Global,
     order: &Order<'_>,
     first: &mut A,
     second: &mut B,
-    output: (&str, u32),
+    third: &mut T,
+    output: Output<'_, C, W>,
     err: &mut E,
 ) -> u8
+    // what is done, on a file of which nothing is known
+    ensures done { result ≡ 0 → AnswersSome order.now.task order.now.form answer.Done (A.to_come first.old) (B.to_come second.old) (T.to_come third.old) (E.written err.old) (E.written err.new) }
+    ensures not_accepted { result ≡ 1 → AnswersSome order.now.task order.now.form answer.NotAccepted (A.to_come first.old) (B.to_come second.old) (T.to_come third.old) (E.written err.old) (E.written err.new) }
     ensures refused { result ≡ 2 → IsRefused order.now.task order.now.first.now (A.to_come first.old) (E.written err.old) (E.written err.new) }
-    ensures unfailed { result ≤ 2 → (A.failures first.new ≡ A.failures first.old) × (B.failures second.new ≡ B.failures second.old) × (E.failures err.new ≡ E.failures err.old) }
+    ensures left_open { result ≡ 4 → IsLeftOpen order.now.task order.now.first.now (A.to_come first.old) (E.written err.old) (E.written err.new) }
+    ensures unfailed { result ≢ 3 → (A.failures first.new ≡ A.failures first.old) × (B.failures second.new ≡ B.failures second.old) × (T.failures third.new ≡ T.failures third.old) × (E.failures err.new ≡ E.failures err.old) }
     ensures quiet { result ≤ 1 → is_quiet order.now.task ≡ true → err.new ≡ err.old }
     ensures one_file { has_one_file order.now.task ≡ true → second.new ≡ second.old }
-    ensures statuses { result ≤ 3 }
+    ensures no_third { has_three_files order.now.task ≡ false → third.new ≡ third.old }
+    ensures statuses { result ≤ 4 }
 {
-    let (name, process) = output;
+    let Output {
+        name,
+        process,
+        progress,
+    } = output;
     if is_other(rt, name) {
-        return run_onto(alloc, order, first, second, fs::create(rt, name), err);
+        let file = fs::create(rt, name);
+        return run_onto(alloc, order, first, second, third, file, progress, err);
     }
     let part = match part_name(alloc, name, process) {
         Ok(part) => part,
         Err(_) => return tell_no_memory(err).unwrap_or(DEVICE),
     };
     let part = part.as_str();
-    let status = run_onto(alloc, order, first, second, create_new(rt, part), err);
+    let file = create_new(rt, part);
+    let status = run_onto(alloc, order, first, second, third, file, progress, err);
     if status <= NOT_ACCEPTED {
         return give_name(rt, part, name, status, err);
     }

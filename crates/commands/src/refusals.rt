@@ -4,15 +4,17 @@ ghost use Rattle.std.specs.Prelude.{◌≡◌, IfOk};
 ghost use Rattle.std.specs.String.{string_bytes};
 ghost use Rattle.commands.specs.declared.refusals.Fault.TheVariants as fault_is;
 ghost use Rattle.commands.specs.declared.refusals.Refusal.TheVariants as refusal;
-ghost use Rattle.commands.specs.Refusals.{about, fault_line, item_line, numbered_name};
-ghost use Rattle.commands.specs.Conversions.{of_reading, of_circuit_reading, of_lowering, of_engine_form, of_conversion, of_judging, of_lifting, of_reading_all, of_lines};
+ghost use Rattle.commands.specs.Refusals.{about, fault_line, item_line, numbered_name, status_of_fault};
+ghost use Rattle.commands.specs.Conversions.{of_reading, of_circuit_reading, of_lowering, of_engine_form, of_conversion, of_judging, of_lifting, of_dumping, of_reading_all, of_lines};
 
+use crate::statuses::{REFUSED, WORDS_REFUSED};
 use base::ReadAllFault;
 use blast::{ConvertFault, LowerFault};
 use engine::EngineFault;
 use lift::LiftFault;
 use std::alloc::{AllocError, Global};
 use vectors::LinesFault;
+use wave::WaveFault;
 use witness::JudgeFault;
 
 /// What is wrong with the first file.
@@ -30,6 +32,8 @@ pub(crate) enum Fault {
     NoNext(u64),
     /// This line, from 1, writes no vector.
     Vector(u64),
+    /// The circuit has none or several bad properties, and the words do not say which is claimed.
+    Unchosen,
 }
 
 /// The files and streams of a command.
@@ -39,6 +43,8 @@ pub(crate) enum Device {
     First,
     /// The second file.
     Second,
+    /// The third file.
+    Third,
     /// Standard output.
     Output,
     /// Standard error.
@@ -138,6 +144,19 @@ impl From<LiftFault> for Refusal {
     }
 }
 
+impl From<WaveFault> for Refusal {
+    ghost from_gives = { λ e r. r ≡ of_dumping e };
+
+    fn from(fault: WaveFault) -> Refusal {
+        match fault {
+            WaveFault::NoNext(id) => Refusal::Input(Fault::NoNext(id)),
+            WaveFault::Read => Refusal::Failed(Device::Second),
+            WaveFault::Write => Refusal::Failed(Device::Output),
+            WaveFault::NoMemory => Refusal::NoMemory,
+        }
+    }
+}
+
 impl From<ReadAllFault> for Refusal {
     ghost from_gives = { λ e r. r ≡ of_reading_all e };
 
@@ -168,7 +187,21 @@ impl From<AllocError> for Refusal {
     }
 }
 
+/// What is told behind the name of a file where words leave open which bad property is claimed.
+const UNCHOSEN: &str =
+    ": --bad K says which bad property is claimed: ABC prints its number as Output K of miter was asserted\n";
+
 impl Fault {
+    /// The exit status of a command that it refuses.
+    pub(crate) fn status(&self) -> u8
+        ensures { result ≡ status_of_fault self.now }
+    {
+        match self {
+            Fault::Unchosen => WORDS_REFUSED,
+            _ => REFUSED,
+        }
+    }
+
     /// The line that tells it of a file.
     pub(crate) fn line(&self, alloc: Global, file: &str) -> Result<String, AllocError>
         ensures { IfOk result (λ line. string_bytes line ≡ fault_line file.now self.now) }
@@ -196,6 +229,7 @@ impl Fault {
                 let line = *line;
                 format!(in alloc; "{file}: line {line}: bad vector\n")
             }
+            Fault::Unchosen => format!(in alloc; "{file}{UNCHOSEN}"),
         }
     }
 }

@@ -1,10 +1,10 @@
 //! Doing a command.
 
-ghost use Rattle.std.specs.Prelude.{◌≡◌, ◌≤◌, ◌⊎◌, ℕ, true, IfOk, IfErr, option_map};
+ghost use Rattle.std.specs.Prelude.{◌≡◌, ◌≢◌, ◌≤◌, ◌⊎◌, ℕ, List, Option, true, false, IfOk, IfErr, option_map};
 ghost use Rattle.commands.specs.declared.answers.Answer.TheVariants as answer;
-ghost use Rattle.commands.specs.Done.{Answers, has_one_file, is_quiet};
+ghost use Rattle.commands.specs.Done.{Answers, has_one_file, has_three_files, is_quiet};
 ghost use Rattle.commands.specs.Refusals.{Refuses};
-ghost use Rattle.commands.specs.Statuses.{Counts, ErrUntold, HasFailed, IfInput, IsRefused};
+ghost use Rattle.commands.specs.Statuses.{Counts, CountsAll, ErrUntold, HasFailed, IfInput, IsLeftOpen, IsRefused};
 
 use crate::answers::Answer;
 use crate::circuits::{check_circuit, convert_circuit};
@@ -13,49 +13,60 @@ use crate::lifting::lift_witness;
 use crate::models::{check_model, lower_model, show, tell_cost};
 use crate::orders::{Order, Task};
 use crate::refusals::Refusal;
+use crate::restoring::restore_counterexample;
 use crate::statuses::DEVICE;
 use crate::telling::tell;
 use crate::vector_reports::compare_vectors;
+use crate::waving::dump_witness;
 use base::{Sink, Source};
 use std::alloc::Global;
 
-/// Does a command, and answers the exit status: 0 done or accepted, 1 not accepted, 2 input refused, 3 device or memory.
+/// Does a command, and answers the exit status: 0 done or accepted, 1 not accepted, 2 input refused, 3 device or memory, 4
+/// words refused.
 ///
-/// Results go to `out`; a refusal is one line on `err`, and so is the judgement of `lift`. Only a command of two files
-/// reads the second source.
+/// Results go to `out`; a refusal is one line on `err`, and so is the judgement of `lift`, of `restore` and of `wave`. Only a
+/// command of two files reads the second source, and none yet the third.
 ///
 /// - 0: all of the circuit's text was written (that of a lowering of the model, or of the circuit that was read, or of the
 ///   engine form of either, whose bad properties can rise exactly where those of the model or circuit can), the
-///   witness is accepted and the line that says so was written, all of the model's text and the line of its counts were
-///   written, or both lines of its cost, or the lifted text of a witness that is accepted, or that all vectors agree.
-/// - 1: the witness is judged and not accepted, and the line of its judgement, or what it is lifted to, was written; or the
-///   lines of vectors that differ were.
+///   witness is accepted and the line that says so was written, with `wave` the dump of its frames too, all of the model's text and the line of its counts were
+///   written, or both lines of its cost, or the lifted text of a witness that is accepted, or the witness that a
+///   counterexample is restored to and that is accepted, or that all vectors agree.
+/// - 1: the witness is judged and not accepted, and the line of its judgement, or what it is lifted or restored to, was
+///   written; or a line of a counterexample is faulty, and what those before it are restored to was; or the lines of
+///   vectors that differ were.
 /// - 2: the first file is refused. Nothing was written to `out`, no device failed, and the line on `err` tells the first
 ///   fault of its text, or the first that speaks against its model.
 /// - 3: a device failed, and the line on `err` names it, or `err` itself failed; or memory was wanting, and no device
 ///   failed.
-pub fn run<A: Source, B: Source, O: Sink, E: Sink>(
+/// - 4: the words leave open which bad property of the first file is claimed. Nothing was written to `out`, no device failed,
+///   and the line on `err` says so.
+pub fn run<A: Source, B: Source, T: Source, O: Sink, E: Sink>(
     alloc: Global,
     order: &Order<'_>,
     first: &mut A,
     second: &mut B,
+    third: &mut T,
     out: &mut O,
     err: &mut E,
 ) -> u8
-    ensures done { result ≡ 0 → Answers order.now.task order.now.form answer.Done (A.to_come first.old) (B.to_come second.old) (O.written out.old) (O.written out.new) (E.written err.old) (E.written err.new) }
-    ensures not_accepted { result ≡ 1 → Answers order.now.task order.now.form answer.NotAccepted (A.to_come first.old) (B.to_come second.old) (O.written out.old) (O.written out.new) (E.written err.old) (E.written err.new) }
+    ensures done { result ≡ 0 → Answers order.now.task order.now.form answer.Done (A.to_come first.old) (B.to_come second.old) (T.to_come third.old) (O.written out.old) (O.written out.new) (E.written err.old) (E.written err.new) }
+    ensures not_accepted { result ≡ 1 → Answers order.now.task order.now.form answer.NotAccepted (A.to_come first.old) (B.to_come second.old) (T.to_come third.old) (O.written out.old) (O.written out.new) (E.written err.old) (E.written err.new) }
     ensures refused { result ≡ 2 → IsRefused order.now.task order.now.first.now (A.to_come first.old) (E.written err.old) (E.written err.new) }
-    // nothing is written of an input that is refused
+    ensures left_open { result ≡ 4 → IsLeftOpen order.now.task order.now.first.now (A.to_come first.old) (E.written err.old) (E.written err.new) }
+    // nothing is written of an input that is refused, and nothing where the words are
     ensures unwritten { result ≡ 2 → out.new ≡ out.old }
-    ensures failed { result ≡ 3 → HasFailed order.now.first.now (option_map (λ name. name.now) order.now.second) (E.written err.old) (E.written err.new) (A.failures first.old) (A.failures first.new) (B.failures second.old) (B.failures second.new) (O.failures out.old) (O.failures out.new) (E.failures err.old) (E.failures err.new) }
+    ensures unwritten_words { result ≡ 4 → out.new ≡ out.old }
+    ensures failed { result ≡ 3 → HasFailed order.now.first.now (option_map (λ name. name.now) order.now.second) (option_map (λ name. name.now) order.now.third) (E.written err.old) (E.written err.new) (A.failures first.old) (A.failures first.new) (B.failures second.old) (B.failures second.new) (T.failures third.old) (T.failures third.new) (O.failures out.old) (O.failures out.new) (E.failures err.old) (E.failures err.new) }
     // with any other status nothing failed
-    ensures unfailed { result ≤ 2 → (A.failures first.new ≡ A.failures first.old) × (B.failures second.new ≡ B.failures second.old) × (O.failures out.new ≡ O.failures out.old) × (E.failures err.new ≡ E.failures err.old) }
+    ensures unfailed { result ≢ 3 → (A.failures first.new ≡ A.failures first.old) × (B.failures second.new ≡ B.failures second.old) × (T.failures third.new ≡ T.failures third.old) × (O.failures out.new ≡ O.failures out.old) × (E.failures err.new ≡ E.failures err.old) }
     // a command that is done tells nothing, but for `lift`
     ensures quiet { result ≤ 1 → is_quiet order.now.task ≡ true → err.new ≡ err.old }
     ensures one_file { has_one_file order.now.task ≡ true → second.new ≡ second.old }
-    ensures statuses { result ≤ 3 }
+    ensures no_third { has_three_files order.now.task ≡ false → third.new ≡ third.old }
+    ensures statuses { result ≤ 4 }
 {
-    match obey(alloc, order, first, second, out, err) {
+    match obey(alloc, order, first, second, third, out, err) {
         Ok(answer) => answer.status(),
         Err(refusal) => match tell(alloc, order, &refusal, err) {
             Ok(status) => status,
@@ -65,7 +76,29 @@ pub fn run<A: Source, B: Source, O: Sink, E: Sink>(
 }
 
 /// Does a command, and tells no refusal.
-fn obey<A: Source, B: Source, O: Sink, E: Sink>(
+fn obey<A: Source, B: Source, T: Source, O: Sink, E: Sink>(
+    alloc: Global,
+    order: &Order<'_>,
+    first: &mut A,
+    second: &mut B,
+    third: &mut T,
+    out: &mut O,
+    err: &mut E,
+) -> Result<Answer, Refusal>
+    ensures done { IfOk result (λ answer. Answers order.now.task order.now.form answer (A.to_come first.old) (B.to_come second.old) (T.to_come third.old) (O.written out.old) (O.written out.new) (E.written err.old) (E.written err.new)) }
+    ensures refused { IfErr result (IfInput (Refuses order.now.task (A.to_come first.old))) }
+    ensures unwritten { IfErr result (IfInput (λ _. out.new ≡ out.old)) }
+    ensures untold { ErrUntold result (err.new ≡ err.old) }
+    ensures counted { CountsAll result (A.failures first.old) (A.failures first.new) (B.failures second.old) (B.failures second.new) (T.failures third.old) (T.failures third.new) (O.failures out.old) (O.failures out.new) (E.failures err.old) (E.failures err.new) }
+    ensures quiet { is_quiet order.now.task ≡ true → err.new ≡ err.old }
+    ensures one_file { has_one_file order.now.task ≡ true → second.new ≡ second.old }
+    ensures no_third { has_three_files order.now.task ≡ false → third.new ≡ third.old }
+{
+    obey_two(alloc, order, first, second, out, err)
+}
+
+/// Does a command that reads no third file.
+fn obey_two<A: Source, B: Source, O: Sink, E: Sink>(
     alloc: Global,
     order: &Order<'_>,
     first: &mut A,
@@ -73,7 +106,7 @@ fn obey<A: Source, B: Source, O: Sink, E: Sink>(
     out: &mut O,
     err: &mut E,
 ) -> Result<Answer, Refusal>
-    ensures done { IfOk result (λ answer. Answers order.now.task order.now.form answer (A.to_come first.old) (B.to_come second.old) (O.written out.old) (O.written out.new) (E.written err.old) (E.written err.new)) }
+    ensures done { (third : Option (List ℕ)) → IfOk result (λ answer. Answers order.now.task order.now.form answer (A.to_come first.old) (B.to_come second.old) third (O.written out.old) (O.written out.new) (E.written err.old) (E.written err.new)) }
     ensures refused { IfErr result (IfInput (Refuses order.now.task (A.to_come first.old))) }
     ensures unwritten { IfErr result (IfInput (λ _. out.new ≡ out.old)) }
     ensures untold { ErrUntold result (err.new ≡ err.old) }
@@ -93,6 +126,8 @@ fn obey<A: Source, B: Source, O: Sink, E: Sink>(
         }
         Task::CheckAig => check_circuit(alloc, first, second, out),
         Task::Lift => lift_witness(alloc, first, second, out, err),
+        Task::Restore(choice) => restore_counterexample(alloc, choice, first, second, out, err),
+        Task::Wave(shown) => dump_witness(alloc, order, shown, first, second, out, err),
         Task::Vectors => compare_vectors(alloc, first, out),
     }
 }

@@ -11,7 +11,7 @@ ghost use Rattle.commands.specs.Statuses.{Counts, IsOfNoInput, Tells, TellsFault
 
 use crate::orders::{Order, STANDARD_INPUT, Stop};
 use crate::refusals::{Device, Fault, Refusal};
-use crate::statuses::{DEVICE, DONE, REFUSED};
+use crate::statuses::{DEVICE, DONE};
 use base::{DeviceFault, Sink, write_all};
 use std::alloc::Global;
 
@@ -71,21 +71,21 @@ fn tell_fault<E: Sink>(
     match fault.line(alloc, file) {
         Ok(line) => {
             write_all(err, line.as_bytes())?;
-            Ok(REFUSED)
+            Ok(fault.status())
         }
         Err(_) => tell_no_memory(err),
     }
 }
 
-/// Tells a refusal on standard error, and answers the exit status: 2 where an input is refused, 3 where a file or a stream
-/// failed or memory was wanting, be it for the line.
+/// Tells a refusal on standard error, and answers the exit status: 2 where an input is refused, 4 where the words leave a
+/// choice open, 3 where a file or a stream failed or memory was wanting, be it for the line.
 pub(crate) fn tell<E: Sink>(
     alloc: Global,
     order: &Order<'_>,
     refusal: &Refusal,
     err: &mut E,
 ) -> Result<u8, DeviceFault>
-    ensures told { IfOk result (λ status. Tells order.now.first.now (option_map (λ name. name.now) order.now.second) refusal.now status (E.written err.old) (E.written err.new)) }
+    ensures told { IfOk result (λ status. Tells order.now.first.now (option_map (λ name. name.now) order.now.second) (option_map (λ name. name.now) order.now.third) refusal.now status (E.written err.old) (E.written err.new)) }
     ensures untold { OnErr result (¬ (refusal.now ≡ refusal_is.Failed device.Error)) }
     ensures counted { CountsFaults result (E.failures err.old) (E.failures err.new) }
 {
@@ -95,6 +95,7 @@ pub(crate) fn tell<E: Sink>(
         Refusal::Failed(Device::Second) => {
             tell_device(order.second.unwrap_or(STANDARD_INPUT), err)
         }
+        Refusal::Failed(Device::Third) => tell_device(order.third.unwrap_or(STANDARD_INPUT), err),
         Refusal::Failed(Device::Output) => tell_device("output", err),
         Refusal::Failed(Device::Error) => Ok(DEVICE),
         Refusal::NoMemory => tell_no_memory(err),

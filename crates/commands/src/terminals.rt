@@ -20,6 +20,8 @@ pub struct Terminals {
     pub input: bool,
     /// Standard output.
     pub output: bool,
+    /// Standard error.
+    pub error: bool,
 }
 
 /// The help of the program, in place of a command.
@@ -38,7 +40,8 @@ fn shows_binary(order: &Order<'_>) -> bool
 }
 
 /// Reads the words after the program's name, as `order` does, for standard streams of which some are terminals. Without any
-/// word, a model is not waited for at a terminal: help is told.
+/// word, a model is not waited for at a terminal: help is told. Where standard error is no terminal it is not told how far
+/// work is.
 ///
 /// Errors: those of `order`; a `Stop` with status 4 also where the binary form of a circuit would go to a terminal.
 pub fn order_at<'a, S: AsStr>(
@@ -47,14 +50,16 @@ pub fn order_at<'a, S: AsStr>(
     terminals: Terminals,
 ) -> Result<Order<'a>, Stop>
     // standard input is read once
-    ensures once { IfOk result (λ order. reads_input_twice order.first.now (option_map (λ name. name.now) order.second) ≡ false) }
+    ensures once { IfOk result (λ order. reads_input_twice order.first.now (option_map (λ name. name.now) order.second) (option_map (λ name. name.now) order.third) ≡ false) }
     ensures binary { terminals.output ≡ true → IfOk result (λ order. shows_binary order.form (option_map (λ name. name.now) order.output) ≡ false) }
+    ensures progress { terminals.error ≡ false → IfOk result (λ order. order.tells_progress ≡ false) }
     ensures bare { terminals.input ≡ true → length words.now ≡ 0 → IfOk result (λ _. ⊥) }
 {
     if terminals.input && words.is_empty() {
         return Err(help(alloc));
     }
-    let order = order(alloc, words)?;
+    let mut order = order(alloc, words)?;
+    order.tells_progress = order.tells_progress && terminals.error;
     if terminals.output && shows_binary(&order) {
         return Err(refused(alloc, TERMINAL));
     }

@@ -1,8 +1,11 @@
 //! `hwtool`: word-level BTOR2 models to AIGER circuits, and judgements of their witnesses.
 #![tactic(auto)]
 
-use base::{Sink, ToWriter};
-use commands::{Terminals, end, given_words, open_input, order_at, run, run_to_file};
+use base::ToWriter;
+use commands::{
+    Order, Output, Progress, Stop, Terminals, Watched, Work, end, given_words, open_input,
+    order_at, run, run_to_file,
+};
 use std::fs;
 use std::io::IsTerminal;
 use std::process::{self, ExitCode};
@@ -14,32 +17,76 @@ fn main(rt: HostRuntime) -> ExitCode {
     let _first = fs::open(&rt, "/");
     let _second = fs::open(&rt, "/");
     let _third = fs::open(&rt, "/");
-    let mut out = ToWriter::new(rt.stdout());
-    let mut err = ToWriter::new(rt.stderr());
+    let terminals = Terminals {
+        input: rt.stdin().is_terminal(),
+        output: rt.stdout().is_terminal(),
+        error: rt.stderr().is_terminal(),
+    };
     let status = match given_words(&rt) {
-        Ok(words) => obey(&rt, words.as_slice(), &mut out, &mut err),
-        Err(stop) => end(&stop, &mut out, &mut err),
+        Ok(words) => match order_at(rt.alloc(), words.as_slice(), terminals) {
+            Ok(order) => obey(&rt, &order, terminals),
+            Err(stop) => stand_in(&rt, &stop),
+        },
+        Err(stop) => stand_in(&rt, &stop),
     };
     ExitCode::from(status)
 }
 
-/// Does what some words ask for, on the files that they name, and answers the status.
-fn obey<O: Sink, E: Sink>(rt: &HostRuntime, words: &[String], out: &mut O, err: &mut E) -> u8 {
-    let terminals = Terminals {
-        input: rt.stdin().is_terminal(),
-        output: rt.stdout().is_terminal(),
+/// Tells what stands in place of a command, and answers the status.
+fn stand_in(rt: &HostRuntime, stop: &Stop) -> u8 {
+    let mut out = ToWriter::new(rt.stdout());
+    end(stop, &mut out, &mut ToWriter::new(rt.stderr()))
+}
+
+/// Does a command on the files that it names, and answers the status.
+fn obey<'a>(rt: &'a HostRuntime, order: &Order<'a>, terminals: Terminals) -> u8 {
+    let terminal = if order.tells_progress {
+        Some(rt.stderr())
+    } else {
+        None
     };
-    let order = match order_at(rt.alloc(), words, terminals) {
-        Ok(order) => order,
-        Err(stop) => return end(&stop, out, err),
+    let mut progress = Progress::new(rt, terminal);
+    let first = open_input(rt, rt.stdin(), Some(order.first));
+    let second = open_input(rt, rt.stdin(), order.second);
+    let third = open_input(rt, rt.stdin(), order.third);
+    let written = if terminals.output {
+        None
+    } else {
+        Some(Work::Written)
     };
-    let mut first = open_input(rt, rt.stdin(), Some(order.first));
-    let mut second = open_input(rt, rt.stdin(), order.second);
-    match order.output {
-        None => run(rt.alloc(), &order, &mut first, &mut second, out, err),
+    let mut first = Watched::new(first, Some(Work::Read), progress);
+    let mut second = Watched::new(second, Some(Work::Judged), progress);
+    let mut third = Watched::new(third, Some(Work::Judged), progress);
+    let mut out = Watched::new(ToWriter::new(rt.stdout()), written, progress);
+    let mut err = Watched::new(ToWriter::new(rt.stderr()), None, progress);
+    let status = match order.output {
+        None => run(
+            rt.alloc(),
+            order,
+            &mut first,
+            &mut second,
+            &mut third,
+            &mut out,
+            &mut err,
+        ),
         Some(name) => {
-            let output = (name, process::id(rt.process()));
-            run_to_file(rt, rt.alloc(), &order, &mut first, &mut second, output, err)
+            let output = Output {
+                name,
+                process: process::id(rt.process()),
+                progress,
+            };
+            run_to_file(
+                rt,
+                rt.alloc(),
+                order,
+                &mut first,
+                &mut second,
+                &mut third,
+                output,
+                &mut err,
+            )
         }
-    }
+    };
+    progress.clear();
+    status
 }

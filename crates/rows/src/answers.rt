@@ -34,7 +34,15 @@ pub(crate) fn gives<A: Source, B: Source>(
 ) -> bool {
     let mut out = VecSink::new(alloc);
     let mut err = VecSink::new(alloc);
-    let status = run(alloc, order, first, second, &mut out, &mut err);
+    let status = run(
+        alloc,
+        order,
+        first,
+        second,
+        &mut NoFile::new(),
+        &mut out,
+        &mut err,
+    );
     let is_written = if status == 3 {
         wanted.out.starts_with(out.bytes())
     } else {
@@ -164,7 +172,15 @@ fn tells_failing_write(
     let (mut first, mut second) = (files.first, files.second);
     let mut out = FailAt::new(Chop::new(VecSink::new(alloc), FEW), call);
     let mut err = VecSink::new(alloc);
-    run(alloc, order, &mut first, &mut second, &mut out, &mut err) == 3
+    run(
+        alloc,
+        order,
+        &mut first,
+        &mut second,
+        &mut NoFile::new(),
+        &mut out,
+        &mut err,
+    ) == 3
         && err.bytes() == b"output: device\n".as_slice()
         && text.starts_with(out.inner().inner().bytes())
 }
@@ -189,5 +205,13 @@ pub(crate) fn status_untold(alloc: Global, order: &Order<'_>, files: Files<'_>) 
     let (mut first, mut second) = (files.first, files.second);
     let mut out = VecSink::new(alloc);
     let mut err = FailAt::new(VecSink::new(alloc), 0);
-    run(alloc, order, &mut first, &mut second, &mut out, &mut err)
+    run(
+        alloc,
+        order,
+        &mut first,
+        &mut second,
+        &mut NoFile::new(),
+        &mut out,
+        &mut err,
+    )
 }

@@ -38,7 +38,15 @@ fn shows(alloc: Global, order: &Order<'_>, front: Front<'_>) -> bool {
     let mut second = NoFile::new();
     let mut out = VecSink::new(alloc);
     let mut err = VecSink::new(alloc);
-    run(alloc, order, &mut first, &mut second, &mut out, &mut err) == 0
+    run(
+        alloc,
+        order,
+        &mut first,
+        &mut second,
+        &mut NoFile::new(),
+        &mut out,
+        &mut err,
+    ) == 0
         && out.bytes().starts_with(front.bytes)
 }
 

@@ -79,6 +79,7 @@ fn is_lowered_to(alloc: Global, text: &str, status: u8, told: &[u8]) -> Result<b
         &order,
         &mut model,
         &mut NoFile::new(),
+        &mut NoFile::new(),
         &mut out,
         &mut err,
     );

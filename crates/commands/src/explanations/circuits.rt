@@ -11,6 +11,8 @@ ghost use Rattle.engine.specs.Faults.{name_of as engine_name, number_of as engin
 ghost use Rattle.engine.specs.declared.fault.EngineFault.{EngineFault};
 ghost use Rattle.gates.specs.Faults.{name_of, number_of};
 ghost use Rattle.gates.specs.declared.fault.GateFault.{GateFault};
+ghost use Rattle.restore.specs.Faults.{why_name as restore_name, why_number as restore_number};
+ghost use Rattle.restore.specs.declared.fault.RestoreWhy.{RestoreWhy};
 
 use super::Explanation;
 
@@ -210,6 +212,52 @@ const TEXTS: [Explanation; 14] = [
     },
 ];
 
+/// Of counterexamples over engine forms.
+const COUNTEREXAMPLES: [Explanation; 7] = [
+    Explanation {
+        number: 150,
+        name: "NoFrame",
+        when: "the text ends before a frame",
+        remedy: "see that the file is whole",
+    },
+    Explanation {
+        number: 151,
+        name: "InitialOne",
+        when: "an initial bit is 1",
+        remedy: "let the engine begin the form's latches with 0",
+    },
+    Explanation {
+        number: 152,
+        name: "NoBit",
+        when: "a byte is no bit",
+        remedy: "write `0` and `1` alone, and a mark, `#`, before anything else",
+    },
+    Explanation {
+        number: 153,
+        name: "WrongLength",
+        when: "a frame has another number of bits than the form has inputs",
+        remedy: "see that the text is of this form",
+    },
+    Explanation {
+        number: 154,
+        name: "NoMemory",
+        when: "a growth was refused",
+        remedy: "give the program more memory",
+    },
+    Explanation {
+        number: 155,
+        name: "Device",
+        when: "the source failed",
+        remedy: "see that the file is there and can be read",
+    },
+    Explanation {
+        number: 156,
+        name: "Write",
+        when: "the sink failed",
+        remedy: "see that there is room and that the output is open",
+    },
+];
+
 /// The cases of gate makers.
 pub(super) fn gates() -> &'static [Explanation]
     ensures { (fault : GateFault) → Has result.now (number_of fault) (name_of fault) }
@@ -237,4 +285,11 @@ pub(super) fn texts() -> &'static [Explanation]
     ensures { (why : Why) → Has result.now (why_number why) (why_name why) }
 {
     &TEXTS
+}
+
+/// The cases of counterexamples over engine forms.
+pub(super) fn counterexamples() -> &'static [Explanation]
+    ensures { (why : RestoreWhy) → Has result.now (restore_number why) (restore_name why) }
+{
+    &COUNTEREXAMPLES
 }

@@ -10,6 +10,8 @@ ghost use Rattle.witness.specs.Numbers.{why_number};
 ghost use Rattle.witness.specs.Printed.{why_name};
 ghost use Rattle.witness.specs.declared.fault.JudgeFault.{JudgeFault};
 ghost use Rattle.witness.specs.declared.why.Why.{Why};
+ghost use Rattle.wave.specs.Answers.{fault_name as wave_name, fault_number as wave_number};
+ghost use Rattle.wave.specs.declared.fault.WaveFault.{WaveFault};
 
 use super::Explanation;
 
@@ -185,6 +187,34 @@ const LIFTING: [Explanation; 3] = [
     },
 ];
 
+/// Of dumps of witnesses.
+const DUMPS: [Explanation; 4] = [
+    Explanation {
+        number: 70,
+        name: "NoNext",
+        when: "a state has an `init` and no `next`; the first such state in file order is named",
+        remedy: "give the state a next, or take its init out",
+    },
+    Explanation {
+        number: 170,
+        name: "Read",
+        when: "the source failed; a beginning of the dump was written",
+        remedy: "see that the file is there and can be read",
+    },
+    Explanation {
+        number: 171,
+        name: "Write",
+        when: "the sink failed; a beginning of the dump was written",
+        remedy: "see that there is room and that the output is open",
+    },
+    Explanation {
+        number: 172,
+        name: "NoMemory",
+        when: "a growth was refused; nothing was read or written",
+        remedy: "give the program more memory",
+    },
+];
+
 /// The cases of runs and judges.
 pub(super) fn runs() -> &'static [Explanation]
     ensures runs { (fault : NewFault) → Has result.now (new_number fault) (new_name fault) }
@@ -210,4 +240,11 @@ pub(super) fn lifting() -> &'static [Explanation]
     ensures { (fault : LiftFault) → Has result.now (fault_number fault) (fault_name fault) }
 {
     &LIFTING
+}
+
+/// The cases of dumps of witnesses.
+pub(super) fn dumps() -> &'static [Explanation]
+    ensures { (fault : WaveFault) → Has result.now (wave_number fault) (wave_name fault) }
+{
+    &DUMPS
 }

@@ -4,6 +4,8 @@ use Rattle.aiger.specs.Renumbering.{loose_fault_name, loose_fault_number}
 use Rattle.aigertext.specs.Whys.{why_name, why_number}
 use Rattle.engine.specs.Faults.{name_of as engine_name, number_of as engine_number}
 use Rattle.lift.specs.Answers.{fault_name as lift_name, fault_number as lift_number}
+use Rattle.restore.specs.Faults.{why_name as restore_name, why_number as restore_number}
+use Rattle.wave.specs.Answers.{fault_name as wave_name, fault_number as wave_number}
 use Rattle.commands.specs.Explanations.{has_row}
 use Rattle.commands.specs.declared.explanations.Explanation.{Explanation}
 use Rattle.commands.proofs.TableLemmas.{behind, behind_nine, here, in_models}
@@ -36,3 +38,13 @@ pub returns-clause-engines : goal.returns-clause-engines
 returns-clause-engines c = λ fault.
     let has : List Explanation → Bool = has_row (engine_number fault) (engine_name fault) in
     behind_nine has c.often.result.now c.texts.result.now c.items.result.now c.names.result.now c.lowering.result.now c.runs.result.now c.witness_texts.result.now c.bit_texts.result.now c.gates.result.now _ (behind (has c.calls.result.now) _ (behind (has c.lifting.result.now) _ (behind (has c.texts-2.result.now) _ (here (has c.engines.result.now) _ (c.engines.ensures fault)))))
+
+pub returns-clause-counterexamples : goal.returns-clause-counterexamples
+returns-clause-counterexamples c = λ why.
+    let has : List Explanation → Bool = has_row (restore_number why) (restore_name why) in
+    behind_nine has c.often.result.now c.texts.result.now c.items.result.now c.names.result.now c.lowering.result.now c.runs.result.now c.witness_texts.result.now c.bit_texts.result.now c.gates.result.now _ (behind (has c.calls.result.now) _ (behind (has c.lifting.result.now) _ (behind (has c.texts-2.result.now) _ (behind (has c.engines.result.now) _ (here (has c.counterexamples.result.now) _ (c.counterexamples.ensures why))))))
+
+pub returns-clause-dumps : goal.returns-clause-dumps
+returns-clause-dumps c = λ fault.
+    let has : List Explanation → Bool = has_row (wave_number fault) (wave_name fault) in
+    behind_nine has c.often.result.now c.texts.result.now c.items.result.now c.names.result.now c.lowering.result.now c.runs.result.now c.witness_texts.result.now c.bit_texts.result.now c.gates.result.now _ (behind (has c.calls.result.now) _ (behind (has c.lifting.result.now) _ (behind (has c.texts-2.result.now) _ (behind (has c.engines.result.now) _ (behind (has c.counterexamples.result.now) _ (here (has c.dumps.result.now) _ (c.dumps.ensures fault)))))))

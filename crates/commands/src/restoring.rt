@@ -1,0 +1,142 @@
+//! The command that restores counterexamples over engine forms.
+
+ghost use Rattle.std.specs.Prelude.{◌≡◌, ◌≢◌, ◌<◌, ℕ, List, None, Option, Some, IfOk, IfErr, OnOk, length};
+ghost use Rattle.std.specs.Io.KnownBytes.{Appends};
+ghost use Rattle.std.specs.String.{string_bytes};
+ghost use Rattle.engine.specs.Refusal.{engine_refusal};
+ghost use Rattle.commands.specs.declared.answers.Answer.TheVariants as answer_is;
+ghost use Rattle.commands.specs.declared.refusals.Refusal.TheVariants as refusal;
+ghost use Rattle.commands.specs.declared.refusals.Fault.TheVariants as fault_is;
+ghost use Rattle.restore.specs.Answers.{CountsRestore};
+ghost use Rattle.commands.specs.Done.{IsCircuitText, IsClaim, Restores, malformed_line};
+ghost use Rattle.commands.specs.Restoring.{IsAnswerOf, Told};
+ghost use Rattle.commands.specs.Refusals.{IsNotRestored, IsWithoutForm};
+ghost use Rattle.commands.specs.Statuses.{Counts, IfInput, IsOfNoInput, ErrUntold};
+
+use crate::answers::Answer;
+use crate::circuits::read_circuit;
+use crate::judgements::tell_judgement;
+use crate::refusals::{Device, Fault, Refusal};
+use aiger::Circuit;
+use base::{Sink, Source, write_all};
+use engine::engine_form;
+use restore::{RestoreFault, RestoreWhy, restore};
+use std::alloc::{AllocError, Global};
+use witness::Judgement;
+
+/// The line of the first faulty line of a counterexample.
+fn malformed_line(alloc: Global, fault: &RestoreFault) -> Result<String, AllocError>
+    ensures { IfOk result (λ line. string_bytes line ≡ malformed_line fault.now) }
+{
+    let line = fault.line;
+    let number = fault.why.number();
+    let name = fault.why.name();
+    format!(in alloc; "malformed line {line}: {number} {name}\n")
+}
+
+/// Tells the first faulty line of a counterexample on standard error.
+fn tell_malformed<E: Sink>(
+    alloc: Global,
+    fault: &RestoreFault,
+    err: &mut E,
+) -> Result<Answer, Refusal>
+    ensures written { OnOk result (Appends (E.written err.old) (E.written err.new) (malformed_line fault.now)) }
+    ensures answer { IfOk result (λ answer. answer ≡ answer_is.NotAccepted) }
+    ensures no_input { IsOfNoInput result }
+    ensures untold { ErrUntold result (err.new ≡ err.old) }
+    ensures counted { (f s o : ℕ) → Counts result f f s s o o (E.failures err.old) (E.failures err.new) }
+{
+    let line = malformed_line(alloc, fault)?;
+    match write_all(err, line.as_bytes()) {
+        Ok(()) => Ok(Answer::NotAccepted),
+        Err(_) => Err(Refusal::Failed(Device::Error)),
+    }
+}
+
+/// The bad property that a counterexample claims: the chosen one, or the only one.
+fn claim_of(circuit: &Circuit, choice: Option<usize>) -> Result<usize, Refusal>
+    ensures claim { IfOk result (λ claim. IsClaim choice circuit.now claim) }
+    ensures unchosen { IfErr result (λ r. (r ≡ refusal.Input fault_is.Unchosen) × ((choice ≡ None) × (length circuit.now.bads ≢ 1))) }
+{
+    match choice {
+        Some(position) => Ok(position),
+        None if circuit.bads().len() == 1 => Ok(0),
+        None => Err(Refusal::Input(Fault::Unchosen)),
+    }
+}
+
+/// Whether a circuit has an engine form with this bad property alone.
+fn has_form(alloc: Global, circuit: &Circuit, claim: usize) -> Result<(), Refusal>
+    ensures accepted { OnOk result (engine_refusal circuit.now (Some claim) ≡ None) }
+    ensures there { OnOk result (claim < length circuit.now.bads) }
+    ensures refused { IfErr result (IfInput (IsWithoutForm circuit.now (Some claim))) }
+    ensures counted { (f s o e : ℕ) → Counts result f f s s o o e e }
+{
+    let _ = engine_form(alloc, circuit, Some(claim))?;
+    Ok(())
+}
+
+/// Tells on standard error what a restoring answers.
+fn tell_restored<E: Sink>(
+    alloc: Global,
+    told: Result<Judgement, RestoreFault>,
+    err: &mut E,
+) -> Result<Answer, Refusal>
+    ensures done { (c : Circuit) (claim : ℕ) (found before now : Option (List ℕ)) → IsAnswerOf c claim found before now told → IfOk result (Told c claim found before now (E.written err.old) (E.written err.new)) }
+    ensures no_input { IsOfNoInput result }
+    ensures untold { ErrUntold result (err.new ≡ err.old) }
+    ensures counted { (f s s' o o' : ℕ) → CountsRestore told s s' o o' → Counts result f f s s' o o' (E.failures err.old) (E.failures err.new) }
+{
+    match told {
+        Ok(judgement) => tell_judgement(alloc, &judgement, err),
+        Err(fault) => match fault.why {
+            RestoreWhy::Device => Err(Refusal::Failed(Device::Second)),
+            RestoreWhy::Write => Err(Refusal::Failed(Device::Output)),
+            RestoreWhy::NoMemory => Err(Refusal::NoMemory),
+            _ => tell_malformed(alloc, &fault, err),
+        },
+    }
+}
+
+/// Restores a counterexample over the engine form of a circuit that was read.
+fn restore_over<B: Source, O: Sink, E: Sink>(
+    alloc: Global,
+    circuit: &Circuit,
+    choice: Option<usize>,
+    second: &mut B,
+    out: &mut O,
+    err: &mut E,
+) -> Result<Answer, Refusal>
+    ensures done { (known : Option (List ℕ)) → IsCircuitText known circuit.now → IfOk result (Restores choice known (B.to_come second.old) (O.written out.old) (O.written out.new) (E.written err.old) (E.written err.new)) }
+    ensures refused { (known : Option (List ℕ)) → IsCircuitText known circuit.now → IfErr result (IfInput (IsNotRestored choice known)) }
+    ensures unwritten { IfErr result (IfInput (λ _. out.new ≡ out.old)) }
+    ensures untold { ErrUntold result (err.new ≡ err.old) }
+    ensures counted { (f : ℕ) → Counts result f f (B.failures second.old) (B.failures second.new) (O.failures out.old) (O.failures out.new) (E.failures err.old) (E.failures err.new) }
+{
+    // the lists of a circuit are one
+    let _ = circuit.inputs();
+    let claim = claim_of(circuit, choice)?;
+    has_form(alloc, circuit, claim)?;
+    let told = restore(alloc, circuit, claim, second, out);
+    tell_restored(alloc, told, err)
+}
+
+/// Reads a circuit, restores a counterexample over its engine form to standard output, and tells on standard error how that
+/// is judged.
+pub(crate) fn restore_counterexample<A: Source, B: Source, O: Sink, E: Sink>(
+    alloc: Global,
+    choice: Option<usize>,
+    first: &mut A,
+    second: &mut B,
+    out: &mut O,
+    err: &mut E,
+) -> Result<Answer, Refusal>
+    ensures done { IfOk result (Restores choice (A.to_come first.old) (B.to_come second.old) (O.written out.old) (O.written out.new) (E.written err.old) (E.written err.new)) }
+    ensures refused { IfErr result (IfInput (IsNotRestored choice (A.to_come first.old))) }
+    ensures unwritten { IfErr result (IfInput (λ _. out.new ≡ out.old)) }
+    ensures untold { ErrUntold result (err.new ≡ err.old) }
+    ensures counted { Counts result (A.failures first.old) (A.failures first.new) (B.failures second.old) (B.failures second.new) (O.failures out.old) (O.failures out.new) (E.failures err.old) (E.failures err.new) }
+{
+    let circuit = read_circuit(alloc, first)?;
+    restore_over(alloc, &circuit, choice, second, out, err)
+}

@@ -1,0 +1,64 @@
+//! The command that dumps the frames of witnesses.
+
+ghost use Rattle.std.specs.Prelude.{◌≡◌, ℕ, List, Option, IfOk, IfErr};
+ghost use Rattle.commands.specs.Done.{IsDumped, IsModelOf, Judged};
+ghost use Rattle.commands.specs.Refusals.{IsNotJudged};
+ghost use Rattle.commands.specs.Statuses.{Counts, IfInput, ErrUntold};
+
+use crate::answers::Answer;
+use crate::judgements::tell_judgement;
+use crate::models::read_model;
+use crate::orders::{Order, STANDARD_INPUT};
+use crate::refusals::Refusal;
+use base::{Sink, Source};
+use btor2::Model;
+use std::alloc::{AllocError, Global};
+use wave::{Shown, wave};
+
+/// The title of a dump: the names of the files.
+fn title_of(alloc: Global, order: &Order<'_>) -> Result<String, AllocError> {
+    let first = order.first;
+    let second = order.second.unwrap_or(STANDARD_INPUT);
+    format!(in alloc; "{first} {second}")
+}
+
+/// Judges a witness over a model, dumps its frames to standard output, and tells its judgement on standard error.
+pub(crate) fn dump_witness<A: Source, B: Source, O: Sink, E: Sink>(
+    alloc: Global,
+    order: &Order<'_>,
+    shown: Shown,
+    first: &mut A,
+    second: &mut B,
+    out: &mut O,
+    err: &mut E,
+) -> Result<Answer, Refusal>
+    ensures done { IfOk result (Judged (IsDumped shown (A.to_come first.old) (B.to_come second.old) (O.written out.old) (O.written out.new) (E.written err.old) (E.written err.new))) }
+    ensures refused { IfErr result (IfInput (IsNotJudged (A.to_come first.old))) }
+    ensures unwritten { IfErr result (IfInput (λ _. out.new ≡ out.old)) }
+    ensures untold { ErrUntold result (err.new ≡ err.old) }
+    ensures counted { Counts result (A.failures first.old) (A.failures first.new) (B.failures second.old) (B.failures second.new) (O.failures out.old) (O.failures out.new) (E.failures err.old) (E.failures err.new) }
+{
+    let title = title_of(alloc, order)?;
+    let model = read_model(alloc, first)?;
+    dump_over(alloc, &model, shown, title.as_bytes(), second, out, err)
+}
+
+/// The same over a model that was read.
+fn dump_over<B: Source, O: Sink, E: Sink>(
+    alloc: Global,
+    model: &Model,
+    shown: Shown,
+    title: &[u8],
+    second: &mut B,
+    out: &mut O,
+    err: &mut E,
+) -> Result<Answer, Refusal>
+    ensures done { (known : Option (List ℕ)) → IsModelOf known model.now → IfOk result (Judged (IsDumped shown known (B.to_come second.old) (O.written out.old) (O.written out.new) (E.written err.old) (E.written err.new))) }
+    ensures refused { (known : Option (List ℕ)) → IsModelOf known model.now → IfErr result (IfInput (IsNotJudged known)) }
+    ensures unwritten { IfErr result (IfInput (λ _. out.new ≡ out.old)) }
+    ensures untold { ErrUntold result (err.new ≡ err.old) }
+    ensures counted { (f : ℕ) → Counts result f f (B.failures second.old) (B.failures second.new) (O.failures out.old) (O.failures out.new) (E.failures err.old) (E.failures err.new) }
+{
+    let judgement = wave(alloc, model, shown, title, second, out)?;
+    tell_judgement(alloc, &judgement, err)
+}
