@@ -12,6 +12,7 @@ cp "$top"/examples/toggler.btor2 model.btor2
 cp "$top"/examples/toggler.witness witness
 printf 'aag 1 0 1 0 0 1\n2 3\n2\nl0 t[0]\n' >circuit
 printf '1\nb0\n0\n\n\n.\n' >bits
+printf '0\n0\n0# DONE\n' >cex
 printf 'add 8 255 1 0\n' >vectors
 failed=0
 count=0
@@ -219,7 +220,7 @@ expect_nothing "a model that is too big" out
 # full and closed devices
 for words in "--help" "--version" "lower model.btor2" "lower --binary model.btor2" "show model.btor2" "cost model.btor2" \
     "aig-convert circuit" "aig-convert --binary circuit" "check-btor model.btor2 witness" "check-aig circuit bits" \
-    "lift model.btor2 bits" "vectors vectors"; do
+    "lift model.btor2 bits" "wave model.btor2 witness" "restore --abc circuit cex" "vectors vectors"; do
     # shellcheck disable=SC2086
     "$program" $words >/dev/full 2>err; status=$?
     expect "$words onto a full device" 3 "output: device"
@@ -230,7 +231,7 @@ done
 
 # a pipe that nothing reads any more, whose signal is ignored: the write fails
 mkfifo pipe
-for words in "--help" "lower model.btor2" "lift model.btor2 bits" "check-aig circuit bits"; do
+for words in "--help" "lower model.btor2" "lift model.btor2 bits" "wave model.btor2 witness" "check-aig circuit bits"; do
     : <pipe &
     exec 3>pipe
     wait $!
