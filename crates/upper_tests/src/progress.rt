@@ -73,7 +73,9 @@ fn shown_while_read(alloc: Global, step: u64) -> Result<Vec<u8>, Fail> {
     let mut buffer = vec![in alloc; 0u8; PIECE]?;
     let progress = Progress::new(&clock, Some(Pane { bytes: &pane }));
     let mut source = Watched::new(bytes.as_slice(), Some(Work::Read), progress);
-    while source.read(buffer.as_mut_slice())? > 0 {}
+    for _ in 0..4 {
+        source.read(buffer.as_mut_slice())?;
+    }
     Ok(pane.into_inner())
 }
 
