@@ -3,6 +3,7 @@
 ghost use Rattle.std.specs.Prelude.{◌≡◌, IfOk, false, option_map};
 ghost use Rattle.commands.specs.Orders.{names_standard_input, reads_input_twice};
 
+use crate::command_table::{Engine, Product, ROWS, Row, row_of};
 use crate::explaining::explain;
 use crate::explanations::refusal_table;
 use crate::orders::{Order, STANDARD_INPUT, STANDARD_OUTPUT, Stop, Task};
@@ -83,157 +84,6 @@ const QUIET: &str = "quiet";
 const EXPLAIN: &str = "explain";
 
 const REFUSAL: &str = "REFUSAL";
-
-/// What a command writes.
-#[derive(Clone, Copy, PartialEq, Eq)]
-enum Product {
-    /// A line or a few.
-    Lines,
-    /// A text.
-    Text,
-    /// A circuit, in one of two forms.
-    Circuit,
-}
-
-/// What engine forms are to a command.
-#[derive(Clone, Copy, PartialEq, Eq)]
-enum Engine {
-    /// Nothing.
-    Unknown,
-    /// It writes one where that is asked for.
-    Written,
-    /// It reads a counterexample over one.
-    Read,
-}
-
-/// A command of this program: its word, its task, what help says of it, and its files.
-struct Row {
-    word: &'static str,
-    task: Task,
-    about: &'static str,
-    /// The first file: its name and what help says of it.
-    file: (&'static str, &'static str),
-    /// The second file, where the command has one.
-    witness: Option<&'static str>,
-    /// What is written.
-    product: Product,
-    /// What engine forms are to it.
-    engine: Engine,
-}
-
-/// The first file of commands on models, and what help says of it.
-const MODEL: (&str, &str) = (
-    "MODEL",
-    "The file of a BTOR2 model, or - for standard input",
-);
-
-/// The first file of commands on circuits.
-const CIRCUIT: (&str, &str) = (
-    "CIRCUIT",
-    "The file of an AIGER circuit of either form, or - for standard input",
-);
-
-/// What help says of a witness of a model.
-const BTOR_WITNESS: &str = "The file of a BTOR2 witness, or - for standard input";
-
-/// What help says of a witness of a circuit.
-const AIGER_WITNESS: &str = "The file of an AIGER witness, or - for standard input";
-
-/// The commands, in the order in which help lists them.
-static ROWS: [Row; 10] = [
-    Row {
-        word: "lower",
-        task: Task::Lower,
-        about: "Lower a BTOR2 model to an AIGER circuit on standard output",
-        file: MODEL,
-        witness: None,
-        product: Product::Circuit,
-        engine: Engine::Written,
-    },
-    Row {
-        word: "check-btor",
-        task: Task::CheckBtor,
-        about: "Judge a BTOR2 witness over a model",
-        file: MODEL,
-        witness: Some(BTOR_WITNESS),
-        product: Product::Lines,
-        engine: Engine::Unknown,
-    },
-    Row {
-        word: "show",
-        task: Task::Show,
-        about: "Write a BTOR2 model in the one spelling that this program gives",
-        file: MODEL,
-        witness: None,
-        product: Product::Text,
-        engine: Engine::Unknown,
-    },
-    Row {
-        word: "cost",
-        task: Task::Cost,
-        about: "Tell how many gates and variables the circuit of a BTOR2 model has at most",
-        file: MODEL,
-        witness: None,
-        product: Product::Lines,
-        engine: Engine::Unknown,
-    },
-    Row {
-        word: "aig-convert",
-        task: Task::AigConvert,
-        about: "Write an AIGER circuit of either form in one, its variables numbered as in the binary form",
-        file: CIRCUIT,
-        witness: None,
-        product: Product::Circuit,
-        engine: Engine::Written,
-    },
-    Row {
-        word: "check-aig",
-        task: Task::CheckAig,
-        about: "Judge an AIGER witness over a circuit",
-        file: CIRCUIT,
-        witness: Some(AIGER_WITNESS),
-        product: Product::Lines,
-        engine: Engine::Unknown,
-    },
-    Row {
-        word: "lift",
-        task: Task::Lift,
-        about: "Lift an AIGER witness of a model's circuit to a BTOR2 witness on standard output",
-        file: MODEL,
-        witness: Some(AIGER_WITNESS),
-        product: Product::Text,
-        engine: Engine::Unknown,
-    },
-    Row {
-        word: "restore",
-        task: Task::Restore(None),
-        about: "Restore a counterexample over the engine form of a circuit to an AIGER witness of the circuit on standard output",
-        file: CIRCUIT,
-        witness: Some(
-            "The file of a counterexample as ABC writes it by write_cex -a, or - for standard input",
-        ),
-        product: Product::Text,
-        engine: Engine::Read,
-    },
-    Row {
-        word: "wave",
-        task: Task::Wave(Shown::Named),
-        about: "Judge a BTOR2 witness over a model, and write its frames as a value change dump (VCD) to standard output",
-        file: MODEL,
-        witness: Some(BTOR_WITNESS),
-        product: Product::Text,
-        engine: Engine::Unknown,
-    },
-    Row {
-        word: "vectors",
-        task: Task::Vectors,
-        about: "Compare what operators give, in the evaluator and in a circuit, with lines of vectors",
-        file: ("FILE", "The file of vector lines, or - for standard input"),
-        witness: None,
-        product: Product::Lines,
-        engine: Engine::Unknown,
-    },
-];
 
 /// A word that names a file.
 fn file_name<'a>(alloc: Global, name: &'a str, help: &'a str) -> Arg<'a> {
@@ -361,11 +211,6 @@ fn commands<'a>(alloc: Global) -> Result<Command<'a>, AllocError> {
         commands = commands.subcommand(command_of(alloc, row)?)?;
     }
     commands.subcommand(explain_command(alloc)?)
-}
-
-/// The row of a command's word.
-fn row_of(word: &str) -> Option<&'static Row> {
-    ROWS.iter().find(|row| row.word == word)
 }
 
 /// The name of the file that a result goes to. Without one, and where it is `-`, it goes to standard output.

@@ -4,6 +4,7 @@
 mod answers;
 mod circuits;
 mod command_line;
+mod command_table;
 mod engines;
 mod explaining;
 mod explanations;
