@@ -136,6 +136,14 @@ impl HashGates {
         }
     }
 
+    /// How many gates it has made.
+    pub fn gate_count(&self) -> usize
+        ensures { result ≡ length self.now.gates }
+    {
+        let gates = self.circuit.gates();
+        gates.len()
+    }
+
     /// The circuit of these inputs, latches and gates, and nothing else. It takes no memory.
     ///
     /// No gate has a constant operand or two literals of one variable, and no two gates have the same operands. Any bits
