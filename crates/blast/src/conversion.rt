@@ -6,7 +6,8 @@ ghost use Rattle.blast.specs.declared.fault.ConvertFault.TheVariants as fault;
 ghost use Rattle.blast.specs.Conversion.{IsTextOf, AnswersConversion, IsBehindReading, ReadsToEnd, TellsFirstFault, HasNoLine, IsBeforeWriting, RaisesFailures};
 
 use crate::fault::ConvertFault;
-use crate::lowering::lower;
+use crate::lowering::lower_watched;
+use crate::watching::{Unwatched, Watch};
 use aigertext::{Form, write};
 use base::{Sink, Source};
 use btor2::Model;
@@ -30,18 +31,37 @@ pub fn convert<S: Source, K: Sink>(
     ensures unwritten { IfErr result (λ e. IsBeforeWriting e → sink.new ≡ sink.old) }
     ensures device { RaisesFailures result (S.failures source.old) (S.failures source.new) (K.failures sink.old) (K.failures sink.new) }
 {
+    convert_watched(alloc, source, sink, form, &mut Unwatched)
+}
+
+/// The same, where it is told behind each line of the model that is lowered how many gates there are.
+pub fn convert_watched<S: Source, K: Sink, W: Watch>(
+    alloc: Global,
+    source: &mut S,
+    sink: &mut K,
+    form: Form,
+    watch: &mut W,
+) -> Result<(), ConvertFault>
+    ensures answer { AnswersConversion (S.to_come source.old) (K.written sink.old) (K.written sink.new) form result }
+    ensures fault { IfErr result (TellsFirstFault (S.to_come source.old)) }
+    ensures place { IfErr result HasNoLine }
+    ensures end { ReadsToEnd result (S.to_come source.new) }
+    ensures unwritten { IfErr result (λ e. IsBeforeWriting e → sink.new ≡ sink.old) }
+    ensures device { RaisesFailures result (S.failures source.old) (S.failures source.new) (K.failures sink.old) (K.failures sink.new) }
+{
     match read(alloc, source) {
-        Ok(model) => convert_model(alloc, &model, sink, form),
+        Ok(model) => convert_model(alloc, &model, sink, form, watch),
         Err(fault) => Err(ConvertFault::Read(fault)),
     }
 }
 
 /// Lowers a model and writes the text of the circuit: the part of a conversion behind the reading, whatever the text was.
-fn convert_model<K: Sink>(
+fn convert_model<K: Sink, W: Watch>(
     alloc: Global,
     model: &Model,
     sink: &mut K,
     form: Form,
+    watch: &mut W,
 ) -> Result<(), ConvertFault>
     ensures answer { (known : Option (List ℕ)) → IsTextOf known model.now → AnswersConversion known (K.written sink.old) (K.written sink.new) form result }
     ensures behind { IfErr result IsBehindReading }
@@ -50,7 +70,7 @@ fn convert_model<K: Sink>(
 {
     // a model's items are well-formed
     let _ = model.items();
-    match lower(alloc, model) {
+    match lower_watched(alloc, model, watch) {
         Ok(circuit) => match write(&circuit, form, sink) {
             Ok(()) => Ok(()),
             Err(fault) => Err(ConvertFault::Write(fault)),

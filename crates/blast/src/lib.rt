@@ -13,9 +13,11 @@ mod placed;
 mod properties;
 mod refusals;
 mod table;
+mod watching;
 mod widths;
 
-pub use conversion::convert;
+pub use conversion::{convert, convert_watched};
 pub use fault::{ConvertFault, LowerFault};
-pub use lowering::lower;
+pub use lowering::{lower, lower_watched};
+pub use watching::{Unwatched, Watch};
 pub use widths::{bound, cost, cost_and_bound};

@@ -14,6 +14,7 @@ use crate::nodes::lower_nodes;
 use crate::properties::push_properties;
 use crate::refusals::form_refusal;
 use crate::table::Table;
+use crate::watching::{Unwatched, Watch};
 use crate::widths::{bound, carried_width, given_width};
 use aiger::{Circuit, GREATEST_COUNT};
 use btor2::Model;
@@ -58,14 +59,19 @@ fn completed(model: &Model, table: &Table, mut circuit: Circuit) -> Result<Circu
 }
 
 /// The circuit of a model that nothing speaks against, over a maker that has made no gate yet.
-fn lower_over(alloc: Global, model: &Model, mut gates: HashGates) -> Result<Circuit, LowerFault>
+fn lower_over<W: Watch>(
+    alloc: Global,
+    model: &Model,
+    mut gates: HashGates,
+    watch: &mut W,
+) -> Result<Circuit, LowerFault>
     requires accepted { lowering_refusal model.now ≡ None }
     requires well_formed { IsWellFormed model.now }
     requires leaves { gates ≡ leaves_only model.now }
     ensures ok { IfOk result (λ circuit. Lowers model.now circuit) }
     ensures memory { IfErr result (λ e. e ≡ LowerFault.NoMemory) }
 {
-    match lower_nodes(alloc, model, &mut gates) {
+    match lower_nodes(alloc, model, &mut gates, watch) {
         Ok(table) => completed(model, &table, gates.finish()),
         Err(GateFault::NoMemory) => Err(LowerFault::NoMemory),
         Err(GateFault::TooBig) => unreachable!(),
@@ -73,7 +79,11 @@ fn lower_over(alloc: Global, model: &Model, mut gates: HashGates) -> Result<Circ
 }
 
 /// The circuit of a model that nothing speaks against.
-fn lower_accepted(alloc: Global, model: &Model) -> Result<Circuit, LowerFault>
+fn lower_accepted<W: Watch>(
+    alloc: Global,
+    model: &Model,
+    watch: &mut W,
+) -> Result<Circuit, LowerFault>
     requires accepted { lowering_refusal model.now ≡ None }
     requires well_formed { IsWellFormed model.now }
     ensures ok { IfOk result (λ circuit. Lowers model.now circuit) }
@@ -82,7 +92,7 @@ fn lower_accepted(alloc: Global, model: &Model) -> Result<Circuit, LowerFault>
     let inputs = given_width(model) as u32;
     let latches = carried_width(model) as u32;
     match HashGates::new(alloc, inputs, latches) {
-        Ok(gates) => lower_over(alloc, model, gates),
+        Ok(gates) => lower_over(alloc, model, gates, watch),
         Err(GateFault::NoMemory) => Err(LowerFault::NoMemory),
         Err(GateFault::TooBig) => unreachable!(),
     }
@@ -98,8 +108,20 @@ pub fn lower(alloc: Global, model: &Model) -> Result<Circuit, LowerFault>
     ensures ok { IfOk result (λ circuit. Lowers model.now circuit) }
     ensures answer { AnswersLowering result (lowering_refusal model.now) }
 {
+    lower_watched(alloc, model, &mut Unwatched)
+}
+
+/// The same, where it is told behind each line of the model how many gates there are.
+pub fn lower_watched<W: Watch>(
+    alloc: Global,
+    model: &Model,
+    watch: &mut W,
+) -> Result<Circuit, LowerFault>
+    ensures ok { IfOk result (λ circuit. Lowers model.now circuit) }
+    ensures answer { AnswersLowering result (lowering_refusal model.now) }
+{
     match refusal(model) {
         Some(fault) => Err(fault),
-        None => lower_accepted(alloc, model),
+        None => lower_accepted(alloc, model, watch),
     }
 }

@@ -16,6 +16,7 @@ ghost use Rattle.blast.specs.Table.{MakesNode, MakesRow, IsOperand, next_leaf, n
 use crate::items::{bit_count, node_row};
 use crate::placed::{concat_row, constant_row, sext_row, slice_row, uext_row};
 use crate::table::Table;
+use crate::watching::Watch;
 use crate::widths::{given_width, input_width};
 use aiger::Lit;
 use base::{Binary, Unary};
@@ -255,10 +256,11 @@ fn lower_item<G: Gates>(
 ///
 /// Conditions: the maker stands on the bits that are given in each frame and on those that are carried, and has made no
 /// gate; at most 2^30 variables. Errors: `NoMemory`.
-pub(crate) fn lower_nodes(
+pub(crate) fn lower_nodes<W: Watch>(
     alloc: Global,
     model: &Model,
     gates: &mut HashGates,
+    watch: &mut W,
 ) -> Result<Table, GateFault>
     requires leaves { gates.old ≡ leaves_only model.now }
     requires fits { bound model.now ≤ greatest_count }
@@ -270,6 +272,7 @@ pub(crate) fn lower_nodes(
     let mut next = first_leaf(model);
     for (place, item) in items.iter().enumerate() {
         lower_item(model, gates, &mut table, place, item, &mut next)?;
+        watch.made(gates.gate_count());
     }
     Ok(table)
 }

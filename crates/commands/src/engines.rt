@@ -12,7 +12,7 @@ use crate::refusals::Refusal;
 use aiger::Circuit;
 use aigertext::Form;
 use base::{Sink, Source};
-use blast::lower;
+use blast::{Watch, lower_watched};
 use btor2::Model;
 use engine::engine_form;
 use std::alloc::Global;
@@ -36,12 +36,13 @@ fn write_engine_form<O: Sink>(
 }
 
 /// Lowers a model, and writes the engine form of its circuit.
-pub(crate) fn lower_for_engines<A: Source, O: Sink>(
+pub(crate) fn lower_for_engines<A: Source, O: Sink, W: Watch>(
     alloc: Global,
     form: Form,
     choice: Option<usize>,
     first: &mut A,
     out: &mut O,
+    watch: &mut W,
 ) -> Result<Answer, Refusal>
     ensures done { OnOk result (LowersForEngines (A.to_come first.old) (O.written out.old) (O.written out.new) form choice) }
     ensures answer { IfOk result (λ answer. answer ≡ Answer.Done) }
@@ -50,16 +51,17 @@ pub(crate) fn lower_for_engines<A: Source, O: Sink>(
     ensures counted { (s e : ℕ) → Counts result (A.failures first.old) (A.failures first.new) s s (O.failures out.old) (O.failures out.new) e e }
 {
     let model = read_model(alloc, first)?;
-    lower_model_for_engines(alloc, &model, form, choice, out)
+    lower_model_for_engines(alloc, &model, form, choice, out, watch)
 }
 
 /// The same of a model that was read.
-fn lower_model_for_engines<O: Sink>(
+fn lower_model_for_engines<O: Sink, W: Watch>(
     alloc: Global,
     model: &Model,
     form: Form,
     choice: Option<usize>,
     out: &mut O,
+    watch: &mut W,
 ) -> Result<Answer, Refusal>
     ensures done { (known : Option (List ℕ)) → IsModelOf known model.now → OnOk result (LowersForEngines known (O.written out.old) (O.written out.new) form choice) }
     ensures answer { IfOk result (λ answer. answer ≡ Answer.Done) }
@@ -69,7 +71,7 @@ fn lower_model_for_engines<O: Sink>(
 {
     // a model's items are well-formed
     let _ = model.items();
-    let circuit = lower(alloc, model)?;
+    let circuit = lower_watched(alloc, model, watch)?;
     blast::laws::bad_properties_rise_alike();
     engine::laws::bad_properties_rise_alike();
     write_engine_form(alloc, &circuit, form, choice, out)

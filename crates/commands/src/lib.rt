@@ -30,7 +30,7 @@ pub use explanations::{Explanation, Part, refusal_table};
 pub use files::{Input, NoFile, open_input};
 pub use orders::{Order, STANDARD_INPUT, Stop, Task};
 pub use outputs::{Output, run_to_file};
-pub use progress::{Progress, Watched, Work};
+pub use progress::{Frames, Progress, Watched, Work};
 pub use running::run;
 pub use telling::end;
 pub use terminals::{Terminals, order_at};

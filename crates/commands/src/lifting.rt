@@ -10,18 +10,19 @@ use crate::judgements::tell_judgement;
 use crate::models::read_model;
 use crate::refusals::Refusal;
 use base::{Sink, Source};
-use blast::lower;
+use blast::{Watch, lower_watched};
 use btor2::Model;
 use lift::lift;
 use std::alloc::Global;
 
 /// Lowers a model, lifts a witness of its circuit to standard output, and tells its judgement on standard error.
-pub(crate) fn lift_witness<A: Source, B: Source, O: Sink, E: Sink>(
+pub(crate) fn lift_witness<A: Source, B: Source, O: Sink, E: Sink, W: Watch>(
     alloc: Global,
     first: &mut A,
     second: &mut B,
     out: &mut O,
     err: &mut E,
+    watch: &mut W,
 ) -> Result<Answer, Refusal>
     ensures done { IfOk result (Judged (IsLiftedAndTold (A.to_come first.old) (B.to_come second.old) (O.written out.old) (O.written out.new) (E.written err.old) (E.written err.new))) }
     ensures refused { IfErr result (IfInput (IsNotLowered (A.to_come first.old))) }
@@ -30,16 +31,17 @@ pub(crate) fn lift_witness<A: Source, B: Source, O: Sink, E: Sink>(
     ensures counted { Counts result (A.failures first.old) (A.failures first.new) (B.failures second.old) (B.failures second.new) (O.failures out.old) (O.failures out.new) (E.failures err.old) (E.failures err.new) }
 {
     let model = read_model(alloc, first)?;
-    lift_over(alloc, &model, second, out, err)
+    lift_over(alloc, &model, second, out, err, watch)
 }
 
 /// The same over a model that was read.
-fn lift_over<B: Source, O: Sink, E: Sink>(
+fn lift_over<B: Source, O: Sink, E: Sink, W: Watch>(
     alloc: Global,
     model: &Model,
     second: &mut B,
     out: &mut O,
     err: &mut E,
+    watch: &mut W,
 ) -> Result<Answer, Refusal>
     ensures done { (known : Option (List ℕ)) → IsModelOf known model.now → IfOk result (Judged (IsLiftedAndTold known (B.to_come second.old) (O.written out.old) (O.written out.new) (E.written err.old) (E.written err.new))) }
     ensures refused { (known : Option (List ℕ)) → IsModelOf known model.now → IfErr result (IfInput (IsNotLowered known)) }
@@ -49,7 +51,7 @@ fn lift_over<B: Source, O: Sink, E: Sink>(
 {
     // a model's items are well-formed
     let _ = model.items();
-    let circuit = lower(alloc, model)?;
+    let circuit = lower_watched(alloc, model, watch)?;
     let judgement = lift(alloc, model, &circuit, second, out)?;
     tell_judgement(alloc, &judgement, err)
 }

@@ -15,7 +15,7 @@ use crate::refusals::{Device, Refusal};
 use crate::telling::write_result;
 use aigertext::Form;
 use base::{Sink, Source};
-use blast::{convert, cost_and_bound};
+use blast::{Watch, convert_watched, cost_and_bound};
 use btor2::Model;
 use btor2text::{read, write};
 use std::alloc::{AllocError, Global};
@@ -34,11 +34,12 @@ pub(crate) fn read_model<A: Source>(alloc: Global, first: &mut A) -> Result<Mode
 }
 
 /// Lowers a model.
-pub(crate) fn lower_model<A: Source, O: Sink>(
+pub(crate) fn lower_model<A: Source, O: Sink, W: Watch>(
     alloc: Global,
     form: Form,
     first: &mut A,
     out: &mut O,
+    watch: &mut W,
 ) -> Result<Answer, Refusal>
     ensures done { OnOk result (Converts (A.to_come first.old) (O.written out.old) (O.written out.new) form) }
     ensures answer { IfOk result (λ answer. answer ≡ Answer.Done) }
@@ -46,7 +47,7 @@ pub(crate) fn lower_model<A: Source, O: Sink>(
     ensures unwritten { IfErr result (IfInput (λ _. out.new ≡ out.old)) }
     ensures counted { (s e : ℕ) → Counts result (A.failures first.old) (A.failures first.new) s s (O.failures out.old) (O.failures out.new) e e }
 {
-    match convert(alloc, first, out, form) {
+    match convert_watched(alloc, first, out, form, watch) {
         Ok(()) => Ok(Answer::Done),
         Err(fault) => Err(Refusal::from(fault)),
     }

@@ -55,14 +55,22 @@ fn create_new<R: Files>(rt: &R, name: &str) -> io::Result<R::File> {
 }
 
 /// Does a command whose result goes to a file that was opened; where it could not be, every write fails.
-fn run_onto<F: Write + Drop, C: Clock, W: Write + Copy, A: Source, B: Source, T: Source, E: Sink>(
+fn run_onto<
+    F: Write + Drop,
+    C: Clock + Copy,
+    W: Write + Copy,
+    A: Source,
+    B: Source,
+    T: Source,
+    E: Sink,
+>(
     alloc: Global,
     order: &Order<'_>,
     first: &mut A,
     second: &mut B,
     third: &mut T,
     file: io::Result<F>,
-    progress: Progress<'_, C, W>,
+    mut progress: Progress<'_, C, W>,
     err: &mut E,
 ) -> u8
     ensures done { result ≡ 0 → AnswersSome order.now.task order.now.form answer.Done (A.to_come first.old) (B.to_come second.old) (T.to_come third.old) (E.written err.old) (E.written err.new) }
@@ -78,9 +86,27 @@ fn run_onto<F: Write + Drop, C: Clock, W: Write + Copy, A: Source, B: Source, T:
     match file {
         Ok(file) => {
             let mut out = Watched::new(ToWriter::new(file), Some(Work::Written), progress);
-            run(alloc, order, first, second, third, &mut out, err)
+            run(
+                alloc,
+                order,
+                first,
+                second,
+                third,
+                &mut out,
+                err,
+                &mut progress,
+            )
         }
-        Err(_) => run(alloc, order, first, second, third, &mut NoFile::new(), err),
+        Err(_) => run(
+            alloc,
+            order,
+            first,
+            second,
+            third,
+            &mut NoFile::new(),
+            err,
+            &mut progress,
+        ),
     }
 }
 
@@ -107,7 +133,15 @@ fn give_name<R: Files, E: Sink>(rt: &R, part: &str, name: &str, status: u8, err:
 /// is written as it stands.
 ///
 /// With status 3 also a file could not be made or take its name.
-pub fn run_to_file<R: Files, C: Clock, W: Write + Copy, A: Source, B: Source, T: Source, E: Sink>(
+pub fn run_to_file<
+    R: Files,
+    C: Clock + Copy,
+    W: Write + Copy,
+    A: Source,
+    B: Source,
+    T: Source,
+    E: Sink,
+>(
     rt: &R,
     alloc: Global,
     order: &Order<'_>,

@@ -2,29 +2,99 @@
 
 ghost use Rattle.std.specs.Prelude.{◌≡◌, None};
 
+use crate::orders::Task;
 use base::{DeviceFault, Sink, Source};
+use blast::Watch;
 use itoa::Buffer;
 use std::io::{self, Write};
 use std::time::{Clock, Duration};
 
-/// What is done with the bytes of a device.
+/// What is done with the bytes of a device, and what is told of it.
 #[derive(Clone, Copy, PartialEq, Eq)]
 pub enum Work {
-    /// They are read.
+    /// They are read: how many they are.
     Read,
-    /// They are judged.
-    Judged,
-    /// They are written.
+    /// They are a witness that is judged: how many frames it has, by their lines.
+    Judged(Frames),
+    /// They are written: how many they are.
     Written,
 }
 
+/// By which lines the frames of a witness are counted.
+#[derive(Clone, Copy, PartialEq, Eq)]
+pub enum Frames {
+    /// By those that begin the inputs of a frame of a model, with `@`.
+    OfModel,
+    /// By those behind the first three, the status, the claim and the initial bits of a circuit.
+    OfCircuit,
+}
+
+/// How many lines of a witness of a circuit stand before its frames.
+const LINES_BEFORE_FRAMES: u64 = 3;
+
 impl Work {
+    /// The work on the second file of a command.
+    pub fn on_second(task: Task) -> Work {
+        match task {
+            Task::CheckBtor | Task::Wave(_) => Work::Judged(Frames::OfModel),
+            _ => Work::Judged(Frames::OfCircuit),
+        }
+    }
+
     /// The word that tells it.
     fn word(self) -> &'static str {
         match self {
             Work::Read => "read",
-            Work::Judged => "judged",
+            Work::Judged(_) => "judged",
             Work::Written => "written",
+        }
+    }
+}
+
+/// How much went through a device.
+#[derive(Clone, Copy)]
+struct Amount {
+    bytes: u64,
+    lines: u64,
+    // the lines that begin with `@`
+    marked: u64,
+    // the next byte begins a line
+    at_begin: bool,
+}
+
+impl Amount {
+    /// Nothing.
+    fn new() -> Amount {
+        Amount {
+            bytes: 0,
+            lines: 0,
+            marked: 0,
+            at_begin: true,
+        }
+    }
+
+    /// Adds bytes behind those before.
+    fn add(&mut self, bytes: &[u8]) {
+        self.bytes = self.bytes.saturating_add(bytes.len() as u64);
+        for byte in bytes {
+            if self.at_begin && *byte == b'@' {
+                self.marked = self.marked.saturating_add(1);
+            }
+            self.at_begin = *byte == b'\n';
+            if self.at_begin {
+                self.lines = self.lines.saturating_add(1);
+            }
+        }
+    }
+
+    /// How far some work is, and in what.
+    fn told(&self, work: Work) -> (u64, &'static str) {
+        match work {
+            Work::Read | Work::Written => (self.bytes / MEGABYTE, " MB"),
+            Work::Judged(Frames::OfModel) => (self.marked, " frames"),
+            Work::Judged(Frames::OfCircuit) => {
+                (self.lines.saturating_sub(LINES_BEFORE_FRAMES), " frames")
+            }
         }
     }
 }
@@ -39,16 +109,16 @@ const PAUSE: u64 = 250;
 const MEGABYTE: u64 = 1_000_000;
 
 /// What hides a line: blanks over it, and the way back to its begin.
-const BLANKS: &[u8] = b"\r                              \r";
+const BLANKS: &[u8] = b"\r                                        \r";
 
-/// Shows a line in place of the one that stands.
-fn show<W: Write>(terminal: &mut W, work: &str, bytes: u64) -> io::Result<()> {
+/// Shows a line in place of the one that stands: what is done, with how much, and of what.
+fn show<W: Write>(terminal: &mut W, work: &str, count: u64, unit: &str) -> io::Result<()> {
     let mut buffer = Buffer::new();
     terminal.write_all(BLANKS)?;
     terminal.write_all(work.as_bytes())?;
     terminal.write_all(b" ")?;
-    terminal.write_all(buffer.format(bytes / MEGABYTE).as_bytes())?;
-    terminal.write_all(b" MB")
+    terminal.write_all(buffer.format(count).as_bytes())?;
+    terminal.write_all(unit.as_bytes())
 }
 
 /// A line on a terminal, or on none, that tells how far work is which has taken two seconds. It is shown as well as the
@@ -88,14 +158,17 @@ impl<'a, C: Clock, W: Write + Copy> Progress<'a, C, W> {
         }
     }
 
-    /// Tells how many bytes some work is through, where a line is due.
-    fn tell(&mut self, work: &str, bytes: u64)
+    /// Tells how far some work is, where a line is due.
+    fn tell(&mut self, work: &str, count: u64, unit: &str)
         ensures silent { self.old.terminal ≡ None → self.new.terminal ≡ None }
     {
+        if self.terminal.is_none() {
+            return;
+        }
         if let Some(now) = self.time_past(self.due) {
             self.due = now.saturating_add(Duration::from_millis(PAUSE));
             if let Some(terminal) = &mut self.terminal {
-                let _ = show(terminal, work, bytes);
+                let _ = show(terminal, work, count, unit);
             }
         }
     }
@@ -112,18 +185,25 @@ impl<'a, C: Clock, W: Write + Copy> Progress<'a, C, W> {
     }
 }
 
+impl<C: Clock, W: Write + Copy> Watch for Progress<'_, C, W> {
+    /// Tells how many gates are made, where a line is due.
+    fn made(&mut self, gates: usize) {
+        self.tell("made", gates as u64, " gates");
+    }
+}
+
 /// A source or a sink beside which the line is shown. Its bytes and its failures are those of the device inside.
 #[derive(Drop)]
 pub struct Watched<'a, D: Drop, C: Clock, W: Write + Copy> {
     device: D,
     // what is done with its bytes; without that it may write where the line stands, which is hidden before
     work: Option<Work>,
-    bytes: u64,
+    amount: Amount,
     progress: Progress<'a, C, W>,
 }
 
 impl<'a, D: Drop, C: Clock, W: Write + Copy> Watched<'a, D, C, W> {
-    /// A device that no byte went through. With what is done with its bytes, the line tells how many they are; without
+    /// A device that no byte went through. With what is done with its bytes, the line tells how far that is; without
     /// that the device is a sink that may write where the line stands, and the line is hidden before.
     pub fn new(device: D, work: Option<Work>, progress: Progress<'a, C, W>) -> Watched<'a, D, C, W>
         ensures device { result.device ≡ device }
@@ -133,19 +213,23 @@ impl<'a, D: Drop, C: Clock, W: Write + Copy> Watched<'a, D, C, W> {
         Watched {
             device,
             work,
-            bytes: 0,
+            amount: Amount::new(),
             progress,
         }
     }
 
-    /// Counts bytes that went through, and tells how many they are.
-    fn count(&mut self, count: usize)
+    /// Counts bytes that went through, and tells how far the work is.
+    fn count(&mut self, bytes: &[u8])
         ensures device { self.new.device ≡ self.old.device }
         ensures silent { self.old.progress.terminal ≡ None → self.new.progress.terminal ≡ None }
     {
-        self.bytes = self.bytes.saturating_add(count as u64);
+        if self.progress.terminal.is_none() || bytes.is_empty() {
+            return;
+        }
         if let Some(work) = self.work {
-            self.progress.tell(work.word(), self.bytes);
+            self.amount.add(bytes);
+            let (count, unit) = self.amount.told(work);
+            self.progress.tell(work.word(), count, unit);
         }
     }
 }
@@ -159,7 +243,7 @@ impl<D: Source + Drop, C: Clock, W: Write + Copy> Source for Watched<'_, D, C, W
 
     fn read(&mut self, buf: &mut [u8]) -> Result<usize, DeviceFault> {
         let count = self.device.read(buf)?;
-        self.count(count);
+        self.count(&buf[..count]);
         Ok(count)
     }
 }
@@ -174,7 +258,7 @@ impl<D: Sink + Drop, C: Clock, W: Write + Copy> Sink for Watched<'_, D, C, W> {
             self.progress.clear();
         }
         let count = self.device.write(bytes)?;
-        self.count(count);
+        self.count(&bytes[..count]);
         Ok(count)
     }
 }

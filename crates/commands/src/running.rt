@@ -19,10 +19,13 @@ use crate::telling::tell;
 use crate::vector_reports::compare_vectors;
 use crate::waving::dump_witness;
 use base::{Sink, Source};
+use blast::Watch;
 use std::alloc::Global;
 
 /// Does a command, and answers the exit status: 0 done or accepted, 1 not accepted, 2 input refused, 3 device or memory, 4
 /// words refused.
+///
+/// While a model is lowered, `watch` is told behind each of its lines how many gates there are.
 ///
 /// Results go to `out`; a refusal is one line on `err`, and so is the judgement of `lift`, of `restore` and of `wave`. Only a
 /// command of two files reads the second source, and none yet the third.
@@ -41,7 +44,7 @@ use std::alloc::Global;
 ///   failed.
 /// - 4: the words leave open which bad property of the first file is claimed. Nothing was written to `out`, no device failed,
 ///   and the line on `err` says so.
-pub fn run<A: Source, B: Source, T: Source, O: Sink, E: Sink>(
+pub fn run<A: Source, B: Source, T: Source, O: Sink, E: Sink, W: Watch>(
     alloc: Global,
     order: &Order<'_>,
     first: &mut A,
@@ -49,6 +52,7 @@ pub fn run<A: Source, B: Source, T: Source, O: Sink, E: Sink>(
     third: &mut T,
     out: &mut O,
     err: &mut E,
+    watch: &mut W,
 ) -> u8
     ensures done { result ≡ 0 → Answers order.now.task order.now.form answer.Done (A.to_come first.old) (B.to_come second.old) (T.to_come third.old) (O.written out.old) (O.written out.new) (E.written err.old) (E.written err.new) }
     ensures not_accepted { result ≡ 1 → Answers order.now.task order.now.form answer.NotAccepted (A.to_come first.old) (B.to_come second.old) (T.to_come third.old) (O.written out.old) (O.written out.new) (E.written err.old) (E.written err.new) }
@@ -66,7 +70,7 @@ pub fn run<A: Source, B: Source, T: Source, O: Sink, E: Sink>(
     ensures no_third { has_three_files order.now.task ≡ false → third.new ≡ third.old }
     ensures statuses { result ≤ 4 }
 {
-    match obey(alloc, order, first, second, third, out, err) {
+    match obey(alloc, order, first, second, third, out, err, watch) {
         Ok(answer) => answer.status(),
         Err(refusal) => match tell(alloc, order, &refusal, err) {
             Ok(status) => status,
@@ -76,7 +80,7 @@ pub fn run<A: Source, B: Source, T: Source, O: Sink, E: Sink>(
 }
 
 /// Does a command, and tells no refusal.
-fn obey<A: Source, B: Source, T: Source, O: Sink, E: Sink>(
+fn obey<A: Source, B: Source, T: Source, O: Sink, E: Sink, W: Watch>(
     alloc: Global,
     order: &Order<'_>,
     first: &mut A,
@@ -84,6 +88,7 @@ fn obey<A: Source, B: Source, T: Source, O: Sink, E: Sink>(
     third: &mut T,
     out: &mut O,
     err: &mut E,
+    watch: &mut W,
 ) -> Result<Answer, Refusal>
     ensures done { IfOk result (λ answer. Answers order.now.task order.now.form answer (A.to_come first.old) (B.to_come second.old) (T.to_come third.old) (O.written out.old) (O.written out.new) (E.written err.old) (E.written err.new)) }
     ensures refused { IfErr result (IfInput (Refuses order.now.task (A.to_come first.old))) }
@@ -94,17 +99,18 @@ fn obey<A: Source, B: Source, T: Source, O: Sink, E: Sink>(
     ensures one_file { has_one_file order.now.task ≡ true → second.new ≡ second.old }
     ensures no_third { has_three_files order.now.task ≡ false → third.new ≡ third.old }
 {
-    obey_two(alloc, order, first, second, out, err)
+    obey_two(alloc, order, first, second, out, err, watch)
 }
 
 /// Does a command that reads no third file.
-fn obey_two<A: Source, B: Source, O: Sink, E: Sink>(
+fn obey_two<A: Source, B: Source, O: Sink, E: Sink, W: Watch>(
     alloc: Global,
     order: &Order<'_>,
     first: &mut A,
     second: &mut B,
     out: &mut O,
     err: &mut E,
+    watch: &mut W,
 ) -> Result<Answer, Refusal>
     ensures done { (third : Option (List ℕ)) → IfOk result (λ answer. Answers order.now.task order.now.form answer (A.to_come first.old) (B.to_come second.old) third (O.written out.old) (O.written out.new) (E.written err.old) (E.written err.new)) }
     ensures refused { IfErr result (IfInput (Refuses order.now.task (A.to_come first.old))) }
@@ -115,8 +121,10 @@ fn obey_two<A: Source, B: Source, O: Sink, E: Sink>(
     ensures one_file { has_one_file order.now.task ≡ true → second.new ≡ second.old }
 {
     match order.task {
-        Task::Lower => lower_model(alloc, order.form, first, out),
-        Task::LowerForEngines(choice) => lower_for_engines(alloc, order.form, choice, first, out),
+        Task::Lower => lower_model(alloc, order.form, first, out, watch),
+        Task::LowerForEngines(choice) => lower_for_engines(
+            alloc, order.form, choice, first, out, watch,
+        ),
         Task::CheckBtor => check_model(alloc, first, second, out),
         Task::Show => show(alloc, first, out),
         Task::Cost => tell_cost(alloc, first, out),
@@ -125,7 +133,7 @@ fn obey_two<A: Source, B: Source, O: Sink, E: Sink>(
             convert_for_engines(alloc, order.form, choice, first, out)
         }
         Task::CheckAig => check_circuit(alloc, first, second, out),
-        Task::Lift => lift_witness(alloc, first, second, out, err),
+        Task::Lift => lift_witness(alloc, first, second, out, err, watch),
         Task::Restore(choice) => restore_counterexample(alloc, choice, first, second, out, err),
         Task::Wave(shown) => dump_witness(alloc, order, shown, first, second, out, err),
         Task::Vectors => compare_vectors(alloc, first, out),

@@ -55,8 +55,8 @@ fn obey<'a>(rt: &'a HostRuntime, order: &Order<'a>, terminals: Terminals) -> u8 
         Some(Work::Written)
     };
     let mut first = Watched::new(first, Some(Work::Read), progress);
-    let mut second = Watched::new(second, Some(Work::Judged), progress);
-    let mut third = Watched::new(third, Some(Work::Judged), progress);
+    let mut second = Watched::new(second, Some(Work::on_second(order.task)), progress);
+    let mut third = Watched::new(third, Some(Work::Read), progress);
     let mut out = Watched::new(ToWriter::new(rt.stdout()), written, progress);
     let mut err = Watched::new(ToWriter::new(rt.stderr()), None, progress);
     let status = match order.output {
@@ -68,6 +68,7 @@ fn obey<'a>(rt: &'a HostRuntime, order: &Order<'a>, terminals: Terminals) -> u8 
             &mut third,
             &mut out,
             &mut err,
+            &mut progress,
         ),
         Some(name) => {
             let output = Output {

@@ -1,6 +1,7 @@
 //! What commands answer on files that are given whole, in pieces and by devices that fail.
 
 use base::{Chop, FailAt, Source, VecSink};
+use blast::Unwatched;
 use commands::{NoFile, Order, run};
 use std::alloc::{AllocError, Global};
 
@@ -42,6 +43,7 @@ pub(crate) fn gives<A: Source, B: Source>(
         &mut NoFile::new(),
         &mut out,
         &mut err,
+        &mut Unwatched,
     );
     let is_written = if status == 3 {
         wanted.out.starts_with(out.bytes())
@@ -180,6 +182,7 @@ fn tells_failing_write(
         &mut NoFile::new(),
         &mut out,
         &mut err,
+        &mut Unwatched,
     ) == 3
         && err.bytes() == b"output: device\n".as_slice()
         && text.starts_with(out.inner().inner().bytes())
@@ -213,5 +216,6 @@ pub(crate) fn status_untold(alloc: Global, order: &Order<'_>, files: Files<'_>) 
         &mut NoFile::new(),
         &mut out,
         &mut err,
+        &mut Unwatched,
     )
 }

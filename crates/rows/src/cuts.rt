@@ -3,6 +3,7 @@
 use crate::answers::{Answer, Files, gives};
 use crate::blocks::Cut;
 use base::VecSink;
+use blast::Unwatched;
 use commands::{NoFile, Order, run};
 use std::alloc::{AllocError, Global};
 
@@ -46,6 +47,7 @@ fn shows(alloc: Global, order: &Order<'_>, front: Front<'_>) -> bool {
         &mut NoFile::new(),
         &mut out,
         &mut err,
+        &mut Unwatched,
     ) == 0
         && out.bytes().starts_with(front.bytes)
 }

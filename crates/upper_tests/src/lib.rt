@@ -11,6 +11,8 @@ mod models;
 #[cfg(test)]
 mod no_memory_left;
 #[cfg(test)]
+mod progress;
+#[cfg(test)]
 mod sizes;
 #[cfg(test)]
 mod stops;

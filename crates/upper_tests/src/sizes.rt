@@ -2,7 +2,7 @@
 use crate::models::model_of;
 use aiger::Circuit;
 use base::VecSink;
-use blast::{LowerFault, bound, cost, lower};
+use blast::{LowerFault, Unwatched, bound, cost, lower};
 use btor2::Model;
 use btor2text::read;
 use commands::{NoFile, order, run};
@@ -82,6 +82,7 @@ fn is_lowered_to(alloc: Global, text: &str, status: u8, told: &[u8]) -> Result<b
         &mut NoFile::new(),
         &mut out,
         &mut err,
+        &mut Unwatched,
     );
     Ok(answer == status && out.bytes().is_empty() && err.bytes() == told)
 }

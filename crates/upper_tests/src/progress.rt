@@ -1,0 +1,210 @@
+//! How far long work is told to be, by a clock that goes on at each look and on a terminal that keeps what it is sent.
+use crate::models::model_of;
+use base::{Source, VecSink, write_all};
+use blast::{Watch, lower_watched};
+use commands::{Frames, Progress, Watched, Work};
+use library_tests::samples::COUNTER;
+use std::alloc::Global;
+use std::cell::Cell;
+use std::io::{self, Write};
+use std::test::Fail;
+use std::time::{Clock, Duration};
+
+/// A clock that begins with 0 and goes on by so many milliseconds at each look.
+#[derive(Drop)]
+struct Steps {
+    now: Cell<u64>,
+    step: u64,
+}
+
+impl Steps {
+    fn by(step: u64) -> Steps {
+        Steps {
+            now: Cell::new(0),
+            step,
+        }
+    }
+}
+
+impl Clock for Steps {
+    fn monotonic(&self) -> io::Result<Duration> {
+        let now = self.now.get();
+        self.now.set(now.saturating_add(self.step));
+        Ok(Duration::from_millis(now))
+    }
+
+    fn since_1970(&self) -> io::Result<Duration> {
+        self.monotonic()
+    }
+}
+
+/// A terminal that keeps what it is sent.
+#[derive(Clone, Copy)]
+struct Terminal<'a> {
+    kept: &'a Cell<Option<Vec<u8>>>,
+}
+
+impl Write for Terminal<'_> {
+    fn write(&mut self, bytes: &[u8]) -> io::Result<usize> {
+        let mut kept = self.kept.replace(None);
+        if let Some(text) = &mut kept {
+            let _ = text.extend_from_slice(bytes);
+        }
+        self.kept.set(kept);
+        Ok(bytes.len())
+    }
+
+    fn flush(&mut self) -> io::Result<()> {
+        Ok(())
+    }
+}
+
+/// What a terminal shows while a text is read in pieces of so many bytes, by a clock of so many milliseconds a look.
+fn shown(
+    alloc: Global,
+    text: &[u8],
+    size: usize,
+    work: Work,
+    step: u64,
+) -> Result<Option<Vec<u8>>, Fail> {
+    let clock = Steps::by(step);
+    let kept = Cell::new(Some(Vec::new(alloc)));
+    let progress = Progress::new(&clock, Some(Terminal { kept: &kept }));
+    let mut source = Watched::new(text, Some(work), progress);
+    let mut buffer = vec![in alloc; 0u8; size]?;
+    loop {
+        match source.read(buffer.as_mut_slice()) {
+            Ok(0) | Err(_) => break,
+            Ok(_) => {}
+        }
+    }
+    Ok(kept.replace(None))
+}
+
+/// Whether a terminal shows these lines, each in place of the one before.
+fn shows(kept: &Option<Vec<u8>>, lines: &[&str]) -> bool {
+    let mut rest = match kept {
+        Some(text) => text.as_slice(),
+        None => return false,
+    };
+    for line in lines {
+        let Some(behind) = rest.strip_prefix(BLANKS) else {
+            return false;
+        };
+        match behind.strip_prefix(line.as_bytes()) {
+            Some(behind) => rest = behind,
+            None => return false,
+        }
+    }
+    rest.is_empty()
+}
+
+/// What is sent to a terminal to hide a line: blanks over it, and the way back to its begin.
+const BLANKS: &[u8] = b"\r                                        \r";
+
+/// A megabyte.
+const MEGABYTE: usize = 1_000_000;
+
+#[test]
+fn bytes_are_told_from_two_seconds_on(rt: HostRuntime) -> Result<(), Fail> {
+    let alloc = rt.alloc();
+    let text = vec![in alloc; 7u8; 5 * MEGABYTE]?;
+    // looks at 0.9, 1.8, 2.7, 3.6, 4.5 seconds
+    let kept = shown(alloc, &text, MEGABYTE, Work::Read, 900)?;
+    assert!(rt; shows(&kept, &["read 3 MB", "read 4 MB", "read 5 MB"]));
+    // looks at 0.41, 0.82, .. 2.05: the last alone is past two seconds
+    let kept = shown(alloc, &text, MEGABYTE, Work::Written, 410)?;
+    assert!(rt; shows(&kept, &["written 5 MB"]));
+    let kept = shown(alloc, &text, MEGABYTE, Work::Read, 400)?;
+    assert!(rt; shows(&kept, &[]));
+    Ok(())
+}
+
+#[test]
+fn lines_stand_for_a_quarter_of_a_second(rt: HostRuntime) -> Result<(), Fail> {
+    let alloc = rt.alloc();
+    let text = vec![in alloc; 7u8; 28 * MEGABYTE]?;
+    // looks at 0.1, 0.2, .. 2.8 seconds
+    let kept = shown(alloc, &text, MEGABYTE, Work::Read, 100)?;
+    assert!(rt; shows(&kept, &["read 21 MB", "read 24 MB", "read 27 MB"]));
+    Ok(())
+}
+
+/// Witnesses whose frames are counted: the text, by which lines, and what is shown when all is read.
+static COUNTED: [(&[u8], Frames, &str); 4] = [
+    (
+        b"sat\nb0\n#0\n0 1 s@0\n@0\n1 0\n#1\n@1\n.\n",
+        Frames::OfModel,
+        "judged 2 frames",
+    ),
+    (b"@0\n@1\n@2\n", Frames::OfModel, "judged 3 frames"),
+    (
+        b"1\nb0\n00\n1\n0\n1\n",
+        Frames::OfCircuit,
+        "judged 3 frames",
+    ),
+    (b"1\nb0\n", Frames::OfCircuit, "judged 0 frames"),
+];
+
+#[test]
+fn frames_are_counted_by_their_lines(rt: HostRuntime) -> Result<(), Fail> {
+    let alloc = rt.alloc();
+    for (text, frames, line) in &COUNTED {
+        // a piece that holds all, looked at behind two seconds
+        let kept = shown(alloc, text, 64, Work::Judged(*frames), 2100)?;
+        assert!(rt; shows(&kept, &[*line]));
+    }
+    Ok(())
+}
+
+#[test]
+fn gates_are_told_and_lines_are_hidden(rt: HostRuntime) -> Result<(), Fail> {
+    let alloc = rt.alloc();
+    let clock = Steps::by(1100);
+    let kept = Cell::new(Some(Vec::new(alloc)));
+    let mut progress = Progress::new(&clock, Some(Terminal { kept: &kept }));
+    progress.made(7);
+    progress.made(9);
+    let mut sink = Watched::new(VecSink::new(alloc), None, progress);
+    assert!(rt; write_all(&mut sink, b"x").is_ok());
+    assert!(rt; shows(&kept.replace(None), &["made 9 gates", ""]));
+    Ok(())
+}
+
+/// What was told of a lowering.
+#[derive(Drop)]
+struct Told {
+    lines: usize,
+    gates: usize,
+}
+
+impl Watch for Told {
+    fn made(&mut self, gates: usize) {
+        self.lines = self.lines.saturating_add(1);
+        self.gates = gates;
+    }
+}
+
+#[test]
+fn gates_are_told_behind_each_line(rt: HostRuntime) -> Result<(), Fail> {
+    let alloc = rt.alloc();
+    let model = model_of(alloc, COUNTER)?;
+    let mut told = Told { lines: 0, gates: 0 };
+    let circuit = lower_watched(alloc, &model, &mut told)?;
+    assert!(rt; told.lines == model.items().len());
+    assert!(rt; told.gates == circuit.gates().len() && told.gates > 0);
+    Ok(())
+}
+
+#[test]
+fn nothing_is_told_without_a_terminal(rt: HostRuntime) -> Result<(), Fail> {
+    let alloc = rt.alloc();
+    let clock = Steps::by(5000);
+    let none: Option<Terminal<'_>> = None;
+    let progress = Progress::new(&clock, none);
+    let mut source = Watched::new(b"abc".as_slice(), Some(Work::Read), progress);
+    let mut buffer = vec![in alloc; 0u8; 8]?;
+    assert!(rt; source.read(buffer.as_mut_slice()) == Ok(3));
+    assert!(rt; buffer.as_slice().starts_with(b"abc"));
+    Ok(())
+}
