@@ -1,8 +1,10 @@
 mod BitLemmas
 mod ClauseLemmas
+mod FeedLemmas
 mod FormulaLemmas
 mod ObligationLemmas
 mod PutLemmas
 mod ReaderLemmas
+mod TextFaultLemmas
 mod TraceLemmas
 mod WordLemmas

@@ -1,9 +1,16 @@
--- What is printed of what is wrong with the text of an invariant, of why it is not read, and of why there is no obligation: a number, a space and a name.
-use Rattle.std.specs.Prelude.{ℕ, List, codes}
+-- What is printed of what is wrong with the text of an invariant, of why it is not read, of why there is no obligation, and of why a certificate is not judged: a
+-- number, a space and a name; and the line of the text that is meant.
+use Rattle.std.specs.Prelude.{ℕ, List, Option, None, Some, codes}
+use Rattle.engine.specs.Faults.{number_of as engine_number, name_of as engine_name}
+use Rattle.clauses.specs.Faults.{clause_number, clause_name}
 use Rattle.invariants.specs.declared.why.InvariantWhy.{InvariantWhy}
 use Rattle.invariants.specs.declared.why.InvariantWhy.TheVariants as why
 use Rattle.invariants.specs.declared.fault.ObligationFault.{ObligationFault}
 use Rattle.invariants.specs.declared.fault.ObligationFault.TheVariants as fault
+use Rattle.invariants.specs.declared.claim_fault.ClaimFault.{ClaimFault}
+use Rattle.invariants.specs.declared.claim_fault.ClaimFault.TheVariants as claim
+use Rattle.invariants.specs.declared.certificate_fault.CertificateFault.{CertificateFault}
+use Rattle.invariants.specs.declared.certificate_fault.CertificateFault.TheVariants as certificate
 
 -- the number that is printed for what is wrong
 abbrev pub why_number : InvariantWhy → ℕ
@@ -52,3 +59,39 @@ obligation_number fault.NoMemory = 197
 abbrev pub obligation_name : ObligationFault → List ℕ
 obligation_name fault.TooBig = codes "TooBig"
 obligation_name fault.NoMemory = codes "NoMemory"
+
+-- the number that is printed for why an invariant owes no formula
+abbrev pub claim_number : ClaimFault → ℕ
+claim_number (claim.Form e) = engine_number e
+claim_number (claim.Invariant e) = why_number e.why
+claim_number (claim.Obligation e) = obligation_number e
+
+-- and the name
+abbrev pub claim_name : ClaimFault → List ℕ
+claim_name (claim.Form e) = engine_name e
+claim_name (claim.Invariant e) = why_name e.why
+claim_name (claim.Obligation e) = obligation_name e
+
+-- the line of the invariant's text that is meant, if one is
+abbrev pub claim_line : ClaimFault → Option ℕ
+claim_line (claim.Form e) = None
+claim_line (claim.Invariant e) = Some e.line
+claim_line (claim.Obligation e) = None
+
+-- the number that is printed for why a certificate is not judged
+abbrev pub certificate_number : CertificateFault → ℕ
+certificate_number (certificate.Claim e) = claim_number e
+certificate_number (certificate.Judge e) = clause_number e
+certificate_number certificate.Device = 198
+
+-- and the name
+abbrev pub certificate_name : CertificateFault → List ℕ
+certificate_name (certificate.Claim e) = claim_name e
+certificate_name (certificate.Judge e) = clause_name e
+certificate_name certificate.Device = codes "Device"
+
+-- the line of the invariant's text that is meant, if one is
+abbrev pub certificate_line : CertificateFault → Option ℕ
+certificate_line (certificate.Claim e) = claim_line e
+certificate_line (certificate.Judge e) = None
+certificate_line certificate.Device = None

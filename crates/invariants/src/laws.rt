@@ -1,5 +1,5 @@
 //! Laws of invariants and their obligations, and worked rows: functions that do nothing, whose contracts are the laws.
-ghost use Rattle.std.specs.Prelude.{◌≡◌, ℕ, Bool, true, false, List, [], ◌∷◌, Some, Ok, Err, length, replicate, All, codes};
+ghost use Rattle.std.specs.Prelude.{◌≡◌, ℕ, Bool, true, false, List, [], ◌∷◌, Option, Some, Ok, Err, length, replicate, All, codes};
 ghost use Rattle.std.specs.List.{list_all};
 ghost use Rattle.aiger.specs.declared.circuit.Reset.TheVariants.{Zero};
 ghost use Rattle.aiger.specs.Literal.{Valuation, literal_value};
@@ -8,9 +8,11 @@ ghost use Rattle.aiger.specs.Trace.{IsTrace};
 ghost use Rattle.aiger.specs.Reachability.{CanRiseInCircuit};
 ghost use Rattle.aiger.specs.Worked.{toggler};
 ghost use Rattle.engine.specs.EngineForm.{IsEngineFormOf};
+ghost use Rattle.clauses.specs.declared.judgement.Judgement.{Judgement};
 ghost use Rattle.clauses.specs.declared.judgement.Judgement.TheVariants as judgement;
 ghost use Rattle.clauses.specs.Formula.{IsFormula, IsUnsatisfiable};
 ghost use Rattle.clauses.specs.Judgements.{Judges};
+ghost use Rattle.invariants.specs.Certificates.{IsCertified};
 ghost use Rattle.invariants.specs.Invariants.{AreOver, asks_one, bad_literal, IsInductive};
 ghost use Rattle.invariants.specs.Obligation.{obligation};
 ghost use Rattle.invariants.specs.Reading.{read_text};
@@ -47,6 +49,22 @@ pub fn proved_property_never_rises()
 {
     clauses::laws::derived_is_unsatisfiable();
     engine::laws::bad_properties_rise_alike();
+}
+
+/// A law, what a certificate is worth: where it is judged as `Derived`, the bad property rises in no frame up to which the
+/// circuit's constraints hold, in no trace from initial bits that agree with its resets.
+pub fn certified_property_never_rises()
+    ensures { (c : Circuit) (k : ℕ) (invariant proof : Option (List ℕ)) (line : ℕ) → IsCertified c k invariant proof (judgement.Derived line) → ¬ CanRiseInCircuit c k }
+{
+    proved_property_never_rises();
+}
+
+/// A law: over one engine form the texts of a certificate are judged in one way at most.
+pub fn one_judgement_of_a_certificate()
+    ensures { (c : Circuit) (k : ℕ) (invariant proof : List ℕ) (i j : Judgement) (a : IsCertified c k (Some invariant) (Some proof) i) (b : IsCertified c k (Some invariant) (Some proof) j)
+        → a.is_owed.form ≡ b.is_owed.form → i ≡ j }
+{
+    clauses::laws::one_judgement();
 }
 
 /// Worked rows: the obligations of a latch that toggles over no cube, and of a circuit with a gate and a constant over one.

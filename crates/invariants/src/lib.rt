@@ -1,7 +1,12 @@
-//! Invariants of circuits by cubes of states, what the texts of invariants say, and the formulas that nothing satisfies
-//! exactly where cubes are an invariant. The laws of the definitions stand in `laws`.
+//! Invariants of circuits by cubes of states, what the texts of invariants say, the formulas that nothing satisfies exactly
+//! where cubes are an invariant, and how certificates are judged: invariants with proofs of that. The laws of the definitions
+//! stand in `laws`.
 #![tactic(auto)]
 
+mod certificate_fault;
+mod certificates;
+mod claim_fault;
+mod claims;
 mod cubes;
 mod expected;
 mod fault;
@@ -14,6 +19,10 @@ mod reader;
 mod why;
 mod words;
 
+pub use certificate_fault::CertificateFault;
+pub use certificates::judge_certificate;
+pub use claim_fault::ClaimFault;
+pub use claims::owed_formula;
 pub use fault::ObligationFault;
 pub use kept::Invariant;
 pub use obligations::obligation;

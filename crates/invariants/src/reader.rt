@@ -65,6 +65,7 @@ pub fn read_invariant<S: Source>(
     ensures fault { IfErr result (λ e. (e.why ≡ why.NoMemory) ⊎ ((e ≡ record { line = 0; why = why.Device }) ⊎ Reads latches (S.to_come source.old) (Err e))) }
     ensures device { IfErr result (λ e. e ≡ record { line = 0; why = why.Device } → HasRisen (S.failures source.old) (S.failures source.new)) }
     ensures unfailed { IfErr result (λ e. e ≢ record { line = 0; why = why.Device } → S.failures source.new ≡ S.failures source.old) }
+    ensures apart { IfErr result (λ e. e.why ≡ why.Device → e ≡ record { line = 0; why = why.Device }) }
 {
     let mut lines = LineReader::new(alloc);
     let mut progress = Progress::new(alloc, latches);

@@ -1,9 +1,10 @@
-use Rattle.std.proofs.Common.{◌≡◌, ◌⊎◌, inl, inr, true, false, Ok, Err, rules, ⊎_elim}
+use Rattle.std.proofs.Common.{◌≡◌, ◌⊎◌, inl, inr, true, false, Ok, Err, rules, ⊎_elim, sym, ◌∙◌}
 use Rattle.std.specs.Io.KnownBytes.{prepend_known}
 use Rattle.invariants.specs.declared.why.InvariantWhy.TheVariants as why
 use Rattle.invariants.specs.Reading.{admit, ended, line_after}
 use Rattle.invariants.specs.Reader.{Lines, Gives, begun}
 use Rattle.invariants.proofs.ReaderLemmas.{step_agrees, step_fault, step_last, agree_trans, agree_gives, ok_weaker, err_weaker}
+use Rattle.invariants.proofs.TextFaultLemmas.{line_is_of_text, end_is_of_text}
 use Rattle.invariants.proofs.reader.read_invariant.Goals as goal
 
 pub returns-then-not-is_whole-clause-reads : goal.returns-then-not-is_whole-clause-reads
@@ -45,6 +46,25 @@ returns-in-Err-take-clause-fault g c =
     inr (inr
     (agree_gives (g.S.Source.to_come c.args.source.now) (prepend_known c.loop-is_whole.lines.rest (g.S.Source.to_come c.loop-is_whole.source)) 0 c.loop-is_whole.number (begun c.args.latches) p (Err (record { line = c.saturating_add-number.result; why = c.in-Err-take.why })) c.loop-is_whole.invariant.same
     (step_fault c.in-Ok.is_whole c.loop-is_whole.lines c.advance.new.self (g.S.Source.to_come c.loop-is_whole.source) (g.S.Source.to_come c.advance.new.source) c.loop-is_whole.number c.saturating_add-number.result p c.line.result.now c.in-Err-take.why w c.in-Ok.ensures.bytes c.line.ensures next t))))
+    c.in-Err-take.ensures.err
+
+pub returns-then-not-is_whole-clause-apart : goal.returns-then-not-is_whole-clause-apart
+returns-then-not-is_whole-clause-apart g c =
+    let p : Lines = c.loop-is_whole.progress in
+    err_weaker c.finish.result (λ e. (e.why ≡ why.NoMemory) ⊎ (ended c.saturating_add-number.result (admit p.latches p.reading c.rest.result.now) ≡ Err e)) (λ e. e.why ≡ why.Device → e ≡ record { line = 0; why = why.Device })
+    (λ e h is.
+    ⊎_elim
+    (λ (m : e.why ≡ why.NoMemory). let no : why.NoMemory ≡ why.Device = sym m ∙ is in absurd (cc))
+    (λ (t : ended c.saturating_add-number.result (admit p.latches p.reading c.rest.result.now) ≡ Err e). absurd (end_is_of_text p.latches c.saturating_add-number.result p.reading c.rest.result.now e t is))
+    h)
+    c.finish.ensures.err
+
+pub returns-in-Err-take-clause-apart : goal.returns-in-Err-take-clause-apart
+returns-in-Err-take-clause-apart g c = λ is.
+    let p : Lines = c.loop-is_whole.progress in
+    ⊎_elim
+    (λ (m : c.in-Err-take.why ≡ why.NoMemory). let no : why.NoMemory ≡ why.Device = sym m ∙ is in absurd (cc))
+    (λ (t : admit p.latches p.reading c.line.result.now ≡ Err c.in-Err-take.why). absurd (line_is_of_text p.latches p.reading c.line.result.now c.in-Err-take.why t is))
     c.in-Err-take.ensures.err
 
 pub loop-is_whole-preserved : goal.loop-is_whole-preserved
