@@ -1,5 +1,5 @@
 -- The verdict over a circuit is kept over the model that it lowers.
-use Rattle.std.proofs.Common.{◌≡◌, ℕ, suc, ◌<◌, ◌≤◌, ◌^◌, ◌==◌, Bool, true, false, List, [], ◌∷◌, ◌++◌, Option, Some, None, Result, Ok, All, codes, map, filter, length, take, refl, sym, ap, subst, ◌∙◌, arith}
+use Rattle.std.proofs.Common.{◌≡◌, ℕ, suc, ◌<◌, ◌≤◌, ◌^◌, ◌==◌, Bool, true, false, List, [], ◌∷◌, ◌++◌, Option, Some, None, Ok, All, codes, map, filter, length, take, refl, sym, ap, subst, ◌∙◌, arith}
 use Rattle.std.specs.Prelude.{if◌then◌else◌}
 use Rattle.std.specs.List.{AllByRecursion}
 use Rattle.std.proofs.Math.Seq.{take-length}
@@ -26,7 +26,7 @@ use Rattle.witness.specs.Texts.{Witness, shape_of, is_comment, most_lines, witne
 use Rattle.witness.specs.Admits.{Read, read_text, witness_of}
 use Rattle.witness.specs.Judgements.{words_of, initial_words, given_frames, nodes_of, first_different, verdict, makes_no_claim, JudgesWords, Judges}
 use Rattle.witness.specs.BitTexts.{BitWitness, bit_line, bit_witness_lines, BitSays}
-use Rattle.witness.specs.Readings.{Reading, lines_read, reading, Fault, read_or_fault}
+use Rattle.witness.specs.Readings.{Reading, lines_read, reading, read_or_fault}
 use Rattle.witness.specs.BitAdmits.{BitRead, is_done, bit_reader, read_bit_text, bit_witness_of, admitted_lines}
 use Rattle.witness.specs.BitJudgements.{makes_no_bit_claim, bit_verdict, JudgesBits, BitJudges}
 use Rattle.witness.proofs.JudgedLemmas.{judged_says}

@@ -13,3 +13,5 @@ pub mod LiftedWords
 pub mod DifferLemmas
 pub mod SameLemmas
 pub mod KeepLemmas
+mod EngineLemmas
+mod TakingLemmas

@@ -89,7 +89,7 @@ write_failed T E e source source' source'' old mid now kept mid_kept left before
 
 -- ---- what is written at the end
 
-nothing_yet : (items : List Item) (c : Circuit) → lifted_text items c [] ≡ []
+pub nothing_yet : (items : List Item) (c : Circuit) → lifted_text items c [] ≡ []
 unfolding lifted_text reading
 nothing_yet items c = refl
 

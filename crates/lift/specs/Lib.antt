@@ -5,3 +5,4 @@ pub mod Stands
 pub mod Answers
 pub mod Verdicts
 pub mod Worked
+pub mod EngineLifting

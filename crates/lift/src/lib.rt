@@ -1,12 +1,16 @@
 //! Lifting witnesses of circuits to witnesses of the models that they lower.
 #![tactic(auto)]
 
+pub mod engine_laws;
+mod engine_lifting;
 mod fault;
 mod kept;
 pub mod laws;
 mod lifter;
 mod lifting;
 mod pieces;
+mod taking;
 
+pub use engine_lifting::lift_restored;
 pub use fault::LiftFault;
 pub use lifting::lift;

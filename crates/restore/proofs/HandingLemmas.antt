@@ -1,19 +1,17 @@
 -- All pieces of what a source is restored to are handed on.
-use Rattle.std.proofs.Common.{◌≡◌, ◌≢◌, ℕ, Bool, true, false, List, [], ◌++◌, Option, None, Some, Result, Ok, Err, IfSome, OnOk, OnErr, ◌⊎◌, inl, inr, refl, sym, ap, subst, ◌∙◌, append_assoc, append-nil}
-use Rattle.std.specs.Io.KnownBytes.{prepend_known, Appends}
-use Rattle.std.proofs.KnownBytes.{Appends-trans, Appends-nil}
+use Rattle.std.proofs.Common.{◌≡◌, ◌≢◌, ℕ, Bool, true, false, List, [], ◌++◌, Option, None, Some, Result, Ok, Err, IfSome, IsOk, OnOk, ◌⊎◌, inl, inr, refl, sym, ap, subst, ◌∙◌, append_assoc, append-nil}
+use Rattle.std.specs.Io.KnownBytes.{prepend_known}
+use Rattle.std.proofs.KnownBytes.{Appends-nil}
 use Rattle.base.specs.Device.{HasRisen, Sent, AppendsBeginning}
-use Rattle.base.proofs.DeviceLemmas.{beginning_longer, sent_on, sent_then_beginning}
-use Rattle.base.proofs.PieceLemmas.{rest_fails}
-use Rattle.aiger.specs.Circuit.{Circuit}
-use Rattle.witness.specs.BitStands.{BitJudge, StandsFor}
+use Rattle.base.proofs.DeviceLemmas.{beginning_longer}
 use Rattle.restore.specs.declared.fault.RestoreFault.{RestoreFault}
 use Rattle.restore.specs.declared.fault.RestoreWhy.{RestoreWhy}
 use Rattle.restore.specs.declared.fault.RestoreWhy.TheVariants as why
 use Rattle.restore.specs.Faults.{is_of_text}
 use Rattle.restore.specs.Steps.{IsOfText, IsUnread, Agree}
 use Rattle.restore.specs.Pieces.{Restorer, Owed, ahead, nothing, owed, HandsOn, piece, is_written}
-use Rattle.restore.specs.Answers.{CountsWhy, CountsRestore, HandsAllBut, HandsAll, WritesAllBut, WritesAll}
+use Rattle.restore.specs.Answers.{CountsWhy, PutsAllBut, PutsOwed, put_of, TakesAll, WritesOwed, WritesAll}
+use Rattle.restore.specs.Taking.{TakesPiece, IsPutInPieces}
 
 -- ---- faults
 
@@ -62,23 +60,9 @@ counts_told e read read' written (inr h) risen same = counts_why e.why read read
 abbrev Follows : Owed → List ℕ → Restorer → Option (List ℕ) → Type 0
 Follows more front r known = ((rest : List ℕ) × ((known ≡ Some rest) × (more ≡ ahead front (owed r rest)))) ⊎ ((is_written r.stage ≡ true) × (more ≡ ahead front nothing))
 
-pub record Handed (source known : Option (List ℕ)) (first r : Restorer) (begun judge : BitJudge) (old now : Option (List ℕ)) (kept : List ℕ) : Type 0 where
-  pub front : List ℕ
-  pub sent : Sent old now front kept
-  pub judged : (c : Circuit) → StandsFor c begun [] → StandsFor c judge front
-  pub follows : IfSome source (λ text. Follows (owed first text) front r known)
-
 nothing_follows : (source : Option (List ℕ)) (r : Restorer) → r.reader.rest ≡ [] → IfSome source (λ text. Follows (owed r text) [] r (prepend_known r.reader.rest source))
 nothing_follows None r unread = tt
 nothing_follows (Some text) r unread = inl (text, (ap (λ (rest : List ℕ). prepend_known rest (Some text)) unread, refl))
-
-pub handed_nothing : (source : Option (List ℕ)) (r : Restorer) (judge : BitJudge) (old : Option (List ℕ)) (kept : List ℕ) → r.reader.rest ≡ [] → kept ≡ [] → Handed source (prepend_known r.reader.rest source) r r judge judge old old kept
-handed_nothing source r judge old kept unread unsent = record {
-  front = [];
-  sent = record { front = []; whole = unsent; appends = Appends-nil old };
-  judged = λ c h. h;
-  follows = nothing_follows source r unread;
-}
 
 abbrev Agrees : Restorer → Restorer → Option (List ℕ) → Option (List ℕ) → Type 0
 Agrees r mid known known' = Agree (owed r) (λ rest. ahead (piece mid) (owed mid rest)) known known'
@@ -99,41 +83,13 @@ each_step : (source : Option (List ℕ)) (first : Restorer) (front : List ℕ) (
 each_step None first front r mid known known' going steps follows = tt
 each_step (Some text) first front r mid known known' going steps follows = follows_step (owed first text) front r mid known known' going steps follows
 
-pub handed_more : (source known known' : Option (List ℕ)) (first r mid : Restorer) (begun judge next : BitJudge) (old now new : Option (List ℕ)) (kept left : List ℕ) → Handed source known first r begun judge old now kept
-    → (is_written r.stage ≡ true → ⊥) → HandsOn (Ok true) r mid known known'
-    → ((c : Circuit) (text : List ℕ) → StandsFor c judge text → StandsFor c next (text ++ piece mid)) → Sent now new (kept ++ piece mid) left
-    → Handed source known' first mid begun next old new left
-handed_more source known known' first r mid begun judge next old now new kept left h going steps feeds puts = record {
-  front = h.front ++ piece mid;
-  sent = sent_on old now new h.front kept (piece mid) left h.sent puts;
-  judged = λ c b. feeds c h.front (h.judged c b);
-  follows = each_step source first h.front r mid known known' going steps h.follows;
-}
-
--- ---- the end
-
 all_with : (more : Owed) (front : List ℕ) (r mid : Restorer) (known : Option (List ℕ)) → IfSome known (λ text. owed r text ≡ nothing) → Follows more front r known → more ≡ ahead front nothing
 all_with more front r mid known owes (inr done) = done.1
 all_with more front r mid known owes (inl (rest, (is, e))) = e ∙ ap (ahead front) (subst (λ (k : Option (List ℕ)). IfSome k (λ text. owed r text ≡ nothing)) is owes)
 
-pub handed_all : (source known known' : Option (List ℕ)) (first r mid : Restorer) (begun judge : BitJudge) (old now : Option (List ℕ)) (kept : List ℕ) → Handed source known first r begun judge old now kept → HandsOn (Ok false) r mid known known'
-    → IfSome source (λ text. (c : Circuit) → StandsFor c begun [] → HandsAll (Ok tt) (owed first text) c judge old now kept)
-handed_all None known known' first r mid begun judge old now kept h steps = tt
-handed_all (Some text) known known' first r mid begun judge old now kept h steps = λ c b.
-    let is = all_with (owed first text) h.front r mid known steps.1 h.follows in
-    let same : (owed first text).bytes ≡ h.front = ap (λ (o : Owed). o.bytes) is ∙ append-nil h.front in
-    (ap (λ (o : Owed). o.fault) is, (subst (StandsFor c judge) (sym same) (h.judged c b), subst (λ (t : List ℕ). Sent old now t kept) (sym same) h.sent))
-
--- ---- faults
-
 some_front : (more : Owed) (front : List ℕ) (r : Restorer) (known : Option (List ℕ)) → Follows more front r known → (rest : List ℕ) × (front ++ rest ≡ more.bytes)
 some_front more front r known (inr done) = ([], sym (ap (λ (o : Owed). o.bytes) done.1))
 some_front more front r known (inl (rest, (is, e))) = ((owed r rest).bytes, sym (ap (λ (o : Owed). o.bytes) e))
-
-beginning_of : (more : Owed) (front : List ℕ) (r : Restorer) (known old new : Option (List ℕ)) → Follows more front r known → AppendsBeginning old new front → AppendsBeginning old new more.bytes
-beginning_of more front r known old new follows h =
-    let rest = some_front more front r known follows in
-    subst (AppendsBeginning old new) rest.1 (beginning_longer old new front rest.0 h)
 
 text_with : (more : Owed) (front : List ℕ) (r : Restorer) (known : Option (List ℕ)) (e : RestoreFault) → (is_written r.stage ≡ true → ⊥) → IfSome known (λ text. owed r text ≡ record { bytes = []; fault = Some e }) → Follows more front r known
     → (more.fault ≡ Some e) × (more.bytes ≡ front)
@@ -142,46 +98,121 @@ text_with more front r known e going owes (inl (rest, (is, f))) =
     let own = subst (λ (k : Option (List ℕ)). IfSome k (λ text. owed r text ≡ record { bytes = []; fault = Some e })) is owes in
     (ap (λ (o : Owed). o.fault) (f ∙ ap (ahead front) own), ap (λ (o : Owed). o.bytes) (f ∙ ap (ahead front) own) ∙ append-nil front)
 
-pub handed_failed : (source known known' : Option (List ℕ)) (first r mid : Restorer) (begun judge : BitJudge) (old now : Option (List ℕ)) (kept : List ℕ) (e : RestoreFault) → Handed source known first r begun judge old now kept
-    → (is_written r.stage ≡ true → ⊥) → HandsOn (Err e) r mid known known'
-    → IfSome source (λ text. (c : Circuit) → StandsFor c begun [] → HandsAll (Err e) (owed first text) c judge old now kept)
-handed_failed None known known' first r mid begun judge old now kept e h going steps = tt
-handed_failed (Some text) known known' first r mid begun judge old now kept e h going (inl unread) = λ c b.
-    subst (λ (t : Bool). HandsAllBut t e (owed first text) old now kept) (sym (unread_kind e unread.0).0)
-    (beginning_of (owed first text) h.front r known old now h.follows (h.sent.front, (kept, h.sent.whole), h.sent.appends))
-handed_failed (Some text) known known' first r mid begun judge old now kept e h going (inr of) = λ c b.
-    let is = text_with (owed first text) h.front r known e going of.1 h.follows in
-    subst (λ (t : Bool). HandsAllBut t e (owed first text) old now kept) (sym (text_kind e of.0))
-    (is.0, subst (λ (t : List ℕ). Sent old now t kept) (sym is.1) h.sent)
-
-pub handed_unwritten : (source known known' : Option (List ℕ)) (first r mid : Restorer) (begun judge next : BitJudge) (old now new : Option (List ℕ)) (kept left : List ℕ) (e : RestoreFault) → Handed source known first r begun judge old now kept
-    → (is_written r.stage ≡ true → ⊥) → HandsOn (Ok true) r mid known known' → AppendsBeginning now new (kept ++ piece mid) → e ≡ record { line = 0; why = why.Write }
-    → IfSome source (λ text. (c : Circuit) → StandsFor c begun [] → HandsAll (Err e) (owed first text) c next old new left)
-handed_unwritten None known known' first r mid begun judge next old now new kept left e h going steps puts is = tt
-handed_unwritten (Some text) known known' first r mid begun judge next old now new kept left e h going steps puts is = λ c b.
-    subst (λ (t : Bool). HandsAllBut t e (owed first text) old new left) (sym (ap (λ (f : RestoreFault). is_of_text f.why) is))
-    (beginning_of (owed first text) (h.front ++ piece mid) mid known' old new (follows_step (owed first text) h.front r mid known known' going steps h.follows) (sent_then_beginning old now new h.front kept (piece mid) h.sent puts))
-
--- ---- what a step answers
-
 abbrev answer : Bool → Result Bool RestoreFault
 answer more = Ok more
 
 not_false : (more : Bool) → more ≡ true → answer more ≡ answer false → ⊥
 not_false more so is = absurd (cc)
 
-pub next_handed : (source known known' : Option (List ℕ)) (first r mid : Restorer) (begun judge next : BitJudge) (old now new : Option (List ℕ)) (kept left bytes : List ℕ) (more : Bool) → Handed source known first r begun judge old now kept
-    → more ≡ true → (is_written r.stage ≡ true → answer more ≡ answer false) → HandsOn (Ok more) r mid known known'
-    → bytes ≡ piece mid → ((c : Circuit) (text : List ℕ) → StandsFor c judge text → StandsFor c next (text ++ bytes)) → Sent now new (kept ++ bytes) left
-    → Handed source known' first mid begun next old new left
-next_handed source known known' first r mid begun judge next old now new kept left bytes more h so none steps is feeds puts =
-    handed_more source known known' first r mid begun judge next old now new kept left h (λ w. not_false more so (none w)) (subst (λ (b : Bool). HandsOn (Ok b) r mid known known') so steps)
-    (subst (λ (t : List ℕ). (c : Circuit) (text : List ℕ) → StandsFor c judge text → StandsFor c next (text ++ t)) is feeds) (subst (λ (t : List ℕ). Sent now new (kept ++ t) left) is puts)
+-- ---- what is put for it
 
-pub next_unwritten : (source known known' : Option (List ℕ)) (first r mid : Restorer) (begun judge next : BitJudge) (old now new : Option (List ℕ)) (kept left bytes : List ℕ) (more : Bool) (e : RestoreFault) → Handed source known first r begun judge old now kept
-    → more ≡ true → (is_written r.stage ≡ true → answer more ≡ answer false) → HandsOn (Ok more) r mid known known'
-    → bytes ≡ piece mid → AppendsBeginning now new (kept ++ bytes) → e ≡ record { line = 0; why = why.Write }
-    → IfSome source (λ text. (c : Circuit) → StandsFor c begun [] → HandsAll (Err e) (owed first text) c next old new left)
-next_unwritten source known known' first r mid begun judge next old now new kept left bytes more e h so none steps is puts write =
-    handed_unwritten source known known' first r mid begun judge next old now new kept left e h (λ w. not_false more so (none w)) (subst (λ (b : Bool). HandsOn (Ok b) r mid known known') so steps)
-    (subst (λ (t : List ℕ). AppendsBeginning now new (kept ++ t)) is puts) write
+-- what was handed on is the front of what is owed, and was taken and put
+pub record Handed {O V : Type 0} (stands : O → V → List ℕ → Type 0) (put_for : O → List ℕ → List ℕ) (source known : Option (List ℕ)) (first r : Restorer) (begun taker : V) (old now : Option (List ℕ)) (kept : List ℕ) : Type 0 where
+  pub front : List ℕ
+  pub taken : (o : O) → IsPutInPieces put_for → stands o begun [] → stands o taker front × Sent old now (put_for o front) kept
+  pub follows : IfSome source (λ text. Follows (owed first text) front r known)
+
+module _ {O V : Type 0} (stands : O → V → List ℕ → Type 0) (put_for : O → List ℕ → List ℕ) where
+  abbrev Hands : Option (List ℕ) → Option (List ℕ) → Restorer → Restorer → V → V → Option (List ℕ) → Option (List ℕ) → List ℕ → Type 0
+  Hands source known first r begun taker old now kept = Handed stands put_for source known first r begun taker old now kept
+
+  -- what is told of all of it
+  abbrev Tells : Result (Unit {0}) RestoreFault → Option (List ℕ) → Restorer → V → V → Option (List ℕ) → Option (List ℕ) → List ℕ → Type 0
+  Tells told source first begun taker old now kept = IfSome source (λ text. (o : O) → IsPutInPieces put_for → stands o begun [] → TakesAll stands put_for told (owed first text) o taker old now kept)
+
+  sent_nothing : IsPutInPieces put_for → (o : O) (old : Option (List ℕ)) (kept : List ℕ) → kept ≡ [] → Sent old old (put_for o []) kept
+  sent_nothing laws o old kept unsent = record { front = []; whole = unsent ∙ sym (laws.nothing o); appends = Appends-nil old }
+
+  pub handed_nothing : (source : Option (List ℕ)) (r : Restorer) (taker : V) (old : Option (List ℕ)) (kept : List ℕ) → r.reader.rest ≡ [] → kept ≡ [] → Hands source (prepend_known r.reader.rest source) r r taker taker old old kept
+  handed_nothing source r taker old kept unread unsent = record {
+    front = [];
+    taken = λ o laws h. (h, sent_nothing laws o old kept unsent);
+    follows = nothing_follows source r unread;
+  }
+
+  handed_more : (source known known' : Option (List ℕ)) (first r mid : Restorer) (begun taker next : V) (old now new : Option (List ℕ)) (kept left : List ℕ) → Hands source known first r begun taker old now kept
+      → (is_written r.stage ≡ true → ⊥) → HandsOn (Ok true) r mid known known'
+      → TakesPiece {T = Unit {0}} {E = RestoreFault} stands put_for (Ok tt) now new kept left taker next (piece mid)
+      → Hands source known' first mid begun next old new left
+  handed_more source known known' first r mid begun taker next old now new kept left h going steps takes = record {
+    front = h.front ++ piece mid;
+    taken = λ o laws b. let before = h.taken o laws b in takes o h.front old before.0 before.1;
+    follows = each_step source first h.front r mid known known' going steps h.follows;
+  }
+
+  -- ---- the end
+
+  pub handed_all : (source known known' : Option (List ℕ)) (first r mid : Restorer) (begun taker : V) (old now : Option (List ℕ)) (kept : List ℕ) → Hands source known first r begun taker old now kept → HandsOn (Ok false) r mid known known'
+      → Tells (Ok tt) source first begun taker old now kept
+  handed_all None known known' first r mid begun taker old now kept h steps = tt
+  handed_all (Some text) known known' first r mid begun taker old now kept h steps = λ o laws b.
+      let is = all_with (owed first text) h.front r mid known steps.1 h.follows in
+      let same : (owed first text).bytes ≡ h.front = ap (λ (o : Owed). o.bytes) is ∙ append-nil h.front in
+      let taken = h.taken o laws b in
+      ((ap (λ (o : Owed). o.fault) is, subst (λ (t : List ℕ). Sent old now (put_for o t) kept) (sym same) taken.1), subst (stands o taker) (sym same) taken.0)
+
+  -- ---- faults
+
+  -- a beginning of what is put for a front of what is owed is one of what is put for that
+  beginning_of : IsPutInPieces put_for → (o : O) (more : Owed) (front : List ℕ) (r : Restorer) (known old new : Option (List ℕ)) → Follows more front r known → AppendsBeginning old new (put_for o front) → AppendsBeginning old new (put_for o more.bytes)
+  beginning_of laws o more front r known old new follows h =
+      let rest = some_front more front r known follows in
+      let longer = laws.longer o front rest.0 in
+      subst (AppendsBeginning old new) (longer.1 ∙ ap (put_for o) rest.1) (beginning_longer old new (put_for o front) longer.0 h)
+
+  pub handed_failed : (source known known' : Option (List ℕ)) (first r mid : Restorer) (begun taker : V) (old now : Option (List ℕ)) (kept : List ℕ) (e : RestoreFault) → Hands source known first r begun taker old now kept
+      → (is_written r.stage ≡ true → ⊥) → HandsOn (Err e) r mid known known'
+      → Tells (Err e) source first begun taker old now kept
+  handed_failed None known known' first r mid begun taker old now kept e h going steps = tt
+  handed_failed (Some text) known known' first r mid begun taker old now kept e h going (inl unread) = λ o laws b.
+      let sent = (h.taken o laws b).1 in (
+        subst (λ (t : Bool). PutsAllBut t e (put_of (put_for o) (owed first text)) old now kept) (sym (unread_kind e unread.0).0)
+            (beginning_of laws o (owed first text) h.front r known old now h.follows (sent.front, (kept, sent.whole), sent.appends)),
+        tt,
+      )
+  handed_failed (Some text) known known' first r mid begun taker old now kept e h going (inr of) = λ o laws b.
+      let is = text_with (owed first text) h.front r known e going of.1 h.follows in (
+        subst (λ (t : Bool). PutsAllBut t e (put_of (put_for o) (owed first text)) old now kept) (sym (text_kind e of.0))
+            (is.0, subst (λ (t : List ℕ). Sent old now (put_for o t) kept) (sym is.1) (h.taken o laws b).1),
+        tt,
+      )
+
+  handed_unwritten : (source known known' : Option (List ℕ)) (first r mid : Restorer) (begun taker next : V) (old now new : Option (List ℕ)) (kept left : List ℕ) (e : RestoreFault) → Hands source known first r begun taker old now kept
+      → (is_written r.stage ≡ true → ⊥) → HandsOn (Ok true) r mid known known' → TakesPiece {T = Unit {0}} {E = RestoreFault} stands put_for (Err e) now new kept left taker next (piece mid) → e ≡ record { line = 0; why = why.Write }
+      → Tells (Err e) source first begun next old new left
+  handed_unwritten None known known' first r mid begun taker next old now new kept left e h going steps takes is = tt
+  handed_unwritten (Some text) known known' first r mid begun taker next old now new kept left e h going steps takes is = λ o laws b.
+      let before = h.taken o laws b in (
+        subst (λ (t : Bool). PutsAllBut t e (put_of (put_for o) (owed first text)) old new left) (sym (ap (λ (f : RestoreFault). is_of_text f.why) is))
+            (beginning_of laws o (owed first text) (h.front ++ piece mid) mid known' old new (follows_step (owed first text) h.front r mid known known' going steps h.follows) (takes o h.front old before.0 before.1)),
+        tt,
+      )
+
+  -- ---- what a step answers
+
+  pub next_handed : (source known known' : Option (List ℕ)) (first r mid : Restorer) (begun taker next : V) (old now new : Option (List ℕ)) (kept left bytes : List ℕ) (more : Bool) → Hands source known first r begun taker old now kept
+      → more ≡ true → (is_written r.stage ≡ true → answer more ≡ answer false) → HandsOn (Ok more) r mid known known'
+      → bytes ≡ piece mid → TakesPiece {T = Unit {0}} {E = RestoreFault} stands put_for (Ok tt) now new kept left taker next bytes
+      → Hands source known' first mid begun next old new left
+  next_handed source known known' first r mid begun taker next old now new kept left bytes more h so none steps is takes =
+      handed_more source known known' first r mid begun taker next old now new kept left h (λ w. not_false more so (none w)) (subst (λ (b : Bool). HandsOn (Ok b) r mid known known') so steps)
+      (subst (TakesPiece {T = Unit {0}} {E = RestoreFault} stands put_for (Ok tt) now new kept left taker next) is takes)
+
+  pub next_unwritten : (source known known' : Option (List ℕ)) (first r mid : Restorer) (begun taker next : V) (old now new : Option (List ℕ)) (kept left bytes : List ℕ) (more : Bool) (e : RestoreFault) → Hands source known first r begun taker old now kept
+      → more ≡ true → (is_written r.stage ≡ true → answer more ≡ answer false) → HandsOn (Ok more) r mid known known'
+      → bytes ≡ piece mid → TakesPiece {T = Unit {0}} {E = RestoreFault} stands put_for (Err e) now new kept left taker next bytes → e ≡ record { line = 0; why = why.Write }
+      → Tells (Err e) source first begun next old new left
+  next_unwritten source known known' first r mid begun taker next old now new kept left bytes more e h so none steps is takes write =
+      handed_unwritten source known known' first r mid begun taker next old now new kept left e h (λ w. not_false more so (none w)) (subst (λ (b : Bool). HandsOn (Ok b) r mid known known') so steps)
+      (subst (TakesPiece {T = Unit {0}} {E = RestoreFault} stands put_for (Err e) now new kept left taker next) is takes) write
+
+  -- ---- what is written in the end
+
+  pub written_all : (told result : Result (Unit {0}) RestoreFault) (source : Option (List ℕ)) (first : Restorer) (begun taker : V) (old mid new : Option (List ℕ)) (kept : List ℕ) → Tells told source first begun taker old mid kept
+      → ((more : Owed) (start : Option (List ℕ)) → PutsOwed told more start mid kept → WritesOwed result more start new) → OnOk result (IsOk told)
+      → IfSome source (λ text. (o : O) → IsPutInPieces put_for → stands o begun [] → WritesAll stands put_for result (owed first text) o taker old new)
+  written_all told result None first begun taker old mid new kept tells writes right = tt
+  written_all (Ok u) (Ok v) (Some text) first begun taker old mid new kept tells writes right = λ o laws b. let all = tells o laws b in (writes (put_of (put_for o) (owed first text)) old all.0, all.1)
+  written_all (Ok u) (Err e) (Some text) first begun taker old mid new kept tells writes right = λ o laws b. (writes (put_of (put_for o) (owed first text)) old (tells o laws b).0, tt)
+  written_all (Err e) (Ok v) (Some text) first begun taker old mid new kept tells writes right = let e : false ≡ true = right in absurd (cc)
+  written_all (Err e) (Err f) (Some text) first begun taker old mid new kept tells writes right = λ o laws b. (writes (put_of (put_for o) (owed first text)) old (tells o laws b).0, tt)

@@ -8,3 +8,4 @@ mod RestoredLemmas
 mod RestorerLemmas
 mod RiseLemmas
 mod StepLemmas
+mod TakingLemmas

@@ -1,12 +1,12 @@
 -- What a restorer owes before a frame is the piece that the frame gives and what it owes behind it.
-use Rattle.std.proofs.Common.{◌≡◌, ◌≢◌, ◌≤◌, ℕ, Bool, true, false, not, List, [], ◌∷◌, ◌++◌, length, map, take, Option, None, Some, codes, refl, sym, ap, ap₂, ◌∙◌, append_assoc, append-nil, if◌then◌else◌, arith}
+use Rattle.std.proofs.Common.{◌≡◌, ◌≢◌, ◌≤◌, ℕ, Bool, true, false, not, List, [], ◌∷◌, ◌++◌, map, take, Option, codes, refl, sym, ap, ◌∙◌, append_assoc, append-nil, if◌then◌else◌, arith}
 use Rattle.base.specs.Lines.{text_of_lines}
 use Rattle.witness.specs.Texts.{claim}
 use Rattle.witness.specs.BitTexts.{bit_line}
 use Rattle.restore.specs.declared.fault.RestoreFault.{RestoreFault}
 use Rattle.restore.specs.declared.stage.Stage.{Stage}
 use Rattle.restore.specs.declared.stage.Stage.TheVariants as stage
-use Rattle.restore.specs.Reading.{Found, whole, faulty, read_before}
+use Rattle.restore.specs.Reading.{Found, read_before}
 use Rattle.restore.specs.Restored.{own_inputs, cut_inputs, closing}
 use Rattle.restore.specs.Steps.{left}
 use Rattle.restore.specs.Pieces.{Play, Restorer, played, rises_with, begun, frames_text, Owed, ahead, owed_at, owed, piece, own_frame, head, rank, with_frame, with_first, with_later, with_found_at, is_taken_at, is_reading}

@@ -1,5 +1,5 @@
 -- Steps of a restorer.
-use Rattle.std.proofs.Common.{◌≡◌, ◌≢◌, ℕ, Bool, true, false, List, [], ◌++◌, length, Option, None, Some, Ok, Err, IfSome, ◌⊎◌, inl, inr, refl, sym, ap, ap₂, subst, ◌∙◌, append-nil}
+use Rattle.std.proofs.Common.{◌≡◌, ℕ, true, List, [], length, Option, None, Some, Err, IfSome, inl, inr, refl, sym, ap, ap₂, subst, ◌∙◌}
 use Rattle.base.specs.Lines.{text_of_lines}
 use Rattle.aiger.specs.Circuit.{Circuit}
 use Rattle.engine.specs.EngineForm.{input_count}
@@ -8,10 +8,10 @@ use Rattle.restore.specs.declared.place.Place.{Place}
 use Rattle.restore.specs.declared.place.Place.TheVariants as place
 use Rattle.restore.specs.declared.stage.Stage.{Stage}
 use Rattle.restore.specs.declared.stage.Stage.TheVariants as stage
-use Rattle.restore.specs.Reading.{before_mark, all_lines, Found, whole, faulty, read_before, read_lines, read_text}
-use Rattle.restore.specs.Restored.{closing, restored_lines, restored_text}
-use Rattle.restore.specs.Steps.{Reader, is_open, IsOfText, read_at, left, Agree, IsUnread, Gives, LosesNothing, StepsOn}
-use Rattle.restore.specs.Pieces.{Play, Restorer, Owed, ahead, nothing, owed_at, owed, Owes, KeepsAll, HandsOn, piece, with_found_at, is_taken_at, is_reading}
+use Rattle.restore.specs.Reading.{before_mark, all_lines, Found, faulty, read_text}
+use Rattle.restore.specs.Restored.{restored_lines, restored_text}
+use Rattle.restore.specs.Steps.{Reader, read_at, left, Agree, Gives, LosesNothing, StepsOn}
+use Rattle.restore.specs.Pieces.{Play, Restorer, Owed, owed_at, owed, Owes, HandsOn, is_reading}
 use Rattle.restore.proofs.PieceStepLemmas.{end_owed}
 
 -- ---- the begin

@@ -1,7 +1,6 @@
 -- What a text is restored to is a witness, and is accepted where a bad property of the engine form is 1.
-use Rattle.std.proofs.Common.{◌≡◌, ◌≢◌, ℕ, zero, suc, ◌+◌, ◌-◌, ◌<◌, ◌≤◌, Bool, true, false, ◌&&◌, if◌then◌else◌, List, [], ◌∷◌, ◌++◌, length, map, take, replicate, get_or, All, Option, None, Some, Result, Ok, codes, length-append, refl, sym, ap, ap₂, subst, ◌∙◌, inl, inr, arith}
+use Rattle.std.proofs.Common.{◌≡◌, ◌≢◌, ℕ, zero, suc, ◌+◌, ◌-◌, ◌<◌, ◌≤◌, Bool, true, false, ◌&&◌, if◌then◌else◌, List, [], ◌∷◌, ◌++◌, length, map, take, replicate, get_or, All, Option, None, Some, Ok, codes, length-append, refl, sym, ap, ap₂, subst, ◌∙◌, inl, inr, arith}
 use Rattle.std.specs.List.{position_from}
-use Rattle.std.specs.Str.{bytes_eq}
 use Rattle.std.proofs.lemmas.Bool.{cases_Bool, and_parts, or_right}
 use Rattle.std.proofs.lemmas.List.{length-map, length-take-le}
 use Rattle.std.proofs.lemmas.List.Elements.{All-nil, All-cons, All-head, All-tail}
@@ -11,16 +10,15 @@ use Rattle.aiger.specs.Literal.{Valuation, literal_value}
 use Rattle.aiger.specs.Circuit.{Circuit, IsCircuit}
 use Rattle.aiger.specs.Trace.{IsTrace, next_state}
 use Rattle.engine.specs.EngineForm.{begins, input_count, all_hold, chosen, ShowsSame, ShowSame, IsEngineFormOf}
-use Rattle.witness.specs.declared.judgement.Judgement.{Judgement}
 use Rattle.witness.specs.declared.judgement.Judgement.TheVariants as judgement
 use Rattle.witness.specs.Texts.{claim, most_lines}
-use Rattle.witness.specs.BitTexts.{BitWitness, bit_line, bit_witness_lines, IsBitWitness, BitSays}
+use Rattle.witness.specs.BitTexts.{BitWitness, bit_line, bit_witness_lines, BitSays}
 use Rattle.witness.specs.BitAdmits.{BitRead, read_bit_text, bit_witness_of}
 use Rattle.witness.specs.BitJudgements.{when_risen, when_unbroken, when_reset, makes_no_bit_claim, JudgesBits, BitJudges}
-use Rattle.restore.specs.Counterexample.{SaysFrames, HasProperty, place_in, first_bad}
+use Rattle.restore.specs.Counterexample.{HasProperty, place_in, first_bad}
 use Rattle.restore.specs.Reading.{Found, whole, read_text}
 use Rattle.restore.specs.Frames.{trace_from}
-use Rattle.restore.specs.Restored.{rises_in, up_to_rise, own_inputs, written_frames, restored_witness, opening, closing, restored_lines, restored_text}
+use Rattle.restore.specs.Restored.{rises_in, up_to_rise, own_inputs, written_frames, restored_witness, restored_lines, restored_text}
 use Rattle.restore.proofs.FrameOf.{trace_is}
 use Rattle.restore.proofs.ReadingLemmas.{read}
 use Rattle.restore.proofs.RestoredLemmas as frames

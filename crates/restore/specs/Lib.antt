@@ -9,4 +9,5 @@ pub mod Pieces
 pub mod Reading
 pub mod Restored
 pub mod Steps
+pub mod Taking
 pub mod Worked

@@ -1,5 +1,5 @@
 -- What a restorer holds, and what it still writes: the text of a counterexample comes line by line, and what it is restored to goes piece by piece.
-use Rattle.std.specs.Prelude.{◌≡◌, ℕ, Bool, suc, ◌+◌, ◌*◌, true, false, not, ◌&&◌, List, [], ◌∷◌, ◌++◌, Option, None, Some, Result, Ok, Err, codes, take, drop, map, if◌then◌else◌, IfSome, ◌⊎◌}
+use Rattle.std.specs.Prelude.{◌≡◌, ℕ, Bool, ◌+◌, ◌*◌, true, false, not, ◌&&◌, List, [], ◌∷◌, ◌++◌, Option, None, Some, Result, Ok, Err, codes, take, drop, map, if◌then◌else◌, IfSome, ◌⊎◌}
 use Rattle.base.specs.Lines.{text_of_lines}
 use Rattle.aiger.specs.Circuit.{Circuit}
 use Rattle.aiger.specs.Trace.{next_state}

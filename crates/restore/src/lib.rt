@@ -13,9 +13,11 @@ mod progress;
 mod restorer;
 mod restoring;
 mod stage;
+mod taker;
 mod width;
 
 pub use fault::{RestoreFault, RestoreWhy};
 pub use frame_reader::FrameReader;
 pub use restorer::Restorer;
-pub use restoring::restore;
+pub use restoring::{restore, take_restored};
+pub use taker::Taker;

@@ -1,22 +1,22 @@
 //! Restoring whole sources.
-ghost use Rattle.std.specs.Prelude.{◌≡◌, ◌<◌, ℕ, List, [], ◌++◌, Option, None, Some, Err, true, false, length, IfErr, IfOk, IfSome, IsOk, OnErr, OnOk, ◌⊎◌};
+ghost use Rattle.std.specs.Prelude.{◌≡◌, ◌<◌, ℕ, List, [], Option, None, Some, Err, true, false, length, IfErr, IfOk, IfSome, IsOk, OnErr, OnOk, ◌⊎◌};
 ghost use Rattle.std.specs.Io.KnownBytes.{Appends, IsAtEnd};
-ghost use Rattle.base.specs.Device.{AppendsBeginning, CountsFaults, Sent};
-ghost use Rattle.aiger.specs.Circuit.{Circuit};
+ghost use Rattle.base.specs.Device.{AppendsBeginning, CountsFaults};
 ghost use Rattle.engine.specs.EngineForm.{input_count};
 ghost use Rattle.witness.specs.BitJudgements.{BitJudges};
-ghost use Rattle.witness.specs.BitStands.{StandsFor, BitJudge as BitJudgeValue};
 ghost use Rattle.restore.specs.declared.fault.RestoreWhy.TheVariants as why;
 ghost use Rattle.restore.specs.Accepted.{FindsAgain};
-ghost use Rattle.restore.specs.Answers.{CountsRestore, HandsAll, WritesAll};
+ghost use Rattle.restore.specs.Answers.{CountsRestore, PutsOwed, WritesOwed, TakesAll, WritesAll};
 ghost use Rattle.restore.specs.Faults.{is_of_text};
 ghost use Rattle.restore.specs.Pieces.{Owed, owed, is_written};
 ghost use Rattle.restore.specs.Reading.{read_text};
 ghost use Rattle.restore.specs.Restored.{restored_text};
+ghost use Rattle.restore.specs.Taking.{TakesPiece, IsPutInPieces};
 
 use crate::fault::{RestoreFault, RestoreWhy};
 use crate::laws::restored_text_is_accepted;
 use crate::restorer::Restorer;
+use crate::taker::Taker;
 use aiger::Circuit;
 use base::{Outbox, Sink, Source};
 use std::alloc::Global;
@@ -29,23 +29,20 @@ fn apart(why: RestoreWhy) -> RestoreFault
     RestoreFault { line: 0, why }
 }
 
-/// Puts a piece, and feeds a judge with it.
+/// Hands a piece on.
 ///
 /// Error: the sink's own.
-fn hand_on<K: Sink>(
-    judge: &mut BitJudge<'_>,
+fn hand_on<T: Taker, K: Sink>(
+    taker: &mut T,
     outbox: &mut Outbox,
     sink: &mut K,
     piece: &[u8],
 ) -> Result<(), RestoreFault>
-    ensures judged { (c : Circuit) (text : List ℕ) → StandsFor c judge.old text → StandsFor c judge.new (text ++ piece.now) }
-    ensures sent { OnOk result (Sent (K.written sink.old) (K.written sink.new) (outbox.old ++ piece.now) outbox.new) }
-    ensures beginning { OnErr result (AppendsBeginning (K.written sink.old) (K.written sink.new) (outbox.old ++ piece.now)) }
+    ensures takes { TakesPiece T.stands T.put_for result (K.written sink.old) (K.written sink.new) outbox.old outbox.new taker.old taker.new piece.now }
     ensures fault { IfErr result (λ e. e ≡ record { line = 0; why = why.Write }) }
     ensures counted { CountsFaults result (K.failures sink.old) (K.failures sink.new) }
 {
-    judge.feed(piece);
-    match outbox.put(sink, piece) {
+    match taker.take_piece(outbox, sink, piece) {
         Ok(()) => Ok(()),
         Err(_) => Err(apart(RestoreWhy::Write)),
     }
@@ -54,9 +51,9 @@ fn hand_on<K: Sink>(
 /// Hands on each piece of what a source is restored to.
 ///
 /// Errors: the source's own, the sink's, and the text's.
-fn hand_on_all<S: Source, K: Sink>(
+fn hand_on_all<S: Source, T: Taker, K: Sink>(
     restorer: &mut Restorer<'_>,
-    judge: &mut BitJudge<'_>,
+    taker: &mut T,
     outbox: &mut Outbox,
     source: &mut S,
     sink: &mut K,
@@ -64,14 +61,14 @@ fn hand_on_all<S: Source, K: Sink>(
     requires unread { restorer.old.reader.rest ≡ [] }
     requires unsent { outbox.old ≡ [] }
     requires begins { is_written restorer.old.stage ≡ false }
-    ensures hands { IfSome (S.to_come source.old) (λ text. (c : Circuit) → StandsFor c judge.old [] → HandsAll result (owed restorer.old text) c judge.new (K.written sink.old) (K.written sink.new) outbox.new) }
+    ensures takes { IfSome (S.to_come source.old) (λ text. (o : T.Over) → IsPutInPieces T.put_for → T.stands o taker.old [] → TakesAll T.stands T.put_for result (owed restorer.old text) o taker.new (K.written sink.old) (K.written sink.new) outbox.new) }
     ensures end { OnOk result (IsAtEnd (S.to_come source.new)) }
     ensures read_on { IfErr result (λ e. is_of_text e.why ≡ true → IsAtEnd (S.to_come source.new)) }
     ensures line { IfErr result (λ e. is_of_text e.why ≡ false → e.line ≡ 0) }
     ensures counted { CountsRestore result (S.failures source.old) (S.failures source.new) (K.failures sink.old) (K.failures sink.new) }
 {
     while restorer.advance(source)? {
-        hand_on(judge, outbox, sink, restorer.piece())?;
+        hand_on(taker, outbox, sink, restorer.piece())?;
     }
     Ok(())
 }
@@ -99,7 +96,7 @@ fn end<K: Sink>(
     outbox: &mut Outbox,
     sink: &mut K,
 ) -> Result<(), RestoreFault>
-    ensures writes { (more : Owed) (c : Circuit) (judge : BitJudgeValue) (start : Option (List ℕ)) → HandsAll told more c judge start (K.written sink.old) outbox.old → WritesAll result more c judge start (K.written sink.new) }
+    ensures writes { (more : Owed) (start : Option (List ℕ)) → PutsOwed told more start (K.written sink.old) outbox.old → WritesOwed result more start (K.written sink.new) }
     ensures same { IfErr result (λ e. (told ≡ Err e) ⊎ (e ≡ record { line = 0; why = why.Write })) }
     ensures right { OnOk result (IsOk told) }
     ensures counted { (old new before : ℕ) → CountsRestore told old new before (K.failures sink.old) → CountsRestore result old new before (K.failures sink.new) }
@@ -115,25 +112,31 @@ fn end<K: Sink>(
     }
 }
 
-/// Reads a source to its end, writes what it is restored to, and feeds a judge with that.
+/// Reads the text of a counterexample to its end, hands what it is restored to on to what takes it, and writes what that puts
+/// for it.
 ///
-/// Errors: the source's own, the sink's, and the text's.
-fn restore_through<S: Source, K: Sink>(
+/// Condition: the restorer is at the begin of the text.
+///
+/// Errors: the text's first faulty line, once the source was read to its end and what is put for what the lines before it
+/// give was written. With line 0: `Device` where the source failed in this call, `Write` where the sink did, and `NoMemory`
+/// where a growth was refused; a beginning of what is put for all was written then.
+pub fn take_restored<S: Source, T: Taker, K: Sink>(
     restorer: &mut Restorer<'_>,
-    judge: &mut BitJudge<'_>,
+    taker: &mut T,
     source: &mut S,
     sink: &mut K,
 ) -> Result<(), RestoreFault>
     requires unread { restorer.old.reader.rest ≡ [] }
     requires begins { is_written restorer.old.stage ≡ false }
-    ensures writes { IfSome (S.to_come source.old) (λ text. (c : Circuit) → StandsFor c judge.old [] → WritesAll result (owed restorer.old text) c judge.new (K.written sink.old) (K.written sink.new)) }
+    ensures writes { IfSome (S.to_come source.old) (λ text. (o : T.Over) → IsPutInPieces T.put_for → T.stands o taker.old [] → WritesAll T.stands T.put_for result (owed restorer.old text) o taker.new (K.written sink.old) (K.written sink.new)) }
     ensures end { OnOk result (IsAtEnd (S.to_come source.new)) }
     ensures read_on { IfErr result (λ e. is_of_text e.why ≡ true → IsAtEnd (S.to_come source.new)) }
     ensures line { IfErr result (λ e. is_of_text e.why ≡ false → e.line ≡ 0) }
+    // the source failed once where that is told, the sink where that is, and else neither
     ensures counted { CountsRestore result (S.failures source.old) (S.failures source.new) (K.failures sink.old) (K.failures sink.new) }
 {
     let mut outbox = Outbox::new();
-    let told = hand_on_all(restorer, judge, &mut outbox, source, sink);
+    let told = hand_on_all(restorer, taker, &mut outbox, source, sink);
     end(told, &mut outbox, sink)
 }
 
@@ -148,6 +151,7 @@ fn restore_through<S: Source, K: Sink>(
 /// Errors: the text's first faulty line, once the source was read to its end and what the lines before it give was written,
 /// without a last line. With line 0: `Device` where the source failed in this call, `Write` where the sink did, and
 /// `NoMemory` where a growth was refused; a beginning of what the text is restored to was written then.
+#[tactic(auto, using(crate::proofs::TakingLemmas::as_they_are))]
 pub fn restore<S: Source, K: Sink>(
     alloc: Global,
     circuit: &Circuit,
@@ -182,7 +186,7 @@ pub fn restore<S: Source, K: Sink>(
         Ok(judge) => judge,
         Err(_) => return Err(apart(RestoreWhy::NoMemory)),
     };
-    match restore_through(&mut restorer, &mut judge, source, sink) {
+    match take_restored(&mut restorer, &mut judge, source, sink) {
         Ok(()) => Ok(judge.finish()),
         Err(fault) => Err(fault),
     }

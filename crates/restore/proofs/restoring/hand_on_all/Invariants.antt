@@ -4,13 +4,13 @@ use Rattle.restore.specs.Pieces.{is_written, steps_left}
 use Rattle.restore.proofs.HandingLemmas.{Handed}
 use Rattle.restore.proofs.restoring.hand_on_all.Given as goal
 
-abbrev pub invariant-loop-judge : goal.invariant-loop-judge
-invariant-loop-judge g l = record {
-  handed : Handed (g.S.Source.to_come l.initial.source) (prepend_known l.restorer.reader.rest (g.S.Source.to_come l.source)) l.initial.restorer l.restorer l.initial.judge l.judge (g.K.Sink.written l.initial.sink) (g.K.Sink.written l.sink) l.outbox;
+abbrev pub invariant-loop-taker : goal.invariant-loop-taker
+invariant-loop-taker g l = record {
+  handed : Handed g.T.Taker.stands g.T.Taker.put_for (g.S.Source.to_come l.initial.source) (prepend_known l.restorer.reader.rest (g.S.Source.to_come l.source)) l.initial.restorer l.restorer l.initial.taker l.taker (g.K.Sink.written l.initial.sink) (g.K.Sink.written l.sink) l.outbox;
   end : is_written l.restorer.stage ≡ true → IsAtEnd (g.S.Source.to_come l.source);
   read : g.S.Source.failures l.source ≡ g.S.Source.failures l.initial.source;
   put : g.K.Sink.failures l.sink ≡ g.K.Sink.failures l.initial.sink;
 }
 
-abbrev pub decreases-loop-judge : goal.decreases-loop-judge
-decreases-loop-judge g l = steps_left l.restorer (g.S.Source.calls_left l.source)
+abbrev pub decreases-loop-taker : goal.decreases-loop-taker
+decreases-loop-taker g l = steps_left l.restorer (g.S.Source.calls_left l.source)

@@ -5,8 +5,7 @@ use Rattle.aiger.specs.Literal.{Valuation, literal_value}
 use Rattle.aiger.specs.Circuit.{Circuit}
 use Rattle.aiger.specs.Trace.{next_state}
 use Rattle.runs.specs.Run.{more_steps}
-use Rattle.runs.specs.CircuitRun.{CircuitRun, IsFrameNow, no_inputs, settle_steps}
-use Rattle.engine.specs.EngineForm.{all_hold}
+use Rattle.runs.specs.CircuitRun.{CircuitRun, no_inputs, settle_steps}
 use Rattle.restore.specs.Frames.{frame_of}
 use Rattle.restore.specs.Pieces.{Play as PlayValue, played, rises_with}
 use Rattle.restore.proofs.PlayLemmas.{settled_circuit, settled_now}

@@ -1,6 +1,6 @@
-use Rattle.std.proofs.Common.{rules, ◌≡◌, Err, true, ap, sym, subst, ◌∙◌}
+use Rattle.std.proofs.Common.{rules, ◌≡◌, Err, true, ap, ◌∙◌}
 use Rattle.std.specs.Io.KnownBytes.{prepend_known}
-use Rattle.restore.specs.Pieces.{Restorer, HandsOn, is_reading}
+use Rattle.restore.specs.Pieces.{Restorer, is_reading}
 use Rattle.restore.proofs.RestorerLemmas.{fails}
 use Rattle.restore.proofs.restorer.Restorer.read_on.Goals as goal
 

@@ -1,0 +1,94 @@
+//! Lifting counterexamples over the engine forms of circuits.
+ghost use Rattle.std.specs.Prelude.{◌≡◌, ◌<◌, None, Some, true, false, length, IfErr, IfOk, IfSome, OnOk};
+ghost use Rattle.std.specs.Io.KnownBytes.{Appends, IsAtEnd};
+ghost use Rattle.base.specs.Device.{AppendsBeginning};
+ghost use Rattle.blast.specs.Lowering.{Lowers};
+ghost use Rattle.engine.specs.EngineForm.{input_count};
+ghost use Rattle.witness.specs.BitJudgements.{BitJudges};
+ghost use Rattle.restore.specs.declared.fault.RestoreWhy.TheVariants as why;
+ghost use Rattle.restore.specs.Accepted.{FindsAgain};
+ghost use Rattle.restore.specs.Answers.{CountsRestore};
+ghost use Rattle.restore.specs.Faults.{is_of_text};
+ghost use Rattle.restore.specs.Reading.{read_text};
+ghost use Rattle.restore.specs.Restored.{restored_text};
+ghost use Rattle.lift.specs.EngineLifting.{engine_lifted_text, FindsInModel};
+ghost use Rattle.lift.specs.Verdicts.{KeepsVerdict};
+
+use crate::engine_laws::found_over_the_form_is_found_in_the_model;
+use crate::laws::lifting_keeps_the_verdict;
+use crate::lifter::Lifter;
+use aiger::Circuit;
+use base::{Sink, Source};
+use btor2::Model;
+use restore::{RestoreFault, RestoreWhy, Restorer, take_restored};
+use std::alloc::Global;
+use witness::Judgement;
+
+/// There was no memory.
+fn no_memory() -> RestoreFault
+    ensures { result ≡ record { line = 0; why = why.NoMemory } }
+{
+    RestoreFault {
+        line: 0,
+        why: RestoreWhy::NoMemory,
+    }
+}
+
+/// Reads the text of a counterexample over the engine form of a circuit to its end, and writes what it is lifted to: the
+/// witness of the model that says the same, up to and with the first frame in which the claimed property rises, or of all
+/// frames where it does not. The answer is the judgement over the circuit of what the text is restored to. Of the text one
+/// line is held, and what one call of the source gives; beside it two runs of the circuit, three lines, and what one call
+/// of the sink takes.
+///
+/// Conditions: the circuit is a lowering of the model, and has the claimed property.
+///
+/// Errors: the text's first faulty line, once the source was read to its end and what the lines before it give was written,
+/// without a last line. With line 0: `Device` where the source failed in this call, `Write` where the sink did, and
+/// `NoMemory` where a growth was refused; a beginning of what the text is lifted to was written then.
+#[tactic(auto, using(crate::proofs::TakingLemmas::lifted_in_pieces))]
+pub fn lift_restored<S: Source, K: Sink>(
+    alloc: Global,
+    model: &Model,
+    circuit: &Circuit,
+    claim: usize,
+    source: &mut S,
+    sink: &mut K,
+) -> Result<Judgement, RestoreFault>
+    requires lowers { Lowers model.now circuit.now }
+    requires claim { claim < length circuit.now.bads }
+    // the judgement is that over the circuit of what the text is restored to, with which nothing is wrong
+    ensures judged { IfOk result (λ judgement. IfSome (S.to_come source.old) (λ text. BitJudges circuit.now (restored_text circuit.now claim text) judgement)) }
+    ensures right { OnOk result (IfSome (S.to_come source.old) (λ text. (read_text (input_count circuit.now) text).fault ≡ None)) }
+    // what is judged of what is written over the model is the same verdict
+    ensures kept { IfOk result (λ judgement. IfSome (S.to_come source.old) (λ text. KeepsVerdict model.now circuit.now (restored_text circuit.now claim text) judgement)) }
+    ensures written { OnOk result (IfSome (S.to_come source.old) (λ text. Appends (K.written sink.old) (K.written sink.new) (engine_lifted_text model.now circuit.now claim text))) }
+    // where the text's frames make the claimed property of an engine form 1, both are accepted, and end with the first such frame
+    ensures found { IfOk result (λ judgement. IfSome (S.to_come source.old) (λ text. FindsAgain circuit.now claim text judgement)) }
+    ensures in_model { OnOk result (IfSome (S.to_come source.old) (λ text. FindsInModel model.now circuit.now claim text)) }
+    // a fault of the text is its own, and what the lines before it give was written; at any other a beginning was
+    ensures faulty { IfErr result (λ e. is_of_text e.why ≡ true → IfSome (S.to_come source.old) (λ text. (read_text (input_count circuit.now) text).fault ≡ Some e)) }
+    ensures before { IfErr result (λ e. is_of_text e.why ≡ true → IfSome (S.to_come source.old) (λ text. Appends (K.written sink.old) (K.written sink.new) (engine_lifted_text model.now circuit.now claim text))) }
+    ensures beginning { IfErr result (λ e. is_of_text e.why ≡ false → IfSome (S.to_come source.old) (λ text. AppendsBeginning (K.written sink.old) (K.written sink.new) (engine_lifted_text model.now circuit.now claim text))) }
+    ensures apart { IfErr result (λ e. is_of_text e.why ≡ false → e.line ≡ 0) }
+    ensures end { OnOk result (IsAtEnd (S.to_come source.new)) }
+    ensures read_on { IfErr result (λ e. is_of_text e.why ≡ true → IsAtEnd (S.to_come source.new)) }
+    // the source failed once where that is told, the sink where that is, and else neither
+    ensures counted { CountsRestore result (S.failures source.old) (S.failures source.new) (K.failures sink.old) (K.failures sink.new) }
+{
+    found_over_the_form_is_found_in_the_model();
+    lifting_keeps_the_verdict();
+    restore::laws::restored_text_is_accepted();
+    witness::bit_laws::exactly_one_bit_judgement();
+    let mut restorer = match Restorer::new(alloc, circuit, claim) {
+        Ok(restorer) => restorer,
+        Err(_) => return Err(no_memory()),
+    };
+    let mut lifter = match Lifter::new(alloc, model, circuit) {
+        Ok(lifter) => lifter,
+        Err(_) => return Err(no_memory()),
+    };
+    match take_restored(&mut restorer, &mut lifter, source, sink) {
+        Ok(()) => Ok(lifter.finish()),
+        Err(fault) => Err(fault),
+    }
+}

@@ -1,0 +1,53 @@
+//! What takes a text piece by piece.
+ghost use Rattle.std.specs.Prelude.{List, ℕ, Option};
+ghost use Rattle.base.specs.Device.{CountsFaults};
+ghost use Rattle.aiger.specs.Circuit.{Circuit};
+ghost use Rattle.restore.specs.Taking.{TakesPiece};
+
+use base::{DeviceFault, Outbox, Sink};
+use witness::BitJudge;
+
+/// What takes a text piece by piece, and puts something for it into an outbox.
+pub trait Taker {
+    /// What it takes a text over.
+    ghost Over: { Type 0 };
+
+    /// It has taken this text.
+    ghost stands: { Over → Self → List ℕ → Type 0 };
+
+    /// What is put for a text.
+    ghost put_for: { Over → List ℕ → List ℕ };
+
+    /// Takes a piece of the text behind those before, and puts what is put for it.
+    ///
+    /// Error: the sink's own.
+    fn take_piece<K: Sink>(
+        &mut self,
+        outbox: &mut Outbox,
+        sink: &mut K,
+        piece: &[u8],
+    ) -> Result<(), DeviceFault>
+        ensures takes { TakesPiece stands put_for result (K.written sink.old) (K.written sink.new) outbox.old outbox.new self.old self.new piece.now }
+        ensures failures { CountsFaults result (K.failures sink.old) (K.failures sink.new) };
+}
+
+/// A judge of witnesses takes them, and they are put as they are.
+impl<'a> Taker for BitJudge<'a> {
+    ghost use Rattle.witness.specs.BitStands.{StandsFor};
+
+    ghost Over = { Circuit };
+
+    ghost stands = { StandsFor };
+
+    ghost put_for = { λ c text. text };
+
+    fn take_piece<K: Sink>(
+        &mut self,
+        outbox: &mut Outbox,
+        sink: &mut K,
+        piece: &[u8],
+    ) -> Result<(), DeviceFault> {
+        self.feed(piece);
+        outbox.put(sink, piece)
+    }
+}
