@@ -9,4 +9,4 @@ mod lifting;
 mod pieces;
 
 pub use fault::LiftFault;
-pub use lifting::lift;
+pub use lifting::{lift, lift_named};
