@@ -172,19 +172,19 @@ kept_claim k line i small is h =
     let number : k.number ≡ i = said.number refl (decimal_digits i small) ∙ value_of_decimal i small in
     ap (λ (n : ℕ). claim n ∷ []) number ∙ ap (λ (l : List ℕ). l ∷ []) (sym is)
 
-kept_frame_is : (items : List Item) (c : Circuit) (n : ℕ) (line : List ℕ) (k : KeptLine) (b : Bool) → bytes_eq line (codes ".") ≡ b → IsFrameOrEnd c line b → Keeps k line → c.inputs ≤ length k.bits
-    → kept_frame items n k ≡ cond b (line ∷ []) (frame_piece items n (line_bits line))
-kept_frame_is items c n line k true is h keeps fits =
+kept_frame_is : (named : Bool) (items : List Item) (c : Circuit) (n : ℕ) (line : List ℕ) (k : KeptLine) (b : Bool) → bytes_eq line (codes ".") ≡ b → IsFrameOrEnd c line b → Keeps k line → c.inputs ≤ length k.bits
+    → kept_frame named items n k ≡ cond b (line ∷ []) (frame_piece named items n (line_bits line))
+kept_frame_is named items c n line k true is h keeps fits =
     let dot : line ≡ codes "." = (bytes_eq-Decides line (codes ".")).0 is in
     let first : (k.first == 46) ≡ true = ap (λ (b : ℕ). b == 46) (keeps.first ∙ ap (λ (l : List ℕ). get_or l 0 0) dot) in
     rw first (ap (λ (l : List ℕ). l ∷ []) (sym dot))
-kept_frame_is items c n line k false is h keeps fits =
+kept_frame_is named items c n line k false is h keeps fits =
     let first : (k.first == 46) ≡ false = ap (λ (b : ℕ). b == 46) keeps.first ∙ h.1 in
-    rw first (ap (frame_piece items n) (kept_line_bits k line keeps (omega (arith, h.0, fits))))
+    rw first (ap (frame_piece named items n) (kept_line_bits k line keeps (omega (arith, h.0, fits))))
 
-pub kept_is_piece : (items : List Item) (c : Circuit) (n : ℕ) (line : List ℕ) (k : KeptLine) → length c.bads < 2 ^ 64 → IsAdmitted c n line → Keeps k line → length c.latches ≤ length k.bits → c.inputs ≤ length k.bits
-    → kept_piece items n k ≡ piece items n line
-kept_is_piece items c zero line k small is keeps latches inputs = refl
-kept_is_piece items c (suc zero) line k small is keeps latches inputs = kept_claim k line is.0 (omega (arith, small, is.1.1)) is.1.0 keeps
-kept_is_piece items c (suc (suc zero)) line k small is keeps latches inputs = ap (initial_piece items) (kept_line_bits k line keeps (omega (arith, is, latches)))
-kept_is_piece items c (suc (suc (suc n))) line k small is keeps latches inputs = kept_frame_is items c n line k (bytes_eq line (codes ".")) refl is keeps inputs
+pub kept_is_piece : (named : Bool) (items : List Item) (c : Circuit) (n : ℕ) (line : List ℕ) (k : KeptLine) → length c.bads < 2 ^ 64 → IsAdmitted c n line → Keeps k line → length c.latches ≤ length k.bits → c.inputs ≤ length k.bits
+    → kept_piece named items n k ≡ piece named items n line
+kept_is_piece named items c zero line k small is keeps latches inputs = refl
+kept_is_piece named items c (suc zero) line k small is keeps latches inputs = kept_claim k line is.0 (omega (arith, small, is.1.1)) is.1.0 keeps
+kept_is_piece named items c (suc (suc zero)) line k small is keeps latches inputs = ap (initial_piece named items) (kept_line_bits k line keeps (omega (arith, is, latches)))
+kept_is_piece named items c (suc (suc (suc n))) line k small is keeps latches inputs = kept_frame_is named items c n line k (bytes_eq line (codes ".")) refl is keeps inputs

@@ -57,14 +57,14 @@ lower_place test i k (x ∷ xs) e = by (test x) e (λ d. omega (arith, lower_pla
     by true e rest = omega (arith, same_Some i k e)
     by false e rest = rest e
 
-given_lower : (items : List Item) (takes : Item → Bool) (i index : ℕ) (xs : List Item) (bs : List Bool) → i < index → given (pairs_of (assigned items takes index xs bs)) i ≡ None
-given_lower items takes i index [] bs h = refl
-given_lower items takes i index (x ∷ xs) bs h = by (takes x) (λ cs. given_lower items takes i (suc index) xs cs (omega (arith, h)))
+given_lower : (items : List Item) (takes : Item → Bool) (name : Item → Option (List ℕ)) (i index : ℕ) (xs : List Item) (bs : List Bool) → i < index → given (pairs_of (assigned items takes name index xs bs)) i ≡ None
+given_lower items takes name i index [] bs h = refl
+given_lower items takes name i index (x ∷ xs) bs h = by (takes x) (λ cs. given_lower items takes name i (suc index) xs cs (omega (arith, h)))
   where
-    by : (t : Bool) → ((cs : List Bool) → given (pairs_of (assigned items takes (suc index) xs cs)) i ≡ None)
-        → given (pairs_of (if t then assign index (take (bits_of items x.id) bs) ∷ assigned items takes (suc index) xs (drop (bits_of items x.id) bs) else assigned items takes (suc index) xs bs)) i ≡ None
+    by : (t : Bool) → ((cs : List Bool) → given (pairs_of (assigned items takes name (suc index) xs cs)) i ≡ None)
+        → given (pairs_of (if t then assign index (take (bits_of items x.id) bs) (name x) ∷ assigned items takes name (suc index) xs (drop (bits_of items x.id) bs) else assigned items takes name (suc index) xs bs)) i ≡ None
     by true rest =
-        ap (λ (b : Bool). option_map (λ (p : ℕ × ℕ). p.1) (cond b (Some (index, word (take (bits_of items x.id) bs))) (find (λ (p : ℕ × ℕ). p.0 == i) (pairs_of (assigned items takes (suc index) xs (drop (bits_of items x.id) bs)))))) (greater_is_other i index h)
+        ap (λ (b : Bool). option_map (λ (p : ℕ × ℕ). p.1) (cond b (Some (index, word (take (bits_of items x.id) bs))) (find (λ (p : ℕ × ℕ). p.0 == i) (pairs_of (assigned items takes name (suc index) xs (drop (bits_of items x.id) bs)))))) (greater_is_other i index h)
         ∙ rest (drop (bits_of items x.id) bs)
     by false rest = rest bs
 
@@ -74,23 +74,23 @@ given_behind index w ps None h = refl
 given_behind index w ps (Some k) h =
     ap (λ (b : Bool). option_map (λ (p : ℕ × ℕ). p.1) (cond b (Some (index, w)) (find (λ (p : ℕ × ℕ). p.0 == k) ps))) (false_from_ne_true (nat_eq index k) (λ e. absurd (omega (arith, h k refl, eqb-true index k e))))
 
-pub looked_up : (items : List Item) (takes : Item → Bool) (id index : ℕ) (xs : List Item) (bs : List Bool)
-    → option_and_then (given (pairs_of (assigned items takes index xs bs))) (position_from (λ x. nat_eq id x.id) index xs) ≡ word_for items takes xs bs id
-looked_up items takes id index [] bs = refl
-looked_up items takes id index (x ∷ xs) bs =
-    by (nat_eq id x.id) (takes x) (λ cs. ap (λ (n : ℕ). option_and_then (given (pairs_of (assigned items takes (suc index) xs cs))) (position_from (λ y. nat_eq id y.id) n xs)) next ∙ looked_up items takes id (suc index) xs cs)
+pub looked_up : (items : List Item) (takes : Item → Bool) (name : Item → Option (List ℕ)) (id index : ℕ) (xs : List Item) (bs : List Bool)
+    → option_and_then (given (pairs_of (assigned items takes name index xs bs))) (position_from (λ x. nat_eq id x.id) index xs) ≡ word_for items takes xs bs id
+looked_up items takes name id index [] bs = refl
+looked_up items takes name id index (x ∷ xs) bs =
+    by (nat_eq id x.id) (takes x) (λ cs. ap (λ (n : ℕ). option_and_then (given (pairs_of (assigned items takes name (suc index) xs cs))) (position_from (λ y. nat_eq id y.id) n xs)) next ∙ looked_up items takes name id (suc index) xs cs)
   where
     next : index + 1 ≡ suc index
     next = omega arith
 
-    by : (b t : Bool) → ((cs : List Bool) → option_and_then (given (pairs_of (assigned items takes (suc index) xs cs))) (position_from (λ y. nat_eq id y.id) (index + 1) xs) ≡ word_for items takes xs cs id)
-        → option_and_then (given (pairs_of (if t then assign index (take (bits_of items x.id) bs) ∷ assigned items takes (suc index) xs (drop (bits_of items x.id) bs) else assigned items takes (suc index) xs bs))) (cond b (Some index) (position_from (λ y. nat_eq id y.id) (index + 1) xs))
+    by : (b t : Bool) → ((cs : List Bool) → option_and_then (given (pairs_of (assigned items takes name (suc index) xs cs))) (position_from (λ y. nat_eq id y.id) (index + 1) xs) ≡ word_for items takes xs cs id)
+        → option_and_then (given (pairs_of (if t then assign index (take (bits_of items x.id) bs) (name x) ∷ assigned items takes name (suc index) xs (drop (bits_of items x.id) bs) else assigned items takes name (suc index) xs bs))) (cond b (Some index) (position_from (λ y. nat_eq id y.id) (index + 1) xs))
         ≡ (if b then (if t then Some (word (take (bits_of items x.id) bs)) else None) else word_for items takes xs (if t then drop (bits_of items x.id) bs else bs) id)
     by true true rest =
-        ap (λ (b : Bool). option_map (λ (p : ℕ × ℕ). p.1) (cond b (Some (index, word (take (bits_of items x.id) bs))) (find (λ (p : ℕ × ℕ). p.0 == index) (pairs_of (assigned items takes (suc index) xs (drop (bits_of items x.id) bs)))))) (eq-eqb index index refl)
-    by true false rest = given_lower items takes index (suc index) xs bs (omega arith)
+        ap (λ (b : Bool). option_map (λ (p : ℕ × ℕ). p.1) (cond b (Some (index, word (take (bits_of items x.id) bs))) (find (λ (p : ℕ × ℕ). p.0 == index) (pairs_of (assigned items takes name (suc index) xs (drop (bits_of items x.id) bs)))))) (eq-eqb index index refl)
+    by true false rest = given_lower items takes name index (suc index) xs bs (omega arith)
     by false true rest =
-        given_behind index (word (take (bits_of items x.id) bs)) (pairs_of (assigned items takes (suc index) xs (drop (bits_of items x.id) bs))) (position_from (λ y. nat_eq id y.id) (index + 1) xs)
+        given_behind index (word (take (bits_of items x.id) bs)) (pairs_of (assigned items takes name (suc index) xs (drop (bits_of items x.id) bs))) (position_from (λ y. nat_eq id y.id) (index + 1) xs)
         (λ k e. omega (arith, lower_place (λ y. nat_eq id y.id) (index + 1) k xs e))
         ∙ rest (drop (bits_of items x.id) bs)
     by false false rest = rest bs

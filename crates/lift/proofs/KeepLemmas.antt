@@ -29,13 +29,13 @@ use Rattle.witness.specs.BitTexts.{BitWitness, bit_line, bit_witness_lines, BitS
 use Rattle.witness.specs.Readings.{Reading, lines_read, reading, read_or_fault}
 use Rattle.witness.specs.BitAdmits.{BitRead, is_done, bit_reader, read_bit_text, bit_witness_of, admitted_lines}
 use Rattle.witness.specs.BitJudgements.{makes_no_bit_claim, bit_verdict, JudgesBits, BitJudges}
-use Rattle.witness.proofs.JudgedLemmas.{judged_says}
+use Rattle.witness.proofs.JudgedLemmas.{judged_says, read_judged}
 use Rattle.witness.proofs.PieceLemmas.{decimal_without}
 use Rattle.witness.proofs.BitReadLemmas.{bits_are_a_line}
 use Rattle.witness.proofs.FrameLemmas.{bad_names, length-nodes}
 use Rattle.witness.proofs.ShapeLemmas.{length-places}
-use Rattle.lift.specs.Lifted.{lifted_lines, lifted_text}
-use Rattle.lift.specs.Verdicts.{IsSameVerdict, KeepsVerdict}
+use Rattle.lift.specs.Lifted.{lifted_lines, lifted_with}
+use Rattle.lift.specs.Verdicts.{IsSameVerdict, KeepsVerdictIn}
 use Rattle.lift.proofs.LineLemmas.{counted}
 use Rattle.lift.proofs.AssignedLemmas.{lifted_witness}
 use Rattle.lift.proofs.LiftedWitness.{AreWide, lines_are_witness, lifted_is_witness}
@@ -104,7 +104,7 @@ latches_count items c l = sym (length-map c.latches (λ latch. latch.reset)) ∙
 
 -- ---- the lifted witness
 
-module _ (items : List Item) (c : Circuit) (text : List ℕ) (b : BitWitness) (l : Lowers items c) (says : BitSays c text b) where
+module _ (named : Bool) (items : List Item) (c : Circuit) (text : List ℕ) (b : BitWitness) (l : Lowers items c) (says : BitSays c text b) where
   initial_wide : length b.initial ≡ carried_width items
   initial_wide = says.valid.initial ∙ latches_count items c l
 
@@ -115,56 +115,62 @@ module _ (items : List Item) (c : Circuit) (text : List ℕ) (b : BitWitness) (l
   claim_inside = omega (arith, says.valid.claim, bads_count items c l)
 
   -- the lifted text is its lines
-  text_is : (r : BitRead) → read_bit_text c text ≡ Ok r → lifted_text items c text ≡ text_of_lines (witness_lines (shape_of items) [] (lifted_witness items b))
-  unfolding lifted_text
+  text_is : (r : BitRead) → read_bit_text c text ≡ Ok r → lifted_with named items c text ≡ text_of_lines (witness_lines (shape_of items) [] (lifted_witness named items b))
+  unfolding lifted_with
   text_is r read =
       let small : b.claim < 2 ^ 64 = omega (arith, says.valid.claim, l.circuit.few.bads) in
       let whole : whole_lines text ≡ bit_witness_lines b = ap whole_lines says.whole ∙ lines_of_text (bit_witness_lines b) (source_lines b small) in
       let all : take (admitted_lines c text) (whole_lines text) ≡ bit_witness_lines b = ap (λ (n : ℕ). take n (whole_lines text)) (all_admitted c text r read) ∙ (take-length (whole_lines text) ∙ whole) in
-      ap (λ (lines : List (List ℕ)). text_of_lines (lifted_lines items 0 lines)) all
-      ∙ ap text_of_lines (lines_are_witness items b says.valid.some_frame initial_wide frames_wide)
+      ap (λ (lines : List (List ℕ)). text_of_lines (lifted_lines named items 0 lines)) all
+      ∙ ap text_of_lines (lines_are_witness named items b says.valid.some_frame initial_wide frames_wide)
 
   -- it says the lifted witness
-  says_lifted : (r : BitRead) → read_bit_text c text ≡ Ok r → length (whole_lines (lifted_text items c text)) ≤ most_lines → Says (shape_of items) (lifted_text items c text) (lifted_witness items b)
-  says_lifted r read few =
-      let lines : List (List ℕ) = witness_lines (shape_of items) [] (lifted_witness items b) in
-      let is : lifted_text items c text ≡ text_of_lines lines = text_is r read in
+  pub says_few : (r : BitRead) → read_bit_text c text ≡ Ok r → length (witness_lines (shape_of items) [] (lifted_witness named items b)) ≤ most_lines → Says (shape_of items) (lifted_with named items c text) (lifted_witness named items b)
+  says_few r read few =
       record {
         comments = [];
         lines = All-nil IsLine;
         marked = All-nil (λ line. is_comment line ≡ true);
-        whole = is;
-        valid = lifted_is_witness items b claim_inside says.valid.some_frame initial_wide frames_wide;
-        few = omega (arith, few, at_least lines, ap (λ (t : List ℕ). length (whole_lines t)) is);
+        whole = text_is r read;
+        valid = lifted_is_witness named items b claim_inside says.valid.some_frame initial_wide frames_wide;
+        few = few;
       }
+
+  pub few_lines : (r : BitRead) → read_bit_text c text ≡ Ok r → length (whole_lines (lifted_with named items c text)) ≤ most_lines → length (witness_lines (shape_of items) [] (lifted_witness named items b)) ≤ most_lines
+  few_lines r read few =
+      let lines : List (List ℕ) = witness_lines (shape_of items) [] (lifted_witness named items b) in
+      omega (arith, few, at_least lines, ap (λ (t : List ℕ). length (whole_lines t)) (text_is r read))
+
+  says_lifted : (r : BitRead) → read_bit_text c text ≡ Ok r → length (whole_lines (lifted_with named items c text)) ≤ most_lines → Says (shape_of items) (lifted_with named items c text) (lifted_witness named items b)
+  says_lifted r read few = says_few r read (few_lines r read few)
 
   -- the first line of the source, and of the lifted text, says that there is a claim
   source_claims : makes_no_bit_claim (whole_lines text) ≡ false
   source_claims = ap (λ (t : List ℕ). makes_no_bit_claim (whole_lines t)) says.whole
 
-  lifted_claims : (r : BitRead) → read_bit_text c text ≡ Ok r → makes_no_claim 0 (whole_lines (lifted_text items c text)) ≡ false
+  lifted_claims : (r : BitRead) → read_bit_text c text ≡ Ok r → makes_no_claim 0 (whole_lines (lifted_with named items c text)) ≡ false
   lifted_claims r read = ap (λ (t : List ℕ). makes_no_claim 0 (whole_lines t)) (text_is r read)
 
   -- ---- the traces
 
-  lowered_trace : (vs : List Valuation) → IsCircuitTrace c b.initial b.frames vs → IsCircuitTrace c (state_bits items (initial_words items (words_lifted items b))) (map (input_bits items) (given_frames items (words_lifted items b))) vs
+  lowered_trace : (vs : List Valuation) → IsCircuitTrace c b.initial b.frames vs → IsCircuitTrace c (state_bits items (initial_words items (words_lifted named items b))) (map (input_bits items) (given_frames items (words_lifted named items b))) vs
   lowered_trace vs trace =
-      subst (λ (s : List Bool). IsCircuitTrace c s (map (input_bits items) (given_frames items (words_lifted items b))) vs) (sym (initial_again items b l.well_formed says.valid.some_frame initial_wide))
-      (subst (λ (i : List (List Bool)). IsCircuitTrace c b.initial i vs) (sym (given_again items b l.well_formed frames_wide)) trace)
+      subst (λ (s : List Bool). IsCircuitTrace c s (map (input_bits items) (given_frames items (words_lifted named items b))) vs) (sym (initial_again named items b l.well_formed says.valid.some_frame initial_wide))
+      (subst (λ (i : List (List Bool)). IsCircuitTrace c b.initial i vs) (sym (given_again named items b l.well_formed frames_wide)) trace)
 
-  shown_same : (fs : List Frame) (vs : List Valuation) → IsTrace items (initial_words items (words_lifted items b)) (given_frames items (words_lifted items b)) fs → IsCircuitTrace c b.initial b.frames vs
-      → first_different items (initial_words items (words_lifted items b)) ≡ None → ShowSame items c fs vs
+  shown_same : (fs : List Frame) (vs : List Valuation) → IsTrace items (initial_words items (words_lifted named items b)) (given_frames items (words_lifted named items b)) fs → IsCircuitTrace c b.initial b.frames vs
+      → first_different items (initial_words items (words_lifted named items b)) ≡ None → ShowSame items c fs vs
   shown_same fs vs trace bits none =
-      let initial : IsInitial items (initial_words items (words_lifted items b)) =
-      record { fits = initial_fits items b l.well_formed says.valid.some_frame; inits = inits_hold items (initial_words items (words_lifted items b)) l.well_formed (init_agrees items (initial_words items (words_lifted items b)) l.well_formed none) } in
-      l.frames (initial_words items (words_lifted items b)) (given_frames items (words_lifted items b)) initial (given_fit items b) fs trace vs (lowered_trace vs bits)
+      let initial : IsInitial items (initial_words items (words_lifted named items b)) =
+      record { fits = initial_fits named items b l.well_formed says.valid.some_frame; inits = inits_hold items (initial_words items (words_lifted named items b)) l.well_formed (init_agrees items (initial_words items (words_lifted named items b)) l.well_formed none) } in
+      l.frames (initial_words items (words_lifted named items b)) (given_frames items (words_lifted named items b)) initial (given_fit named items b) fs trace vs (lowered_trace vs bits)
 
-  verdicts_same : (fs : List Frame) (vs : List Valuation) → IsTrace items (initial_words items (words_lifted items b)) (given_frames items (words_lifted items b)) fs → IsCircuitTrace c b.initial b.frames vs
-      → IsSameVerdict items (bit_verdict c b vs) (verdict items (words_lifted items b) fs)
+  verdicts_same : (fs : List Frame) (vs : List Valuation) → IsTrace items (initial_words items (words_lifted named items b)) (given_frames items (words_lifted named items b)) fs → IsCircuitTrace c b.initial b.frames vs
+      → IsSameVerdict items (bit_verdict c b vs) (verdict items (words_lifted named items b) fs)
   verdicts_same fs vs trace bits =
-      same_verdict items c b (words_lifted items b) fs vs refl says.valid.claim (omega (arith, says.valid.claim, bads_count items c l, bad_nodes items))
-      (latch_belongs items c.latches (initial_words items (words_lifted items b)) b.initial (λ id k e. init_word_below items id k l.well_formed e) (λ id. initial_below items b id l.well_formed says.valid.some_frame) l.resets
-      (initial_again items b l.well_formed says.valid.some_frame initial_wide))
+      same_verdict items c b (words_lifted named items b) fs vs refl says.valid.claim (omega (arith, says.valid.claim, bads_count items c l, bad_nodes items))
+      (latch_belongs items c.latches (initial_words items (words_lifted named items b)) b.initial (λ id k e. init_word_below items id k l.well_formed e) (λ id. initial_below named items b id l.well_formed says.valid.some_frame) l.resets
+      (initial_again named items b l.well_formed says.valid.some_frame initial_wide))
       (shown_same fs vs trace bits)
 
   -- ---- the judgements
@@ -174,38 +180,46 @@ module _ (items : List Item) (c : Circuit) (text : List ℕ) (b : BitWitness) (l
       subst (λ (w : BitWitness). JudgesBits c w j) is
       (judged_says (λ (s : BitRead). JudgesBits c (bit_witness_of s)) (makes_no_bit_claim (whole_lines text)) (read_bit_text c text) r j source_claims read h)
 
-  judged_words : (k : Judgement) (r : BitRead) (q : Read) → read_bit_text c text ≡ Ok r → read_text (shape_of items) (lifted_text items c text) ≡ Ok q → witness_of q ≡ lifted_witness items b → Judges items (lifted_text items c text) k
-      → JudgesWords items (words_lifted items b) k
+  pub judged_words : (k : Judgement) (r : BitRead) (q : Read) → read_bit_text c text ≡ Ok r → read_text (shape_of items) (lifted_with named items c text) ≡ Ok q → witness_of q ≡ lifted_witness named items b → Judges items (lifted_with named items c text) k
+      → JudgesWords items (words_lifted named items b) k
   judged_words k r q bits read is h =
-      let all : List ℕ = lifted_text items c text in
+      let all : List ℕ = lifted_with named items c text in
       subst (λ (w : Witness). JudgesWords items (words_of w) k) is
       (judged_says (λ (s : Read). JudgesWords items (words_of (witness_of s))) (makes_no_claim 0 (whole_lines all)) (read_text (shape_of items) all) q k (lifted_claims r bits) read h)
 
+  -- and back
+  pub words_judged : (k : Judgement) (r : BitRead) (q : Read) → read_bit_text c text ≡ Ok r → read_text (shape_of items) (lifted_with named items c text) ≡ Ok q → witness_of q ≡ lifted_witness named items b
+      → JudgesWords items (words_lifted named items b) k → Judges items (lifted_with named items c text) k
+  words_judged k r q bits read is h =
+      let all : List ℕ = lifted_with named items c text in
+      read_judged (λ (s : Read). JudgesWords items (words_of (witness_of s))) (makes_no_claim 0 (whole_lines all)) (read_text (shape_of items) all) (Ok q) k (lifted_claims r bits) read
+      (subst (λ (w : Witness). JudgesWords items (words_of w) k) (sym is) h)
+
   pub kept_verdict : (j k : Judgement) (r : BitRead) (q : Read) (fs : List Frame) (vs : List Valuation) → read_bit_text c text ≡ Ok r → bit_witness_of r ≡ b
-      → read_text (shape_of items) (lifted_text items c text) ≡ Ok q → witness_of q ≡ lifted_witness items b
-      → IsTrace items (initial_words items (words_lifted items b)) (given_frames items (words_lifted items b)) fs → IsCircuitTrace c b.initial b.frames vs
-      → BitJudges c text j → Judges items (lifted_text items c text) k → IsSameVerdict items j k
+      → read_text (shape_of items) (lifted_with named items c text) ≡ Ok q → witness_of q ≡ lifted_witness named items b
+      → IsTrace items (initial_words items (words_lifted named items b)) (given_frames items (words_lifted named items b)) fs → IsCircuitTrace c b.initial b.frames vs
+      → BitJudges c text j → Judges items (lifted_with named items c text) k → IsSameVerdict items j k
   kept_verdict j k r q fs vs bits is read own trace bit_trace h g =
       let first : j ≡ bit_verdict c b vs = judged_bits j r bits is h vs bit_trace in
-      let second : k ≡ verdict items (words_lifted items b) fs = judged_words k r q bits read own g fs trace in
+      let second : k ≡ verdict items (words_lifted named items b) fs = judged_words k r q bits read own g fs trace in
       subst (λ (x : Judgement). IsSameVerdict items x k) (sym first) (subst (IsSameVerdict items (bit_verdict c b vs)) (sym second) (verdicts_same fs vs trace bit_trace))
 
 -- by the laws on texts that are read and on traces
-pub keeps_verdict : (items : List Item) (c : Circuit) (text : List ℕ) (j : Judgement) → Lowers items c → BitJudges c text j
+pub keeps_verdict : (named : Bool) (items : List Item) (c : Circuit) (text : List ℕ) (j : Judgement) → Lowers items c → BitJudges c text j
     → ((w : BitWitness) → BitSays c text w → (r : BitRead) × ((read_bit_text c text ≡ Ok r) × (bit_witness_of r ≡ w)))
-    → ((w : Witness) → Says (shape_of items) (lifted_text items c text) w → (r : Read) × ((read_text (shape_of items) (lifted_text items c text) ≡ Ok r) × (witness_of r ≡ w)))
+    → ((w : Witness) → Says (shape_of items) (lifted_with named items c text) w → (r : Read) × ((read_text (shape_of items) (lifted_with named items c text) ≡ Ok r) × (witness_of r ≡ w)))
     → ((initial : Frame) (inputs : List Frame) → (fs : List Frame) × IsTrace items initial inputs fs)
     → ((initial : List Bool) (inputs : List (List Bool)) → length initial ≡ length c.latches → All (λ input. length input ≡ c.inputs) inputs → (vs : List Valuation) × IsCircuitTrace c initial inputs vs)
-    → KeepsVerdict items c text j
-keeps_verdict items c text j l h bit_reads reads runs bit_runs =
+    → KeepsVerdictIn items c text (lifted_with named items c text) j
+keeps_verdict named items c text j l h bit_reads reads runs bit_runs =
     record {
       claim = λ b says few.
           let r = bit_reads b says in
-          (lifted_witness items b, (says_lifted items c text b l says r.0 r.1.0 few, refl));
+          (lifted_witness named items b, (says_lifted named items c text b l says r.0 r.1.0 few, refl));
       verdict = λ b k says few g.
           let r = bit_reads b says in
-          let q = reads (lifted_witness items b) (says_lifted items c text b l says r.0 r.1.0 few) in
-          let fs = runs (initial_words items (words_lifted items b)) (given_frames items (words_lifted items b)) in
+          let q = reads (lifted_witness named items b) (says_lifted named items c text b l says r.0 r.1.0 few) in
+          let fs = runs (initial_words items (words_lifted named items b)) (given_frames items (words_lifted named items b)) in
           let vs = bit_runs b.initial b.frames says.valid.initial says.valid.frames in
-          kept_verdict items c text b l says j k r.0 q.0 fs.0 vs.0 r.1.0 r.1.1 q.1.0 q.1.1 fs.1 vs.1 h g;
+          kept_verdict named items c text b l says j k r.0 q.0 fs.0 vs.0 r.1.0 r.1.1 q.1.0 q.1.1 fs.1 vs.1 h g;
     }

@@ -2,6 +2,7 @@
 pub mod LineLemmas
 pub mod KeptLemmas
 pub mod LeafLemmas
+pub mod NameLemmas
 pub mod PutLemmas
 pub mod AdmitLemmas
 pub mod LifterLemmas
@@ -13,5 +14,6 @@ pub mod LiftedWords
 pub mod DifferLemmas
 pub mod SameLemmas
 pub mod KeepLemmas
+pub mod NamelessLemmas
 mod EngineLemmas
 mod TakingLemmas

@@ -1,5 +1,5 @@
 -- The lines of a witness of a circuit are lifted to the lines of a witness over the model.
-use Rattle.std.proofs.Common.{◌≡◌, ◌≢◌, ℕ, suc, ◌+◌, ◌<◌, ◌≤◌, ◌==◌, ◌&&◌, Bool, true, false, List, [], ◌∷◌, ◌++◌, Some, None, IfSome, All, map, length, drop, decimal, codes, length-drop, append_assoc, refl, sym, ap, ap₂, ◌∙◌, arith, true≢false}
+use Rattle.std.proofs.Common.{◌≡◌, ◌≢◌, ℕ, suc, ◌+◌, ◌<◌, ◌≤◌, ◌==◌, ◌&&◌, Bool, true, false, List, [], ◌∷◌, ◌++◌, Option, Some, None, IfSome, All, map, length, drop, decimal, codes, length-drop, append_assoc, refl, sym, ap, ap₂, ◌∙◌, arith, true≢false}
 use Rattle.std.specs.Prelude.{if◌then◌else◌}
 use Rattle.std.specs.List.{list_any, AllByRecursion}
 use Rattle.std.proofs.lemmas.Bool.{false_from_ne_true}
@@ -18,8 +18,8 @@ use Rattle.witness.specs.Texts.{Shape, Assignment, shape_of, has_free, is_free_i
 use Rattle.witness.specs.BitTexts.{BitWitness, bit_line, bit_witness_lines}
 use Rattle.witness.proofs.PieceLemmas.{bits_of_digits}
 use Rattle.witness.proofs.BitReadLemmas.{bits_are_no_end}
-use Rattle.lift.specs.Lifted.{input_lines, carried_lines, free_lines, initial_piece, free_piece, frame_piece, line_bits, piece, lifted_lines}
-use Rattle.lift.proofs.AssignedLemmas.{any_leaf, takes_free, takes_carried, assigned_inputs, assigned_carried, assigned_free, later_parts, lifted_frames, lifted_witness, assigned_lines, assigned_fit, indices, assigned_distinct, both_distinct, flag_of_index, free_flags, carried_flags}
+use Rattle.lift.specs.Lifted.{names, input_lines, carried_lines, free_lines, initial_piece, free_piece, frame_piece, line_bits, piece, lifted_lines}
+use Rattle.lift.proofs.AssignedLemmas.{any_leaf, takes_free, takes_carried, assigned_inputs, assigned_carried, assigned_free, later_parts, later_frames, lifted_frames, lifted_witness, are_names, assigned_lines, assigned_fit, indices, assigned_distinct, both_distinct, flag_of_index, free_flags, carried_flags}
 use Rattle.lift.proofs.PutLemmas.{hash}
 
 -- ---- how many bits the leaves take
@@ -61,117 +61,117 @@ AreWide items frames = AllByRecursion (λ bs. length bs ≡ given_width items) f
 
 -- ---- the lines of words
 
-inputs_written : (items : List Item) (bs : List Bool) → length bs ≡ given_width items → assignment_lines (shape_of items).inputs (assigned_inputs items bs) ≡ input_lines items bs
-inputs_written items bs h = assigned_lines items any_leaf (shape_of items).inputs [] 0 (leaves_of is_input items) bs (refl, refl) (inputs_enough items bs h)
+inputs_written : (items : List Item) (name : Item → Option (List ℕ)) (bs : List Bool) → length bs ≡ given_width items → assignment_lines (shape_of items).inputs (assigned_inputs items name bs) ≡ input_lines items name bs
+inputs_written items name bs h = assigned_lines items any_leaf name (shape_of items).inputs [] 0 (leaves_of is_input items) bs (refl, refl) (inputs_enough items bs h)
 
-free_written : (items : List Item) (bs : List Bool) → length bs ≡ given_width items → assignment_lines (shape_of items).states (assigned_free items (drop (input_width items) bs)) ≡ free_lines items (drop (input_width items) bs)
-free_written items bs h = assigned_lines items (takes_free items) (shape_of items).states [] 0 (leaves_of is_state items) (drop (input_width items) bs) (refl, refl) (free_enough items bs h)
+free_written : (items : List Item) (name : Item → Option (List ℕ)) (bs : List Bool) → length bs ≡ given_width items → assignment_lines (shape_of items).states (assigned_free items name (drop (input_width items) bs)) ≡ free_lines items name (drop (input_width items) bs)
+free_written items name bs h = assigned_lines items (takes_free items) name (shape_of items).states [] 0 (leaves_of is_state items) (drop (input_width items) bs) (refl, refl) (free_enough items bs h)
 
-carried_written : (items : List Item) (bs : List Bool) → length bs ≡ carried_width items → assignment_lines (shape_of items).states (assigned_carried items bs) ≡ carried_lines items bs
-carried_written items bs h = assigned_lines items (takes_carried items) (shape_of items).states [] 0 (leaves_of is_state items) bs (refl, refl) (carried_enough items bs h)
+carried_written : (items : List Item) (name : Item → Option (List ℕ)) (bs : List Bool) → length bs ≡ carried_width items → assignment_lines (shape_of items).states (assigned_carried items name bs) ≡ carried_lines items name bs
+carried_written items name bs h = assigned_lines items (takes_carried items) name (shape_of items).states [] 0 (leaves_of is_state items) bs (refl, refl) (carried_enough items bs h)
 
 -- ---- the lines of frames
 
-frame_is : (items : List Item) (k : ℕ) (bs : List Bool) → piece items (suc (suc (suc k))) (bit_line bs) ≡ frame_piece items k bs
-frame_is items k bs = ap (λ (b : Bool). if b then bit_line bs ∷ [] else frame_piece items k (line_bits (bit_line bs))) (bits_are_no_end bs) ∙ ap (frame_piece items k) (bits_of_digits bs)
+frame_is : (named : Bool) (items : List Item) (k : ℕ) (bs : List Bool) → piece named items (suc (suc (suc k))) (bit_line bs) ≡ frame_piece named items k bs
+frame_is named items k bs = ap (λ (b : Bool). if b then bit_line bs ∷ [] else frame_piece named items k (line_bits (bit_line bs))) (bits_are_no_end bs) ∙ ap (frame_piece named items k) (bits_of_digits bs)
 
-later_states : (items : List Item) (k : ℕ) (bs : List Bool) → length bs ≡ given_width items → states_lines (shape_of items).states (suc k) (later_parts items bs).states ≡ free_piece items (suc k) (drop (input_width items) bs)
-later_states items k bs h = by (has_free (shape_of items))
+later_states : (named : Bool) (items : List Item) (k : ℕ) (bs : List Bool) → length bs ≡ given_width items → states_lines (shape_of items).states (suc k) (later_parts named items (suc k) bs).states ≡ free_piece named items (suc k) (drop (input_width items) bs)
+later_states named items k bs h = by (has_free (shape_of items))
   where
-    by : (b : Bool) → states_lines (shape_of items).states (suc k) (if b then Some (assigned_free items (drop (input_width items) bs)) else None) ≡ (if b then (35 ∷ decimal (suc k)) ∷ free_lines items (drop (input_width items) bs) else [])
-    by true = ap (λ (l : List (List ℕ)). (35 ∷ decimal (suc k)) ∷ l) (free_written items bs h)
+    by : (b : Bool) → states_lines (shape_of items).states (suc k) (if b then Some (assigned_free items (names named (suc k)) (drop (input_width items) bs)) else None) ≡ (if b then (35 ∷ decimal (suc k)) ∷ free_lines items (names named (suc k)) (drop (input_width items) bs) else [])
+    by true = ap (λ (l : List (List ℕ)). (35 ∷ decimal (suc k)) ∷ l) (free_written items (names named (suc k)) bs h)
     by false = refl
 
 regroup : {A : Type 0} (m : A) (s i r e : List A) → (s ++ m ∷ i) ++ (r ++ e) ≡ (s ++ m ∷ (i ++ r)) ++ e
 regroup m s i r e = append_assoc s (m ∷ i) (r ++ e) ∙ (ap (λ l. s ++ m ∷ l) (sym (append_assoc i r e)) ∙ sym (append_assoc s (m ∷ (i ++ r)) e))
 
-later_lines : (items : List Item) (k : ℕ) (frames : List (List Bool)) → AreWide items frames
-    → lifted_lines items (suc (suc (suc (suc k)))) (map bit_line frames ++ codes "." ∷ []) ≡ frame_lines (shape_of items) (suc k) (map (later_parts items) frames) ++ codes "." ∷ []
-later_lines items k [] h = refl
-later_lines items k (bs ∷ more) h =
-    let rest = later_lines items (suc k) more h.1 in
-    let own : piece items (suc (suc (suc (suc k)))) (bit_line bs) ≡ states_lines (shape_of items).states (suc k) (later_parts items bs).states ++ (64 ∷ decimal (suc k)) ∷ assignment_lines (shape_of items).inputs (assigned_inputs items bs) =
-    frame_is items (suc k) bs ∙ ap₂ (λ (s i : List (List ℕ)). s ++ (64 ∷ decimal (suc k)) ∷ i) (sym (later_states items k bs h.0)) (sym (inputs_written items bs h.0)) in
+later_lines : (named : Bool) (items : List Item) (k : ℕ) (frames : List (List Bool)) → AreWide items frames
+    → lifted_lines named items (suc (suc (suc (suc k)))) (map bit_line frames ++ codes "." ∷ []) ≡ frame_lines (shape_of items) (suc k) (later_frames named items (suc k) frames) ++ codes "." ∷ []
+later_lines named items k [] h = refl
+later_lines named items k (bs ∷ more) h =
+    let rest = later_lines named items (suc k) more h.1 in
+    let own : piece named items (suc (suc (suc (suc k)))) (bit_line bs) ≡ states_lines (shape_of items).states (suc k) (later_parts named items (suc k) bs).states ++ (64 ∷ decimal (suc k)) ∷ assignment_lines (shape_of items).inputs (assigned_inputs items (names named (suc k)) bs) =
+    frame_is named items (suc k) bs ∙ ap₂ (λ (s i : List (List ℕ)). s ++ (64 ∷ decimal (suc k)) ∷ i) (sym (later_states named items k bs h.0)) (sym (inputs_written items (names named (suc k)) bs h.0)) in
     ap₂ ◌++◌ own rest
-    ∙ regroup (64 ∷ decimal (suc k)) (states_lines (shape_of items).states (suc k) (later_parts items bs).states) (assignment_lines (shape_of items).inputs (assigned_inputs items bs)) (frame_lines (shape_of items) (suc (suc k)) (map (later_parts items) more)) (codes "." ∷ [])
+    ∙ regroup (64 ∷ decimal (suc k)) (states_lines (shape_of items).states (suc k) (later_parts named items (suc k) bs).states) (assignment_lines (shape_of items).inputs (assigned_inputs items (names named (suc k)) bs)) (frame_lines (shape_of items) (suc (suc k)) (later_frames named items (suc (suc k)) more)) (codes "." ∷ [])
 
 -- the first frame behind the initial bits
 regroup_first : {A : Type 0} (h : A) (c f t e : List A) → (h ∷ c) ++ ((f ++ t) ++ e) ≡ ((h ∷ (c ++ f)) ++ t) ++ e
 regroup_first h c f t e = ap (λ l. h ∷ l) (sym (append_assoc c (f ++ t) e) ∙ ap (λ l. l ++ e) (sym (append_assoc c f t)))
 
-first_lines : (items : List Item) (initial bs : List Bool) (more : List (List Bool)) → length initial ≡ carried_width items → AreWide items (bs ∷ more)
-    → lifted_lines items 2 (bit_line initial ∷ (map bit_line (bs ∷ more) ++ codes "." ∷ [])) ≡ frame_lines (shape_of items) 0 (lifted_frames items initial (bs ∷ more)) ++ codes "." ∷ []
-first_lines items initial bs more few h =
+first_lines : (named : Bool) (items : List Item) (initial bs : List Bool) (more : List (List Bool)) → length initial ≡ carried_width items → AreWide items (bs ∷ more)
+    → lifted_lines named items 2 (bit_line initial ∷ (map bit_line (bs ∷ more) ++ codes "." ∷ [])) ≡ frame_lines (shape_of items) 0 (lifted_frames named items initial (bs ∷ more)) ++ codes "." ∷ []
+first_lines named items initial bs more few h =
     let shape : Shape = shape_of items in
-    let carried : List (List ℕ) = assignment_lines shape.states (assigned_carried items initial) in
-    let free : List (List ℕ) = assignment_lines shape.states (assigned_free items (drop (input_width items) bs)) in
-    let inputs : List (List ℕ) = assignment_lines shape.inputs (assigned_inputs items bs) in
-    let later : List (List ℕ) = frame_lines shape 1 (map (later_parts items) more) in
+    let carried : List (List ℕ) = assignment_lines shape.states (assigned_carried items (names named 0) initial) in
+    let free : List (List ℕ) = assignment_lines shape.states (assigned_free items (names named 0) (drop (input_width items) bs)) in
+    let inputs : List (List ℕ) = assignment_lines shape.inputs (assigned_inputs items (names named 0) bs) in
+    let later : List (List ℕ) = frame_lines shape 1 (later_frames named items 1 more) in
     let end : List (List ℕ) = codes "." ∷ [] in
-    let initial_is : piece items 2 (bit_line initial) ≡ (35 ∷ decimal 0) ∷ carried = ap (initial_piece items) (bits_of_digits initial) ∙ ap₂ ◌∷◌ (sym hash) (sym (carried_written items initial few)) in
-    let own : piece items 3 (bit_line bs) ≡ free ++ (64 ∷ decimal 0) ∷ inputs = frame_is items 0 bs ∙ ap₂ (λ (s i : List (List ℕ)). s ++ (64 ∷ decimal 0) ∷ i) (sym (free_written items bs h.0)) (sym (inputs_written items bs h.0)) in
-    ap₂ ◌++◌ initial_is (ap₂ ◌++◌ own (later_lines items 0 more h.1) ∙ regroup (64 ∷ decimal 0) free inputs later end)
+    let initial_is : piece named items 2 (bit_line initial) ≡ (35 ∷ decimal 0) ∷ carried = ap (initial_piece named items) (bits_of_digits initial) ∙ ap₂ ◌∷◌ (sym hash) (sym (carried_written items (names named 0) initial few)) in
+    let own : piece named items 3 (bit_line bs) ≡ free ++ (64 ∷ decimal 0) ∷ inputs = frame_is named items 0 bs ∙ ap₂ (λ (s i : List (List ℕ)). s ++ (64 ∷ decimal 0) ∷ i) (sym (free_written items (names named 0) bs h.0)) (sym (inputs_written items (names named 0) bs h.0)) in
+    ap₂ ◌++◌ initial_is (ap₂ ◌++◌ own (later_lines named items 0 more h.1) ∙ regroup (64 ∷ decimal 0) free inputs later end)
     ∙ regroup_first (35 ∷ decimal 0) carried free ((64 ∷ decimal 0) ∷ (inputs ++ later)) end
-    ∙ ap (λ (l : List (List ℕ)). (((35 ∷ decimal 0) ∷ l) ++ (64 ∷ decimal 0) ∷ (inputs ++ later)) ++ end) (sym (map-append (assignment_line shape.states) (assigned_carried items initial) (assigned_free items (drop (input_width items) bs))))
+    ∙ ap (λ (l : List (List ℕ)). (((35 ∷ decimal 0) ∷ l) ++ (64 ∷ decimal 0) ∷ (inputs ++ later)) ++ end) (sym (map-append (assignment_line shape.states) (assigned_carried items (names named 0) initial) (assigned_free items (names named 0) (drop (input_width items) bs))))
 
-pub lines_are_witness : (items : List Item) (w : BitWitness) → w.frames ≢ [] → length w.initial ≡ carried_width items → AreWide items w.frames
-    → lifted_lines items 0 (bit_witness_lines w) ≡ witness_lines (shape_of items) [] (lifted_witness items w)
-lines_are_witness items w some few given = by w.frames some given
+pub lines_are_witness : (named : Bool) (items : List Item) (w : BitWitness) → w.frames ≢ [] → length w.initial ≡ carried_width items → AreWide items w.frames
+    → lifted_lines named items 0 (bit_witness_lines w) ≡ witness_lines (shape_of items) [] (lifted_witness named items w)
+lines_are_witness named items w some few given = by w.frames some given
   where
     by : (frames : List (List Bool)) → frames ≢ [] → AreWide items frames
-        → codes "sat" ∷ (claim w.claim ∷ lifted_lines items 2 (bit_line w.initial ∷ (map bit_line frames ++ codes "." ∷ []))) ≡ codes "sat" ∷ (claim w.claim ∷ (frame_lines (shape_of items) 0 (lifted_frames items w.initial frames) ++ codes "." ∷ []))
+        → codes "sat" ∷ (claim w.claim ∷ lifted_lines named items 2 (bit_line w.initial ∷ (map bit_line frames ++ codes "." ∷ []))) ≡ codes "sat" ∷ (claim w.claim ∷ (frame_lines (shape_of items) 0 (lifted_frames named items w.initial frames) ++ codes "." ∷ []))
     by [] some given = absurd (some refl)
-    by (bs ∷ more) some given = ap (λ (l : List (List ℕ)). codes "sat" ∷ (claim w.claim ∷ l)) (first_lines items w.initial bs more few given)
+    by (bs ∷ more) some given = ap (λ (l : List (List ℕ)). codes "sat" ∷ (claim w.claim ∷ l)) (first_lines named items w.initial bs more few given)
 
 -- ---- it is a witness over the model
 
-inputs_part : (items : List Item) (bs : List Bool) → length bs ≡ given_width items → IsPart (shape_of items).inputs (assigned_inputs items bs)
-inputs_part items bs h =
+inputs_part : (named : Bool) (k : ℕ) (items : List Item) (bs : List Bool) → length bs ≡ given_width items → IsPart (shape_of items).inputs (assigned_inputs items (names named k) bs)
+inputs_part named k items bs h =
     record {
-      each = All-from_recursion (IsAssignment (shape_of items).inputs) (assigned_inputs items bs) (assigned_fit items any_leaf (shape_of items).inputs [] 0 (leaves_of is_input items) bs (refl, refl) (inputs_enough items bs h));
-      distinct = assigned_distinct items any_leaf 0 (leaves_of is_input items) bs;
+      each = All-from_recursion (IsAssignment (shape_of items).inputs) (assigned_inputs items (names named k) bs) (assigned_fit items any_leaf (names named k) (shape_of items).inputs [] 0 (leaves_of is_input items) bs (refl, refl) (inputs_enough items bs h) (are_names named k));
+      distinct = assigned_distinct items any_leaf (names named k) 0 (leaves_of is_input items) bs;
     }
 
-free_each : (items : List Item) (bs : List Bool) → length bs ≡ given_width items → All (IsAssignment (shape_of items).states) (assigned_free items (drop (input_width items) bs))
-free_each items bs h =
-    All-from_recursion (IsAssignment (shape_of items).states) (assigned_free items (drop (input_width items) bs))
-    (assigned_fit items (takes_free items) (shape_of items).states [] 0 (leaves_of is_state items) (drop (input_width items) bs) (refl, refl) (free_enough items bs h))
+free_each : (named : Bool) (k : ℕ) (items : List Item) (bs : List Bool) → length bs ≡ given_width items → All (IsAssignment (shape_of items).states) (assigned_free items (names named k) (drop (input_width items) bs))
+free_each named k items bs h =
+    All-from_recursion (IsAssignment (shape_of items).states) (assigned_free items (names named k) (drop (input_width items) bs))
+    (assigned_fit items (takes_free items) (names named k) (shape_of items).states [] 0 (leaves_of is_state items) (drop (input_width items) bs) (refl, refl) (free_enough items bs h) (are_names named k))
 
-free_part : (items : List Item) (bs : List Bool) → length bs ≡ given_width items → IsPart (shape_of items).states (assigned_free items (drop (input_width items) bs))
-free_part items bs h = record { each = free_each items bs h; distinct = assigned_distinct items (takes_free items) 0 (leaves_of is_state items) (drop (input_width items) bs) }
+free_part : (named : Bool) (k : ℕ) (items : List Item) (bs : List Bool) → length bs ≡ given_width items → IsPart (shape_of items).states (assigned_free items (names named k) (drop (input_width items) bs))
+free_part named k items bs h = record { each = free_each named k items bs h; distinct = assigned_distinct items (takes_free items) (names named k) 0 (leaves_of is_state items) (drop (input_width items) bs) }
 
 -- no state is free and carried
-apart : (items : List Item) (initial bs : List Bool) (i : ℕ) → list_any (λ y. y == i) (indices (assigned_carried items initial)) ≡ true → list_any (λ y. y == i) (indices (assigned_free items bs)) ≡ false
-apart items initial bs i h =
-    let carried : is_free_index (shape_of items) i ≡ false = flag_of_index (shape_of items).free false (assigned_carried items initial) i (carried_flags items initial) h in
-    false_from_ne_true (list_any (λ y. y == i) (indices (assigned_free items bs)))
-    (λ e. let free : is_free_index (shape_of items) i ≡ true = flag_of_index (shape_of items).free true (assigned_free items bs) i (free_flags items bs) e in
+apart : (items : List Item) (name : Item → Option (List ℕ)) (initial bs : List Bool) (i : ℕ) → list_any (λ y. y == i) (indices (assigned_carried items name initial)) ≡ true → list_any (λ y. y == i) (indices (assigned_free items name bs)) ≡ false
+apart items name initial bs i h =
+    let carried : is_free_index (shape_of items) i ≡ false = flag_of_index (shape_of items).free false (assigned_carried items name initial) i (carried_flags items name initial) h in
+    false_from_ne_true (list_any (λ y. y == i) (indices (assigned_free items name bs)))
+    (λ e. let free : is_free_index (shape_of items) i ≡ true = flag_of_index (shape_of items).free true (assigned_free items name bs) i (free_flags items name bs) e in
     absurd (true≢false (sym free ∙ carried)))
 
-first_states : (items : List Item) (initial bs : List Bool) → length initial ≡ carried_width items → length bs ≡ given_width items → IsPart (shape_of items).states (assigned_carried items initial ++ assigned_free items (drop (input_width items) bs))
-first_states items initial bs few h =
+first_states : (named : Bool) (items : List Item) (initial bs : List Bool) → length initial ≡ carried_width items → length bs ≡ given_width items → IsPart (shape_of items).states (assigned_carried items (names named 0) initial ++ assigned_free items (names named 0) (drop (input_width items) bs))
+first_states named items initial bs few h =
     let behind : List Bool = drop (input_width items) bs in
-    let carried = All-from_recursion (IsAssignment (shape_of items).states) (assigned_carried items initial) (assigned_fit items (takes_carried items) (shape_of items).states [] 0 (leaves_of is_state items) initial (refl, refl) (carried_enough items initial few)) in
+    let carried = All-from_recursion (IsAssignment (shape_of items).states) (assigned_carried items (names named 0) initial) (assigned_fit items (takes_carried items) (names named 0) (shape_of items).states [] 0 (leaves_of is_state items) initial (refl, refl) (carried_enough items initial few) (are_names named 0)) in
     record {
-      each = All-append (IsAssignment (shape_of items).states) (assigned_carried items initial) (assigned_free items behind) carried (free_each items bs h);
+      each = All-append (IsAssignment (shape_of items).states) (assigned_carried items (names named 0) initial) (assigned_free items (names named 0) behind) carried (free_each named 0 items bs h);
       distinct =
-          ap are_distinct (map-append (λ (a : Assignment). a.index) (assigned_carried items initial) (assigned_free items behind))
-          ∙ both_distinct (indices (assigned_carried items initial)) (indices (assigned_free items behind)) (assigned_distinct items (takes_carried items) 0 (leaves_of is_state items) initial) (assigned_distinct items (takes_free items) 0 (leaves_of is_state items) behind) (apart items initial behind);
+          ap are_distinct (map-append (λ (a : Assignment). a.index) (assigned_carried items (names named 0) initial) (assigned_free items (names named 0) behind))
+          ∙ both_distinct (indices (assigned_carried items (names named 0) initial)) (indices (assigned_free items (names named 0) behind)) (assigned_distinct items (takes_carried items) (names named 0) 0 (leaves_of is_state items) initial) (assigned_distinct items (takes_free items) (names named 0) 0 (leaves_of is_state items) behind) (apart items (names named 0) initial behind);
     }
 
-later_is : (items : List Item) (bs : List Bool) → length bs ≡ given_width items → IsLater (shape_of items) (later_parts items bs)
-later_is items bs h = record { states = by (has_free (shape_of items)) refl; inputs = inputs_part items bs h }
+later_is : (named : Bool) (k : ℕ) (items : List Item) (bs : List Bool) → length bs ≡ given_width items → IsLater (shape_of items) (later_parts named items k bs)
+later_is named k items bs h = record { states = by (has_free (shape_of items)) refl; inputs = inputs_part named k items bs h }
   where
-    by : (b : Bool) → has_free (shape_of items) ≡ b → IfSome (if b then Some (assigned_free items (drop (input_width items) bs)) else None) (IsFreePart (shape_of items))
-    by true some = record { some = some; part = free_part items bs h; free = All-from_recursion (λ (a : Assignment). is_free_index (shape_of items) a.index ≡ true) (assigned_free items (drop (input_width items) bs)) (free_flags items (drop (input_width items) bs)) }
+    by : (b : Bool) → has_free (shape_of items) ≡ b → IfSome (if b then Some (assigned_free items (names named k) (drop (input_width items) bs)) else None) (IsFreePart (shape_of items))
+    by true some = record { some = some; part = free_part named k items bs h; free = All-from_recursion (λ (a : Assignment). is_free_index (shape_of items) a.index ≡ true) (assigned_free items (names named k) (drop (input_width items) bs)) (free_flags items (names named k) (drop (input_width items) bs)) }
     by false none = tt
 
-all_later : (items : List Item) (frames : List (List Bool)) → AreWide items frames → All (IsLater (shape_of items)) (map (later_parts items) frames)
-all_later items [] h = All-nil (IsLater (shape_of items))
-all_later items (bs ∷ more) h = All-cons (IsLater (shape_of items)) (later_parts items bs) (map (later_parts items) more) (later_is items bs h.0) (all_later items more h.1)
+all_later : (named : Bool) (k : ℕ) (items : List Item) (frames : List (List Bool)) → AreWide items frames → All (IsLater (shape_of items)) (later_frames named items k frames)
+all_later named k items [] h = All-nil (IsLater (shape_of items))
+all_later named k items (bs ∷ more) h = All-cons (IsLater (shape_of items)) (later_parts named items k bs) (later_frames named items (suc k) more) (later_is named k items bs h.0) (all_later named (suc k) items more h.1)
 
-pub lifted_is_witness : (items : List Item) (w : BitWitness) → w.claim < (shape_of items).bads → w.frames ≢ [] → length w.initial ≡ carried_width items → AreWide items w.frames → IsWitness (shape_of items) (lifted_witness items w)
-lifted_is_witness items w below some few given =
+pub lifted_is_witness : (named : Bool) (items : List Item) (w : BitWitness) → w.claim < (shape_of items).bads → w.frames ≢ [] → length w.initial ≡ carried_width items → AreWide items w.frames → IsWitness (shape_of items) (lifted_witness named items w)
+lifted_is_witness named items w below some few given =
     record {
       some_claim = λ e. absurd (cc);
       claims = All-cons (λ (i : ℕ). i < (shape_of items).bads) w.claim [] below (All-nil (λ (i : ℕ). i < (shape_of items).bads));
@@ -179,6 +179,6 @@ lifted_is_witness items w below some few given =
       frames = by w.frames some given;
     }
   where
-    by : (frames : List (List Bool)) → frames ≢ [] → AreWide items frames → AreFrames (shape_of items) (lifted_frames items w.initial frames)
+    by : (frames : List (List Bool)) → frames ≢ [] → AreWide items frames → AreFrames (shape_of items) (lifted_frames named items w.initial frames)
     by [] some given = absurd (some refl)
-    by (bs ∷ more) some given = (record { states = first_states items w.initial bs few given.0; inputs = inputs_part items bs given.0 }, all_later items more given.1)
+    by (bs ∷ more) some given = (record { states = first_states named items w.initial bs few given.0; inputs = inputs_part named 0 items bs given.0 }, all_later named 1 items more given.1)

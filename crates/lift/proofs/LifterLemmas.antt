@@ -15,9 +15,9 @@ use Rattle.witness.specs.Readings.{lines_read, reading}
 use Rattle.witness.specs.BitAdmits.{admitted_lines, bit_reader}
 use Rattle.witness.specs.BitStands.{StandsFor}
 use Rattle.witness.proofs.TextEndLemmas.{whole_lines-end, unfinished-line_end}
-use Rattle.lift.specs.Lifted.{piece, lifted_text}
+use Rattle.lift.specs.Lifted.{piece, lifted_with}
 use Rattle.lift.specs.Kept.{Keeps, kept_piece}
-use Rattle.lift.specs.Stands.{Lifter, Lifts, admitted_piece}
+use Rattle.lift.specs.Stands.{Lifter, LiftsWith, admitted_piece}
 use Rattle.lift.proofs.LineLemmas.{lifted_of, line_more, lines_behind_text, lifted_by_lines, lifted_begins}
 use Rattle.lift.proofs.AdmitLemmas.{is_admitted, kept_is_piece}
 
@@ -36,16 +36,17 @@ same_lines : (text bytes : List ℕ) → IsLine bytes → whole_lines (text ++ b
 same_lines text bytes is =
     lines_behind_text text bytes ∙ ap (λ (ls : List (List ℕ)). whole_lines text ++ ls) (whole_lines-last (unfinished text ++ bytes) (still_a_line text bytes is)) ∙ append-nil (whole_lines text)
 
-pub same_lifted : (items : List Item) (c : Circuit) (text bytes : List ℕ) → IsLine bytes → lifted_text items c (text ++ bytes) ≡ lifted_text items c text
-same_lifted items c text bytes is =
-    lifted_by_lines items c (text ++ bytes) ∙ ap (λ (ls : List (List ℕ)). text_of_lines (lifted_of items c ls)) (same_lines text bytes is) ∙ sym (lifted_by_lines items c text)
+pub same_lifted : (named : Bool) (items : List Item) (c : Circuit) (text bytes : List ℕ) → IsLine bytes → lifted_with named items c (text ++ bytes) ≡ lifted_with named items c text
+same_lifted named items c text bytes is =
+    lifted_by_lines named items c (text ++ bytes) ∙ ap (λ (ls : List (List ℕ)). text_of_lines (lifted_of named items c ls)) (same_lines text bytes is) ∙ sym (lifted_by_lines named items c text)
 
-pub lifts_bytes : (items : List Item) (c : Circuit) (text bytes : List ℕ) (before after : Lifter) → IsLine bytes → Lifts items c before text → after.items ≡ before.items
-    → StandsFor c after.judge (text ++ bytes) → ((line : List ℕ) → Keeps before.kept line → Keeps after.kept (line ++ bytes)) → length after.kept.bits ≡ length before.kept.bits → Lifts items c after (text ++ bytes)
-lifts_bytes items c text bytes before after is h same stands keeps room =
+pub lifts_bytes : (named : Bool) (items : List Item) (c : Circuit) (text bytes : List ℕ) (before after : Lifter) → IsLine bytes → LiftsWith named items c before text → after.items ≡ before.items → after.named ≡ before.named
+    → StandsFor c after.judge (text ++ bytes) → ((line : List ℕ) → Keeps before.kept line → Keeps after.kept (line ++ bytes)) → length after.kept.bits ≡ length before.kept.bits → LiftsWith named items c after (text ++ bytes)
+lifts_bytes named items c text bytes before after is h same same_names stands keeps room =
     record {
       circuit = h.circuit;
       model = same ∙ h.model;
+      naming = same_names ∙ h.naming;
       judge = stands;
       kept = subst (Keeps after.kept) (sym (rest_longer text bytes is)) (keeps (unfinished text) h.kept);
       latches = omega (arith, h.latches, room);
@@ -64,93 +65,96 @@ admitted_by_lines c text = refl
 same_admitted : (c : Circuit) (text bytes : List ℕ) → IsLine bytes → admitted_lines c text ≡ admitted_lines c (text ++ bytes)
 same_admitted c text bytes is = admitted_by_lines c text ∙ ap (λ (ls : List (List ℕ)). (lines_read (bit_reader c) ls).admitted) (sym (same_lines text bytes is)) ∙ sym (admitted_by_lines c (text ++ bytes))
 
-lifted_end_by_lines : (items : List Item) (c : Circuit) (text : List ℕ) → lifted_text items c (text ++ 10 ∷ []) ≡ text_of_lines (lifted_of items c (whole_lines text ++ unfinished text ∷ []))
-lifted_end_by_lines items c text = lifted_by_lines items c (text ++ 10 ∷ []) ∙ ap (λ (ls : List (List ℕ)). text_of_lines (lifted_of items c ls)) (whole_lines-end text)
+lifted_end_by_lines : (named : Bool) (items : List Item) (c : Circuit) (text : List ℕ) → lifted_with named items c (text ++ 10 ∷ []) ≡ text_of_lines (lifted_of named items c (whole_lines text ++ unfinished text ∷ []))
+lifted_end_by_lines named items c text = lifted_by_lines named items c (text ++ 10 ∷ []) ∙ ap (λ (ls : List (List ℕ)). text_of_lines (lifted_of named items c ls)) (whole_lines-end text)
 
 admitted_end : (c : Circuit) (text : List ℕ) → admitted_lines c (text ++ 10 ∷ []) ≡ (lines_read (bit_reader c) (whole_lines text ++ unfinished text ∷ [])).admitted
 admitted_end c text = admitted_by_lines c (text ++ 10 ∷ []) ∙ ap (λ (ls : List (List ℕ)). (lines_read (bit_reader c) ls).admitted) (whole_lines-end text)
 
 -- what is kept is of this line, over the model and the circuit
-record Holds (items : List Item) (c : Circuit) (l : Lifter) (line : List ℕ) : Type 0 where
+record Holds (named : Bool) (items : List Item) (c : Circuit) (l : Lifter) (line : List ℕ) : Type 0 where
   circuit : IsCircuit c
   model : l.items ≡ items
+  naming : l.named ≡ named
   kept : Keeps l.kept line
   latches : length c.latches ≤ length l.kept.bits
   inputs : c.inputs ≤ length l.kept.bits
 
 -- the piece that is put is what is lifted of the line
-lifted_end : (items : List Item) (c : Circuit) (text : List ℕ) (l : Lifter) → Holds items c l (unfinished text)
-    → lifted_text items c (text ++ 10 ∷ []) ≡ lifted_text items c text ++ text_of_lines (admitted_piece (not (admitted_lines c (text ++ 10 ∷ []) == admitted_lines c text)) l (admitted_lines c text))
-lifted_end items c text l h =
+lifted_end : (named : Bool) (items : List Item) (c : Circuit) (text : List ℕ) (l : Lifter) → Holds named items c l (unfinished text)
+    → lifted_with named items c (text ++ 10 ∷ []) ≡ lifted_with named items c text ++ text_of_lines (admitted_piece (not (admitted_lines c (text ++ 10 ∷ []) == admitted_lines c text)) l (admitted_lines c text))
+lifted_end named items c text l h =
     let old : ℕ = admitted_lines c text in
     let new : ℕ = admitted_lines c (text ++ 10 ∷ []) in
-    elim (line_more items c (whole_lines text) (unfinished text)) [
+    elim (line_more named items c (whole_lines text) (unfinished text)) [
       | inl p ↦
           let same : (new == old) ≡ true = eq-eqb new old (admitted_end c text ∙ p.count ∙ sym (admitted_by_lines c text)) in
-          lifted_end_by_lines items c text ∙ ap text_of_lines p.lifted ∙ sym (lifted_by_lines items c text)
-          ∙ sym (append-nil (lifted_text items c text)) ∙ ap (λ (b : Bool). lifted_text items c text ++ text_of_lines (admitted_piece (not b) l old)) (sym same)
+          lifted_end_by_lines named items c text ∙ ap text_of_lines p.lifted ∙ sym (lifted_by_lines named items c text)
+          ∙ sym (append-nil (lifted_with named items c text)) ∙ ap (λ (b : Bool). lifted_with named items c text ++ text_of_lines (admitted_piece (not b) l old)) (sym same)
       | inr a ↦
           let number : old ≡ length (whole_lines text) = admitted_by_lines c text ∙ a.before in
           let count : new ≡ length (whole_lines text) + 1 = admitted_end c text ∙ a.count in
           let other : (new == old) ≡ false = ne_eqb new old (λ e. omega (arith, number, count, e)) in
-          let is : kept_piece items (length (whole_lines text)) l.kept ≡ piece items (length (whole_lines text)) (unfinished text) =
-          kept_is_piece items c (length (whole_lines text)) (unfinished text) l.kept (few_bads c h.circuit) (is_admitted c (whole_lines text) a.next (unfinished text) (few_bads c h.circuit) a.going a.reads) h.kept h.latches h.inputs in
-          let put : admitted_piece (not (new == old)) l old ≡ piece items (length (whole_lines text)) (unfinished text) =
-          ap (λ (b : Bool). admitted_piece (not b) l old) other ∙ ap₂ (λ (xs : List Item) (n : ℕ). kept_piece xs n l.kept) h.model number ∙ is in
-          lifted_end_by_lines items c text ∙ ap text_of_lines a.lifted
-          ∙ flat_map-append (λ line. line ++ 10 ∷ []) (lifted_of items c (whole_lines text)) (piece items (length (whole_lines text)) (unfinished text))
-          ∙ ap₂ (λ (x y : List ℕ). x ++ y) (sym (lifted_by_lines items c text)) (ap text_of_lines (sym put))
+          let is : kept_piece named items (length (whole_lines text)) l.kept ≡ piece named items (length (whole_lines text)) (unfinished text) =
+          kept_is_piece named items c (length (whole_lines text)) (unfinished text) l.kept (few_bads c h.circuit) (is_admitted c (whole_lines text) a.next (unfinished text) (few_bads c h.circuit) a.going a.reads) h.kept h.latches h.inputs in
+          let put : admitted_piece (not (new == old)) l old ≡ piece named items (length (whole_lines text)) (unfinished text) =
+          ap (λ (b : Bool). admitted_piece (not b) l old) other ∙ ap (λ (b : Bool). kept_piece b l.items old l.kept) h.naming ∙ ap₂ (λ (xs : List Item) (n : ℕ). kept_piece named xs n l.kept) h.model number ∙ is in
+          lifted_end_by_lines named items c text ∙ ap text_of_lines a.lifted
+          ∙ flat_map-append (λ line. line ++ 10 ∷ []) (lifted_of named items c (whole_lines text)) (piece named items (length (whole_lines text)) (unfinished text))
+          ∙ ap₂ (λ (x y : List ℕ). x ++ y) (sym (lifted_by_lines named items c text)) (ap text_of_lines (sym put))
     ]
 
-put_takes : {T E : Type 0} (r : Result T E) (items : List Item) (c : Circuit) (after : Lifter) (text whole more : List ℕ) (start old new : Option (List ℕ)) (kept left : List ℕ)
-    → Sent start old (lifted_text items c text) kept → lifted_text items c text ++ more ≡ lifted_text items c whole → Puts r old new kept left more → Lifts items c after whole
-    → MatchResult r (λ x. Lifts items c after whole × Sent start new (lifted_text items c whole) left) (λ e. AppendsBeginning start new (lifted_text items c whole))
-put_takes (Ok x) items c after text whole more start old new kept left sent same put lifts =
-    (lifts, subst (λ (t : List ℕ). Sent start new t left) same (sent_on start old new (lifted_text items c text) kept more left sent put))
-put_takes (Err x) items c after text whole more start old new kept left sent same put lifts =
-    subst (AppendsBeginning start new) same (sent_then_beginning start old new (lifted_text items c text) kept more sent put)
+put_takes : {T E : Type 0} (r : Result T E) (named : Bool) (items : List Item) (c : Circuit) (after : Lifter) (text whole more : List ℕ) (start old new : Option (List ℕ)) (kept left : List ℕ)
+    → Sent start old (lifted_with named items c text) kept → lifted_with named items c text ++ more ≡ lifted_with named items c whole → Puts r old new kept left more → LiftsWith named items c after whole
+    → MatchResult r (λ x. LiftsWith named items c after whole × Sent start new (lifted_with named items c whole) left) (λ e. AppendsBeginning start new (lifted_with named items c whole))
+put_takes (Ok x) named items c after text whole more start old new kept left sent same put lifts =
+    (lifts, subst (λ (t : List ℕ). Sent start new t left) same (sent_on start old new (lifted_with named items c text) kept more left sent put))
+put_takes (Err x) named items c after text whole more start old new kept left sent same put lifts =
+    subst (AppendsBeginning start new) same (sent_then_beginning start old new (lifted_with named items c text) kept more sent put)
 
-module _ {T E : Type 0} (r : Result T E) (items : List Item) (c : Circuit) (text line : List ℕ) (start old new : Option (List ℕ)) (kept left : List ℕ) (before mid after : Lifter) (number now : ℕ) where
+module _ {T E : Type 0} (r : Result T E) (named : Bool) (items : List Item) (c : Circuit) (text line : List ℕ) (start old new : Option (List ℕ)) (kept left : List ℕ) (before mid after : Lifter) (number now : ℕ) where
   abbrev whole : List ℕ
   whole = text ++ (line ++ 10 ∷ [])
 
   abbrev put : List ℕ
   put = text_of_lines (admitted_piece (not (now == number)) mid number)
 
-  held_line : IsLine line → Lifts items c before text → mid.items ≡ before.items → Keeps mid.kept (unfinished text ++ line) → length mid.kept.bits ≡ length before.kept.bits → Holds items c mid (unfinished (text ++ line))
-  held_line is h same keeps room =
+  held_line : IsLine line → LiftsWith named items c before text → mid.items ≡ before.items → mid.named ≡ before.named → Keeps mid.kept (unfinished text ++ line) → length mid.kept.bits ≡ length before.kept.bits → Holds named items c mid (unfinished (text ++ line))
+  held_line is h same same_names keeps room =
       record {
         circuit = h.circuit;
         model = same ∙ h.model;
+        naming = same_names ∙ h.naming;
         kept = subst (Keeps mid.kept) (sym (rest_longer text line is)) keeps;
         latches = omega (arith, h.latches, room);
         inputs = omega (arith, h.inputs, room);
       }
 
   -- the piece is what the line adds to the lifted text
-  adds_piece : IsLine line → Holds items c mid (unfinished (text ++ line)) → number ≡ admitted_lines c text → now ≡ admitted_lines c whole → lifted_text items c text ++ put ≡ lifted_text items c whole
+  adds_piece : IsLine line → Holds named items c mid (unfinished (text ++ line)) → number ≡ admitted_lines c text → now ≡ admitted_lines c whole → lifted_with named items c text ++ put ≡ lifted_with named items c whole
   adds_piece is h n m =
       let joined : (text ++ line) ++ 10 ∷ [] ≡ whole = append_assoc text line (10 ∷ []) in
       let before_end : number ≡ admitted_lines c (text ++ line) = n ∙ same_admitted c text line is in
       let behind_end : now ≡ admitted_lines c ((text ++ line) ++ 10 ∷ []) = m ∙ ap (admitted_lines c) (sym joined) in
-      ap (λ (l : List ℕ). l ++ put) (sym (same_lifted items c text line is))
-      ∙ (ap₂ (λ (a b : ℕ). lifted_text items c (text ++ line) ++ text_of_lines (admitted_piece (not (a == b)) mid b)) behind_end before_end
-      ∙ (sym (lifted_end items c (text ++ line) mid h) ∙ ap (lifted_text items c) joined))
+      ap (λ (l : List ℕ). l ++ put) (sym (same_lifted named items c text line is))
+      ∙ (ap₂ (λ (a b : ℕ). lifted_with named items c (text ++ line) ++ text_of_lines (admitted_piece (not (a == b)) mid b)) behind_end before_end
+      ∙ (sym (lifted_end named items c (text ++ line) mid h) ∙ ap (lifted_with named items c) joined))
 
   -- a line with its end
-  pub line_takes : IsLine line → Lifts items c before text → Sent start old (lifted_text items c text) kept → mid.items ≡ before.items → Keeps mid.kept (unfinished text ++ line) → length mid.kept.bits ≡ length before.kept.bits
-      → number ≡ admitted_lines c text → now ≡ admitted_lines c whole → Puts r old new kept left put → after.items ≡ before.items → StandsFor c after.judge whole → Keeps after.kept [] → length after.kept.bits ≡ length mid.kept.bits
-      → MatchResult r (λ x. Lifts items c after whole × Sent start new (lifted_text items c whole) left) (λ e. AppendsBeginning start new (lifted_text items c whole))
-  line_takes is h sent same keeps room n m puts items_same stands nothing after_room =
-      let lifts : Lifts items c after whole = record {
+  pub line_takes : IsLine line → LiftsWith named items c before text → Sent start old (lifted_with named items c text) kept → mid.items ≡ before.items → mid.named ≡ before.named → Keeps mid.kept (unfinished text ++ line) → length mid.kept.bits ≡ length before.kept.bits
+      → number ≡ admitted_lines c text → now ≡ admitted_lines c whole → Puts r old new kept left put → after.items ≡ before.items → after.named ≡ before.named → StandsFor c after.judge whole → Keeps after.kept [] → length after.kept.bits ≡ length mid.kept.bits
+      → MatchResult r (λ x. LiftsWith named items c after whole × Sent start new (lifted_with named items c whole) left) (λ e. AppendsBeginning start new (lifted_with named items c whole))
+  line_takes is h sent same same_names keeps room n m puts items_same names_same stands nothing after_room =
+      let lifts : LiftsWith named items c after whole = record {
         circuit = h.circuit;
         model = items_same ∙ h.model;
+        naming = names_same ∙ h.naming;
         judge = stands;
         kept = subst (Keeps after.kept) (sym (unfinished-line_end text line)) nothing;
         latches = omega (arith, h.latches, room, after_room);
         inputs = omega (arith, h.inputs, room, after_room);
       } in
-      put_takes r items c after text whole put start old new kept left sent (adds_piece is (held_line is h same keeps room) n m) puts lifts
+      put_takes r named items c after text whole put start old new kept left sent (adds_piece is (held_line is h same same_names keeps room) n m) puts lifts
 
 -- ---- a piece of the witness
 
@@ -167,54 +171,54 @@ line_fits rest line behind cut = omega (arith, ap length cut, length-append line
 pub record Took (old now : Option (List ℕ)) (kept left : List ℕ) (before after : Lifter) (bytes rest : List ℕ) : Type 0 where
   pub done : List ℕ
   pub all : done ++ rest ≡ bytes
-  pub takes : (items : List Item) (c : Circuit) (text : List ℕ) (start : Option (List ℕ)) → Lifts items c before text → Sent start old (lifted_text items c text) kept
-      → Lifts items c after (text ++ done) × Sent start now (lifted_text items c (text ++ done)) left
+  pub takes : (named : Bool) (items : List Item) (c : Circuit) (text : List ℕ) (start : Option (List ℕ)) → LiftsWith named items c before text → Sent start old (lifted_with named items c text) kept
+      → LiftsWith named items c after (text ++ done) × Sent start now (lifted_with named items c (text ++ done)) left
 
 pub took_none : (old : Option (List ℕ)) (kept : List ℕ) (l : Lifter) (bytes : List ℕ) → Took old old kept kept l l bytes bytes
 took_none old kept l bytes = record {
   done = [];
   all = refl;
-  takes = λ items c text start h s. subst (λ (t : List ℕ). Lifts items c l t × Sent start old (lifted_text items c t) kept) (sym (append-nil text)) (h, s);
+  takes = λ named items c text start h s. subst (λ (t : List ℕ). LiftsWith named items c l t × Sent start old (lifted_with named items c t) kept) (sym (append-nil text)) (h, s);
 }
 
 abbrev TakesBytes : Lifter → Lifter → List ℕ → Type 0
-TakesBytes before after bytes = (items : List Item) (c : Circuit) (text : List ℕ) → IsLine bytes → Lifts items c before text → Lifts items c after (text ++ bytes)
+TakesBytes before after bytes = (named : Bool) (items : List Item) (c : Circuit) (text : List ℕ) → IsLine bytes → LiftsWith named items c before text → LiftsWith named items c after (text ++ bytes)
 
-took_bytes : (items : List Item) (c : Circuit) (text : List ℕ) (start now : Option (List ℕ)) (left : List ℕ) (mid next : Lifter) (line : List ℕ) → IsLine line → TakesBytes mid next line
-    → Lifts items c mid text × Sent start now (lifted_text items c text) left → Lifts items c next (text ++ line) × Sent start now (lifted_text items c (text ++ line)) left
-took_bytes items c text start now left mid next line is takes h =
-    (takes items c text is h.0, subst (λ (t : List ℕ). Sent start now t left) (sym (same_lifted items c text line is)) h.1)
+took_bytes : (named : Bool) (items : List Item) (c : Circuit) (text : List ℕ) (start now : Option (List ℕ)) (left : List ℕ) (mid next : Lifter) (line : List ℕ) → IsLine line → TakesBytes mid next line
+    → LiftsWith named items c mid text × Sent start now (lifted_with named items c text) left → LiftsWith named items c next (text ++ line) × Sent start now (lifted_with named items c (text ++ line)) left
+took_bytes named items c text start now left mid next line is takes h =
+    (takes named items c text is h.0, subst (λ (t : List ℕ). Sent start now t left) (sym (same_lifted named items c text line is)) h.1)
 
 pub took_line : (old mid new : Option (List ℕ)) (kept mid_kept left : List ℕ) (before l1 after : Lifter) (bytes rest line behind : List ℕ)
     → Took old mid kept mid_kept before l1 bytes rest → rest ≡ line ++ 10 ∷ behind
-    → ((items : List Item) (c : Circuit) (text : List ℕ) (start : Option (List ℕ)) → Lifts items c l1 text → Sent start mid (lifted_text items c text) mid_kept
-    → Lifts items c after (text ++ (line ++ 10 ∷ [])) × Sent start new (lifted_text items c (text ++ (line ++ 10 ∷ []))) left)
+    → ((named : Bool) (items : List Item) (c : Circuit) (text : List ℕ) (start : Option (List ℕ)) → LiftsWith named items c l1 text → Sent start mid (lifted_with named items c text) mid_kept
+    → LiftsWith named items c after (text ++ (line ++ 10 ∷ [])) × Sent start new (lifted_with named items c (text ++ (line ++ 10 ∷ []))) left)
     → Took old new kept left before after bytes behind
 took_line old mid new kept mid_kept left before l1 after bytes rest line behind t cut takes = record {
   done = t.done ++ (line ++ 10 ∷ []);
   all = append_assoc t.done (line ++ 10 ∷ []) behind ∙ ap (λ (l : List ℕ). t.done ++ l) (append_assoc line (10 ∷ []) behind ∙ sym cut) ∙ t.all;
-  takes = λ items c text start h s.
-      let one = t.takes items c text start h s in
-      subst (λ (x : List ℕ). Lifts items c after x × Sent start new (lifted_text items c x) left) (append_assoc text t.done (line ++ 10 ∷ [])) (takes items c (text ++ t.done) start one.0 one.1);
+  takes = λ named items c text start h s.
+      let one = t.takes named items c text start h s in
+      subst (λ (x : List ℕ). LiftsWith named items c after x × Sent start new (lifted_with named items c x) left) (append_assoc text t.done (line ++ 10 ∷ [])) (takes named items c (text ++ t.done) start one.0 one.1);
 }
 
 pub line_fails : (old mid new : Option (List ℕ)) (kept mid_kept : List ℕ) (before l1 : Lifter) (bytes rest line behind : List ℕ)
     → Took old mid kept mid_kept before l1 bytes rest → rest ≡ line ++ 10 ∷ behind
-    → ((items : List Item) (c : Circuit) (text : List ℕ) (start : Option (List ℕ)) → Lifts items c l1 text → Sent start mid (lifted_text items c text) mid_kept → AppendsBeginning start new (lifted_text items c (text ++ (line ++ 10 ∷ []))))
-    → (items : List Item) (c : Circuit) (text : List ℕ) (start : Option (List ℕ)) → Lifts items c before text → Sent start old (lifted_text items c text) kept → AppendsBeginning start new (lifted_text items c (text ++ bytes))
-line_fails old mid new kept mid_kept before l1 bytes rest line behind t cut fails items c text start h s =
-    let one = t.takes items c text start h s in
+    → ((named : Bool) (items : List Item) (c : Circuit) (text : List ℕ) (start : Option (List ℕ)) → LiftsWith named items c l1 text → Sent start mid (lifted_with named items c text) mid_kept → AppendsBeginning start new (lifted_with named items c (text ++ (line ++ 10 ∷ []))))
+    → (named : Bool) (items : List Item) (c : Circuit) (text : List ℕ) (start : Option (List ℕ)) → LiftsWith named items c before text → Sent start old (lifted_with named items c text) kept → AppendsBeginning start new (lifted_with named items c (text ++ bytes))
+line_fails old mid new kept mid_kept before l1 bytes rest line behind t cut fails named items c text start h s =
+    let one = t.takes named items c text start h s in
     let front : List ℕ = text ++ (t.done ++ (line ++ 10 ∷ [])) in
-    let begun : AppendsBeginning start new (lifted_text items c front) = subst (λ (x : List ℕ). AppendsBeginning start new (lifted_text items c x)) (append_assoc text t.done (line ++ 10 ∷ [])) (fails items c (text ++ t.done) start one.0 one.1) in
+    let begun : AppendsBeginning start new (lifted_with named items c front) = subst (λ (x : List ℕ). AppendsBeginning start new (lifted_with named items c x)) (append_assoc text t.done (line ++ 10 ∷ [])) (fails named items c (text ++ t.done) start one.0 one.1) in
     let all : front ++ behind ≡ text ++ bytes =
     append_assoc text (t.done ++ (line ++ 10 ∷ [])) behind
     ∙ ap (λ (l : List ℕ). text ++ l) (append_assoc t.done (line ++ 10 ∷ []) behind ∙ ap (λ (l : List ℕ). t.done ++ l) (append_assoc line (10 ∷ []) behind ∙ sym cut) ∙ t.all) in
-    let more = lifted_begins items c front behind in
-    subst (AppendsBeginning start new) (more.1 ∙ ap (lifted_text items c) all) (beginning_longer start new (lifted_text items c front) more.0 begun)
+    let more = lifted_begins named items c front behind in
+    subst (AppendsBeginning start new) (more.1 ∙ ap (lifted_with named items c) all) (beginning_longer start new (lifted_with named items c front) more.0 begun)
 
 pub took_all : (old now : Option (List ℕ)) (kept left : List ℕ) (before l1 after : Lifter) (bytes rest : List ℕ)
     → Took old now kept left before l1 bytes rest → IsLine rest → TakesBytes l1 after rest
-    → (items : List Item) (c : Circuit) (text : List ℕ) (start : Option (List ℕ)) → Lifts items c before text → Sent start old (lifted_text items c text) kept → Lifts items c after (text ++ bytes) × Sent start now (lifted_text items c (text ++ bytes)) left
-took_all old now kept left before l1 after bytes rest t is takes items c text start h s =
-    let one = took_bytes items c (text ++ t.done) start now left l1 after rest is takes (t.takes items c text start h s) in
-    subst (λ (x : List ℕ). Lifts items c after x × Sent start now (lifted_text items c x) left) (append_assoc text t.done rest ∙ ap (λ (l : List ℕ). text ++ l) t.all) one
+    → (named : Bool) (items : List Item) (c : Circuit) (text : List ℕ) (start : Option (List ℕ)) → LiftsWith named items c before text → Sent start old (lifted_with named items c text) kept → LiftsWith named items c after (text ++ bytes) × Sent start now (lifted_with named items c (text ++ bytes)) left
+took_all old now kept left before l1 after bytes rest t is takes named items c text start h s =
+    let one = took_bytes named items c (text ++ t.done) start now left l1 after rest is takes (t.takes named items c text start h s) in
+    subst (λ (x : List ℕ). LiftsWith named items c after x × Sent start now (lifted_with named items c x) left) (append_assoc text t.done rest ∙ ap (λ (l : List ℕ). text ++ l) t.all) one

@@ -1,5 +1,5 @@
 -- The parts of pieces, as they are put.
-use Rattle.std.proofs.Common.{◌≡◌, ℕ, zero, suc, ◌+◌, ◌-◌, ◌<◌, ◌≤◌, ◌||◌, Bool, true, false, List, [], ◌∷◌, ◌++◌, length, map, reverse, take, drop, get_or, set, codes, decimal, refl, sym, ap, subst, ◌∙◌, append_assoc, append-nil, drop-cons, add-one, arith, ap₂}
+use Rattle.std.proofs.Common.{◌≡◌, ℕ, zero, suc, ◌+◌, ◌-◌, ◌<◌, ◌≤◌, ◌||◌, Bool, true, false, Option, Some, option_and_then, slice_get, List, [], ◌∷◌, ◌++◌, length, map, reverse, take, drop, get_or, set, codes, decimal, refl, sym, ap, subst, ◌∙◌, append_assoc, append-nil, drop-cons, add-one, arith, ap₂}
 use Rattle.std.specs.List.{list_any}
 use Rattle.std.specs.Fmt.{digits}
 use Rattle.std.proofs.Math.Seq.{take_all}
@@ -17,9 +17,9 @@ use Rattle.btor2.specs.declared.leaves.Leaves.TheVariants as leaves
 use Rattle.btor2.specs.Leaves.{list_of, is_leaf_at, leaf_width}
 use Rattle.btor2.specs.Check.{IsWellFormed}
 use Rattle.blast.specs.Cost.{input_width}
-use Rattle.witness.specs.Texts.{digit, shape_of, has_free}
+use Rattle.witness.specs.Texts.{digit, symbol_part, shape_of, has_free}
 use Rattle.witness.proofs.ShapeLemmas.{free_at_places}
-use Rattle.lift.specs.Lifted.{word_line, initial_piece, free_piece, frame_piece, input_lines}
+use Rattle.lift.specs.Lifted.{names, word_line, initial_piece, free_piece, frame_piece, input_lines}
 use Rattle.lift.specs.Kept.{KeptLine, kept_bits, kept_frame, kept_piece, taken_line, placed_lines, leaf_lines}
 use Rattle.lift.proofs.LeafLemmas.{inputs_placed, carried_placed, free_placed}
 
@@ -31,58 +31,59 @@ digits_left bits left b d lt at =
     ∙ ap (map digit) (reverse-append (take left bits) (b ∷ []))
 
 -- the leaves behind some others
-pub leaves_left : (l : Leaves) (items : List Item) (index p d : ℕ) (ps : List ℕ) (bits : List Bool) → index < length ps → p ≡ get_or ps index d
-    → placed_lines l items index (drop index ps) bits ≡ taken_line (is_leaf_at items l p) index (take (leaf_width items l p) bits) ++ placed_lines l items (index + 1) (drop (index + 1) ps) (drop (leaf_width items l p) bits)
-leaves_left l items index p d ps bits lt at =
-    subst (λ (x : ℕ). placed_lines l items index (drop index ps) bits ≡ taken_line (is_leaf_at items l x) index (take (leaf_width items l x) bits) ++ placed_lines l items (index + 1) (drop (index + 1) ps) (drop (leaf_width items l x) bits))
+pub leaves_left : (l : Leaves) (items : List Item) (name : Item → Option (List ℕ)) (index p d : ℕ) (ps : List ℕ) (bits : List Bool) → index < length ps → p ≡ get_or ps index d
+    → placed_lines l items name index (drop index ps) bits ≡ taken_line (is_leaf_at items l p) index (take (leaf_width items l p) bits) (option_and_then name (slice_get items p)) ++ placed_lines l items name (index + 1) (drop (index + 1) ps) (drop (leaf_width items l p) bits)
+leaves_left l items name index p d ps bits lt at =
+    subst (λ (x : ℕ). placed_lines l items name index (drop index ps) bits ≡ taken_line (is_leaf_at items l x) index (take (leaf_width items l x) bits) (option_and_then name (slice_get items x)) ++ placed_lines l items name (index + 1) (drop (index + 1) ps) (drop (leaf_width items l x) bits))
     (sym at) (rw (drop-cons ps index d lt, add-one index) refl)
 
 -- the pieces
-pub word_parts : (index : ℕ) (bits : List Bool) → word_line index bits ++ 10 ∷ [] ≡ decimal index ++ ((32 ∷ []) ++ (map digit (reverse bits) ++ 10 ∷ []))
-word_parts index bits = append_assoc (decimal index) (32 ∷ map digit (reverse bits)) (10 ∷ [])
+pub word_parts : (index : ℕ) (bits : List Bool) (name : Option (List ℕ)) → word_line index bits name ++ 10 ∷ [] ≡ decimal index ++ ((32 ∷ []) ++ (map digit (reverse bits) ++ (symbol_part name ++ 10 ∷ [])))
+word_parts index bits name =
+    append_assoc (decimal index ++ 32 ∷ map digit (reverse bits)) (symbol_part name) (10 ∷ []) ∙ append_assoc (decimal index) (32 ∷ map digit (reverse bits)) (symbol_part name ++ 10 ∷ [])
 
 pub hash : (35 ∷ decimal 0) ≡ codes "#0"
 unfolding digits
 hash = refl
 
-pub initial_parts : (items : List Item) (bits : List Bool) → IsWellFormed items → text_of_lines (initial_piece items bits) ≡ ((35 ∷ []) ++ (decimal 0 ++ 10 ∷ [])) ++ leaf_lines leaves.Carried items bits
-initial_parts items bits w = ap₂ (λ (h l : List ℕ). (h ++ 10 ∷ []) ++ l) (sym hash) (sym (carried_placed items bits w))
+pub initial_parts : (named : Bool) (items : List Item) (bits : List Bool) → IsWellFormed items → text_of_lines (initial_piece named items bits) ≡ ((35 ∷ []) ++ (decimal 0 ++ 10 ∷ [])) ++ leaf_lines leaves.Carried items (names named 0) bits
+initial_parts named items bits w = ap₂ (λ (h l : List ℕ). (h ++ 10 ∷ []) ++ l) (sym hash) (sym (carried_placed items (names named 0) bits w))
 
-pub first_free : (items : List Item) (frame : ℕ) (bits : List Bool) → IsWellFormed items → frame ≡ 0 → text_of_lines (free_piece items frame bits) ≡ leaf_lines leaves.Free items bits
-first_free items frame bits w e = ap (λ (k : ℕ). text_of_lines (free_piece items k bits)) e ∙ sym (free_placed items bits w)
+pub first_free : (named : Bool) (items : List Item) (frame : ℕ) (bits : List Bool) → IsWellFormed items → frame ≡ 0 → text_of_lines (free_piece named items frame bits) ≡ leaf_lines leaves.Free items (names named 0) bits
+first_free named items frame bits w e = ap (λ (k : ℕ). text_of_lines (free_piece named items k bits)) e ∙ sym (free_placed items (names named 0) bits w)
 
-pub later_free : (items : List Item) (frame : ℕ) (bits : List Bool) → IsWellFormed items → (frame ≡ 0 → ⊥) → has_free (shape_of items) ≡ true
-    → text_of_lines (free_piece items frame bits) ≡ ((35 ∷ []) ++ (decimal frame ++ 10 ∷ [])) ++ leaf_lines leaves.Free items bits
-later_free items zero bits w some free = absurd (some refl)
-later_free items (suc k) bits w some free = rw free (ap (λ (l : List ℕ). ((35 ∷ decimal (suc k)) ++ 10 ∷ []) ++ l) (sym (free_placed items bits w)))
+pub later_free : (named : Bool) (items : List Item) (frame : ℕ) (bits : List Bool) → IsWellFormed items → (frame ≡ 0 → ⊥) → has_free (shape_of items) ≡ true
+    → text_of_lines (free_piece named items frame bits) ≡ ((35 ∷ []) ++ (decimal frame ++ 10 ∷ [])) ++ leaf_lines leaves.Free items (names named frame) bits
+later_free named items zero bits w some free = absurd (some refl)
+later_free named items (suc k) bits w some free = rw free (ap (λ (l : List ℕ). ((35 ∷ decimal (suc k)) ++ 10 ∷ []) ++ l) (sym (free_placed items (names named (suc k)) bits w)))
 
-pub no_free : (items : List Item) (frame : ℕ) (bits : List Bool) → (frame ≡ 0 → ⊥) → has_free (shape_of items) ≡ false → text_of_lines (free_piece items frame bits) ≡ []
-no_free items zero bits some none = absurd (some refl)
-no_free items (suc k) bits some none = rw none refl
+pub no_free : (named : Bool) (items : List Item) (frame : ℕ) (bits : List Bool) → (frame ≡ 0 → ⊥) → has_free (shape_of items) ≡ false → text_of_lines (free_piece named items frame bits) ≡ []
+no_free named items zero bits some none = absurd (some refl)
+no_free named items (suc k) bits some none = rw none refl
 
-pub frame_parts : (items : List Item) (frame : ℕ) (bits : List Bool) → IsWellFormed items
-    → text_of_lines (frame_piece items frame bits) ≡ text_of_lines (free_piece items frame (drop (input_width items) bits)) ++ (((64 ∷ []) ++ (decimal frame ++ 10 ∷ [])) ++ leaf_lines leaves.Inputs items bits)
-frame_parts items frame bits w =
-    flat_map-append (λ line. line ++ 10 ∷ []) (free_piece items frame (drop (input_width items) bits)) ((64 ∷ decimal frame) ∷ input_lines items bits)
-    ∙ ap (λ (l : List ℕ). text_of_lines (free_piece items frame (drop (input_width items) bits)) ++ (((64 ∷ decimal frame) ++ 10 ∷ []) ++ l)) (sym (inputs_placed items bits w))
+pub frame_parts : (named : Bool) (items : List Item) (frame : ℕ) (bits : List Bool) → IsWellFormed items
+    → text_of_lines (frame_piece named items frame bits) ≡ text_of_lines (free_piece named items frame (drop (input_width items) bits)) ++ (((64 ∷ []) ++ (decimal frame ++ 10 ∷ [])) ++ leaf_lines leaves.Inputs items (names named frame) bits)
+frame_parts named items frame bits w =
+    flat_map-append (λ line. line ++ 10 ∷ []) (free_piece named items frame (drop (input_width items) bits)) ((64 ∷ decimal frame) ∷ input_lines items (names named frame) bits)
+    ∙ ap (λ (l : List ℕ). text_of_lines (free_piece named items frame (drop (input_width items) bits)) ++ (((64 ∷ decimal frame) ++ 10 ∷ []) ++ l)) (sym (inputs_placed items (names named frame) bits w))
 
 -- the piece by the number of the line
-pub piece_of_header : (items : List Item) (n : ℕ) (k : KeptLine) → n ≡ 0 → text_of_lines (kept_piece items n k) ≡ codes "sat\n"
-piece_of_header items n k e = ap (λ (m : ℕ). text_of_lines (kept_piece items m k)) e
+pub piece_of_header : (named : Bool) (items : List Item) (n : ℕ) (k : KeptLine) → n ≡ 0 → text_of_lines (kept_piece named items n k) ≡ codes "sat\n"
+piece_of_header named items n k e = ap (λ (m : ℕ). text_of_lines (kept_piece named items m k)) e
 
-pub piece_of_claim : (items : List Item) (n : ℕ) (k : KeptLine) → n ≡ 1 → text_of_lines (kept_piece items n k) ≡ (98 ∷ []) ++ (decimal k.number ++ 10 ∷ [])
-piece_of_claim items n k e = ap (λ (m : ℕ). text_of_lines (kept_piece items m k)) e ∙ append-nil ((98 ∷ decimal k.number) ++ 10 ∷ [])
+pub piece_of_claim : (named : Bool) (items : List Item) (n : ℕ) (k : KeptLine) → n ≡ 1 → text_of_lines (kept_piece named items n k) ≡ (98 ∷ []) ++ (decimal k.number ++ 10 ∷ [])
+piece_of_claim named items n k e = ap (λ (m : ℕ). text_of_lines (kept_piece named items m k)) e ∙ append-nil ((98 ∷ decimal k.number) ++ 10 ∷ [])
 
-pub piece_of_initial : (items : List Item) (n : ℕ) (k : KeptLine) → n ≡ 2 → text_of_lines (kept_piece items n k) ≡ text_of_lines (initial_piece items (kept_bits k))
-piece_of_initial items n k e = ap (λ (m : ℕ). text_of_lines (kept_piece items m k)) e
+pub piece_of_initial : (named : Bool) (items : List Item) (n : ℕ) (k : KeptLine) → n ≡ 2 → text_of_lines (kept_piece named items n k) ≡ text_of_lines (initial_piece named items (kept_bits k))
+piece_of_initial named items n k e = ap (λ (m : ℕ). text_of_lines (kept_piece named items m k)) e
 
-pub piece_of_frame : (items : List Item) (n : ℕ) (k : KeptLine) → (n ≡ 0 → ⊥) → (n ≡ 1 → ⊥) → (n ≡ 2 → ⊥) → text_of_lines (kept_piece items n k) ≡ text_of_lines (kept_frame items (n - 3) k)
-piece_of_frame items zero k a b d = absurd (a refl)
-piece_of_frame items (suc zero) k a b d = absurd (b refl)
-piece_of_frame items (suc (suc zero)) k a b d = absurd (d refl)
-piece_of_frame items (suc (suc (suc n))) k a b d =
+pub piece_of_frame : (named : Bool) (items : List Item) (n : ℕ) (k : KeptLine) → (n ≡ 0 → ⊥) → (n ≡ 1 → ⊥) → (n ≡ 2 → ⊥) → text_of_lines (kept_piece named items n k) ≡ text_of_lines (kept_frame named items (n - 3) k)
+piece_of_frame named items zero k a b d = absurd (a refl)
+piece_of_frame named items (suc zero) k a b d = absurd (b refl)
+piece_of_frame named items (suc (suc zero)) k a b d = absurd (d refl)
+piece_of_frame named items (suc (suc (suc n))) k a b d =
     let same : suc (suc (suc n)) - 3 ≡ n = omega arith in
-    ap (λ (m : ℕ). text_of_lines (kept_frame items m k)) (sym same)
+    ap (λ (m : ℕ). text_of_lines (kept_frame named items m k)) (sym same)
 
 -- the digits, in a loop
 pub digits_step : (bits : List Bool) (done : ℕ) (put : List ℕ) (d : Bool) → done < length bits → put ≡ digit (get_or bits (length bits - done - 1) d) ∷ []
@@ -113,15 +114,17 @@ all_written bits digits done all h =
     ap (λ (n : ℕ). take n digits) (sym all) ∙ (sym (append-nil (take done digits)) ∙ (ap (λ (l : List ℕ). take done digits ++ l) (sym rest) ∙ h))
 
 -- the leaves, in a loop
-pub leaves_step : (l : Leaves) (items : List Item) (index d w : ℕ) (t : Bool) (bits word behind : List Bool) → index < length (places (list_of l) 0 items)
-    → w ≡ leaf_width items l (get_or (places (list_of l) 0 items) index d) → t ≡ is_leaf_at items l (get_or (places (list_of l) 0 items) index d) → word ≡ take w bits → behind ≡ drop w bits
-    → placed_lines l items index (drop index (places (list_of l) 0 items)) bits ≡ taken_line t index word ++ placed_lines l items (index + 1) (drop (index + 1) (places (list_of l) 0 items)) behind
-leaves_step l items index d w t bits word behind lt width takes front rest =
-    leaves_left l items index (get_or (places (list_of l) 0 items) index d) d (places (list_of l) 0 items) bits lt refl
-    ∙ ap (λ (n : ℕ). taken_line (is_leaf_at items l (get_or (places (list_of l) 0 items) index d)) index (take n bits) ++ placed_lines l items (index + 1) (drop (index + 1) (places (list_of l) 0 items)) (drop n bits)) (sym width)
-    ∙ ap (λ (b : Bool). taken_line b index (take w bits) ++ placed_lines l items (index + 1) (drop (index + 1) (places (list_of l) 0 items)) (drop w bits)) (sym takes)
-    ∙ ap (λ (bs : List Bool). taken_line t index bs ++ placed_lines l items (index + 1) (drop (index + 1) (places (list_of l) 0 items)) (drop w bits)) (sym front)
-    ∙ ap (λ (bs : List Bool). taken_line t index word ++ placed_lines l items (index + 1) (drop (index + 1) (places (list_of l) 0 items)) bs) (sym rest)
+pub leaves_step : (l : Leaves) (items : List Item) (name : Item → Option (List ℕ)) (index d w : ℕ) (t : Bool) (x : Item) (bits word behind : List Bool) → index < length (places (list_of l) 0 items)
+    → w ≡ leaf_width items l (get_or (places (list_of l) 0 items) index d) → t ≡ is_leaf_at items l (get_or (places (list_of l) 0 items) index d) → slice_get items (get_or (places (list_of l) 0 items) index d) ≡ Some x → word ≡ take w bits → behind ≡ drop w bits
+    → placed_lines l items name index (drop index (places (list_of l) 0 items)) bits ≡ taken_line t index word (name x) ++ placed_lines l items name (index + 1) (drop (index + 1) (places (list_of l) 0 items)) behind
+leaves_step l items name index d w t x bits word behind lt width takes at front rest =
+    leaves_left l items name index (get_or (places (list_of l) 0 items) index d) d (places (list_of l) 0 items) bits lt refl
+    ∙ ap (λ (o : Option Item). taken_line (is_leaf_at items l (get_or (places (list_of l) 0 items) index d)) index (take (leaf_width items l (get_or (places (list_of l) 0 items) index d)) bits) (option_and_then name o)
+    ++ placed_lines l items name (index + 1) (drop (index + 1) (places (list_of l) 0 items)) (drop (leaf_width items l (get_or (places (list_of l) 0 items) index d)) bits)) at
+    ∙ ap (λ (n : ℕ). taken_line (is_leaf_at items l (get_or (places (list_of l) 0 items) index d)) index (take n bits) (name x) ++ placed_lines l items name (index + 1) (drop (index + 1) (places (list_of l) 0 items)) (drop n bits)) (sym width)
+    ∙ ap (λ (b : Bool). taken_line b index (take w bits) (name x) ++ placed_lines l items name (index + 1) (drop (index + 1) (places (list_of l) 0 items)) (drop w bits)) (sym takes)
+    ∙ ap (λ (bs : List Bool). taken_line t index bs (name x) ++ placed_lines l items name (index + 1) (drop (index + 1) (places (list_of l) 0 items)) (drop w bits)) (sym front)
+    ∙ ap (λ (bs : List Bool). taken_line t index word (name x) ++ placed_lines l items name (index + 1) (drop (index + 1) (places (list_of l) 0 items)) bs) (sym rest)
 
 -- ---- whether there is a free state
 

@@ -6,6 +6,6 @@ use Rattle.lift.proofs.LiftingLemmas.{nothing_yet}
 
 pub lifted_in_pieces : IsPutInPieces lifted_over
 lifted_in_pieces = record {
-  nothing = λ o. nothing_yet o.items o.circuit;
-  longer = λ o front rest. lifted_begins o.items o.circuit front rest;
+  nothing = λ o. nothing_yet o.named o.items o.circuit;
+  longer = λ o front rest. lifted_begins o.named o.items o.circuit front rest;
 }

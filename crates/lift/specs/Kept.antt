@@ -1,5 +1,5 @@
 -- What is kept of a line of a witness that is not yet admitted.
-use Rattle.std.specs.Prelude.{◌≡◌, ℕ, zero, suc, ◌<◌, ◌+◌, ◌≤◌, ◌==◌, nat_lt, min, Bool, true, false, List, [], ◌∷◌, codes, ◌++◌, if◌then◌else◌, length, take, drop, slice_index_or, slice_set}
+use Rattle.std.specs.Prelude.{◌≡◌, ℕ, zero, suc, ◌<◌, ◌+◌, ◌≤◌, ◌==◌, nat_lt, min, Bool, true, false, List, [], ◌∷◌, codes, ◌++◌, Option, option_and_then, if◌then◌else◌, length, take, drop, slice_get, slice_index_or, slice_set}
 use Rattle.std.specs.Str.{bytes_eq}
 use Rattle.base.specs.Decimals.{are_digits, capped_value}
 use Rattle.btor2.specs.declared.item.Item.{Item}
@@ -40,15 +40,15 @@ abbrev pub kept_bits : KeptLine → List Bool
 kept_bits k = take k.count k.bits
 
 -- the piece of the line that is kept, where it is that of a frame, or the end
-abbrev pub kept_frame : List Item → ℕ → KeptLine → List (List ℕ)
-kept_frame items n k = if k.first == 46 then codes "." ∷ [] else frame_piece items n (kept_bits k)
+abbrev pub kept_frame : Bool → List Item → ℕ → KeptLine → List (List ℕ)
+kept_frame named items n k = if k.first == 46 then codes "." ∷ [] else frame_piece named items n (kept_bits k)
 
 -- the piece of the line that is kept, where it is admitted behind so many others
-abbrev pub kept_piece : List Item → ℕ → KeptLine → List (List ℕ)
-kept_piece items zero k = codes "sat" ∷ []
-kept_piece items (suc zero) k = claim k.number ∷ []
-kept_piece items (suc (suc zero)) k = initial_piece items (kept_bits k)
-kept_piece items (suc (suc (suc n))) k = kept_frame items n k
+abbrev pub kept_piece : Bool → List Item → ℕ → KeptLine → List (List ℕ)
+kept_piece named items zero k = codes "sat" ∷ []
+kept_piece named items (suc zero) k = claim k.number ∷ []
+kept_piece named items (suc (suc zero)) k = initial_piece named items (kept_bits k)
+kept_piece named items (suc (suc (suc n))) k = kept_frame named items n k
 
 -- a line in the place of a frame is the end, or has as many bytes as there are inputs, of which the first is no `.`
 abbrev pub IsFrameOrEnd : Circuit → List ℕ → Bool → Type 0
@@ -65,15 +65,15 @@ IsAdmitted c (suc (suc (suc n))) line = IsFrameOrEnd c line (bytes_eq line (code
 -- ---- the leaves, by their places in the model
 
 -- the line of a leaf that takes bits
-abbrev pub taken_line : Bool → ℕ → List Bool → List ℕ
-taken_line takes index bits = if takes then word_line index bits ++ 10 ∷ [] else []
+abbrev pub taken_line : Bool → ℕ → List Bool → Option (List ℕ) → List ℕ
+taken_line takes index bits name = if takes then word_line index bits name ++ 10 ∷ [] else []
 
 -- the lines of the leaves at some places, of which the first has this index
-abbrev pub placed_lines : Leaves → List Item → ℕ → List ℕ → List Bool → List ℕ
-placed_lines l items index [] bits = []
-placed_lines l items index (p ∷ ps) bits =
-    taken_line (is_leaf_at items l p) index (take (leaf_width items l p) bits) ++ placed_lines l items (suc index) ps (drop (leaf_width items l p) bits)
+abbrev pub placed_lines : Leaves → List Item → (Item → Option (List ℕ)) → ℕ → List ℕ → List Bool → List ℕ
+placed_lines l items name index [] bits = []
+placed_lines l items name index (p ∷ ps) bits =
+    taken_line (is_leaf_at items l p) index (take (leaf_width items l p) bits) (option_and_then name (slice_get items p)) ++ placed_lines l items name (suc index) ps (drop (leaf_width items l p) bits)
 
 -- the lines of all leaves of a kind
-abbrev pub leaf_lines : Leaves → List Item → List Bool → List ℕ
-leaf_lines l items bits = placed_lines l items 0 (places (list_of l) 0 items) bits
+abbrev pub leaf_lines : Leaves → List Item → (Item → Option (List ℕ)) → List Bool → List ℕ
+leaf_lines l items name bits = placed_lines l items name 0 (places (list_of l) 0 items) bits

@@ -1,44 +1,50 @@
 -- What a lifter holds, and which texts it stands for.
-use Rattle.std.specs.Prelude.{◌≡◌, ℕ, ◌≤◌, Bool, List, [], ◌++◌, Option, Result, MatchResult, IfSome, if◌then◌else◌, length}
+use Rattle.std.specs.Prelude.{◌≡◌, ℕ, ◌≤◌, Bool, false, List, [], ◌++◌, Option, Result, MatchResult, IfSome, if◌then◌else◌, length}
 use Rattle.std.specs.Io.KnownBytes.{Appends}
 use Rattle.base.specs.Device.{Sent, AppendsBeginning}
 use Rattle.base.specs.Lines.{unfinished}
 use Rattle.btor2.specs.declared.item.Item.{Item}
 use Rattle.aiger.specs.Circuit.{Circuit, IsCircuit}
 use Rattle.witness.specs.BitStands.{BitJudge, StandsFor}
-use Rattle.lift.specs.Lifted.{lifted_text}
+use Rattle.lift.specs.Lifted.{lifted_with}
 use Rattle.lift.specs.Kept.{KeptLine, Keeps, kept_piece}
 
--- the model, whether it has a free state, a judge, and what is kept of the line that has not ended
+-- the model, whether words are lifted with names, whether the model has a free state, a judge, and what is kept of the line that has not ended
 pub record Lifter : Type 0 where
   pub items : List Item
+  pub named : Bool
   pub some_free : Bool
   pub judge : BitJudge
   pub kept : KeptLine
 
--- it lifts over this model and stands for this text of a witness of this circuit
-pub record Lifts (items : List Item) (c : Circuit) (l : Lifter) (text : List ℕ) : Type 0 where
+-- it lifts with names or without over this model, and stands for this text of a witness of this circuit
+pub record LiftsWith (named : Bool) (items : List Item) (c : Circuit) (l : Lifter) (text : List ℕ) : Type 0 where
   pub circuit : IsCircuit c
   pub model : l.items ≡ items
+  pub naming : l.named ≡ named
   pub judge : StandsFor c l.judge text
   pub kept : Keeps l.kept (unfinished text)
   pub latches : length c.latches ≤ length l.kept.bits
   pub inputs : c.inputs ≤ length l.kept.bits
 
+-- it lifts without names
+abbrev pub Lifts : List Item → Circuit → Lifter → List ℕ → Type 0
+Lifts items c l text = LiftsWith false items c l text
+
 -- the piece of the line that is kept, where it is admitted
 abbrev pub admitted_piece : Bool → Lifter → ℕ → List (List ℕ)
-admitted_piece admitted l number = if admitted then kept_piece l.items number l.kept else []
+admitted_piece admitted l number = if admitted then kept_piece l.named l.items number l.kept else []
 
 -- Of what a sink was given since it had the first bytes: the lifted text of a text was put, but for a rest that is kept. A call that takes bytes behind the
 -- text puts what is lifted of them; at a fault a beginning of the lifted text was written.
 pub record Takes {T E : Type 0} (r : Result T E) (old new : Option (List ℕ)) (kept left : List ℕ) (before after : Lifter) (bytes : List ℕ) : Type 0 where
-  pub takes : (items : List Item) (c : Circuit) (text : List ℕ) (start : Option (List ℕ)) → Lifts items c before text → Sent start old (lifted_text items c text) kept
+  pub takes : {named : Bool} → (items : List Item) (c : Circuit) (text : List ℕ) (start : Option (List ℕ)) → LiftsWith named items c before text → Sent start old (lifted_with named items c text) kept
       → MatchResult r
-      (λ x. Lifts items c after (text ++ bytes) × Sent start new (lifted_text items c (text ++ bytes)) left)
-      (λ e. AppendsBeginning start new (lifted_text items c (text ++ bytes)))
+      (λ x. LiftsWith named items c after (text ++ bytes) × Sent start new (lifted_with named items c (text ++ bytes)) left)
+      (λ e. AppendsBeginning start new (lifted_with named items c (text ++ bytes)))
 
 -- what a lifter that stands for nothing does with a whole source, whose bytes are known: it stands for the text, of which the lifted text was written; at a fault a beginning of that was
 abbrev pub LiftsAll : {T E : Type 0} → Result T E → Option (List ℕ) → Option (List ℕ) → Option (List ℕ) → Lifter → Lifter → Type 0
 LiftsAll r source old new before after =
-    (items : List Item) (c : Circuit) → Lifts items c before []
-    → IfSome source (λ text. MatchResult r (λ x. Lifts items c after text × Appends old new (lifted_text items c text)) (λ e. AppendsBeginning old new (lifted_text items c text)))
+    (named : Bool) (items : List Item) (c : Circuit) → LiftsWith named items c before []
+    → IfSome source (λ text. MatchResult r (λ x. LiftsWith named items c after text × Appends old new (lifted_with named items c text)) (λ e. AppendsBeginning old new (lifted_with named items c text)))

@@ -30,9 +30,13 @@ IsSameVerdict items (judgement.Violated frame constraint) k = k ≡ judgement.Vi
 IsSameVerdict items (judgement.NotReached index) k = k ≡ judgement.NotReached index
 IsSameVerdict items (judgement.Accepted frames) k = k ≡ judgement.Accepted frames
 
--- The verdict over the circuit of a text is kept: where the text says a witness, and its lifted text has no more lines than a witness may have, that says a
--- witness over the model with the same claim, and what is judged of it is the same verdict.
-pub record KeepsVerdict (items : List Item) (c : Circuit) (text : List ℕ) (j : Judgement) : Type 0 where
-  pub claim : (w : BitWitness) → BitSays c text w → length (whole_lines (lifted_text items c text)) ≤ most_lines
-      → (v : Witness) × (Says (shape_of items) (lifted_text items c text) v × (v.claims ≡ w.claim ∷ []))
-  pub verdict : (w : BitWitness) (k : Judgement) → BitSays c text w → length (whole_lines (lifted_text items c text)) ≤ most_lines → Judges items (lifted_text items c text) k → IsSameVerdict items j k
+-- The verdict over the circuit of a text is kept by another text: where the first says a witness, and the other has no more lines than a witness may have, that
+-- says a witness over the model with the same claim, and what is judged of it is the same verdict.
+pub record KeepsVerdictIn (items : List Item) (c : Circuit) (text written : List ℕ) (j : Judgement) : Type 0 where
+  pub claim : (w : BitWitness) → BitSays c text w → length (whole_lines written) ≤ most_lines
+      → (v : Witness) × (Says (shape_of items) written v × (v.claims ≡ w.claim ∷ []))
+  pub verdict : (w : BitWitness) (k : Judgement) → BitSays c text w → length (whole_lines written) ≤ most_lines → Judges items written k → IsSameVerdict items j k
+
+-- by its lifted text
+abbrev pub KeepsVerdict : List Item → Circuit → List ℕ → Judgement → Type 0
+KeepsVerdict items c text j = KeepsVerdictIn items c text (lifted_text items c text) j

@@ -12,10 +12,10 @@ ghost use Rattle.restore.specs.Faults.{is_of_text};
 ghost use Rattle.restore.specs.Reading.{read_text};
 ghost use Rattle.restore.specs.Restored.{restored_text};
 ghost use Rattle.lift.specs.EngineLifting.{engine_lifted_text, FindsInModel};
-ghost use Rattle.lift.specs.Verdicts.{KeepsVerdict};
+ghost use Rattle.lift.specs.Verdicts.{KeepsVerdictIn};
 
 use crate::engine_laws::found_over_the_form_is_found_in_the_model;
-use crate::laws::lifting_keeps_the_verdict;
+use crate::laws::{lifting_keeps_the_verdict, names_keep_the_verdict};
 use crate::lifter::Lifter;
 use aiger::Circuit;
 use base::{Sink, Source};
@@ -36,7 +36,7 @@ fn no_memory() -> RestoreFault
 
 /// Reads the text of a counterexample over the engine form of a circuit to its end, and writes what it is lifted to: the
 /// witness of the model that says the same, up to and with the first frame in which the claimed property rises, or of all
-/// frames where it does not. The answer is the judgement over the circuit of what the text is restored to. Of the text one
+/// frames where it does not; with names or without, as `lift_named` and `lift` write it. The answer is the judgement over the circuit of what the text is restored to. Of the text one
 /// line is held, and what one call of the source gives; beside it two runs of the circuit, three lines, and what one call
 /// of the sink takes.
 ///
@@ -51,6 +51,7 @@ pub fn lift_restored<S: Source, K: Sink>(
     model: &Model,
     circuit: &Circuit,
     claim: usize,
+    named: bool,
     source: &mut S,
     sink: &mut K,
 ) -> Result<Judgement, RestoreFault>
@@ -60,15 +61,15 @@ pub fn lift_restored<S: Source, K: Sink>(
     ensures judged { IfOk result (λ judgement. IfSome (S.to_come source.old) (λ text. BitJudges circuit.now (restored_text circuit.now claim text) judgement)) }
     ensures right { OnOk result (IfSome (S.to_come source.old) (λ text. (read_text (input_count circuit.now) text).fault ≡ None)) }
     // what is judged of what is written over the model is the same verdict
-    ensures kept { IfOk result (λ judgement. IfSome (S.to_come source.old) (λ text. KeepsVerdict model.now circuit.now (restored_text circuit.now claim text) judgement)) }
-    ensures written { OnOk result (IfSome (S.to_come source.old) (λ text. Appends (K.written sink.old) (K.written sink.new) (engine_lifted_text model.now circuit.now claim text))) }
+    ensures kept { IfOk result (λ judgement. IfSome (S.to_come source.old) (λ text. KeepsVerdictIn model.now circuit.now (restored_text circuit.now claim text) (engine_lifted_text named model.now circuit.now claim text) judgement)) }
+    ensures written { OnOk result (IfSome (S.to_come source.old) (λ text. Appends (K.written sink.old) (K.written sink.new) (engine_lifted_text named model.now circuit.now claim text))) }
     // where the text's frames make the claimed property of an engine form 1, both are accepted, and end with the first such frame
     ensures found { IfOk result (λ judgement. IfSome (S.to_come source.old) (λ text. FindsAgain circuit.now claim text judgement)) }
-    ensures in_model { OnOk result (IfSome (S.to_come source.old) (λ text. FindsInModel model.now circuit.now claim text)) }
+    ensures in_model { OnOk result (IfSome (S.to_come source.old) (λ text. FindsInModel named model.now circuit.now claim text)) }
     // a fault of the text is its own, and what the lines before it give was written; at any other a beginning was
     ensures faulty { IfErr result (λ e. is_of_text e.why ≡ true → IfSome (S.to_come source.old) (λ text. (read_text (input_count circuit.now) text).fault ≡ Some e)) }
-    ensures before { IfErr result (λ e. is_of_text e.why ≡ true → IfSome (S.to_come source.old) (λ text. Appends (K.written sink.old) (K.written sink.new) (engine_lifted_text model.now circuit.now claim text))) }
-    ensures beginning { IfErr result (λ e. is_of_text e.why ≡ false → IfSome (S.to_come source.old) (λ text. AppendsBeginning (K.written sink.old) (K.written sink.new) (engine_lifted_text model.now circuit.now claim text))) }
+    ensures before { IfErr result (λ e. is_of_text e.why ≡ true → IfSome (S.to_come source.old) (λ text. Appends (K.written sink.old) (K.written sink.new) (engine_lifted_text named model.now circuit.now claim text))) }
+    ensures beginning { IfErr result (λ e. is_of_text e.why ≡ false → IfSome (S.to_come source.old) (λ text. AppendsBeginning (K.written sink.old) (K.written sink.new) (engine_lifted_text named model.now circuit.now claim text))) }
     ensures apart { IfErr result (λ e. is_of_text e.why ≡ false → e.line ≡ 0) }
     ensures end { OnOk result (IsAtEnd (S.to_come source.new)) }
     ensures read_on { IfErr result (λ e. is_of_text e.why ≡ true → IsAtEnd (S.to_come source.new)) }
@@ -77,6 +78,7 @@ pub fn lift_restored<S: Source, K: Sink>(
 {
     found_over_the_form_is_found_in_the_model();
     lifting_keeps_the_verdict();
+    names_keep_the_verdict();
     restore::laws::restored_text_is_accepted();
     witness::bit_laws::exactly_one_bit_judgement();
     let mut restorer = match Restorer::new(alloc, circuit, claim) {
@@ -84,7 +86,7 @@ pub fn lift_restored<S: Source, K: Sink>(
         Err(_) => return Err(no_memory()),
     };
     let mut lifter = match Lifter::new(alloc, model, circuit) {
-        Ok(lifter) => lifter,
+        Ok(lifter) => lifter.with_names(named),
         Err(_) => return Err(no_memory()),
     };
     match take_restored(&mut restorer, &mut lifter, source, sink) {

@@ -13,4 +13,4 @@ mod taking;
 
 pub use engine_lifting::lift_restored;
 pub use fault::LiftFault;
-pub use lifting::lift;
+pub use lifting::{lift, lift_named};

@@ -1,5 +1,5 @@
 //! A lifter of a witness that comes piece by piece.
-ghost use Rattle.std.specs.Prelude.{◌≡◌, ℕ, List, [], ◌∷◌, ◌++◌, IfOk, ◌≤◌, length};
+ghost use Rattle.std.specs.Prelude.{◌≡◌, ℕ, Bool, List, [], ◌∷◌, ◌++◌, IfOk, ◌≤◌, length};
 ghost use Rattle.base.specs.Device.{CountsFaults};
 ghost use Rattle.base.specs.Lines.{IsLine, text_of_lines};
 ghost use Rattle.base.specs.Pieces.{Puts};
@@ -7,7 +7,7 @@ ghost use Rattle.btor2.specs.declared.item.Item.{Item};
 ghost use Rattle.aiger.specs.Circuit.{Circuit};
 ghost use Rattle.witness.specs.BitJudgements.{BitJudges};
 ghost use Rattle.witness.specs.Texts.{shape_of, has_free};
-ghost use Rattle.lift.specs.Stands.{Lifts, Takes, admitted_piece};
+ghost use Rattle.lift.specs.Stands.{Lifts, LiftsWith, Takes, admitted_piece};
 
 use crate::kept::KeptLine;
 use crate::pieces::{has_free, put_piece};
@@ -22,6 +22,8 @@ use witness::BitJudge;
 #[derive(Drop)]
 pub(crate) struct Lifter<'a> {
     model: &'a btor2::Model,
+    // words are lifted with names
+    named: bool,
     // the model has a free state
     some_free: bool,
     judge: BitJudge<'a>,
@@ -36,7 +38,7 @@ impl<'a> Model for Lifter<'a> {
 
     ghost Value = { LifterValue };
 
-    ghost view = { λ l. record { items = l.model.now; some_free = l.some_free; judge = l.judge; kept = l.kept } };
+    ghost view = { λ l. record { items = l.model.now; named = l.named; some_free = l.some_free; judge = l.judge; kept = l.kept } };
 
     ghost invariant = { λ l. l.some_free ≡ has_free (shape_of l.model.now) };
 }
@@ -50,7 +52,7 @@ fn most_bits(circuit: &Circuit) -> usize
 }
 
 impl<'a> Lifter<'a> {
-    /// A lifter of the empty text.
+    /// A lifter of the empty text, without names.
     ///
     /// Error: where a growth was refused.
     pub(crate) fn new(
@@ -64,11 +66,25 @@ impl<'a> Lifter<'a> {
         match BitJudge::new(alloc, circuit) {
             Ok(judge) => Ok(Lifter {
                 model,
+                named: false,
                 some_free: has_free(model),
                 judge,
                 kept,
             }),
             Err(_) => Err(AllocError),
+        }
+    }
+
+    /// The same lifter, with names or without.
+    pub(crate) fn with_names(self, named: bool) -> Lifter<'a>
+        ensures { (items : List Item) (c : Circuit) → Lifts items c self.entry [] → LiftsWith named items c result [] }
+    {
+        Lifter {
+            model: self.model,
+            named,
+            some_free: self.some_free,
+            judge: self.judge,
+            kept: self.kept,
         }
     }
 
@@ -84,7 +100,15 @@ impl<'a> Lifter<'a> {
         ensures failures { CountsFaults result (K.failures sink.old) (K.failures sink.new) }
     {
         if admitted {
-            put_piece(outbox, sink, self.model, self.some_free, number, &self.kept)
+            put_piece(
+                outbox,
+                sink,
+                self.model,
+                self.named,
+                self.some_free,
+                number,
+                &self.kept,
+            )
         } else {
             Ok(())
         }
@@ -92,7 +116,7 @@ impl<'a> Lifter<'a> {
 
     /// Takes bytes that end no line.
     fn take_bytes(&mut self, bytes: &[u8])
-        ensures { (items : List Item) (c : Circuit) (text : List ℕ) → IsLine bytes.now → Lifts items c self.old text → Lifts items c self.new (text ++ bytes.now) }
+        ensures { (named : Bool) (items : List Item) (c : Circuit) (text : List ℕ) → IsLine bytes.now → LiftsWith named items c self.old text → LiftsWith named items c self.new (text ++ bytes.now) }
     {
         self.kept.take(bytes);
         self.judge.feed(bytes);
@@ -142,7 +166,7 @@ impl<'a> Lifter<'a> {
 
     /// The judgement of the text.
     pub(crate) fn finish(self) -> witness::Judgement
-        ensures { (items : List Item) (c : Circuit) (text : List ℕ) → Lifts items c self.entry text → BitJudges c text result }
+        ensures { (named : Bool) (items : List Item) (c : Circuit) (text : List ℕ) → LiftsWith named items c self.entry text → BitJudges c text result }
     {
         self.judge.finish()
     }

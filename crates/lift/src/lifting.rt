@@ -5,12 +5,12 @@ ghost use Rattle.base.specs.Device.{AppendsBeginning, CountsFaults};
 ghost use Rattle.blast.specs.Lowering.{Lowers};
 ghost use Rattle.witness.specs.BitJudgements.{BitJudges};
 ghost use Rattle.lift.specs.Answers.{CountsLift};
-ghost use Rattle.lift.specs.Lifted.{lifted_text};
+ghost use Rattle.lift.specs.Lifted.{lifted_text, lifted_with, named_text};
 ghost use Rattle.lift.specs.Stands.{Takes, LiftsAll};
-ghost use Rattle.lift.specs.Verdicts.{KeepsVerdict};
+ghost use Rattle.lift.specs.Verdicts.{KeepsVerdict, KeepsVerdictIn};
 
 use crate::fault::LiftFault;
-use crate::laws::lifting_keeps_the_verdict;
+use crate::laws::{lifting_keeps_the_verdict, names_keep_the_verdict};
 use crate::lifter::Lifter;
 use aiger::Circuit;
 use base::{Outbox, Sink, Source};
@@ -99,6 +99,38 @@ fn lift_through<S: Source, K: Sink>(
     }
 }
 
+/// Reads a witness of a circuit to its end, judges it over the circuit, and writes what it is lifted to, with names or
+/// without.
+///
+/// Condition: the circuit is a lowering of the model.
+///
+/// Errors: those of `lift`.
+fn lift_with<S: Source, K: Sink>(
+    alloc: Global,
+    model: &Model,
+    circuit: &Circuit,
+    named: bool,
+    source: &mut S,
+    sink: &mut K,
+) -> Result<Judgement, LiftFault>
+    ensures judged { IfOk result (λ judgement. IfSome (S.to_come source.old) (λ text. BitJudges circuit.now text judgement)) }
+    ensures written { OnOk result (IfSome (S.to_come source.old) (λ text. Appends (K.written sink.old) (K.written sink.new) (lifted_with named model.now circuit.now text))) }
+    ensures beginning { OnErr result (IfSome (S.to_come source.old) (λ text. AppendsBeginning (K.written sink.old) (K.written sink.new) (lifted_with named model.now circuit.now text))) }
+    ensures unread { IsErrOf result LiftFault.NoMemory → source.new ≡ source.old }
+    ensures unwritten { IsErrOf result LiftFault.NoMemory → sink.new ≡ sink.old }
+    ensures end { OnOk result (IsAtEnd (S.to_come source.new)) }
+    ensures counted { CountsLift result (S.failures source.old) (S.failures source.new) (K.failures sink.old) (K.failures sink.new) }
+{
+    let mut lifter = match Lifter::new(alloc, model, circuit) {
+        Ok(lifter) => lifter.with_names(named),
+        Err(_) => return Err(LiftFault::NoMemory),
+    };
+    match lift_through(&mut lifter, source, sink) {
+        Ok(()) => Ok(lifter.finish()),
+        Err(fault) => Err(fault),
+    }
+}
+
 /// Reads a witness of a circuit to its end, judges it over the circuit, and writes what it is lifted to: the witness of the
 /// model that says the same. Of a malformed witness the pieces of the lines before the faulty one are written, and where no
 /// claim is made nothing is. Of the text only what one call of the source gives is held at a time, and beside it what the
@@ -130,12 +162,38 @@ pub fn lift<S: Source, K: Sink>(
     ensures counted { CountsLift result (S.failures source.old) (S.failures source.new) (K.failures sink.old) (K.failures sink.new) }
 {
     lifting_keeps_the_verdict();
-    let mut lifter = match Lifter::new(alloc, model, circuit) {
-        Ok(lifter) => lifter,
-        Err(_) => return Err(LiftFault::NoMemory),
-    };
-    match lift_through(&mut lifter, source, sink) {
-        Ok(()) => Ok(lifter.finish()),
-        Err(fault) => Err(fault),
-    }
+    lift_with(alloc, model, circuit, false, source, sink)
+}
+
+/// Lifts as `lift` does, and writes names: behind the word of an input or a state with a symbol stands a space and
+/// `<symbol>@<frame>`, as BtorMC writes it, but where that is longer than a symbol may be. Names have no meaning in a
+/// witness.
+///
+/// Condition: the circuit is a lowering of the model.
+///
+/// Errors: `NoMemory` where a growth was refused, and then nothing was read or written; `Read` where the source failed in
+/// this call, and `Write` where the sink did, once. After both a beginning of the text with names was written.
+pub fn lift_named<S: Source, K: Sink>(
+    alloc: Global,
+    model: &Model,
+    circuit: &Circuit,
+    source: &mut S,
+    sink: &mut K,
+) -> Result<Judgement, LiftFault>
+    requires { Lowers model.now circuit.now }
+    // the judgement is that of the whole text over the circuit
+    ensures judged { IfOk result (λ judgement. IfSome (S.to_come source.old) (λ text. BitJudges circuit.now text judgement)) }
+    // what is judged of the text with names over the model is the same verdict
+    ensures kept { IfOk result (λ judgement. IfSome (S.to_come source.old) (λ text. KeepsVerdictIn model.now circuit.now text (named_text model.now circuit.now text) judgement)) }
+    // what is written is the lifted text with names, and after a fault a beginning of it
+    ensures written { OnOk result (IfSome (S.to_come source.old) (λ text. Appends (K.written sink.old) (K.written sink.new) (named_text model.now circuit.now text))) }
+    ensures beginning { OnErr result (IfSome (S.to_come source.old) (λ text. AppendsBeginning (K.written sink.old) (K.written sink.new) (named_text model.now circuit.now text))) }
+    ensures unread { IsErrOf result LiftFault.NoMemory → source.new ≡ source.old }
+    ensures unwritten { IsErrOf result LiftFault.NoMemory → sink.new ≡ sink.old }
+    ensures end { OnOk result (IsAtEnd (S.to_come source.new)) }
+    // the source failed once where that is answered, the sink where that is, and else neither
+    ensures counted { CountsLift result (S.failures source.old) (S.failures source.new) (K.failures sink.old) (K.failures sink.new) }
+{
+    names_keep_the_verdict();
+    lift_with(alloc, model, circuit, true, source, sink)
 }

@@ -1,16 +1,19 @@
 //! The pieces that lines of a witness are lifted to.
-ghost use Rattle.std.specs.Prelude.{◌≡◌, true, false, ◌++◌, ◌∷◌, [], ◌-◌, ◌≤◌, codes, decimal, length, map, reverse, if◌then◌else◌, take, drop};
+ghost use Rattle.std.specs.Prelude.{◌≡◌, true, false, ◌++◌, ◌∷◌, [], ◌-◌, ◌<◌, ◌≤◌, Some, codes, decimal, length, map, option_and_then, reverse, if◌then◌else◌, slice_get, slice_index, take, drop};
 ghost use Rattle.base.specs.Device.{CountsFaults};
 ghost use Rattle.base.specs.Pieces.{Puts};
 ghost use Rattle.base.specs.Lines.{text_of_lines};
+ghost use Rattle.btor2.specs.Lists.{places};
+ghost use Rattle.btor2.specs.Leaves.{list_of};
+ghost use Rattle.btor2.specs.Symbols.{is_symbol};
 ghost use Rattle.blast.specs.Cost.{input_width};
-ghost use Rattle.witness.specs.Texts.{digit, claim, shape_of, has_free};
-ghost use Rattle.lift.specs.Lifted.{word_line, initial_piece, free_piece, frame_piece};
+ghost use Rattle.witness.specs.Texts.{digit, symbol_part, claim, shape_of, has_free};
+ghost use Rattle.lift.specs.Lifted.{at_frame, name_in_frame, names, word_line, initial_piece, free_piece, frame_piece};
 ghost use Rattle.lift.specs.Kept.{kept_frame, kept_piece, leaf_lines, taken_line};
 
 use crate::kept::KeptLine;
 use base::{DeviceFault, Outbox, Sink};
-use btor2::{Leaves, Model};
+use btor2::{Item, Leaves, Model};
 use itoa::Buffer;
 
 /// Puts bytes.
@@ -78,37 +81,103 @@ fn put_digits<K: Sink>(outbox: &mut Outbox, sink: &mut K, bits: &[bool]) -> Resu
     put_bytes(outbox, sink, word)
 }
 
-/// Puts the line that gives a leaf its word.
+/// The most bytes of a symbol.
+const MOST_BYTES: usize = 255;
+
+/// Puts a space, a symbol, `@` and the digits of a frame's number.
+fn put_symbol_part<K: Sink>(
+    outbox: &mut Outbox,
+    sink: &mut K,
+    symbol: &[u8],
+    digits: &[u8],
+) -> Result<(), DeviceFault>
+    ensures puts { Puts result (K.written sink.old) (K.written sink.new) outbox.old outbox.new ((32 ∷ []) ++ (symbol.now ++ ((64 ∷ []) ++ digits.now))) }
+    ensures failures { CountsFaults result (K.failures sink.old) (K.failures sink.new) }
+{
+    put_bytes(outbox, sink, b" ")?;
+    put_bytes(outbox, sink, symbol)?;
+    put_bytes(outbox, sink, b"@")?;
+    put_bytes(outbox, sink, digits)
+}
+
+/// Puts the name of a symbol in a frame behind a word, where that is a symbol.
+fn put_name_in_frame<K: Sink>(
+    outbox: &mut Outbox,
+    sink: &mut K,
+    symbol: &[u8],
+    frame: u64,
+) -> Result<(), DeviceFault>
+    requires { is_symbol symbol.now ≡ true }
+    ensures puts { Puts result (K.written sink.old) (K.written sink.new) outbox.old outbox.new (symbol_part (name_in_frame frame symbol.now)) }
+    ensures failures { CountsFaults result (K.failures sink.old) (K.failures sink.new) }
+{
+    let mut buffer = Buffer::new();
+    let digits = buffer.format(frame).as_bytes();
+    if symbol.len() + digits.len() < MOST_BYTES {
+        put_symbol_part(outbox, sink, symbol, digits)
+    } else {
+        Ok(())
+    }
+}
+
+/// Puts the name of an item in a frame behind a word, where names are asked for and it has one.
+fn put_name<K: Sink>(
+    outbox: &mut Outbox,
+    sink: &mut K,
+    named: bool,
+    frame: u64,
+    item: &Item,
+) -> Result<(), DeviceFault>
+    ensures puts { Puts result (K.written sink.old) (K.written sink.new) outbox.old outbox.new (symbol_part (names named frame item.now)) }
+    ensures failures { CountsFaults result (K.failures sink.old) (K.failures sink.new) }
+{
+    if !named {
+        return Ok(());
+    }
+    match &item.symbol {
+        Some(symbol) => put_name_in_frame(outbox, sink, symbol.bytes(), frame),
+        None => Ok(()),
+    }
+}
+
+/// Puts the line that gives a leaf its word in a frame.
 fn put_word<K: Sink>(
     outbox: &mut Outbox,
     sink: &mut K,
+    named: bool,
+    frame: u64,
     index: usize,
+    item: &Item,
     bits: &[bool],
 ) -> Result<(), DeviceFault>
     requires { length bits.now ≤ 64 }
-    ensures puts { Puts result (K.written sink.old) (K.written sink.new) outbox.old outbox.new (word_line index bits.now ++ 10 ∷ []) }
+    ensures puts { Puts result (K.written sink.old) (K.written sink.new) outbox.old outbox.new (word_line index bits.now (names named frame item.now) ++ 10 ∷ []) }
     ensures failures { CountsFaults result (K.failures sink.old) (K.failures sink.new) }
 {
     put_number(outbox, sink, index as u64)?;
     put_bytes(outbox, sink, b" ")?;
     put_digits(outbox, sink, bits)?;
+    put_name(outbox, sink, named, frame, item)?;
     put_bytes(outbox, sink, b"\n")
 }
 
-/// Puts the line of a leaf, where it takes bits.
+/// Puts the line of a leaf in a frame, where it takes bits.
 fn put_leaf<K: Sink>(
     outbox: &mut Outbox,
     sink: &mut K,
+    named: bool,
+    frame: u64,
     takes: bool,
     index: usize,
+    item: &Item,
     bits: &[bool],
 ) -> Result<(), DeviceFault>
     requires { length bits.now ≤ 64 }
-    ensures puts { Puts result (K.written sink.old) (K.written sink.new) outbox.old outbox.new (taken_line takes index bits.now) }
+    ensures puts { Puts result (K.written sink.old) (K.written sink.new) outbox.old outbox.new (taken_line takes index bits.now (names named frame item.now)) }
     ensures failures { CountsFaults result (K.failures sink.old) (K.failures sink.new) }
 {
     if takes {
-        put_word(outbox, sink, index, bits)
+        put_word(outbox, sink, named, frame, index, item, bits)
     } else {
         Ok(())
     }
@@ -123,41 +192,70 @@ fn cut(bits: &[bool], count: usize) -> (&[bool], &[bool])
     bits.split_at(count.min(bits.len()))
 }
 
-/// Puts the lines of the leaves of a kind, each of which takes its bits behind those before it.
+/// The item at a place.
+fn item_at(items: &[Item], place: usize) -> &Item
+    requires { place < length items.now }
+    ensures { slice_get items.now place ≡ Some result.now }
+{
+    &items[place]
+}
+
+/// The item at a position of the list that the leaves of a kind are among.
+fn leaf_item(model: &Model, leaves: Leaves, index: usize) -> &Item
+    requires { index < length (places (list_of leaves) 0 model.now) }
+    ensures { slice_get model.now (slice_index (places (list_of leaves) 0 model.now) index) ≡ Some result.now }
+{
+    item_at(model.items(), leaves.places(model)[index])
+}
+
+/// Puts the lines of the leaves of a kind in a frame, each of which takes its bits behind those before it.
 fn put_leaves<K: Sink>(
     outbox: &mut Outbox,
     sink: &mut K,
     model: &Model,
+    named: bool,
+    frame: u64,
     leaves: Leaves,
     bits: &[bool],
 ) -> Result<(), DeviceFault>
-    ensures puts { Puts result (K.written sink.old) (K.written sink.new) outbox.old outbox.new (leaf_lines leaves model.now bits.now) }
+    ensures puts { Puts result (K.written sink.old) (K.written sink.new) outbox.old outbox.new (leaf_lines leaves model.now (names named frame) bits.now) }
     ensures failures { CountsFaults result (K.failures sink.old) (K.failures sink.new) }
 {
     let mut rest = bits;
     for index in 0..leaves.places(model).len() {
         let (word, behind) = cut(rest, leaves.width(model, index) as usize);
-        put_leaf(outbox, sink, leaves.has(model, index), index, word)?;
+        let item = leaf_item(model, leaves, index);
+        put_leaf(
+            outbox,
+            sink,
+            named,
+            frame,
+            leaves.has(model, index),
+            index,
+            item,
+            word,
+        )?;
         rest = behind;
     }
     Ok(())
 }
 
-/// Puts the line that opens a part, a byte and a number, and behind it the lines of the leaves of a kind.
+/// Puts the line that opens a part of a frame, a byte and the frame's number, and behind it the lines of the leaves of a kind.
 fn put_part<K: Sink>(
     outbox: &mut Outbox,
     sink: &mut K,
     model: &Model,
+    named: bool,
     mark: &[u8],
-    number: u64,
+    frame: u64,
     leaves: Leaves,
     bits: &[bool],
 ) -> Result<(), DeviceFault>
-    ensures puts { Puts result (K.written sink.old) (K.written sink.new) outbox.old outbox.new ((mark.now ++ (decimal number ++ 10 ∷ [])) ++ leaf_lines leaves model.now bits.now) }
+    ensures puts { Puts result (K.written sink.old) (K.written sink.new) outbox.old outbox.new ((mark.now ++ (decimal frame ++ 10 ∷ [])) ++ leaf_lines leaves model.now (names named frame) bits.now) }
     ensures failures { CountsFaults result (K.failures sink.old) (K.failures sink.new) }
 {
-    put_mark(outbox, sink, mark, number)?;
-    put_leaves(outbox, sink, model, leaves, bits)
+    put_mark(outbox, sink, mark, frame)?;
+    put_leaves(outbox, sink, model, named, frame, leaves, bits)
 }
 
 /// The bits of a frame behind those of the inputs.
@@ -185,13 +283,14 @@ fn put_initial<K: Sink>(
     outbox: &mut Outbox,
     sink: &mut K,
     model: &Model,
+    named: bool,
     bits: &[bool],
 ) -> Result<(), DeviceFault>
-    ensures puts { Puts result (K.written sink.old) (K.written sink.new) outbox.old outbox.new (text_of_lines (initial_piece model.now bits.now)) }
+    ensures puts { Puts result (K.written sink.old) (K.written sink.new) outbox.old outbox.new (text_of_lines (initial_piece named model.now bits.now)) }
     ensures failures { CountsFaults result (K.failures sink.old) (K.failures sink.new) }
 {
     let _items = model.items();
-    put_part(outbox, sink, model, b"#", 0, Leaves::Carried, bits)
+    put_part(outbox, sink, model, named, b"#", 0, Leaves::Carried, bits)
 }
 
 /// Puts the words of the free states in a frame, whose bits stand behind those of the inputs: those of the first frame stand
@@ -200,12 +299,13 @@ fn put_free<K: Sink>(
     outbox: &mut Outbox,
     sink: &mut K,
     model: &Model,
+    named: bool,
     some_free: bool,
     frame: u64,
     bits: &[bool],
 ) -> Result<(), DeviceFault>
     requires { some_free ≡ has_free (shape_of model.now) }
-    ensures puts { Puts result (K.written sink.old) (K.written sink.new) outbox.old outbox.new (text_of_lines (free_piece model.now frame (drop (input_width model.now) bits.now))) }
+    ensures puts { Puts result (K.written sink.old) (K.written sink.new) outbox.old outbox.new (text_of_lines (free_piece named model.now frame (drop (input_width model.now) bits.now))) }
     ensures failures { CountsFaults result (K.failures sink.old) (K.failures sink.new) }
 {
     let _items = model.items();
@@ -214,6 +314,8 @@ fn put_free<K: Sink>(
             outbox,
             sink,
             model,
+            named,
+            0,
             Leaves::Free,
             behind_inputs(model, bits),
         );
@@ -225,6 +327,7 @@ fn put_free<K: Sink>(
         outbox,
         sink,
         model,
+        named,
         b"#",
         frame,
         Leaves::Free,
@@ -237,17 +340,27 @@ fn put_frame<K: Sink>(
     outbox: &mut Outbox,
     sink: &mut K,
     model: &Model,
+    named: bool,
     some_free: bool,
     frame: u64,
     bits: &[bool],
 ) -> Result<(), DeviceFault>
     requires { some_free ≡ has_free (shape_of model.now) }
-    ensures puts { Puts result (K.written sink.old) (K.written sink.new) outbox.old outbox.new (text_of_lines (frame_piece model.now frame bits.now)) }
+    ensures puts { Puts result (K.written sink.old) (K.written sink.new) outbox.old outbox.new (text_of_lines (frame_piece named model.now frame bits.now)) }
     ensures failures { CountsFaults result (K.failures sink.old) (K.failures sink.new) }
 {
     let _items = model.items();
-    put_free(outbox, sink, model, some_free, frame, bits)?;
-    put_part(outbox, sink, model, b"@", frame, Leaves::Inputs, bits)
+    put_free(outbox, sink, model, named, some_free, frame, bits)?;
+    put_part(
+        outbox,
+        sink,
+        model,
+        named,
+        b"@",
+        frame,
+        Leaves::Inputs,
+        bits,
+    )
 }
 
 /// Puts the piece of a line in the place of a frame, which may be the end.
@@ -255,18 +368,19 @@ fn put_frame_or_end<K: Sink>(
     outbox: &mut Outbox,
     sink: &mut K,
     model: &Model,
+    named: bool,
     some_free: bool,
     frame: u64,
     kept: &KeptLine,
 ) -> Result<(), DeviceFault>
     requires { some_free ≡ has_free (shape_of model.now) }
-    ensures puts { Puts result (K.written sink.old) (K.written sink.new) outbox.old outbox.new (text_of_lines (kept_frame model.now frame kept.now)) }
+    ensures puts { Puts result (K.written sink.old) (K.written sink.new) outbox.old outbox.new (text_of_lines (kept_frame named model.now frame kept.now)) }
     ensures failures { CountsFaults result (K.failures sink.old) (K.failures sink.new) }
 {
     if kept.first() == b'.' {
         put_bytes(outbox, sink, b".\n")
     } else {
-        put_frame(outbox, sink, model, some_free, frame, kept.bits())
+        put_frame(outbox, sink, model, named, some_free, frame, kept.bits())
     }
 }
 
@@ -275,12 +389,13 @@ pub(crate) fn put_piece<K: Sink>(
     outbox: &mut Outbox,
     sink: &mut K,
     model: &Model,
+    named: bool,
     some_free: bool,
     number: u64,
     kept: &KeptLine,
 ) -> Result<(), DeviceFault>
     requires { some_free ≡ has_free (shape_of model.now) }
-    ensures puts { Puts result (K.written sink.old) (K.written sink.new) outbox.old outbox.new (text_of_lines (kept_piece model.now number kept.now)) }
+    ensures puts { Puts result (K.written sink.old) (K.written sink.new) outbox.old outbox.new (text_of_lines (kept_piece named model.now number kept.now)) }
     ensures failures { CountsFaults result (K.failures sink.old) (K.failures sink.new) }
 {
     if number == 0 {
@@ -290,7 +405,7 @@ pub(crate) fn put_piece<K: Sink>(
         return put_mark(outbox, sink, b"b", kept.number());
     }
     if number == 2 {
-        return put_initial(outbox, sink, model, kept.bits());
+        return put_initial(outbox, sink, model, named, kept.bits());
     }
-    put_frame_or_end(outbox, sink, model, some_free, number - 3, kept)
+    put_frame_or_end(outbox, sink, model, named, some_free, number - 3, kept)
 }

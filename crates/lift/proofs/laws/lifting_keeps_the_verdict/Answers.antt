@@ -1,8 +1,9 @@
+use Rattle.std.proofs.Common.{false}
 use Rattle.lift.specs.Lifted.{lifted_text}
 use Rattle.lift.proofs.KeepLemmas.{keeps_verdict}
 use Rattle.lift.proofs.laws.lifting_keeps_the_verdict.Goals as goal
 
 pub returns : goal.returns
 returns c items circuit text j l h =
-    keeps_verdict items circuit text j l h (λ w. c.bit_texts_read.ensures.read circuit text w l.circuit) (λ w. c.texts_read.ensures.read items (lifted_text items circuit text) w l.well_formed)
+    keeps_verdict false items circuit text j l h (λ w. c.bit_texts_read.ensures.read circuit text w l.circuit) (λ w. c.texts_read.ensures.read items (lifted_text items circuit text) w l.well_formed)
     (λ initial inputs. c.exactly_one_trace-2.ensures.exists items initial inputs l.well_formed) (λ initial inputs. c.exactly_one_trace.ensures.exists circuit initial inputs l.circuit)

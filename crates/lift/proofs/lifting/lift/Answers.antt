@@ -1,26 +1,16 @@
 use Rattle.std.proofs.Common.{List, ℕ}
-use Rattle.std.specs.Io.KnownBytes.{Appends}
+use Rattle.std.specs.Prelude.{IfSome}
+use Rattle.std.proofs.lemmas.Result.{IfOk-weaker}
+use Rattle.witness.specs.declared.judgement.Judgement.{Judgement}
 use Rattle.witness.specs.BitJudgements.{BitJudges}
 use Rattle.witness.proofs.FeedLemmas.{if_some_then}
-use Rattle.lift.specs.Lifted.{lifted_text}
-use Rattle.lift.specs.Stands.{Lifts}
 use Rattle.lift.specs.Verdicts.{KeepsVerdict}
 use Rattle.lift.proofs.lifting.lift.Goals as goal
 
-pub returns-in-Ok-lift_through-clause-judged : goal.returns-in-Ok-lift_through-clause-judged
-returns-in-Ok-lift_through-clause-judged g c =
-    if_some_then _ (λ (text : List ℕ). Lifts c.args.model.now c.args.circuit.now c.lift_through.new.lifter text × Appends (g.K.Sink.written c.args.sink.now) (g.K.Sink.written c.lift_through.new.sink) (lifted_text c.args.model.now c.args.circuit.now text))
-    (λ (text : List ℕ). BitJudges c.args.circuit.now text c.finish.result) (λ text both. c.finish.ensures c.args.model.now c.args.circuit.now text both.0) (c.in-Ok-lift_through.ensures.lifts c.args.model.now c.args.circuit.now c.in-Ok.ensures)
-
-pub returns-in-Ok-lift_through-clause-kept : goal.returns-in-Ok-lift_through-clause-kept
-returns-in-Ok-lift_through-clause-kept g c =
-    if_some_then _ (λ (text : List ℕ). BitJudges c.args.circuit.now text c.finish.result) (λ (text : List ℕ). KeepsVerdict c.args.model.now c.args.circuit.now text c.finish.result)
-    (λ text h. c.lifting_keeps_the_verdict.ensures c.args.model.now c.args.circuit.now text c.finish.result c.requires h) (returns-in-Ok-lift_through-clause-judged g c)
-
-pub returns-in-Ok-lift_through-clause-written : goal.returns-in-Ok-lift_through-clause-written
-returns-in-Ok-lift_through-clause-written g c =
-    if_some_then _ (λ (text : List ℕ). Lifts c.args.model.now c.args.circuit.now c.lift_through.new.lifter text × Appends (g.K.Sink.written c.args.sink.now) (g.K.Sink.written c.lift_through.new.sink) (lifted_text c.args.model.now c.args.circuit.now text))
-    (λ (text : List ℕ). Appends (g.K.Sink.written c.args.sink.now) (g.K.Sink.written c.lift_through.new.sink) (lifted_text c.args.model.now c.args.circuit.now text)) (λ text both. both.1) (c.in-Ok-lift_through.ensures.lifts c.args.model.now c.args.circuit.now c.in-Ok.ensures)
-
-pub returns-in-Err-lift_through-clause-beginning : goal.returns-in-Err-lift_through-clause-beginning
-returns-in-Err-lift_through-clause-beginning g c = c.in-Err-lift_through.ensures.lifts c.args.model.now c.args.circuit.now c.in-Ok.ensures
+pub returns-clause-kept : goal.returns-clause-kept
+returns-clause-kept g c =
+    IfOk-weaker c.lift_with.result (λ (j : Judgement). IfSome (g.S.Source.to_come c.args.source.now) (λ (text : List ℕ). BitJudges c.args.circuit.now text j))
+    (λ (j : Judgement). IfSome (g.S.Source.to_come c.args.source.now) (λ (text : List ℕ). KeepsVerdict c.args.model.now c.args.circuit.now text j))
+    (λ j h. if_some_then _ (λ (text : List ℕ). BitJudges c.args.circuit.now text j) (λ (text : List ℕ). KeepsVerdict c.args.model.now c.args.circuit.now text j)
+    (λ text k. c.lifting_keeps_the_verdict.ensures c.args.model.now c.args.circuit.now text j c.requires k) h)
+    c.lift_with.ensures.judged

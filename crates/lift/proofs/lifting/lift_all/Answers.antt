@@ -1,4 +1,4 @@
-use Rattle.std.proofs.Common.{◌≡◌, refl, ◌∙◌, rules}
+use Rattle.std.proofs.Common.{◌≡◌, Bool, refl, ◌∙◌, rules}
 use Rattle.std.specs.Io.KnownBytes.{IsAtEnd}
 use Rattle.std.proofs.lemmas.Result.{err_from_is_err_and}
 use Rattle.lift.proofs.LiftingLemmas.{given_nothing, given_more, all_taken, read_failed, write_failed}
@@ -9,7 +9,7 @@ loop-count-init g c = record { given = given_nothing _ _ _ _; read = refl; put =
 
 pub loop-count-preserved : goal.loop-count-preserved
 loop-count-preserved g c = record {
-  given = given_more _ _ _ _ _ _ _ _ _ _ _ _ _ c.loop-count.invariant.given c.in-Ok.ensures.bytes.0 c.in_ok-take_piece-in-Ok.ensures.takes.takes;
+  given = given_more _ _ _ _ _ _ _ _ _ _ _ _ _ c.loop-count.invariant.given c.in-Ok.ensures.bytes.0 (λ (n : Bool). c.in_ok-take_piece-in-Ok.ensures.takes.takes {named = n});
   read = c.in-Ok.ensures.failures ∙ c.loop-count.invariant.read;
   put = c.in_ok-take_piece-in-Ok.ensures.failures ∙ c.loop-count.invariant.put;
 }
@@ -23,7 +23,7 @@ returns-in-Ok-eq0-clause-takes g c =
 pub returns-in_err-take_piece-in-Ok-clause-takes : goal.returns-in_err-take_piece-in-Ok-clause-takes
 returns-in_err-take_piece-in-Ok-clause-takes g c =
     let is = err_from_is_err_and c.from_residual.result c.from_residual.ensures.1 in
-    rw is.1 (write_failed _ _ _ _ _ _ _ _ _ _ _ _ _ _ _ _ c.loop-count.invariant.given c.in-Ok.ensures.bytes.0 c.in_err-take_piece-in-Ok.ensures.takes.takes)
+    rw is.1 (write_failed _ _ _ _ _ _ _ _ _ _ _ _ _ _ _ _ c.loop-count.invariant.given c.in-Ok.ensures.bytes.0 (λ (n : Bool). c.in_err-take_piece-in-Ok.ensures.takes.takes {named = n}))
 
 pub returns-in-Err-clause-takes : goal.returns-in-Err-clause-takes
 returns-in-Err-clause-takes g c = read_failed _ _ _ _ _ _ _ _ _ _ _ c.loop-count.invariant.given

@@ -1,9 +1,9 @@
 use Rattle.std.proofs.Common.{refl, sym, subst}
-use Rattle.lift.specs.Stands.{Lifter, Lifts}
+use Rattle.lift.specs.Stands.{Lifter, LiftsWith}
 use Rattle.lift.proofs.LifterLemmas.{lifts_bytes}
 use Rattle.lift.proofs.lifter.Lifter.take_bytes.Goals as goal
 
 pub returns : goal.returns
-returns c items circuit text is h =
-    let k = subst (λ (l : Lifter). Lifts items circuit l text) (sym c.self.view_is) h in
-    lifts_bytes items circuit text c.args.bytes.now _ _ is k refl (c.feed.ensures circuit text k.judge) c.take.ensures.keeps c.take.ensures.room
+returns c named items circuit text is h =
+    let k = subst (λ (l : Lifter). LiftsWith named items circuit l text) (sym c.self.view_is) h in
+    lifts_bytes named items circuit text c.args.bytes.now _ _ is k refl refl (c.feed.ensures circuit text k.judge) c.take.ensures.keeps c.take.ensures.room
