@@ -181,7 +181,7 @@ class Block:
 
 
 BLOCK = re.compile(r"^[ \t]*(?:pub )?(?:unsafe )?(impl|trait|mod)\b([^{;]*)\{", re.M)
-FUNCTION = re.compile(r"^[ \t]*((?:pub(?:\([^)]*\))? )?)(?:const )?fn (\w+)", re.M)
+FUNCTION = re.compile(r"^[ \t]*((?:pub(?:\([^)]*\))? )?)(?:const )?(?:extern\s+)?fn (\w+)", re.M)
 CLAUSE = re.compile(r"\s*(?:requires|ensures)(?:\s+\w+)?\s*\{")
 MEMBER = re.compile(r"^[ \t]*ghost (\w+)\s*(:|=)", re.M)
 
@@ -240,6 +240,9 @@ class Crate:
                 if item.strip():
                     self.offered.add(item.split()[-1])
         self.files = [p for p in sorted(self.source.rglob("*.rt")) if "tests" not in p.relative_to(self.source).as_posix()]
+        # what a static library exports, it offers from any module
+        for file in self.files:
+            self.offered.update(re.findall(r'pub extern "C" fn (\w+)', file.read_text()))
 
     def offers(self, path, name):
         inside = path.relative_to(self.source).with_suffix("").parts[0]
@@ -380,7 +383,7 @@ def main():
         print(__doc__.strip())
         return 0 if asked[:1] in (["--help"], ["-h"]) else 2
     modules = read_modules()
-    crates = [line.split(":")[0].strip() for line in (TOP / "crates.txt").read_text().split("\n")
+    crates = [line.split(":")[0].split()[0] for line in (TOP / "crates.txt").read_text().split("\n")
               if line.strip() and not line.startswith("#")]
     # crates of tests offer nothing but what tests speak of
     crates = [name for name in crates if not name.endswith("_tests")]

@@ -1,0 +1,87 @@
+-- What the exported calls write, said of the bytes that they are given.
+use Rattle.std.specs.Prelude.{◌≡◌, ◌<◌, ℕ, Bool, true, false, List, Some, length, take}
+use Rattle.btor2.specs.declared.item.Item.{Item}
+use Rattle.btor2.specs.Check.{IsWellFormed}
+use Rattle.btor2text.specs.Spelling.{StandsFor}
+use Rattle.aiger.specs.Circuit.{Circuit, IsCircuit}
+use Rattle.aigertext.specs.Binary.{circuit_text}
+use Rattle.aigertext.specs.Spelling.{Spells}
+use Rattle.aigertext.specs.declared.forms.Form.{Form}
+use Rattle.aigertext.specs.declared.forms.Form.TheVariants as form
+use Rattle.blast.specs.Cost.{cost, bound}
+use Rattle.blast.specs.Faults.{lower_number}
+use Rattle.blast.specs.Lowering.{Lowers}
+use Rattle.blast.specs.Refusal.{lowering_refusal}
+use Rattle.blast.specs.declared.fault.LowerFault.{LowerFault}
+use Rattle.blast.specs.declared.fault.LowerFault.TheVariants as lower
+use Rattle.capi.specs.declared.answers.Refusal.{Refusal}
+use Rattle.capi.specs.declared.answers.Stop.{Stop}
+use Rattle.capi.specs.declared.answers.Stop.TheVariants as stop
+
+-- ---- into the caller's buffer
+
+-- some bytes that are so stand at the front of a buffer, and their number is told
+pub record Fills (IsSo : List ℕ → Type 0) (buffer : List ℕ) (needed : ℕ) : Type 0 where
+  pub bytes : List ℕ
+  pub is_so : IsSo bytes
+  pub number : needed ≡ length bytes
+  pub front : take (length bytes) buffer ≡ bytes
+
+-- some bytes that are so are more than a buffer has room for, and their number is told
+pub record Needs (IsSo : List ℕ → Type 0) (room needed : ℕ) : Type 0 where
+  pub bytes : List ℕ
+  pub is_so : IsSo bytes
+  pub number : needed ≡ length bytes
+  pub small : room < length bytes
+
+-- ---- circuits
+
+-- the form of a circuit that is asked for
+abbrev pub form_of : Bool → Form
+form_of true = form.Binary
+form_of false = form.Ascii
+
+-- some bytes are the text of a circuit that lowers the model of a text
+pub record IsLowering (model : List ℕ) (binary : Bool) (bytes : List ℕ) : Type 0 where
+  pub items : List Item
+  pub text : StandsFor model items
+  pub circuit : Circuit
+  pub lowers : Lowers items circuit
+  pub is : bytes ≡ circuit_text (form_of binary) circuit
+
+-- some bytes are the writer's text of the circuit of a text
+pub record IsRewriting (circuit : List ℕ) (binary : Bool) (bytes : List ℕ) : Type 0 where
+  pub value : Circuit
+  pub is_circuit : IsCircuit value
+  pub text : Spells circuit value
+  pub is : bytes ≡ circuit_text (form_of binary) value
+
+-- these are the gates and the variables that the lowering of the model of a text has at most
+pub record IsCost (model : List ℕ) (gates variables : ℕ) : Type 0 where
+  pub items : List Item
+  pub text : StandsFor model items
+  pub well_formed : IsWellFormed items
+  pub gates_is : gates ≡ cost items
+  pub variables_is : variables ≡ bound items
+
+-- ---- what is not lowered
+
+-- the item that a lowering is refused for, by its id, or 0 where it is the model as a whole
+abbrev pub place_of : LowerFault → ℕ
+place_of (lower.Justice id) = id
+place_of (lower.Fair id) = id
+place_of (lower.NoNext id) = id
+place_of _ = 0
+
+-- why a call stops where a model is not lowered
+abbrev pub stop_of : LowerFault → Stop
+stop_of lower.NoMemory = stop.NoMemory
+stop_of fault = stop.Model (record { number = lower_number fault; place = place_of fault })
+
+-- a text is of a model that is not lowered, and this is the number of what speaks against it first, and its place
+pub record IsUnlowered (text : List ℕ) (refusal : Refusal) : Type 0 where
+  pub items : List Item
+  pub text_is : StandsFor text items
+  pub fault : LowerFault
+  pub first : lowering_refusal items ≡ Some fault
+  pub told : refusal ≡ record { number = lower_number fault; place = place_of fault }

@@ -1,0 +1,22 @@
+//! Texts that go into a caller's buffer.
+ghost use Rattle.std.specs.Prelude.{◌≡◌, ◌⊎◌, ◌<◌, length, take};
+
+use crate::answers::DONE;
+
+/// The status where a text is longer than the buffer that it is to go into.
+const TOO_SMALL: u32 = 1;
+
+/// Puts a text at the front of a buffer, where it fits, and tells how long it is.
+pub(crate) fn hand_over(text: &[u8], buffer: &mut [u8], needed: &mut usize) -> u32
+    ensures needed { needed.new ≡ length text.now }
+    ensures done { result ≡ 0 → take (length text.now) buffer.new ≡ text.now }
+    ensures small { result ≡ 1 → length buffer.old < length text.now }
+    ensures statuses { (result ≡ 0) ⊎ (result ≡ 1) }
+{
+    *needed = text.len();
+    if buffer.len() < text.len() {
+        return TOO_SMALL;
+    }
+    buffer[..text.len()].copy_from_slice(text);
+    DONE
+}

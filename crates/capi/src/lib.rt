@@ -1,0 +1,14 @@
+//! The library for C programs: judgements of witnesses, lowering and lifting, over whole texts in memory. `include/hwtool.h`
+//! says what each call takes and answers, and what the caller owes.
+#![tactic(auto)]
+
+mod answers;
+mod buffers;
+mod certificates;
+mod engines;
+mod judging;
+mod lifting;
+mod lowering;
+mod reading;
+
+pub use answers::{Refusal, Verdict};

@@ -1,0 +1,103 @@
+/* Refuses each growth of each call in turn: refused MODEL WITNESS CIRCUIT CIRCUIT_WITNESS INVARIANT PROOF. Linked with
+ * --wrap=malloc and --wrap=realloc. A call in which one is refused must answer that memory was wanting and leave what it was
+ * given as it was, or answer what it does with ample memory, where it could do without; and so must the first call in which
+ * nothing is refused. */
+#include "hwtool.h"
+
+#include <stdio.h>
+#include <stdlib.h>
+#include <string.h>
+
+void *__real_malloc(size_t size);
+void *__real_realloc(void *block, size_t size);
+
+static long until, asked;
+
+void *__wrap_malloc(size_t size) { return ++asked == until ? NULL : __real_malloc(size); }
+
+void *__wrap_realloc(void *block, size_t size) { return ++asked == until ? NULL : __real_realloc(block, size); }
+
+struct text {
+    uint8_t *bytes;
+    size_t length;
+};
+
+static struct text texts[6];
+enum { MODEL, WITNESS, CIRCUIT, CIRCUIT_WITNESS, INVARIANT, PROOF };
+
+/* What a call answers, and what it leaves of what it was given. */
+struct answer {
+    uint32_t status;
+    struct hwtool_verdict verdict;
+    struct hwtool_refusal refusal;
+    uint64_t gates, variables;
+    size_t needed;
+    uint8_t buffer[1 << 16];
+};
+
+#define OF(text) texts[text].bytes, texts[text].length
+#define INTO a->buffer, sizeof a->buffer, &a->needed, &a->refusal
+
+static void check_btor(struct answer *a) { a->status = hwtool_check_btor(OF(MODEL), OF(WITNESS), &a->verdict, &a->refusal); }
+static void check_aig(struct answer *a) {
+    a->status = hwtool_check_aig(OF(CIRCUIT), OF(CIRCUIT_WITNESS), &a->verdict, &a->refusal);
+}
+static void lower(struct answer *a) { a->status = hwtool_lower(OF(MODEL), false, INTO); }
+static void cost(struct answer *a) { a->status = hwtool_cost(OF(MODEL), &a->gates, &a->variables, &a->refusal); }
+static void convert(struct answer *a) { a->status = hwtool_convert(OF(CIRCUIT), true, INTO); }
+static void engine_form(struct answer *a) { a->status = hwtool_engine_form(OF(CIRCUIT), true, 0, true, INTO); }
+static void lift(struct answer *a) { a->status = hwtool_lift(OF(MODEL), OF(CIRCUIT_WITNESS), &a->verdict, INTO); }
+static void wave(struct answer *a) {
+    a->status = hwtool_wave(OF(MODEL), true, (const uint8_t *)"title", 5, OF(WITNESS), &a->verdict, INTO);
+}
+static void obligation(struct answer *a) { a->status = hwtool_obligation(OF(MODEL), 0, OF(INVARIANT), INTO); }
+static void check_proof(struct answer *a) {
+    a->status = hwtool_check_proof(OF(MODEL), 0, OF(INVARIANT), OF(PROOF), &a->verdict, &a->refusal);
+}
+
+static const struct {
+    const char *name;
+    void (*call)(struct answer *);
+} calls[] = {
+    {"check_btor", check_btor}, {"check_aig", check_aig}, {"lower", lower}, {"cost", cost},
+    {"convert", convert}, {"engine_form", engine_form}, {"lift", lift}, {"wave", wave},
+    {"obligation", obligation}, {"check_proof", check_proof},
+};
+
+static struct answer ample, before, now;
+
+int main(int argc, char **argv) {
+    if (argc != 7) return 4;
+    for (int i = 0; i < 6; i++) {
+        FILE *file = fopen(argv[i + 1], "rb");
+        texts[i].bytes = malloc(1 << 20);
+        if (file == NULL || texts[i].bytes == NULL) return 3;
+        texts[i].length = fread(texts[i].bytes, 1, 1 << 20, file);
+        fclose(file);
+    }
+    int wrong = 0;
+    long tried = 0;
+    memset(&before, 0x5a, sizeof before);
+    for (size_t k = 0; k < sizeof calls / sizeof *calls; k++) {
+        until = 0;
+        ample = before;
+        calls[k].call(&ample);
+        for (long n = 1;; n++) {
+            asked = 0;
+            until = n;
+            now = before;
+            calls[k].call(&now);
+            tried++;
+            int is_refused = asked >= n;
+            before.status = HWTOOL_NO_MEMORY;
+            if (memcmp(&now, &ample, sizeof now) != 0 && !(is_refused && memcmp(&now, &before, sizeof now) == 0)) {
+                wrong++;
+                printf("%s: growth %ld of %ld refused: status %u\n", calls[k].name, n, asked, now.status);
+            }
+            if (!is_refused) break;
+        }
+    }
+    until = 0;
+    printf("refused growths: %ld tried, %d wrong\n", tried, wrong);
+    return wrong != 0;
+}

@@ -1,0 +1,13 @@
+#!/usr/bin/env bash
+# Builds the library for C programs: tools/c-library.sh FOLDER makes FOLDER/libhwtool.a, with the toolchain's heap for C in it,
+# and FOLDER/libhwtool.so. It proves the crate `capi` where no earlier build did.
+set -euo pipefail
+root=$(cd "$(dirname "$0")/.." && pwd)
+into=$(mkdir -p "${1:?a folder}" && cd "$1" && pwd)
+heap=$(dirname "$(rt doc | head -n 1)")/c/liblibc_c.a
+(cd "$root/crates/capi" && rt lib >&2)
+cp "$root/crates/capi/out/libcapi.a" "$into/libhwtool.a"
+parts=$(mktemp -d)
+trap 'rm -rf "$parts"' EXIT
+(cd "$parts" && ar x "$heap" && ar qs "$into/libhwtool.a" ./*)
+"${CC:-cc}" -shared -o "$into/libhwtool.so" -Wl,--whole-archive "$into/libhwtool.a" -Wl,--no-whole-archive
