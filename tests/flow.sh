@@ -55,6 +55,8 @@ found() {
     cmp -s told again || tell "$2, b$4, $1: restored as '$(cat told)', judged as '$(cat again)'"
     hwtool lift "$2" bits >words 2>told || tell "$2, b$4, $1: its lifting: $(cat told)"
     hwtool check-btor "$2" words >again || tell "$2, b$4, $1: the model's witness: $(cat again)"
+    hwtool lift --engine --abc --bad "$4" "$2" cex >direct 2>told || tell "$2, b$4, $1: its lifting at once: $(cat told)"
+    cmp -s words direct || tell "$2, b$4, $1: lifted at once to another witness"
     grep -q '^accepted' again || tell "$2, b$4, $1: not accepted"
 }
 

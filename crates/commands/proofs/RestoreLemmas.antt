@@ -1,7 +1,9 @@
 -- What a restoring answers, and what a command has done that tells it.
-use Rattle.std.proofs.Common.{◌≡◌, ℕ, List, Option, Some, None, IfSome, Result, Ok, Err, IfOk, IfErr, OnOk, true}
+use Rattle.std.proofs.Common.{false, ◌≡◌, ℕ, List, Option, Some, None, IfSome, Result, Ok, Err, IfOk, IfErr, OnOk, true}
 use Rattle.std.specs.Io.KnownBytes.{Appends}
+use Rattle.btor2.specs.declared.item.Item.{Item}
 use Rattle.aiger.specs.Circuit.{Circuit, IsCircuit}
+use Rattle.blast.specs.Lowering.{Lowers}
 use Rattle.engine.specs.EngineForm.{input_count}
 use Rattle.engine.specs.Refusal.{engine_refusal}
 use Rattle.witness.specs.declared.judgement.Judgement.{Judgement}
@@ -13,27 +15,54 @@ use Rattle.restore.specs.Reading.{read_text}
 use Rattle.restore.specs.Restored.{restored_text}
 use Rattle.commands.specs.declared.answers.Answer.{Answer}
 use Rattle.commands.specs.declared.refusals.Refusal.{Refusal}
-use Rattle.commands.specs.Done.{IsCircuitText, IsClaim, Restores}
-use Rattle.commands.specs.Restoring.{IsAnswerOf, Told, Writes}
+use Rattle.lift.specs.EngineLifting.{engine_lifted_text, FindsInModel}
+use Rattle.lift.specs.Verdicts.{KeepsVerdict}
+use Rattle.commands.specs.Done.{IsCircuitText, IsModelOf, IsClaim, Restores, TellsRestored, LiftsFound}
+use Rattle.commands.specs.Restoring.{IsAnswerOf, IsWhole}
 
 -- what is known of an answer by its clauses
-pub answer_of : (r : Result Judgement RestoreFault) (c : Circuit) (claim : ℕ) (found before now : Option (List ℕ))
+pub answer_of : (r : Result Judgement RestoreFault) (c : Circuit) (claim : ℕ) (found : Option (List ℕ))
     → IfOk r (λ j. IfSome found (λ text. BitJudges c (restored_text c claim text) j))
     → IfOk r (λ j. IfSome found (λ text. FindsAgain c claim text j))
-    → OnOk r (Writes c claim found before now)
     → OnOk r (IfSome found (λ text. (read_text (input_count c) text).fault ≡ None))
     → IfErr r (λ e. is_of_text e.why ≡ true → IfSome found (λ text. (read_text (input_count c) text).fault ≡ Some e))
-    → IfErr r (λ e. is_of_text e.why ≡ true → Writes c claim found before now)
-    → IsAnswerOf c claim found before now r
-answer_of (Ok j) c claim found before now judged again writes right first front = (right, (judged, (again, writes)))
-answer_of (Err e) c claim found before now judged again writes right first front = λ is. (first is, front is)
+    → IsAnswerOf c claim found r
+answer_of (Ok j) c claim found judged again right first = (right, (judged, again))
+answer_of (Err e) c claim found judged again right first = first
+
+-- where all that the counterexample gives was written, this was
+written_of : (r : Result Judgement RestoreFault) (W : Type 0) → OnOk r W → IfErr r (λ e. is_of_text e.why ≡ true → W) → IsWhole r → W
+written_of (Ok j) W all front whole = all
+written_of (Err e) W all front whole = front whole
 
 -- a command that told it has restored
-pub restored : (r : Result Answer Refusal) (known found before now told told' : Option (List ℕ)) (choice : Option ℕ) (c : Circuit) (claim : ℕ)
+pub restored : (r : Result Answer Refusal) (told_by : Result Judgement RestoreFault) (known found before now told told' : Option (List ℕ)) (choice : Option ℕ) (c : Circuit) (claim : ℕ)
     → IsCircuit c → IsCircuitText known c → IsClaim choice c claim → engine_refusal c (Some claim) ≡ None
-    → IfOk r (Told c claim found before now told told') → IfOk r (Restores choice known found before now told told')
-restored (Ok a) known found before now told told' choice c claim valid text is accepted t = record {
-  is_restored = record { value = c; claim = claim; is_circuit = valid; text = text; is_claim = is; accepted = accepted; restored = t.writes };
-  tells = t.tells;
+    → OnOk told_by (IfSome found (λ text. Appends before now (restored_text c claim text))) → IfErr told_by (λ e. is_of_text e.why ≡ true → IfSome found (λ text. Appends before now (restored_text c claim text)))
+    → IfOk r (λ a. TellsRestored a c claim found told told') → OnOk r (IsWhole told_by) → IfOk r (Restores choice known found before now told told')
+restored (Ok a) told_by known found before now told told' choice c claim valid text is accepted all front tells whole = record {
+  is_restored = record { value = c; claim = claim; is_circuit = valid; text = text; is_claim = is; accepted = accepted; restored = written_of told_by _ all front whole };
+  tells = tells;
 }
-restored (Err e) known found before now told told' choice c claim valid text is accepted t = t
+restored (Err e) told_by known found before now told told' choice c claim valid text is accepted all front tells whole = tells
+
+-- a command that told it has lifted what was restored
+pub engine_lifted : (r : Result Answer Refusal) (told_by : Result Judgement RestoreFault) (known found before now told told' : Option (List ℕ)) (choice : Option ℕ) (items : List Item) (c : Circuit) (claim : ℕ)
+    → IsModelOf known items → Lowers items c → IsClaim choice c claim → engine_refusal c (Some claim) ≡ None
+    → OnOk told_by (IfSome found (λ text. Appends before now (engine_lifted_text false items c claim text))) → IfErr told_by (λ e. is_of_text e.why ≡ true → IfSome found (λ text. Appends before now (engine_lifted_text false items c claim text)))
+    → ((text : List ℕ) (j : Judgement) → BitJudges c text j → KeepsVerdict items c text j) → ((text : List ℕ) → FindsInModel false items c claim text)
+    → IfOk r (λ a. TellsRestored a c claim found told told') → OnOk r (IsWhole told_by) → IfOk r (LiftsFound choice known found before now told told')
+engine_lifted (Ok a) told_by known found before now told told' choice items c claim text lowers is accepted all front keeps finds tells whole = record {
+  items = items;
+  lowered = c;
+  claim = claim;
+  text = text;
+  lowers = lowers;
+  is_claim = is;
+  accepted = accepted;
+  lifted = written_of told_by _ all front whole;
+  kept = keeps;
+  in_model = finds;
+  tells = tells;
+}
+engine_lifted (Err e) told_by known found before now told told' choice items c claim text lowers is accepted all front keeps finds tells whole = tells

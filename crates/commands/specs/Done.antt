@@ -33,6 +33,7 @@ use Rattle.btor2.specs.Trace.{Frame}
 use Rattle.witness.specs.ClosedWords.{IsClosedTrace}
 use Rattle.wave.specs.Dumps.{vcd_text}
 use Rattle.wave.specs.declared.scope.Shown.{Shown}
+use Rattle.lift.specs.EngineLifting.{engine_lifted_text, FindsInModel}
 use Rattle.lift.specs.Lifted.{lifted_text}
 use Rattle.lift.specs.Verdicts.{KeepsVerdict}
 use Rattle.witness.specs.Printed.{judgement_text}
@@ -227,6 +228,20 @@ pub record Restores (choice : Option ℕ) (circuit found before now told told' :
   pub is_restored : IsRestored choice circuit found before now
   pub tells : TellsRestored a is_restored.value is_restored.claim found told told'
 
+-- The first text is of a model, which a circuit lowers that has an engine form for this bad property; what was written is what the second is lifted to, a counterexample over that form, of which what is judged over the circuit is judged over the model; and it was told how that is.
+pub record LiftsFound (choice : Option ℕ) (model found before now told told' : Option (List ℕ)) (a : Answer) : Type 0 where
+  pub items : List Item
+  pub lowered : Circuit
+  pub claim : ℕ
+  pub text : IsModelOf model items
+  pub lowers : Lowers items lowered
+  pub is_claim : IsClaim choice lowered claim
+  pub accepted : engine_refusal lowered (Some claim) ≡ None
+  pub lifted : IfSome found (λ text. Appends before now (engine_lifted_text false items lowered claim text))
+  pub kept : (text : List ℕ) (j : Judgement) → BitJudges lowered text j → KeepsVerdict items lowered text j
+  pub in_model : (text : List ℕ) → FindsInModel false items lowered claim text
+  pub tells : TellsRestored a lowered claim found told told'
+
 -- all that was to come is a text of some vectors, each of which is right, and what was written is that all of them agree
 pub record Agree (known before now : Option (List ℕ)) : Type 0 where
   pub vectors : List Vector
@@ -259,6 +274,7 @@ Answers task.CheckAig form a first second third before now told told' = Judged (
 Answers task.Lift form a first second third before now told told' = Judged (IsLiftedAndTold first second before now told told') a
 Answers (task.Wave shown) form a first second third before now told told' = Judged (IsDumped shown first second before now told told') a
 Answers (task.Restore choice) form a first second third before now told told' = Restores choice first second before now told told' a
+Answers (task.LiftFound choice) form a first second third before now told told' = LiftsFound choice first second before now told told' a
 Answers task.Vectors form a first second third before now told told' = Compares first before now a
 Answers _ form a first second third before now told told' = ⊥
 
@@ -272,6 +288,7 @@ has_one_file task.CheckBtor = false
 has_one_file task.CheckAig = false
 has_one_file task.Lift = false
 has_one_file (task.Restore choice) = false
+has_one_file (task.LiftFound choice) = false
 has_one_file (task.Wave shown) = false
 has_one_file _ = true
 
@@ -283,5 +300,6 @@ has_three_files _ = false
 abbrev pub is_quiet : Task → Bool
 is_quiet task.Lift = false
 is_quiet (task.Restore choice) = false
+is_quiet (task.LiftFound choice) = false
 is_quiet (task.Wave shown) = false
 is_quiet _ = true

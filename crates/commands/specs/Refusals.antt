@@ -177,6 +177,31 @@ IsNotRestored choice known (fault.Engine e) = HasNoFormClaimed known choice e
 IsNotRestored choice known fault.Unchosen = IsUnchosen known choice
 IsNotRestored choice known f = IsNoCircuit known f
 
+-- the first text is of a model that is lowered, and this is the first that speaks against an engine form of its circuit with the bad property that is claimed
+pub record LowersWithoutFormClaimed (known : Option (List ℕ)) (choice : Option ℕ) (e : EngineFault) : Type 0 where
+  pub items : List Item
+  pub lowered : Circuit
+  pub claim : ℕ
+  pub text : IsModelOf known items
+  pub lowers : Lowers items lowered
+  pub is_claim : IsClaim choice lowered claim
+  pub first : engine_refusal lowered (Some claim) ≡ Some e
+
+-- the first text is of a model that is lowered and has none or several bad properties, and none is chosen
+pub record LowersUnchosen (known : Option (List ℕ)) (choice : Option ℕ) : Type 0 where
+  pub items : List Item
+  pub lowered : Circuit
+  pub text : IsModelOf known items
+  pub lowers : Lowers items lowered
+  pub none : choice ≡ None
+  pub not_one : length lowered.bads ≢ 1
+
+-- the first text is no model, or is of one over the engine form of whose circuit no counterexample is restored
+abbrev pub IsNotLiftedFound : Option ℕ → Option (List ℕ) → Fault → Type 0
+IsNotLiftedFound choice known (fault.Engine e) = LowersWithoutFormClaimed known choice e
+IsNotLiftedFound choice known fault.Unchosen = LowersUnchosen known choice
+IsNotLiftedFound choice known f = IsNotLowered known f
+
 -- the first text has this fault, for which a command refuses it
 abbrev pub Refuses : Task → Option (List ℕ) → Fault → Type 0
 Refuses task.Lower known f = IsNotLowered known f
@@ -189,5 +214,6 @@ Refuses (task.ConvertForEngines choice) known f = IsNotConvertedForEngines choic
 Refuses task.CheckAig known f = IsNoCircuit known f
 Refuses task.Lift known f = IsNotLowered known f
 Refuses (task.Restore choice) known f = IsNotRestored choice known f
+Refuses (task.LiftFound choice) known f = IsNotLiftedFound choice known f
 Refuses (task.Wave shown) known f = IsNotJudged known f
 Refuses task.Vectors known f = IsNoVectorList known f

@@ -173,6 +173,23 @@ fn with_engine_words<'a>(
                 alloc,
                 "With --engine, keep the bad property at this position alone, from 0",
             )),
+        Engine::ReadWhereAsked => command
+            .arg(flag(
+                alloc,
+                ENGINE,
+                "The witness is a counterexample over the engine form of the model's circuit",
+            )
+            .requires_arg(ABC)?)?
+            .arg(flag(
+                alloc,
+                ABC,
+                "With --engine, the counterexample is in the form that ABC writes",
+            )
+            .requires_arg(ENGINE)?)?
+            .arg(bad_option(
+                alloc,
+                "With --engine, the position of the bad property that is claimed, from 0; needed where the model has more than one",
+            )),
         Engine::Read => command
             .arg(flag(
                 alloc,
@@ -244,6 +261,7 @@ fn task_of(task: Task, engine: Option<Option<usize>>, all: bool) -> Task {
         (Task::Lower, Some(choice)) => Task::LowerForEngines(choice),
         (Task::AigConvert, Some(choice)) => Task::ConvertForEngines(choice),
         (Task::Restore(_), Some(choice)) => Task::Restore(choice),
+        (Task::Lift, Some(choice)) => Task::LiftFound(choice),
         (Task::Wave(_), _) if all => Task::Wave(Shown::All),
         (task, _) => task,
     }

@@ -23,6 +23,8 @@ pub(crate) enum Engine {
     Written,
     /// It reads a counterexample over one.
     Read,
+    /// It reads a counterexample over one where that is asked for.
+    ReadWhereAsked,
 }
 
 /// A command of this program: its word, its task, what help says of it, and its files.
@@ -121,7 +123,7 @@ pub(crate) static ROWS: [Row; 10] = [
         file: MODEL,
         witness: Some(AIGER_WITNESS),
         product: Product::Text,
-        engine: Engine::Unknown,
+        engine: Engine::ReadWhereAsked,
     },
     Row {
         word: "restore",

@@ -5,6 +5,7 @@ mod answers;
 mod circuits;
 mod command_line;
 mod command_table;
+mod engine_lifting;
 mod engines;
 mod explaining;
 mod explanations;

@@ -38,6 +38,8 @@ pub enum Task {
     /// Restores a counterexample over the engine form of a circuit, in the form that ABC writes, to a witness of the circuit;
     /// it claims the bad property at a position of the circuit, or the only one.
     Restore(Option<usize>),
+    /// Lifts such a counterexample over the engine form of a model's circuit to a witness of the model.
+    LiftFound(Option<usize>),
     /// Judges a witness over a model, and dumps its frames.
     Wave(Shown),
     /// Judges vectors of operators.

@@ -8,8 +8,8 @@ ghost use Rattle.commands.specs.declared.answers.Answer.TheVariants as answer_is
 ghost use Rattle.commands.specs.declared.refusals.Refusal.TheVariants as refusal;
 ghost use Rattle.commands.specs.declared.refusals.Fault.TheVariants as fault_is;
 ghost use Rattle.restore.specs.Answers.{CountsRestore};
-ghost use Rattle.commands.specs.Done.{IsCircuitText, IsClaim, Restores, malformed_line};
-ghost use Rattle.commands.specs.Restoring.{IsAnswerOf, Told};
+ghost use Rattle.commands.specs.Done.{IsCircuitText, IsClaim, Restores, TellsRestored, malformed_line};
+ghost use Rattle.commands.specs.Restoring.{IsAnswerOf, IsWhole};
 ghost use Rattle.commands.specs.Refusals.{IsNotRestored, IsWithoutForm};
 ghost use Rattle.commands.specs.Statuses.{Counts, IfInput, IsOfNoInput, ErrUntold};
 
@@ -54,7 +54,7 @@ fn tell_malformed<E: Sink>(
 }
 
 /// The bad property that a counterexample claims: the chosen one, or the only one.
-fn claim_of(circuit: &Circuit, choice: Option<usize>) -> Result<usize, Refusal>
+pub(crate) fn claim_of(circuit: &Circuit, choice: Option<usize>) -> Result<usize, Refusal>
     ensures claim { IfOk result (λ claim. IsClaim choice circuit.now claim) }
     ensures unchosen { IfErr result (λ r. (r ≡ refusal.Input fault_is.Unchosen) × ((choice ≡ None) × (length circuit.now.bads ≢ 1))) }
 {
@@ -66,7 +66,7 @@ fn claim_of(circuit: &Circuit, choice: Option<usize>) -> Result<usize, Refusal>
 }
 
 /// Whether a circuit has an engine form with this bad property alone.
-fn has_form(alloc: Global, circuit: &Circuit, claim: usize) -> Result<(), Refusal>
+pub(crate) fn has_form(alloc: Global, circuit: &Circuit, claim: usize) -> Result<(), Refusal>
     ensures accepted { OnOk result (engine_refusal circuit.now (Some claim) ≡ None) }
     ensures there { OnOk result (claim < length circuit.now.bads) }
     ensures refused { IfErr result (IfInput (IsWithoutForm circuit.now (Some claim))) }
@@ -77,12 +77,13 @@ fn has_form(alloc: Global, circuit: &Circuit, claim: usize) -> Result<(), Refusa
 }
 
 /// Tells on standard error what a restoring answers.
-fn tell_restored<E: Sink>(
+pub(crate) fn tell_restored<E: Sink>(
     alloc: Global,
     told: Result<Judgement, RestoreFault>,
     err: &mut E,
 ) -> Result<Answer, Refusal>
-    ensures done { (c : Circuit) (claim : ℕ) (found before now : Option (List ℕ)) → IsAnswerOf c claim found before now told → IfOk result (Told c claim found before now (E.written err.old) (E.written err.new)) }
+    ensures done { (c : Circuit) (claim : ℕ) (found : Option (List ℕ)) → IsAnswerOf c claim found told → IfOk result (λ answer. TellsRestored answer c claim found (E.written err.old) (E.written err.new)) }
+    ensures whole { OnOk result (IsWhole told) }
     ensures no_input { IsOfNoInput result }
     ensures untold { ErrUntold result (err.new ≡ err.old) }
     ensures counted { (f s s' o o' : ℕ) → CountsRestore told s s' o o' → Counts result f f s s' o o' (E.failures err.old) (E.failures err.new) }

@@ -8,6 +8,7 @@ ghost use Rattle.commands.specs.Statuses.{Counts, CountsAll, ErrUntold, HasFaile
 
 use crate::answers::Answer;
 use crate::circuits::{check_circuit, convert_circuit};
+use crate::engine_lifting::lift_counterexample;
 use crate::engines::{convert_for_engines, lower_for_engines};
 use crate::lifting::lift_witness;
 use crate::models::{check_model, lower_model, show, tell_cost};
@@ -135,6 +136,9 @@ fn obey_two<A: Source, B: Source, O: Sink, E: Sink, W: Watch>(
         Task::CheckAig => check_circuit(alloc, first, second, out),
         Task::Lift => lift_witness(alloc, first, second, out, err, watch),
         Task::Restore(choice) => restore_counterexample(alloc, choice, first, second, out, err),
+        Task::LiftFound(choice) => {
+            lift_counterexample(alloc, choice, first, second, out, err, watch)
+        }
         Task::Wave(shown) => dump_witness(alloc, order, shown, first, second, out, err),
         Task::Vectors => compare_vectors(alloc, first, out),
     }
