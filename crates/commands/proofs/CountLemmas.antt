@@ -11,7 +11,7 @@ use Rattle.commands.specs.Statuses.{Counts, CountsAll}
 pub counted_behind : {T : Type 0} (r : Result T Refusal) (f f' s s' o o' e e' : ℕ) → f' ≡ f → Counts r f' f' s s' o o' e e' → Counts r f f' s s' o o' e e'
 counted_behind {T} r f f' s s' o o' e e' same c = let P : ℕ → Type 0 = λ n. Counts r n f' s s' o o' e e' in subst P same c
 
-risen : (e m e' : ℕ) → m ≡ e → HasRisen m e' → HasRisen e e'
+pub risen : (e m e' : ℕ) → m ≡ e → HasRisen m e' → HasRisen e e'
 risen e m e' same h = let P : ℕ → Type 0 = λ n. HasRisen n e' in subst P same h
 
 -- the third file was not read

@@ -1,6 +1,7 @@
 pub mod CountLemmas
 pub mod EngineLemmas
 pub mod RestoreLemmas
+pub mod SubjectLemmas
 pub mod TableLemmas
 pub mod ToldLemmas
 pub mod WaveLemmas

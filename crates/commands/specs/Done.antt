@@ -34,15 +34,18 @@ use Rattle.witness.specs.ClosedWords.{IsClosedTrace}
 use Rattle.wave.specs.Dumps.{vcd_text}
 use Rattle.wave.specs.declared.scope.Shown.{Shown}
 use Rattle.lift.specs.EngineLifting.{engine_lifted_text, FindsInModel}
-use Rattle.lift.specs.Lifted.{lifted_text}
-use Rattle.lift.specs.Verdicts.{KeepsVerdict}
+use Rattle.lift.specs.Lifted.{lifted_text, named_text}
+use Rattle.lift.specs.Verdicts.{KeepsVerdict, KeepsVerdictIn}
 use Rattle.witness.specs.Printed.{judgement_text}
 use Rattle.vectors.specs.declared.lines.Vector.{Vector}
 use Rattle.vectors.specs.Vectors.{AreVectorsOf, IsRight, numbered, differing, report}
 use Rattle.commands.specs.declared.answers.Answer.{Answer}
 use Rattle.commands.specs.declared.answers.Answer.TheVariants as answer
+use Rattle.commands.specs.declared.orders.Named.{Named}
+use Rattle.commands.specs.declared.orders.Named.TheVariants as named
 use Rattle.commands.specs.declared.orders.Task.{Task}
 use Rattle.commands.specs.declared.orders.Task.TheVariants as task
+use Rattle.commands.specs.Subjects.{item_said, name_said, lifted_said}
 
 -- the bytes of a source, where it knows them, are a text of some items
 abbrev pub IsModelOf : Option (List ℕ) → List Item → Type 0
@@ -261,6 +264,35 @@ abbrev pub Compares : Option (List ℕ) → Option (List ℕ) → Option (List �
 Compares known before now answer.Done = Agree known before now
 Compares known before now answer.NotAccepted = Differ known before now
 
+-- ---- with names
+
+-- a witness is judged so over a model, and what was told is the line that says what the judgement is about
+pub record IsJudgedByName (model witness before now told told' : Option (List ℕ)) (verdict : Judgement) : Type 0 where
+  pub judged : IsJudged model witness before now verdict
+  pub subject : Appends told told' (item_said judged.items verdict)
+
+-- a witness is judged so over a circuit, and what was told is the line that says what the judgement is about
+pub record IsJudgedOverByName (circuit witness before now told told' : Option (List ℕ)) (verdict : Judgement) : Type 0 where
+  pub judged : IsJudgedOver circuit witness before now verdict
+  pub subject : Appends told told' (name_said judged.value verdict)
+
+-- The first text is of a model, which a circuit lowers; the second is judged so over that circuit; what was written is what it is lifted to with names, of which the same verdict is judged over the model; and what was told is the line of that judgement and the one that says what it is about.
+pub record IsLiftedByName (model witness before now told told' : Option (List ℕ)) (verdict : Judgement) : Type 0 where
+  pub items : List Item
+  pub circuit : Circuit
+  pub text : IsModelOf model items
+  pub lowers : Lowers items circuit
+  pub judged : IfSome witness (λ text. BitJudges circuit text verdict)
+  pub lifted : IfSome witness (λ text. Appends before now (named_text items circuit text))
+  pub kept : IfSome witness (λ text. KeepsVerdictIn items circuit text (named_text items circuit text) verdict)
+  pub lines : Appends told told' (judgement_line verdict ++ lifted_said items circuit verdict)
+
+-- what a command has done that says by name what its judgement is about
+abbrev pub AnswersByName : Named → Option (List ℕ) → Option (List ℕ) → Option (List ℕ) → Option (List ℕ) → Option (List ℕ) → Option (List ℕ) → Answer → Type 0
+AnswersByName named.CheckBtor first second before now told told' a = Judged (IsJudgedByName first second before now told told') a
+AnswersByName named.CheckAig first second before now told told' a = Judged (IsJudgedOverByName first second before now told told') a
+AnswersByName named.Lift first second before now told told' a = Judged (IsLiftedByName first second before now told told') a
+
 -- what a command has done that answers so. Of `first`, `second` and `third` each, all bytes that were to come are known, or none are; `before` and `now` stand on standard output, `told` and `told'` on standard error
 abbrev pub Answers : Task → Form → Answer → Option (List ℕ) → Option (List ℕ) → Option (List ℕ) → Option (List ℕ) → Option (List ℕ) → Option (List ℕ) → Option (List ℕ) → Type 0
 Answers task.Lower form answer.Done first second third before now told told' = Converts first before now form
@@ -275,6 +307,7 @@ Answers task.Lift form a first second third before now told told' = Judged (IsLi
 Answers (task.Wave shown) form a first second third before now told told' = Judged (IsDumped shown first second before now told told') a
 Answers (task.Restore choice) form a first second third before now told told' = Restores choice first second before now told told' a
 Answers (task.LiftFound choice) form a first second third before now told told' = LiftsFound choice first second before now told told' a
+Answers (task.Named n) form a first second third before now told told' = AnswersByName n first second before now told told' a
 Answers task.Vectors form a first second third before now told told' = Compares first before now a
 Answers _ form a first second third before now told told' = ⊥
 
@@ -290,6 +323,7 @@ has_one_file task.Lift = false
 has_one_file (task.Restore choice) = false
 has_one_file (task.LiftFound choice) = false
 has_one_file (task.Wave shown) = false
+has_one_file (task.Named n) = false
 has_one_file _ = true
 
 -- a command has three files
@@ -302,4 +336,5 @@ is_quiet task.Lift = false
 is_quiet (task.Restore choice) = false
 is_quiet (task.LiftFound choice) = false
 is_quiet (task.Wave shown) = false
+is_quiet (task.Named n) = false
 is_quiet _ = true

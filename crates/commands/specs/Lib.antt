@@ -7,3 +7,4 @@ pub mod Orders
 pub mod Refusals
 pub mod Restoring
 pub mod Statuses
+pub mod Subjects

@@ -19,6 +19,8 @@ use Rattle.engine.specs.declared.fault.EngineFault.{EngineFault}
 use Rattle.vectors.specs.Vectors.{IsFirstBad}
 use Rattle.witness.specs.Answers.{judge_number, judge_name}
 use Rattle.witness.specs.declared.fault.JudgeFault.TheVariants as judge
+use Rattle.commands.specs.declared.orders.Named.{Named}
+use Rattle.commands.specs.declared.orders.Named.TheVariants as named
 use Rattle.commands.specs.declared.orders.Task.{Task}
 use Rattle.commands.specs.declared.orders.Task.TheVariants as task
 use Rattle.commands.specs.declared.refusals.Device.{Device}
@@ -202,6 +204,12 @@ IsNotLiftedFound choice known (fault.Engine e) = LowersWithoutFormClaimed known 
 IsNotLiftedFound choice known fault.Unchosen = LowersUnchosen known choice
 IsNotLiftedFound choice known f = IsNotLowered known f
 
+-- the first text has this fault, for which a command refuses it that says by name what its judgement is about
+abbrev pub RefusesByName : Named → Option (List ℕ) → Fault → Type 0
+RefusesByName named.CheckBtor known f = IsNotJudged known f
+RefusesByName named.CheckAig known f = IsNoCircuit known f
+RefusesByName named.Lift known f = IsNotLowered known f
+
 -- the first text has this fault, for which a command refuses it
 abbrev pub Refuses : Task → Option (List ℕ) → Fault → Type 0
 Refuses task.Lower known f = IsNotLowered known f
@@ -216,4 +224,5 @@ Refuses task.Lift known f = IsNotLowered known f
 Refuses (task.Restore choice) known f = IsNotRestored choice known f
 Refuses (task.LiftFound choice) known f = IsNotLiftedFound choice known f
 Refuses (task.Wave shown) known f = IsNotJudged known f
+Refuses (task.Named n) known f = RefusesByName n known f
 Refuses task.Vectors known f = IsNoVectorList known f

@@ -6,7 +6,7 @@ ghost use Rattle.commands.specs.Orders.{names_standard_input, reads_input_twice}
 use crate::command_table::{Engine, Product, ROWS, Row, row_of};
 use crate::explaining::explain;
 use crate::explanations::refusal_table;
-use crate::orders::{Order, STANDARD_INPUT, STANDARD_OUTPUT, Stop, Task};
+use crate::orders::{Named, Order, STANDARD_INPUT, STANDARD_OUTPUT, Stop, Task};
 use aigertext::Form;
 use base::decimal;
 use clap::error::ErrorKind;
@@ -55,6 +55,10 @@ const BAD_ALONE: &str = "words: --bad goes with --engine\n";
 /// What is told of words whose chosen bad property is no position.
 const NO_POSITION: &str = "words: --bad takes the position of a bad property, from 0\n";
 
+/// What is told of words that ask for names in a witness that is lifted from an engine form.
+const NAMES_OF_ENGINE: &str =
+    "words: --names does not go with --engine: lift what restore writes\n";
+
 /// The flags that choose the form of a circuit that is written.
 const ASCII: &str = "ascii";
 
@@ -76,6 +80,9 @@ const ABC: &str = "abc";
 
 /// The flag for a dump of all nodes that have a value.
 const ALL: &str = "all";
+
+/// The flag for names.
+const NAMES: &str = "names";
 
 /// The flag that leaves out how far work is.
 const QUIET: &str = "quiet";
@@ -152,7 +159,24 @@ fn command_of<'a>(alloc: Global, row: &'a Row) -> Result<Command<'a>, AllocError
             "Show every node that has a value, not only those with a symbol",
         ))?;
     }
+    if let Some(help) = help_of_names(row.task) {
+        command = command.arg(flag(alloc, NAMES, help))?;
+    }
     with_engine_words(alloc, command, row.engine)
+}
+
+/// What help says of names, for a command that knows them.
+fn help_of_names(task: Task) -> Option<&'static str> {
+    match task {
+        Task::CheckBtor => Some(
+            "Say on standard error which line of the model the judgement is about, by its symbol and its id",
+        ),
+        Task::CheckAig => Some("Say on standard error which name the judgement is about"),
+        Task::Lift => Some(
+            "Write symbols behind words, and say on standard error which line of the model the judgement is about",
+        ),
+        _ => None,
+    }
 }
 
 /// The words of a command with those about engine forms.
@@ -267,6 +291,16 @@ fn task_of(task: Task, engine: Option<Option<usize>>, all: bool) -> Task {
     }
 }
 
+/// A command, where names are asked for the one that knows them.
+fn with_names(task: Task, names: bool) -> Task {
+    match task {
+        Task::CheckBtor if names => Task::Named(Named::CheckBtor),
+        Task::CheckAig if names => Task::Named(Named::CheckAig),
+        Task::Lift if names => Task::Named(Named::Lift),
+        task => task,
+    }
+}
+
 /// The order that the words of a command name, with the engine form that they ask for.
 fn order_of<'a>(
     word: &str,
@@ -276,7 +310,10 @@ fn order_of<'a>(
     let row = row_of(word)?;
     let (name, _) = row.file;
     Some(Order {
-        task: task_of(row.task, engine, words.get_flag(ALL)),
+        task: with_names(
+            task_of(row.task, engine, words.get_flag(ALL)),
+            words.get_flag(NAMES),
+        ),
         form: if words.get_flag(BINARY) {
             Form::Binary
         } else {
@@ -332,6 +369,9 @@ fn order_or_stop<'a>(alloc: Global, word: &str, words: &ArgMatches<'a>) -> Resul
         Ok(engine) => engine,
         Err(line) => return Err(refused(alloc, line)),
     };
+    if engine.is_some() && words.get_flag(NAMES) {
+        return Err(refused(alloc, NAMES_OF_ENGINE));
+    }
     match order_of(word, words, engine) {
         Some(order) if reads_input_twice(&order) => Err(refused(alloc, INPUT_TWICE)),
         Some(order) => Ok(order),

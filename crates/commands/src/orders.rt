@@ -14,6 +14,17 @@ pub const STANDARD_INPUT: &str = "-";
 /// The name of a result's file that stands for standard output.
 pub(crate) const STANDARD_OUTPUT: &str = "-";
 
+/// The commands that can say by name what their judgements are about.
+#[derive(Clone, Copy, PartialEq, Eq)]
+pub enum Named {
+    /// Judges a witness over a model.
+    CheckBtor,
+    /// Judges a witness over a circuit.
+    CheckAig,
+    /// Lifts a witness of a model's circuit to one of the model, with names behind words.
+    Lift,
+}
+
 /// The commands.
 #[derive(Clone, Copy, PartialEq, Eq)]
 pub enum Task {
@@ -42,6 +53,8 @@ pub enum Task {
     LiftFound(Option<usize>),
     /// Judges a witness over a model, and dumps its frames.
     Wave(Shown),
+    /// Judges a witness, and says by name what the judgement is about.
+    Named(Named),
     /// Judges vectors of operators.
     Vectors,
 }

@@ -70,7 +70,7 @@ fn run_onto<
     second: &mut B,
     third: &mut T,
     file: io::Result<F>,
-    mut progress: Progress<'_, C, W>,
+    progress: Progress<'_, C, W>,
     err: &mut E,
 ) -> u8
     ensures done { result ≡ 0 → AnswersSome order.now.task order.now.form answer.Done (A.to_come first.old) (B.to_come second.old) (T.to_come third.old) (E.written err.old) (E.written err.new) }
@@ -83,18 +83,12 @@ fn run_onto<
     ensures no_third { has_three_files order.now.task ≡ false → third.new ≡ third.old }
     ensures statuses { result ≤ 4 }
 {
+    let mut watch = progress;
     match file {
         Ok(file) => {
             let mut out = Watched::new(ToWriter::new(file), Some(Work::Written), progress);
             run(
-                alloc,
-                order,
-                first,
-                second,
-                third,
-                &mut out,
-                err,
-                &mut progress,
+                alloc, order, first, second, third, &mut out, err, &mut watch,
             )
         }
         Err(_) => run(
@@ -105,7 +99,7 @@ fn run_onto<
             third,
             &mut NoFile::new(),
             err,
-            &mut progress,
+            &mut watch,
         ),
     }
 }

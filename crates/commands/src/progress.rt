@@ -2,7 +2,7 @@
 
 ghost use Rattle.std.specs.Prelude.{◌≡◌, None};
 
-use crate::orders::Task;
+use crate::orders::{Named, Task};
 use base::{DeviceFault, Sink, Source};
 use blast::Watch;
 use itoa::Buffer;
@@ -36,7 +36,9 @@ impl Work {
     /// The work on the second file of a command.
     pub fn on_second(task: Task) -> Work {
         match task {
-            Task::CheckBtor | Task::Wave(_) => Work::Judged(Frames::OfModel),
+            Task::CheckBtor | Task::Named(Named::CheckBtor) | Task::Wave(_) => {
+                Work::Judged(Frames::OfModel)
+            }
             _ => Work::Judged(Frames::OfCircuit),
         }
     }

@@ -12,6 +12,7 @@ use crate::engine_lifting::lift_counterexample;
 use crate::engines::{convert_for_engines, lower_for_engines};
 use crate::lifting::lift_witness;
 use crate::models::{check_model, lower_model, show, tell_cost};
+use crate::named::judge_by_name;
 use crate::orders::{Order, Task};
 use crate::refusals::Refusal;
 use crate::restoring::restore_counterexample;
@@ -28,8 +29,9 @@ use std::alloc::Global;
 ///
 /// While a model is lowered, `watch` is told behind each of its lines how many gates there are.
 ///
-/// Results go to `out`; a refusal is one line on `err`, and so is the judgement of `lift`, of `restore` and of `wave`. Only a
-/// command of two files reads the second source, and none yet the third.
+/// Results go to `out`; a refusal is one line on `err`, and so is the judgement of `lift`, of `restore` and of `wave`; with
+/// names the line that says what the judgement is about goes there too. Only a command of two files reads the second source,
+/// and none yet the third.
 ///
 /// - 0: all of the circuit's text was written (that of a lowering of the model, or of the circuit that was read, or of the
 ///   engine form of either, whose bad properties can rise exactly where those of the model or circuit can), the
@@ -65,7 +67,7 @@ pub fn run<A: Source, B: Source, T: Source, O: Sink, E: Sink, W: Watch>(
     ensures failed { result ≡ 3 → HasFailed order.now.first.now (option_map (λ name. name.now) order.now.second) (option_map (λ name. name.now) order.now.third) (E.written err.old) (E.written err.new) (A.failures first.old) (A.failures first.new) (B.failures second.old) (B.failures second.new) (T.failures third.old) (T.failures third.new) (O.failures out.old) (O.failures out.new) (E.failures err.old) (E.failures err.new) }
     // with any other status nothing failed
     ensures unfailed { result ≢ 3 → (A.failures first.new ≡ A.failures first.old) × (B.failures second.new ≡ B.failures second.old) × (T.failures third.new ≡ T.failures third.old) × (O.failures out.new ≡ O.failures out.old) × (E.failures err.new ≡ E.failures err.old) }
-    // a command that is done tells nothing, but for `lift`
+    // a command that is done tells nothing, but for `lift`, `restore` and `wave`, and those with names
     ensures quiet { result ≤ 1 → is_quiet order.now.task ≡ true → err.new ≡ err.old }
     ensures one_file { has_one_file order.now.task ≡ true → second.new ≡ second.old }
     ensures no_third { has_three_files order.now.task ≡ false → third.new ≡ third.old }
@@ -140,6 +142,7 @@ fn obey_two<A: Source, B: Source, O: Sink, E: Sink, W: Watch>(
             lift_counterexample(alloc, choice, first, second, out, err, watch)
         }
         Task::Wave(shown) => dump_witness(alloc, order, shown, first, second, out, err),
+        Task::Named(named) => judge_by_name(alloc, named, first, second, out, err, watch),
         Task::Vectors => compare_vectors(alloc, first, out),
     }
 }
