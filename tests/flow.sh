@@ -1,12 +1,14 @@
 #!/bin/sh
-# From a design in Verilog to a counterexample that is judged, where yosys and berkeley-abc are installed (Debian: apt-get
-# install yosys berkeley-abc): each command of docs/FLOW.md is run, and says what stands there; and each bad property of each
-# model of examples/ is looked for by ABC in its engine form, and what is found is restored and lifted, and judged anew.
-# It is run by hand, beside the gate: tests/flow.sh [PROGRAM]. Where the two are not installed it says so and ends well.
+# From a design in Verilog to a counterexample or a proof that is judged, where yosys, berkeley-abc and cadical are installed
+# (Debian: apt-get install yosys berkeley-abc cadical): each command of docs/FLOW.md is run, and says what stands there; and
+# each bad property of each model of examples/ is looked for by ABC in its engine form. What is found is restored and lifted,
+# and judged anew; what is proved is proved by CaDiCaL from ABC's invariant, and judged, also with a cube less. What is kept
+# in examples/ is judged too.
+# It is run by hand, beside the gate: tests/flow.sh [PROGRAM]. Where the three are not installed it says so and ends well.
 set -u
 top=$(cd "$(dirname "$0")/.." && pwd)
 program=${1:-$top/crates/hwtool/out/hwtool}
-for tool in yosys berkeley-abc; do
+for tool in yosys berkeley-abc cadical; do
     if ! command -v "$tool" >/dev/null; then
         echo "flow: $tool is not installed, so nothing was tried"
         exit 0
@@ -60,6 +62,46 @@ found() {
     grep -q '^accepted' again || tell "$2, b$4, $1: not accepted"
 }
 
+# refuted: whether CaDiCaL refutes o.cnf, with o.drat as its proof
+refuted() {
+    cadical -q --no-binary o.cnf o.drat >log
+    [ $? -eq 20 ]
+}
+
+# holds MODEL CIRCUIT K: a property that ABC proves is one by its invariant, over the model and over the circuit; and with a cube
+# less only where CaDiCaL says so too
+holds() {
+    count=$((count + 1))
+    berkeley-abc -q "read_aiger form.aig; strash; pdr -T 20 -d -I inv.pla" >log 2>&1
+    hwtool obligation --bad "$3" -o o.cnf "$1" inv.pla || tell "$1, b$3: no obligation"
+    refuted || tell "$1, b$3: CaDiCaL does not refute the obligation"
+    hwtool obligation --aiger --bad "$3" -o c.cnf "$2" inv.pla || tell "$1, b$3: no obligation over the circuit"
+    cmp -s o.cnf c.cnf || tell "$1, b$3: another obligation over the circuit"
+    hwtool check-proof --bad "$3" "$1" inv.pla o.drat >told || tell "$1, b$3: $(cat told)"
+    hwtool check-proof --aiger --bad "$3" "$2" inv.pla o.drat >again || tell "$1, b$3: over the circuit $(cat again)"
+    [ "$(cat told)" = "holds: b$3" ] && cmp -s told again || tell "$1, b$3: told as '$(cat told)' and '$(cat again)'"
+    cubes=$(grep -c '^[-01]* 1$' inv.pla)
+    cube=1
+    while [ "$cube" -le "$cubes" ]; do
+        count=$((count + 1))
+        awk -v c="$cube" '/^[.]p / { print ".p " $2 - 1; next } / 1$/ && !/^[.]/ { n++; if (n == c) next } { print }' inv.pla >less.pla
+        hwtool obligation --bad "$3" -o o.cnf "$1" less.pla || tell "$1, b$3, without cube $cube: no obligation"
+        if refuted; then wanted=0; else wanted=1; fi
+        hwtool check-proof --bad "$3" "$1" less.pla o.drat >told
+        [ $? -eq "$wanted" ] || tell "$1, b$3, without cube $cube: $(cat told)"
+        cube=$((cube + 1))
+    done
+}
+
+# what is kept in examples/
+for proof in "$top"/examples/*.proof; do
+    count=$((count + 1))
+    base=${proof%.proof}
+    k=$(hwtool show "$base.btor2" | sed -n 's/^; .* \([0-9]*\) bad, .*/\1/p')
+    k=$((k - 1))
+    [ "$(hwtool check-proof --bad "$k" "$base.btor2" "$base.invariant" "$proof")" = "holds: b$k" ] || tell "$proof: it does not hold"
+done
+
 cd "$folder" || exit 1
 for model in "$top"/examples/*.btor2 "$folder"/flow/*.btor2; do
     hwtool lower -o circuit.aag "$model" 2>/dev/null || continue
@@ -78,6 +120,7 @@ for model in "$top"/examples/*.btor2 "$folder"/flow/*.btor2; do
         done
         case $ways in
         *found*proved* | *proved*found*) tell "$model, b$k: found by one engine, and excluded by another" ;;
+        *proved*) holds "$model" circuit.aag "$k" ;;
         esac
         echo "$(basename "$model") b$k:${ways:- nothing found}"
         k=$((k + 1))

@@ -14,6 +14,7 @@ printf 'aag 1 0 1 0 0 1\n2 3\n2\nl0 t[0]\n' >circuit
 printf '1\nb0\n0\n\n\n.\n' >bits
 printf '0\n0\n0# DONE\n' >cex
 printf 'add 8 255 1 0\n' >vectors
+cp "$top"/examples/wraps.btor2 "$top"/examples/wraps.invariant "$top"/examples/wraps.proof .
 failed=0
 count=0
 
@@ -125,6 +126,25 @@ expect_line "help" out "  2  the input is refused"
 expect "version" 0 ""
 expect_line "version" out "hwtool 0.1.0"
 
+# certificates, kept in examples/: what holds, a file that is not there, and one file on standard input
+for name in wraps guarded followers; do
+    "$program" check-proof "$top/examples/$name".btor2 "$top/examples/$name".invariant "$top/examples/$name".proof >out 2>err; status=$?
+    expect "check-proof $name" 0 ""
+    expect_line "check-proof $name" out "holds: b0"
+done
+"$program" check-proof --bad 1 "$top"/examples/two-counters.{btor2,invariant,proof} >out 2>err; status=$?
+expect "check-proof --bad 1" 0 ""
+expect_line "check-proof --bad 1" out "holds: b1"
+"$program" lower wraps.btor2 | "$program" check-proof --aiger - wraps.invariant wraps.proof >out 2>err; status=$?
+expect "check-proof --aiger" 0 ""
+expect_line "check-proof --aiger" out "holds: b0"
+"$program" obligation -o owed wraps.btor2 - <wraps.invariant >out 2>err; status=$?
+expect "obligation -o" 0 ""
+expect_line "obligation -o" owed "p cnf 17 32"
+expect_nothing "obligation -o" out
+"$program" check-proof wraps.btor2 wraps.invariant nothere >out 2>err; status=$?
+expect "a proof that is not there" 3 "nothere: device"
+
 # refusals are explained as the tables of docs/REFUSALS.md say, which may have `|` in a cell as `\|`
 "$program" explain >out 2>err; status=$?
 expect "explain" 0 ""
@@ -220,7 +240,8 @@ expect_nothing "a model that is too big" out
 # full and closed devices
 for words in "--help" "--version" "lower model.btor2" "lower --binary model.btor2" "show model.btor2" "cost model.btor2" \
     "aig-convert circuit" "aig-convert --binary circuit" "check-btor model.btor2 witness" "check-aig circuit bits" \
-    "lift model.btor2 bits" "wave model.btor2 witness" "restore --abc circuit cex" "vectors vectors"; do
+    "lift model.btor2 bits" "wave model.btor2 witness" "restore --abc circuit cex" "vectors vectors" \
+    "obligation wraps.btor2 wraps.invariant" "check-proof wraps.btor2 wraps.invariant wraps.proof"; do
     # shellcheck disable=SC2086
     "$program" $words >/dev/full 2>err; status=$?
     expect "$words onto a full device" 3 "output: device"

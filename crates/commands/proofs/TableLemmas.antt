@@ -21,6 +21,10 @@ pub in_models : (w : Why) (before rest : Bool) (texts items : List Explanation) 
 in_models (why.Refused fault) before rest texts items own pushed = behind before _ (behind _ _ (here _ rest (pushed fault)))
 in_models w before rest texts items own pushed = behind before _ (here _ _ own)
 
+-- what is behind six parts
+pub behind_six : (has : List Explanation → Bool) (a b c d e f : List Explanation) (rest : Bool) → rest ≡ true → (has a || (has b || (has c || (has d || (has e || (has f || rest)))))) ≡ true
+behind_six has a b c d e f rest is = behind (has a) _ (behind (has b) _ (behind (has c) _ (behind (has d) _ (behind (has e) _ (behind (has f) rest is)))))
+
 -- what is behind nine parts
 pub behind_nine : (has : List Explanation → Bool) (a b c d e f g h i : List Explanation) (rest : Bool) → rest ≡ true → (has a || (has b || (has c || (has d || (has e || (has f || (has g || (has h || (has i || rest))))))))) ≡ true
 behind_nine has a b c d e f g h i rest is =

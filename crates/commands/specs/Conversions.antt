@@ -21,6 +21,15 @@ use Rattle.wave.specs.declared.fault.WaveFault.{WaveFault}
 use Rattle.wave.specs.declared.fault.WaveFault.TheVariants as wave
 use Rattle.vectors.specs.declared.lines.LinesFault.{LinesFault}
 use Rattle.vectors.specs.declared.lines.LinesFault.TheVariants as lines
+use Rattle.invariants.specs.declared.why.InvariantFault.{InvariantFault}
+use Rattle.invariants.specs.declared.why.InvariantWhy.{InvariantWhy}
+use Rattle.invariants.specs.declared.why.InvariantWhy.TheVariants as invariant_why
+use Rattle.invariants.specs.declared.fault.ObligationFault.{ObligationFault}
+use Rattle.invariants.specs.declared.fault.ObligationFault.TheVariants as obligation
+use Rattle.invariants.specs.declared.claim_fault.ClaimFault.{ClaimFault}
+use Rattle.invariants.specs.declared.claim_fault.ClaimFault.TheVariants as claim
+use Rattle.invariants.specs.declared.certificate_fault.CertificateFault.{CertificateFault}
+use Rattle.invariants.specs.declared.certificate_fault.CertificateFault.TheVariants as certificate
 use Rattle.commands.specs.declared.refusals.Device.TheVariants as device
 use Rattle.commands.specs.declared.refusals.Fault.TheVariants as fault
 use Rattle.commands.specs.declared.refusals.Refusal.{Refusal}
@@ -90,3 +99,26 @@ of_reading_all all.NoMemory = refusal.NoMemory
 abbrev pub of_lines : LinesFault → Refusal
 of_lines (lines.Bad n) = refusal.Input (fault.Vector n)
 of_lines lines.NoMemory = refusal.NoMemory
+
+-- of the text of an invariant, by the why of its fault
+abbrev pub of_invariant_for : InvariantFault → InvariantWhy → Refusal
+of_invariant_for e invariant_why.Device = refusal.Failed device.Second
+of_invariant_for e invariant_why.NoMemory = refusal.NoMemory
+of_invariant_for e _ = refusal.Second (fault.Invariant e)
+
+-- of an obligation
+abbrev pub of_obligation : ObligationFault → Refusal
+of_obligation obligation.NoMemory = refusal.NoMemory
+of_obligation e = refusal.Second (fault.Obligation e)
+
+-- of the formula that an invariant owes
+abbrev pub of_claim : ClaimFault → Refusal
+of_claim (claim.Form e) = of_engine_form e
+of_claim (claim.Invariant e) = of_invariant_for e e.why
+of_claim (claim.Obligation e) = of_obligation e
+
+-- of judging a certificate
+abbrev pub of_certificate : CertificateFault → Refusal
+of_certificate (certificate.Claim e) = of_claim e
+of_certificate (certificate.Judge e) = refusal.NoMemory
+of_certificate certificate.Device = refusal.Failed device.Third

@@ -6,12 +6,10 @@ use Rattle.btor2.specs.declared.item.Item.{Item}
 use Rattle.btor2.specs.Items.{is_input, is_state, is_bad, is_constraint}
 use Rattle.btor2.specs.Check.{IsWellFormed}
 use Rattle.btor2.specs.Lists.{places, first_init_without_next}
-use Rattle.btor2text.specs.Spelling.{StandsFor}
 use Rattle.btor2text.specs.Writing.{written}
 use Rattle.aiger.specs.Circuit.{Circuit, IsCircuit}
 use Rattle.aiger.specs.Reachability.{CanRiseInCircuit}
 use Rattle.aigertext.specs.declared.forms.Form.{Form}
-use Rattle.aigertext.specs.Spelling.{Spells}
 use Rattle.aigertext.specs.Binary.{circuit_text}
 use Rattle.blast.specs.Conversion.{Converts}
 use Rattle.blast.specs.Cost.{cost, bound}
@@ -39,6 +37,8 @@ use Rattle.lift.specs.Verdicts.{KeepsVerdict, KeepsVerdictIn}
 use Rattle.witness.specs.Printed.{judgement_text}
 use Rattle.vectors.specs.declared.lines.Vector.{Vector}
 use Rattle.vectors.specs.Vectors.{AreVectorsOf, IsRight, numbered, differing, report}
+pub use Rattle.commands.specs.Texts.{IsModelOf, IsCircuitText, IsClaim}
+use Rattle.commands.specs.Certificates.{Certifies, WritesOwed}
 use Rattle.commands.specs.declared.answers.Answer.{Answer}
 use Rattle.commands.specs.declared.answers.Answer.TheVariants as answer
 use Rattle.commands.specs.declared.orders.Named.{Named}
@@ -46,10 +46,6 @@ use Rattle.commands.specs.declared.orders.Named.TheVariants as named
 use Rattle.commands.specs.declared.orders.Task.{Task}
 use Rattle.commands.specs.declared.orders.Task.TheVariants as task
 use Rattle.commands.specs.Subjects.{item_said, name_said, lifted_said}
-
--- the bytes of a source, where it knows them, are a text of some items
-abbrev pub IsModelOf : Option (List ℕ) → List Item → Type 0
-IsModelOf known items = IfSome known (λ text. StandsFor text items)
 
 -- a judgement is that the witness is accepted
 abbrev pub IsAccepted : Judgement → Type 0
@@ -68,10 +64,6 @@ pub record IsJudged (model witness before now : Option (List ℕ)) (verdict : Ju
   pub each_has_next_or_is_free : first_init_without_next items items ≡ None
   pub judged : IfSome witness (λ text. Judges items text verdict)
   pub line : Appends before now (judgement_line verdict)
-
--- the bytes of a source, where it knows them, are a text of a circuit, of either form
-abbrev pub IsCircuitText : Option (List ℕ) → Circuit → Type 0
-IsCircuitText known circuit = IfSome known (λ text. Spells text circuit)
 
 -- The first text is of a circuit; the second is judged so over it; and what was written is the line of that judgement.
 pub record IsJudgedOver (circuit witness before now : Option (List ℕ)) (verdict : Judgement) : Type 0 where
@@ -190,11 +182,6 @@ pub record IsDumped (shown : Shown) (model witness before now told told' : Optio
   pub dumped : IfSome witness (λ text. (fs : List Frame) → IsClosedTrace items text fs → Appends before now (vcd_text shown title items fs))
   pub line : Appends told told' (judgement_line verdict)
 
--- the bad property that a counterexample over an engine form claims: the chosen one, and without a choice the only one
-abbrev pub IsClaim : Option ℕ → Circuit → ℕ → Type 0
-IsClaim (Some k) c claim = claim ≡ k
-IsClaim None c claim = (length c.bads ≡ 1) × (claim ≡ 0)
-
 -- The first text is of a circuit that has an engine form for this bad property; and what was written is what the second is restored to, a counterexample over that form.
 pub record IsRestored (choice : Option ℕ) (circuit found before now : Option (List ℕ)) : Type 0 where
   pub value : Circuit
@@ -309,6 +296,8 @@ Answers (task.Restore choice) form a first second third before now told told' = 
 Answers (task.LiftFound choice) form a first second third before now told told' = LiftsFound choice first second before now told told' a
 Answers (task.Named n) form a first second third before now told told' = AnswersByName n first second before now told told' a
 Answers task.Vectors form a first second third before now told told' = Compares first before now a
+Answers (task.Obligation g choice) form answer.Done first second third before now told told' = WritesOwed g choice first second before now
+Answers (task.CheckProof g choice) form a first second third before now told told' = Certifies g choice first second third before now a
 Answers _ form a first second third before now told told' = ⊥
 
 -- what a command has done that answers so, on some output of which nothing is known
@@ -324,10 +313,19 @@ has_one_file (task.Restore choice) = false
 has_one_file (task.LiftFound choice) = false
 has_one_file (task.Wave shown) = false
 has_one_file (task.Named n) = false
+has_one_file (task.Obligation g choice) = false
+has_one_file (task.CheckProof g choice) = false
 has_one_file _ = true
+
+-- a command is on certificates
+abbrev pub is_on_certificates : Task → Bool
+is_on_certificates (task.Obligation g choice) = true
+is_on_certificates (task.CheckProof g choice) = true
+is_on_certificates _ = false
 
 -- a command has three files
 abbrev pub has_three_files : Task → Bool
+has_three_files (task.CheckProof g choice) = true
 has_three_files _ = false
 
 -- a command that is done tells nothing on standard error

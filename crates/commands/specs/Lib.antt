@@ -1,4 +1,5 @@
 -- What commands ask for, and what the exit statuses say.
+pub mod Certificates
 pub mod Conversions
 pub mod Done
 pub mod Explanations
@@ -8,3 +9,4 @@ pub mod Refusals
 pub mod Restoring
 pub mod Statuses
 pub mod Subjects
+pub mod Texts

@@ -1,5 +1,5 @@
 -- What a command says that is not done: the fault that its input has, or which file or stream failed, and the line that tells it.
-use Rattle.std.specs.Prelude.{◌≡◌, ◌≢◌, ℕ, List, [], ◌++◌, length, Option, None, Some, IfSome, unwrap_or, codes, decimal}
+use Rattle.std.specs.Prelude.{◌≡◌, ◌≢◌, ℕ, List, [], ◌++◌, length, Option, None, Some, Err, IfSome, unwrap_or, codes, decimal}
 use Rattle.btor2.specs.declared.item.Item.{Item}
 use Rattle.btor2.specs.Check.{IsWellFormed}
 use Rattle.btor2.specs.Lists.{first_init_without_next}
@@ -17,6 +17,10 @@ use Rattle.engine.specs.Faults.{number_of as engine_number, name_of as engine_na
 use Rattle.engine.specs.Refusal.{engine_refusal}
 use Rattle.engine.specs.declared.fault.EngineFault.{EngineFault}
 use Rattle.vectors.specs.Vectors.{IsFirstBad}
+use Rattle.invariants.specs.Certificates.{AreCubes, IsFormFor}
+use Rattle.invariants.specs.Faults.{why_number as invariant_number, why_name as invariant_name, obligation_number, obligation_name}
+use Rattle.invariants.specs.Reading.{Reads}
+use Rattle.invariants.specs.Refusal.{obligation_refusal}
 use Rattle.witness.specs.Answers.{judge_number, judge_name}
 use Rattle.witness.specs.declared.fault.JudgeFault.TheVariants as judge
 use Rattle.commands.specs.declared.orders.Named.{Named}
@@ -29,6 +33,9 @@ use Rattle.commands.specs.declared.refusals.Fault.{Fault}
 use Rattle.commands.specs.declared.refusals.Fault.TheVariants as fault
 use Rattle.commands.specs.declared.refusals.Refusal.{Refusal}
 use Rattle.commands.specs.declared.refusals.Refusal.TheVariants as refusal
+use Rattle.commands.specs.declared.orders.Given.{Given}
+use Rattle.commands.specs.declared.orders.Given.TheVariants as given
+use Rattle.commands.specs.Certificates.{Gives}
 use Rattle.commands.specs.Done.{IsCircuitText, IsClaim, IsModelOf}
 
 -- ---- lines
@@ -62,6 +69,8 @@ fault_line file (fault.Model e) = about file (at (codes "line ") e.line (numbere
 fault_line file (fault.Circuit e) = about file (at (codes "byte ") e.place (numbered_name (why_number e.why) (why_name e.why)))
 fault_line file (fault.Lowering e) = about file (at_item e (numbered_name (lower_number e) (lower_name e)))
 fault_line file (fault.Engine e) = about file (numbered_name (engine_number e) (engine_name e))
+fault_line file (fault.Invariant e) = about file (at (codes "line ") e.line (numbered_name (invariant_number e.why) (invariant_name e.why)))
+fault_line file (fault.Obligation e) = about file (numbered_name (obligation_number e) (obligation_name e))
 fault_line file (fault.NoNext id) = item_line file id (judge_number (judge.NoNext id)) (judge_name (judge.NoNext id))
 fault_line file (fault.Vector n) = about file (at (codes "line ") n (codes "bad vector\n"))
 fault_line file fault.Unchosen = about file (codes "--bad K says which bad property is claimed: ABC prints its number as Output K of miter was asserted\n")
@@ -71,10 +80,14 @@ abbrev pub status_of_fault : Fault → ℕ
 status_of_fault fault.Unchosen = 4
 status_of_fault _ = 2
 
+-- the name by which the second file is told
+abbrev pub second_name : Option (List ℕ) → List ℕ
+second_name second = unwrap_or second (codes "-")
+
 -- the name by which a file or a stream is told
 abbrev pub device_name : List ℕ → Option (List ℕ) → Option (List ℕ) → Device → List ℕ
 device_name first second third device.First = first
-device_name first second third device.Second = unwrap_or second (codes "-")
+device_name first second third device.Second = second_name second
 device_name first second third device.Third = unwrap_or third (codes "-")
 device_name first second third device.Output = codes "output"
 device_name first second third device.Error = []
@@ -82,6 +95,7 @@ device_name first second third device.Error = []
 -- the line that tells a refusal, by the names of the files
 abbrev pub refusal_line : List ℕ → Option (List ℕ) → Option (List ℕ) → Refusal → List ℕ
 refusal_line first second third (refusal.Input f) = fault_line first f
+refusal_line first second third (refusal.Second f) = fault_line (second_name second) f
 refusal_line first second third (refusal.Failed d) = about (device_name first second third d) (codes "device\n")
 refusal_line first second third refusal.NoMemory = codes "no memory\n"
 
@@ -210,6 +224,32 @@ RefusesByName named.CheckBtor known f = IsNotJudged known f
 RefusesByName named.CheckAig known f = IsNoCircuit known f
 RefusesByName named.Lift known f = IsNotLowered known f
 
+-- the first text is no model, or is of one that is not lowered; or it is no circuit
+abbrev pub IsNotGiven : Given → Option (List ℕ) → Fault → Type 0
+IsNotGiven given.Model known f = IsNotLowered known f
+IsNotGiven given.Circuit known f = IsNoCircuit known f
+
+-- the first text gives a circuit, and this is the first that speaks against an engine form of it with the bad property that is claimed
+pub record GivesNoForm (g : Given) (choice : Option ℕ) (known : Option (List ℕ)) (e : EngineFault) : Type 0 where
+  pub circuit : Circuit
+  pub claim : ℕ
+  pub gives : Gives g known circuit
+  pub is_claim : IsClaim choice circuit claim
+  pub first : engine_refusal circuit (Some claim) ≡ Some e
+
+-- the first text gives a circuit that has none or several bad properties, and none is chosen
+pub record GivesUnchosen (g : Given) (choice : Option ℕ) (known : Option (List ℕ)) : Type 0 where
+  pub circuit : Circuit
+  pub gives : Gives g known circuit
+  pub none : choice ≡ None
+  pub not_one : length circuit.bads ≢ 1
+
+-- the first text gives no circuit, or one for whose bad property no invariant owes a formula
+abbrev pub IsNotClaimed : Given → Option ℕ → Option (List ℕ) → Fault → Type 0
+IsNotClaimed g choice known (fault.Engine e) = GivesNoForm g choice known e
+IsNotClaimed g choice known fault.Unchosen = GivesUnchosen g choice known
+IsNotClaimed g choice known f = IsNotGiven g known f
+
 -- the first text has this fault, for which a command refuses it
 abbrev pub Refuses : Task → Option (List ℕ) → Fault → Type 0
 Refuses task.Lower known f = IsNotLowered known f
@@ -226,3 +266,33 @@ Refuses (task.LiftFound choice) known f = IsNotLiftedFound choice known f
 Refuses (task.Wave shown) known f = IsNotJudged known f
 Refuses (task.Named n) known f = RefusesByName n known f
 Refuses task.Vectors known f = IsNoVectorList known f
+Refuses (task.Obligation g choice) known f = IsNotClaimed g choice known f
+Refuses (task.CheckProof g choice) known f = IsNotClaimed g choice known f
+
+-- ---- the fault of a second input
+
+-- a text is no invariant over a circuit, and this is the fault of its first faulty line; or there is no obligation of its cubes
+abbrev pub IsFaultyOver : Circuit → Option (List ℕ) → Fault → Type 0
+IsFaultyOver d invariant (fault.Invariant e) = Reads (length d.latches) invariant (Err e)
+IsFaultyOver d invariant (fault.Obligation e) = (cubes : List (List ℕ)) × AreCubes d invariant cubes × (obligation_refusal d cubes ≡ Some e)
+IsFaultyOver d invariant _ = ⊥
+
+-- a circuit has an engine form with this bad property, and over that a text of an invariant has this fault
+pub record IsFaultyFor (c : Circuit) (k : ℕ) (invariant : Option (List ℕ)) (f : Fault) : Type 0 where
+  pub form : Circuit
+  pub is_form : IsFormFor c k form
+  pub faulty : IsFaultyOver form invariant f
+
+-- the second text has this fault, for the bad property that is claimed of the circuit that the first gives
+pub record IsFaultyInvariant (g : Given) (choice : Option ℕ) (first second : Option (List ℕ)) (f : Fault) : Type 0 where
+  pub circuit : Circuit
+  pub claim : ℕ
+  pub gives : Gives g first circuit
+  pub is_claim : IsClaim choice circuit claim
+  pub faulty : IsFaultyFor circuit claim second f
+
+-- the second text has this fault, for which a command refuses it
+abbrev pub RefusesSecond : Task → Option (List ℕ) → Option (List ℕ) → Fault → Type 0
+RefusesSecond (task.Obligation g choice) first second f = IsFaultyInvariant g choice first second f
+RefusesSecond (task.CheckProof g choice) first second f = IsFaultyInvariant g choice first second f
+RefusesSecond _ first second f = ⊥

@@ -8,20 +8,22 @@ use Rattle.commands.specs.declared.refusals.Fault.{Fault}
 use Rattle.commands.specs.declared.refusals.Refusal.{Refusal}
 use Rattle.commands.specs.declared.refusals.Refusal.TheVariants as refusal
 use Rattle.commands.specs.declared.refusals.Fault.TheVariants as fault
-use Rattle.commands.specs.Refusals.{Refuses, fault_line, refusal_line, status_of_fault}
+use Rattle.commands.specs.Refusals.{Refuses, RefusesSecond, fault_line, refusal_line, second_name, status_of_fault}
 
--- the counts of failures of the first file, the second, standard output and standard error, before and after, of a command that reads no third file: one more of the one that is told, and no other
+-- the counts of failures of the first file, the second, standard output and standard error, before and after, of a command that reads no third file and refuses no second one: one more of the one that is told, and no other
 abbrev pub Counts : {T : Type 0} → Result T Refusal → ℕ → ℕ → ℕ → ℕ → ℕ → ℕ → ℕ → ℕ → Type 0
 Counts (Err (refusal.Failed device.First)) f f' s s' o o' e e' = HasRisen f f' × (s' ≡ s) × (o' ≡ o) × (e' ≡ e)
 Counts (Err (refusal.Failed device.Second)) f f' s s' o o' e e' = (f' ≡ f) × HasRisen s s' × (o' ≡ o) × (e' ≡ e)
 Counts (Err (refusal.Failed device.Output)) f f' s s' o o' e e' = (f' ≡ f) × (s' ≡ s) × HasRisen o o' × (e' ≡ e)
 Counts (Err (refusal.Failed device.Error)) f f' s s' o o' e e' = (f' ≡ f) × (s' ≡ s) × (o' ≡ o) × HasRisen e e'
 Counts (Err (refusal.Failed device.Third)) f f' s s' o o' e e' = ⊥
+Counts (Err (refusal.Second x)) f f' s s' o o' e e' = ⊥
 Counts _ f f' s s' o o' e e' = (f' ≡ f) × (s' ≡ s) × (o' ≡ o) × (e' ≡ e)
 
--- the same with the count of the third file behind that of the second
+-- the same of any command, with the count of the third file behind that of the second
 abbrev pub CountsAll : {T : Type 0} → Result T Refusal → ℕ → ℕ → ℕ → ℕ → ℕ → ℕ → ℕ → ℕ → ℕ → ℕ → Type 0
 CountsAll (Err (refusal.Failed device.Third)) f f' s s' t t' o o' e e' = (f' ≡ f) × (s' ≡ s) × HasRisen t t' × (o' ≡ o) × (e' ≡ e)
+CountsAll (Err (refusal.Second x)) f f' s s' t t' o o' e e' = ((f' ≡ f) × (s' ≡ s) × (o' ≡ o) × (e' ≡ e)) × (t' ≡ t)
 CountsAll r f f' s s' t t' o o' e e' = Counts r f f' s s' o o' e e' × (t' ≡ t)
 
 -- a refusal is none of an input
@@ -40,11 +42,26 @@ abbrev pub IfInput : (Fault → Type 0) → Refusal → Type 0
 IfInput P (refusal.Input f) = P f
 IfInput P _ = Unit {0}
 
--- Status 2: the first text has a fault for which the command refuses it, and the line that tells that fault was written.
-pub record IsRefused (task : Task) (file : List ℕ) (first told told' : Option (List ℕ)) : Type 0 where
+-- what a refusal of a second input says of its fault
+abbrev pub IfSecond : (Fault → Type 0) → Refusal → Type 0
+IfSecond P (refusal.Second f) = P f
+IfSecond P _ = Unit {0}
+
+-- the first text has a fault for which the command refuses it, and the line that tells that fault of the first file was written
+pub record IsFirstRefused (task : Task) (file : List ℕ) (first told told' : Option (List ℕ)) : Type 0 where
   pub fault : Fault
   pub has : Refuses task first fault
   pub line : Appends told told' (fault_line file fault)
+
+-- the second text has one, and the line that tells that fault of the second file was written
+pub record IsSecondRefused (task : Task) (file : List ℕ) (first second told told' : Option (List ℕ)) : Type 0 where
+  pub fault : Fault
+  pub has : RefusesSecond task first second fault
+  pub line : Appends told told' (fault_line file fault)
+
+-- Status 2: the first file is refused, or the second one; the line names the file that it is about.
+abbrev pub IsRefused : Task → List ℕ → Option (List ℕ) → Option (List ℕ) → Option (List ℕ) → Option (List ℕ) → Option (List ℕ) → Type 0
+IsRefused task file name first second told told' = IsFirstRefused task file first told told' ⊎ IsSecondRefused task (second_name name) first second told told'
 
 -- Status 4: words leave open which bad property of the first text is claimed, and the line that says so was written.
 pub record IsLeftOpen (task : Task) (file : List ℕ) (first told told' : Option (List ℕ)) : Type 0 where
@@ -54,6 +71,7 @@ pub record IsLeftOpen (task : Task) (file : List ℕ) (first told told' : Option
 -- a refusal is none of an input, and standard error did not fail
 abbrev pub IsTold : Refusal → Type 0
 IsTold (refusal.Input f) = ⊥
+IsTold (refusal.Second f) = ⊥
 IsTold (refusal.Failed device.Error) = ⊥
 IsTold _ = Unit {0}
 
@@ -75,5 +93,6 @@ TellsFault file fault status told told' = ((status ≡ status_of_fault fault) ×
 -- what was told of a refusal, and the status
 abbrev pub Tells : List ℕ → Option (List ℕ) → Option (List ℕ) → Refusal → ℕ → Option (List ℕ) → Option (List ℕ) → Type 0
 Tells file second third (refusal.Input f) status told told' = TellsFault file f status told told'
+Tells file second third (refusal.Second f) status told told' = TellsFault (second_name second) f status told told'
 Tells file second third (refusal.Failed device.Error) status told told' = status ≡ 3
 Tells file second third r status told told' = (status ≡ 3) × Appends told told' (refusal_line file second third r)

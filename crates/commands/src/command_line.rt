@@ -6,7 +6,7 @@ ghost use Rattle.commands.specs.Orders.{names_standard_input, reads_input_twice}
 use crate::command_table::{Engine, Product, ROWS, Row, row_of};
 use crate::explaining::explain;
 use crate::explanations::refusal_table;
-use crate::orders::{Named, Order, STANDARD_INPUT, STANDARD_OUTPUT, Stop, Task};
+use crate::orders::{Given, Named, Order, STANDARD_INPUT, STANDARD_OUTPUT, Stop, Task};
 use aigertext::Form;
 use base::decimal;
 use clap::error::ErrorKind;
@@ -34,8 +34,9 @@ bytes from 33 to 126; 2^30 variables of a circuit, with names of 1 to 300 bytes;
 Formats: docs/FORMATS.md describes them, after \"Btor2, BtorMC and Boolector 3.0\" and \"AIGER 1.9 and Beyond\".
 
 Exit statuses:
-  0  the command is done, the witness is accepted, all vectors agree, or help or the version is shown
-  1  the witness is not accepted, or a vector differs
+  0  the command is done, the witness is accepted, the certificate holds, all vectors agree, or help or the version is
+     shown
+  1  the witness is not accepted, the certificate does not hold, or a vector differs
   2  the input is refused
   3  a device failed, or memory was wanting
   4  the words of the command line are refused";
@@ -66,6 +67,14 @@ const BINARY: &str = "binary";
 
 /// The name of the second file of a command that has one.
 const WITNESS: &str = "WITNESS";
+
+/// The names of the second and the third file of a command on certificates.
+const INVARIANT: &str = "INVARIANT";
+
+const PROOF: &str = "PROOF";
+
+/// The flag for a circuit in place of a model.
+const AIGER: &str = "aiger";
 
 /// The name of the option for the file that a result goes to.
 const OUTPUT: &str = "output";
@@ -225,7 +234,35 @@ fn with_engine_words<'a>(
                 alloc,
                 "The position of the bad property that is claimed, from 0; needed where the circuit has more than one",
             )),
+        Engine::Owed => with_invariant_words(alloc, command),
+        Engine::Certified => with_invariant_words(alloc, command)?.arg(file_name(
+            alloc,
+            PROOF,
+            "The file of a proof of the obligation, in ascii DRAT, or - for standard input",
+        )),
     }
+}
+
+/// The words of a command on certificates.
+fn with_invariant_words<'a>(
+    alloc: Global,
+    command: Command<'a>,
+) -> Result<Command<'a>, AllocError> {
+    command
+        .arg(file_name(
+            alloc,
+            INVARIANT,
+            "The file of an invariant over the engine form of the bad property, as ABC writes it by pdr -d -I, or - for standard input",
+        ))?
+        .arg(flag(
+            alloc,
+            AIGER,
+            "The first file is an AIGER circuit of either form",
+        ))?
+        .arg(bad_option(
+            alloc,
+            "The position of the bad property that is claimed, from 0; needed where there is more than one",
+        ))
 }
 
 /// The words that ask what refusals mean.
@@ -262,15 +299,20 @@ fn output_of<'a>(words: &ArgMatches<'a>) -> Option<&'a str> {
     }
 }
 
+/// Whether words are about an engine form: they ask for one, or for what is over one.
+fn speaks_of_one(words: &ArgMatches<'_>) -> bool {
+    words.get_flag(ENGINE) || words.get_flag(ABC) || words.get_str(INVARIANT).is_some()
+}
+
 /// The bad properties of the engine form that the words of a command ask for: all, or the one at a position; none where
 /// they ask for no engine form.
 ///
 /// Errors: what is told of words that do not ask so.
 fn engine_properties(words: &ArgMatches<'_>) -> Result<Option<Option<usize>>, &'static str> {
     match words.get_str(BAD) {
-        None if words.get_flag(ENGINE) || words.get_flag(ABC) => Ok(Some(None)),
+        None if speaks_of_one(words) => Ok(Some(None)),
         None => Ok(None),
-        Some(_) if !words.get_flag(ENGINE) && !words.get_flag(ABC) => Err(BAD_ALONE),
+        Some(_) if !speaks_of_one(words) => Err(BAD_ALONE),
         Some(word) => match decimal(word.as_bytes()) {
             Some(position) => Ok(Some(Some(position as usize))),
             None => Err(NO_POSITION),
@@ -278,14 +320,16 @@ fn engine_properties(words: &ArgMatches<'_>) -> Result<Option<Option<usize>>, &'
     }
 }
 
-/// A command, where an engine form is asked for the one that writes it, and where all nodes are to be shown the one that
-/// does so.
-fn task_of(task: Task, engine: Option<Option<usize>>, all: bool) -> Task {
+/// A command, where an engine form is asked for the one that writes it, or that is over one, and where all nodes are to be
+/// shown the one that does so.
+fn task_of(task: Task, engine: Option<Option<usize>>, given: Given, all: bool) -> Task {
     match (task, engine) {
         (Task::Lower, Some(choice)) => Task::LowerForEngines(choice),
         (Task::AigConvert, Some(choice)) => Task::ConvertForEngines(choice),
         (Task::Restore(_), Some(choice)) => Task::Restore(choice),
         (Task::Lift, Some(choice)) => Task::LiftFound(choice),
+        (Task::Obligation(..), Some(choice)) => Task::Obligation(given, choice),
+        (Task::CheckProof(..), Some(choice)) => Task::CheckProof(given, choice),
         (Task::Wave(_), _) if all => Task::Wave(Shown::All),
         (task, _) => task,
     }
@@ -301,6 +345,23 @@ fn with_names(task: Task, names: bool) -> Task {
     }
 }
 
+/// What the first file of a command on certificates gives.
+fn given_of(words: &ArgMatches<'_>) -> Given {
+    if words.get_flag(AIGER) {
+        Given::Circuit
+    } else {
+        Given::Model
+    }
+}
+
+/// The name of the second file, where the command has one.
+fn second_of<'a>(words: &ArgMatches<'a>) -> Option<&'a str> {
+    match words.get_str(WITNESS) {
+        Some(name) => Some(name),
+        None => words.get_str(INVARIANT),
+    }
+}
+
 /// The order that the words of a command name, with the engine form that they ask for.
 fn order_of<'a>(
     word: &str,
@@ -311,7 +372,7 @@ fn order_of<'a>(
     let (name, _) = row.file;
     Some(Order {
         task: with_names(
-            task_of(row.task, engine, words.get_flag(ALL)),
+            task_of(row.task, engine, given_of(words), words.get_flag(ALL)),
             words.get_flag(NAMES),
         ),
         form: if words.get_flag(BINARY) {
@@ -320,8 +381,8 @@ fn order_of<'a>(
             Form::Ascii
         },
         first: words.get_str(name)?,
-        second: words.get_str(WITNESS),
-        third: None,
+        second: second_of(words),
+        third: words.get_str(PROOF),
         output: output_of(words),
         tells_progress: !words.get_flag(QUIET),
     })

@@ -1,6 +1,6 @@
 //! The table of the commands: their words, and what help says of them.
 
-use crate::orders::Task;
+use crate::orders::{Given, Task};
 use wave::Shown;
 
 /// What a command writes.
@@ -25,6 +25,10 @@ pub(crate) enum Engine {
     Read,
     /// It reads a counterexample over one where that is asked for.
     ReadWhereAsked,
+    /// It reads an invariant over one.
+    Owed,
+    /// It reads an invariant over one, and a proof.
+    Certified,
 }
 
 /// A command of this program: its word, its task, what help says of it, and its files.
@@ -61,7 +65,7 @@ const BTOR_WITNESS: &str = "The file of a BTOR2 witness, or - for standard input
 const AIGER_WITNESS: &str = "The file of an AIGER witness, or - for standard input";
 
 /// The commands, in the order in which help lists them.
-pub(crate) static ROWS: [Row; 10] = [
+pub(crate) static ROWS: [Row; 12] = [
     Row {
         word: "lower",
         task: Task::Lower,
@@ -144,6 +148,24 @@ pub(crate) static ROWS: [Row; 10] = [
         witness: Some(BTOR_WITNESS),
         product: Product::Text,
         engine: Engine::Unknown,
+    },
+    Row {
+        word: "obligation",
+        task: Task::Obligation(Given::Model, None),
+        about: "Write the formula that nothing satisfies where an invariant shows that a bad property never rises, in DIMACS on standard output",
+        file: MODEL,
+        witness: None,
+        product: Product::Text,
+        engine: Engine::Owed,
+    },
+    Row {
+        word: "check-proof",
+        task: Task::CheckProof(Given::Model, None),
+        about: "Judge an invariant and a proof of its obligation: whether a bad property never rises",
+        file: MODEL,
+        witness: None,
+        product: Product::Lines,
+        engine: Engine::Certified,
     },
     Row {
         word: "vectors",

@@ -13,11 +13,19 @@ ghost use Rattle.btor2.specs.Faults.{symbol_fault_name, symbol_fault_number};
 ghost use Rattle.btor2.specs.declared.symbol.SymbolFault.{SymbolFault};
 ghost use Rattle.btor2text.specs.Whys.{name_of, printed_number};
 ghost use Rattle.btor2text.specs.declared.fault.Why.{Why};
+ghost use Rattle.clauses.specs.Faults.{clause_name, clause_number, formula_name, formula_number};
+ghost use Rattle.clauses.specs.Printed.{why_name as proof_name, why_number as proof_number};
+ghost use Rattle.clauses.specs.declared.fault.ClauseFault.{ClauseFault};
+ghost use Rattle.clauses.specs.declared.fault.FormulaFault.{FormulaFault};
+ghost use Rattle.clauses.specs.declared.why.Why.{Why as ProofWhy};
 ghost use Rattle.commands.specs.Explanations.{Explains};
 ghost use Rattle.engine.specs.Faults.{name_of as engine_name, number_of as engine_number};
 ghost use Rattle.engine.specs.declared.fault.EngineFault.{EngineFault};
 ghost use Rattle.gates.specs.Faults.{name_of as gate_name, number_of as gate_number};
 ghost use Rattle.gates.specs.declared.fault.GateFault.{GateFault};
+ghost use Rattle.invariants.specs.Faults.{certificate_name, certificate_number, claim_name, claim_number};
+ghost use Rattle.invariants.specs.declared.certificate_fault.CertificateFault.{CertificateFault};
+ghost use Rattle.invariants.specs.declared.claim_fault.ClaimFault.{ClaimFault};
 ghost use Rattle.lift.specs.Answers.{fault_name as lift_name, fault_number as lift_number};
 ghost use Rattle.lift.specs.declared.fault.LiftFault.{LiftFault};
 ghost use Rattle.restore.specs.Faults.{why_name as restore_name, why_number as restore_number};
@@ -32,6 +40,7 @@ ghost use Rattle.witness.specs.Printed.{why_name as witness_name};
 ghost use Rattle.witness.specs.declared.fault.JudgeFault.{JudgeFault};
 ghost use Rattle.witness.specs.declared.why.Why.{Why as WitnessWhy};
 
+mod certificates;
 mod circuits;
 mod models;
 mod often;
@@ -62,7 +71,7 @@ pub struct Part {
 /// What all refusals mean and what to do about them. A refusal may have several cases, also in several parts.
 ///
 /// Each refusal of each library is there, by the number and the name that the library gives it.
-pub fn refusal_table() -> [Part; 15]
+pub fn refusal_table() -> [Part; 17]
     // the number of a why of a model's text that a push gives is its own, which is printed for it
     ensures models { (why : Why) → Explains result (printed_number why) (name_of why) }
     ensures symbols { (fault : SymbolFault) → Explains result (symbol_fault_number fault) (symbol_fault_name fault) }
@@ -79,6 +88,11 @@ pub fn refusal_table() -> [Part; 15]
     ensures counterexamples { (why : RestoreWhy) → Explains result (restore_number why) (restore_name why) }
     ensures dumps { (fault : WaveFault) → Explains result (wave_number fault) (wave_name fault) }
     ensures texts { (why : CircuitWhy) → Explains result (why_number why) (why_name why) }
+    ensures proofs { (why : ProofWhy) → Explains result (proof_number why) (proof_name why) }
+    ensures clauses { (fault : ClauseFault) → Explains result (clause_number fault) (clause_name fault) }
+    ensures formulas { (fault : FormulaFault) → Explains result (formula_number fault) (formula_name fault) }
+    ensures claims { (fault : ClaimFault) → Explains result (claim_number fault) (claim_name fault) }
+    ensures certificates { (fault : CertificateFault) → Explains result (certificate_number fault) (certificate_name fault) }
 {
     [
         Part {
@@ -140,6 +154,14 @@ pub fn refusal_table() -> [Part; 15]
         Part {
             title: "Dumps",
             rows: witnesses::dumps(),
+        },
+        Part {
+            title: "Formulas and proofs",
+            rows: certificates::proofs(),
+        },
+        Part {
+            title: "Invariants and certificates",
+            rows: certificates::invariants(),
         },
     ]
 }

@@ -2,6 +2,7 @@
 #![tactic(auto)]
 
 mod answers;
+mod certificates;
 mod circuits;
 mod command_line;
 mod command_table;
@@ -31,7 +32,7 @@ pub use command_line::{given_words, order};
 pub use explaining::explain;
 pub use explanations::{Explanation, Part, refusal_table};
 pub use files::{Input, NoFile, open_input};
-pub use orders::{Named, Order, STANDARD_INPUT, Stop, Task};
+pub use orders::{Given, Named, Order, STANDARD_INPUT, Stop, Task};
 pub use outputs::{Output, run_to_file};
 pub use progress::{Frames, Progress, Watched, Work};
 pub use running::run;

@@ -25,6 +25,15 @@ pub enum Named {
     Lift,
 }
 
+/// What the first file of a command on certificates gives.
+#[derive(Clone, Copy, PartialEq, Eq)]
+pub enum Given {
+    /// A model, which is lowered.
+    Model,
+    /// A circuit.
+    Circuit,
+}
+
 /// The commands.
 #[derive(Clone, Copy, PartialEq, Eq)]
 pub enum Task {
@@ -57,6 +66,11 @@ pub enum Task {
     Named(Named),
     /// Judges vectors of operators.
     Vectors,
+    /// Writes the formula that an invariant owes for a bad property of what is given: for the one at a position, or for the
+    /// only one.
+    Obligation(Given, Option<usize>),
+    /// Judges a certificate, an invariant and a proof of the formula that it owes.
+    CheckProof(Given, Option<usize>),
 }
 
 /// A command, the form of the circuits that it writes, and the names of its files.

@@ -1,6 +1,6 @@
 //! Results that go to a file, which has another name until all of one is written.
 
-ghost use Rattle.std.specs.Prelude.{◌≡◌, ◌≢◌, ◌≤◌, true, false, IfOk};
+ghost use Rattle.std.specs.Prelude.{◌≡◌, ◌≢◌, ◌≤◌, true, false, IfOk, option_map};
 ghost use Rattle.std.specs.String.{string_bytes};
 ghost use Rattle.commands.specs.declared.answers.Answer.TheVariants as answer;
 ghost use Rattle.commands.specs.Done.{AnswersSome, has_one_file, has_three_files, is_quiet};
@@ -75,7 +75,7 @@ fn run_onto<
 ) -> u8
     ensures done { result ≡ 0 → AnswersSome order.now.task order.now.form answer.Done (A.to_come first.old) (B.to_come second.old) (T.to_come third.old) (E.written err.old) (E.written err.new) }
     ensures not_accepted { result ≡ 1 → AnswersSome order.now.task order.now.form answer.NotAccepted (A.to_come first.old) (B.to_come second.old) (T.to_come third.old) (E.written err.old) (E.written err.new) }
-    ensures refused { result ≡ 2 → IsRefused order.now.task order.now.first.now (A.to_come first.old) (E.written err.old) (E.written err.new) }
+    ensures refused { result ≡ 2 → IsRefused order.now.task order.now.first.now (option_map (λ name. name.now) order.now.second) (A.to_come first.old) (B.to_come second.old) (E.written err.old) (E.written err.new) }
     ensures left_open { result ≡ 4 → IsLeftOpen order.now.task order.now.first.now (A.to_come first.old) (E.written err.old) (E.written err.new) }
     ensures unfailed { result ≢ 3 → (A.failures first.new ≡ A.failures first.old) × (B.failures second.new ≡ B.failures second.old) × (T.failures third.new ≡ T.failures third.old) × (E.failures err.new ≡ E.failures err.old) }
     ensures quiet { result ≤ 1 → is_quiet order.now.task ≡ true → err.new ≡ err.old }
@@ -148,7 +148,7 @@ pub fn run_to_file<
     // what is done, on a file of which nothing is known
     ensures done { result ≡ 0 → AnswersSome order.now.task order.now.form answer.Done (A.to_come first.old) (B.to_come second.old) (T.to_come third.old) (E.written err.old) (E.written err.new) }
     ensures not_accepted { result ≡ 1 → AnswersSome order.now.task order.now.form answer.NotAccepted (A.to_come first.old) (B.to_come second.old) (T.to_come third.old) (E.written err.old) (E.written err.new) }
-    ensures refused { result ≡ 2 → IsRefused order.now.task order.now.first.now (A.to_come first.old) (E.written err.old) (E.written err.new) }
+    ensures refused { result ≡ 2 → IsRefused order.now.task order.now.first.now (option_map (λ name. name.now) order.now.second) (A.to_come first.old) (B.to_come second.old) (E.written err.old) (E.written err.new) }
     ensures left_open { result ≡ 4 → IsLeftOpen order.now.task order.now.first.now (A.to_come first.old) (E.written err.old) (E.written err.new) }
     ensures unfailed { result ≢ 3 → (A.failures first.new ≡ A.failures first.old) × (B.failures second.new ≡ B.failures second.old) × (T.failures third.new ≡ T.failures third.old) × (E.failures err.new ≡ E.failures err.old) }
     ensures quiet { result ≤ 1 → is_quiet order.now.task ≡ true → err.new ≡ err.old }

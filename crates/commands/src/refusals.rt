@@ -5,19 +5,20 @@ ghost use Rattle.std.specs.String.{string_bytes};
 ghost use Rattle.commands.specs.declared.refusals.Fault.TheVariants as fault_is;
 ghost use Rattle.commands.specs.declared.refusals.Refusal.TheVariants as refusal;
 ghost use Rattle.commands.specs.Refusals.{about, fault_line, item_line, numbered_name, status_of_fault};
-ghost use Rattle.commands.specs.Conversions.{of_reading, of_circuit_reading, of_lowering, of_engine_form, of_conversion, of_judging, of_lifting, of_dumping, of_reading_all, of_lines};
+ghost use Rattle.commands.specs.Conversions.{of_reading, of_circuit_reading, of_lowering, of_engine_form, of_conversion, of_judging, of_lifting, of_dumping, of_reading_all, of_lines, of_invariant_for, of_obligation, of_claim, of_certificate};
 
 use crate::statuses::{REFUSED, WORDS_REFUSED};
 use base::ReadAllFault;
 use blast::{ConvertFault, LowerFault};
 use engine::EngineFault;
+use invariants::{CertificateFault, ClaimFault, InvariantFault, InvariantWhy, ObligationFault};
 use lift::LiftFault;
 use std::alloc::{AllocError, Global};
 use vectors::LinesFault;
 use wave::WaveFault;
 use witness::JudgeFault;
 
-/// What is wrong with the first file.
+/// What is wrong with a file.
 #[derive(Clone, Copy)]
 pub(crate) enum Fault {
     /// The text is no model.
@@ -28,6 +29,10 @@ pub(crate) enum Fault {
     Lowering(LowerFault),
     /// The circuit has no such engine form.
     Engine(EngineFault),
+    /// The text is no invariant of the engine form.
+    Invariant(InvariantFault),
+    /// There is no obligation of the invariant.
+    Obligation(ObligationFault),
     /// The state of this id has an init and no next, and nothing is judged over it.
     NoNext(u64),
     /// This line, from 1, writes no vector.
@@ -56,6 +61,8 @@ pub(crate) enum Device {
 pub(crate) enum Refusal {
     /// The first file has this fault. Nothing was written.
     Input(Fault),
+    /// The second file has this fault. Nothing was written.
+    Second(Fault),
     /// This file or stream failed.
     Failed(Device),
     /// A growth was refused.
@@ -179,6 +186,53 @@ impl From<LinesFault> for Refusal {
     }
 }
 
+impl From<InvariantFault> for Refusal {
+    ghost from_gives = { λ e r. r ≡ of_invariant_for e e.why };
+
+    fn from(fault: InvariantFault) -> Refusal {
+        match fault.why {
+            InvariantWhy::Device => Refusal::Failed(Device::Second),
+            InvariantWhy::NoMemory => Refusal::NoMemory,
+            _ => Refusal::Second(Fault::Invariant(fault)),
+        }
+    }
+}
+
+impl From<ObligationFault> for Refusal {
+    ghost from_gives = { λ e r. r ≡ of_obligation e };
+
+    fn from(fault: ObligationFault) -> Refusal {
+        match fault {
+            ObligationFault::NoMemory => Refusal::NoMemory,
+            _ => Refusal::Second(Fault::Obligation(fault)),
+        }
+    }
+}
+
+impl From<ClaimFault> for Refusal {
+    ghost from_gives = { λ e r. r ≡ of_claim e };
+
+    fn from(fault: ClaimFault) -> Refusal {
+        match fault {
+            ClaimFault::Form(fault) => Refusal::from(fault),
+            ClaimFault::Invariant(fault) => Refusal::from(fault),
+            ClaimFault::Obligation(fault) => Refusal::from(fault),
+        }
+    }
+}
+
+impl From<CertificateFault> for Refusal {
+    ghost from_gives = { λ e r. r ≡ of_certificate e };
+
+    fn from(fault: CertificateFault) -> Refusal {
+        match fault {
+            CertificateFault::Claim(fault) => Refusal::from(fault),
+            CertificateFault::Judge(_) => Refusal::NoMemory,
+            CertificateFault::Device => Refusal::Failed(Device::Third),
+        }
+    }
+}
+
 impl From<AllocError> for Refusal {
     ghost from_gives = { λ _ r. r ≡ refusal.NoMemory };
 
@@ -221,6 +275,13 @@ impl Fault {
             }
             Fault::Lowering(fault) => lowering_line(alloc, file, *fault),
             Fault::Engine(fault) => plain_line(alloc, file, fault.number(), fault.name()),
+            Fault::Invariant(fault) => {
+                let line = fault.line;
+                let number = fault.why.number();
+                let name = fault.why.name();
+                format!(in alloc; "{file}: line {line}: {number} {name}\n")
+            }
+            Fault::Obligation(fault) => plain_line(alloc, file, fault.number(), fault.name()),
             Fault::NoNext(id) => {
                 let fault = JudgeFault::NoNext(*id);
                 item_line(alloc, file, *id, fault.number(), fault.name())

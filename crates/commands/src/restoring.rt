@@ -53,7 +53,7 @@ fn tell_malformed<E: Sink>(
     }
 }
 
-/// The bad property that a counterexample claims: the chosen one, or the only one.
+/// The bad property of a circuit that is claimed: the chosen one, or the only one.
 pub(crate) fn claim_of(circuit: &Circuit, choice: Option<usize>) -> Result<usize, Refusal>
     ensures claim { IfOk result (λ claim. IsClaim choice circuit.now claim) }
     ensures unchosen { IfErr result (λ r. (r ≡ refusal.Input fault_is.Unchosen) × ((choice ≡ None) × (length circuit.now.bads ≢ 1))) }

@@ -91,6 +91,9 @@ pub(crate) fn tell<E: Sink>(
 {
     match refusal {
         Refusal::Input(fault) => tell_fault(alloc, order.first, fault, err),
+        Refusal::Second(fault) => {
+            tell_fault(alloc, order.second.unwrap_or(STANDARD_INPUT), fault, err)
+        }
         Refusal::Failed(Device::First) => tell_device(order.first, err),
         Refusal::Failed(Device::Second) => {
             tell_device(order.second.unwrap_or(STANDARD_INPUT), err)

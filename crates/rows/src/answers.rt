@@ -2,7 +2,7 @@
 
 use base::{Chop, FailAt, Source, VecSink};
 use blast::Unwatched;
-use commands::{NoFile, Order, run};
+use commands::{Input, NoFile, Order, run};
 use std::alloc::{AllocError, Global};
 
 /// The status of a command, and what it writes to standard output and to standard error.
@@ -16,21 +16,24 @@ pub(crate) struct Answer<'a> {
     pub(crate) err: &'a [u8],
 }
 
-/// Two files that are there; the second is empty where the command reads one.
+/// Three files that are there; the second is empty where the command reads one, and the third where it reads two.
 #[derive(Clone, Copy)]
 pub(crate) struct Files<'a> {
     /// The first.
     pub(crate) first: &'a [u8],
     /// The second.
     pub(crate) second: &'a [u8],
+    /// The third.
+    pub(crate) third: &'a [u8],
 }
 
 /// Whether a command gives an answer; where a device fails, a beginning of what would stand on standard output is enough.
-pub(crate) fn gives<A: Source, B: Source>(
+pub(crate) fn gives<A: Source, B: Source, T: Source>(
     alloc: Global,
     order: &Order<'_>,
     first: &mut A,
     second: &mut B,
+    third: &mut T,
     wanted: Answer<'_>,
 ) -> bool {
     let mut out = VecSink::new(alloc);
@@ -40,7 +43,7 @@ pub(crate) fn gives<A: Source, B: Source>(
         order,
         first,
         second,
-        &mut NoFile::new(),
+        third,
         &mut out,
         &mut err,
         &mut Unwatched,
@@ -53,32 +56,27 @@ pub(crate) fn gives<A: Source, B: Source>(
     is_written && status == wanted.status && err.bytes() == wanted.err
 }
 
-/// Whether a command gives an answer on two files, of which the second may not be there.
-fn gives_with<A: Source>(
-    alloc: Global,
-    order: &Order<'_>,
-    first: &mut A,
-    second: Option<&[u8]>,
-    wanted: Answer<'_>,
-) -> bool {
-    match second {
-        Some(mut second) => gives(alloc, order, first, &mut second, wanted),
-        None => gives(alloc, order, first, &mut NoFile::new(), wanted),
+/// A file that may not be there.
+fn input(file: Option<&[u8]>) -> Input<&[u8], &[u8]> {
+    match file {
+        Some(file) => Input::File(file),
+        None => Input::Missing(NoFile::new()),
     }
 }
 
-/// Whether a command gives an answer on two files that may not be there.
+/// Whether a command gives an answer on three files that may not be there.
 pub(crate) fn gives_on(
     alloc: Global,
     order: &Order<'_>,
     first: Option<&[u8]>,
     second: Option<&[u8]>,
+    third: Option<&[u8]>,
     wanted: Answer<'_>,
 ) -> bool {
-    match first {
-        Some(mut first) => gives_with(alloc, order, &mut first, second, wanted),
-        None => gives_with(alloc, order, &mut NoFile::new(), second, wanted),
-    }
+    let mut first = input(first);
+    let mut second = input(second);
+    let mut third = input(third);
+    gives(alloc, order, &mut first, &mut second, &mut third, wanted)
 }
 
 /// Whether a command gives an answer on files that come in pieces of each length.
@@ -88,10 +86,12 @@ pub(crate) fn gives_by_pieces(
     files: Files<'_>,
     wanted: Answer<'_>,
 ) -> bool {
-    for less in 0..files.first.len().max(files.second.len()) {
+    let longest = files.first.len().max(files.second.len());
+    for less in 0..longest.max(files.third.len()) {
         let mut first = Chop::new(files.first, less + 1);
         let mut second = Chop::new(files.second, less + 1);
-        if !gives(alloc, order, &mut first, &mut second, wanted) {
+        let mut third = Chop::new(files.third, less + 1);
+        if !gives(alloc, order, &mut first, &mut second, &mut third, wanted) {
             return false;
         }
     }
@@ -131,8 +131,8 @@ pub(crate) fn tells_failing_first(
     };
     for call in 0..reads(files.first) {
         let mut first = failing(files.first, call);
-        let mut second = files.second;
-        if !gives(alloc, order, &mut first, &mut second, wanted) {
+        let (mut second, mut third) = (files.second, files.third);
+        if !gives(alloc, order, &mut first, &mut second, &mut third, wanted) {
             return Ok(false);
         }
     }
@@ -154,9 +154,33 @@ pub(crate) fn tells_failing_second(
         err: line.as_bytes(),
     };
     for call in 0..reads(files.second) {
-        let mut first = files.first;
+        let (mut first, mut third) = (files.first, files.third);
         let mut second = failing(files.second, call);
-        if !gives(alloc, order, &mut first, &mut second, wanted) {
+        if !gives(alloc, order, &mut first, &mut second, &mut third, wanted) {
+            return Ok(false);
+        }
+    }
+    Ok(true)
+}
+
+/// Whether a command tells each call of its third file that fails, and has written a beginning of a text.
+pub(crate) fn tells_failing_third(
+    alloc: Global,
+    order: &Order<'_>,
+    files: Files<'_>,
+    out: &[u8],
+) -> Result<bool, AllocError> {
+    let file = order.third.unwrap_or("");
+    let line = format!(in alloc; "{file}: device\n")?;
+    let wanted = Answer {
+        status: 3,
+        out,
+        err: line.as_bytes(),
+    };
+    for call in 0..reads(files.third) {
+        let (mut first, mut second) = (files.first, files.second);
+        let mut third = failing(files.third, call);
+        if !gives(alloc, order, &mut first, &mut second, &mut third, wanted) {
             return Ok(false);
         }
     }
@@ -171,7 +195,7 @@ fn tells_failing_write(
     text: &[u8],
     call: u64,
 ) -> bool {
-    let (mut first, mut second) = (files.first, files.second);
+    let (mut first, mut second, mut third) = (files.first, files.second, files.third);
     let mut out = FailAt::new(Chop::new(VecSink::new(alloc), FEW), call);
     let mut err = VecSink::new(alloc);
     run(
@@ -179,7 +203,7 @@ fn tells_failing_write(
         order,
         &mut first,
         &mut second,
-        &mut NoFile::new(),
+        &mut third,
         &mut out,
         &mut err,
         &mut Unwatched,
@@ -205,7 +229,7 @@ pub(crate) fn tells_failing_writes(
 
 /// The status of a command where standard error fails.
 pub(crate) fn status_untold(alloc: Global, order: &Order<'_>, files: Files<'_>) -> u8 {
-    let (mut first, mut second) = (files.first, files.second);
+    let (mut first, mut second, mut third) = (files.first, files.second, files.third);
     let mut out = VecSink::new(alloc);
     let mut err = FailAt::new(VecSink::new(alloc), 0);
     run(
@@ -213,7 +237,7 @@ pub(crate) fn status_untold(alloc: Global, order: &Order<'_>, files: Files<'_>) 
         order,
         &mut first,
         &mut second,
-        &mut NoFile::new(),
+        &mut third,
         &mut out,
         &mut err,
         &mut Unwatched,

@@ -15,7 +15,7 @@ pub(crate) enum Cut {
     Witness,
 }
 
-/// Words of the command line, two files, and what is to come of them.
+/// Words of the command line, three files, and what is to come of them.
 #[derive(Drop)]
 pub(crate) struct Row {
     /// An empty word in place of the program's name and the words, each with a byte 0 behind it; nothing where no row has
@@ -23,8 +23,10 @@ pub(crate) struct Row {
     pub(crate) words: Vec<u8>,
     first: Vec<u8>,
     second: Vec<u8>,
+    third: Vec<u8>,
     has_first: bool,
     has_second: bool,
+    has_third: bool,
     status: Option<u8>,
     /// What is to stand on standard output.
     pub(crate) out: Vec<u8>,
@@ -42,8 +44,10 @@ impl Row {
             words: Vec::new(alloc),
             first: Vec::new(alloc),
             second: Vec::new(alloc),
+            third: Vec::new(alloc),
             has_first: false,
             has_second: false,
+            has_third: false,
             status: None,
             out: Vec::new(alloc),
             err: Vec::new(alloc),
@@ -57,7 +61,9 @@ impl Row {
         self.words.clear();
         self.has_first = false;
         self.has_second = false;
+        self.has_third = false;
         self.second.clear();
+        self.third.clear();
         self.status = None;
         self.out.clear();
         self.err.clear();
@@ -78,6 +84,11 @@ impl Row {
     /// The second file; none where it is not there.
     pub(crate) fn second(&self) -> Option<&[u8]> {
         self.has_second.then_some(self.second.as_slice())
+    }
+
+    /// The third file; none where it is not there.
+    pub(crate) fn third(&self) -> Option<&[u8]> {
+        self.has_third.then_some(self.third.as_slice())
     }
 
     /// The status that is wanted; none where the row cannot be read.
@@ -147,9 +158,11 @@ impl Row {
             self.has_first = true;
         }
         self.has_second = self.has_second || part == b'2';
+        self.has_third = self.has_third || part == b'3';
         let text = match part {
             b'1' => &mut self.first,
             b'2' => &mut self.second,
+            b'3' => &mut self.third,
             b'o' => &mut self.out,
             b'e' => &mut self.err,
             _ => return Ok(false),

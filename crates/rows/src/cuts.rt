@@ -59,7 +59,14 @@ fn refuses(alloc: Global, order: &Order<'_>, mut first: &[u8], line: &str) -> bo
         out: b"",
         err: line.as_bytes(),
     };
-    gives(alloc, order, &mut first, &mut NoFile::new(), wanted)
+    gives(
+        alloc,
+        order,
+        &mut first,
+        &mut NoFile::new(),
+        &mut NoFile::new(),
+        wanted,
+    )
 }
 
 /// Whether the beginning of a model is shown between two lines, and elsewhere told as unfinished.
@@ -87,7 +94,14 @@ fn tells_cut_circuit(
             out: front.bytes,
             err: b"",
         };
-        return Ok(gives(alloc, order, &mut first, &mut NoFile::new(), wanted));
+        return Ok(gives(
+            alloc,
+            order,
+            &mut first,
+            &mut NoFile::new(),
+            &mut NoFile::new(),
+            wanted,
+        ));
     }
     let file = order.first;
     let place = front.place;
@@ -110,7 +124,14 @@ fn tells_cut_witness(
         err: b"",
     };
     let mut second = front.bytes;
-    Ok(gives(alloc, order, &mut first, &mut second, wanted))
+    Ok(gives(
+        alloc,
+        order,
+        &mut first,
+        &mut second,
+        &mut NoFile::new(),
+        wanted,
+    ))
 }
 
 /// Whether a command tells where a file is cut, after each of its bytes but the last.

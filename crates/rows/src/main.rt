@@ -10,6 +10,7 @@
 //! 1|3 bad 2
 //! 2|sat                            a line of the second file
 //! 2/b0                             the same, without a line end
+//! 3|-1 0                           a line of the third file
 //! = 1                              the status
 //! o|malformed line 2: 118 ..       a line on standard output
 //! e|..                             a line on standard error
@@ -36,7 +37,7 @@ mod stops;
 
 use answers::{
     Answer, Files, gives_by_pieces, gives_on, status_untold, tells_failing_first,
-    tells_failing_second, tells_failing_writes,
+    tells_failing_second, tells_failing_third, tells_failing_writes,
 };
 use base::{FromReader, next_line, read_all};
 use blocks::Row;
@@ -152,6 +153,23 @@ fn fault_of_stop(alloc: Global, stop: &Stop, wanted: Answer<'_>) -> Fault {
     None
 }
 
+/// A file of a row; an empty one where the command has none, and none where it is not there.
+fn file<'a>(name: Option<&str>, text: Option<&'a [u8]>) -> Option<&'a [u8]> {
+    match text {
+        None if name.is_none() => Some(b"".as_slice()),
+        text => text,
+    }
+}
+
+/// The files of a row, where all that the command has are there.
+fn files<'a>(order: &Order<'_>, row: &'a Row) -> Option<Files<'a>> {
+    Some(Files {
+        first: row.first()?,
+        second: file(order.second, row.second())?,
+        third: file(order.third, row.third())?,
+    })
+}
+
 /// What of a row with a command is not as it should be.
 fn fault_of_order(
     alloc: Global,
@@ -159,19 +177,12 @@ fn fault_of_order(
     row: &Row,
     wanted: Answer<'_>,
 ) -> Result<Fault, AllocError> {
-    let (first, second) = (row.first(), row.second());
-    if !gives_on(alloc, order, first, second, wanted) {
+    if !gives_on(alloc, order, row.first(), row.second(), row.third(), wanted) {
         return Ok(Some("the answer"));
     }
-    match (first, second) {
-        (Some(first), Some(second)) => {
-            fault_of_devices(alloc, order, Files { first, second }, row, wanted)
-        }
-        (Some(first), None) if order.second.is_none() => {
-            let second = b"".as_slice();
-            fault_of_devices(alloc, order, Files { first, second }, row, wanted)
-        }
-        _ => Ok(None),
+    match files(order, row) {
+        Some(files) => fault_of_devices(alloc, order, files, row, wanted),
+        None => Ok(None),
     }
 }
 
@@ -192,6 +203,10 @@ fn fault_of_devices(
     let reads_second = order.second.is_some() && wanted.status < 2;
     if reads_second && !tells_failing_second(alloc, order, files, wanted.out)? {
         return Ok(Some("a second file that fails"));
+    }
+    let reads_third = order.third.is_some() && wanted.status < 2;
+    if reads_third && !tells_failing_third(alloc, order, files, wanted.out)? {
+        return Ok(Some("a third file that fails"));
     }
     if !tells_failing_writes(alloc, order, files, wanted.out) {
         return Ok(Some("standard output that fails"));

@@ -8,7 +8,12 @@ use Rattle.restore.specs.Faults.{why_name as restore_name, why_number as restore
 use Rattle.wave.specs.Answers.{fault_name as wave_name, fault_number as wave_number}
 use Rattle.commands.specs.Explanations.{has_row}
 use Rattle.commands.specs.declared.explanations.Explanation.{Explanation}
-use Rattle.commands.proofs.TableLemmas.{behind, behind_nine, here, in_models}
+use Rattle.clauses.specs.Faults.{clause_name, clause_number, formula_name, formula_number}
+use Rattle.clauses.specs.Printed.{why_name as proof_name, why_number as proof_number}
+use Rattle.invariants.specs.Faults.{certificate_name, certificate_number, claim_name, claim_number}
+use Rattle.invariants.specs.declared.certificate_fault.CertificateFault.TheVariants as certificate
+use Rattle.invariants.specs.declared.claim_fault.ClaimFault.TheVariants as claim
+use Rattle.commands.proofs.TableLemmas.{behind, behind_nine, behind_six, here, in_models}
 use Rattle.commands.proofs.explanations.refusal_table.Goals as goal
 
 pub returns-clause-models : goal.returns-clause-models
@@ -48,3 +53,38 @@ pub returns-clause-dumps : goal.returns-clause-dumps
 returns-clause-dumps c = λ fault.
     let has : List Explanation → Bool = has_row (wave_number fault) (wave_name fault) in
     behind_nine has c.often.result.now c.texts.result.now c.items.result.now c.names.result.now c.lowering.result.now c.runs.result.now c.witness_texts.result.now c.bit_texts.result.now c.gates.result.now _ (behind (has c.calls.result.now) _ (behind (has c.lifting.result.now) _ (behind (has c.texts-2.result.now) _ (behind (has c.engines.result.now) _ (behind (has c.counterexamples.result.now) _ (here (has c.dumps.result.now) _ (c.dumps.ensures fault)))))))
+
+pub returns-clause-proofs : goal.returns-clause-proofs
+returns-clause-proofs c = λ why.
+    let has : List Explanation → Bool = has_row (proof_number why) (proof_name why) in
+    behind_nine has c.often.result.now c.texts.result.now c.items.result.now c.names.result.now c.lowering.result.now c.runs.result.now c.witness_texts.result.now c.bit_texts.result.now c.gates.result.now _ (behind_six has c.calls.result.now c.lifting.result.now c.texts-2.result.now c.engines.result.now c.counterexamples.result.now c.dumps.result.now _ (here (has c.proofs.result.now) _ (c.proofs.ensures.whys why)))
+
+pub returns-clause-clauses : goal.returns-clause-clauses
+returns-clause-clauses c = λ fault.
+    let has : List Explanation → Bool = has_row (clause_number fault) (clause_name fault) in
+    behind_nine has c.often.result.now c.texts.result.now c.items.result.now c.names.result.now c.lowering.result.now c.runs.result.now c.witness_texts.result.now c.bit_texts.result.now c.gates.result.now _ (behind_six has c.calls.result.now c.lifting.result.now c.texts-2.result.now c.engines.result.now c.counterexamples.result.now c.dumps.result.now _ (here (has c.proofs.result.now) _ (c.proofs.ensures.clauses fault)))
+
+pub returns-clause-formulas : goal.returns-clause-formulas
+returns-clause-formulas c = λ fault.
+    let has : List Explanation → Bool = has_row (formula_number fault) (formula_name fault) in
+    behind_nine has c.often.result.now c.texts.result.now c.items.result.now c.names.result.now c.lowering.result.now c.runs.result.now c.witness_texts.result.now c.bit_texts.result.now c.gates.result.now _ (behind_six has c.calls.result.now c.lifting.result.now c.texts-2.result.now c.engines.result.now c.counterexamples.result.now c.dumps.result.now _ (here (has c.proofs.result.now) _ (c.proofs.ensures.formulas fault)))
+
+pub returns-clause-claims : goal.returns-clause-claims
+returns-clause-claims c (claim.Form e) =
+    let has : List Explanation → Bool = has_row (claim_number (claim.Form e)) (claim_name (claim.Form e)) in
+    behind_nine has c.often.result.now c.texts.result.now c.items.result.now c.names.result.now c.lowering.result.now c.runs.result.now c.witness_texts.result.now c.bit_texts.result.now c.gates.result.now _ (behind (has c.calls.result.now) _ (behind (has c.lifting.result.now) _ (behind (has c.texts-2.result.now) _ (here (has c.engines.result.now) _ (c.engines.ensures e)))))
+returns-clause-claims c (claim.Invariant e) =
+    let has : List Explanation → Bool = has_row (claim_number (claim.Invariant e)) (claim_name (claim.Invariant e)) in
+    behind_nine has c.often.result.now c.texts.result.now c.items.result.now c.names.result.now c.lowering.result.now c.runs.result.now c.witness_texts.result.now c.bit_texts.result.now c.gates.result.now _ (behind_six has c.calls.result.now c.lifting.result.now c.texts-2.result.now c.engines.result.now c.counterexamples.result.now c.dumps.result.now _ (behind (has c.proofs.result.now) _ (here (has c.invariants.result.now) _ (c.invariants.ensures.whys e.why))))
+returns-clause-claims c (claim.Obligation e) =
+    let has : List Explanation → Bool = has_row (claim_number (claim.Obligation e)) (claim_name (claim.Obligation e)) in
+    behind_nine has c.often.result.now c.texts.result.now c.items.result.now c.names.result.now c.lowering.result.now c.runs.result.now c.witness_texts.result.now c.bit_texts.result.now c.gates.result.now _ (behind_six has c.calls.result.now c.lifting.result.now c.texts-2.result.now c.engines.result.now c.counterexamples.result.now c.dumps.result.now _ (behind (has c.proofs.result.now) _ (here (has c.invariants.result.now) _ (c.invariants.ensures.obligations e))))
+
+pub returns-clause-certificates : goal.returns-clause-certificates
+returns-clause-certificates c (certificate.Claim e) = returns-clause-claims c e
+returns-clause-certificates c (certificate.Judge e) =
+    let has : List Explanation → Bool = has_row (certificate_number (certificate.Judge e)) (certificate_name (certificate.Judge e)) in
+    behind_nine has c.often.result.now c.texts.result.now c.items.result.now c.names.result.now c.lowering.result.now c.runs.result.now c.witness_texts.result.now c.bit_texts.result.now c.gates.result.now _ (behind_six has c.calls.result.now c.lifting.result.now c.texts-2.result.now c.engines.result.now c.counterexamples.result.now c.dumps.result.now _ (here (has c.proofs.result.now) _ (c.proofs.ensures.clauses e)))
+returns-clause-certificates c (certificate.Device) =
+    let has : List Explanation → Bool = has_row (certificate_number (certificate.Device)) (certificate_name (certificate.Device)) in
+    behind_nine has c.often.result.now c.texts.result.now c.items.result.now c.names.result.now c.lowering.result.now c.runs.result.now c.witness_texts.result.now c.bit_texts.result.now c.gates.result.now _ (behind_six has c.calls.result.now c.lifting.result.now c.texts-2.result.now c.engines.result.now c.counterexamples.result.now c.dumps.result.now _ (behind (has c.proofs.result.now) _ (here (has c.invariants.result.now) _ (c.invariants.ensures.device))))

@@ -1,0 +1,261 @@
+//! The commands on certificates: invariants, and proofs of the formulas that they owe.
+
+ghost use Rattle.std.specs.Prelude.{◌≡◌, ℕ, List, None, Option, Some, IfOk, IfErr, OnOk};
+ghost use Rattle.std.specs.Io.KnownBytes.{Appends};
+ghost use Rattle.std.specs.String.{string_bytes};
+ghost use Rattle.clauses.specs.FormulaTexts.{formula_text};
+ghost use Rattle.invariants.specs.Certificates.{IsCertified, IsOwed};
+ghost use Rattle.commands.specs.Certificates.{Certifies, Gives, IsFirst, IsSoDerived, LowersFirst, WritesOwed, verdict_line};
+ghost use Rattle.commands.specs.Done.{IsModelOf};
+ghost use Rattle.commands.specs.Refusals.{IsFaultyFor, IsFaultyInvariant, IsNoCircuit, IsNotClaimed, IsNotGiven, IsNotLowered, IsWithoutForm};
+ghost use Rattle.commands.specs.Statuses.{Counts, CountsAll, IfInput, IfSecond, IsOfNoInput};
+
+use crate::answers::Answer;
+use crate::circuits::read_circuit;
+use crate::models::read_model;
+use crate::orders::Given;
+use crate::refusals::{Device, Refusal};
+use crate::restoring::claim_of;
+use crate::telling::write_result;
+use aiger::Circuit;
+use base::{Sink, Source};
+use blast::{Watch, lower_watched};
+use btor2::Model;
+use clauses::{Formula, Judgement, write_formula};
+use invariants::{judge_certificate, owed_formula};
+use std::alloc::{AllocError, Global};
+
+/// The circuit that lowers a model.
+fn lower_read<W: Watch>(alloc: Global, model: &Model, watch: &mut W) -> Result<Circuit, Refusal>
+    ensures lowers { (known : Option (List ℕ)) → IsModelOf known model.now → IfOk result (LowersFirst known) }
+    ensures refused { (known : Option (List ℕ)) → IsModelOf known model.now → IfErr result (IfInput (IsNotLowered known)) }
+    ensures counted { (f s o e : ℕ) → Counts result f f s s o o e e }
+{
+    // a model's items are well-formed
+    let _ = model.items();
+    Ok(lower_watched(alloc, model, watch)?)
+}
+
+/// Reads the first file as a model, and lowers it.
+fn lower_first<A: Source, W: Watch>(
+    alloc: Global,
+    first: &mut A,
+    watch: &mut W,
+) -> Result<Circuit, Refusal>
+    ensures lowers { IfOk result (LowersFirst (A.to_come first.old)) }
+    ensures refused { IfErr result (IfInput (IsNotLowered (A.to_come first.old))) }
+    ensures counted { (s o e : ℕ) → Counts result (A.failures first.old) (A.failures first.new) s s o o e e }
+{
+    let model = read_model(alloc, first)?;
+    lower_read(alloc, &model, watch)
+}
+
+/// Reads the first file as a circuit.
+fn read_first<A: Source>(alloc: Global, first: &mut A) -> Result<Circuit, Refusal>
+    ensures read { IfOk result (IsFirst (A.to_come first.old)) }
+    ensures refused { IfErr result (IfInput (IsNoCircuit (A.to_come first.old))) }
+    ensures counted { (s o e : ℕ) → Counts result (A.failures first.old) (A.failures first.new) s s o o e e }
+{
+    let circuit = read_circuit(alloc, first)?;
+    // the lists of a circuit are one
+    let _ = circuit.inputs();
+    Ok(circuit)
+}
+
+/// The circuit that the first file gives: one that lowers its model, or its own.
+fn read_given<A: Source, W: Watch>(
+    alloc: Global,
+    given: Given,
+    first: &mut A,
+    watch: &mut W,
+) -> Result<Circuit, Refusal>
+    ensures gives { IfOk result (Gives given (A.to_come first.old)) }
+    ensures refused { IfErr result (IfInput (IsNotGiven given (A.to_come first.old))) }
+    ensures counted { (s o e : ℕ) → Counts result (A.failures first.old) (A.failures first.new) s s o o e e }
+{
+    match given {
+        Given::Model => lower_first(alloc, first, watch),
+        Given::Circuit => read_first(alloc, first),
+    }
+}
+
+/// The formula that the second file, an invariant, owes for a bad property of a circuit.
+fn owed<B: Source>(
+    alloc: Global,
+    circuit: &Circuit,
+    claim: usize,
+    second: &mut B,
+) -> Result<Formula, Refusal>
+    ensures owed { IfOk result (IsOwed circuit.now claim (B.to_come second.old)) }
+    ensures refused { IfErr result (IfInput (IsWithoutForm circuit.now (Some claim))) }
+    ensures second { IfErr result (IfSecond (IsFaultyFor circuit.now claim (B.to_come second.old))) }
+    ensures counted { (f t o e : ℕ) → CountsAll result f f (B.failures second.old) (B.failures second.new) t t o o e e }
+{
+    match owed_formula(alloc, circuit, claim, second) {
+        Ok(formula) => Ok(formula),
+        Err(fault) => Err(Refusal::from(fault)),
+    }
+}
+
+/// Writes the text of a formula.
+fn write_owed<O: Sink>(formula: &Formula, out: &mut O) -> Result<Answer, Refusal>
+    ensures written { OnOk result (Appends (O.written out.old) (O.written out.new) (formula_text formula.now)) }
+    ensures answer { IfOk result (λ answer. answer ≡ Answer.Done) }
+    ensures no_input { IsOfNoInput result }
+    ensures counted { (f s e : ℕ) → Counts result f f s s (O.failures out.old) (O.failures out.new) e e }
+{
+    match write_formula(formula, out) {
+        Ok(()) => Ok(Answer::Done),
+        Err(_) => Err(Refusal::Failed(Device::Output)),
+    }
+}
+
+/// Writes the formula that an invariant owes for the bad property that is claimed of a circuit.
+fn write_owed_over<B: Source, O: Sink>(
+    alloc: Global,
+    circuit: &Circuit,
+    choice: Option<usize>,
+    second: &mut B,
+    out: &mut O,
+) -> Result<Answer, Refusal>
+    ensures done { (g : Given) (known : Option (List ℕ)) → Gives g known circuit.now → OnOk result (WritesOwed g choice known (B.to_come second.old) (O.written out.old) (O.written out.new)) }
+    ensures answer { IfOk result (λ answer. answer ≡ Answer.Done) }
+    ensures refused { (g : Given) (known : Option (List ℕ)) → Gives g known circuit.now → IfErr result (IfInput (IsNotClaimed g choice known)) }
+    ensures second { (g : Given) (known : Option (List ℕ)) → Gives g known circuit.now → IfErr result (IfSecond (IsFaultyInvariant g choice known (B.to_come second.old))) }
+    ensures unwritten { IfErr result (IfInput (λ _. out.new ≡ out.old)) }
+    ensures unwritten_second { IfErr result (IfSecond (λ _. out.new ≡ out.old)) }
+    ensures counted { (f t e : ℕ) → CountsAll result f f (B.failures second.old) (B.failures second.new) t t (O.failures out.old) (O.failures out.new) e e }
+{
+    let claim = claim_of(circuit, choice)?;
+    let formula = owed(alloc, circuit, claim, second)?;
+    write_owed(&formula, out)
+}
+
+/// Reads what is given, and writes the formula that an invariant owes for the bad property that is claimed of it.
+pub(crate) fn write_obligation<A: Source, B: Source, O: Sink, W: Watch>(
+    alloc: Global,
+    given: Given,
+    choice: Option<usize>,
+    first: &mut A,
+    second: &mut B,
+    out: &mut O,
+    watch: &mut W,
+) -> Result<Answer, Refusal>
+    ensures done { OnOk result (WritesOwed given choice (A.to_come first.old) (B.to_come second.old) (O.written out.old) (O.written out.new)) }
+    ensures answer { IfOk result (λ answer. answer ≡ Answer.Done) }
+    ensures refused { IfErr result (IfInput (IsNotClaimed given choice (A.to_come first.old))) }
+    ensures second { IfErr result (IfSecond (IsFaultyInvariant given choice (A.to_come first.old) (B.to_come second.old))) }
+    ensures unwritten { IfErr result (IfInput (λ _. out.new ≡ out.old)) }
+    ensures unwritten_second { IfErr result (IfSecond (λ _. out.new ≡ out.old)) }
+    ensures counted { (t e : ℕ) → CountsAll result (A.failures first.old) (A.failures first.new) (B.failures second.old) (B.failures second.new) t t (O.failures out.old) (O.failures out.new) e e }
+{
+    let circuit = read_given(alloc, given, first, watch)?;
+    write_owed_over(alloc, &circuit, choice, second, out)
+}
+
+/// The judgement of the second and the third file, a certificate of a bad property of a circuit.
+fn judged<B: Source, T: Source>(
+    alloc: Global,
+    circuit: &Circuit,
+    claim: usize,
+    second: &mut B,
+    third: &mut T,
+) -> Result<Judgement, Refusal>
+    ensures certified { IfOk result (IsCertified circuit.now claim (B.to_come second.old) (T.to_come third.old)) }
+    ensures refused { IfErr result (IfInput (IsWithoutForm circuit.now (Some claim))) }
+    ensures second { IfErr result (IfSecond (IsFaultyFor circuit.now claim (B.to_come second.old))) }
+    ensures counted { (f o e : ℕ) → CountsAll result f f (B.failures second.old) (B.failures second.new) (T.failures third.old) (T.failures third.new) o o e e }
+{
+    match judge_certificate(alloc, circuit, claim, second, third) {
+        Ok(judgement) => Ok(judgement),
+        Err(fault) => Err(Refusal::from(fault)),
+    }
+}
+
+/// The line that tells how a certificate of a bad property is judged.
+fn verdict_line(alloc: Global, claim: usize, judgement: &Judgement) -> Result<String, AllocError>
+    ensures { IfOk result (λ line. string_bytes line ≡ verdict_line claim judgement.now) }
+{
+    match judgement {
+        Judgement::Derived { .. } => format!(in alloc; "holds: b{claim}\n"),
+        Judgement::NotImplied { line } => format!(in alloc; "not implied line {line}\n"),
+        Judgement::Malformed { line, why } => {
+            let number = why.number();
+            let name = why.name();
+            format!(in alloc; "malformed line {line}: {number} {name}\n")
+        }
+        Judgement::NotDerived => format!(in alloc; "not derived\n"),
+    }
+}
+
+/// The answer of a judgement: all is done where the proof derives.
+fn answer_of(judgement: &Judgement) -> Answer
+    ensures { IsSoDerived result judgement.now }
+{
+    match judgement {
+        Judgement::Derived { .. } => Answer::Done,
+        _ => Answer::NotAccepted,
+    }
+}
+
+/// Writes the line that tells how a certificate of a bad property is judged, and answers whether the proof derives.
+fn write_verdict<O: Sink>(
+    alloc: Global,
+    claim: usize,
+    judgement: &Judgement,
+    out: &mut O,
+) -> Result<Answer, Refusal>
+    ensures written { OnOk result (Appends (O.written out.old) (O.written out.new) (verdict_line claim judgement.now)) }
+    ensures so { IfOk result (λ answer. IsSoDerived answer judgement.now) }
+    ensures no_input { IsOfNoInput result }
+    ensures counted { (f s e : ℕ) → Counts result f f s s (O.failures out.old) (O.failures out.new) e e }
+{
+    let line = verdict_line(alloc, claim, judgement)?;
+    write_result(out, line.as_bytes())?;
+    Ok(answer_of(judgement))
+}
+
+/// Judges a certificate of the bad property that is claimed of a circuit, and writes the line of that.
+fn check_over<B: Source, T: Source, O: Sink>(
+    alloc: Global,
+    circuit: &Circuit,
+    choice: Option<usize>,
+    second: &mut B,
+    third: &mut T,
+    out: &mut O,
+) -> Result<Answer, Refusal>
+    ensures done { (g : Given) (known : Option (List ℕ)) → Gives g known circuit.now → IfOk result (Certifies g choice known (B.to_come second.old) (T.to_come third.old) (O.written out.old) (O.written out.new)) }
+    ensures refused { (g : Given) (known : Option (List ℕ)) → Gives g known circuit.now → IfErr result (IfInput (IsNotClaimed g choice known)) }
+    ensures second { (g : Given) (known : Option (List ℕ)) → Gives g known circuit.now → IfErr result (IfSecond (IsFaultyInvariant g choice known (B.to_come second.old))) }
+    ensures unwritten { IfErr result (IfInput (λ _. out.new ≡ out.old)) }
+    ensures unwritten_second { IfErr result (IfSecond (λ _. out.new ≡ out.old)) }
+    ensures counted { (f e : ℕ) → CountsAll result f f (B.failures second.old) (B.failures second.new) (T.failures third.old) (T.failures third.new) (O.failures out.old) (O.failures out.new) e e }
+{
+    invariants::laws::certified_property_never_rises();
+    blast::laws::bad_properties_rise_alike();
+    let claim = claim_of(circuit, choice)?;
+    let judgement = judged(alloc, circuit, claim, second, third)?;
+    write_verdict(alloc, claim, &judgement, out)
+}
+
+/// Reads what is given, and judges a certificate of the bad property that is claimed of it.
+pub(crate) fn check_proof<A: Source, B: Source, T: Source, O: Sink, W: Watch>(
+    alloc: Global,
+    given: Given,
+    choice: Option<usize>,
+    first: &mut A,
+    second: &mut B,
+    third: &mut T,
+    out: &mut O,
+    watch: &mut W,
+) -> Result<Answer, Refusal>
+    ensures done { IfOk result (Certifies given choice (A.to_come first.old) (B.to_come second.old) (T.to_come third.old) (O.written out.old) (O.written out.new)) }
+    ensures refused { IfErr result (IfInput (IsNotClaimed given choice (A.to_come first.old))) }
+    ensures second { IfErr result (IfSecond (IsFaultyInvariant given choice (A.to_come first.old) (B.to_come second.old))) }
+    ensures unwritten { IfErr result (IfInput (λ _. out.new ≡ out.old)) }
+    ensures unwritten_second { IfErr result (IfSecond (λ _. out.new ≡ out.old)) }
+    ensures counted { (e : ℕ) → CountsAll result (A.failures first.old) (A.failures first.new) (B.failures second.old) (B.failures second.new) (T.failures third.old) (T.failures third.new) (O.failures out.old) (O.failures out.new) e e }
+{
+    let circuit = read_given(alloc, given, first, watch)?;
+    check_over(alloc, &circuit, choice, second, third, out)
+}
