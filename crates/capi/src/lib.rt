@@ -9,6 +9,7 @@ mod engines;
 mod judging;
 mod lifting;
 mod lowering;
+mod names;
 mod reading;
 
 pub use answers::{Refusal, Verdict};
