@@ -1,12 +1,11 @@
 #!/usr/bin/env bash
-# Tries the library for C programs: tests/c_library.sh PROGRAM, where PROGRAM is hwtool as the gate built it. It builds the
-# library, compiles the example in C with warnings as errors, plainly and with the address and undefined-behaviour sanitizers
+# Tries the library for C programs: tests/c_library.sh [PROGRAM], where PROGRAM is hwtool, or the one that `rt run` builds in
+# crates/hwtool. It builds the library, compiles the example in C with warnings as errors, plainly and with the address and undefined-behaviour sanitizers
 # where they are there, runs it and the example in Python over examples/, and tries each call over the texts of each row of
 # the gate, over every cut of some, with buffers that are too small, and with each allocation refused in turn.
 set -euo pipefail
-program=$(realpath "${1:?the program}")
 cd "$(dirname "$0")/.."
-root=$PWD
+program=$(readlink -f "${1:-crates/hwtool/out/hwtool}")
 work=$(mktemp -d)
 trap 'rm -rf "$work"' EXIT
 tools/c-library.sh "$work" 2>"$work/log" || { tail -n 20 "$work/log"; exit 1; }
