@@ -39,10 +39,9 @@ COUNTER = """1 sort bitvec 1
 """
 
 
-def counted(frames):
-    """A witness of the counter that counts in each frame."""
-    parts = "".join(f"@{k}\n0 0\n1 1\n" for k in range(frames))
-    return f"sat\nb0\n#0\n0 00000000\n{parts}.\n"
+def counted(k):
+    """A frame of a witness of the counter, which counts in each."""
+    return f"@{k}\n0 0\n1 1\n"
 
 
 def chain(nodes):
@@ -55,14 +54,13 @@ def chain(nodes):
         symbol = f" node{k}" if k % 10 == 0 else ""
         lines.append(f"{id} {op} 2 {last} {3 if k % 2 else max(last - 1, 5) if last > 7 else 3}{symbol}")
         last = id
-    lines += [f"{last + 1} next 2 5 {last}", f"{last + 2} redand 1 5", f"{last + 3} bad {last + 2}"]
+    lines += [f"{last + 1} next 2 5 {last}", f"{last + 2} redor 1 5", f"{last + 3} not 1 {last + 2}", f"{last + 4} bad {last + 3}"]
     return "\n".join(lines) + "\n"
 
 
-def chained(frames):
-    """A witness of the chain, with another input in each frame."""
-    parts = "".join(f"@{k}\n0 {k * 2654435761 % (1 << 32):032b}\n" for k in range(frames))
-    return f"sat\nb0\n{parts}.\n"
+def chained(k):
+    """A frame of a witness of the chain, with another input in each."""
+    return f"@{k}\n0 {k * 2654435761 % (1 << 32):032b}\n"
 
 
 def dumped(program, files):
@@ -101,9 +99,12 @@ def main():
     with tempfile.TemporaryDirectory() as folder:
         for name, model, witness, frames in trials:
             files = [os.path.join(folder, "model"), os.path.join(folder, "witness")]
-            for path, text in zip(files, (model, witness(frames))):
-                with open(path, "w") as out:
-                    out.write(text)
+            with open(files[0], "w") as out:
+                out.write(model)
+            with open(files[1], "w") as out:
+                out.write("sat\nb0\n")
+                out.writelines(witness(k) for k in range(frames))
+                out.write(".\n")
             sizes = [dumped(program, files) for program in programs]
             if len(set(sizes)) > 1:
                 sys.exit(f"{name}, {frames} frames: the dumps have {sizes} bytes")
