@@ -1,4 +1,11 @@
-/* Judges a witness of a BTOR2 model: judge MODEL WITNESS. */
+/* Judges a witness of a BTOR2 model:
+ *
+ *   $ cc -std=c11 -Iinclude examples/c/judge.c FOLDER/libhwtool.a -o judge
+ *   $ ./judge examples/toggler.btor2 examples/toggler.witness
+ *   accepted 2 frames
+ *   $ ./judge examples/counter.btor2 examples/counter-short.witness
+ *   not accepted: kind 1, first 0, second 0, why 0
+ */
 #include "hwtool.h"
 
 #include <inttypes.h>

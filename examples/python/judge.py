@@ -1,4 +1,8 @@
-"""Judges a witness of a BTOR2 model by the shared library: judge.py LIBRARY MODEL WITNESS."""
+"""Judges a witness of a BTOR2 model by the shared library:
+
+    $ python3 examples/python/judge.py FOLDER/libhwtool.so examples/toggler.btor2 examples/toggler.witness
+    accepted 2 frames
+"""
 import ctypes
 import sys
 
