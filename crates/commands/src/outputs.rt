@@ -14,6 +14,7 @@ use crate::running::run;
 use crate::statuses::{DEVICE, NOT_ACCEPTED};
 use crate::telling::{tell_no_memory, tell_output};
 use base::{Sink, Source, ToWriter};
+use blast::Watch;
 use std::alloc::{AllocError, Global};
 use std::fs::{self, OpenOptions};
 use std::io::{self, Write};
@@ -57,12 +58,13 @@ fn create_new<R: Files>(rt: &R, name: &str) -> io::Result<R::File> {
 /// Does a command whose result goes to a file that was opened; where it could not be, every write fails.
 fn run_onto<
     F: Write + Drop,
-    C: Clock + Copy,
+    C: Clock,
     W: Write + Copy,
     A: Source,
     B: Source,
     T: Source,
     E: Sink,
+    P: Watch,
 >(
     alloc: Global,
     order: &Order<'_>,
@@ -72,6 +74,7 @@ fn run_onto<
     file: io::Result<F>,
     progress: Progress<'_, C, W>,
     err: &mut E,
+    watch: &mut P,
 ) -> u8
     ensures done { result ≡ 0 → AnswersSome order.now.task order.now.form answer.Done (A.to_come first.old) (B.to_come second.old) (T.to_come third.old) (E.written err.old) (E.written err.new) }
     ensures not_accepted { result ≡ 1 → AnswersSome order.now.task order.now.form answer.NotAccepted (A.to_come first.old) (B.to_come second.old) (T.to_come third.old) (E.written err.old) (E.written err.new) }
@@ -83,13 +86,10 @@ fn run_onto<
     ensures no_third { has_three_files order.now.task ≡ false → third.new ≡ third.old }
     ensures statuses { result ≤ 4 }
 {
-    let mut watch = progress;
     match file {
         Ok(file) => {
             let mut out = Watched::new(ToWriter::new(file), Some(Work::Written), progress);
-            run(
-                alloc, order, first, second, third, &mut out, err, &mut watch,
-            )
+            run(alloc, order, first, second, third, &mut out, err, watch)
         }
         Err(_) => run(
             alloc,
@@ -99,7 +99,7 @@ fn run_onto<
             third,
             &mut NoFile::new(),
             err,
-            &mut watch,
+            watch,
         ),
     }
 }
@@ -129,12 +129,13 @@ fn give_name<R: Files, E: Sink>(rt: &R, part: &str, name: &str, status: u8, err:
 /// With status 3 also a file could not be made or take its name.
 pub fn run_to_file<
     R: Files,
-    C: Clock + Copy,
+    C: Clock,
     W: Write + Copy,
     A: Source,
     B: Source,
     T: Source,
     E: Sink,
+    P: Watch,
 >(
     rt: &R,
     alloc: Global,
@@ -144,6 +145,7 @@ pub fn run_to_file<
     third: &mut T,
     output: Output<'_, C, W>,
     err: &mut E,
+    watch: &mut P,
 ) -> u8
     // what is done, on a file of which nothing is known
     ensures done { result ≡ 0 → AnswersSome order.now.task order.now.form answer.Done (A.to_come first.old) (B.to_come second.old) (T.to_come third.old) (E.written err.old) (E.written err.new) }
@@ -163,7 +165,9 @@ pub fn run_to_file<
     } = output;
     if is_other(rt, name) {
         let file = fs::create(rt, name);
-        return run_onto(alloc, order, first, second, third, file, progress, err);
+        return run_onto(
+            alloc, order, first, second, third, file, progress, err, watch,
+        );
     }
     let part = match part_name(alloc, name, process) {
         Ok(part) => part,
@@ -171,7 +175,9 @@ pub fn run_to_file<
     };
     let part = part.as_str();
     let file = create_new(rt, part);
-    let status = run_onto(alloc, order, first, second, third, file, progress, err);
+    let status = run_onto(
+        alloc, order, first, second, third, file, progress, err, watch,
+    );
     if status <= NOT_ACCEPTED {
         return give_name(rt, part, name, status, err);
     }

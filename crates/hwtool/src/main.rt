@@ -85,6 +85,7 @@ fn obey<'a>(rt: &'a HostRuntime, order: &Order<'a>, terminals: Terminals) -> u8 
                 &mut third,
                 output,
                 &mut err,
+                &mut progress,
             )
         }
     };
