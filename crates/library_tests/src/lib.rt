@@ -16,6 +16,8 @@ mod models;
 #[cfg(test)]
 mod operator_tables;
 #[cfg(test)]
+mod proof_cuts;
+#[cfg(test)]
 mod refused_memory;
 pub mod samples;
 #[cfg(test)]

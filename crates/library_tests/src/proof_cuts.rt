@@ -1,0 +1,197 @@
+//! Proofs over formulas, fed to a judge in two pieces, cut at each place, and byte by byte.
+use clauses::{ClauseFault, Formula, FormulaFault, Judgement, ProofJudge, Why};
+use std::alloc::Global;
+use std::test::Fail;
+
+/// A count of variables, and clauses of literals, 2v for variable v and 2v + 1 for its negation.
+type Given = (u32, &'static [&'static [u32]]);
+
+/// A formula, a proof over it, and how that is judged.
+type Row = (&'static Given, &'static str, Judgement);
+
+/// No clause.
+const NONE: Given = (2, &[]);
+
+/// A clause without literals.
+const EMPTY: Given = (1, &[&[]]);
+
+/// A variable both ways.
+const BOTH: Given = (1, &[&[2], &[3]]);
+
+/// All eight clauses of three variables.
+const EIGHT: Given = (
+    3,
+    &[
+        &[2, 4, 6],
+        &[2, 4, 7],
+        &[2, 5, 6],
+        &[2, 5, 7],
+        &[3, 4, 6],
+        &[3, 4, 7],
+        &[3, 5, 6],
+        &[3, 5, 7],
+    ],
+);
+
+/// A clause with a literal twice, and two more.
+const TWICE: Given = (2, &[&[2, 2], &[3, 4], &[5]]);
+
+/// A clause with a literal and its negation.
+const NEGATED: Given = (1, &[&[2, 3]]);
+
+/// Two clauses that give the first variable together.
+const TOGETHER: Given = (2, &[&[2, 4], &[2, 5]]);
+
+/// A clause of one literal, and one that this shortens.
+const UNIT: Given = (3, &[&[2], &[3, 4, 6]]);
+
+/// Proofs over them. The steps of the first proof over all eight clauses are left out and turned one by one.
+const ROWS: [Row; 30] = [
+    (&NONE, "", Judgement::NotDerived),
+    (&NONE, "1 0\n", Judgement::NotImplied { line: 1 }),
+    (&NONE, "1 -1 0\n", Judgement::NotDerived),
+    (&EMPTY, "", Judgement::Derived { line: 0 }),
+    (&BOTH, "x", Judgement::Derived { line: 0 }),
+    (&TWICE, "", Judgement::Derived { line: 0 }),
+    (&EIGHT, "", Judgement::NotDerived),
+    (&EIGHT, "1 2 0\n1 0\n2 0\n", Judgement::Derived { line: 3 }),
+    (&EIGHT, "1 2 0\n1 0\n2 0", Judgement::Derived { line: 3 }),
+    (
+        &EIGHT,
+        "1 2 0\n1 0\n2 0\nx 7\n",
+        Judgement::Derived { line: 3 },
+    ),
+    (&EIGHT, "1 2 0 1 0 2 0", Judgement::Derived { line: 1 }),
+    (
+        &EIGHT,
+        "1\n2 0\n\n1 0 \r\n\t2\n0\n",
+        Judgement::Derived { line: 6 },
+    ),
+    (&EIGHT, "1 0\n2 0\n", Judgement::NotImplied { line: 1 }),
+    (&EIGHT, "1 2 0\n2 0\n0\n", Judgement::NotImplied { line: 3 }),
+    (&EIGHT, "1 2 0\n1 0\n", Judgement::NotDerived),
+    (
+        &EIGHT,
+        "-1 2 0\n1 0\n2 0\n",
+        Judgement::NotImplied { line: 2 },
+    ),
+    (&EIGHT, "1 -2 0\n1 0\n2 0\n", Judgement::Derived { line: 3 }),
+    (
+        &EIGHT,
+        "1 2 0\n-1 0\n2 0\n",
+        Judgement::NotImplied { line: 2 },
+    ),
+    (&EIGHT, "1 2 0\n1 0\n-2 0\n", Judgement::Derived { line: 3 }),
+    (
+        &EIGHT,
+        "1 2 0\nd 2 1 0\n1 0\n",
+        Judgement::NotImplied { line: 3 },
+    ),
+    (
+        &EIGHT,
+        "c 1 0\n1 2 0\nc\nd 7 0\n",
+        Judgement::Malformed {
+            line: 4,
+            why: Why::BadVariable,
+        },
+    ),
+    (
+        &EIGHT,
+        "1 2 0\n1 +2 0\n",
+        Judgement::Malformed {
+            line: 2,
+            why: Why::BadWord,
+        },
+    ),
+    (
+        &EIGHT,
+        "1 2 0\n1 2\n",
+        Judgement::Malformed {
+            line: 3,
+            why: Why::CutOff,
+        },
+    ),
+    (
+        &EIGHT,
+        "1 2 0\n1 2",
+        Judgement::Malformed {
+            line: 2,
+            why: Why::CutOff,
+        },
+    ),
+    (&NEGATED, "1 0\n", Judgement::NotImplied { line: 1 }),
+    (&TOGETHER, "1 0\n0\n", Judgement::NotImplied { line: 2 }),
+    (&TOGETHER, "d 1 0\n1 0\n", Judgement::NotDerived),
+    (
+        &TOGETHER,
+        "d 1 2 0\n1 0\n",
+        Judgement::NotImplied { line: 2 },
+    ),
+    (&UNIT, "d 1 0\n2 3 0\n", Judgement::NotDerived),
+    (
+        &UNIT,
+        "d 1 0\nd 3 2 -1 0\n2 3 0\n",
+        Judgement::NotImplied { line: 3 },
+    ),
+];
+
+/// A formula.
+fn formula_of(alloc: Global, given: &Given) -> Result<Formula, FormulaFault> {
+    let (variables, clauses) = *given;
+    let mut formula = Formula::new(alloc, variables.min(9));
+    for clause in clauses {
+        formula.push(clause)?;
+    }
+    Ok(formula)
+}
+
+/// The judgement of a text that is fed in two pieces.
+fn judged_cut(
+    alloc: Global,
+    formula: &Formula,
+    text: &[u8],
+    cut: usize,
+) -> Result<Judgement, ClauseFault> {
+    let (front, rest) = text.split_at(cut.min(text.len()));
+    let mut judge = ProofJudge::over(alloc, formula)?;
+    judge.feed(front);
+    judge.feed(rest);
+    judge.finish()
+}
+
+/// The judgement of a text that is fed byte by byte.
+fn judged_by_bytes(
+    alloc: Global,
+    formula: &Formula,
+    text: &[u8],
+) -> Result<Judgement, ClauseFault> {
+    let mut judge = ProofJudge::over(alloc, formula)?;
+    for byte in text {
+        judge.feed(&[*byte]);
+    }
+    judge.finish()
+}
+
+/// Whether a text is judged so, byte by byte and cut at each place.
+fn is_judged(alloc: Global, formula: &Formula, text: &[u8], wanted: &Judgement) -> bool {
+    for cut in 0..text.len() {
+        match judged_cut(alloc, formula, text, cut) {
+            Ok(judgement) if judgement == *wanted => {}
+            _ => return false,
+        }
+    }
+    match judged_by_bytes(alloc, formula, text) {
+        Ok(judgement) => judgement == *wanted,
+        Err(_) => false,
+    }
+}
+
+#[test]
+fn proofs_in_two_pieces(rt: HostRuntime) -> Result<(), Fail> {
+    for (given, text, wanted) in &ROWS {
+        let formula = formula_of(rt.alloc(), given)?;
+        let is_judged = is_judged(rt.alloc(), &formula, text.as_bytes(), wanted);
+        assert!(rt; is_judged, "{text}");
+    }
+    Ok(())
+}
