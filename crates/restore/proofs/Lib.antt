@@ -1,3 +1,13 @@
+pub mod BitPlaceLemmas
+mod FormBeginLemmas
+mod FormEndLemmas
+mod FormGivenLemmas
+mod FormHeadLemmas
+mod FormMoreLemmas
+mod FormOwingLemmas
+mod FormTakeLemmas
+pub mod FormLineLemmas
+mod FormWitnessLemmas
 mod FrameOf
 mod HandingLemmas
 mod MarkLemmas

@@ -1,5 +1,5 @@
 -- Steps of a restorer.
-use Rattle.std.proofs.Common.{◌≡◌, ℕ, true, List, [], length, Option, None, Some, Err, IfSome, inl, inr, refl, sym, ap, ap₂, subst, ◌∙◌}
+use Rattle.std.proofs.Common.{◌≡◌, ℕ, true, List, [], length, Option, None, Some, Err, IfSome, inl, inr, refl, sym, ap, ap₂, subst, ◌∙◌, Result, IfOk, Ok}
 use Rattle.base.specs.Lines.{text_of_lines}
 use Rattle.aiger.specs.Circuit.{Circuit}
 use Rattle.engine.specs.EngineForm.{input_count}
@@ -19,7 +19,7 @@ use Rattle.restore.proofs.PieceStepLemmas.{end_owed}
 abbrev lines_owed : Circuit → ℕ → Found → Owed
 lines_owed c k found = record { bytes = text_of_lines (restored_lines c k found); fault = found.fault }
 
-abbrev lines_owed_of : Circuit → ℕ → List ℕ → Owed
+abbrev pub lines_owed_of : Circuit → ℕ → List ℕ → Owed
 lines_owed_of c k text = record { bytes = restored_text c k text; fault = (read_text (input_count c) text).fault }
 
 pub begins_owed : (c : Circuit) (k : ℕ) (p : Play) (r : Reader) (text : List ℕ) → p.circuit ≡ c → p.claim ≡ k → length r.frame ≡ input_count c → r.place ≡ place.Start
@@ -28,6 +28,11 @@ unfolding restored_text
 begins_owed c k p r text circuit claim width start =
     let reads : left r text ≡ read_text (input_count c) text = ap₂ (λ (at : Place) (n : ℕ). read_at at n (all_lines (before_mark text))) start width in
     ap₂ (λ (d : Circuit) (n : ℕ). lines_owed d n (left r text)) circuit claim ∙ ap (lines_owed c k) reads
+
+pub new_owes : {E : Type 0} (r : Result Restorer E) (c : Circuit) (k : ℕ) → IfOk r (λ r. r.play.circuit ≡ c) → IfOk r (λ r. r.play.claim ≡ k) → IfOk r (λ r. length r.reader.frame ≡ input_count c) → IfOk r (λ r. r.reader.place ≡ place.Start) → IfOk r (λ r. r.stage ≡ stage.Start)
+    → IfOk r (λ r. (text : List ℕ) → owed r text ≡ lines_owed_of c k text)
+new_owes (Ok r) c k circuit claim width start at = λ text. ap (λ (s : Stage). owed_at s r (left r.reader text)) at ∙ begins_owed c k r.play r.reader text circuit claim width start
+new_owes (Err e) c k circuit claim width start at = circuit
 
 -- ---- what is owed does not depend on the reader but by what it gives
 

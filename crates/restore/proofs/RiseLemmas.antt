@@ -46,10 +46,8 @@ cut_few c k met (v ∷ vs) (x ∷ xs) = by (rises_in c k met v) (cut_few c k (me
 
 -- ---- a witness
 
-wide : (c : Circuit) (text : List ℕ) (given : List (List Bool)) → read_text (input_count c) text ≡ whole given → All (λ bits. length bits ≡ c.inputs) (own_inputs c given)
-wide c text given is =
-    let says = read (input_count c) text given is in
-    frames.own_inputs c.inputs (input_count c) given (omega arith) says.frames
+wide : (c : Circuit) (given : List (List Bool)) → All (λ bits. length bits ≡ input_count c) given → All (λ bits. length bits ≡ c.inputs) (own_inputs c given)
+wide c given all = frames.own_inputs c.inputs (input_count c) given (omega arith) all
 
 some_written : (c : Circuit) (k : ℕ) (given : List (List Bool)) → given ≢ [] → written_frames c k given ≢ []
 some_written c k [] some e = some refl
@@ -59,31 +57,39 @@ lines_of : (c : Circuit) (k : ℕ) (given : List (List Bool)) → given ≢ [] �
 lines_of c k [] some = absurd (some refl)
 lines_of c k (bits ∷ given) some = refl
 
-many_lines : (w : BitWitness) → length (bit_witness_lines w) ≡ length w.frames + 4
+pub many_lines : (w : BitWitness) → length (bit_witness_lines w) ≡ length w.frames + 4
 many_lines w =
     let behind = length-append (map bit_line w.frames) (codes "." ∷ []) in
     let many = length-map w.frames bit_line in
     omega (arith, behind, many)
 
-pub says : (c : Circuit) (k : ℕ) (text : List ℕ) (given : List (List Bool)) → k < length c.bads → read_text (input_count c) text ≡ whole given → length given + 4 ≤ most_lines → BitSays c (restored_text c k text) (restored_witness c k given)
-unfolding restored_text
-says c k text given below is few =
-    let said = read (input_count c) text given is in
+pub says_of : (c : Circuit) (k : ℕ) (text : List ℕ) (given : List (List Bool)) → k < length c.bads → given ≢ [] → All (λ bits. length bits ≡ input_count c) given → length given + 4 ≤ most_lines
+    → text ≡ text_of_lines (bit_witness_lines (restored_witness c k given)) → BitSays c text (restored_witness c k given)
+says_of c k text given below some all few spelled =
     let inputs : List (List Bool) = own_inputs c given in
     let vs : List Valuation = trace_from c (begins c given) inputs in
     let fewer = cut_few c k true vs inputs in
     let many = many_lines (restored_witness c k given) in
     let as_many = length-map given (take c.inputs) in
     record {
-      whole = ap (λ (found : Found). text_of_lines (restored_lines c k found)) is ∙ ap text_of_lines (lines_of c k given said.some_frame);
+      whole = spelled;
       valid = record {
         claim = below;
         initial = frames.begins_length c given;
-        some_frame = some_written c k given said.some_frame;
-        frames = cut_all (λ (bits : List Bool). length bits ≡ c.inputs) c k true vs inputs (wide c text given is);
+        some_frame = some_written c k given some;
+        frames = cut_all (λ (bits : List Bool). length bits ≡ c.inputs) c k true vs inputs (wide c given all);
       };
       few = omega (arith, many, fewer, as_many, few);
     }
+
+spells : (c : Circuit) (k : ℕ) (text : List ℕ) (given : List (List Bool)) → given ≢ [] → read_text (input_count c) text ≡ whole given → restored_text c k text ≡ text_of_lines (bit_witness_lines (restored_witness c k given))
+unfolding restored_text
+spells c k text given some is = ap (λ (found : Found). text_of_lines (restored_lines c k found)) is ∙ ap text_of_lines (lines_of c k given some)
+
+pub says : (c : Circuit) (k : ℕ) (text : List ℕ) (given : List (List Bool)) → k < length c.bads → read_text (input_count c) text ≡ whole given → length given + 4 ≤ most_lines → BitSays c (restored_text c k text) (restored_witness c k given)
+says c k text given below is few =
+    let said = read (input_count c) text given is in
+    says_of c k (restored_text c k text) given below said.some_frame said.frames few (spells c k text given said.some_frame is)
 
 -- ---- a bad property of the form and that of the circuit
 
@@ -208,22 +214,22 @@ begins_taken : (c : Circuit) (n : ℕ) (given : List (List Bool)) → begins c g
 begins_taken c n [] = refl
 begins_taken c n (bits ∷ given) = refl
 
-claims : (c : Circuit) (k : ℕ) (text : List ℕ) (given : List (List Bool)) → read_text (input_count c) text ≡ whole given → makes_no_bit_claim (whole_lines (restored_text c k text)) ≡ false
-unfolding restored_text
-claims c k text given is =
-    let said = read (input_count c) text given is in
-    let lines = ap (λ (found : Found). text_of_lines (restored_lines c k found)) is ∙ ap text_of_lines (lines_of c k given said.some_frame) in
-    ap (λ (t : List ℕ). makes_no_bit_claim (whole_lines t)) lines ∙ ap makes_no_bit_claim (whole_lines-line (codes "1") (text_of_lines (claim k ∷ (bit_line (begins c given) ∷ (map bit_line (written_frames c k given) ++ codes "." ∷ [])))) refl)
+claims : (c : Circuit) (k : ℕ) (text : List ℕ) (given : List (List Bool)) → text ≡ text_of_lines (bit_witness_lines (restored_witness c k given)) → makes_no_bit_claim (whole_lines text) ≡ false
+claims c k text given spelled =
+    ap (λ (t : List ℕ). makes_no_bit_claim (whole_lines t)) spelled ∙ ap makes_no_bit_claim (whole_lines-line (codes "1") (text_of_lines (claim k ∷ (bit_line (begins c given) ∷ (map bit_line (written_frames c k given) ++ codes "." ∷ [])))) refl)
 
-pub accepted : (c : Circuit) (choice : Option ℕ) (k : ℕ) (d : Circuit) (text : List ℕ) (given : List (List Bool)) (ws : List Valuation) (n : ℕ)
-    → ((c : Circuit) (text : List ℕ) (w : BitWitness) → IsCircuit c → BitSays c text w → (r : BitRead) × ((read_bit_text c text ≡ Ok r) × (bit_witness_of r ≡ w)))
-    → IsEngineFormOf c choice d → HasProperty choice k → k < length c.bads → read_text (input_count c) text ≡ whole given → length given + 4 ≤ most_lines
+abbrev pub Reads : Type 0
+Reads = (c : Circuit) (text : List ℕ) (w : BitWitness) → IsCircuit c → BitSays c text w → (r : BitRead) × ((read_bit_text c text ≡ Ok r) × (bit_witness_of r ≡ w))
+
+pub accepted_of : (c : Circuit) (choice : Option ℕ) (k : ℕ) (d : Circuit) (text : List ℕ) (given : List (List Bool)) (ws : List Valuation) (n : ℕ)
+    → Reads → IsEngineFormOf c choice d → HasProperty choice k → k < length c.bads → given ≢ [] → All (λ bits. length bits ≡ input_count c) given → length given + 4 ≤ most_lines
+    → text ≡ text_of_lines (bit_witness_lines (restored_witness c k given))
     → IsTrace d (replicate (length d.latches) false) given ws → first_bad d (place_in choice k) ws ≡ Some n
-    → BitJudges c (restored_text c k text) (judgement.Accepted (n + 1))
-accepted c choice k d text given ws n reads form has below is few trace at =
+    → BitJudges c text (judgement.Accepted (n + 1))
+accepted_of c choice k d text given ws n reads form has below some wide_all few spelled trace at =
     let inputs : List (List Bool) = own_inputs c given in
     let vs : List Valuation = trace_from c (begins c given) inputs in
-    let all = wide c text given is in
+    let all = wide c given wide_all in
     let own : IsTrace c (begins c given) inputs vs = trace_is c (begins c given) inputs form.original (frames.begins_length c given) all in
     let many : length inputs ≡ length vs = sym (frames.trace_length c (begins c given) inputs vs own) in
     let ends = cut_at c choice k d has below true true 0 n vs ws inputs (form.frames given vs ws own trace) many at in
@@ -243,6 +249,14 @@ accepted c choice k d text given ws n reads form has below is few trace at =
     ∙ ap (when_unbroken c (restored_witness c k given) us) shown.unbroken
     ∙ ap (when_risen k (length us)) shown.rises
     ∙ ap judgement.Accepted as_many) in
-    let r = reads c (restored_text c k text) (restored_witness c k given) form.original (says c k text given below is few) in
+    let r = reads c text (restored_witness c k given) form.original (says_of c k text given below some wide_all few spelled) in
     let one : suc n ≡ n + 1 = omega arith in
-    rw (claims c k text given is, r.1.0) (subst (λ (w : BitWitness). JudgesBits c w (judgement.Accepted (n + 1))) (sym r.1.1) (subst (λ (m : ℕ). JudgesBits c (restored_witness c k given) (judgement.Accepted m)) one judged))
+    rw (claims c k text given spelled, r.1.0) (subst (λ (w : BitWitness). JudgesBits c w (judgement.Accepted (n + 1))) (sym r.1.1) (subst (λ (m : ℕ). JudgesBits c (restored_witness c k given) (judgement.Accepted m)) one judged))
+
+pub accepted : (c : Circuit) (choice : Option ℕ) (k : ℕ) (d : Circuit) (text : List ℕ) (given : List (List Bool)) (ws : List Valuation) (n : ℕ)
+    → Reads → IsEngineFormOf c choice d → HasProperty choice k → k < length c.bads → read_text (input_count c) text ≡ whole given → length given + 4 ≤ most_lines
+    → IsTrace d (replicate (length d.latches) false) given ws → first_bad d (place_in choice k) ws ≡ Some n
+    → BitJudges c (restored_text c k text) (judgement.Accepted (n + 1))
+accepted c choice k d text given ws n reads form has below is few trace at =
+    let said = read (input_count c) text given is in
+    accepted_of c choice k d (restored_text c k text) given ws n reads form has below said.some_frame said.frames few (spells c k text given said.some_frame is) trace at

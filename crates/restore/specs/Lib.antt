@@ -2,6 +2,8 @@ pub mod Accepted
 pub mod Answers
 pub mod Counterexample
 pub mod Faults
+pub mod FormSteps
+pub mod FormWitness
 pub mod Frames
 pub mod Holds
 pub mod Marks

@@ -4,6 +4,8 @@
 
 mod digits;
 mod fault;
+pub mod form_laws;
+mod form_restoring;
 mod frame_reader;
 pub mod laws;
 mod marks;
@@ -17,6 +19,7 @@ mod taker;
 mod width;
 
 pub use fault::{RestoreFault, RestoreWhy};
+pub use form_restoring::{restore_form, take_form};
 pub use frame_reader::FrameReader;
 pub use restorer::Restorer;
 pub use restoring::{restore, take_restored};

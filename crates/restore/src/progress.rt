@@ -96,6 +96,15 @@ impl Progress {
         self.bits.as_slice()
     }
 
+    /// Writes the bits of a line in place of those of the frame that was found last.
+    pub(crate) fn write(&mut self, line: &[u8])
+        requires { length line.now ≡ length self.old.bits.items }
+        ensures bits { self.new.bits.items ≡ line_bits line.now }
+        ensures place { self.new.place ≡ self.old.place }
+    {
+        write_bits(line, self.bits.as_mut_slice());
+    }
+
     /// Where the reading is.
     pub(crate) fn place(&self) -> Place
         ensures { result ≡ self.now.place }

@@ -3,9 +3,11 @@ ghost use Rattle.std.specs.Prelude.{◌≡◌, ◌≢◌, ℕ, ◌<◌, List, tr
 ghost use Rattle.std.specs.Io.KnownBytes.{prepend_known, IsAtEnd};
 ghost use Rattle.base.specs.Device.{HasRisen};
 ghost use Rattle.restore.specs.declared.fault.RestoreWhy.TheVariants as why;
+ghost use Rattle.restore.specs.declared.place.Place.TheVariants as place;
 ghost use Rattle.restore.specs.declared.stage.Stage.TheVariants as stage;
 ghost use Rattle.engine.specs.EngineForm.{input_count};
-ghost use Rattle.restore.specs.Reading.{read_text};
+ghost use Rattle.restore.specs.FormSteps.{with_bits, frame_pieces_at, settled, stage_behind};
+ghost use Rattle.restore.specs.Reading.{line_bits, read_text};
 ghost use Rattle.restore.specs.Restored.{restored_text};
 ghost use Rattle.restore.specs.Pieces.{piece, owed, is_reading, is_written, with_frame, with_first, with_later, with_found_at, is_taken_at, HandsOn, steps_left};
 ghost use Rattle.restore.specs.Steps.{StepsOn, frames_left};
@@ -68,6 +70,23 @@ impl<'c> Restorer<'c> {
         ensures restores { IfOk result (λ r. (text : List ℕ) → owed r text ≡ record { bytes = restored_text circuit.now claim text; fault = (read_text (input_count circuit.now) text).fault }) }
         ensures unread { IfOk result (λ r. r.reader.rest ≡ []) }
         ensures begins { IfOk result (λ r. is_written r.stage ≡ false) }
+    {
+        Restorer::at_start(alloc, circuit, claim)
+    }
+
+    /// The same, by what it holds.
+    pub(crate) fn at_start(
+        alloc: Global,
+        circuit: &'c Circuit,
+        claim: usize,
+    ) -> Result<Restorer<'c>, AllocError>
+        requires { claim < length circuit.now.bads }
+        ensures circuit { IfOk result (λ r. r.play.circuit ≡ circuit.now) }
+        ensures claim { IfOk result (λ r. r.play.claim ≡ claim) }
+        ensures width { IfOk result (λ r. length r.reader.frame ≡ input_count circuit.now) }
+        ensures place { IfOk result (λ r. r.reader.place ≡ place.Start) }
+        ensures unread { IfOk result (λ r. r.reader.rest ≡ []) }
+        ensures begins { IfOk result (λ r. r.stage ≡ stage.Start) }
     {
         let reader = FrameReader::new(alloc, input_count(circuit))?;
         let play = Play::new(alloc, circuit, claim)?;
@@ -213,5 +232,43 @@ impl<'c> Restorer<'c> {
         }
         self.stage = Stage::End;
         Ok(true)
+    }
+
+    /// Takes a frame that was found elsewhere, as its line has it, and answers whether it is written.
+    pub(crate) fn take_line(&mut self, line: &[u8]) -> bool
+        requires { is_reading self.old.stage ≡ true }
+        ensures other { length line.now ≢ length self.old.reader.frame → (result ≡ false) × (self.new ≡ self.old) }
+        ensures takes { length line.now ≡ length self.old.reader.frame → (self.new ≡ with_found_at self.old.stage (with_bits self.old (line_bits line.now))) × (result ≡ is_taken_at self.old.stage self.old) }
+        ensures reads { result ≡ false → is_reading self.new.stage ≡ true }
+        ensures goes_on { result ≡ true → is_reading (stage_behind self.new.stage) ≡ true }
+    {
+        if line.len() != self.reader.frame().len() {
+            return false;
+        }
+        self.reader.set_frame(line);
+        self.take_frame()
+    }
+
+    /// Whether the first two lines are to be written now.
+    pub(crate) fn is_at_head(&self) -> bool
+        ensures head { result ≡ true → self.now.stage ≡ stage.Head }
+        ensures other { result ≡ false → frame_pieces_at self.now.stage self.now ≡ piece self.now }
+        ensures stays { result ≡ false → settled self.now ≡ self.now }
+    {
+        matches!(self.stage, Stage::Head)
+    }
+
+    /// Goes on behind the first two lines.
+    pub(crate) fn pass_head(&mut self)
+        ensures { self.new ≡ record self.old { stage = stage.Initial } }
+    {
+        self.stage = Stage::Initial;
+    }
+
+    /// Goes on behind the lines before the first frame.
+    pub(crate) fn pass_initial(&mut self)
+        ensures { self.new ≡ record self.old { stage = stage.Frame } }
+    {
+        self.stage = Stage::Frame;
     }
 }

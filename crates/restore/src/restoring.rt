@@ -32,7 +32,7 @@ fn apart(why: RestoreWhy) -> RestoreFault
 /// Hands a piece on.
 ///
 /// Error: the sink's own.
-fn hand_on<T: Taker, K: Sink>(
+pub(crate) fn hand_on<T: Taker, K: Sink>(
     taker: &mut T,
     outbox: &mut Outbox,
     sink: &mut K,
@@ -91,7 +91,7 @@ fn write_rest<K: Sink>(outbox: &mut Outbox, sink: &mut K) -> Result<(), RestoreF
 /// Writes what the outbox keeps, where all was put, and then tells what was told of that.
 ///
 /// Error: that which was told, or the sink's own.
-fn end<K: Sink>(
+pub(crate) fn end<K: Sink>(
     told: Result<(), RestoreFault>,
     outbox: &mut Outbox,
     sink: &mut K,

@@ -1,0 +1,205 @@
+-- What is accepted over an engine form is found again in what it is restored to.
+use Rattle.std.proofs.Common.{◌≡◌, ◌≢◌, ℕ, zero, suc, ◌+◌, ◌<◌, ◌≤◌, Bool, true, false, List, [], ◌∷◌, ◌++◌, length, map, take, replicate, get_or, All, Option, None, Some, Result, Ok, Err, refl, sym, ap, subst, ◌∙◌, append_assoc, inl, inr, arith}
+use Rattle.std.specs.List.{list_any, position_from}
+use Rattle.std.proofs.lemmas.Bool.{cases_Bool}
+use Rattle.std.proofs.lemmas.Bool.Decides.{nat_tests}
+use Rattle.std.proofs.lemmas.List.{length-map, length-replicate}
+use Rattle.std.proofs.lemmas.List.Elements.{All-nil, All-cons}
+use Rattle.base.specs.Lines.{text_of_lines, whole_lines, unfinished}
+use Rattle.aiger.specs.declared.circuit.Latch.{Latch}
+use Rattle.aiger.specs.declared.circuit.Reset.TheVariants as reset
+use Rattle.aiger.specs.Literal.{Valuation, literal_value}
+use Rattle.aiger.specs.Circuit.{Circuit, IsCircuit}
+use Rattle.aiger.specs.Trace.{IsTrace}
+use Rattle.engine.specs.EngineForm.{begins, input_count, chosen, has_chosen, ShowSame, IsEngineFormOf}
+use Rattle.witness.specs.declared.judgement.Judgement.{Judgement}
+use Rattle.witness.specs.declared.judgement.Judgement.TheVariants as judgement
+use Rattle.witness.specs.declared.why.Why.{Why}
+use Rattle.witness.specs.Judgements.{Violation, JudgesAs}
+use Rattle.witness.specs.Texts.{most_lines}
+use Rattle.witness.specs.Readings.{Reading, Fault, refused_for, read_or_fault, last_refusal, is_nothing, reading}
+use Rattle.witness.specs.BitTexts.{BitWitness, bit_line, bit_witness_lines, BitSays}
+use Rattle.witness.specs.BitAdmits.{BitRead, bit_reader, is_done, read_bit_text, bit_witness_of}
+use Rattle.witness.specs.BitJudgements.{first_reset_differing, bit_violation_from, bit_rises, when_risen, when_unbroken, when_reset, bit_verdict, makes_no_bit_claim, JudgesBits, BitJudges}
+use Rattle.restore.specs.Counterexample.{HasProperty, place_in, first_bad}
+use Rattle.restore.specs.Restored.{opening, written_frames, restored_witness}
+use Rattle.restore.specs.FormWitness.{property_of, frame_lines, last_line, read_restored, form_restored_text, FormJudges, IsFoundAgain}
+use Rattle.restore.specs.FormSteps.{told_of}
+use Rattle.restore.proofs.RiseLemmas.{Reads, says_of, accepted_of, many_lines}
+use Rattle.restore.proofs.RestoredLemmas as frames
+
+-- ---- what an accepted text reads as
+
+accepted_reads : (Says : BitRead → Judgement → Type 0) (none : Bool) (read : Result BitRead Fault) (m : ℕ) → JudgesAs Says none read (judgement.Accepted m) → (r : BitRead) × ((read ≡ Ok r) × Says r (judgement.Accepted m))
+accepted_reads Says true read m h = absurd cc
+accepted_reads Says false (Err e) m h = absurd cc
+accepted_reads Says false (Ok r) m h = (r, (refl, h))
+
+-- a text that is read ends with the last line
+read_last : (ended : Bool) (n : ℕ) (empty : Bool) (g : Reading BitRead) (r : BitRead) → refused_for g (last_refusal ended n empty) ≡ Ok r → (g.read ≡ r) × (ended ≡ true)
+read_last true n true g r h = (cc, refl)
+read_last true n false g r h = absurd (grind arith)
+read_last false n empty g r h = absurd (grind arith)
+
+read_whole : (ended : BitRead → Bool) (g : Reading BitRead) (last : List ℕ) (o : Option Why) (r : BitRead) → read_or_fault ended g last o ≡ Ok r → (g.read ≡ r) × (ended g.read ≡ true)
+read_whole ended g last (Some w) r h = absurd cc
+read_whole ended g last None r h = read_last (ended g.read) g.admitted (is_nothing last) g r h
+
+-- ---- initial bits
+
+all_zero : (k n : ℕ) (ls : List Latch) (bits : List Bool) → map (λ (l : Latch). l.reset) ls ≡ replicate n reset.Zero → length bits ≡ length ls → first_reset_differing k ls bits ≡ None → bits ≡ replicate (length ls) false
+all_zero k n [] [] zeros many none = refl
+all_zero k n [] (b ∷ bits) zeros many none = absurd (omega (arith, many))
+all_zero k n (l ∷ ls) [] zeros many none = absurd (omega (arith, many))
+all_zero k zero (l ∷ ls) (b ∷ bits) zeros many none = absurd cc
+all_zero k (suc n) (l ∷ ls) (b ∷ bits) zeros many none =
+    let first : l.reset ≡ reset.Zero = cc in
+    let rest : map (λ (l : Latch). l.reset) ls ≡ replicate n reset.Zero = cc in
+    by b (λ h. all_zero (suc k) n ls bits rest (omega (arith, many)) h) (rw first at none)
+  where
+    by : (b : Bool) → (first_reset_differing (suc k) ls bits ≡ None → bits ≡ replicate (length ls) false) → first_reset_differing k (record l { reset = reset.Zero } ∷ ls) (b ∷ bits) ≡ None → b ∷ bits ≡ replicate (length (l ∷ ls)) false
+    by true later h = absurd cc
+    by false later h = ap (λ (t : List Bool). false ∷ t) (later h)
+
+-- ---- the claim
+
+some_position : (p : Valuation → Bool) (k : ℕ) (vs : List Valuation) → list_any p vs ≡ true → (n : ℕ) × (position_from p k vs ≡ Some n)
+some_position p k [] h = absurd cc
+some_position p k (v ∷ vs) h = elim (cases_Bool (p v)) [
+  | inl here ↦ (k, rw here refl)
+  | inr other ↦ let rest = some_position p (k + 1) vs (rw other at h) in (rest.0, rw other rest.1)
+]
+
+risen_of : (i frames m : ℕ) (b : Bool) → judgement.Accepted m ≡ when_risen i frames b → b ≡ true
+risen_of i frames m true h = refl
+risen_of i frames m false h = absurd cc
+
+unbroken_of : (d : Circuit) (w : BitWitness) (vs : List Valuation) (m : ℕ) (o : Option Violation) → judgement.Accepted m ≡ when_unbroken d w vs o → bit_rises d w.claim vs ≡ true
+unbroken_of d w vs m None h = risen_of w.claim (length vs) m (bit_rises d w.claim vs) h
+unbroken_of d w vs m (Some v) h = absurd cc
+
+reset_of : (d : Circuit) (w : BitWitness) (vs : List Valuation) (m : ℕ) (o : Option ℕ) → judgement.Accepted m ≡ when_reset d w vs o → (o ≡ None) × (bit_rises d w.claim vs ≡ true)
+reset_of d w vs m None h = (refl, unbroken_of d w vs m (bit_violation_from d 0 vs) h)
+reset_of d w vs m (Some k) h = absurd cc
+
+-- ---- properties of the form
+
+abbrev pub HasTraces : Type 0
+HasTraces = (c : Circuit) (state : List Bool) (inputs : List (List Bool)) → IsCircuit c → length state ≡ length c.latches → All (λ input. length input ≡ c.inputs) inputs → (vs : List Valuation) × IsTrace c state inputs vs
+
+shown_bads : (c : Circuit) (choice : Option ℕ) (d : Circuit) (first met : Bool) (given : List (List Bool)) (state : List Bool) (vs ws : List Valuation) → given ≢ [] → IsTrace d state given ws → ShowSame c choice d first met vs ws → length d.bads ≡ length (chosen choice c.bads)
+shown_bads c choice d first met [] state vs ws some t same = absurd (some refl)
+shown_bads c choice d first met (bits ∷ given) state vs [] some t same = absurd t
+shown_bads c choice d first met (bits ∷ given) state [] (w ∷ ws) some t same = absurd same
+shown_bads c choice d first met (bits ∷ given) state (v ∷ vs) (w ∷ ws) some t same =
+    sym (length-map d.bads (literal_value w)) ∙ ap length same.0.bads ∙ length-map (chosen choice c.bads) _
+
+-- a claim over the form is of a property of the circuit, and stands at its place in the form
+record IsOf (c : Circuit) (choice : Option ℕ) (j : ℕ) : Type 0 where
+  below : property_of choice j < length c.bads
+  has : HasProperty choice (property_of choice j)
+  place : place_in choice (property_of choice j) ≡ j
+
+is_of : (c : Circuit) (choice : Option ℕ) (j : ℕ) → has_chosen choice c.bads ≡ true → j < length (chosen choice c.bads) → IsOf c choice j
+is_of c None j has below = record { below = below; has = tt; place = refl }
+is_of c (Some k) j has below =
+    let there : k < length c.bads = grind (arith, nat_tests) in
+    let one : chosen (Some k) c.bads ≡ get_or c.bads k 0 ∷ [] = frames.chosen_at k c.bads there in
+    let none : j < 1 = subst (λ (l : List ℕ). j < length l) one below in
+    record { below = there; has = refl; place = omega (arith, none) }
+
+pub claims_below : (c : Circuit) (choice : Option ℕ) (d : Circuit) (j : ℕ) → HasTraces → IsEngineFormOf c choice d → j < length d.bads → property_of choice j < length c.bads
+claims_below c choice d j traces form below =
+    let given : List (List Bool) = replicate (input_count c) false ∷ [] in
+    let wide : All (λ bits. length bits ≡ input_count c) given = All-cons (λ (bits : List Bool). length bits ≡ input_count c) (replicate (input_count c) false) [] (length-replicate (input_count c) false) (All-nil (λ (bits : List Bool). length bits ≡ input_count c)) in
+    let ws = traces d (replicate (length d.latches) false) given form.circuit (length-replicate (length d.latches) false) (subst (λ (n : ℕ). All (λ bits. length bits ≡ n) given) (sym form.inputs) wide) in
+    let own = traces c (begins c given) (map (take c.inputs) given) form.original (frames.begins_length c given) (frames.own_inputs c.inputs (input_count c) given (omega arith) wide) in
+    let many = shown_bads c choice d true true given (replicate (length d.latches) false) own.0 ws.0 (λ e. absurd cc) ws.1 (form.frames given own.0 ws.0 own.1 ws.1) in
+    (is_of c choice j form.has_bad (subst (λ (n : ℕ). j < n) many below)).below
+
+-- ---- all together
+
+lines_of : (c : Circuit) (k : ℕ) (given : List (List Bool)) → given ≢ [] → frame_lines c k given ++ last_line true ≡ bit_witness_lines (restored_witness c k given)
+lines_of c k [] some = absurd (some refl)
+lines_of c k (bits ∷ given) some = append_assoc (opening c k (bits ∷ given)) (map bit_line (written_frames c k (bits ∷ given))) (last_line true)
+
+pub read_of_ok : (d : Circuit) (text : List ℕ) (r : BitRead) → read_bit_text d text ≡ Ok r → ((reading (bit_reader d) text).read ≡ r) × (is_done r.place ≡ true)
+read_of_ok d text r is =
+    let whole = read_whole (λ (r : BitRead). is_done r.place) (reading (bit_reader d) text) (unfinished text) (reading (bit_reader d) text).refused r is in
+    (whole.0, sym (ap (λ (x : BitRead). is_done x.place) whole.0) ∙ whole.1)
+
+restored_as : (c : Circuit) (choice : Option ℕ) (d : Circuit) (text : List ℕ) (r : BitRead) → read_bit_text d text ≡ Ok r → r.frames ≢ [] → form_restored_text c choice d text ≡ text_of_lines (bit_witness_lines (restored_witness c (property_of choice r.claim) r.frames))
+unfolding form_restored_text
+restored_as c choice d text r is some =
+    let whole = read_of_ok d text r is in
+    ap (read_restored c choice) whole.0
+    ∙ ap (λ (b : Bool). text_of_lines (frame_lines c (property_of choice r.claim) r.frames ++ last_line b)) whole.1
+    ∙ ap text_of_lines (lines_of c (property_of choice r.claim) r.frames some)
+
+pub found_again : (c : Circuit) (choice : Option ℕ) (d : Circuit) (text : List ℕ) (m : ℕ) → Reads → ((c : Circuit) (text : List ℕ) (r : BitRead) → IsCircuit c → read_bit_text c text ≡ Ok r → BitSays c text (bit_witness_of r)) → HasTraces
+    → IsEngineFormOf c choice d → BitJudges d text (judgement.Accepted m) → IsFoundAgain c choice d text
+found_again c choice d text m reads said traces form accepted =
+    let read = accepted_reads (λ (r : BitRead). JudgesBits d (bit_witness_of r)) (makes_no_bit_claim (whole_lines text)) (read_bit_text d text) m accepted in
+    let r : BitRead = read.0 in
+    let w : BitWitness = bit_witness_of r in
+    let says : BitSays d text w = said d text r form.circuit read.1.0 in
+    let some : r.frames ≢ [] = says.valid.some_frame in
+    let trace = traces d w.initial w.frames form.circuit says.valid.initial says.valid.frames in
+    let ws : List Valuation = trace.0 in
+    let verdict = reset_of d w ws m (first_reset_differing 0 d.latches w.initial) (read.1.1 ws trace.1) in
+    let zeros : w.initial ≡ replicate (length d.latches) false = all_zero 0 _ d.latches w.initial form.resets says.valid.initial verdict.0 in
+    let begun : IsTrace d (replicate (length d.latches) false) w.frames ws = subst (λ (s : List Bool). IsTrace d s w.frames ws) zeros trace.1 in
+    let wide : All (λ bits. length bits ≡ input_count c) w.frames = subst (λ (n : ℕ). All (λ bits. length bits ≡ n) w.frames) form.inputs says.valid.frames in
+    let own = traces c (begins c w.frames) (map (take c.inputs) w.frames) form.original (frames.begins_length c w.frames) (frames.own_inputs c.inputs (input_count c) w.frames (omega arith) wide) in
+    let many = shown_bads c choice d true true w.frames (replicate (length d.latches) false) own.0 ws some begun (form.frames w.frames own.0 ws own.1 begun) in
+    let of = is_of c choice w.claim form.has_bad (subst (λ (n : ℕ). w.claim < n) many says.valid.claim) in
+    let k : ℕ = property_of choice w.claim in
+    let first = some_position (λ v. literal_value v (get_or d.bads w.claim 0)) 0 ws verdict.1 in
+    let lines = many_lines w in
+    let few : length w.frames + 4 ≤ most_lines = let f = says.few in omega (arith, lines, f) in
+    let spelled = restored_as c choice d text r read.1.0 some in
+    let at : first_bad d (place_in choice k) ws ≡ Some first.0 = ap (λ (p : ℕ). first_bad d p ws) of.place ∙ first.1 in
+    record {
+      witness = w;
+      says = says;
+      trace = ws;
+      is_trace = begun;
+      last = first.0;
+      first = first.1;
+      restored = says_of c k (form_restored_text c choice d text) w.frames of.below some wide few spelled;
+      accepted = accepted_of c choice k d (form_restored_text c choice d text) w.frames ws first.0 reads form of.has of.below some wide few spelled begun at;
+    }
+
+-- ---- what is told
+
+verdict_told : (d : Circuit) (w : BitWitness) (vs : List Valuation) (restored : Judgement) → told_of (bit_verdict d w vs) restored ≡ restored
+verdict_told d w vs restored = by_reset (first_reset_differing 0 d.latches w.initial)
+  where
+    by_risen : (b : Bool) → told_of (when_risen w.claim (length vs) b) restored ≡ restored
+    by_risen true = refl
+    by_risen false = refl
+
+    by_violation : (o : Option Violation) → told_of (when_unbroken d w vs o) restored ≡ restored
+    by_violation None = by_risen (bit_rises d w.claim vs)
+    by_violation (Some v) = refl
+
+    by_reset : (o : Option ℕ) → told_of (when_reset d w vs o) restored ≡ restored
+    by_reset None = by_violation (bit_violation_from d 0 vs)
+    by_reset (Some k) = refl
+
+judged_by : (P Q : BitRead → Judgement → Type 0) (none : Bool) (read : Result BitRead Fault) (over restored : Judgement) → ((r : BitRead) → read ≡ Ok r → P r over → told_of over restored ≡ restored) → ((r : BitRead) → Q r restored) → JudgesAs P none read over → JudgesAs Q none read (told_of over restored)
+judged_by P Q true read over restored kind is h = ap (λ (j : Judgement). told_of j restored) h
+judged_by P Q false (Err e) over restored kind is h = ap (λ (j : Judgement). told_of j restored) h
+judged_by P Q false (Ok r) over restored kind is h = subst (Q r) (sym (kind r refl h)) (is r)
+
+abbrev pub Said : Type 0
+Said = (c : Circuit) (text : List ℕ) (r : BitRead) → IsCircuit c → read_bit_text c text ≡ Ok r → BitSays c text (bit_witness_of r)
+
+pub form_judged : (c : Circuit) (choice : Option ℕ) (d : Circuit) (text : List ℕ) (over restored : Judgement) → Said → HasTraces → IsCircuit d → BitJudges d text over → BitJudges c (form_restored_text c choice d text) restored → FormJudges c choice d text (told_of over restored)
+form_judged c choice d text over restored said traces valid judged again =
+    judged_by (λ (r : BitRead). JudgesBits d (bit_witness_of r)) (λ (r : BitRead). BitJudges c (form_restored_text c choice d text)) (makes_no_bit_claim (whole_lines text)) (read_bit_text d text) over restored
+    (λ r is h.
+    let says = said d text r valid is in
+    let trace = traces d r.initial r.frames valid says.valid.initial says.valid.frames in
+    ap (λ (j : Judgement). told_of j restored) (h trace.0 trace.1) ∙ verdict_told d (bit_witness_of r) trace.0 restored)
+    (λ r. again) judged
