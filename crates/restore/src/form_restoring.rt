@@ -305,7 +305,7 @@ fn take_and_write<S: Source, T: Taker, K: Sink>(
 ///
 /// Errors, with line 0: `Device` where the source failed in this call, `Write` where the sink did, and `NoMemory` where a
 /// growth was refused; a beginning of what is put for all was written then.
-pub fn take_form<S: Source, T: Taker, K: Sink>(
+fn take_form<S: Source, T: Taker, K: Sink>(
     alloc: Global,
     circuit: &Circuit,
     form: &Circuit,
