@@ -34,7 +34,7 @@ pub use explanations::{Explanation, Part, refusal_table};
 pub use files::{Input, NoFile, open_input};
 pub use orders::{Given, Named, Order, STANDARD_INPUT, Stop, Task};
 pub use outputs::{Output, run_to_file};
-pub use progress::{Frames, Progress, Watched, Work};
+pub use progress::{Counted, Progress, Watched, Work};
 pub use running::run;
 pub use telling::end;
 pub use terminals::{Terminals, order_at};

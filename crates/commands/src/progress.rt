@@ -14,19 +14,21 @@ use std::time::{Clock, Duration};
 pub enum Work {
     /// They are read: how many they are.
     Read,
-    /// They are a witness that is judged: how many frames it has, by their lines.
-    Judged(Frames),
+    /// They are judged: how many frames a witness has, or steps a proof, by their lines.
+    Judged(Counted),
     /// They are written: how many they are.
     Written,
 }
 
-/// By which lines the frames of a witness are counted.
+/// What is counted of a text that is judged.
 #[derive(Clone, Copy, PartialEq, Eq)]
-pub enum Frames {
-    /// By those that begin the inputs of a frame of a model, with `@`.
-    OfModel,
-    /// By those behind the first three, the status, the claim and the initial bits of a circuit.
-    OfCircuit,
+pub enum Counted {
+    /// The frames of a witness of a model: the lines that begin the inputs of one, with `@`.
+    FramesOfModel,
+    /// The frames of a witness of a circuit: the lines behind the first three, of the status, the claim and the initial bits.
+    FramesOfCircuit,
+    /// The steps of a proof: its lines.
+    Steps,
 }
 
 /// How many lines of a witness of a circuit stand before its frames.
@@ -37,9 +39,10 @@ impl Work {
     pub fn on_second(task: Task) -> Work {
         match task {
             Task::CheckBtor | Task::Named(Named::CheckBtor) | Task::Wave(_) => {
-                Work::Judged(Frames::OfModel)
+                Work::Judged(Counted::FramesOfModel)
             }
-            _ => Work::Judged(Frames::OfCircuit),
+            Task::Obligation(..) | Task::CheckProof(..) => Work::Read,
+            _ => Work::Judged(Counted::FramesOfCircuit),
         }
     }
 
@@ -93,10 +96,11 @@ impl Amount {
     fn told(&self, work: Work) -> (u64, &'static str) {
         match work {
             Work::Read | Work::Written => (self.bytes / MEGABYTE, " MB"),
-            Work::Judged(Frames::OfModel) => (self.marked, " frames"),
-            Work::Judged(Frames::OfCircuit) => {
+            Work::Judged(Counted::FramesOfModel) => (self.marked, " frames"),
+            Work::Judged(Counted::FramesOfCircuit) => {
                 (self.lines.saturating_sub(LINES_BEFORE_FRAMES), " frames")
             }
+            Work::Judged(Counted::Steps) => (self.lines, " steps"),
         }
     }
 }

@@ -3,7 +3,7 @@
 
 use base::ToWriter;
 use commands::{
-    Order, Output, Progress, Stop, Terminals, Watched, Work, end, given_words, open_input,
+    Counted, Order, Output, Progress, Stop, Terminals, Watched, Work, end, given_words, open_input,
     order_at, run, run_to_file,
 };
 use std::fs;
@@ -56,7 +56,7 @@ fn obey<'a>(rt: &'a HostRuntime, order: &Order<'a>, terminals: Terminals) -> u8 
     };
     let mut first = Watched::new(first, Some(Work::Read), progress);
     let mut second = Watched::new(second, Some(Work::on_second(order.task)), progress);
-    let mut third = Watched::new(third, Some(Work::Read), progress);
+    let mut third = Watched::new(third, Some(Work::Judged(Counted::Steps)), progress);
     let mut out = Watched::new(ToWriter::new(rt.stdout()), written, progress);
     let mut err = Watched::new(ToWriter::new(rt.stderr()), None, progress);
     let status = match order.output {

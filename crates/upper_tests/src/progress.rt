@@ -2,7 +2,7 @@
 use crate::models::model_of;
 use base::{Source, VecSink, write_all};
 use blast::{Watch, lower_watched};
-use commands::{Frames, Progress, Watched, Work};
+use commands::{Counted, Progress, Watched, Work};
 use library_tests::samples::COUNTER;
 use std::alloc::Global;
 use std::cell::Cell;
@@ -130,28 +130,29 @@ fn lines_stand_for_a_quarter_of_a_second(rt: HostRuntime) -> Result<(), Fail> {
     Ok(())
 }
 
-/// Witnesses whose frames are counted: the text, by which lines, and what is shown when all is read.
-static COUNTED: [(&[u8], Frames, &str); 4] = [
+/// Texts that are judged: the text, what is counted of it, and what is shown when all is read.
+static COUNTED: [(&[u8], Counted, &str); 5] = [
     (
         b"sat\nb0\n#0\n0 1 s@0\n@0\n1 0\n#1\n@1\n.\n",
-        Frames::OfModel,
+        Counted::FramesOfModel,
         "judged 2 frames",
     ),
-    (b"@0\n@1\n@2\n", Frames::OfModel, "judged 3 frames"),
+    (b"@0\n@1\n@2\n", Counted::FramesOfModel, "judged 3 frames"),
     (
         b"1\nb0\n00\n1\n0\n1\n",
-        Frames::OfCircuit,
+        Counted::FramesOfCircuit,
         "judged 3 frames",
     ),
-    (b"1\nb0\n", Frames::OfCircuit, "judged 0 frames"),
+    (b"1\nb0\n", Counted::FramesOfCircuit, "judged 0 frames"),
+    (b"1 2 0\nd 1 0\n-3 0\n", Counted::Steps, "judged 3 steps"),
 ];
 
 #[test]
-fn frames_are_counted_by_their_lines(rt: HostRuntime) -> Result<(), Fail> {
+fn frames_and_steps_are_counted_by_their_lines(rt: HostRuntime) -> Result<(), Fail> {
     let alloc = rt.alloc();
-    for (text, frames, line) in &COUNTED {
+    for (text, counted, line) in &COUNTED {
         // a piece that holds all, looked at behind two seconds
-        let kept = shown(alloc, text, 64, Work::Judged(*frames), 2100)?;
+        let kept = shown(alloc, text, 64, Work::Judged(*counted), 2100)?;
         assert!(rt; shows(&kept, &[*line]));
     }
     Ok(())
