@@ -1,10 +1,10 @@
 -- What a restoring answers, and what a command has done that tells it.
-use Rattle.std.proofs.Common.{false, ◌≡◌, ℕ, List, Option, Some, None, IfSome, Result, Ok, Err, IfOk, IfErr, OnOk, true}
+use Rattle.std.proofs.Common.{false, ◌≡◌, ℕ, List, Option, Some, None, IfSome, Result, Ok, Err, IfOk, IfErr, OnOk, true, sym, ◌∙◌}
 use Rattle.std.specs.Io.KnownBytes.{Appends}
 use Rattle.btor2.specs.declared.item.Item.{Item}
 use Rattle.aiger.specs.Circuit.{Circuit, IsCircuit}
 use Rattle.blast.specs.Lowering.{Lowers}
-use Rattle.engine.specs.EngineForm.{input_count}
+use Rattle.engine.specs.EngineForm.{input_count, IsEngineFormOf}
 use Rattle.engine.specs.Refusal.{engine_refusal}
 use Rattle.witness.specs.declared.judgement.Judgement.{Judgement}
 use Rattle.witness.specs.BitJudgements.{BitJudges}
@@ -12,13 +12,14 @@ use Rattle.restore.specs.declared.fault.RestoreFault.{RestoreFault}
 use Rattle.restore.specs.Accepted.{FindsAgain}
 use Rattle.restore.specs.Faults.{is_of_text}
 use Rattle.restore.specs.Reading.{read_text}
+use Rattle.restore.specs.FormWitness.{form_restored_text, FormJudges, FindsWitnessAgain}
 use Rattle.restore.specs.Restored.{restored_text}
 use Rattle.commands.specs.declared.answers.Answer.{Answer}
 use Rattle.commands.specs.declared.refusals.Refusal.{Refusal}
 use Rattle.lift.specs.EngineLifting.{engine_lifted_text, FindsInModel}
 use Rattle.lift.specs.Verdicts.{KeepsVerdict}
-use Rattle.commands.specs.Done.{IsCircuitText, IsModelOf, IsClaim, Restores, TellsRestored, LiftsFound}
-use Rattle.commands.specs.Restoring.{IsAnswerOf, IsWhole}
+use Rattle.commands.specs.Done.{IsCircuitText, IsModelOf, IsClaim, Restores, TellsRestored, LiftsFound, Judged, IsFormRestored}
+use Rattle.commands.specs.Restoring.{IsAnswerOf, IsWhole, TellsVerdict}
 
 -- what is known of an answer by its clauses
 pub answer_of : (r : Result Judgement RestoreFault) (c : Circuit) (claim : ℕ) (found : Option (List ℕ))
@@ -66,3 +67,15 @@ engine_lifted (Ok a) told_by known found before now told told' choice items c cl
   tells = tells;
 }
 engine_lifted (Err e) told_by known found before now told told' choice items c claim text lowers is accepted all front keeps finds tells whole = tells
+
+-- a command that told what is judged of a witness of the form
+pub form_restored : (r : Result Answer Refusal) (told_by : Result Judgement RestoreFault) (known found before now told told' : Option (List ℕ)) (choice : Option ℕ) (c d : Circuit)
+    → IsCircuitText known c → IsEngineFormOf c choice d → OnOk told_by (IfSome found (λ text. Appends before now (form_restored_text c choice d text))) → IfOk told_by (λ j. IfSome found (λ text. FormJudges c choice d text j)) → OnOk told_by (IfSome found (FindsWitnessAgain c choice d))
+    → IfErr told_by (λ e. is_of_text e.why ≡ false × (e.line ≡ 0)) → IfOk r (λ a. TellsVerdict told_by a told told') → IfOk r (Judged (IsFormRestored choice known found before now told told'))
+form_restored (Ok a) (Ok j) known found before now told told' choice c d text form restored judged again apart tells = record {
+  verdict = j;
+  is_judged = record { value = c; form = d; text = text; is_form = form; restored = restored; judged = judged; again = again; line = tells.1 };
+  so = tells.0;
+}
+form_restored (Ok a) (Err e) known found before now told told' choice c d text form restored judged again apart tells = let h : true ≡ false = sym tells ∙ apart.0 in absurd (cc)
+form_restored (Err e) told_by known found before now told told' choice c d text form restored judged again apart tells = tt

@@ -21,6 +21,7 @@ use Rattle.restore.specs.declared.fault.RestoreFault.{RestoreFault}
 use Rattle.restore.specs.Accepted.{FindsAgain}
 use Rattle.restore.specs.Faults.{why_number, why_name}
 use Rattle.restore.specs.Reading.{read_text}
+use Rattle.restore.specs.FormWitness.{form_restored_text, FormJudges, FindsWitnessAgain}
 use Rattle.restore.specs.Restored.{restored_text}
 use Rattle.witness.specs.declared.judgement.Judgement.{Judgement}
 use Rattle.witness.specs.declared.judgement.Judgement.TheVariants as judgement
@@ -199,6 +200,17 @@ pub record IsRestoredSo (c : Circuit) (claim : ℕ) (found told told' : Option (
   pub again : IfSome found (λ text. FindsAgain c claim text verdict)
   pub line : Appends told told' (judgement_line verdict)
 
+-- The first text is of a circuit that has an engine form, with all its bad properties or the chosen one; what was written is what the second, a witness of that form, is restored to; it was told how that is judged: accepted, where it is so over the form.
+pub record IsFormRestored (choice : Option ℕ) (circuit found before now told told' : Option (List ℕ)) (verdict : Judgement) : Type 0 where
+  pub value : Circuit
+  pub form : Circuit
+  pub text : IsCircuitText circuit value
+  pub is_form : IsEngineFormOf value choice form
+  pub restored : IfSome found (λ text. Appends before now (form_restored_text value choice form text))
+  pub judged : IfSome found (λ text. FormJudges value choice form text verdict)
+  pub again : IfSome found (FindsWitnessAgain value choice form)
+  pub line : Appends told told' (judgement_line verdict)
+
 -- the line of the first faulty line of a counterexample
 abbrev pub malformed_line : RestoreFault → List ℕ
 malformed_line e = codes "malformed line " ++ (decimal e.line ++ (codes ": " ++ (decimal (why_number e.why) ++ (codes " " ++ (why_name e.why ++ codes "\n")))))
@@ -293,6 +305,7 @@ Answers task.CheckAig form a first second third before now told told' = Judged (
 Answers task.Lift form a first second third before now told told' = Judged (IsLiftedAndTold first second before now told told') a
 Answers (task.Wave shown) form a first second third before now told told' = Judged (IsDumped shown first second before now told told') a
 Answers (task.Restore choice) form a first second third before now told told' = Restores choice first second before now told told' a
+Answers (task.RestoreForm choice) form a first second third before now told told' = Judged (IsFormRestored choice first second before now told told') a
 Answers (task.LiftFound choice) form a first second third before now told told' = LiftsFound choice first second before now told told' a
 Answers (task.Named n) form a first second third before now told told' = AnswersByName n first second before now told told' a
 Answers task.Vectors form a first second third before now told told' = Compares first before now a
@@ -310,6 +323,7 @@ has_one_file task.CheckBtor = false
 has_one_file task.CheckAig = false
 has_one_file task.Lift = false
 has_one_file (task.Restore choice) = false
+has_one_file (task.RestoreForm choice) = false
 has_one_file (task.LiftFound choice) = false
 has_one_file (task.Wave shown) = false
 has_one_file (task.Named n) = false
@@ -332,6 +346,7 @@ has_three_files _ = false
 abbrev pub is_quiet : Task → Bool
 is_quiet task.Lift = false
 is_quiet (task.Restore choice) = false
+is_quiet (task.RestoreForm choice) = false
 is_quiet (task.LiftFound choice) = false
 is_quiet (task.Wave shown) = false
 is_quiet (task.Named n) = false

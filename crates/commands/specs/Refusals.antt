@@ -262,6 +262,7 @@ Refuses (task.ConvertForEngines choice) known f = IsNotConvertedForEngines choic
 Refuses task.CheckAig known f = IsNoCircuit known f
 Refuses task.Lift known f = IsNotLowered known f
 Refuses (task.Restore choice) known f = IsNotRestored choice known f
+Refuses (task.RestoreForm choice) known f = IsNotConvertedForEngines choice known f
 Refuses (task.LiftFound choice) known f = IsNotLiftedFound choice known f
 Refuses (task.Wave shown) known f = IsNotJudged known f
 Refuses (task.Named n) known f = RefusesByName n known f

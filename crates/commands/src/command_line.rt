@@ -227,12 +227,11 @@ fn with_engine_words<'a>(
             .arg(flag(
                 alloc,
                 ABC,
-                "The counterexample is in the form that ABC writes",
-            )
-            .required(true))?
+                "The witness is a counterexample in the form that ABC writes by write_cex -a",
+            ))?
             .arg(bad_option(
                 alloc,
-                "The position of the bad property that is claimed, from 0; needed where the circuit has more than one",
+                "The position of the bad property that the form was made for, from 0; with --abc it says which is claimed, and is needed where the circuit has more than one",
             )),
         Engine::Owed => with_invariant_words(alloc, command),
         Engine::Certified => with_invariant_words(alloc, command)?.arg(file_name(
@@ -299,20 +298,25 @@ fn output_of<'a>(words: &ArgMatches<'a>) -> Option<&'a str> {
     }
 }
 
-/// Whether words are about an engine form: they ask for one, or for what is over one.
-fn speaks_of_one(words: &ArgMatches<'_>) -> bool {
-    words.get_flag(ENGINE) || words.get_flag(ABC) || words.get_str(INVARIANT).is_some()
+/// Whether words are about an engine form: they ask for one, or for what is over one, as those of a command that reads
+/// nothing else.
+fn speaks_of_one(word: &str, words: &ArgMatches<'_>) -> bool {
+    let always = matches!(row_of(word), Some(row) if row.engine == Engine::Read);
+    always || words.get_flag(ENGINE) || words.get_flag(ABC) || words.get_str(INVARIANT).is_some()
 }
 
 /// The bad properties of the engine form that the words of a command ask for: all, or the one at a position; none where
 /// they ask for no engine form.
 ///
 /// Errors: what is told of words that do not ask so.
-fn engine_properties(words: &ArgMatches<'_>) -> Result<Option<Option<usize>>, &'static str> {
+fn engine_properties(
+    word: &str,
+    words: &ArgMatches<'_>,
+) -> Result<Option<Option<usize>>, &'static str> {
     match words.get_str(BAD) {
-        None if speaks_of_one(words) => Ok(Some(None)),
+        None if speaks_of_one(word, words) => Ok(Some(None)),
         None => Ok(None),
-        Some(_) if !speaks_of_one(words) => Err(BAD_ALONE),
+        Some(_) if !speaks_of_one(word, words) => Err(BAD_ALONE),
         Some(word) => match decimal(word.as_bytes()) {
             Some(position) => Ok(Some(Some(position as usize))),
             None => Err(NO_POSITION),
@@ -332,6 +336,14 @@ fn task_of(task: Task, engine: Option<Option<usize>>, given: Given, all: bool) -
         (Task::CheckProof(..), Some(choice)) => Task::CheckProof(given, choice),
         (Task::Wave(_), _) if all => Task::Wave(Shown::All),
         (task, _) => task,
+    }
+}
+
+/// A command, where a counterexample is not in the form that ABC writes the one that reads it as a witness.
+fn without_abc(task: Task, abc: bool) -> Task {
+    match task {
+        Task::Restore(choice) if !abc => Task::RestoreForm(choice),
+        task => task,
     }
 }
 
@@ -372,7 +384,10 @@ fn order_of<'a>(
     let (name, _) = row.file;
     Some(Order {
         task: with_names(
-            task_of(row.task, engine, given_of(words), words.get_flag(ALL)),
+            without_abc(
+                task_of(row.task, engine, given_of(words), words.get_flag(ALL)),
+                words.get_flag(ABC),
+            ),
             words.get_flag(NAMES),
         ),
         form: if words.get_flag(BINARY) {
@@ -426,7 +441,7 @@ fn order_or_stop<'a>(alloc: Global, word: &str, words: &ArgMatches<'a>) -> Resul
     if words.get_flag(ASCII) && words.get_flag(BINARY) {
         return Err(refused(alloc, TWO_FORMS));
     }
-    let engine = match engine_properties(words) {
+    let engine = match engine_properties(word, words) {
         Ok(engine) => engine,
         Err(line) => return Err(refused(alloc, line)),
     };

@@ -132,10 +132,10 @@ pub(crate) static ROWS: [Row; 12] = [
     Row {
         word: "restore",
         task: Task::Restore(None),
-        about: "Restore a counterexample over the engine form of a circuit to an AIGER witness of the circuit on standard output",
+        about: "Restore a witness of the engine form of a circuit to an AIGER witness of the circuit on standard output",
         file: CIRCUIT,
         witness: Some(
-            "The file of a counterexample as ABC writes it by write_cex -a, or - for standard input",
+            "The file of an AIGER witness of the engine form, or with --abc of what ABC writes, or - for standard input",
         ),
         product: Product::Text,
         engine: Engine::Read,

@@ -11,6 +11,7 @@ mod engines;
 mod explaining;
 mod explanations;
 mod files;
+mod form_restoring;
 mod judgements;
 mod lifting;
 mod models;

@@ -58,7 +58,10 @@ pub enum Task {
     /// Restores a counterexample over the engine form of a circuit, in the form that ABC writes, to a witness of the circuit;
     /// it claims the bad property at a position of the circuit, or the only one.
     Restore(Option<usize>),
-    /// Lifts such a counterexample over the engine form of a model's circuit to a witness of the model.
+    /// Restores a witness of the engine form of a circuit, with all bad properties or with the one at a position, to a witness
+    /// of the circuit.
+    RestoreForm(Option<usize>),
+    /// Lifts a counterexample in the form that ABC writes over the engine form of a model's circuit to a witness of the model.
     LiftFound(Option<usize>),
     /// Judges a witness over a model, and dumps its frames.
     Wave(Shown),

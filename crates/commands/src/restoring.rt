@@ -9,7 +9,7 @@ ghost use Rattle.commands.specs.declared.refusals.Refusal.TheVariants as refusal
 ghost use Rattle.commands.specs.declared.refusals.Fault.TheVariants as fault_is;
 ghost use Rattle.restore.specs.Answers.{CountsRestore};
 ghost use Rattle.commands.specs.Done.{IsCircuitText, IsClaim, Restores, TellsRestored, malformed_line};
-ghost use Rattle.commands.specs.Restoring.{IsAnswerOf, IsWhole};
+ghost use Rattle.commands.specs.Restoring.{IsAnswerOf, IsWhole, TellsVerdict};
 ghost use Rattle.commands.specs.Refusals.{IsNotRestored, IsWithoutForm};
 ghost use Rattle.commands.specs.Statuses.{Counts, IfInput, IsOfNoInput, ErrUntold};
 
@@ -84,6 +84,7 @@ pub(crate) fn tell_restored<E: Sink>(
 ) -> Result<Answer, Refusal>
     ensures done { (c : Circuit) (claim : ℕ) (found : Option (List ℕ)) → IsAnswerOf c claim found told → IfOk result (λ answer. TellsRestored answer c claim found (E.written err.old) (E.written err.new)) }
     ensures whole { OnOk result (IsWhole told) }
+    ensures verdict { IfOk result (λ answer. TellsVerdict told answer (E.written err.old) (E.written err.new)) }
     ensures no_input { IsOfNoInput result }
     ensures untold { ErrUntold result (err.new ≡ err.old) }
     ensures counted { (f s s' o o' : ℕ) → CountsRestore told s s' o o' → Counts result f f s s' o o' (E.failures err.old) (E.failures err.new) }

@@ -12,6 +12,7 @@ use crate::certificates::{check_proof, write_obligation};
 use crate::circuits::{check_circuit, convert_circuit};
 use crate::engine_lifting::lift_counterexample;
 use crate::engines::{convert_for_engines, lower_for_engines};
+use crate::form_restoring::restore_witness;
 use crate::lifting::lift_witness;
 use crate::models::{check_model, lower_model, show, tell_cost};
 use crate::named::judge_by_name;
@@ -187,6 +188,7 @@ fn obey_two<A: Source, B: Source, O: Sink, E: Sink, W: Watch>(
         Task::CheckAig => check_circuit(alloc, first, second, out),
         Task::Lift => lift_witness(alloc, first, second, out, err, watch),
         Task::Restore(choice) => restore_counterexample(alloc, choice, first, second, out, err),
+        Task::RestoreForm(choice) => restore_witness(alloc, choice, first, second, out, err),
         Task::LiftFound(choice) => {
             lift_counterexample(alloc, choice, first, second, out, err, watch)
         }

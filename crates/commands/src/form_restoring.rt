@@ -1,0 +1,78 @@
+//! The command that restores witnesses of engine forms.
+
+ghost use Rattle.std.specs.Prelude.{◌≡◌, ℕ, List, Option, IfOk, IfErr};
+ghost use Rattle.engine.specs.EngineForm.{IsEngineFormOf};
+ghost use Rattle.commands.specs.Done.{IsCircuitText, IsFormRestored, Judged};
+ghost use Rattle.commands.specs.Refusals.{IsNotConvertedForEngines};
+ghost use Rattle.commands.specs.Statuses.{Counts, IfInput, IsOfNoInput, ErrUntold};
+
+use crate::answers::Answer;
+use crate::circuits::read_circuit;
+use crate::refusals::Refusal;
+use crate::restoring::tell_restored;
+use aiger::Circuit;
+use base::{Sink, Source};
+use engine::engine_form;
+use restore::restore_form;
+use std::alloc::Global;
+
+/// Reads a circuit, restores a witness of its engine form to standard output, and tells on standard error how that is
+/// judged.
+pub(crate) fn restore_witness<A: Source, B: Source, O: Sink, E: Sink>(
+    alloc: Global,
+    choice: Option<usize>,
+    first: &mut A,
+    second: &mut B,
+    out: &mut O,
+    err: &mut E,
+) -> Result<Answer, Refusal>
+    ensures done { IfOk result (Judged (IsFormRestored choice (A.to_come first.old) (B.to_come second.old) (O.written out.old) (O.written out.new) (E.written err.old) (E.written err.new))) }
+    ensures refused { IfErr result (IfInput (IsNotConvertedForEngines choice (A.to_come first.old))) }
+    ensures unwritten { IfErr result (IfInput (λ _. out.new ≡ out.old)) }
+    ensures untold { ErrUntold result (err.new ≡ err.old) }
+    ensures counted { Counts result (A.failures first.old) (A.failures first.new) (B.failures second.old) (B.failures second.new) (O.failures out.old) (O.failures out.new) (E.failures err.old) (E.failures err.new) }
+{
+    let circuit = read_circuit(alloc, first)?;
+    restore_over_form(alloc, &circuit, choice, second, out, err)
+}
+
+/// The same over a circuit that was read.
+fn restore_over_form<B: Source, O: Sink, E: Sink>(
+    alloc: Global,
+    circuit: &Circuit,
+    choice: Option<usize>,
+    second: &mut B,
+    out: &mut O,
+    err: &mut E,
+) -> Result<Answer, Refusal>
+    ensures done { (known : Option (List ℕ)) → IsCircuitText known circuit.now → IfOk result (Judged (IsFormRestored choice known (B.to_come second.old) (O.written out.old) (O.written out.new) (E.written err.old) (E.written err.new))) }
+    ensures refused { (known : Option (List ℕ)) → IsCircuitText known circuit.now → IfErr result (IfInput (IsNotConvertedForEngines choice known)) }
+    ensures unwritten { IfErr result (IfInput (λ _. out.new ≡ out.old)) }
+    ensures untold { ErrUntold result (err.new ≡ err.old) }
+    ensures counted { (f : ℕ) → Counts result f f (B.failures second.old) (B.failures second.new) (O.failures out.old) (O.failures out.new) (E.failures err.old) (E.failures err.new) }
+{
+    // the lists of a circuit are one
+    let _ = circuit.inputs();
+    let form = engine_form(alloc, circuit, choice)?;
+    restore_through_form(alloc, circuit, &form, choice, second, out, err)
+}
+
+/// The same over a circuit and its engine form.
+fn restore_through_form<B: Source, O: Sink, E: Sink>(
+    alloc: Global,
+    circuit: &Circuit,
+    form: &Circuit,
+    choice: Option<usize>,
+    second: &mut B,
+    out: &mut O,
+    err: &mut E,
+) -> Result<Answer, Refusal>
+    requires { IsEngineFormOf circuit.now choice form.now }
+    ensures done { (known : Option (List ℕ)) → IsCircuitText known circuit.now → IfOk result (Judged (IsFormRestored choice known (B.to_come second.old) (O.written out.old) (O.written out.new) (E.written err.old) (E.written err.new))) }
+    ensures no_input { IsOfNoInput result }
+    ensures untold { ErrUntold result (err.new ≡ err.old) }
+    ensures counted { (f : ℕ) → Counts result f f (B.failures second.old) (B.failures second.new) (O.failures out.old) (O.failures out.new) (E.failures err.old) (E.failures err.new) }
+{
+    let told = restore_form(alloc, circuit, form, choice, second, out);
+    tell_restored(alloc, told, err)
+}
