@@ -1,5 +1,5 @@
 //! The call that names refusals.
-ghost use Rattle.std.specs.Prelude.{◌≡◌, ◌⊎◌, ◌<◌, length};
+ghost use Rattle.std.specs.Prelude.{◌≡◌, ◌⊎◌, ◌<◌, ⊤, length};
 ghost use Rattle.capi.specs.Written.{Fills};
 
 use crate::buffers::hand_over;
