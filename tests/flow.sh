@@ -3,7 +3,7 @@
 # (Debian: apt-get install yosys berkeley-abc cadical): each command of docs/FLOW.md is run, and says what stands there; and
 # each bad property of each model of examples/ is looked for by ABC in its engine form. What is found is restored and lifted,
 # and judged anew; what is proved is proved by CaDiCaL from ABC's invariant, and judged, also with a cube less. What is kept
-# in examples/ is judged too.
+# in examples/ is judged too, and where GTKWave is installed (gtkwave, xvfb) the dumps of witnesses are opened.
 # It is run by hand, beside the gate: tests/flow.sh [PROGRAM]. Where the three are not installed it says so and ends well.
 set -u
 top=$(cd "$(dirname "$0")/.." && pwd)
@@ -59,7 +59,19 @@ found() {
     hwtool check-btor "$2" words >again || tell "$2, b$4, $1: the model's witness: $(cat again)"
     hwtool lift --engine --abc --bad "$4" "$2" cex >direct 2>told || tell "$2, b$4, $1: its lifting at once: $(cat told)"
     cmp -s words direct || tell "$2, b$4, $1: lifted at once to another witness"
+    # the same as a witness of the form, as the AIGER format has them
+    {
+        printf '1\nb0\n'
+        head -n 1 form.aig | awk '{ for (k = 0; k < $4; k++) printf "0"; print "" }'
+        sed -e 1d -e 's/#.*//' -e '/^ *$/d' cex
+        echo .
+    } >form.bits
+    hwtool check-aig form.aig form.bits >again || tell "$2, b$4, $1: the form's witness: $(cat again)"
+    hwtool restore --bad "$4" "$3" form.bits >bits-of-form 2>told || tell "$2, b$4, $1: restored from the form's witness: $(cat told)"
+    cmp -s bits bits-of-form || tell "$2, b$4, $1: restored from the form's witness to another one"
+    hwtool check-btor "$2" words >again
     grep -q '^accepted' again || tell "$2, b$4, $1: not accepted"
+    opens "$2" words
 }
 
 # refuted: whether CaDiCaL refutes o.cnf, with o.drat as its proof
@@ -93,6 +105,18 @@ holds() {
     done
 }
 
+# opens MODEL WITNESS: the dump of a witness is read by GTKWave's converter, and by GTKWave, which has all its signals; where
+# they are installed
+opens() {
+    command -v gtkwave >/dev/null && command -v vcd2fst >/dev/null && command -v xvfb-run >/dev/null || return 0
+    count=$((count + 1))
+    hwtool wave --all -o dump.vcd "$1" "$2" 2>/dev/null
+    vcd2fst dump.vcd dump.fst >log 2>&1 || tell "$1: vcd2fst does not read the dump of $2"
+    printf 'puts "signals [ gtkwave::getNumFacs ]"\nexit\n' >quit.tcl
+    timeout 60 xvfb-run -a gtkwave dump.vcd -S quit.tcl >log 2>&1
+    grep -qx "signals $(grep -c '^[$]var ' dump.vcd)" log || tell "$1: GTKWave does not show the dump of $2"
+}
+
 # what is kept in examples/
 for proof in "$top"/examples/*.proof; do
     count=$((count + 1))
@@ -103,6 +127,10 @@ for proof in "$top"/examples/*.proof; do
 done
 
 cd "$folder" || exit 1
+for witness in "$top"/examples/*.witness; do
+    model=$(echo "${witness%.witness}" | sed 's/-short$//').btor2
+    [ ! -f "$model" ] || opens "$model" "$witness"
+done
 for model in "$top"/examples/*.btor2 "$folder"/flow/*.btor2; do
     hwtool lower -o circuit.aag "$model" 2>/dev/null || continue
     bads=$(hwtool show "$model" | sed -n 's/^; .* \([0-9]*\) bad, .*/\1/p')
