@@ -72,10 +72,10 @@ fn shown(
     let progress = Progress::new(&clock, Some(Terminal { kept: &kept }));
     let mut source = Watched::new(text, Some(work), progress);
     let mut buffer = vec![in alloc; 0u8; size]?;
-    loop {
-        match source.read(buffer.as_mut_slice()) {
-            Ok(0) | Err(_) => break,
-            Ok(_) => {}
+    // more calls than a text here has pieces
+    for _ in 0..40 {
+        if source.read(buffer.as_mut_slice()).is_err() {
+            break;
         }
     }
     Ok(kept.replace(None))
