@@ -4,11 +4,11 @@
     dumps.py [PROGRAM]
 
 PROGRAM is crates/hwtool/out/hwtool where none is given, which `rt run` builds. The models are those of examples/ and
-random ones with all operators, states of each kind and names of each kind; the witnesses are those of examples/ and random
-ones, some of them cut behind a line. An evaluator of its own gives the frames by whole numbers, as SMT-LIB says what
-operators mean; a reader of its own takes a dump apart, and sees that the first frame has all words, that a later one has
-those that changed and no other, and that a moment stands behind the last frame. It says what was tried. The status is 0
-where all is as it should be, else 1.
+random ones with all operators, states of each kind and names of each kind; the witnesses are those of examples/, also cut
+after each byte, and random ones, some of them cut behind a line. An evaluator of its own gives the frames by whole numbers,
+as SMT-LIB says what operators mean; a reader of its own takes a dump apart, and sees that the first frame has all words,
+that a later one has those that changed and no other, and that a moment stands behind the last frame. It says what was
+tried. The status is 0 where all is as it should be, else 1.
 """
 
 import os
@@ -274,6 +274,11 @@ def written(model, claims, frames):
     return lines + ["."]
 
 
+def text_of(lines):
+    """The text of lines."""
+    return "".join(f"{line}\n" for line in lines)
+
+
 def read_witness(text):
     """The claims and the frames of a witness."""
     claims, frames, part = [], [], None
@@ -531,12 +536,12 @@ class Trials:
         self.program, self.folder = program, folder
         self.dumps = self.frames = self.words = self.wrong = 0
 
-    def run(self, what, text, lines, traced, verdict, words):
-        """One dump of a witness of these lines, with these frames and this line of its judgement."""
+    def run(self, what, text, witness, traced, verdict, words):
+        """One dump of a witness, with these frames and this line of its judgement."""
         with open(f"{self.folder}/model", "w") as file:
             file.write(text)
         with open(f"{self.folder}/witness", "w") as file:
-            file.write("".join(f"{line}\n" for line in lines))
+            file.write(witness)
         ran = subprocess.run(
             [self.program, "wave", *words, "model", "witness"], cwd=self.folder, capture_output=True
         )
@@ -557,14 +562,29 @@ class Trials:
         model = Model(text)
         traced = model.trace(frames)
         for words in ([], ["--all"]):
-            self.run(what, text, lines, traced, model.verdict(claims, traced), words)
+            self.run(what, text, text_of(lines), traced, model.verdict(claims, traced), words)
 
     def cut(self, what, text, frames, lines, behind):
         """A witness that is cut behind a line: the frames that were closed, and the line that is missing."""
         model = Model(text)
         traced = model.trace(frames)[: closed(lines[:behind])]
         verdict = f"malformed line {behind + 1}: 118 Truncated"
-        self.run(what, text, lines[:behind], traced, verdict, ["--all"])
+        self.run(what, text, text_of(lines[:behind]), traced, verdict, ["--all"])
+
+    def cut_anywhere(self, what, text, witness):
+        """A witness that is cut after each byte: the frames that were closed, and what `check-btor` says of it."""
+        traced = Model(text).trace(read_witness(witness)[1])
+        for end in range(len(witness)):
+            front = witness[:end]
+            with open(f"{self.folder}/model", "w") as file:
+                file.write(text)
+            with open(f"{self.folder}/witness", "w") as file:
+                file.write(front)
+            told = subprocess.run(
+                [self.program, "check-btor", "model", "witness"], cwd=self.folder, capture_output=True
+            ).stdout.decode()
+            frames = traced[: closed(front.split("\n")[:-1])]
+            self.run(f"{what}, cut after {end} bytes", text, front, frames, told.rstrip("\n"), [])
 
 
 def main():
@@ -578,6 +598,7 @@ def main():
             with open(f"{TOP}/examples/{told}.witness") as file:
                 witness = file.read()
             trials.whole(f"{told}.witness", text, *read_witness(witness), witness.splitlines())
+            trials.cut_anywhere(f"{told}.witness", text, witness)
         for name in ("counter", "toggler", "free"):
             with open(f"{TOP}/examples/{name}.btor2") as file:
                 text = file.read()
