@@ -17,3 +17,4 @@ pub mod LineLemmas
 pub mod HeldLemmas
 pub mod DecimalLemmas
 pub mod StepLemmas
+pub mod RowLemmas

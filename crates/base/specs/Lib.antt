@@ -9,3 +9,4 @@ pub mod Held
 pub mod Decimals
 pub mod Pieces
 pub mod Trials
+pub mod Rows

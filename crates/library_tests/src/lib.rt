@@ -12,6 +12,8 @@ mod engine_forms;
 #[cfg(test)]
 mod gate_makers;
 #[cfg(test)]
+mod kept_rows;
+#[cfg(test)]
 mod models;
 #[cfg(test)]
 mod operator_tables;
