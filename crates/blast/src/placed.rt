@@ -89,7 +89,7 @@ pub(crate) fn sext_row(row: &[Lit], by: u64) -> Bits
 }
 
 /// The row of the bits `upper` down to `lower` of a word, both included.
-pub(crate) fn slice_row(row: &[Lit], upper: u64, lower: u64) -> Bits
+pub(crate) fn slice_row(row: &[Lit], upper: u32, lower: u32) -> Bits
     requires order { lower ≤ upper }
     requires within { upper < length row.now }
     requires few { length row.now ≤ 64 }

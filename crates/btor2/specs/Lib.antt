@@ -1,6 +1,7 @@
 pub mod Faults
 pub mod Symbols
 pub mod NameBytes
+pub mod Decimals
 pub mod Parts
 pub mod Items
 pub mod Check

@@ -5,9 +5,11 @@ ghost use Rattle.btor2.specs.Symbols.{is_symbol};
 ghost use Rattle.btor2.specs.Parts.{HasFewOperands, HasSoundParts};
 ghost use Rattle.btor2.specs.Items.{named_sort, node_sort, sort_bits, constant_word, is_state};
 
+use crate::decimal::Decimal;
 use crate::operands::Operands;
 use crate::symbol::Symbol;
 use base::{Binary, Unary, Width, ones};
+use std::mem::size_of;
 
 /// A line of a model: its id, what it says, and its name, if it has one.
 #[derive(Drop)]
@@ -59,7 +61,7 @@ pub enum Body {
     /// A number beyond 2^64 on either side counts as 2^64 on that side, which is refused.
     Constd {
         sort: u32,
-        value: i128,
+        value: Decimal,
     },
     /// `consth S` and hexadecimal digits: how many they are, and their value. More than 16 digits count as 17
     /// with value 0, which is refused.
@@ -80,12 +82,12 @@ pub enum Body {
         operand: u32,
         by: u64,
     },
-    /// `slice S a u l`: the bits `upper` down to `lower` of a, both included.
+    /// `slice S a u l`: the bits `upper` down to `lower` of a, both included. No node has a bit 64, so they have 32 bits.
     Slice {
         sort: u32,
         operand: u32,
-        upper: u64,
-        lower: u64,
+        upper: u32,
+        lower: u32,
     },
     /// `op S a`.
     Unary {
@@ -146,6 +148,11 @@ pub enum Body {
         operands: Operands,
     },
 }
+
+// a large model is mostly its items
+const _: () = prove!(size_of::<Body>() == 24);
+
+const _: () = prove!(size_of::<Item>() == 48);
 
 /// The greatest number of `width` bits.
 ///
@@ -267,7 +274,7 @@ impl Body {
             Body::One { .. } => Some(1),
             Body::Ones { .. } => Some(all_ones(width)),
             Body::Const { value, .. } | Body::Consth { value, .. } => Some(*value),
-            Body::Constd { value, .. } => Some(wrapped(width, *value)),
+            Body::Constd { value, .. } => Some(wrapped(width, value.value())),
             _ => None,
         }
     }

@@ -1,6 +1,7 @@
 //! Word-level models as checked lists of items, and their traces, after "Btor2, BtorMC and Boolector 3.0".
 #![tactic(auto)]
 
+mod decimal;
 mod fault;
 mod item;
 pub mod laws;
@@ -10,6 +11,7 @@ mod name_bytes;
 mod operands;
 mod symbol;
 
+pub use decimal::Decimal;
 pub use fault::PushFault;
 pub use item::{Body, Item};
 pub use leaves::Leaves;

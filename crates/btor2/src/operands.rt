@@ -4,16 +4,17 @@ ghost use Rattle.std.specs.Prelude.{◌≡◌, ◌<◌, ◌-◌, ◌^◌, List, 
 use std::alloc::{AllocError, Global};
 use std::marker::Model;
 
-/// The ids of the nodes that a `justice` line names.
+/// The ids of the nodes that a `justice` line names, held in one word: hardly a line is one, and each item has room for
+/// what the largest form says.
 #[derive(Drop)]
 pub struct Operands {
-    ids: Vec<u32>,
+    ids: Box<Vec<u32>>,
 }
 
 impl Model for Operands {
     ghost Value = { List ℕ };
 
-    ghost view = { λ o. o.ids.items };
+    ghost view = { λ o. o.ids.value.items };
 }
 
 impl Operands {
@@ -24,6 +25,7 @@ impl Operands {
         ensures { IfOk result (λ o. o ≡ ids.now) }
     {
         let ids = Vec::from_slice(alloc, ids)?;
+        let ids = Box::new(alloc, ids)?;
         Ok(Operands { ids })
     }
 

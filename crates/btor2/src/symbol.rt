@@ -5,23 +5,24 @@ ghost use Rattle.btor2.specs.Symbols.{is_symbol, is_printed};
 ghost use Rattle.btor2.specs.Faults.{symbol_fault_number, symbol_fault_name};
 
 use crate::name_bytes::NameBytes;
-use std::alloc::Global;
+use std::alloc::{AllocError, Global};
 use std::fmt;
 use std::marker::Model;
 use thiserror::Error;
 
-/// The name of an item: 1 to 255 bytes from 33 to 126, of which the first is not `;`.
+/// The name of an item: 1 to 255 bytes from 33 to 126, of which the first is not `;`. It is held in one word, since most
+/// items of a large model have no name and each has room for one.
 #[derive(Drop)]
 pub struct Symbol {
-    name: NameBytes,
+    name: Box<NameBytes>,
 }
 
 impl Model for Symbol {
     ghost Value = { List ℕ };
 
-    ghost view = { λ s. s.name };
+    ghost view = { λ s. s.name.value };
 
-    ghost invariant = { λ s. is_symbol s.name ≡ true };
+    ghost invariant = { λ s. is_symbol s.name.value ≡ true };
 }
 
 /// Why bytes are no symbol.
@@ -38,6 +39,15 @@ fn all_printed(bytes: &[u8]) -> bool
     ensures { result ≡ list_all is_printed bytes.now }
 {
     bytes.iter().all(|b| 33 <= *b && *b <= 126)
+}
+
+/// These bytes, in memory of their own.
+fn boxed(alloc: Global, bytes: &[u8]) -> Result<Box<NameBytes>, AllocError>
+    ensures { IfOk result (λ name. name.value ≡ bytes.now) }
+{
+    let name = NameBytes::new(alloc, bytes)?;
+    let held = Box::new(alloc, name)?;
+    Ok(held)
 }
 
 impl Symbol {
@@ -61,7 +71,7 @@ impl Symbol {
         if !Symbol::is_symbol(bytes) {
             return Err(SymbolFault::BadBytes);
         }
-        match NameBytes::new(alloc, bytes) {
+        match boxed(alloc, bytes) {
             Ok(name) => Ok(Symbol { name }),
             Err(_) => Err(SymbolFault::NoMemory),
         }

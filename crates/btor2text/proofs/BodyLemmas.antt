@@ -18,9 +18,9 @@ use Rattle.btor2text.specs.declared.forms.Property.TheVariants as property
 use Rattle.btor2text.specs.Words.{form_name}
 use Rattle.btor2text.specs.Digits.{IsNumber}
 use Rattle.btor2text.specs.Spelling.{Says}
-use Rattle.btor2text.specs.Reading.{◌>>=◌, Tokens, sort_at, width_at, pair_at, triple_at, operand_at, plain_at, digits_at, signed_at, counted_at, constant_at, leaf_body, extension_body, link_body, property_body, body_at}
+use Rattle.btor2text.specs.Reading.{◌>>=◌, Tokens, sort_at, width_at, pair_at, triple_at, operand_at, plain_at, bit_at, digits_at, signed_at, counted_at, constant_at, leaf_body, extension_body, link_body, property_body, body_at}
 use Rattle.btor2text.proofs.BoundLemmas.{IsId, BodyFits}
-use Rattle.btor2text.proofs.PlaceLemmas.{bind_ok, ok_is, plain_at_takes, plain_at-decimal, sort_at_takes, sort_at-decimal, operand_at_takes, operand_at-decimal, width_at_takes, width_at-again, pair_at_takes, pair_at-again, triple_at_takes, triple_at-again}
+use Rattle.btor2text.proofs.PlaceLemmas.{bind_ok, ok_is, plain_at_takes, plain_at-decimal, bit_at_takes, bit_at-decimal, sort_at_takes, sort_at-decimal, operand_at_takes, operand_at-decimal, width_at_takes, width_at-again, pair_at_takes, pair_at-again, triple_at_takes, triple_at-again}
 use Rattle.btor2text.proofs.OperandLemmas.{counted_at_takes, counted_at-again}
 use Rattle.btor2text.proofs.ConstantLemmas.{digits_at_takes, digits_at-again, signed_at_takes, signed_at-again}
 
@@ -106,8 +106,9 @@ constant_at_takes constant.Consth tokens y e =
 extension_joined : (tokens : Tokens) (x : ℕ × ℕ × Tokens) (w : ℕ × Tokens) → pair_at tokens ≡ Ok x → plain_at x.2 ≡ Ok w → IsId x.0 → IsId x.1 → w.0 ≤ 64 → tokens ≡ decimal x.0 ∷ decimal x.1 ∷ decimal w.0 ∷ w.1
 extension_joined tokens x w rx rw-is s a le = pair_at_takes tokens x rx s a ∙ ap (λ rest. decimal x.0 ∷ decimal x.1 ∷ rest) (plain_at_takes x.2 w rw-is (omega (arith, le)))
 
-slice_joined : (tokens : Tokens) (x : ℕ × ℕ × Tokens) (u l : ℕ × Tokens) → pair_at tokens ≡ Ok x → plain_at x.2 ≡ Ok u → plain_at u.1 ≡ Ok l → IsId x.0 → IsId x.1 → u.0 ≤ 64 → l.0 ≤ 64 → tokens ≡ decimal x.0 ∷ decimal x.1 ∷ decimal u.0 ∷ decimal l.0 ∷ l.1
-slice_joined tokens x u l rx ru rl s a le least = extension_joined tokens x u rx ru s a le ∙ ap (λ rest. decimal x.0 ∷ decimal x.1 ∷ decimal u.0 ∷ rest) (plain_at_takes u.1 l rl (omega (arith, least)))
+slice_joined : (tokens : Tokens) (x : ℕ × ℕ × Tokens) (u l : ℕ × Tokens) → pair_at tokens ≡ Ok x → bit_at x.2 ≡ Ok u → bit_at u.1 ≡ Ok l → IsId x.0 → IsId x.1 → u.0 ≤ 64 → l.0 ≤ 64 → tokens ≡ decimal x.0 ∷ decimal x.1 ∷ decimal u.0 ∷ decimal l.0 ∷ l.1
+slice_joined tokens x u l rx ru rl s a le least =
+    pair_at_takes tokens x rx s a ∙ ap (λ rest. decimal x.0 ∷ decimal x.1 ∷ rest) (bit_at_takes x.2 u ru le ∙ ap (λ rest. decimal u.0 ∷ rest) (bit_at_takes u.1 l rl least))
 
 choice_joined : (tokens : Tokens) (x : ℕ × ℕ × ℕ × Tokens) (e : ℕ × Tokens) → triple_at tokens ≡ Ok x → operand_at x.3 ≡ Ok e → IsId x.0 → IsId x.1 → IsId x.2 → IsId e.0 → tokens ≡ decimal x.0 ∷ decimal x.1 ∷ decimal x.2 ∷ decimal e.0 ∷ e.1
 choice_joined tokens x e rx re s c t id = triple_at_takes tokens x rx s c t ∙ ap (λ rest. decimal x.0 ∷ decimal x.1 ∷ decimal x.2 ∷ rest) (operand_at_takes x.3 e re id)
@@ -128,9 +129,9 @@ body_at_takes (form.Extension k) tokens y e =
     subst (Taken (form.Extension k) tokens) {x = (extension_body k x.0.0 x.0.1 w.0.0, w.0.1)} (ok_is (extension_body k x.0.0 x.0.1 w.0.0, w.0.1) y w.2)
     (extension_taken k tokens w.0.1 x.0.0 x.0.1 w.0.0 (extension_joined tokens x.0 w.0 x.1 w.1))
 body_at_takes form.Slice tokens y e =
-    let x = bind_ok (pair_at tokens) (λ x. plain_at x.2 >>= λ u. plain_at u.1 >>= λ l. Ok (body.Slice x.0 x.1 u.0 l.0, l.1)) y e in
-    let u = bind_ok (plain_at x.0.2) (λ u. plain_at u.1 >>= λ l. Ok (body.Slice x.0.0 x.0.1 u.0 l.0, l.1)) y x.2 in
-    let l = bind_ok (plain_at u.0.1) (λ l. Ok (body.Slice x.0.0 x.0.1 u.0.0 l.0, l.1)) y u.2 in
+    let x = bind_ok (pair_at tokens) (λ x. bit_at x.2 >>= λ u. bit_at u.1 >>= λ l. Ok (body.Slice x.0 x.1 u.0 l.0, l.1)) y e in
+    let u = bind_ok (bit_at x.0.2) (λ u. bit_at u.1 >>= λ l. Ok (body.Slice x.0.0 x.0.1 u.0 l.0, l.1)) y x.2 in
+    let l = bind_ok (bit_at u.0.1) (λ l. Ok (body.Slice x.0.0 x.0.1 u.0.0 l.0, l.1)) y u.2 in
     subst (Taken form.Slice tokens) {x = (body.Slice x.0.0 x.0.1 u.0.0 l.0.0, l.0.1)} (ok_is (body.Slice x.0.0 x.0.1 u.0.0 l.0.0, l.0.1) y l.2)
     (record { form = refl; says = λ fits. (decimal x.0.0 ∷ decimal x.0.1 ∷ decimal u.0.0 ∷ decimal l.0.0 ∷ [], slice_joined tokens x.0 u.0 l.0 x.1 u.1 l.1 fits.0 fits.1 fits.2 fits.3, refl) })
 body_at_takes (form.Unary op) tokens y e =
@@ -182,7 +183,7 @@ says_again (body.Constd s v) tokens says fits = record { behind = decimal s ∷ 
 says_again (body.Consth s d v) tokens says fits = record { behind = decimal s ∷ says.0 ∷ []; parts = says.1; again = λ rest. rw (sort_at-decimal s (says.0 ∷ rest) fits.0, digits_at-again 16 16 d v says.0 rest (omega arith) refl fits.2 says.2) refl }
 says_again (body.Uext s a w) tokens says fits = record { behind = decimal s ∷ decimal a ∷ decimal w ∷ []; parts = says; again = λ rest. rw (pair_at-again s a (decimal w ∷ rest) fits.0 fits.1, plain_at-decimal w rest (omega (arith, fits.2))) refl }
 says_again (body.Sext s a w) tokens says fits = record { behind = decimal s ∷ decimal a ∷ decimal w ∷ []; parts = says; again = λ rest. rw (pair_at-again s a (decimal w ∷ rest) fits.0 fits.1, plain_at-decimal w rest (omega (arith, fits.2))) refl }
-says_again (body.Slice s a u l) tokens says fits = record { behind = decimal s ∷ decimal a ∷ decimal u ∷ decimal l ∷ []; parts = says; again = λ rest. rw (pair_at-again s a (decimal u ∷ decimal l ∷ rest) fits.0 fits.1, plain_at-decimal u (decimal l ∷ rest) (omega (arith, fits.2)), plain_at-decimal l rest (omega (arith, fits.3))) refl }
+says_again (body.Slice s a u l) tokens says fits = record { behind = decimal s ∷ decimal a ∷ decimal u ∷ decimal l ∷ []; parts = says; again = λ rest. rw (pair_at-again s a (decimal u ∷ decimal l ∷ rest) fits.0 fits.1, bit_at-decimal u (decimal l ∷ rest) fits.2, bit_at-decimal l rest fits.3) refl }
 says_again (body.Unary op s a) tokens says fits = record { behind = decimal s ∷ decimal a ∷ []; parts = says; again = λ rest. rw (pair_at-again s a rest fits.0 fits.1) refl }
 says_again (body.Binary op s a b) tokens says fits = record { behind = decimal s ∷ decimal a ∷ decimal b ∷ []; parts = says; again = λ rest. rw (triple_at-again s a b rest fits.0 fits.1 fits.2) refl }
 says_again (body.Concat s a b) tokens says fits = record { behind = decimal s ∷ decimal a ∷ decimal b ∷ []; parts = says; again = λ rest. rw (triple_at-again s a b rest fits.0 fits.1 fits.2) refl }

@@ -1,12 +1,12 @@
 -- Numbers and ids that are read in their places are what the tokens there spell, and what they spell is read.
-use Rattle.std.proofs.Common.{◌≡◌, ℕ, ◌-◌, ◌^◌, ◌<◌, nat_le, Bool, true, false, cond, List, [], ◌∷◌, Option, Some, None, Result, Ok, Err, codes, decimal, refl, ap, subst, ◌∙◌, inl, inr, arith}
+use Rattle.std.proofs.Common.{◌≡◌, ℕ, ◌-◌, ◌^◌, ◌<◌, ◌≤◌, nat_le, Bool, true, false, cond, List, [], ◌∷◌, Option, Some, None, Result, Ok, Err, codes, decimal, refl, sym, ap, subst, ◌∙◌, inl, inr, arith}
 use Rattle.std.specs.Str.{bytes_eq}
 use Rattle.std.proofs.lemmas.Bool.{le-leb}
 use Rattle.std.proofs.lemmas.Slice.Eq.{bytes_eq-Decides}
 use Rattle.base.specs.Decimals.{number_of}
 use Rattle.btor2text.specs.declared.fault.Why.{Why}
 use Rattle.btor2text.specs.declared.fault.Why.TheVariants as why
-use Rattle.btor2text.specs.Reading.{◌>>=◌, Tokens, some_of, operand_of, plain, operand, is_negative, plain_at, kept_id, sort_at, operand_at, width_at, pair_at, triple_at}
+use Rattle.btor2text.specs.Reading.{◌>>=◌, Tokens, some_of, operand_of, plain, operand, is_negative, plain_at, kept_id, kept_bit, sort_at, bit_at, operand_at, width_at, pair_at, triple_at}
 use Rattle.btor2text.proofs.BoundLemmas.{IsId}
 use Rattle.base.proofs.DecimalLemmas.{chosen, number_is_decimal, number_of-decimal}
 
@@ -92,6 +92,24 @@ sort_at_takes tokens x e =
     let y = bind_ok (plain_at tokens) (λ y. Ok (kept_id y.0, y.1)) x e in
     subst (λ (p : ℕ × Tokens). IsId p.0 → tokens ≡ decimal p.0 ∷ p.1) {x = (kept_id y.0.0, y.0.1)} (ok_is (kept_id y.0.0, y.0.1) x y.2) (sort_is tokens y.0.0 y.0.1 y.1)
 
+-- a number that is kept as a small bit is that bit
+kept-bit : (n : ℕ) → kept_bit n ≤ 64 → kept_bit n ≡ n
+unfolding kept_bit
+kept-bit n le = omega arith
+
+small-bit : (n : ℕ) → n ≤ 64 → kept_bit n ≡ n
+unfolding kept_bit
+small-bit n le = omega arith
+
+bit_is : (tokens : Tokens) (n : ℕ) (rest : Tokens) → plain_at tokens ≡ Ok (n, rest) → kept_bit n ≤ 64 → tokens ≡ decimal (kept_bit n) ∷ rest
+bit_is tokens n rest e le = plain_at_takes tokens (kept_bit n, rest) (e ∙ ap (λ (m : ℕ). Ok (m, rest)) (sym (kept-bit n le))) (omega (arith, le))
+
+pub bit_at_takes : (tokens : Tokens) (x : ℕ × Tokens) → bit_at tokens ≡ Ok x → x.0 ≤ 64 → tokens ≡ decimal x.0 ∷ x.1
+unfolding bit_at
+bit_at_takes tokens x e =
+    let y = bind_ok (plain_at tokens) (λ y. Ok (kept_bit y.0, y.1)) x e in
+    subst (λ (p : ℕ × Tokens). p.0 ≤ 64 → tokens ≡ decimal p.0 ∷ p.1) {x = (kept_bit y.0.0, y.0.1)} (ok_is (kept_bit y.0.0, y.0.1) x y.2) (bit_is tokens y.0.0 y.0.1 y.1)
+
 operand_is : (token : List ℕ) (n : ℕ) → operand token ≡ Ok n → IsId (kept_id n) → token ≡ decimal (kept_id n)
 operand_is token n e h =
     let is = kept_is n (kept_id n) refl h in
@@ -111,6 +129,10 @@ plain_at-decimal n rest lt = rw (plain-decimal n lt) refl
 pub sort_at-decimal : (n : ℕ) (rest : Tokens) → IsId n → sort_at (decimal n ∷ rest) ≡ Ok (n, rest)
 unfolding sort_at
 sort_at-decimal n rest h = rw (plain_at-decimal n rest (omega (arith, h.1)), kept-id n h) refl
+
+pub bit_at-decimal : (n : ℕ) (rest : Tokens) → n ≤ 64 → bit_at (decimal n ∷ rest) ≡ Ok (n, rest)
+unfolding bit_at
+bit_at-decimal n rest le = rw (plain_at-decimal n rest (omega (arith, le)), small-bit n le) refl
 
 pub operand_at-decimal : (n : ℕ) (rest : Tokens) → IsId n → operand_at (decimal n ∷ rest) ≡ Ok (n, rest)
 unfolding operand_at

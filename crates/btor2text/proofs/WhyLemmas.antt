@@ -18,7 +18,7 @@ use Rattle.btor2text.specs.declared.forms.Constant.TheVariants as constant
 use Rattle.btor2text.specs.Tokens.{tokens}
 use Rattle.btor2text.specs.Words.{form_named, no_form, known_form, form_of}
 use Rattle.btor2text.specs.Digits.{number_in, signed_number}
-use Rattle.btor2text.specs.Reading.{◌>>=◌, Tokens, is_negative, some_of, operand_of, plain, operand, plain_at, kept_id, sort_at, operand_at, width_at, pair_at, triple_at, digits_at, signed_at, operands_at, counted_at, constant_at, extension_body, form_at, body_at, symbol_end, symbol_at, item_at, refused, accepted, line_on}
+use Rattle.btor2text.specs.Reading.{◌>>=◌, Tokens, is_negative, some_of, operand_of, plain, operand, plain_at, kept_id, kept_bit, sort_at, bit_at, operand_at, width_at, pair_at, triple_at, digits_at, signed_at, operands_at, counted_at, constant_at, extension_body, form_at, body_at, symbol_end, symbol_at, item_at, refused, accepted, line_on}
 
 -- a why of a text
 abbrev pub IsOfText : Why → Type 0
@@ -68,6 +68,10 @@ plain_at_told (token ∷ rest) = told_bind (plain token) (λ n. Ok (n, rest)) (p
 sort_at_told : (tokens : Tokens) → Told (sort_at tokens)
 unfolding sort_at
 sort_at_told tokens = told_bind (plain_at tokens) (λ x. Ok (kept_id x.0, x.1)) (plain_at_told tokens) (λ _. tt)
+
+bit_at_told : (tokens : Tokens) → Told (bit_at tokens)
+unfolding bit_at
+bit_at_told tokens = told_bind (plain_at tokens) (λ x. Ok (kept_bit x.0, x.1)) (plain_at_told tokens) (λ _. tt)
 
 operand_at_told : (tokens : Tokens) → Told (operand_at tokens)
 unfolding operand_at
@@ -149,8 +153,8 @@ body_at_told (form.Extension e) tokens =
     told_bind (pair_at tokens) _ (pair_at_told tokens) (λ x. told_bind (plain_at x.2) (λ w. Ok (extension_body e x.0 x.1 w.0, w.1)) (plain_at_told x.2) (λ _. tt))
 body_at_told form.Slice tokens =
     told_bind (pair_at tokens) _ (pair_at_told tokens) (λ x.
-    told_bind (plain_at x.2) (λ u. plain_at u.1 >>= λ l. Ok (body.Slice x.0 x.1 u.0 l.0, l.1)) (plain_at_told x.2) (λ u.
-    told_bind (plain_at u.1) (λ l. Ok (body.Slice x.0 x.1 u.0 l.0, l.1)) (plain_at_told u.1) (λ _. tt)))
+    told_bind (bit_at x.2) (λ u. bit_at u.1 >>= λ l. Ok (body.Slice x.0 x.1 u.0 l.0, l.1)) (bit_at_told x.2) (λ u.
+    told_bind (bit_at u.1) (λ l. Ok (body.Slice x.0 x.1 u.0 l.0, l.1)) (bit_at_told u.1) (λ _. tt)))
 body_at_told (form.Unary op) tokens = told_bind (pair_at tokens) _ (pair_at_told tokens) (λ _. tt)
 body_at_told (form.Binary op) tokens = told_bind (triple_at tokens) _ (triple_at_told tokens) (λ _. tt)
 body_at_told form.Concat tokens = told_bind (triple_at tokens) _ (triple_at_told tokens) (λ _. tt)

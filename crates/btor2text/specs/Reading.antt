@@ -88,6 +88,11 @@ plain_at (token ∷ rest) = do
 unfoldable pub kept_id : ℕ → ℕ
 kept_id n = if nat_le n 4294967295 then n else 0
 
+-- The bit that a slice keeps of a number: bits have 32 bits too, and a number above the greatest of these is kept as that one. No node has a
+-- bit above 63, so a push refuses it as it would the number itself.
+unfoldable pub kept_bit : ℕ → ℕ
+kept_bit n = min n 4294967295
+
 -- the id of a sort, and the tokens behind it
 unfoldable pub sort_at : Tokens → Result (ℕ × Tokens) Why
 sort_at tokens = do
@@ -100,6 +105,12 @@ operand_at [] = Err why.BadToken
 operand_at (token ∷ rest) = do
   n ← operand token
   Ok (kept_id n, rest)
+
+-- a bound of a slice, and the tokens behind it
+unfoldable pub bit_at : Tokens → Result (ℕ × Tokens) Why
+bit_at tokens = do
+  x ← plain_at tokens
+  Ok (kept_bit x.0, x.1)
 
 -- the width that the tokens behind `sort` say, and the tokens behind it
 unfoldable pub width_at : Tokens → Result (ℕ × Tokens) Why
@@ -215,8 +226,8 @@ body_at (form.Extension e) tokens = do
   Ok (extension_body e x.0 x.1 w.0, w.1)
 body_at form.Slice tokens = do
   x ← pair_at tokens
-  u ← plain_at x.2
-  l ← plain_at u.1
+  u ← bit_at x.2
+  l ← bit_at u.1
   Ok (body.Slice x.0 x.1 u.0 l.0, l.1)
 body_at (form.Unary op) tokens = do
   x ← pair_at tokens

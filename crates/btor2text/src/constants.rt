@@ -10,7 +10,7 @@ use crate::forms::Constant;
 use crate::places::sort_at;
 use crate::tokens::next_token;
 use base::decimal;
-use btor2::Body;
+use btor2::{Body, Decimal};
 
 /// What all numbers beyond those of 64 bits count as.
 const BEYOND: u128 = 1 << 64;
@@ -134,6 +134,7 @@ pub(crate) fn constant_at(constant: Constant, line: &[u8]) -> Result<(Body, &[u8
         }
         Constant::Constd => {
             let (value, rest) = signed_at(rest)?;
+            let value = Decimal::new(value);
             Ok((Body::Constd { sort, value }, rest))
         }
         Constant::Consth => {

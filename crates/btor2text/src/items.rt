@@ -7,7 +7,9 @@ ghost use Rattle.btor2text.specs.Reading.{Gives, GivesUnlessFull, form_at, leaf_
 use crate::constants::constant_at;
 use crate::fault::Why;
 use crate::forms::{Extension, Form, Leaf, Link, Property, form_of};
-use crate::places::{counted_at, operand_at, pair_at, plain_at, sort_at, triple_at, width_at};
+use crate::places::{
+    bit_at, counted_at, operand_at, pair_at, plain_at, sort_at, triple_at, width_at,
+};
 use crate::tokens::next_token;
 use btor2::{Body, Item, Operands, Symbol, SymbolFault};
 use std::alloc::Global;
@@ -93,8 +95,8 @@ fn body_at(alloc: Global, form: Form, line: &[u8]) -> Result<(Body, &[u8]), Why>
         }
         Form::Slice => {
             let (sort, operand, rest) = pair_at(line)?;
-            let (upper, rest) = plain_at(rest)?;
-            let (lower, rest) = plain_at(rest)?;
+            let (upper, rest) = bit_at(rest)?;
+            let (lower, rest) = bit_at(rest)?;
             let body = Body::Slice {
                 sort,
                 operand,

@@ -1,11 +1,11 @@
 //! That what is written is read again, and worked rows of lines, items and faults, as functions with no code.
-ghost use Rattle.std.specs.Prelude.{◌≡◌, ℕ, List, [], ◌∷◌, ◌++◌, codes, negsuc};
+ghost use Rattle.std.specs.Prelude.{◌≡◌, ℕ, List, [], ◌∷◌, ◌++◌, ◌≤◌, false, codes, negsuc};
 ghost use Rattle.base.specs.declared.operators.Unary.TheVariants as unary;
 ghost use Rattle.base.specs.declared.operators.Binary.TheVariants as binary;
 ghost use Rattle.btor2.specs.declared.item.Body.TheVariants as body;
 ghost use Rattle.btor2.specs.declared.fault.PushFault.TheVariants as push;
 ghost use Rattle.btor2.specs.declared.item.Item.{Item};
-ghost use Rattle.btor2.specs.Check.{IsWellFormed};
+ghost use Rattle.btor2.specs.Check.{IsWellFormed, is_no_slice};
 ghost use Rattle.btor2.specs.Parts.{HaveSoundParts};
 ghost use Rattle.btor2.specs.Worked.{line};
 ghost use Rattle.btor2text.specs.declared.fault.Why.TheVariants as why;
@@ -15,7 +15,7 @@ ghost use Rattle.btor2text.specs.Words.{unary_of, binary_of};
 ghost use Rattle.btor2text.specs.Spelling.{Spells, StandsFor};
 ghost use Rattle.btor2text.specs.Writing.{written};
 ghost use Rattle.btor2text.specs.FirstFault.{IsFaultOf};
-ghost use Rattle.btor2text.specs.Reading.{line_on, text_on};
+ghost use Rattle.btor2text.specs.Reading.{line_on, text_on, kept_bit};
 
 /// What is written stands for the items that are written, and is read again as them, for all well-formed lists of items
 /// whose parts are as their types keep them: `btor2::Model::items` gives both of every model, and `write` says it of them.
@@ -28,6 +28,14 @@ pub fn read_back()
 pub fn one_model()
     ensures read { (text : List ℕ) (items : List Item) → StandsFor text items → text_on text ≡ Ok items }
     ensures same { (text : List ℕ) (items others : List Item) → StandsFor text items → StandsFor text others → items ≡ others }
+{}
+
+/// A slice is refused by the bits that it keeps as by the numbers on its line, whatever the width of its node is, and
+/// where it is not, they are these numbers.
+#[tactic(auto, unfolding(crate::specs::Reading::kept_bit))]
+pub fn bits_are_kept()
+    ensures refused { (width upper lower : ℕ) → width ≤ 64 → is_no_slice width (kept_bit upper) (kept_bit lower) ≡ is_no_slice width upper lower }
+    ensures same { (width upper lower : ℕ) → width ≤ 64 → is_no_slice width upper lower ≡ false → (kept_bit upper ≡ upper) × (kept_bit lower ≡ lower) }
 {}
 
 /// Worked rows: the tokens of lines.
@@ -79,6 +87,7 @@ pub fn worked_whys()
     ensures no_operands { line_on [] (tokens (codes "3 justice 0")) ≡ Err (why.Refused push.JusticeEmpty) }
     ensures refused { line_on [] (tokens (codes "2 input 1")) ≡ Err (why.Refused push.NoSuchSort) }
     ensures above_the_greatest { line_on [] (tokens (codes "2 input 4294967296")) ≡ Err (why.Refused push.NoSuchSort) }
+    ensures beyond_all_bits { line_on (line 1 (body.Sort 4) ∷ line 2 (body.Input 1) ∷ []) (tokens (codes "3 slice 1 2 4294967299 0")) ≡ Err (why.Refused push.SliceOutOfRange) }
     ensures bad_symbol { line_on [] (tokens (codes "2 input 1 a" ++ 200 ∷ [])) ≡ Err why.BadSymbol }
     ensures nothing { line_on [] (tokens (codes "; t")) ≡ Ok [] }
     ensures does_not_fit { line_on (line 1 (body.Sort 4) ∷ []) (tokens (codes "2 const 1 101")) ≡ Err why.ConstantDoesNotFit }

@@ -2,7 +2,7 @@
 
 ghost use Rattle.std.specs.Prelude.{◌≡◌, Ok, IfSome};
 ghost use Rattle.btor2text.specs.Tokens.{tokens};
-ghost use Rattle.btor2text.specs.Reading.{Gives, GivesUnlessFull, is_negative, plain, operand, plain_at, kept_id, sort_at, operand_at, width_at, pair_at, triple_at, operands_at, counted_at};
+ghost use Rattle.btor2text.specs.Reading.{Gives, GivesUnlessFull, is_negative, plain, operand, plain_at, kept_id, kept_bit, sort_at, bit_at, operand_at, width_at, pair_at, triple_at, operands_at, counted_at};
 
 use crate::fault::Why;
 use crate::operators::is_word;
@@ -121,6 +121,26 @@ pub(crate) fn sort_at(line: &[u8]) -> Result<(u32, &[u8]), Why>
 {
     let (number, rest) = plain_at(line)?;
     Ok((kept_id(number), rest))
+}
+
+/// The bit that a slice keeps of a number: bits have 32 bits, and what is above is kept as the greatest of these, which no
+/// node has.
+#[inline(always)]
+#[tactic(auto, unfolding(crate::specs::Reading::kept_bit))]
+fn kept_bit(number: u64) -> u32
+    ensures { result ≡ kept_bit number }
+{
+    u32::try_from(number).unwrap_or(u32::MAX)
+}
+
+/// A bound of a slice, and the line behind it.
+#[inline(always)]
+#[tactic(auto, unfolding(crate::specs::Reading::bit_at))]
+pub(crate) fn bit_at(line: &[u8]) -> Result<(u32, &[u8]), Why>
+    ensures { Gives (λ x. (x.0, tokens x.1.now)) result (bit_at (tokens line.now)) }
+{
+    let (number, rest) = plain_at(line)?;
+    Ok((kept_bit(number), rest))
 }
 
 /// The same as `operand_at`: the first token is cut off, and then read.

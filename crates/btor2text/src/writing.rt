@@ -168,7 +168,7 @@ fn add_form(line: &mut Line, body: &Body)
             line.one(b"const", u64::from(*sort));
         }
         Body::Constd { sort, value } => {
-            line.signed(*value);
+            line.signed(value.value());
             line.byte(b' ');
             line.one(b"constd", u64::from(*sort));
         }
@@ -188,7 +188,13 @@ fn add_form(line: &mut Line, body: &Body)
             operand,
             upper,
             lower,
-        } => line.four(b"slice", *sort, *operand, *upper, *lower),
+        } => line.four(
+            b"slice",
+            *sort,
+            *operand,
+            u64::from(*upper),
+            u64::from(*lower),
+        ),
         Body::Unary {
             operator,
             sort,

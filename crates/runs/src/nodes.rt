@@ -259,8 +259,8 @@ pub(crate) fn operator_of(
             Some(Operator::Single(Single::Slice {
                 width,
                 operand,
-                upper: *upper,
-                lower: *lower,
+                upper: u64::from(*upper),
+                lower: u64::from(*lower),
             }))
         }
         Body::Unary {

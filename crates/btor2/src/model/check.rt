@@ -35,10 +35,10 @@ fn is_no_sum(width: u64, first: u64, second: u64) -> bool
 }
 
 /// Whether a width is not that of the bits `upper` down to `lower`.
-fn is_no_slice_width(width: u64, upper: u64, lower: u64) -> bool
+fn is_no_slice_width(width: u64, upper: u32, lower: u32) -> bool
     ensures { result ≡ not (width == upper - lower + 1) }
 {
-    u128::from(width) != u128::from(upper.saturating_sub(lower)) + 1
+    width != u64::from(upper.saturating_sub(lower)) + 1
 }
 
 /// Whether a decimal constant fits a sort of so many bits.
@@ -189,12 +189,12 @@ impl Model {
     }
 
     /// Tests a slice.
-    fn check_slice(&self, sort: u32, operand: u32, upper: u64, lower: u64) -> Result<(), PushFault>
+    fn check_slice(&self, sort: u32, operand: u32, upper: u32, lower: u32) -> Result<(), PushFault>
         ensures { Refuses result (first_row (said self.now (body.Slice sort operand upper lower))) }
     {
         let width = self.named_sort(sort)?;
         let given = self.named_node(operand)?;
-        if !(lower <= upper && upper < given) {
+        if !(lower <= upper && u64::from(upper) < given) {
             return Err(PushFault::SliceOutOfRange);
         }
         refuse_if(
@@ -358,7 +358,7 @@ impl Model {
                 digits,
                 value,
             } => self.check_const(*sort, *digits, *value),
-            Body::Constd { sort, value } => self.check_constd(*sort, *value),
+            Body::Constd { sort, value } => self.check_constd(*sort, value.value()),
             Body::Consth {
                 sort,
                 digits,
