@@ -1,11 +1,12 @@
 //! Where the gates of a sharing maker stand: a chain for each variable, and a map of the gates that no chain took.
-ghost use Rattle.std.specs.Prelude.{◌≡◌, ◌+◌, ◌*◌, ◌<◌, ◌≤◌, ◌&&◌, [], ◌∷◌, ◌++◌, true, None, Some, All, length, replicate, vec_len, vec_capacity, slice_set, get_or, if◌then◌else◌, IfOk, IfErr, OnOk};
+ghost use Rattle.std.specs.Prelude.{◌≡◌, ◌+◌, ◌<◌, ◌≤◌, [], ◌∷◌, ◌++◌, None, Some, All, length, replicate, vec_len, vec_capacity, get_or, if◌then◌else◌, IfOk, IfErr, IfSome, OnOk};
 ghost use Rattle.std.specs.HashMap.{get, spare};
 ghost use Rattle.aiger.specs.declared.circuit.Gate.{Gate as Operands};
 ghost use Rattle.aiger.specs.Limits.{greatest_count};
+ghost use Rattle.aiger.specs.Literal.{variable};
 ghost use Rattle.aiger.specs.Net.{IsDefined};
 ghost use Rattle.aiger.specs.Circuit.{net};
-ghost use Rattle.gates.specs.Chains.{longest, AreFound, chain, finds, is_pair, walked};
+ghost use Rattle.gates.specs.Chains.{longest, AreFound, chained, finds, is_beyond, is_pair, link, looked, looked_up, walked};
 
 use crate::fault::GateFault;
 use crate::pair::Pair;
@@ -14,21 +15,32 @@ use indexmap::IndexMap;
 use std::alloc::Global;
 
 /// How many gates a chain has at most.
-const LONGEST: usize = 32;
+const LONGEST: usize = 16;
 
-/// How a look for the gate of a pair ended.
+/// How a walk along a chain ended.
 pub(crate) enum Walk {
     /// At the gate, which stands at this place.
+    Met(usize),
+    /// At the chain's end, without it.
+    End,
+    /// Behind as many gates as a chain has at most, without it.
+    Full,
+}
+
+/// How a look for the gate of a pair ended.
+pub(crate) enum Look {
+    /// At the gate, which stands at this place.
     Found(usize),
-    /// Nowhere: it is neither on its chain, which is full or takes another one, nor in the map.
-    Absent { is_full: bool },
+    /// Nowhere: the chain of this variable takes it, or without one the map.
+    Absent(Option<u32>),
 }
 
 /// Where the gates of a circuit stand.
 ///
 /// Most gates are on the chain of their greater operand's variable, where a look-up meets lists alone that were just in
-/// use; a gate that a full chain does not take stands in the map. An entry of a chain is 1 more than the place of a gate, or 0 at its
-/// end.
+/// use. Where that one is full they are on the chain of the smaller operand's variable, so a literal that is the greater
+/// operand of many gates costs no more; what neither takes stands in the map. An entry of a chain is 1 more than the
+/// place of a gate, or 0 at its end.
 #[derive(Drop)]
 pub(crate) struct Chains {
     /// For each variable the gate that its chain begins with, which is the last that it took.
@@ -39,13 +51,6 @@ pub(crate) struct Chains {
     beyond: IndexMap<Pair, u32>,
 }
 
-/// The variable on whose chain the gate of a pair stands.
-fn chain_of(pair: Pair) -> usize
-    ensures { result ≡ chain pair }
-{
-    (pair.greater / 2) as usize
-}
-
 /// Whether a gate has these operands.
 fn is_of(gate: Gate, pair: Pair) -> bool
     ensures { result ≡ is_pair pair gate }
@@ -53,7 +58,7 @@ fn is_of(gate: Gate, pair: Pair) -> bool
     gate.rhs0.number() == pair.greater && gate.rhs1.number() == pair.smaller
 }
 
-/// Walks along a chain from an entry on, until it is at the gate of a pair or has looked at so many gates.
+/// Walks along a chain from an entry on, until it is at the gate of a pair, at the end, or has looked at so many gates.
 fn walk_along(gates: &[Gate], before: &[u32], pair: Pair, first: u32, turns: usize) -> Walk
     requires first { first ≤ length gates.now }
     requires places { length before.now ≡ length gates.now }
@@ -63,15 +68,15 @@ fn walk_along(gates: &[Gate], before: &[u32], pair: Pair, first: u32, turns: usi
     let mut entry = first;
     for _ in 0..turns {
         if entry == 0 {
-            return Walk::Absent { is_full: false };
+            return Walk::End;
         }
         let place = (entry - 1) as usize;
         if is_of(gates[place], pair) {
-            return Walk::Found(place);
+            return Walk::Met(place);
         }
         entry = before[place];
     }
-    Walk::Absent { is_full: true }
+    Walk::Full
 }
 
 /// Adds an entry to a list that has room for it.
@@ -116,30 +121,63 @@ impl Chains {
         }
     }
 
-    /// Where the gate of a pair stands, or whether its chain takes it. It takes no memory.
-    pub(crate) fn find(&self, circuit: &Circuit, pair: Pair) -> Walk
+    /// Walks along the chain of a variable.
+    fn walk(&self, circuit: &Circuit, pair: Pair, variable: u32) -> Walk
         requires found { AreFound longest (net circuit.now) self.now.last.items self.now.before.items (get is_pair self.now.beyond) }
-        requires defined { IsDefined (net circuit.now) pair.rhs0 }
-        ensures { result ≡ finds longest circuit.now.gates self.now.last.items self.now.before.items (get is_pair self.now.beyond) pair }
+        requires inside { variable < length self.now.last.items }
+        ensures { result ≡ walked circuit.now.gates self.now.before.items pair longest (get_or self.now.last.items variable 0) }
     {
-        let first = self.last[chain_of(pair)];
-        match walk_along(circuit.gates(), &self.before, pair, first, LONGEST) {
-            Walk::Absent { is_full: true } => match self.beyond.get(&pair) {
-                Some(place) => Walk::Found(*place as usize),
-                None => Walk::Absent { is_full: true },
-            },
-            walk => walk,
+        let first = self.last[variable as usize];
+        walk_along(circuit.gates(), &self.before, pair, first, LONGEST)
+    }
+
+    /// What the map says of the gate of a pair.
+    fn look_up(&self, pair: Pair) -> Look
+        ensures { result ≡ looked_up (get is_pair self.now.beyond pair) }
+    {
+        match self.beyond.get(&pair) {
+            Some(place) => Look::Found(*place as usize),
+            None => Look::Absent(None),
         }
     }
 
-    /// Makes room for a gate more, which stands in the map where its chain is full.
-    pub(crate) fn make_room(&mut self, is_full: bool) -> Result<(), GateFault>
+    /// Where the gate of a pair stands behind the full chain of its greater operand's variable, or what takes it.
+    fn find_behind(&self, circuit: &Circuit, pair: Pair) -> Look
+        requires found { AreFound longest (net circuit.now) self.now.last.items self.now.before.items (get is_pair self.now.beyond) }
+        requires defined { IsDefined (net circuit.now) pair.rhs1 }
+        ensures { result ≡ looked (walked circuit.now.gates self.now.before.items pair longest (get_or self.now.last.items (variable pair.rhs1) 0)) (variable pair.rhs1) (looked_up (get is_pair self.now.beyond pair)) }
+    {
+        let variable = pair.smaller / 2;
+        match self.walk(circuit, pair, variable) {
+            Walk::Met(place) => Look::Found(place),
+            Walk::End => Look::Absent(Some(variable)),
+            Walk::Full => self.look_up(pair),
+        }
+    }
+
+    /// Where the gate of a pair stands, or what takes it. It takes no memory.
+    pub(crate) fn find(&self, circuit: &Circuit, pair: Pair) -> Look
+        requires found { AreFound longest (net circuit.now) self.now.last.items self.now.before.items (get is_pair self.now.beyond) }
+        requires greater { IsDefined (net circuit.now) pair.rhs0 }
+        requires smaller { IsDefined (net circuit.now) pair.rhs1 }
+        ensures { result ≡ finds longest circuit.now.gates self.now.last.items self.now.before.items (get is_pair self.now.beyond) pair }
+    {
+        let variable = pair.greater / 2;
+        match self.walk(circuit, pair, variable) {
+            Walk::Met(place) => Look::Found(place),
+            Walk::End => Look::Absent(Some(variable)),
+            Walk::Full => self.find_behind(circuit, pair),
+        }
+    }
+
+    /// Makes room for a gate more, which a chain takes, or without one the map.
+    pub(crate) fn make_room(&mut self, chain: Option<u32>) -> Result<(), GateFault>
         ensures last { self.new.last.items ≡ self.old.last.items }
         ensures before { self.new.before.items ≡ self.old.before.items }
         ensures beyond { (pair : Operands) → get is_pair self.new.beyond pair ≡ get is_pair self.old.beyond pair }
         ensures room_last { OnOk result (vec_len self.new.last < vec_capacity self.new.last) }
         ensures room_before { OnOk result (vec_len self.new.before < vec_capacity self.new.before) }
-        ensures room_beyond { OnOk result (is_full ≡ true → 0 < spare self.new.beyond) }
+        ensures room_beyond { OnOk result (chain ≡ None → 0 < spare self.new.beyond) }
         ensures memory { IfErr result (λ e. e ≡ GateFault.NoMemory) }
     {
         if self.last.reserve(1).is_err() {
@@ -148,30 +186,35 @@ impl Chains {
         if self.before.reserve(1).is_err() {
             return Err(GateFault::NoMemory);
         }
-        if is_full && self.beyond.reserve(1).is_err() {
+        if chain.is_none() && self.beyond.reserve(1).is_err() {
             return Err(GateFault::NoMemory);
         }
         Ok(())
     }
 
-    /// Notes the gate of a pair that was made last, for which there is room: in the map where its chain is full.
-    pub(crate) fn note(&mut self, pair: Pair, is_full: bool)
-        requires variable { chain pair < length self.old.last.items }
+    /// Notes the gate of a pair that was made last, for which there is room, on the chain that takes it, or without one
+    /// in the map.
+    pub(crate) fn note(&mut self, pair: Pair, chain: Option<u32>)
+        requires inside { IfSome chain (λ v. v < length self.old.last.items) }
         requires few { length self.old.before.items < greatest_count }
         requires room_last { vec_len self.old.last < vec_capacity self.old.last }
         requires room_before { vec_len self.old.before < vec_capacity self.old.before }
-        requires room_beyond { is_full ≡ true → 0 < spare self.old.beyond }
-        ensures last { self.new.last.items ≡ (if is_full then self.old.last.items else slice_set self.old.last.items (chain pair) (length self.old.before.items + 1)) ++ 0 ∷ [] }
-        ensures before { self.new.before.items ≡ self.old.before.items ++ get_or self.old.last.items (chain pair) 0 ∷ [] }
-        ensures beyond { (other : Operands) → get is_pair self.new.beyond other ≡ (if is_full && is_pair pair other then Some (length self.old.before.items) else get is_pair self.old.beyond other) }
+        requires room_beyond { chain ≡ None → 0 < spare self.old.beyond }
+        ensures last { self.new.last.items ≡ chained self.old.last.items chain (length self.old.before.items + 1) ++ 0 ∷ [] }
+        ensures before { self.new.before.items ≡ self.old.before.items ++ link self.old.last.items chain ∷ [] }
+        ensures beyond { (other : Operands) → get is_pair self.new.beyond other ≡ (if is_beyond chain pair other then Some (length self.old.before.items) else get is_pair self.old.beyond other) }
     {
         let place = self.before.len() as u32;
-        let at = chain_of(pair);
-        add(&mut self.before, self.last[at]);
-        if is_full {
-            add_beyond(&mut self.beyond, pair, place);
-        } else {
-            self.last[at] = place + 1;
+        match chain {
+            Some(variable) => {
+                let at = variable as usize;
+                add(&mut self.before, self.last[at]);
+                self.last[at] = place + 1;
+            }
+            None => {
+                add(&mut self.before, 0);
+                add_beyond(&mut self.beyond, pair, place);
+            }
         }
         add(&mut self.last, 0);
     }

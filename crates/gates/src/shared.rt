@@ -9,7 +9,7 @@ ghost use Rattle.gates.specs.Chains.{longest, AreFound, finds, is_pair};
 ghost use Rattle.gates.specs.Made.{MakesAnd, Refuses, gates_only};
 ghost use Rattle.gates.specs.Shared.{folded_and, gate_of, is_gate_of, gate_literal, standing_and, AreShared, HasValuations};
 
-use crate::chains::{Chains, Walk};
+use crate::chains::{Chains, Look};
 use crate::fault::GateFault;
 use crate::folding::folded;
 use crate::laws::gates_have_valuations;
@@ -63,41 +63,43 @@ fn gate_at(circuit: &Circuit, place: usize) -> Lit
     Lit::new(2 * (before + place as u32 + 1))
 }
 
-/// Adds the gate of a pair, and notes it in chains that have room for it. Where it is refused, nothing is noted.
+/// Adds the gate of a pair, and notes it where it stands, for which there is room. Where it is refused, nothing is noted.
 fn add_gate(
     circuit: &mut Circuit,
     chains: &mut Chains,
     pair: Pair,
-    is_full: bool,
+    chain: Option<u32>,
 ) -> Result<Lit, GateFault>
     requires found { AreFound longest (net circuit.old) chains.old.last.items chains.old.before.items (get is_pair chains.old.beyond) }
-    requires absent { finds longest circuit.old.gates chains.old.last.items chains.old.before.items (get is_pair chains.old.beyond) pair ≡ Walk.Absent is_full }
+    requires absent { finds longest circuit.old.gates chains.old.last.items chains.old.before.items (get is_pair chains.old.beyond) pair ≡ Look.Absent chain }
     requires order { pair.rhs1 ≤ pair.rhs0 }
-    requires defined { IsDefined (net circuit.old) pair.rhs0 }
+    requires greater { IsDefined (net circuit.old) pair.rhs0 }
+    requires smaller { IsDefined (net circuit.old) pair.rhs1 }
     requires room { variables (net circuit.old) < greatest_count }
     requires room_last { vec_len chains.old.last < vec_capacity chains.old.last }
     requires room_before { vec_len chains.old.before < vec_capacity chains.old.before }
-    requires room_beyond { is_full ≡ true → 0 < spare chains.old.beyond }
+    requires room_beyond { chain ≡ None → 0 < spare chains.old.beyond }
     ensures ok { IfOk result (λ l. (circuit.new ≡ record circuit.old { gates = circuit.old.gates ++ pair ∷ [] }) × (l ≡ 2 * (variables (net circuit.old) + 1))) }
     ensures err { IfErr result (λ e. (e ≡ GateFault.NoMemory) × (circuit.new ≡ circuit.old)) }
     ensures found { AreFound longest (net circuit.new) chains.new.last.items chains.new.before.items (get is_pair chains.new.beyond) }
 {
     let lit = push(circuit, Lit::new(pair.greater), Lit::new(pair.smaller))?;
-    chains.note(pair, is_full);
+    chains.note(pair, chain);
     Ok(lit)
 }
 
-/// Makes the gate of a pair that does not stand, and notes where it stands: in the map where its chain is full.
+/// Makes the gate of a pair that does not stand, and notes where it stands: on the chain that takes it, or in the map.
 fn make(
     circuit: &mut Circuit,
     chains: &mut Chains,
     pair: Pair,
-    is_full: bool,
+    chain: Option<u32>,
 ) -> Result<Lit, GateFault>
     requires found { AreFound longest (net circuit.old) chains.old.last.items chains.old.before.items (get is_pair chains.old.beyond) }
-    requires absent { finds longest circuit.old.gates chains.old.last.items chains.old.before.items (get is_pair chains.old.beyond) pair ≡ Walk.Absent is_full }
+    requires absent { finds longest circuit.old.gates chains.old.last.items chains.old.before.items (get is_pair chains.old.beyond) pair ≡ Look.Absent chain }
     requires order { pair.rhs1 ≤ pair.rhs0 }
-    requires defined { IsDefined (net circuit.old) pair.rhs0 }
+    requires greater { IsDefined (net circuit.old) pair.rhs0 }
+    requires smaller { IsDefined (net circuit.old) pair.rhs1 }
     ensures ok { IfOk result (λ l. (circuit.new ≡ record circuit.old { gates = circuit.old.gates ++ pair ∷ [] }) × (l ≡ 2 * (variables (net circuit.old) + 1))) }
     ensures err { OnErr result (circuit.new ≡ circuit.old) }
     ensures too_big { IsErrOf result GateFault.TooBig ↔ (greatest_count < variables (net circuit.old) + 1) }
@@ -106,8 +108,8 @@ fn make(
     if circuit.variables() >= GREATEST_COUNT {
         return Err(GateFault::TooBig);
     }
-    chains.make_room(is_full)?;
-    add_gate(circuit, chains, pair, is_full)
+    chains.make_room(chain)?;
+    add_gate(circuit, chains, pair, chain)
 }
 
 /// The maker of a circuit that has no gate yet.
@@ -170,8 +172,8 @@ impl HashGates {
     {
         let pair = pair_of(a, b);
         match self.chains.find(&self.circuit, pair) {
-            Walk::Found(place) => Ok(gate_at(&self.circuit, place)),
-            Walk::Absent { is_full } => make(&mut self.circuit, &mut self.chains, pair, is_full),
+            Look::Found(place) => Ok(gate_at(&self.circuit, place)),
+            Look::Absent(chain) => make(&mut self.circuit, &mut self.chains, pair, chain),
         }
     }
 }

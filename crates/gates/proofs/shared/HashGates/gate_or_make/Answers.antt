@@ -3,7 +3,7 @@ use Rattle.std.specs.HashMap.{get}
 use Rattle.aiger.specs.declared.circuit.Gate.{Gate}
 use Rattle.aiger.specs.Net.{variables}
 use Rattle.aiger.specs.Circuit.{net}
-use Rattle.gates.specs.declared.chains.Walk.TheVariants.{Found, Absent}
+use Rattle.gates.specs.declared.chains.Look.TheVariants.{Found, Absent}
 use Rattle.gates.specs.Chains.{longest, is_pair}
 use Rattle.gates.specs.Shared.{is_gate_of, gate_literal}
 use Rattle.gates.proofs.ChainLemmas.{found_there, place-found}
@@ -44,7 +44,7 @@ absent : (c : goal.After-make) → position (is_gate_of c.args.a c.args.b) c.sel
 absent c =
     let chains = c.self.inside.chains in
     sym
-    (place-found longest (net c.self.inside.circuit) chains.last.items chains.before.items (get is_pair chains.beyond) c.self.invariant.1 c.pair_of-pair.result (Absent c.in-Absent.is_full) (sym c.find.ensures ∙ c.in-Absent.is)
+    (place-found longest (net c.self.inside.circuit) chains.last.items chains.before.items (get is_pair chains.beyond) c.self.invariant.1 c.pair_of-pair.result (Absent c.in-Absent.chain) (sym c.find.ensures ∙ c.in-Absent.is)
     ∙ ap (λ (pair : Gate). position (is_pair pair) c.self.inside.circuit.gates) c.pair_of-pair.ensures)
 
 pub invariant_of-self : goal.invariant_of-self
