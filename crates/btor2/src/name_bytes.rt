@@ -23,8 +23,8 @@ enum Place {
     },
 }
 
-/// Some bytes, held in two words. It has two forms since most names are short and a large model may have one in each
-/// item: up to 14 bytes take no memory of their own, and longer ones take none in the item beyond the two words.
+/// Some bytes, held in two words. It has two forms since most names are short: up to 14 bytes stand in the two words,
+/// and longer ones have memory of their own.
 #[derive(Drop)]
 pub(crate) struct NameBytes {
     place: Place,

@@ -67,6 +67,12 @@ extension_taken : (x : Extension) (tokens rest : Tokens) (s a w : ℕ) → (IsId
 extension_taken extension.Uext tokens rest s a w e = record { form = refl; says = λ fits. (decimal s ∷ decimal a ∷ decimal w ∷ [], e fits.0 fits.1 fits.2, refl) }
 extension_taken extension.Sext tokens rest s a w e = record { form = refl; says = λ fits. (decimal s ∷ decimal a ∷ decimal w ∷ [], e fits.0 fits.1 fits.2, refl) }
 
+slice_taken : (tokens rest : Tokens) (s a u l : ℕ) → (IsId s → IsId a → u ≤ 64 → l ≤ 64 → tokens ≡ decimal s ∷ decimal a ∷ decimal u ∷ decimal l ∷ rest) → Taken form.Slice tokens (body.Slice s a u l, rest)
+slice_taken tokens rest s a u l e = record { form = refl; says = λ fits. (decimal s ∷ decimal a ∷ decimal u ∷ decimal l ∷ [], e fits.0 fits.1 fits.2 fits.3, refl) }
+
+choice_taken : (tokens rest : Tokens) (s c t e : ℕ) → (IsId s → IsId c → IsId t → IsId e → tokens ≡ decimal s ∷ decimal c ∷ decimal t ∷ decimal e ∷ rest) → Taken form.Ite tokens (body.Ite s c t e, rest)
+choice_taken tokens rest s c t e is = record { form = refl; says = λ fits. (decimal s ∷ decimal c ∷ decimal t ∷ decimal e ∷ [], is fits.0 fits.1 fits.2 fits.3, refl) }
+
 link_taken : (l : Link) (tokens rest : Tokens) (s t v : ℕ) → (IsId s → IsId t → IsId v → tokens ≡ decimal s ∷ decimal t ∷ decimal v ∷ rest) → Taken (form.Link l) tokens (link_body l s t v, rest)
 link_taken link.Init tokens rest s t v e = record { form = refl; says = λ fits. (decimal s ∷ decimal t ∷ decimal v ∷ [], e fits.0 fits.1 fits.2, refl) }
 link_taken link.Next tokens rest s t v e = record { form = refl; says = λ fits. (decimal s ∷ decimal t ∷ decimal v ∷ [], e fits.0 fits.1 fits.2, refl) }
@@ -133,7 +139,7 @@ body_at_takes form.Slice tokens y e =
     let u = bind_ok (bit_at x.0.2) (λ u. bit_at u.1 >>= λ l. Ok (body.Slice x.0.0 x.0.1 u.0 l.0, l.1)) y x.2 in
     let l = bind_ok (bit_at u.0.1) (λ l. Ok (body.Slice x.0.0 x.0.1 u.0.0 l.0, l.1)) y u.2 in
     subst (Taken form.Slice tokens) {x = (body.Slice x.0.0 x.0.1 u.0.0 l.0.0, l.0.1)} (ok_is (body.Slice x.0.0 x.0.1 u.0.0 l.0.0, l.0.1) y l.2)
-    (record { form = refl; says = λ fits. (decimal x.0.0 ∷ decimal x.0.1 ∷ decimal u.0.0 ∷ decimal l.0.0 ∷ [], slice_joined tokens x.0 u.0 l.0 x.1 u.1 l.1 fits.0 fits.1 fits.2 fits.3, refl) })
+    (slice_taken tokens l.0.1 x.0.0 x.0.1 u.0.0 l.0.0 (slice_joined tokens x.0 u.0 l.0 x.1 u.1 l.1))
 body_at_takes (form.Unary op) tokens y e =
     let b = bind_ok (pair_at tokens) (λ x. Ok (body.Unary op x.0 x.1, x.2)) y e in
     subst (Taken (form.Unary op) tokens) {x = (body.Unary op b.0.0 b.0.1, b.0.2)} (ok_is (body.Unary op b.0.0 b.0.1, b.0.2) y b.2)
@@ -150,7 +156,7 @@ body_at_takes form.Ite tokens y e =
     let x = bind_ok (triple_at tokens) (λ x. operand_at x.3 >>= λ e. Ok (body.Ite x.0 x.1 x.2 e.0, e.1)) y e in
     let z = bind_ok (operand_at x.0.3) (λ e. Ok (body.Ite x.0.0 x.0.1 x.0.2 e.0, e.1)) y x.2 in
     subst (Taken form.Ite tokens) {x = (body.Ite x.0.0 x.0.1 x.0.2 z.0.0, z.0.1)} (ok_is (body.Ite x.0.0 x.0.1 x.0.2 z.0.0, z.0.1) y z.2)
-    (record { form = refl; says = λ fits. (decimal x.0.0 ∷ decimal x.0.1 ∷ decimal x.0.2 ∷ decimal z.0.0 ∷ [], choice_joined tokens x.0 z.0 x.1 z.1 fits.0 fits.1 fits.2 fits.3, refl) })
+    (choice_taken tokens z.0.1 x.0.0 x.0.1 x.0.2 z.0.0 (choice_joined tokens x.0 z.0 x.1 z.1))
 body_at_takes (form.Link l) tokens y e =
     let b = bind_ok (triple_at tokens) (λ x. Ok (link_body l x.0 x.1 x.2, x.3)) y e in
     subst (Taken (form.Link l) tokens) {x = (link_body l b.0.0 b.0.1 b.0.2, b.0.3)} (ok_is (link_body l b.0.0 b.0.1 b.0.2, b.0.3) y b.2) (link_taken l tokens b.0.3 b.0.0 b.0.1 b.0.2 (triple_at_takes tokens b.0 b.1))
