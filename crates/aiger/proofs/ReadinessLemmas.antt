@@ -1,14 +1,19 @@
 -- Gates that wait for others.
-use Rattle.std.proofs.Common.{◌≡◌, ℕ, zero, suc, ◌+◌, ◌-◌, ◌*◌, ◌/◌, ◌%◌, ◌<◌, ◌≤◌, Bool, true, false, not, ◌&&◌, ◌||◌, List, [], ◌∷◌, ◌++◌, length, ◌⊎◌, inl, inr, nat_eq, nat_lt, slice_index_or, slice_set, cond, refl, ap, sym, ◌∙◌, subst, arith, if◌then◌else◌, length-append, append_assoc, append-nil, ⊎_elim}
+use Rattle.std.proofs.Common.{◌≡◌, ℕ, zero, suc, ◌+◌, ◌-◌, ◌*◌, ◌/◌, ◌%◌, ◌<◌, ◌≤◌, Bool, true, false, not, ◌&&◌, ◌||◌, List, [], ◌∷◌, ◌++◌, length, ◌⊎◌, inl, inr, nat_eq, nat_lt, get_or, slice_index_or, slice_set, cond, refl, ap, sym, ◌∙◌, subst, arith, if◌then◌else◌, length-append, append_assoc, append-nil, ⊎_elim}
 use Rattle.std.proofs.lemmas.Bool.Decides.{nat_tests}
 use Rattle.std.proofs.lemmas.Bool.{cases_lt, cases_order}
 use Rattle.std.proofs.lemmas.List.{get_or-set_same, get_or-set_other, length-set, get_or_append_left}
+use Rattle.std.proofs.lemmas.Grind.{get_or_default_zero}
 use Rattle.std.proofs.Math.Seq.{get_or-append_seam}
 use Rattle.std.specs.Int.{from_bool}
 use Rattle.std.proofs.lemmas.List.Folds.{list_any-append}
 use Rattle.std.proofs.lemmas.List.Sums.{sum_by-set}
 use Rattle.std.specs.List.{list_any, count_by}
 use Rattle.aiger.specs.Readiness.{slot_at, waits, last_user, may_be_next, AreSlots, HasChains, CountsWaits, waits_for_nothing, IsFirstNext, FollowInTurn, MarksDone, IsBetween, IsTaken}
+
+-- what is read at a position is the element there
+pub read_at : (xs : List ℕ) (i e : ℕ) → i < length xs → e ≡ get_or xs i e → slice_index_or xs i 0 ≡ e
+read_at xs i e low h = sym (h ∙ get_or_default_zero xs i e low)
 
 -- the last slot of a gate below a bound is below it
 pub last_user-le : (slots : List ℕ) (g u : ℕ) → last_user slots g u ≤ u

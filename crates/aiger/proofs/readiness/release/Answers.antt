@@ -1,7 +1,6 @@
 use Rattle.std.proofs.Common.{◌≡◌, ◌<◌, ◌-◌, ◌/◌, ℕ, suc, length, slice_index_or, refl, arith, List, sym, ◌∙◌}
 use Rattle.aiger.specs.ReadyGates.{is_ready}
-use Rattle.aiger.proofs.ReadinessLemmas.{in_release_begins, in_release_place, in_release_step, in_release_ends, last_gate}
-use Rattle.aiger.proofs.JusticeLemmas.{read_at}
+use Rattle.aiger.proofs.ReadinessLemmas.{in_release_begins, in_release_place, in_release_step, in_release_ends, last_gate, read_at}
 use Rattle.aiger.proofs.readiness.release.Goals as goal
 
 pub loop-at-init : goal.loop-at-init
