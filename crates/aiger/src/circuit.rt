@@ -146,10 +146,7 @@ impl Circuit {
             next: Lit::FALSE,
             reset: Reset::Zero,
         };
-        let fresh_latches = match vec![in alloc; fresh; latches as usize] {
-            Ok(list) => list,
-            Err(_) => return Err(CircuitFault::NoMemory),
-        };
+        let fresh_latches = vec![in alloc; fresh; latches as usize]?;
         Ok(Circuit {
             inputs,
             latches: fresh_latches,

@@ -450,10 +450,7 @@ fn define<T: Copy>(
     ensures lines_kept { OnErr result (lines.new.items ≡ lines.old.items) }
     ensures defined_kept { OnErr result ((v : ℕ) → has_variable defined.new v ≡ has_variable defined.old v) }
 {
-    match lines.reserve(1) {
-        Ok(()) => {}
-        Err(_) => return Err(CircuitFault::NoMemory),
-    }
+    lines.reserve(1)?;
     defined.add(variable)?;
     match lines.push(line) {
         Ok(()) => Ok(()),

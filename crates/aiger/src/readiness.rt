@@ -31,10 +31,7 @@ pub fn order_of_readiness(
     let mut waiting = first_waits(alloc, &slots, gates)?;
     let mut ready = first_ready(alloc, &waiting)?;
     let users = chains(alloc, slots, gates)?;
-    let mut marks = match vec![in alloc; false; gates] {
-        Ok(list) => list,
-        Err(_) => return Err(AllocError),
-    };
+    let mut marks = vec![in alloc; false; gates]?;
     let mut order = Vec::with_capacity(alloc, gates)?;
     take_in_turn(&users, &mut waiting, &mut ready, &mut order, &mut marks)?;
     Ok((order, marks))
@@ -54,10 +51,7 @@ fn take_in_turn(
         (λ slots. IsWholeOrder slots (length waiting.old.items) order.new.items marks.new.items)) }
 {
     while let Some(gate) = ready.pop_first() {
-        match order.push(gate) {
-            Ok(()) => {}
-            Err(_) => return Err(AllocError),
-        }
+        order.push(gate)?;
         marks[gate as usize] = true;
         release(users, order, waiting, ready);
     }
@@ -69,10 +63,7 @@ fn chains(alloc: Global, slots: Vec<u32>, gates: usize) -> Result<Users, AllocEr
     requires { AreSlots slots.items gates }
     ensures { IfOk result (λ u. HasChains slots.items gates u.heads.items u.nexts.items) }
 {
-    let mut heads = match vec![in alloc; 0u32; gates] {
-        Ok(list) => list,
-        Err(_) => return Err(AllocError),
-    };
+    let mut heads = vec![in alloc; 0u32; gates]?;
     let mut nexts = slots;
     for s in 0..nexts.len() {
         let next = link(&mut heads, nexts[s], s as u32);
@@ -105,10 +96,7 @@ fn first_waits(alloc: Global, slots: &[u32], gates: usize) -> Result<Vec<u8>, Al
     let mut waiting = Vec::with_capacity(alloc, gates)?;
     for gate in 0..gates {
         let count = u8::from(slots[2 * gate] != 0) + u8::from(slots[2 * gate + 1] != 0);
-        match waiting.push(count) {
-            Ok(()) => {}
-            Err(_) => return Err(AllocError),
-        }
+        waiting.push(count)?;
     }
     Ok(waiting)
 }

@@ -9,7 +9,7 @@ pub release-requires-clause-known : goal.release-requires-clause-known
 release-requires-clause-known c =
     let b = c.loop-gate.invariant.between c.requires.known.slots c.requires.known.are c.requires.known.chains c.requires.known.holds in
     let t = taken c.requires.known.slots (length c.args.waiting.now.items) c.loop-gate.order.items c.loop-gate.waiting.items c.loop-gate.marks.items (is_ready c.loop-gate.ready) (is_ready c.pop_first.new.self) c.in-Some.gate b c.in-Some.ensures.member c.in-Some.ensures.least c.in-Some.ensures.rest in
-    let o : c.deref.result.now ≡ c.loop-gate.order.items ++ c.in-Some.gate ∷ [] = c.deref.ensures.value ∙ c.in-Ok.ensures.items in
+    let o : c.deref.result.now ≡ c.loop-gate.order.items ++ c.in-Some.gate ∷ [] = c.deref.ensures.value ∙ c.in_ok-push.ensures.items in
     record {
       slots = c.requires.known.slots;
       are = subst (AreSlots c.requires.known.slots) (sym b.waits.count) c.requires.known.are;
@@ -27,7 +27,7 @@ loop-gate-smaller c =
 
 pub loop-gate-preserved : goal.loop-gate-preserved
 loop-gate-preserved c =
-    let o : c.push.new.self.items ≡ c.loop-gate.order.items ++ c.in-Some.gate ∷ [] = c.in-Ok.ensures.items in
+    let o : c.push.new.self.items ≡ c.loop-gate.order.items ++ c.in-Some.gate ∷ [] = c.in_ok-push.ensures.items in
     let v : c.deref.result.now ≡ c.push.new.self.items = c.deref.ensures.value in
     record {
       between = λ slots are chains start.
