@@ -15,18 +15,13 @@ use Rattle.std.specs.declared.cmp.Ordering.TheVariants.{Less, Equal, Greater}
 use Rattle.std.specs.Ordering.{nat_cmp}
 use Rattle.std.specs.BTreeMap.{is_at}
 use Rattle.std.specs.Map.{lookup, keys_of}
-use Rattle.aiger.specs.Justice.{lists_between}
 use Rattle.aiger.specs.FlatNames.{named_keys, AreFlat}
-use Rattle.aiger.proofs.JusticeLemmas.{length-lists_between, lists_with_one_more}
 
 -- the keys of names
 pub keys_of-named_keys : (keys : List ℕ) (names : List (List ℕ)) → length keys ≡ length names → keys_of (named_keys keys names) ≡ keys
 keys_of-named_keys [] names e = refl
 keys_of-named_keys (k ∷ keys) [] e = absurd (omega (arith, e))
 keys_of-named_keys (k ∷ keys) (n ∷ names) e = ap (λ (ks : List ℕ). k ∷ ks) (keys_of-named_keys keys names (omega (arith, e)))
-
-pub keys_of_flat : (keys ends bytes : List ℕ) → AreFlat keys ends (length bytes) → keys_of (named_keys keys (lists_between 0 ends bytes)) ≡ keys
-keys_of_flat keys ends bytes is = keys_of-named_keys keys (lists_between 0 ends bytes) (is.as_many ∙ sym (length-lists_between 0 ends bytes))
 
 -- one name more
 named_keys-push : (keys : List ℕ) (names : List (List ℕ)) (key : ℕ) (name : List ℕ) → length keys ≡ length names → named_keys (keys ++ key ∷ []) (names ++ name ∷ []) ≡ named_keys keys names ++ (key, name) ∷ []
@@ -62,16 +57,13 @@ rising-push [] key rising below = (tt, tt)
 rising-push (k ∷ keys) key rising below = below_more k key keys rising below (rising-push keys key rising.1 (All-tail (λ k. k < key) k keys below))
 
 -- one name more at the end of all
-pub flat-push : (keys ends bytes own keys' ends' bytes' : List ℕ) (key end' : ℕ) → AreFlat keys ends (length bytes) → end' ≡ length bytes' → ends' ≡ ends ++ end' ∷ [] → bytes' ≡ bytes ++ own → keys' ≡ keys ++ key ∷ []
-    → All (λ k. k < key) (keys_of (named_keys keys (lists_between 0 ends bytes)))
-    → AreFlat keys' ends' (length bytes') × (named_keys keys' (lists_between 0 ends' bytes') ≡ named_keys keys (lists_between 0 ends bytes) ++ (key, own) ∷ [])
-flat-push keys ends bytes own keys' ends' bytes' key end' is n e b k above =
-    let more = lists_with_one_more ends bytes own ends' bytes' end' n e b is.ended in
-    let below : All (λ k. k < key) keys = subst (All (λ k. k < key)) (keys_of_flat keys ends bytes is) above in
+pub flat-push : (keys keys' : List ℕ) (names names' : List (List ℕ)) (key : ℕ) (name : List ℕ) → AreFlat keys names → keys' ≡ keys ++ key ∷ [] → names' ≡ names ++ name ∷ [] → All (λ k. k < key) (keys_of (named_keys keys names))
+    → AreFlat keys' names' × (named_keys keys' names' ≡ named_keys keys names ++ (key, name) ∷ [])
+flat-push keys keys' names names' key name is k n above =
+    let below : All (λ k. k < key) keys = subst (All (λ k. k < key)) (keys_of-named_keys keys names is.as_many) above in
     let rising : IsStrictlySortedBy nat_cmp keys' = subst (IsStrictlySortedBy nat_cmp) (sym k) (rising-push keys key is.rising below) in
-    let many : length keys' ≡ length ends' = omega (arith, ap length k, ap length e, length-append keys (key ∷ []), length-append ends (end' ∷ []), is.as_many) in
-    let shown : named_keys keys' (lists_between 0 ends' bytes') ≡ named_keys (keys ++ key ∷ []) (lists_between 0 ends bytes ++ own ∷ []) = ap (λ (ks : List ℕ). named_keys ks (lists_between 0 ends' bytes')) k ∙ ap (named_keys (keys ++ key ∷ [])) more.1 in
-    (record { ended = more.0; as_many = many; rising = rising }, shown ∙ named_keys-push keys (lists_between 0 ends bytes) key own (is.as_many ∙ sym (length-lists_between 0 ends bytes)))
+    let many : length keys' ≡ length names' = omega (arith, ap length k, ap length n, length-append keys (key ∷ []), length-append names (name ∷ []), is.as_many) in
+    (record { as_many = many; rising = rising }, rw (k, n) (named_keys-push keys names key name is.as_many))
 
 -- all are below where the last one is, and where there is none
 pub below_by_last : (keys : List ℕ) (last key : ℕ) → IsStrictlySortedBy nat_cmp keys → slice_get keys (length keys - 1) ≡ Some last → last < key → All (λ k. k < key) keys
@@ -120,21 +112,20 @@ never_fall : (keys : List ℕ) → IsStrictlySortedBy nat_cmp keys → (i j : �
 never_fall keys rising i j h low =
     ⊎_elim (λ (less : i < j). let b = below_from_sorted keys i j 0 rising less low in omega (arith, b)) (λ (more : j ≤ i). let s : i ≡ j = omega arith in omega (arith, ap (λ (k : ℕ). get_or keys k 0) s)) (cases_lt i j)
 
--- what a search among flat names finds, and where it finds none
-pub flat_found : (keys ends bytes ks es bs : List ℕ) (i key : ℕ) (name : List ℕ) → AreFlat keys ends (length bytes) → ks ≡ keys → es ≡ ends → bs ≡ bytes
-    → IsBinarySearchResult (λ y. nat_cmp y key) ks (Ok i) → slice_get (lists_between 0 es bs) i ≡ Some name → lookup (is_at (nat_cmp key)) (named_keys keys (lists_between 0 ends bytes)) ≡ Some name
-flat_found keys ends bytes ks es bs i key name is a b c found here =
+-- what a search among the keys finds, and where it finds none
+pub flat_found : (keys : List ℕ) (names : List (List ℕ)) (ks : List ℕ) (i key : ℕ) (name : List ℕ) → AreFlat keys names → ks ≡ keys
+    → IsBinarySearchResult (λ y. nat_cmp y key) ks (Ok i) → slice_get names i ≡ Some name → lookup (is_at (nat_cmp key)) (named_keys keys names) ≡ Some name
+flat_found keys names ks i key name is a found here =
     let at : IsBinarySearchResult (λ y. nat_cmp y key) keys (Ok i) = subst (λ (xs : List ℕ). IsBinarySearchResult (λ y. nat_cmp y key) xs (Ok i)) a found in
     let r = searched keys key (Ok i) at (never_fall keys is.rising) in
-    let n : slice_get (lists_between 0 ends bytes) i ≡ Some name = ap (λ (xs : List ℕ). slice_get (lists_between 0 xs bytes) i) (sym b) ∙ (ap (λ (xs : List ℕ). slice_get (lists_between 0 es xs) i) (sym c) ∙ here) in
-    name_found keys (lists_between 0 ends bytes) i key name (is.as_many ∙ sym (length-lists_between 0 ends bytes)) is.rising r.0 r.1 n
+    name_found keys names i key name is.as_many is.rising r.0 r.1 here
 
-pub flat_missed : (keys ends bytes ks : List ℕ) (i key : ℕ) → AreFlat keys ends (length bytes) → ks ≡ keys → IsBinarySearchResult (λ y. nat_cmp y key) ks (Err i) → lookup (is_at (nat_cmp key)) (named_keys keys (lists_between 0 ends bytes)) ≡ None
-flat_missed keys ends bytes ks i key is a missed =
+pub flat_missed : (keys : List ℕ) (names : List (List ℕ)) (ks : List ℕ) (i key : ℕ) → AreFlat keys names → ks ≡ keys → IsBinarySearchResult (λ y. nat_cmp y key) ks (Err i) → lookup (is_at (nat_cmp key)) (named_keys keys names) ≡ None
+flat_missed keys names ks i key is a missed =
     let at : IsBinarySearchResult (λ y. nat_cmp y key) keys (Err i) = subst (λ (xs : List ℕ). IsBinarySearchResult (λ y. nat_cmp y key) xs (Err i)) a missed in
     let r = searched keys key (Err i) at (never_fall keys is.rising) in
-    name_missed keys (lists_between 0 ends bytes) i key (is.as_many ∙ sym (length-lists_between 0 ends bytes)) is.rising r.1 r.2
+    name_missed keys names i key is.as_many is.rising r.1 r.2
 
-pub flat_none : (keys ends bytes : List ℕ) → keys ≡ [] → ends ≡ [] → bytes ≡ [] → AreFlat keys ends (length bytes)
+pub flat_none : (keys : List ℕ) (names : List (List ℕ)) → keys ≡ [] → names ≡ [] → AreFlat keys names
 unfolding IsStrictlySortedBy
-flat_none keys ends bytes a b c = rw (a, b, c) (record { ended = refl; as_many = refl; rising = tt })
+flat_none keys names a b = rw (a, b) (record { as_many = refl; rising = tt })

@@ -1,14 +1,19 @@
 -- Gates that wait for others.
-use Rattle.std.proofs.Common.{◌≡◌, ℕ, zero, suc, ◌+◌, ◌-◌, ◌*◌, ◌/◌, ◌%◌, ◌<◌, ◌≤◌, Bool, true, false, not, ◌&&◌, ◌||◌, List, [], ◌∷◌, ◌++◌, length, ◌⊎◌, inl, inr, nat_eq, nat_lt, slice_index_or, slice_set, cond, refl, ap, sym, ◌∙◌, subst, arith, if◌then◌else◌, length-append, append_assoc, append-nil, ⊎_elim}
+use Rattle.std.proofs.Common.{◌≡◌, ℕ, zero, suc, ◌+◌, ◌-◌, ◌*◌, ◌/◌, ◌%◌, ◌<◌, ◌≤◌, Bool, true, false, not, ◌&&◌, ◌||◌, List, [], ◌∷◌, ◌++◌, length, ◌⊎◌, inl, inr, nat_eq, nat_lt, get_or, slice_index_or, slice_set, cond, refl, ap, sym, ◌∙◌, subst, arith, if◌then◌else◌, length-append, length-drop, replicate, drop, append_assoc, append-nil, ⊎_elim}
 use Rattle.std.proofs.lemmas.Bool.Decides.{nat_tests}
 use Rattle.std.proofs.lemmas.Bool.{cases_lt, cases_order}
-use Rattle.std.proofs.lemmas.List.{get_or-set_same, get_or-set_other, length-set, get_or_append_left}
-use Rattle.std.proofs.Math.Seq.{get_or-append_seam}
+use Rattle.std.proofs.lemmas.List.{get_or-set_same, get_or-set_other, length-set, get_or_append_left, get_or-replicate, length-replicate, drop_more, drop_all}
+use Rattle.std.proofs.lemmas.Grind.{get_or_default_zero}
+use Rattle.std.proofs.Math.Seq.{get_or-append_seam, set-append_seam}
 use Rattle.std.specs.Int.{from_bool}
-use Rattle.std.proofs.lemmas.List.Folds.{list_any-append}
+use Rattle.std.proofs.lemmas.List.Folds.{list_any-append, sum_by-replicate}
 use Rattle.std.proofs.lemmas.List.Sums.{sum_by-set}
 use Rattle.std.specs.List.{list_any, count_by}
 use Rattle.aiger.specs.Readiness.{slot_at, waits, last_user, may_be_next, AreSlots, HasChains, CountsWaits, waits_for_nothing, IsFirstNext, FollowInTurn, MarksDone, IsBetween, IsTaken}
+
+-- what is read at a position is the element there
+pub read_at : (xs : List ℕ) (i e : ℕ) → i < length xs → e ≡ get_or xs i e → slice_index_or xs i 0 ≡ e
+read_at xs i e low h = sym (h ∙ get_or_default_zero xs i e low)
 
 -- the last slot of a gate below a bound is below it
 pub last_user-le : (slots : List ℕ) (g u : ℕ) → last_user slots g u ≤ u
@@ -450,6 +455,53 @@ chains_step slots n s heads nexts linked next b within e f =
 
     head_at : (g : ℕ) → g < n → slice_index_or linked g 0 ≡ last_user slots g (suc s)
     head_at g h = head_by g h (nat_eq (slot_at slots s) 0) (nat_eq (slot_at slots s) (suc g)) refl refl f
+
+-- the chains of the slots below a place, and from it on the slots as they were
+pub record LinkedBelow (slots : List ℕ) (n : ℕ) (s : ℕ) (heads : List ℕ) (mixed : List ℕ) : Type 0 where
+  pub nexts : List ℕ
+  pub chains : ChainsBelow slots n s heads nexts
+  pub are : mixed ≡ nexts ++ drop s slots
+
+pub linked_begins : (slots heads : List ℕ) (n : ℕ) → heads ≡ replicate n 0 → LinkedBelow slots n 0 heads slots
+linked_begins slots heads n e =
+    record {
+      nexts = [];
+      chains = record { heads_count = ap length e ∙ length-replicate n 0; nexts_count = refl; head = λ g h. ap (λ (l : List ℕ). slice_index_or l g 0) e ∙ get_or-replicate n g 0 0 h; next = λ k g h u. absurd (omega arith) };
+      are = refl;
+    }
+
+-- what stands at the place, and how many there are
+pub linked_at : (slots : List ℕ) (n s : ℕ) (heads mixed : List ℕ) → LinkedBelow slots n s heads mixed → s < length slots → (slice_index_or mixed s 0 ≡ slot_at slots s) × (length mixed ≡ length slots)
+linked_at slots n s heads mixed b h =
+    let on : mixed ≡ b.nexts ++ slot_at slots s ∷ drop (s + 1) slots = b.are ∙ ap (λ (l : List ℕ). b.nexts ++ l) (drop_more slots s 0 h) in (
+      ap (λ (l : List ℕ). slice_index_or l s 0) on ∙ (ap (λ (i : ℕ). slice_index_or (b.nexts ++ slot_at slots s ∷ drop (s + 1) slots) i 0) (sym b.chains.nexts_count) ∙ get_or-append_seam b.nexts (slot_at slots s) (drop (s + 1) slots) 0),
+      omega (arith, ap length b.are, length-append b.nexts (drop s slots), length-drop s slots, b.chains.nexts_count, h),
+    )
+
+pub linked_step : (slots : List ℕ) (n s : ℕ) (heads mixed linked : List ℕ) (next : ℕ) → LinkedBelow slots n s heads mixed → s < length slots → slot_at slots s ≤ n → ((g : ℕ) → slot_at slots s ≡ suc g → next ≡ slice_index_or heads g 0)
+    → linked ≡ (if nat_eq (slot_at slots s) 0 then heads else slice_set heads (slot_at slots s - 1) (s + 1)) → LinkedBelow slots n (s + 1) linked (slice_set mixed s next)
+linked_step slots n s heads mixed linked next b h within e f =
+    let on : mixed ≡ b.nexts ++ slot_at slots s ∷ drop (s + 1) slots = b.are ∙ ap (λ (l : List ℕ). b.nexts ++ l) (drop_more slots s 0 h) in
+    let now : slice_set mixed s next ≡ b.nexts ++ next ∷ drop (s + 1) slots =
+    ap (λ (l : List ℕ). slice_set l s next) on ∙ (ap (λ (i : ℕ). slice_set (b.nexts ++ slot_at slots s ∷ drop (s + 1) slots) i next) (sym b.chains.nexts_count) ∙ set-append_seam b.nexts (slot_at slots s) (drop (s + 1) slots) next) in
+    record { nexts = b.nexts ++ next ∷ []; chains = chains_step slots n s heads b.nexts linked next b.chains within e f; are = now ∙ sym (append_assoc b.nexts (next ∷ []) (drop (s + 1) slots)) }
+
+pub linked_ends : (slots : List ℕ) (n s : ℕ) (heads mixed : List ℕ) → LinkedBelow slots n s heads mixed → s ≡ length slots → HasChains slots n heads mixed
+linked_ends slots n s heads mixed b e =
+    let all : mixed ≡ b.nexts = b.are ∙ (ap (λ (l : List ℕ). b.nexts ++ l) (drop_all s slots (omega (arith, e))) ∙ append-nil b.nexts) in
+    record {
+      heads_count = b.chains.heads_count;
+      nexts_count = ap length all ∙ (b.chains.nexts_count ∙ e);
+      head = λ g h. b.chains.head g h ∙ ap (last_user slots g) e;
+      next = λ k g h u. ap (λ (l : List ℕ). slice_index_or l k 0) all ∙ b.chains.next k g (omega (arith, e, h)) u;
+    }
+
+-- before any gate is taken
+pub between_begins : (slots : List ℕ) (n : ℕ) (order waiting : List ℕ) (marks : List Bool) (is_in : ℕ → Bool) → CountsWaits slots n [] waiting → order ≡ [] → marks ≡ replicate n false → ((i : ℕ) → is_in i ≡ waits_for_nothing n [] waiting i) → IsBetween slots n order waiting marks is_in
+between_begins slots n order waiting marks is_in w o m r =
+    let sum : count_by not (replicate n false) ≡ n * 1 = sum_by-replicate (λ (b : Bool). cond (not b) 1 0) n false in
+    let none : count_by not (replicate n false) ≡ n = omega (arith, sum) in
+    rw (o, m) (record { waits = w; marked = record { count = length-replicate n false; each = λ j h. get_or-replicate n j false false h; left = omega (arith, none) }; ready = r; in_turn = tt })
 
 -- the waits of the first gates
 pub record FirstWaits (slots : List ℕ) (gate : ℕ) (waiting : List ℕ) : Type 0 where

@@ -1,10 +1,9 @@
--- How names are kept: those that come in the order of their places one after another in one list of bytes, the others in a map of their own.
+-- How names are kept: those that come in the order of their places by keys that rise, the others in a map of their own.
 use Rattle.std.specs.Prelude.{◌≡◌, ℕ, ◌+◌, ◌*◌, ◌/◌, ◌%◌, List, [], ◌∷◌, map, length}
 use Rattle.std.specs.List.Sorted.{IsStrictlySortedBy}
 use Rattle.std.specs.Ordering.{nat_cmp}
 use Rattle.std.specs.BTreeMap.{insert_entry}
 use Rattle.aiger.specs.Names.{Place, NameMap, place_cmp}
-use Rattle.aiger.specs.Justice.{AreEnds}
 
 -- a place of a position below 2^32 as one number, and the place of such a number
 abbrev pub key_of : Place → ℕ
@@ -19,10 +18,9 @@ named_keys [] names = []
 named_keys (key ∷ keys) [] = []
 named_keys (key ∷ keys) (name ∷ names) = (key, name) ∷ named_keys keys names
 
--- keys that rise, as many ends of names, and so many bytes
-pub record AreFlat (keys ends : List ℕ) (count : ℕ) : Type 0 where
-  pub ended : AreEnds 0 ends count
-  pub as_many : length keys ≡ length ends
+-- keys that rise, and as many names
+pub record AreFlat (keys : List ℕ) (names : List (List ℕ)) : Type 0 where
+  pub as_many : length keys ≡ length names
   pub rising : IsStrictlySortedBy nat_cmp keys
 
 -- names by their keys at their places

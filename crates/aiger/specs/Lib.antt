@@ -3,7 +3,6 @@ pub mod Literal
 pub mod Net
 pub mod Refusal
 pub mod Names
-pub mod Justice
 pub mod FlatNames
 pub mod Circuit
 pub mod Loose

@@ -32,6 +32,17 @@ pub record HasChains (slots : List ℕ) (n : ℕ) (heads : List ℕ) (nexts : Li
   pub head : (g : ℕ) → g < n → slice_index_or heads g 0 ≡ last_user slots g (length slots)
   pub next : (s g : ℕ) → s < length slots → slot_at slots s ≡ suc g → slice_index_or nexts s 0 ≡ last_user slots g s
 
+-- there are slots with these chains, of which something holds
+pub record HasSlots (n : ℕ) (heads nexts : List ℕ) (Holds : List ℕ → Type 0) : Type 0 where
+  pub slots : List ℕ
+  pub are : AreSlots slots n
+  pub chains : HasChains slots n heads nexts
+  pub holds : Holds slots
+
+-- of all slots with these chains of which one thing holds another does
+abbrev pub ForSlots : ℕ → List ℕ → List ℕ → (List ℕ → Type 0) → (List ℕ → Type 0) → Type 0
+ForSlots n heads nexts If Then = (slots : List ℕ) → AreSlots slots n → HasChains slots n heads nexts → If slots → Then slots
+
 -- for each gate how many of its slots wait; a gate that is done waits for nothing
 pub record CountsWaits (slots : List ℕ) (n : ℕ) (done : List ℕ) (waiting : List ℕ) : Type 0 where
   pub count : length waiting ≡ n

@@ -6,9 +6,10 @@ ghost use Rattle.aiger.specs.Circuit.{count_refusal};
 pub(crate) mod renumbered;
 
 use crate::fault::CircuitFault;
-use crate::justice::JusticeList;
+use crate::justice::push_justice;
 use crate::literal::Lit;
 use crate::names::{NameKeeper, is_good_name};
+use base::Rows;
 use std::alloc::Global;
 use std::marker::Model;
 
@@ -105,7 +106,7 @@ pub struct Circuit {
     outputs: Vec<Lit>,
     bads: Vec<Lit>,
     constraints: Vec<Lit>,
-    justice: JusticeList,
+    justice: Rows<Lit>,
     fair: Vec<Lit>,
     names: NameKeeper,
 }
@@ -145,10 +146,7 @@ impl Circuit {
             next: Lit::FALSE,
             reset: Reset::Zero,
         };
-        let fresh_latches = match vec![in alloc; fresh; latches as usize] {
-            Ok(list) => list,
-            Err(_) => return Err(CircuitFault::NoMemory),
-        };
+        let fresh_latches = vec![in alloc; fresh; latches as usize]?;
         Ok(Circuit {
             inputs,
             latches: fresh_latches,
@@ -156,7 +154,7 @@ impl Circuit {
             outputs: Vec::new(alloc),
             bads: Vec::new(alloc),
             constraints: Vec::new(alloc),
-            justice: JusticeList::new(alloc),
+            justice: Rows::new(alloc),
             fair: Vec::new(alloc),
             names: NameKeeper::new(alloc),
         })
@@ -270,7 +268,7 @@ impl Circuit {
         if !self.are_defined(lits) {
             return Err(CircuitFault::LiteralOutOfRange);
         }
-        self.justice.push(lits)
+        push_justice(&mut self.justice, lits)
     }
 
     /// Adds a fairness constraint, a literal that is to be true again and again.
@@ -392,7 +390,7 @@ impl Circuit {
         ensures count { result ≡ length self.now.justice }
         ensures valid { IsCircuit self.now }
     {
-        self.justice.count()
+        self.justice.len()
     }
 
     /// The literals of a justice property.
@@ -401,7 +399,7 @@ impl Circuit {
         ensures items { slice_get self.now.justice i ≡ Some result.now }
         ensures valid { IsCircuit self.now }
     {
-        self.justice.literals(i)
+        self.justice.row(i)
     }
 
     /// The fairness constraints.
@@ -423,7 +421,7 @@ impl Circuit {
             Section::Output => self.outputs.len(),
             Section::Bad => self.bads.len(),
             Section::Constraint => self.constraints.len(),
-            Section::Justice => self.justice.count(),
+            Section::Justice => self.justice.len(),
             Section::Fair => self.fair.len(),
         }
     }

@@ -56,10 +56,7 @@ impl Definitions {
             self.in_turn = variable;
             return Ok(());
         }
-        match self.add_other(variable) {
-            Ok(()) => Ok(()),
-            Err(_) => Err(CircuitFault::NoMemory),
-        }
+        Ok(self.add_other(variable)?)
     }
 
     /// Whether a variable was added out of turn.

@@ -67,6 +67,17 @@ impl fmt::Display for CircuitFault {
     }
 }
 
+/// A growth that was refused.
+impl From<AllocError> for CircuitFault {
+    ghost use Rattle.aiger.specs.declared.fault.CircuitFault.TheVariants.{NoMemory};
+
+    ghost from_gives = { λ _ e. e ≡ NoMemory };
+
+    fn from(_: AllocError) -> CircuitFault {
+        CircuitFault::NoMemory
+    }
+}
+
 /// Why the lists of a file have no circuit.
 ///
 /// It is printed as its number, a space and its name.

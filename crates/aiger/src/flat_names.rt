@@ -1,14 +1,13 @@
-//! Names by keys that rise: their bytes one after another in one list, and where each ends.
-ghost use Rattle.std.specs.Prelude.{◌≡◌, ℕ, ◌<◌, true, [], ◌∷◌, ◌++◌, length, Some, None, All, OnOk, OnErr, IfOk, slice_get, option_copied};
+//! Names by keys that rise: the keys in one list, and the names' bytes in another.
+ghost use Rattle.std.specs.Prelude.{◌≡◌, ℕ, ◌<◌, true, [], ◌∷◌, ◌++◌, None, All, OnOk, OnErr, IfOk, option_copied};
 ghost use Rattle.std.specs.List.Sorted.{IsStrictlySortedBy};
 ghost use Rattle.std.specs.Ordering.{nat_cmp};
 ghost use Rattle.std.specs.BTreeMap.{is_at};
 ghost use Rattle.std.specs.Map.{lookup, keys_of};
-ghost use Rattle.aiger.specs.Justice.{lists_between, AreEnds};
 ghost use Rattle.aiger.specs.Refusal.{RefusesBy};
 
 use crate::fault::CircuitFault;
-use crate::justice::start_of;
+use base::Rows;
 use std::alloc::{AllocError, Global};
 use std::marker::Model;
 
@@ -16,20 +15,18 @@ use std::marker::Model;
 #[derive(Drop)]
 pub struct FlatNames {
     keys: Vec<u64>,
-    ends: Vec<usize>,
-    bytes: Vec<u8>,
+    names: Rows<u8>,
 }
 
 impl Model for FlatNames {
-    ghost use Rattle.std.specs.Prelude.{ℕ, List, length};
-    ghost use Rattle.aiger.specs.Justice.{lists_between};
+    ghost use Rattle.std.specs.Prelude.{ℕ, List};
     ghost use Rattle.aiger.specs.FlatNames.{named_keys, AreFlat};
 
     ghost Value = { List (ℕ × List ℕ) };
 
-    ghost view = { λ n. named_keys n.keys.items (lists_between 0 n.ends.items n.bytes.items) };
+    ghost view = { λ n. named_keys n.keys.items n.names };
 
-    ghost invariant = { λ n. AreFlat n.keys.items n.ends.items (length n.bytes.items) };
+    ghost invariant = { λ n. AreFlat n.keys.items n.names };
 }
 
 impl FlatNames {
@@ -39,8 +36,7 @@ impl FlatNames {
     {
         FlatNames {
             keys: Vec::new(alloc),
-            ends: Vec::new(alloc),
-            bytes: Vec::new(alloc),
+            names: Rows::new(alloc),
         }
     }
 
@@ -62,22 +58,8 @@ impl FlatNames {
         ensures refused { RefusesBy result None }
         ensures err { OnErr result (self.new ≡ self.old) }
     {
-        match self.keys.reserve(1) {
-            Ok(()) => {}
-            Err(_) => return Err(CircuitFault::NoMemory),
-        }
-        match self.ends.reserve(1) {
-            Ok(()) => {}
-            Err(_) => return Err(CircuitFault::NoMemory),
-        }
-        match self.bytes.extend_from_slice(name) {
-            Ok(()) => {}
-            Err(_) => return Err(CircuitFault::NoMemory),
-        }
-        match self.ends.push(self.bytes.len()) {
-            Ok(()) => {}
-            Err(_) => unreachable!(),
-        }
+        self.keys.reserve(1)?;
+        self.names.push(name)?;
         match self.keys.push(key) {
             Ok(()) => Ok(()),
             Err(_) => unreachable!(),
@@ -89,7 +71,7 @@ impl FlatNames {
         ensures { option_copied result ≡ lookup (is_at (nat_cmp key)) self.now }
     {
         match self.keys.binary_search(&key) {
-            Ok(i) => Some(name_at(&self.ends, &self.bytes, i)),
+            Ok(place) => Some(self.names.row(place)),
             Err(_) => None,
         }
     }
@@ -99,19 +81,7 @@ impl FlatNames {
         ensures { IfOk result (λ n. n ≡ self.now) }
     {
         let keys = self.keys.to_vec(alloc)?;
-        let ends = self.ends.to_vec(alloc)?;
-        let bytes = self.bytes.to_vec(alloc)?;
-        Ok(FlatNames { keys, ends, bytes })
+        let names = self.names.copy(alloc)?;
+        Ok(FlatNames { keys, names })
     }
-}
-
-/// The bytes of the name at a position, of names that end so.
-fn name_at<'a>(ends: &[usize], bytes: &'a [u8], i: usize) -> &'a [u8]
-    requires ends { AreEnds 0 ends.now (length bytes.now) }
-    requires within { i < length ends.now }
-    ensures { slice_get (lists_between 0 ends.now bytes.now) i ≡ Some result.now }
-{
-    let (front, _) = bytes.split_at(ends[i]);
-    let (_, own) = front.split_at(start_of(ends, i));
-    own
 }

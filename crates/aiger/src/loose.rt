@@ -10,9 +10,10 @@ ghost use Rattle.aiger.specs.Loose.{is_defining, is_small};
 use crate::circuit::{GREATEST_COUNT, Reset, Section, push_counted};
 use crate::definitions::Definitions;
 use crate::fault::CircuitFault;
-use crate::justice::JusticeList;
+use crate::justice::push_justice;
 use crate::literal::Lit;
 use crate::names::{NameKeeper, is_good_name};
+use base::Rows;
 use std::alloc::Global;
 use std::marker::Model;
 
@@ -53,7 +54,7 @@ pub struct Loose {
     outputs: Vec<Lit>,
     bads: Vec<Lit>,
     constraints: Vec<Lit>,
-    justice: JusticeList,
+    justice: Rows<Lit>,
     fair: Vec<Lit>,
     names: NameKeeper,
     // the variables that the inputs, latches and gates define
@@ -86,7 +87,7 @@ impl Loose {
             outputs: Vec::new(alloc),
             bads: Vec::new(alloc),
             constraints: Vec::new(alloc),
-            justice: JusticeList::new(alloc),
+            justice: Rows::new(alloc),
             fair: Vec::new(alloc),
             names: NameKeeper::new(alloc),
             defined: Definitions::new(alloc),
@@ -218,7 +219,7 @@ impl Loose {
         if !are_within(lits) {
             return Err(CircuitFault::TooBig);
         }
-        self.justice.push(lits)
+        push_justice(&mut self.justice, lits)
     }
 
     /// Adds a fairness constraint, a literal that is to be true again and again. Its variable need not be defined yet.
@@ -305,7 +306,7 @@ impl Loose {
             Section::Output => self.outputs.len(),
             Section::Bad => self.bads.len(),
             Section::Constraint => self.constraints.len(),
-            Section::Justice => self.justice.count(),
+            Section::Justice => self.justice.len(),
             Section::Fair => self.fair.len(),
         }
     }
@@ -363,7 +364,7 @@ impl Loose {
         ensures count { result ≡ length self.now.justice }
         ensures valid { IsLoose self.now }
     {
-        self.justice.count()
+        self.justice.len()
     }
 
     /// The literals of a justice property.
@@ -372,7 +373,7 @@ impl Loose {
         ensures items { slice_get self.now.justice i ≡ Some result.now }
         ensures valid { IsLoose self.now }
     {
-        self.justice.literals(i)
+        self.justice.row(i)
     }
 
     /// The literals of all justice properties, one after another.
@@ -380,11 +381,11 @@ impl Loose {
         ensures items { result.now ≡ concat self.now.justice }
         ensures valid { IsLoose self.now }
     {
-        self.justice.all_literals()
+        self.justice.values()
     }
 
     /// The justice properties as they are kept.
-    pub(crate) fn justice_list(&self) -> &JusticeList
+    pub(crate) fn justice_list(&self) -> &Rows<Lit>
         ensures { result.now ≡ self.now.justice }
     {
         &self.justice
@@ -449,10 +450,7 @@ fn define<T: Copy>(
     ensures lines_kept { OnErr result (lines.new.items ≡ lines.old.items) }
     ensures defined_kept { OnErr result ((v : ℕ) → has_variable defined.new v ≡ has_variable defined.old v) }
 {
-    match lines.reserve(1) {
-        Ok(()) => {}
-        Err(_) => return Err(CircuitFault::NoMemory),
-    }
+    lines.reserve(1)?;
     defined.add(variable)?;
     match lines.push(line) {
         Ok(()) => Ok(()),

@@ -1,6 +1,6 @@
 //! The order of readiness: each time the first gate of those that wait for no other.
 ghost use Rattle.std.specs.Prelude.{◌≡◌, ℕ, suc, ◌+◌, ◌-◌, ◌*◌, ◌<◌, ◌≤◌, [], ◌∷◌, ◌++◌, ◌&&◌, ◌||◌, length, slice_index_or, nat_lt, nat_eq, IfOk, OnOk, slice_set, if◌then◌else◌};
-ghost use Rattle.aiger.specs.Readiness.{AreSlots, HasChains, CountsWaits, waits_for_nothing, IsBetween, IsTaken, IsWholeOrder};
+ghost use Rattle.aiger.specs.Readiness.{AreSlots, HasChains, HasSlots, ForSlots, CountsWaits, waits_for_nothing, IsBetween, IsTaken, IsWholeOrder};
 ghost use Rattle.aiger.specs.ReadyGates.{is_ready, room};
 
 use crate::ready_gates::ReadyGates;
@@ -10,10 +10,10 @@ use std::alloc::{AllocError, Global};
 ///
 /// Each gate has two slots; a slot is 0 where its operand waits for no gate, or the position of the
 /// gate that it waits for and 1. The slots that wait for one gate are a chain, from the last one
-/// down, in which a slot stands as its place and 1, and 0 is the end.
+/// down, in which a slot stands as its place and 1, and 0 is the end. What a slot's gate is the chains
+/// say too, so the list of the slots becomes that of the next ones.
 #[derive(Drop)]
 struct Users {
-    slots: Vec<u32>,
     heads: Vec<u32>,
     nexts: Vec<u32>,
 }
@@ -31,10 +31,7 @@ pub fn order_of_readiness(
     let mut waiting = first_waits(alloc, &slots, gates)?;
     let mut ready = first_ready(alloc, &waiting)?;
     let users = chains(alloc, slots, gates)?;
-    let mut marks = match vec![in alloc; false; gates] {
-        Ok(list) => list,
-        Err(_) => return Err(AllocError),
-    };
+    let mut marks = vec![in alloc; false; gates]?;
     let mut order = Vec::with_capacity(alloc, gates)?;
     take_in_turn(&users, &mut waiting, &mut ready, &mut order, &mut marks)?;
     Ok((order, marks))
@@ -48,17 +45,13 @@ fn take_in_turn(
     order: &mut Vec<u32>,
     marks: &mut Vec<bool>,
 ) -> Result<(), AllocError>
-    requires slots { AreSlots users.now.slots.items (length waiting.old.items) }
-    requires chains { HasChains users.now.slots.items (length waiting.old.items) users.now.heads.items users.now.nexts.items }
-    requires between { IsBetween users.now.slots.items (length waiting.old.items) order.old.items waiting.old.items marks.old.items (is_ready ready.old) }
+    requires known { HasSlots (length waiting.old.items) users.now.heads.items users.now.nexts.items (λ slots. IsBetween slots (length waiting.old.items) order.old.items waiting.old.items marks.old.items (is_ready ready.old)) }
     requires room { length waiting.old.items ≤ room ready.old }
-    ensures { OnOk result (IsWholeOrder users.now.slots.items (length waiting.old.items) order.new.items marks.new.items) }
+    ensures { OnOk result (ForSlots (length waiting.old.items) users.now.heads.items users.now.nexts.items (λ slots. IsBetween slots (length waiting.old.items) order.old.items waiting.old.items marks.old.items (is_ready ready.old))
+        (λ slots. IsWholeOrder slots (length waiting.old.items) order.new.items marks.new.items)) }
 {
     while let Some(gate) = ready.pop_first() {
-        match order.push(gate) {
-            Ok(()) => {}
-            Err(_) => return Err(AllocError),
-        }
+        order.push(gate)?;
         marks[gate as usize] = true;
         release(users, order, waiting, ready);
     }
@@ -68,26 +61,15 @@ fn take_in_turn(
 /// The chains of slots of each gate.
 fn chains(alloc: Global, slots: Vec<u32>, gates: usize) -> Result<Users, AllocError>
     requires { AreSlots slots.items gates }
-    ensures chains { IfOk result (λ u. HasChains slots.items gates u.heads.items u.nexts.items) }
-    ensures slots { IfOk result (λ u. u.slots.items ≡ slots.items) }
+    ensures { IfOk result (λ u. HasChains slots.items gates u.heads.items u.nexts.items) }
 {
-    let mut heads = match vec![in alloc; 0u32; gates] {
-        Ok(list) => list,
-        Err(_) => return Err(AllocError),
-    };
-    let mut nexts = Vec::with_capacity(alloc, slots.len())?;
-    for s in 0..slots.len() {
-        let next = link(&mut heads, slots[s], s as u32);
-        match nexts.push(next) {
-            Ok(()) => {}
-            Err(_) => return Err(AllocError),
-        }
+    let mut heads = vec![in alloc; 0u32; gates]?;
+    let mut nexts = slots;
+    for s in 0..nexts.len() {
+        let next = link(&mut heads, nexts[s], s as u32);
+        nexts[s] = next;
     }
-    Ok(Users {
-        slots,
-        heads,
-        nexts,
-    })
+    Ok(Users { heads, nexts })
 }
 
 /// Puts a slot in front of the chain of the gate that it waits for, and answers what was in front.
@@ -114,10 +96,7 @@ fn first_waits(alloc: Global, slots: &[u32], gates: usize) -> Result<Vec<u8>, Al
     let mut waiting = Vec::with_capacity(alloc, gates)?;
     for gate in 0..gates {
         let count = u8::from(slots[2 * gate] != 0) + u8::from(slots[2 * gate + 1] != 0);
-        match waiting.push(count) {
-            Ok(()) => {}
-            Err(_) => return Err(AllocError),
-        }
+        waiting.push(count)?;
     }
     Ok(waiting)
 }
@@ -149,11 +128,10 @@ fn note(ready: &mut ReadyGates, gate: u32, left: u8)
 
 /// Each slot of the last gate of an order waits no longer.
 fn release(users: &Users, order: &[u32], waiting: &mut Vec<u8>, ready: &mut ReadyGates)
-    requires slots { AreSlots users.now.slots.items (length waiting.old.items) }
-    requires chains { HasChains users.now.slots.items (length waiting.old.items) users.now.heads.items users.now.nexts.items }
-    requires taken { IsTaken users.now.slots.items (length waiting.old.items) order.now waiting.old.items (is_ready ready.old) }
+    requires known { HasSlots (length waiting.old.items) users.now.heads.items users.now.nexts.items (λ slots. IsTaken slots (length waiting.old.items) order.now waiting.old.items (is_ready ready.old)) }
     requires room { length waiting.old.items ≤ room ready.old }
-    ensures waits { CountsWaits users.now.slots.items (length waiting.old.items) order.now waiting.new.items }
+    ensures waits { ForSlots (length waiting.old.items) users.now.heads.items users.now.nexts.items (λ slots. IsTaken slots (length waiting.old.items) order.now waiting.old.items (is_ready ready.old))
+        (λ slots. CountsWaits slots (length waiting.old.items) order.now waiting.new.items) }
     ensures ready { (i : ℕ) → is_ready ready.new i ≡ waits_for_nothing (length waiting.old.items) order.now waiting.new.items i }
     ensures room { room ready.new ≡ room ready.old }
 {

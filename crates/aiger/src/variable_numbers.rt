@@ -18,12 +18,8 @@ impl VariableNumbers {
     pub fn new(alloc: Global, low: usize) -> Result<VariableNumbers, AllocError>
         ensures { IfOk result (λ n. (v : ℕ) → number_of n v ≡ 0) }
     {
-        let low = match vec![in alloc; 0u32; low] {
-            Ok(list) => list,
-            Err(_) => return Err(AllocError),
-        };
         Ok(VariableNumbers {
-            low,
+            low: vec![in alloc; 0u32; low]?,
             others: VariablePages::new(alloc),
         })
     }

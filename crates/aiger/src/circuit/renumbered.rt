@@ -29,7 +29,7 @@ impl Circuit {
         let bads = numbers.literals(alloc, lines.bads())?;
         let constraints = numbers.literals(alloc, lines.constraints())?;
         let literals = numbers.literals(alloc, lines.justice_literals())?;
-        let justice = lines.justice_list().with_literals(alloc, literals)?;
+        let justice = lines.justice_list().with_values(alloc, literals)?;
         let fair = numbers.literals(alloc, lines.fair())?;
         let names = lines.name_keeper().copy()?;
         Ok(Circuit {

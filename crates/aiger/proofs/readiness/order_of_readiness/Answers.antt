@@ -1,17 +1,29 @@
-use Rattle.std.proofs.Common.{ℕ, List, length, sym, subst}
-use Rattle.aiger.specs.Readiness.{AreSlots, HasChains, IsWholeOrder}
+use Rattle.std.proofs.Common.{◌≡◌, ℕ, List, [], false, length, replicate, ap, sym, subst, ◌∙◌, rules}
+use Rattle.aiger.specs.Readiness.{AreSlots, HasChains, CountsWaits, IsWholeOrder, waits_for_nothing}
+use Rattle.aiger.specs.ReadyGates.{is_ready}
+use Rattle.aiger.proofs.ReadinessLemmas.{between_begins}
 use Rattle.aiger.proofs.readiness.order_of_readiness.Goals as goal
 
-pub take_in_turn-requires-clause-slots : goal.take_in_turn-requires-clause-slots
-take_in_turn-requires-clause-slots c =
-    subst (AreSlots c.in_ok-users.users.slots.items) (sym c.in_ok-waiting.ensures.count) (subst (λ (slots : List ℕ). AreSlots slots c.args.gates) (sym c.in_ok-users.ensures.slots) c.requires)
-
-pub take_in_turn-requires-clause-chains : goal.take_in_turn-requires-clause-chains
-take_in_turn-requires-clause-chains c =
-    subst (λ (n : ℕ). HasChains c.in_ok-users.users.slots.items n c.in_ok-users.users.heads.items c.in_ok-users.users.nexts.items) (sym c.in_ok-waiting.ensures.count)
-    (subst (λ (slots : List ℕ). HasChains slots c.args.gates c.in_ok-users.users.heads.items c.in_ok-users.users.nexts.items) (sym c.in_ok-users.ensures.slots) c.in_ok-users.ensures.chains)
+pub take_in_turn-requires-clause-known : goal.take_in_turn-requires-clause-known
+take_in_turn-requires-clause-known c =
+    let slots : List ℕ = c.args.slots.items in
+    let count = c.in_ok-waiting.ensures.count in
+    let waits : CountsWaits slots (length c.in_ok-waiting.waiting.items) [] c.in_ok-waiting.waiting.items = subst (λ (n : ℕ). CountsWaits slots n [] c.in_ok-waiting.waiting.items) (sym count) (subst (λ (s : List ℕ). CountsWaits s c.args.gates [] c.in_ok-waiting.waiting.items) c.deref.ensures.value c.in_ok-waiting.ensures) in
+    let marks : c.in_ok-marks.marks.items ≡ replicate c.args.gates false = search rules in
+    let holds = between_begins slots (length c.in_ok-waiting.waiting.items) c.in_ok-order.order.items c.in_ok-waiting.waiting.items c.in_ok-marks.marks.items (is_ready c.in_ok-ready.ready) waits c.in_ok-order.ensures.items
+    (marks ∙ ap (λ (n : ℕ). replicate n false) (sym count)) (λ i. c.in_ok-ready.ensures.ready i ∙ ap (λ (ws : List ℕ). waits_for_nothing (length ws) [] ws i) c.deref-2.ensures.value) in
+    let are : AreSlots slots (length c.in_ok-waiting.waiting.items) = subst (AreSlots slots) (sym count) c.requires in
+    let chains : HasChains slots (length c.in_ok-waiting.waiting.items) c.in_ok-users.users.heads.items c.in_ok-users.users.nexts.items = subst (λ (n : ℕ). HasChains slots n c.in_ok-users.users.heads.items c.in_ok-users.users.nexts.items) (sym count) c.in_ok-users.ensures in
+    record { slots = slots; are = are; chains = chains; holds = holds }
 
 pub returns : goal.returns
 returns c =
-    subst (λ (n : ℕ). IsWholeOrder c.args.slots.items n c.take_in_turn.new.order.items c.take_in_turn.new.marks.items) c.in_ok-waiting.ensures.count
-    (subst (λ (slots : List ℕ). IsWholeOrder slots (length c.in_ok-waiting.waiting.items) c.take_in_turn.new.order.items c.take_in_turn.new.marks.items) c.in_ok-users.ensures.slots c.in_ok-take_in_turn.ensures)
+    let slots : List ℕ = c.args.slots.items in
+    let count = c.in_ok-waiting.ensures.count in
+    let waits : CountsWaits slots (length c.in_ok-waiting.waiting.items) [] c.in_ok-waiting.waiting.items = subst (λ (n : ℕ). CountsWaits slots n [] c.in_ok-waiting.waiting.items) (sym count) (subst (λ (s : List ℕ). CountsWaits s c.args.gates [] c.in_ok-waiting.waiting.items) c.deref.ensures.value c.in_ok-waiting.ensures) in
+    let marks : c.in_ok-marks.marks.items ≡ replicate c.args.gates false = search rules in
+    let holds = between_begins slots (length c.in_ok-waiting.waiting.items) c.in_ok-order.order.items c.in_ok-waiting.waiting.items c.in_ok-marks.marks.items (is_ready c.in_ok-ready.ready) waits c.in_ok-order.ensures.items
+    (marks ∙ ap (λ (n : ℕ). replicate n false) (sym count)) (λ i. c.in_ok-ready.ensures.ready i ∙ ap (λ (ws : List ℕ). waits_for_nothing (length ws) [] ws i) c.deref-2.ensures.value) in
+    let are : AreSlots slots (length c.in_ok-waiting.waiting.items) = subst (AreSlots slots) (sym count) c.requires in
+    let chains : HasChains slots (length c.in_ok-waiting.waiting.items) c.in_ok-users.users.heads.items c.in_ok-users.users.nexts.items = subst (λ (n : ℕ). HasChains slots n c.in_ok-users.users.heads.items c.in_ok-users.users.nexts.items) (sym count) c.in_ok-users.ensures in
+    subst (λ (n : ℕ). IsWholeOrder slots n c.take_in_turn.new.order.items c.take_in_turn.new.marks.items) count (c.in_ok-take_in_turn.ensures slots are chains holds)

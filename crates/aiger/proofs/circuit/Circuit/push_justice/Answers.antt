@@ -6,6 +6,6 @@ use Rattle.aiger.proofs.circuit.Circuit.push_justice.Goals as goal
 
 pub invariant_of-self : goal.invariant_of-self
 invariant_of-self c =
-    IsCircuit-justice (circuit_of c.self.inside) c.args.lits.now c.push.new.self c.push.result c.self.invariant
+    IsCircuit-justice (circuit_of c.self.inside) c.args.lits.now c.push_justice.new.justice c.push_justice.result c.self.invariant
     (all_defined_from_test (net (circuit_of c.self.inside)) c.args.lits.now (subst (λ (x : Circuit). are_defined (net x) c.args.lits.now ≡ true) (sym c.self.view_is) (sym c.if-not-are_defined.ensures)))
-    c.push.ensures.ok c.push.ensures.refused c.push.ensures.err
+    c.push_justice.ensures.ok c.push_justice.ensures.refused c.push_justice.ensures.err

@@ -2,4 +2,4 @@ use Rattle.aiger.proofs.FlatNameLemmas.{flat_none}
 use Rattle.aiger.proofs.flat_names.FlatNames.new.Goals as goal
 
 pub invariant_of-result : goal.invariant_of-result
-invariant_of-result c = flat_none c.new.result.items c.new-2.result.items c.new-3.result.items c.new.ensures.items c.new-2.ensures.items c.new-3.ensures.items
+invariant_of-result c = flat_none c.new.result.items c.new-2.result c.new.ensures.items c.new-2.ensures

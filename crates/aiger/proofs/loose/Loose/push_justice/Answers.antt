@@ -5,7 +5,7 @@ use Rattle.aiger.proofs.loose.Loose.push_justice.Goals as goal
 
 pub invariant_of-self : goal.invariant_of-self
 invariant_of-self c = (
-  IsLoose-justice (loose_of c.self.inside) c.args.lits.now c.push.new.self c.push.result c.self.invariant.0 (all_small_from_test c.args.lits.now (sym c.if-not-are_within.ensures))
-      c.push.ensures.ok c.push.ensures.refused c.push.ensures.err,
+  IsLoose-justice (loose_of c.self.inside) c.args.lits.now c.push_justice.new.justice c.push_justice.result c.self.invariant.0 (all_small_from_test c.args.lits.now (sym c.if-not-are_within.ensures))
+      c.push_justice.ensures.ok c.push_justice.ensures.refused c.push_justice.ensures.err,
   c.self.invariant.1,
 )
