@@ -176,13 +176,6 @@ fine_twice flags now before n flagged h =
     let twice : are_distinct (map (λ c. c.index) (h.list ++ bad_claim n ∷ [])) ≡ false = ap are_distinct (numbers_more h.list (bad_claim n)) ∙ distinct-twice (map (λ c. c.index) h.list) n [] there in
     record { list = h.list ++ bad_claim n ∷ []; is = with_one before h.list (bad_claim n) h.is; bad = none_more h.list n h.bad; unfit = and_right _ _ twice }
 
-pub fine_outside : (flags : List Bool) (before : Option (List Claim)) (n : ℕ) → (n < length flags → ⊥) → AreFine flags before → AreUnfit flags (and_claim before (Some (record { justice = false; index = n })))
-fine_outside flags before n outside h =
-    let test : nat_lt n (length flags) ≡ false = false_from_ne_true (nat_lt n (length flags)) (λ e. outside (ltb-true n (length flags) e)) in
-    let some : list_all (λ c. nat_lt c.index (length flags)) (h.list ++ bad_claim n ∷ []) ≡ false =
-    list_all-append (λ c. nat_lt c.index (length flags)) h.list (bad_claim n ∷ []) ∙ and_right _ _ (and_left (nat_lt n (length flags)) true test) in
-    record { list = h.list ++ bad_claim n ∷ []; is = with_one before h.list (bad_claim n) h.is; bad = none_more h.list n h.bad; unfit = and_left _ _ some }
-
 fine_more : (flags : List Bool) (before : Option (List Claim)) (n : ℕ) → n < length flags → is_set flags n ≡ false → AreFine flags before
     → AreFine (set flags n true) (and_claim before (Some (record { justice = false; index = n })))
 fine_more flags before n inside clear h =

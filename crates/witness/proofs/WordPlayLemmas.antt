@@ -38,13 +38,6 @@ none_is_set flags k whole none i =
       | inr above ↦ past flags i (omega (arith, whole, above))
     ]
 
-pub clear_more : (flags : List Bool) (k : ℕ) → ((i : ℕ) → i < k → is_set flags i ≡ false) → k < length flags → (i : ℕ) → i < k + 1 → is_set (set flags k false) i ≡ false
-clear_more flags k none inside i below =
-    elim (cases_eq i k) [
-      | inl same ↦ ap (is_set (set flags k false)) same ∙ get_or-set_same flags k false false inside
-      | inr other ↦ get_or-set_other flags k i false false other ∙ none i (omega (arith, below, other))
-    ]
-
 -- ---- a frame behind others
 
 record SplitTrace (items : List Item) (carried : Frame) (inputs : List Frame) (last : Frame) (fs : List Frame) : Type 0 where
