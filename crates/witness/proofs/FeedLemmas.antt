@@ -1,6 +1,6 @@
 -- A judge fed with what a source gives.
-use Rattle.std.proofs.Common.{◌≡◌, ℕ, List, [], ◌++◌, Option, Some, None, IfSome, refl, sym, ap, subst, ◌∙◌, append_assoc, append-nil}
-use Rattle.std.specs.Io.KnownBytes.{Consumes, IsAtEnd}
+use Rattle.std.proofs.Common.{ℕ, List, [], ◌++◌, Option, Some, None, IfSome, refl, sym, ap, subst, ◌∙◌, append_assoc, append-nil}
+use Rattle.std.specs.Io.KnownBytes.{Consumes}
 
 -- a judge was fed with what a source gave; it stands for texts over something
 pub record Fed {M J : Type 0} (Stands : M → J → List ℕ → Type 0) (old now : Option (List ℕ)) (before after : J) : Type 0 where
