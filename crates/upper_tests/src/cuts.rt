@@ -136,6 +136,77 @@ fn long_lines_in_two_pieces(rt: HostRuntime) -> Result<(), Fail> {
     Ok(())
 }
 
+/// An input of two bits that may not be 1, a free state, and one that begins with 0 and follows it: bad where the second is 1
+/// and the input 3.
+const FOLLOWS: &str =
+    "1 sort bitvec 1\n2 sort bitvec 2\n3 zero 1\n4 one 2\n5 input 2 in\n6 state 1 free\n7 state 1 held\n8 init 1 7 3\n9 next 1 7 6\n10 redand 1 5\n11 and 1 7 10\n12 bad 11\n13 neq 1 5 4\n14 constraint 13\n";
+
+/// Witnesses over it.
+const OF_FOLLOWS: [Judged; 7] = [
+    (
+        "sat\nb0\n#0\n0 1 free\n1 0\n@0\n0 00\n@1\n0 11 in\n.\n",
+        Judgement::Accepted { frames: 2 },
+    ),
+    (
+        "; c\nsat\nb0\n@0\n#1\n0 1\n@1\n@2\n0 11\n.\n",
+        Judgement::Accepted { frames: 3 },
+    ),
+    (
+        "sat\nb0\n#0\n0 0\n@0\n@1\n0 11\n.\n",
+        Judgement::NotReached { claim: 0 },
+    ),
+    (
+        "sat\nb0\n@0\n@1\n0 01\n.\n",
+        Judgement::Violated {
+            frame: 1,
+            constraint: 0,
+        },
+    ),
+    (
+        "sat\nb0\n#0\n1 1\n@0\n.\n",
+        Judgement::InitDiffers { index: 1 },
+    ),
+    ("; c\nunsat\nx", Judgement::NoClaim),
+    ("unknown\n", Judgement::NoClaim),
+];
+
+/// Texts over it that are none.
+const NONE_OF_FOLLOWS: [Faulty; 13] = [
+    ("1\nb0\n", 1, Why::BadHeader),
+    ("sat\nb1\n@0\n", 2, Why::BadClaim),
+    ("sat\nj0\n@0\n", 2, Why::JusticeClaim),
+    ("sat\nb0\n.\n", 3, Why::FrameOrder),
+    ("sat\nb0\n@0\n@2\n.\n", 4, Why::FrameOrder),
+    ("sat\nb0\n@0\n#1\n1 0\n@1\n.\n", 5, Why::BadIndex),
+    ("sat\nb0\n@0\n0 00\n0 00\n.\n", 5, Why::IndexTwice),
+    ("sat\nb0\n@0\n0 001\n.\n", 4, Why::BadValue),
+    ("sat\nb0\n@0\n0 0x\n.\n", 4, Why::Undetermined),
+    ("sat\nb0\n@0\n0 00 a b\n.\n", 4, Why::BadSymbol),
+    ("sat\nb0\n@0\n.\n.\n", 5, Why::Trailing),
+    ("sat\nb0\n@0\n", 4, Why::Truncated),
+    ("sat\nb0\n@0\n.", 4, Why::Truncated),
+];
+
+#[test]
+fn witnesses_of_models_in_two_pieces(rt: HostRuntime) -> Result<(), Fail> {
+    let model = model_of(rt.alloc(), FOLLOWS)?;
+    for (text, wanted) in &OF_FOLLOWS {
+        assert!(rt;
+            is_judged(rt.alloc(), &model, text.as_bytes(), wanted),
+            "{text}"
+        );
+    }
+    for (text, line, why) in &NONE_OF_FOLLOWS {
+        let (line, why) = (*line, *why);
+        let wanted = Judgement::Malformed { line, why };
+        assert!(rt;
+            is_judged(rt.alloc(), &model, text.as_bytes(), &wanted),
+            "{text}"
+        );
+    }
+    Ok(())
+}
+
 /// An input, a latch that has its bit a frame later, and the gate of both, which is bad.
 const TWICE: &[u8] = b"aag 3 1 1 0 1 1\n2\n4 2\n6\n6 4 2\n";
 

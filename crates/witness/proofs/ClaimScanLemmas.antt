@@ -1,7 +1,7 @@
 -- What is kept of a line of claims byte by byte is what its pieces claim.
 use Rattle.std.proofs.Common.{◌≡◌, ℕ, ◌<◌, ◌==◌, nat_lt, Bool, true, false, not, cond, ◌&&◌, ◌||◌, List, [], ◌∷◌, ◌++◌, Option, Some, None, Ok, Err, length, map, get_or, set, refl, sym, ap, ap₂, subst, ◌∙◌, ◌⊎◌, inl, inr}
 use Rattle.std.specs.List.{list_any, list_all}
-use Rattle.std.proofs.lemmas.Bool.{cases_Bool, and_parts, and_from, and_left, and_right, or_parts, or_from, or_left, or_right, eqb-true, eqb-false, eq-eqb, ne_eqb, lt-ltb, false_from_ne_true, ltb-true, not-true, false≢true}
+use Rattle.std.proofs.lemmas.Bool.{cases_Bool, and_parts, and_from, and_right, or_parts, or_from, or_left, or_right, eqb-true, eqb-false, eq-eqb, ne_eqb, lt-ltb, false_from_ne_true, not-true, false≢true}
 use Rattle.std.proofs.lemmas.List.{length-set, get_or-set_same, get_or-set_other}
 use Rattle.std.proofs.lemmas.List.Folds.{list_any-append, list_all-append}
 use Rattle.base.specs.Decimals.{is_decimal, number_of}
@@ -175,13 +175,6 @@ fine_twice flags now before n flagged h =
     let there : list_any (λ y. y == n) (map (λ c. c.index) h.list) ≡ true = sym (h.claimed n) ∙ flagged in
     let twice : are_distinct (map (λ c. c.index) (h.list ++ bad_claim n ∷ [])) ≡ false = ap are_distinct (numbers_more h.list (bad_claim n)) ∙ distinct-twice (map (λ c. c.index) h.list) n [] there in
     record { list = h.list ++ bad_claim n ∷ []; is = with_one before h.list (bad_claim n) h.is; bad = none_more h.list n h.bad; unfit = and_right _ _ twice }
-
-pub fine_outside : (flags : List Bool) (before : Option (List Claim)) (n : ℕ) → (n < length flags → ⊥) → AreFine flags before → AreUnfit flags (and_claim before (Some (record { justice = false; index = n })))
-fine_outside flags before n outside h =
-    let test : nat_lt n (length flags) ≡ false = false_from_ne_true (nat_lt n (length flags)) (λ e. outside (ltb-true n (length flags) e)) in
-    let some : list_all (λ c. nat_lt c.index (length flags)) (h.list ++ bad_claim n ∷ []) ≡ false =
-    list_all-append (λ c. nat_lt c.index (length flags)) h.list (bad_claim n ∷ []) ∙ and_right _ _ (and_left (nat_lt n (length flags)) true test) in
-    record { list = h.list ++ bad_claim n ∷ []; is = with_one before h.list (bad_claim n) h.is; bad = none_more h.list n h.bad; unfit = and_left _ _ some }
 
 fine_more : (flags : List Bool) (before : Option (List Claim)) (n : ℕ) → n < length flags → is_set flags n ≡ false → AreFine flags before
     → AreFine (set flags n true) (and_claim before (Some (record { justice = false; index = n })))

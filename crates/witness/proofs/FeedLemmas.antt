@@ -1,6 +1,6 @@
 -- A judge fed with what a source gives.
-use Rattle.std.proofs.Common.{◌≡◌, ℕ, List, [], ◌++◌, Option, Some, None, IfSome, refl, sym, ap, subst, ◌∙◌, append_assoc, append-nil}
-use Rattle.std.specs.Io.KnownBytes.{Consumes, IsAtEnd}
+use Rattle.std.proofs.Common.{ℕ, List, [], ◌++◌, Option, Some, None, IfSome, refl, sym, ap, subst, ◌∙◌, append_assoc, append-nil}
+use Rattle.std.specs.Io.KnownBytes.{Consumes}
 
 -- a judge was fed with what a source gave; it stands for texts over something
 pub record Fed {M J : Type 0} (Stands : M → J → List ℕ → Type 0) (old now : Option (List ℕ)) (before after : J) : Type 0 where
@@ -29,19 +29,6 @@ fed_more Stands old mid now before j after more fed consumes stands =
       consumes = consumes_more old mid now fed.front more fed.consumes consumes;
       stands = λ c text h. subst (Stands c after) (append_assoc text fed.front more) (stands c (text ++ fed.front) (fed.stands c text h));
     }
-
-all_given : (old now : Option (List ℕ)) (front : List ℕ) → Consumes old now front → IsAtEnd now → IfSome old (λ all. all ≡ front)
-all_given None now front a b = tt
-all_given (Some xs) None front a b = absurd a
-all_given (Some xs) (Some ys) front a b = a ∙ (ap (λ (l : List ℕ). front ++ l) b ∙ append-nil front)
-
-if_some : (old : Option (List ℕ)) (front : List ℕ) (P : List ℕ → Type 0) → IfSome old (λ all. all ≡ front) → P front → IfSome old P
-if_some None front P same h = tt
-if_some (Some xs) front P same h = subst P (sym same) h
-
-pub fed_all : {M J : Type 0} (Stands : M → J → List ℕ → Type 0) (old now : Option (List ℕ)) (before after : J) → Fed Stands old now before after → IsAtEnd now → (c : M) (text : List ℕ) → Stands c before text
-    → IfSome old (λ all. Stands c after (text ++ all))
-fed_all Stands old now before after fed end c text h = if_some old fed.front (λ all. Stands c after (text ++ all)) (all_given old now fed.front fed.consumes end) (fed.stands c text h)
 
 pub if_some_then : (o : Option (List ℕ)) (P Q : List ℕ → Type 0) → ((x : List ℕ) → P x → Q x) → IfSome o P → IfSome o Q
 if_some_then None P Q f h = tt

@@ -11,6 +11,7 @@ use Rattle.btor2.specs.Check.{IsWellFormed}
 use Rattle.btor2.specs.Trace.{bits_of}
 use Rattle.btor2.proofs.AppendLemmas.{is_some_from, width_of_body-append}
 use Rattle.btor2.proofs.AcceptedLemmas.{BodyIsAccepted}
+use Rattle.btor2.proofs.LeafLemmas.{item_behind}
 use Rattle.btor2.proofs.ModelLemmas.{IsIn-from_place, IsAccepted-at, node_width-at, node_width-range}
 use Rattle.witness.specs.Texts.{widths_of, free_of}
 use Rattle.witness.specs.Fits.{PairFits}
@@ -27,13 +28,6 @@ states_have_bits items _ h says = absurd cc
 pub inputs_have_bits : HasBits is_input
 inputs_have_bits items (body.Input s) h says = says
 inputs_have_bits items _ h says = absurd cc
-
--- the item behind some others
-item_behind : (before xs : List Item) (x : Item) (n : ℕ) → length before ≡ n → slice_get (before ++ x ∷ xs) n ≡ Some x
-item_behind [] xs x zero e = refl
-item_behind [] xs x (suc n) e = absurd (omega arith)
-item_behind (y ∷ ys) xs x zero e = absurd (omega arith)
-item_behind (y ∷ ys) xs x (suc n) e = item_behind ys xs x n (omega arith)
 
 -- the node at the place of such an item has a width
 some_width : (kind : Body → Bool) → HasBits kind → (items : List Item) (k : ℕ) (x : Item) → IsWellFormed items → slice_get items k ≡ Some x → kind x.body ≡ true → is_some (width_at items k) ≡ true

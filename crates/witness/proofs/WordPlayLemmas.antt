@@ -1,9 +1,9 @@
 -- Frames of a witness over a model, closed one after the other.
-use Rattle.std.proofs.Common.{◌≡◌, ℕ, zero, suc, ◌+◌, ◌*◌, ◌<◌, ◌≤◌, ◌-◌, ◌^◌, ◌==◌, min, Bool, true, false, not, cond, ◌&&◌, ◌||◌, List, [], ◌∷◌, ◌++◌, Option, Some, None, option_and_then, All, map, length, get_or, set, unwrap_or, length-append, refl, sym, ap, ap₂, subst, ◌∙◌, arith, inl, inr}
+use Rattle.std.proofs.Common.{◌≡◌, ℕ, zero, suc, ◌+◌, ◌*◌, ◌<◌, ◌≤◌, ◌-◌, ◌^◌, ◌==◌, min, Bool, true, false, not, cond, ◌&&◌, ◌||◌, List, [], ◌∷◌, ◌++◌, Option, Some, None, option_and_then, All, map, length, get_or, unwrap_or, length-append, refl, sym, ap, ap₂, subst, ◌∙◌, arith, inl, inr}
 use Rattle.std.specs.Option.{option_or}
 use Rattle.std.specs.List.{last_or}
-use Rattle.std.proofs.lemmas.Bool.{cases_lt, cases_eq, ne_eqb, eq-eqb}
-use Rattle.std.proofs.lemmas.List.{length-map, map-append, get_or-set_same, get_or-set_other}
+use Rattle.std.proofs.lemmas.Bool.{cases_lt, ne_eqb, eq-eqb}
+use Rattle.std.proofs.lemmas.List.{length-map, map-append}
 use Rattle.std.proofs.lemmas.List.Elements.{All-nil, All-cons, All-head, All-tail, All-push}
 use Rattle.std.proofs.lemmas.List.Folds.{list_all-append}
 use Rattle.btor2.specs.declared.item.Item.{Item}
@@ -36,13 +36,6 @@ none_is_set flags k whole none i =
     elim (cases_lt i k) [
       | inl below ↦ none i below
       | inr above ↦ past flags i (omega (arith, whole, above))
-    ]
-
-pub clear_more : (flags : List Bool) (k : ℕ) → ((i : ℕ) → i < k → is_set flags i ≡ false) → k < length flags → (i : ℕ) → i < k + 1 → is_set (set flags k false) i ≡ false
-clear_more flags k none inside i below =
-    elim (cases_eq i k) [
-      | inl same ↦ ap (is_set (set flags k false)) same ∙ get_or-set_same flags k false false inside
-      | inr other ↦ get_or-set_other flags k i false false other ∙ none i (omega (arith, below, other))
     ]
 
 -- ---- a frame behind others
