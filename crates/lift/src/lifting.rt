@@ -93,10 +93,8 @@ fn lift_through<S: Source, K: Sink>(
     ensures counted { CountsLift result (S.failures source.old) (S.failures source.new) (K.failures sink.old) (K.failures sink.new) }
 {
     let mut outbox = Outbox::new();
-    match lift_all(lifter, &mut outbox, source, sink) {
-        Ok(()) => write_rest(&mut outbox, sink),
-        Err(fault) => Err(fault),
-    }
+    lift_all(lifter, &mut outbox, source, sink)?;
+    write_rest(&mut outbox, sink)
 }
 
 /// Reads a witness of a circuit to its end, judges it over the circuit, and writes what it is lifted to, with names or
@@ -121,14 +119,12 @@ fn lift_with<S: Source, K: Sink>(
     ensures end { OnOk result (IsAtEnd (S.to_come source.new)) }
     ensures counted { CountsLift result (S.failures source.old) (S.failures source.new) (K.failures sink.old) (K.failures sink.new) }
 {
-    let mut lifter = match Lifter::new(alloc, model, circuit) {
-        Ok(lifter) => lifter.with_names(named),
+    let mut lifter = match Lifter::new(alloc, model, circuit, named) {
+        Ok(lifter) => lifter,
         Err(_) => return Err(LiftFault::NoMemory),
     };
-    match lift_through(&mut lifter, source, sink) {
-        Ok(()) => Ok(lifter.finish()),
-        Err(fault) => Err(fault),
-    }
+    lift_through(&mut lifter, source, sink)?;
+    Ok(lifter.finish())
 }
 
 /// Reads a witness of a circuit to its end, judges it over the circuit, and writes what it is lifted to: the witness of the
