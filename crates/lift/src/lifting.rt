@@ -93,8 +93,10 @@ fn lift_through<S: Source, K: Sink>(
     ensures counted { CountsLift result (S.failures source.old) (S.failures source.new) (K.failures sink.old) (K.failures sink.new) }
 {
     let mut outbox = Outbox::new();
-    lift_all(lifter, &mut outbox, source, sink)?;
-    write_rest(&mut outbox, sink)
+    match lift_all(lifter, &mut outbox, source, sink) {
+        Ok(()) => write_rest(&mut outbox, sink),
+        Err(fault) => Err(fault),
+    }
 }
 
 /// Reads a witness of a circuit to its end, judges it over the circuit, and writes what it is lifted to, with names or
@@ -123,8 +125,10 @@ fn lift_with<S: Source, K: Sink>(
         Ok(lifter) => lifter,
         Err(_) => return Err(LiftFault::NoMemory),
     };
-    lift_through(&mut lifter, source, sink)?;
-    Ok(lifter.finish())
+    match lift_through(&mut lifter, source, sink) {
+        Ok(()) => Ok(lifter.finish()),
+        Err(fault) => Err(fault),
+    }
 }
 
 /// Reads a witness of a circuit to its end, judges it over the circuit, and writes what it is lifted to: the witness of the

@@ -1,5 +1,5 @@
 //! Restoring witnesses of engine forms.
-ghost use Rattle.std.specs.Prelude.{◌≡◌, ◌<◌, ◌^◌, ◌==◌, ℕ, List, [], ◌∷◌, ◌++◌, Option, None, true, false, not, length, IfErr, IfOk, IfSome, OnErr, OnOk};
+ghost use Rattle.std.specs.Prelude.{◌≡◌, ◌<◌, ◌^◌, ◌==◌, ℕ, List, [], ◌∷◌, ◌++◌, Option, None, true, false, not, length, IfErr, IfOk, IfSome, OnErr, OnOk, Ok};
 ghost use Rattle.std.specs.Str.{bytes_eq};
 ghost use Rattle.std.specs.Io.KnownBytes.{Appends, Consumes, IsAtEnd, prepend_known};
 ghost use Rattle.base.specs.Device.{AppendsBeginning, CountsFaults};
@@ -15,7 +15,7 @@ ghost use Rattle.restore.specs.declared.fault.RestoreWhy.TheVariants as why;
 ghost use Rattle.restore.specs.declared.stage.Stage.TheVariants as stage;
 ghost use Rattle.restore.specs.Answers.{CountsRestore};
 ghost use Rattle.restore.specs.Faults.{is_of_text};
-ghost use Rattle.restore.specs.FormSteps.{FormHolds, answering, IsHead, IsClaimed, WritesFormAll, IsHeadOrClaimed, ReadsClaim, TakesForm, TakesFormAll, frame_pieces_at, frame_put, frame_taken, settled};
+ghost use Rattle.restore.specs.FormSteps.{FormHolds, IsHead, IsClaimed, WritesFormAll, IsHeadOrClaimed, ReadsClaim, TakesForm, TakesFormAll, frame_pieces_at, frame_put, frame_taken, settled};
 ghost use Rattle.restore.specs.FormWitness.{property_of, form_restored_text, told_of, FormJudges, FindsWitnessAgain, TakesRestored};
 ghost use Rattle.restore.specs.Pieces.{head, is_reading};
 ghost use Rattle.restore.specs.Taking.{TakesPiece, IsPutInPieces};
@@ -300,15 +300,20 @@ fn take_all<S: Source, T: Taker, K: Sink>(
 ) -> Result<(), RestoreFault>
     requires is_form { IsEngineFormOf circuit.now choice form.now }
     requires begins { StandsFor form.now judge.old [] }
-    ensures writes { (over : Judgement) (o : T.Over) → IsPutInPieces T.put_for → ((text : List ℕ) → StandsFor form.now judge.new text → BitJudges form.now text over) → T.stands o taker.old []
-        → IfSome (S.to_come source.old) (TakesRestored T.stands T.put_for (answering over result) circuit.now choice form.now o taker.new (K.written sink.old) (K.written sink.new)) }
+    ensures takes { (over : Judgement) (o : T.Over) → IsPutInPieces T.put_for → ((text : List ℕ) → StandsFor form.now judge.new text → BitJudges form.now text over) → T.stands o taker.old []
+        → OnOk result (IfSome (S.to_come source.old) (TakesRestored T.stands T.put_for (Ok over) circuit.now choice form.now o taker.new (K.written sink.old) (K.written sink.new))) }
+    ensures beginning { (o : T.Over) → IsPutInPieces T.put_for → T.stands o taker.old [] → OnErr result (IfSome (S.to_come source.old) (λ text. AppendsBeginning (K.written sink.old) (K.written sink.new) (T.put_for o (form_restored_text circuit.now choice form.now text)))) }
     ensures end { OnOk result (IsAtEnd (S.to_come source.new)) }
     ensures line { IfErr result (λ e. is_of_text e.why ≡ false × (e.line ≡ 0)) }
     ensures counted { CountsRestore result (S.failures source.old) (S.failures source.new) (K.failures sink.old) (K.failures sink.new) }
 {
     aiger::laws::exactly_one_trace();
     let mut lines = LineReader::new(alloc);
-    match read_claim(&mut lines, judge, source)? {
+    let claimed = match read_claim(&mut lines, judge, source) {
+        Ok(claimed) => claimed,
+        Err(fault) => return Err(fault),
+    };
+    match claimed {
         Some(claim) => take_frames(
             alloc,
             circuit,
@@ -359,6 +364,16 @@ pub fn take_form<S: Source, T: Taker, K: Sink>(
     Ok(judge.finish())
 }
 
+/// The judgement over the form, where it says that no claim is made or which line is faulty, else the other one.
+fn over_or_restored(over: Judgement, restored: Judgement) -> Judgement
+    ensures { result ≡ told_of over restored }
+{
+    match over {
+        Judgement::NoClaim | Judgement::Malformed { .. } => over,
+        _ => restored,
+    }
+}
+
 /// What is told of a witness of an engine form, by what is judged of it over the form, and of what it is restored to over the
 /// circuit: that it makes no claim, or which line is faulty, as the first says; else the second.
 pub fn told_of(over: Judgement, restored: Judgement) -> Judgement
@@ -367,10 +382,7 @@ pub fn told_of(over: Judgement, restored: Judgement) -> Judgement
 {
     aiger::laws::exactly_one_trace();
     witness::bit_laws::bit_texts_read();
-    match over {
-        Judgement::NoClaim | Judgement::Malformed { .. } => over,
-        _ => restored,
-    }
+    over_or_restored(over, restored)
 }
 
 /// Reads a witness of the engine form of a circuit to its end, with all bad properties or the chosen one, and writes what it

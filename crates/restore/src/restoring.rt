@@ -176,6 +176,8 @@ pub fn restore<S: Source, K: Sink>(
         Ok(judge) => judge,
         Err(_) => return Err(RestoreFault::apart(RestoreWhy::NoMemory)),
     };
-    take_restored(&mut restorer, &mut judge, source, sink)?;
-    Ok(judge.finish())
+    match take_restored(&mut restorer, &mut judge, source, sink) {
+        Ok(()) => Ok(judge.finish()),
+        Err(fault) => Err(fault),
+    }
 }

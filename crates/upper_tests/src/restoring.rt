@@ -1,6 +1,6 @@
-//! The way back from engines at size, with ample memory: counterexamples of ten thousand frames over the engine form of a
-//! circuit with more than 4,096 latches and gates, restored to witnesses of the circuit and lifted to those of its model; and
-//! the calls of `restore` that no row reaches by text, each once.
+//! The way back from engines at size, with ample memory: counterexamples over engine forms of circuits, of ten thousand frames
+//! and over one with more than 4,096 latches and gates, restored to witnesses of the circuit and lifted to those of its model;
+//! and the calls of `restore` that no row reaches by text, each once.
 ghost use Rattle.std.specs.Prelude.{◌≤◌};
 
 use crate::models::model_of;
@@ -182,53 +182,40 @@ fn is_wide(alloc: Global, model: &Model) -> Result<bool, Fail> {
     Ok(circuit.latches().len() > 4096 && circuit.gates().len() > 4096)
 }
 
-/// Whether a call accepts a text of 10,002 frames that comes in pieces, with the first 10,000 of them, over a circuit with
-/// more than 4,096 latches and gates.
-fn is_accepted_at_size(alloc: Global, way: Way) -> Result<bool, Fail> {
-    let model = counter(alloc, 9999, 66)?;
-    let text = text_of(alloc, way, &model, 10_002, way.end())?;
-    let mut source = Chop::new(text.as_slice(), 1000);
-    Ok(is_wide(alloc, &model)? && is_accepted(alloc, way, &model, &mut source, 10_000)?)
-}
-
-#[test]
-fn ten_thousand_frames_restored(rt: HostRuntime) -> Result<(), Fail> {
-    let is_accepted = is_accepted_at_size(rt.alloc(), Way::Restore)?;
-    assert!(rt; is_accepted);
-    Ok(())
-}
-
-#[test]
-fn ten_thousand_frames_of_a_form_restored(rt: HostRuntime) -> Result<(), Fail> {
-    let is_accepted = is_accepted_at_size(rt.alloc(), Way::RestoreForm)?;
-    assert!(rt; is_accepted);
-    Ok(())
-}
-
-#[test]
-fn ten_thousand_frames_lifted(rt: HostRuntime) -> Result<(), Fail> {
-    let is_accepted = is_accepted_at_size(rt.alloc(), Way::Lift)?;
-    assert!(rt; is_accepted);
-    Ok(())
-}
-
-#[test]
-fn ten_thousand_frames_of_a_form_lifted(rt: HostRuntime) -> Result<(), Fail> {
-    let is_accepted = is_accepted_at_size(rt.alloc(), Way::LiftForm)?;
-    assert!(rt; is_accepted);
-    Ok(())
-}
-
-/// Whether a call accepts a text of 102 frames that comes in pieces of so many bytes, with the first hundred of them.
+/// Whether a call accepts a text that comes in pieces, of which so many frames are up to the first that is bad and two are
+/// behind it.
 fn is_accepted_in_pieces(
     alloc: Global,
     way: Way,
     model: &Model,
     size: usize,
+    frames: u64,
 ) -> Result<bool, Fail> {
-    let text = text_of(alloc, way, model, 102, way.end())?;
+    let text = text_of(alloc, way, model, frames.saturating_add(2), way.end())?;
     let mut source = Chop::new(text.as_slice(), size);
-    is_accepted(alloc, way, model, &mut source, 100)
+    is_accepted(alloc, way, model, &mut source, frames)
+}
+
+#[test]
+fn a_thousand_frames_of_a_wide_circuit(rt: HostRuntime) -> Result<(), Fail> {
+    let model = counter(rt.alloc(), 999, 66)?;
+    let is_wide = is_wide(rt.alloc(), &model)?;
+    assert!(rt; is_wide);
+    for way in &WAYS {
+        let is_accepted = is_accepted_in_pieces(rt.alloc(), *way, &model, 1000, 1000)?;
+        assert!(rt; is_accepted, "{way:?}");
+    }
+    Ok(())
+}
+
+#[test]
+fn ten_thousand_frames(rt: HostRuntime) -> Result<(), Fail> {
+    let model = counter(rt.alloc(), 9999, 1)?;
+    for way in &WAYS {
+        let is_accepted = is_accepted_in_pieces(rt.alloc(), *way, &model, 1000, 10_000)?;
+        assert!(rt; is_accepted, "{way:?}");
+    }
+    Ok(())
 }
 
 #[test]
@@ -236,7 +223,7 @@ fn texts_in_pieces(rt: HostRuntime) -> Result<(), Fail> {
     let model = counter(rt.alloc(), 99, 1)?;
     for way in &WAYS {
         for size in [1, 2, 7, 4096] {
-            let is_accepted = is_accepted_in_pieces(rt.alloc(), *way, &model, size)?;
+            let is_accepted = is_accepted_in_pieces(rt.alloc(), *way, &model, size, 100)?;
             assert!(rt; is_accepted, "{way:?} {size}");
         }
     }
