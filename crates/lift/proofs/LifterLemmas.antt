@@ -75,15 +75,15 @@ lifted_end named items c text l h =
     let new : ℕ = admitted_lines c (text ++ 10 ∷ []) in
     elim (line_more named items c (whole_lines text) (unfinished text)) [
       | inl p ↦
-          let same : (new == old) ≡ true = eq-eqb new old (admitted_end c text ∙ p.line.count ∙ sym (admitted_by_lines c text)) in
+          let same : (new == old) ≡ true = eq-eqb new old (admitted_end c text ∙ p.step.count ∙ sym (admitted_by_lines c text)) in
           lifted_end_by_lines named items c text ∙ ap text_of_lines p.lifted ∙ sym (lifted_by_lines named items c text)
           ∙ sym (append-nil (lifted_with named items c text)) ∙ ap (λ (b : Bool). lifted_with named items c text ++ text_of_lines (admitted_piece (not b) l old)) (sym same)
       | inr a ↦
-          let number : old ≡ length (whole_lines text) = admitted_by_lines c text ∙ a.line.before in
-          let count : new ≡ length (whole_lines text) + 1 = admitted_end c text ∙ a.line.count in
+          let number : old ≡ length (whole_lines text) = admitted_by_lines c text ∙ a.step.before in
+          let count : new ≡ length (whole_lines text) + 1 = admitted_end c text ∙ a.step.count in
           let other : (new == old) ≡ false = ne_eqb new old (λ e. omega (arith, number, count, e)) in
           let is : kept_piece named items (length (whole_lines text)) l.kept ≡ piece named items (length (whole_lines text)) (unfinished text) =
-          kept_is_piece named items c (length (whole_lines text)) (unfinished text) l.kept (few_bads c h.circuit) (is_admitted c (whole_lines text) _ (unfinished text) (few_bads c h.circuit) a.line.going a.line.reads) h.kept h.latches h.inputs in
+          kept_is_piece named items c (length (whole_lines text)) (unfinished text) l.kept (few_bads c h.circuit) (is_admitted c (whole_lines text) _ (unfinished text) (few_bads c h.circuit) a.step.going a.step.reads) h.kept h.latches h.inputs in
           let put : admitted_piece (not (new == old)) l old ≡ piece named items (length (whole_lines text)) (unfinished text) =
           ap (λ (b : Bool). admitted_piece (not b) l old) other ∙ ap (λ (b : Bool). kept_piece b l.items old l.kept) h.naming ∙ ap₂ (λ (xs : List Item) (n : ℕ). kept_piece named xs n l.kept) h.model number ∙ is in
           lifted_end_by_lines named items c text ∙ ap text_of_lines a.lifted

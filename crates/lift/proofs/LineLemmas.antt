@@ -30,16 +30,16 @@ lifted-append named items n (x ∷ xs) ys =
 
 -- a line behind others is not admitted, and lifted to nothing, or it is, and lifted to its piece
 pub record Passes (named : Bool) (items : List Item) (c : Circuit) (lines : List (List ℕ)) (line : List ℕ) : Type 0 where
-  pub line : place.Passes c lines line
+  pub step : place.Passes c lines line
   pub lifted : lifted_of named items c (lines ++ line ∷ []) ≡ lifted_of named items c lines
 
 pub record Adds (named : Bool) (items : List Item) (c : Circuit) (lines : List (List ℕ)) (line : List ℕ) : Type 0 where
-  pub line : place.Adds c lines line
+  pub step : place.Adds c lines line
   pub lifted : lifted_of named items c (lines ++ line ∷ []) ≡ lifted_of named items c lines ++ piece named items (length lines) line
 
 passes : (named : Bool) (items : List Item) (c : Circuit) (lines : List (List ℕ)) (line : List ℕ) → place.Passes c lines line → Passes named items c lines line
 passes named items c lines line p = record {
-  line = p;
+  step = p;
   lifted = ap (λ (n : ℕ). lifted_lines named items 0 (take n (lines ++ line ∷ []))) p.count
       ∙ ap (lifted_lines named items 0) (take-append-le (lines_read (bit_reader c) lines).admitted lines (line ∷ []) (place.counted c lines).few);
 }
@@ -50,7 +50,7 @@ adds named items c lines line a =
     let same : 0 + length lines ≡ length lines = omega arith in
     let last : lifted_lines named items (0 + length lines) (line ∷ []) ≡ piece named items (length lines) line = ap (λ (n : ℕ). piece named items n line ++ []) same ∙ append-nil (piece named items (length lines) line) in
     record {
-      line = a;
+      step = a;
       lifted =
           ap (λ (n : ℕ). lifted_lines named items 0 (take n (lines ++ line ∷ []))) a.count ∙ ap (lifted_lines named items 0) all ∙ lifted-append named items 0 lines (line ∷ [])
           ∙ ap₂ (λ (l m : List (List ℕ)). l ++ m) (sym (ap (lifted_lines named items 0) (ap (λ (n : ℕ). take n lines) a.before ∙ take-length lines))) last;

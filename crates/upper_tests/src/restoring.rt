@@ -197,12 +197,12 @@ fn is_accepted_in_pieces(
 }
 
 #[test]
-fn a_thousand_frames_of_a_wide_circuit(rt: HostRuntime) -> Result<(), Fail> {
-    let model = counter(rt.alloc(), 999, 66)?;
+fn a_hundred_frames_of_a_wide_circuit(rt: HostRuntime) -> Result<(), Fail> {
+    let model = counter(rt.alloc(), 99, 66)?;
     let is_wide = is_wide(rt.alloc(), &model)?;
     assert!(rt; is_wide);
     for way in &WAYS {
-        let is_accepted = is_accepted_in_pieces(rt.alloc(), *way, &model, 1000, 1000)?;
+        let is_accepted = is_accepted_in_pieces(rt.alloc(), *way, &model, 1000, 100)?;
         assert!(rt; is_accepted, "{way:?}");
     }
     Ok(())
