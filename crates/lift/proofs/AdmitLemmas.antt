@@ -16,92 +16,10 @@ use Rattle.witness.specs.Readings.{Reading, nothing_admitted, one_more_line, nex
 use Rattle.witness.specs.BitAdmits.{claim_at, bits_at, BitPlace, AtHeader, AtClaim, AtInitial, AtFirst, AtLater, AtDone, BitRead, after_claim, after_initial, after_frame, bit_admit_at, bit_admit, bit_reader}
 use Rattle.witness.proofs.BitReadLemmas.{bits_are_line, claim_is_line}
 use Rattle.witness.proofs.PieceLemmas.{decimal_digits}
+use Rattle.restore.proofs.BitPlaceLemmas.{PlaceAt, place_of_lines}
 use Rattle.lift.specs.Lifted.{piece, line_bits, initial_piece, frame_piece}
 use Rattle.lift.specs.Kept.{KeptLine, Keeps, kept_frame, kept_piece, IsFrameOrEnd, IsAdmitted}
 use Rattle.lift.proofs.KeptLemmas.{kept_line_bits}
-
--- ---- the place of the next line, by how many lines are admitted
-
-abbrev PlaceAt : ℕ → BitPlace → Type 0
-PlaceAt n AtHeader = n ≡ 0
-PlaceAt n AtClaim = n ≡ 1
-PlaceAt n AtInitial = n ≡ 2
-PlaceAt n AtFirst = n ≡ 3
-PlaceAt n AtLater = 4 ≤ n
-PlaceAt n AtDone = 5 ≤ n
-
-after_claim_at : (n : ℕ) (r next : BitRead) (o : Result ℕ Why) → n ≡ 1 → after_claim r o ≡ Ok next → PlaceAt (n + 1) next.place
-after_claim_at n r next (Ok i) at h =
-    let e : record r { place = AtInitial; claim = i } ≡ next = cc in
-    subst (λ (x : BitRead). PlaceAt (n + 1) x.place) e (omega (arith, at))
-after_claim_at n r next (Err w) at h = absurd cc
-
-after_initial_at : (n : ℕ) (r next : BitRead) (o : Result (List Bool) Why) → n ≡ 2 → after_initial r o ≡ Ok next → PlaceAt (n + 1) next.place
-after_initial_at n r next (Ok bits) at h =
-    let e : record r { place = AtFirst; initial = bits } ≡ next = cc in
-    subst (λ (x : BitRead). PlaceAt (n + 1) x.place) e (omega (arith, at))
-after_initial_at n r next (Err w) at h = absurd cc
-
-after_frame_at : (n : ℕ) (r next : BitRead) (o : Result (List Bool) Why) → 3 ≤ n → after_frame r o ≡ Ok next → PlaceAt (n + 1) next.place
-after_frame_at n r next (Ok bits) at h =
-    let e : record r { place = AtLater; frames = r.frames ++ bits ∷ [] } ≡ next = cc in
-    subst (λ (x : BitRead). PlaceAt (n + 1) x.place) e (omega (arith, at))
-after_frame_at n r next (Err w) at h = absurd cc
-
-place_step : (c : Circuit) (n : ℕ) (r next : BitRead) (line : List ℕ) (place : BitPlace) → PlaceAt n place → bit_admit_at c r line place ≡ Ok next → PlaceAt (n + 1) next.place
-place_step c n r next line AtHeader at h =
-    elim (chosen (bytes_eq line (codes "1")) (Ok (record r { place = AtClaim })) (Err why.BadHeader) (Ok next) h) [
-      | inl e ↦
-          let is : record r { place = AtClaim } ≡ next = cc (e.1) in
-          subst (λ (x : BitRead). PlaceAt (n + 1) x.place) is (omega (arith, at))
-      | inr e ↦ absurd (cc (e.1))
-    ]
-place_step c n r next line AtClaim at h = after_claim_at n r next (claim_at (length c.bads) line) at h
-place_step c n r next line AtInitial at h = after_initial_at n r next (bits_at (length c.latches) line) at h
-place_step c n r next line AtFirst at h =
-    elim (chosen (bytes_eq line (codes ".")) (Err why.FrameOrder) (after_frame r (bits_at c.inputs line)) (Ok next) h) [
-      | inl e ↦ absurd (cc (e.1))
-      | inr e ↦ after_frame_at n r next (bits_at c.inputs line) (omega (arith, at)) e.1
-    ]
-place_step c n r next line AtLater at h =
-    elim (chosen (bytes_eq line (codes ".")) (Ok (record r { place = AtDone })) (after_frame r (bits_at c.inputs line)) (Ok next) h) [
-      | inl e ↦
-          let is : record r { place = AtDone } ≡ next = cc (e.1) in
-          subst (λ (x : BitRead). PlaceAt (n + 1) x.place) is (omega (arith, at))
-      | inr e ↦ after_frame_at n r next (bits_at c.inputs line) (omega (arith, at)) e.1
-    ]
-place_step c n r next line AtDone at h = absurd cc
-
-abbrev Placed : Reading BitRead → ℕ → Type 0
-Placed g n = g.refused ≡ None → PlaceAt n g.read.place
-
-placed_read : (c : Circuit) (g : Reading BitRead) (n : ℕ) (line : List ℕ) (o : Result BitRead Why) → bit_admit c g.read line ≡ o → g.refused ≡ None → Placed g n → Placed (one_more_line g o) (n + 1)
-unfolding bit_admit
-placed_read c g n line (Ok r) is none h e = place_step c n g.read r line g.read.place (h none) is
-placed_read c g n line (Err w) is none h e = absurd cc
-
-placed_line : (c : Circuit) (g : Reading BitRead) (n : ℕ) (line : List ℕ) (o : Option Why) → g.refused ≡ o → Placed g n → Placed (next_line (bit_reader c) g line) (n + 1)
-unfolding next_line
-placed_line c g n line (Some w) is h = rw is (λ e. absurd cc)
-placed_line c g n line None is h =
-    elim (cases_Bool (nat_le most_lines g.admitted)) [
-      | inl many ↦ rw (is, many) (λ e. absurd cc)
-      | inr few ↦ rw (is, few) (placed_read c g n line (bit_admit c g.read line) refl is h)
-    ]
-
-placed_from : (c : Circuit) (g : Reading BitRead) (n : ℕ) (lines : List (List ℕ)) → Placed g n → Placed (lines_behind (bit_reader c) g lines) (n + length lines)
-placed_from c g n [] h = let same : n + 0 ≡ n = omega arith in subst (Placed g) (sym same) h
-placed_from c g n (line ∷ lines) h =
-    let same : n + 1 + length lines ≡ n + suc (length lines) = omega arith in
-    subst (Placed (lines_behind (bit_reader c) (next_line (bit_reader c) g line) lines)) same (placed_from c (next_line (bit_reader c) g line) (n + 1) lines (placed_line c g n line g.refused refl h))
-
-nothing_placed : (c : Circuit) → Placed (nothing_admitted (bit_reader c)) 0
-nothing_placed c e = refl
-
-place_of_lines : (c : Circuit) (lines : List (List ℕ)) → (lines_read (bit_reader c) lines).refused ≡ None → PlaceAt (length lines) (lines_read (bit_reader c) lines).read.place
-place_of_lines c lines none =
-    let same : 0 + length lines ≡ length lines = omega arith in
-    subst (λ (n : ℕ). PlaceAt n (lines_read (bit_reader c) lines).read.place) same (placed_from c (nothing_admitted (bit_reader c)) 0 lines (nothing_placed c) none)
 
 -- ---- what the line is
 

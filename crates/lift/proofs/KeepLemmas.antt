@@ -36,7 +36,7 @@ use Rattle.witness.proofs.FrameLemmas.{bad_names, length-nodes}
 use Rattle.witness.proofs.ShapeLemmas.{length-places}
 use Rattle.lift.specs.Lifted.{lifted_lines, lifted_with}
 use Rattle.lift.specs.Verdicts.{IsSameVerdict, KeepsVerdictIn}
-use Rattle.lift.proofs.LineLemmas.{counted}
+use Rattle.restore.proofs.BitPlaceLemmas.{counted}
 use Rattle.lift.proofs.AssignedLemmas.{lifted_witness}
 use Rattle.lift.proofs.LiftedWitness.{AreWide, lines_are_witness, lifted_is_witness}
 use Rattle.lift.proofs.LiftedWords.{words_lifted, given_again, initial_again, initial_below, initial_fits, given_fit}

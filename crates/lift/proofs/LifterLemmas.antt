@@ -14,31 +14,18 @@ use Rattle.aiger.specs.Circuit.{Circuit, IsCircuit}
 use Rattle.witness.specs.Readings.{lines_read, reading}
 use Rattle.witness.specs.BitAdmits.{admitted_lines, bit_reader}
 use Rattle.witness.specs.BitStands.{StandsFor}
-use Rattle.witness.proofs.TextEndLemmas.{whole_lines-end, unfinished-line_end}
+use Rattle.witness.proofs.TextEndLemmas.{whole_lines-part, unfinished-part, whole_lines-end, unfinished-line_end}
 use Rattle.lift.specs.Lifted.{piece, lifted_with}
 use Rattle.lift.specs.Kept.{Keeps, kept_piece}
 use Rattle.lift.specs.Stands.{Lifter, LiftsWith, admitted_piece}
-use Rattle.lift.proofs.LineLemmas.{lifted_of, line_more, lines_behind_text, lifted_by_lines, lifted_begins}
+use Rattle.lift.proofs.LineLemmas.{lifted_of, line_more, lifted_by_lines, lifted_begins}
 use Rattle.lift.proofs.AdmitLemmas.{is_admitted, kept_is_piece}
 
 -- ---- bytes that end no line
 
-still_a_line : (text bytes : List ℕ) → IsLine bytes → IsLine (unfinished text ++ bytes)
-still_a_line text bytes is = list_any-append (λ c. c == 10) (unfinished text) bytes ∙ or_from _ _ (unfinished_is_line text) is
-
-rest_longer : (text bytes : List ℕ) → IsLine bytes → unfinished (text ++ bytes) ≡ unfinished text ++ bytes
-rest_longer text bytes is =
-    let behind : text ++ bytes ≡ text_of_lines (whole_lines text) ++ (unfinished text ++ bytes) =
-    ap (λ (t : List ℕ). t ++ bytes) (sym (parts_of_text text)) ∙ append_assoc (text_of_lines (whole_lines text)) (unfinished text) bytes in
-    ap unfinished behind ∙ unfinished-lines (whole_lines text) (unfinished text ++ bytes) ∙ unfinished-last (unfinished text ++ bytes) (still_a_line text bytes is)
-
-same_lines : (text bytes : List ℕ) → IsLine bytes → whole_lines (text ++ bytes) ≡ whole_lines text
-same_lines text bytes is =
-    lines_behind_text text bytes ∙ ap (λ (ls : List (List ℕ)). whole_lines text ++ ls) (whole_lines-last (unfinished text ++ bytes) (still_a_line text bytes is)) ∙ append-nil (whole_lines text)
-
 pub same_lifted : (named : Bool) (items : List Item) (c : Circuit) (text bytes : List ℕ) → IsLine bytes → lifted_with named items c (text ++ bytes) ≡ lifted_with named items c text
 same_lifted named items c text bytes is =
-    lifted_by_lines named items c (text ++ bytes) ∙ ap (λ (ls : List (List ℕ)). text_of_lines (lifted_of named items c ls)) (same_lines text bytes is) ∙ sym (lifted_by_lines named items c text)
+    lifted_by_lines named items c (text ++ bytes) ∙ ap (λ (ls : List (List ℕ)). text_of_lines (lifted_of named items c ls)) (whole_lines-part text bytes is) ∙ sym (lifted_by_lines named items c text)
 
 pub lifts_bytes : (named : Bool) (items : List Item) (c : Circuit) (text bytes : List ℕ) (before after : Lifter) → IsLine bytes → LiftsWith named items c before text → after.items ≡ before.items → after.named ≡ before.named
     → StandsFor c after.judge (text ++ bytes) → ((line : List ℕ) → Keeps before.kept line → Keeps after.kept (line ++ bytes)) → length after.kept.bits ≡ length before.kept.bits → LiftsWith named items c after (text ++ bytes)
@@ -48,7 +35,7 @@ lifts_bytes named items c text bytes before after is h same same_names stands ke
       model = same ∙ h.model;
       naming = same_names ∙ h.naming;
       judge = stands;
-      kept = subst (Keeps after.kept) (sym (rest_longer text bytes is)) (keeps (unfinished text) h.kept);
+      kept = subst (Keeps after.kept) (sym (unfinished-part text bytes is)) (keeps (unfinished text) h.kept);
       latches = omega (arith, h.latches, room);
       inputs = omega (arith, h.inputs, room);
     }
@@ -63,7 +50,7 @@ unfolding reading
 admitted_by_lines c text = refl
 
 same_admitted : (c : Circuit) (text bytes : List ℕ) → IsLine bytes → admitted_lines c text ≡ admitted_lines c (text ++ bytes)
-same_admitted c text bytes is = admitted_by_lines c text ∙ ap (λ (ls : List (List ℕ)). (lines_read (bit_reader c) ls).admitted) (sym (same_lines text bytes is)) ∙ sym (admitted_by_lines c (text ++ bytes))
+same_admitted c text bytes is = admitted_by_lines c text ∙ ap (λ (ls : List (List ℕ)). (lines_read (bit_reader c) ls).admitted) (sym (whole_lines-part text bytes is)) ∙ sym (admitted_by_lines c (text ++ bytes))
 
 lifted_end_by_lines : (named : Bool) (items : List Item) (c : Circuit) (text : List ℕ) → lifted_with named items c (text ++ 10 ∷ []) ≡ text_of_lines (lifted_of named items c (whole_lines text ++ unfinished text ∷ []))
 lifted_end_by_lines named items c text = lifted_by_lines named items c (text ++ 10 ∷ []) ∙ ap (λ (ls : List (List ℕ)). text_of_lines (lifted_of named items c ls)) (whole_lines-end text)
@@ -88,15 +75,15 @@ lifted_end named items c text l h =
     let new : ℕ = admitted_lines c (text ++ 10 ∷ []) in
     elim (line_more named items c (whole_lines text) (unfinished text)) [
       | inl p ↦
-          let same : (new == old) ≡ true = eq-eqb new old (admitted_end c text ∙ p.count ∙ sym (admitted_by_lines c text)) in
+          let same : (new == old) ≡ true = eq-eqb new old (admitted_end c text ∙ p.step.count ∙ sym (admitted_by_lines c text)) in
           lifted_end_by_lines named items c text ∙ ap text_of_lines p.lifted ∙ sym (lifted_by_lines named items c text)
           ∙ sym (append-nil (lifted_with named items c text)) ∙ ap (λ (b : Bool). lifted_with named items c text ++ text_of_lines (admitted_piece (not b) l old)) (sym same)
       | inr a ↦
-          let number : old ≡ length (whole_lines text) = admitted_by_lines c text ∙ a.before in
-          let count : new ≡ length (whole_lines text) + 1 = admitted_end c text ∙ a.count in
+          let number : old ≡ length (whole_lines text) = admitted_by_lines c text ∙ a.step.before in
+          let count : new ≡ length (whole_lines text) + 1 = admitted_end c text ∙ a.step.count in
           let other : (new == old) ≡ false = ne_eqb new old (λ e. omega (arith, number, count, e)) in
           let is : kept_piece named items (length (whole_lines text)) l.kept ≡ piece named items (length (whole_lines text)) (unfinished text) =
-          kept_is_piece named items c (length (whole_lines text)) (unfinished text) l.kept (few_bads c h.circuit) (is_admitted c (whole_lines text) a.next (unfinished text) (few_bads c h.circuit) a.going a.reads) h.kept h.latches h.inputs in
+          kept_is_piece named items c (length (whole_lines text)) (unfinished text) l.kept (few_bads c h.circuit) (is_admitted c (whole_lines text) _ (unfinished text) (few_bads c h.circuit) a.step.going a.step.reads) h.kept h.latches h.inputs in
           let put : admitted_piece (not (new == old)) l old ≡ piece named items (length (whole_lines text)) (unfinished text) =
           ap (λ (b : Bool). admitted_piece (not b) l old) other ∙ ap (λ (b : Bool). kept_piece b l.items old l.kept) h.naming ∙ ap₂ (λ (xs : List Item) (n : ℕ). kept_piece named xs n l.kept) h.model number ∙ is in
           lifted_end_by_lines named items c text ∙ ap text_of_lines a.lifted
@@ -125,7 +112,7 @@ module _ {T E : Type 0} (r : Result T E) (named : Bool) (items : List Item) (c :
         circuit = h.circuit;
         model = same ∙ h.model;
         naming = same_names ∙ h.naming;
-        kept = subst (Keeps mid.kept) (sym (rest_longer text line is)) keeps;
+        kept = subst (Keeps mid.kept) (sym (unfinished-part text line is)) keeps;
         latches = omega (arith, h.latches, room);
         inputs = omega (arith, h.inputs, room);
       }

@@ -1,19 +1,29 @@
--- What the text of a counterexample over the engine form of a circuit is over the model that the circuit was made of (how the one becomes the other is this project's): what it is restored to, lifted.
-use Rattle.std.specs.Prelude.{◌≡◌, ℕ, ◌+◌, ◌≤◌, Bool, false, List, length, replicate, Option, Some}
+-- What a counterexample over the engine form of a circuit is over the model that the circuit was made of (how the one becomes the other is this project's): what its text is restored to, lifted.
+use Rattle.std.specs.Prelude.{◌≡◌, ℕ, ◌+◌, ◌≤◌, Bool, true, false, List, length, replicate, Option, Some, None, Result, IfErr, IfOk, IfSome, OnErr, OnOk}
+use Rattle.std.specs.Io.KnownBytes.{Appends}
+use Rattle.base.specs.Device.{AppendsBeginning}
 use Rattle.base.specs.Lines.{whole_lines}
 use Rattle.btor2.specs.declared.item.Item.{Item}
 use Rattle.aiger.specs.Literal.{Valuation}
 use Rattle.aiger.specs.Circuit.{Circuit}
 use Rattle.aiger.specs.Trace.{IsTrace}
 use Rattle.engine.specs.EngineForm.{input_count, IsEngineFormOf}
+use Rattle.witness.specs.declared.judgement.Judgement.{Judgement}
 use Rattle.witness.specs.declared.judgement.Judgement.TheVariants as judgement
 use Rattle.witness.specs.Texts.{most_lines}
 use Rattle.witness.specs.Judgements.{Judges}
+use Rattle.witness.specs.BitJudgements.{BitJudges}
+use Rattle.restore.specs.declared.fault.RestoreFault.{RestoreFault}
+use Rattle.restore.specs.Accepted.{FindsAgain}
 use Rattle.restore.specs.Counterexample.{HasProperty, place_in, first_bad}
+use Rattle.restore.specs.Faults.{is_of_text}
+use Rattle.restore.specs.FormWitness.{form_restored_text, FormJudges, IsFoundAgain}
+use Rattle.restore.specs.Pieces.{Restorer, owed}
 use Rattle.restore.specs.Reading.{whole, read_text}
 use Rattle.restore.specs.Restored.{restored_text}
 use Rattle.lift.specs.Lifted.{lifted_with}
 use Rattle.lift.specs.Stands.{Lifter, LiftsWith}
+use Rattle.lift.specs.Verdicts.{KeepsVerdictIn}
 
 -- the lifted text, with names or without, of what the text of a counterexample is restored to, with this claim
 abbrev pub engine_lifted_text : Bool → List Item → Circuit → ℕ → List ℕ → List ℕ
@@ -26,6 +36,26 @@ FindsInModel named items c k text =
     → read_text (input_count c) text ≡ whole given → length given + 4 ≤ most_lines → IsTrace d (replicate (length d.latches) false) given ws → first_bad d (place_in choice k) ws ≡ Some n
     → length (whole_lines (engine_lifted_text named items c k text)) ≤ most_lines
     → Judges items (engine_lifted_text named items c k text) (judgement.Accepted (n + 1))
+
+-- ---- witnesses of the engine form
+
+-- the lifted text, with names or without, of what a witness of the engine form is restored to, with all bad properties or the chosen one
+abbrev pub form_lifted_text : Bool → List Item → Circuit → Option ℕ → Circuit → List ℕ → List ℕ
+form_lifted_text named items c choice d text = lifted_with named items c (form_restored_text c choice d text)
+
+-- where this is judged over the circuit of what such a text is restored to, what is judged over the model of what it is lifted to is the same verdict
+abbrev pub KeepsFormVerdict : Bool → List Item → Circuit → Option ℕ → Circuit → List ℕ → Judgement → Type 0
+KeepsFormVerdict named items c choice d text j =
+    BitJudges c (form_restored_text c choice d text) j → KeepsVerdictIn items c (form_restored_text c choice d text) (form_lifted_text named items c choice d text) j
+
+-- A text that is accepted over the form is found again over the circuit; and what it is lifted to is accepted over the model, with the frames up to and with the first in which the claimed property of the form is 1, if that has no more lines than a witness may have.
+pub record IsFoundInModel (named : Bool) (items : List Item) (c : Circuit) (choice : Option ℕ) (d : Circuit) (text : List ℕ) : Type 0 where
+  pub again : IsFoundAgain c choice d text
+  pub accepted : length (whole_lines (form_lifted_text named items c choice d text)) ≤ most_lines → Judges items (form_lifted_text named items c choice d text) (judgement.Accepted (again.last + 1))
+
+-- so it is of each text that is accepted over the form
+abbrev pub FindsWitnessInModel : Bool → List Item → Circuit → Option ℕ → Circuit → List ℕ → Type 0
+FindsWitnessInModel named items c choice d text = (frames : ℕ) → BitJudges d text (judgement.Accepted frames) → IsFoundInModel named items c choice d text
 
 -- ---- what a lifter takes a text over
 
@@ -40,3 +70,29 @@ LiftsOver o l text = LiftsWith o.named o.items o.circuit l text
 
 abbrev pub lifted_over : Over → List ℕ → List ℕ
 lifted_over o text = lifted_with o.named o.items o.circuit text
+
+-- ---- what is told of a source
+
+-- a restorer at the begin of a text, with this claim
+abbrev pub Restores : Circuit → ℕ → Restorer → Type 0
+Restores c k r = (text : List ℕ) → owed r text ≡ record { bytes = restored_text c k text; fault = (read_text (input_count c) text).fault }
+
+-- what is told of the text of a counterexample, of which these bytes are known, and what was written of it
+pub record LiftsRestored (r : Result Judgement RestoreFault) (named : Bool) (items : List Item) (c : Circuit) (k : ℕ) (source old new : Option (List ℕ)) : Type 0 where
+  pub judged : IfOk r (λ j. IfSome source (λ text. BitJudges c (restored_text c k text) j))
+  pub right : OnOk r (IfSome source (λ text. (read_text (input_count c) text).fault ≡ None))
+  pub kept : IfOk r (λ j. IfSome source (λ text. KeepsVerdictIn items c (restored_text c k text) (engine_lifted_text named items c k text) j))
+  pub written : OnOk r (IfSome source (λ text. Appends old new (engine_lifted_text named items c k text)))
+  pub found : IfOk r (λ j. IfSome source (λ text. FindsAgain c k text j))
+  pub in_model : OnOk r (IfSome source (λ text. FindsInModel named items c k text))
+  pub faulty : IfErr r (λ e. is_of_text e.why ≡ true → IfSome source (λ text. (read_text (input_count c) text).fault ≡ Some e))
+  pub before : IfErr r (λ e. is_of_text e.why ≡ true → IfSome source (λ text. Appends old new (engine_lifted_text named items c k text)))
+  pub beginning : IfErr r (λ e. is_of_text e.why ≡ false → IfSome source (λ text. AppendsBeginning old new (engine_lifted_text named items c k text)))
+
+-- and of a witness of the engine form
+pub record LiftsForm (r : Result Judgement RestoreFault) (named : Bool) (items : List Item) (c : Circuit) (choice : Option ℕ) (d : Circuit) (source old new : Option (List ℕ)) : Type 0 where
+  pub judged : IfOk r (λ j. IfSome source (λ text. FormJudges c choice d text j))
+  pub kept : IfOk r (λ j. IfSome source (λ text. KeepsFormVerdict named items c choice d text j))
+  pub written : OnOk r (IfSome source (λ text. Appends old new (form_lifted_text named items c choice d text)))
+  pub found : OnOk r (IfSome source (FindsWitnessInModel named items c choice d))
+  pub beginning : OnErr r (IfSome source (λ text. AppendsBeginning old new (form_lifted_text named items c choice d text)))

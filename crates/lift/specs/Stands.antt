@@ -1,5 +1,5 @@
 -- What a lifter holds, and which texts it stands for.
-use Rattle.std.specs.Prelude.{◌≡◌, ℕ, ◌≤◌, Bool, false, List, [], ◌++◌, Option, Result, MatchResult, IfSome, if◌then◌else◌, length}
+use Rattle.std.specs.Prelude.{◌≡◌, ℕ, ◌≤◌, Bool, List, [], ◌++◌, Option, Result, MatchResult, IfSome, if◌then◌else◌, length}
 use Rattle.std.specs.Io.KnownBytes.{Appends}
 use Rattle.base.specs.Device.{Sent, AppendsBeginning}
 use Rattle.base.specs.Lines.{unfinished}
@@ -26,10 +26,6 @@ pub record LiftsWith (named : Bool) (items : List Item) (c : Circuit) (l : Lifte
   pub kept : Keeps l.kept (unfinished text)
   pub latches : length c.latches ≤ length l.kept.bits
   pub inputs : c.inputs ≤ length l.kept.bits
-
--- it lifts without names
-abbrev pub Lifts : List Item → Circuit → Lifter → List ℕ → Type 0
-Lifts items c l text = LiftsWith false items c l text
 
 -- the piece of the line that is kept, where it is admitted
 abbrev pub admitted_piece : Bool → Lifter → ℕ → List (List ℕ)

@@ -1,17 +1,20 @@
 //! Lifting counterexamples over the engine forms of circuits.
-ghost use Rattle.std.specs.Prelude.{◌≡◌, ◌<◌, None, Some, true, false, length, IfErr, IfOk, IfSome, OnOk};
+ghost use Rattle.std.specs.Prelude.{◌≡◌, ◌<◌, ℕ, Bool, List, [], None, Some, true, false, length, IfErr, IfOk, IfSome, OnOk};
 ghost use Rattle.std.specs.Io.KnownBytes.{Appends, IsAtEnd};
 ghost use Rattle.base.specs.Device.{AppendsBeginning};
+ghost use Rattle.btor2.specs.declared.item.Item.{Item};
+ghost use Rattle.aiger.specs.Circuit.{Circuit};
 ghost use Rattle.blast.specs.Lowering.{Lowers};
 ghost use Rattle.engine.specs.EngineForm.{input_count};
 ghost use Rattle.witness.specs.BitJudgements.{BitJudges};
-ghost use Rattle.restore.specs.declared.fault.RestoreWhy.TheVariants as why;
 ghost use Rattle.restore.specs.Accepted.{FindsAgain};
 ghost use Rattle.restore.specs.Answers.{CountsRestore};
 ghost use Rattle.restore.specs.Faults.{is_of_text};
+ghost use Rattle.restore.specs.Pieces.{is_written};
 ghost use Rattle.restore.specs.Reading.{read_text};
 ghost use Rattle.restore.specs.Restored.{restored_text};
-ghost use Rattle.lift.specs.EngineLifting.{engine_lifted_text, FindsInModel};
+ghost use Rattle.lift.specs.EngineLifting.{engine_lifted_text, FindsInModel, Restores, LiftsRestored};
+ghost use Rattle.lift.specs.Stands.{LiftsWith};
 ghost use Rattle.lift.specs.Verdicts.{KeepsVerdictIn};
 
 use crate::engine_laws::found_over_the_form_is_found_in_the_model;
@@ -20,32 +23,47 @@ use crate::lifter::Lifter;
 use aiger::Circuit;
 use base::{Sink, Source};
 use btor2::Model;
-use restore::{RestoreFault, RestoreWhy, Restorer, take_restored};
+use restore::{RestoreFault, Restorer, take_restored};
 use std::alloc::Global;
 use witness::Judgement;
 
-/// There was no memory.
-fn no_memory() -> RestoreFault
-    ensures { result ≡ record { line = 0; why = why.NoMemory } }
+/// Lifts what a restorer makes of a source, and answers how that is judged over the circuit.
+fn lift_pieces<S: Source, K: Sink>(
+    restorer: &mut Restorer<'_>,
+    lifter: Lifter<'_>,
+    source: &mut S,
+    sink: &mut K,
+) -> Result<Judgement, RestoreFault>
+    requires unread { restorer.old.reader.rest ≡ [] }
+    requires begins { is_written restorer.old.stage ≡ false }
+    ensures lifts { (named : Bool) (items : List Item) (c : Circuit) (k : ℕ) → Lowers items c → k < length c.bads → Restores c k restorer.old → LiftsWith named items c lifter.entry []
+        → LiftsRestored result named items c k (S.to_come source.old) (K.written sink.old) (K.written sink.new) }
+    ensures apart { IfErr result (λ e. is_of_text e.why ≡ false → e.line ≡ 0) }
+    ensures end { OnOk result (IsAtEnd (S.to_come source.new)) }
+    ensures read_on { IfErr result (λ e. is_of_text e.why ≡ true → IsAtEnd (S.to_come source.new)) }
+    ensures counted { CountsRestore result (S.failures source.old) (S.failures source.new) (K.failures sink.old) (K.failures sink.new) }
 {
-    RestoreFault {
-        line: 0,
-        why: RestoreWhy::NoMemory,
-    }
+    found_over_the_form_is_found_in_the_model();
+    lifting_keeps_the_verdict();
+    names_keep_the_verdict();
+    restore::laws::restored_text_is_accepted();
+    witness::bit_laws::exactly_one_bit_judgement();
+    let mut lifter = lifter;
+    take_restored(restorer, &mut lifter, source, sink)?;
+    Ok(lifter.finish())
 }
 
 /// Reads the text of a counterexample over the engine form of a circuit to its end, and writes what it is lifted to: the
 /// witness of the model that says the same, up to and with the first frame in which the claimed property rises, or of all
-/// frames where it does not; with names or without, as `lift_named` and `lift` write it. The answer is the judgement over the circuit of what the text is restored to. Of the text one
-/// line is held, and what one call of the source gives; beside it two runs of the circuit, three lines, and what one call
-/// of the sink takes.
+/// frames where it does not; with names or without, as `lift_named` and `lift` write it. The answer is the judgement over the
+/// circuit of what the text is restored to. Of the text one line is held, and what one call of the source gives; beside it
+/// two runs of the circuit, three lines, and what one call of the sink takes.
 ///
 /// Conditions: the circuit is a lowering of the model, and has the claimed property.
 ///
 /// Errors: the text's first faulty line, once the source was read to its end and what the lines before it give was written,
 /// without a last line. With line 0: `Device` where the source failed in this call, `Write` where the sink did, and
 /// `NoMemory` where a growth was refused; a beginning of what the text is lifted to was written then.
-#[tactic(auto, using(crate::proofs::TakingLemmas::lifted_in_pieces))]
 pub fn lift_restored<S: Source, K: Sink>(
     alloc: Global,
     model: &Model,
@@ -76,21 +94,7 @@ pub fn lift_restored<S: Source, K: Sink>(
     // the source failed once where that is told, the sink where that is, and else neither
     ensures counted { CountsRestore result (S.failures source.old) (S.failures source.new) (K.failures sink.old) (K.failures sink.new) }
 {
-    found_over_the_form_is_found_in_the_model();
-    lifting_keeps_the_verdict();
-    names_keep_the_verdict();
-    restore::laws::restored_text_is_accepted();
-    witness::bit_laws::exactly_one_bit_judgement();
-    let mut restorer = match Restorer::new(alloc, circuit, claim) {
-        Ok(restorer) => restorer,
-        Err(_) => return Err(no_memory()),
-    };
-    let mut lifter = match Lifter::new(alloc, model, circuit) {
-        Ok(lifter) => lifter.with_names(named),
-        Err(_) => return Err(no_memory()),
-    };
-    match take_restored(&mut restorer, &mut lifter, source, sink) {
-        Ok(()) => Ok(lifter.finish()),
-        Err(fault) => Err(fault),
-    }
+    let mut restorer = Restorer::new(alloc, circuit, claim)?;
+    let lifter = Lifter::new(alloc, model, circuit, named)?;
+    lift_pieces(&mut restorer, lifter, source, sink)
 }

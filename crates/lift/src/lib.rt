@@ -4,6 +4,7 @@
 pub mod engine_laws;
 mod engine_lifting;
 mod fault;
+mod form_lifting;
 mod kept;
 pub mod laws;
 mod lifter;
@@ -13,4 +14,5 @@ mod taking;
 
 pub use engine_lifting::lift_restored;
 pub use fault::LiftFault;
+pub use form_lifting::lift_form;
 pub use lifting::{lift, lift_named};

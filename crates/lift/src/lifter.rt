@@ -7,7 +7,7 @@ ghost use Rattle.btor2.specs.declared.item.Item.{Item};
 ghost use Rattle.aiger.specs.Circuit.{Circuit};
 ghost use Rattle.witness.specs.BitJudgements.{BitJudges};
 ghost use Rattle.witness.specs.Texts.{shape_of, has_free};
-ghost use Rattle.lift.specs.Stands.{Lifts, LiftsWith, Takes, admitted_piece};
+ghost use Rattle.lift.specs.Stands.{LiftsWith, Takes, admitted_piece};
 
 use crate::kept::KeptLine;
 use crate::pieces::{has_free, put_piece};
@@ -52,39 +52,27 @@ fn most_bits(circuit: &Circuit) -> usize
 }
 
 impl<'a> Lifter<'a> {
-    /// A lifter of the empty text, without names.
+    /// A lifter of the empty text, with names or without.
     ///
     /// Error: where a growth was refused.
     pub(crate) fn new(
         alloc: Global,
         model: &'a btor2::Model,
         circuit: &'a Circuit,
+        named: bool,
     ) -> Result<Lifter<'a>, AllocError>
-        ensures { IfOk result (λ l. Lifts model.now circuit.now l []) }
+        ensures { IfOk result (λ l. LiftsWith named model.now circuit.now l []) }
     {
         let kept = KeptLine::new(alloc, most_bits(circuit))?;
         match BitJudge::new(alloc, circuit) {
             Ok(judge) => Ok(Lifter {
                 model,
-                named: false,
+                named,
                 some_free: has_free(model),
                 judge,
                 kept,
             }),
             Err(_) => Err(AllocError),
-        }
-    }
-
-    /// The same lifter, with names or without.
-    pub(crate) fn with_names(self, named: bool) -> Lifter<'a>
-        ensures { (items : List Item) (c : Circuit) → Lifts items c self.entry [] → LiftsWith named items c result [] }
-    {
-        Lifter {
-            model: self.model,
-            named,
-            some_free: self.some_free,
-            judge: self.judge,
-            kept: self.kept,
         }
     }
 

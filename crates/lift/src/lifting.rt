@@ -121,8 +121,8 @@ fn lift_with<S: Source, K: Sink>(
     ensures end { OnOk result (IsAtEnd (S.to_come source.new)) }
     ensures counted { CountsLift result (S.failures source.old) (S.failures source.new) (K.failures sink.old) (K.failures sink.new) }
 {
-    let mut lifter = match Lifter::new(alloc, model, circuit) {
-        Ok(lifter) => lifter.with_names(named),
+    let mut lifter = match Lifter::new(alloc, model, circuit, named) {
+        Ok(lifter) => lifter,
         Err(_) => return Err(LiftFault::NoMemory),
     };
     match lift_through(&mut lifter, source, sink) {

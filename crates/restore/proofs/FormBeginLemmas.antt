@@ -17,8 +17,9 @@ use Rattle.witness.specs.BitAdmits.{claim_at, BitPlace, AtHeader, AtClaim, AtIni
 use Rattle.restore.specs.Frames.{frame_of}
 use Rattle.restore.specs.Restored.{rises_in, own_inputs, cut_inputs, written_frames, opening}
 use Rattle.restore.specs.FormWitness.{property_of, frame_lines, last_line, read_restored, form_restored_text}
+use Rattle.witness.proofs.TextEndLemmas.{lines_behind_text}
 use Rattle.restore.proofs.BitPlaceLemmas.{line_more}
-use Rattle.restore.proofs.FormLineLemmas.{status_line, initial_line, end_line, frame_line, behind_text}
+use Rattle.restore.proofs.FormLineLemmas.{status_line, initial_line, end_line, frame_line}
 
 -- ---- frames
 
@@ -147,5 +148,5 @@ early_read d lines = (all_lines d None d [] lines refl).early
 pub restored_begins : (c : Circuit) (choice : Option ℕ) (d : Circuit) (front rest : List ℕ) → BeginsWith (form_restored_text c choice d (front ++ rest)) (form_restored_text c choice d front)
 unfolding form_restored_text reading
 restored_begins c choice d front rest =
-    let behind : whole_lines (front ++ rest) ≡ whole_lines front ++ whole_lines (unfinished front ++ rest) = ap whole_lines (behind_text front rest) ∙ whole_lines-lines (whole_lines front) (unfinished front ++ rest) (lines_are_lines front) in
+    let behind : whole_lines (front ++ rest) ≡ whole_lines front ++ whole_lines (unfinished front ++ rest) = lines_behind_text front rest in
     subst (λ (ls : List (List ℕ)). BeginsWith (read_restored c choice (read_lines d ls)) (read_restored c choice (read_lines d (whole_lines front)))) (sym behind) (all_lines c choice d (whole_lines front) (whole_lines (unfinished front ++ rest)) (early_read d (whole_lines front))).begins

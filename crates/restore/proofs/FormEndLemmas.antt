@@ -1,13 +1,16 @@
 -- All of a witness of an engine form is taken, and what is put for it is written.
-use Rattle.std.proofs.Common.{◌≡◌, ℕ, Bool, true, false, List, [], ◌++◌, length, Option, Some, None, Result, Ok, Err, IfSome, IfErr, OnOk, IsOk, MatchResult, refl, sym, ap, ap₂, subst, ◌∙◌, arith, ◌⊎◌, inl, inr}
+use Rattle.std.proofs.Common.{◌≡◌, ℕ, Bool, true, false, List, [], ◌++◌, length, Option, Some, None, Result, Ok, Err, IfSome, IfErr, OnErr, OnOk, IsOk, MatchResult, refl, sym, ap, ap₂, subst, ◌∙◌, arith, ◌⊎◌, inl, inr}
 use Rattle.std.specs.Io.KnownBytes.{Appends}
 use Rattle.std.proofs.KnownBytes.{Appends-nil}
 use Rattle.base.specs.Device.{Sent, AppendsBeginning}
 use Rattle.base.specs.Lines.{text_of_lines}
 use Rattle.aiger.specs.Circuit.{Circuit}
 use Rattle.engine.specs.EngineForm.{input_count}
+use Rattle.witness.specs.declared.judgement.Judgement.{Judgement}
 use Rattle.witness.specs.BitAdmits.{is_done}
+use Rattle.witness.specs.BitJudgements.{BitJudges}
 use Rattle.witness.specs.BitStands.{BitJudge, StandsFor}
+use Rattle.witness.proofs.FeedLemmas.{if_some_then}
 use Rattle.restore.specs.declared.fault.RestoreFault.{RestoreFault}
 use Rattle.restore.specs.declared.fault.RestoreWhy.TheVariants as why
 use Rattle.restore.specs.declared.stage.Stage.{Stage}
@@ -18,7 +21,7 @@ use Rattle.restore.specs.Pieces.{Restorer, Owed, owed_at, is_reading}
 use Rattle.restore.specs.Restored.{restored_lines}
 use Rattle.restore.specs.Taking.{IsPutInPieces}
 use Rattle.restore.specs.FormSteps.{read_of, FormHolds, IsClaimed, ReadsClaim, Owing, WritesFormAll}
-use Rattle.restore.specs.FormWitness.{property_of, frame_lines, last_line, form_restored_text}
+use Rattle.restore.specs.FormWitness.{property_of, frame_lines, last_line, form_restored_text, TakesRestored}
 
 -- before a frame nothing is restored
 pub nothing_yet : (c : Circuit) (choice : Option ℕ) (d : Circuit) (text : List ℕ) → (read_of d text).frames ≡ [] → is_done (read_of d text).place ≡ false → form_restored_text c choice d text ≡ []
@@ -96,3 +99,17 @@ counted_behind r old mid new put put' same counted = subst (λ (n : ℕ). Counts
 pub nothing_written : (known old : Option (List ℕ)) (f : List ℕ → List ℕ) → IfSome known (λ text. AppendsBeginning old old (f text))
 nothing_written None old f = tt
 nothing_written (Some text) old f = ([], (f text, refl), Appends-nil old)
+
+-- ---- and judged
+
+module _ {O V : Type 0} (stands : O → V → List ℕ → Type 0) (put_for : O → List ℕ → List ℕ) (c : Circuit) (choice : Option ℕ) (d : Circuit) (o : O) (judge : BitJudge) (after : V) (known old new : Option (List ℕ)) where
+  pub then_judged : (r : Result (Unit {0}) RestoreFault) (over : Judgement) → WritesFormAll stands put_for r c choice d o known old new after judge → ((text : List ℕ) → StandsFor d judge text → BitJudges d text over)
+      → OnOk r (IfSome known (TakesRestored stands put_for (Ok over) c choice d o after old new))
+  then_judged (Ok u) over writes finish =
+      if_some_then known (λ text. StandsFor d judge text × (stands o after (form_restored_text c choice d text) × Appends old new (put_for o (form_restored_text c choice d text))))
+      (TakesRestored stands put_for (Ok over) c choice d o after old new) (λ text t. (finish text t.0, t.1)) writes
+  then_judged (Err e) over writes finish = tt
+
+  pub or_begun : (r : Result (Unit {0}) RestoreFault) → WritesFormAll stands put_for r c choice d o known old new after judge → OnErr r (IfSome known (λ text. AppendsBeginning old new (put_for o (form_restored_text c choice d text))))
+  or_begun (Ok u) writes = tt
+  or_begun (Err e) writes = writes

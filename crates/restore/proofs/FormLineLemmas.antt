@@ -13,30 +13,14 @@ use Rattle.witness.specs.Texts.{claim}
 use Rattle.witness.specs.Readings.{lines_read, reading}
 use Rattle.witness.specs.BitAdmits.{claim_at, bits_at, BitPlace, AtHeader, AtClaim, AtInitial, AtFirst, AtLater, AtDone, BitRead, after_claim, after_initial, after_frame, bit_admit_at, bit_admit, bit_reader, admitted_lines, is_done}
 use Rattle.witness.proofs.BitReadLemmas.{bits_are_line, claim_is_line}
-use Rattle.witness.proofs.TextEndLemmas.{whole_lines-end}
+use Rattle.witness.proofs.TextEndLemmas.{whole_lines-part, whole_lines-line_end}
 use Rattle.restore.specs.FormSteps.{read_of}
 use Rattle.restore.proofs.BitPlaceLemmas.{PlaceAt, place_of_lines, line_more}
 
 -- ---- texts
 
-still_a_line : (text bytes : List ℕ) → IsLine bytes → IsLine (unfinished text ++ bytes)
-still_a_line text bytes is = list_any-append (λ c. c == 10) (unfinished text) bytes ∙ or_from _ _ (unfinished_is_line text) is
-
-pub behind_text : (text bytes : List ℕ) → text ++ bytes ≡ text_of_lines (whole_lines text) ++ (unfinished text ++ bytes)
-behind_text text bytes = ap (λ (t : List ℕ). t ++ bytes) (sym (parts_of_text text)) ∙ append_assoc (text_of_lines (whole_lines text)) (unfinished text) bytes
-
-rest_longer : (text bytes : List ℕ) → IsLine bytes → unfinished (text ++ bytes) ≡ unfinished text ++ bytes
-rest_longer text bytes is = ap unfinished (behind_text text bytes) ∙ unfinished-lines (whole_lines text) (unfinished text ++ bytes) ∙ unfinished-last (unfinished text ++ bytes) (still_a_line text bytes is)
-
-pub same_lines : (text bytes : List ℕ) → IsLine bytes → whole_lines (text ++ bytes) ≡ whole_lines text
-same_lines text bytes is =
-    ap whole_lines (behind_text text bytes) ∙ whole_lines-lines (whole_lines text) (unfinished text ++ bytes) (lines_are_lines text)
-    ∙ ap (λ (ls : List (List ℕ)). whole_lines text ++ ls) (whole_lines-last (unfinished text ++ bytes) (still_a_line text bytes is)) ∙ append-nil (whole_lines text)
-
 line_behind : (text line : List ℕ) → unfinished text ≡ [] → IsLine line → whole_lines (text ++ (line ++ 10 ∷ [])) ≡ whole_lines text ++ line ∷ []
-line_behind text line whole is =
-    ap whole_lines (sym (append_assoc text line (10 ∷ []))) ∙ whole_lines-end (text ++ line)
-    ∙ ap₂ (λ (ls : List (List ℕ)) (l : List ℕ). ls ++ l ∷ []) (same_lines text line is) (rest_longer text line is ∙ ap (λ (l : List ℕ). l ++ line) whole)
+line_behind text line whole is = whole_lines-line_end text line is ∙ ap (λ (l : List ℕ). whole_lines text ++ (l ++ line) ∷ []) whole
 
 pub admitted_by : (d : Circuit) (text : List ℕ) → admitted_lines d text ≡ (lines_read (bit_reader d) (whole_lines text)).admitted
 unfolding reading
@@ -48,7 +32,7 @@ read_by d text = refl
 
 -- bytes that end no line say nothing more
 pub same_read : (d : Circuit) (text bytes : List ℕ) → IsLine bytes → read_of d (text ++ bytes) ≡ read_of d text
-same_read d text bytes is = read_by d (text ++ bytes) ∙ ap (λ (ls : List (List ℕ)). (lines_read (bit_reader d) ls).read) (same_lines text bytes is) ∙ sym (read_by d text)
+same_read d text bytes is = read_by d (text ++ bytes) ∙ ap (λ (ls : List (List ℕ)). (lines_read (bit_reader d) ls).read) (whole_lines-part text bytes is) ∙ sym (read_by d text)
 
 -- ---- a line more
 

@@ -23,8 +23,7 @@ use Rattle.witness.specs.BitAdmits.{BitRead, bit_reader, is_done, read_bit_text,
 use Rattle.witness.specs.BitJudgements.{first_reset_differing, bit_violation_from, bit_rises, when_risen, when_unbroken, when_reset, bit_verdict, makes_no_bit_claim, JudgesBits, BitJudges}
 use Rattle.restore.specs.Counterexample.{HasProperty, place_in, first_bad}
 use Rattle.restore.specs.Restored.{opening, written_frames, restored_witness}
-use Rattle.restore.specs.FormWitness.{property_of, frame_lines, last_line, read_restored, form_restored_text, FormJudges, IsFoundAgain}
-use Rattle.restore.specs.FormSteps.{told_of}
+use Rattle.restore.specs.FormWitness.{property_of, frame_lines, last_line, read_restored, form_restored_text, told_of, FormJudges, IsFoundAgain}
 use Rattle.restore.proofs.RiseLemmas.{Reads, says_of, accepted_of, many_lines}
 use Rattle.restore.proofs.RestoredLemmas as frames
 

@@ -5,8 +5,6 @@ use Rattle.base.specs.Device.{Sent, AppendsBeginning}
 use Rattle.base.specs.Lines.{text_of_lines, unfinished}
 use Rattle.aiger.specs.Circuit.{Circuit, IsCircuit}
 use Rattle.engine.specs.EngineForm.{input_count}
-use Rattle.witness.specs.declared.judgement.Judgement.{Judgement}
-use Rattle.witness.specs.declared.judgement.Judgement.TheVariants as judgement
 use Rattle.witness.specs.Readings.{reading}
 use Rattle.witness.specs.BitAdmits.{BitRead, bit_reader, admitted_lines, is_done}
 use Rattle.witness.specs.BitStands.{BitJudge, StandsFor}
@@ -135,9 +133,3 @@ WritesFormAll stands put_for r c choice d o whole old new after judge =
     MatchResult r
     (λ x. IfSome whole (λ text. StandsFor d judge text × (stands o after (form_restored_text c choice d text) × Appends old new (put_for o (form_restored_text c choice d text)))))
     (λ e. IfSome whole (λ text. AppendsBeginning old new (put_for o (form_restored_text c choice d text))))
-
--- what is told, by what is judged of the text over the form, and of what it is restored to over the circuit
-abbrev pub told_of : Judgement → Judgement → Judgement
-told_of judgement.NoClaim restored = judgement.NoClaim
-told_of (judgement.Malformed line w) restored = judgement.Malformed line w
-told_of _ restored = restored

@@ -1,5 +1,7 @@
 -- What a witness of the engine form of a circuit, as the AIGER format has them, is restored to ("AIGER 1.9 and Beyond", its witnesses; where the frames end is this project's): the witness of the circuit that its frames say.
-use Rattle.std.specs.Prelude.{◌≡◌, ℕ, ◌+◌, Bool, true, false, List, [], ◌∷◌, ◌++◌, Option, None, Some, codes, length, map, replicate}
+use Rattle.std.specs.Prelude.{◌≡◌, ℕ, ◌+◌, Bool, true, false, List, [], ◌∷◌, ◌++◌, Option, None, Some, Result, Ok, Err, codes, length, map, replicate}
+use Rattle.std.specs.Io.KnownBytes.{Appends}
+use Rattle.base.specs.Device.{AppendsBeginning}
 use Rattle.base.specs.Lines.{text_of_lines, whole_lines}
 use Rattle.aiger.specs.Literal.{Valuation}
 use Rattle.aiger.specs.Circuit.{Circuit}
@@ -11,6 +13,7 @@ use Rattle.witness.specs.Readings.{reading}
 use Rattle.witness.specs.BitTexts.{BitWitness, BitSays, bit_line}
 use Rattle.witness.specs.BitAdmits.{BitRead, bit_reader, is_done, read_bit_text}
 use Rattle.witness.specs.BitJudgements.{makes_no_bit_claim, BitJudges}
+use Rattle.restore.specs.declared.fault.RestoreFault.{RestoreFault}
 use Rattle.restore.specs.Counterexample.{first_bad}
 use Rattle.restore.specs.Restored.{opening, written_frames, restored_witness}
 
@@ -54,3 +57,16 @@ pub record IsFoundAgain (c : Circuit) (choice : Option ℕ) (d : Circuit) (text 
 -- so it is of each text that is accepted over the form
 abbrev pub FindsWitnessAgain : Circuit → Option ℕ → Circuit → List ℕ → Type 0
 FindsWitnessAgain c choice d text = (frames : ℕ) → BitJudges d text (judgement.Accepted frames) → IsFoundAgain c choice d text
+
+-- ---- what is told
+
+-- what is told, by what is judged of the text over the form, and of what it is restored to over the circuit
+abbrev pub told_of : Judgement → Judgement → Judgement
+told_of judgement.NoClaim restored = judgement.NoClaim
+told_of (judgement.Malformed line w) restored = judgement.Malformed line w
+told_of _ restored = restored
+
+-- What is told of a text that something takes by what it is restored to: the judgement over the form, where it has taken all of that, and what is put for it was written; at a fault a beginning of this was.
+abbrev pub TakesRestored : {O V : Type 0} → (O → V → List ℕ → Type 0) → (O → List ℕ → List ℕ) → Result Judgement RestoreFault → Circuit → Option ℕ → Circuit → O → V → Option (List ℕ) → Option (List ℕ) → List ℕ → Type 0
+TakesRestored stands put_for (Ok j) c choice d o taker old new text = BitJudges d text j × (stands o taker (form_restored_text c choice d text) × Appends old new (put_for o (form_restored_text c choice d text)))
+TakesRestored stands put_for (Err e) c choice d o taker old new text = AppendsBeginning old new (put_for o (form_restored_text c choice d text))

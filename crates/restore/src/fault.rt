@@ -2,6 +2,7 @@
 ghost use Rattle.std.specs.Prelude.{◌≡◌};
 ghost use Rattle.restore.specs.Faults.{why_number, why_name, is_of_text};
 
+use std::alloc::AllocError;
 use std::fmt;
 use thiserror::Error;
 
@@ -79,4 +80,24 @@ pub struct RestoreFault {
     pub line: u64,
     /// What is wrong with it.
     pub why: RestoreWhy,
+}
+
+impl RestoreFault {
+    /// What no line has: a failure of the source or the sink, or want of memory.
+    pub fn apart(why: RestoreWhy) -> RestoreFault
+        ensures { result ≡ record { line = 0; why = why } }
+    {
+        RestoreFault { line: 0, why }
+    }
+}
+
+/// A growth that was refused.
+impl From<AllocError> for RestoreFault {
+    ghost use Rattle.restore.specs.declared.fault.RestoreWhy.TheVariants.{NoMemory};
+
+    ghost from_gives = { λ _ e. e ≡ record { line = 0; why = NoMemory } };
+
+    fn from(_: AllocError) -> RestoreFault {
+        RestoreFault::apart(RestoreWhy::NoMemory)
+    }
 }

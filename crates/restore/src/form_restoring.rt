@@ -1,11 +1,12 @@
 //! Restoring witnesses of engine forms.
-ghost use Rattle.std.specs.Prelude.{◌≡◌, ◌<◌, ◌^◌, ◌==◌, ℕ, List, [], ◌∷◌, ◌++◌, Option, None, true, false, not, length, IfErr, IfOk, IfSome, OnErr, OnOk};
+ghost use Rattle.std.specs.Prelude.{◌≡◌, ◌<◌, ◌^◌, ◌==◌, ℕ, List, [], ◌∷◌, ◌++◌, Option, None, true, false, not, length, IfErr, IfOk, IfSome, OnErr, OnOk, Ok};
 ghost use Rattle.std.specs.Str.{bytes_eq};
 ghost use Rattle.std.specs.Io.KnownBytes.{Appends, Consumes, IsAtEnd, prepend_known};
 ghost use Rattle.base.specs.Device.{AppendsBeginning, CountsFaults};
 ghost use Rattle.base.specs.Lines.{IsLine};
 ghost use Rattle.aiger.specs.Circuit.{Circuit, IsCircuit};
 ghost use Rattle.engine.specs.EngineForm.{IsEngineFormOf, input_count};
+ghost use Rattle.witness.specs.declared.judgement.Judgement.{Judgement};
 ghost use Rattle.witness.specs.Texts.{claim};
 ghost use Rattle.witness.specs.BitAdmits.{admitted_lines};
 ghost use Rattle.witness.specs.BitJudgements.{BitJudges};
@@ -14,8 +15,8 @@ ghost use Rattle.restore.specs.declared.fault.RestoreWhy.TheVariants as why;
 ghost use Rattle.restore.specs.declared.stage.Stage.TheVariants as stage;
 ghost use Rattle.restore.specs.Answers.{CountsRestore};
 ghost use Rattle.restore.specs.Faults.{is_of_text};
-ghost use Rattle.restore.specs.FormSteps.{FormHolds, told_of, IsHead, IsClaimed, WritesFormAll, IsHeadOrClaimed, ReadsClaim, TakesForm, TakesFormAll, frame_pieces_at, frame_put, frame_taken, settled};
-ghost use Rattle.restore.specs.FormWitness.{property_of, form_restored_text, FormJudges, FindsWitnessAgain};
+ghost use Rattle.restore.specs.FormSteps.{FormHolds, IsHead, IsClaimed, WritesFormAll, IsHeadOrClaimed, ReadsClaim, TakesForm, TakesFormAll, frame_pieces_at, frame_put, frame_taken, settled};
+ghost use Rattle.restore.specs.FormWitness.{property_of, form_restored_text, told_of, FormJudges, FindsWitnessAgain, TakesRestored};
 ghost use Rattle.restore.specs.Pieces.{head, is_reading};
 ghost use Rattle.restore.specs.Taking.{TakesPiece, IsPutInPieces};
 
@@ -242,16 +243,6 @@ fn property_of(choice: Option<usize>, claim: usize) -> usize
     }
 }
 
-/// There was no memory.
-fn no_memory() -> RestoreFault
-    ensures { result ≡ record { line = 0; why = why.NoMemory } }
-{
-    RestoreFault {
-        line: 0,
-        why: RestoreWhy::NoMemory,
-    }
-}
-
 /// Takes the lines of a source behind that of the claim, and writes what is put for what they are restored to.
 fn take_frames<S: Source, T: Taker, K: Sink>(
     alloc: Global,
@@ -270,10 +261,7 @@ fn take_frames<S: Source, T: Taker, K: Sink>(
     ensures line { IfErr result (λ e. is_of_text e.why ≡ false × (e.line ≡ 0)) }
     ensures counted { CountsRestore result (S.failures source.old) (S.failures source.new) (K.failures sink.old) (K.failures sink.new) }
 {
-    let mut restorer = match Restorer::at_start(alloc, circuit, claim) {
-        Ok(restorer) => restorer,
-        Err(_) => return Err(no_memory()),
-    };
+    let mut restorer = Restorer::at_start(alloc, circuit, claim)?;
     take_and_write(lines, &mut restorer, judge, taker, source, sink)
 }
 
@@ -298,14 +286,9 @@ fn take_and_write<S: Source, T: Taker, K: Sink>(
     end(told, &mut outbox, sink)
 }
 
-/// Reads a witness of the engine form of a circuit to its end, with all bad properties or the chosen one, judges it over the
-/// form, hands what it is restored to on to what takes it, and writes what that puts for it.
-///
-/// Conditions: it is the engine form; its judge has taken nothing yet.
-///
-/// Errors, with line 0: `Device` where the source failed in this call, `Write` where the sink did, and `NoMemory` where a
-/// growth was refused; a beginning of what is put for all was written then.
-fn take_form<S: Source, T: Taker, K: Sink>(
+/// Feeds the judge of an engine form with a source to its end, hands what it is restored to on to what takes it, and writes
+/// what that puts for it.
+fn take_all<S: Source, T: Taker, K: Sink>(
     alloc: Global,
     circuit: &Circuit,
     form: &Circuit,
@@ -317,10 +300,11 @@ fn take_form<S: Source, T: Taker, K: Sink>(
 ) -> Result<(), RestoreFault>
     requires is_form { IsEngineFormOf circuit.now choice form.now }
     requires begins { StandsFor form.now judge.old [] }
-    ensures writes { (o : T.Over) → IsPutInPieces T.put_for → T.stands o taker.old [] → WritesFormAll T.stands T.put_for result circuit.now choice form.now o (S.to_come source.old) (K.written sink.old) (K.written sink.new) taker.new judge.new }
+    ensures takes { (over : Judgement) (o : T.Over) → IsPutInPieces T.put_for → ((text : List ℕ) → StandsFor form.now judge.new text → BitJudges form.now text over) → T.stands o taker.old []
+        → OnOk result (IfSome (S.to_come source.old) (TakesRestored T.stands T.put_for (Ok over) circuit.now choice form.now o taker.new (K.written sink.old) (K.written sink.new))) }
+    ensures beginning { (o : T.Over) → IsPutInPieces T.put_for → T.stands o taker.old [] → OnErr result (IfSome (S.to_come source.old) (λ text. AppendsBeginning (K.written sink.old) (K.written sink.new) (T.put_for o (form_restored_text circuit.now choice form.now text)))) }
     ensures end { OnOk result (IsAtEnd (S.to_come source.new)) }
     ensures line { IfErr result (λ e. is_of_text e.why ≡ false × (e.line ≡ 0)) }
-    // the source failed once where that is told, the sink where that is, and else neither
     ensures counted { CountsRestore result (S.failures source.old) (S.failures source.new) (K.failures sink.old) (K.failures sink.new) }
 {
     aiger::laws::exactly_one_trace();
@@ -344,15 +328,61 @@ fn take_form<S: Source, T: Taker, K: Sink>(
     }
 }
 
-/// What is told of a witness of the form: that it makes no claim, or which line is faulty; else what is judged of what it is
-/// restored to.
-fn told_of(over: Judgement, restored: Judgement) -> Judgement
+/// Reads a witness of the engine form of a circuit to its end, with all bad properties or the chosen one, hands what it is
+/// restored to on to what takes it, and writes what that puts for it. The answer is the judgement of the witness over the
+/// form; what is told of both is `told_of`. Of the text one line is held, and what one call of the source gives; beside it a
+/// run of the form, one of the circuit, two lines, and what one call of the sink takes.
+///
+/// Condition: it is the engine form.
+///
+/// Errors, with line 0: `Device` where the source failed in this call, `Write` where the sink did, and `NoMemory` where a
+/// growth was refused; a beginning of what is put for all was written then.
+pub fn take_form<S: Source, T: Taker, K: Sink>(
+    alloc: Global,
+    circuit: &Circuit,
+    form: &Circuit,
+    choice: Option<usize>,
+    taker: &mut T,
+    source: &mut S,
+    sink: &mut K,
+) -> Result<Judgement, RestoreFault>
+    requires { IsEngineFormOf circuit.now choice form.now }
+    // all that the text is restored to was taken, what is put for that was written, and the judgement is that over the form
+    ensures takes { (o : T.Over) → IsPutInPieces T.put_for → T.stands o taker.old [] → IfSome (S.to_come source.old) (TakesRestored T.stands T.put_for result circuit.now choice form.now o taker.new (K.written sink.old) (K.written sink.new)) }
+    ensures end { OnOk result (IsAtEnd (S.to_come source.new)) }
+    ensures apart { IfErr result (λ e. is_of_text e.why ≡ false × (e.line ≡ 0)) }
+    // the source failed once where that is told, the sink where that is, and else neither
+    ensures counted { CountsRestore result (S.failures source.old) (S.failures source.new) (K.failures sink.old) (K.failures sink.new) }
+{
+    let mut judge = match BitJudge::new(alloc, form) {
+        Ok(judge) => judge,
+        Err(_) => return Err(RestoreFault::apart(RestoreWhy::NoMemory)),
+    };
+    take_all(
+        alloc, circuit, form, choice, &mut judge, taker, source, sink,
+    )?;
+    Ok(judge.finish())
+}
+
+/// The judgement over the form, where it says that no claim is made or which line is faulty, else the other one.
+fn over_or_restored(over: Judgement, restored: Judgement) -> Judgement
     ensures { result ≡ told_of over restored }
 {
     match over {
         Judgement::NoClaim | Judgement::Malformed { .. } => over,
         _ => restored,
     }
+}
+
+/// What is told of a witness of an engine form, by what is judged of it over the form, and of what it is restored to over the
+/// circuit: that it makes no claim, or which line is faulty, as the first says; else the second.
+pub fn told_of(over: Judgement, restored: Judgement) -> Judgement
+    ensures told { result ≡ told_of over restored }
+    ensures judged { (c : Circuit) (choice : Option ℕ) (d : Circuit) (text : List ℕ) → IsCircuit d → BitJudges d text over → BitJudges c (form_restored_text c choice d text) restored → FormJudges c choice d text result }
+{
+    aiger::laws::exactly_one_trace();
+    witness::bit_laws::bit_texts_read();
+    over_or_restored(over, restored)
 }
 
 /// Reads a witness of the engine form of a circuit to its end, with all bad properties or the chosen one, and writes what it
@@ -388,20 +418,10 @@ pub fn restore_form<S: Source, K: Sink>(
     ensures counted { CountsRestore result (S.failures source.old) (S.failures source.new) (K.failures sink.old) (K.failures sink.new) }
 {
     accepted_over_the_form_is_found_again();
-    aiger::laws::exactly_one_trace();
-    witness::bit_laws::bit_texts_read();
-    let mut over = match BitJudge::new(alloc, form) {
-        Ok(over) => over,
-        Err(_) => return Err(no_memory()),
-    };
     let mut judge = match BitJudge::new(alloc, circuit) {
         Ok(judge) => judge,
-        Err(_) => return Err(no_memory()),
+        Err(_) => return Err(RestoreFault::apart(RestoreWhy::NoMemory)),
     };
-    match take_form(
-        alloc, circuit, form, choice, &mut over, &mut judge, source, sink,
-    ) {
-        Ok(()) => Ok(told_of(over.finish(), judge.finish())),
-        Err(fault) => Err(fault),
-    }
+    let over = take_form(alloc, circuit, form, choice, &mut judge, source, sink)?;
+    Ok(told_of(over, judge.finish()))
 }

@@ -19,7 +19,7 @@ mod taker;
 mod width;
 
 pub use fault::{RestoreFault, RestoreWhy};
-pub use form_restoring::restore_form;
+pub use form_restoring::{restore_form, take_form, told_of};
 pub use frame_reader::FrameReader;
 pub use restorer::Restorer;
 pub use restoring::{restore, take_restored};

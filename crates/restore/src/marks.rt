@@ -17,7 +17,7 @@ pub(crate) fn unread(cause: ReadAllFault) -> RestoreFault
         ReadAllFault::Device => RestoreWhy::Device,
         ReadAllFault::NoMemory => RestoreWhy::NoMemory,
     };
-    RestoreFault { line: 0, why }
+    RestoreFault::apart(why)
 }
 
 /// The bytes up to a mark, or all, and whether there is one.

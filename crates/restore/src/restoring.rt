@@ -22,13 +22,6 @@ use base::{Outbox, Sink, Source};
 use std::alloc::Global;
 use witness::{BitJudge, Judgement};
 
-/// What is told of faults that no line has.
-fn apart(why: RestoreWhy) -> RestoreFault
-    ensures { result ≡ record { line = 0; why = why } }
-{
-    RestoreFault { line: 0, why }
-}
-
 /// Hands a piece on.
 ///
 /// Error: the sink's own.
@@ -44,7 +37,7 @@ pub(crate) fn hand_on<T: Taker, K: Sink>(
 {
     match taker.take_piece(outbox, sink, piece) {
         Ok(()) => Ok(()),
-        Err(_) => Err(apart(RestoreWhy::Write)),
+        Err(_) => Err(RestoreFault::apart(RestoreWhy::Write)),
     }
 }
 
@@ -84,7 +77,7 @@ fn write_rest<K: Sink>(outbox: &mut Outbox, sink: &mut K) -> Result<(), RestoreF
 {
     match outbox.flush(sink) {
         Ok(()) => Ok(()),
-        Err(_) => Err(apart(RestoreWhy::Write)),
+        Err(_) => Err(RestoreFault::apart(RestoreWhy::Write)),
     }
 }
 
@@ -178,13 +171,10 @@ pub fn restore<S: Source, K: Sink>(
 {
     restored_text_is_accepted();
     witness::bit_laws::exactly_one_bit_judgement();
-    let mut restorer = match Restorer::new(alloc, circuit, claim) {
-        Ok(restorer) => restorer,
-        Err(_) => return Err(apart(RestoreWhy::NoMemory)),
-    };
+    let mut restorer = Restorer::new(alloc, circuit, claim)?;
     let mut judge = match BitJudge::new(alloc, circuit) {
         Ok(judge) => judge,
-        Err(_) => return Err(apart(RestoreWhy::NoMemory)),
+        Err(_) => return Err(RestoreFault::apart(RestoreWhy::NoMemory)),
     };
     match take_restored(&mut restorer, &mut judge, source, sink) {
         Ok(()) => Ok(judge.finish()),

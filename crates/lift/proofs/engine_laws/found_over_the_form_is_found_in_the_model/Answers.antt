@@ -1,5 +1,4 @@
 use Rattle.std.proofs.Common.{◌+◌}
-use Rattle.witness.specs.declared.judgement.Judgement.TheVariants as judgement
 use Rattle.restore.specs.Restored.{restored_text}
 use Rattle.lift.specs.EngineLifting.{engine_lifted_text}
 use Rattle.lift.proofs.EngineLemmas.{keeps_either, found_in_model}
@@ -8,7 +7,6 @@ use Rattle.lift.proofs.engine_laws.found_over_the_form_is_found_in_the_model.Goa
 pub returns : goal.returns
 returns c named items circuit k text lowers there choice d given ws n form has is few trace at lines =
     let accepted = c.restored_text_is_accepted.ensures circuit choice k d text given ws n form has there is few trace at in
-    let keeps = keeps_either items circuit (restored_text circuit k text) (judgement.Accepted (n + 1)) (c.lifting_keeps_the_verdict.ensures items circuit (restored_text circuit k text) _ lowers accepted)
-    (c.names_keep_the_verdict.ensures items circuit (restored_text circuit k text) _ lowers accepted) named in
-    found_in_model named items circuit k text n _ lines (c.restored_text_says_a_witness.ensures circuit k text given there is few) keeps
+    let keeps = keeps_either items circuit (λ t j. c.lifting_keeps_the_verdict.ensures items circuit t j lowers) (λ t j. c.names_keep_the_verdict.ensures items circuit t j lowers) named (restored_text circuit k text) _ accepted in
+    found_in_model items circuit (restored_text circuit k text) (engine_lifted_text named items circuit k text) (n + 1) _ lines (c.restored_text_says_a_witness.ensures circuit k text given there is few) keeps
     (c.exactly_one_judgement.ensures.exists items (engine_lifted_text named items circuit k text) lowers.well_formed)

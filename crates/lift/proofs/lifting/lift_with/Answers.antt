@@ -9,12 +9,12 @@ use Rattle.lift.proofs.lifting.lift_with.Goals as goal
 pub returns-in-Ok-lift_through-clause-judged : goal.returns-in-Ok-lift_through-clause-judged
 returns-in-Ok-lift_through-clause-judged g c =
     if_some_then _ (λ (text : List ℕ). LiftsWith c.args.named c.args.model.now c.args.circuit.now c.lift_through.new.lifter text × Appends (g.K.Sink.written c.args.sink.now) (g.K.Sink.written c.lift_through.new.sink) (lifted_with c.args.named c.args.model.now c.args.circuit.now text))
-    (λ (text : List ℕ). BitJudges c.args.circuit.now text c.finish.result) (λ text both. c.finish.ensures c.args.named c.args.model.now c.args.circuit.now text both.0) (c.in-Ok-lift_through.ensures.lifts c.args.named c.args.model.now c.args.circuit.now (c.with_names-lifter.ensures c.args.model.now c.args.circuit.now c.in-Ok.ensures))
+    (λ (text : List ℕ). BitJudges c.args.circuit.now text c.finish.result) (λ text both. c.finish.ensures c.args.named c.args.model.now c.args.circuit.now text both.0) (c.in-Ok-lift_through.ensures.lifts c.args.named c.args.model.now c.args.circuit.now c.in-Ok.ensures)
 
 pub returns-in-Ok-lift_through-clause-written : goal.returns-in-Ok-lift_through-clause-written
 returns-in-Ok-lift_through-clause-written g c =
     if_some_then _ (λ (text : List ℕ). LiftsWith c.args.named c.args.model.now c.args.circuit.now c.lift_through.new.lifter text × Appends (g.K.Sink.written c.args.sink.now) (g.K.Sink.written c.lift_through.new.sink) (lifted_with c.args.named c.args.model.now c.args.circuit.now text))
-    (λ (text : List ℕ). Appends (g.K.Sink.written c.args.sink.now) (g.K.Sink.written c.lift_through.new.sink) (lifted_with c.args.named c.args.model.now c.args.circuit.now text)) (λ text both. both.1) (c.in-Ok-lift_through.ensures.lifts c.args.named c.args.model.now c.args.circuit.now (c.with_names-lifter.ensures c.args.model.now c.args.circuit.now c.in-Ok.ensures))
+    (λ (text : List ℕ). Appends (g.K.Sink.written c.args.sink.now) (g.K.Sink.written c.lift_through.new.sink) (lifted_with c.args.named c.args.model.now c.args.circuit.now text)) (λ text both. both.1) (c.in-Ok-lift_through.ensures.lifts c.args.named c.args.model.now c.args.circuit.now c.in-Ok.ensures)
 
 pub returns-in-Err-lift_through-clause-beginning : goal.returns-in-Err-lift_through-clause-beginning
-returns-in-Err-lift_through-clause-beginning g c = c.in-Err-lift_through.ensures.lifts c.args.named c.args.model.now c.args.circuit.now (c.with_names-lifter.ensures c.args.model.now c.args.circuit.now c.in-Ok.ensures)
+returns-in-Err-lift_through-clause-beginning g c = c.in-Err-lift_through.ensures.lifts c.args.named c.args.model.now c.args.circuit.now c.in-Ok.ensures

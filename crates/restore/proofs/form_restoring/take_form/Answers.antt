@@ -1,27 +1,7 @@
-use Rattle.std.proofs.Common.{◌<◌, ℕ, Option, Ok, length, refl, sym, subst}
-use Rattle.std.specs.Io.KnownBytes.{prepend_known}
-use Rattle.restore.specs.FormSteps.{ReadsClaim}
-use Rattle.restore.proofs.FormWitnessLemmas.{claims_below}
-use Rattle.restore.proofs.FormEndLemmas.{none_claimed, counted_behind}
+use Rattle.std.proofs.Common.{rules, ◌≡◌, Err}
 use Rattle.restore.proofs.form_restoring.take_form.Goals as goal
 
-pub take_frames-requires : goal.take_frames-requires
-take_frames-requires g c =
-    let reads = subst (λ (o : Option ℕ). ReadsClaim (Ok o) c.args.form.now (g.S.Source.to_come c.args.source.now) (prepend_known c.read_claim.new.lines.rest (g.S.Source.to_come c.read_claim.new.source)) c.read_claim.new.judge) c.in-Some.is (c.in-Ok.ensures.reads c.args.form.now c.requires.is_form.circuit c.requires.begins) in
-    subst (λ (n : ℕ). n < length c.args.circuit.now.bads) (sym c.property_of.ensures) (claims_below c.args.circuit.now c.args.choice c.args.form.now c.in-Some.claim c.exactly_one_trace.ensures.exists c.requires.is_form reads.1.1.below)
-
-pub returns-in-Some-clause-counted : goal.returns-in-Some-clause-counted
-returns-in-Some-clause-counted g c = counted_behind c.take_frames.result (g.S.Source.failures c.args.source.now) (g.S.Source.failures c.read_claim.new.source) (g.S.Source.failures c.take_frames.new.source) (g.K.Sink.failures c.args.sink.now) (g.K.Sink.failures c.take_frames.new.sink) (c.in-Ok.ensures.counted 0).0 c.take_frames.ensures.counted
-
-pub returns-in-Some-clause-writes : goal.returns-in-Some-clause-writes
-returns-in-Some-clause-writes g c o laws h =
-    let reads = subst (λ (o : Option ℕ). ReadsClaim (Ok o) c.args.form.now (g.S.Source.to_come c.args.source.now) (prepend_known c.read_claim.new.lines.rest (g.S.Source.to_come c.read_claim.new.source)) c.read_claim.new.judge) c.in-Some.is (c.in-Ok.ensures.reads c.args.form.now c.requires.is_form.circuit c.requires.begins) in
-    c.take_frames.ensures.writes c.args.choice c.args.form.now o (g.S.Source.to_come c.args.source.now) reads.0 c.in-Some.claim laws c.requires.is_form.circuit c.requires.is_form.inputs (sym c.property_of.ensures) reads.1.0 reads.1.1 h
-
-pub returns-clause-counted : goal.returns-clause-counted
-returns-clause-counted g c = ((c.in-Ok.ensures.counted 0).0, refl)
-
-pub returns-clause-writes : goal.returns-clause-writes
-returns-clause-writes g c o laws h =
-    let reads = subst (λ (o : Option ℕ). ReadsClaim (Ok o) c.args.form.now (g.S.Source.to_come c.args.source.now) (prepend_known c.read_claim.new.lines.rest (g.S.Source.to_come c.read_claim.new.source)) c.read_claim.new.judge) c.in-None.is (c.in-Ok.ensures.reads c.args.form.now c.requires.is_form.circuit c.requires.begins) in
-    none_claimed {O = g.T.Taker.Over} {V = g.row.T.Denot} g.T.Taker.stands g.T.Taker.put_for c.args.circuit.now c.args.choice c.args.form.now o c.args.taker.now c.read_claim.new.judge (g.S.Source.to_come c.args.source.now) (prepend_known c.read_claim.new.lines.rest (g.S.Source.to_come c.read_claim.new.source)) (g.K.Sink.written c.args.sink.now) laws h reads
+pub returns-in_err-take_all-clause-takes : goal.returns-in_err-take_all-clause-takes
+returns-in_err-take_all-clause-takes g c o laws h =
+    let same : c.from_residual.result ≡ Err c.in_err-take_all.field-0.0 = search rules in
+    rw same (c.in_err-take_all.ensures.beginning o laws h)

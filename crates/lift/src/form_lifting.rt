@@ -1,0 +1,88 @@
+//! Lifting witnesses of the engine forms of circuits.
+ghost use Rattle.std.specs.Prelude.{◌≡◌, Bool, List, [], false, IfErr, IfOk, IfSome, OnErr, OnOk};
+ghost use Rattle.std.specs.Io.KnownBytes.{Appends, IsAtEnd};
+ghost use Rattle.base.specs.Device.{AppendsBeginning};
+ghost use Rattle.btor2.specs.declared.item.Item.{Item};
+ghost use Rattle.blast.specs.Lowering.{Lowers};
+ghost use Rattle.engine.specs.EngineForm.{IsEngineFormOf};
+ghost use Rattle.restore.specs.Answers.{CountsRestore};
+ghost use Rattle.restore.specs.Faults.{is_of_text};
+ghost use Rattle.restore.specs.FormWitness.{FormJudges};
+ghost use Rattle.lift.specs.EngineLifting.{form_lifted_text, FindsWitnessInModel, KeepsFormVerdict, LiftsForm};
+ghost use Rattle.lift.specs.Stands.{LiftsWith};
+
+use crate::engine_laws::accepted_over_the_form_is_found_in_the_model;
+use crate::laws::{lifting_keeps_the_verdict, names_keep_the_verdict};
+use crate::lifter::Lifter;
+use aiger::Circuit;
+use base::{Sink, Source};
+use btor2::Model;
+use restore::{RestoreFault, take_form, told_of};
+use std::alloc::Global;
+use witness::Judgement;
+
+/// Lifts a witness of the engine form of a circuit by a lifter, and answers how it is judged.
+fn lift_witness<S: Source, K: Sink>(
+    alloc: Global,
+    circuit: &Circuit,
+    form: &Circuit,
+    choice: Option<usize>,
+    lifter: Lifter<'_>,
+    source: &mut S,
+    sink: &mut K,
+) -> Result<Judgement, RestoreFault>
+    requires { IsEngineFormOf circuit.now choice form.now }
+    ensures lifts { (named : Bool) (items : List Item) → Lowers items circuit.now → LiftsWith named items circuit.now lifter.entry []
+        → LiftsForm result named items circuit.now choice form.now (S.to_come source.old) (K.written sink.old) (K.written sink.new) }
+    ensures apart { IfErr result (λ e. is_of_text e.why ≡ false × (e.line ≡ 0)) }
+    ensures end { OnOk result (IsAtEnd (S.to_come source.new)) }
+    ensures counted { CountsRestore result (S.failures source.old) (S.failures source.new) (K.failures sink.old) (K.failures sink.new) }
+{
+    accepted_over_the_form_is_found_in_the_model();
+    lifting_keeps_the_verdict();
+    names_keep_the_verdict();
+    let mut lifter = lifter;
+    let over = take_form(alloc, circuit, form, choice, &mut lifter, source, sink)?;
+    Ok(told_of(over, lifter.finish()))
+}
+
+/// Reads a witness of the engine form of a circuit to its end, with all bad properties or the chosen one, and writes what it
+/// is lifted to: the witness of the model that says the same, with the property that it claims, up to and with the first
+/// frame in which this rises, or of all frames where it does not; with names or without, as `lift_named` and `lift` write it.
+/// The answer is that it makes no claim, or its first faulty line, before which what the lines give was written; else the
+/// judgement over the circuit of what it is restored to. Of the text one line is held, and what one call of the source gives;
+/// beside it a run of the form, two of the circuit, three lines, and what one call of the sink takes.
+///
+/// Conditions: the circuit is a lowering of the model, and the form is its engine form.
+///
+/// Errors, with line 0: `Device` where the source failed in this call, `Write` where the sink did, and `NoMemory` where a
+/// growth was refused; a beginning of what the text is lifted to was written then.
+pub fn lift_form<S: Source, K: Sink>(
+    alloc: Global,
+    model: &Model,
+    circuit: &Circuit,
+    form: &Circuit,
+    choice: Option<usize>,
+    named: bool,
+    source: &mut S,
+    sink: &mut K,
+) -> Result<Judgement, RestoreFault>
+    requires lowers { Lowers model.now circuit.now }
+    requires is_form { IsEngineFormOf circuit.now choice form.now }
+    // the judgement is that of the text: over the form where it makes no claim or a line is faulty, else over the circuit
+    ensures judged { IfOk result (λ judgement. IfSome (S.to_come source.old) (λ text. FormJudges circuit.now choice form.now text judgement)) }
+    // what is judged of what is written over the model is the same verdict as over the circuit
+    ensures kept { IfOk result (λ judgement. IfSome (S.to_come source.old) (λ text. KeepsFormVerdict named model.now circuit.now choice form.now text judgement)) }
+    ensures written { OnOk result (IfSome (S.to_come source.old) (λ text. Appends (K.written sink.old) (K.written sink.new) (form_lifted_text named model.now circuit.now choice form.now text))) }
+    // what is accepted over the form is found again, over the circuit and over the model
+    ensures found { OnOk result (IfSome (S.to_come source.old) (FindsWitnessInModel named model.now circuit.now choice form.now)) }
+    // at a fault a beginning was written
+    ensures beginning { OnErr result (IfSome (S.to_come source.old) (λ text. AppendsBeginning (K.written sink.old) (K.written sink.new) (form_lifted_text named model.now circuit.now choice form.now text))) }
+    ensures apart { IfErr result (λ e. is_of_text e.why ≡ false × (e.line ≡ 0)) }
+    ensures end { OnOk result (IsAtEnd (S.to_come source.new)) }
+    // the source failed once where that is told, the sink where that is, and else neither
+    ensures counted { CountsRestore result (S.failures source.old) (S.failures source.new) (K.failures sink.old) (K.failures sink.new) }
+{
+    let lifter = Lifter::new(alloc, model, circuit, named)?;
+    lift_witness(alloc, circuit, form, choice, lifter, source, sink)
+}
