@@ -1,5 +1,5 @@
 -- Properties that were read are put onto what has lists of them: what is there so far, and what nothing refuses.
-use Rattle.std.proofs.Common.{◌≡◌, ℕ, ◌+◌, ◌*◌, ◌<◌, ◌≤◌, Bool, true, false, nat_le, nat_lt, List, [], ◌∷◌, ◌++◌, length, take, drop, get_or, None, Some, Ok, All, refl, sym, ap, subst, ◌∙◌, append_assoc, append-nil, length-append, arith}
+use Rattle.std.proofs.Common.{◌≡◌, ℕ, ◌+◌, ◌*◌, ◌<◌, ◌≤◌, Bool, true, false, nat_le, nat_lt, List, [], ◌∷◌, ◌++◌, length, take, drop, get_or, None, All, refl, sym, ap, subst, ◌∙◌, append_assoc, append-nil, length-append, arith}
 use Rattle.std.specs.List.{list_all, sum, sum_by}
 use Rattle.std.proofs.lemmas.Bool.{and_from, and_parts}
 use Rattle.std.proofs.lemmas.Bool.Decides.{nat_tests}
@@ -16,7 +16,7 @@ use Rattle.aigertext.specs.declared.reading.counts.Counts.{Counts}
 use Rattle.aigertext.specs.declared.reading.property_lists.LiteralSection.{LiteralSection}
 use Rattle.aigertext.specs.declared.reading.property_lists.LiteralSection.TheVariants.{Output, Bad, Constraint, Fair}
 use Rattle.aigertext.specs.Counts.{AreSmall}
-use Rattle.aigertext.specs.Reading.{Properties, lists_of, properties_at}
+use Rattle.aigertext.specs.Reading.{Properties, lists_of}
 use Rattle.aigertext.specs.PropertyLists.{Lists, no_lists, literals_of, with_literals, with_justice, TakesAll, AreTaken, ArePropertyLists, circuit_takes, file_takes}
 use Rattle.aigertext.proofs.FileLemmas.{small_literal}
 use Rattle.aigertext.proofs.PassLemmas.{sum_of_cons}

@@ -1,13 +1,11 @@
 -- What was read is put onto a circuit: latches one after the other, and what its calls cannot refuse.
 use Rattle.std.proofs.Common.{◌≡◌, ℕ, suc, ◌+◌, ◌*◌, ◌<◌, ◌≤◌, List, [], ◌∷◌, ◌++◌, length, take, drop, get_or, length-drop, Option, None, Some, All, ◌⊎◌, inl, inr, nat_lt, false, refl, sym, ap, subst, ◌∙◌, append_assoc, append-nil, length-append, slice_set, arith}
-use Rattle.std.specs.List.{sum}
 use Rattle.std.proofs.lemmas.Bool.Decides.{nat_tests}
 use Rattle.std.proofs.lemmas.List.{drop_more, drop_all, set_at, take_more, take_all, length-take-le, length-replicate}
 use Rattle.std.proofs.lemmas.List.Elements.{All-get_or}
 use Rattle.aiger.specs.declared.circuit.Latch.{Latch}
 use Rattle.aiger.specs.declared.fault.CircuitFault.{CircuitFault}
 use Rattle.aiger.specs.declared.fault.CircuitFault.TheVariants.{NoMemory}
-use Rattle.aiger.specs.Limits.{greatest_count}
 use Rattle.aiger.specs.Literal.{variable}
 use Rattle.aiger.specs.Net.{variables}
 use Rattle.aiger.specs.Circuit.{Circuit, net, fresh_circuit, fresh_latch, with_latch, literal_refusal}

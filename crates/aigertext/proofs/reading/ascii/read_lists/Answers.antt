@@ -1,4 +1,4 @@
-use Rattle.std.proofs.Common.{◌+◌, ◌*◌, subst, sym, inl, inr, arith}
+use Rattle.std.proofs.Common.{◌+◌, ◌*◌, subst, sym, inl, inr}
 use Rattle.std.proofs.lemmas.Result.{err_from_is_err_and}
 use Rattle.aiger.specs.Loose.{with_gate_line}
 use Rattle.aigertext.specs.Passes.{Reads}

@@ -1,5 +1,4 @@
-use Rattle.std.proofs.Common.{◌∙◌, ap, inl, inr}
-use Rattle.aigertext.specs.Passes.{with_latches}
+use Rattle.std.proofs.Common.{inl, inr}
 use Rattle.aigertext.specs.PropertyLists.{numbers_of}
 use Rattle.aigertext.proofs.InOrderLemmas.{finishes}
 use Rattle.aigertext.proofs.TakeLemmas.{all_latches, latches_below, properties_taken, none_yet}

@@ -1,4 +1,4 @@
-use Rattle.std.proofs.Common.{◌+◌, ◌-◌, ◌∙◌, sym, ap, refl, inr, arith}
+use Rattle.std.proofs.Common.{◌+◌, ◌-◌, ◌∙◌, ap, refl, inr, arith}
 use Rattle.aigertext.specs.Passes.{onto}
 use Rattle.aigertext.specs.Reading.{literal_of, literals_at}
 use Rattle.aigertext.proofs.PassLemmas.{onto_begins, onto_step, onto_stop, onto_done}

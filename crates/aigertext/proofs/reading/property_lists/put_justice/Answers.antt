@@ -1,7 +1,5 @@
-use Rattle.std.proofs.Common.{◌≡◌, List, ℕ, ◌∷◌, [], ◌++◌, ap, sym, subst, ◌∙◌, arith}
-use Rattle.std.specs.List.{list_all}
+use Rattle.std.proofs.Common.{List, ℕ, [], ap, ◌∙◌, arith}
 use Rattle.std.proofs.lemmas.List.{drop_all}
-use Rattle.aiger.specs.Circuit.{size_refusal}
 use Rattle.aigertext.specs.PropertyLists.{with_justice}
 use Rattle.aigertext.proofs.TakeLemmas.{only_memory}
 use Rattle.aigertext.proofs.PropertyListLemmas.{justice_none, justice_put, takes_still, justice_of, lists_begin, size_within, list_taken, lists_more, list_fits, lists_end}

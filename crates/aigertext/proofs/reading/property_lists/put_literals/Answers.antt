@@ -1,4 +1,4 @@
-use Rattle.std.proofs.Common.{take, take_all, ap, sym, ◌∙◌, arith}
+use Rattle.std.proofs.Common.{take_all, ap, ◌∙◌, arith}
 use Rattle.aigertext.specs.PropertyLists.{with_literals}
 use Rattle.aigertext.proofs.TakeLemmas.{only_memory}
 use Rattle.aigertext.proofs.PropertyListLemmas.{literals_none, literal_put, literal_taken, literal_room}

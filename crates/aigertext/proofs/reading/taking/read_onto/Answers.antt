@@ -1,4 +1,4 @@
-use Rattle.std.proofs.Common.{◌++◌, ◌∙◌, refl, sym, ap, arith}
+use Rattle.std.proofs.Common.{◌∙◌, refl, sym, ap, arith}
 use Rattle.aigertext.specs.InOrder.{uses_of, text_with}
 use Rattle.aigertext.proofs.AnswerLemmas.{fault_read}
 use Rattle.aigertext.proofs.InOrderLemmas.{were_read, put_on, put_together, text_more, text_all, text_long}
