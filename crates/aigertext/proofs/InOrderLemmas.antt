@@ -27,7 +27,7 @@ use Rattle.aiger.specs.Loose.{Loose}
 use Rattle.base.specs.Lines.{IsLine}
 use Rattle.aigertext.specs.Passes.{onto, Reads, with_gates, with_latches, latch_in, latches_in}
 use Rattle.aigertext.specs.PropertyLists.{circuit_with, lists_made}
-use Rattle.aigertext.specs.InOrder.{uses_at, uses_of, WereRead, HasUses, IsFront, HasFront, text_with, PutsGates, Finishes, IsFinish, ReadsOnto}
+use Rattle.aigertext.specs.InOrder.{uses_at, uses_of, IsFront, HasFront, text_with, PutsGates, Finishes, IsFinish, ReadsOnto}
 use Rattle.aigertext.proofs.AsciiWrittenLemmas.{OwnValid, OwnNumbered, OwnMany, up_to, written_inputs, written_gates}
 use Rattle.aigertext.proofs.BackLemmas.{ok_same, err_same, not_err, bind-then, line-back}
 use Rattle.aigertext.proofs.FieldLemmas.{line_read}
@@ -104,25 +104,22 @@ front-parts form h text lines latches uses gates header fits inputs read =
       };
     }
 
-module _ (form : Form) (h : Counts) (text lines : List ℕ) (f : Front) (gates : ℕ) (header : line_at header_of text ≡ Ok ((form, h), lines)) (u : HasUses form h lines f gates) where
-  own_parts : FrontParts form h (uses_of f) text u.rest
-  own_parts = front-parts form h text lines u.text (uses_of f) u.rest header u.fits u.inputs u.read
+module _ (form : Form) (h : Counts) (text lines latches gates : List ℕ) (f : Front) (header : line_at header_of text ≡ Ok ((form, h), lines)) (fits : Fits Binary h) (inputs : lines ≡ inputs_text form h.inputs ++ latches) (read : uses_at form h latches ≡ Ok (uses_of f, gates)) where
+  own_parts : FrontParts form h (uses_of f) text gates
+  own_parts = front-parts form h text lines latches (uses_of f) gates header fits inputs read
 
-  pub gates_within : gates ≤ length text
-  gates_within = omega (arith, u.behind, rest_within text own_parts.before u.rest own_parts.parts)
+  pub gates_within : length gates ≤ length text
+  gates_within = rest_within text own_parts.before gates own_parts.parts
 
-  pub has_front : AreSmall h → HasFront f (length text - gates) text
-  has_front small =
-      let taken : take (length text - gates) text ≡ own_parts.before = ap (λ (n : ℕ). take (length text - n) text) u.behind ∙ front_taken text own_parts.before u.rest own_parts.parts in
-      let own : IsFront form h (uses_of f) (take (length text - gates) text) = subst (IsFront form h (uses_of f)) (sym taken) own_parts.front in
+  pub has_front : f.form ≡ form → f.counts ≡ h → AreSmall h → HasFront f (length text - length gates) text
+  has_front form_is counts_are small =
+      let before : List ℕ = take (length text - length gates) text in
+      let own : IsFront form h (uses_of f) before = subst (IsFront form h (uses_of f)) (sym (front_taken text own_parts.before gates own_parts.parts)) own_parts.front in
       record {
-        front = subst (λ (w : Form). IsFront w f.counts (uses_of f) (take (length text - gates) text)) (sym u.form_is) (subst (λ (g : Counts). IsFront form g (uses_of f) (take (length text - gates) text)) (sym u.counts_are) own);
-        small = subst AreSmall (sym u.counts_are) small;
+        front = subst (λ (w : Form). IsFront w f.counts (uses_of f) before) (sym form_is) (subst (λ (g : Counts). IsFront form g (uses_of f) before) (sym counts_are) own);
+        small = subst AreSmall (sym counts_are) small;
         within = omega arith;
       }
-
-pub were_read : (form : Form) (h : Counts) (uses : List Latch × Properties) (before : List ℕ) → IsFront form h uses before → WereRead form h uses
-were_read form h uses before front = record { fits = front.fits; text = front.lines ++ []; rest = []; read = front.read [] }
 
 -- ---- the circuit
 

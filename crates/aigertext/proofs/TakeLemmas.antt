@@ -15,7 +15,7 @@ use Rattle.aigertext.specs.Counts.{AreSmall}
 use Rattle.aigertext.specs.Reading.{Properties}
 use Rattle.aigertext.specs.Passes.{with_gates, with_latches}
 use Rattle.aigertext.specs.PropertyLists.{no_lists, circuit_lists, circuit_takes, AreTaken}
-use Rattle.aigertext.specs.InOrder.{WereRead}
+use Rattle.aigertext.specs.InOrder.{IsFront}
 use Rattle.aigertext.proofs.InOrderLemmas.{uses-back}
 use Rattle.aigertext.proofs.LatchBackLemmas.{AreLatchesAt, latches-back}
 use Rattle.aigertext.proofs.PropertyListLemmas.{are_taken, circuit_takes_all}
@@ -71,7 +71,7 @@ latches_set before now ls index is done all =
 -- ---- the circuit before its names
 
 -- how many latches and variables a circuit has that begins with so many inputs and latches, once its gates are there, and what it takes
-module _ (form : Form) (h : Counts) (ls : List Latch) (p : Properties) (small : AreSmall h) (r : WereRead form h (ls, p)) (c1 : Circuit) (is1 : c1 ≡ with_gates (fresh_circuit h.inputs h.latches) c1.gates) (gates : length c1.gates ≡ h.gates) where
+module _ (form : Form) (h : Counts) (ls : List Latch) (p : Properties) (small : AreSmall h) (before : List ℕ) (r : IsFront form h (ls, p) before) (c1 : Circuit) (is1 : c1 ≡ with_gates (fresh_circuit h.inputs h.latches) c1.gates) (gates : length c1.gates ≡ h.gates) where
   fresh_latches : length c1.latches ≡ h.latches
   fresh_latches = ap (λ (c : Circuit). length c.latches) is1 ∙ length-replicate h.latches fresh_latch
 
@@ -81,8 +81,8 @@ module _ (form : Form) (h : Counts) (ls : List Latch) (p : Properties) (small : 
       counted : (i l : ℕ) → i ≡ h.inputs → l ≡ h.latches → h.variables ≡ i + l + length c1.gates
       counted i l are1 are2 = omega (arith, r.fits, gates)
 
-  latches_read : AreLatchesAt form (2 * h.variables + 1) (suc h.inputs) h.latches r.text ls (uses-back form h r.text (ls, p) r.rest r.read).after
-  latches_read = latches-back form (2 * h.variables + 1) (suc h.inputs) h.latches r.text ls (uses-back form h r.text (ls, p) r.rest r.read).after (omega (arith, small.variables)) (omega (arith, small.inputs, small.latches)) (uses-back form h r.text (ls, p) r.rest r.read).latches
+  latches_read : AreLatchesAt form (2 * h.variables + 1) (suc h.inputs) h.latches (r.lines ++ []) ls (uses-back form h (r.lines ++ []) (ls, p) [] (r.read [])).after
+  latches_read = latches-back form (2 * h.variables + 1) (suc h.inputs) h.latches (r.lines ++ []) ls (uses-back form h (r.lines ++ []) (ls, p) [] (r.read [])).after (omega (arith, small.variables)) (omega (arith, small.inputs, small.latches)) (uses-back form h (r.lines ++ []) (ls, p) [] (r.read [])).latches
 
   pub all_latches : length ls ≡ length c1.latches
   all_latches = latches_read.count ∙ sym fresh_latches
@@ -97,8 +97,8 @@ module _ (form : Form) (h : Counts) (ls : List Latch) (p : Properties) (small : 
 
     pub properties_taken : AreTaken (circuit_takes c2) p
     properties_taken =
-        are_taken (circuit_takes c2) h (uses-back form h r.text (ls, p) r.rest r.read).after p r.rest small (circuit_takes_all (2 * h.variables + 1) c2 (ap (λ (v : ℕ). 2 * v + 1) still_variables))
-        (properties-back h (uses-back form h r.text (ls, p) r.rest r.read).after p r.rest small.variables (uses-back form h r.text (ls, p) r.rest r.read).properties)
+        are_taken (circuit_takes c2) h (uses-back form h (r.lines ++ []) (ls, p) [] (r.read [])).after p [] small (circuit_takes_all (2 * h.variables + 1) c2 (ap (λ (v : ℕ). 2 * v + 1) still_variables))
+        (properties-back h (uses-back form h (r.lines ++ []) (ls, p) [] (r.read [])).after p [] small.variables (uses-back form h (r.lines ++ []) (ls, p) [] (r.read [])).properties)
 
     pub none_yet : circuit_lists c2 ≡ no_lists
     none_yet = ap circuit_lists (is2 ∙ ap (λ (c : Circuit). with_latches c ls) is1)

@@ -34,25 +34,7 @@ uses_at form h text = do
 abbrev pub uses_of : Front → List Latch × Properties
 uses_of f = (f.latches.items, numbers_of f.properties)
 
--- they were read somewhere, behind a header whose greatest variable is the sum
-pub record WereRead (form : Form) (h : Counts) (uses : List Latch × Properties) : Type 0 where
-  pub fits : Fits Binary h
-  pub text : List ℕ
-  pub rest : List ℕ
-  pub read : uses_at form h text ≡ Ok (uses, rest)
-
--- the lines behind a header: those of the inputs in turn, where the form has them, then those of latches and properties, behind which the gates stand
-pub record HasUses (form : Form) (h : Counts) (lines : List ℕ) (f : Front) (gates : ℕ) : Type 0 where
-  pub form_is : f.form ≡ form
-  pub counts_are : f.counts ≡ h
-  pub fits : Fits Binary h
-  pub text : List ℕ
-  pub rest : List ℕ
-  pub inputs : lines ≡ inputs_text form h.inputs ++ text
-  pub read : uses_at form h text ≡ Ok (uses_of f, rest)
-  pub behind : gates ≡ length rest
-
--- a text that begins with a header and such lines, whatever stands behind them
+-- a text that begins with a header, the lines of the inputs in turn, where the form has them, and those of latches and properties, whatever stands behind them
 pub record IsFront (form : Form) (h : Counts) (uses : List Latch × Properties) (before : List ℕ) : Type 0 where
   pub fits : Fits Binary h
   pub lines : List ℕ

@@ -5,7 +5,7 @@ ghost use Rattle.aiger.specs.Net.{variables};
 ghost use Rattle.aigertext.specs.declared.forms.Form.TheVariants as variant;
 ghost use Rattle.aigertext.specs.Counts.{AreSmall};
 ghost use Rattle.aigertext.specs.Passes.{with_latches, with_gates};
-ghost use Rattle.aigertext.specs.InOrder.{uses_of, WereRead, IsFront, text_with, IsFinish, ReadsOnto};
+ghost use Rattle.aigertext.specs.InOrder.{uses_of, IsFront, text_with, IsFinish, ReadsOnto};
 
 use crate::fault::{Stop, Why};
 use crate::reading::deltas::gate;
@@ -40,7 +40,7 @@ fn finish(circuit: &mut Circuit, front: &Front, names: &[u8]) -> Result<(), Stop
     requires bare { circuit.old ≡ with_gates (fresh_circuit front.now.counts.inputs front.now.counts.latches) circuit.old.gates }
     requires all { length circuit.old.gates ≡ front.now.counts.gates }
     requires small { AreSmall front.now.counts }
-    requires read { WereRead front.now.form front.now.counts (uses_of front.now) }
+    requires front { (before : List ℕ) × IsFront front.now.form front.now.counts (uses_of front.now) before }
     ensures { IsFinish front.now.counts (uses_of front.now) circuit.old.gates circuit.new names.now result }
 {
     set_latches(circuit, &front.latches);
@@ -61,7 +61,7 @@ fn finish(circuit: &mut Circuit, front: &Front, names: &[u8]) -> Result<(), Stop
 /// other gates, of a binary text, and what stands behind the gates; then it gets what stands before them.
 pub fn read_left(circuit: &mut Circuit, front: &Front, window: &[u8]) -> Result<(), Stop>
     requires small { AreSmall front.now.counts }
-    requires read { WereRead front.now.form front.now.counts (uses_of front.now) }
+    requires front { (before : List ℕ) × IsFront front.now.form front.now.counts (uses_of front.now) before }
     requires bare { circuit.old ≡ with_gates (fresh_circuit front.now.counts.inputs front.now.counts.latches) circuit.old.gates }
     requires few { length circuit.old.gates ≤ front.now.counts.gates }
     requires all { front.now.form ≡ variant.Ascii → length circuit.old.gates ≡ front.now.counts.gates }

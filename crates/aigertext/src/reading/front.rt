@@ -8,7 +8,7 @@ ghost use Rattle.aigertext.specs.Binary.{inputs_text};
 ghost use Rattle.aigertext.specs.Counts.{AreSmall, Fits};
 ghost use Rattle.aigertext.specs.Passes.{latches_in, Reads};
 ghost use Rattle.aigertext.specs.PropertyLists.{numbers_of, no_numbers};
-ghost use Rattle.aigertext.specs.InOrder.{uses_at, uses_of, HasUses, HasFront};
+ghost use Rattle.aigertext.specs.InOrder.{uses_at, uses_of, HasFront};
 
 use crate::fault::{Stop, Why};
 use crate::forms::Form;
@@ -141,33 +141,21 @@ fn behind_inputs(form: Form, text: &[u8], count: u32) -> Option<&[u8]>
     }
 }
 
-/// What stands before the gates of a text, and where these begin, where the inputs and latches are in order and no line
-/// before the gates is refused.
-fn uses_in_order(alloc: Global, form: Form, counts: &Counts, lines: &[u8]) -> Option<(Front, usize)>
-    requires small { AreSmall counts.now }
-    requires fits { Fits form counts.now }
-    ensures { IfSome result (λ x. HasUses form counts.now lines.now x.0 x.1) }
+/// What stands before the gates of a text, and how many bytes that is, where all lines before the gates are there, none is
+/// refused, and inputs and latches are in order.
+fn front_of(alloc: Global, text: &[u8]) -> Option<(Front, usize)>
+    ensures { IfSome result (λ x. HasFront x.0 x.1 text.now) }
 {
+    let ((form, counts), lines) = match header_line(text) {
+        Ok(found) => found,
+        Err(_) => return None,
+    };
     if counts.variables != counts.inputs + counts.latches + counts.gates {
         return None;
     }
     let latches = behind_inputs(form, lines, counts.inputs)?;
-    match uses(alloc, form, counts, latches) {
-        Ok((front, gates)) => Some((front, gates.len())),
-        Err(_) => None,
-    }
-}
-
-/// What stands before the gates of a text, and how many bytes that is, where all lines before the gates are there and in
-/// order.
-fn front_of(alloc: Global, text: &[u8]) -> Option<(Front, usize)>
-    ensures { IfSome result (λ x. HasFront x.0 x.1 text.now) }
-{
-    match header_line(text) {
-        Ok(((form, counts), lines)) => match uses_in_order(alloc, form, &counts, lines) {
-            Some((front, behind)) => Some((front, text.len() - behind)),
-            None => None,
-        },
+    match uses(alloc, form, &counts, latches) {
+        Ok((front, gates)) => Some((front, text.len() - gates.len())),
         Err(_) => None,
     }
 }

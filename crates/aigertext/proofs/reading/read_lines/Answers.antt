@@ -4,7 +4,7 @@ use Rattle.aigertext.specs.InOrder.{uses_of}
 use Rattle.aigertext.specs.AsciiReading.{AnswersText}
 use Rattle.aigertext.specs.Spelling.{Spells}
 use Rattle.aigertext.proofs.AsciiStandsLemmas.{spells-read}
-use Rattle.aigertext.proofs.InOrderLemmas.{whole_parts, were_read, whole_text_is, stop_before}
+use Rattle.aigertext.proofs.InOrderLemmas.{whole_parts, whole_text_is, stop_before}
 use Rattle.aigertext.proofs.reading.read_lines.Goals as goal
 
 pub returns-in-Err : goal.returns-in-Err
@@ -17,10 +17,10 @@ returns-in-Err c =
 pub read_left-requires-clause-small : goal.read_left-requires-clause-small
 read_left-requires-clause-small c = subst AreSmall (sym c.in-Ok.ensures.counts) c.requires.small
 
-pub read_left-requires-clause-read : goal.read_left-requires-clause-read
-read_left-requires-clause-read c =
+pub read_left-requires-clause-front : goal.read_left-requires-clause-front
+read_left-requires-clause-front c =
     let p = whole_parts c.in-Ok.found.0 c.args.counts.now c.args.text.now c.args.lines.now c.in-Ok.found.1.now c.in-Ok.ensures.form c.in-Ok.ensures.counts c.requires.header c.requires.fits c.in-Ok.ensures.reads in
-    were_read _ _ (uses_of c.in-Ok.found.0) p.before p.front
+    (p.before, p.front)
 
 pub returns-in-Ok-read_left : goal.returns-in-Ok-read_left
 returns-in-Ok-read_left c =

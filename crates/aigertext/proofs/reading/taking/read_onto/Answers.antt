@@ -1,11 +1,11 @@
 use Rattle.std.proofs.Common.{◌∙◌, refl, sym, ap, arith}
-use Rattle.aigertext.specs.InOrder.{uses_of, text_with}
+use Rattle.aigertext.specs.InOrder.{text_with}
 use Rattle.aigertext.proofs.AnswerLemmas.{fault_read}
-use Rattle.aigertext.proofs.InOrderLemmas.{were_read, put_on, put_together, text_more, text_all, text_long}
+use Rattle.aigertext.proofs.InOrderLemmas.{put_on, put_together, text_more, text_all, text_long}
 use Rattle.aigertext.proofs.reading.taking.read_onto.Goals as goal
 
-pub read_left-requires-clause-read : goal.read_left-requires-clause-read
-read_left-requires-clause-read g c = were_read c.args.front.now.form c.args.front.now.counts (uses_of c.args.front.now) c.args.before.now c.requires.front
+pub read_left-requires-clause-front : goal.read_left-requires-clause-front
+read_left-requires-clause-front g c = (c.args.before.now, c.requires.front)
 
 pub read_left-requires-clause-bare : goal.read_left-requires-clause-bare
 read_left-requires-clause-bare g c =
