@@ -95,7 +95,7 @@ fn put_gate_deltas<K: Sink>(
     put_two_deltas(outbox, sink, own - greater, greater - gate.rhs1.number())
 }
 
-/// Puts two deltas.
+/// Puts two deltas; where both have two bytes, as most have, in one piece.
 fn put_two_deltas<K: Sink>(
     outbox: &mut Outbox,
     sink: &mut K,
@@ -105,6 +105,12 @@ fn put_two_deltas<K: Sink>(
     ensures puts { Puts result (K.written sink.old) (K.written sink.new) outbox.old outbox.new (delta first ++ delta second) }
     ensures failures { CountsFaults result (K.failures sink.old) (K.failures sink.new) }
 {
+    if first >= 128 && first < 16384 && second >= 128 && second < 16384 {
+        let low = (first % 128) as u8 + 128;
+        let other = (second % 128) as u8 + 128;
+        let bytes = [low, (first / 128) as u8, other, (second / 128) as u8];
+        return put_bytes(outbox, sink, &bytes);
+    }
     put_delta(outbox, sink, first)?;
     put_delta(outbox, sink, second)
 }
