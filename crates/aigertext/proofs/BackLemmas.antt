@@ -26,6 +26,9 @@ is_ok (Err e) = ⊥
 pub not_err : {A E : Type 0} (e : E) (x : A) → ◌≡◌ {A = Result A E} (Err e) (Ok x) → ⊥
 not_err e x is = subst is_ok (sym is) tt
 
+pub err_same : {A E : Type 0} (w e : E) → ◌≡◌ {A = Result A E} (Err w) (Err e) → w ≡ e
+err_same w e is = cc
+
 -- a step that gave something: what it had, and what the next step gave
 pub record Bound {A B E : Type 0} (r : Result A E) (k : A → Result B E) (y : B) : Type 0 where
   pub value : A

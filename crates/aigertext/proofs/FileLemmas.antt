@@ -1,6 +1,6 @@
 -- Lines that define variables, one after the other onto the lists of a file.
 use Rattle.std.proofs.Common.{◌≡◌, ℕ, suc, ◌+◌, ◌<◌, ◌≤◌, true, false, nat_le, List, [], ◌∷◌, None, Result, Ok, Err, refl, sym, ap, ◌∙◌, length-append, arith}
-use Rattle.std.specs.List.{list_all}
+use Rattle.std.specs.List.{list_all, AllByRecursion}
 use Rattle.std.proofs.lemmas.Bool.{and_from}
 use Rattle.std.proofs.lemmas.Bool.Decides.{nat_tests}
 use Rattle.aiger.specs.declared.loose.GateLine.{GateLine}
@@ -37,8 +37,9 @@ line_accepts greatest l n others new small room =
     let free : nat_le greatest_count (defined_count l) ≡ false = grind (arith, nat_tests) in
     rw (new.1, small, free) refl
 
-pub both_small : (a : ℕ) (others : List ℕ) → is_small a ≡ true → list_all is_small others ≡ true → list_all is_small (a ∷ others) ≡ true
-both_small a others h k = and_from (is_small a) (list_all is_small others) h k
+pub all_small : (greatest : ℕ) (ns : List ℕ) → greatest ≤ 2147483649 → AllByRecursion (λ n. n ≤ greatest) ns → list_all is_small ns ≡ true
+all_small greatest [] few h = refl
+all_small greatest (n ∷ ns) few h = and_from (is_small n) (list_all is_small ns) (small_literal greatest n few h.0) (all_small greatest ns few h.1)
 
 -- ---- a definition more
 

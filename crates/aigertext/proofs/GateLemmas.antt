@@ -8,6 +8,7 @@ use Rattle.aigertext.specs.Binary.{digits_128, delta, gate_deltas}
 use Rattle.aigertext.specs.declared.fault.Stop.{Stop}
 use Rattle.aigertext.specs.Passes.{onto}
 use Rattle.aigertext.specs.Reading.{◌>>=◌, more_digits, delta_at, below, at_or_below, gate_at, gates_at}
+use Rattle.aigertext.proofs.PassLemmas.{onto_nothing}
 use Rattle.aigertext.proofs.DeltaLemmas.{digits-more, digits-one}
 
 -- a byte below 128, and one that is not
@@ -83,10 +84,6 @@ gate-read own g rest below' ordered small =
 -- the literal of the variable after one
 pub next_literal : (first : ℕ) → 2 * first + 2 ≡ 2 * suc first
 next_literal first = omega arith
-
-pub onto_nothing : {A : Type 0} (r : Result (List A × List ℕ) Stop) → onto [] r ≡ r
-onto_nothing (Ok x) = refl
-onto_nothing (Err e) = refl
 
 -- the gates, and so many behind them
 pub gates-read-on : (first more : ℕ) (gates : List Gate) (rest : List ℕ) → AreOrderedFrom first gates → first + length gates ≤ 2 ^ 32

@@ -22,10 +22,8 @@ mod FrontLemmas
 mod PassLemmas
 mod DigitReadLemmas
 mod TakeLemmas
-mod ListLemmas
 mod PropertyListLemmas
 mod NamingLemmas
-mod SectionReadLemmas
 mod PutsLemmas
 mod ReadFrontLemmas
 mod InOrderLemmas

@@ -1,11 +1,12 @@
 -- Lines read one after the other: what is behind them, and what was read so far.
-use Rattle.std.proofs.Common.{◌≡◌, ℕ, suc, ◌+◌, List, [], ◌∷◌, ◌++◌, map, Result, Ok, Err, refl, sym, ap, ◌∙◌, append_assoc, append-nil, arith}
-use Rattle.std.specs.List.{sum}
-use Rattle.std.proofs.lemmas.List.Sums.{sum_by-cons, sum-map}
+use Rattle.std.proofs.Common.{◌≡◌, ℕ, suc, ◌+◌, ◌-◌, List, [], ◌∷◌, ◌++◌, map, Result, Ok, Err, ◌⊎◌, inl, inr, refl, sym, ap, subst, ◌∙◌, append_assoc, append-nil, arith}
+use Rattle.std.specs.List.{sum, sum_by}
+use Rattle.std.proofs.lemmas.List.Sums.{sum_by-append, sum_by-cons, sum-map}
 use Rattle.aigertext.specs.declared.fault.Stop.{Stop}
 use Rattle.aigertext.specs.declared.fault.Why.{Why}
-use Rattle.aigertext.specs.Reading.{◌>>=◌, line_at, lines_at, sizes_at, size_of, literals_at}
-use Rattle.aigertext.specs.Passes.{behind, total_from, onto, lists_at}
+use Rattle.aigertext.specs.declared.fault.Why.TheVariants as why
+use Rattle.aigertext.specs.Reading.{◌>>=◌, line_at, lines_at}
+use Rattle.aigertext.specs.Passes.{onto, Reads}
 
 -- ---- one more and the others
 
@@ -17,26 +18,29 @@ pub onto_onto : {A : Type 0} (xs ys : List A) (r : Result (List A × List ℕ) S
 onto_onto xs ys (Ok x) = ap (λ (l : List _). Ok (l, x.1)) (sym (append_assoc xs ys x.0))
 onto_onto xs ys (Err e) = refl
 
-behind_onto : {A : Type 0} (xs : List A) (r : Result (List A × List ℕ) Stop) → behind (onto xs r) ≡ behind r
-behind_onto xs (Ok x) = refl
-behind_onto xs (Err e) = refl
-
 same_map : (ns : List ℕ) → map (λ (n : ℕ). n) ns ≡ ns
 same_map [] = refl
 same_map (n ∷ ns) = ap (λ (l : List ℕ). n ∷ l) (same_map ns)
 
-pub sum_of_cons : (n : ℕ) (ns : List ℕ) → sum (n ∷ ns) ≡ n + sum ns
-sum_of_cons n ns =
-    ap sum (sym (same_map (n ∷ ns))) ∙ sum-map (λ (m : ℕ). m) (n ∷ ns) ∙ sum_by-cons (λ (m : ℕ). m) n ns
-    ∙ ap (λ (k : ℕ). n + k) (sym (sum-map (λ (m : ℕ). m) ns) ∙ ap sum (same_map ns))
+sum_is : (ns : List ℕ) → sum ns ≡ sum_by (λ (n : ℕ). n) ns
+sum_is ns = ap sum (sym (same_map ns)) ∙ sum-map (λ (n : ℕ). n) ns
 
-total_onto : (before n : ℕ) (r : Result (List ℕ × List ℕ) Stop) → total_from before (onto (n ∷ []) r) ≡ total_from (before + n) r
-total_onto before n (Ok x) =
-    let sums : before + sum (n ∷ x.0) ≡ before + n + sum x.0 = omega (arith, sum_of_cons n x.0) in
-    ap (λ (k : ℕ). Ok (k, x.1)) sums
-total_onto before n (Err e) = refl
+pub sum_of_cons : (n : ℕ) (ns : List ℕ) → sum (n ∷ ns) ≡ n + sum ns
+sum_of_cons n ns = sum_is (n ∷ ns) ∙ sum_by-cons (λ (m : ℕ). m) n ns ∙ ap (λ (k : ℕ). n + k) (sym (sum_is ns))
+
+pub sum_of_more : (n : ℕ) (ns : List ℕ) → sum (ns ++ n ∷ []) ≡ sum ns + n
+sum_of_more n ns = omega (arith, sum_is (ns ++ n ∷ []), sum_by-append (λ (m : ℕ). m) ns (n ∷ []), sum_by-cons (λ (m : ℕ). m) n [], sum_is ns)
 
 -- ---- lines
+
+pub onto_nothing : {A : Type 0} (r : Result (List A × List ℕ) Stop) → onto [] r ≡ r
+onto_nothing (Ok x) = refl
+onto_nothing (Err e) = refl
+
+pub onto_begins : {A S : Type 0} (says : S → List ℕ → Result A Why) (next : S → A → S) (s : S) (n : ℕ) (text : List ℕ) (xs : List A) → xs ≡ [] → onto xs (lines_at says next s (n - 0) text) ≡ lines_at says next s n text
+onto_begins says next s n text xs none =
+    let all : n - 0 ≡ n = omega arith in
+    ap (λ (l : List _). onto l (lines_at says next s (n - 0) text)) none ∙ onto_nothing (lines_at says next s (n - 0) text) ∙ ap (λ (k : ℕ). lines_at says next s k text) all
 
 module _ {A S : Type 0} (says : S → List ℕ → Result A Why) (next : S → A → S) (s : S) (m n : ℕ) (text : List ℕ) (left : m ≡ suc n) where
   pub lines_more : (x : A) (after : List ℕ) → line_at (says s) text ≡ Ok (x, after) → lines_at says next s m text ≡ onto (x ∷ []) (lines_at says next (next s x) n after)
@@ -44,14 +48,6 @@ module _ {A S : Type 0} (says : S → List ℕ → Result A Why) (next : S → A
 
   pub lines_stop : (e : Stop) → line_at (says s) text ≡ Err e → lines_at says next s m text ≡ Err e
   lines_stop e one = ap (λ (k : ℕ). lines_at says next s k text) left ∙ rw one refl
-
-  pub behind_step : (x : A) (after : List ℕ) (t : S) (whole : Result (List ℕ) Stop) → next s x ≡ t → line_at (says s) text ≡ Ok (x, after) → behind (lines_at says next s m text) ≡ whole → behind (lines_at says next t n after) ≡ whole
-  behind_step x after t whole is one so_far =
-      ap (λ (u : S). behind (lines_at says next u n after)) (sym is)
-      ∙ sym (behind_onto (x ∷ []) (lines_at says next (next s x) n after)) ∙ ap behind (sym (lines_more x after one)) ∙ so_far
-
-  pub behind_stop : (e : Stop) (whole : Result (List ℕ) Stop) → line_at (says s) text ≡ Err e → behind (lines_at says next s m text) ≡ whole → whole ≡ Err e
-  behind_stop e whole one so_far = sym so_far ∙ ap behind (lines_stop e one)
 
   pub onto_step : (xs : List A) (x : A) (after : List ℕ) (t : S) (whole : Result (List A × List ℕ) Stop) → next s x ≡ t → line_at (says s) text ≡ Ok (x, after) → onto xs (lines_at says next s m text) ≡ whole
       → onto (xs ++ x ∷ []) (lines_at says next t n after) ≡ whole
@@ -63,49 +59,23 @@ module _ {A S : Type 0} (says : S → List ℕ → Result A Why) (next : S → A
   onto_stop xs e whole one so_far = sym so_far ∙ ap (onto xs) (lines_stop e one)
 
 module _ {A S : Type 0} (says : S → List ℕ → Result A Why) (next : S → A → S) (s : S) (m : ℕ) (text : List ℕ) (left : m ≡ 0) where
-  pub behind_done : (whole : Result (List ℕ) Stop) → behind (lines_at says next s m text) ≡ whole → whole ≡ Ok text
-  behind_done whole so_far = sym so_far ∙ ap (λ (k : ℕ). behind (lines_at says next s k text)) left
-
   pub onto_done : (xs : List A) (whole : Result (List A × List ℕ) Stop) → onto xs (lines_at says next s m text) ≡ whole → whole ≡ Ok (xs, text)
   onto_done xs whole so_far = sym so_far ∙ ap (λ (k : ℕ). onto xs (lines_at says next s k text)) left ∙ ap (λ (l : List A). Ok (l, text)) (append-nil xs)
 
--- ---- sizes
+-- ---- one after the other
 
-module _ (before m n : ℕ) (text : List ℕ) (whole : Result (ℕ × List ℕ) Stop) (so_far : total_from before (sizes_at before m text) ≡ whole) where
-  pub total_step : (x : ℕ) (after : List ℕ) → m ≡ suc n → line_at (size_of before) text ≡ Ok (x, after) → total_from (before + x) (sizes_at (before + x) n after) ≡ whole
-  total_step x after left one =
-      sym (total_onto before x (sizes_at (before + x) n after)) ∙ ap (total_from before) (sym (lines_more size_of (λ b size. b + size) before m n text left x after one)) ∙ so_far
+-- what is read first stops all, or gives what is read next
+pub reads_stop : {A B : Type 0} (e : Stop) (r : Result A Stop) (next : A → Result B Stop) → (e.why ≡ why.NoMemory) ⊎ (r ≡ Err e) → (e.why ≡ why.NoMemory) ⊎ ((r >>= next) ≡ Err e)
+reads_stop e r next (inl full) = inl full
+reads_stop e r next (inr stops) = inr (subst (λ (q : Result _ Stop). (q >>= next) ≡ Err e) (sym stops) refl)
 
-  pub total_stop : (e : Stop) → m ≡ suc n → line_at (size_of before) text ≡ Err e → whole ≡ Err e
-  total_stop e left one = sym so_far ∙ ap (total_from before) (lines_stop size_of (λ b size. b + size) before m n text left e one)
+pub stops_then : {A B : Type 0} (e : Stop) (r : Result A Stop) (a : A) (next : A → Result B Stop) → r ≡ Ok a → (e.why ≡ why.NoMemory) ⊎ (next a ≡ Err e) → (e.why ≡ why.NoMemory) ⊎ ((r >>= next) ≡ Err e)
+stops_then e r a next is (inl full) = inl full
+stops_then e r a next is (inr stops) = inr (subst (λ (q : Result _ Stop). (q >>= next) ≡ Err e) (sym is) stops)
 
-  pub total_done : m ≡ 0 → whole ≡ Ok (before, text)
-  total_done none =
-      let nothing : before + 0 ≡ before = omega arith in
-      sym so_far ∙ ap (λ (k : ℕ). total_from before (sizes_at before k text)) none ∙ ap (λ (k : ℕ). Ok (k, text)) nothing
+pub reads_then : {A B X : Type 0} (view : X → B) (answer : Result X Stop) (r : Result A Stop) (a : A) (next : A → Result B Stop) → r ≡ Ok a → Reads view answer (next a) → Reads view answer (r >>= next)
+reads_then view answer r a next is read = subst (λ (q : Result _ Stop). Reads view answer (q >>= next)) (sym is) read
 
--- ---- justice properties
-
-module _ (greatest before m n : ℕ) (sizes text : List ℕ) (left : m ≡ suc n) where
-  pub lists_step : (lists : List (List ℕ)) (size : ℕ) (sizes_after : List ℕ) (ls after : List ℕ) (whole : Result (List (List ℕ) × List ℕ) Stop)
-      → line_at (size_of before) sizes ≡ Ok (size, sizes_after) → literals_at greatest size text ≡ Ok (ls, after) → onto lists (lists_at greatest before m sizes text) ≡ whole
-      → onto (lists ++ ls ∷ []) (lists_at greatest (before + size) n sizes_after after) ≡ whole
-  lists_step lists size sizes_after ls after whole one two so_far =
-      let more : lists_at greatest before m sizes text ≡ onto (ls ∷ []) (lists_at greatest (before + size) n sizes_after after) =
-      ap (λ (k : ℕ). lists_at greatest before k sizes text) left ∙ rw (one, two) (onto_one ls (lists_at greatest (before + size) n sizes_after after)) in
-      sym (onto_onto lists (ls ∷ []) (lists_at greatest (before + size) n sizes_after after)) ∙ ap (onto lists) (sym more) ∙ so_far
-
-  pub lists_no_size : (lists : List (List ℕ)) (e : Stop) (whole : Result (List (List ℕ) × List ℕ) Stop) → line_at (size_of before) sizes ≡ Err e → onto lists (lists_at greatest before m sizes text) ≡ whole → whole ≡ Err e
-  lists_no_size lists e whole one so_far =
-      let stops : lists_at greatest before m sizes text ≡ Err e = ap (λ (k : ℕ). lists_at greatest before k sizes text) left ∙ rw one refl in
-      sym so_far ∙ ap (onto lists) stops
-
-  pub lists_no_literal : (lists : List (List ℕ)) (size : ℕ) (sizes_after : List ℕ) (e : Stop) (whole : Result (List (List ℕ) × List ℕ) Stop)
-      → line_at (size_of before) sizes ≡ Ok (size, sizes_after) → literals_at greatest size text ≡ Err e → onto lists (lists_at greatest before m sizes text) ≡ whole → whole ≡ Err e
-  lists_no_literal lists size sizes_after e whole one two so_far =
-      let stops : lists_at greatest before m sizes text ≡ Err e = ap (λ (k : ℕ). lists_at greatest before k sizes text) left ∙ rw (one, two) refl in
-      sym so_far ∙ ap (onto lists) stops
-
-pub lists_done : (greatest before m : ℕ) (sizes text : List ℕ) (lists : List (List ℕ)) (whole : Result (List (List ℕ) × List ℕ) Stop) → m ≡ 0 → onto lists (lists_at greatest before m sizes text) ≡ whole → whole ≡ Ok (lists, text)
-lists_done greatest before m sizes text lists whole left so_far =
-    sym so_far ∙ ap (λ (k : ℕ). onto lists (lists_at greatest before k sizes text)) left ∙ ap (λ (l : List (List ℕ)). Ok (l, text)) (append-nil lists)
+-- what `?` returns where reading stops
+pub stopped : {A X : Type 0} (view : X → A) (answer : Result X Stop) (e : Stop) (read : Result A Stop) → (y : Stop) × (answer ≡ Err y) × (y ≡ e) → (e.why ≡ why.NoMemory) ⊎ (read ≡ Err e) → Reads view answer read
+stopped view answer e read is stops = subst (λ (r : Result _ Stop). Reads view r read) (sym (is.1 ∙ ap (λ (y : Stop). Err y) is.2)) stops

@@ -1,5 +1,5 @@
 -- Lines that are passed over, and what the lists of a file keep while they are read.
-use Rattle.std.proofs.Common.{◌≡◌, ℕ, zero, suc, ◌+◌, ◌*◌, ◌<◌, ◌≤◌, nat_lt, true, false, List, [], ◌∷◌, ◌++◌, length, map, Some, Result, Ok, Err, refl, sym, ap, subst, ◌∙◌, length-append, take, get_or, arith, inl, inr}
+use Rattle.std.proofs.Common.{◌≡◌, ℕ, zero, suc, ◌+◌, ◌<◌, ◌≤◌, nat_lt, true, false, List, [], ◌∷◌, ◌++◌, length, map, Some, Result, Ok, Err, refl, sym, ap, subst, ◌∙◌, length-append, take, get_or, arith, inl, inr}
 use Rattle.std.specs.List.{concat, sum_by}
 use Rattle.std.specs.List.{slice_get}
 use Rattle.std.proofs.lemmas.List.{length-map}
@@ -9,18 +9,18 @@ use Rattle.std.proofs.lemmas.Bool.Decides.{nat_tests}
 use Rattle.aiger.specs.declared.loose.GateLine.{GateLine}
 use Rattle.aiger.specs.declared.loose.LatchLine.{LatchLine}
 use Rattle.aiger.specs.Circuit.{Circuit}
-use Rattle.aiger.specs.Loose.{Loose, empty_loose, defined_count, with_input_line, with_latch_line, with_gate_line}
+use Rattle.aiger.specs.Loose.{Loose, empty_loose, defined_count, with_input_line, with_latch_line}
 use Rattle.aiger.specs.Renumbering.{used_lines, alone, AnswersNumber, LeadsToCycle, LeadsAlong}
 use Rattle.aiger.specs.declared.fault.LooseFault.{LooseFault}
 use Rattle.aiger.specs.declared.fault.LooseFault.TheVariants.{Cycle}
 use Rattle.aigertext.specs.declared.reading.counts.Counts.{Counts}
 use Rattle.aigertext.specs.declared.fault.Stop.{Stop}
 use Rattle.aigertext.specs.declared.fault.Why.{Why}
-use Rattle.aigertext.specs.Reading.{cut, line_at, Properties, properties_at}
-use Rattle.aigertext.specs.AsciiReading.{behind_line, behind_lines, lines_before, input_of, latch_of, gate_of, onto_lists, with_properties_of, lists_of_file, AnswersLists, AnswersAscii}
+use Rattle.aigertext.specs.Reading.{◌>>=◌, cut, line_at, Properties, properties_at}
+use Rattle.aigertext.specs.AsciiReading.{behind_line, behind_lines, lines_before, onto_lists, with_properties_of, lists_of_file, AnswersLists, AnswersAscii}
 use Rattle.aigertext.specs.Passes.{ReadsBy}
-use Rattle.aigertext.specs.PropertyLists.{no_lists, file_lists}
-use Rattle.aigertext.proofs.BackLemmas.{ok_same, bind-back, line-back}
+use Rattle.aigertext.specs.PropertyLists.{no_lists, file_lists, properties_onto}
+use Rattle.aigertext.proofs.BackLemmas.{ok_same, err_same, not_err, bind-back, line-back}
 
 -- ---- lines that are passed over
 
@@ -119,42 +119,28 @@ module _ (h : Counts) (fits : h.inputs + h.latches + h.gates ≤ h.variables) (f
   pub latches_few : defined_count l1 + h.latches ≤ 1073741824
   latches_few = (room h.inputs h.latches h.gates h.variables (defined_count l0) (defined_count l1) (defined_count l1 + h.latches) fits few (ap defined_count none) i refl).0
 
-  pub gates_few : (l2 l3 : Loose) (p : Properties) → defined_count l2 ≡ defined_count l1 + h.latches → l3 ≡ with_properties_of l2 p → defined_count l3 + h.gates ≤ 1073741824
-  gates_few l2 l3 p k is = (room h.inputs h.latches h.gates h.variables (defined_count l0) (defined_count l1) (defined_count l3) fits few (ap defined_count none) i (ap defined_count is ∙ k)).1
+-- properties that were read onto lists, with what follows them
+pub gates_left : {B : Type 0} (h : Counts) (l m : Loose) (text rest : List ℕ) (next : Loose → List ℕ → Result B Stop) → properties_onto h l text ≡ Ok (m, rest) → (properties_at h text >>= (λ p. next (with_properties_of l p.0) p.1)) ≡ next m rest
+gates_left {B} h l m text rest next = by (properties_at h text)
+  where
+    by : (r : Result (Properties × List ℕ) Stop) → ◌>>=◌ {A = Properties × List ℕ} {B = Loose × List ℕ} {E = Stop} r (λ p. Ok (with_properties_of l p.0, p.1)) ≡ Ok (m, rest) → (r >>= (λ p. next (with_properties_of l p.0) p.1)) ≡ next m rest
+    by (Ok p) e = ap (λ (x : Loose × List ℕ). next x.0 x.1) (ok_same (with_properties_of l p.0, p.1) (m, rest) e)
+    by (Err w) e = absurd (not_err _ _ e)
 
--- the lines of inputs, latches and gates under a header's greatest literal
-abbrev inputs_onto : Counts → Loose → List ℕ → Result (Loose × List ℕ) Stop
-inputs_onto h l text = onto_lists (input_of (2 * h.variables + 1)) with_input_line l h.inputs text
+pub gates_stop : {B : Type 0} (h : Counts) (l : Loose) (text : List ℕ) (next : Loose → List ℕ → Result B Stop) (e : Stop) → properties_onto h l text ≡ Err e → (properties_at h text >>= (λ p. next (with_properties_of l p.0) p.1)) ≡ Err e
+gates_stop {B} h l text next e = by (properties_at h text)
+  where
+    by : (r : Result (Properties × List ℕ) Stop) → ◌>>=◌ {A = Properties × List ℕ} {B = Loose × List ℕ} {E = Stop} r (λ p. Ok (with_properties_of l p.0, p.1)) ≡ Err e → (r >>= (λ p. next (with_properties_of l p.0) p.1)) ≡ Err e
+    by (Ok p) is = absurd (not_err _ _ (sym is))
+    by (Err w) is = ap (λ (v : Stop). Err v) (err_same w e is)
 
-abbrev latches_onto : Counts → Loose → List ℕ → Result (Loose × List ℕ) Stop
-latches_onto h l text = onto_lists (latch_of (2 * h.variables + 1)) with_latch_line l h.latches text
-
-abbrev gates_onto : Counts → Loose → List ℕ → Result (Loose × List ℕ) Stop
-gates_onto h l text = onto_lists (gate_of (2 * h.variables + 1)) with_gate_line l h.gates text
-
-module _ (h : Counts) (text : List ℕ) (l0 : Loose) (none : l0 ≡ empty_loose) where
-  pub no_inputs : (e : Stop) → inputs_onto h l0 text ≡ Err e → lists_of_file h text ≡ Err e
-  unfolding lists_of_file
-  no_inputs e i =
-      let i0 : inputs_onto h empty_loose text ≡ Err e = subst (λ (l : Loose). inputs_onto h l text ≡ Err e) none i in
-      rw i0 refl
-
-  module _ (l1 : Loose) (t1 : List ℕ) (i : inputs_onto h l0 text ≡ Ok (l1, t1)) where
-    from_empty : inputs_onto h empty_loose text ≡ Ok (l1, t1)
-    from_empty = subst (λ (l : Loose). inputs_onto h l text ≡ Ok (l1, t1)) none i
-
-    pub no_latches : (e : Stop) → latches_onto h l1 t1 ≡ Err e → lists_of_file h text ≡ Err e
-    unfolding lists_of_file
-    no_latches e k = rw (from_empty, k) refl
-
-    module _ (l2 : Loose) (t2 : List ℕ) (k : latches_onto h l1 t1 ≡ Ok (l2, t2)) where
-      pub no_properties : (e : Stop) → properties_at h t2 ≡ Err e → lists_of_file h text ≡ Err e
-      unfolding lists_of_file
-      no_properties e q = rw (from_empty, k, q) refl
-
-      pub gates_left : (l3 : Loose) (p : Properties) (t3 : List ℕ) → properties_at h t2 ≡ Ok (p, t3) → l3 ≡ with_properties_of l2 p → gates_onto h l3 t3 ≡ lists_of_file h text
-      unfolding lists_of_file
-      gates_left l3 p t3 q is = rw (from_empty, k, q) (ap (λ (l : Loose). gates_onto h l t3) is)
+pub gates_few : (h : Counts) → h.inputs + h.latches + h.gates ≤ h.variables → h.variables ≤ 1073741824 → (l0 l1 : Loose) → l0 ≡ empty_loose → defined_count l1 ≡ defined_count l0 + h.inputs
+    → (l2 l3 : Loose) (t2 t3 : List ℕ) → defined_count l2 ≡ defined_count l1 + h.latches → properties_onto h l2 t2 ≡ Ok (l3, t3) → defined_count l3 + h.gates ≤ 1073741824
+gates_few h fits few l0 l1 none i l2 l3 t2 t3 k is = (room h.inputs h.latches h.gates h.variables (defined_count l0) (defined_count l1) (defined_count l3) fits few (ap defined_count none) i (same (properties_at h t2) is ∙ k)).1
+  where
+    same : (r : Result (Properties × List ℕ) Stop) → ◌>>=◌ {A = Properties × List ℕ} {B = Loose × List ℕ} {E = Stop} r (λ p. Ok (with_properties_of l2 p.0, p.1)) ≡ Ok (l3, t3) → defined_count l3 ≡ defined_count l2
+    same (Ok p) e = sym (ap (λ (x : Loose × List ℕ). defined_count x.0) (ok_same (with_properties_of l2 p.0, p.1) (l3, t3) e))
+    same (Err w) e = absurd (not_err _ _ e)
 
 -- lists that were read, or where reading them stops, have the answers of the text
 pub answers_of_lists : (h : Counts) (text t : List ℕ) (l : Loose) (r : Result Circuit Stop) → lists_of_file h text ≡ Ok (l, t) → ReadsBy (λ e. e.why) (λ c. c) r (AnswersLists h text (Ok (l, t))) → ReadsBy (λ e. e.why) (λ c. c) r (AnswersAscii h text)

@@ -1,6 +1,6 @@
 -- What reading gives stands for the text.
 use Rattle.std.proofs.Common.{◌≡◌, ℕ, zero, suc, ◌+◌, ◌-◌, ◌*◌, ◌^◌, ◌<◌, ◌≤◌, List, [], ◌∷◌, ◌++◌, length, map, take, drop, All, nat_le, Option, Some, None, Ok, Err, inl, inr, refl, sym, ap, subst, ◌∙◌, append_assoc, arith}
-use Rattle.std.specs.List.{concat, sum, sum_by}
+use Rattle.std.specs.List.{concat, sum, sum_by, AllByRecursion}
 use Rattle.std.specs.List.Sorted.{IsStrictlySortedBy}
 use Rattle.std.proofs.lemmas.List.{length-take-le, take-append-drop, length-drop}
 use Rattle.std.proofs.lemmas.List.Elements.{All-from_recursion, All-weaker, All-nil, All-cons, All-head, All-tail}
@@ -24,15 +24,14 @@ use Rattle.aigertext.specs.Ascii.{form_word, numbers_line, literal_lines, size_l
 use Rattle.aigertext.specs.Counts.{first_of_counts, last_of_counts, counts_in}
 use Rattle.aigertext.specs.Binary.{gate_deltas}
 use Rattle.aigertext.specs.Spelling.{IsHeader, AreNextLines, GiveNames, Given, IsEnd, IsBinaryText}
-use Rattle.aigertext.specs.Reading.{Properties, lists_of, line_at, size_within, size_of, literals_at, sizes_at, nexts_at, gates_at, properties_at, nameless, binary_at, names_at, header_of}
-use Rattle.aigertext.proofs.BackLemmas.{ok_same, not_err, bind-back, bind-then, lines-back, literals-back, sizes-back, SaysAt, line-back}
+use Rattle.aigertext.specs.Reading.{Properties, lists_of, line_at, literal_of, size_within, size_of, literals_at, sizes_at, nexts_at, gates_at, properties_at, nameless, binary_at, names_at, header_of}
+use Rattle.aigertext.proofs.BackLemmas.{ok_same, not_err, bind-back, bind-then, lines-back, within-back, literals-back, sizes-back, SaysAt, line-back}
 use Rattle.aigertext.proofs.FieldLemmas.{joined, numbers_line-joined}
 use Rattle.aigertext.proofs.GateBackLemmas.{AreBytes, bytes_behind, AreGatesAt, gates-back}
 use Rattle.aigertext.proofs.HeaderBackLemmas.{HeaderBack, header-back, AreCounts}
 use Rattle.aigertext.proofs.LatchBackLemmas.{AreLatchesAt, latches-back}
 use Rattle.aigertext.proofs.NameBackLemmas.{names-back}
 use Rattle.aigertext.proofs.NameReadLemmas.{HasFewPositions}
-use Rattle.aigertext.proofs.ListLemmas.{literals_small}
 use Rattle.aigertext.proofs.PassLemmas.{sum_of_cons}
 use Rattle.aigertext.proofs.StandsLemmas.{HasUpTo, property_text}
 
@@ -54,7 +53,7 @@ none_left : (literals : List ℕ) → length literals ≡ 0 → [] ≡ literals
 none_left [] e = refl
 none_left (l ∷ ls) e = absurd (omega (arith, e))
 
-concat_of_lists : (ns literals : List ℕ) → length literals ≡ sum ns → concat (lists_of ns literals) ≡ literals
+pub concat_of_lists : (ns literals : List ℕ) → length literals ≡ sum ns → concat (lists_of ns literals) ≡ literals
 concat_of_lists [] literals e = none_left literals e
 concat_of_lists (n ∷ ns) literals e =
     let fits = fits_front n ns literals e in
@@ -65,6 +64,20 @@ size_lines-is [] = refl
 size_lines-is (ls ∷ lists) = ap (λ (l : List ℕ). numbers_line (length ls ∷ []) ++ l) (size_lines-is lists)
 
 -- ---- properties
+
+-- literals that were read are small, and so many
+record AreSmall (greatest n : ℕ) (ls : List ℕ) : Type 0 where
+  many : length ls ≡ n
+  small : AllByRecursion (λ l. l ≤ greatest) ls
+
+literals_small : (greatest n : ℕ) (text ls rest : List ℕ) → literals_at greatest n text ≡ Ok (ls, rest) → AreSmall greatest n ls
+unfolding literal_of
+literals_small greatest zero text ls rest e = subst (AreSmall greatest 0) (ap (λ (p : List ℕ × List ℕ). p.0) (ok_same ([], text) (ls, rest) e)) (record { many = refl; small = tt })
+literals_small greatest (suc n) text ls rest e =
+    let b = lines-back literal_of (λ g l. g) greatest n text ls rest e in
+    let others = literals_small greatest n b.after b.others rest b.more in
+    let first : b.first ≤ greatest = (within-back why.BadNumber greatest b.first (number_of b.one.line) b.one.said).1 in
+    subst (AreSmall greatest (suc n)) (sym b.all) (record { many = ap suc others.many; small = (first, others.small) })
 
 -- all sizes together are within the limit
 size_fits : (before n : ℕ) (line : List ℕ) → size_of before line ≡ Ok n → n ≤ greatest_count - before

@@ -1,19 +1,25 @@
--- What was read so far stands on the circuit, and the rest is still to be read.
-use Rattle.std.proofs.Common.{◌≡◌, ℕ, ◌+◌, ◌-◌, ◌*◌, ◌<◌, ◌≤◌, List, [], ◌∷◌, ◌++◌, length, drop, get_or, length-drop, Option, None, Some, Ok, Err, ◌⊎◌, inl, inr, nat_lt, false, refl, sym, ap, ◌∙◌, append_assoc, append-nil, length-append, arith, slice_set}
+-- What was read is put onto a circuit: latches one after the other, and what its calls cannot refuse.
+use Rattle.std.proofs.Common.{◌≡◌, ℕ, suc, ◌+◌, ◌*◌, ◌<◌, ◌≤◌, List, [], ◌∷◌, ◌++◌, length, take, drop, get_or, length-drop, Option, None, Some, All, ◌⊎◌, inl, inr, nat_lt, false, refl, sym, ap, subst, ◌∙◌, append_assoc, append-nil, length-append, slice_set, arith}
 use Rattle.std.proofs.lemmas.Bool.Decides.{nat_tests}
-use Rattle.std.proofs.lemmas.List.{drop_more, drop_all, set_at}
+use Rattle.std.proofs.lemmas.List.{drop_more, drop_all, set_at, take_more, take_all, length-take-le, length-replicate}
+use Rattle.std.proofs.lemmas.List.Elements.{All-get_or}
 use Rattle.aiger.specs.declared.circuit.Latch.{Latch}
 use Rattle.aiger.specs.declared.fault.CircuitFault.{CircuitFault}
 use Rattle.aiger.specs.declared.fault.CircuitFault.TheVariants.{NoMemory}
 use Rattle.aiger.specs.Literal.{variable}
 use Rattle.aiger.specs.Net.{variables}
-use Rattle.aiger.specs.Circuit.{Circuit, net, with_latch, literal_refusal}
-use Rattle.aigertext.specs.declared.fault.Stop.{Stop}
+use Rattle.aiger.specs.Circuit.{Circuit, net, fresh_circuit, fresh_latch, with_latch, literal_refusal}
+use Rattle.aigertext.specs.declared.reading.counts.Counts.{Counts}
 use Rattle.aigertext.specs.declared.forms.Form.{Form}
-use Rattle.aigertext.specs.Reading.{line_at, literal_of, literals_at}
-use Rattle.aigertext.specs.Passes.{onto, latch_in, latches_in, with_latches}
-use Rattle.aigertext.proofs.PassLemmas.{onto_step, onto_stop, onto_done}
-use Rattle.aigertext.proofs.GateLemmas.{onto_nothing}
+use Rattle.aigertext.specs.Counts.{AreSmall}
+use Rattle.aigertext.specs.Reading.{Properties}
+use Rattle.aigertext.specs.Passes.{with_gates, with_latches}
+use Rattle.aigertext.specs.PropertyLists.{no_lists, circuit_lists, circuit_takes, AreTaken}
+use Rattle.aigertext.specs.InOrder.{IsFront}
+use Rattle.aigertext.proofs.InOrderLemmas.{uses-back}
+use Rattle.aigertext.proofs.LatchBackLemmas.{AreLatchesAt, latches-back}
+use Rattle.aigertext.proofs.PropertyListLemmas.{are_taken, circuit_takes_all}
+use Rattle.aigertext.proofs.ReadStandsLemmas.{properties-back}
 
 -- an error of a call that nothing refuses is want of memory
 pub only_memory : (e : CircuitFault) (fault : Option CircuitFault) → fault ≡ None → (fault ≡ Some e) ⊎ ((fault ≡ None) × (e ≡ NoMemory)) → e ≡ NoMemory
@@ -24,103 +30,75 @@ only_memory e fault none (inr is) = is.1
 pub no_fault : {e : CircuitFault} {fault : Option CircuitFault} → fault ≡ None → fault ≡ Some e → ⊥
 no_fault none some = cc
 
--- what a literal that is small enough is
-in_range : (g v l : ℕ) → g ≡ 2 * v + 1 → l ≤ g → nat_lt v (variable l) ≡ false
-in_range g v l is small = let low : variable l ≤ v = omega arith in grind (arith, nat_tests)
-
-less_nothing : (n : ℕ) → n - 0 ≡ n
-less_nothing n = omega arith
-
--- ---- literals of a section
-
-pub record Pushed {C : Type 0} (add : C → List ℕ → C) (greatest count index : ℕ) (before now : C) (text rest : List ℕ) : Type 0 where
-  pub literals : List ℕ
-  pub is : now ≡ add before literals
-  pub many : length literals ≡ index
-  pub read : onto literals (literals_at greatest (count - index) rest) ≡ literals_at greatest count text
-
-pub push_begins : {C : Type 0} (add : C → List ℕ → C) (greatest count : ℕ) (c : C) (text : List ℕ) → c ≡ add c [] → Pushed add greatest count 0 c c text text
-push_begins add greatest count c text same = record { literals = []; is = same; many = refl; read = ap (λ (k : ℕ). onto [] (literals_at greatest k text)) (less_nothing count) ∙ onto_nothing (literals_at greatest count text) }
-
--- a list with more literals behind it
-abbrev pub behind_list : List ℕ → List ℕ → List ℕ
-behind_list before ls = before ++ ls
-
-module _ {C : Type 0} (add : C → List ℕ → C) (greatest count index : ℕ) (before now : C) (text rest : List ℕ) (p : Pushed add greatest count index before now text rest) (more : index < count) where
-  pub push_step : (l : ℕ) (after : List ℕ) (next : C) → ((c : C) (ls ms : List ℕ) → add (add c ls) ms ≡ add c (ls ++ ms)) → line_at (literal_of greatest) rest ≡ Ok (l, after) → next ≡ add now (l ∷ []) → Pushed add greatest count (index + 1) before next text after
-  push_step l after next joins one is = record {
-    literals = p.literals ++ l ∷ [];
-    is = is ∙ ap (λ (c : C). add c (l ∷ [])) p.is ∙ joins before p.literals (l ∷ []);
-    many = length-append p.literals (l ∷ []) ∙ ap (λ (k : ℕ). k + 1) p.many;
-    read =
-        onto_step literal_of (λ g l. g) greatest (count - index) (count - (index + 1)) rest (omega arith) p.literals l after greatest (literals_at greatest count text) refl one p.read;
-  }
-
-  pub push_stop : (e : Stop) → line_at (literal_of greatest) rest ≡ Err e → literals_at greatest count text ≡ Err e
-  push_stop e one = onto_stop literal_of (λ g l. g) greatest (count - index) (count - (index + 1)) rest (omega arith) p.literals e (literals_at greatest count text) one p.read
-
-pub push_done : {C : Type 0} (add : C → List ℕ → C) (greatest count index : ℕ) (before now : C) (text rest : List ℕ) (p : Pushed add greatest count index before now text rest) → count ≤ index → literals_at greatest count text ≡ Ok (p.literals, rest)
-push_done add greatest count index before now text rest p all =
-    onto_done literal_of (λ g l. g) greatest (count - index) rest (omega arith) p.literals (literals_at greatest count text) p.read
-
 -- ---- latches
 
-pub record AreSet (form : Form) (greatest first count index : ℕ) (before now : Circuit) (text rest : List ℕ) : Type 0 where
-  pub latches : List Latch
-  pub is : now ≡ with_latches before (latches ++ drop index before.latches)
-  pub many : length latches ≡ index
-  pub read : onto latches (latches_in form greatest (first + 2 * index) (count - index) rest) ≡ latches_in form greatest first count text
+-- the first so many latches are set
+abbrev pub set_up_to : Circuit → List Latch → ℕ → Circuit
+set_up_to c ls index = with_latches c (take index ls ++ drop index c.latches)
 
-pub set_begins : (form : Form) (greatest first count : ℕ) (c : Circuit) (text : List ℕ) → AreSet form greatest first count 0 c c text text
-set_begins form greatest first count c text =
-    let here : first + 2 * 0 ≡ first = omega arith in
-    record {
-      latches = [];
-      is = refl;
-      many = refl;
-      read = ap (λ (k : ℕ). onto [] (latches_in form greatest k (count - 0) text)) here ∙ ap (λ (k : ℕ). onto [] (latches_in form greatest first k text)) (less_nothing count) ∙ onto_nothing (latches_in form greatest first count text);
-    }
-
-module _ (form : Form) (greatest first count index : ℕ) (before now : Circuit) (text rest : List ℕ) (p : AreSet form greatest first count index before now text rest) (more : index < count) where
-  pub set_step : (l : Latch) (after : List ℕ) (next : Circuit) → count ≡ length before.latches → line_at (latch_in form greatest (first + 2 * index)) rest ≡ Ok (l, after) → next ≡ with_latch now index l → AreSet form greatest first count (index + 1) before next text after
-  set_step l after next all one is =
+module _ (before now : Circuit) (ls : List Latch) (index : ℕ) (is : now ≡ set_up_to before ls index) (more : index < length ls) (all : length ls ≡ length before.latches) where
+  pub latch_set : (l : Latch) (next : Circuit) → l ≡ get_or ls index l → next ≡ with_latch now index l → next ≡ set_up_to before ls (index + 1)
+  latch_set l next own one =
       let inside : index < length before.latches = omega (arith, all, more) in
-      let others : drop index before.latches ≡ get_or before.latches index l ∷ drop (index + 1) before.latches = drop_more before.latches index l inside in
-      let changed : slice_set (p.latches ++ drop index before.latches) index l ≡ (p.latches ++ l ∷ []) ++ drop (index + 1) before.latches =
-      ap (λ (ls : List Latch). slice_set (p.latches ++ ls) index l) others
-      ∙ set_at p.latches (get_or before.latches index l) (drop (index + 1) before.latches) l index p.many
-      ∙ sym (append_assoc p.latches (l ∷ []) (drop (index + 1) before.latches)) in
-      record {
-        latches = p.latches ++ l ∷ [];
-        is = is ∙ ap (λ (c : Circuit). with_latch c index l) p.is ∙ ap (λ (ls : List Latch). with_latches before ls) changed;
-        many = length-append p.latches (l ∷ []) ∙ ap (λ (k : ℕ). k + 1) p.many;
-        read = onto_step (latch_in form greatest) (λ o l. o + 2) (first + 2 * index) (count - index) (count - (index + 1)) rest (omega arith) p.latches l after (first + 2 * (index + 1)) (latches_in form greatest first count text) (omega arith) one p.read;
-      }
+      let long : length (take index ls) ≡ index = length-take-le index ls (omega (arith, more)) in
+      let changed : slice_set (take index ls ++ drop index before.latches) index l ≡ take (index + 1) ls ++ drop (index + 1) before.latches =
+      ap (λ (ms : List Latch). slice_set (take index ls ++ ms) index l) (drop_more before.latches index l inside)
+      ∙ set_at (take index ls) (get_or before.latches index l) (drop (index + 1) before.latches) l index long
+      ∙ sym (append_assoc (take index ls) (l ∷ []) (drop (index + 1) before.latches))
+      ∙ ap (λ (x : Latch). (take index ls ++ x ∷ []) ++ drop (index + 1) before.latches) own
+      ∙ ap (λ (ms : List Latch). ms ++ drop (index + 1) before.latches) (sym (take_more ls index l more)) in
+      one ∙ ap (λ (c : Circuit). with_latch c index l) is ∙ ap (with_latches before) changed
 
-  pub set_stop : (e : Stop) → line_at (latch_in form greatest (first + 2 * index)) rest ≡ Err e → latches_in form greatest first count text ≡ Err e
-  set_stop e one = onto_stop (latch_in form greatest) (λ o l. o + 2) (first + 2 * index) (count - index) (count - (index + 1)) rest (omega arith) p.latches e (latches_in form greatest first count text) one p.read
+  pub many_latches : length now.latches ≡ length before.latches
+  many_latches =
+      ap (λ (c : Circuit). length c.latches) is ∙ length-append (take index ls) (drop index before.latches)
+      ∙ omega (arith, length-take-le index ls (omega (arith, more)), length-drop index before.latches, all, more)
 
-  pub many_latches : count ≡ length before.latches → length now.latches ≡ length before.latches
-  many_latches all =
-      ap (λ (c : Circuit). length c.latches) p.is ∙ length-append p.latches (drop index before.latches)
-      ∙ omega (arith, p.many, length-drop index before.latches, all, more)
-
-  pub set_accepts : (l : ℕ) → l ≤ greatest → greatest ≡ 2 * variables (net before) + 1 → count ≡ length before.latches → literal_refusal now l ≡ None
-  set_accepts l small is all =
+  pub latch_accepted : (l : Latch) → l ≡ get_or ls index l → All (λ l. l.next ≤ 2 * variables (net before) + 1) ls → literal_refusal now l.next ≡ None
+  latch_accepted l own small =
       let same : variables (net now) ≡ variables (net before) =
-      ap (λ (c : Circuit). c.inputs + length now.latches + length c.gates) p.is ∙ ap (λ (k : ℕ). before.inputs + k + length before.gates) (many_latches all) in
-      let defined : nat_lt (variables (net now)) (variable l) ≡ false = ap (λ (v : ℕ). nat_lt v (variable l)) same ∙ in_range greatest (variables (net before)) l is small in
+      ap (λ (c : Circuit). c.inputs + length now.latches + length c.gates) is ∙ ap (λ (k : ℕ). before.inputs + k + length before.gates) many_latches in
+      let at_most : l.next ≤ 2 * variables (net before) + 1 = subst (λ (x : Latch). x.next ≤ 2 * variables (net before) + 1) (sym own) (All-get_or (λ (x : Latch). x.next ≤ 2 * variables (net before) + 1) ls index l more small) in
+      let low : variable l.next ≤ variables (net now) = omega (arith, at_most, same) in
+      let defined : nat_lt (variables (net now)) (variable l.next) ≡ false = grind (arith, nat_tests) in
       rw defined refl
 
-pub set_done : (form : Form) (greatest first count index : ℕ) (before now : Circuit) (text rest : List ℕ) (p : AreSet form greatest first count index before now text rest) → count ≤ index → count ≡ length before.latches
-    → (latches_in form greatest first count text ≡ Ok (p.latches, rest)) × (now ≡ with_latches before p.latches)
-set_done form greatest first count index before now text rest p all lines =
-    let none : drop index before.latches ≡ [] = drop_all index before.latches (omega (arith, all, lines)) in (
-      onto_done (latch_in form greatest) (λ o l. o + 2) (first + 2 * index) (count - index) rest (omega arith) p.latches (latches_in form greatest first count text) p.read,
-      p.is ∙ ap (λ (ls : List Latch). with_latches before ls) (ap (λ (ls : List Latch). p.latches ++ ls) none ∙ append-nil p.latches),
-    )
+pub latches_set : (before now : Circuit) (ls : List Latch) (index : ℕ) → now ≡ set_up_to before ls index → length ls ≤ index → length ls ≡ length before.latches → now ≡ with_latches before ls
+latches_set before now ls index is done all =
+    is ∙ ap (λ (ms : List Latch). with_latches before (ms ++ drop index before.latches)) (take_all index ls done)
+    ∙ ap (λ (ms : List Latch). with_latches before (ls ++ ms)) (drop_all index before.latches (omega (arith, done, all))) ∙ ap (with_latches before) (append-nil ls)
 
-pub set_many : (form : Form) (greatest first count index : ℕ) (before now : Circuit) (text rest : List ℕ) (p : AreSet form greatest first count index before now text rest) → count ≤ index → index ≤ count → count ≡ length before.latches → length now.latches ≡ length before.latches
-set_many form greatest first count index before now text rest p all within' lines =
-    ap (λ (c : Circuit). length c.latches) p.is ∙ length-append p.latches (drop index before.latches)
-    ∙ omega (arith, p.many, length-drop index before.latches, all, within', lines)
+-- ---- the circuit before its names
+
+-- how many latches and variables a circuit has that begins with so many inputs and latches, once its gates are there, and what it takes
+module _ (form : Form) (h : Counts) (ls : List Latch) (p : Properties) (small : AreSmall h) (before : List ℕ) (r : IsFront form h (ls, p) before) (c1 : Circuit) (is1 : c1 ≡ with_gates (fresh_circuit h.inputs h.latches) c1.gates) (gates : length c1.gates ≡ h.gates) where
+  fresh_latches : length c1.latches ≡ h.latches
+  fresh_latches = ap (λ (c : Circuit). length c.latches) is1 ∙ length-replicate h.latches fresh_latch
+
+  all_variables : h.variables ≡ variables (net c1)
+  all_variables = counted c1.inputs (length c1.latches) (ap (λ (c : Circuit). c.inputs) is1) fresh_latches
+    where
+      counted : (i l : ℕ) → i ≡ h.inputs → l ≡ h.latches → h.variables ≡ i + l + length c1.gates
+      counted i l are1 are2 = omega (arith, r.fits, gates)
+
+  latches_read : AreLatchesAt form (2 * h.variables + 1) (suc h.inputs) h.latches (r.lines ++ []) ls (uses-back form h (r.lines ++ []) (ls, p) [] (r.read [])).after
+  latches_read = latches-back form (2 * h.variables + 1) (suc h.inputs) h.latches (r.lines ++ []) ls (uses-back form h (r.lines ++ []) (ls, p) [] (r.read [])).after (omega (arith, small.variables)) (omega (arith, small.inputs, small.latches)) (uses-back form h (r.lines ++ []) (ls, p) [] (r.read [])).latches
+
+  pub all_latches : length ls ≡ length c1.latches
+  all_latches = latches_read.count ∙ sym fresh_latches
+
+  pub latches_below : All (λ l. l.next ≤ 2 * variables (net c1) + 1) ls
+  latches_below = subst (λ (v : ℕ). All (λ l. l.next ≤ 2 * v + 1) ls) all_variables latches_read.below
+
+  module _ (c2 : Circuit) (is2 : c2 ≡ with_latches c1 ls) where
+    still_variables : h.variables ≡ variables (net c2)
+    still_variables =
+        all_variables ∙ ap (λ (n : ℕ). c1.inputs + n + length c1.gates) (sym all_latches) ∙ sym (ap (λ (c : Circuit). variables (net c)) is2)
+
+    pub properties_taken : AreTaken (circuit_takes c2) p
+    properties_taken =
+        are_taken (circuit_takes c2) h (uses-back form h (r.lines ++ []) (ls, p) [] (r.read [])).after p [] small (circuit_takes_all (2 * h.variables + 1) c2 (ap (λ (v : ℕ). 2 * v + 1) still_variables))
+        (properties-back h (uses-back form h (r.lines ++ []) (ls, p) [] (r.read [])).after p [] small.variables (uses-back form h (r.lines ++ []) (ls, p) [] (r.read [])).properties)
+
+    pub none_yet : circuit_lists c2 ≡ no_lists
+    none_yet = ap circuit_lists (is2 ∙ ap (λ (c : Circuit). with_latches c ls) is1)

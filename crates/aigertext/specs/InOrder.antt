@@ -1,5 +1,5 @@
 -- Words between the parts of the reader of a text that is read straight onto a circuit, of whose gates a piece is held: a binary text, or an ascii text whose variables have a circuit's numbers in turn, and whose gates stand behind their operands.
-use Rattle.std.specs.Prelude.{◌≡◌, ℕ, suc, ◌+◌, ◌-◌, ◌*◌, List, ◌++◌, length, take, Option, Some, None, Result, Ok, Err, ◌⊎◌, IfSome}
+use Rattle.std.specs.Prelude.{◌≡◌, ℕ, suc, ◌≤◌, ◌+◌, ◌*◌, List, ◌++◌, length, take, Option, Some, None, Result, Ok, Err, ◌⊎◌, IfSome}
 use Rattle.std.specs.Io.KnownBytes.{Consumes}
 use Rattle.aiger.specs.declared.circuit.Gate.{Gate}
 use Rattle.aiger.specs.declared.circuit.Latch.{Latch}
@@ -14,30 +14,42 @@ use Rattle.aigertext.specs.declared.forms.Form.TheVariants.{Binary}
 use Rattle.aigertext.specs.declared.reading.taking.Taken.{Taken}
 use Rattle.aigertext.specs.declared.reading.taking.Taken.TheVariants as taken
 use Rattle.aigertext.specs.Binary.{inputs_text, gates_text}
-use Rattle.aigertext.specs.Counts.{Fits}
+use Rattle.aigertext.specs.declared.reading.front.Front.{Front}
+use Rattle.aigertext.specs.Counts.{AreSmall, Fits}
+use Rattle.aigertext.specs.PropertyLists.{numbers_of}
 use Rattle.aigertext.specs.Spelling.{Spells}
 use Rattle.aigertext.specs.AsciiReading.{AnswersText}
-use Rattle.aigertext.specs.Reading.{line_at, header_of, Properties, properties_at, nameless, names_at}
-use Rattle.aigertext.specs.Passes.{with_gates, latches_in, behind_lines_of, ReadsText}
+use Rattle.aigertext.specs.Reading.{◌>>=◌, line_at, header_of, Properties, properties_at, nameless, names_at}
+use Rattle.aigertext.specs.Passes.{with_gates, latches_in, ReadsText}
 
 -- ---- the text
 
--- the lines behind a header: those of the inputs in turn, where the form has them, then those of latches and properties, behind which the gates stand
-pub record AreInOrder (form : Form) (h : Counts) (lines latches gates : List ℕ) : Type 0 where
+-- the latches and properties that the lines before the gates say, and the text behind them
+abbrev pub uses_at : Form → Counts → List ℕ → Result ((List Latch × Properties) × List ℕ) Stop
+uses_at form h text = do
+  l ← latches_in form (2 * h.variables + 1) (2 * suc h.inputs) h.latches text
+  p ← properties_at h l.1
+  Ok ((l.0, p.0), p.1)
+
+abbrev pub uses_of : Front → List Latch × Properties
+uses_of f = (f.latches.items, numbers_of f.properties)
+
+-- a text that begins with a header, the lines of the inputs in turn, where the form has them, and those of latches and properties, whatever stands behind them
+pub record IsFront (form : Form) (h : Counts) (uses : List Latch × Properties) (before : List ℕ) : Type 0 where
   pub fits : Fits Binary h
-  pub inputs : lines ≡ inputs_text form h.inputs ++ latches
-  pub seen : behind_lines_of form h latches ≡ Ok gates
-
--- a text that begins with a header and such lines
-pub record IsFront (form : Form) (h : Counts) (text latches gates : List ℕ) : Type 0 where
   pub lines : List ℕ
-  pub header : line_at header_of text ≡ Ok ((form, h), lines)
-  pub in_order : AreInOrder form h lines latches gates
+  pub read : (other : List ℕ) → uses_at form h (lines ++ other) ≡ Ok (uses, other)
+  pub header : (other : List ℕ) → line_at header_of (before ++ other) ≡ Ok ((form, h), inputs_text form h.inputs ++ (lines ++ other))
 
--- what stands before the gates of such a text, these gates and what stands behind them
-abbrev pub text_with : Form → Counts → List ℕ → List ℕ → List Gate → List ℕ → List ℕ
-text_with form h text gates gs behind =
-    take (length text - length gates) text ++ (gates_text form (suc (h.inputs + h.latches)) gs ++ behind)
+-- so many bytes of a text are one
+pub record HasFront (f : Front) (place : ℕ) (text : List ℕ) : Type 0 where
+  pub front : IsFront f.form f.counts (uses_of f) (take place text)
+  pub small : AreSmall f.counts
+  pub within : place ≤ length text
+
+-- such a front, these gates and what stands behind them
+abbrev pub text_with : Form → Counts → List ℕ → List Gate → List ℕ → List ℕ
+text_with form h before gs behind = before ++ (gates_text form (suc (h.inputs + h.latches)) gs ++ behind)
 
 -- ---- the circuit
 
@@ -48,21 +60,15 @@ pub record PutsGates (form : Form) (old new : Circuit) (passed : ℕ) (before af
   pub long : passed ≡ length (gates_text form (suc (variables (net old))) gates)
   pub text : Consumes before after (gates_text form (suc (variables (net old))) gates)
 
--- a circuit of these gates with the latches and properties of a text has this answer for the names of another one
-pub record Finishes (form : Form) (h : Counts) (gates : List Gate) (answer : Result Circuit Stop) (text names : List ℕ) : Type 0 where
-  pub latches : List Latch
-  pub properties : Properties
-  pub behind_latches : List ℕ
-  pub behind_properties : List ℕ
-  pub are_latches : latches_in form (2 * h.variables + 1) (2 * suc h.inputs) h.latches text ≡ Ok (latches, behind_latches)
-  pub are_properties : properties_at h behind_latches ≡ Ok (properties, behind_properties)
-  pub valid : IsCircuit (nameless h.inputs latches properties gates)
-  pub are_names : names_at (nameless h.inputs latches properties gates) names ≡ answer
+-- a circuit of these gates, latches and properties has this answer for the names of a text
+pub record Finishes (h : Counts) (uses : List Latch × Properties) (gates : List Gate) (answer : Result Circuit Stop) (names : List ℕ) : Type 0 where
+  pub valid : IsCircuit (nameless h.inputs uses.0 uses.1 gates)
+  pub are_names : names_at (nameless h.inputs uses.0 uses.1 gates) names ≡ answer
 
 -- so the names were read onto it, or reading stops at one, or memory ran out
-abbrev pub IsFinish : {X : Type 0} → Form → Counts → List Gate → Circuit → List ℕ → List ℕ → Result X Stop → Type 0
-IsFinish form h gates c text names (Ok x) = Finishes form h gates (Ok c) text names × IsCircuit c
-IsFinish form h gates c text names (Err e) = (e.why ≡ why.NoMemory) ⊎ Finishes form h gates (Err e) text names
+abbrev pub IsFinish : {X : Type 0} → Counts → List Latch × Properties → List Gate → Circuit → List ℕ → Result X Stop → Type 0
+IsFinish h uses gates c names (Ok x) = Finishes h uses gates (Ok c) names × IsCircuit c
+IsFinish h uses gates c names (Err e) = (e.why ≡ why.NoMemory) ⊎ Finishes h uses gates (Err e) names
 
 -- a text was read onto a circuit that it spells, or reading it stops, or memory ran out
 abbrev pub ReadsOnto : {X : Type 0} → Circuit → List ℕ → Result X Stop → Type 0

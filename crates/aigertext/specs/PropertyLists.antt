@@ -1,12 +1,18 @@
 -- Lists of properties, as a circuit and the lists of a file have them, and what lines add to them.
-use Rattle.std.specs.Prelude.{◌≡◌, ℕ, ◌≤◌, Bool, true, List, [], ◌++◌, nat_le}
+use Rattle.std.specs.Prelude.{◌≡◌, ℕ, ◌≤◌, Bool, true, List, [], ◌++◌, length, Result, Ok, nat_le}
+use Rattle.std.specs.List.{list_all, sum}
+use Rattle.aiger.specs.Limits.{greatest_count}
 use Rattle.aiger.specs.Literal.{variable}
 use Rattle.aiger.specs.Net.{variables}
 use Rattle.aiger.specs.Circuit.{Circuit, net}
 use Rattle.aiger.specs.Loose.{Loose, is_small}
-use Rattle.aigertext.specs.declared.reading.properties.LiteralSection.{LiteralSection}
-use Rattle.aigertext.specs.declared.reading.properties.LiteralSection.TheVariants.{Output, Bad, Constraint, Fair}
-use Rattle.aigertext.specs.Reading.{Properties, lists_of}
+use Rattle.aigertext.specs.declared.reading.property_lists.LiteralSection.{LiteralSection}
+use Rattle.aigertext.specs.declared.reading.property_lists.LiteralSection.TheVariants.{Output, Bad, Constraint, Fair}
+use Rattle.aigertext.specs.declared.reading.properties.PropertyLines.{PropertyLines}
+use Rattle.aigertext.specs.declared.reading.counts.Counts.{Counts}
+use Rattle.aigertext.specs.declared.fault.Stop.{Stop}
+use Rattle.aigertext.specs.Reading.{◌>>=◌, Properties, lists_of, properties_at}
+use Rattle.aigertext.specs.AsciiReading.{with_properties_of}
 
 pub record Lists : Type 0 where
   pub outputs : List ℕ
@@ -37,13 +43,39 @@ with_literals Fair p ls = record p { fair = p.fair ++ ls }
 abbrev pub with_justice : Lists → List (List ℕ) → Lists
 with_justice p js = record p { justice = p.justice ++ js }
 
+-- the numbers of the lines of properties
+abbrev pub numbers_of : PropertyLines → Properties
+numbers_of p =
+    record {
+      outputs = p.outputs.items;
+      bads = p.bads.items;
+      constraints = p.constraints.items;
+      sizes = p.sizes.items;
+      listed = p.listed.items;
+      fair = p.fair.items;
+    }
+
+-- none
+abbrev pub no_numbers : Properties
+no_numbers = record { outputs = []; bads = []; constraints = []; sizes = []; listed = []; fair = [] }
+
 -- the properties that were read
 abbrev pub lists_made : Properties → Lists
 lists_made p = record { outputs = p.outputs; bads = p.bads; constraints = p.constraints; justice = lists_of p.sizes p.listed; fair = p.fair }
 
--- each literal up to the greatest is taken
-abbrev pub TakesUpTo : (ℕ → Bool) → ℕ → Type 0
-TakesUpTo takes greatest = (l : ℕ) → l ≤ greatest → takes l ≡ true
+-- so many literals may be in a section, and each is taken
+abbrev pub TakesAll : (ℕ → Bool) → List ℕ → Type 0
+TakesAll takes ls = (length ls ≤ greatest_count) × (list_all takes ls ≡ true)
+
+-- the properties that were read may be in the lists
+pub record AreTaken (takes : ℕ → Bool) (p : Properties) : Type 0 where
+  pub outputs : TakesAll takes p.outputs
+  pub bads : TakesAll takes p.bads
+  pub constraints : TakesAll takes p.constraints
+  pub sizes : length p.sizes ≤ greatest_count
+  pub listed : TakesAll takes p.listed
+  pub sums : length p.listed ≡ sum p.sizes
+  pub fair : TakesAll takes p.fair
 
 -- lists beside which a value has other things, that stay as they are; which literals are taken does not go by the lists
 pub record ArePropertyLists {X : Type 0} (lists : X → Lists) (with_lists : X → Lists → X) (takes : X → ℕ → Bool) : Type 0 where
@@ -71,3 +103,7 @@ file_with l p = record l { outputs = p.outputs; bads = p.bads; constraints = p.c
 
 abbrev pub file_takes : Loose → ℕ → Bool
 file_takes l n = is_small n
+
+-- the lists of a file with the properties that a header counts, and the text behind these
+abbrev pub properties_onto : Counts → Loose → List ℕ → Result (Loose × List ℕ) Stop
+properties_onto h l text = properties_at h text >>= (λ x. Ok (with_properties_of l x.0, x.1))

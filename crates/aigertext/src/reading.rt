@@ -19,7 +19,6 @@ mod counts;
 mod deltas;
 mod fields;
 mod finishing;
-mod first_pass;
 mod front;
 mod gates;
 mod header;
@@ -31,6 +30,7 @@ mod numbers;
 mod pieces;
 mod plain_numbers;
 mod properties;
+mod property_lists;
 mod taking;
 
 use crate::fault::{ReadFault, Stop, Why};
@@ -39,7 +39,7 @@ use crate::laws::one_answer;
 use crate::reading::ascii::read_file;
 use crate::reading::counts::Counts;
 use crate::reading::finishing::read_left;
-use crate::reading::first_pass::check_lines;
+use crate::reading::front::uses;
 use crate::reading::lines::{fault, header_line, stop};
 use crate::reading::taking::{Taken, take};
 use aiger::Circuit;
@@ -55,24 +55,15 @@ fn read_lines(alloc: Global, counts: &Counts, text: &[u8], lines: &[u8]) -> Resu
     ensures { ReadsBy (λ e. e.why) (λ c. c) result (AnswersText text.now) }
 {
     one_renumbering();
-    let gates = match check_lines(Form::Binary, lines, counts) {
-        Ok(gates) => gates,
+    let (front, gates) = match uses(alloc, Form::Binary, counts, lines) {
+        Ok(found) => found,
         Err(stop) => return Err(stop),
     };
-    let mut circuit = match Circuit::new(alloc, counts.inputs, counts.latches) {
+    let mut circuit = match Circuit::new(alloc, front.counts.inputs, front.counts.latches) {
         Ok(circuit) => circuit,
         Err(_) => return Err(stop(text, Why::NoMemory)),
     };
-    match read_left(
-        alloc,
-        Form::Binary,
-        counts,
-        text,
-        lines,
-        gates,
-        &mut circuit,
-        gates,
-    ) {
+    match read_left(&mut circuit, &front, gates) {
         Ok(()) => Ok(circuit),
         Err(stop) => Err(stop),
     }

@@ -7,17 +7,41 @@ ghost use Rattle.aigertext.specs.declared.forms.Form.TheVariants as form;
 ghost use Rattle.aigertext.specs.AsciiReading.{lists_of_file, behind_line, behind_lines, lines_before, AnswersLists, AnswersAscii};
 ghost use Rattle.aigertext.specs.Passes.{Numbers, Reads, ReadsBy};
 ghost use Rattle.aigertext.specs.Reading.{cut};
+ghost use Rattle.aigertext.specs.PropertyLists.{no_lists, file_lists, properties_onto};
 ghost use Rattle.aigertext.specs.Counts.{AreSmall, Fits};
 
 use crate::fault::{Stop, Why};
-use crate::reading::ascii_definitions::{push_gate_lines, push_inputs, push_latches};
+use crate::reading::ascii_definitions::push_definitions;
 use crate::reading::counts::Counts;
 use crate::reading::lines::stop;
 use crate::reading::names::give_names;
-use crate::reading::properties::push_properties;
-use aiger::{Circuit, Loose, LooseFault};
+use crate::reading::properties::{PropertyLines, read_properties};
+use crate::reading::property_lists::put_properties;
+use aiger::{Circuit, GateLine, LatchLine, Lit, Loose, LooseFault};
 use base::next_line;
 use std::alloc::Global;
+
+/// Adds the properties of a file by their lines, and answers the text behind them.
+fn push_properties<'a>(
+    alloc: Global,
+    lists: &mut Loose,
+    text: &'a [u8],
+    counts: &Counts,
+) -> Result<&'a [u8], Stop>
+    requires none { file_lists lists.old ≡ no_lists }
+    requires small { AreSmall counts.now }
+    ensures { Reads (λ x. (lists.new, x.now)) result (properties_onto counts.now lists.old text.now) }
+{
+    let mut properties = PropertyLines::new(alloc);
+    let rest = match read_properties(&mut properties, text, counts) {
+        Ok(rest) => rest,
+        Err(stop) => return Err(stop),
+    };
+    match put_properties(lists, &properties) {
+        Ok(()) => Ok(rest),
+        Err(why) => Err(stop(rest, why)),
+    }
+}
 
 /// Reads the lists of a file onto empty ones, and answers the text behind them.
 fn read_lists<'a>(
@@ -32,19 +56,10 @@ fn read_lists<'a>(
     ensures { Reads (λ x. (lists.new, x.now)) result (lists_of_file counts.now text.now) }
 {
     let greatest = 2 * counts.variables + 1;
-    let latches = match push_inputs(lists, text, greatest, counts.inputs) {
-        Ok(latches) => latches,
-        Err(stop) => return Err(stop),
-    };
-    let properties = match push_latches(lists, latches, greatest, counts.latches) {
-        Ok(properties) => properties,
-        Err(stop) => return Err(stop),
-    };
-    let gates = match push_properties(alloc, lists, properties, counts) {
-        Ok(gates) => gates,
-        Err(stop) => return Err(stop),
-    };
-    push_gate_lines(lists, gates, greatest, counts.gates)
+    let rest = push_definitions::<Lit>(lists, text, greatest, counts.inputs)?;
+    let rest = push_definitions::<LatchLine>(lists, rest, greatest, counts.latches)?;
+    let rest = push_properties(alloc, lists, rest, counts)?;
+    push_definitions::<GateLine>(lists, rest, greatest, counts.gates)
 }
 
 /// The text behind its first line.

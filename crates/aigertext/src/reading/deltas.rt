@@ -44,6 +44,10 @@ fn delta(text: &[u8]) -> Result<(u64, &[u8]), Why>
         [low, high, rest @ ..] if *high >= 1 && *high < 128 => {
             Ok((u64::from(*low - 128) + 128 * u64::from(*high), rest))
         }
+        [low, middle, high, rest @ ..] if *middle >= 128 && *high >= 1 && *high < 128 => {
+            let higher = u64::from(*middle - 128) + 128 * u64::from(*high);
+            Ok((u64::from(*low - 128) + 128 * higher, rest))
+        }
         [byte, rest @ ..] => {
             match more_digits(3, rest) {
                 Ok((higher, behind)) => Ok((u64::from(*byte - 128) + 128 * higher, behind)),

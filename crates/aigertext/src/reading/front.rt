@@ -1,20 +1,115 @@
-//! The lines before the gates of a text that can be read straight onto a circuit: a binary text, or an ascii text whose
+//! What stands before the gates of a text that can be read straight onto a circuit: a binary text, or an ascii text whose
 //! inputs and latches have a circuit's numbers in turn.
-ghost use Rattle.std.specs.Prelude.{◌≡◌, ◌+◌, ◌≤◌, ◌++◌, false, Ok, IfSome, OnOk, IsErrOf};
+ghost use Rattle.std.specs.Prelude.{◌≡◌, ◌+◌, ◌*◌, ◌≤◌, ◌++◌, [], IfOk, IfSome, MatchOption, OnOk, IsErrOf};
 ghost use Rattle.std.specs.Io.KnownBytes.{prepend_known, Keeps, IsAtEnd};
 ghost use Rattle.base.specs.Device.{HasRisen};
 ghost use Rattle.aigertext.specs.Ascii.{input_lines};
 ghost use Rattle.aigertext.specs.Binary.{inputs_text};
 ghost use Rattle.aigertext.specs.Counts.{AreSmall, Fits};
-ghost use Rattle.aigertext.specs.InOrder.{AreInOrder, IsFront};
+ghost use Rattle.aigertext.specs.Passes.{latches_in, Reads};
+ghost use Rattle.aigertext.specs.PropertyLists.{numbers_of, no_numbers};
+ghost use Rattle.aigertext.specs.InOrder.{uses_at, uses_of, HasFront};
 
+use crate::fault::{Stop, Why};
 use crate::forms::Form;
 use crate::reading::counts::Counts;
-use crate::reading::first_pass::check_lines;
-use crate::reading::lines::header_line;
+use crate::reading::lines::{header_line, latch_line, stop};
 use crate::reading::pieces::read_piece;
 use crate::reading::plain_numbers::number_before;
+use crate::reading::properties::{PropertyLines, read_properties};
+use aiger::Latch;
 use base::{ReadAllFault, Source};
+use std::alloc::Global;
+
+/// What stands before the gates of a text: its form and its counts, and the numbers of its latches and properties.
+#[derive(Drop)]
+pub(crate) struct Front {
+    /// The form.
+    pub(crate) form: Form,
+    /// The counts of its header.
+    pub(crate) counts: Counts,
+    /// The latches.
+    pub(crate) latches: Vec<Latch>,
+    /// The properties.
+    pub(crate) properties: PropertyLines,
+}
+
+/// Reads so many latches by their lines, the first of which has the given literal, and answers the text behind them.
+fn read_latches<'a>(
+    latches: &mut Vec<Latch>,
+    form: Form,
+    text: &'a [u8],
+    greatest: u32,
+    first: u32,
+    count: u32,
+) -> Result<&'a [u8], Stop>
+    requires none { latches.old.items ≡ [] }
+    requires fits { first + 2 * count ≤ 4294967295 }
+    ensures { Reads (λ x. (latches.new.items, x.now)) result (latches_in form greatest first count text.now) }
+{
+    let mut rest = text;
+    for index in 0..count {
+        let (latch, after) = match latch_line(form, rest, greatest, first + 2 * index) {
+            Ok(found) => found,
+            Err(stop) => return Err(stop),
+        };
+        match latches.push(latch) {
+            Ok(()) => {}
+            Err(_) => return Err(stop(rest, Why::NoMemory)),
+        }
+        rest = after;
+    }
+    Ok(rest)
+}
+
+/// Reads the lines of the latches and of all properties in a form, and answers the text behind them.
+fn read_uses<'a>(
+    latches: &mut Vec<Latch>,
+    properties: &mut PropertyLines,
+    form: Form,
+    counts: &Counts,
+    text: &'a [u8],
+) -> Result<&'a [u8], Stop>
+    requires no_latches { latches.old.items ≡ [] }
+    requires no_properties { numbers_of properties.old ≡ no_numbers }
+    requires small { AreSmall counts.now }
+    requires fits { counts.now.inputs + counts.now.latches ≤ counts.now.variables }
+    ensures { Reads (λ x. ((latches.new.items, numbers_of properties.new), x.now)) result (uses_at form counts.now text.now) }
+{
+    let greatest = 2 * counts.variables + 1;
+    let first = 2 * (counts.inputs + 1);
+    let rest = read_latches(latches, form, text, greatest, first, counts.latches)?;
+    read_properties(properties, rest, counts)
+}
+
+/// The numbers of the lines of latches and properties in a form, and the text behind them.
+pub fn uses<'a>(
+    alloc: Global,
+    form: Form,
+    counts: &Counts,
+    text: &'a [u8],
+) -> Result<(Front, &'a [u8]), Stop>
+    requires small { AreSmall counts.now }
+    requires fits { counts.now.inputs + counts.now.latches ≤ counts.now.variables }
+    ensures reads { Reads (λ x. (uses_of x.0, x.1.now)) result (uses_at form counts.now text.now) }
+    ensures form { IfOk result (λ x. x.0.form ≡ form) }
+    ensures counts { IfOk result (λ x. x.0.counts ≡ counts.now) }
+{
+    let mut latches = Vec::new(alloc);
+    let mut properties = PropertyLines::new(alloc);
+    match read_uses(&mut latches, &mut properties, form, counts, text) {
+        Ok(gates) => Ok((
+            Front {
+                form,
+                counts: *counts,
+                latches,
+                properties,
+            },
+            gates,
+        )),
+        Err(stop) => Err(stop),
+    }
+}
 
 /// The text behind the lines of so many inputs, where these have the first variables in turn.
 fn inputs_in_order(text: &[u8], count: u32) -> Option<&[u8]>
@@ -46,43 +141,35 @@ fn behind_inputs(form: Form, text: &[u8], count: u32) -> Option<&[u8]>
     }
 }
 
-/// Of the lines behind a header the text from the latches on and the text of the gates, where inputs and latches are in
-/// order and no line before the gates is refused.
-fn lines_in_order<'a>(form: Form, counts: &Counts, lines: &'a [u8]) -> Option<(&'a [u8], &'a [u8])>
-    requires small { AreSmall counts.now }
-    requires fits { Fits form counts.now }
-    ensures { IfSome result (λ x. AreInOrder form counts.now lines.now x.0.now x.1.now) }
+/// What stands before the gates of a text, and how many bytes that is, where all lines before the gates are there, none is
+/// refused, and inputs and latches are in order.
+fn front_of(alloc: Global, text: &[u8]) -> Option<(Front, usize)>
+    ensures { IfSome result (λ x. HasFront x.0 x.1 text.now) }
 {
+    let ((form, counts), lines) = match header_line(text) {
+        Ok(found) => found,
+        Err(_) => return None,
+    };
     if counts.variables != counts.inputs + counts.latches + counts.gates {
         return None;
     }
     let latches = behind_inputs(form, lines, counts.inputs)?;
-    match check_lines(form, latches, counts) {
-        Ok(gates) => Some((latches, gates)),
+    match uses(alloc, form, &counts, latches) {
+        Ok((front, gates)) => Some((front, text.len() - gates.len())),
         Err(_) => None,
     }
 }
 
-/// The form and the numbers of a text's header, the text from the latches on, and the text of the gates, where all lines
-/// before those are there and in order.
-pub fn front(text: &[u8]) -> Option<(Form, Counts, &[u8], &[u8])>
-    ensures front { IfSome result (λ x. IsFront x.0 x.1 text.now x.2.now x.3.now) }
-    ensures small { IfSome result (λ x. AreSmall x.1) }
-{
-    match header_line(text) {
-        Ok(((form, counts), lines)) => match lines_in_order(form, &counts, lines) {
-            Some((latches, gates)) => Some((form, counts, latches, gates)),
-            None => None,
-        },
-        Err(_) => None,
-    }
-}
-
-/// Reads a source until the lines before the gates of such a text are there, and answers whether they are; the source was
-/// read to its end where they are not. They are looked for again only once there is twice as much.
-pub fn read_front<S: Source>(text: &mut Vec<u8>, source: &mut S) -> Result<bool, ReadAllFault>
+/// Reads a source until the lines before the gates of such a text are there, and answers what they say and how many bytes
+/// they are; nothing where the source was read to its end without them. They are looked for again only once there is
+/// twice as much.
+pub fn read_front<S: Source>(
+    alloc: Global,
+    text: &mut Vec<u8>,
+    source: &mut S,
+) -> Result<Option<(Front, usize)>, ReadAllFault>
     ensures bytes { OnOk result (Keeps (prepend_known text.old.items (S.to_come source.old)) (prepend_known text.new.items (S.to_come source.new))) }
-    ensures end { result ≡ Ok false → IsAtEnd (S.to_come source.new) }
+    ensures front { IfOk result (λ x. MatchOption x (IsAtEnd (S.to_come source.new)) (λ x. HasFront x.0 x.1 text.new.items)) }
     ensures counted { OnOk result (S.failures source.new ≡ S.failures source.old) }
     ensures device { IsErrOf result ReadAllFault.Device → HasRisen (S.failures source.old) (S.failures source.new) }
     ensures memory { IsErrOf result ReadAllFault.NoMemory → S.failures source.new ≡ S.failures source.old }
@@ -90,11 +177,12 @@ pub fn read_front<S: Source>(text: &mut Vec<u8>, source: &mut S) -> Result<bool,
     let mut enough = 0;
     while read_piece(text, source)? {
         if text.len() >= enough {
-            if front(text.as_slice()).is_some() {
-                return Ok(true);
+            match front_of(alloc, text.as_slice()) {
+                Some(found) => return Ok(Some(found)),
+                None => {}
             }
             enough = text.len().saturating_mul(2);
         }
     }
-    Ok(false)
+    Ok(None)
 }

@@ -1,17 +1,16 @@
 //! Taking all of a source: straight onto a circuit where that can be, and else as a text.
-ghost use Rattle.std.specs.Prelude.{◌≡◌, ◌+◌, true, false, length, IfOk, IfSome, OnOk, IsErrOf};
+ghost use Rattle.std.specs.Prelude.{◌≡◌, ◌+◌, ◌++◌, true, false, length, IfOk, IfSome, OnOk, IsErrOf};
 ghost use Rattle.std.specs.Io.KnownBytes.{prepend_known, IsAtEnd};
 ghost use Rattle.base.specs.Device.{HasRisen};
 ghost use Rattle.aiger.specs.Circuit.{fresh_circuit};
 ghost use Rattle.aigertext.specs.declared.forms.Form.TheVariants as variant;
 ghost use Rattle.aigertext.specs.Counts.{AreSmall};
-ghost use Rattle.aigertext.specs.InOrder.{IsFront, IsTaken, IsTakenOnto};
+ghost use Rattle.aigertext.specs.InOrder.{uses_of, IsFront, IsTaken, IsTakenOnto};
 
 use crate::fault::ReadFault;
 use crate::forms::Form;
-use crate::reading::counts::Counts;
 use crate::reading::finishing::read_left;
-use crate::reading::front::{front, read_front};
+use crate::reading::front::{Front, read_front};
 use crate::reading::gates::read_gates;
 use crate::reading::in_order::read_on;
 use crate::reading::lines::fault;
@@ -52,31 +51,28 @@ fn is_out_of_turn(form: Form, circuit: &Circuit, count: usize) -> bool
 }
 
 /// Reads the gates of a text, and all behind them, onto a fresh circuit, where the gates' text as far as it was read is
-/// held. At the first line of an ascii text's gate that is out of turn the lines of the gates so far are written again.
+/// held, and what stands before that. At the first line of an ascii text's gate that is out of turn the lines of the
+/// gates so far are written again.
 fn read_onto<S: Source>(
     alloc: Global,
-    form: Form,
-    counts: &Counts,
-    text: &[u8],
-    latches: &[u8],
-    gates: &[u8],
+    front: &Front,
+    before: &[u8],
     circuit: &mut Circuit,
     window: &mut Vec<u8>,
     source: &mut S,
 ) -> Result<Option<Taken>, ReadAllFault>
-    requires front { IsFront form counts.now text.now latches.now gates.now }
-    requires small { AreSmall counts.now }
-    requires fresh { circuit.old ≡ fresh_circuit counts.now.inputs counts.now.latches }
-    requires held { window.old.items ≡ gates.now }
-    ensures taken { IfOk result (IsTakenOnto (prepend_known text.now (S.to_come source.old)) circuit.new) }
+    requires front { IsFront front.now.form front.now.counts (uses_of front.now) before.now }
+    requires small { AreSmall front.now.counts }
+    requires fresh { circuit.old ≡ fresh_circuit front.now.counts.inputs front.now.counts.latches }
+    ensures taken { IfOk result (IsTakenOnto (prepend_known (before.now ++ window.old.items) (S.to_come source.old)) circuit.new) }
     ensures end { OnOk result (IsAtEnd (S.to_come source.new)) }
     ensures counted { OnOk result (S.failures source.new ≡ S.failures source.old) }
     ensures device { IsErrOf result ReadAllFault.Device → HasRisen (S.failures source.old) (S.failures source.new) }
     ensures memory { IsErrOf result ReadAllFault.NoMemory → S.failures source.new ≡ S.failures source.old }
 {
-    let (before, _) = text.split_at(text.len() - gates.len());
-    let passed = read_gates(form, circuit, window, counts.gates as usize, source)?;
-    if is_out_of_turn(form, circuit, counts.gates as usize) {
+    let counts = &front.counts;
+    let passed = read_gates(front.form, circuit, window, counts.gates as usize, source)?;
+    if is_out_of_turn(front.form, circuit, counts.gates as usize) {
         let first = counts.inputs + counts.latches + 1;
         return match read_on(
             alloc,
@@ -95,16 +91,7 @@ fn read_onto<S: Source>(
         Some(total) => total,
         None => return Err(ReadAllFault::NoMemory),
     };
-    match read_left(
-        alloc,
-        form,
-        counts,
-        text,
-        latches,
-        gates,
-        circuit,
-        window.as_slice(),
-    ) {
+    match read_left(circuit, front, window.as_slice()) {
         Ok(()) => Ok(None),
         Err(stop) => Ok(Some(Taken::Fault(fault(total, stop)))),
     }
@@ -113,16 +100,14 @@ fn read_onto<S: Source>(
 /// Takes all of a source behind a text whose lines before the gates are in order.
 fn take_behind<S: Source>(
     alloc: Global,
-    form: Form,
-    counts: &Counts,
-    text: &[u8],
-    latches: &[u8],
+    front: &Front,
+    before: &[u8],
     gates: &[u8],
     source: &mut S,
 ) -> Result<Taken, ReadAllFault>
-    requires front { IsFront form counts.now text.now latches.now gates.now }
-    requires small { AreSmall counts.now }
-    ensures taken { IfOk result (IsTaken (prepend_known text.now (S.to_come source.old))) }
+    requires front { IsFront front.now.form front.now.counts (uses_of front.now) before.now }
+    requires small { AreSmall front.now.counts }
+    ensures taken { IfOk result (IsTaken (prepend_known (before.now ++ gates.now) (S.to_come source.old))) }
     ensures end { OnOk result (IsAtEnd (S.to_come source.new)) }
     ensures counted { OnOk result (S.failures source.new ≡ S.failures source.old) }
     ensures device { IsErrOf result ReadAllFault.Device → HasRisen (S.failures source.old) (S.failures source.new) }
@@ -131,20 +116,10 @@ fn take_behind<S: Source>(
     let Ok(mut window) = copied(alloc, gates) else {
         return Err(ReadAllFault::NoMemory);
     };
-    let Ok(mut circuit) = Circuit::new(alloc, counts.inputs, counts.latches) else {
+    let Ok(mut circuit) = Circuit::new(alloc, front.counts.inputs, front.counts.latches) else {
         return Err(ReadAllFault::NoMemory);
     };
-    match read_onto(
-        alloc,
-        form,
-        counts,
-        text,
-        latches,
-        gates,
-        &mut circuit,
-        &mut window,
-        source,
-    ) {
+    match read_onto(alloc, front, before, &mut circuit, &mut window, source) {
         Ok(None) => Ok(Taken::Circuit(circuit)),
         Ok(Some(taken)) => Ok(taken),
         Err(fault) => Err(fault),
@@ -163,24 +138,11 @@ pub fn take<S: Source>(alloc: Global, source: &mut S) -> Result<Taken, ReadAllFa
     ensures memory { IsErrOf result ReadAllFault.NoMemory → S.failures source.new ≡ S.failures source.old }
 {
     let mut text = Vec::new(alloc);
-    if !read_front(&mut text, source)? {
-        return Ok(Taken::Text(text));
-    }
-    match front(text.as_slice()) {
-        Some((form, counts, latches, gates)) => {
-            take_behind(
-                alloc,
-                form,
-                &counts,
-                text.as_slice(),
-                latches,
-                gates,
-                source,
-            )
-        }
-        None => {
-            read_rest(&mut text, source)?;
-            Ok(Taken::Text(text))
+    match read_front(alloc, &mut text, source)? {
+        None => Ok(Taken::Text(text)),
+        Some((front, place)) => {
+            let (before, gates) = text.as_slice().split_at(place);
+            take_behind(alloc, &front, before, gates, source)
         }
     }
 }

@@ -8,7 +8,7 @@ ghost use Rattle.aigertext.specs.Ascii.{numbers_line};
 ghost use Rattle.aigertext.specs.Binary.{delta, gate_text, gates_text};
 
 use crate::forms::Form;
-use crate::writing::line::{Line, put_line};
+use crate::writing::line::{Line, put_bytes};
 use aiger::{Circuit, Gate};
 use base::{DeviceFault, Outbox, Sink};
 
@@ -76,7 +76,7 @@ fn put_gate_line<K: Sink>(
     line.last(gate.rhs1.number());
     line.before(gate.rhs0.number());
     line.before(own);
-    put_line(outbox, sink, line)
+    put_bytes(outbox, sink, line.bytes())
 }
 
 /// Puts the two deltas of a gate.
@@ -95,7 +95,7 @@ fn put_gate_deltas<K: Sink>(
     put_two_deltas(outbox, sink, own - greater, greater - gate.rhs1.number())
 }
 
-/// Puts two deltas.
+/// Puts two deltas; where both have two bytes, as most have, in one piece.
 fn put_two_deltas<K: Sink>(
     outbox: &mut Outbox,
     sink: &mut K,
@@ -105,6 +105,12 @@ fn put_two_deltas<K: Sink>(
     ensures puts { Puts result (K.written sink.old) (K.written sink.new) outbox.old outbox.new (delta first ++ delta second) }
     ensures failures { CountsFaults result (K.failures sink.old) (K.failures sink.new) }
 {
+    if first >= 128 && first < 16384 && second >= 128 && second < 16384 {
+        let low = (first % 128) as u8 + 128;
+        let other = (second % 128) as u8 + 128;
+        let bytes = [low, (first / 128) as u8, other, (second / 128) as u8];
+        return put_bytes(outbox, sink, &bytes);
+    }
     put_delta(outbox, sink, first)?;
     put_delta(outbox, sink, second)
 }
@@ -116,17 +122,8 @@ fn put_delta<K: Sink>(outbox: &mut Outbox, sink: &mut K, number: u32) -> Result<
 {
     let mut rest = number;
     while rest >= 128 {
-        put_byte(outbox, sink, (rest % 128) as u8 + 128)?;
+        put_bytes(outbox, sink, &[(rest % 128) as u8 + 128])?;
         rest /= 128;
     }
-    put_byte(outbox, sink, rest as u8)
-}
-
-/// Puts a byte.
-#[inline(always)]
-fn put_byte<K: Sink>(outbox: &mut Outbox, sink: &mut K, byte: u8) -> Result<(), DeviceFault>
-    ensures puts { Puts result (K.written sink.old) (K.written sink.new) outbox.old outbox.new (byte ∷ []) }
-    ensures failures { CountsFaults result (K.failures sink.old) (K.failures sink.new) }
-{
-    outbox.put(sink, &[byte])
+    put_bytes(outbox, sink, &[rest as u8])
 }

@@ -5,7 +5,7 @@ ghost use Rattle.base.specs.Pieces.{Puts};
 ghost use Rattle.aigertext.specs.Ascii.{numbers_line, without_zero_tail, last_counts, header};
 
 use crate::forms::Form;
-use crate::writing::line::{Line, put_line};
+use crate::writing::line::{Line, put_bytes};
 use aiger::Circuit;
 use base::{DeviceFault, Outbox, Sink};
 
@@ -29,7 +29,7 @@ pub fn put_header<K: Sink>(
     line.byte(b'g');
     line.byte(form.letter());
     line.byte(b'a');
-    put_line(outbox, sink, &line)
+    put_bytes(outbox, sink, line.bytes())
 }
 
 /// Writes the end of a header: the gates, and the counts behind them as far as they are not 0.

@@ -6,7 +6,7 @@ ghost use Rattle.aigertext.specs.Binary.{inputs_text, latch_text, latches_text};
 ghost use Rattle.base.specs.Pieces.{Puts};
 
 use crate::forms::Form;
-use crate::writing::line::{Line, put_line, put_number};
+use crate::writing::line::{Line, put_bytes, put_number};
 use aiger::{Latch, Reset};
 use base::{DeviceFault, Outbox, Sink};
 
@@ -81,7 +81,7 @@ fn put_latch<K: Sink>(
     if form == Form::Ascii {
         line.before(own);
     }
-    put_line(outbox, sink, line)
+    put_bytes(outbox, sink, line.bytes())
 }
 
 /// Writes the end of a latch's line: its next literal and its reset.

@@ -104,12 +104,17 @@ impl Line {
     }
 }
 
-/// Puts a line into the outbox.
-pub fn put_line<K: Sink>(outbox: &mut Outbox, sink: &mut K, line: &Line) -> Result<(), DeviceFault>
-    ensures puts { Puts result (K.written sink.old) (K.written sink.new) outbox.old outbox.new line.now }
+/// Puts bytes into the outbox.
+#[inline(always)]
+pub fn put_bytes<K: Sink>(
+    outbox: &mut Outbox,
+    sink: &mut K,
+    bytes: &[u8],
+) -> Result<(), DeviceFault>
+    ensures puts { Puts result (K.written sink.old) (K.written sink.new) outbox.old outbox.new bytes.now }
     ensures failures { CountsFaults result (K.failures sink.old) (K.failures sink.new) }
 {
-    outbox.put(sink, line.bytes())
+    outbox.put(sink, bytes)
 }
 
 /// Puts the line of one number.
@@ -123,5 +128,5 @@ pub fn put_number<K: Sink>(
     ensures failures { CountsFaults result (K.failures sink.old) (K.failures sink.new) }
 {
     line.last(number);
-    put_line(outbox, sink, line)
+    put_bytes(outbox, sink, line.bytes())
 }

@@ -5,7 +5,7 @@ ghost use Rattle.base.specs.Pieces.{Puts};
 ghost use Rattle.aiger.specs.Circuit.{letter, name_of};
 ghost use Rattle.aigertext.specs.Ascii.{name_line, names_of, all_names};
 
-use crate::writing::line::{Line, put_line};
+use crate::writing::line::{Line, put_bytes};
 use aiger::{Circuit, Section};
 use base::{DeviceFault, Outbox, Sink};
 
@@ -73,14 +73,6 @@ fn put_name<K: Sink>(
     put_bytes(outbox, sink, b"\n")
 }
 
-/// Puts bytes into the outbox.
-fn put_bytes<K: Sink>(outbox: &mut Outbox, sink: &mut K, bytes: &[u8]) -> Result<(), DeviceFault>
-    ensures puts { Puts result (K.written sink.old) (K.written sink.new) outbox.old outbox.new bytes.now }
-    ensures failures { CountsFaults result (K.failures sink.old) (K.failures sink.new) }
-{
-    outbox.put(sink, bytes)
-}
-
 /// Puts the front of a name's line: the section's letter, the position and a space.
 fn put_place<K: Sink>(
     outbox: &mut Outbox,
@@ -94,5 +86,5 @@ fn put_place<K: Sink>(
     let mut line = Line::new();
     line.before(position);
     line.byte(section.letter());
-    put_line(outbox, sink, &line)
+    put_bytes(outbox, sink, line.bytes())
 }

@@ -1,53 +1,53 @@
-use Rattle.std.proofs.Common.{subst, inl, inr, arith}
+use Rattle.std.proofs.Common.{◌+◌, ◌*◌, subst, sym, inl, inr}
+use Rattle.std.proofs.lemmas.Result.{err_from_is_err_and}
+use Rattle.aiger.specs.Loose.{with_gate_line}
 use Rattle.aigertext.specs.Passes.{Reads}
-use Rattle.aigertext.proofs.PassOverLemmas.{no_uses, none_few, latches_few, gates_few, no_inputs, no_latches, no_properties, gates_left}
-use Rattle.aigertext.proofs.PropertyListLemmas.{file_takes_all}
+use Rattle.aigertext.specs.AsciiReading.{lists_of_file, onto_lists, gate_of}
+use Rattle.aigertext.proofs.PassLemmas.{reads_stop, stops_then, reads_then, stopped}
+use Rattle.aigertext.proofs.PassOverLemmas.{no_uses, none_few, latches_few, gates_few, gates_left, gates_stop}
 use Rattle.aigertext.proofs.reading.ascii.read_lists.Goals as goal
 
-pub push_inputs-requires-clause-few : goal.push_inputs-requires-clause-few
-push_inputs-requires-clause-few c = none_few c.args.lists.now c.args.counts.now.inputs c.requires.empty c.requires.small.inputs
+pub push_definitions-requires-clause-few : goal.push_definitions-requires-clause-few
+push_definitions-requires-clause-few c = none_few c.args.lists.now c.args.counts.now.inputs c.requires.empty c.requires.small.inputs
 
-pub returns-in-Err : goal.returns-in-Err
-returns-in-Err c =
-    elim c.in-Err.ensures.read [
-      | inl full ↦ inl full
-      | inr read ↦ inr (no_inputs c.args.counts.now c.args.text.now c.args.lists.now c.requires.empty c.in-Err.stop read)
-    ]
+pub returns-in_err-rest : goal.returns-in_err-rest
+unfolding lists_of_file
+returns-in_err-rest c =
+    stopped _ _ _ _ (err_from_is_err_and c.from_residual.result c.from_residual.ensures.1) (reads_stop _ _ _ (rw c.requires.empty at c.in_err-rest.ensures.read))
 
-pub push_latches-requires-clause-few : goal.push_latches-requires-clause-few
-push_latches-requires-clause-few c = latches_few c.args.counts.now c.requires.fits c.requires.small.variables c.args.lists.now c.push_inputs.new.lists c.requires.empty c.in-Ok.ensures.count
+pub push_definitions-requires-2-clause-few : goal.push_definitions-requires-2-clause-few
+push_definitions-requires-2-clause-few c = latches_few c.args.counts.now c.requires.fits c.requires.small.variables c.args.lists.now c.push_definitions.new.lists c.requires.empty c.in_ok-rest.ensures.count
 
-pub returns-in-Err-push_latches : goal.returns-in-Err-push_latches
-returns-in-Err-push_latches c =
-    elim c.in-Err-push_latches.ensures.read [
-      | inl full ↦ inl full
-      | inr read ↦
-          inr (no_latches c.args.counts.now c.args.text.now c.args.lists.now c.requires.empty c.push_inputs.new.lists c.in-Ok.latches.now c.in-Ok.ensures.read c.in-Err-push_latches.stop read)
-    ]
+pub returns-in_err-rest-2 : goal.returns-in_err-rest-2
+unfolding lists_of_file
+returns-in_err-rest-2 c =
+    stopped _ _ _ _ (err_from_is_err_and c.from_residual-in_err-rest-2.result c.from_residual-in_err-rest-2.ensures.1) (stops_then _ _ _ _ (rw c.requires.empty at c.in_ok-rest.ensures.read) (reads_stop _ _ _ c.in_err-rest-2.ensures.read))
 
 pub push_properties-requires-clause-none : goal.push_properties-requires-clause-none
 push_properties-requires-clause-none c =
-    no_uses c.args.counts.now c.args.text.now c.in-Ok.latches.now c.in-Ok-push_latches.properties.now c.args.lists.now c.push_inputs.new.lists c.push_latches.new.lists _ _ c.requires.empty c.in-Ok.ensures.read c.in-Ok-push_latches.ensures.read
+    no_uses c.args.counts.now c.args.text.now _ _ c.args.lists.now c.push_definitions.new.lists c.push_definitions-2.new.lists _ _ c.requires.empty c.in_ok-rest.ensures.read c.in_ok-rest-2.ensures.read
 
-pub push_properties-requires-clause-taken : goal.push_properties-requires-clause-taken
-push_properties-requires-clause-taken c = file_takes_all _ c.push_latches.new.lists (omega (arith, c.requires.small.variables))
-
-pub returns-in-Err-push_properties : goal.returns-in-Err-push_properties
-returns-in-Err-push_properties c =
-    elim c.in-Err-push_properties.ensures [
+pub returns-in_err-rest-3 : goal.returns-in_err-rest-3
+unfolding lists_of_file
+returns-in_err-rest-3 c =
+    stopped _ _ _ _ (err_from_is_err_and c.from_residual-in_err-rest-3.result c.from_residual-in_err-rest-3.ensures.1) (stops_then _ _ _ _ (rw c.requires.empty at c.in_ok-rest.ensures.read)
+    (stops_then _ _ _ _ c.in_ok-rest-2.ensures.read
+    (elim c.in_err-rest-3.ensures [
       | inl full ↦ inl full
-      | inr read ↦
-          inr (no_properties c.args.counts.now c.args.text.now c.args.lists.now c.requires.empty c.push_inputs.new.lists c.in-Ok.latches.now c.in-Ok.ensures.read c.push_latches.new.lists c.in-Ok-push_latches.properties.now c.in-Ok-push_latches.ensures.read c.in-Err-push_properties.stop read)
-    ]
+      | inr stops ↦
+          inr (gates_stop c.args.counts.now c.push_definitions-2.new.lists _ (λ l t. onto_lists (gate_of (2 * c.args.counts.now.variables + 1)) with_gate_line l c.args.counts.now.gates t) _ stops)
+    ])))
 
-pub push_gate_lines-requires-clause-few : goal.push_gate_lines-requires-clause-few
-push_gate_lines-requires-clause-few c =
-    gates_few c.args.counts.now c.requires.fits c.requires.small.variables c.args.lists.now c.push_inputs.new.lists c.requires.empty c.in-Ok.ensures.count
-    c.push_latches.new.lists c.push_properties.new.lists c.in-Ok-push_properties.ensures.0 c.in-Ok-push_latches.ensures.count c.in-Ok-push_properties.ensures.1.1
+pub push_definitions-requires-3-clause-few : goal.push_definitions-requires-3-clause-few
+push_definitions-requires-3-clause-few c =
+    gates_few c.args.counts.now c.requires.fits c.requires.small.variables c.args.lists.now c.push_definitions.new.lists c.requires.empty c.in_ok-rest.ensures.count
+    c.push_definitions-2.new.lists c.push_properties.new.lists _ _ c.in_ok-rest-2.ensures.count c.in_ok-rest-3.ensures
 
 pub returns : goal.returns
+unfolding lists_of_file
 returns c =
-    subst (Reads (λ x. (c.push_gate_lines.new.lists, x.now)) c.push_gate_lines.result)
-    (gates_left c.args.counts.now c.args.text.now c.args.lists.now c.requires.empty c.push_inputs.new.lists c.in-Ok.latches.now c.in-Ok.ensures.read c.push_latches.new.lists c.in-Ok-push_latches.properties.now c.in-Ok-push_latches.ensures.read
-    c.push_properties.new.lists c.in-Ok-push_properties.ensures.0 c.in-Ok-push_properties.gates.now c.in-Ok-push_properties.ensures.1.0 c.in-Ok-push_properties.ensures.1.1)
-    c.push_gate_lines.ensures.read
+    reads_then _ _ _ _ _ (rw c.requires.empty at c.in_ok-rest.ensures.read)
+    (reads_then _ _ _ _ _ c.in_ok-rest-2.ensures.read
+    (subst (Reads (λ x. (c.push_definitions-3.new.lists, x.now)) c.push_definitions-3.result)
+    (sym (gates_left c.args.counts.now c.push_definitions-2.new.lists c.push_properties.new.lists _ _ (λ l t. onto_lists (gate_of (2 * c.args.counts.now.variables + 1)) with_gate_line l c.args.counts.now.gates t) c.in_ok-rest-3.ensures))
+    c.push_definitions-3.ensures.read))

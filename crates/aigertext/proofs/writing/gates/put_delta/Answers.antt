@@ -13,18 +13,18 @@ loop-rest-init g c = record {
   counted = refl;
 }
 
-pub returns-in_err-put_byte-clause-puts : goal.returns-in_err-put_byte-clause-puts
-returns-in_err-put_byte-clause-puts g c =
+pub returns-in_err-put_bytes-clause-puts : goal.returns-in_err-put_bytes-clause-puts
+returns-in_err-put_bytes-clause-puts g c =
     let is = err_from_is_err_and c.from_residual.result c.from_residual.ensures.1 in
     let next = digits_go_on c.loop-rest.rest c.loop-rest.invariant.text c.loop-rest-test.true c.loop-rest.invariant.digits in
-    rw is.1 (put_fails _ _ _ _ _ _ _ _ next.0 c.loop-rest.invariant.put c.in_err-put_byte.ensures.puts next.1.0)
+    rw is.1 (put_fails _ _ _ _ _ _ _ _ next.0 c.loop-rest.invariant.put c.in_err-put_bytes.ensures.puts next.1.0)
 
 pub loop-rest-preserved : goal.loop-rest-preserved
 loop-rest-preserved g c =
     let next = digits_go_on c.loop-rest.rest c.loop-rest.invariant.text c.loop-rest-test.true c.loop-rest.invariant.digits in
     record {
       text = next.0;
-      put = put_more _ _ _ _ _ _ _ _ _ next.0 c.loop-rest.invariant.put c.in_ok-put_byte.ensures.puts next.1.0;
+      put = put_more _ _ _ _ _ _ _ _ _ next.0 c.loop-rest.invariant.put c.in_ok-put_bytes.ensures.puts next.1.0;
       digits = next.1.1;
       counted = search rules;
     }
@@ -33,6 +33,6 @@ pub returns-clause-puts : goal.returns-clause-puts
 returns-clause-puts g c =
     let put = c.loop-rest.invariant.put in
     let last = digits_end c.loop-rest.rest c.loop-rest.invariant.text c.loop-rest-test.false c.loop-rest.invariant.digits in
-    puts_last c.put_byte-2.result _ _ _ _ _ _ _ (c.loop-rest.rest ∷ [])
+    puts_last c.put_bytes-2.result _ _ _ _ _ _ _ (c.loop-rest.rest ∷ [])
     (record { done = put.done; all = ap (λ (l : List ℕ). put.done ++ l) (sym last) ∙ put.all; sent = put.sent })
-    c.put_byte-2.ensures.puts
+    c.put_bytes-2.ensures.puts
