@@ -1,11 +1,12 @@
 -- What is refused of a second file, and what a command has done that judged a certificate.
-use Rattle.std.proofs.Common.{◌≡◌, inl, inr, ◌↔◌, ℕ, List, Option, Result, Ok, Err, IfOk, OnOk, refl, subst}
+use Rattle.std.proofs.Common.{◌≡◌, inl, inr, ◌↔◌, ℕ, Bool, true, false, List, Option, None, Result, Ok, Err, IfOk, OnOk, refl, subst}
 use Rattle.std.specs.Io.KnownBytes.{Appends}
 use Rattle.btor2.specs.declared.item.Item.{Item}
 use Rattle.aiger.specs.Circuit.{Circuit}
 use Rattle.aiger.specs.Reachability.{CanRiseInCircuit}
 use Rattle.blast.specs.Lowering.{Lowers}
 use Rattle.blast.specs.Reachability.{CanRise}
+use Rattle.blast.specs.Refusal.{lowering_refusal}
 use Rattle.engine.specs.declared.fault.EngineFault.{EngineFault}
 use Rattle.engine.specs.declared.fault.EngineFault.TheVariants as engine
 use Rattle.clauses.specs.declared.judgement.Judgement.{Judgement}
@@ -27,11 +28,12 @@ use Rattle.commands.specs.declared.orders.Given.TheVariants as given
 use Rattle.commands.specs.declared.refusals.Fault.{Fault}
 use Rattle.commands.specs.declared.refusals.Refusal.{Refusal}
 use Rattle.commands.specs.declared.refusals.Refusal.TheVariants as refusal
-use Rattle.commands.specs.Certificates.{Certifies, Gives, IfDone, IsSoDerived, NeverRises, verdict_line}
+use Rattle.commands.specs.Certificates.{Certifies, CertifiesWith, Gives, IfDone, IsSoDerived, LowersFirst, NeverRises, given_said, verdict_line}
 use Rattle.commands.specs.Conversions.{of_certificate, of_claim, of_engine_form, of_invariant_for, of_obligation}
 use Rattle.commands.specs.Refusals.{IsFaultyFor, IsFaultyOver}
 use Rattle.commands.specs.Statuses.{IfSecond}
-use Rattle.commands.specs.Texts.{IsClaim}
+use Rattle.commands.specs.Subjects.{holds_said, where_named}
+use Rattle.commands.specs.Texts.{IsClaim, IsModelOf}
 
 -- ---- what is refused
 
@@ -71,6 +73,10 @@ certificate_refuses_invariant c k invariant certificate.Device h = tt
 
 -- ---- what is done
 
+-- a first text of a model against which nothing speaks gives the circuit that lowers it
+pub gives_lowered : (known : Option (List ℕ)) (items : List Item) (c : Circuit) → IsModelOf known items → lowering_refusal items ≡ None → Lowers items c → LowersFirst known c
+gives_lowered known items c text accepted lowers = record { items = items; text = text; accepted = accepted; lowers = lowers }
+
 never : (g : Given) (known : Option (List ℕ)) (c : Circuit) (gives : Gives g known c) (k : ℕ) → ((items : List Item) (d : Circuit) (b : ℕ) → Lowers items d → CanRise items b ↔ CanRiseInCircuit d b) → (CanRiseInCircuit c k → ⊥) → NeverRises g known c gives k
 never given.Model known c gives k alike cannot = λ rise. cannot ((alike gives.items c k gives.lowers).0 rise)
 never given.Circuit known c gives k alike cannot = cannot
@@ -80,22 +86,29 @@ holds_where_done answer.Done (verdict.Derived line) X so f = f line refl
 holds_where_done answer.Done _ X so f = absurd so
 holds_where_done answer.NotAccepted j X so f = tt
 
--- a command that told how a certificate is judged has judged it
-pub certified : (r : Result Answer Refusal) (g : Given) (choice : Option ℕ) (known second third before now : Option (List ℕ)) (c : Circuit) (k : ℕ) (j : Judgement)
+-- a command that told how a certificate is judged has judged it, with names or without
+pub certified : (named : Bool) (r : Result Answer Refusal) (g : Given) (choice : Option ℕ) (known second third before now told told' : Option (List ℕ)) (c : Circuit) (k : ℕ) (j : Judgement)
     → ((d : Circuit) (b : ℕ) (invariant proof : Option (List ℕ)) (line : ℕ) → IsCertified d b invariant proof (verdict.Derived line) → CanRiseInCircuit d b → ⊥)
     → ((items : List Item) (d : Circuit) (b : ℕ) → Lowers items d → CanRise items b ↔ CanRiseInCircuit d b)
-    → Gives g known c → IsClaim choice c k → IsCertified c k second third j
-    → OnOk r (Appends before now (verdict_line k j)) → IfOk r (λ a. IsSoDerived a j)
-    → IfOk r (Certifies g choice known second third before now)
-certified (Ok a) g choice known second third before now c k j law alike gives is judged line so = record {
-  circuit = c;
-  claim = k;
-  judgement = j;
-  gives = gives;
-  is_claim = is;
-  certified = judged;
-  so = so;
-  holds = holds_where_done a j (NeverRises g known c gives k) so (λ n derives. never g known c gives k alike (law c k second third n (subst (IsCertified c k second third) derives judged)));
-  line = line;
-}
-certified (Err e) g choice known second third before now c k j law alike gives is judged line so = so
+    → (gives : Gives g known c) → IsClaim choice c k → IsCertified c k second third j
+    → OnOk r (Appends before now (verdict_line k j)) → OnOk r (Appends told told' (where_named named (holds_said j (given_said g known c gives k)))) → IfOk r (λ a. IsSoDerived a j)
+    → IfOk r (CertifiesWith named g choice known second third before now told told')
+certified named (Ok a) g choice known second third before now told told' c k j law alike gives is judged line said so = with_names named said
+  where
+    certifies : Certifies g choice known second third before now a
+    certifies = record {
+      circuit = c;
+      claim = k;
+      judgement = j;
+      gives = gives;
+      is_claim = is;
+      certified = judged;
+      so = so;
+      holds = holds_where_done a j (NeverRises g known c gives k) so (λ n derives. never g known c gives k alike (law c k second third n (subst (IsCertified c k second third) derives judged)));
+      line = line;
+    }
+
+    with_names : (named : Bool) → Appends told told' (where_named named (holds_said j (given_said g known c gives k))) → CertifiesWith named g choice known second third before now told told' a
+    with_names false said = certifies
+    with_names true said = record { certifies = certifies; subject = said }
+certified named (Err e) g choice known second third before now told told' c k j law alike gives is judged line said so = so

@@ -75,8 +75,8 @@ pub counted_all_behind : {T : Type 0} (r : Result T Refusal) (f f' s s' t t' o o
 counted_all_behind {T} r f f' s s' t t' o o' e e' same c = let P : ℕ → Type 0 = λ n. CountsAll r n f' s s' t t' o o' e e' in subst P same c
 
 -- neither the second nor the third file failed before what was counted
-pub counted_after : {T : Type 0} (r : Result T Refusal) (f s s' t t' o o' e : ℕ) → s' ≡ s → t' ≡ t → Counts r f f s' s' o o' e e → CountsAll r f f s s' t t' o o' e e
-counted_after {T} r f s s' t t' o o' e second third c = let P : ℕ → Type 0 = λ n. Counts r f f n s' o o' e e in counted_all r f f s s' t t' o o' e e third (subst P second c)
+pub counted_after : {T : Type 0} (r : Result T Refusal) (f s s' t t' o o' e e' : ℕ) → s' ≡ s → t' ≡ t → Counts r f f s' s' o o' e e' → CountsAll r f f s s' t t' o o' e e'
+counted_after {T} r f s s' t t' o o' e e' second third c = let P : ℕ → Type 0 = λ n. Counts r f f n s' o o' e e' in counted_all r f f s s' t t' o o' e e' third (subst P second c)
 
 -- standard error failed where another failure was to be told
 pub untold_failed : (r : Refusal) (f f' s s' t t' o o' e m e' : ℕ) → (r ≡ refusal.Failed device.Error → ⊥) → CountsAll {T = Answer} (Err r) f f' s s' t t' o o' e m → HasRisen m e' → HasRisen e e'

@@ -1,8 +1,8 @@
 pub mod CertificateLemmas
 pub mod CountLemmas
 pub mod EngineLemmas
+pub mod PieceLemmas
 pub mod RestoreLemmas
 pub mod SubjectLemmas
 pub mod TableLemmas
-pub mod ToldLemmas
 pub mod WaveLemmas

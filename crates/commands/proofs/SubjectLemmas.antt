@@ -12,8 +12,8 @@ use Rattle.witness.specs.Judgements.{Judges}
 use Rattle.witness.specs.BitJudgements.{BitJudges}
 use Rattle.commands.specs.declared.answers.Answer.{Answer}
 use Rattle.commands.specs.declared.refusals.Refusal.{Refusal}
-use Rattle.commands.specs.Done.{IsCircuitText, IsModelOf, IsJudgedByName, IsJudgedOverByName, IsSo, Judged, judgement_line}
-use Rattle.commands.specs.Subjects.{item_said, name_said, numbered_item, says_item}
+use Rattle.commands.specs.Done.{IsCircuitText, IsModelOf, IsJudgedWith, IsJudgedOverWith, IsSo, Judged, judgement_line}
+use Rattle.commands.specs.Subjects.{item_said, name_said, numbered_item, says_item, where_named}
 
 -- ---- the item with a number
 
@@ -44,11 +44,16 @@ says_none kind test items list k o e at none = ap (says_item kind k) (numbered t
 
 -- ---- what is done
 
-pub judged_by_name : (r : Result Answer Refusal) (known witness before now told told' : Option (List ℕ)) (items : List Item) (verdict : Judgement)
+pub judged_with : (named : Bool) (r : Result Answer Refusal) (known witness before now told told' : Option (List ℕ)) (items : List Item) (verdict : Judgement)
     → IsModelOf known items → IsWellFormed items → first_init_without_next items items ≡ None → IfSome witness (λ text. Judges items text verdict)
-    → OnOk r (Appends before now (judgement_line verdict)) → OnOk r (Appends told told' (item_said items verdict)) → IfOk r (λ a. IsSo a verdict)
-    → IfOk r (Judged (IsJudgedByName known witness before now told told'))
-judged_by_name (Ok a) known witness before now told told' items verdict text valid each judged line subject so = record {
+    → OnOk r (Appends before now (judgement_line verdict)) → OnOk r (Appends told told' (where_named named (item_said items verdict))) → IfOk r (λ a. IsSo a verdict)
+    → IfOk r (Judged (IsJudgedWith named known witness before now told told'))
+judged_with false (Ok a) known witness before now told told' items verdict text valid each judged line subject so = record {
+  verdict = verdict;
+  is_judged = record { items = items; text = text; well_formed = valid; each_has_next_or_is_free = each; judged = judged; line = line };
+  so = so;
+}
+judged_with true (Ok a) known witness before now told told' items verdict text valid each judged line subject so = record {
   verdict = verdict;
   is_judged = record {
     judged = record { items = items; text = text; well_formed = valid; each_has_next_or_is_free = each; judged = judged; line = line };
@@ -56,15 +61,20 @@ judged_by_name (Ok a) known witness before now told told' items verdict text val
   };
   so = so;
 }
-judged_by_name (Err e) known witness before now told told' items verdict text valid each judged line subject so = so
+judged_with named (Err e) known witness before now told told' items verdict text valid each judged line subject so = so
 
-pub judged_over_by_name : (r : Result Answer Refusal) (known witness before now told told' : Option (List ℕ)) (c : Circuit) (verdict : Judgement)
+pub judged_over_with : (named : Bool) (r : Result Answer Refusal) (known witness before now told told' : Option (List ℕ)) (c : Circuit) (verdict : Judgement)
     → IsCircuitText known c → IsCircuit c → IfSome witness (λ text. BitJudges c text verdict)
-    → OnOk r (Appends before now (judgement_line verdict)) → OnOk r (Appends told told' (name_said c verdict)) → IfOk r (λ a. IsSo a verdict)
-    → IfOk r (Judged (IsJudgedOverByName known witness before now told told'))
-judged_over_by_name (Ok a) known witness before now told told' c verdict text valid judged line subject so = record {
+    → OnOk r (Appends before now (judgement_line verdict)) → OnOk r (Appends told told' (where_named named (name_said c verdict))) → IfOk r (λ a. IsSo a verdict)
+    → IfOk r (Judged (IsJudgedOverWith named known witness before now told told'))
+judged_over_with false (Ok a) known witness before now told told' c verdict text valid judged line subject so = record {
+  verdict = verdict;
+  is_judged = record { value = c; is_circuit = valid; text = text; judged = judged; line = line };
+  so = so;
+}
+judged_over_with true (Ok a) known witness before now told told' c verdict text valid judged line subject so = record {
   verdict = verdict;
   is_judged = record { judged = record { value = c; is_circuit = valid; text = text; judged = judged; line = line }; subject = subject };
   so = so;
 }
-judged_over_by_name (Err e) known witness before now told told' c verdict text valid judged line subject so = so
+judged_over_with named (Err e) known witness before now told told' c verdict text valid judged line subject so = so

@@ -1,5 +1,5 @@
 -- What the commands on certificates have done: of the text of an invariant, and that of a proof, for a bad property of a model or of a circuit.
-use Rattle.std.specs.Prelude.{◌≡◌, ℕ, List, ◌++◌, Option, None, codes, decimal}
+use Rattle.std.specs.Prelude.{◌≡◌, ℕ, Bool, true, false, List, ◌++◌, Option, None, codes, decimal}
 use Rattle.std.specs.Io.KnownBytes.{Appends}
 use Rattle.btor2.specs.declared.item.Item.{Item}
 use Rattle.aiger.specs.Circuit.{Circuit, IsCircuit}
@@ -17,6 +17,7 @@ use Rattle.commands.specs.declared.answers.Answer.{Answer}
 use Rattle.commands.specs.declared.answers.Answer.TheVariants as answer
 use Rattle.commands.specs.declared.orders.Given.{Given}
 use Rattle.commands.specs.declared.orders.Given.TheVariants as given
+use Rattle.commands.specs.Subjects.{bad_item_said, bad_name_said, holds_said}
 use Rattle.commands.specs.Texts.{IsCircuitText, IsClaim, IsModelOf}
 
 -- the first text is of a model against which nothing speaks, and a circuit lowers it
@@ -84,3 +85,18 @@ pub record Certifies (g : Given) (choice : Option ℕ) (first second third befor
   pub so : IsSoDerived a judgement
   pub holds : IfDone a (NeverRises g first circuit gives claim)
   pub line : Appends before now (verdict_line claim judgement)
+
+-- the line that says which bad property of what the first text gives has a number: the line of the model, or the name in the circuit
+abbrev pub given_said : (g : Given) → (first : Option (List ℕ)) → (c : Circuit) → Gives g first c → ℕ → List ℕ
+given_said given.Model first c gives k = bad_item_said gives.items k
+given_said given.Circuit first c gives k = bad_name_said c k
+
+-- a certificate is judged so, and what was told is the line that says which bad property holds; none where that is not judged
+pub record CertifiesByName (g : Given) (choice : Option ℕ) (first second third before now told told' : Option (List ℕ)) (a : Answer) : Type 0 where
+  pub certifies : Certifies g choice first second third before now a
+  pub subject : Appends told told' (holds_said certifies.judgement (given_said g first certifies.circuit certifies.gives certifies.claim))
+
+-- with names or without
+abbrev pub CertifiesWith : Bool → Given → Option ℕ → Option (List ℕ) → Option (List ℕ) → Option (List ℕ) → Option (List ℕ) → Option (List ℕ) → Option (List ℕ) → Option (List ℕ) → Answer → Type 0
+CertifiesWith false g choice first second third before now told told' a = Certifies g choice first second third before now a
+CertifiesWith true g choice first second third before now told told' a = CertifiesByName g choice first second third before now told told' a

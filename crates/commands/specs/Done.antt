@@ -33,20 +33,20 @@ use Rattle.witness.specs.ClosedWords.{IsClosedTrace}
 use Rattle.wave.specs.Dumps.{vcd_text}
 use Rattle.wave.specs.declared.scope.Shown.{Shown}
 use Rattle.lift.specs.EngineLifting.{engine_lifted_text, FindsInModel}
-use Rattle.lift.specs.Lifted.{lifted_text, named_text}
-use Rattle.lift.specs.Verdicts.{KeepsVerdict, KeepsVerdictIn}
+use Rattle.lift.specs.Lifted.{lifted_with}
+use Rattle.lift.specs.Verdicts.{KeepsVerdictIn}
 use Rattle.witness.specs.Printed.{judgement_text}
 use Rattle.vectors.specs.declared.lines.Vector.{Vector}
 use Rattle.vectors.specs.Vectors.{AreVectorsOf, IsRight, numbered, differing, report}
 pub use Rattle.commands.specs.Texts.{IsModelOf, IsCircuitText, IsClaim}
-use Rattle.commands.specs.Certificates.{Certifies, WritesOwed}
+use Rattle.commands.specs.Certificates.{Certifies, CertifiesByName, WritesOwed}
 use Rattle.commands.specs.declared.answers.Answer.{Answer}
 use Rattle.commands.specs.declared.answers.Answer.TheVariants as answer
 use Rattle.commands.specs.declared.orders.Named.{Named}
 use Rattle.commands.specs.declared.orders.Named.TheVariants as named
 use Rattle.commands.specs.declared.orders.Task.{Task}
 use Rattle.commands.specs.declared.orders.Task.TheVariants as task
-use Rattle.commands.specs.Subjects.{item_said, name_said, lifted_said}
+use Rattle.commands.specs.Subjects.{item_said, name_said, lifted_said, where_named}
 
 -- a judgement is that the witness is accepted
 abbrev pub IsAccepted : Judgement → Type 0
@@ -74,15 +74,16 @@ pub record IsJudgedOver (circuit witness before now : Option (List ℕ)) (verdic
   pub judged : IfSome witness (λ text. BitJudges value text verdict)
   pub line : Appends before now (judgement_line verdict)
 
--- The first text is of a model, which a circuit lowers; the second is judged so over that circuit; and what was written is what it is lifted to, of which the same verdict is judged over the model.
-pub record IsLifted (model witness before now : Option (List ℕ)) (verdict : Judgement) : Type 0 where
+-- The first text is of a model, which a circuit lowers; the second is judged so over that circuit; what was written is what it is lifted to, with names or without, of which the same verdict is judged over the model; and what was told is the line of that judgement, and with names the one that says what it is about.
+pub record IsLifted (named : Bool) (model witness before now told told' : Option (List ℕ)) (verdict : Judgement) : Type 0 where
   pub items : List Item
   pub circuit : Circuit
   pub text : IsModelOf model items
   pub lowers : Lowers items circuit
   pub judged : IfSome witness (λ text. BitJudges circuit text verdict)
-  pub lifted : IfSome witness (λ text. Appends before now (lifted_text items circuit text))
-  pub kept : IfSome witness (λ text. KeepsVerdict items circuit text verdict)
+  pub lifted : IfSome witness (λ text. Appends before now (lifted_with named items circuit text))
+  pub kept : IfSome witness (λ text. KeepsVerdictIn items circuit text (lifted_with named items circuit text) verdict)
+  pub lines : Appends told told' (judgement_line verdict ++ where_named named (lifted_said items circuit verdict))
 
 -- a witness is accepted where an answer is that all is done, and else it is not
 abbrev pub IsSo : Answer → Judgement → Type 0
@@ -99,11 +100,6 @@ pub record Judged (IsJudgedSo : Judgement → Type 0) (answer : Answer) : Type 0
   pub verdict : Judgement
   pub is_judged : IsJudgedSo verdict
   pub so : IsSo answer verdict
-
--- a witness is lifted and judged so, and what was told is the line of that judgement
-pub record IsLiftedAndTold (model witness before now told told' : Option (List ℕ)) (verdict : Judgement) : Type 0 where
-  pub lifted : IsLifted model witness before now verdict
-  pub line : Appends told told' (judgement_line verdict)
 
 -- the line that tells how many items, inputs, states, bad properties and constraints a model has
 abbrev pub counts_line : List Item → List ℕ
@@ -193,12 +189,12 @@ pub record IsRestored (choice : Option ℕ) (circuit found before now : Option (
   pub accepted : engine_refusal value (Some claim) ≡ None
   pub restored : IfSome found (λ text. Appends before now (restored_text value claim text))
 
--- no line of a counterexample over the engine form of a circuit is faulty, and what it is restored to is judged so over the circuit: accepted, where the form's bad property is 1
-pub record IsRestoredSo (c : Circuit) (claim : ℕ) (found told told' : Option (List ℕ)) (verdict : Judgement) : Type 0 where
+-- no line of a counterexample over the engine form of a circuit is faulty, and what it is restored to is judged so over the circuit: accepted, where the form's bad property is 1; what was told is the line of that judgement, and what is said behind it
+pub record IsRestoredSo (said : Judgement → List ℕ) (c : Circuit) (claim : ℕ) (found told told' : Option (List ℕ)) (verdict : Judgement) : Type 0 where
   pub right : IfSome found (λ text. (read_text (input_count c) text).fault ≡ None)
   pub judged : IfSome found (λ text. BitJudges c (restored_text c claim text) verdict)
   pub again : IfSome found (λ text. FindsAgain c claim text verdict)
-  pub line : Appends told told' (judgement_line verdict)
+  pub line : Appends told told' (judgement_line verdict ++ said verdict)
 
 -- The first text is of a circuit that has an engine form, with all its bad properties or the chosen one; what was written is what the second, a witness of that form, is restored to; it was told how that is judged: accepted, where it is so over the form.
 pub record IsFormRestored (choice : Option ℕ) (circuit found before now told told' : Option (List ℕ)) (verdict : Judgement) : Type 0 where
@@ -222,16 +218,16 @@ pub record IsMalformed (c : Circuit) (found told told' : Option (List ℕ)) : Ty
   pub line : Appends told told' (malformed_line fault)
 
 -- what was told of a counterexample, and whether it is accepted
-abbrev pub TellsRestored : Answer → Circuit → ℕ → Option (List ℕ) → Option (List ℕ) → Option (List ℕ) → Type 0
-TellsRestored a c claim found told told' = Judged (IsRestoredSo c claim found told told') a ⊎ ((a ≡ answer.NotAccepted) × IsMalformed c found told told')
+abbrev pub TellsRestored : (Judgement → List ℕ) → Answer → Circuit → ℕ → Option (List ℕ) → Option (List ℕ) → Option (List ℕ) → Type 0
+TellsRestored said a c claim found told told' = Judged (IsRestoredSo said c claim found told told') a ⊎ ((a ≡ answer.NotAccepted) × IsMalformed c found told told')
 
 -- The first text is of a circuit; what was written is what the second is restored to, a counterexample over its engine form; and it was told how that is judged.
 pub record Restores (choice : Option ℕ) (circuit found before now told told' : Option (List ℕ)) (a : Answer) : Type 0 where
   pub is_restored : IsRestored choice circuit found before now
-  pub tells : TellsRestored a is_restored.value is_restored.claim found told told'
+  pub tells : TellsRestored (λ verdict. []) a is_restored.value is_restored.claim found told told'
 
--- The first text is of a model, which a circuit lowers that has an engine form for this bad property; what was written is what the second is lifted to, a counterexample over that form, of which what is judged over the circuit is judged over the model; and it was told how that is.
-pub record LiftsFound (choice : Option ℕ) (model found before now told told' : Option (List ℕ)) (a : Answer) : Type 0 where
+-- The first text is of a model, which a circuit lowers that has an engine form for this bad property; what was written is what the second is lifted to, with names or without, a counterexample over that form, of which what is judged over the circuit is judged over the model; and it was told how that is, with names behind it what the judgement is about.
+pub record LiftsFound (named : Bool) (choice : Option ℕ) (model found before now told told' : Option (List ℕ)) (a : Answer) : Type 0 where
   pub items : List Item
   pub lowered : Circuit
   pub claim : ℕ
@@ -239,10 +235,10 @@ pub record LiftsFound (choice : Option ℕ) (model found before now told told' :
   pub lowers : Lowers items lowered
   pub is_claim : IsClaim choice lowered claim
   pub accepted : engine_refusal lowered (Some claim) ≡ None
-  pub lifted : IfSome found (λ text. Appends before now (engine_lifted_text false items lowered claim text))
-  pub kept : (text : List ℕ) (j : Judgement) → BitJudges lowered text j → KeepsVerdict items lowered text j
-  pub in_model : (text : List ℕ) → FindsInModel false items lowered claim text
-  pub tells : TellsRestored a lowered claim found told told'
+  pub lifted : IfSome found (λ text. Appends before now (engine_lifted_text named items lowered claim text))
+  pub kept : (text : List ℕ) (j : Judgement) → BitJudges lowered text j → KeepsVerdictIn items lowered text (lifted_with named items lowered text) j
+  pub in_model : (text : List ℕ) → FindsInModel named items lowered claim text
+  pub tells : TellsRestored (λ verdict. where_named named (lifted_said items lowered verdict)) a lowered claim found told told'
 
 -- all that was to come is a text of some vectors, each of which is right, and what was written is that all of them agree
 pub record Agree (known before now : Option (List ℕ)) : Type 0 where
@@ -275,22 +271,22 @@ pub record IsJudgedOverByName (circuit witness before now told told' : Option (L
   pub judged : IsJudgedOver circuit witness before now verdict
   pub subject : Appends told told' (name_said judged.value verdict)
 
--- The first text is of a model, which a circuit lowers; the second is judged so over that circuit; what was written is what it is lifted to with names, of which the same verdict is judged over the model; and what was told is the line of that judgement and the one that says what it is about.
-pub record IsLiftedByName (model witness before now told told' : Option (List ℕ)) (verdict : Judgement) : Type 0 where
-  pub items : List Item
-  pub circuit : Circuit
-  pub text : IsModelOf model items
-  pub lowers : Lowers items circuit
-  pub judged : IfSome witness (λ text. BitJudges circuit text verdict)
-  pub lifted : IfSome witness (λ text. Appends before now (named_text items circuit text))
-  pub kept : IfSome witness (λ text. KeepsVerdictIn items circuit text (named_text items circuit text) verdict)
-  pub lines : Appends told told' (judgement_line verdict ++ lifted_said items circuit verdict)
+-- with names or without
+abbrev pub IsJudgedWith : Bool → Option (List ℕ) → Option (List ℕ) → Option (List ℕ) → Option (List ℕ) → Option (List ℕ) → Option (List ℕ) → Judgement → Type 0
+IsJudgedWith false model witness before now told told' verdict = IsJudged model witness before now verdict
+IsJudgedWith true model witness before now told told' verdict = IsJudgedByName model witness before now told told' verdict
+
+abbrev pub IsJudgedOverWith : Bool → Option (List ℕ) → Option (List ℕ) → Option (List ℕ) → Option (List ℕ) → Option (List ℕ) → Option (List ℕ) → Judgement → Type 0
+IsJudgedOverWith false circuit witness before now told told' verdict = IsJudgedOver circuit witness before now verdict
+IsJudgedOverWith true circuit witness before now told told' verdict = IsJudgedOverByName circuit witness before now told told' verdict
 
 -- what a command has done that says by name what its judgement is about
-abbrev pub AnswersByName : Named → Option (List ℕ) → Option (List ℕ) → Option (List ℕ) → Option (List ℕ) → Option (List ℕ) → Option (List ℕ) → Answer → Type 0
-AnswersByName named.CheckBtor first second before now told told' a = Judged (IsJudgedByName first second before now told told') a
-AnswersByName named.CheckAig first second before now told told' a = Judged (IsJudgedOverByName first second before now told told') a
-AnswersByName named.Lift first second before now told told' a = Judged (IsLiftedByName first second before now told told') a
+abbrev pub AnswersByName : Named → Option (List ℕ) → Option (List ℕ) → Option (List ℕ) → Option (List ℕ) → Option (List ℕ) → Option (List ℕ) → Option (List ℕ) → Answer → Type 0
+AnswersByName named.CheckBtor first second third before now told told' a = Judged (IsJudgedByName first second before now told told') a
+AnswersByName named.CheckAig first second third before now told told' a = Judged (IsJudgedOverByName first second before now told told') a
+AnswersByName named.Lift first second third before now told told' a = Judged (IsLifted true first second before now told told') a
+AnswersByName (named.LiftFound choice) first second third before now told told' a = LiftsFound true choice first second before now told told' a
+AnswersByName (named.CheckProof g choice) first second third before now told told' a = CertifiesByName g choice first second third before now told told' a
 
 -- what a command has done that answers so. Of `first`, `second` and `third` each, all bytes that were to come are known, or none are; `before` and `now` stand on standard output, `told` and `told'` on standard error
 abbrev pub Answers : Task → Form → Answer → Option (List ℕ) → Option (List ℕ) → Option (List ℕ) → Option (List ℕ) → Option (List ℕ) → Option (List ℕ) → Option (List ℕ) → Type 0
@@ -302,12 +298,12 @@ Answers task.Cost form answer.Done first second third before now told told' = Te
 Answers task.AigConvert form answer.Done first second third before now told told' = Rewrites first before now form
 Answers (task.ConvertForEngines choice) form answer.Done first second third before now told told' = ConvertsForEngines first before now form choice
 Answers task.CheckAig form a first second third before now told told' = Judged (IsJudgedOver first second before now) a
-Answers task.Lift form a first second third before now told told' = Judged (IsLiftedAndTold first second before now told told') a
+Answers task.Lift form a first second third before now told told' = Judged (IsLifted false first second before now told told') a
 Answers (task.Wave shown) form a first second third before now told told' = Judged (IsDumped shown first second before now told told') a
 Answers (task.Restore choice) form a first second third before now told told' = Restores choice first second before now told told' a
 Answers (task.RestoreForm choice) form a first second third before now told told' = Judged (IsFormRestored choice first second before now told told') a
-Answers (task.LiftFound choice) form a first second third before now told told' = LiftsFound choice first second before now told told' a
-Answers (task.Named n) form a first second third before now told told' = AnswersByName n first second before now told told' a
+Answers (task.LiftFound choice) form a first second third before now told told' = LiftsFound false choice first second before now told told' a
+Answers (task.Named n) form a first second third before now told told' = AnswersByName n first second third before now told told' a
 Answers task.Vectors form a first second third before now told told' = Compares first before now a
 Answers (task.Obligation g choice) form answer.Done first second third before now told told' = WritesOwed g choice first second before now
 Answers (task.CheckProof g choice) form a first second third before now told told' = Certifies g choice first second third before now a
@@ -335,11 +331,13 @@ has_one_file _ = true
 abbrev pub is_on_certificates : Task → Bool
 is_on_certificates (task.Obligation g choice) = true
 is_on_certificates (task.CheckProof g choice) = true
+is_on_certificates (task.Named (named.CheckProof g choice)) = true
 is_on_certificates _ = false
 
 -- a command has three files
 abbrev pub has_three_files : Task → Bool
 has_three_files (task.CheckProof g choice) = true
+has_three_files (task.Named (named.CheckProof g choice)) = true
 has_three_files _ = false
 
 -- a command that is done tells nothing on standard error

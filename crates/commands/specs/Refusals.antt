@@ -4,7 +4,7 @@ use Rattle.btor2.specs.declared.item.Item.{Item}
 use Rattle.btor2.specs.Check.{IsWellFormed}
 use Rattle.btor2.specs.Lists.{first_init_without_next}
 use Rattle.btor2text.specs.FirstFault.{IsFaultOf}
-use Rattle.aiger.specs.Circuit.{Circuit, IsCircuit}
+use Rattle.aiger.specs.Circuit.{Circuit}
 use Rattle.btor2text.specs.Whys.{printed_number, name_of}
 use Rattle.aigertext.specs.AsciiReading.{IsFaultOf as IsCircuitFaultOf}
 use Rattle.aigertext.specs.Whys.{why_number, why_name}
@@ -12,7 +12,6 @@ use Rattle.blast.specs.declared.fault.LowerFault.{LowerFault}
 use Rattle.blast.specs.declared.fault.LowerFault.TheVariants as lower
 use Rattle.blast.specs.Faults.{lower_number, lower_name}
 use Rattle.blast.specs.Refusal.{lowering_refusal}
-use Rattle.blast.specs.Lowering.{Lowers}
 use Rattle.engine.specs.Faults.{number_of as engine_number, name_of as engine_name}
 use Rattle.engine.specs.Refusal.{engine_refusal}
 use Rattle.engine.specs.declared.fault.EngineFault.{EngineFault}
@@ -36,7 +35,7 @@ use Rattle.commands.specs.declared.refusals.Refusal.TheVariants as refusal
 use Rattle.commands.specs.declared.orders.Given.{Given}
 use Rattle.commands.specs.declared.orders.Given.TheVariants as given
 use Rattle.commands.specs.Certificates.{Gives}
-use Rattle.commands.specs.Done.{IsCircuitText, IsClaim, IsModelOf}
+use Rattle.commands.specs.Texts.{IsClaim, IsModelOf}
 
 -- ---- lines
 
@@ -145,89 +144,21 @@ abbrev pub IsWithoutForm : Circuit → Option ℕ → Fault → Type 0
 IsWithoutForm c choice (fault.Engine e) = engine_refusal c choice ≡ Some e
 IsWithoutForm c choice _ = ⊥
 
--- the first text is of a model that is lowered, and this is the first that speaks against an engine form of its circuit
-pub record LowersWithoutForm (known : Option (List ℕ)) (choice : Option ℕ) (e : EngineFault) : Type 0 where
-  pub items : List Item
-  pub lowered : Circuit
-  pub text : IsModelOf known items
-  pub lowers : Lowers items lowered
-  pub first : engine_refusal lowered choice ≡ Some e
-
--- the first text is no model, or is of one that is not lowered, or whose circuit has no such engine form
-abbrev pub IsNotLoweredForEngines : Option ℕ → Option (List ℕ) → Fault → Type 0
-IsNotLoweredForEngines choice known (fault.Engine e) = LowersWithoutForm known choice e
-IsNotLoweredForEngines choice known f = IsNotLowered known f
-
--- the first text is of a circuit, and this is the first that speaks against an engine form of it
-pub record HasNoForm (known : Option (List ℕ)) (choice : Option ℕ) (e : EngineFault) : Type 0 where
-  pub circuit : Circuit
-  pub is_circuit : IsCircuit circuit
-  pub text : IsCircuitText known circuit
-  pub first : engine_refusal circuit choice ≡ Some e
-
--- the first text is no circuit, or is of one that has no such engine form
-abbrev pub IsNotConvertedForEngines : Option ℕ → Option (List ℕ) → Fault → Type 0
-IsNotConvertedForEngines choice known (fault.Engine e) = HasNoForm known choice e
-IsNotConvertedForEngines choice known f = IsNoCircuit known f
-
--- the first text is of a circuit, and this is the first that speaks against an engine form of it with the bad property that is claimed
-pub record HasNoFormClaimed (known : Option (List ℕ)) (choice : Option ℕ) (e : EngineFault) : Type 0 where
-  pub circuit : Circuit
-  pub claim : ℕ
-  pub is_circuit : IsCircuit circuit
-  pub text : IsCircuitText known circuit
-  pub is_claim : IsClaim choice circuit claim
-  pub first : engine_refusal circuit (Some claim) ≡ Some e
-
--- the first text is of a circuit that has none or several bad properties, and none is chosen
-pub record IsUnchosen (known : Option (List ℕ)) (choice : Option ℕ) : Type 0 where
-  pub circuit : Circuit
-  pub is_circuit : IsCircuit circuit
-  pub text : IsCircuitText known circuit
-  pub none : choice ≡ None
-  pub not_one : length circuit.bads ≢ 1
-
--- the first text is no circuit, or is of one over whose engine form no counterexample is restored
-abbrev pub IsNotRestored : Option ℕ → Option (List ℕ) → Fault → Type 0
-IsNotRestored choice known (fault.Engine e) = HasNoFormClaimed known choice e
-IsNotRestored choice known fault.Unchosen = IsUnchosen known choice
-IsNotRestored choice known f = IsNoCircuit known f
-
--- the first text is of a model that is lowered, and this is the first that speaks against an engine form of its circuit with the bad property that is claimed
-pub record LowersWithoutFormClaimed (known : Option (List ℕ)) (choice : Option ℕ) (e : EngineFault) : Type 0 where
-  pub items : List Item
-  pub lowered : Circuit
-  pub claim : ℕ
-  pub text : IsModelOf known items
-  pub lowers : Lowers items lowered
-  pub is_claim : IsClaim choice lowered claim
-  pub first : engine_refusal lowered (Some claim) ≡ Some e
-
--- the first text is of a model that is lowered and has none or several bad properties, and none is chosen
-pub record LowersUnchosen (known : Option (List ℕ)) (choice : Option ℕ) : Type 0 where
-  pub items : List Item
-  pub lowered : Circuit
-  pub text : IsModelOf known items
-  pub lowers : Lowers items lowered
-  pub none : choice ≡ None
-  pub not_one : length lowered.bads ≢ 1
-
--- the first text is no model, or is of one over the engine form of whose circuit no counterexample is restored
-abbrev pub IsNotLiftedFound : Option ℕ → Option (List ℕ) → Fault → Type 0
-IsNotLiftedFound choice known (fault.Engine e) = LowersWithoutFormClaimed known choice e
-IsNotLiftedFound choice known fault.Unchosen = LowersUnchosen known choice
-IsNotLiftedFound choice known f = IsNotLowered known f
-
--- the first text has this fault, for which a command refuses it that says by name what its judgement is about
-abbrev pub RefusesByName : Named → Option (List ℕ) → Fault → Type 0
-RefusesByName named.CheckBtor known f = IsNotJudged known f
-RefusesByName named.CheckAig known f = IsNoCircuit known f
-RefusesByName named.Lift known f = IsNotLowered known f
-
 -- the first text is no model, or is of one that is not lowered; or it is no circuit
 abbrev pub IsNotGiven : Given → Option (List ℕ) → Fault → Type 0
 IsNotGiven given.Model known f = IsNotLowered known f
 IsNotGiven given.Circuit known f = IsNoCircuit known f
+
+-- the first text gives a circuit, and this is the first that speaks against an engine form of it
+pub record GivesWithoutForm (g : Given) (choice : Option ℕ) (known : Option (List ℕ)) (e : EngineFault) : Type 0 where
+  pub circuit : Circuit
+  pub gives : Gives g known circuit
+  pub first : engine_refusal circuit choice ≡ Some e
+
+-- the first text gives no circuit, or one that has no such engine form
+abbrev pub IsNotForEngines : Given → Option ℕ → Option (List ℕ) → Fault → Type 0
+IsNotForEngines g choice known (fault.Engine e) = GivesWithoutForm g choice known e
+IsNotForEngines g choice known f = IsNotGiven g known f
 
 -- the first text gives a circuit, and this is the first that speaks against an engine form of it with the bad property that is claimed
 pub record GivesNoForm (g : Given) (choice : Option ℕ) (known : Option (List ℕ)) (e : EngineFault) : Type 0 where
@@ -244,26 +175,34 @@ pub record GivesUnchosen (g : Given) (choice : Option ℕ) (known : Option (List
   pub none : choice ≡ None
   pub not_one : length circuit.bads ≢ 1
 
--- the first text gives no circuit, or one for whose bad property no invariant owes a formula
+-- the first text gives no circuit, or one without an engine form for the bad property that is claimed
 abbrev pub IsNotClaimed : Given → Option ℕ → Option (List ℕ) → Fault → Type 0
 IsNotClaimed g choice known (fault.Engine e) = GivesNoForm g choice known e
 IsNotClaimed g choice known fault.Unchosen = GivesUnchosen g choice known
 IsNotClaimed g choice known f = IsNotGiven g known f
 
+-- the first text has this fault, for which a command refuses it that says by name what its judgement is about
+abbrev pub RefusesByName : Named → Option (List ℕ) → Fault → Type 0
+RefusesByName named.CheckBtor known f = IsNotJudged known f
+RefusesByName named.CheckAig known f = IsNoCircuit known f
+RefusesByName named.Lift known f = IsNotLowered known f
+RefusesByName (named.LiftFound choice) known f = IsNotClaimed given.Model choice known f
+RefusesByName (named.CheckProof g choice) known f = IsNotClaimed g choice known f
+
 -- the first text has this fault, for which a command refuses it
 abbrev pub Refuses : Task → Option (List ℕ) → Fault → Type 0
 Refuses task.Lower known f = IsNotLowered known f
-Refuses (task.LowerForEngines choice) known f = IsNotLoweredForEngines choice known f
+Refuses (task.LowerForEngines choice) known f = IsNotForEngines given.Model choice known f
 Refuses task.CheckBtor known f = IsNotJudged known f
 Refuses task.Show known f = IsNoModel known f
 Refuses task.Cost known f = IsNoModel known f
 Refuses task.AigConvert known f = IsNoCircuit known f
-Refuses (task.ConvertForEngines choice) known f = IsNotConvertedForEngines choice known f
+Refuses (task.ConvertForEngines choice) known f = IsNotForEngines given.Circuit choice known f
 Refuses task.CheckAig known f = IsNoCircuit known f
 Refuses task.Lift known f = IsNotLowered known f
-Refuses (task.Restore choice) known f = IsNotRestored choice known f
-Refuses (task.RestoreForm choice) known f = IsNotConvertedForEngines choice known f
-Refuses (task.LiftFound choice) known f = IsNotLiftedFound choice known f
+Refuses (task.Restore choice) known f = IsNotClaimed given.Circuit choice known f
+Refuses (task.RestoreForm choice) known f = IsNotForEngines given.Circuit choice known f
+Refuses (task.LiftFound choice) known f = IsNotClaimed given.Model choice known f
 Refuses (task.Wave shown) known f = IsNotJudged known f
 Refuses (task.Named n) known f = RefusesByName n known f
 Refuses task.Vectors known f = IsNoVectorList known f
@@ -296,4 +235,5 @@ pub record IsFaultyInvariant (g : Given) (choice : Option ℕ) (first second : O
 abbrev pub RefusesSecond : Task → Option (List ℕ) → Option (List ℕ) → Fault → Type 0
 RefusesSecond (task.Obligation g choice) first second f = IsFaultyInvariant g choice first second f
 RefusesSecond (task.CheckProof g choice) first second f = IsFaultyInvariant g choice first second f
+RefusesSecond (task.Named (named.CheckProof g choice)) first second f = IsFaultyInvariant g choice first second f
 RefusesSecond _ first second f = ⊥

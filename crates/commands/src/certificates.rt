@@ -1,14 +1,19 @@
 //! The commands on certificates: invariants, and proofs of the formulas that they owe.
 
-ghost use Rattle.std.specs.Prelude.{◌≡◌, ℕ, List, None, Option, Some, IfOk, IfErr, OnOk};
+ghost use Rattle.std.specs.Prelude.{◌≡◌, ℕ, List, None, Option, Some, false, IfOk, IfErr, OnOk};
 ghost use Rattle.std.specs.Io.KnownBytes.{Appends};
 ghost use Rattle.std.specs.String.{string_bytes};
+ghost use Rattle.base.specs.Device.{CountsFaults};
+ghost use Rattle.blast.specs.Lowering.{Lowers};
+ghost use Rattle.blast.specs.Refusal.{lowering_refusal};
 ghost use Rattle.clauses.specs.FormulaTexts.{formula_text};
 ghost use Rattle.invariants.specs.Certificates.{IsCertified, IsOwed};
-ghost use Rattle.commands.specs.Certificates.{Certifies, Gives, IsFirst, IsSoDerived, LowersFirst, WritesOwed, verdict_line};
+ghost use Rattle.commands.specs.declared.orders.Given.TheVariants as given_is;
+ghost use Rattle.commands.specs.Certificates.{CertifiesWith, Gives, IsFirst, IsSoDerived, LowersFirst, WritesOwed, given_said, verdict_line};
 ghost use Rattle.commands.specs.Done.{IsModelOf};
 ghost use Rattle.commands.specs.Refusals.{IsFaultyFor, IsFaultyInvariant, IsNoCircuit, IsNotClaimed, IsNotGiven, IsNotLowered, IsWithoutForm};
-ghost use Rattle.commands.specs.Statuses.{Counts, CountsAll, IfInput, IfSecond, IsOfNoInput};
+ghost use Rattle.commands.specs.Statuses.{Counts, CountsAll, ErrUntold, IfInput, IfSecond, IsOfNoInput};
+ghost use Rattle.commands.specs.Subjects.{bad_said, holds_said, where_named};
 
 use crate::answers::Answer;
 use crate::circuits::read_circuit;
@@ -16,9 +21,10 @@ use crate::models::read_model;
 use crate::orders::Given;
 use crate::refusals::{Device, Refusal};
 use crate::restoring::claim_of;
+use crate::subjects::{Subject, tell_bad};
 use crate::telling::write_result;
 use aiger::Circuit;
-use base::{Sink, Source};
+use base::{DeviceFault, Sink, Source};
 use blast::{Watch, lower_watched};
 use btor2::Model;
 use clauses::{Formula, Judgement, write_formula};
@@ -27,7 +33,8 @@ use std::alloc::{AllocError, Global};
 
 /// The circuit that lowers a model.
 fn lower_read<W: Watch>(alloc: Global, model: &Model, watch: &mut W) -> Result<Circuit, Refusal>
-    ensures lowers { (known : Option (List ℕ)) → IsModelOf known model.now → IfOk result (LowersFirst known) }
+    ensures accepted { OnOk result (lowering_refusal model.now ≡ None) }
+    ensures lowers { IfOk result (Lowers model.now) }
     ensures refused { (known : Option (List ℕ)) → IsModelOf known model.now → IfErr result (IfInput (IsNotLowered known)) }
     ensures counted { (f s o e : ℕ) → Counts result f f s s o o e e }
 {
@@ -215,47 +222,183 @@ fn write_verdict<O: Sink>(
     Ok(answer_of(judgement))
 }
 
-/// Judges a certificate of the bad property that is claimed of a circuit, and writes the line of that.
-fn check_over<B: Source, T: Source, O: Sink>(
+/// Says which bad property holds, where one does and names are asked for.
+fn tell_what_holds<E: Sink>(
+    named: bool,
+    subject: Subject<'_>,
+    claim: usize,
+    judgement: &Judgement,
+    err: &mut E,
+) -> Result<(), DeviceFault>
+    ensures written { OnOk result (Appends (E.written err.old) (E.written err.new) (where_named named (holds_said judgement.now (bad_said subject.entry claim)))) }
+    ensures quiet { named ≡ false → err.new ≡ err.old }
+    ensures counted { CountsFaults result (E.failures err.old) (E.failures err.new) }
+{
+    match judgement {
+        Judgement::Derived { .. } => tell_bad(named, subject, claim, err),
+        _ => Ok(()),
+    }
+}
+
+/// Writes the line that tells how a certificate of a bad property is judged, with names says which one holds, and answers
+/// whether the proof derives.
+fn tell_verdict<O: Sink, E: Sink>(
     alloc: Global,
+    named: bool,
+    subject: Subject<'_>,
+    claim: usize,
+    judgement: &Judgement,
+    out: &mut O,
+    err: &mut E,
+) -> Result<Answer, Refusal>
+    ensures written { OnOk result (Appends (O.written out.old) (O.written out.new) (verdict_line claim judgement.now)) }
+    ensures told { OnOk result (Appends (E.written err.old) (E.written err.new) (where_named named (holds_said judgement.now (bad_said subject.entry claim)))) }
+    ensures quiet { named ≡ false → err.new ≡ err.old }
+    ensures so { IfOk result (λ answer. IsSoDerived answer judgement.now) }
+    ensures no_input { IsOfNoInput result }
+    ensures untold { ErrUntold result (err.new ≡ err.old) }
+    ensures counted { (f s : ℕ) → Counts result f f s s (O.failures out.old) (O.failures out.new) (E.failures err.old) (E.failures err.new) }
+{
+    let answer = write_verdict(alloc, claim, judgement, out)?;
+    match tell_what_holds(named, subject, claim, judgement, err) {
+        Ok(()) => Ok(answer),
+        Err(_) => Err(Refusal::Failed(Device::Error)),
+    }
+}
+
+/// Judges a certificate of the bad property that is claimed of a circuit, writes the line of that, and with names says which
+/// one holds.
+fn check_over<B: Source, T: Source, O: Sink, E: Sink>(
+    alloc: Global,
+    named: bool,
+    subject: Subject<'_>,
     circuit: &Circuit,
     choice: Option<usize>,
     second: &mut B,
     third: &mut T,
     out: &mut O,
+    err: &mut E,
 ) -> Result<Answer, Refusal>
-    ensures done { (g : Given) (known : Option (List ℕ)) → Gives g known circuit.now → IfOk result (Certifies g choice known (B.to_come second.old) (T.to_come third.old) (O.written out.old) (O.written out.new)) }
+    ensures done { (g : Given) (known : Option (List ℕ)) (gives : Gives g known circuit.now) → ((k : ℕ) → bad_said subject.entry k ≡ given_said g known circuit.now gives k) → IfOk result (CertifiesWith named g choice known (B.to_come second.old) (T.to_come third.old) (O.written out.old) (O.written out.new) (E.written err.old) (E.written err.new)) }
     ensures refused { (g : Given) (known : Option (List ℕ)) → Gives g known circuit.now → IfErr result (IfInput (IsNotClaimed g choice known)) }
     ensures second { (g : Given) (known : Option (List ℕ)) → Gives g known circuit.now → IfErr result (IfSecond (IsFaultyInvariant g choice known (B.to_come second.old))) }
     ensures unwritten { IfErr result (IfInput (λ _. out.new ≡ out.old)) }
     ensures unwritten_second { IfErr result (IfSecond (λ _. out.new ≡ out.old)) }
-    ensures counted { (f e : ℕ) → CountsAll result f f (B.failures second.old) (B.failures second.new) (T.failures third.old) (T.failures third.new) (O.failures out.old) (O.failures out.new) e e }
+    ensures untold { ErrUntold result (err.new ≡ err.old) }
+    ensures quiet { named ≡ false → err.new ≡ err.old }
+    ensures counted { (f : ℕ) → CountsAll result f f (B.failures second.old) (B.failures second.new) (T.failures third.old) (T.failures third.new) (O.failures out.old) (O.failures out.new) (E.failures err.old) (E.failures err.new) }
 {
     invariants::laws::certified_property_never_rises();
     blast::laws::bad_properties_rise_alike();
     let claim = claim_of(circuit, choice)?;
     let judgement = judged(alloc, circuit, claim, second, third)?;
-    write_verdict(alloc, claim, &judgement, out)
+    tell_verdict(alloc, named, subject, claim, &judgement, out, err)
 }
 
-/// Reads what is given, and judges a certificate of the bad property that is claimed of it.
-pub(crate) fn check_proof<A: Source, B: Source, T: Source, O: Sink, W: Watch>(
+/// Lowers a model that was read, and judges a certificate of the bad property that is claimed of it.
+fn check_over_model<B: Source, T: Source, O: Sink, E: Sink, W: Watch>(
     alloc: Global,
+    named: bool,
+    model: &Model,
+    choice: Option<usize>,
+    second: &mut B,
+    third: &mut T,
+    out: &mut O,
+    err: &mut E,
+    watch: &mut W,
+) -> Result<Answer, Refusal>
+    ensures done { (known : Option (List ℕ)) → IsModelOf known model.now → IfOk result (CertifiesWith named given_is.Model choice known (B.to_come second.old) (T.to_come third.old) (O.written out.old) (O.written out.new) (E.written err.old) (E.written err.new)) }
+    ensures refused { (known : Option (List ℕ)) → IsModelOf known model.now → IfErr result (IfInput (IsNotClaimed given_is.Model choice known)) }
+    ensures second { (known : Option (List ℕ)) → IsModelOf known model.now → IfErr result (IfSecond (IsFaultyInvariant given_is.Model choice known (B.to_come second.old))) }
+    ensures unwritten { IfErr result (IfInput (λ _. out.new ≡ out.old)) }
+    ensures unwritten_second { IfErr result (IfSecond (λ _. out.new ≡ out.old)) }
+    ensures untold { ErrUntold result (err.new ≡ err.old) }
+    ensures quiet { named ≡ false → err.new ≡ err.old }
+    ensures counted { (f : ℕ) → CountsAll result f f (B.failures second.old) (B.failures second.new) (T.failures third.old) (T.failures third.new) (O.failures out.old) (O.failures out.new) (E.failures err.old) (E.failures err.new) }
+{
+    let circuit = lower_read(alloc, model, watch)?;
+    let subject = Subject::Model(model);
+    check_over(
+        alloc, named, subject, &circuit, choice, second, third, out, err,
+    )
+}
+
+/// Reads a model, and judges a certificate of the bad property that is claimed of it.
+fn check_model<A: Source, B: Source, T: Source, O: Sink, E: Sink, W: Watch>(
+    alloc: Global,
+    named: bool,
+    choice: Option<usize>,
+    first: &mut A,
+    second: &mut B,
+    third: &mut T,
+    out: &mut O,
+    err: &mut E,
+    watch: &mut W,
+) -> Result<Answer, Refusal>
+    ensures done { IfOk result (CertifiesWith named given_is.Model choice (A.to_come first.old) (B.to_come second.old) (T.to_come third.old) (O.written out.old) (O.written out.new) (E.written err.old) (E.written err.new)) }
+    ensures refused { IfErr result (IfInput (IsNotClaimed given_is.Model choice (A.to_come first.old))) }
+    ensures second { IfErr result (IfSecond (IsFaultyInvariant given_is.Model choice (A.to_come first.old) (B.to_come second.old))) }
+    ensures unwritten { IfErr result (IfInput (λ _. out.new ≡ out.old)) }
+    ensures unwritten_second { IfErr result (IfSecond (λ _. out.new ≡ out.old)) }
+    ensures untold { ErrUntold result (err.new ≡ err.old) }
+    ensures quiet { named ≡ false → err.new ≡ err.old }
+    ensures counted { CountsAll result (A.failures first.old) (A.failures first.new) (B.failures second.old) (B.failures second.new) (T.failures third.old) (T.failures third.new) (O.failures out.old) (O.failures out.new) (E.failures err.old) (E.failures err.new) }
+{
+    let model = read_model(alloc, first)?;
+    check_over_model(alloc, named, &model, choice, second, third, out, err, watch)
+}
+
+/// Reads a circuit, and judges a certificate of the bad property that is claimed of it.
+fn check_circuit<A: Source, B: Source, T: Source, O: Sink, E: Sink>(
+    alloc: Global,
+    named: bool,
+    choice: Option<usize>,
+    first: &mut A,
+    second: &mut B,
+    third: &mut T,
+    out: &mut O,
+    err: &mut E,
+) -> Result<Answer, Refusal>
+    ensures done { IfOk result (CertifiesWith named given_is.Circuit choice (A.to_come first.old) (B.to_come second.old) (T.to_come third.old) (O.written out.old) (O.written out.new) (E.written err.old) (E.written err.new)) }
+    ensures refused { IfErr result (IfInput (IsNotClaimed given_is.Circuit choice (A.to_come first.old))) }
+    ensures second { IfErr result (IfSecond (IsFaultyInvariant given_is.Circuit choice (A.to_come first.old) (B.to_come second.old))) }
+    ensures unwritten { IfErr result (IfInput (λ _. out.new ≡ out.old)) }
+    ensures unwritten_second { IfErr result (IfSecond (λ _. out.new ≡ out.old)) }
+    ensures untold { ErrUntold result (err.new ≡ err.old) }
+    ensures quiet { named ≡ false → err.new ≡ err.old }
+    ensures counted { CountsAll result (A.failures first.old) (A.failures first.new) (B.failures second.old) (B.failures second.new) (T.failures third.old) (T.failures third.new) (O.failures out.old) (O.failures out.new) (E.failures err.old) (E.failures err.new) }
+{
+    let circuit = read_first(alloc, first)?;
+    let subject = Subject::Circuit(&circuit);
+    check_over(
+        alloc, named, subject, &circuit, choice, second, third, out, err,
+    )
+}
+
+/// Reads what is given, judges a certificate of the bad property that is claimed of it, and with names says which one holds.
+pub(crate) fn check_proof<A: Source, B: Source, T: Source, O: Sink, E: Sink, W: Watch>(
+    alloc: Global,
+    named: bool,
     given: Given,
     choice: Option<usize>,
     first: &mut A,
     second: &mut B,
     third: &mut T,
     out: &mut O,
+    err: &mut E,
     watch: &mut W,
 ) -> Result<Answer, Refusal>
-    ensures done { IfOk result (Certifies given choice (A.to_come first.old) (B.to_come second.old) (T.to_come third.old) (O.written out.old) (O.written out.new)) }
+    ensures done { IfOk result (CertifiesWith named given choice (A.to_come first.old) (B.to_come second.old) (T.to_come third.old) (O.written out.old) (O.written out.new) (E.written err.old) (E.written err.new)) }
     ensures refused { IfErr result (IfInput (IsNotClaimed given choice (A.to_come first.old))) }
     ensures second { IfErr result (IfSecond (IsFaultyInvariant given choice (A.to_come first.old) (B.to_come second.old))) }
     ensures unwritten { IfErr result (IfInput (λ _. out.new ≡ out.old)) }
     ensures unwritten_second { IfErr result (IfSecond (λ _. out.new ≡ out.old)) }
-    ensures counted { (e : ℕ) → CountsAll result (A.failures first.old) (A.failures first.new) (B.failures second.old) (B.failures second.new) (T.failures third.old) (T.failures third.new) (O.failures out.old) (O.failures out.new) e e }
+    ensures untold { ErrUntold result (err.new ≡ err.old) }
+    ensures quiet { named ≡ false → err.new ≡ err.old }
+    ensures counted { CountsAll result (A.failures first.old) (A.failures first.new) (B.failures second.old) (B.failures second.new) (T.failures third.old) (T.failures third.new) (O.failures out.old) (O.failures out.new) (E.failures err.old) (E.failures err.new) }
 {
-    let circuit = read_given(alloc, given, first, watch)?;
-    check_over(alloc, &circuit, choice, second, third, out)
+    match given {
+        Given::Model => check_model(alloc, named, choice, first, second, third, out, err, watch),
+        Given::Circuit => check_circuit(alloc, named, choice, first, second, third, out, err),
+    }
 }

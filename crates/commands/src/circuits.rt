@@ -1,16 +1,17 @@
 //! The commands on circuits.
 
-ghost use Rattle.std.specs.Prelude.{◌≡◌, ℕ, List, Option, IfOk, IfErr, OnOk};
+ghost use Rattle.std.specs.Prelude.{◌≡◌, ℕ, false, List, Option, IfOk, IfErr, OnOk};
 ghost use Rattle.std.specs.Io.KnownBytes.{Appends};
 ghost use Rattle.aiger.specs.Circuit.{IsCircuit};
 ghost use Rattle.aigertext.specs.Binary.{circuit_text};
-ghost use Rattle.commands.specs.Done.{IsCircuitText, IsJudgedOver, Judged, Rewrites};
+ghost use Rattle.commands.specs.Done.{IsCircuitText, IsJudgedOverWith, Judged, Rewrites};
 ghost use Rattle.commands.specs.Refusals.{IsNoCircuit};
-ghost use Rattle.commands.specs.Statuses.{Counts, IfInput, IsOfNoInput};
+ghost use Rattle.commands.specs.Statuses.{Counts, ErrUntold, IfInput, IsOfNoInput};
 
 use crate::answers::Answer;
 use crate::judgements::write_judgement;
 use crate::refusals::{Device, Refusal};
+use crate::subjects::Subject;
 use aiger::Circuit;
 use aigertext::{Form, read, write};
 use base::{Sink, Source};
@@ -65,37 +66,54 @@ pub(crate) fn write_circuit<O: Sink>(
     }
 }
 
-/// Judges a witness over a circuit.
-pub(crate) fn check_circuit<A: Source, B: Source, O: Sink>(
+/// Judges a witness over a circuit, and with names says what the judgement is about.
+pub(crate) fn check_circuit<A: Source, B: Source, O: Sink, E: Sink>(
     alloc: Global,
+    named: bool,
     first: &mut A,
     second: &mut B,
     out: &mut O,
+    err: &mut E,
 ) -> Result<Answer, Refusal>
-    ensures done { IfOk result (Judged (IsJudgedOver (A.to_come first.old) (B.to_come second.old) (O.written out.old) (O.written out.new))) }
+    ensures done { IfOk result (Judged (IsJudgedOverWith named (A.to_come first.old) (B.to_come second.old) (O.written out.old) (O.written out.new) (E.written err.old) (E.written err.new))) }
     ensures refused { IfErr result (IfInput (IsNoCircuit (A.to_come first.old))) }
     ensures unwritten { IfErr result (IfInput (λ _. out.new ≡ out.old)) }
-    ensures counted { (e : ℕ) → Counts result (A.failures first.old) (A.failures first.new) (B.failures second.old) (B.failures second.new) (O.failures out.old) (O.failures out.new) e e }
+    ensures untold { ErrUntold result (err.new ≡ err.old) }
+    ensures quiet { named ≡ false → err.new ≡ err.old }
+    ensures counted { Counts result (A.failures first.old) (A.failures first.new) (B.failures second.old) (B.failures second.new) (O.failures out.old) (O.failures out.new) (E.failures err.old) (E.failures err.new) }
 {
     let circuit = read_circuit(alloc, first)?;
-    check_over(alloc, &circuit, second, out)
+    check_over(alloc, named, &circuit, second, out, err)
 }
 
-/// Judges a witness over a circuit that was read.
-fn check_over<B: Source, O: Sink>(
+/// The same over a circuit that was read.
+fn check_over<B: Source, O: Sink, E: Sink>(
     alloc: Global,
+    named: bool,
     circuit: &Circuit,
     second: &mut B,
     out: &mut O,
+    err: &mut E,
 ) -> Result<Answer, Refusal>
-    ensures done { (known : Option (List ℕ)) → IsCircuitText known circuit.now → IfOk result (Judged (IsJudgedOver known (B.to_come second.old) (O.written out.old) (O.written out.new))) }
+    ensures done { (known : Option (List ℕ)) → IsCircuitText known circuit.now → IfOk result (Judged (IsJudgedOverWith named known (B.to_come second.old) (O.written out.old) (O.written out.new) (E.written err.old) (E.written err.new))) }
     ensures no_input { IsOfNoInput result }
-    ensures counted { (f e : ℕ) → Counts result f f (B.failures second.old) (B.failures second.new) (O.failures out.old) (O.failures out.new) e e }
+    ensures untold { ErrUntold result (err.new ≡ err.old) }
+    ensures quiet { named ≡ false → err.new ≡ err.old }
+    ensures counted { (f : ℕ) → Counts result f f (B.failures second.old) (B.failures second.new) (O.failures out.old) (O.failures out.new) (E.failures err.old) (E.failures err.new) }
 {
     // the lists of a circuit are one
     let _ = circuit.inputs();
     match judge_bits(alloc, circuit, second) {
-        Ok(judgement) => write_judgement(alloc, &judgement, out),
+        Ok(judgement) => {
+            write_judgement(
+                alloc,
+                named,
+                Subject::Circuit(circuit),
+                &judgement,
+                out,
+                err,
+            )
+        }
         Err(fault) => Err(Refusal::from(fault)),
     }
 }

@@ -3,12 +3,13 @@
 ghost use Rattle.std.specs.Prelude.{◌≡◌, IfOk, false, option_map};
 ghost use Rattle.commands.specs.Orders.{names_standard_input, reads_input_twice};
 
-use crate::command_table::{Engine, Product, ROWS, Row, row_of};
+use crate::arguments::{file_name, flag};
+use crate::command_table::{Product, ROWS, Row, row_of};
+use crate::engine_words::{INVARIANT, PROOF, engine_properties, with_engine, with_engine_words};
 use crate::explaining::explain;
 use crate::explanations::refusal_table;
-use crate::orders::{Given, Named, Order, STANDARD_INPUT, STANDARD_OUTPUT, Stop, Task};
+use crate::orders::{Named, Order, STANDARD_INPUT, STANDARD_OUTPUT, Stop, Task};
 use aigertext::Form;
-use base::decimal;
 use clap::error::ErrorKind;
 use clap::{Arg, ArgAction, ArgMatches, Command, Error};
 use std::alloc::{AllocError, AllocGlobal, Global};
@@ -50,16 +51,6 @@ const INPUT_TWICE: &str = "words: standard input is read once, so - stands for o
 /// What is told of words that choose both forms of a circuit.
 const TWO_FORMS: &str = "words: choose one form\n";
 
-/// What is told of words that choose a bad property and no engine form.
-const BAD_ALONE: &str = "words: --bad goes with --engine\n";
-
-/// What is told of words whose chosen bad property is no position.
-const NO_POSITION: &str = "words: --bad takes the position of a bad property, from 0\n";
-
-/// What is told of words that ask for names in a witness that is lifted from an engine form.
-const NAMES_OF_ENGINE: &str =
-    "words: --names does not go with --engine: lift what restore writes\n";
-
 /// The flags that choose the form of a circuit that is written.
 const ASCII: &str = "ascii";
 
@@ -68,24 +59,8 @@ const BINARY: &str = "binary";
 /// The name of the second file of a command that has one.
 const WITNESS: &str = "WITNESS";
 
-/// The names of the second and the third file of a command on certificates.
-const INVARIANT: &str = "INVARIANT";
-
-const PROOF: &str = "PROOF";
-
-/// The flag for a circuit in place of a model.
-const AIGER: &str = "aiger";
-
 /// The name of the option for the file that a result goes to.
 const OUTPUT: &str = "output";
-
-/// The flag for the engine form of a circuit, and the option for the bad property that it keeps.
-const ENGINE: &str = "engine";
-
-const BAD: &str = "bad";
-
-/// The flag for a counterexample in the form that ABC writes.
-const ABC: &str = "abc";
 
 /// The flag for a dump of all nodes that have a value.
 const ALL: &str = "all";
@@ -101,22 +76,6 @@ const EXPLAIN: &str = "explain";
 
 const REFUSAL: &str = "REFUSAL";
 
-/// A word that names a file.
-fn file_name<'a>(alloc: Global, name: &'a str, help: &'a str) -> Arg<'a> {
-    Arg::new(alloc, name)
-        .required(true)
-        .action(ArgAction::Set)
-        .help(help)
-}
-
-/// A flag.
-fn flag<'a>(alloc: Global, name: &'a str, help: &'a str) -> Arg<'a> {
-    Arg::new(alloc, name)
-        .long(name)
-        .action(ArgAction::SetTrue)
-        .help(help)
-}
-
 /// The option for the file that a result goes to.
 fn output_option<'a>(alloc: Global) -> Arg<'a> {
     Arg::new(alloc, OUTPUT)
@@ -127,15 +86,6 @@ fn output_option<'a>(alloc: Global) -> Arg<'a> {
         .help(
             "Write to this file, which is made or replaced only when all is written; - is standard output",
         )
-}
-
-/// The option for the bad property that an engine form keeps, or that a counterexample claims.
-fn bad_option<'a>(alloc: Global, help: &'a str) -> Arg<'a> {
-    Arg::new(alloc, BAD)
-        .long(BAD)
-        .value_name("K")
-        .action(ArgAction::Set)
-        .help(help)
 }
 
 /// The words of a command.
@@ -184,84 +134,11 @@ fn help_of_names(task: Task) -> Option<&'static str> {
         Task::Lift => Some(
             "Write symbols behind words, and say on standard error which line of the model the judgement is about",
         ),
+        Task::CheckProof(..) => Some(
+            "Say on standard error which line of the model, or name of the circuit, the bad property is that holds",
+        ),
         _ => None,
     }
-}
-
-/// The words of a command with those about engine forms.
-fn with_engine_words<'a>(
-    alloc: Global,
-    command: Command<'a>,
-    engine: Engine,
-) -> Result<Command<'a>, AllocError> {
-    match engine {
-        Engine::Unknown => Ok(command),
-        Engine::Written => command
-            .arg(flag(
-                alloc,
-                ENGINE,
-                "Write a circuit that every engine reads alike: latches begin with 0, and there are bad properties alone",
-            ))?
-            .arg(bad_option(
-                alloc,
-                "With --engine, keep the bad property at this position alone, from 0",
-            )),
-        Engine::ReadWhereAsked => command
-            .arg(flag(
-                alloc,
-                ENGINE,
-                "The witness is a counterexample over the engine form of the model's circuit",
-            )
-            .requires_arg(ABC)?)?
-            .arg(flag(
-                alloc,
-                ABC,
-                "With --engine, the counterexample is in the form that ABC writes",
-            )
-            .requires_arg(ENGINE)?)?
-            .arg(bad_option(
-                alloc,
-                "With --engine, the position of the bad property that is claimed, from 0; needed where the model has more than one",
-            )),
-        Engine::Read => command
-            .arg(flag(
-                alloc,
-                ABC,
-                "The witness is a counterexample in the form that ABC writes by write_cex -a",
-            ))?
-            .arg(bad_option(
-                alloc,
-                "The position of the bad property that the form was made for, from 0; with --abc it says which is claimed, and is needed where the circuit has more than one",
-            )),
-        Engine::Owed => with_invariant_words(alloc, command),
-        Engine::Certified => with_invariant_words(alloc, command)?.arg(file_name(
-            alloc,
-            PROOF,
-            "The file of a proof of the obligation, in ascii DRAT, or - for standard input",
-        )),
-    }
-}
-
-/// The words of a command on certificates.
-fn with_invariant_words<'a>(
-    alloc: Global,
-    command: Command<'a>,
-) -> Result<Command<'a>, AllocError> {
-    command
-        .arg(file_name(
-            alloc,
-            INVARIANT,
-            "The file of an invariant over the engine form of the bad property, as ABC writes it by pdr -d -I, or - for standard input",
-        ))?
-        .arg(flag(
-            alloc,
-            AIGER,
-            "The first file is an AIGER circuit of either form",
-        ))?
-        .arg(bad_option(
-            alloc,
-            "The position of the bad property that is claimed, from 0; needed where there is more than one",
-        ))
 }
 
 /// The words that ask what refusals mean.
@@ -298,79 +175,32 @@ fn output_of<'a>(words: &ArgMatches<'a>) -> Option<&'a str> {
     }
 }
 
-/// Whether words are about an engine form: they ask for one, or for what is over one, as those of a command that reads
-/// nothing else.
-fn speaks_of_one(word: &str, words: &ArgMatches<'_>) -> bool {
-    let always = matches!(row_of(word), Some(row) if row.engine == Engine::Read);
-    always || words.get_flag(ENGINE) || words.get_flag(ABC) || words.get_str(INVARIANT).is_some()
-}
-
-/// The bad properties of the engine form that the words of a command ask for: all, or the one at a position; none where
-/// they ask for no engine form.
-///
-/// Errors: what is told of words that do not ask so.
-fn engine_properties(
-    word: &str,
-    words: &ArgMatches<'_>,
-) -> Result<Option<Option<usize>>, &'static str> {
-    match words.get_str(BAD) {
-        None if speaks_of_one(word, words) => Ok(Some(None)),
-        None => Ok(None),
-        Some(_) if !speaks_of_one(word, words) => Err(BAD_ALONE),
-        Some(word) => match decimal(word.as_bytes()) {
-            Some(position) => Ok(Some(Some(position as usize))),
-            None => Err(NO_POSITION),
-        },
-    }
-}
-
-/// A command, where an engine form is asked for the one that writes it, or that is over one, and where all nodes are to be
-/// shown the one that does so.
-fn task_of(task: Task, engine: Option<Option<usize>>, given: Given, all: bool) -> Task {
-    match (task, engine) {
-        (Task::Lower, Some(choice)) => Task::LowerForEngines(choice),
-        (Task::AigConvert, Some(choice)) => Task::ConvertForEngines(choice),
-        (Task::Restore(_), Some(choice)) => Task::Restore(choice),
-        (Task::Lift, Some(choice)) => Task::LiftFound(choice),
-        (Task::Obligation(..), Some(choice)) => Task::Obligation(given, choice),
-        (Task::CheckProof(..), Some(choice)) => Task::CheckProof(given, choice),
-        (Task::Wave(_), _) if all => Task::Wave(Shown::All),
-        (task, _) => task,
-    }
-}
-
-/// A command, where a counterexample is not in the form that ABC writes the one that reads it as a witness.
-fn without_abc(task: Task, abc: bool) -> Task {
-    match task {
-        Task::Restore(choice) if !abc => Task::RestoreForm(choice),
-        task => task,
-    }
-}
-
-/// A command, where names are asked for the one that knows them.
-fn with_names(task: Task, names: bool) -> Task {
-    match task {
-        Task::CheckBtor if names => Task::Named(Named::CheckBtor),
-        Task::CheckAig if names => Task::Named(Named::CheckAig),
-        Task::Lift if names => Task::Named(Named::Lift),
-        task => task,
-    }
-}
-
-/// What the first file of a command on certificates gives.
-fn given_of(words: &ArgMatches<'_>) -> Given {
-    if words.get_flag(AIGER) {
-        Given::Circuit
-    } else {
-        Given::Model
-    }
-}
-
 /// The name of the second file, where the command has one.
 fn second_of<'a>(words: &ArgMatches<'a>) -> Option<&'a str> {
     match words.get_str(WITNESS) {
         Some(name) => Some(name),
         None => words.get_str(INVARIANT),
+    }
+}
+
+/// A command, where names are asked for the one that knows them.
+fn with_names(task: Task) -> Task {
+    match task {
+        Task::CheckBtor => Task::Named(Named::CheckBtor),
+        Task::CheckAig => Task::Named(Named::CheckAig),
+        Task::Lift => Task::Named(Named::Lift),
+        Task::LiftFound(choice) => Task::Named(Named::LiftFound(choice)),
+        Task::CheckProof(given, choice) => Task::Named(Named::CheckProof(given, choice)),
+        task => task,
+    }
+}
+
+/// The command that words ask for, with the engine form that they ask for.
+fn task_of(task: Task, words: &ArgMatches<'_>, engine: Option<Option<usize>>) -> Task {
+    match with_engine(task, words, engine) {
+        Task::Wave(_) if words.get_flag(ALL) => Task::Wave(Shown::All),
+        task if words.get_flag(NAMES) => with_names(task),
+        task => task,
     }
 }
 
@@ -383,13 +213,7 @@ fn order_of<'a>(
     let row = row_of(word)?;
     let (name, _) = row.file;
     Some(Order {
-        task: with_names(
-            without_abc(
-                task_of(row.task, engine, given_of(words), words.get_flag(ALL)),
-                words.get_flag(ABC),
-            ),
-            words.get_flag(NAMES),
-        ),
+        task: task_of(row.task, words, engine),
         form: if words.get_flag(BINARY) {
             Form::Binary
         } else {
@@ -445,9 +269,6 @@ fn order_or_stop<'a>(alloc: Global, word: &str, words: &ArgMatches<'a>) -> Resul
         Ok(engine) => engine,
         Err(line) => return Err(refused(alloc, line)),
     };
-    if engine.is_some() && words.get_flag(NAMES) {
-        return Err(refused(alloc, NAMES_OF_ENGINE));
-    }
     match order_of(word, words, engine) {
         Some(order) if reads_input_twice(&order) => Err(refused(alloc, INPUT_TWICE)),
         Some(order) => Ok(order),

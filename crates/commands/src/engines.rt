@@ -1,8 +1,9 @@
 //! The commands that write engine forms of circuits.
 
 ghost use Rattle.std.specs.Prelude.{◌≡◌, ℕ, List, Option, IfOk, IfErr, OnOk};
+ghost use Rattle.commands.specs.declared.orders.Given.TheVariants as given_is;
 ghost use Rattle.commands.specs.Done.{ConvertsForEngines, IsCircuitText, IsModelOf, LowersForEngines, WritesEngineForm};
-ghost use Rattle.commands.specs.Refusals.{IsNotConvertedForEngines, IsNotLoweredForEngines, IsWithoutForm};
+ghost use Rattle.commands.specs.Refusals.{IsNotForEngines, IsWithoutForm};
 ghost use Rattle.commands.specs.Statuses.{Counts, IfInput};
 
 use crate::answers::Answer;
@@ -46,7 +47,7 @@ pub(crate) fn lower_for_engines<A: Source, O: Sink, W: Watch>(
 ) -> Result<Answer, Refusal>
     ensures done { OnOk result (LowersForEngines (A.to_come first.old) (O.written out.old) (O.written out.new) form choice) }
     ensures answer { IfOk result (λ answer. answer ≡ Answer.Done) }
-    ensures refused { IfErr result (IfInput (IsNotLoweredForEngines choice (A.to_come first.old))) }
+    ensures refused { IfErr result (IfInput (IsNotForEngines given_is.Model choice (A.to_come first.old))) }
     ensures unwritten { IfErr result (IfInput (λ _. out.new ≡ out.old)) }
     ensures counted { (s e : ℕ) → Counts result (A.failures first.old) (A.failures first.new) s s (O.failures out.old) (O.failures out.new) e e }
 {
@@ -65,7 +66,7 @@ fn lower_model_for_engines<O: Sink, W: Watch>(
 ) -> Result<Answer, Refusal>
     ensures done { (known : Option (List ℕ)) → IsModelOf known model.now → OnOk result (LowersForEngines known (O.written out.old) (O.written out.new) form choice) }
     ensures answer { IfOk result (λ answer. answer ≡ Answer.Done) }
-    ensures refused { (known : Option (List ℕ)) → IsModelOf known model.now → IfErr result (IfInput (IsNotLoweredForEngines choice known)) }
+    ensures refused { (known : Option (List ℕ)) → IsModelOf known model.now → IfErr result (IfInput (IsNotForEngines given_is.Model choice known)) }
     ensures unwritten { IfErr result (IfInput (λ _. out.new ≡ out.old)) }
     ensures counted { (f s e : ℕ) → Counts result f f s s (O.failures out.old) (O.failures out.new) e e }
 {
@@ -87,7 +88,7 @@ pub(crate) fn convert_for_engines<A: Source, O: Sink>(
 ) -> Result<Answer, Refusal>
     ensures done { OnOk result (ConvertsForEngines (A.to_come first.old) (O.written out.old) (O.written out.new) form choice) }
     ensures answer { IfOk result (λ answer. answer ≡ Answer.Done) }
-    ensures refused { IfErr result (IfInput (IsNotConvertedForEngines choice (A.to_come first.old))) }
+    ensures refused { IfErr result (IfInput (IsNotForEngines given_is.Circuit choice (A.to_come first.old))) }
     ensures unwritten { IfErr result (IfInput (λ _. out.new ≡ out.old)) }
     ensures counted { (s e : ℕ) → Counts result (A.failures first.old) (A.failures first.new) s s (O.failures out.old) (O.failures out.new) e e }
 {
@@ -105,7 +106,7 @@ fn convert_circuit_for_engines<O: Sink>(
 ) -> Result<Answer, Refusal>
     ensures done { (known : Option (List ℕ)) → IsCircuitText known circuit.now → OnOk result (ConvertsForEngines known (O.written out.old) (O.written out.new) form choice) }
     ensures answer { IfOk result (λ answer. answer ≡ Answer.Done) }
-    ensures refused { (known : Option (List ℕ)) → IsCircuitText known circuit.now → IfErr result (IfInput (IsNotConvertedForEngines choice known)) }
+    ensures refused { (known : Option (List ℕ)) → IsCircuitText known circuit.now → IfErr result (IfInput (IsNotForEngines given_is.Circuit choice known)) }
     ensures unwritten { IfErr result (IfInput (λ _. out.new ≡ out.old)) }
     ensures counted { (f s e : ℕ) → Counts result f f s s (O.failures out.old) (O.failures out.new) e e }
 {

@@ -59,7 +59,7 @@ fn tell_row(
 }
 
 /// Tells the rows of a part behind a text that are wanted.
-#[tactic(auto, using(crate::proofs::ToldLemmas::all_written))]
+#[tactic(auto, using(crate::proofs::PieceLemmas::all_written))]
 fn tell_part(
     alloc: Global,
     wanted: Option<&str>,
@@ -77,7 +77,7 @@ fn tell_part(
 }
 
 /// What is told of the refusals of some parts that are wanted.
-#[tactic(auto, using(crate::proofs::ToldLemmas::all_written))]
+#[tactic(auto, using(crate::proofs::PieceLemmas::all_written))]
 fn explained(alloc: Global, wanted: Option<&str>, parts: &[Part]) -> Result<String, AllocError>
     ensures { IfOk result (λ text. string_bytes text ≡ explained (option_map (λ word. word.now) wanted.entry) parts.now) }
 {

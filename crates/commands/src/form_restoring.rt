@@ -2,14 +2,16 @@
 
 ghost use Rattle.std.specs.Prelude.{◌≡◌, ℕ, List, Option, IfOk, IfErr};
 ghost use Rattle.engine.specs.EngineForm.{IsEngineFormOf};
+ghost use Rattle.commands.specs.declared.orders.Given.TheVariants as given_is;
 ghost use Rattle.commands.specs.Done.{IsCircuitText, IsFormRestored, Judged};
-ghost use Rattle.commands.specs.Refusals.{IsNotConvertedForEngines};
+ghost use Rattle.commands.specs.Refusals.{IsNotForEngines};
 ghost use Rattle.commands.specs.Statuses.{Counts, IfInput, IsOfNoInput, ErrUntold};
 
 use crate::answers::Answer;
 use crate::circuits::read_circuit;
 use crate::refusals::Refusal;
 use crate::restoring::tell_restored;
+use crate::subjects::Subject;
 use aiger::Circuit;
 use base::{Sink, Source};
 use engine::engine_form;
@@ -27,7 +29,7 @@ pub(crate) fn restore_witness<A: Source, B: Source, O: Sink, E: Sink>(
     err: &mut E,
 ) -> Result<Answer, Refusal>
     ensures done { IfOk result (Judged (IsFormRestored choice (A.to_come first.old) (B.to_come second.old) (O.written out.old) (O.written out.new) (E.written err.old) (E.written err.new))) }
-    ensures refused { IfErr result (IfInput (IsNotConvertedForEngines choice (A.to_come first.old))) }
+    ensures refused { IfErr result (IfInput (IsNotForEngines given_is.Circuit choice (A.to_come first.old))) }
     ensures unwritten { IfErr result (IfInput (λ _. out.new ≡ out.old)) }
     ensures untold { ErrUntold result (err.new ≡ err.old) }
     ensures counted { Counts result (A.failures first.old) (A.failures first.new) (B.failures second.old) (B.failures second.new) (O.failures out.old) (O.failures out.new) (E.failures err.old) (E.failures err.new) }
@@ -46,7 +48,7 @@ fn restore_over_form<B: Source, O: Sink, E: Sink>(
     err: &mut E,
 ) -> Result<Answer, Refusal>
     ensures done { (known : Option (List ℕ)) → IsCircuitText known circuit.now → IfOk result (Judged (IsFormRestored choice known (B.to_come second.old) (O.written out.old) (O.written out.new) (E.written err.old) (E.written err.new))) }
-    ensures refused { (known : Option (List ℕ)) → IsCircuitText known circuit.now → IfErr result (IfInput (IsNotConvertedForEngines choice known)) }
+    ensures refused { (known : Option (List ℕ)) → IsCircuitText known circuit.now → IfErr result (IfInput (IsNotForEngines given_is.Circuit choice known)) }
     ensures unwritten { IfErr result (IfInput (λ _. out.new ≡ out.old)) }
     ensures untold { ErrUntold result (err.new ≡ err.old) }
     ensures counted { (f : ℕ) → Counts result f f (B.failures second.old) (B.failures second.new) (O.failures out.old) (O.failures out.new) (E.failures err.old) (E.failures err.new) }
@@ -74,5 +76,5 @@ fn restore_through_form<B: Source, O: Sink, E: Sink>(
     ensures counted { (f : ℕ) → Counts result f f (B.failures second.old) (B.failures second.new) (O.failures out.old) (O.failures out.new) (E.failures err.old) (E.failures err.new) }
 {
     let told = restore_form(alloc, circuit, form, choice, second, out);
-    tell_restored(alloc, told, err)
+    tell_restored(alloc, told, false, Subject::Circuit(circuit), err)
 }

@@ -2,11 +2,13 @@
 #![tactic(auto)]
 
 mod answers;
+mod arguments;
 mod certificates;
 mod circuits;
 mod command_line;
 mod command_table;
 mod engine_lifting;
+mod engine_words;
 mod engines;
 mod explaining;
 mod explanations;

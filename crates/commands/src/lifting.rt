@@ -1,7 +1,13 @@
 //! The command that lifts witnesses.
 
-ghost use Rattle.std.specs.Prelude.{◌≡◌, ℕ, List, Option, IfOk, IfErr};
-ghost use Rattle.commands.specs.Done.{IsLiftedAndTold, IsModelOf, Judged};
+ghost use Rattle.std.specs.Prelude.{◌≡◌, ℕ, List, Option, IfOk, IfErr, IfSome, OnOk};
+ghost use Rattle.std.specs.Io.KnownBytes.{Appends};
+ghost use Rattle.blast.specs.Lowering.{Lowers};
+ghost use Rattle.witness.specs.BitJudgements.{BitJudges};
+ghost use Rattle.lift.specs.Answers.{CountsLift};
+ghost use Rattle.lift.specs.Lifted.{lifted_with};
+ghost use Rattle.lift.specs.Verdicts.{KeepsVerdictIn};
+ghost use Rattle.commands.specs.Done.{IsLifted, IsModelOf, Judged};
 ghost use Rattle.commands.specs.Refusals.{IsNotLowered};
 ghost use Rattle.commands.specs.Statuses.{Counts, IfInput, ErrUntold};
 
@@ -9,41 +15,47 @@ use crate::answers::Answer;
 use crate::judgements::tell_judgement;
 use crate::models::read_model;
 use crate::refusals::Refusal;
+use crate::subjects::Subject;
+use aiger::Circuit;
 use base::{Sink, Source};
 use blast::{Watch, lower_watched};
 use btor2::Model;
-use lift::lift;
+use lift::{LiftFault, lift, lift_named};
 use std::alloc::Global;
+use witness::Judgement;
 
-/// Lowers a model, lifts a witness of its circuit to standard output, and tells its judgement on standard error.
+/// Lowers a model, lifts a witness of its circuit to standard output, with names or without, and tells its judgement on
+/// standard error, with names behind it what the judgement is about.
 pub(crate) fn lift_witness<A: Source, B: Source, O: Sink, E: Sink, W: Watch>(
     alloc: Global,
+    named: bool,
     first: &mut A,
     second: &mut B,
     out: &mut O,
     err: &mut E,
     watch: &mut W,
 ) -> Result<Answer, Refusal>
-    ensures done { IfOk result (Judged (IsLiftedAndTold (A.to_come first.old) (B.to_come second.old) (O.written out.old) (O.written out.new) (E.written err.old) (E.written err.new))) }
+    ensures done { IfOk result (Judged (IsLifted named (A.to_come first.old) (B.to_come second.old) (O.written out.old) (O.written out.new) (E.written err.old) (E.written err.new))) }
     ensures refused { IfErr result (IfInput (IsNotLowered (A.to_come first.old))) }
     ensures unwritten { IfErr result (IfInput (λ _. out.new ≡ out.old)) }
     ensures untold { ErrUntold result (err.new ≡ err.old) }
     ensures counted { Counts result (A.failures first.old) (A.failures first.new) (B.failures second.old) (B.failures second.new) (O.failures out.old) (O.failures out.new) (E.failures err.old) (E.failures err.new) }
 {
     let model = read_model(alloc, first)?;
-    lift_over(alloc, &model, second, out, err, watch)
+    lift_over(alloc, named, &model, second, out, err, watch)
 }
 
 /// The same over a model that was read.
 fn lift_over<B: Source, O: Sink, E: Sink, W: Watch>(
     alloc: Global,
+    named: bool,
     model: &Model,
     second: &mut B,
     out: &mut O,
     err: &mut E,
     watch: &mut W,
 ) -> Result<Answer, Refusal>
-    ensures done { (known : Option (List ℕ)) → IsModelOf known model.now → IfOk result (Judged (IsLiftedAndTold known (B.to_come second.old) (O.written out.old) (O.written out.new) (E.written err.old) (E.written err.new))) }
+    ensures done { (known : Option (List ℕ)) → IsModelOf known model.now → IfOk result (Judged (IsLifted named known (B.to_come second.old) (O.written out.old) (O.written out.new) (E.written err.old) (E.written err.new))) }
     ensures refused { (known : Option (List ℕ)) → IsModelOf known model.now → IfErr result (IfInput (IsNotLowered known)) }
     ensures unwritten { IfErr result (IfInput (λ _. out.new ≡ out.old)) }
     ensures untold { ErrUntold result (err.new ≡ err.old) }
@@ -52,6 +64,29 @@ fn lift_over<B: Source, O: Sink, E: Sink, W: Watch>(
     // a model's items are well-formed
     let _ = model.items();
     let circuit = lower_watched(alloc, model, watch)?;
-    let judgement = lift(alloc, model, &circuit, second, out)?;
-    tell_judgement(alloc, &judgement, err)
+    let judgement = lift_with(alloc, named, model, &circuit, second, out)?;
+    let subject = Subject::Lowered(model, &circuit);
+    tell_judgement(alloc, named, subject, &judgement, err)
+}
+
+/// Lifts a witness of the circuit of a model, with names or without.
+fn lift_with<B: Source, O: Sink>(
+    alloc: Global,
+    named: bool,
+    model: &Model,
+    circuit: &Circuit,
+    second: &mut B,
+    out: &mut O,
+) -> Result<Judgement, LiftFault>
+    requires { Lowers model.now circuit.now }
+    ensures judged { IfOk result (λ judgement. IfSome (B.to_come second.old) (λ text. BitJudges circuit.now text judgement)) }
+    ensures kept { IfOk result (λ judgement. IfSome (B.to_come second.old) (λ text. KeepsVerdictIn model.now circuit.now text (lifted_with named model.now circuit.now text) judgement)) }
+    ensures written { OnOk result (IfSome (B.to_come second.old) (λ text. Appends (O.written out.old) (O.written out.new) (lifted_with named model.now circuit.now text))) }
+    ensures counted { CountsLift result (B.failures second.old) (B.failures second.new) (O.failures out.old) (O.failures out.new) }
+{
+    if named {
+        lift_named(alloc, model, circuit, second, out)
+    } else {
+        lift(alloc, model, circuit, second, out)
+    }
 }

@@ -1,17 +1,18 @@
 //! The commands on models.
 
-ghost use Rattle.std.specs.Prelude.{◌≡◌, ◌++◌, ℕ, List, Option, IfOk, IfErr, OnOk};
+ghost use Rattle.std.specs.Prelude.{◌≡◌, ◌++◌, ℕ, false, List, Option, IfOk, IfErr, OnOk};
 ghost use Rattle.std.specs.Io.KnownBytes.{Appends};
 ghost use Rattle.std.specs.String.{string_bytes};
 ghost use Rattle.btor2text.specs.Writing.{written};
 ghost use Rattle.blast.specs.Conversion.{Converts};
-ghost use Rattle.commands.specs.Done.{IsJudged, IsModelOf, Judged, Shows, TellsCost, counts_line, cost_lines};
+ghost use Rattle.commands.specs.Done.{IsJudgedWith, IsModelOf, Judged, Shows, TellsCost, counts_line, cost_lines};
 ghost use Rattle.commands.specs.Refusals.{IsNoModel, IsNotJudged, IsNotLowered};
-ghost use Rattle.commands.specs.Statuses.{Counts, IfInput, IsOfNoInput};
+ghost use Rattle.commands.specs.Statuses.{Counts, ErrUntold, IfInput, IsOfNoInput};
 
 use crate::answers::Answer;
 use crate::judgements::write_judgement;
 use crate::refusals::{Device, Refusal};
+use crate::subjects::Subject;
 use crate::telling::write_result;
 use aigertext::Form;
 use base::{Sink, Source};
@@ -53,36 +54,44 @@ pub(crate) fn lower_model<A: Source, O: Sink, W: Watch>(
     }
 }
 
-/// Judges a witness over a model.
-pub(crate) fn check_model<A: Source, B: Source, O: Sink>(
+/// Judges a witness over a model, and with names says what the judgement is about.
+pub(crate) fn check_model<A: Source, B: Source, O: Sink, E: Sink>(
     alloc: Global,
+    named: bool,
     first: &mut A,
     second: &mut B,
     out: &mut O,
+    err: &mut E,
 ) -> Result<Answer, Refusal>
-    ensures done { IfOk result (Judged (IsJudged (A.to_come first.old) (B.to_come second.old) (O.written out.old) (O.written out.new))) }
+    ensures done { IfOk result (Judged (IsJudgedWith named (A.to_come first.old) (B.to_come second.old) (O.written out.old) (O.written out.new) (E.written err.old) (E.written err.new))) }
     ensures refused { IfErr result (IfInput (IsNotJudged (A.to_come first.old))) }
     ensures unwritten { IfErr result (IfInput (λ _. out.new ≡ out.old)) }
-    ensures counted { (e : ℕ) → Counts result (A.failures first.old) (A.failures first.new) (B.failures second.old) (B.failures second.new) (O.failures out.old) (O.failures out.new) e e }
+    ensures untold { ErrUntold result (err.new ≡ err.old) }
+    ensures quiet { named ≡ false → err.new ≡ err.old }
+    ensures counted { Counts result (A.failures first.old) (A.failures first.new) (B.failures second.old) (B.failures second.new) (O.failures out.old) (O.failures out.new) (E.failures err.old) (E.failures err.new) }
 {
     let model = read_model(alloc, first)?;
-    check_over(alloc, &model, second, out)
+    check_over(alloc, named, &model, second, out, err)
 }
 
-/// Judges a witness over a model that was read.
-fn check_over<B: Source, O: Sink>(
+/// The same over a model that was read.
+fn check_over<B: Source, O: Sink, E: Sink>(
     alloc: Global,
+    named: bool,
     model: &Model,
     second: &mut B,
     out: &mut O,
+    err: &mut E,
 ) -> Result<Answer, Refusal>
-    ensures done { (known : Option (List ℕ)) → IsModelOf known model.now → IfOk result (Judged (IsJudged known (B.to_come second.old) (O.written out.old) (O.written out.new))) }
+    ensures done { (known : Option (List ℕ)) → IsModelOf known model.now → IfOk result (Judged (IsJudgedWith named known (B.to_come second.old) (O.written out.old) (O.written out.new) (E.written err.old) (E.written err.new))) }
     ensures refused { (known : Option (List ℕ)) → IsModelOf known model.now → IfErr result (IfInput (IsNotJudged known)) }
     ensures unwritten { IfErr result (IfInput (λ _. out.new ≡ out.old)) }
-    ensures counted { (f e : ℕ) → Counts result f f (B.failures second.old) (B.failures second.new) (O.failures out.old) (O.failures out.new) e e }
+    ensures untold { ErrUntold result (err.new ≡ err.old) }
+    ensures quiet { named ≡ false → err.new ≡ err.old }
+    ensures counted { (f : ℕ) → Counts result f f (B.failures second.old) (B.failures second.new) (O.failures out.old) (O.failures out.new) (E.failures err.old) (E.failures err.new) }
 {
     match judge_words(alloc, model, second) {
-        Ok(judgement) => write_judgement(alloc, &judgement, out),
+        Ok(judgement) => write_judgement(alloc, named, Subject::Model(model), &judgement, out, err),
         Err(fault) => Err(Refusal::from(fault)),
     }
 }

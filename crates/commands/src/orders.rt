@@ -23,6 +23,12 @@ pub enum Named {
     CheckAig,
     /// Lifts a witness of a model's circuit to one of the model, with names behind words.
     Lift,
+    /// Lifts a counterexample in the form that ABC writes over the engine form of a model's circuit to a witness of the model,
+    /// with names behind words; it claims the bad property at a position of the circuit, or the only one.
+    LiftFound(Option<usize>),
+    /// Judges a certificate, an invariant and a proof, of a bad property of what is given: of the one at a position, or of the
+    /// only one.
+    CheckProof(Given, Option<usize>),
 }
 
 /// What the first file of a command on certificates gives.

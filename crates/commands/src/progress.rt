@@ -41,7 +41,9 @@ impl Work {
             Task::CheckBtor | Task::Named(Named::CheckBtor) | Task::Wave(_) => {
                 Work::Judged(Counted::FramesOfModel)
             }
-            Task::Obligation(..) | Task::CheckProof(..) => Work::Read,
+            Task::Obligation(..) | Task::CheckProof(..) | Task::Named(Named::CheckProof(..)) => {
+                Work::Read
+            }
             _ => Work::Judged(Counted::FramesOfCircuit),
         }
     }

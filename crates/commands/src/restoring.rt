@@ -5,18 +5,21 @@ ghost use Rattle.std.specs.Io.KnownBytes.{Appends};
 ghost use Rattle.std.specs.String.{string_bytes};
 ghost use Rattle.engine.specs.Refusal.{engine_refusal};
 ghost use Rattle.commands.specs.declared.answers.Answer.TheVariants as answer_is;
+ghost use Rattle.commands.specs.declared.orders.Given.TheVariants as given_is;
 ghost use Rattle.commands.specs.declared.refusals.Refusal.TheVariants as refusal;
 ghost use Rattle.commands.specs.declared.refusals.Fault.TheVariants as fault_is;
 ghost use Rattle.restore.specs.Answers.{CountsRestore};
 ghost use Rattle.commands.specs.Done.{IsCircuitText, IsClaim, Restores, TellsRestored, malformed_line};
 ghost use Rattle.commands.specs.Restoring.{IsAnswerOf, IsWhole, TellsVerdict};
-ghost use Rattle.commands.specs.Refusals.{IsNotRestored, IsWithoutForm};
+ghost use Rattle.commands.specs.Refusals.{IsNotClaimed, IsWithoutForm};
 ghost use Rattle.commands.specs.Statuses.{Counts, IfInput, IsOfNoInput, ErrUntold};
+ghost use Rattle.commands.specs.Subjects.{subject_said, where_named};
 
 use crate::answers::Answer;
 use crate::circuits::read_circuit;
 use crate::judgements::tell_judgement;
 use crate::refusals::{Device, Fault, Refusal};
+use crate::subjects::Subject;
 use aiger::Circuit;
 use base::{Sink, Source, write_all};
 use engine::engine_form;
@@ -76,21 +79,23 @@ pub(crate) fn has_form(alloc: Global, circuit: &Circuit, claim: usize) -> Result
     Ok(())
 }
 
-/// Tells on standard error what a restoring answers.
+/// Tells on standard error what a restoring answers, with names behind a judgement what it is about.
 pub(crate) fn tell_restored<E: Sink>(
     alloc: Global,
     told: Result<Judgement, RestoreFault>,
+    named: bool,
+    subject: Subject<'_>,
     err: &mut E,
 ) -> Result<Answer, Refusal>
-    ensures done { (c : Circuit) (claim : ℕ) (found : Option (List ℕ)) → IsAnswerOf c claim found told → IfOk result (λ answer. TellsRestored answer c claim found (E.written err.old) (E.written err.new)) }
+    ensures done { (c : Circuit) (claim : ℕ) (found : Option (List ℕ)) → IsAnswerOf c claim found told → IfOk result (λ answer. TellsRestored (λ verdict. where_named named (subject_said subject.entry verdict)) answer c claim found (E.written err.old) (E.written err.new)) }
     ensures whole { OnOk result (IsWhole told) }
-    ensures verdict { IfOk result (λ answer. TellsVerdict told answer (E.written err.old) (E.written err.new)) }
+    ensures verdict { IfOk result (λ answer. TellsVerdict (λ verdict. where_named named (subject_said subject.entry verdict)) told answer (E.written err.old) (E.written err.new)) }
     ensures no_input { IsOfNoInput result }
     ensures untold { ErrUntold result (err.new ≡ err.old) }
     ensures counted { (f s s' o o' : ℕ) → CountsRestore told s s' o o' → Counts result f f s s' o o' (E.failures err.old) (E.failures err.new) }
 {
     match told {
-        Ok(judgement) => tell_judgement(alloc, &judgement, err),
+        Ok(judgement) => tell_judgement(alloc, named, subject, &judgement, err),
         Err(fault) => match fault.why {
             RestoreWhy::Device => Err(Refusal::Failed(Device::Second)),
             RestoreWhy::Write => Err(Refusal::Failed(Device::Output)),
@@ -110,7 +115,7 @@ fn restore_over<B: Source, O: Sink, E: Sink>(
     err: &mut E,
 ) -> Result<Answer, Refusal>
     ensures done { (known : Option (List ℕ)) → IsCircuitText known circuit.now → IfOk result (Restores choice known (B.to_come second.old) (O.written out.old) (O.written out.new) (E.written err.old) (E.written err.new)) }
-    ensures refused { (known : Option (List ℕ)) → IsCircuitText known circuit.now → IfErr result (IfInput (IsNotRestored choice known)) }
+    ensures refused { (known : Option (List ℕ)) → IsCircuitText known circuit.now → IfErr result (IfInput (IsNotClaimed given_is.Circuit choice known)) }
     ensures unwritten { IfErr result (IfInput (λ _. out.new ≡ out.old)) }
     ensures untold { ErrUntold result (err.new ≡ err.old) }
     ensures counted { (f : ℕ) → Counts result f f (B.failures second.old) (B.failures second.new) (O.failures out.old) (O.failures out.new) (E.failures err.old) (E.failures err.new) }
@@ -120,7 +125,7 @@ fn restore_over<B: Source, O: Sink, E: Sink>(
     let claim = claim_of(circuit, choice)?;
     has_form(alloc, circuit, claim)?;
     let told = restore(alloc, circuit, claim, second, out);
-    tell_restored(alloc, told, err)
+    tell_restored(alloc, told, false, Subject::Circuit(circuit), err)
 }
 
 /// Reads a circuit, restores a counterexample over its engine form to standard output, and tells on standard error how that
@@ -134,7 +139,7 @@ pub(crate) fn restore_counterexample<A: Source, B: Source, O: Sink, E: Sink>(
     err: &mut E,
 ) -> Result<Answer, Refusal>
     ensures done { IfOk result (Restores choice (A.to_come first.old) (B.to_come second.old) (O.written out.old) (O.written out.new) (E.written err.old) (E.written err.new)) }
-    ensures refused { IfErr result (IfInput (IsNotRestored choice (A.to_come first.old))) }
+    ensures refused { IfErr result (IfInput (IsNotClaimed given_is.Circuit choice (A.to_come first.old))) }
     ensures unwritten { IfErr result (IfInput (λ _. out.new ≡ out.old)) }
     ensures untold { ErrUntold result (err.new ≡ err.old) }
     ensures counted { Counts result (A.failures first.old) (A.failures first.new) (B.failures second.old) (B.failures second.new) (O.failures out.old) (O.failures out.new) (E.failures err.old) (E.failures err.new) }

@@ -16,7 +16,7 @@ use crate::form_restoring::restore_witness;
 use crate::lifting::lift_witness;
 use crate::models::{check_model, lower_model, show, tell_cost};
 use crate::named::judge_by_name;
-use crate::orders::{Order, Task};
+use crate::orders::{Named, Order, Task};
 use crate::refusals::Refusal;
 use crate::restoring::restore_counterexample;
 use crate::statuses::DEVICE;
@@ -111,7 +111,7 @@ fn obey<A: Source, B: Source, T: Source, O: Sink, E: Sink, W: Watch>(
     ensures no_third { has_three_files order.now.task ≡ false → third.new ≡ third.old }
 {
     if is_on_certificates(order.task) {
-        obey_on_certificates(alloc, order.task, first, second, third, out, watch)
+        obey_on_certificates(alloc, order.task, first, second, third, out, err, watch)
     } else {
         obey_two(alloc, order, first, second, out, err, watch)
     }
@@ -121,35 +121,44 @@ fn obey<A: Source, B: Source, T: Source, O: Sink, E: Sink, W: Watch>(
 fn is_on_certificates(task: Task) -> bool
     ensures { result ≡ is_on_certificates task }
 {
-    matches!(task, Task::Obligation(..) | Task::CheckProof(..))
+    matches!(
+        task,
+        Task::Obligation(..) | Task::CheckProof(..) | Task::Named(Named::CheckProof(..))
+    )
 }
 
-/// Does a command on certificates, which tells nothing on standard error.
-fn obey_on_certificates<A: Source, B: Source, T: Source, O: Sink, W: Watch>(
+/// Does a command on certificates.
+fn obey_on_certificates<A: Source, B: Source, T: Source, O: Sink, E: Sink, W: Watch>(
     alloc: Global,
     task: Task,
     first: &mut A,
     second: &mut B,
     third: &mut T,
     out: &mut O,
+    err: &mut E,
     watch: &mut W,
 ) -> Result<Answer, Refusal>
     requires { is_on_certificates task ≡ true }
-    ensures done { (form : Form) (told : Option (List ℕ)) → IfOk result (λ answer. Answers task form answer (A.to_come first.old) (B.to_come second.old) (T.to_come third.old) (O.written out.old) (O.written out.new) told told) }
+    ensures done { (form : Form) → IfOk result (λ answer. Answers task form answer (A.to_come first.old) (B.to_come second.old) (T.to_come third.old) (O.written out.old) (O.written out.new) (E.written err.old) (E.written err.new)) }
     ensures refused { IfErr result (IfInput (Refuses task (A.to_come first.old))) }
     ensures refused_second { IfErr result (IfSecond (RefusesSecond task (A.to_come first.old) (B.to_come second.old))) }
     ensures unwritten { IfErr result (IfInput (λ _. out.new ≡ out.old)) }
     ensures unwritten_second { IfErr result (IfSecond (λ _. out.new ≡ out.old)) }
-    ensures counted { (e : ℕ) → CountsAll result (A.failures first.old) (A.failures first.new) (B.failures second.old) (B.failures second.new) (T.failures third.old) (T.failures third.new) (O.failures out.old) (O.failures out.new) e e }
+    ensures untold { ErrUntold result (err.new ≡ err.old) }
+    ensures counted { CountsAll result (A.failures first.old) (A.failures first.new) (B.failures second.old) (B.failures second.new) (T.failures third.old) (T.failures third.new) (O.failures out.old) (O.failures out.new) (E.failures err.old) (E.failures err.new) }
+    ensures quiet { is_quiet task ≡ true → err.new ≡ err.old }
     ensures no_third { has_three_files task ≡ false → third.new ≡ third.old }
 {
     match task {
         Task::Obligation(given, choice) => {
             write_obligation(alloc, given, choice, first, second, out, watch)
         }
-        Task::CheckProof(given, choice) => {
-            check_proof(alloc, given, choice, first, second, third, out, watch)
-        }
+        Task::CheckProof(given, choice) => check_proof(
+            alloc, false, given, choice, first, second, third, out, err, watch,
+        ),
+        Task::Named(Named::CheckProof(given, choice)) => check_proof(
+            alloc, true, given, choice, first, second, third, out, err, watch,
+        ),
         _ => unreachable!(),
     }
 }
@@ -178,19 +187,19 @@ fn obey_two<A: Source, B: Source, O: Sink, E: Sink, W: Watch>(
         Task::LowerForEngines(choice) => lower_for_engines(
             alloc, order.form, choice, first, out, watch,
         ),
-        Task::CheckBtor => check_model(alloc, first, second, out),
+        Task::CheckBtor => check_model(alloc, false, first, second, out, err),
         Task::Show => show(alloc, first, out),
         Task::Cost => tell_cost(alloc, first, out),
         Task::AigConvert => convert_circuit(alloc, order.form, first, out),
         Task::ConvertForEngines(choice) => {
             convert_for_engines(alloc, order.form, choice, first, out)
         }
-        Task::CheckAig => check_circuit(alloc, first, second, out),
-        Task::Lift => lift_witness(alloc, first, second, out, err, watch),
+        Task::CheckAig => check_circuit(alloc, false, first, second, out, err),
+        Task::Lift => lift_witness(alloc, false, first, second, out, err, watch),
         Task::Restore(choice) => restore_counterexample(alloc, choice, first, second, out, err),
         Task::RestoreForm(choice) => restore_witness(alloc, choice, first, second, out, err),
         Task::LiftFound(choice) => {
-            lift_counterexample(alloc, choice, first, second, out, err, watch)
+            lift_counterexample(alloc, false, choice, first, second, out, err, watch)
         }
         Task::Wave(shown) => dump_witness(alloc, order, shown, first, second, out, err),
         Task::Named(named) => judge_by_name(alloc, named, first, second, out, err, watch),

@@ -1,17 +1,28 @@
 //! What judgements are about, by name.
 
-ghost use Rattle.std.specs.Prelude.{◌≡◌, ◌++◌, ℕ, Bool, OnOk, codes, decimal, option_copied, slice_get};
+ghost use Rattle.std.specs.Prelude.{◌≡◌, ◌++◌, ℕ, Bool, false, OnOk, codes, decimal, option_copied, slice_get};
 ghost use Rattle.std.specs.Io.KnownBytes.{Appends};
 ghost use Rattle.base.specs.Device.{CountsFaults};
 ghost use Rattle.btor2.specs.declared.item.Body.{Body};
 ghost use Rattle.btor2.specs.Lists.{places};
-ghost use Rattle.commands.specs.Subjects.{item_said, lifted_said, line_said, name_said, numbered_item, says, says_item, says_name, symbol_said};
+ghost use Rattle.commands.specs.Subjects.{bad_item_said, bad_name_said, bad_said, item_said, lifted_said, line_said, name_said, numbered_item, says, says_item, says_name, subject_said, symbol_said, where_named};
 
 use aiger::{Circuit, Section};
 use base::{DeviceFault, Sink, write_all};
 use btor2::{Item, Model, Symbol};
 use itoa::Buffer;
 use witness::Judgement;
+
+/// What a judgement is about.
+#[derive(Clone, Copy)]
+pub(crate) enum Subject<'a> {
+    /// A model.
+    Model(&'a Model),
+    /// A circuit.
+    Circuit(&'a Circuit),
+    /// A model, by the circuit that lowers it.
+    Lowered(&'a Model, &'a Circuit),
+}
 
 /// Writes the number of a thing of a kind.
 fn tell_number<E: Sink>(kind: &[u8], number: u64, err: &mut E) -> Result<(), DeviceFault>
@@ -114,8 +125,25 @@ fn tell_name<E: Sink>(
     }
 }
 
+/// Says which line of a model a bad property is.
+fn tell_bad_item<E: Sink>(model: &Model, number: u64, err: &mut E) -> Result<(), DeviceFault>
+    ensures written { OnOk result (Appends (E.written err.old) (E.written err.new) (bad_item_said model.now number)) }
+    ensures counted { CountsFaults result (E.failures err.old) (E.failures err.new) }
+{
+    tell_item_of(b"b", number, model, model.bads(), err)
+}
+
+/// Says which name a bad property of a circuit has.
+fn tell_bad_name<E: Sink>(circuit: &Circuit, number: u64, err: &mut E) -> Result<(), DeviceFault>
+    ensures written { OnOk result (Appends (E.written err.old) (E.written err.new) (bad_name_said circuit.now number)) }
+    ensures counted { CountsFaults result (E.failures err.old) (E.failures err.new) }
+{
+    let name = circuit.name(Section::Bad, number as usize);
+    tell_name(b"b", number, name, err)
+}
+
 /// Says which line of a model a judgement is about.
-pub(crate) fn tell_item_said<E: Sink>(
+fn tell_item_said<E: Sink>(
     model: &Model,
     judgement: &Judgement,
     err: &mut E,
@@ -124,7 +152,7 @@ pub(crate) fn tell_item_said<E: Sink>(
     ensures counted { CountsFaults result (E.failures err.old) (E.failures err.new) }
 {
     match judgement {
-        Judgement::NotReached { claim } => tell_item_of(b"b", *claim, model, model.bads(), err),
+        Judgement::NotReached { claim } => tell_bad_item(model, *claim, err),
         Judgement::Violated { constraint, .. } => {
             tell_item_of(b"constraint ", *constraint, model, model.constraints(), err)
         }
@@ -136,7 +164,7 @@ pub(crate) fn tell_item_said<E: Sink>(
 }
 
 /// Says which name in a circuit a judgement is about.
-pub(crate) fn tell_name_said<E: Sink>(
+fn tell_name_said<E: Sink>(
     circuit: &Circuit,
     judgement: &Judgement,
     err: &mut E,
@@ -145,14 +173,7 @@ pub(crate) fn tell_name_said<E: Sink>(
     ensures counted { CountsFaults result (E.failures err.old) (E.failures err.new) }
 {
     match judgement {
-        Judgement::NotReached { claim } => {
-            tell_name(
-                b"b",
-                *claim,
-                circuit.name(Section::Bad, *claim as usize),
-                err,
-            )
-        }
+        Judgement::NotReached { claim } => tell_bad_name(circuit, *claim, err),
         Judgement::Violated { constraint, .. } => tell_name(
             b"constraint ",
             *constraint,
@@ -172,7 +193,7 @@ pub(crate) fn tell_name_said<E: Sink>(
 }
 
 /// Says what a judgement over the circuit of a model is about.
-pub(crate) fn tell_lifted_said<E: Sink>(
+fn tell_lifted_said<E: Sink>(
     model: &Model,
     circuit: &Circuit,
     judgement: &Judgement,
@@ -185,4 +206,65 @@ pub(crate) fn tell_lifted_said<E: Sink>(
         Judgement::InitDiffers { .. } => tell_name_said(circuit, judgement, err),
         _ => tell_item_said(model, judgement, err),
     }
+}
+
+/// Says what a judgement is about.
+fn tell_said<E: Sink>(
+    subject: Subject<'_>,
+    judgement: &Judgement,
+    err: &mut E,
+) -> Result<(), DeviceFault>
+    ensures written { OnOk result (Appends (E.written err.old) (E.written err.new) (subject_said subject.entry judgement.now)) }
+    ensures counted { CountsFaults result (E.failures err.old) (E.failures err.new) }
+{
+    match subject {
+        Subject::Model(model) => tell_item_said(model, judgement, err),
+        Subject::Circuit(circuit) => tell_name_said(circuit, judgement, err),
+        Subject::Lowered(model, circuit) => tell_lifted_said(model, circuit, judgement, err),
+    }
+}
+
+/// Says which bad property of a subject has a number.
+fn tell_bad_said<E: Sink>(subject: Subject<'_>, number: u64, err: &mut E) -> Result<(), DeviceFault>
+    ensures written { OnOk result (Appends (E.written err.old) (E.written err.new) (bad_said subject.entry number)) }
+    ensures counted { CountsFaults result (E.failures err.old) (E.failures err.new) }
+{
+    match subject {
+        Subject::Model(model) | Subject::Lowered(model, _) => tell_bad_item(model, number, err),
+        Subject::Circuit(circuit) => tell_bad_name(circuit, number, err),
+    }
+}
+
+/// Says what a judgement is about, where names are asked for.
+pub(crate) fn tell_subject<E: Sink>(
+    named: bool,
+    subject: Subject<'_>,
+    judgement: &Judgement,
+    err: &mut E,
+) -> Result<(), DeviceFault>
+    ensures written { OnOk result (Appends (E.written err.old) (E.written err.new) (where_named named (subject_said subject.entry judgement.now))) }
+    ensures quiet { named ≡ false → err.new ≡ err.old }
+    ensures counted { CountsFaults result (E.failures err.old) (E.failures err.new) }
+{
+    if !named {
+        return Ok(());
+    }
+    tell_said(subject, judgement, err)
+}
+
+/// Says which bad property of a subject has a number, where names are asked for.
+pub(crate) fn tell_bad<E: Sink>(
+    named: bool,
+    subject: Subject<'_>,
+    number: usize,
+    err: &mut E,
+) -> Result<(), DeviceFault>
+    ensures written { OnOk result (Appends (E.written err.old) (E.written err.new) (where_named named (bad_said subject.entry number))) }
+    ensures quiet { named ≡ false → err.new ≡ err.old }
+    ensures counted { CountsFaults result (E.failures err.old) (E.failures err.new) }
+{
+    if !named {
+        return Ok(());
+    }
+    tell_bad_said(subject, number as u64, err)
 }

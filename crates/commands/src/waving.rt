@@ -6,7 +6,7 @@ ghost use Rattle.commands.specs.Refusals.{IsNotJudged};
 ghost use Rattle.commands.specs.Statuses.{Counts, IfInput, ErrUntold};
 
 use crate::answers::Answer;
-use crate::judgements::tell_judgement;
+use crate::judgements::tell_line;
 use crate::models::read_model;
 use crate::orders::{Order, STANDARD_INPUT};
 use crate::refusals::Refusal;
@@ -60,5 +60,5 @@ fn dump_over<B: Source, O: Sink, E: Sink>(
     ensures counted { (f : ℕ) → Counts result f f (B.failures second.old) (B.failures second.new) (O.failures out.old) (O.failures out.new) (E.failures err.old) (E.failures err.new) }
 {
     let judgement = wave(alloc, model, shown, title, second, out)?;
-    tell_judgement(alloc, &judgement, err)
+    tell_line(alloc, &judgement, err)
 }

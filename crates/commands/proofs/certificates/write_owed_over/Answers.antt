@@ -23,5 +23,5 @@ returns-clause-unwritten_second g c =
 pub returns-clause-counted : goal.returns-clause-counted
 returns-clause-counted g c = λ f t e.
     let out = g.O.Sink.failures c.args.out.now in
-    counted_after c.write_owed.result f (g.B.Source.failures c.args.second.now) (g.B.Source.failures c.owed.new.second) t t out (g.O.Sink.failures c.write_owed.new.out) e
+    counted_after c.write_owed.result f (g.B.Source.failures c.args.second.now) (g.B.Source.failures c.owed.new.second) t t out (g.O.Sink.failures c.write_owed.new.out) e e
     (c.in_ok-formula.ensures.counted f t out e).0.1 refl (c.write_owed.ensures.counted f (g.B.Source.failures c.owed.new.second) e)
