@@ -17,10 +17,10 @@ use Rattle.restore.specs.FormWitness.{form_restored_text, FormJudges, FindsWitne
 use Rattle.restore.specs.Restored.{restored_text}
 use Rattle.commands.specs.declared.answers.Answer.{Answer}
 use Rattle.commands.specs.declared.refusals.Refusal.{Refusal}
-use Rattle.lift.specs.EngineLifting.{engine_lifted_text, FindsInModel}
+use Rattle.lift.specs.EngineLifting.{engine_lifted_text, form_lifted_text, FindsInModel, FindsWitnessInModel, KeepsFormVerdict}
 use Rattle.lift.specs.Lifted.{lifted_with, named_text}
 use Rattle.lift.specs.Verdicts.{KeepsVerdict, KeepsVerdictIn}
-use Rattle.commands.specs.Done.{IsCircuitText, IsModelOf, IsClaim, Restores, TellsRestored, LiftsFound, Judged, IsFormRestored, judgement_line}
+use Rattle.commands.specs.Done.{IsCircuitText, IsModelOf, IsClaim, Restores, TellsRestored, LiftsFound, Judged, IsFormLifted, IsFormRestored, judgement_line}
 use Rattle.commands.specs.Subjects.{lifted_said, where_named}
 use Rattle.commands.specs.Restoring.{IsAnswerOf, IsWhole, TellsVerdict}
 
@@ -89,3 +89,16 @@ form_restored (Ok a) (Ok j) known found before now told told' choice c d text fo
 }
 form_restored (Ok a) (Err e) known found before now told told' choice c d text form restored judged again apart tells = let h : true ≡ false = sym tells ∙ apart.0 in absurd (cc)
 form_restored (Err e) told_by known found before now told told' choice c d text form restored judged again apart tells = tt
+
+-- a command that told what is judged of a witness of the form, and lifted it
+pub form_lifted : (r : Result Answer Refusal) (told_by : Result Judgement RestoreFault) (known found before now told told' : Option (List ℕ)) (named : Bool) (choice : Option ℕ) (items : List Item) (c d : Circuit)
+    → IsModelOf known items → Lowers items c → IsEngineFormOf c choice d → OnOk told_by (IfSome found (λ text. Appends before now (form_lifted_text named items c choice d text))) → IfOk told_by (λ j. IfSome found (λ text. FormJudges c choice d text j))
+    → IfOk told_by (λ j. IfSome found (λ text. KeepsFormVerdict named items c choice d text j)) → OnOk told_by (IfSome found (FindsWitnessInModel named items c choice d)) → IfErr told_by (λ e. is_of_text e.why ≡ false × (e.line ≡ 0))
+    → IfOk r (λ a. TellsVerdict (λ verdict. where_named named (lifted_said items c verdict)) told_by a told told') → IfOk r (Judged (IsFormLifted named choice known found before now told told'))
+form_lifted (Ok a) (Ok j) known found before now told told' named choice items c d text lowers form lifted judged kept finds apart tells = record {
+  verdict = j;
+  is_judged = record { items = items; lowered = c; form = d; text = text; lowers = lowers; is_form = form; lifted = lifted; judged = judged; kept = kept; in_model = finds; lines = tells.1 };
+  so = tells.0;
+}
+form_lifted (Ok a) (Err e) known found before now told told' named choice items c d text lowers form lifted judged kept finds apart tells = let h : true ≡ false = sym tells ∙ apart.0 in absurd (cc)
+form_lifted (Err e) told_by known found before now told told' named choice items c d text lowers form lifted judged kept finds apart tells = tt

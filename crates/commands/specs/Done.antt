@@ -32,7 +32,7 @@ use Rattle.btor2.specs.Trace.{Frame}
 use Rattle.witness.specs.ClosedWords.{IsClosedTrace}
 use Rattle.wave.specs.Dumps.{vcd_text}
 use Rattle.wave.specs.declared.scope.Shown.{Shown}
-use Rattle.lift.specs.EngineLifting.{engine_lifted_text, FindsInModel}
+use Rattle.lift.specs.EngineLifting.{engine_lifted_text, form_lifted_text, FindsInModel, FindsWitnessInModel, KeepsFormVerdict}
 use Rattle.lift.specs.Lifted.{lifted_with}
 use Rattle.lift.specs.Verdicts.{KeepsVerdictIn}
 use Rattle.witness.specs.Printed.{judgement_text}
@@ -240,6 +240,20 @@ pub record LiftsFound (named : Bool) (choice : Option ℕ) (model found before n
   pub in_model : (text : List ℕ) → FindsInModel named items lowered claim text
   pub tells : TellsRestored (λ verdict. where_named named (lifted_said items lowered verdict)) a lowered claim found told told'
 
+-- The first text is of a model, which a circuit lowers that has an engine form, with all its bad properties or the chosen one; what was written is what the second, a witness of that form, is lifted to, with names or without; it was told how that is judged, with names behind it what the judgement is about: over the model what is written is judged so too, and accepted, where the second is so over the form.
+pub record IsFormLifted (named : Bool) (choice : Option ℕ) (model found before now told told' : Option (List ℕ)) (verdict : Judgement) : Type 0 where
+  pub items : List Item
+  pub lowered : Circuit
+  pub form : Circuit
+  pub text : IsModelOf model items
+  pub lowers : Lowers items lowered
+  pub is_form : IsEngineFormOf lowered choice form
+  pub lifted : IfSome found (λ text. Appends before now (form_lifted_text named items lowered choice form text))
+  pub judged : IfSome found (λ text. FormJudges lowered choice form text verdict)
+  pub kept : IfSome found (λ text. KeepsFormVerdict named items lowered choice form text verdict)
+  pub in_model : IfSome found (FindsWitnessInModel named items lowered choice form)
+  pub lines : Appends told told' (judgement_line verdict ++ where_named named (lifted_said items lowered verdict))
+
 -- all that was to come is a text of some vectors, each of which is right, and what was written is that all of them agree
 pub record Agree (known before now : Option (List ℕ)) : Type 0 where
   pub vectors : List Vector
@@ -286,6 +300,7 @@ AnswersByName named.CheckBtor first second third before now told told' a = Judge
 AnswersByName named.CheckAig first second third before now told told' a = Judged (IsJudgedOverByName first second before now told told') a
 AnswersByName named.Lift first second third before now told told' a = Judged (IsLifted true first second before now told told') a
 AnswersByName (named.LiftFound choice) first second third before now told told' a = LiftsFound true choice first second before now told told' a
+AnswersByName (named.LiftForm choice) first second third before now told told' a = Judged (IsFormLifted true choice first second before now told told') a
 AnswersByName (named.CheckProof g choice) first second third before now told told' a = CertifiesByName g choice first second third before now told told' a
 
 -- what a command has done that answers so. Of `first`, `second` and `third` each, all bytes that were to come are known, or none are; `before` and `now` stand on standard output, `told` and `told'` on standard error
@@ -303,6 +318,7 @@ Answers (task.Wave shown) form a first second third before now told told' = Judg
 Answers (task.Restore choice) form a first second third before now told told' = Restores choice first second before now told told' a
 Answers (task.RestoreForm choice) form a first second third before now told told' = Judged (IsFormRestored choice first second before now told told') a
 Answers (task.LiftFound choice) form a first second third before now told told' = LiftsFound false choice first second before now told told' a
+Answers (task.LiftForm choice) form a first second third before now told told' = Judged (IsFormLifted false choice first second before now told told') a
 Answers (task.Named n) form a first second third before now told told' = AnswersByName n first second third before now told told' a
 Answers task.Vectors form a first second third before now told told' = Compares first before now a
 Answers (task.Obligation g choice) form answer.Done first second third before now told told' = WritesOwed g choice first second before now
@@ -321,6 +337,7 @@ has_one_file task.Lift = false
 has_one_file (task.Restore choice) = false
 has_one_file (task.RestoreForm choice) = false
 has_one_file (task.LiftFound choice) = false
+has_one_file (task.LiftForm choice) = false
 has_one_file (task.Wave shown) = false
 has_one_file (task.Named n) = false
 has_one_file (task.Obligation g choice) = false
@@ -346,6 +363,7 @@ is_quiet task.Lift = false
 is_quiet (task.Restore choice) = false
 is_quiet (task.RestoreForm choice) = false
 is_quiet (task.LiftFound choice) = false
+is_quiet (task.LiftForm choice) = false
 is_quiet (task.Wave shown) = false
 is_quiet (task.Named n) = false
 is_quiet _ = true

@@ -187,6 +187,7 @@ RefusesByName named.CheckBtor known f = IsNotJudged known f
 RefusesByName named.CheckAig known f = IsNoCircuit known f
 RefusesByName named.Lift known f = IsNotLowered known f
 RefusesByName (named.LiftFound choice) known f = IsNotClaimed given.Model choice known f
+RefusesByName (named.LiftForm choice) known f = IsNotForEngines given.Model choice known f
 RefusesByName (named.CheckProof g choice) known f = IsNotClaimed g choice known f
 
 -- the first text has this fault, for which a command refuses it
@@ -203,6 +204,7 @@ Refuses task.Lift known f = IsNotLowered known f
 Refuses (task.Restore choice) known f = IsNotClaimed given.Circuit choice known f
 Refuses (task.RestoreForm choice) known f = IsNotForEngines given.Circuit choice known f
 Refuses (task.LiftFound choice) known f = IsNotClaimed given.Model choice known f
+Refuses (task.LiftForm choice) known f = IsNotForEngines given.Model choice known f
 Refuses (task.Wave shown) known f = IsNotJudged known f
 Refuses (task.Named n) known f = RefusesByName n known f
 Refuses task.Vectors known f = IsNoVectorList known f

@@ -190,6 +190,7 @@ fn with_names(task: Task) -> Task {
         Task::CheckAig => Task::Named(Named::CheckAig),
         Task::Lift => Task::Named(Named::Lift),
         Task::LiftFound(choice) => Task::Named(Named::LiftFound(choice)),
+        Task::LiftForm(choice) => Task::Named(Named::LiftForm(choice)),
         Task::CheckProof(given, choice) => Task::Named(Named::CheckProof(given, choice)),
         task => task,
     }

@@ -60,9 +60,8 @@ pub(crate) fn with_engine_words<'a>(
             .arg(flag(
                 alloc,
                 ENGINE,
-                "The witness is a counterexample over the engine form of the model's circuit",
-            )
-            .requires_arg(ABC)?)?
+                "The witness is one of the engine form of the model's circuit",
+            ))?
             .arg(flag(
                 alloc,
                 ABC,
@@ -71,7 +70,7 @@ pub(crate) fn with_engine_words<'a>(
             .requires_arg(ENGINE)?)?
             .arg(bad_option(
                 alloc,
-                "With --engine, the position of the bad property that is claimed, from 0; needed where the model has more than one",
+                "With --engine, the position of the bad property that the form was made for, from 0; with --abc it says which is claimed, and is needed where the model has more than one",
             )),
         Engine::Read => command
             .arg(flag(
@@ -165,7 +164,8 @@ pub(crate) fn with_engine(
         Task::AigConvert => Task::ConvertForEngines(choice),
         Task::Restore(_) if words.get_flag(ABC) => Task::Restore(choice),
         Task::Restore(_) => Task::RestoreForm(choice),
-        Task::Lift => Task::LiftFound(choice),
+        Task::Lift if words.get_flag(ABC) => Task::LiftFound(choice),
+        Task::Lift => Task::LiftForm(choice),
         Task::Obligation(..) => Task::Obligation(given_of(words), choice),
         Task::CheckProof(..) => Task::CheckProof(given_of(words), choice),
         task => task,

@@ -13,6 +13,7 @@ mod engines;
 mod explaining;
 mod explanations;
 mod files;
+mod form_lifting;
 mod form_restoring;
 mod judgements;
 mod lifting;

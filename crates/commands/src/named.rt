@@ -9,6 +9,7 @@ ghost use Rattle.commands.specs.Statuses.{Counts, ErrUntold, IfInput};
 use crate::answers::Answer;
 use crate::circuits::check_circuit;
 use crate::engine_lifting::lift_counterexample;
+use crate::form_lifting::lift_form_witness;
 use crate::lifting::lift_witness;
 use crate::models::check_model;
 use crate::orders::Named;
@@ -40,6 +41,9 @@ pub(crate) fn judge_by_name<A: Source, B: Source, O: Sink, E: Sink, W: Watch>(
         Named::Lift => lift_witness(alloc, true, first, second, out, err, watch),
         Named::LiftFound(choice) => {
             lift_counterexample(alloc, true, choice, first, second, out, err, watch)
+        }
+        Named::LiftForm(choice) => {
+            lift_form_witness(alloc, true, choice, first, second, out, err, watch)
         }
         Named::CheckProof(..) => unreachable!(),
     }

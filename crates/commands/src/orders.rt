@@ -26,6 +26,9 @@ pub enum Named {
     /// Lifts a counterexample in the form that ABC writes over the engine form of a model's circuit to a witness of the model,
     /// with names behind words; it claims the bad property at a position of the circuit, or the only one.
     LiftFound(Option<usize>),
+    /// Lifts a witness of the engine form of a model's circuit, with all bad properties or with the one at a position, to a
+    /// witness of the model, with names behind words.
+    LiftForm(Option<usize>),
     /// Judges a certificate, an invariant and a proof, of a bad property of what is given: of the one at a position, or of the
     /// only one.
     CheckProof(Given, Option<usize>),
@@ -69,6 +72,9 @@ pub enum Task {
     RestoreForm(Option<usize>),
     /// Lifts a counterexample in the form that ABC writes over the engine form of a model's circuit to a witness of the model.
     LiftFound(Option<usize>),
+    /// Lifts a witness of the engine form of a model's circuit, with all bad properties or with the one at a position, to a
+    /// witness of the model.
+    LiftForm(Option<usize>),
     /// Judges a witness over a model, and dumps its frames.
     Wave(Shown),
     /// Judges a witness, and says by name what the judgement is about.

@@ -12,6 +12,7 @@ use crate::certificates::{check_proof, write_obligation};
 use crate::circuits::{check_circuit, convert_circuit};
 use crate::engine_lifting::lift_counterexample;
 use crate::engines::{convert_for_engines, lower_for_engines};
+use crate::form_lifting::lift_form_witness;
 use crate::form_restoring::restore_witness;
 use crate::lifting::lift_witness;
 use crate::models::{check_model, lower_model, show, tell_cost};
@@ -200,6 +201,9 @@ fn obey_two<A: Source, B: Source, O: Sink, E: Sink, W: Watch>(
         Task::RestoreForm(choice) => restore_witness(alloc, choice, first, second, out, err),
         Task::LiftFound(choice) => {
             lift_counterexample(alloc, false, choice, first, second, out, err, watch)
+        }
+        Task::LiftForm(choice) => {
+            lift_form_witness(alloc, false, choice, first, second, out, err, watch)
         }
         Task::Wave(shown) => dump_witness(alloc, order, shown, first, second, out, err),
         Task::Named(named) => judge_by_name(alloc, named, first, second, out, err, watch),

@@ -1,0 +1,116 @@
+//! The command that lifts witnesses of engine forms.
+
+ghost use Rattle.std.specs.Prelude.{◌≡◌, ℕ, List, None, Option, IfOk, IfErr};
+ghost use Rattle.blast.specs.Lowering.{Lowers};
+ghost use Rattle.blast.specs.Refusal.{lowering_refusal};
+ghost use Rattle.engine.specs.EngineForm.{IsEngineFormOf};
+ghost use Rattle.commands.specs.declared.orders.Given.TheVariants as given_is;
+ghost use Rattle.commands.specs.Done.{IsFormLifted, IsModelOf, Judged};
+ghost use Rattle.commands.specs.Refusals.{IsNotForEngines};
+ghost use Rattle.commands.specs.Statuses.{Counts, IfInput, IsOfNoInput, ErrUntold};
+
+use crate::answers::Answer;
+use crate::models::read_model;
+use crate::refusals::Refusal;
+use crate::restoring::tell_restored;
+use crate::subjects::Subject;
+use aiger::Circuit;
+use base::{Sink, Source};
+use blast::{Watch, lower_watched};
+use btor2::Model;
+use engine::engine_form;
+use lift::lift_form;
+use std::alloc::Global;
+
+/// Lowers a model, lifts a witness of the engine form of its circuit to standard output, with names or without, and tells on
+/// standard error how that is judged, with names behind it what the judgement is about.
+pub(crate) fn lift_form_witness<A: Source, B: Source, O: Sink, E: Sink, W: Watch>(
+    alloc: Global,
+    named: bool,
+    choice: Option<usize>,
+    first: &mut A,
+    second: &mut B,
+    out: &mut O,
+    err: &mut E,
+    watch: &mut W,
+) -> Result<Answer, Refusal>
+    ensures done { IfOk result (Judged (IsFormLifted named choice (A.to_come first.old) (B.to_come second.old) (O.written out.old) (O.written out.new) (E.written err.old) (E.written err.new))) }
+    ensures refused { IfErr result (IfInput (IsNotForEngines given_is.Model choice (A.to_come first.old))) }
+    ensures unwritten { IfErr result (IfInput (λ _. out.new ≡ out.old)) }
+    ensures untold { ErrUntold result (err.new ≡ err.old) }
+    ensures counted { Counts result (A.failures first.old) (A.failures first.new) (B.failures second.old) (B.failures second.new) (O.failures out.old) (O.failures out.new) (E.failures err.old) (E.failures err.new) }
+{
+    let model = read_model(alloc, first)?;
+    lift_over_model(alloc, named, &model, choice, second, out, err, watch)
+}
+
+/// The same over a model that was read.
+fn lift_over_model<B: Source, O: Sink, E: Sink, W: Watch>(
+    alloc: Global,
+    named: bool,
+    model: &Model,
+    choice: Option<usize>,
+    second: &mut B,
+    out: &mut O,
+    err: &mut E,
+    watch: &mut W,
+) -> Result<Answer, Refusal>
+    ensures done { (known : Option (List ℕ)) → IsModelOf known model.now → IfOk result (Judged (IsFormLifted named choice known (B.to_come second.old) (O.written out.old) (O.written out.new) (E.written err.old) (E.written err.new))) }
+    ensures refused { (known : Option (List ℕ)) → IsModelOf known model.now → IfErr result (IfInput (IsNotForEngines given_is.Model choice known)) }
+    ensures unwritten { IfErr result (IfInput (λ _. out.new ≡ out.old)) }
+    ensures untold { ErrUntold result (err.new ≡ err.old) }
+    ensures counted { (f : ℕ) → Counts result f f (B.failures second.old) (B.failures second.new) (O.failures out.old) (O.failures out.new) (E.failures err.old) (E.failures err.new) }
+{
+    // a model's items are well-formed
+    let _ = model.items();
+    let circuit = lower_watched(alloc, model, watch)?;
+    lift_over_circuit(alloc, named, model, &circuit, choice, second, out, err)
+}
+
+/// The same over a model that was lowered.
+fn lift_over_circuit<B: Source, O: Sink, E: Sink>(
+    alloc: Global,
+    named: bool,
+    model: &Model,
+    circuit: &Circuit,
+    choice: Option<usize>,
+    second: &mut B,
+    out: &mut O,
+    err: &mut E,
+) -> Result<Answer, Refusal>
+    requires accepted { lowering_refusal model.now ≡ None }
+    requires lowers { Lowers model.now circuit.now }
+    ensures done { (known : Option (List ℕ)) → IsModelOf known model.now → IfOk result (Judged (IsFormLifted named choice known (B.to_come second.old) (O.written out.old) (O.written out.new) (E.written err.old) (E.written err.new))) }
+    ensures refused { (known : Option (List ℕ)) → IsModelOf known model.now → IfErr result (IfInput (IsNotForEngines given_is.Model choice known)) }
+    ensures unwritten { IfErr result (IfInput (λ _. out.new ≡ out.old)) }
+    ensures untold { ErrUntold result (err.new ≡ err.old) }
+    ensures counted { (f : ℕ) → Counts result f f (B.failures second.old) (B.failures second.new) (O.failures out.old) (O.failures out.new) (E.failures err.old) (E.failures err.new) }
+{
+    let form = engine_form(alloc, circuit, choice)?;
+    lift_through_form(
+        alloc, named, model, circuit, &form, choice, second, out, err,
+    )
+}
+
+/// The same over a circuit and its engine form.
+fn lift_through_form<B: Source, O: Sink, E: Sink>(
+    alloc: Global,
+    named: bool,
+    model: &Model,
+    circuit: &Circuit,
+    form: &Circuit,
+    choice: Option<usize>,
+    second: &mut B,
+    out: &mut O,
+    err: &mut E,
+) -> Result<Answer, Refusal>
+    requires lowers { Lowers model.now circuit.now }
+    requires is_form { IsEngineFormOf circuit.now choice form.now }
+    ensures done { (known : Option (List ℕ)) → IsModelOf known model.now → IfOk result (Judged (IsFormLifted named choice known (B.to_come second.old) (O.written out.old) (O.written out.new) (E.written err.old) (E.written err.new))) }
+    ensures no_input { IsOfNoInput result }
+    ensures untold { ErrUntold result (err.new ≡ err.old) }
+    ensures counted { (f : ℕ) → Counts result f f (B.failures second.old) (B.failures second.new) (O.failures out.old) (O.failures out.new) (E.failures err.old) (E.failures err.new) }
+{
+    let told = lift_form(alloc, model, circuit, form, choice, named, second, out);
+    tell_restored(alloc, told, named, Subject::Lowered(model, circuit), err)
+}
