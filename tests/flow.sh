@@ -69,6 +69,8 @@ found() {
     hwtool check-aig form.aig form.bits >again || tell "$2, b$4, $1: the form's witness: $(cat again)"
     hwtool restore --bad "$4" "$3" form.bits >bits-of-form 2>told || tell "$2, b$4, $1: restored from the form's witness: $(cat told)"
     cmp -s bits bits-of-form || tell "$2, b$4, $1: restored from the form's witness to another one"
+    hwtool lift --engine --bad "$4" "$2" form.bits >direct 2>told || tell "$2, b$4, $1: the form's witness lifted at once: $(cat told)"
+    cmp -s words direct || tell "$2, b$4, $1: the form's witness lifted at once to another one"
     hwtool check-btor "$2" words >again
     grep -q '^accepted' again || tell "$2, b$4, $1: not accepted"
     opens "$2" words
