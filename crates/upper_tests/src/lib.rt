@@ -13,6 +13,8 @@ mod no_memory_left;
 #[cfg(test)]
 mod progress;
 #[cfg(test)]
+mod restoring;
+#[cfg(test)]
 mod sizes;
 #[cfg(test)]
 mod stops;
