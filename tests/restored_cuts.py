@@ -27,7 +27,8 @@ class Circuit:
         lines = text.split("\n")
         counts = [int(it) for it in lines[0].split()[1:]]
         counts += [0] * (9 - len(counts))
-        _, self.inputs, latches, outputs, gates, bads, constraints, _, _ = counts
+        _, self.inputs, latches, outputs, gates, bads, constraints, justice, fair = counts
+        self.has_form = not justice and not fair
         at = 1 + self.inputs
         self.own = [int(it) for it in lines[1:at]]
         self.latches = [[int(it) for it in line.split()] for line in lines[at : at + latches]]
@@ -163,7 +164,7 @@ def main():
             if lowered[0] or not lowered[1].startswith(b"aag"):
                 continue
             circuit = Circuit(lowered[1].decode("latin-1"))
-            if (choice or 0) >= len(circuit.bads) or choice is None and "--abc" in words and len(circuit.bads) != 1:
+            if not circuit.has_form or (choice or 0) >= len(circuit.bads) or choice is None and "--abc" in words and len(circuit.bads) != 1:
                 continue
             text = second.encode("latin-1")
             for count in range(len(text)):
