@@ -1,5 +1,9 @@
 //! Models, circuits and witnesses that several tests speak of, and a sink that takes no memory.
 use base::{DeviceFault, Sink};
+use btor2::Model;
+use btor2text::read;
+use std::alloc::Global;
+use std::test::Fail;
 
 /// A bit that begins with 0 and toggles, and is bad.
 pub const TOGGLER: &str =
@@ -33,6 +37,11 @@ pub const KEEPS: &str = "aag 2 0 2 0 0 1\n2 2 2\n4 4 4\n4\nl0 s[0]\nl1 s[1]\n";
 
 /// Two inputs, their gate and an output, in the binary form.
 pub const GATE: &[u8] = b"aig 3 2 0 1 1\n6\n\x02\x02";
+
+/// The model of a text.
+pub fn model_of(alloc: Global, text: &str) -> Result<Model, Fail> {
+    Ok(read(alloc, &mut text.as_bytes())?)
+}
 
 /// A sink that takes no memory: it compares what it is given with a text.
 #[derive(Drop)]

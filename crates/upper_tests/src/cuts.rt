@@ -1,8 +1,8 @@
 //! Witnesses that are fed to a judge in two pieces, cut at each place, and byte by byte. Among them are texts with long lines,
 //! of 341, 342 and 343 bytes, since a judge of models' witnesses keeps the first 342 bytes of a line that is cut.
-use crate::models::model_of;
 use aiger::Circuit;
 use btor2::Model;
+use library_tests::samples::model_of;
 use std::alloc::{AllocError, Global};
 use std::test::Fail;
 use witness::{BitJudge, Judgement, Why, WordJudge};

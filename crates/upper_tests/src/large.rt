@@ -2,11 +2,10 @@
 //! memory that is told where none is wanting shows at size alone.
 ghost use Rattle.std.specs.Prelude.{◌≤◌};
 
-use crate::models::model_of;
 use aigertext::Form;
 use blast::{convert, lower};
 use btor2::Model;
-use library_tests::samples::Comparing;
+use library_tests::samples::{Comparing, model_of};
 use lift::lift;
 use std::alloc::Global;
 use std::test::Fail;

@@ -2,14 +2,13 @@
 //! later one is; what a test stands on may be refused first, which ends it with that error. What takes no memory answers as
 //! ever, and what takes some tells that none was there, and has read and written nothing then. That there is an answer with
 //! ample memory is shown elsewhere. `tests/refused_memory.py` refuses the allocations.
-use crate::models::model_of;
 use aiger::Circuit;
 use aigertext::{Form, Why, read, write};
 use base::VecSink;
 use blast::{ConvertFault, LowerFault, convert, lower};
 use btor2::Model;
 use library_tests::samples::{
-    BOUNDED, COUNTER, Comparing, FOLLOWER, GATE, KEEPER, KEEPS, TOGGLER, TOGGLES,
+    BOUNDED, COUNTER, Comparing, FOLLOWER, GATE, KEEPER, KEEPS, TOGGLER, TOGGLES, model_of,
 };
 use lift::{LiftFault, lift};
 use runs::NewFault;

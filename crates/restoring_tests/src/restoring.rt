@@ -3,13 +3,13 @@
 //! and the calls of `restore` that no row reaches by text, each once.
 ghost use Rattle.std.specs.Prelude.{◌≤◌};
 
-use crate::models::model_of;
 use aiger::Circuit;
 use aigertext::read;
 use base::{Chop, FailAt, Sink, Source, VecSink};
 use blast::lower;
 use btor2::Model;
 use engine::engine_form;
+use library_tests::samples::model_of;
 use lift::{lift_form, lift_restored};
 use restore::{
     FrameReader, RestoreFault, RestoreWhy, Restorer, restore, restore_form, take_form,

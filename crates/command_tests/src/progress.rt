@@ -1,9 +1,8 @@
 //! How far long work is told to be, by a clock that goes on at each look and on a terminal that keeps what it is sent.
-use crate::models::model_of;
 use base::{Source, VecSink, write_all};
 use blast::{Watch, lower_watched};
 use commands::{Counted, Progress, Watched, Work};
-use library_tests::samples::COUNTER;
+use library_tests::samples::{COUNTER, model_of};
 use std::alloc::Global;
 use std::cell::Cell;
 use std::io::{self, Write};
