@@ -4,8 +4,8 @@ tests on refused memory, and tells each run whose answer is neither the undistur
 
     refused_memory.py [PROGRAM [TESTS ..]]
 
-PROGRAM is crates/hwtool/out/hwtool where none is given, which `rt run` builds, and TESTS are those of the crates
-NAME_tests, which `rt test` builds in their out/. It takes a C compiler, cc. The status is 0 where all is as it should be,
+PROGRAM is crates/hwtool/out/hwtool where none is given, which `rt run` builds, and TESTS are those of library_tests and
+upper_tests, which `rt test` builds in their out/. It takes a C compiler, cc. The status is 0 where all is as it should be,
 else 1.
 """
 
@@ -16,7 +16,7 @@ import tempfile
 
 TOP = os.path.dirname(os.path.dirname(os.path.realpath(__file__)))
 PROGRAM = f"{TOP}/crates/hwtool/out/hwtool"
-TESTS = [f"{TOP}/crates/{name}/out/{name}_tests" for name in ("library_tests", "upper_tests", "restoring_tests", "command_tests")]
+TESTS = [f"{TOP}/crates/{name}/out/{name}_tests" for name in ("library_tests", "upper_tests")]
 NO_MEMORY = b"no memory\n"
 
 # The files that commands are run on.

@@ -1,8 +1,8 @@
 //! Models that are too big to be lowered, and the command that tells so.
 use base::VecSink;
 use blast::{LowerFault, Unwatched, bound, cost, lower};
-use btor2text::read;
 use commands::{NoFile, order, run};
+use library_tests::samples::model_of;
 use std::alloc::Global;
 use std::test::Fail;
 
@@ -21,13 +21,11 @@ fn products(alloc: Global, count: u64, last: &str) -> Result<String, Fail> {
     Ok(text)
 }
 
-/// What a text is refused for, its bound and its cost.
-fn refusal(alloc: Global, text: &str) -> Result<(Option<LowerFault>, u64, u64), Fail> {
-    let mut source = text.as_bytes();
-    match read(alloc, &mut source) {
-        Ok(model) => Ok((lower(alloc, &model).err(), bound(&model), cost(&model))),
-        Err(_) => Err("a model")?,
-    }
+/// What such a text is refused for, its bound and its cost.
+fn refusal(alloc: Global, count: u64, last: &str) -> Result<(Option<LowerFault>, u64, u64), Fail> {
+    let text = products(alloc, count, last)?;
+    let model = model_of(alloc, text.as_str())?;
+    Ok((lower(alloc, &model).err(), bound(&model), cost(&model)))
 }
 
 /// Numbers of these tests and a last line, what it is refused for, its bound and its cost. Each of these tests has the
@@ -53,9 +51,10 @@ const TOO_BIG: [(u64, &str, LowerFault, u64, u64); 3] = [
 #[test]
 fn models_that_are_too_big(rt: HostRuntime) -> Result<(), Fail> {
     for (count, last, fault, bound, cost) in &TOO_BIG {
-        let text = products(rt.alloc(), *count, last)?;
-        let refused = refusal(rt.alloc(), text.as_str())?;
-        assert!(rt; refused == (Some(*fault), *bound, *cost), "{count} {last}");
+        let refused = refusal(rt.alloc(), *count, last)?;
+        if refused != (Some(*fault), *bound, *cost) {
+            Err(refused)?;
+        }
     }
     Ok(())
 }

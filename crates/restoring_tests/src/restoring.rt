@@ -176,10 +176,14 @@ fn is_accepted<S: Source>(
     }
 }
 
-/// Whether a model's circuit has more than 4,096 latches and as many gates.
-fn is_wide(alloc: Global, model: &Model) -> Result<bool, Fail> {
+/// Fails where a model's circuit does not have more than 4,096 latches and as many gates.
+fn expect_wide(alloc: Global, model: &Model) -> Result<(), Fail> {
     let circuit = lower(alloc, model)?;
-    Ok(circuit.latches().len() > 4096 && circuit.gates().len() > 4096)
+    let is_wide = circuit.latches().len() > 4096 && circuit.gates().len() > 4096;
+    if !is_wide {
+        Err("more latches and gates")?;
+    }
+    Ok(())
 }
 
 /// Whether a call accepts a text that comes in pieces, of which so many frames are up to the first that is bad and two are
@@ -196,24 +200,33 @@ fn is_accepted_in_pieces(
     is_accepted(alloc, way, model, &mut source, frames)
 }
 
-#[test]
-fn a_hundred_frames_of_a_wide_circuit(rt: HostRuntime) -> Result<(), Fail> {
-    let model = counter(rt.alloc(), 99, 66)?;
-    let is_wide = is_wide(rt.alloc(), &model)?;
-    assert!(rt; is_wide);
-    for way in &WAYS {
-        let is_accepted = is_accepted_in_pieces(rt.alloc(), *way, &model, 1000, 100)?;
-        assert!(rt; is_accepted, "{way:?}");
+/// Fails where some call does not accept such a text.
+fn expect_accepted(alloc: Global, model: &Model, size: usize, frames: u64) -> Result<(), Fail> {
+    for way in WAYS {
+        if !is_accepted_in_pieces(alloc, way, model, size, frames)? {
+            Err((way, size))?;
+        }
     }
     Ok(())
 }
 
 #[test]
+fn a_hundred_frames_of_a_wide_circuit(rt: HostRuntime) -> Result<(), Fail> {
+    let model = counter(rt.alloc(), 99, 66)?;
+    expect_wide(rt.alloc(), &model)?;
+    expect_accepted(rt.alloc(), &model, 1000, 100)
+}
+
+#[test]
 fn ten_thousand_frames(rt: HostRuntime) -> Result<(), Fail> {
     let model = counter(rt.alloc(), 9999, 1)?;
-    for way in &WAYS {
-        let is_accepted = is_accepted_in_pieces(rt.alloc(), *way, &model, 1000, 10_000)?;
-        assert!(rt; is_accepted, "{way:?}");
+    expect_accepted(rt.alloc(), &model, 1000, 10_000)
+}
+
+/// Fails where a text of a hundred frames is not accepted in pieces of some size.
+fn expect_accepted_in_sizes(alloc: Global, model: &Model) -> Result<(), Fail> {
+    for size in [1, 2, 7, 4096] {
+        expect_accepted(alloc, model, size, 100)?;
     }
     Ok(())
 }
@@ -221,13 +234,7 @@ fn ten_thousand_frames(rt: HostRuntime) -> Result<(), Fail> {
 #[test]
 fn texts_in_pieces(rt: HostRuntime) -> Result<(), Fail> {
     let model = counter(rt.alloc(), 99, 1)?;
-    for way in &WAYS {
-        for size in [1, 2, 7, 4096] {
-            let is_accepted = is_accepted_in_pieces(rt.alloc(), *way, &model, size, 100)?;
-            assert!(rt; is_accepted, "{way:?} {size}");
-        }
-    }
-    Ok(())
+    expect_accepted_in_sizes(rt.alloc(), &model)
 }
 
 /// What is told of a text that ABC writes: what is judged, or the faulty line and why.
@@ -275,16 +282,28 @@ fn is_told_cut(
     })
 }
 
-#[test]
-fn texts_that_are_cut(rt: HostRuntime) -> Result<(), Fail> {
-    let model = counter(rt.alloc(), 99, 1)?;
-    for way in &WAYS {
-        for (frames, end, wanted) in &CUTS {
-            let is_told = is_told_cut(rt.alloc(), *way, &model, *frames, end, wanted)?;
-            assert!(rt; is_told, "{way:?} {frames}");
+/// Fails where a call tells another thing of some cut text.
+fn expect_cuts(alloc: Global, way: Way, model: &Model) -> Result<(), Fail> {
+    for (frames, end, wanted) in &CUTS {
+        if !is_told_cut(alloc, way, model, *frames, end, wanted)? {
+            Err((way, *frames))?;
         }
     }
     Ok(())
+}
+
+/// Fails where some call does.
+fn expect_all_cuts(alloc: Global, model: &Model) -> Result<(), Fail> {
+    for way in WAYS {
+        expect_cuts(alloc, way, model)?;
+    }
+    Ok(())
+}
+
+#[test]
+fn texts_that_are_cut(rt: HostRuntime) -> Result<(), Fail> {
+    let model = counter(rt.alloc(), 99, 1)?;
+    expect_all_cuts(rt.alloc(), &model)
 }
 
 /// Whether it is told that a source has failed, where one that gives a text of 102 frames in four pieces fails at a call.
@@ -296,16 +315,22 @@ fn is_told_failed(alloc: Global, way: Way, model: &Model, call: u64) -> Result<b
     Ok(is_same(&told, &Err((0, RestoreWhy::Device))))
 }
 
-#[test]
-fn sources_that_fail(rt: HostRuntime) -> Result<(), Fail> {
-    let model = counter(rt.alloc(), 99, 1)?;
-    for way in &WAYS {
+/// Fails where some call does not tell so of a source that fails at one of its five calls.
+fn expect_failures(alloc: Global, model: &Model) -> Result<(), Fail> {
+    for way in WAYS {
         for call in 0..5 {
-            let is_told = is_told_failed(rt.alloc(), *way, &model, call)?;
-            assert!(rt; is_told, "{way:?} {call}");
+            if !is_told_failed(alloc, way, model, call)? {
+                Err((way, call))?;
+            }
         }
     }
     Ok(())
+}
+
+#[test]
+fn sources_that_fail(rt: HostRuntime) -> Result<(), Fail> {
+    let model = counter(rt.alloc(), 99, 1)?;
+    expect_failures(rt.alloc(), &model)
 }
 
 /// A latch without an initial value that keeps its bit, and is bad where that is 1.
@@ -384,13 +409,20 @@ fn is_witness_taken(alloc: Global, circuit: &Circuit) -> Result<bool, Fail> {
     }
 }
 
+/// Fails where one of these is not so.
+fn expect_takers(alloc: Global, circuit: &Circuit) -> Result<(), Fail> {
+    let are_read = are_frames_read(alloc)?;
+    let are_made = are_pieces_made(alloc, circuit)?;
+    let are_taken = are_pieces_taken(alloc, circuit)?;
+    let is_taken = is_witness_taken(alloc, circuit)?;
+    if !(are_read && are_made && are_taken && is_taken) {
+        Err((are_read, are_made, are_taken, is_taken))?;
+    }
+    Ok(())
+}
+
 #[test]
 fn frames_pieces_and_takers(rt: HostRuntime) -> Result<(), Fail> {
     let circuit = read(rt.alloc(), &mut KEEPER.as_bytes())?;
-    let are_read = are_frames_read(rt.alloc())?;
-    let are_made = are_pieces_made(rt.alloc(), &circuit)?;
-    let are_taken = are_pieces_taken(rt.alloc(), &circuit)?;
-    let is_taken = is_witness_taken(rt.alloc(), &circuit)?;
-    assert!(rt; are_read && are_made && are_taken && is_taken);
-    Ok(())
+    expect_takers(rt.alloc(), &circuit)
 }

@@ -123,17 +123,28 @@ fn wanted_of(row: &Long) -> Judgement {
     }
 }
 
-#[test]
-fn long_lines_in_two_pieces(rt: HostRuntime) -> Result<(), Fail> {
-    let model = model_of(rt.alloc(), WIDE)?;
+/// Whether the text of a row with so many bytes more is judged as it should be.
+fn is_long_judged(alloc: Global, model: &Model, row: &Long, more: usize) -> Result<bool, Fail> {
+    let text = long_text(alloc, row, more)?;
+    Ok(is_judged(alloc, model, text.as_slice(), &wanted_of(row)))
+}
+
+/// Fails where the text of a row is not, with a long line of 341, 342 or 343 bytes.
+fn expect_long(alloc: Global, model: &Model) -> Result<(), Fail> {
     for row in &OF_WIDE {
         for more in 0..3 {
-            let text = long_text(rt.alloc(), row, more)?;
-            let is_judged = is_judged(rt.alloc(), &model, text.as_slice(), &wanted_of(row));
-            assert!(rt; is_judged, "{} {more}", row.0);
+            if !is_long_judged(alloc, model, row, more)? {
+                Err((row.0, more))?;
+            }
         }
     }
     Ok(())
+}
+
+#[test]
+fn long_lines_in_two_pieces(rt: HostRuntime) -> Result<(), Fail> {
+    let model = model_of(rt.alloc(), WIDE)?;
+    expect_long(rt.alloc(), &model)
 }
 
 /// An input of two bits that may not be 1, a free state, and one that begins with 0 and follows it: bad where the second is 1
@@ -187,24 +198,31 @@ const NONE_OF_FOLLOWS: [Faulty; 13] = [
     ("sat\nb0\n@0\n.", 4, Why::Truncated),
 ];
 
-#[test]
-fn witnesses_of_models_in_two_pieces(rt: HostRuntime) -> Result<(), Fail> {
-    let model = model_of(rt.alloc(), FOLLOWS)?;
+/// Fails where one of these texts is not judged so.
+fn expect_judged(alloc: Global, model: &Model) -> Result<(), Fail> {
     for (text, wanted) in &OF_FOLLOWS {
-        assert!(rt;
-            is_judged(rt.alloc(), &model, text.as_bytes(), wanted),
-            "{text}"
-        );
+        if !is_judged(alloc, model, text.as_bytes(), wanted) {
+            Err(*text)?;
+        }
     }
     for (text, line, why) in &NONE_OF_FOLLOWS {
         let (line, why) = (*line, *why);
-        let wanted = Judgement::Malformed { line, why };
-        assert!(rt;
-            is_judged(rt.alloc(), &model, text.as_bytes(), &wanted),
-            "{text}"
-        );
+        if !is_judged(
+            alloc,
+            model,
+            text.as_bytes(),
+            &Judgement::Malformed { line, why },
+        ) {
+            Err(*text)?;
+        }
     }
     Ok(())
+}
+
+#[test]
+fn witnesses_of_models_in_two_pieces(rt: HostRuntime) -> Result<(), Fail> {
+    let model = model_of(rt.alloc(), FOLLOWS)?;
+    expect_judged(rt.alloc(), &model)
 }
 
 /// An input, a latch that has its bit a frame later, and the gate of both, which is bad.
@@ -278,23 +296,30 @@ fn are_bits_judged(alloc: Global, circuit: &Circuit, text: &[u8], wanted: &Judge
     are_bits_judged_by_bytes(alloc, circuit, text, wanted)
 }
 
+/// Fails where one of these texts is not judged so.
+fn expect_bits_judged(alloc: Global, circuit: &Circuit) -> Result<(), Fail> {
+    for (text, wanted) in &OF_TWICE {
+        if !are_bits_judged(alloc, circuit, text.as_bytes(), wanted) {
+            Err(*text)?;
+        }
+    }
+    for (text, line, why) in &NONE_OF_TWICE {
+        let (line, why) = (*line, *why);
+        if !are_bits_judged(
+            alloc,
+            circuit,
+            text.as_bytes(),
+            &Judgement::Malformed { line, why },
+        ) {
+            Err(*text)?;
+        }
+    }
+    Ok(())
+}
+
 #[test]
 fn witnesses_of_circuits_in_two_pieces(rt: HostRuntime) -> Result<(), Fail> {
     let mut source = TWICE;
     let circuit = aigertext::read(rt.alloc(), &mut source)?;
-    for (text, wanted) in &OF_TWICE {
-        assert!(rt;
-            are_bits_judged(rt.alloc(), &circuit, text.as_bytes(), wanted),
-            "{text}"
-        );
-    }
-    for (text, line, why) in &NONE_OF_TWICE {
-        let (line, why) = (*line, *why);
-        let wanted = Judgement::Malformed { line, why };
-        assert!(rt;
-            are_bits_judged(rt.alloc(), &circuit, text.as_bytes(), &wanted),
-            "{text}"
-        );
-    }
-    Ok(())
+    expect_bits_judged(rt.alloc(), &circuit)
 }

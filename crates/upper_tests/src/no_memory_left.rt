@@ -186,15 +186,20 @@ fn judges_words(
     }
 }
 
+/// Whether each of these witnesses is judged so.
+fn are_judged(alloc: Global, model: &Model) -> bool {
+    for (text, wanted, counts) in &COUNTED {
+        if !judges_words(alloc, model, text.as_bytes(), wanted, *counts) {
+            return false;
+        }
+    }
+    true
+}
+
 #[test]
 fn witnesses_of_models_are_judged(rt: HostRuntime) -> Result<(), Fail> {
     let model = model_of(rt.alloc(), COUNTER)?;
-    for (text, wanted, counts) in &COUNTED {
-        assert!(rt;
-            judges_words(rt.alloc(), &model, text.as_bytes(), wanted, *counts),
-            "{text}"
-        );
-    }
+    assert!(rt; are_judged(rt.alloc(), &model));
     Ok(())
 }
 
@@ -250,20 +255,21 @@ fn is_lifted(alloc: Global, model: &Model, witness: &[u8], lifted: &[u8], frames
     }
 }
 
+/// Whether each of these witnesses is lifted so.
+fn are_lifted(alloc: Global) -> Result<bool, Fail> {
+    for (model, witness, lifted, frames) in &LIFTED {
+        let model = model_of(alloc, model)?;
+        let (witness, lifted) = (witness.as_bytes(), lifted.as_bytes());
+        if !is_lifted(alloc, &model, witness, lifted, *frames) {
+            return Ok(false);
+        }
+    }
+    Ok(true)
+}
+
 #[test]
 fn witnesses_are_lifted(rt: HostRuntime) -> Result<(), Fail> {
-    for (model, witness, lifted, frames) in &LIFTED {
-        let model = model_of(rt.alloc(), model)?;
-        assert!(rt;
-            is_lifted(
-                rt.alloc(),
-                &model,
-                witness.as_bytes(),
-                lifted.as_bytes(),
-                *frames
-            ),
-            "{witness}"
-        );
-    }
+    let are_lifted = are_lifted(rt.alloc())?;
+    assert!(rt; are_lifted);
     Ok(())
 }

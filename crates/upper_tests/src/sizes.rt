@@ -23,18 +23,18 @@ const LONG: [(&str, u64, &str, u64); 2] = [
     (DELAYED, 34999, "0 100\n", 70001),
 ];
 
+/// What is judged of a witness over a model.
+fn judged(alloc: Global, model: &str, witness: &str) -> Result<Judgement, Fail> {
+    let model = model_of(alloc, model)?;
+    Ok(judge_words(alloc, &model, &mut witness.as_bytes())?)
+}
+
 /// Whether a witness is told as cut in its last line without its last byte, and accepted with it.
-fn is_long(
-    alloc: Global,
-    model: &Model,
-    frames: u64,
-    lines: &str,
-    line: u64,
-) -> Result<bool, Fail> {
+fn is_long(alloc: Global, model: &str, frames: u64, lines: &str, line: u64) -> Result<bool, Fail> {
     let mut text = cut_witness(alloc, frames, lines)?;
-    let cut = judge_words(alloc, model, &mut text.as_bytes())?;
+    let cut = judged(alloc, model, text.as_str())?;
     text.push('\n')?;
-    let whole = judge_words(alloc, model, &mut text.as_bytes())?;
+    let whole = judged(alloc, model, text.as_str())?;
     let why = Why::Truncated;
     Ok(cut == Judgement::Malformed { line, why } && whole == Judgement::Accepted { frames })
 }
@@ -42,9 +42,9 @@ fn is_long(
 #[test]
 fn seventy_thousand_lines(rt: HostRuntime) -> Result<(), Fail> {
     for (model, frames, lines, line) in &LONG {
-        let model = model_of(rt.alloc(), model)?;
-        let is_long = is_long(rt.alloc(), &model, *frames, lines, *line)?;
-        assert!(rt; is_long, "{line}");
+        if !is_long(rt.alloc(), model, *frames, lines, *line)? {
+            Err(*line)?;
+        }
     }
     Ok(())
 }
@@ -73,14 +73,20 @@ fn has_fault(alloc: Global, model: &Model, row: &Great) -> Result<bool, Fail> {
     Ok(judge.finish() == Judgement::Malformed { line, why })
 }
 
+/// Fails where one of them has not.
+fn expect_faults(alloc: Global, model: &Model) -> Result<(), Fail> {
+    for row in &GREAT {
+        if !has_fault(alloc, model, row)? {
+            Err(row.0)?;
+        }
+    }
+    Ok(())
+}
+
 #[test]
 fn a_million_digits(rt: HostRuntime) -> Result<(), Fail> {
     let model = model_of(rt.alloc(), DELAYED)?;
-    for row in &GREAT {
-        let has_fault = has_fault(rt.alloc(), &model, row)?;
-        assert!(rt; has_fault, "{}", row.0);
-    }
-    Ok(())
+    expect_faults(rt.alloc(), &model)
 }
 
 /// A text of so many frames without inputs.
@@ -111,15 +117,20 @@ fn counted(
     Ok((held, steps, frames, lines, judge.finish()))
 }
 
+/// Fails where a judge that is fed a text of so many such frames in pieces of so many bytes counts or judges otherwise.
+fn expect_counted(alloc: Global, circuit: &Circuit, size: usize) -> Result<(), Fail> {
+    let text = empty_frames(alloc, 200_000)?;
+    let frames = 200_000;
+    let given = counted(alloc, circuit, text.as_slice(), size)?;
+    if given != (3, 200_000, 200_000, 200_004, Judgement::Accepted { frames }) {
+        Err(given)?;
+    }
+    Ok(())
+}
+
 #[test]
 fn two_hundred_thousand_frames(rt: HostRuntime) -> Result<(), Fail> {
     let circuit = aigertext::read(rt.alloc(), &mut TOGGLES.as_bytes())?;
-    let text = empty_frames(rt.alloc(), 200_000)?;
-    let frames = 200_000;
-    let wanted = (3, 200_000, 200_000, 200_004, Judgement::Accepted { frames });
-    for size in [1, 4096] {
-        let given = counted(rt.alloc(), &circuit, text.as_slice(), size)?;
-        assert!(rt; given == wanted, "{size}");
-    }
-    Ok(())
+    expect_counted(rt.alloc(), &circuit, 1)?;
+    expect_counted(rt.alloc(), &circuit, 4096)
 }
