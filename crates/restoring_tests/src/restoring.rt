@@ -1,7 +1,9 @@
 //! The way back from engines at size, with ample memory: counterexamples over engine forms of circuits, of ten thousand frames
 //! and over one with more than 4,096 latches and gates, restored to witnesses of the circuit and lifted to those of its model;
 //! and the calls of `restore` that no row reaches by text, each once.
-ghost use Rattle.std.specs.Prelude.{◌≤◌};
+ghost use Rattle.std.specs.Prelude.{◌≤◌, None};
+ghost use Rattle.blast.specs.Lowering.{Lowers};
+ghost use Rattle.engine.specs.EngineForm.{IsEngineFormOf};
 
 use aiger::Circuit;
 use aigertext::read;
@@ -37,8 +39,24 @@ const COUNTER: &str = "6 input 1
 19 constraint 18
 ";
 
-/// The model, which is bad first where its counter is so much; it has so many words of 64 ones, of which each takes the and
-/// of itself and the one before.
+/// Adds the lines of a word of 64 ones, which takes the and of itself and the one before.
+fn push_word(alloc: Global, text: &mut String, k: u64) -> Result<(), Fail>
+    requires { k ≤ 70 }
+{
+    let word = 4 * k + 20;
+    let before = if k == 0 { 4 } else { word - 4 };
+    let lines = format!(in alloc;
+        "{word} state 3\n{} init 3 {word} 4\n{} and 3 {word} {before}\n{} next 3 {word} {}\n",
+        word + 1,
+        word + 2,
+        word + 3,
+        word + 2
+    )?;
+    text.push_str(lines.as_str())?;
+    Ok(())
+}
+
+/// The model, which is bad first where its counter is so much; it has so many words.
 fn counter(alloc: Global, last: u64, words: u64) -> Result<Model, Fail>
     requires { words ≤ 70 }
 {
@@ -46,16 +64,7 @@ fn counter(alloc: Global, last: u64, words: u64) -> Result<Model, Fail>
         "1 sort bitvec 1\n2 sort bitvec 14\n3 sort bitvec 64\n4 ones 3\n5 constd 2 {last}\n{COUNTER}"
     )?;
     for k in 0..words {
-        let word = 4 * k + 20;
-        let before = if k == 0 { 4 } else { word - 4 };
-        let lines = format!(in alloc;
-            "{word} state 3\n{} init 3 {word} 4\n{} and 3 {word} {before}\n{} next 3 {word} {}\n",
-            word + 1,
-            word + 2,
-            word + 3,
-            word + 2
-        )?;
-        text.push_str(lines.as_str())?;
+        push_word(alloc, &mut text, k)?;
     }
     model_of(alloc, text.as_str())
 }
@@ -93,6 +102,12 @@ impl Way {
     }
 }
 
+/// How many latches the engine form of a circuit has.
+fn form_latches(alloc: Global, circuit: &Circuit) -> Result<usize, Fail> {
+    let form = engine_form(alloc, circuit, None)?;
+    Ok(form.latches().len())
+}
+
 /// What stands before the frames in the text of a counterexample over the engine form of a model's circuit: what ABC writes
 /// has a line of zeros, of whatever number, and a witness its status, its claim and as many zeros as the form has latches.
 fn beginning(alloc: Global, way: Way, model: &Model) -> Result<Vec<u8>, Fail> {
@@ -100,9 +115,13 @@ fn beginning(alloc: Global, way: Way, model: &Model) -> Result<Vec<u8>, Fail> {
         return Ok(Vec::from_slice(alloc, b"000\n")?);
     }
     let circuit = lower(alloc, model)?;
-    let form = engine_form(alloc, &circuit, None)?;
+    beginning_of_witness(alloc, form_latches(alloc, &circuit)?)
+}
+
+/// The same of a witness over a form of so many latches.
+fn beginning_of_witness(alloc: Global, latches: usize) -> Result<Vec<u8>, Fail> {
     let mut text = Vec::from_slice(alloc, b"1\nb0\n")?;
-    for _ in form.latches() {
+    for _ in 0..latches {
         text.push(b'0')?;
     }
     text.push(b'\n')?;
@@ -135,15 +154,45 @@ fn told<S: Source, K: Sink>(
     sink: &mut K,
 ) -> Result<Result<Judgement, RestoreFault>, Fail> {
     let circuit = lower(alloc, model)?;
-    let form = engine_form(alloc, &circuit, None)?;
+    told_over(alloc, way, model, &circuit, source, sink)
+}
+
+/// The same over the model's circuit.
+fn told_over<S: Source, K: Sink>(
+    alloc: Global,
+    way: Way,
+    model: &Model,
+    circuit: &Circuit,
+    source: &mut S,
+    sink: &mut K,
+) -> Result<Result<Judgement, RestoreFault>, Fail>
+    requires lowers { Lowers model.now circuit.now }
+{
+    let form = engine_form(alloc, circuit, None)?;
+    told_with(alloc, way, model, circuit, &form, source, sink)
+}
+
+/// The same over the circuit and its engine form.
+fn told_with<S: Source, K: Sink>(
+    alloc: Global,
+    way: Way,
+    model: &Model,
+    circuit: &Circuit,
+    form: &Circuit,
+    source: &mut S,
+    sink: &mut K,
+) -> Result<Result<Judgement, RestoreFault>, Fail>
+    requires lowers { Lowers model.now circuit.now }
+    requires is_form { IsEngineFormOf circuit.now None form.now }
+{
     if circuit.bads().is_empty() {
         Err("a bad property")?;
     }
     Ok(match way {
-        Way::Restore => restore(alloc, &circuit, 0, source, sink),
-        Way::RestoreForm => restore_form(alloc, &circuit, &form, None, source, sink),
-        Way::Lift => lift_restored(alloc, model, &circuit, 0, true, source, sink),
-        Way::LiftForm => lift_form(alloc, model, &circuit, &form, None, true, source, sink),
+        Way::Restore => restore(alloc, circuit, 0, source, sink),
+        Way::RestoreForm => restore_form(alloc, circuit, form, None, source, sink),
+        Way::Lift => lift_restored(alloc, model, circuit, 0, true, source, sink),
+        Way::LiftForm => lift_form(alloc, model, circuit, form, None, true, source, sink),
     })
 }
 
@@ -388,13 +437,20 @@ fn are_pieces_taken(alloc: Global, circuit: &Circuit) -> Result<bool, Fail> {
 /// with two frames, and over the circuit with one.
 fn is_witness_taken(alloc: Global, circuit: &Circuit) -> Result<bool, Fail> {
     let form = engine_form(alloc, circuit, None)?;
+    is_taken_over(alloc, circuit, &form)
+}
+
+/// The same over the form.
+fn is_taken_over(alloc: Global, circuit: &Circuit, form: &Circuit) -> Result<bool, Fail>
+    requires { IsEngineFormOf circuit.now None form.now }
+{
     let mut source = b"1\nb0\n00\n1\n0\n.\n".as_slice();
     let mut judge = BitJudge::new(alloc, circuit)?;
     let mut sink = VecSink::new(alloc);
     match take_form(
         alloc,
         circuit,
-        &form,
+        form,
         None,
         &mut judge,
         &mut source,
