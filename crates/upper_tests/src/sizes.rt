@@ -123,7 +123,7 @@ fn expect_counted(alloc: Global, circuit: &Circuit, size: usize) -> Result<(), F
     let frames = 200_000;
     let given = counted(alloc, circuit, text.as_slice(), size)?;
     if given != (3, 200_000, 200_000, 200_004, Judgement::Accepted { frames }) {
-        Err(given)?;
+        Err(size)?;
     }
     Ok(())
 }
