@@ -8,8 +8,8 @@ use Rattle.witness.specs.Texts.{digit}
 use Rattle.witness.specs.BitTexts.{bit_line}
 use Rattle.witness.specs.BitAdmits.{bits_at}
 use Rattle.witness.specs.BitScans.{is_bit, is_one_bit}
-use Rattle.witness.proofs.BitReadLemmas.{bits_at-bit_line}
-use Rattle.witness.proofs.StandsLemmas.{or-false}
+use Rattle.witness.proofs.BitReadLemmas.{bits_at-bit_line, bits_are_no_end}
+use Rattle.std.proofs.Math.Bool.{or-false}
 
 bit_byte : (b : ℕ) → is_bit b ≡ true → b ≡ digit (is_one_bit b)
 bit_byte b h =
@@ -27,11 +27,6 @@ spelled (b ∷ line) h =
     let parts = and_parts (is_bit b) (list_all is_bit line) h in
     ap₂ (λ (c : ℕ) (cs : List ℕ). c ∷ cs) (bit_byte b parts.0) (spelled line parts.1)
 
-no_end : (bits : List Bool) → bytes_eq (bit_line bits) (codes ".") ≡ false
-no_end [] = refl
-no_end (true ∷ bits) = refl
-no_end (false ∷ bits) = refl
-
 -- so many bits
 pub record AreBits (count : ℕ) (line : List ℕ) : Type 0 where
   pub many : length line ≡ count
@@ -46,5 +41,5 @@ are_bits count line h =
     record {
       many = many;
       bits = ap (bits_at count) is ∙ bits_at-bit_line count (map is_one_bit line) (length-map line is_one_bit ∙ many);
-      no_end = ap (λ (l : List ℕ). bytes_eq l (codes ".")) is ∙ no_end (map is_one_bit line);
+      no_end = ap (λ (l : List ℕ). bytes_eq l (codes ".")) is ∙ bits_are_no_end (map is_one_bit line);
     }

@@ -193,10 +193,6 @@ unfolding bit_admit
 done_is_last c i initial frames [] final h = (refl, cc)
 done_is_last c i initial frames (line ∷ lines) final h = absurd cc
 
--- a line that is one byte string
-is_the_line : (line text : List ℕ) → bytes_eq line text ≡ true → line ≡ text
-is_the_line line text h = (bytes_eq-Decides line text).0 h
-
 -- before the last line
 not_done : (c : Circuit) (r final : BitRead) → is_done r.place ≡ false → admit_all (bit_reader c) r [] ≡ Ok final → is_done final.place ≡ true → ⊥
 not_done c r final other h done =
@@ -219,7 +215,7 @@ module _ (c : Circuit) (i : ℕ) (initial : List Bool) where
         | inl e ↦
             let is : bits_read AtDone i initial before ≡ parts.0 = cc (e.1) in
             let last = done_is_last c i initial before lines final (ap (λ (r : BitRead). admit_all (bit_reader c) r lines) is ∙ parts.1.1) in
-            ([], (ap₂ (λ (l : List ℕ) (ls : List (List ℕ)). l ∷ ls) (is_the_line line (codes ".") e.0) last.0, (tt, last.1 ∙ ap (bits_read AtDone i initial) (sym (append-nil before)))))
+            ([], (ap₂ (λ (l : List ℕ) (ls : List (List ℕ)). l ∷ ls) ((bytes_eq-Decides line (codes ".")).0 e.0) last.0, (tt, last.1 ∙ ap (bits_read AtDone i initial) (sym (append-nil before)))))
         | inr e ↦
             let one = frame_bits c at parts.0 line (bits_at c.inputs line) refl e.1 in
             let rest = frames_were (before ++ one.0 ∷ []) lines final (ap (λ (r : BitRead). admit_all (bit_reader c) r lines) one.1.1 ∙ parts.1.1) done in
@@ -284,7 +280,7 @@ lines_were c (line ∷ lines) final small h done =
     elim (chosen (bytes_eq line (codes "1")) (Ok (bits_read AtClaim 0 [] [])) (Err why.BadHeader) (Ok parts.0) parts.1.0) [
       | inl e ↦
           let is : bits_read AtClaim 0 [] [] ≡ parts.0 = cc (e.1) in
-          subst (λ (l : List ℕ). SaysLines c (l ∷ lines) final) (sym (is_the_line line (codes "1") e.0)) (behind_header lines (ap (λ (r : BitRead). admit_all (bit_reader c) r lines) is ∙ parts.1.1))
+          subst (λ (l : List ℕ). SaysLines c (l ∷ lines) final) (sym ((bytes_eq-Decides line (codes "1")).0 e.0)) (behind_header lines (ap (λ (r : BitRead). admit_all (bit_reader c) r lines) is ∙ parts.1.1))
       | inr e ↦ absurd (cc (e.1))
     ]
   where
@@ -318,10 +314,10 @@ bit_says_one c text w v circuit first second =
 other_header : (line : List ℕ) → (bytes_eq line (codes "0") || bytes_eq line (codes "2")) ≡ true → bytes_eq line (codes "1") ≡ false
 other_header line h =
     elim (cases_Bool (bytes_eq line (codes "0"))) [
-      | inl e ↦ ap (λ (l : List ℕ). bytes_eq l (codes "1")) (is_the_line line (codes "0") e)
+      | inl e ↦ ap (λ (l : List ℕ). bytes_eq l (codes "1")) ((bytes_eq-Decides line (codes "0")).0 e)
       | inr e ↦
           let two : bytes_eq line (codes "2") ≡ true = rw e at h in
-          ap (λ (l : List ℕ). bytes_eq l (codes "1")) (is_the_line line (codes "2") two)
+          ap (λ (l : List ℕ). bytes_eq l (codes "1")) ((bytes_eq-Decides line (codes "2")).0 two)
     ]
 
 refused_first : (c : Circuit) (lines : List (List ℕ)) → makes_no_bit_claim lines ≡ true → lines_read (bit_reader c) lines ≡ stopped 0 no_line_read why.BadHeader

@@ -24,7 +24,7 @@ use crate::verdicts::{either, judgement_of};
 use crate::why::Why;
 use crate::word_line::is_word;
 use crate::word_place::Place;
-use crate::word_reader::WordReader;
+use crate::word_reader::{WordReader, is_alone};
 use base::next_line;
 use btor2::Model;
 use runs::NewFault;
@@ -130,7 +130,7 @@ impl<'a> WordJudge<'a> {
         ensures alone { result ≡ true → is_alone (place_of self.now.reader.place) ≡ true }
         ensures begins { (items : List Item) (text : List ℕ) → StandsFor items self.now text → result ≡ true → unfinished text ≡ [] }
     {
-        if !self.reader.takes_whole_lines() {
+        if !is_alone(self.reader.place()) {
             return false;
         }
         self.line.is_empty()

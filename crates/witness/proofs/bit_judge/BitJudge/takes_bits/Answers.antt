@@ -4,9 +4,10 @@ use Rattle.base.specs.Lines.{whole_lines, unfinished}
 use Rattle.witness.specs.Readings.{lines_read}
 use Rattle.witness.specs.BitAdmits.{bit_reader}
 use Rattle.witness.specs.BitStands.{Admits, BitJudge, Reads, bit_judging, StandsFor, is_header, place_of}
-use Rattle.witness.proofs.StandsLemmas.{line_admitted, or-false}
+use Rattle.witness.proofs.StandsLemmas.{line_admitted}
 use Rattle.witness.proofs.BitJudgeLemmas.{claims_more, few_frames, whole_line}
 use Rattle.witness.proofs.bit_judge.BitJudge.takes_bits.Goals as goal
+use Rattle.std.proofs.Math.Bool.{or-false}
 
 pub returns-clause-taken : goal.returns-clause-taken
 returns-clause-taken c circuit text line stands risen =

@@ -1,4 +1,4 @@
-use Rattle.std.proofs.Common.{◌≡◌, true, [], ◌∷◌, ◌++◌, List, ℕ, subst, sym, ap, ◌∙◌}
+use Rattle.std.proofs.Common.{◌≡◌, true, [], ◌∷◌, ◌++◌, List, ℕ, subst, sym, ap, ◌∙◌, refl}
 use Rattle.base.specs.Lines.{whole_lines, unfinished}
 use Rattle.witness.specs.Texts.{shape_of}
 use Rattle.witness.specs.Readings.{lines_read}
@@ -30,7 +30,7 @@ returns-then-takes_whole_lines c items text line stands =
     let empty : unfinished text ≡ [] = c.takes_whole_lines.ensures.begins items text stands c.if-takes_whole_lines.true in
     let here : IsOfLines (word_judging items) j (whole_lines text) (unfinished text ++ bytes) =
     with_bytes (word_judging items) (whole_lines text) (unfinished text) (unfinished text ++ bytes) j j.reader j.line stands.lines stands.lines.counts
-    (λ none. reads_of_other items (lines_read (word_reader (shape_of items)) (whole_lines text)).read (unfinished text) j.reader (stands.lines.reads none) (unfinished text ++ bytes) alone) in
+    (λ none. reads_of_other items (lines_read (word_reader (shape_of items)) (whole_lines text)).read (unfinished text) j.reader j.reader refl (stands.lines.reads none) (unfinished text ++ bytes) alone) in
     let alike : AreAlike bytes (unfinished text ++ bytes) = ap (λ (l : List ℕ). kept (l ++ bytes)) (sym empty) in
     line_ended (word_judging items) (text ++ (bytes ++ 10 ∷ [])) (whole_lines text ++ (unfinished text ++ bytes) ∷ []) c.judge_line.new.self (whole_lines-line_end text bytes line) (unfinished-line_end text bytes)
     (c.judge_line.ensures.lines items (whole_lines text) (unfinished text ++ bytes) here alike none)

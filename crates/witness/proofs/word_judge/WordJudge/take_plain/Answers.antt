@@ -2,8 +2,9 @@ use Rattle.std.proofs.Common.{◌≡◌, None, [], ◌∷◌, ◌<◌, ◌^◌, 
 use Rattle.std.proofs.lemmas.Bool.{leb-false}
 use Rattle.witness.specs.WordStands.{WordJudge, StandsFor}
 use Rattle.witness.proofs.StandsLemmas.{no_refusal}
-use Rattle.witness.proofs.WordJudgeLemmas.{nothing_there, line_taken}
+use Rattle.witness.proofs.WordJudgeLemmas.{line_taken}
 use Rattle.witness.proofs.word_judge.WordJudge.take_plain.Goals as goal
+use Rattle.base.proofs.DecimalLemmas.{nothing}
 
 pub returns-in-Some-clause-line : goal.returns-in-Some-clause-line
 returns-in-Some-clause-line c =
@@ -11,7 +12,7 @@ returns-in-Some-clause-line c =
     let taken = c.in-Some.ensures.line in
     let fresh : j.refused ≡ None = no_refusal c.self.inside.refused (sym c.if-is_some.ensures) in
     let few : j.admitted < 2 ^ 62 = leb-false (2 ^ 62) c.self.inside.admitted (sym c.are_most.ensures ∙ c.if-are_most.false) in
-    let empty : j.line ≡ [] = nothing_there c.self.inside.line (sym c.is_empty.ensures ∙ c.if-not-is_empty.false) in
+    let empty : j.line ≡ [] = nothing c.self.inside.line (sym c.is_empty.ensures ∙ c.if-not-is_empty.false) in
     record {
       line = taken.line;
       is = taken.is ∙ sym (append_assoc taken.line (10 ∷ []) c.in-Some.rest.now);
