@@ -14,12 +14,11 @@ use Rattle.witness.proofs.word_judge.WordJudge.take_line.Goals as goal
 
 pub returns-then-is_some : goal.returns-then-is_some
 returns-then-is_some c items text line stands =
-    let j : WordJudge = record { reader = c.self.inside.reader; line = c.self.inside.line; admitted = c.self.inside.admitted; refused = c.self.inside.refused; no_claim = c.self.inside.no_claim } in
-    let now : StandsFor items j text = subst (λ (j : WordJudge). StandsFor items j text) (sym c.self.view_is) stands in
+    let now = subst (λ (j : WordJudge). StandsFor items j text) (sym c.self.view_is) stands in
     let bytes : List ℕ = c.args.bytes.now in
     let refused = some_refusal c.self.inside.refused (sym c.if-is_some.ensures) in
-    line_ended (word_judging items) (text ++ (bytes ++ 10 ∷ [])) (whole_lines text ++ (unfinished text ++ bytes) ∷ []) (record j { line = c.clear.new.self }) (whole_lines-line_end text bytes line) (unfinished-line_end text bytes)
-    (stays_refused (word_judging items) (claims_more items) (whole_lines text) (unfinished text ++ bytes) (unfinished text) j now.lines refused.0 refused.1 c.clear.new.self) c.clear.ensures
+    line_ended (word_judging items) (text ++ (bytes ++ 10 ∷ [])) (whole_lines text ++ (unfinished text ++ bytes) ∷ []) _ (whole_lines-line_end text bytes line) (unfinished-line_end text bytes)
+    (stays_refused (word_judging items) (claims_more items) (whole_lines text) (unfinished text ++ bytes) (unfinished text) _ now.lines refused.0 refused.1 c.clear.new.self) c.clear.ensures
 
 pub returns-then-takes_whole_lines : goal.returns-then-takes_whole_lines
 returns-then-takes_whole_lines c items text line stands =

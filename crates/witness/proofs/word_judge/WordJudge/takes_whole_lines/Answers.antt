@@ -12,6 +12,5 @@ returns-clause-alone c is = ap (λ (j : WordJudge). is_alone (place_of j.reader.
 
 pub returns-clause-begins : goal.returns-clause-begins
 returns-clause-begins c items text stands is =
-    let j : WordJudge = record { reader = c.self.inside.reader; line = c.self.inside.line; admitted = c.self.inside.admitted; refused = c.self.inside.refused; no_claim = c.self.inside.no_claim } in
-    let now : StandsFor items j text = subst (λ (j : WordJudge). StandsFor items j text) (sym c.self.view_is) stands in
+    let now = subst (λ (j : WordJudge). StandsFor items j text) (sym c.self.view_is) stands in
     nothing (unfinished text) (sym (nothing_kept (unfinished text)) ∙ (ap is_nothing (sym now.line) ∙ (sym c.is_empty.ensures ∙ is)))
