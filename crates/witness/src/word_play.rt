@@ -9,9 +9,7 @@ ghost use Rattle.runs.specs.Refusal.{AnswersNew};
 ghost use Rattle.witness.specs.Judgements.{FrameWords, pairs_of, first_different};
 ghost use Rattle.witness.specs.Texts.{Assignment, shape_of, widths_of};
 ghost use Rattle.witness.specs.KeptLines.{IsSmall};
-ghost use Rattle.witness.specs.WordValues.{Gives};
 ghost use Rattle.witness.specs.Fits.{NoneIsSet, PairFits};
-ghost use Rattle.witness.specs.WordAssigns.{assigned};
 ghost use Rattle.witness.specs.PlainLines.{BeginsAssignment, NoAssignment};
 ghost use Rattle.witness.specs.WordPlays.{IsStart, GoesOn, Plays, MayGive, GivesState, GivesInput, TakesInput, state_given, input_given, nothing_given, word_at, steps_taken};
 
@@ -165,24 +163,6 @@ impl<'a> WordPlay<'a> {
         self.frames
     }
 
-    /// The word that a line gives to a state in the open part, or why it gives none.
-    fn state_word(&self, line: &[u8]) -> Result<(u64, u64), Why>
-        ensures is { Gives (λ p. p) result (assigned (widths_of is_state self.now.items) self.now.states_given line.now) }
-        ensures fits { IfOk result (PairFits (widths_of is_state self.now.items)) }
-    {
-        let widths = self.state_widths.as_slice();
-        assigned(widths, self.states_given.as_slice(), line)
-    }
-
-    /// The word that a line gives to an input in the open frame, or why it gives none.
-    fn input_word(&self, line: &[u8]) -> Result<(u64, u64), Why>
-        ensures is { Gives (λ p. p) result (assigned (widths_of is_input self.now.items) self.now.inputs_given line.now) }
-        ensures fits { IfOk result (PairFits (widths_of is_input self.now.items)) }
-    {
-        let widths = self.input_widths.as_slice();
-        assigned(widths, self.inputs_given.as_slice(), line)
-    }
-
     /// The input and the word of the plain line with which a text begins, and the text behind the line; nothing where
     /// it begins otherwise.
     #[inline(always)]
@@ -222,7 +202,8 @@ impl<'a> WordPlay<'a> {
         ensures err { OnErr result (self.new ≡ self.old) }
     {
         let _items = self.model.items();
-        match self.state_word(line) {
+        let widths = self.state_widths.as_slice();
+        match assigned(widths, self.states_given.as_slice(), line) {
             Ok(given) => {
                 go_on(&mut self.run);
                 self.give_state(given.0 as usize, given.1);
@@ -239,7 +220,8 @@ impl<'a> WordPlay<'a> {
         ensures err { OnErr result (self.new ≡ self.old) }
     {
         let _items = self.model.items();
-        match self.input_word(line) {
+        let widths = self.input_widths.as_slice();
+        match assigned(widths, self.inputs_given.as_slice(), line) {
             Ok(given) => {
                 go_on(&mut self.run);
                 self.give_input(given.0 as usize, given.1);
