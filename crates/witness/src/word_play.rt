@@ -10,7 +10,7 @@ ghost use Rattle.witness.specs.Judgements.{FrameWords, pairs_of, first_different
 ghost use Rattle.witness.specs.Texts.{Assignment, shape_of, widths_of};
 ghost use Rattle.witness.specs.KeptLines.{IsSmall};
 ghost use Rattle.witness.specs.Fits.{NoneIsSet, PairFits};
-ghost use Rattle.witness.specs.PlainLines.{BeginsAssignment, NoAssignment};
+ghost use Rattle.witness.specs.PlainLines.{NoAssignment};
 ghost use Rattle.witness.specs.WordPlays.{IsStart, GoesOn, Plays, MayGive, GivesState, GivesInput, TakesInput, state_given, input_given, nothing_given, word_at, steps_taken};
 
 use crate::plain_line::plain_assignment;
@@ -163,17 +163,6 @@ impl<'a> WordPlay<'a> {
         self.frames
     }
 
-    /// The input and the word of the plain line with which a text begins, and the text behind the line; nothing where
-    /// it begins otherwise.
-    #[inline(always)]
-    fn plain_input<'t>(&self, text: &'t [u8]) -> Option<(u64, u64, &'t [u8])>
-        ensures { MatchOption result (NoAssignment (widths_of is_input self.now.items) self.now.inputs_given text.now)
-            (λ x. BeginsAssignment (widths_of is_input self.now.items) self.now.inputs_given text.now x.0 x.1 x.2.now) }
-    {
-        let widths = self.input_widths.as_slice();
-        plain_assignment(text, widths, self.inputs_given.as_slice())
-    }
-
     /// Gives a state a word in the open part.
     fn give_state(&mut self, index: usize, word: u64)
         requires { PairFits (widths_of is_state self.old.items) (index, word) }
@@ -241,7 +230,8 @@ impl<'a> WordPlay<'a> {
         ensures kept { IfNone result (self.new ≡ self.old) }
     {
         let _items = self.model.items();
-        match self.plain_input(text) {
+        let widths = self.input_widths.as_slice();
+        match plain_assignment(text, widths, self.inputs_given.as_slice()) {
             Some((index, word, rest)) => {
                 go_on(&mut self.run);
                 self.give_input(index as usize, word);
