@@ -1,9 +1,9 @@
 -- Frames of a witness over a model, closed one after the other.
-use Rattle.std.proofs.Common.{◌≡◌, ℕ, suc, ◌+◌, ◌*◌, ◌<◌, ◌≤◌, ◌-◌, ◌^◌, ◌==◌, min, Bool, true, false, not, cond, ◌&&◌, ◌||◌, List, [], ◌∷◌, ◌++◌, Option, Some, None, option_and_then, All, map, length, get_or, unwrap_or, length-append, refl, sym, ap, ap₂, subst, ◌∙◌, arith, inl, inr}
+use Rattle.std.proofs.Common.{◌≡◌, ℕ, suc, ◌+◌, ◌*◌, ◌<◌, ◌-◌, ◌^◌, ◌==◌, min, Bool, true, false, not, cond, ◌&&◌, ◌||◌, List, [], ◌∷◌, ◌++◌, Option, Some, None, option_and_then, All, map, length, get_or, unwrap_or, length-append, refl, sym, ap, ap₂, subst, ◌∙◌, arith, inl, inr, replicate}
 use Rattle.std.specs.Option.{option_or}
 use Rattle.std.specs.List.{last_or}
 use Rattle.std.proofs.lemmas.Bool.{cases_lt, ne_eqb, eq-eqb}
-use Rattle.std.proofs.lemmas.List.{length-map, map-append, get_or_past}
+use Rattle.std.proofs.lemmas.List.{length-map, map-append, get_or_past, get_or-replicate, length-replicate}
 use Rattle.std.proofs.lemmas.List.Elements.{All-nil, All-head, All-tail, All-push}
 use Rattle.std.proofs.lemmas.List.Folds.{list_all-append}
 use Rattle.btor2.specs.declared.item.Item.{Item}
@@ -27,11 +27,11 @@ use Rattle.std.proofs.Math.Bool.{and-true}
 
 -- ---- flags
 
-pub none_is_set : (flags : List Bool) (k : ℕ) → length flags ≤ k → ((i : ℕ) → i < k → is_set flags i ≡ false) → NoneIsSet flags
-none_is_set flags k whole none i =
-    elim (cases_lt i k) [
-      | inl below ↦ none i below
-      | inr above ↦ get_or_past flags i false (omega (arith, whole, above))
+pub none_of_many : (n : ℕ) → NoneIsSet (replicate n false)
+none_of_many n i =
+    elim (cases_lt i n) [
+      | inl below ↦ get_or-replicate n i false false below
+      | inr above ↦ get_or_past (replicate n false) i false (omega (arith, above, length-replicate n false))
     ]
 
 -- ---- a frame behind others

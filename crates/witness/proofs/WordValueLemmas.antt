@@ -61,10 +61,10 @@ known_is_value b known =
       | inr other ↦ rw (other, rw other at known) refl
     ]
 
-known_not_x : (b : ℕ) → is_bit b ≡ true → (b == 120) ≡ false
+pub known_not_x : (b : ℕ) → is_bit b ≡ true → (b == 120) ≡ false
 known_not_x b known = ne_eqb b 120 (λ e. absurd (cc (rw e at known)))
 
-known_are_values : (bytes : List ℕ) → list_all is_bit bytes ≡ true → list_all is_value_byte bytes ≡ true
+pub known_are_values : (bytes : List ℕ) → list_all is_bit bytes ≡ true → list_all is_value_byte bytes ≡ true
 known_are_values [] known = refl
 known_are_values (b ∷ bytes) known =
     let parts = and_parts (is_bit b) (list_all is_bit bytes) known in

@@ -75,9 +75,7 @@ fn clear(flags: &mut [bool])
     ensures many { length flags.new ≡ length flags.old }
     ensures none { NoneIsSet flags.new }
 {
-    for k in 0..flags.len() {
-        flags[k] = false;
-    }
+    flags.fill(false);
 }
 
 /// The first state with another word than that of its init line, in the first frame.
