@@ -7,12 +7,13 @@ use Rattle.aiger.specs.Trace.{IsTrace, next_state}
 use Rattle.witness.specs.declared.judgement.Judgement.{Judgement}
 use Rattle.witness.specs.Readings.{lines_read}
 use Rattle.witness.specs.BitTexts.{BitWitness}
-use Rattle.witness.specs.BitAdmits.{BitPlace, AtDone, BitRead, is_done, bit_reader, bit_witness_of}
+use Rattle.witness.specs.BitAdmits.{AtDone, BitRead, is_done, bit_reader, bit_witness_of}
 use Rattle.witness.specs.BitJudgements.{bit_verdict, JudgesBits}
 use Rattle.witness.specs.BitPlays.{BitPlay, Plays, Traced}
 use Rattle.witness.specs.Stands.{first_of}
 use Rattle.witness.specs.BitStands.{place_of, PlaysAt, BitJudge, StandsFor}
 use Rattle.witness.proofs.BitOneJudgement.{verdict_is}
+use Rattle.witness.proofs.BitReadLemmas.{done}
 
 -- ---- the verdict
 
@@ -31,10 +32,6 @@ module _ (c : Circuit) (w : BitWitness) (p : BitPlay) (vs : List Valuation) (pla
   judged_whole o e = rw (plays.differs, traced.breach, e, traced.rose, plays.count ∙ sym (trace_length c w.initial w.frames vs trace)) (verdict_is c w vs)
 
 -- ---- the judgement
-
-done : (at : BitPlace) → is_done at ≡ true → at ≡ AtDone
-done AtDone h = refl
-done _ h = absurd cc
 
 abbrev pub Says : Circuit → BitRead → Judgement → Type 0
 Says c r = JudgesBits c (bit_witness_of r)

@@ -16,9 +16,10 @@ use Rattle.runs.specs.Run.{first_word, zeros}
 use Rattle.runs.proofs.RankLemmas.{rank-below, ids-rank, length-ids}
 use Rattle.witness.specs.Texts.{Shape, shape_of, is_free_index, are_distinct}
 use Rattle.btor2.specs.Lists.{of_kind}
-use Rattle.witness.specs.Judgements.{FrameWords, Words, index_of, given, given_to, initial_part, initial_words, given_words}
+use Rattle.witness.specs.Judgements.{FrameWords, index_of, given, given_to, initial_words, given_words}
 use Rattle.witness.specs.Fits.{LaterFits, StandsAt, words_put}
 use Rattle.btor2.proofs.IdLemmas.{input_is_no_state}
+use Rattle.witness.specs.WordPlays.{frames_alone}
 
 -- ---- words that fit
 
@@ -103,14 +104,6 @@ named_state items id y found is = rw (found, is) refl
 named_input : (items : List Item) (id : ℕ) (y : Item) → find_item items id ≡ Some y → is_input y.body ≡ true → names_state items id ≡ false
 named_input items id y found is = rw (found, input_is_no_state y.body is) refl
 
--- the words of the states after the first frame's part was given
-pub states_given : (items : List Item) (w : Words) → are_distinct (map (λ (p : ℕ × ℕ). p.0) (initial_part w.frames)) ≡ true
-    → SameAt is_state items (given_at is_state items (words_put (map (first_word items) (ids_of is_state items)) (initial_part w.frames))) (initial_words items w)
-states_given items w d id y found is =
-    let g : Option ℕ = given_to is_state items (initial_part w.frames) id in
-    put_given is_state items (map (first_word items) (ids_of is_state items)) (initial_part w.frames) (length-map (ids_of is_state items) (first_word items)) d id y found is
-    ∙ (ap (unwrap_or g) (words_of_kind is_state items (first_word items) id y found is) ∙ or_else g (init_word items id))
-
 -- the words of the inputs after a frame's part was given
 pub inputs_given : (items : List Item) (frame : FrameWords) → are_distinct (map (λ (p : ℕ × ℕ). p.0) frame.inputs) ≡ true
     → SameAt is_input items (given_at is_input items (words_put (zeros items) frame.inputs)) (given_words items frame)
@@ -181,21 +174,18 @@ later_stands items f words frame fits same id named =
     ∙ ap (λ (b : Bool). cond (is_free items id) (unwrap_or (cond b g (given_to is_input items frame.inputs id)) 0) (next_state items f id)) (sym named))
 
 first_cases : (items : List Item) (g o n : Option ℕ)
-    → unwrap_or g (unwrap_or (option_or g (option_and_then (constant_of items) o)) 0)
-    ≡ cond (is_none o && is_none n) (unwrap_or g 0) (unwrap_or (option_or g (option_and_then (constant_of items) o)) 0)
+    → unwrap_or (option_or g (option_and_then (constant_of items) o)) 0 ≡ cond (is_none o && is_none n) (unwrap_or g 0) (unwrap_or (option_or g (option_and_then (constant_of items) o)) 0)
 first_cases items None None None = refl
 first_cases items (Some v) None None = refl
-first_cases items None None (Some n) = refl
-first_cases items (Some v) None (Some n) = refl
-first_cases items None (Some u) n = refl
-first_cases items (Some v) (Some u) n = refl
+first_cases items g None (Some n) = refl
+first_cases items g (Some u) n = refl
 
--- a run that has the initial words stands before the first frame
-pub first_stands : (items : List Item) (w : Words) (frame : FrameWords) (more : List FrameWords) → w.frames ≡ frame ∷ more → StandsAt items (initial_words items w) frame (initial_words items w)
-first_stands items w frame more e id named =
+-- a run that has the words of the init lines stands before the first frame
+pub first_stands : (items : List Item) (frame : FrameWords) (words : Frame) → SameAt is_state items words (first_word items) → StandsAt items (initial_words items (frames_alone (frame ∷ []))) frame words
+first_stands items frame words same id named =
+    let there = state_there items id named in
     let g : Option ℕ = given_to is_state items frame.states id in
-    let own : initial_words items w id ≡ unwrap_or (option_or g (init_word items id)) 0 = ap (λ (l : List FrameWords). unwrap_or (option_or (given_to is_state items (initial_part l) id) (init_word items id)) 0) e in
-    ap (unwrap_or g) own
+    ap (unwrap_or g) (same id there.0 there.1.0 there.1.1)
+    ∙ (or_else g (init_word items id)
     ∙ (first_cases items g (init_value items id) (next_value items id)
-    ∙ (ap (λ (v : ℕ). cond (is_free items id) (unwrap_or g 0) v) (sym own)
-    ∙ ap (λ (b : Bool). cond (is_free items id) (unwrap_or (cond b g (given_to is_input items frame.inputs id)) 0) (initial_words items w id)) (sym named)))
+    ∙ ap (λ (b : Bool). cond (is_free items id) (unwrap_or (cond b g (given_to is_input items frame.inputs id)) 0) (unwrap_or (option_or g (init_word items id)) 0)) (sym named)))

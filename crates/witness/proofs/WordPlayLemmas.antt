@@ -1,5 +1,5 @@
 -- Frames of a witness over a model, closed one after the other.
-use Rattle.std.proofs.Common.{◌≡◌, ℕ, suc, ◌+◌, ◌*◌, ◌<◌, ◌-◌, ◌^◌, ◌==◌, min, Bool, true, false, not, cond, ◌&&◌, ◌||◌, List, [], ◌∷◌, ◌++◌, Option, Some, None, option_and_then, All, map, length, get_or, unwrap_or, length-append, refl, sym, ap, ap₂, subst, ◌∙◌, arith, inl, inr, replicate}
+use Rattle.std.proofs.Common.{◌≡◌, ℕ, suc, ◌+◌, ◌*◌, ◌<◌, ◌-◌, ◌^◌, ◌==◌, min, Bool, true, false, not, cond, ◌&&◌, ◌||◌, List, [], ◌∷◌, ◌++◌, Option, Some, None, option_and_then, All, map, length, get_or, length-append, refl, sym, ap, ap₂, subst, ◌∙◌, arith, inl, inr, replicate}
 use Rattle.std.specs.Option.{option_or}
 use Rattle.std.specs.List.{last_or}
 use Rattle.std.proofs.lemmas.Bool.{cases_lt, ne_eqb, eq-eqb}
@@ -16,10 +16,10 @@ use Rattle.runs.specs.Run.{Run, IsNow, state_words, leaf_words, zeros, first_wor
 use Rattle.base.proofs.StepLemmas.{more_steps-sum}
 use Rattle.btor2.proofs.TraceLemmas.{frame_exists}
 use Rattle.witness.specs.Texts.{Shape, shape_of}
-use Rattle.witness.specs.Fits.{is_set, PartFits, FirstFits, LaterFits, FramesFit, StandsAt, words_put, RisesIn, RisesAmong, NoneIsSet}
-use Rattle.witness.specs.Judgements.{FrameWords, Violation, violated_at, violation_from, never_rises, nodes_of, first_different, first_violated, given_to, initial_words, given_words}
+use Rattle.witness.specs.Fits.{is_set, FirstFits, LaterFits, FramesFit, StandsAt, RisesIn, RisesAmong, NoneIsSet}
+use Rattle.witness.specs.Judgements.{FrameWords, Violation, violated_at, violation_from, never_rises, nodes_of, first_different, first_violated, initial_words, given_words}
 use Rattle.witness.specs.WordPlays.{WordPlay, frame_steps, steps_of, frames_alone, carried_behind, MovesOn, GoesOn, is_between, word_at, Fresh, Traced, TracedBy, Plays, nothing_given}
-use Rattle.witness.proofs.GivenWordLemmas.{put_given, words_of_kind, state_there, states_given, first_stands, later_stands}
+use Rattle.witness.proofs.GivenWordLemmas.{words_of_kind, first_stands, later_stands}
 use Rattle.witness.proofs.FrameLemmas.{different_of}
 use Rattle.witness.proofs.VerdictLemmas.{settled_now}
 use Rattle.witness.proofs.MoveLemmas.{moves, one_ahead, goes_items}
@@ -85,22 +85,9 @@ rises_behind nodes fs f none rose after was one i h =
 -- ---- where the run stands
 
 -- before the first frame
-start_stands : (items : List Item) (here : FrameWords) (base : List ℕ) → PartFits (shape_of items).states here.states → base ≡ map (first_word items) (ids_of is_state items)
-    → StandsAt items (initial_words items (frames_alone (here ∷ []))) here (given_at is_state items base)
-start_stands items here base fits is = λ id named.
-    let w = frames_alone (here ∷ []) in
-    let there = state_there items id named in
-    let y : Item = there.0 in
-    let many : length base ≡ length (ids_of is_state items) = ap length is ∙ length-map (ids_of is_state items) (first_word items) in
-    let put = put_given is_state items base here.states many fits.distinct id y there.1.0 there.1.1 in
-    let initial = states_given items w fits.distinct id y there.1.0 there.1.1 in
-    sym put
-    ∙ (ap (λ (l : List ℕ). given_at is_state items (words_put l here.states) id) is
-    ∙ (initial ∙ (once (given_to is_state items here.states id) _ ∙ first_stands items w here [] refl id named)))
-  where
-    once : (g o : Option ℕ) → unwrap_or (option_or g o) 0 ≡ unwrap_or g (unwrap_or (option_or g o) 0)
-    once None o = refl
-    once (Some x) o = refl
+start_stands : (items : List Item) (here : FrameWords) (base : List ℕ) → base ≡ map (first_word items) (ids_of is_state items) → StandsAt items (initial_words items (frames_alone (here ∷ []))) here (given_at is_state items base)
+start_stands items here base is =
+    first_stands items here (given_at is_state items base) (λ id y found kind. ap (λ (l : List ℕ). given_at is_state items l id) is ∙ words_of_kind is_state items (first_word items) id y found kind)
 
 -- before a later one
 later_stands_at : (items : List Item) (last : Frame) (here : FrameWords) (base : List ℕ) → LaterFits (shape_of items) here → base ≡ map (next_state items last) (ids_of is_state items)
@@ -207,7 +194,7 @@ module _ (items : List Item) (here : FrameWords) (old new : WordPlay) (before se
       let carried = initial_words items (frames_alone (here ∷ [])) in
       let fresh : Fresh items plays.base old = plays.traced in
       let first : (old.frames == 0) ≡ true = eq-eqb old.frames 0 plays.count in
-      let now = now_in [] plays carried f (start_stands items here plays.base plays.fit.0.states fresh.states) t.0 in
+      let now = now_in [] plays carried f (start_stands items here plays.base fresh.states) t.0 in
       record {
         last = f;
         is_last = refl;
