@@ -16,7 +16,7 @@ use Rattle.btor2.proofs.ModelLemmas.{IsIn-from_place, IsAccepted-at}
 use Rattle.witness.specs.Texts.{widths_of, free_of}
 use Rattle.witness.specs.Fits.{PairFits}
 use Rattle.witness.specs.KeptLines.{AreSmall}
-use Rattle.runs.proofs.RankLemmas.{length-places}
+pub use Rattle.runs.proofs.RankLemmas.{length-places}
 
 -- an item of a kind has a width
 abbrev pub HasBits : (Body → Bool) → Type 0
