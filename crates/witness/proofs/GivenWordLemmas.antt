@@ -21,8 +21,6 @@ use Rattle.witness.specs.Fits.{LaterFits, StandsAt, words_put}
 use Rattle.btor2.proofs.IdLemmas.{input_is_no_state}
 use Rattle.witness.specs.WordPlays.{frames_alone}
 
--- ---- words that fit
-
 -- ---- words put into a list
 
 given_none : (list : List (ℕ × ℕ)) (i k : ℕ) → i ≡ k → list_any (λ y. nat_eq y i) (map (λ (p : ℕ × ℕ). p.0) list) ≡ false → given list k ≡ None
