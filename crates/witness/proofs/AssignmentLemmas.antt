@@ -24,6 +24,12 @@ stands_in i before = list_any (λ a. a.index == i) before
 parts_of_assignment : (widths : List ℕ) (a : Assignment) → assignment_line widths a ≡ decimal a.index ++ symbol_part (Some (binary (slice_index widths a.index) a.word ++ symbol_part a.symbol))
 parts_of_assignment widths a = append_assoc (decimal a.index) (32 ∷ binary (slice_index widths a.index) a.word) (symbol_part a.symbol)
 
+-- a line that is cut at its first space
+cut_of_line : (widths : List ℕ) (a : Assignment) → length widths < 2 ^ 64 → IsAssignment widths a → cut_at_space (assignment_line widths a) ≡ (decimal a.index, Some (binary (slice_index widths a.index) a.word ++ symbol_part a.symbol))
+cut_of_line widths a small is =
+    let within = is.index in
+    ap cut_at_space (parts_of_assignment widths a) ∙ cut_at_space-parts (decimal a.index) (Some (binary (slice_index widths a.index) a.word ++ symbol_part a.symbol)) (decimal_without 32 a.index (omega arith) (omega arith))
+
 -- a symbol, where there is one
 abbrev pub IsName : Option (List ℕ) → Type 0
 IsName name = IfSome name (λ bytes. is_symbol bytes ≡ true)
@@ -49,8 +55,7 @@ assignment_at-assignment_line widths before a small is new =
     let within = is.index in
     let lt : a.index < 2 ^ 64 = omega arith in
     let value : List ℕ = binary (slice_index widths a.index) a.word ++ symbol_part a.symbol in
-    let cut : cut_at_space (assignment_line widths a) ≡ (decimal a.index, Some value) = ap cut_at_space (parts_of_assignment widths a) ∙ cut_at_space-parts (decimal a.index) (Some value) (decimal_without 32 a.index (omega arith) lt) in
-    ap (λ (c : List ℕ × Option (List ℕ)). with_index widths before c.1 (number_of c.0)) cut
+    ap (λ (c : List ℕ × Option (List ℕ)). with_index widths before c.1 (number_of c.0)) (cut_of_line widths a small is)
     ∙ (ap (with_index widths before (Some value)) (number_of-decimal a.index lt)
     ∙ rw (lt-ltb a.index (length widths) within, new) (value_passes widths before a.index a.word a.symbol is.word is.symbol))
 
@@ -58,10 +63,7 @@ assignment_at-assignment_line widths before a small is new =
 index_of_line : (widths : List ℕ) (a : Assignment) → length widths < 2 ^ 64 → IsAssignment widths a → number_of (cut_at_space (assignment_line widths a)).0 ≡ Some a.index
 index_of_line widths a small is =
     let within = is.index in
-    let lt : a.index < 2 ^ 64 = omega arith in
-    let value : List ℕ = binary (slice_index widths a.index) a.word ++ symbol_part a.symbol in
-    let cut : cut_at_space (assignment_line widths a) ≡ (decimal a.index, Some value) = ap cut_at_space (parts_of_assignment widths a) ∙ cut_at_space-parts (decimal a.index) (Some value) (decimal_without 32 a.index (omega arith) lt) in
-    ap (λ (c : List ℕ × Option (List ℕ)). number_of c.0) cut ∙ number_of-decimal a.index lt
+    ap (λ (c : List ℕ × Option (List ℕ)). number_of c.0) (cut_of_line widths a small is) ∙ number_of-decimal a.index (omega arith)
 
 -- the same of a free state
 pub free_assignment_at-assignment_line : (shape : Shape) (before : List Assignment) (a : Assignment) → length shape.states < 2 ^ 64 → IsAssignment shape.states a → is_free_index shape a.index ≡ true

@@ -1,18 +1,19 @@
 -- The judgement of a text by what a judge of witnesses of a circuit holds.
-use Rattle.std.proofs.Common.{◌≡◌, ℕ, suc, Bool, true, false, cond, List, [], ◌∷◌, Option, Some, None, length, refl, sym, ap, ap₂, subst, ◌∙◌}
+use Rattle.std.proofs.Common.{◌≡◌, ℕ, suc, Bool, true, cond, List, [], ◌∷◌, Option, Some, None, length, refl, sym, ap, subst, ◌∙◌}
 use Rattle.base.specs.Lines.{whole_lines, unfinished}
 use Rattle.aiger.specs.Circuit.{Circuit}
 use Rattle.aiger.specs.Literal.{Valuation}
 use Rattle.aiger.specs.Trace.{IsTrace, next_state}
 use Rattle.witness.specs.declared.judgement.Judgement.{Judgement}
 use Rattle.witness.specs.Readings.{lines_read}
-use Rattle.witness.specs.Judgements.{Violation}
 use Rattle.witness.specs.BitTexts.{BitWitness}
-use Rattle.witness.specs.BitAdmits.{BitPlace, AtDone, BitRead, is_done, bit_reader, bit_witness_of}
-use Rattle.witness.specs.BitJudgements.{first_reset_differing, bit_violation_from, bit_rises, when_risen, when_unbroken, when_reset, bit_verdict, JudgesBits}
+use Rattle.witness.specs.BitAdmits.{AtDone, BitRead, is_done, bit_reader, bit_witness_of}
+use Rattle.witness.specs.BitJudgements.{bit_verdict, JudgesBits}
 use Rattle.witness.specs.BitPlays.{BitPlay, Plays, Traced}
 use Rattle.witness.specs.Stands.{first_of}
 use Rattle.witness.specs.BitStands.{place_of, PlaysAt, BitJudge, StandsFor}
+use Rattle.witness.proofs.BitOneJudgement.{verdict_is}
+use Rattle.witness.proofs.BitReadLemmas.{done}
 
 -- ---- the verdict
 
@@ -28,37 +29,22 @@ module _ (c : Circuit) (w : BitWitness) (p : BitPlay) (vs : List Valuation) (pla
 
   -- the claim, where it is not reached
   pub judged_whole : (o : Option ℕ) → o ≡ cond p.rose None (Some w.claim) → first_of p.differs p.breach o p.frames ≡ bit_verdict c w vs
-  judged_whole o e =
-      let count : p.frames ≡ length vs = plays.count ∙ sym (trace_length c w.initial w.frames vs trace) in
-      let reached : o ≡ cond (bit_rises c w.claim vs) None (Some w.claim) = e ∙ ap (λ (b : Bool). cond b None (Some w.claim)) traced.rose in
-      let unbroken : first_of None p.breach o p.frames ≡ when_unbroken c w vs (bit_violation_from c 0 vs) =
-      ap (λ (v : Option Violation). first_of None v o p.frames) traced.breach
-      ∙ elim (bit_violation_from c 0 vs) as (λ v. first_of None v o p.frames ≡ when_unbroken c w vs v) [
-        | Some v ↦ refl
-        | None ↦
-            ap₂ (λ (u : Option ℕ) (n : ℕ). first_of None None u n) reached count
-            ∙ elim (bit_rises c w.claim vs) as (λ b. first_of None None (cond b None (Some w.claim)) (length vs) ≡ when_risen w.claim (length vs) b) [ true ↦ refl | false ↦ refl ]
-      ] in
-      ap (λ (d : Option ℕ). first_of d p.breach o p.frames) plays.differs
-      ∙ elim (first_reset_differing 0 c.latches w.initial) as (λ d. first_of d p.breach o p.frames ≡ when_reset c w vs d) [ Some k ↦ refl | None ↦ unbroken ]
+  judged_whole o e = rw (plays.differs, traced.breach, e, traced.rose, plays.count ∙ sym (trace_length c w.initial w.frames vs trace)) (verdict_is c w vs)
 
 -- ---- the judgement
-
-done : (at : BitPlace) → is_done at ≡ true → at ≡ AtDone
-done AtDone h = refl
-done _ h = absurd cc
 
 abbrev pub Says : Circuit → BitRead → Judgement → Type 0
 Says c r = JudgesBits c (bit_witness_of r)
 
-pub ended_at : (c : Circuit) (text : List ℕ) (j : BitJudge) → StandsFor c j text → j.refused ≡ None → is_done (place_of j.reader.place) ≡ is_done (lines_read (bit_reader c) (whole_lines text)).read.place
-ended_at c text j stands none = ap is_done (stands.lines.reads none).place
+pub ended_at : (c : Circuit) (text : List ℕ) (j old : BitJudge) → j ≡ old → StandsFor c old text → j.refused ≡ None → is_done (place_of j.reader.place) ≡ is_done (lines_read (bit_reader c) (whole_lines text)).read.place
+ended_at c text j old same was none = let stands = subst (λ (k : BitJudge). StandsFor c k text) (sym same) was in ap is_done (stands.lines.reads none).place
 
 -- what is judged of a whole witness
-pub whole_witness : (c : Circuit) (text : List ℕ) (j : BitJudge) (o : Option ℕ) → StandsFor c j text → j.refused ≡ None → o ≡ cond j.reader.play.rose None (Some j.reader.claim)
+pub whole_witness : (c : Circuit) (text : List ℕ) (j old : BitJudge) → j ≡ old → (o : Option ℕ) → StandsFor c old text → j.refused ≡ None → o ≡ cond j.reader.play.rose None (Some j.reader.claim)
     → is_done (lines_read (bit_reader c) (whole_lines text)).read.place ≡ true
     → Says c (lines_read (bit_reader c) (whole_lines text)).read (first_of j.reader.play.differs j.reader.play.breach o j.reader.play.frames)
-whole_witness c text j o stands none unreached at_end vs t =
+whole_witness c text j old same o was none unreached at_end vs t =
+    let stands = subst (λ (k : BitJudge). StandsFor c k text) (sym same) was in
     let r : BitRead = (lines_read (bit_reader c) (whole_lines text)).read in
     let reads = stands.lines.reads none in
     let plays : PlaysAt c r j.reader.play (unfinished text) AtDone = subst (PlaysAt c r j.reader.play (unfinished text)) (done r.place at_end) reads.play in

@@ -15,7 +15,8 @@ use Rattle.witness.specs.BitScans.{Scans}
 use Rattle.witness.specs.BitStands.{is_header, BitJudge, bit_judging, StandsFor}
 use Rattle.witness.proofs.TextEndLemmas.{whole_lines-line_end, unfinished-line_end}
 use Rattle.witness.proofs.ReadingLemmas.{Goes, On, Until, goes, holds_behind}
-use Rattle.witness.proofs.StandsLemmas.{or-false, awaits, none_awaited, ClaimsMore, line_ended}
+use Rattle.witness.proofs.StandsLemmas.{awaits, none_awaited, ClaimsMore, line_ended}
+use Rattle.std.proofs.Math.Bool.{or-false}
 
 -- what an admitted line changes
 record Moves (r next : BitRead) : Type 0 where

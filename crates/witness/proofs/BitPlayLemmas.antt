@@ -1,7 +1,7 @@
 -- Frames of a witness of a circuit, closed one after the other.
 use Rattle.std.proofs.Common.{◌≡◌, ℕ, suc, ◌+◌, ◌*◌, ◌<◌, ◌≤◌, ◌-◌, ◌^◌, min, Bool, true, false, cond, ◌||◌, List, [], ◌∷◌, ◌++◌, Option, Some, None, map, length, take, get_or, set, length-append, refl, sym, ap, ap₂, subst, ◌∙◌, arith}
 use Rattle.std.specs.Option.{option_or}
-use Rattle.std.proofs.lemmas.List.{take_more_set, length-map, length-set, length-replicate}
+use Rattle.std.proofs.lemmas.List.{take_more_set, length-map, length-set, length-replicate, map-append}
 use Rattle.std.proofs.lemmas.List.Folds.{list_any-append}
 use Rattle.std.proofs.Math.Seq.{take-length}
 use Rattle.aiger.specs.declared.circuit.Latch.{Latch}
@@ -15,6 +15,7 @@ use Rattle.witness.specs.Judgements.{Violation, violated_at}
 use Rattle.witness.specs.BitJudgements.{differs_from_reset, first_reset_differing, first_bit_violated, bit_violation_from, bit_rises}
 use Rattle.witness.specs.BitScans.{is_one_bit}
 use Rattle.witness.specs.BitPlays.{BitPlay, frame_steps, steps_of, state_behind, Begins, Traced, Plays, differing, latch_given}
+use Rattle.std.proofs.Math.Bool.{or-false}
 
 -- ---- initial bits
 
@@ -40,10 +41,6 @@ differing_more k (l ∷ latches) (x ∷ bits) b d h =
       | false ↦ rest ∙ ap (λ (n : ℕ). differing (first_reset_differing (suc k) latches bits) n (differs_from_reset (get_or latches (length bits) d).reset b)) same
     ]
 
-map-more : (line : List ℕ) (b : ℕ) → map is_one_bit (line ++ b ∷ []) ≡ map is_one_bit line ++ is_one_bit b ∷ []
-map-more [] b = refl
-map-more (x ∷ line) b = ap (λ (bits : List Bool). is_one_bit x ∷ bits) (map-more line b)
-
 -- a byte more of the line of initial bits
 pub begins_more : (c : Circuit) (p : BitPlay) (line : List ℕ) (byte k : ℕ) (d : Latch) → length c.latches < 2 ^ 64 - 1 → k ≡ min (length line) (2 ^ 64 - 1) → k < length c.latches → Begins c p line
     → Begins c (latch_given p k (is_one_bit byte) (differs_from_reset (get_or c.latches k d).reset (is_one_bit byte))) (line ++ byte ∷ [])
@@ -61,7 +58,7 @@ begins_more c p line byte k d small is room h =
           ∙ (take_more_set p.run.latches k (is_one_bit byte) inside
           ∙ (ap (λ (n : ℕ). take n p.run.latches ++ is_one_bit byte ∷ []) at
           ∙ (ap (λ (bits : List Bool). bits ++ is_one_bit byte ∷ []) (h.bits fewer)
-          ∙ sym (map-more line byte))));
+          ∙ sym (map-append is_one_bit line (byte ∷ [])))));
       differs = λ few.
           let fewer : length line ≤ length c.latches = omega (arith, few, long) in
           let inside : length (map is_one_bit line) < length c.latches = omega (arith, few, long, length-map line is_one_bit) in
@@ -71,7 +68,7 @@ begins_more c p line byte k d small is room h =
           ∙ (ap (λ (n : ℕ). differing (first_reset_differing 0 c.latches (map is_one_bit line)) n (differs_from_reset (get_or c.latches n d).reset (is_one_bit byte))) place
           ∙ (ap (λ (n : ℕ). differing (first_reset_differing 0 c.latches (map is_one_bit line)) n (differs_from_reset (get_or c.latches (length (map is_one_bit line)) d).reset (is_one_bit byte))) number
           ∙ (sym (differing_more 0 c.latches (map is_one_bit line) (is_one_bit byte) d inside)
-          ∙ ap (first_reset_differing 0 c.latches) (sym (map-more line byte)))));
+          ∙ ap (first_reset_differing 0 c.latches) (sym (map-append is_one_bit line (byte ∷ []))))));
     }
 
 -- ---- a frame more
@@ -110,10 +107,6 @@ violation_more c k (w ∷ vs) v =
 rises_more : (c : Circuit) (claim : ℕ) (vs : List Valuation) (v : Valuation) → bit_rises c claim (vs ++ v ∷ []) ≡ (bit_rises c claim vs || literal_value v (get_or c.bads claim 0))
 rises_more c claim vs v =
     list_any-append (λ (w : Valuation). literal_value w (get_or c.bads claim 0)) vs (v ∷ []) ∙ ap (λ (b : Bool). bit_rises c claim vs || b) (or-false (literal_value v (get_or c.bads claim 0)))
-  where
-    or-false : (b : Bool) → (b || false) ≡ b
-    or-false true = refl
-    or-false false = refl
 
 -- what is kept once a frame is closed
 pub record Closes (c : Circuit) (claim : ℕ) (old new : BitPlay) : Type 0 where

@@ -1,11 +1,11 @@
 -- Witnesses of circuits: a text that says one is read as it, and what is read was said.
-use Rattle.std.proofs.Common.{◌≡◌, ◌↔◌, ℕ, suc, ◌<◌, ◌≤◌, ◌^◌, ◌==◌, nat_lt, Bool, true, false, cond, ◌&&◌, ◌||◌, List, [], ◌∷◌, ◌++◌, Option, Some, None, Result, Ok, Err, map, length, codes, append_assoc, refl, sym, ap, ap₂, subst, ◌∙◌, arith, inl, inr}
+use Rattle.std.proofs.Common.{◌≡◌, ◌↔◌, ℕ, suc, ◌<◌, ◌≤◌, ◌^◌, ◌==◌, nat_lt, Bool, true, false, cond, ◌&&◌, ◌||◌, List, [], ◌∷◌, ◌++◌, Option, Some, None, Result, Ok, Err, map, length, codes, append_assoc, refl, sym, ap, ap₂, subst, ◌∙◌, arith, inl, inr, All, length-append}
 use Rattle.std.specs.List.{list_any, list_all, AllByRecursion}
 use Rattle.std.specs.Str.{bytes_eq}
 use Rattle.std.proofs.lemmas.Bool.{cases_Bool, and_parts, eqb-true, eq-eqb, ltb-true, lt-ltb}
-use Rattle.std.proofs.lemmas.List.{length-map, append-nil}
+use Rattle.std.proofs.lemmas.List.{length-map, append-nil, map-append}
 use Rattle.std.proofs.lemmas.Slice.Eq.{bytes_eq-Decides}
-use Rattle.std.proofs.lemmas.List.Elements.{recursion_from_All, All-from_recursion}
+use Rattle.std.proofs.lemmas.List.Elements.{recursion_from_All, All-push, All-nil}
 use Rattle.base.specs.Lines.{text_of_lines, IsLine, whole_lines, unfinished}
 use Rattle.base.proofs.LineLemmas.{EachLine, lines_of_text, unfinished_of_text, parts_of_text}
 use Rattle.base.proofs.DecimalLemmas.{chosen, number_of-decimal}
@@ -20,7 +20,7 @@ use Rattle.witness.specs.Texts.{digit, claim, most_lines}
 use Rattle.witness.specs.Readings.{next_line, lines_read, reading}
 use Rattle.witness.specs.Admits.{Claim, claim_of, is_value_byte}
 use Rattle.witness.specs.BitTexts.{BitWitness, bit_line, bit_witness_lines, IsBitWitness, BitSays}
-use Rattle.witness.specs.BitAdmits.{judged_claim, claim_at, bits_at, BitPlace, AtClaim, AtInitial, AtFirst, AtLater, AtDone, BitRead, no_line_read, after_claim, after_initial, after_frame, bit_admit, is_done, bit_reader, read_bit_text, bit_witness_of}
+use Rattle.witness.specs.BitAdmits.{judged_claim, claim_at, bits_at, BitPlace, AtClaim, AtInitial, AtFirst, AtLater, AtDone, BitRead, no_line_read, after_claim, after_initial, after_frame, bit_admit, is_done, bit_reader, read_bit_text, bit_witness_of, AtHeader, bit_admit_at}
 use Rattle.witness.specs.BitJudgements.{differs_from_reset, first_reset_differing, makes_no_bit_claim}
 use Rattle.witness.proofs.ReadingLemmas.{admit_all, admit_parts, admitted, stopped, stays, text_is_read, text_was_read}
 use Rattle.witness.proofs.PieceLemmas.{decimal_without, digits_are_values, digits_determine, bits_of_digits, digits_of_bits}
@@ -180,129 +180,112 @@ bit_says_read c text w circuit says =
 
 -- ---- what is read was said
 
--- which bits a line of a frame has
-frame_bits : (c : Circuit) (r next : BitRead) (line : List ℕ) (o : Result (List Bool) Why) → bits_at c.inputs line ≡ o → after_frame r o ≡ Ok next
-    → (bits : List Bool) × (AreBitsOf c.inputs line bits × (record r { place = AtLater; frames = r.frames ++ bits ∷ [] } ≡ next))
-frame_bits c r next line (Ok bits) is h = (bits, (bits_are_line c.inputs line bits is, cc))
-frame_bits c r next line (Err w) is h = absurd cc
+-- the lines that are read as this
+abbrev lines_of : BitRead → BitPlace → List (List ℕ)
+lines_of r AtHeader = []
+lines_of r AtClaim = codes "1" ∷ []
+lines_of r AtInitial = codes "1" ∷ (claim r.claim ∷ [])
+lines_of r AtDone = bit_witness_lines (bit_witness_of r)
+lines_of r _ = codes "1" ∷ (claim r.claim ∷ (bit_line r.initial ∷ map bit_line r.frames))
 
--- no line is read behind the last
-done_is_last : (c : Circuit) (i : ℕ) (initial : List Bool) (frames : List (List Bool)) (lines : List (List ℕ)) (final : BitRead) → admit_all (bit_reader c) (bits_read AtDone i initial frames) lines ≡ Ok final
-    → (lines ≡ []) × (final ≡ bits_read AtDone i initial frames)
-unfolding bit_admit
-done_is_last c i initial frames [] final h = (refl, cc)
-done_is_last c i initial frames (line ∷ lines) final h = absurd cc
+abbrev Fits : Circuit → BitRead → BitPlace → Type 0
+Fits c r AtHeader = r.frames ≡ []
+Fits c r AtClaim = r.frames ≡ []
+Fits c r AtInitial = (r.claim < length c.bads) × (r.frames ≡ [])
+Fits c r AtFirst = (r.claim < length c.bads) × (length r.initial ≡ length c.latches) × (r.frames ≡ [])
+Fits c r _ = IsBitWitness c (bit_witness_of r)
 
--- a line that is one byte string
-is_the_line : (line text : List ℕ) → bytes_eq line text ≡ true → line ≡ text
-is_the_line line text h = (bytes_eq-Decides line text).0 h
+-- what is read of lines is what they say
+record Told (c : Circuit) (lines : List (List ℕ)) (r : BitRead) (at : BitPlace) : Type 0 where
+  spelled : lines ≡ lines_of r at
+  fits : Fits c r at
 
--- before the last line
-not_done : (c : Circuit) (r final : BitRead) → is_done r.place ≡ false → admit_all (bit_reader c) r [] ≡ Ok final → is_done final.place ≡ true → ⊥
-not_done c r final other h done =
-    let is : r ≡ final = cc in
-    cc (ap (λ (s : BitRead). is_done s.place) is, other, done)
+module _ (c : Circuit) (small : length c.bads < 2 ^ 64) (lines : List (List ℕ)) (line : List ℕ) (r next : BitRead) where
+  abbrev Tells : BitRead → Type 0
+  Tells s = Told c (lines ++ line ∷ []) s s.place
 
-abbrev FramesWere : Circuit → ℕ → List Bool → List (List Bool) → List (List ℕ) → BitRead → Type 0
-FramesWere c i initial before lines final =
-    (more : List (List Bool)) × ((lines ≡ frame_lines_and_end more) × (AllByRecursion (λ bits. length bits ≡ c.inputs) more × (final ≡ bits_read AtDone i initial (before ++ more))))
+  behind : (front : List (List ℕ)) (same : List ℕ) → lines ≡ front → line ≡ same → lines ++ line ∷ [] ≡ front ++ same ∷ []
+  behind front same whole is = ap₂ (λ (ls : List (List ℕ)) (l : List ℕ). ls ++ l ∷ []) whole is
 
-module _ (c : Circuit) (i : ℕ) (initial : List Bool) where
-  frames_were : (before : List (List Bool)) (lines : List (List ℕ)) (final : BitRead) → admit_all (bit_reader c) (bits_read AtLater i initial before) lines ≡ Ok final → is_done final.place ≡ true
-      → FramesWere c i initial before lines final
-  unfolding bit_admit
-  frames_were before [] final h done = absurd (not_done c (bits_read AtLater i initial before) final refl h done)
-  frames_were before (line ∷ lines) final h done =
-      let at : BitRead = bits_read AtLater i initial before in
-      let parts = admit_parts (bit_admit c at line) (λ next. admit_all (bit_reader c) next lines) final h in
-      elim (chosen (bytes_eq line (codes ".")) (Ok (bits_read AtDone i initial before)) (after_frame at (bits_at c.inputs line)) (Ok parts.0) parts.1.0) [
+  claim_told : (o : Result ℕ Why) → claim_at (length c.bads) line ≡ o → after_claim r o ≡ Ok next → Told c lines r AtClaim → Tells next
+  claim_told (Ok i) is h told =
+      let one = claim_is_line (length c.bads) line i small is in
+      let here : record r { place = AtInitial; claim = i } ≡ next = cc in
+      subst Tells here (record { spelled = behind (codes "1" ∷ []) (claim i) told.spelled one.spelled; fits = (one.below, told.fits) })
+  claim_told (Err w) is h told = absurd cc
+
+  initial_told : (o : Result (List Bool) Why) → bits_at (length c.latches) line ≡ o → after_initial r o ≡ Ok next → Told c lines r AtInitial → Tells next
+  initial_told (Ok bits) is h told =
+      let are = bits_are_line (length c.latches) line bits is in
+      let here : record r { place = AtFirst; initial = bits } ≡ next = cc in
+      subst Tells here
+      (record {
+        spelled = behind (codes "1" ∷ (claim r.claim ∷ [])) (bit_line bits) told.spelled are.spelled ∙ ap (λ (fs : List (List Bool)). codes "1" ∷ (claim r.claim ∷ (bit_line bits ∷ map bit_line fs))) (sym told.fits.1);
+        fits = (told.fits.0, are.many, told.fits.1);
+      })
+  initial_told (Err w) is h told = absurd cc
+
+  frame_told : (o : Result (List Bool) Why) → bits_at c.inputs line ≡ o → after_frame r o ≡ Ok next → lines ≡ lines_of r AtLater → r.claim < length c.bads → length r.initial ≡ length c.latches → All (λ bits. length bits ≡ c.inputs) r.frames → Tells next
+  frame_told (Ok bits) is h spelled below many all =
+      let are = bits_are_line c.inputs line bits is in
+      let here : record r { place = AtLater; frames = r.frames ++ bits ∷ [] } ≡ next = cc in
+      subst Tells here
+      (record {
+        spelled =
+            behind (lines_of r AtLater) (bit_line bits) spelled are.spelled
+            ∙ ap (λ (ls : List (List ℕ)). codes "1" ∷ (claim r.claim ∷ (bit_line r.initial ∷ ls))) (sym (map-append bit_line r.frames (bits ∷ [])));
+        fits = record { claim = below; initial = many; some_frame = λ e. omega (arith, ap length e, length-append r.frames (bits ∷ [])); frames = All-push (λ bits. length bits ≡ c.inputs) r.frames bits all are.many };
+      })
+  frame_told (Err w) is h spelled below many all = absurd cc
+
+  line_told : (at : BitPlace) → bit_admit_at c r line at ≡ Ok next → Told c lines r at → Tells next
+  line_told AtHeader h told =
+      elim (chosen (bytes_eq line (codes "1")) (Ok (record r { place = AtClaim })) (Err why.BadHeader) (Ok next) h) [
         | inl e ↦
-            let is : bits_read AtDone i initial before ≡ parts.0 = cc (e.1) in
-            let last = done_is_last c i initial before lines final (ap (λ (r : BitRead). admit_all (bit_reader c) r lines) is ∙ parts.1.1) in
-            ([], (ap₂ (λ (l : List ℕ) (ls : List (List ℕ)). l ∷ ls) (is_the_line line (codes ".") e.0) last.0, (tt, last.1 ∙ ap (bits_read AtDone i initial) (sym (append-nil before)))))
-        | inr e ↦
-            let one = frame_bits c at parts.0 line (bits_at c.inputs line) refl e.1 in
-            let rest = frames_were (before ++ one.0 ∷ []) lines final (ap (λ (r : BitRead). admit_all (bit_reader c) r lines) one.1.1 ∙ parts.1.1) done in
-            (one.0 ∷ rest.0, (ap₂ (λ (l : List ℕ) (ls : List (List ℕ)). l ∷ ls) one.1.0.spelled rest.1.0, ((one.1.0.many, rest.1.1.0), rest.1.1.1 ∙ ap (bits_read AtDone i initial) (append_assoc before (one.0 ∷ []) rest.0))))
+            let here : record r { place = AtClaim } ≡ next = cc (e.1) in
+            subst Tells here (record { spelled = behind [] (codes "1") told.spelled ((bytes_eq-Decides line (codes "1")).0 e.0); fits = told.fits })
+        | inr e ↦ absurd (cc (e.1))
       ]
-
-  -- the first of the frames, and the others
-  all_frames_were : (lines : List (List ℕ)) (final : BitRead) → admit_all (bit_reader c) (bits_read AtFirst i initial []) lines ≡ Ok final → is_done final.place ≡ true
-      → (frames : List (List Bool)) × (((frames ≡ [] → ⊥) × (lines ≡ frame_lines_and_end frames)) × (AllByRecursion (λ bits. length bits ≡ c.inputs) frames × (final ≡ bits_read AtDone i initial frames)))
-  unfolding bit_admit
-  all_frames_were [] final h done = absurd (not_done c (bits_read AtFirst i initial []) final refl h done)
-  all_frames_were (line ∷ lines) final h done =
-      let at : BitRead = bits_read AtFirst i initial [] in
-      let parts = admit_parts (bit_admit c at line) (λ next. admit_all (bit_reader c) next lines) final h in
-      elim (chosen (bytes_eq line (codes ".")) (Err why.FrameOrder) (after_frame at (bits_at c.inputs line)) (Ok parts.0) parts.1.0) [
+  line_told AtClaim h told = claim_told (claim_at (length c.bads) line) refl h told
+  line_told AtInitial h told = initial_told (bits_at (length c.latches) line) refl h told
+  line_told AtFirst h told =
+      elim (chosen (bytes_eq line (codes ".")) (Err why.FrameOrder) (after_frame r (bits_at c.inputs line)) (Ok next) h) [
         | inl e ↦ absurd (cc (e.1))
-        | inr e ↦
-            let one = frame_bits c at parts.0 line (bits_at c.inputs line) refl e.1 in
-            let rest = frames_were (one.0 ∷ []) lines final (ap (λ (r : BitRead). admit_all (bit_reader c) r lines) one.1.1 ∙ parts.1.1) done in
-            (one.0 ∷ rest.0, ((λ e. cc, ap₂ (λ (l : List ℕ) (ls : List (List ℕ)). l ∷ ls) one.1.0.spelled rest.1.0), ((one.1.0.many, rest.1.1.0), rest.1.1.1)))
+        | inr e ↦ frame_told (bits_at c.inputs line) refl e.1 told.spelled told.fits.0 told.fits.1 (subst (All (λ bits. length bits ≡ c.inputs)) (sym told.fits.2) (All-nil (λ bits. length bits ≡ c.inputs)))
       ]
+  line_told AtLater h told =
+      elim (chosen (bytes_eq line (codes ".")) (Ok (record r { place = AtDone })) (after_frame r (bits_at c.inputs line)) (Ok next) h) [
+        | inl e ↦
+            let here : record r { place = AtDone } ≡ next = cc (e.1) in
+            subst Tells here (record { spelled = behind (lines_of r AtLater) (codes ".") told.spelled ((bytes_eq-Decides line (codes ".")).0 e.0); fits = told.fits })
+        | inr e ↦ frame_told (bits_at c.inputs line) refl e.1 told.spelled told.fits.claim told.fits.initial told.fits.frames
+      ]
+  line_told AtDone h told = absurd cc
 
--- what lines from the status on say
-record SaysLines (c : Circuit) (lines : List (List ℕ)) (final : BitRead) : Type 0 where
-  w : BitWitness
-  spelled : lines ≡ bit_witness_lines w
-  valid : IsBitWitness c w
-  is : final ≡ all_bits_read w
-
-initial_was : (c : Circuit) (i : ℕ) (line : List ℕ) (lines : List (List ℕ)) (next final : BitRead) (o : Result (List Bool) Why) → i < length c.bads → bits_at (length c.latches) line ≡ o
-    → after_initial (bits_read AtInitial i [] []) o ≡ Ok next → admit_all (bit_reader c) next lines ≡ Ok final → is_done final.place ≡ true → SaysLines c (codes "1" ∷ (claim i ∷ (line ∷ lines))) final
-initial_was c i line lines next final (Err w) below bits h rest done = absurd cc
-initial_was c i line lines next final (Ok initial) below bits h rest done =
-    let are = bits_are_line (length c.latches) line initial bits in
-    let is : bits_read AtFirst i initial [] ≡ next = cc in
-    let were = all_frames_were c i initial lines final (ap (λ (r : BitRead). admit_all (bit_reader c) r lines) is ∙ rest) done in
-    record {
-      w = record { claim = i; initial = initial; frames = were.0 };
-      spelled = ap₂ (λ (l : List ℕ) (ls : List (List ℕ)). codes "1" ∷ (claim i ∷ (l ∷ ls))) are.spelled were.1.0.1;
-      valid = record { claim = below; initial = are.many; some_frame = were.1.0.0; frames = All-from_recursion (λ bits. length bits ≡ c.inputs) were.0 were.1.1.0 };
-      is = were.1.1.1;
-    }
-
-claim_was : (c : Circuit) (line : List ℕ) (lines : List (List ℕ)) (next final : BitRead) (o : Result ℕ Why) → length c.bads < 2 ^ 64 → claim_at (length c.bads) line ≡ o
-    → after_claim (bits_read AtClaim 0 [] []) o ≡ Ok next → admit_all (bit_reader c) next lines ≡ Ok final → is_done final.place ≡ true → SaysLines c (codes "1" ∷ (line ∷ lines)) final
+lines_told : (c : Circuit) (before lines : List (List ℕ)) (r final : BitRead) → length c.bads < 2 ^ 64 → Told c before r r.place → admit_all (bit_reader c) r lines ≡ Ok final → Told c (before ++ lines) final final.place
 unfolding bit_admit
-claim_was c line lines next final (Err w) small claims h rest done = absurd cc
-claim_was c line [] next final (Ok i) small claims h rest done =
-    let is : bits_read AtInitial i [] [] ≡ next = cc in
-    absurd (not_done c (bits_read AtInitial i [] []) final refl (ap (λ (r : BitRead). admit_all (bit_reader c) r []) is ∙ rest) done)
-claim_was c line (l ∷ lines) next final (Ok i) small claims h rest done =
-    let one = claim_is_line (length c.bads) line i small claims in
-    let is : bits_read AtInitial i [] [] ≡ next = cc in
-    let parts = admit_parts (bit_admit c (bits_read AtInitial i [] []) l) (λ next. admit_all (bit_reader c) next lines) final (ap (λ (r : BitRead). admit_all (bit_reader c) r (l ∷ lines)) is ∙ rest) in
-    subst (λ (x : List ℕ). SaysLines c (codes "1" ∷ (x ∷ (l ∷ lines))) final) (sym one.spelled) (initial_was c i l lines parts.0 final (bits_at (length c.latches) l) one.below refl parts.1.0 parts.1.1 done)
+lines_told c before [] r final small told h =
+    let is : r ≡ final = cc in
+    subst (λ (s : BitRead). Told c (before ++ []) s s.place) is (subst (λ (ls : List (List ℕ)). Told c ls r r.place) (sym (append-nil before)) told)
+lines_told c before (line ∷ lines) r final small told h =
+    let parts = admit_parts (bit_admit c r line) (λ next. admit_all (bit_reader c) next lines) final h in
+    subst (λ (ls : List (List ℕ)). Told c ls final final.place) (append_assoc before (line ∷ []) lines)
+    (lines_told c (before ++ line ∷ []) lines parts.0 final small (line_told c small before line r parts.0 r.place parts.1.0 told) parts.1.1)
 
-lines_were : (c : Circuit) (lines : List (List ℕ)) (final : BitRead) → length c.bads < 2 ^ 64 → admit_all (bit_reader c) no_line_read lines ≡ Ok final → is_done final.place ≡ true → SaysLines c lines final
-unfolding bit_admit
-lines_were c [] final small h done = absurd (not_done c no_line_read final refl h done)
-lines_were c (line ∷ lines) final small h done =
-    let parts = admit_parts (bit_admit c no_line_read line) (λ next. admit_all (bit_reader c) next lines) final h in
-    elim (chosen (bytes_eq line (codes "1")) (Ok (bits_read AtClaim 0 [] [])) (Err why.BadHeader) (Ok parts.0) parts.1.0) [
-      | inl e ↦
-          let is : bits_read AtClaim 0 [] [] ≡ parts.0 = cc (e.1) in
-          subst (λ (l : List ℕ). SaysLines c (l ∷ lines) final) (sym (is_the_line line (codes "1") e.0)) (behind_header lines (ap (λ (r : BitRead). admit_all (bit_reader c) r lines) is ∙ parts.1.1))
-      | inr e ↦ absurd (cc (e.1))
-    ]
-  where
-    behind_header : (lines : List (List ℕ)) → admit_all (bit_reader c) (bits_read AtClaim 0 [] []) lines ≡ Ok final → SaysLines c (codes "1" ∷ lines) final
-    behind_header [] h = absurd (not_done c (bits_read AtClaim 0 [] []) final refl h done)
-    behind_header (l ∷ others) h =
-        let parts = admit_parts (bit_admit c (bits_read AtClaim 0 [] []) l) (λ next. admit_all (bit_reader c) next others) final h in
-        claim_was c l others parts.0 final (claim_at (length c.bads) l) small refl parts.1.0 parts.1.1 done
+-- the last line was read
+pub done : (at : BitPlace) → is_done at ≡ true → at ≡ AtDone
+done AtDone h = refl
+done _ h = absurd cc
 
 -- a text that is read says what it is read as
 pub bit_read_says : (c : Circuit) (text : List ℕ) (r : BitRead) → IsCircuit c → read_bit_text c text ≡ Ok r → BitSays c text (bit_witness_of r)
 bit_read_says c text r circuit h =
     let were = text_was_read (bit_reader c) text r h in
-    let says = lines_were c (whole_lines text) r (omega (arith, circuit.few.bads)) were.all were.done in
+    let all = lines_told c [] (whole_lines text) no_line_read r (omega (arith, circuit.few.bads)) (record { spelled = refl; fits = refl }) were.all in
+    let told : Told c (whole_lines text) r AtDone = subst (Told c (whole_lines text) r) (done r.place were.done) all in
     let whole : text ≡ text_of_lines (whole_lines text) =
     sym (parts_of_text text) ∙ (ap (λ (rest : List ℕ). text_of_lines (whole_lines text) ++ rest) were.rest ∙ append-nil (text_of_lines (whole_lines text))) in
-    subst (BitSays c text) (sym (ap bit_witness_of says.is))
-    (record { whole = whole ∙ ap text_of_lines says.spelled; valid = says.valid; few = subst (λ (ls : List (List ℕ)). length ls ≤ most_lines) says.spelled were.few })
+    record { whole = whole ∙ ap text_of_lines told.spelled; valid = told.fits; few = subst (λ (ls : List (List ℕ)). length ls ≤ most_lines) told.spelled were.few }
 
 -- a text says one witness
 pub bit_says_one : (c : Circuit) (text : List ℕ) (w v : BitWitness) → IsCircuit c → BitSays c text w → BitSays c text v → w ≡ v
@@ -318,10 +301,10 @@ bit_says_one c text w v circuit first second =
 other_header : (line : List ℕ) → (bytes_eq line (codes "0") || bytes_eq line (codes "2")) ≡ true → bytes_eq line (codes "1") ≡ false
 other_header line h =
     elim (cases_Bool (bytes_eq line (codes "0"))) [
-      | inl e ↦ ap (λ (l : List ℕ). bytes_eq l (codes "1")) (is_the_line line (codes "0") e)
+      | inl e ↦ ap (λ (l : List ℕ). bytes_eq l (codes "1")) ((bytes_eq-Decides line (codes "0")).0 e)
       | inr e ↦
           let two : bytes_eq line (codes "2") ≡ true = rw e at h in
-          ap (λ (l : List ℕ). bytes_eq l (codes "1")) (is_the_line line (codes "2") two)
+          ap (λ (l : List ℕ). bytes_eq l (codes "1")) ((bytes_eq-Decides line (codes "2")).0 two)
     ]
 
 refused_first : (c : Circuit) (lines : List (List ℕ)) → makes_no_bit_claim lines ≡ true → lines_read (bit_reader c) lines ≡ stopped 0 no_line_read why.BadHeader

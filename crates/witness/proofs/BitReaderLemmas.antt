@@ -147,14 +147,6 @@ module _ (c : Circuit) (r : BitRead) (line : List ℕ) (q : BitReader) (reads : 
   trailing_refused e = rw (is_at code.Done e) refl
 
   -- the line of a frame
-  pub first_frame : q.place ≡ code.First → bytes_eq line (codes ".") ≡ false → bit_admit c r line ≡ after_frame r (bits_at c.inputs line)
-  unfolding bit_admit
-  first_frame e fails = rw (is_at code.First e, fails) refl
-
-  pub later_frame : q.place ≡ code.Later → bytes_eq line (codes ".") ≡ false → bit_admit c r line ≡ after_frame r (bits_at c.inputs line)
-  unfolding bit_admit
-  later_frame e fails = rw (is_at code.Later e, fails) refl
-
   pub frame_gives : (after : BitReader) (result : Result (Unit {0}) Why) → bit_admit c r line ≡ after_frame r (bits_at c.inputs line)
       → MatchResult result (λ _. (bits_at c.inputs line ≡ Ok (map is_one_bit line)) × Reads c after (record r { place = AtLater; frames = r.frames ++ map is_one_bit line ∷ [] }) []) (λ w. bits_at c.inputs line ≡ Err w)
       → GivesLine c r line after result
@@ -197,24 +189,16 @@ module _ (c : Circuit) (r : BitRead) (line : List ℕ) (q : BitReader) (reads : 
   pub frame_plays : (x : CodePlace) → q.place ≡ x → is_frame x ≡ true → Plays c r.claim r.initial r.frames q.play line × (r.claim < length c.bads)
   frame_plays code.First e f = plays_at code.First e
   frame_plays code.Later e f = plays_at code.Later e
-  frame_plays code.Header e f = absurd cc
-  frame_plays code.Claim e f = absurd cc
-  frame_plays code.Initial e f = absurd cc
-  frame_plays code.Done e f = absurd cc
+  frame_plays _ e f = absurd cc
 
   pub frame_line : (x : CodePlace) → q.place ≡ x → is_frame x ≡ true → bytes_eq line (codes ".") ≡ false → bit_admit c r line ≡ after_frame r (bits_at c.inputs line)
-  frame_line code.First e f fails = first_frame e fails
-  frame_line code.Later e f fails = later_frame e fails
-  frame_line code.Header e f fails = absurd cc
-  frame_line code.Claim e f fails = absurd cc
-  frame_line code.Initial e f fails = absurd cc
-  frame_line code.Done e f fails = absurd cc
+  unfolding bit_admit
+  frame_line code.First e f fails = rw (is_at code.First e, fails) refl
+  frame_line code.Later e f fails = rw (is_at code.Later e, fails) refl
+  frame_line _ e f fails = absurd cc
 
   -- all bytes of a frame's line
   pub input_read : (x : CodePlace) → q.place ≡ x → is_frame x ≡ true → (p : BitPlay) (bytes : List ℕ) → Plays c r.claim r.initial r.frames p bytes → Reads c (record q { play = p }) r bytes
   input_read code.First e f p bytes plays = bytes_read code.First p bytes e (plays, (plays_at code.First e).1) (record { circuit = plays.circuit; frames = plays.count; steps = plays.steps })
   input_read code.Later e f p bytes plays = bytes_read code.Later p bytes e (plays, (plays_at code.Later e).1) (record { circuit = plays.circuit; frames = plays.count; steps = plays.steps })
-  input_read code.Header e f p bytes plays = absurd cc
-  input_read code.Claim e f p bytes plays = absurd cc
-  input_read code.Initial e f p bytes plays = absurd cc
-  input_read code.Done e f p bytes plays = absurd cc
+  input_read _ e f p bytes plays = absurd cc

@@ -11,6 +11,7 @@ use Rattle.witness.specs.Admits.{is_value_byte}
 use Rattle.witness.specs.declared.why.Why.TheVariants as why
 use Rattle.witness.specs.BitAdmits.{claim_at}
 use Rattle.witness.specs.BitScans.{behind_first, Scans, number_more, scan_more, has_decimal, claimed}
+use Rattle.std.proofs.Math.Bool.{and-true, or-false, and-false}
 
 -- a number with a digit more
 value_more : (digits : List ℕ) (b n : ℕ) → are_digits (digits ++ b ∷ []) ≡ true → n ≡ capped_value digits → number_more n b ≡ capped_value (digits ++ b ∷ [])
@@ -34,14 +35,6 @@ value_more digits b n all is =
     last_digit : (digits : List ℕ) (b : ℕ) → are_digits (digits ++ b ∷ []) ≡ true → is_digit b ≡ true
     last_digit [] b all = (and_parts (is_digit b) true all).0
     last_digit (d ∷ digits) b all = last_digit digits b (and_parts (is_digit d) (are_digits (digits ++ b ∷ [])) all).1
-
-and-true : (b : Bool) → (b && true) ≡ b
-and-true true = refl
-and-true false = refl
-
-or-false : (b : Bool) → (b || false) ≡ b
-or-false true = refl
-or-false false = refl
 
 digits-more : (digits : List ℕ) (b : ℕ) → are_digits (digits ++ b ∷ []) ≡ (are_digits digits && is_digit b)
 digits-more digits b = list_all-append is_digit digits (b ∷ []) ∙ ap (λ (d : Bool). are_digits digits && d) (and-true (is_digit b))
@@ -120,10 +113,6 @@ digits_not_zero d ds not =
           rw (all, le-leb 49 d above, le-leb d 57 range.1) refl
       | inr none ↦ rw none (and-false (nat_le 49 d && nat_le d 57))
     ]
-  where
-    and-false : (b : Bool) → (b && false) ≡ false
-    and-false true = refl
-    and-false false = refl
 
 -- what stands behind the first byte is a decimal, by what is kept
 decimal_test : (s : Scan) (a : ℕ) (tail : List ℕ) → Scans s (a ∷ tail) → is_decimal tail ≡ has_decimal s
@@ -145,10 +134,6 @@ decimal_test s a (d ∷ e ∷ ds) h =
       | inl zero ↦ rw (above, not_two, h.digits, h.zero, zero) (sym (and-false (are_digits (d ∷ e ∷ ds))))
       | inr not ↦ rw (above, not_two, h.digits, h.zero, not) (digits_not_zero d (e ∷ ds) not ∙ sym (and-true (are_digits (d ∷ e ∷ ds))))
     ]
-  where
-    and-false : (b : Bool) → (b && false) ≡ false
-    and-false true = refl
-    and-false false = refl
 
 -- a decimal that is kept
 number_kept : (s : Scan) (a : ℕ) (tail : List ℕ) → Scans s (a ∷ tail) → has_decimal s ≡ true → number_of tail ≡ Some s.number

@@ -1,5 +1,5 @@
 -- Traces of the worked circuits, and what is judged of them.
-use Rattle.std.proofs.Common.{◌≡◌, Bool, true, false, not, List, [], ◌∷◌, refl, ap, ◌∙◌}
+use Rattle.std.proofs.Common.{◌≡◌, true, false, List, [], ◌∷◌, refl}
 use Rattle.aiger.specs.Literal.{Valuation}
 use Rattle.aiger.specs.Trace.{IsTrace}
 use Rattle.aiger.specs.Worked.{toggler}
@@ -8,19 +8,13 @@ use Rattle.witness.specs.BitTexts.{BitWitness}
 use Rattle.witness.specs.BitJudgements.{bit_verdict}
 use Rattle.witness.specs.Worked.{constrained_circuit, kept_latches, one_input, toggles_once}
 
-first_of : (a b : Bool) (more others : List Bool) → a ∷ more ≡ b ∷ others → a ≡ b
-first_of a b more others e = cc
-
-second_of : (a b c d : Bool) → a ∷ b ∷ [] ≡ c ∷ d ∷ [] → b ≡ d
-second_of a b c d e = cc
-
 -- the latch is 0 in the first frame and 1 in the second
 pub toggles_judged : (vs : List Valuation) → IsTrace toggler (false ∷ []) ([] ∷ [] ∷ []) vs → judgement.Accepted 2 ≡ bit_verdict toggler toggles_once vs
 toggles_judged [] t = absurd t
 toggles_judged (v ∷ []) t = absurd t.1
 toggles_judged (v ∷ w ∷ []) t =
-    let first : v 1 ≡ false = first_of (v 1) false [] [] t.0.latches in
-    let second : w 1 ≡ true = first_of (w 1) (not (v 1)) [] [] t.1.0.latches ∙ ap not first in
+    let first : v 1 ≡ false = cc (t.0.latches) in
+    let second : w 1 ≡ true = cc (t.1.0.latches) in
     rw (first, second) refl
 toggles_judged (v ∷ w ∷ u ∷ vs) t = absurd t.1.1
 
@@ -30,7 +24,7 @@ one_frame_of_toggler = record { claim = 0; initial = false ∷ []; frames = [] �
 pub does_not_toggle_judged : (vs : List Valuation) → IsTrace toggler (false ∷ []) ([] ∷ []) vs → judgement.NotReached 0 ≡ bit_verdict toggler one_frame_of_toggler vs
 does_not_toggle_judged [] t = absurd t
 does_not_toggle_judged (v ∷ []) t =
-    let first : v 1 ≡ false = first_of (v 1) false [] [] t.0.latches in
+    let first : v 1 ≡ false = cc (t.0.latches) in
     rw first refl
 does_not_toggle_judged (v ∷ w ∷ vs) t = absurd t.1
 
@@ -39,8 +33,8 @@ pub violation_judged : (vs : List Valuation) → IsTrace constrained_circuit (fa
 violation_judged [] t = absurd t
 violation_judged (v ∷ []) t = absurd t.1
 violation_judged (v ∷ w ∷ []) t =
-    let first : v 1 ≡ false = first_of (v 1) false [] [] t.0.latches in
-    let second : w 1 ≡ true = first_of (w 1) (not (v 1)) [] [] t.1.0.latches ∙ ap not first in
+    let first : v 1 ≡ false = cc (t.0.latches) in
+    let second : w 1 ≡ true = cc (t.1.0.latches) in
     rw (first, second) refl
 violation_judged (v ∷ w ∷ u ∷ vs) t = absurd t.1.1
 
@@ -51,7 +45,7 @@ second_is_one = record { claim = 0; initial = false ∷ true ∷ []; frames = []
 pub free_judged : (vs : List Valuation) → IsTrace kept_latches (false ∷ true ∷ []) ([] ∷ []) vs → judgement.Accepted 1 ≡ bit_verdict kept_latches second_is_one vs
 free_judged [] t = absurd t
 free_judged (v ∷ []) t =
-    let second : v 2 ≡ true = second_of (v 1) (v 2) false true t.0.latches in
+    let second : v 2 ≡ true = cc (t.0.latches) in
     rw second refl
 free_judged (v ∷ w ∷ vs) t = absurd t.1
 
@@ -63,7 +57,7 @@ pub input_judged : (vs : List Valuation) → IsTrace one_input [] ((false ∷ []
 input_judged [] t = absurd t
 input_judged (v ∷ []) t = absurd t.1
 input_judged (v ∷ w ∷ []) t =
-    let first : v 1 ≡ false = first_of (v 1) false [] [] t.0.inputs in
-    let second : w 1 ≡ true = first_of (w 1) true [] [] t.1.0.inputs in
+    let first : v 1 ≡ false = cc (t.0.inputs) in
+    let second : w 1 ≡ true = cc (t.1.0.inputs) in
     rw (first, second) refl
 input_judged (v ∷ w ∷ u ∷ vs) t = absurd t.1.1

@@ -1,10 +1,9 @@
 -- What is kept of a line of claims byte by byte is what its pieces claim.
-use Rattle.std.proofs.Common.{◌≡◌, ℕ, ◌<◌, ◌==◌, nat_lt, Bool, true, false, not, cond, ◌&&◌, ◌||◌, List, [], ◌∷◌, ◌++◌, Option, Some, None, Ok, Err, length, map, get_or, set, refl, sym, ap, ap₂, subst, ◌∙◌, ◌⊎◌, inl, inr}
+use Rattle.std.proofs.Common.{◌≡◌, ℕ, ◌<◌, ◌==◌, nat_lt, Bool, true, false, not, cond, ◌&&◌, ◌||◌, List, [], ◌∷◌, ◌++◌, Option, Some, None, Ok, Err, length, map, set, refl, sym, ap, ap₂, subst, ◌∙◌, ◌⊎◌, inl, inr}
 use Rattle.std.specs.List.{list_any, list_all}
 use Rattle.std.proofs.lemmas.Bool.{cases_Bool, and_parts, and_from, and_right, or_parts, or_from, or_left, or_right, eqb-true, eqb-false, eq-eqb, ne_eqb, lt-ltb, false_from_ne_true, not-true, false≢true}
 use Rattle.std.proofs.lemmas.List.{length-set, get_or-set_same, get_or-set_other}
 use Rattle.std.proofs.lemmas.List.Folds.{list_any-append, list_all-append}
-use Rattle.base.specs.Decimals.{is_decimal, number_of}
 use Rattle.witness.specs.declared.why.Why.TheVariants as why
 use Rattle.witness.specs.declared.word_claims.PieceClaim.{PieceClaim}
 use Rattle.witness.specs.declared.word_claims.PieceClaim.TheVariants as piece
@@ -13,37 +12,14 @@ use Rattle.witness.specs.declared.word_claims.ClaimsKind.TheVariants as kind
 use Rattle.witness.specs.declared.word_claims.ClaimScan.{ClaimScan}
 use Rattle.witness.specs.Texts.{are_distinct}
 use Rattle.witness.specs.Admits.{to_first, between_spaces, Claim, claim_of, with_claim, claims_of, judged_claims, claims_at}
-use Rattle.witness.specs.BitScans.{behind_first, Scans}
+use Rattle.witness.specs.BitScans.{Scans}
 use Rattle.witness.specs.Fits.{is_set, NoneIsSet, AreClaimed}
-use Rattle.witness.specs.WordClaims.{piece_of, claimed_by, and_claim, AreFine, AreUnfit, HaveJustice, IsKind, AreClaims}
+use Rattle.witness.specs.WordClaims.{piece_of, and_claim, AreFine, AreUnfit, HaveJustice, IsKind, AreClaims}
 use Rattle.witness.proofs.PieceLemmas.{some_piece}
-
-and-true : (b : Bool) → (b && true) ≡ b
-and-true true = refl
-and-true false = refl
-
-or-false : (b : Bool) → (b || false) ≡ b
-or-false true = refl
-or-false false = refl
+use Rattle.witness.proofs.AdmittedLineLemmas.{distinct_with}
+use Rattle.std.proofs.Math.Bool.{or-false, and-false}
 
 -- ---- numbers that stand twice
-
--- a number that is not among others, behind them
-differs-swapped : (x y : ℕ) → (x == y) ≡ false → (y == x) ≡ false
-differs-swapped x y h = false_from_ne_true (y == x) (λ e. eqb-false x y h (sym (eqb-true y x e)))
-
-distinct-more : (xs : List ℕ) (x : ℕ) → are_distinct xs ≡ true → list_any (λ y. y == x) xs ≡ false → are_distinct (xs ++ x ∷ []) ≡ true
-distinct-more [] x h none = refl
-distinct-more (y ∷ ys) x h none =
-    let parts = and_parts (not (list_any (λ z. z == y) ys)) (are_distinct ys) h in
-    let others = or_parts (y == x) (list_any (λ z. z == x) ys) none in
-    let fresh : list_any (λ z. z == y) ys ≡ false = not-true _ parts.0 in
-    let all : list_any (λ z. z == y) (ys ++ x ∷ []) ≡ false = list_any-append (λ z. z == y) ys (x ∷ []) ∙ or_from _ _ fresh (or_from _ _ (differs-swapped y x others.0) refl) in
-    rw all (distinct-more ys x parts.1 others.1)
-
-and-false : (b : Bool) → (b && false) ≡ false
-and-false true = refl
-and-false false = refl
 
 distinct-twice : (xs : List ℕ) (x : ℕ) (rest : List ℕ) → list_any (λ y. y == x) xs ≡ true → are_distinct (xs ++ x ∷ rest) ≡ false
 distinct-twice [] x rest h = absurd cc
@@ -119,31 +95,6 @@ claims_of_more (q ∷ whole) p = ap (with_claim (claim_of q)) (claims_of_more wh
 
 -- ---- what a piece claims
 
-pub piece_some : (bytes : List ℕ) (first n : ℕ) → first ≡ get_or bytes 0 0 → Some n ≡ number_of (behind_first bytes) → claimed_by first n ≡ piece_of (claim_of bytes)
-unfolding number_of is_decimal
-piece_some [] first n at is = absurd (cc is)
-piece_some (a ∷ tail) first n at is =
-    elim (cases_Bool (a == 98)) [
-      | inl b ↦ rw (at, b, sym is) refl
-      | inr not_b ↦
-          elim (cases_Bool (a == 106)) [
-            | inl j ↦ rw (at, not_b, j, sym is) refl
-            | inr not_j ↦ rw (at, not_b, not_j) refl
-          ]
-    ]
-
-pub piece_none : (bytes : List ℕ) → None ≡ number_of (behind_first bytes) → piece.Nothing ≡ piece_of (claim_of bytes)
-piece_none [] is = refl
-piece_none (a ∷ tail) is =
-    elim (cases_Bool (a == 98)) [
-      | inl b ↦ rw (b, sym is) refl
-      | inr not_b ↦
-          elim (cases_Bool (a == 106)) [
-            | inl j ↦ rw (not_b, j, sym is) refl
-            | inr not_j ↦ rw (not_b, not_j) refl
-          ]
-    ]
-
 pub bad_piece : (c : Option Claim) (n : ℕ) → piece.Bad n ≡ piece_of c → c ≡ Some (record { justice = false; index = n })
 bad_piece None n e = absurd (cc e)
 bad_piece (Some c) n e =
@@ -188,7 +139,7 @@ fine_more flags before n inside clear h =
       below =
           ap (λ (k : ℕ). list_all (λ c. nat_lt c.index k) (h.list ++ bad_claim n ∷ [])) many
           ∙ (list_all-append (λ c. nat_lt c.index (length flags)) h.list (bad_claim n ∷ []) ∙ and_from _ _ h.below (and_from (nat_lt n (length flags)) true (lt-ltb n (length flags) inside) refl));
-      distinct = ap are_distinct (numbers_more h.list (bad_claim n)) ∙ distinct-more (map (λ c. c.index) h.list) n h.distinct fresh;
+      distinct = ap are_distinct (numbers_more h.list (bad_claim n)) ∙ distinct_with (map (λ c. c.index) h.list) n h.distinct fresh;
       claimed = λ i.
           flag i (cases_Bool (n == i))
           ∙ sym (ap (list_any (λ c. c == i)) (numbers_more h.list (bad_claim n)) ∙ list_any-append (λ c. c == i) (map (λ c. c.index) h.list) (n ∷ []));

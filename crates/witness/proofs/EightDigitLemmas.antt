@@ -10,7 +10,8 @@ use lib.Bits.{bit_and}
 use Rattle.std.proofs.lemmas.Bool.{cases_Bool, and_parts, and_from, eqb-true, eq-eqb, false_from_ne_true, cases_lt}
 use Rattle.std.proofs.lemmas.Nat.{and_block, xor_block, xor_of_8}
 use Rattle.base.specs.Word.{bit_number}
-use Rattle.witness.specs.WordValues.{is_one, is_known, IsKnown, digits_word}
+use Rattle.witness.specs.BitScans.{is_bit, is_one_bit}
+use Rattle.witness.specs.WordValues.{IsKnown, digits_word}
 use Rattle.witness.proofs.WordValueLemmas.{known_nothing, known_more, bit_most}
 
 -- bytes as one number, the first the lowest
@@ -36,7 +37,7 @@ excess b = bit_and (bare b) 254
 -- ---- a byte has no excess where it is a digit
 
 abbrev tells : ℕ → Bool
-tells b = cond (excess b == 0) (is_known b && (bare b == bit_number (is_one b))) (not (is_known b))
+tells b = cond (excess b == 0) (is_bit b && (bare b == bit_number (is_one_bit b))) (not (is_bit b))
 
 abbrev all_below : (ℕ → Bool) → ℕ → Bool
 all_below p zero = true
@@ -56,18 +57,18 @@ each_below p (suc n) k h lt =
 each_tells : (b : ℕ) → b < 256 → tells b ≡ true
 each_tells b lt = each_below tells 256 b refl lt
 
-digit_without_excess : (b : ℕ) → b < 256 → excess b ≡ 0 → (is_known b ≡ true) × (bare b ≡ bit_number (is_one b))
+digit_without_excess : (b : ℕ) → b < 256 → excess b ≡ 0 → (is_bit b ≡ true) × (bare b ≡ bit_number (is_one_bit b))
 digit_without_excess b lt none =
-    let told : (is_known b && (bare b == bit_number (is_one b))) ≡ true = rw (eq-eqb (excess b) 0 none) at (each_tells b lt) in
-    let parts = and_parts (is_known b) (bare b == bit_number (is_one b)) told in
-    (parts.0, eqb-true (bare b) (bit_number (is_one b)) parts.1)
+    let told : (is_bit b && (bare b == bit_number (is_one_bit b))) ≡ true = rw (eq-eqb (excess b) 0 none) at (each_tells b lt) in
+    let parts = and_parts (is_bit b) (bare b == bit_number (is_one_bit b)) told in
+    (parts.0, eqb-true (bare b) (bit_number (is_one_bit b)) parts.1)
 
-excess_of_digit : (b : ℕ) → b < 256 → is_known b ≡ true → excess b ≡ 0
+excess_of_digit : (b : ℕ) → b < 256 → is_bit b ≡ true → excess b ≡ 0
 excess_of_digit b lt known =
     elim (cases_Bool (excess b == 0)) [
       | inl none ↦ eqb-true (excess b) 0 none
       | inr some ↦
-          let told : not (is_known b) ≡ true = rw some at (each_tells b lt) in
+          let told : not (is_bit b) ≡ true = rw some at (each_tells b lt) in
           absurd (cc (rw known at told))
     ]
 
@@ -86,21 +87,21 @@ excess_joined (b ∷ bs) are = and_block 8 (joined (map bare bs)) (joined (alway
 
 -- the bits that digits write
 abbrev pub bits_written : List ℕ → List ℕ
-bits_written bs = map (λ b. bit_number (is_one b)) bs
+bits_written bs = map (λ b. bit_number (is_one_bit b)) bs
 
-all_digits : (bs : List ℕ) → AreBytes bs → joined (map excess bs) ≡ 0 → (list_all is_known bs ≡ true) × (map bare bs ≡ bits_written bs)
+all_digits : (bs : List ℕ) → AreBytes bs → joined (map excess bs) ≡ 0 → (list_all is_bit bs ≡ true) × (map bare bs ≡ bits_written bs)
 all_digits [] are none = (refl, refl)
 all_digits (b ∷ bs) are none =
     let first : excess b ≡ 0 = omega (arith, none) in
     let others : joined (map excess bs) ≡ 0 = omega (arith, none) in
     let is = digit_without_excess b are.0 first in
     let more = all_digits bs are.1 others in
-    (and_from (is_known b) (list_all is_known bs) is.0 more.0, ap₂ (λ (d : ℕ) (ds : List ℕ). d ∷ ds) is.1 more.1)
+    (and_from (is_bit b) (list_all is_bit bs) is.0 more.0, ap₂ (λ (d : ℕ) (ds : List ℕ). d ∷ ds) is.1 more.1)
 
-no_excess : (bs : List ℕ) → AreBytes bs → list_all is_known bs ≡ true → joined (map excess bs) ≡ 0
+no_excess : (bs : List ℕ) → AreBytes bs → list_all is_bit bs ≡ true → joined (map excess bs) ≡ 0
 no_excess [] are known = refl
 no_excess (b ∷ bs) are known =
-    let parts = and_parts (is_known b) (list_all is_known bs) known in
+    let parts = and_parts (is_bit b) (list_all is_bit bs) known in
     omega (arith, excess_of_digit b are.0 parts.0, no_excess bs are.1 parts.1)
 
 -- ---- eight of them
@@ -116,11 +117,11 @@ bare_word bytes = bit_xor (from_le_bytes w64 bytes) 3472328296227680304
 
 -- what is told of eight bytes by the bits that no digit has
 pub record AreTested (bytes : List ℕ) : Type 0 where
-  pub digits : bit_and (bare_word bytes) 18374403900871474942 ≡ 0 → (list_all is_known bytes ≡ true) × ((bare_word bytes * 9241421688590303745) % 2 ^ 64 / 2 ^ 56 ≡ digits_word 0 bytes)
-  pub others : (bit_and (bare_word bytes) 18374403900871474942 ≡ 0 → ⊥) → list_all is_known bytes ≡ false
+  pub digits : bit_and (bare_word bytes) 18374403900871474942 ≡ 0 → (list_all is_bit bytes ≡ true) × ((bare_word bytes * 9241421688590303745) % 2 ^ 64 / 2 ^ 56 ≡ digits_word 0 bytes)
+  pub others : (bit_and (bare_word bytes) 18374403900871474942 ≡ 0 → ⊥) → list_all is_bit bytes ≡ false
 
-bit_least : (b : ℕ) → bit_number (is_one b) ≤ 1
-bit_least b = bit_most (bit_number (is_one b)) b refl
+bit_least : (b : ℕ) → bit_number (is_one_bit b) ≤ 1
+bit_least b = bit_most (bit_number (is_one_bit b)) b refl
 
 eight_tested : (a b c d e f g h : ℕ) → AreBytes (a ∷ b ∷ c ∷ d ∷ e ∷ f ∷ g ∷ h ∷ []) → AreTested (a ∷ b ∷ c ∷ d ∷ e ∷ f ∷ g ∷ h ∷ [])
 eight_tested a b c d e f g h are =
@@ -131,8 +132,8 @@ eight_tested a b c d e f g h are =
     record {
       digits = λ none.
           let all = all_digits bytes are (sym over ∙ none) in
-          (all.0, ap (λ (n : ℕ). (n * 9241421688590303745) % 2 ^ 64 / 2 ^ 56) (number ∙ ap joined all.1) ∙ gathered (bit_number (is_one a)) (bit_number (is_one b)) (bit_number (is_one c)) (bit_number (is_one d)) (bit_number (is_one e)) (bit_number (is_one f)) (bit_number (is_one g)) (bit_number (is_one h)) (bit_least a) (bit_least b) (bit_least c) (bit_least d) (bit_least e) (bit_least f) (bit_least g) (bit_least h));
-      others = λ some. false_from_ne_true (list_all is_known bytes) (λ known. some (over ∙ no_excess bytes are known));
+          (all.0, ap (λ (n : ℕ). (n * 9241421688590303745) % 2 ^ 64 / 2 ^ 56) (number ∙ ap joined all.1) ∙ gathered (bit_number (is_one_bit a)) (bit_number (is_one_bit b)) (bit_number (is_one_bit c)) (bit_number (is_one_bit d)) (bit_number (is_one_bit e)) (bit_number (is_one_bit f)) (bit_number (is_one_bit g)) (bit_number (is_one_bit h)) (bit_least a) (bit_least b) (bit_least c) (bit_least d) (bit_least e) (bit_least f) (bit_least g) (bit_least h));
+      others = λ some. false_from_ne_true (list_all is_bit bytes) (λ known. some (over ∙ no_excess bytes are known));
     }
 
 pub are_tested : (bytes : List ℕ) → length bytes ≡ 8 → AreBytes bytes → AreTested bytes
@@ -145,25 +146,25 @@ are_bytes (b ∷ bytes) small = (small 0, are_bytes bytes (λ k. small (suc k)))
 
 -- ---- the word that they write behind others
 
-pub known_behind : (x : ℕ) (front bytes : List ℕ) → IsKnown x front → list_all is_known bytes ≡ true → IsKnown (digits_word x bytes) (front ++ bytes)
+pub known_behind : (x : ℕ) (front bytes : List ℕ) → IsKnown x front → list_all is_bit bytes ≡ true → IsKnown (digits_word x bytes) (front ++ bytes)
 known_behind x front [] h known = subst (IsKnown x) (sym (append-nil front)) h
 known_behind x front (b ∷ bytes) h known =
-    let parts = and_parts (is_known b) (list_all is_known bytes) known in
-    subst (IsKnown (digits_word (x * 2 + bit_number (is_one b)) bytes)) (append_assoc front (b ∷ []) bytes)
-    (known_behind (x * 2 + bit_number (is_one b)) (front ++ b ∷ []) bytes (known_more x (bit_number (is_one b)) front b refl parts.0 h) parts.1)
+    let parts = and_parts (is_bit b) (list_all is_bit bytes) known in
+    subst (IsKnown (digits_word (x * 2 + bit_number (is_one_bit b)) bytes)) (append_assoc front (b ∷ []) bytes)
+    (known_behind (x * 2 + bit_number (is_one_bit b)) (front ++ b ∷ []) bytes (known_more x (bit_number (is_one_bit b)) front b refl parts.0 h) parts.1)
 
 pub eight_behind : (x : ℕ) (bytes : List ℕ) → length bytes ≡ 8 → digits_word x bytes ≡ x * 256 + digits_word 0 bytes
 eight_behind x (a ∷ b ∷ c ∷ d ∷ e ∷ f ∷ g ∷ h ∷ []) long = omega arith
 eight_behind x _ long = absurd (omega (arith, long))
 
 -- a digit more
-pub digits_more : (x : ℕ) (bytes : List ℕ) (b : ℕ) → digits_word x (bytes ++ b ∷ []) ≡ digits_word x bytes * 2 + bit_number (is_one b)
+pub digits_more : (x : ℕ) (bytes : List ℕ) (b : ℕ) → digits_word x (bytes ++ b ∷ []) ≡ digits_word x bytes * 2 + bit_number (is_one_bit b)
 digits_more x [] b = refl
-digits_more x (a ∷ bytes) b = digits_more (x * 2 + bit_number (is_one a)) bytes b
+digits_more x (a ∷ bytes) b = digits_more (x * 2 + bit_number (is_one_bit a)) bytes b
 
 -- digits of a word behind others, of which so many places are left
 pub record IsBehind (x n y : ℕ) (bytes : List ℕ) : Type 0 where
-  pub known : list_all is_known bytes ≡ true
+  pub known : list_all is_bit bytes ≡ true
   pub word : y ≡ digits_word x bytes
   pub small : y < 2 ^ (n + length bytes)
 
@@ -175,14 +176,14 @@ behind_below x n word bytes fewer h =
     let power : 2 ^ (n + length bytes) ≤ 2 ^ 63 = pow-le-pow_right {n = 2} (omega arith) {i = n + length bytes} {j = 63} (omega (arith, fewer)) in
     omega (arith, power, h.small)
 
-pub behind_more : (x n word bit : ℕ) (bytes : List ℕ) (b : ℕ) → bit ≡ bit_number (is_one b) → is_known b ≡ true → IsBehind x n word bytes → IsBehind x n (word * 2 + bit) (bytes ++ b ∷ [])
+pub behind_more : (x n word bit : ℕ) (bytes : List ℕ) (b : ℕ) → bit ≡ bit_number (is_one_bit b) → is_bit b ≡ true → IsBehind x n word bytes → IsBehind x n (word * 2 + bit) (bytes ++ b ∷ [])
 behind_more x n word bit bytes b is known h =
     let long : n + length (bytes ++ b ∷ []) ≡ suc (n + length bytes) = omega (arith, length-append bytes (b ∷ [])) in
     let double : 2 ^ (n + length (bytes ++ b ∷ [])) ≡ 2 ^ (n + length bytes) * 2 = rw long (pow-suc 2 (n + length bytes)) in
     let below = h.small in
     let was = h.word in
     record {
-      known = list_all-append is_known bytes (b ∷ []) ∙ and_from (list_all is_known bytes) (is_known b && true) h.known (and_from (is_known b) true known refl);
+      known = list_all-append is_bit bytes (b ∷ []) ∙ and_from (list_all is_bit bytes) (is_bit b && true) h.known (and_from (is_bit b) true known refl);
       word = omega (arith, is, was, digits_more x bytes b);
       small = omega (arith, double, bit_most bit b is, below);
     }
@@ -198,12 +199,12 @@ front_room x n front rest bytes h is most few =
 pub eight_long : (eight behind rest : List ℕ) → eight ≡ take 8 rest → length behind + 8 ≡ length rest → length eight ≡ 8
 eight_long eight behind rest front many = omega (arith, ap length front, length-take 8 rest, many)
 
-pub eight_small : (bytes : List ℕ) → length bytes ≡ 8 → list_all is_known bytes ≡ true → digits_word 0 bytes < 256
+pub eight_small : (bytes : List ℕ) → length bytes ≡ 8 → list_all is_bit bytes ≡ true → digits_word 0 bytes < 256
 eight_small bytes long known =
     let all : IsKnown (digits_word 0 bytes) bytes = known_behind 0 [] bytes known_nothing known in
     subst (λ (n : ℕ). digits_word 0 bytes < 2 ^ n) long all.small
 
-pub eight_more : (x y : ℕ) (front eight behind rest bytes : List ℕ) → IsKnown x front → bytes ≡ front ++ rest → eight ≡ take 8 rest → behind ≡ drop 8 rest → length eight ≡ 8 → list_all is_known eight ≡ true → y ≡ digits_word 0 eight
+pub eight_more : (x y : ℕ) (front eight behind rest bytes : List ℕ) → IsKnown x front → bytes ≡ front ++ rest → eight ≡ take 8 rest → behind ≡ drop 8 rest → length eight ≡ 8 → list_all is_bit eight ≡ true → y ≡ digits_word 0 eight
     → (more : List ℕ) × ((bytes ≡ more ++ behind) × IsKnown (x * 256 + y) more)
 eight_more x y front eight behind rest bytes h is first others long known value =
     let split : rest ≡ eight ++ behind = sym (ap₂ (λ (l r : List ℕ). l ++ r) first others ∙ take-append-drop 8 rest) in (
@@ -214,18 +215,18 @@ eight_more x y front eight behind rest bytes h is first others long known value 
       ),
     )
 
-rest_known : (front rest bytes : List ℕ) → bytes ≡ front ++ rest → list_all is_known bytes ≡ true → list_all is_known rest ≡ true
-rest_known front rest bytes is all = (and_parts (list_all is_known front) (list_all is_known rest) (sym (list_all-append is_known front rest) ∙ (sym (ap (list_all is_known) is) ∙ all))).1
+rest_known : (front rest bytes : List ℕ) → bytes ≡ front ++ rest → list_all is_bit bytes ≡ true → list_all is_bit rest ≡ true
+rest_known front rest bytes is all = (and_parts (list_all is_bit front) (list_all is_bit rest) (sym (list_all-append is_bit front rest) ∙ (sym (ap (list_all is_bit) is) ∙ all))).1
 
-pub some_unknown : (front eight rest bytes : List ℕ) → bytes ≡ front ++ rest → eight ≡ take 8 rest → list_all is_known eight ≡ false → list_all is_known bytes ≡ false
+pub some_unknown : (front eight rest bytes : List ℕ) → bytes ≡ front ++ rest → eight ≡ take 8 rest → list_all is_bit eight ≡ false → list_all is_bit bytes ≡ false
 some_unknown front eight rest bytes is first none =
-    false_from_ne_true (list_all is_known bytes)
+    false_from_ne_true (list_all is_bit bytes)
     (λ all.
-    let split : list_all is_known (take 8 rest ++ drop 8 rest) ≡ true = ap (list_all is_known) (take-append-drop 8 rest) ∙ rest_known front rest bytes is all in
-    let known : list_all is_known (take 8 rest) ≡ true = (and_parts (list_all is_known (take 8 rest)) (list_all is_known (drop 8 rest)) (sym (list_all-append is_known (take 8 rest) (drop 8 rest)) ∙ split)).0 in
+    let split : list_all is_bit (take 8 rest ++ drop 8 rest) ≡ true = ap (list_all is_bit) (take-append-drop 8 rest) ∙ rest_known front rest bytes is all in
+    let known : list_all is_bit (take 8 rest) ≡ true = (and_parts (list_all is_bit (take 8 rest)) (list_all is_bit (drop 8 rest)) (sym (list_all-append is_bit (take 8 rest) (drop 8 rest)) ∙ split)).0 in
     cc (none, first, known))
 
-pub known_end : (o : Option ℕ) (x : ℕ) (front rest bytes : List ℕ) → bytes ≡ front ++ rest → IsKnown x front → MatchOption o (list_all is_known rest ≡ false) (λ y. (list_all is_known rest ≡ true) × (y ≡ digits_word x rest))
-    → MatchOption o (list_all is_known bytes ≡ false) (λ y. IsKnown y bytes)
-known_end None x front rest bytes is h none = false_from_ne_true (list_all is_known bytes) (λ all. cc (none, rest_known front rest bytes is all))
+pub known_end : (o : Option ℕ) (x : ℕ) (front rest bytes : List ℕ) → bytes ≡ front ++ rest → IsKnown x front → MatchOption o (list_all is_bit rest ≡ false) (λ y. (list_all is_bit rest ≡ true) × (y ≡ digits_word x rest))
+    → MatchOption o (list_all is_bit bytes ≡ false) (λ y. IsKnown y bytes)
+known_end None x front rest bytes is h none = false_from_ne_true (list_all is_bit bytes) (λ all. cc (none, rest_known front rest bytes is all))
 known_end (Some y) x front rest bytes is h told = subst (IsKnown y) (sym is) (subst (λ (n : ℕ). IsKnown n (front ++ rest)) (sym told.1) (known_behind x front rest h told.0))

@@ -1,14 +1,13 @@
 -- What a run's words are after those of a part were given.
-use Rattle.std.proofs.Common.{◌≡◌, ◌≢◌, ℕ, suc, ◌+◌, ◌<◌, Bool, true, false, cond, not, ◌&&◌, ◌||◌, nat_eq, eq-eqb, eqb-true, List, [], ◌∷◌, length, map, get_or, set, filter, find, Option, Some, None, All, is_none, is_some, option_map, option_and_then, unwrap_or, refl, sym, ap, ◌∙◌, arith}
+use Rattle.std.proofs.Common.{◌≡◌, ◌≢◌, ℕ, suc, ◌+◌, ◌<◌, Bool, true, false, cond, not, ◌&&◌, ◌||◌, nat_eq, eq-eqb, eqb-true, List, [], ◌∷◌, length, map, get_or, set, filter, find, Option, Some, None, is_none, is_some, option_map, option_and_then, unwrap_or, refl, sym, ap, ◌∙◌, arith}
 use Rattle.std.specs.List.{position_from, list_any, AllByRecursion}
-use Rattle.std.proofs.lemmas.List.Elements.{All-head, recursion_from_All}
+use Rattle.std.proofs.lemmas.List.Elements.{recursion_from_All}
 use Rattle.std.specs.Option.{option_or}
 use Rattle.std.proofs.lemmas.Option.{none-some, same_Some}
 use Rattle.std.proofs.lemmas.Bool.{true≢false, and_parts, not-true}
 use Rattle.std.proofs.lemmas.List.{length-map, get_or-map, length-set, get_or-set_same, get_or-set_other}
 use Rattle.btor2.specs.declared.item.Item.{Item}
 use Rattle.btor2.specs.declared.item.Body.{Body}
-use Rattle.btor2.specs.declared.item.Body.TheVariants as body
 use Rattle.btor2.specs.Items.{find_item, is_input, is_state, names_state, init_value, next_value, constant_of, is_free, init_word}
 use Rattle.btor2.specs.Trace.{Frame, next_state}
 use Rattle.runs.specs.Frames.{ids_of, rank}
@@ -17,10 +16,10 @@ use Rattle.runs.specs.Run.{first_word, zeros}
 use Rattle.runs.proofs.RankLemmas.{rank-below, ids-rank, length-ids}
 use Rattle.witness.specs.Texts.{Shape, shape_of, is_free_index, are_distinct}
 use Rattle.btor2.specs.Lists.{of_kind}
-use Rattle.witness.specs.Judgements.{FrameWords, Words, index_of, given, given_to, initial_part, initial_words, given_words}
-use Rattle.witness.specs.Fits.{LaterFits, StandsAt, StandsBefore, words_put}
-
--- ---- words that fit
+use Rattle.witness.specs.Judgements.{FrameWords, index_of, given, given_to, initial_words, given_words}
+use Rattle.witness.specs.Fits.{LaterFits, StandsAt, words_put}
+use Rattle.btor2.proofs.IdLemmas.{input_is_no_state}
+use Rattle.witness.specs.WordPlays.{frames_alone}
 
 -- ---- words put into a list
 
@@ -100,20 +99,8 @@ or_else (Some n) p = refl
 pub named_state : (items : List Item) (id : ℕ) (y : Item) → find_item items id ≡ Some y → is_state y.body ≡ true → names_state items id ≡ true
 named_state items id y found is = rw (found, is) refl
 
-not_state : (b : Body) → is_input b ≡ true → is_state b ≡ false
-not_state (body.Input s) h = refl
-not_state _ h = absurd (cc)
-
 named_input : (items : List Item) (id : ℕ) (y : Item) → find_item items id ≡ Some y → is_input y.body ≡ true → names_state items id ≡ false
-named_input items id y found is = rw (found, not_state y.body is) refl
-
--- the words of the states after the first frame's part was given
-pub states_given : (items : List Item) (w : Words) → are_distinct (map (λ (p : ℕ × ℕ). p.0) (initial_part w.frames)) ≡ true
-    → SameAt is_state items (given_at is_state items (words_put (map (first_word items) (ids_of is_state items)) (initial_part w.frames))) (initial_words items w)
-states_given items w d id y found is =
-    let g : Option ℕ = given_to is_state items (initial_part w.frames) id in
-    put_given is_state items (map (first_word items) (ids_of is_state items)) (initial_part w.frames) (length-map (ids_of is_state items) (first_word items)) d id y found is
-    ∙ (ap (unwrap_or g) (words_of_kind is_state items (first_word items) id y found is) ∙ or_else g (init_word items id))
+named_input items id y found is = rw (found, input_is_no_state y.body is) refl
 
 -- the words of the inputs after a frame's part was given
 pub inputs_given : (items : List Item) (frame : FrameWords) → are_distinct (map (λ (p : ℕ × ℕ). p.0) frame.inputs) ≡ true
@@ -175,7 +162,7 @@ state_there items id named = by (find_item items id) refl named
     by (Some y) e h = (y, (e, by_kind y (is_state y.body) h))
 
 -- a run that has the next words stands before a later frame
-later_stands : (items : List Item) (f words : Frame) (frame : FrameWords) → LaterFits (shape_of items) frame → SameAt is_state items words (next_state items f) → StandsAt items (next_state items f) frame words
+pub later_stands : (items : List Item) (f words : Frame) (frame : FrameWords) → LaterFits (shape_of items) frame → SameAt is_state items words (next_state items f) → StandsAt items (next_state items f) frame words
 later_stands items f words frame fits same id named =
     let there = state_there items id named in
     let y : Item = there.0 in
@@ -184,28 +171,19 @@ later_stands items f words frame fits same id named =
     ∙ (next_cases items f g (init_value items id) (next_value items id) (none_given items frame id y fits there.1.0 there.1.1)
     ∙ ap (λ (b : Bool). cond (is_free items id) (unwrap_or (cond b g (given_to is_input items frame.inputs id)) 0) (next_state items f id)) (sym named))
 
-pub next_stands : (items : List Item) (f words : Frame) (frames : List FrameWords) → All (LaterFits (shape_of items)) frames → SameAt is_state items words (next_state items f) → StandsBefore items (next_state items f) frames words
-next_stands items f words [] fit same = tt
-next_stands items f words (frame ∷ more) fit same = later_stands items f words frame (All-head (LaterFits (shape_of items)) frame more fit) same
-
 first_cases : (items : List Item) (g o n : Option ℕ)
-    → unwrap_or g (unwrap_or (option_or g (option_and_then (constant_of items) o)) 0)
-    ≡ cond (is_none o && is_none n) (unwrap_or g 0) (unwrap_or (option_or g (option_and_then (constant_of items) o)) 0)
+    → unwrap_or (option_or g (option_and_then (constant_of items) o)) 0 ≡ cond (is_none o && is_none n) (unwrap_or g 0) (unwrap_or (option_or g (option_and_then (constant_of items) o)) 0)
 first_cases items None None None = refl
 first_cases items (Some v) None None = refl
-first_cases items None None (Some n) = refl
-first_cases items (Some v) None (Some n) = refl
-first_cases items None (Some u) n = refl
-first_cases items (Some v) (Some u) n = refl
+first_cases items g None (Some n) = refl
+first_cases items g (Some u) n = refl
 
--- a run that has the initial words stands before the first frame
-pub first_stands : (items : List Item) (w : Words) (words : Frame) (frames : List FrameWords) → w.frames ≡ frames → SameAt is_state items words (initial_words items w) → StandsBefore items (initial_words items w) frames words
-first_stands items w words [] e same = tt
-first_stands items w words (frame ∷ more) e same = λ id named.
+-- a run that has the words of the init lines stands before the first frame
+pub first_stands : (items : List Item) (frame : FrameWords) (words : Frame) → SameAt is_state items words (first_word items) → StandsAt items (initial_words items (frames_alone (frame ∷ []))) frame words
+first_stands items frame words same id named =
     let there = state_there items id named in
     let g : Option ℕ = given_to is_state items frame.states id in
-    let own : initial_words items w id ≡ unwrap_or (option_or g (init_word items id)) 0 = ap (λ (l : List FrameWords). unwrap_or (option_or (given_to is_state items (initial_part l) id) (init_word items id)) 0) e in
-    ap (unwrap_or g) (same id there.0 there.1.0 there.1.1 ∙ own)
+    ap (unwrap_or g) (same id there.0 there.1.0 there.1.1)
+    ∙ (or_else g (init_word items id)
     ∙ (first_cases items g (init_value items id) (next_value items id)
-    ∙ (ap (λ (v : ℕ). cond (is_free items id) (unwrap_or g 0) v) (sym own)
-    ∙ ap (λ (b : Bool). cond (is_free items id) (unwrap_or (cond b g (given_to is_input items frame.inputs id)) 0) (initial_words items w id)) (sym named)))
+    ∙ ap (λ (b : Bool). cond (is_free items id) (unwrap_or (cond b g (given_to is_input items frame.inputs id)) 0) (unwrap_or (option_or g (init_word items id)) 0)) (sym named)))

@@ -1,5 +1,5 @@
 -- A whole line of a witness over a model that is none of the claims is admitted as its first 342 bytes are, or refused for the same why.
-use Rattle.std.proofs.Common.{◌≡◌, ℕ, zero, suc, ◌+◌, ◌-◌, ◌<◌, ◌≤◌, ◌^◌, ◌==◌, ◌⊎◌, nat_lt, nat_le, Bool, true, false, not, ◌&&◌, ◌||◌, cond, List, [], ◌∷◌, ◌++◌, Option, Some, None, Result, Ok, Err, length, take, slice_index, codes, decimal, refl, sym, ap, ap₂, ◌∙◌, inl, inr, arith}
+use Rattle.std.proofs.Common.{◌≡◌, ℕ, zero, suc, ◌+◌, ◌-◌, ◌<◌, ◌≤◌, ◌^◌, ◌==◌, nat_lt, nat_le, Bool, true, false, not, ◌&&◌, ◌||◌, cond, List, [], ◌∷◌, ◌++◌, Option, Some, None, Result, Ok, Err, length, take, slice_index, codes, decimal, refl, sym, ap, ap₂, ◌∙◌, inl, inr, arith}
 use Rattle.std.specs.List.{list_any}
 use Rattle.std.specs.Str.{bytes_eq}
 use Rattle.std.proofs.lemmas.Bool.{cases_Bool, cases_lt, false_from_ne_true, leb-true, ltb-true}
@@ -17,6 +17,7 @@ use Rattle.witness.specs.Admits.{Cut, to_front, cut_at_space, value_of, with_sym
 use Rattle.witness.specs.KeptLines.{kept, AreAlike, IsSmall, AreSmall}
 use Rattle.witness.specs.WordStands.{WordReader, GivesLine, is_alone}
 use Rattle.witness.proofs.WordValueLemmas.{other_length}
+use Rattle.std.proofs.Math.Bool.{and-false}
 
 -- ---- more bytes
 
@@ -69,47 +70,25 @@ number_kept line b k small =
 
 -- ---- what stands before the first space of a line and of its first n bytes
 
--- the same, where there is a space among these bytes
-record SameToken (n : ℕ) (line : List ℕ) : Type 0 where
-  token : List ℕ
-  behind : List ℕ
-  room : ℕ
-  whole : cut_at_space line ≡ (token, Some behind)
-  front : cut_at_space (take n line) ≡ (token, Some (take room behind))
-  many : length token + suc room ≡ n
+-- the line has no more bytes; or there is a space among these bytes, and what stands before it is the same; or what stands before it is as long at least of both
+data Tokens (n : ℕ) (line : List ℕ) : Type 0 where
+  Short : length line ≤ n → Tokens n line
+  Same : (token behind : List ℕ) (room : ℕ) → cut_at_space line ≡ (token, Some behind) → cut_at_space (take n line) ≡ (token, Some (take room behind)) → length token + suc room ≡ n → Tokens n line
+  Long : n ≤ length (cut_at_space line).0 → n ≤ length (cut_at_space (take n line)).0 → Tokens n line
 
--- and else both are as long at least
-record LongTokens (n : ℕ) (line : List ℕ) : Type 0 where
-  whole : n ≤ length (cut_at_space line).0
-  front : n ≤ length (cut_at_space (take n line)).0
-
-tokens : (n : ℕ) (line : List ℕ) → (length line ≤ n) ⊎ (SameToken n line ⊎ LongTokens n line)
-tokens zero line = inr (inr (record { whole = omega arith; front = omega arith }))
-tokens (suc n) [] = inl (omega arith)
+tokens : (n : ℕ) (line : List ℕ) → Tokens n line
+tokens zero line = Long (omega arith) (omega arith)
+tokens (suc n) [] = Short (omega arith)
 tokens (suc n) (b ∷ line) =
     elim (cases_Bool (b == 32)) [
-      | inl is ↦ inr (inl (record { token = []; behind = line; room = n; whole = rw is refl; front = rw is refl; many = omega arith }))
-      | inr not ↦
-          elim (tokens n line) [
-            | inl short ↦ inl (omega (arith, short))
-            | inr other ↦
-                elim other [
-                  | inl same ↦
-                      inr (inl (record {
-                        token = b ∷ same.token;
-                        behind = same.behind;
-                        room = same.room;
-                        whole = rw not (ap (to_front b) same.whole);
-                        front = rw not (ap (to_front b) same.front);
-                        many = let many = same.many in omega (arith, many);
-                      }))
-                  | inr long ↦
-                      let whole = long.whole in
-                      let front = long.front in
-                      inr (inr (record { whole = rw not (omega (arith, whole)); front = rw not (omega (arith, front)) }))
-                ]
-          ]
+      | inl is ↦ Same [] line n (rw is refl) (rw is refl) (omega arith)
+      | inr not ↦ one_more not (tokens n line)
     ]
+  where
+    one_more : (b == 32) ≡ false → Tokens n line → Tokens (suc n) (b ∷ line)
+    one_more not (Short short) = Short (omega (arith, short))
+    one_more not (Same token behind room whole front many) = Same (b ∷ token) behind room (rw not (ap (to_front b) whole)) (rw not (ap (to_front b) front)) (omega (arith, many))
+    one_more not (Long whole front) = Long (rw not (omega (arith, whole))) (rw not (omega (arith, front)))
 
 -- ---- a name
 
@@ -118,10 +97,6 @@ no_symbol [] long = absurd (omega (arith, long))
 no_symbol (b ∷ name) long =
     let past : nat_le (length (b ∷ name)) 255 ≡ false = false_from_ne_true (nat_le (length (b ∷ name)) 255) (λ e. let below = leb-true (length (b ∷ name)) 255 e in omega (arith, below, long)) in
     rw past (and-false (not (b == 59)))
-  where
-    and-false : (b : Bool) → (b && false) ≡ false
-    and-false true = refl
-    and-false false = refl
 
 two_long_names : (before : List Assignment) (i : ℕ) (name other : List ℕ) (value : Result ℕ Why) → 255 < length name → 255 < length other → with_symbol before i (Some name) value ≡ with_symbol before i (Some other) value
 two_long_names before i name other (Err w) long as_long = refl
@@ -143,25 +118,19 @@ abbrev with_cut : List Assignment → ℕ → ℕ → Cut → Result (List Assig
 with_cut before i width cut = with_symbol before i cut.1 (value_of width cut.0)
 
 value_kept : (before : List Assignment) (i width n : ℕ) (behind : List ℕ) → width ≤ 64 → 320 < n → with_cut before i width (cut_at_space (take n behind)) ≡ with_cut before i width (cut_at_space behind)
-value_kept before i width n behind small room =
-    elim (tokens n behind) [
-      | inl short ↦ ap (λ (l : List ℕ). with_cut before i width (cut_at_space l)) (take_all n behind short)
-      | inr other ↦
-          elim other [
-            | inl same ↦
-                let many = same.many in
-                let named : with_cut before i width (same.token, Some (take same.room same.behind)) ≡ with_cut before i width (same.token, Some same.behind) =
-                elim (cases_lt 64 (length same.token)) [
-                  | inl long ↦ rw (too_long width same.token small long) refl
-                  | inr short ↦ name_kept before i same.room same.behind (value_of width same.token) (omega (arith, many, short, room))
-                ] in
-                ap (with_cut before i width) same.front ∙ (named ∙ sym (ap (with_cut before i width) same.whole))
-            | inr long ↦
-                let whole = long.whole in
-                let front = long.front in
-                rw (too_long width (cut_at_space (take n behind)).0 small (omega (arith, front, room)), too_long width (cut_at_space behind).0 small (omega (arith, whole, room))) refl
-          ]
-    ]
+value_kept before i width n behind small room = by (tokens n behind)
+  where
+    by : Tokens n behind → with_cut before i width (cut_at_space (take n behind)) ≡ with_cut before i width (cut_at_space behind)
+    by (Short short) = ap (λ (l : List ℕ). with_cut before i width (cut_at_space l)) (take_all n behind short)
+    by (Same token rest left whole front many) =
+        let named : with_cut before i width (token, Some (take left rest)) ≡ with_cut before i width (token, Some rest) =
+        elim (cases_lt 64 (length token)) [
+          | inl long ↦ rw (too_long width token small long) refl
+          | inr short ↦ name_kept before i left rest (value_of width token) (omega (arith, many, short, room))
+        ] in
+        ap (with_cut before i width) front ∙ (named ∙ sym (ap (with_cut before i width) whole))
+    by (Long whole front) =
+        rw (too_long width (cut_at_space (take n behind)).0 small (omega (arith, front, room)), too_long width (cut_at_space behind).0 small (omega (arith, whole, room))) refl
 
 -- ---- an assignment
 
@@ -200,19 +169,14 @@ module _ (widths : List ℕ) (before : List Assignment) (small : AreSmall widths
 
   assignment_kept : (line : List ℕ) → assignment_at widths before (kept line) ≡ assignment_at widths before line
   unfolding assignment_at
-  assignment_kept line =
-      elim (tokens 342 line) [
-        | inl short ↦ ap (λ (l : List ℕ). by_cut (cut_at_space l)) (take_all 342 line short)
-        | inr other ↦
-            elim other [
-              | inl same ↦ ap by_cut same.front ∙ (same_index same.token same.behind same.room (number_of same.token) same.many refl ∙ sym (ap by_cut same.whole))
-              | inr long ↦
-                  let whole = long.whole in
-                  let front = long.front in
-                  long_index (cut_at_space (kept line)).1 (cut_at_space (kept line)).0 (number_of (cut_at_space (kept line)).0) (omega (arith, front)) refl
-                  ∙ sym (long_index (cut_at_space line).1 (cut_at_space line).0 (number_of (cut_at_space line).0) (omega (arith, whole)) refl)
-            ]
-      ]
+  assignment_kept line = by (tokens 342 line)
+    where
+      by : Tokens 342 line → by_cut (cut_at_space (kept line)) ≡ by_cut (cut_at_space line)
+      by (Short short) = ap (λ (l : List ℕ). by_cut (cut_at_space l)) (take_all 342 line short)
+      by (Same token behind left whole front many) = ap by_cut front ∙ (same_index token behind left (number_of token) many refl ∙ sym (ap by_cut whole))
+      by (Long whole front) =
+          long_index (cut_at_space (kept line)).1 (cut_at_space (kept line)).0 (number_of (cut_at_space (kept line)).0) (omega (arith, front)) refl
+          ∙ sym (long_index (cut_at_space line).1 (cut_at_space line).0 (number_of (cut_at_space line).0) (omega (arith, whole)) refl)
 
   long_refused : (line : List ℕ) → 20 < length (cut_at_space line).0 → assignment_at widths before line ≡ Err why.BadIndex
   unfolding assignment_at
@@ -226,22 +190,15 @@ same_either false false x y e is other = refl
 
 free_kept : (shape : Shape) (before : List Assignment) (line : List ℕ) → AreSmall shape.states → free_assignment_at shape before (kept line) ≡ free_assignment_at shape before line
 unfolding free_assignment_at
-free_kept shape before line small =
-    elim (tokens 342 line) [
-      | inl short ↦ ap (λ (l : List ℕ). cond (names_free shape (number_of (cut_at_space l).0)) (assignment_at shape.states before l) (Err why.BadIndex)) (take_all 342 line short)
-      | inr other ↦
-          elim other [
-            | inl same ↦
-                let token : (cut_at_space (kept line)).0 ≡ (cut_at_space line).0 = ap (λ (c : Cut). c.0) same.front ∙ sym (ap (λ (c : Cut). c.0) same.whole) in
-                ap₂ (λ (t : List ℕ) (a : Result (List Assignment) Why). cond (names_free shape (number_of t)) a (Err why.BadIndex)) token (assignment_kept shape.states before small line)
-            | inr long ↦
-                let whole = long.whole in
-                let front = long.front in
-                same_either (names_free shape (number_of (cut_at_space (kept line)).0)) (names_free shape (number_of (cut_at_space line).0)) (assignment_at shape.states before (kept line)) (assignment_at shape.states before line) (Err why.BadIndex)
-                (long_refused shape.states before small (kept line) (omega (arith, front)))
-                (long_refused shape.states before small line (omega (arith, whole)))
-          ]
-    ]
+free_kept shape before line small = by (tokens 342 line)
+  where
+    by : Tokens 342 line → cond (names_free shape (number_of (cut_at_space (kept line)).0)) (assignment_at shape.states before (kept line)) (Err why.BadIndex) ≡ cond (names_free shape (number_of (cut_at_space line).0)) (assignment_at shape.states before line) (Err why.BadIndex)
+    by (Short short) = ap (λ (l : List ℕ). cond (names_free shape (number_of (cut_at_space l).0)) (assignment_at shape.states before l) (Err why.BadIndex)) (take_all 342 line short)
+    by (Same token behind left whole front many) =
+        ap₂ (λ (t : List ℕ) (a : Result (List Assignment) Why). cond (names_free shape (number_of t)) a (Err why.BadIndex)) (ap (λ (c : Cut). c.0) front ∙ sym (ap (λ (c : Cut). c.0) whole)) (assignment_kept shape.states before small line)
+    by (Long whole front) =
+        same_either (names_free shape (number_of (cut_at_space (kept line)).0)) (names_free shape (number_of (cut_at_space line).0)) (assignment_at shape.states before (kept line)) (assignment_at shape.states before line) (Err why.BadIndex)
+        (long_refused shape.states before small (kept line) (omega (arith, front))) (long_refused shape.states before small line (omega (arith, whole)))
 
 -- ---- a line
 

@@ -1,24 +1,28 @@
 -- A plain line at the front of a text, digit by digit and part by part.
-use Rattle.std.proofs.Common.{◌≡◌, ◌⊎◌, ℕ, zero, suc, ◌+◌, ◌-◌, ◌*◌, ◌/◌, ◌%◌, ◌<◌, ◌≤◌, ◌^◌, ◌==◌, Bool, true, false, List, [], ◌∷◌, ◌++◌, Option, Some, None, IfSome, length, map, reverse, get_or, slice_index, take, drop, decimal, append_assoc, length-append, inl, inr, refl, sym, ap, ap₂, subst, ◌∙◌, arith}
-use Rattle.std.specs.List.{list_any, list_all}
+use Rattle.std.proofs.Common.{◌≡◌, ◌⊎◌, ℕ, zero, suc, ◌+◌, ◌-◌, ◌*◌, ◌/◌, ◌%◌, ◌<◌, ◌≤◌, ◌^◌, ◌==◌, Bool, true, false, List, [], ◌∷◌, ◌++◌, Option, Some, None, IfSome, length, map, reverse, get_or, slice_index, take, drop, decimal, append_assoc, length-append, inl, inr, refl, sym, ap, ap₂, subst, ◌∙◌, arith, not, ◌&&◌, nat_le, MatchOption}
+use Rattle.std.specs.List.{list_any, list_all, position, position_from}
 use Rattle.std.proofs.Math.Nat.{pow-suc, pow-le-pow_right}
-use Rattle.std.proofs.lemmas.Bool.{cases_Bool, cases_lt, eqb-false, or_parts}
+use Rattle.std.proofs.lemmas.Bool.{cases_Bool, cases_lt, eqb-false, or_parts, and_parts, and_from}
 use Rattle.std.proofs.lemmas.Fmt.{decimal_digit, decimal_step, decimal_nonempty, first_decimal, length-decimal-le, decimal_injective}
-use Rattle.std.proofs.lemmas.List.{take_more, get_or-take, get_or_at, get_or_append_left, length-take, length-map, length-reverse, take-append-le, drop-append-le, take_all, drop_all}
+use Rattle.std.proofs.lemmas.List.{take_more, get_or-take, get_or_at, get_or_append_left, length-take, length-map, length-reverse, take-append-le, drop-append-le, take_all, drop_all, take-append-drop}
 use Rattle.std.proofs.lemmas.List.Folds.{list_all_at}
 use Rattle.base.specs.Decimals.{is_digit}
-use Rattle.base.specs.Lines.{HasNone, IsLine}
+use Rattle.base.specs.Lines.{HasNone}
 use Rattle.base.specs.Word.{bits}
 use Rattle.base.proofs.BitLemmas.{length-bits}
 use Rattle.base.proofs.DecimalLemmas.{digit_range}
-use Rattle.btor2.specs.Symbols.{is_symbol}
+use Rattle.btor2.specs.Symbols.{is_symbol, is_printed}
 use Rattle.witness.specs.Texts.{digit, binary, symbol_part}
 use Rattle.witness.specs.Fits.{is_set}
-use Rattle.witness.specs.WordValues.{is_known, IsKnown}
+use Rattle.witness.specs.BitScans.{is_bit}
+use Rattle.witness.specs.WordValues.{IsKnown}
 use Rattle.witness.specs.PlainLines.{BeginsName, NoName, BeginsWord, BeginsAssignment}
 use Rattle.witness.proofs.PieceLemmas.{decimal_digits, decimal_without, IsBinary, value_is_binary}
-use Rattle.witness.proofs.AssignmentLemmas.{name_is_line}
 use Rattle.witness.proofs.WordValueLemmas.{value_known}
+use Rattle.std.proofs.Math.Bool.{and-true}
+use Rattle.std.proofs.Math.Seq.{drop-append_seam, take-append_seam}
+use Rattle.std.proofs.lemmas.List.Quantifiers.{position-Some}
+use Rattle.std.proofs.lemmas.Iterator.Adapters.{position_from-zero}
 
 -- a byte is a digit from 0 to 9
 abbrev pub IsDigit : ℕ → Type 0
@@ -165,15 +169,9 @@ same_number e m n r s low small other h =
     let same = same_split e (decimal m) (decimal n) r s (decimal_without e m low small) (decimal_without e n low other) h in
     (decimal_injective m n small other same.0, same.1)
 
--- a name ends at the first byte 10
-no_end : (name rest : List ℕ) → IsLine (name ++ 10 ∷ rest) → ⊥
-no_end [] rest h = cc
-no_end (b ∷ name) rest h = no_end name rest (or_parts (b == 10) (list_any (λ c. c == 10) (name ++ 10 ∷ rest)) h).1
-
-name_parts : (text rest : List ℕ) (symbol : Option (List ℕ)) → text ≡ symbol_part symbol ++ 10 ∷ rest → IfSome symbol (λ bytes. is_symbol bytes ≡ true)
-    → (text ≡ 10 ∷ rest) ⊎ ((name : List ℕ) × ((text ≡ 32 ∷ (name ++ 10 ∷ rest)) × (is_symbol name ≡ true) × IsLine name))
+name_parts : (text rest : List ℕ) (symbol : Option (List ℕ)) → text ≡ symbol_part symbol ++ 10 ∷ rest → IfSome symbol (λ bytes. is_symbol bytes ≡ true) → (text ≡ 10 ∷ rest) ⊎ ((name : List ℕ) × ((text ≡ 32 ∷ (name ++ 10 ∷ rest)) × (is_symbol name ≡ true)))
 name_parts text rest None is valid = inl is
-name_parts text rest (Some name) is valid = inr (name, (is, valid, (or_parts (32 == 10) (list_any (λ b. b == 10) name) (name_is_line (Some name) valid)).1))
+name_parts text rest (Some name) is valid = inr (name, (is, valid))
 
 tail_same : (x y : ℕ) (xs ys : List ℕ) → x ∷ xs ≡ y ∷ ys → xs ≡ ys
 tail_same x y xs ys h = cc
@@ -181,9 +179,6 @@ tail_same x y xs ys h = cc
 module _ (text behind : List ℕ) (first : ℕ) (whole : text ≡ first ∷ behind) where
   pub name_none : first ≡ 10 → BeginsName text behind
   name_none end = record { symbol = None; is = whole ∙ ap (λ (b : ℕ). b ∷ behind) end; valid = tt }
-
-  pub name_begins : (name rest : List ℕ) → first ≡ 32 → behind ≡ name ++ 10 ∷ rest → is_symbol name ≡ true → BeginsName text rest
-  name_begins name rest space is valid = record { symbol = Some name; is = whole ∙ ap₂ (λ (b : ℕ) (l : List ℕ). b ∷ l) space is; valid = valid }
 
   -- another first byte
   pub no_name_at : (first ≡ 10 → ⊥) → (first ≡ 32 → ⊥) → NoName text
@@ -193,27 +188,74 @@ module _ (text behind : List ℕ) (first : ℕ) (whole : text ≡ first ∷ behi
         | inr parts ↦ space (ap (λ (l : List ℕ). get_or l 0 0) (sym whole ∙ parts.1.0))
       ]
 
-  -- no end of the line
-  pub no_name_end : first ≡ 32 → IsLine behind → NoName text
-  no_name_end space one rest begins =
-      elim (name_parts text rest begins.symbol begins.is begins.valid) [
-        | inl is ↦
-            let e : first ≡ 10 = ap (λ (l : List ℕ). get_or l 0 0) (sym whole ∙ is) in
-            omega (arith, e, space)
-        | inr parts ↦ no_end parts.0 rest (subst IsLine (tail_same first 32 behind (parts.0 ++ 10 ∷ rest) (sym whole ∙ parts.1.0)) one)
-      ]
+  -- a space
+  pub name_behind : {A : Type 0} (o : Option A) (view : A → List ℕ) → first ≡ 32 → MatchOption o (NoName (32 ∷ behind)) (λ x. BeginsName (32 ∷ behind) (view x)) → MatchOption o (NoName text) (λ x. BeginsName text (view x))
+  name_behind o view space told = subst (λ (t : List ℕ). MatchOption o (NoName t) (λ x. BeginsName t (view x))) (sym (whole ∙ ap (λ (b : ℕ). b ∷ behind) space)) told
 
-  -- no name up to it
-  pub no_symbol_there : (name others : List ℕ) → first ≡ 32 → behind ≡ name ++ 10 ∷ others → IsLine name → is_symbol name ≡ false → NoName text
-  no_symbol_there name others space is one none rest begins =
-      elim (name_parts text rest begins.symbol begins.is begins.valid) [
-        | inl end ↦
-            let e : first ≡ 10 = ap (λ (l : List ℕ). get_or l 0 0) (sym whole ∙ end) in
-            omega (arith, e, space)
-        | inr parts ↦
-            let own = same_split 10 name parts.0 others rest one parts.1.2 (sym is ∙ tail_same first 32 behind (parts.0 ++ 10 ∷ rest) (sym whole ∙ parts.1.0)) in
-            cc (none, parts.1.1, ap is_symbol own.0)
-      ]
+-- ---- a name
+
+abbrev is_other : ℕ → Bool
+is_other b = not (is_printed b)
+
+-- bytes of a name before one that is none
+name_bytes : (name : List ℕ) → is_symbol name ≡ true → list_all is_printed name ≡ true
+name_bytes [] h = absurd cc
+name_bytes (b ∷ name) h = (and_parts (nat_le (length (b ∷ name)) 255) (list_all is_printed (b ∷ name)) (and_parts (not (b == 59)) (nat_le (length (b ∷ name)) 255 && list_all is_printed (b ∷ name)) h).1).1
+
+ends_from : (n : ℕ) (name rest : List ℕ) → list_all is_printed name ≡ true → position_from is_other n (name ++ 10 ∷ rest) ≡ Some (n + length name)
+ends_from n [] rest all = ap (λ (m : ℕ). Some m) (omega arith)
+ends_from n (b ∷ name) rest all =
+    let parts = and_parts (is_printed b) (list_all is_printed name) all in
+    rw parts.0 (ends_from (n + 1) name rest parts.1 ∙ ap (λ (m : ℕ). Some m) (omega arith))
+
+front_printed : (text : List ℕ) (n : ℕ) → ((k : ℕ) → k < n → is_other (get_or text k 0) ≡ false) → list_all is_printed (take n text) ≡ true
+front_printed text zero before = refl
+front_printed [] (suc n) before = refl
+front_printed (b ∷ text) (suc n) before = and_from (is_printed b) (list_all is_printed (take n text)) (shown (is_printed b) (before 0 (omega arith))) (front_printed text n (λ k lt. before (suc k) (omega arith)))
+  where
+    shown : (t : Bool) → not t ≡ false → t ≡ true
+    shown true h = refl
+    shown false h = absurd cc
+
+-- where a name and the end of its line stand behind a space
+pub name_there : (text rest : List ℕ) → BeginsName (32 ∷ text) rest → (name : List ℕ) × ((text ≡ name ++ 10 ∷ rest) × (is_symbol name ≡ true) × (position is_other text ≡ Some (length name)))
+name_there text rest begins =
+    elim (name_parts (32 ∷ text) rest begins.symbol begins.is begins.valid) [
+      | inl is ↦ absurd (omega (arith, ap (λ (l : List ℕ). get_or l 0 0) is))
+      | inr parts ↦
+          let is : text ≡ parts.0 ++ 10 ∷ rest = tail_same 32 32 text (parts.0 ++ 10 ∷ rest) parts.1.0 in
+          let ends = position_from-zero is_other (parts.0 ++ 10 ∷ rest) ∙ (ends_from 0 parts.0 rest (name_bytes parts.0 parts.1.1) ∙ ap (λ (m : ℕ). Some m) (omega arith)) in
+          (parts.0, (is, parts.1.1, ap (position is_other) is ∙ ends))
+    ]
+
+-- what stands in front of the first byte that is none of a name, and behind
+module _ (text front behind : List ℕ) (at : ℕ) (is : Some at ≡ position is_other text) (is_front : front ≡ take at text) (is_behind : behind ≡ drop at text) where
+  pub front_is_printed : list_all is_printed front ≡ true
+  front_is_printed = ap (list_all is_printed) is_front ∙ front_printed text at (position-Some is_other text at 0 (sym is)).2
+
+  pub name_is : (rest : List ℕ) → BeginsName (32 ∷ text) rest → (behind ≡ 10 ∷ rest) × (is_symbol front ≡ true)
+  name_is rest begins =
+      let there = name_there text rest begins in
+      let name : List ℕ = there.0 in
+      let same : at ≡ length name = cc (is, there.1.2) in (
+        is_behind ∙ (ap₂ (λ (n : ℕ) (t : List ℕ). drop n t) same there.1.0 ∙ drop-append_seam name (10 ∷ rest)),
+        ap is_symbol (is_front ∙ (ap₂ (λ (n : ℕ) (t : List ℕ). take n t) same there.1.0 ∙ take-append_seam name (10 ∷ rest))) ∙ there.1.1,
+      )
+
+  pub begins_name : (end : ℕ) (rest : List ℕ) → behind ≡ end ∷ rest → end ≡ 10 → is_symbol front ≡ true → BeginsName (32 ∷ text) rest
+  begins_name end rest split last symbol =
+      let whole : text ≡ front ++ behind = sym (ap₂ (λ (l r : List ℕ). l ++ r) is_front is_behind ∙ take-append-drop at text) in
+      record { symbol = Some front; is = ap (λ (t : List ℕ). 32 ∷ t) (whole ∙ (ap (λ (t : List ℕ). front ++ t) split ∙ ap (λ (b : ℕ). front ++ b ∷ rest) last)); valid = symbol }
+
+-- 1 to 255 bytes of names, of which the first is not `;`
+pub is_a_name : (bytes rest : List ℕ) (first : ℕ) (mark : Bool) → bytes ≡ first ∷ rest → (first == 59) ≡ mark → list_all is_printed bytes ≡ true → (not mark && nat_le (length bytes) 255) ≡ is_symbol bytes
+is_a_name bytes rest first mark is e all =
+    subst (λ (l : List ℕ). list_all is_printed l ≡ true → (not mark && nat_le (length l) 255) ≡ is_symbol l) (sym is)
+    (λ printed. ap₂ (λ (m t : Bool). not m && t) (sym e) (sym (ap (λ (t : Bool). nat_le (length (first ∷ rest)) 255 && t) printed ∙ and-true (nat_le (length (first ∷ rest)) 255)))) all
+
+pub is_no_name : (bytes : List ℕ) → length bytes ≡ 0 → false ≡ is_symbol bytes
+is_no_name [] none = refl
+is_no_name (b ∷ bytes) none = absurd (omega (arith, none))
 
 pub no_name_nothing : (text : List ℕ) → length text ≡ 0 → NoName text
 no_name_nothing text none rest begins =
@@ -231,13 +273,13 @@ other_frame text behind rest others first n frame small few other whole is begin
 length-binary : (width x : ℕ) → length (binary width x) ≡ width
 length-binary width x = length-map (reverse (bits width x)) digit ∙ (length-reverse (bits width x) ∙ length-bits width x)
 
-digits_are_known : (bs : List Bool) → list_all is_known (map digit bs) ≡ true
+digits_are_known : (bs : List Bool) → list_all is_bit (map digit bs) ≡ true
 digits_are_known [] = refl
 digits_are_known (true ∷ bs) = digits_are_known bs
 digits_are_known (false ∷ bs) = digits_are_known bs
 
 pub record WordParts (width : ℕ) (text rest : List ℕ) : Type 0 where
-  pub known : list_all is_known (take width text) ≡ true
+  pub known : list_all is_bit (take width text) ≡ true
   pub name : BeginsName (drop width text) rest
   pub long : width < length text
 
@@ -250,7 +292,7 @@ word_parts width text x rest begins =
     let front : take width text ≡ digits = ap (take width) is ∙ (take-append-le width digits behind (omega (arith, many)) ∙ take_all width digits (omega (arith, many))) in
     let back : drop width text ≡ behind = ap (drop width) is ∙ (drop-append-le width digits behind (omega (arith, many)) ∙ ap (λ (l : List ℕ). l ++ behind) (drop_all width digits (omega (arith, many)))) in
     record {
-      known = ap (list_all is_known) front ∙ digits_are_known (reverse (bits width x));
+      known = ap (list_all is_bit) front ∙ digits_are_known (reverse (bits width x));
       name = record { symbol = begins.symbol; is = back; valid = begins.valid };
       long = omega (arith, many, ap length is, length-append digits behind, length-append (symbol_part begins.symbol) (10 ∷ rest));
     }

@@ -32,9 +32,6 @@ pub was_false : (b : Bool) → not b ≡ true → b ≡ false
 was_false true h = absurd cc
 was_false false h = refl
 
-other_way : (x y : ℕ) → (x == y) ≡ false → (y == x) ≡ false
-other_way x y h = ne_eqb y x (λ e. eqb-false x y h (sym e))
-
 -- a number is none of those before it
 none_before : (xs : List ℕ) (y : ℕ) (ys : List ℕ) → are_distinct (xs ++ y ∷ ys) ≡ true → list_any (λ x. x == y) xs ≡ false
 none_before [] y ys h = refl
@@ -42,7 +39,7 @@ none_before (x ∷ xs) y ys h =
     let parts = and_parts (not (list_any (λ z. z == x) (xs ++ y ∷ ys))) (are_distinct (xs ++ y ∷ ys)) h in
     let all = sym (list_any-append (λ z. z == x) xs (y ∷ ys)) ∙ was_false (list_any (λ z. z == x) (xs ++ y ∷ ys)) parts.0 in
     let behind = (or_parts (list_any (λ z. z == x) xs) (list_any (λ z. z == x) (y ∷ ys)) all).1 in
-    let first = other_way y x (or_parts (y == x) (list_any (λ z. z == x) ys) behind).0 in
+    let first = ne_eqb x y (λ e. eqb-false y x (or_parts (y == x) (list_any (λ z. z == x) ys) behind).0 (sym e)) in
     rw first (none_before xs y ys parts.1)
 
 -- ---- line by line
@@ -151,42 +148,41 @@ new_index before a list h =
 moved : (before : List Assignment) (a : Assignment) (list : List Assignment) → are_distinct (indices (before ++ a ∷ list)) ≡ true → are_distinct (indices ((before ++ a ∷ []) ++ list)) ≡ true
 moved before a list h = ap (λ (l : List Assignment). are_distinct (indices l)) (append_assoc before (a ∷ []) list) ∙ h
 
-pub states_part : (shape : Shape) (claims : List ℕ) (before list : List Assignment) (tail : List (List ℕ)) → IsSmall shape → AllByRecursion (IsAssignment shape.states) list → are_distinct (indices (before ++ list)) ≡ true
-    → admit_all (word_reader shape) (in_states claims before) (assignment_lines shape.states list ++ tail) ≡ admit_all (word_reader shape) (in_states claims (before ++ list)) tail
-states_part shape claims before [] tail small each distinct = ap (λ (l : List Assignment). admit_all (word_reader shape) (in_states claims l) tail) (sym (append-nil before))
-states_part shape claims before (a ∷ list) tail small each distinct =
-    let widths : List ℕ = shape.states in
-    let line : List ℕ = assignment_line widths a in
-    let read = assignment_at-assignment_line widths before a small.states each.0 (new_index before a list distinct) in
-    let step = line_in_states shape claims before line (before ++ a ∷ []) (assignment_line_is_plain widths a small.states each.0) read in
-    admitted (word_reader shape) (in_states claims before) line (in_states claims (before ++ a ∷ [])) (assignment_lines widths list ++ tail) step
-    ∙ (states_part shape claims (before ++ a ∷ []) list tail small each.1 (moved before a list distinct)
-    ∙ ap (λ (l : List Assignment). admit_all (word_reader shape) (in_states claims l) tail) (append_assoc before (a ∷ []) list))
+-- the lines of a part are read one after the other, at a place that goes by what was read of it
+part_read : (shape : Shape) (widths : List ℕ) (at : List Assignment → Read) (Valid : Assignment → Type 0)
+    → ((before : List Assignment) (a : Assignment) → Valid a → stands_in a.index before ≡ false → admit shape (at before) (assignment_line widths a) ≡ Ok (at (before ++ a ∷ [])))
+    → (before list : List Assignment) (tail : List (List ℕ)) → AllByRecursion Valid list → are_distinct (indices (before ++ list)) ≡ true
+    → admit_all (word_reader shape) (at before) (assignment_lines widths list ++ tail) ≡ admit_all (word_reader shape) (at (before ++ list)) tail
+part_read shape widths at Valid step before [] tail each distinct = ap (λ (l : List Assignment). admit_all (word_reader shape) (at l) tail) (sym (append-nil before))
+part_read shape widths at Valid step before (a ∷ list) tail each distinct =
+    admitted (word_reader shape) (at before) (assignment_line widths a) (at (before ++ a ∷ [])) (assignment_lines widths list ++ tail) (step before a each.0 (new_index before a list distinct))
+    ∙ (part_read shape widths at Valid step (before ++ a ∷ []) list tail each.1 (moved before a list distinct)
+    ∙ ap (λ (l : List Assignment). admit_all (word_reader shape) (at l) tail) (append_assoc before (a ∷ []) list))
 
-free_part : (shape : Shape) (claims : List ℕ) (closed : List Parts) (before list : List Assignment) (tail : List (List ℕ)) → IsSmall shape → AllByRecursion (IsAssignment shape.states) list
-    → AllByRecursion (λ (a : Assignment). is_free_index shape a.index ≡ true) list → are_distinct (indices (before ++ list)) ≡ true
-    → admit_all (word_reader shape) (in_free claims closed before) (assignment_lines shape.states list ++ tail) ≡ admit_all (word_reader shape) (in_free claims closed (before ++ list)) tail
-free_part shape claims closed before [] tail small each free distinct = ap (λ (l : List Assignment). admit_all (word_reader shape) (in_free claims closed l) tail) (sym (append-nil before))
-free_part shape claims closed before (a ∷ list) tail small each free distinct =
-    let widths : List ℕ = shape.states in
-    let line : List ℕ = assignment_line widths a in
-    let read = free_assignment_at-assignment_line shape before a small.states each.0 free.0 (new_index before a list distinct) in
-    let step = line_in_free shape claims closed before line (before ++ a ∷ []) (assignment_line_is_plain widths a small.states each.0) read in
-    admitted (word_reader shape) (in_free claims closed before) line (in_free claims closed (before ++ a ∷ [])) (assignment_lines widths list ++ tail) step
-    ∙ (free_part shape claims closed (before ++ a ∷ []) list tail small each.1 free.1 (moved before a list distinct)
-    ∙ ap (λ (l : List Assignment). admit_all (word_reader shape) (in_free claims closed l) tail) (append_assoc before (a ∷ []) list))
+pub states_part : (shape : Shape) (claims : List ℕ) (list : List Assignment) (tail : List (List ℕ)) → IsSmall shape → IsPart shape.states list
+    → admit_all (word_reader shape) (in_states claims []) (assignment_lines shape.states list ++ tail) ≡ admit_all (word_reader shape) (in_states claims list) tail
+states_part shape claims list tail small part =
+    part_read shape shape.states (in_states claims) (IsAssignment shape.states)
+    (λ before a is new. line_in_states shape claims before (assignment_line shape.states a) (before ++ a ∷ []) (assignment_line_is_plain shape.states a small.states is) (assignment_at-assignment_line shape.states before a small.states is new)) [] list tail
+    (recursion_from_All (IsAssignment shape.states) list part.each) part.distinct
 
-inputs_part : (shape : Shape) (claims : List ℕ) (closed : List Parts) (states : Option (List Assignment)) (before list : List Assignment) (tail : List (List ℕ)) → IsSmall shape → AllByRecursion (IsAssignment shape.inputs) list → are_distinct (indices (before ++ list)) ≡ true
-    → admit_all (word_reader shape) (in_frame claims closed states before) (assignment_lines shape.inputs list ++ tail) ≡ admit_all (word_reader shape) (in_frame claims closed states (before ++ list)) tail
-inputs_part shape claims closed states before [] tail small each distinct = ap (λ (l : List Assignment). admit_all (word_reader shape) (in_frame claims closed states l) tail) (sym (append-nil before))
-inputs_part shape claims closed states before (a ∷ list) tail small each distinct =
-    let widths : List ℕ = shape.inputs in
-    let line : List ℕ = assignment_line widths a in
-    let read = assignment_at-assignment_line widths before a small.inputs each.0 (new_index before a list distinct) in
-    let step = line_in_frame shape claims closed states before line (before ++ a ∷ []) (assignment_line_is_plain widths a small.inputs each.0) read in
-    admitted (word_reader shape) (in_frame claims closed states before) line (in_frame claims closed states (before ++ a ∷ [])) (assignment_lines widths list ++ tail) step
-    ∙ (inputs_part shape claims closed states (before ++ a ∷ []) list tail small each.1 (moved before a list distinct)
-    ∙ ap (λ (l : List Assignment). admit_all (word_reader shape) (in_frame claims closed states l) tail) (append_assoc before (a ∷ []) list))
+free_part : (shape : Shape) (claims : List ℕ) (closed : List Parts) (list : List Assignment) (tail : List (List ℕ)) → IsSmall shape → IsFreePart shape list
+    → admit_all (word_reader shape) (in_free claims closed []) (assignment_lines shape.states list ++ tail) ≡ admit_all (word_reader shape) (in_free claims closed list) tail
+free_part shape claims closed list tail small part =
+    part_read shape shape.states (in_free claims closed) (λ a. IsAssignment shape.states a × (is_free_index shape a.index ≡ true))
+    (λ before a is new. line_in_free shape claims closed before (assignment_line shape.states a) (before ++ a ∷ []) (assignment_line_is_plain shape.states a small.states is.0) (free_assignment_at-assignment_line shape before a small.states is.0 is.1 new)) [] list
+    tail (both list (recursion_from_All (IsAssignment shape.states) list part.part.each) (recursion_from_All (λ (a : Assignment). is_free_index shape a.index ≡ true) list part.free)) part.part.distinct
+  where
+    both : (l : List Assignment) → AllByRecursion (IsAssignment shape.states) l → AllByRecursion (λ a. is_free_index shape a.index ≡ true) l → AllByRecursion (λ a. IsAssignment shape.states a × (is_free_index shape a.index ≡ true)) l
+    both [] each free = tt
+    both (a ∷ l) each free = ((each.0, free.0), both l each.1 free.1)
+
+inputs_part : (shape : Shape) (claims : List ℕ) (closed : List Parts) (states : Option (List Assignment)) (list : List Assignment) (tail : List (List ℕ)) → IsSmall shape → IsPart shape.inputs list
+    → admit_all (word_reader shape) (in_frame claims closed states []) (assignment_lines shape.inputs list ++ tail) ≡ admit_all (word_reader shape) (in_frame claims closed states list) tail
+inputs_part shape claims closed states list tail small part =
+    part_read shape shape.inputs (in_frame claims closed states) (IsAssignment shape.inputs)
+    (λ before a is new. line_in_frame shape claims closed states before (assignment_line shape.inputs a) (before ++ a ∷ []) (assignment_line_is_plain shape.inputs a small.inputs is) (assignment_at-assignment_line shape.inputs before a small.inputs is new)) []
+    list tail (recursion_from_All (IsAssignment shape.inputs) list part.each) part.distinct
 
 -- ---- the frames, and the line behind them
 
@@ -210,17 +206,15 @@ next_begins shape claims closed states list (Some free) tail small part =
     let k : ℕ = suc (length closed) in
     let others : List Parts = closed ++ parts_of states list ∷ [] in
     let count : k ≡ length others = omega (arith, length-append closed (parts_of states list ∷ [])) in
-    let each = recursion_from_All (IsAssignment shape.states) free part.part.each in
-    let all_free = recursion_from_All (λ (a : Assignment). is_free_index shape a.index ≡ true) free part.free in
     admitted (word_reader shape) (in_frame claims closed states list) (35 ∷ decimal k) (in_free claims others []) (assignment_lines shape.states free ++ ((64 ∷ decimal k) ∷ tail)) (next_states shape claims closed states list part.some)
-    ∙ (free_part shape claims others [] free ((64 ∷ decimal k) ∷ tail) small each all_free part.part.distinct
+    ∙ (free_part shape claims others free ((64 ∷ decimal k) ∷ tail) small part
     ∙ (ap (λ (n : ℕ). admit_all (word_reader shape) (in_free claims others free) ((64 ∷ decimal n) ∷ tail)) count
     ∙ admitted (word_reader shape) (in_free claims others free) (64 ∷ decimal (length others)) (in_frame claims others (Some free) []) tail (free_end shape claims others free)))
 
 pub frames_part : (shape : Shape) (claims : List ℕ) (closed : List Parts) (states : Option (List Assignment)) (list : List Assignment) (more : List Parts) → IsSmall shape → IsPart shape.inputs list → AllByRecursion (IsLater shape) more
     → admit_all (word_reader shape) (in_frame claims closed states []) (assignment_lines shape.inputs list ++ (frame_lines shape (suc (length closed)) more ++ codes "." ∷ [])) ≡ Ok (at_end claims (closed ++ parts_of states list ∷ more))
 frames_part shape claims closed states list [] small part parts =
-    inputs_part shape claims closed states [] list (codes "." ∷ []) small (recursion_from_All (IsAssignment shape.inputs) list part.each) part.distinct
+    inputs_part shape claims closed states list (codes "." ∷ []) small part
     ∙ admitted (word_reader shape) (in_frame claims closed states list) (codes ".") (at_end claims (closed ++ parts_of states list ∷ [])) [] (last_line shape claims closed states list)
 frames_part shape claims closed states list (next ∷ more) small part parts =
     let k : ℕ = suc (length closed) in
@@ -228,7 +222,7 @@ frames_part shape claims closed states list (next ∷ more) small part parts =
     let count : suc k ≡ suc (length others) = omega (arith, length-append closed (parts_of states list ∷ [])) in
     let here : List (List ℕ) = assignment_lines shape.inputs next.inputs in
     let tail : List (List ℕ) = frame_lines shape (suc k) more ++ codes "." ∷ [] in
-    inputs_part shape claims closed states [] list (frame_lines shape k (next ∷ more) ++ codes "." ∷ []) small (recursion_from_All (IsAssignment shape.inputs) list part.each) part.distinct
+    inputs_part shape claims closed states list (frame_lines shape k (next ∷ more) ++ codes "." ∷ []) small part
     ∙ (ap (admit_all (word_reader shape) (in_frame claims closed states list)) (frame_lines-behind shape k next more (codes "." ∷ []))
     ∙ (next_begins shape claims closed states list next.states (here ++ tail) small parts.0.states
     ∙ (ap (λ (n : ℕ). admit_all (word_reader shape) (in_frame claims others next.states []) (here ++ (frame_lines shape n more ++ codes "." ∷ []))) count

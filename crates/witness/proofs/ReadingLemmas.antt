@@ -10,6 +10,7 @@ use Rattle.witness.specs.Texts.{most_lines}
 use Rattle.witness.proofs.LastLineLemmas.{whole_is}
 use Rattle.witness.proofs.TextEndLemmas.{lines_behind_text}
 use Rattle.witness.specs.Readings.{Reader, Reading, so_far, nothing_admitted, one_more_line, next_line_of, next_line, lines_behind, lines_read, reading, is_nothing, last_refusal, refused_for, read_or_fault, text_read}
+use Rattle.base.proofs.DecimalLemmas.{nothing}
 
 -- ---- line by line
 
@@ -23,10 +24,6 @@ admit_parts (Err w) others final h = absurd cc
 
 abbrev pub stopped : {R : Type 0} → ℕ → R → Why → Reading R
 stopped n r w = record { admitted = n; read = r; refused = Some w }
-
-nothing_there : (bytes : List ℕ) → is_nothing bytes ≡ true → bytes ≡ []
-nothing_there [] h = refl
-nothing_there (b ∷ bytes) h = absurd cc
 
 -- what some lines say behind those that were read
 abbrev pub admit_all : {R : Type 0} → Reader R → R → List (List ℕ) → Result R Why
@@ -165,7 +162,7 @@ module _ {R : Type 0} (reader : Reader R) where
       by None e h =
           let whole = whole_is (reader.ended r) (0 + length (whole_lines text)) (is_nothing (unfinished text)) e in
           let is : r ≡ final = cc in
-          record { all = read ∙ ap Ok is; done = subst (λ (s : R). reader.ended s ≡ true) is whole.0; rest = nothing_there (unfinished text) whole.1; few = omega arith }
+          record { all = read ∙ ap Ok is; done = subst (λ (s : R). reader.ended s ≡ true) is whole.0; rest = nothing (unfinished text) whole.1; few = omega arith }
   read_was text final (Until m s w above below room behind) h =
       let here : read_or_fault reader.ended (stopped m s w) (unfinished text) (Some w) ≡ Ok final = sym (ap (λ (g : Reading R). read_or_fault reader.ended g (unfinished text) g.refused) behind) ∙ h in
       absurd (cc here)

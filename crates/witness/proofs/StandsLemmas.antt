@@ -14,10 +14,7 @@ use Rattle.witness.proofs.LastLineLemmas.{whole_is}
 use Rattle.witness.proofs.JudgedLemmas.{read_judged}
 use Rattle.witness.proofs.TextEndLemmas.{whole_lines-part, unfinished-part}
 use Rattle.witness.proofs.ReadingLemmas.{goes, lines_append, few_read}
-
-pub or-false : (b : Bool) → (b || false) ≡ b
-or-false true = refl
-or-false false = refl
+use Rattle.std.proofs.Math.Bool.{or-false}
 
 -- whether there is a refusal, by the test
 pub no_refusal : (o : Option Why) → is_some o ≡ false → o ≡ None
@@ -149,7 +146,10 @@ module _ {R Q L : Type 0} (g : Judging R Q L) where
 -- ---- the end of a text
 
 -- by what is judged of what it says
-module _ {R Q L : Type 0} (g : Judging R Q L) (Says : R → Judgement → Type 0) (text : List ℕ) (j : Judge Q L) (stands : StandsFor g j text) where
+module _ {R Q L : Type 0} (g : Judging R Q L) (Says : R → Judgement → Type 0) (text : List ℕ) (j old : Judge Q L) (same : j ≡ old) (was : StandsFor g old text) where
+  stands : StandsFor g j text
+  stands = subst (λ (k : Judge Q L). StandsFor g k text) (sym same) was
+
   abbrev all : Reading R
   all = lines_read g.reader (whole_lines text)
 
@@ -170,16 +170,16 @@ module _ {R Q L : Type 0} (g : Judging R Q L) (Says : R → Judgement → Type 0
   refused_line w n claims refused is =
       by_lines (Some w) (Err (record { line = n; why = w })) (judgement.Malformed n w) claims refused (ap (λ (m : ℕ). Err (record { line = m; why = w })) (sym (number n is))) refl
 
-  same_refusal : (ended : Bool) → ended ≡ g.reader.ended all.read → last_refusal ended j.admitted (is_nothing (unfinished text)) ≡ last_refusal (g.reader.ended all.read) all.admitted (is_nothing (unfinished text))
-  same_refusal ended same = ap₂ (λ (b : Bool) (m : ℕ). last_refusal b m (is_nothing (unfinished text))) same stands.lines.admitted
+  same_refusal : (ended empty : Bool) → ended ≡ g.reader.ended all.read → empty ≡ is_nothing (unfinished text) → last_refusal ended j.admitted empty ≡ last_refusal (g.reader.ended all.read) all.admitted (is_nothing (unfinished text))
+  same_refusal ended empty end none = rw (end, none, stands.lines.admitted) refl
 
-  pub refused_last : (w : Why) (n : ℕ) (ended : Bool) → j.no_claim ≡ false → j.refused ≡ None → ended ≡ g.reader.ended all.read → last_refusal ended j.admitted (is_nothing (unfinished text)) ≡ Some w
+  pub refused_last : (w : Why) (n : ℕ) (ended empty : Bool) → j.no_claim ≡ false → j.refused ≡ None → ended ≡ g.reader.ended all.read → empty ≡ is_nothing (unfinished text) → last_refusal ended j.admitted empty ≡ Some w
       → n ≡ min (j.admitted + 1) (2 ^ 64 - 1) → Judged (judgement.Malformed n w)
-  refused_last w n ended claims none same last is =
+  refused_last w n ended empty claims none end rest last is =
       by_lines None (Err (record { line = n; why = w })) (judgement.Malformed n w) claims none
-      (ap (refused_for all) (sym (same_refusal ended same) ∙ last) ∙ ap (λ (m : ℕ). Err (record { line = m; why = w })) (sym (number n is))) refl
+      (ap (refused_for all) (sym (same_refusal ended empty end rest) ∙ last) ∙ ap (λ (m : ℕ). Err (record { line = m; why = w })) (sym (number n is))) refl
 
-  pub whole_text : (ended : Bool) (result : Judgement) → j.no_claim ≡ false → j.refused ≡ None → ended ≡ g.reader.ended all.read → last_refusal ended j.admitted (is_nothing (unfinished text)) ≡ None
+  pub whole_text : (ended empty : Bool) (result : Judgement) → j.no_claim ≡ false → j.refused ≡ None → ended ≡ g.reader.ended all.read → empty ≡ is_nothing (unfinished text) → last_refusal ended j.admitted empty ≡ None
       → (g.reader.ended all.read ≡ true → Says all.read result) → Judged result
-  whole_text ended result claims none same last says =
-      by_lines None (Ok all.read) result claims none (ap (refused_for all) (sym (same_refusal ended same) ∙ last)) (says (sym same ∙ (whole_is ended j.admitted (is_nothing (unfinished text)) last).0))
+  whole_text ended empty result claims none end rest last says =
+      by_lines None (Ok all.read) result claims none (ap (refused_for all) (sym (same_refusal ended empty end rest) ∙ last)) (says (sym end ∙ (whole_is ended j.admitted empty last).0))

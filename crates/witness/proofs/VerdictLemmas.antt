@@ -1,5 +1,5 @@
 -- What one frame of a run says, in the words of judgements.
-use Rattle.std.proofs.Common.{◌≡◌, ◌≢◌, ◌&&◌, ◌||◌, set, ⊎_elim, ℕ, suc, ◌+◌, ◌<◌, ◌≤◌, Bool, true, false, List, length, get_or, drop, nat_eq, not, cond, slice_get, Option, Some, None, IfSome, unwrap_or, option_and_then, refl, sym, ap, ap₂, subst, ◌∙◌, arith}
+use Rattle.std.proofs.Common.{◌≡◌, ◌≢◌, ◌&&◌, ◌||◌, set, ⊎_elim, ℕ, suc, ◌+◌, ◌<◌, ◌≤◌, Bool, true, false, List, length, get_or, drop, nat_eq, not, cond, slice_get, Option, Some, None, IfSome, option_and_then, refl, sym, ap, subst, ◌∙◌, arith}
 use Rattle.std.proofs.Math.Seq.{drop-cons}
 use Rattle.std.proofs.lemmas.List.{drop_all, length-map, get_or-set_same, get_or-set_other}
 use Rattle.std.proofs.lemmas.Bool.{cases_eq}
@@ -13,51 +13,36 @@ use Rattle.btor2.specs.Check.{IsWellFormed}
 use Rattle.btor2.specs.Trace.{Frame, state_word, IsFrame, IsTrace}
 use Rattle.runs.specs.Frames.{ids_of, given_leaves}
 use Rattle.runs.specs.Frames.{given as given_at}
-use Rattle.runs.specs.Run.{Run, IsNow, state_words, zeros, is_one}
+use Rattle.runs.specs.Run.{Run, IsNow, zeros, is_one}
 use Rattle.runs.proofs.RankLemmas.{IsNth, nth, length-ids, length-places, state_leaf, input_leaf, either_word}
 use Rattle.runs.proofs.StateLemmas.{nth-get, init_at}
 use Rattle.witness.specs.Texts.{shape_of}
 use Rattle.witness.specs.Fits.{is_set, FirstFits, StandsAt, RisesAmong, NoneIsSet, words_put}
-use Rattle.witness.specs.Judgements.{FrameWords, nodes_of, differs, given_to, initial_words, given_words, given_frames, Words, never_rises, unreached_from}
+use Rattle.witness.specs.Judgements.{FrameWords, nodes_of, differs, initial_words, given_words, given_frames, Words, never_rises, unreached_from}
 use Rattle.witness.proofs.GivenWordLemmas.{put_given, named_state, inputs_given}
 use Rattle.witness.proofs.FrameLemmas.{frame_agrees, trace_length, first_step, constraint_names, length-nodes, property_at}
 use Rattle.btor2.proofs.LookUps.{init_some, init_none}
+use Rattle.std.proofs.Math.Bool.{or-true, or-false, and-false}
 
--- a run by its parts
-run_now : (r : Run) (items : List Item) (states inputs : List ℕ) (f : Frame) → r.items ≡ items → r.states ≡ states → r.inputs ≡ inputs
-    → IsFrame items (given_at is_state items states) (given_leaves items states inputs) f → IsNow r f
-run_now r items states inputs f e d g h =
-    subst (λ (l : List Item). IsFrame l (given_at is_state l r.states) (given_leaves l r.states r.inputs) f) (sym e)
-    (subst (λ (l : List ℕ). IsFrame items (given_at is_state items l) (given_leaves items l r.inputs) f) (sym d)
-    (subst (λ (l : List ℕ). IsFrame items (given_at is_state items states) (given_leaves items states l) f) (sym g) h))
-
--- A run that stands before a frame, that was given the words of its two parts, and that was settled then, is in the frame.
-module _ (items : List Item) (r r' r'' settled : Run) (frame : FrameWords) (w : IsWellFormed items) (same : r.items ≡ items) (many : length r.states ≡ length (ids_of is_state items)) (none : r.inputs ≡ zeros items)
-    (fits : FirstFits (shape_of items) frame) (list list' : List (ℕ × ℕ)) (is_states : list ≡ frame.states) (is_inputs : list' ≡ frame.inputs)
-    (put : r' ≡ record r { states = words_put r.states list; settled = r'.settled }) (put_inputs : r'' ≡ record r' { inputs = words_put r'.inputs list'; settled = r''.settled }) (steps : ℕ) (done : settled ≡ record r'' { settled = true; steps = steps }) where
-  pub settled_items : settled.items ≡ items
-  settled_items = ap (λ (x : Run). x.items) done ∙ ap (λ (x : Run). x.items) put_inputs ∙ ap (λ (x : Run). x.items) put ∙ same
-
-  settled_states : settled.states ≡ words_put r.states frame.states
-  settled_states = ap (λ (x : Run). x.states) done ∙ ap (λ (x : Run). x.states) put_inputs ∙ ap (λ (x : Run). x.states) put ∙ ap (words_put r.states) is_states
-
-  settled_inputs : settled.inputs ≡ words_put (zeros items) frame.inputs
-  settled_inputs =
-      ap (λ (x : Run). x.inputs) done ∙ ap (λ (x : Run). x.inputs) put_inputs
-      ∙ ap₂ words_put (ap (λ (x : Run). x.inputs) put ∙ none) is_inputs
+-- A run that stood before a frame, with these words of its states, that was given the words of the frame's two parts, and that was settled then, is in the frame.
+module _ (items : List Item) (settled : Run) (base : List ℕ) (frame : FrameWords) (w : IsWellFormed items) (many : length base ≡ length (ids_of is_state items)) (fits : FirstFits (shape_of items) frame)
+    (of_items : settled.items ≡ items) (of_states : settled.states ≡ words_put base frame.states) (of_inputs : settled.inputs ≡ words_put (zeros items) frame.inputs) where
+  run_now : (f : Frame) → IsFrame items (given_at is_state items (words_put base frame.states)) (given_leaves items (words_put base frame.states) (words_put (zeros items) frame.inputs)) f → IsNow settled f
+  run_now f h =
+      subst (λ (l : List Item). IsFrame l (given_at is_state l settled.states) (given_leaves l settled.states settled.inputs) f) (sym of_items)
+      (subst (λ (l : List ℕ). IsFrame items (given_at is_state items l) (given_leaves items l settled.inputs) f) (sym of_states)
+      (subst (λ (l : List ℕ). IsFrame items (given_at is_state items (words_put base frame.states)) (given_leaves items (words_put base frame.states) l) f) (sym of_inputs) h))
 
   -- the words of the states, as the frame has them
-  state_now : (carried : Frame) → StandsAt items carried frame (state_words r) → (id : ℕ) (y : Item) → find_item items id ≡ Some y → is_state y.body ≡ true
-      → state_word items carried (given_words items frame) id ≡ given_at is_state items (words_put r.states frame.states) id
-  state_now carried stands id y found is =
-      sym (put_given is_state items r.states frame.states many fits.states.distinct id y found is
-      ∙ (ap (λ (l : List Item). unwrap_or (given_to is_state items frame.states id) (given_at is_state l r.states id)) (sym same) ∙ stands id (named_state items id y found is)))
+  state_now : (carried : Frame) → StandsAt items carried frame (given_at is_state items base) → (id : ℕ) (y : Item) → find_item items id ≡ Some y → is_state y.body ≡ true
+      → state_word items carried (given_words items frame) id ≡ given_at is_state items (words_put base frame.states) id
+  state_now carried stands id y found is = sym (put_given is_state items base frame.states many fits.states.distinct id y found is ∙ stands id (named_state items id y found is))
 
-  pub settled_now : (carried f : Frame) → StandsAt items carried frame (state_words r) → IsFrame items carried (given_words items frame) f → IsNow settled f
+  pub settled_now : (carried f : Frame) → StandsAt items carried frame (given_at is_state items base) → IsFrame items carried (given_words items frame) f → IsNow settled f
   settled_now carried f stands h =
-      let states : List ℕ = words_put r.states frame.states in
+      let states : List ℕ = words_put base frame.states in
       let inputs : List ℕ = words_put (zeros items) frame.inputs in
-      run_now settled items states inputs f settled_items settled_states settled_inputs
+      run_now f
       (frame_agrees items carried (given_at is_state items states) (given_words items frame) (given_leaves items states inputs) f w
       (λ id y found is. state_now carried stands id y found is
       ∙ sym (either_word (is_free items id) (given_at is_state items states id) (given_leaves items states inputs id) (given_at is_state items states id) refl (state_leaf items states inputs id y found is)))
@@ -141,20 +126,12 @@ module _ (items : List Item) (k : ℕ) (f : Frame) (h : k < length (places is_st
 
 -- ---- flags
 
-or_true : (b : Bool) → true ≡ (b || true)
-or_true true = refl
-or_true false = refl
-
-or_false : (b : Bool) → b ≡ (b || false)
-or_false true = refl
-or_false false = refl
-
 abbrev pub set_if : Bool → List Bool → ℕ → List Bool
 set_if b rose i = cond b (set rose i true) rose
 
 set_if-own : (b v : Bool) (rose rose0 : List Bool) (i : ℕ) → i < length rose → b ≡ v → is_set rose i ≡ is_set rose0 i → is_set (set_if b rose i) i ≡ (is_set rose0 i || v)
-set_if-own true v rose rose0 i h e same = get_or-set_same rose i true false h ∙ or_true (is_set rose0 i) ∙ ap (λ (c : Bool). is_set rose0 i || c) e
-set_if-own false v rose rose0 i h e same = same ∙ or_false (is_set rose0 i) ∙ ap (λ (c : Bool). is_set rose0 i || c) e
+set_if-own true v rose rose0 i h e same = get_or-set_same rose i true false h ∙ sym (or-true (is_set rose0 i)) ∙ ap (λ (c : Bool). is_set rose0 i || c) e
+set_if-own false v rose rose0 i h e same = same ∙ sym (or-false (is_set rose0 i)) ∙ ap (λ (c : Bool). is_set rose0 i || c) e
 
 set_if-other : (b : Bool) (rose : List Bool) (i j : ℕ) → j ≢ i → is_set (set_if b rose i) j ≡ is_set rose j
 set_if-other true rose i j h = get_or-set_other rose i j true false h
@@ -180,10 +157,6 @@ twice_not : (b c : Bool) → b ≡ (false || not c) → not b ≡ c
 twice_not b true e = ap not e
 twice_not b false e = ap not e
 
-and_false : (b c : Bool) → c ≡ false → (b && c) ≡ false
-and_false true c e = e
-and_false false c e = refl
-
 module _ (claims : List ℕ) (nodes : List ℕ) (fs : List Frame) (none rose : List Bool) (i : ℕ) (whole : Option ℕ) (h : i < length nodes) (clear : NoneIsSet none) (rises : RisesAmong nodes fs none rose)
     (e : unreached_from claims fs i (drop i nodes) ≡ whole) where
   unreached_step : cond (list_any (λ c. nat_eq c i) claims && not (is_set rose i)) (Some i) (unreached_from claims fs (i + 1) (drop (i + 1) nodes)) ≡ whole
@@ -206,7 +179,7 @@ module _ (claims : List ℕ) (nodes : List ℕ) (fs : List Frame) (none rose : L
   unreached_unclaimed off = unreached_behind (ap (λ (b : Bool). b && not (is_set rose i)) off)
 
   pub unreached_risen : is_set rose i ≡ true → unreached_from claims fs (i + 1) (drop (i + 1) nodes) ≡ whole
-  unreached_risen on = unreached_behind (and_false (list_any (λ c. nat_eq c i) claims) (not (is_set rose i)) (ap not on))
+  unreached_risen on = unreached_behind (ap (λ (b : Bool). list_any (λ c. nat_eq c i) claims && not b) on ∙ and-false (list_any (λ c. nat_eq c i) claims))
 
 pub unreached_end : (claims nodes : List ℕ) (fs : List Frame) (i : ℕ) (whole : Option ℕ) → length nodes ≤ i → unreached_from claims fs i (drop i nodes) ≡ whole → None ≡ whole
 unreached_end claims nodes fs i whole h e = sym (ap (unreached_from claims fs i) (drop_all i nodes h)) ∙ e

@@ -25,7 +25,7 @@ first_begins shape claims None tail small part = admitted (word_reader shape) (a
 first_begins shape claims (Some list) tail small part =
     let lines : List (List ℕ) = (64 ∷ decimal 0) ∷ tail in
     admitted (word_reader shape) (at_parts claims) (35 ∷ decimal 0) (in_states claims []) (assignment_lines shape.states list ++ lines) (states_begin shape claims)
-    ∙ (states_part shape claims [] list lines small (recursion_from_All (IsAssignment shape.states) list part.each) part.distinct
+    ∙ (states_part shape claims list lines small part
     ∙ admitted (word_reader shape) (in_states claims list) (64 ∷ decimal 0) (in_frame claims [] (Some list) []) tail (states_end shape claims list))
 
 frames_read : (shape : Shape) (claims : List ℕ) (first : Parts) (more : List Parts) → IsSmall shape → IsFirst shape first → AllByRecursion (IsLater shape) more

@@ -1,10 +1,5 @@
 -- The word that a line gives is that of the assignment that it makes behind those of its part.
-use Rattle.std.proofs.Common.{◌≡◌, ℕ, ◌==◌, nat_lt, Bool, true, false, cond, ◌||◌, List, [], ◌∷◌, ◌++◌, Option, Some, None, Result, Ok, Err, length, slice_index, refl, sym, ap, subst, ◌∙◌, zero, suc, ◌<◌, ◌≤◌, All, is_some, option_and_then, slice_get, arith, inl, inr}
-use Rattle.std.proofs.lemmas.Bool.{cases_lt, true≢false}
-use Rattle.std.proofs.lemmas.List.Elements.{All-weaker}
-use Rattle.btor2.specs.declared.item.Item.{Item}
-use Rattle.btor2.specs.Items.{width_of_body}
-use Rattle.btor2.specs.Lists.{width_at}
+use Rattle.std.proofs.Common.{◌≡◌, ℕ, ◌==◌, nat_lt, Bool, true, false, cond, ◌||◌, List, [], ◌∷◌, ◌++◌, Option, Some, None, Result, Ok, Err, length, slice_index, refl, sym, ap, subst, ◌∙◌}
 use Rattle.std.specs.List.{list_any}
 use Rattle.base.specs.Decimals.{number_of}
 use Rattle.btor2.specs.Symbols.{is_symbol}
@@ -58,21 +53,3 @@ by_number widths given before rest (Some i) flagged =
 pub assigned_tells : (widths : List ℕ) (given : List Bool) (before : List Assignment) (line : List ℕ) → IsFlagged given (pairs_of before) → Tells before (assigned widths given line) (assignment_at widths before line)
 unfolding assignment_at
 assigned_tells widths given before line flagged = by_number widths given before (cut_at_space line).1 (number_of (cut_at_space line).0) flagged
-
--- a place with a width is inside
-inside_of_width : (items : List Item) (k : ℕ) → is_some (width_at items k) ≡ true → k < length items
-inside_of_width [] k h = absurd (cc h)
-inside_of_width (x ∷ items) zero h = omega arith
-inside_of_width (x ∷ items) (suc k) h =
-    elim (cases_lt k (length items)) [
-      | inl below ↦ omega (arith, below)
-      | inr above ↦ absurd (true≢false (sym h ∙ ap (λ (o : Option Item). is_some (option_and_then (λ (y : Item). width_of_body (x ∷ items) y.body) o)) (get_past items k above)))
-    ]
-  where
-    get_past : (l : List Item) (i : ℕ) → length l ≤ i → slice_get l i ≡ None
-    get_past [] i e = refl
-    get_past (y ∷ l) zero e = absurd (omega (arith, e))
-    get_past (y ∷ l) (suc i) e = get_past l i (omega (arith, e))
-
-pub each_inside : (items : List Item) (list : List ℕ) → All (λ k. is_some (width_at items k) ≡ true) list → All (λ k. k < length items) list
-each_inside items list h = All-weaker (λ k. is_some (width_at items k) ≡ true) (λ k. k < length items) (λ k some. inside_of_width items k some) list h

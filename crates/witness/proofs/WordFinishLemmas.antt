@@ -1,5 +1,5 @@
 -- The judgement of a text by what a judge of witnesses over a model holds.
-use Rattle.std.proofs.Common.{◌≡◌, ℕ, Bool, true, cond, List, [], ◌∷◌, Option, Some, None, map, length, refl, ap, ap₂, subst, ◌∙◌}
+use Rattle.std.proofs.Common.{◌≡◌, ℕ, Bool, true, cond, List, [], ◌∷◌, Option, None, map, refl, ap, subst, ◌∙◌, sym}
 use Rattle.base.specs.Lines.{whole_lines, unfinished}
 use Rattle.btor2.specs.declared.item.Item.{Item}
 use Rattle.btor2.specs.Items.{is_bad}
@@ -8,7 +8,7 @@ use Rattle.witness.specs.declared.judgement.Judgement.{Judgement}
 use Rattle.witness.specs.Texts.{shape_of, Parts}
 use Rattle.witness.specs.Readings.{lines_read, reading}
 use Rattle.witness.specs.Admits.{Place, AtEnd, Read, is_at_end, word_reader, witness_of}
-use Rattle.witness.specs.Judgements.{FrameWords, frame_words, words_of, Words, initial_words, given_words, given_frames, nodes_of, first_different, Violation, violation_from, unreached_from, when_reached, when_kept, when_begun, verdict, JudgesWords}
+use Rattle.witness.specs.Judgements.{FrameWords, frame_words, words_of, Words, initial_words, given_words, given_frames, nodes_of, unreached_from, verdict, JudgesWords}
 use Rattle.witness.specs.Fits.{AreClaimed, NoneIsSet, RisesAmong}
 use Rattle.witness.specs.WordPlays.{WordPlay, Plays, Traced, TracedBy, frames_alone, nothing_given, word_at}
 use Rattle.witness.specs.ClosedWords.{IsClosedTrace, last_word}
@@ -18,6 +18,7 @@ use Rattle.witness.proofs.VerdictLemmas.{as_many_frames}
 use Rattle.runs.specs.Run.{IsNow}
 use Rattle.witness.proofs.WordJudgeLemmas.{in_frames}
 use Rattle.witness.proofs.WordPlayLemmas.{word_is}
+use Rattle.witness.proofs.OneJudgement.{verdict_is}
 
 -- ---- a whole witness
 
@@ -55,18 +56,7 @@ module _ (items : List Item) (q : WordReader) (r : Read) (line : List ℕ) (read
       subst (λ (l : List Item). RisesAmong (nodes_of is_bad l) fs [] q.play.rose → o ≡ unreached_from r.claims fs 0 (nodes_of is_bad l)) plays.items_are (λ rises. says r.claims fs [] claimed no_flag rises) (traced.rose [] no_flag)
 
   judged_whole : (o : Option ℕ) → o ≡ unreached_from r.claims fs 0 (nodes_of is_bad items) → first_of q.play.differs q.play.breach o q.play.frames ≡ verdict items w fs
-  judged_whole o e =
-      let count : q.play.frames ≡ length fs = plays.count ∙ as_many_frames items w fs trace in
-      let kept : first_of None q.play.breach o q.play.frames ≡ when_kept items w fs (violation_from items 0 fs) =
-      ap (λ (v : Option Violation). first_of None v o q.play.frames) traced.breach
-      ∙ elim (violation_from items 0 fs) as (λ v. first_of None v o q.play.frames ≡ when_kept items w fs v) [
-        | Some v ↦ refl
-        | None ↦
-            ap₂ (λ (u : Option ℕ) (n : ℕ). first_of None None u n) e count
-            ∙ elim (unreached_from r.claims fs 0 (nodes_of is_bad items)) as (λ u. first_of None None u (length fs) ≡ when_reached (length fs) u) [ Some i ↦ refl | None ↦ refl ]
-      ] in
-      ap (λ (d : Option ℕ). first_of d q.play.breach o q.play.frames) traced.differs
-      ∙ elim (first_different items (initial_words items w)) as (λ d. first_of d q.play.breach o q.play.frames ≡ when_begun items w fs d) [ Some k ↦ refl | None ↦ kept ]
+  judged_whole o e = rw (traced.differs, traced.breach, e, plays.count ∙ as_many_frames items w fs trace) (verdict_is items w fs)
 
 -- ---- the judgement
 
@@ -77,16 +67,17 @@ ended _ h = absurd cc
 abbrev pub Says : List Item → Read → Judgement → Type 0
 Says items r = JudgesWords items (words_of (witness_of r))
 
-pub ended_at : (items : List Item) (text : List ℕ) (j : WordJudge) → StandsFor items j text → j.refused ≡ None → is_at_end (place_of j.reader.place) ≡ is_at_end (lines_read (word_reader (shape_of items)) (whole_lines text)).read.place
-ended_at items text j stands none = ap is_at_end (stands.lines.reads none).place
+pub ended_at : (items : List Item) (text : List ℕ) (j old : WordJudge) → j ≡ old → StandsFor items old text → j.refused ≡ None → is_at_end (place_of j.reader.place) ≡ is_at_end (lines_read (word_reader (shape_of items)) (whole_lines text)).read.place
+ended_at items text j old same was none = let stands = subst (λ (k : WordJudge). StandsFor items k text) (sym same) was in ap is_at_end (stands.lines.reads none).place
 
 -- what is judged of a whole witness
-pub whole_witness : (items : List Item) (text : List ℕ) (j : WordJudge) (o : Option ℕ) → StandsFor items j text → j.refused ≡ None
+pub whole_witness : (items : List Item) (text : List ℕ) (j old : WordJudge) → j ≡ old → (o : Option ℕ) → StandsFor items old text → j.refused ≡ None
     → ((claims : List ℕ) (gs : List Frame) (none : List Bool) → AreClaimed j.reader.claimed claims → NoneIsSet none → RisesAmong (nodes_of is_bad j.reader.play.items) gs none j.reader.play.rose
     → o ≡ unreached_from claims gs 0 (nodes_of is_bad j.reader.play.items))
     → is_at_end (lines_read (word_reader (shape_of items)) (whole_lines text)).read.place ≡ true
     → Says items (lines_read (word_reader (shape_of items)) (whole_lines text)).read (first_of j.reader.play.differs j.reader.play.breach o j.reader.play.frames)
-whole_witness items text j o stands none says done fs t =
+whole_witness items text j old same o was none says done fs t =
+    let stands = subst (λ (k : WordJudge). StandsFor items k text) (sym same) was in
     let r : Read = (lines_read (word_reader (shape_of items)) (whole_lines text)).read in
     let reads = stands.lines.reads none in
     let at : r.place ≡ AtEnd = ended r.place done in

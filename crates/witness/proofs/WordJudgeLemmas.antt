@@ -5,7 +5,7 @@ use Rattle.std.proofs.lemmas.Bool.{cases_Bool, eqb-true, false_from_ne_true}
 use Rattle.std.proofs.lemmas.List.{length-map, map-append}
 use Rattle.std.proofs.lemmas.Slice.Eq.{bytes_eq-Decides}
 use Rattle.base.specs.Lines.{whole_lines, unfinished}
-use Rattle.base.proofs.DecimalLemmas.{chosen}
+use Rattle.base.proofs.DecimalLemmas.{chosen, nothing}
 use Rattle.btor2.specs.declared.item.Item.{Item}
 use Rattle.witness.specs.declared.why.Why.{Why}
 use Rattle.witness.specs.declared.why.Why.TheVariants as why
@@ -22,9 +22,10 @@ use Rattle.witness.specs.Stands.{IsOfLines}
 use Rattle.witness.specs.WordStands.{place_of, WordReader, Reads, GivesLine, TakesLine, is_status, Counts, here_of, WordJudge, word_judging, StandsFor}
 use Rattle.witness.proofs.TextEndLemmas.{whole_lines-line_end, unfinished-line_end}
 use Rattle.witness.proofs.ReadingLemmas.{stopped, stays, holds_behind}
-use Rattle.witness.proofs.StandsLemmas.{or-false, awaits, none_awaited, ClaimsMore, line_admitted, with_bytes, line_ended}
+use Rattle.witness.proofs.StandsLemmas.{awaits, none_awaited, ClaimsMore, line_admitted, with_bytes, line_ended}
 use Rattle.witness.proofs.KeptLineLemmas.{nothing_kept}
 use Rattle.witness.proofs.WordReaderLemmas.{reads_of_other}
+use Rattle.std.proofs.Math.Bool.{or-false}
 
 -- ---- what an admitted line changes
 
@@ -41,12 +42,7 @@ none_behind (x ∷ frames) last e = cc
 -- no word is given behind a frame that is closed
 nothing_here : (r : Read) (at : Place) → here_of (frame_closed at r) at ≡ nothing_given
 nothing_here r AtStatus = refl
-nothing_here r AtClaims = refl
-nothing_here r AtParts = refl
-nothing_here r InStates = refl
-nothing_here r InFree = refl
-nothing_here r InFrame = refl
-nothing_here r AtEnd = refl
+nothing_here r _ = refl
 
 closes_frame : (r : Read) (at : Place) → ClosesFrame r (frame_closed at r)
 closes_frame r at =
@@ -306,10 +302,6 @@ counts_of items q r line reads =
     let steps : reads.play.ahead.steps ≡ steps_taken q.play.items q.play.run = goes_steps q.play.items q.play.run reads.play.ahead (reads.play.run ∙ sym reads.play.items_are) reads.play.goes in
     record { items_are = reads.play.items_are; frames = reads.play.count ∙ many; steps = sym steps ∙ (reads.play.steps ∙ ap (steps_of items) many); plays = reads.play }
 
-pub nothing_there : (line : List ℕ) → is_nothing line ≡ true → line ≡ []
-nothing_there [] h = refl
-nothing_there (b ∷ line) h = absurd (cc h)
-
 -- behind a line that is given to the reader
 pub given_line : (items : List Item) (lines : List (List ℕ)) (line taken : List ℕ) (j : WordJudge) (q : WordReader) (no_claim : Bool) → IsOfLines (word_judging items) j lines taken → j.refused ≡ None → j.admitted < most_lines
     → GivesLine items (lines_read (word_reader (shape_of items)) lines).read line q (Ok tt) → no_claim ≡ (j.no_claim || (is_status (place_of j.reader.place) && says_none line))
@@ -325,8 +317,8 @@ line_taken items text j q all rest taken fresh few none stands =
     let line : List ℕ = taken.line in
     let lines : List (List ℕ) = whole_lines text in
     let read : Read = (lines_read (word_reader (shape_of items)) lines).read in
-    let empty : unfinished text ≡ [] = nothing_there (unfinished text) (sym (nothing_kept (unfinished text)) ∙ ap is_nothing (sym stands.line ∙ none)) in
-    let reads : Reads items j.reader read line = reads_of_other items read (unfinished text) j.reader (stands.lines.reads fresh) line taken.alone in
+    let empty : unfinished text ≡ [] = nothing (unfinished text) (sym (nothing_kept (unfinished text)) ∙ ap is_nothing (sym stands.line ∙ none)) in
+    let reads : Reads items j.reader read line = reads_of_other items read (unfinished text) j.reader j.reader refl (stands.lines.reads fresh) line taken.alone in
     let here : IsOfLines (word_judging items) j lines line = with_bytes (word_judging items) lines (unfinished text) line j j.reader j.line stands.lines stands.lines.counts (λ _. reads) in
     let gives : GivesLine items read line q (Ok tt) = taken.gives items read reads (few_frames items lines line j here few) in
     let silent : j.no_claim ≡ (j.no_claim || (is_status (place_of j.reader.place) && says_none line)) = sym (ap (λ (b : Bool). j.no_claim || (b && says_none line)) taken.behind ∙ or-false j.no_claim) in

@@ -1,22 +1,11 @@
 -- A whole line of a witness over a model that is a byte with a number behind it.
-use Rattle.std.proofs.Common.{◌≡◌, ℕ, ◌<◌, ◌-◌, ◌^◌, ◌==◌, true, false, ◌&&◌, List, [], ◌∷◌, Some, None, length, decimal, get_or, refl, sym, ap, ap₂, ◌∙◌, arith, inl, inr}
+use Rattle.std.proofs.Common.{◌≡◌, ℕ, ◌<◌, ◌-◌, ◌^◌, ◌==◌, true, false, ◌&&◌, List, [], ◌∷◌, Some, None, length, decimal, get_or, refl, sym, ap, ◌∙◌, arith, inl, inr}
 use Rattle.std.specs.Str.{bytes_eq}
-use Rattle.std.proofs.lemmas.Bool.{cases_Bool, and_parts, and_from, eqb-true, eqb-false, eq-eqb, false_from_ne_true}
+use Rattle.std.proofs.lemmas.Bool.{cases_Bool, and_parts, eqb-true, eqb-false, eq-eqb, false_from_ne_true}
 use Rattle.base.specs.Decimals.{is_decimal, number_of}
 use Rattle.base.proofs.DecimalLemmas.{number_is_decimal, number_of-decimal}
 use Rattle.witness.specs.BitScans.{behind_first}
-
-same_bytes : (x y : List ℕ) → bytes_eq x y ≡ true → x ≡ y
-same_bytes [] [] h = refl
-same_bytes [] (b ∷ y) h = absurd (cc h)
-same_bytes (a ∷ x) [] h = absurd (cc h)
-same_bytes (a ∷ x) (b ∷ y) h =
-    let parts = and_parts (a == b) (bytes_eq x y) h in
-    ap₂ (λ (c : ℕ) (l : List ℕ). c ∷ l) (eqb-true a b parts.0) (same_bytes x y parts.1)
-
-pub itself : (x : List ℕ) → bytes_eq x x ≡ true
-itself [] = refl
-itself (a ∷ x) = and_from (a == a) (bytes_eq x x) (eq-eqb a a refl) (itself x)
+use Rattle.std.proofs.lemmas.Slice.Eq.{bytes_eq-Decides}
 
 -- no number stands behind no byte
 pub nothing_there : (line : List ℕ) → length line ≡ 0 → None ≡ number_of (behind_first line)
@@ -34,12 +23,12 @@ numbered_some (a ∷ tail) first byte n found small is same number =
       | inl e ↦
           let read : number_of tail ≡ Some n = sym number ∙ ap (λ (k : ℕ). Some k) (eqb-true found n e) in
           let spelled : tail ≡ decimal n = number_is_decimal tail n read small in
-          e ∙ sym (ap (λ (l : List ℕ). bytes_eq l (decimal n)) spelled ∙ itself (decimal n))
+          e ∙ sym (ap (λ (l : List ℕ). bytes_eq l (decimal n)) spelled ∙ (bytes_eq-Decides (decimal n) (decimal n)).1 refl)
       | inr e ↦
           e
           ∙ sym (false_from_ne_true (bytes_eq tail (decimal n))
           (λ d.
-          let spelled = same_bytes tail (decimal n) d in
+          let spelled = (bytes_eq-Decides tail (decimal n)).0 d in
           let read : Some found ≡ Some n = number ∙ (ap number_of spelled ∙ number_of-decimal n (omega (arith, small))) in
           eqb-false found n e (cc (read))))
     ])
@@ -49,6 +38,6 @@ numbered_none [] byte n small number = refl
 numbered_none (a ∷ tail) byte n small number =
     sym (false_from_ne_true ((a == byte) && bytes_eq tail (decimal n))
     (λ d.
-    let spelled = same_bytes tail (decimal n) (and_parts (a == byte) (bytes_eq tail (decimal n)) d).1 in
+    let spelled = (bytes_eq-Decides tail (decimal n)).0 (and_parts (a == byte) (bytes_eq tail (decimal n)) d).1 in
     let read : None ≡ Some n = number ∙ (ap number_of spelled ∙ number_of-decimal n (omega (arith, small))) in
     cc (read)))

@@ -22,6 +22,7 @@ use Rattle.witness.proofs.AdmittedLineLemmas.{distinct_with}
 use Rattle.witness.proofs.ReadLemmas.{IsSmall}
 use Rattle.witness.proofs.FitLemmas.{shape_is_small}
 use Rattle.witness.proofs.MoveLemmas.{one_ahead, goes_items}
+use Rattle.std.proofs.Math.Bool.{or-true, or-false, and-false}
 
 -- ---- a pair behind others
 
@@ -34,19 +35,11 @@ flag_more flags list i x inside flagged k =
     sym
     (list_any-append (λ (p : ℕ × ℕ). p.0 == k) list ((i, x) ∷ [])
     ∙ elim (cases_eq k i) [
-      | inl same ↦ rw (eq-eqb i k (sym same)) (or_true (list_any (λ (p : ℕ × ℕ). p.0 == k) list) ∙ sym (ap (is_set (set flags i true)) same ∙ get_or-set_same flags i true false inside))
+      | inl same ↦ rw (eq-eqb i k (sym same)) (or-true (list_any (λ (p : ℕ × ℕ). p.0 == k) list) ∙ sym (ap (is_set (set flags i true)) same ∙ get_or-set_same flags i true false inside))
       | inr other ↦
           rw (ne_eqb i k (λ e. other (sym e)))
-          (or_false (list_any (λ (p : ℕ × ℕ). p.0 == k) list) ∙ (sym (flagged k) ∙ sym (get_or-set_other flags i k true false other)))
+          (or-false (list_any (λ (p : ℕ × ℕ). p.0 == k) list) ∙ (sym (flagged k) ∙ sym (get_or-set_other flags i k true false other)))
     ])
-  where
-    or_true : (b : Bool) → (b || true) ≡ true
-    or_true true = refl
-    or_true false = refl
-
-    or_false : (b : Bool) → (b || false) ≡ b
-    or_false true = refl
-    or_false false = refl
 
 -- ---- words that fit
 
@@ -148,10 +141,6 @@ state_between (x ∷ frames) before list a all = sym (ap (λ (b : Bool). b && tr
 input_between : (frames : List FrameWords) (states : List (ℕ × ℕ)) (before list : List Assignment) (a : Assignment) → list ≡ before ++ a ∷ [] → false ≡ is_between frames (with_inputs states list)
 input_between [] states before list a all = refl
 input_between (x ∷ frames) states before list a all = sym (ap (λ (b : Bool). (length states == 0) && b) (one_more before list a all) ∙ and-false (length states == 0))
-  where
-    and-false : (b : Bool) → (b && false) ≡ false
-    and-false true = refl
-    and-false false = refl
 
 pub state_plays : (items : List Item) (frames : List FrameWords) (before list : List Assignment) (line : List ℕ) (p : WordPlay) (moved : Run) (a : Assignment) → IsWellFormed items → assignment_at (shape_of items).states before line ≡ Ok list
     → list ≡ before ++ a ∷ [] → a.index < length p.states_given → MayGive items frames line → GoesOn p.run.settled p.run moved → Plays items frames (states_alone before) p

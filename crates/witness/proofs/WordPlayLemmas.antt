@@ -1,10 +1,10 @@
 -- Frames of a witness over a model, closed one after the other.
-use Rattle.std.proofs.Common.{◌≡◌, ℕ, zero, suc, ◌+◌, ◌*◌, ◌<◌, ◌≤◌, ◌-◌, ◌^◌, ◌==◌, min, Bool, true, false, not, cond, ◌&&◌, ◌||◌, List, [], ◌∷◌, ◌++◌, Option, Some, None, option_and_then, All, map, length, get_or, unwrap_or, length-append, refl, sym, ap, ap₂, subst, ◌∙◌, arith, inl, inr}
+use Rattle.std.proofs.Common.{◌≡◌, ℕ, suc, ◌+◌, ◌*◌, ◌<◌, ◌-◌, ◌^◌, ◌==◌, min, Bool, true, false, not, cond, ◌&&◌, ◌||◌, List, [], ◌∷◌, ◌++◌, Option, Some, None, option_and_then, All, map, length, get_or, length-append, refl, sym, ap, ap₂, subst, ◌∙◌, arith, inl, inr, replicate}
 use Rattle.std.specs.Option.{option_or}
 use Rattle.std.specs.List.{last_or}
 use Rattle.std.proofs.lemmas.Bool.{cases_lt, ne_eqb, eq-eqb}
-use Rattle.std.proofs.lemmas.List.{length-map, map-append}
-use Rattle.std.proofs.lemmas.List.Elements.{All-nil, All-cons, All-head, All-tail, All-push}
+use Rattle.std.proofs.lemmas.List.{length-map, map-append, get_or_past, get_or-replicate, length-replicate}
+use Rattle.std.proofs.lemmas.List.Elements.{All-nil, All-head, All-tail, All-push}
 use Rattle.std.proofs.lemmas.List.Folds.{list_all-append}
 use Rattle.btor2.specs.declared.item.Item.{Item}
 use Rattle.btor2.specs.Items.{is_state, is_bad}
@@ -16,26 +16,22 @@ use Rattle.runs.specs.Run.{Run, IsNow, state_words, leaf_words, zeros, first_wor
 use Rattle.base.proofs.StepLemmas.{more_steps-sum}
 use Rattle.btor2.proofs.TraceLemmas.{frame_exists}
 use Rattle.witness.specs.Texts.{Shape, shape_of}
-use Rattle.witness.specs.Fits.{is_set, PartFits, FirstFits, LaterFits, FramesFit, StandsAt, words_put, RisesIn, RisesAmong, NoneIsSet}
-use Rattle.witness.specs.Judgements.{FrameWords, Violation, violated_at, violation_from, never_rises, nodes_of, first_different, first_violated, given_to, initial_words, given_words}
+use Rattle.witness.specs.Fits.{is_set, FirstFits, LaterFits, FramesFit, StandsAt, RisesIn, RisesAmong, NoneIsSet}
+use Rattle.witness.specs.Judgements.{FrameWords, Violation, violated_at, violation_from, never_rises, nodes_of, first_different, first_violated, initial_words, given_words}
 use Rattle.witness.specs.WordPlays.{WordPlay, frame_steps, steps_of, frames_alone, carried_behind, MovesOn, GoesOn, is_between, word_at, Fresh, Traced, TracedBy, Plays, nothing_given}
-use Rattle.witness.proofs.GivenWordLemmas.{put_given, words_of_kind, state_there, states_given, first_stands, next_stands}
+use Rattle.witness.proofs.GivenWordLemmas.{words_of_kind, first_stands, later_stands}
 use Rattle.witness.proofs.FrameLemmas.{different_of}
 use Rattle.witness.proofs.VerdictLemmas.{settled_now}
 use Rattle.witness.proofs.MoveLemmas.{moves, one_ahead, goes_items}
+use Rattle.std.proofs.Math.Bool.{and-true}
 
 -- ---- flags
 
-past : (flags : List Bool) (i : ℕ) → length flags ≤ i → is_set flags i ≡ false
-past [] i h = refl
-past (b ∷ flags) zero h = absurd (omega (arith, h))
-past (b ∷ flags) (suc i) h = past flags i (omega (arith, h))
-
-pub none_is_set : (flags : List Bool) (k : ℕ) → length flags ≤ k → ((i : ℕ) → i < k → is_set flags i ≡ false) → NoneIsSet flags
-none_is_set flags k whole none i =
-    elim (cases_lt i k) [
-      | inl below ↦ none i below
-      | inr above ↦ past flags i (omega (arith, whole, above))
+pub none_of_many : (n : ℕ) → NoneIsSet (replicate n false)
+none_of_many n i =
+    elim (cases_lt i n) [
+      | inl below ↦ get_or-replicate n i false false below
+      | inr above ↦ get_or_past (replicate n false) i false (omega (arith, above, length-replicate n false))
     ]
 
 -- ---- a frame behind others
@@ -73,10 +69,6 @@ violation_more items k (g ∷ fs) f =
 
 never_more : (fs : List Frame) (f : Frame) (a : ℕ) → never_rises (fs ++ f ∷ []) a ≡ (never_rises fs a && not (f a == 1))
 never_more fs f a = list_all-append (λ (g : Frame). not (g a == 1)) fs (f ∷ []) ∙ ap (λ (b : Bool). never_rises fs a && b) (and-true (not (f a == 1)))
-  where
-    and-true : (b : Bool) → (b && true) ≡ b
-    and-true true = refl
-    and-true false = refl
 
 rises_behind : (nodes : List ℕ) (fs : List Frame) (f : Frame) (none rose after : List Bool) → RisesAmong nodes fs none rose → RisesIn nodes f rose after → RisesAmong nodes (fs ++ f ∷ []) none after
 rises_behind nodes fs f none rose after was one i h =
@@ -93,29 +85,15 @@ rises_behind nodes fs f none rose after was one i h =
 -- ---- where the run stands
 
 -- before the first frame
-start_stands : (items : List Item) (here : FrameWords) (base : List ℕ) → PartFits (shape_of items).states here.states → base ≡ map (first_word items) (ids_of is_state items)
-    → StandsAt items (initial_words items (frames_alone (here ∷ []))) here (given_at is_state items base)
-start_stands items here base fits is = λ id named.
-    let w = frames_alone (here ∷ []) in
-    let there = state_there items id named in
-    let y : Item = there.0 in
-    let many : length base ≡ length (ids_of is_state items) = ap length is ∙ length-map (ids_of is_state items) (first_word items) in
-    let put = put_given is_state items base here.states many fits.distinct id y there.1.0 there.1.1 in
-    let initial = states_given items w fits.distinct id y there.1.0 there.1.1 in
-    let stands = first_stands items w (initial_words items w) (here ∷ []) refl (λ id y found is. refl) id named in
-    sym put
-    ∙ (ap (λ (l : List ℕ). given_at is_state items (words_put l here.states) id) is
-    ∙ (initial ∙ (once (given_to is_state items here.states id) _ ∙ stands)))
-  where
-    once : (g o : Option ℕ) → unwrap_or (option_or g o) 0 ≡ unwrap_or g (unwrap_or (option_or g o) 0)
-    once None o = refl
-    once (Some x) o = refl
+start_stands : (items : List Item) (here : FrameWords) (base : List ℕ) → base ≡ map (first_word items) (ids_of is_state items) → StandsAt items (initial_words items (frames_alone (here ∷ []))) here (given_at is_state items base)
+start_stands items here base is =
+    first_stands items here (given_at is_state items base) (λ id y found kind. ap (λ (l : List ℕ). given_at is_state items l id) is ∙ words_of_kind is_state items (first_word items) id y found kind)
 
 -- before a later one
 later_stands_at : (items : List Item) (last : Frame) (here : FrameWords) (base : List ℕ) → LaterFits (shape_of items) here → base ≡ map (next_state items last) (ids_of is_state items)
     → StandsAt items (next_state items last) here (given_at is_state items base)
 later_stands_at items last here base fits is =
-    next_stands items last (given_at is_state items base) (here ∷ []) (All-cons (LaterFits (shape_of items)) here [] fits (All-nil (LaterFits (shape_of items))))
+    later_stands items last (given_at is_state items base) here fits
     (λ id y found kind. ap (λ (l : List ℕ). given_at is_state items l id) is ∙ words_of_kind is_state items (next_state items last) id y found kind)
 
 -- ---- words that fit
@@ -143,10 +121,6 @@ fits_more shape [] here fit = (fit.0, All-push (LaterFits shape) [] nothing_give
 fits_more shape (x ∷ frames) here fit = (fit.0, All-push (LaterFits shape) (frames ++ here ∷ []) nothing_given fit.1 (nothing_fits shape))
 
 -- ---- a frame is closed
-
-run_by : (r : Run) (items : List Item) (states inputs : List ℕ) (steps : ℕ) → r.items ≡ items → r.states ≡ states → r.inputs ≡ inputs
-    → record r { settled = true; steps = steps } ≡ record { items = items; states = states; inputs = inputs; settled = true; steps = steps }
-run_by r items states inputs steps e d g = rw (e, d, g) refl
 
 -- what is kept once a frame is closed, by the run that was settled in it
 pub record Closes (items : List Item) (settled : Run) (old new : WordPlay) : Type 0 where
@@ -183,15 +157,9 @@ module _ (items : List Item) (here : FrameWords) (old new : WordPlay) (before se
 
   now_in : (frames : List FrameWords) (plays : Plays items frames here old) (carried f : Frame) → StandsAt items carried here (given_at is_state items plays.base) → IsFrame items carried (given_words items here) f → IsNow settled f
   now_in frames plays carried f stands h =
-      let steps : ℕ = more_steps (node_count before.items) before.steps in
-      let r : Run = record { items = items; states = plays.base; inputs = zeros items; settled = false; steps = 0 } in
-      let r' : Run = record { items = items; states = words_put plays.base here.states; inputs = zeros items; settled = false; steps = 0 } in
-      let r'' : Run = record { items = items; states = words_put plays.base here.states; inputs = words_put (zeros items) here.inputs; settled = false; steps = 0 } in
       let same = before_is frames plays in
-      settled_now items r r' r'' settled here w refl plays.many refl (last_fits (shape_of items) frames here plays.fit) here.states here.inputs refl refl refl refl steps
-      (done
-      ∙ run_by before items (words_put plays.base here.states) (words_put (zeros items) here.inputs) steps (before_items frames plays) (ap (λ (x : Run). x.states) same ∙ plays.states) (ap (λ (x : Run). x.inputs) same ∙ plays.inputs))
-      carried f stands h
+      settled_now items settled plays.base here w plays.many (last_fits (shape_of items) frames here plays.fit) (settled_items frames plays)
+      (ap (λ (r : Run). r.states) done ∙ (ap (λ (r : Run). r.states) same ∙ plays.states)) (ap (λ (r : Run). r.inputs) done ∙ (ap (λ (r : Run). r.inputs) same ∙ plays.inputs)) carried f stands h
 
   -- the run behind the frame
   behind : (frames : List FrameWords) (plays : Plays items frames here old) → (ahead : Run) × MovesOn settled ahead
@@ -226,7 +194,7 @@ module _ (items : List Item) (here : FrameWords) (old new : WordPlay) (before se
       let carried = initial_words items (frames_alone (here ∷ [])) in
       let fresh : Fresh items plays.base old = plays.traced in
       let first : (old.frames == 0) ≡ true = eq-eqb old.frames 0 plays.count in
-      let now = now_in [] plays carried f (start_stands items here plays.base plays.fit.0.states fresh.states) t.0 in
+      let now = now_in [] plays carried f (start_stands items here plays.base fresh.states) t.0 in
       record {
         last = f;
         is_last = refl;

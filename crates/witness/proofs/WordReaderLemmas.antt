@@ -1,5 +1,5 @@
 -- Lines of a witness over a model, admitted one after the other by what is kept of them.
-use Rattle.std.proofs.Common.{◌≡◌, ℕ, zero, suc, ◌*◌, ◌<◌, ◌≤◌, Bool, true, false, ◌&&◌, ◌||◌, List, [], ◌∷◌, ◌++◌, Option, Some, None, IfNone, Result, Ok, Err, codes, map, length, unwrap_or, slice_index, slice_index_or, arith, refl, sym, ap, subst, ◌∙◌}
+use Rattle.std.proofs.Common.{◌≡◌, ℕ, suc, ◌*◌, ◌<◌, ◌≤◌, Bool, true, false, ◌&&◌, List, [], ◌∷◌, ◌++◌, Option, Some, None, IfNone, Result, Ok, Err, codes, map, length, unwrap_or, slice_index, slice_index_or, arith, refl, sym, ap, subst, ◌∙◌, ◌^◌}
 use Rattle.std.specs.Str.{bytes_eq}
 use Rattle.std.proofs.lemmas.Bool.{false_from_ne_true}
 use Rattle.std.proofs.lemmas.Slice.Eq.{bytes_eq-Decides}
@@ -18,13 +18,15 @@ use Rattle.btor2.specs.Items.{is_state, is_bad}
 use Rattle.btor2.specs.Lists.{places, is_free_at}
 use Rattle.witness.specs.declared.word_claims.ClaimScan.{ClaimScan}
 use Rattle.witness.specs.WordClaims.{AreClaims}
-use Rattle.witness.proofs.ShapeLemmas.{free_at_places, length-places}
+use Rattle.witness.proofs.ShapeLemmas.{free_at_places}
 use Rattle.witness.specs.WordPlays.{WordPlay, IsStart, GoesOn, Plays, frame_steps, MayGive, GivesState, GivesInput, nothing_given}
 use Rattle.witness.specs.WordStands.{WordReader, place_of, here_of, NoFrame, SaidAt, ClaimsAt, Reads, GivesLine, is_alone}
-use Rattle.std.proofs.lemmas.List.{map-append, length-map}
-use Rattle.std.proofs.lemmas.List.Elements.{All-nil}
+use Rattle.std.proofs.lemmas.List.{map-append, length-map, get_or-map, get_or_past}
+use Rattle.std.proofs.lemmas.List.Elements.{All-nil, All-from_get_or, All-map}
 use Rattle.runs.specs.Frames.{ids_of}
 use Rattle.runs.specs.Run.{Run, first_word, more_steps}
+use Rattle.std.proofs.lemmas.List.Folds.{list_any_at, list_any_none}
+use Rattle.runs.proofs.RankLemmas.{length-places}
 
 -- a line is admitted
 abbrev pub Passes : List Item → Read → List ℕ → WordReader → Type 0
@@ -32,21 +34,11 @@ Passes items r line q = (next : Read) × ((admit (shape_of items) r line ≡ Ok 
 
 same_claims : (q : WordReader) (r : Read) (line next : List ℕ) (x : CodePlace) → is_alone (place_of x) ≡ true → ClaimsAt q r line (place_of x) → ClaimsAt q r next (place_of x)
 same_claims q r line next code.Claims alone h = absurd (cc alone)
-same_claims q r line next code.Status alone h = h
-same_claims q r line next code.Parts alone h = h
-same_claims q r line next code.States alone h = h
-same_claims q r line next code.Free alone h = h
-same_claims q r line next code.Frame alone h = h
-same_claims q r line next code.End alone h = h
+same_claims q r line next _ alone h = h
 
 pub is_claims : (x : CodePlace) → is_alone (place_of x) ≡ false → x ≡ code.Claims
 is_claims code.Claims other = refl
-is_claims code.Status other = absurd (cc other)
-is_claims code.Parts other = absurd (cc other)
-is_claims code.States other = absurd (cc other)
-is_claims code.Free other = absurd (cc other)
-is_claims code.Frame other = absurd (cc other)
-is_claims code.End other = absurd (cc other)
+is_claims _ other = absurd (cc other)
 
 -- a line that opens no part is no line that begins with such a byte
 pub not_opened : (b : ℕ) (rest line : List ℕ) → begins_part (b ∷ rest) ≡ true → begins_part line ≡ false → bytes_eq line (b ∷ rest) ≡ false
@@ -55,18 +47,25 @@ not_opened b rest line opens plain =
     let same : line ≡ b ∷ rest = (bytes_eq-Decides line (b ∷ rest)).0 e in
     cc (sym (ap begins_part same) ∙ plain, opens))
 
-module _ (items : List Item) (r : Read) (line : List ℕ) (q : WordReader) (reads : Reads items q r line) where
-  is_at : (x : CodePlace) → q.place ≡ x → r.place ≡ place_of x
-  is_at x e = sym reads.place ∙ ap place_of e
+-- what is kept, as clauses see it and by its parts
+module _ (items : List Item) (r : Read) (line : List ℕ) (q old : WordReader) (same : q ≡ old) (was : Reads items old r line) where
+  reads : Reads items q r line
+  reads = subst (λ (p : WordReader). Reads items p r line) (sym same) was
 
-  said_at : (x : CodePlace) → q.place ≡ x → SaidAt r (place_of x)
+  is_at : (x : CodePlace) → old.place ≡ x → r.place ≡ place_of x
+  is_at x e = sym was.place ∙ ap place_of e
+
+  said_at : (x : CodePlace) → old.place ≡ x → SaidAt r (place_of x)
   said_at x e = subst (SaidAt r) (is_at x e) reads.said
 
-  pub claims_there : (x : CodePlace) → q.place ≡ x → ClaimsAt q r line (place_of x)
+  pub claims_there : (x : CodePlace) → old.place ≡ x → ClaimsAt q r line (place_of x)
   claims_there x e = subst (ClaimsAt q r line) (is_at x e) reads.claims
 
-  pub plays_at : (x : CodePlace) → q.place ≡ x → Plays items (map frame_words r.closed) (here_of r (place_of x)) q.play
+  pub plays_at : (x : CodePlace) → old.place ≡ x → Plays items (map frame_words r.closed) (here_of r (place_of x)) q.play
   plays_at x e = subst (λ (p : Place). Plays items (map frame_words r.closed) (here_of r p) q.play) (is_at x e) reads.play
+
+  pub frames_are : q.play.frames ≡ length r.closed
+  frames_are = reads.play.count ∙ length-map r.closed frame_words
 
   -- of a line that is judged by its bytes alone nothing is kept
   pub reads_of_other : (next : List ℕ) → is_alone (place_of q.place) ≡ true → Reads items q r next
@@ -76,12 +75,12 @@ module _ (items : List Item) (r : Read) (line : List ℕ) (q : WordReader) (read
         many = reads.many;
         place = reads.place;
         said = reads.said;
-        claims = subst (ClaimsAt q r next) reads.place (same_claims q r line next q.place alone (claims_there q.place refl));
+        claims = subst (ClaimsAt q r next) reads.place (same_claims q r line next q.place alone (claims_there q.place (ap (λ (p : WordReader). p.place) (sym same))));
         play = reads.play;
       }
 
   -- an assignment more in the part that is open
-  given_more : (x : CodePlace) (p : WordPlay) (list : List Assignment) → q.place ≡ x → SaidAt (record r { open_part = list }) (place_of x) → ClaimsAt (record q { play = p }) (record r { open_part = list }) [] (place_of x)
+  given_more : (x : CodePlace) (p : WordPlay) (list : List Assignment) → old.place ≡ x → SaidAt (record r { open_part = list }) (place_of x) → ClaimsAt (record q { play = p }) (record r { open_part = list }) [] (place_of x)
       → Plays items (map frame_words r.closed) (here_of (record r { open_part = list }) (place_of x)) p → Reads items (record q { play = p }) (record r { open_part = list }) []
   given_more x p list e said claims plays =
       let at = sym (is_at x e) in
@@ -97,13 +96,13 @@ module _ (items : List Item) (r : Read) (line : List ℕ) (q : WordReader) (read
 
   -- ---- the status and the claims
 
-  pub comment_admitted : q.place ≡ code.Status → is_comment line ≡ true → Passes items r line q
+  pub comment_admitted : old.place ≡ code.Status → is_comment line ≡ true → Passes items r line q
   unfolding admit
   comment_admitted e is =
       let at = is_at code.Status e in
       (r, (rw (at, is) refl, record { free = reads.free; many = reads.many; place = reads.place; said = reads.said; claims = subst (ClaimsAt q r []) (sym at) (claims_there code.Status e); play = reads.play }))
 
-  pub sat_admitted : q.place ≡ code.Status → is_comment line ≡ false → bytes_eq line (codes "sat") ≡ true → Passes items r line (record q { place = code.Claims })
+  pub sat_admitted : old.place ≡ code.Status → is_comment line ≡ false → bytes_eq line (codes "sat") ≡ true → Passes items r line (record q { place = code.Claims })
   unfolding admit
   sat_admitted e other is =
       let said : NoFrame r = said_at code.Status e in (
@@ -114,15 +113,15 @@ module _ (items : List Item) (r : Read) (line : List ℕ) (q : WordReader) (read
         ),
       )
 
-  pub header_refused : q.place ≡ code.Status → is_comment line ≡ false → bytes_eq line (codes "sat") ≡ false → admit (shape_of items) r line ≡ Err why.BadHeader
+  pub header_refused : old.place ≡ code.Status → is_comment line ≡ false → bytes_eq line (codes "sat") ≡ false → admit (shape_of items) r line ≡ Err why.BadHeader
   unfolding admit
   header_refused e other fails = rw (is_at code.Status e, other, fails) refl
 
-  pub claims_refused : (w : Why) → q.place ≡ code.Claims → claims_at (shape_of items).bads line ≡ Err w → admit (shape_of items) r line ≡ Err w
+  pub claims_refused : (w : Why) → old.place ≡ code.Claims → claims_at (shape_of items).bads line ≡ Err w → admit (shape_of items) r line ≡ Err w
   unfolding admit
   claims_refused w e is = rw (is_at code.Claims e, is) refl
 
-  pub claims_admitted : (flags : List Bool) (list : List ℕ) → q.place ≡ code.Claims → claims_at (shape_of items).bads line ≡ Ok list → AreClaimed flags list → length flags ≡ length q.claimed → Passes items r line (record q { place = code.Parts; claimed = flags })
+  pub claims_admitted : (flags : List Bool) (list : List ℕ) → old.place ≡ code.Claims → claims_at (shape_of items).bads line ≡ Ok list → AreClaimed flags list → length flags ≡ length q.claimed → Passes items r line (record q { place = code.Parts; claimed = flags })
   unfolding admit
   claims_admitted flags list e is claimed many =
       let said : NoFrame r = said_at code.Claims e in (
@@ -135,14 +134,14 @@ module _ (items : List Item) (r : Read) (line : List ℕ) (q : WordReader) (read
 
   -- ---- the line behind them
 
-  pub states_opened : q.place ≡ code.Parts → opens_states 0 line ≡ true → Passes items r line (record q { place = code.States })
+  pub states_opened : old.place ≡ code.Parts → opens_states 0 line ≡ true → Passes items r line (record q { place = code.States })
   unfolding admit
   states_opened e is =
       let said : NoFrame r = said_at code.Parts e in
       let play = subst (λ (l : List Assignment). Plays items (map frame_words r.closed) (record { states = pairs_of l; inputs = [] }) q.play) (sym said.open_part) (plays_at code.Parts e) in
       (record r { place = InStates }, (rw (is_at code.Parts e, is) refl, record { free = reads.free; many = reads.many; place = refl; said = said.closed; claims = claims_there code.Parts e; play = play }))
 
-  pub frame_opened : q.place ≡ code.Parts → opens_states 0 line ≡ false → opens_frame 0 line ≡ true → Passes items r line (record q { place = code.Frame })
+  pub frame_opened : old.place ≡ code.Parts → opens_states 0 line ≡ false → opens_frame 0 line ≡ true → Passes items r line (record q { place = code.Frame })
   unfolding admit
   frame_opened e other is =
       let said : NoFrame r = said_at code.Parts e in
@@ -150,102 +149,134 @@ module _ (items : List Item) (r : Read) (line : List ℕ) (q : WordReader) (read
       let play = subst (λ (o : Option (List Assignment)). Plays items (map frame_words r.closed) (record { states = pairs_of (unwrap_or o []); inputs = pairs_of r.open_part }) q.play) (sym said.states) inputs in
       (record r { place = InFrame }, (rw (is_at code.Parts e, other, is) refl, record { free = reads.free; many = reads.many; place = refl; said = tt; claims = claims_there code.Parts e; play = play }))
 
-  pub parts_refused : q.place ≡ code.Parts → opens_states 0 line ≡ false → opens_frame 0 line ≡ false → admit (shape_of items) r line ≡ Err why.FrameOrder
+  pub parts_refused : old.place ≡ code.Parts → opens_states 0 line ≡ false → opens_frame 0 line ≡ false → admit (shape_of items) r line ≡ Err why.FrameOrder
   unfolding admit
   parts_refused e other fails = rw (is_at code.Parts e, other, fails) refl
 
   -- ---- a part of states
 
-  pub may_give_first : q.place ≡ code.States → MayGive items (map frame_words r.closed) line
-  may_give_first e = subst (λ (l : _). MayGive items (map frame_words l) line) (sym (said_at code.States e)) tt
+  -- what assigning a word to a state gives
+  abbrev pub AssignsState : WordPlay → Result (Unit {0}) Why → Type 0
+  AssignsState p result =
+      (frames : List FrameWords) (before : List Assignment) → Plays q.play.items frames (record { states = pairs_of before; inputs = [] }) q.play → MayGive q.play.items frames line → GivesState q.play.items frames before line p result
 
-  pub states_done : q.place ≡ code.States → opens_frame 0 line ≡ true → Passes items r line (record q { place = code.Frame })
+  state_given : (p : WordPlay) (result : Result (Unit {0}) Why) → AssignsState p result → Plays items (map frame_words r.closed) (record { states = pairs_of r.open_part; inputs = [] }) q.play → MayGive items (map frame_words r.closed) line
+      → GivesState items (map frame_words r.closed) r.open_part line p result
+  state_given p result clause plays =
+      subst (λ (l : List Item). Plays l (map frame_words r.closed) (record { states = pairs_of r.open_part; inputs = [] }) q.play → MayGive l (map frame_words r.closed) line → GivesState l (map frame_words r.closed) r.open_part line p result) plays.items_are
+      (clause (map frame_words r.closed) r.open_part) plays
+
+  pub states_done : old.place ≡ code.States → opens_frame 0 line ≡ true → Passes items r line (record q { place = code.Frame })
   unfolding admit
   states_done e is = (states_closed r, (rw (is_at code.States e, is) refl, record { free = reads.free; many = reads.many; place = refl; said = tt; claims = claims_there code.States e; play = plays_at code.States e }))
 
-  pub states_refused : q.place ≡ code.States → opens_frame 0 line ≡ false → begins_part line ≡ true → admit (shape_of items) r line ≡ Err why.FrameOrder
+  pub states_refused : old.place ≡ code.States → opens_frame 0 line ≡ false → begins_part line ≡ true → admit (shape_of items) r line ≡ Err why.FrameOrder
   unfolding admit
   states_refused e other begins = rw (is_at code.States e, other, begins) refl
 
-  pub state_more : (p : WordPlay) (result : Result (Unit {0}) Why) → q.place ≡ code.States → opens_frame 0 line ≡ false → begins_part line ≡ false → GivesState items (map frame_words r.closed) r.open_part line p result → GivesLine items r line (record q { play = p }) result
+  pub state_more : (p : WordPlay) (result : Result (Unit {0}) Why) → old.place ≡ code.States → opens_frame 0 line ≡ false → begins_part line ≡ false → AssignsState p result → GivesLine items r line (record q { play = p }) result
   unfolding admit
-  state_more p (Err w) e other plain gives = rw (is_at code.States e, other, plain, gives) refl
-  state_more p (Ok u) e other plain gives =
-      (record r { open_part = gives.0 }, (rw (is_at code.States e, other, plain, gives.1.0) refl, given_more code.States p gives.0 e (said_at code.States e) (claims_there code.States e) gives.1.1))
+  state_more p result e other plain clause = by result (state_given p result clause (plays_at code.States e) (subst (λ (l : _). MayGive items (map frame_words l) line) (sym (said_at code.States e)) tt))
+    where
+      by : (o : Result (Unit {0}) Why) → GivesState items (map frame_words r.closed) r.open_part line p o → GivesLine items r line (record q { play = p }) o
+      by (Err w) gives = rw (is_at code.States e, other, plain, gives) refl
+      by (Ok u) gives = (record r { open_part = gives.0 }, (rw (is_at code.States e, other, plain, gives.1.0) refl, given_more code.States p gives.0 e (said_at code.States e) (claims_there code.States e) gives.1.1))
 
-  pub may_give_free : (closed : List FrameWords) → names_free (shape_of items) (number_of (cut_at_space line).0) ≡ true → MayGive items closed line
-  may_give_free [] free = tt
-  may_give_free (x ∷ closed) free = free
-
-  pub free_done : q.place ≡ code.Free → opens_frame (length r.closed) line ≡ true → Passes items r line (record q { place = code.Frame })
+  pub free_done : old.place ≡ code.Free → opens_frame (length r.closed) line ≡ true → Passes items r line (record q { place = code.Frame })
   unfolding admit
   free_done e is = (states_closed r, (rw (is_at code.Free e, is) refl, record { free = reads.free; many = reads.many; place = refl; said = tt; claims = claims_there code.Free e; play = plays_at code.Free e }))
 
-  pub free_refused : q.place ≡ code.Free → opens_frame (length r.closed) line ≡ false → begins_part line ≡ true → admit (shape_of items) r line ≡ Err why.FrameOrder
+  pub free_refused : old.place ≡ code.Free → opens_frame (length r.closed) line ≡ false → begins_part line ≡ true → admit (shape_of items) r line ≡ Err why.FrameOrder
   unfolding admit
   free_refused e other begins = rw (is_at code.Free e, other, begins) refl
 
-  pub not_free_refused : q.place ≡ code.Free → opens_frame (length r.closed) line ≡ false → begins_part line ≡ false → names_free (shape_of items) (number_of (cut_at_space line).0) ≡ false → admit (shape_of items) r line ≡ Err why.BadIndex
-  unfolding admit free_assignment_at
-  not_free_refused e other plain fails = rw (is_at code.Free e, other, plain, fails) refl
+  named : (b : Bool) → names_free (shape_of old.play.items) (number_of (cut_at_space line).0) ≡ b → names_free (shape_of items) (number_of (cut_at_space line).0) ≡ b
+  named b e = sym (ap (λ (l : List Item). names_free (shape_of l) (number_of (cut_at_space line).0)) was.play.items_are) ∙ e
 
-  pub free_more : (p : WordPlay) (result : Result (Unit {0}) Why) → q.place ≡ code.Free → opens_frame (length r.closed) line ≡ false → begins_part line ≡ false → names_free (shape_of items) (number_of (cut_at_space line).0) ≡ true
-      → GivesState items (map frame_words r.closed) r.open_part line p result → GivesLine items r line (record q { play = p }) result
+  pub not_free_refused : old.place ≡ code.Free → opens_frame (length r.closed) line ≡ false → begins_part line ≡ false → names_free (shape_of old.play.items) (number_of (cut_at_space line).0) ≡ false → admit (shape_of items) r line ≡ Err why.BadIndex
   unfolding admit free_assignment_at
-  free_more p (Err w) e other plain free gives = rw (is_at code.Free e, other, plain, free, gives) refl
-  free_more p (Ok u) e other plain free gives =
-      (record r { open_part = gives.0 }, (rw (is_at code.Free e, other, plain, free, gives.1.0) refl, given_more code.Free p gives.0 e tt (claims_there code.Free e) gives.1.1))
+  not_free_refused e other plain fails = rw (is_at code.Free e, other, plain, named false fails) refl
+
+  pub free_more : (p : WordPlay) (result : Result (Unit {0}) Why) → old.place ≡ code.Free → opens_frame (length r.closed) line ≡ false → begins_part line ≡ false → names_free (shape_of old.play.items) (number_of (cut_at_space line).0) ≡ true
+      → AssignsState p result → GivesLine items r line (record q { play = p }) result
+  unfolding admit free_assignment_at
+  free_more p result e other plain free clause = by result (state_given p result clause (plays_at code.Free e) (may (map frame_words r.closed)))
+    where
+      may : (closed : List FrameWords) → MayGive items closed line
+      may [] = tt
+      may (x ∷ closed) = named true free
+
+      by : (o : Result (Unit {0}) Why) → GivesState items (map frame_words r.closed) r.open_part line p o → GivesLine items r line (record q { play = p }) o
+      by (Err w) gives = rw (is_at code.Free e, other, plain, named true free, gives) refl
+      by (Ok u) gives = (record r { open_part = gives.0 }, (rw (is_at code.Free e, other, plain, named true free, gives.1.0) refl, given_more code.Free p gives.0 e tt (claims_there code.Free e) gives.1.1))
 
   -- ---- a frame
 
-  closed_plays : (p : WordPlay) → Plays items (map frame_words r.closed ++ here_of r InFrame ∷ []) nothing_given p → Plays items (map frame_words (r.closed ++ record { states = r.states; inputs = r.open_part } ∷ [])) nothing_given p
-  closed_plays p plays = subst (λ (l : List FrameWords). Plays items l nothing_given p) (sym (map-append frame_words r.closed (record { states = r.states; inputs = r.open_part } ∷ []))) plays
+  -- what closing the open frame gives
+  abbrev pub Closes : WordPlay → Type 0
+  Closes p = (frames : List FrameWords) (here : FrameWords) → Plays q.play.items frames here q.play → length frames < 2 ^ 62 → Plays q.play.items (frames ++ here ∷ []) nothing_given p
 
-  pub next_frame : (p : WordPlay) → q.place ≡ code.Frame → opens_frame (suc (length r.closed)) line ≡ true → Plays items (map frame_words r.closed ++ here_of r InFrame ∷ []) nothing_given p → Passes items r line (record q { play = p })
+  closed_plays : (p : WordPlay) → old.place ≡ code.Frame → length r.closed < 2 ^ 62 → Closes p → Plays items (map frame_words (r.closed ++ record { states = r.states; inputs = r.open_part } ∷ [])) nothing_given p
+  closed_plays p e few clause =
+      let plays = plays_at code.Frame e in
+      subst (λ (l : List FrameWords). Plays items l nothing_given p) (sym (map-append frame_words r.closed (record { states = r.states; inputs = r.open_part } ∷ [])))
+      (subst (λ (l : List Item). Plays l (map frame_words r.closed) (here_of r InFrame) q.play → Plays l (map frame_words r.closed ++ here_of r InFrame ∷ []) nothing_given p) plays.items_are
+      (λ now. clause (map frame_words r.closed) (here_of r InFrame) now (omega (arith, few, length-map r.closed frame_words))) plays)
+
+  pub next_frame : (p : WordPlay) → old.place ≡ code.Frame → opens_frame (suc (length r.closed)) line ≡ true → length r.closed < 2 ^ 62 → Closes p → Passes items r line (record q { play = p })
   unfolding admit
-  next_frame p e is plays = (frame_closed InFrame r, (rw (is_at code.Frame e, is) refl, record { free = reads.free; many = reads.many; place = ap place_of e; said = tt; claims = claims_there code.Frame e; play = closed_plays p plays }))
+  next_frame p e is few clause = (frame_closed InFrame r, (rw (is_at code.Frame e, is) refl, record { free = reads.free; many = reads.many; place = ap (λ (p : WordReader). place_of p.place) same ∙ ap place_of e; said = tt; claims = claims_there code.Frame e; play = closed_plays p e few clause }))
 
-  pub next_states : (p : WordPlay) → q.place ≡ code.Frame → opens_frame (suc (length r.closed)) line ≡ false → (opens_states (suc (length r.closed)) line && q.has_free) ≡ true → Plays items (map frame_words r.closed ++ here_of r InFrame ∷ []) nothing_given p
+  pub next_states : (p : WordPlay) → old.place ≡ code.Frame → opens_frame (suc (length r.closed)) line ≡ false → (opens_states (suc (length r.closed)) line && q.has_free) ≡ true → length r.closed < 2 ^ 62 → Closes p
       → Passes items r line (record q { play = p; place = code.Free })
   unfolding admit
-  next_states p e other is plays =
+  next_states p e other is few clause =
       let some = ap (λ (b : Bool). opens_states (suc (length r.closed)) line && b) (sym reads.free) ∙ is in
-      (frame_closed InFree r, (rw (is_at code.Frame e, other, some) refl, record { free = reads.free; many = reads.many; place = refl; said = tt; claims = claims_there code.Frame e; play = closed_plays p plays }))
+      (frame_closed InFree r, (rw (is_at code.Frame e, other, some) refl, record { free = reads.free; many = reads.many; place = refl; said = tt; claims = claims_there code.Frame e; play = closed_plays p e few clause }))
 
   -- no line of states follows
   abbrev pub NoStates : Type 0
   NoStates = (opens_states (suc (length r.closed)) line && q.has_free) ≡ false
 
-  pub the_end : (p : WordPlay) → q.place ≡ code.Frame → opens_frame (suc (length r.closed)) line ≡ false → NoStates → bytes_eq line (codes ".") ≡ true → Plays items (map frame_words r.closed ++ here_of r InFrame ∷ []) nothing_given p
+  pub the_end : (p : WordPlay) → old.place ≡ code.Frame → opens_frame (suc (length r.closed)) line ≡ false → NoStates → bytes_eq line (codes ".") ≡ true → length r.closed < 2 ^ 62 → Closes p
       → Passes items r line (record q { play = p; place = code.End })
   unfolding admit
-  the_end p e other none is plays =
+  the_end p e other none is few clause =
       let no = ap (λ (b : Bool). opens_states (suc (length r.closed)) line && b) (sym reads.free) ∙ none in
-      (frame_closed AtEnd r, (rw (is_at code.Frame e, other, no, is) refl, record { free = reads.free; many = reads.many; place = refl; said = tt; claims = claims_there code.Frame e; play = closed_plays p plays }))
+      (frame_closed AtEnd r, (rw (is_at code.Frame e, other, no, is) refl, record { free = reads.free; many = reads.many; place = refl; said = tt; claims = claims_there code.Frame e; play = closed_plays p e few clause }))
 
-  pub frame_refused : q.place ≡ code.Frame → opens_frame (suc (length r.closed)) line ≡ false → NoStates → bytes_eq line (codes ".") ≡ false → begins_part line ≡ true → admit (shape_of items) r line ≡ Err why.FrameOrder
+  pub frame_refused : old.place ≡ code.Frame → opens_frame (suc (length r.closed)) line ≡ false → NoStates → bytes_eq line (codes ".") ≡ false → begins_part line ≡ true → admit (shape_of items) r line ≡ Err why.FrameOrder
   unfolding admit
   frame_refused e other none fails begins =
       let no = ap (λ (b : Bool). opens_states (suc (length r.closed)) line && b) (sym reads.free) ∙ none in
       rw (is_at code.Frame e, other, no, fails, begins) refl
 
-  pub input_more : (p : WordPlay) (result : Result (Unit {0}) Why) → q.place ≡ code.Frame → opens_frame (suc (length r.closed)) line ≡ false → NoStates → bytes_eq line (codes ".") ≡ false → begins_part line ≡ false
-      → GivesInput items (map frame_words r.closed) (pairs_of (unwrap_or r.states [])) r.open_part line p result → GivesLine items r line (record q { play = p }) result
+  pub input_more : (p : WordPlay) (result : Result (Unit {0}) Why) → old.place ≡ code.Frame → opens_frame (suc (length r.closed)) line ≡ false → NoStates → bytes_eq line (codes ".") ≡ false → begins_part line ≡ false
+      → ((frames : List FrameWords) (states : List (ℕ × ℕ)) (before : List Assignment) → Plays q.play.items frames (record { states = states; inputs = pairs_of before }) q.play → GivesInput q.play.items frames states before line p result)
+      → GivesLine items r line (record q { play = p }) result
   unfolding admit
-  input_more p (Err w) e other none fails plain gives =
-      let no = ap (λ (b : Bool). opens_states (suc (length r.closed)) line && b) (sym reads.free) ∙ none in
-      rw (is_at code.Frame e, other, no, fails, plain, gives) refl
-  input_more p (Ok u) e other none fails plain gives =
-      let no = ap (λ (b : Bool). opens_states (suc (length r.closed)) line && b) (sym reads.free) ∙ none in
-      (record r { open_part = gives.0 }, (rw (is_at code.Frame e, other, no, fails, plain, gives.1.0) refl, given_more code.Frame p gives.0 e tt (claims_there code.Frame e) gives.1.1))
+  input_more p result e other none fails plain clause = by result gives
+    where
+      gives : GivesInput items (map frame_words r.closed) (pairs_of (unwrap_or r.states [])) r.open_part line p result
+      gives =
+          let plays = plays_at code.Frame e in
+          subst (λ (l : List Item). Plays l (map frame_words r.closed) (here_of r InFrame) q.play → GivesInput l (map frame_words r.closed) (pairs_of (unwrap_or r.states [])) r.open_part line p result) plays.items_are
+          (clause (map frame_words r.closed) (pairs_of (unwrap_or r.states [])) r.open_part) plays
 
-  pub trailing_refused : q.place ≡ code.End → admit (shape_of items) r line ≡ Err why.Trailing
+      no : (opens_states (suc (length r.closed)) line && has_free (shape_of items)) ≡ false
+      no = ap (λ (b : Bool). opens_states (suc (length r.closed)) line && b) (sym reads.free) ∙ none
+
+      by : (o : Result (Unit {0}) Why) → GivesInput items (map frame_words r.closed) (pairs_of (unwrap_or r.states [])) r.open_part line p o → GivesLine items r line (record q { play = p }) o
+      by (Err w) told = rw (is_at code.Frame e, other, no, fails, plain, told) refl
+      by (Ok u) told = (record r { open_part = told.0 }, (rw (is_at code.Frame e, other, no, fails, plain, told.1.0) refl, given_more code.Frame p told.0 e tt (claims_there code.Frame e) told.1.1))
+
+  pub trailing_refused : old.place ≡ code.End → admit (shape_of items) r line ≡ Err why.Trailing
   unfolding admit
   trailing_refused e = rw (is_at code.End e) refl
 
   -- ---- more bytes
 
-  pub claim_part : (s : ClaimScan) (flags : List Bool) (part : List ℕ) → q.place ≡ code.Claims → AreClaims s flags (line ++ part) → length flags ≡ length q.claimed → Reads items (record q { claims = s; claimed = flags }) r (line ++ part)
+  pub claim_part : (s : ClaimScan) (flags : List Bool) (part : List ℕ) → old.place ≡ code.Claims → AreClaims s flags (line ++ part) → length flags ≡ length q.claimed → Reads items (record q { claims = s; claimed = flags }) r (line ++ part)
   claim_part s flags part e are many =
       record {
         free = reads.free;
@@ -258,41 +289,18 @@ module _ (items : List Item) (r : Read) (line : List ℕ) (q : WordReader) (read
 
 -- ---- free states
 
-free_there : (items : List Item) (list : List ℕ) (i : ℕ) → i < length list → slice_index_or (map (is_free_at items) list) i false ≡ is_free_at items (slice_index list i)
-free_there items [] i h = absurd (omega (arith, h))
-free_there items (x ∷ list) zero h = refl
-free_there items (x ∷ list) (suc i) h = free_there items list i (omega (arith, h))
-
-free_past : (items : List Item) (list : List ℕ) (i : ℕ) → length list ≤ i → slice_index_or (map (is_free_at items) list) i false ≡ false
-free_past items [] i h = refl
-free_past items (x ∷ list) zero h = absurd (omega (arith, h))
-free_past items (x ∷ list) (suc i) h = free_past items list i (omega (arith, h))
-
 pub free_index : (items : List Item) (i : ℕ) → i < length (places is_state 0 items) → is_free_index (shape_of items) i ≡ is_free_at items (slice_index (places is_state 0 items) i)
-free_index items i h = ap (λ (l : List Bool). slice_index_or l i false) (sym (free_at_places items)) ∙ free_there items (places is_state 0 items) i h
+free_index items i h = ap (λ (l : List Bool). slice_index_or l i false) (sym (free_at_places items)) ∙ get_or-map (is_free_at items) (places is_state 0 items) i 0 false h
 
 pub no_free_index : (items : List Item) (i : ℕ) → length (places is_state 0 items) ≤ i → is_free_index (shape_of items) i ≡ false
-no_free_index items i h = ap (λ (l : List Bool). slice_index_or l i false) (sym (free_at_places items)) ∙ free_past items (places is_state 0 items) i h
+no_free_index items i h = ap (λ (l : List Bool). slice_index_or l i false) (sym (free_at_places items)) ∙ get_or_past (map (is_free_at items) (places is_state 0 items)) i false (omega (arith, length-map (places is_state 0 items) (is_free_at items), h))
 
 -- one of the states is free, or none is
-any_there : (items : List Item) (list : List ℕ) (i : ℕ) → i < length list → is_free_at items (slice_index list i) ≡ true → list_any (λ b. b) (map (is_free_at items) list) ≡ true
-any_there items [] i h is = absurd (omega (arith, h))
-any_there items (x ∷ list) zero h is = rw is refl
-any_there items (x ∷ list) (suc i) h is = rw (any_there items list i (omega (arith, h)) is) (or_true (is_free_at items x))
-  where
-    or_true : (b : Bool) → (b || true) ≡ true
-    or_true true = refl
-    or_true false = refl
-
-none_there : (items : List Item) (list : List ℕ) → ((i : ℕ) → i < length list → is_free_at items (slice_index list i) ≡ false) → list_any (λ b. b) (map (is_free_at items) list) ≡ false
-none_there items [] none = refl
-none_there items (x ∷ list) none = rw (none 0 (omega arith)) (none_there items list (λ i h. none (suc i) (omega (arith, h))))
-
 pub some_free : (items : List Item) (i : ℕ) → i < length (places is_state 0 items) → is_free_at items (slice_index (places is_state 0 items) i) ≡ true → has_free (shape_of items) ≡ true
-some_free items i h is = ap (list_any (λ b. b)) (sym (free_at_places items)) ∙ any_there items (places is_state 0 items) i h is
+some_free items i h is = ap (list_any (λ b. b)) (sym (free_at_places items)) ∙ list_any_at (λ b. b) (map (is_free_at items) (places is_state 0 items)) i false (omega (arith, length-map (places is_state 0 items) (is_free_at items), h)) (get_or-map (is_free_at items) (places is_state 0 items) i 0 false h ∙ is)
 
 pub none_free : (items : List Item) → ((i : ℕ) → i < length (places is_state 0 items) → is_free_at items (slice_index (places is_state 0 items) i) ≡ false) → has_free (shape_of items) ≡ false
-none_free items none = ap (list_any (λ b. b)) (sym (free_at_places items)) ∙ none_there items (places is_state 0 items) none
+none_free items none = ap (list_any (λ b. b)) (sym (free_at_places items)) ∙ list_any_none (λ b. b) (map (is_free_at items) (places is_state 0 items)) (All-map (λ (b : Bool). b ≡ false) (is_free_at items) (places is_state 0 items) (All-from_get_or (λ k. is_free_at items k ≡ false) (places is_state 0 items) 0 none))
 
 -- ---- before any line
 

@@ -47,11 +47,6 @@ StandsAt items carried frame words =
     (id : ℕ) → names_state items id ≡ true
     → unwrap_or (given_to is_state items frame.states id) (words id) ≡ state_word items carried (given_words items frame) id
 
--- the same of the first of some frames
-abbrev pub StandsBefore : List Item → Frame → List FrameWords → Frame → Type 0
-StandsBefore items carried [] words = Unit {0}
-StandsBefore items carried (frame ∷ later) words = StandsAt items carried frame words
-
 -- a number is in the set that flags stand for
 abbrev pub is_set : List Bool → ℕ → Bool
 is_set flags k = slice_index_or flags k false

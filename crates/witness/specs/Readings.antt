@@ -1,5 +1,6 @@
 -- Lines of a witness of either kind, admitted one by one: how far they are, what they say, and the first fault (the limit of lines is this project's).
-use Rattle.std.specs.Prelude.{ℕ, ◌+◌, Bool, true, false, not, ◌&&◌, nat_le, List, [], ◌∷◌, Option, Some, None, Result, Ok, Err, if◌then◌else◌}
+use Rattle.std.specs.Prelude.{ℕ, ◌+◌, Bool, not, ◌&&◌, nat_le, List, [], ◌∷◌, Option, Some, None, Result, Ok, Err, if◌then◌else◌}
+pub use Rattle.base.specs.Decimals.{is_nothing}
 use Rattle.base.specs.Lines.{whole_lines, unfinished}
 use Rattle.witness.specs.declared.why.Why.{Why}
 use Rattle.witness.specs.declared.why.Why.TheVariants as why
@@ -50,10 +51,6 @@ unfoldable pub reading : {R : Type 0} → Reader R → List ℕ → Reading R
 reading reader text = lines_read reader (whole_lines text)
 
 -- ---- a whole text
-
-abbrev pub is_nothing : List ℕ → Bool
-is_nothing [] = true
-is_nothing (b ∷ bs) = false
 
 -- why the line after the last whole one is refused, of which there are n; nothing where it is empty and the witness has ended
 abbrev pub last_refusal : Bool → ℕ → Bool → Option Why

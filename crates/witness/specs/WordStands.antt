@@ -124,13 +124,6 @@ word_judging items =
 abbrev pub StandsFor : List Item → WordJudge → List ℕ → Type 0
 StandsFor items j text = JudgeStandsFor (word_judging items) j text
 
--- no whole line was refused, one more may be admitted, and the next begins in a frame
-pub record TakesPlain (j : WordJudge) : Type 0 where
-  pub fine : j.refused ≡ None
-  pub few : j.admitted < 2 ^ 62
-  pub begins : j.line ≡ []
-  pub place : j.reader.place ≡ code.Frame
-
 -- a text begins with a line that a judge took: it stands for its text with that line
 pub record JudgesLine (old new : WordJudge) (text rest : List ℕ) : Type 0 where
   pub line : List ℕ

@@ -1,29 +1,23 @@
 -- The word behind the index of an assignment of a witness over a model.
-use Rattle.std.specs.Prelude.{◌≡◌, ℕ, ◌+◌, ◌*◌, ◌<◌, ◌^◌, Bool, true, ◌||◌, ◌==◌, List, [], ◌∷◌, Option, Some, None, Result, Ok, Err, map, length, reverse, if◌then◌else◌}
+use Rattle.std.specs.Prelude.{◌≡◌, ℕ, ◌+◌, ◌*◌, ◌<◌, ◌^◌, true, List, [], ◌∷◌, Option, Some, None, Result, Ok, Err, map, length, reverse, if◌then◌else◌}
 use Rattle.std.specs.List.{list_all}
 use Rattle.base.specs.Word.{word, bit_number}
 use Rattle.btor2.specs.Symbols.{is_symbol}
 use Rattle.witness.specs.declared.why.Why.{Why}
 use Rattle.witness.specs.declared.why.Why.TheVariants as why
 use Rattle.witness.specs.Admits.{value_of, cut_at_space}
+use Rattle.witness.specs.BitScans.{is_bit, is_one_bit}
 
--- a byte `1`, and one of `0` and `1`
-abbrev pub is_one : ℕ → Bool
-is_one b = b == 49
-
-abbrev pub is_known : ℕ → Bool
-is_known b = (b == 48) || (b == 49)
-
--- the word that such bytes write, the highest first
+-- the word that bytes `0` and `1` write, the highest first
 pub record IsKnown (x : ℕ) (bytes : List ℕ) : Type 0 where
   pub small : x < 2 ^ length bytes
-  pub known : list_all is_known bytes ≡ true
-  pub word : x ≡ word (reverse (map is_one bytes))
+  pub known : list_all is_bit bytes ≡ true
+  pub word : x ≡ word (reverse (map is_one_bit bytes))
 
 -- the word that such bytes write behind those of a word
 abbrev pub digits_word : ℕ → List ℕ → ℕ
 digits_word x [] = x
-digits_word x (b ∷ bytes) = digits_word (x * 2 + bit_number (is_one b)) bytes
+digits_word x (b ∷ bytes) = digits_word (x * 2 + bit_number (is_one_bit b)) bytes
 
 -- the word of so many bits that stands behind an index, where the name behind it is a symbol, or why there is none
 abbrev pub word_with : Option (List ℕ) → Result ℕ Why → Result ℕ Why

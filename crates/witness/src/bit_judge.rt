@@ -71,16 +71,14 @@ impl<'a> BitJudge<'a> {
     pub fn new(alloc: Global, circuit: &'a Circuit) -> Result<BitJudge<'a>, NewFault>
         ensures { MatchResult result (λ judge. StandsFor circuit.now judge []) (λ fault. fault ≡ NewFault.NoMemory) }
     {
-        match BitReader::new(alloc, circuit) {
-            Ok(reader) => Ok(BitJudge {
-                reader,
-                line: Scan::new(),
-                admitted: 0,
-                refused: None,
-                no_claim: false,
-            }),
-            Err(fault) => Err(fault),
-        }
+        let reader = BitReader::new(alloc, circuit)?;
+        Ok(BitJudge {
+            reader,
+            line: Scan::new(),
+            admitted: 0,
+            refused: None,
+            no_claim: false,
+        })
     }
 
     /// A line has ended behind the whole lines, none of which was refused.

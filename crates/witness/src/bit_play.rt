@@ -91,17 +91,15 @@ impl<'a> BitPlay<'a> {
     pub(crate) fn new(alloc: Global, circuit: &'a Circuit) -> Result<BitPlay<'a>, NewFault>
         ensures { MatchResult result (λ p. p ≡ play_start circuit.now) (λ fault. fault ≡ NewFault.NoMemory) }
     {
-        match BitRun::new(alloc, circuit) {
-            Ok(run) => Ok(BitPlay {
-                circuit,
-                run,
-                differs: None,
-                frames: 0,
-                breach: None,
-                rose: false,
-            }),
-            Err(fault) => Err(fault),
-        }
+        let run = BitRun::new(alloc, circuit)?;
+        Ok(BitPlay {
+            circuit,
+            run,
+            differs: None,
+            frames: 0,
+            breach: None,
+            rose: false,
+        })
     }
 
     /// How many bad properties, latches and inputs there are.

@@ -30,14 +30,12 @@ impl<'a> BitReader<'a> {
     pub(crate) fn new(alloc: Global, circuit: &'a Circuit) -> Result<BitReader<'a>, NewFault>
         ensures { MatchResult result (λ q. q ≡ record { play = play_start circuit.now; place = BitPlace.Header; claim = 0 }) (λ fault. fault ≡ NewFault.NoMemory) }
     {
-        match BitPlay::new(alloc, circuit) {
-            Ok(play) => Ok(BitReader {
-                play,
-                place: BitPlace::Header,
-                claim: 0,
-            }),
-            Err(fault) => Err(fault),
-        }
+        let play = BitPlay::new(alloc, circuit)?;
+        Ok(BitReader {
+            play,
+            place: BitPlace::Header,
+            claim: 0,
+        })
     }
 
     /// The frames that are closed, and the claimed bad property.

@@ -37,7 +37,7 @@ fn is_digit(byte: u8) -> bool
 }
 
 /// Whether a byte is `0`, `1` or `x`.
-fn is_value_byte(byte: u8) -> bool
+pub(crate) fn is_value_byte(byte: u8) -> bool
     ensures { result ≡ is_value_byte byte }
 {
     byte == b'0' || byte == b'1' || byte == b'x'

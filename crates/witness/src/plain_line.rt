@@ -1,10 +1,11 @@
 //! A plain line of a witness over a model at the front of a text, read in one pass up to its end.
-ghost use Rattle.std.specs.Prelude.{◌≡◌, ◌<◌, ◌^◌, ◌∷◌, ◌++◌, MatchOption, decimal, length};
+ghost use Rattle.std.specs.Prelude.{◌≡◌, ◌<◌, ◌^◌, ◌∷◌, ◌++◌, MatchOption, decimal, length, not, true};
+ghost use Rattle.std.specs.List.{list_all, position};
+ghost use Rattle.btor2.specs.Symbols.{is_printed, is_symbol};
 ghost use Rattle.witness.specs.PlainLines.{NoNumber, NoFrameLine, BeginsName, NoName, BeginsWord, NoWord, BeginsAssignment, NoAssignment};
 
 use crate::word_value::known_word;
-use base::{Width, next_line};
-use btor2::Symbol;
+use base::Width;
 
 /// The most digits of a number that has room in 64 bits, whatever they are.
 const MOST_DIGITS: usize = 19;
@@ -51,6 +52,48 @@ pub(crate) fn behind_frame_line(text: &[u8], frame: u64) -> Option<&[u8]>
     if number == frame { Some(rest) } else { None }
 }
 
+/// Whether a byte is one of a name.
+fn is_printed(byte: u8) -> bool
+    ensures { result ≡ is_printed byte }
+{
+    b'!' <= byte && byte <= b'~'
+}
+
+/// Where the first byte stands that is none of a name. Names are short, so this is a plain loop.
+#[inline(always)]
+fn name_end(text: &[u8]) -> Option<usize>
+    ensures { result ≡ position (λ b. not (is_printed b)) text.now }
+{
+    text.iter().position(|byte| !is_printed(*byte))
+}
+
+/// Whether bytes of names are one: 1 to 255, of which the first is not `;`.
+#[inline(always)]
+fn is_name(bytes: &[u8]) -> bool
+    requires { list_all is_printed bytes.now ≡ true }
+    ensures { result ≡ is_symbol bytes.now }
+{
+    match bytes.split_first() {
+        Some((first, _)) => *first != b';' && bytes.len() <= 255,
+        None => false,
+    }
+}
+
+/// The text behind a name and the end of its line, where a text begins so behind a space. Each byte of the name is
+/// looked at once.
+#[inline(always)]
+fn behind_symbol(text: &[u8]) -> Option<&[u8]>
+    ensures { MatchOption result (NoName (32 ∷ text.now)) (λ rest. BeginsName (32 ∷ text.now) rest.now) }
+{
+    let at = name_end(text)?;
+    let (name, behind) = text.split_at(at);
+    let (end, rest) = behind.split_first()?;
+    if *end != b'\n' {
+        return None;
+    }
+    if is_name(name) { Some(rest) } else { None }
+}
+
 /// The text behind the line whose value ends in front of this text: its end, or a space and a name up to it.
 #[inline(always)]
 fn behind_name(text: &[u8]) -> Option<&[u8]>
@@ -63,12 +106,7 @@ fn behind_name(text: &[u8]) -> Option<&[u8]>
     if *first != b' ' {
         return None;
     }
-    let (name, rest) = next_line(behind)?;
-    if Symbol::is_symbol(name) {
-        Some(rest)
-    } else {
-        None
-    }
+    behind_symbol(behind)
 }
 
 /// The word of so many bits at the front of a text, where the line ends behind it or behind a name, and the text

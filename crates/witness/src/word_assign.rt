@@ -1,5 +1,6 @@
 //! The word that a line gives to a state or an input.
-ghost use Rattle.std.specs.Prelude.{◌≡◌, ◌<◌, ◌^◌, IfOk, length, slice_index};
+ghost use Rattle.std.specs.Prelude.{◌≡◌, IfOk, length};
+ghost use Rattle.witness.specs.Fits.{PairFits};
 ghost use Rattle.witness.specs.Admits.{cut_at_space};
 ghost use Rattle.witness.specs.WordValues.{Gives};
 ghost use Rattle.witness.specs.WordAssigns.{assigned_number, assigned};
@@ -17,8 +18,7 @@ fn assigned_number(
 ) -> Result<(u64, u64), Why>
     requires { length given.now ≡ length widths.now }
     ensures is { Gives (λ p. p) result (assigned_number widths.now given.now (cut_at_space line.now).1 index) }
-    ensures inside { IfOk result (λ p. p.0 < length widths.now) }
-    ensures fits { IfOk result (λ p. p.1 < 2 ^ slice_index widths.now p.0) }
+    ensures fits { IfOk result (PairFits widths.now) }
 {
     let k = index as usize;
     if k >= widths.len() {
@@ -38,8 +38,7 @@ fn assigned_number(
 pub(crate) fn assigned(widths: &[Width], given: &[bool], line: &[u8]) -> Result<(u64, u64), Why>
     requires { length given.now ≡ length widths.now }
     ensures is { Gives (λ p. p) result (assigned widths.now given.now line.now) }
-    ensures inside { IfOk result (λ p. p.0 < length widths.now) }
-    ensures fits { IfOk result (λ p. p.1 < 2 ^ slice_index widths.now p.0) }
+    ensures fits { IfOk result (PairFits widths.now) }
 {
     match index_of(line) {
         Some(index) => assigned_number(widths, given, index, line),

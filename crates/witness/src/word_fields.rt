@@ -1,5 +1,5 @@
 //! An assignment: an index, a value and a name, with a space between.
-ghost use Rattle.std.specs.Prelude.{◌≡◌, ◌<◌, ◌^◌, ◌∷◌, ◌++◌, IfOk, IfSome, MatchOption, Ok, Some, ◌==◌};
+ghost use Rattle.std.specs.Prelude.{◌≡◌, ◌<◌, ◌^◌, ◌∷◌, ◌++◌, IfOk, MatchOption, Some, ◌==◌};
 ghost use Rattle.std.specs.List.{position};
 ghost use Rattle.base.specs.Lines.{HasNone};
 ghost use Rattle.base.specs.Decimals.{number_of};
@@ -7,7 +7,7 @@ ghost use Rattle.witness.specs.Admits.{cut_at_space, value_of};
 ghost use Rattle.witness.specs.WordValues.{Gives, word_behind, word_with};
 
 use crate::why::Why;
-use crate::word_value::{known_word, value_of};
+use crate::word_value::value_of;
 use base::{Width, decimal};
 use btor2::Symbol;
 
@@ -63,29 +63,11 @@ fn named(digits: &[u8], name: &[u8], width: Width) -> Result<u64, Why>
     }
 }
 
-/// The word of so many bits, where its digits are all that stands there; none for anything else, of which more is to be
-/// asked. Most lines are so.
-fn plain_word(behind: &[u8], width: Width) -> Option<u64>
-    ensures is { IfSome result (λ word. HasNone 32 behind.now × (value_of width behind.now ≡ Ok word)) }
-    ensures fits { IfSome result (λ word. word < 2 ^ width) }
-{
-    if behind.len() as u64 != width.bits() {
-        return None;
-    }
-    match known_word(behind) {
-        Some(word) => Some(word),
-        None => None,
-    }
-}
-
 /// The word of so many bits that stands behind the first space, with a name behind it or none, or why there is none.
 fn word_with(behind: &[u8], width: Width) -> Result<u64, Why>
     ensures is { Gives (λ w. w) result (word_behind width (Some behind.now)) }
     ensures fits { IfOk result (λ w. w < 2 ^ width) }
 {
-    if let Some(word) = plain_word(behind, width) {
-        return Ok(word);
-    }
     match cut(behind) {
         None => value_of(behind, width),
         Some((digits, name)) => named(digits, name, width),

@@ -1,5 +1,5 @@
 //! The judge of witnesses over a model.
-ghost use Rattle.std.specs.Prelude.{◌≡◌, ℕ, ◌+◌, ◌&&◌, ◌||◌, true, List, [], ◌∷◌, ◌++◌, IfNone, IfOk, IfSome, None, codes};
+ghost use Rattle.std.specs.Prelude.{◌≡◌, ℕ, ◌+◌, ◌<◌, ◌^◌, ◌&&◌, ◌||◌, true, List, [], ◌∷◌, ◌++◌, IfNone, IfOk, IfSome, None, codes};
 ghost use Rattle.std.specs.Str.{bytes_eq};
 ghost use Rattle.btor2.specs.declared.item.Item.{Item};
 ghost use Rattle.btor2.specs.Lists.{first_init_without_next};
@@ -14,8 +14,9 @@ ghost use Rattle.witness.specs.WordReadings.{admitted_word_lines, closed_word_fr
 ghost use Rattle.witness.specs.ClosedWords.{IsClosedTrace, last_word};
 ghost use Rattle.base.specs.Lines.{IsLine, unfinished};
 ghost use Rattle.witness.specs.KeptLines.{AreAlike};
+ghost use Rattle.witness.specs.declared.word_place.Place.TheVariants as place;
 ghost use Rattle.witness.specs.Stands.{IsOfLines};
-ghost use Rattle.witness.specs.WordStands.{StandsFor, JudgesLine, TakesPlain, NoPlainLine, is_alone, is_status, place_of, word_judging};
+ghost use Rattle.witness.specs.WordStands.{StandsFor, JudgesLine, NoPlainLine, is_alone, is_status, place_of, word_judging};
 
 use crate::judgement::Judgement;
 use crate::kept_line::KeptLine;
@@ -24,7 +25,7 @@ use crate::verdicts::{either, judgement_of};
 use crate::why::Why;
 use crate::word_line::is_word;
 use crate::word_place::Place;
-use crate::word_reader::WordReader;
+use crate::word_reader::{WordReader, is_alone};
 use base::next_line;
 use btor2::Model;
 use runs::NewFault;
@@ -130,7 +131,7 @@ impl<'a> WordJudge<'a> {
         ensures alone { result ≡ true → is_alone (place_of self.now.reader.place) ≡ true }
         ensures begins { (items : List Item) (text : List ℕ) → StandsFor items self.now text → result ≡ true → unfinished text ≡ [] }
     {
-        if !self.reader.takes_whole_lines() {
+        if !is_alone(self.reader.place()) {
             return false;
         }
         self.line.is_empty()
@@ -155,7 +156,8 @@ impl<'a> WordJudge<'a> {
     #[inline(always)]
     fn take_plain<'t>(&mut self, text: &'t [u8]) -> Option<&'t [u8]>
         ensures line { IfSome result (λ rest. JudgesLine self.old self.new text.now rest.now) }
-        ensures none { IfNone result (TakesPlain self.old → NoPlainLine self.old.reader text.now) }
+        ensures none { IfNone result (self.old.refused ≡ None → self.old.admitted < 2 ^ 62 → self.old.line ≡ [] → self.old.reader.place ≡ place.Frame
+            → NoPlainLine self.old.reader text.now) }
         ensures kept { IfNone result (self.new ≡ self.old) }
     {
         if self.refused.is_some() || are_most(self.admitted) || !self.line.is_empty() {

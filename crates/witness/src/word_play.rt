@@ -9,10 +9,8 @@ ghost use Rattle.runs.specs.Refusal.{AnswersNew};
 ghost use Rattle.witness.specs.Judgements.{FrameWords, pairs_of, first_different};
 ghost use Rattle.witness.specs.Texts.{Assignment, shape_of, widths_of};
 ghost use Rattle.witness.specs.KeptLines.{IsSmall};
-ghost use Rattle.witness.specs.WordValues.{Gives};
 ghost use Rattle.witness.specs.Fits.{NoneIsSet, PairFits};
-ghost use Rattle.witness.specs.WordAssigns.{assigned};
-ghost use Rattle.witness.specs.PlainLines.{BeginsAssignment, NoAssignment};
+ghost use Rattle.witness.specs.PlainLines.{NoAssignment};
 ghost use Rattle.witness.specs.WordPlays.{IsStart, GoesOn, Plays, MayGive, GivesState, GivesInput, TakesInput, state_given, input_given, nothing_given, word_at, steps_taken};
 
 use crate::plain_line::plain_assignment;
@@ -77,9 +75,7 @@ fn clear(flags: &mut [bool])
     ensures many { length flags.new ≡ length flags.old }
     ensures none { NoneIsSet flags.new }
 {
-    for k in 0..flags.len() {
-        flags[k] = false;
-    }
+    flags.fill(false);
 }
 
 /// The first state with another word than that of its init line, in the first frame.
@@ -165,35 +161,6 @@ impl<'a> WordPlay<'a> {
         self.frames
     }
 
-    /// The word that a line gives to a state in the open part, or why it gives none.
-    fn state_word(&self, line: &[u8]) -> Result<(u64, u64), Why>
-        ensures is { Gives (λ p. p) result (assigned (widths_of is_state self.now.items) self.now.states_given line.now) }
-        ensures fits { IfOk result (PairFits (widths_of is_state self.now.items)) }
-    {
-        let widths = self.state_widths.as_slice();
-        assigned(widths, self.states_given.as_slice(), line)
-    }
-
-    /// The word that a line gives to an input in the open frame, or why it gives none.
-    fn input_word(&self, line: &[u8]) -> Result<(u64, u64), Why>
-        ensures is { Gives (λ p. p) result (assigned (widths_of is_input self.now.items) self.now.inputs_given line.now) }
-        ensures fits { IfOk result (PairFits (widths_of is_input self.now.items)) }
-    {
-        let widths = self.input_widths.as_slice();
-        assigned(widths, self.inputs_given.as_slice(), line)
-    }
-
-    /// The input and the word of the plain line with which a text begins, and the text behind the line; nothing where
-    /// it begins otherwise.
-    #[inline(always)]
-    fn plain_input<'t>(&self, text: &'t [u8]) -> Option<(u64, u64, &'t [u8])>
-        ensures { MatchOption result (NoAssignment (widths_of is_input self.now.items) self.now.inputs_given text.now)
-            (λ x. BeginsAssignment (widths_of is_input self.now.items) self.now.inputs_given text.now x.0 x.1 x.2.now) }
-    {
-        let widths = self.input_widths.as_slice();
-        plain_assignment(text, widths, self.inputs_given.as_slice())
-    }
-
     /// Gives a state a word in the open part.
     fn give_state(&mut self, index: usize, word: u64)
         requires { PairFits (widths_of is_state self.old.items) (index, word) }
@@ -222,7 +189,8 @@ impl<'a> WordPlay<'a> {
         ensures err { OnErr result (self.new ≡ self.old) }
     {
         let _items = self.model.items();
-        match self.state_word(line) {
+        let widths = self.state_widths.as_slice();
+        match assigned(widths, self.states_given.as_slice(), line) {
             Ok(given) => {
                 go_on(&mut self.run);
                 self.give_state(given.0 as usize, given.1);
@@ -239,7 +207,8 @@ impl<'a> WordPlay<'a> {
         ensures err { OnErr result (self.new ≡ self.old) }
     {
         let _items = self.model.items();
-        match self.input_word(line) {
+        let widths = self.input_widths.as_slice();
+        match assigned(widths, self.inputs_given.as_slice(), line) {
             Ok(given) => {
                 go_on(&mut self.run);
                 self.give_input(given.0 as usize, given.1);
@@ -259,7 +228,8 @@ impl<'a> WordPlay<'a> {
         ensures kept { IfNone result (self.new ≡ self.old) }
     {
         let _items = self.model.items();
-        match self.plain_input(text) {
+        let widths = self.input_widths.as_slice();
+        match plain_assignment(text, widths, self.inputs_given.as_slice()) {
             Some((index, word, rest)) => {
                 go_on(&mut self.run);
                 self.give_input(index as usize, word);

@@ -72,8 +72,8 @@ fn has_free(model: &Model) -> bool
     false
 }
 
-/// Whether the next line is judged by its bytes alone.
-fn is_alone(place: Place) -> bool
+/// Whether the next line is judged by its bytes alone: any but that of the claims.
+pub(crate) fn is_alone(place: Place) -> bool
     ensures { result ≡ is_alone (place_of place) }
 {
     !matches!(place, Place::Claims)
@@ -110,13 +110,6 @@ impl<'a> WordReader<'a> {
         ensures { result ≡ self.now.place }
     {
         self.place
-    }
-
-    /// Whether the next line is admitted without its bytes having been taken: any but that of the claims.
-    pub(crate) fn takes_whole_lines(&self) -> bool
-        ensures { result ≡ is_alone (place_of self.now.place) }
-    {
-        is_alone(self.place)
     }
 
     /// The first bad property that is claimed and rose in no closed frame.

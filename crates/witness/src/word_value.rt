@@ -4,28 +4,23 @@ ghost use Rattle.std.specs.List.{list_all};
 ghost use Rattle.base.specs.Word.{bit_number};
 ghost use Rattle.witness.specs.declared.why.Why.TheVariants as why;
 ghost use Rattle.witness.specs.Admits.{is_value_byte, value_of};
-ghost use Rattle.witness.specs.WordValues.{Gives, IsKnown, is_known, is_one, digits_word};
+ghost use Rattle.witness.specs.BitScans.{is_bit, is_one_bit};
+ghost use Rattle.witness.specs.WordValues.{Gives, IsKnown, digits_word};
 
+use crate::bit_scan::is_value_byte;
 use crate::why::Why;
 use base::Width;
-
-/// Whether a byte is `0`, `1` or `x`.
-fn is_value_byte(byte: u8) -> bool
-    ensures { result ≡ is_value_byte byte }
-{
-    (b'0' <= byte && byte <= b'1') || byte == b'x'
-}
 
 /// Whether each byte is `0`, `1` or `x`.
 fn are_value_bytes(bytes: &[u8]) -> bool
     ensures { result ≡ list_all is_value_byte bytes.now }
 {
-    bytes.iter().all(|b| is_value_byte(*b))
+    bytes.iter().all(|byte| is_value_byte(*byte))
 }
 
 /// The bit that a byte `0` or `1` writes; none for another byte. No branch asks which of the two it is.
 fn known_bit(byte: u8) -> Option<u64>
-    ensures { MatchOption result (is_known byte ≡ false) (λ bit. (bit ≡ bit_number (is_one byte)) × (is_known byte ≡ true)) }
+    ensures { MatchOption result (is_bit byte ≡ false) (λ bit. (bit ≡ bit_number (is_one_bit byte)) × (is_bit byte ≡ true)) }
 {
     if byte < b'0' || byte > b'1' {
         return None;
@@ -46,7 +41,7 @@ const GATHER: u64 = 0x8040_2010_0804_0201;
 /// tested at once, and their bits gathered by one product.
 #[inline(always)]
 fn eight_bits(bytes: &[u8; 8]) -> Option<u64>
-    ensures { MatchOption result (list_all is_known bytes.now ≡ false) (λ word. (list_all is_known bytes.now ≡ true) × (word ≡ digits_word 0 bytes.now)) }
+    ensures { MatchOption result (list_all is_bit bytes.now ≡ false) (λ word. (list_all is_bit bytes.now ≡ true) × (word ≡ digits_word 0 bytes.now)) }
 {
     let read = u64::from_le_bytes(*bytes);
     let bare = read ^ ZEROS;
@@ -63,7 +58,7 @@ fn eight_bits(bytes: &[u8; 8]) -> Option<u64>
 fn known_behind(front: u64, bytes: &[u8]) -> Option<u64>
     requires few { length bytes.now ≤ 64 }
     requires room { front < 2 ^ (64 - length bytes.now) }
-    ensures { MatchOption result (list_all is_known bytes.now ≡ false) (λ word. (list_all is_known bytes.now ≡ true) × (word ≡ digits_word front bytes.now)) }
+    ensures { MatchOption result (list_all is_bit bytes.now ≡ false) (λ word. (list_all is_bit bytes.now ≡ true) × (word ≡ digits_word front bytes.now)) }
 {
     let mut word = front;
     for byte in bytes {
@@ -78,7 +73,7 @@ fn known_behind(front: u64, bytes: &[u8]) -> Option<u64>
 #[inline(always)]
 pub(crate) fn known_word(bytes: &[u8]) -> Option<u64>
     requires { length bytes.now ≤ 64 }
-    ensures { MatchOption result (list_all is_known bytes.now ≡ false) (λ word. IsKnown word bytes.now) }
+    ensures { MatchOption result (list_all is_bit bytes.now ≡ false) (λ word. IsKnown word bytes.now) }
 {
     let mut word = 0;
     let mut rest = bytes;

@@ -2,7 +2,8 @@ use Rattle.std.proofs.Common.{◌≡◌, ℕ, ◌*◌, ◌/◌, ◌%◌, ◌^◌
 use Rattle.std.specs.List.{list_all}
 use Rattle.std.specs.Int.RustNames.{bit_xor}
 use lib.Bits.{bit_and}
-use Rattle.witness.specs.WordValues.{is_known, digits_word}
+use Rattle.witness.specs.BitScans.{is_bit}
+use Rattle.witness.specs.WordValues.{digits_word}
 use Rattle.witness.proofs.EightDigitLemmas.{AreTested, are_tested, are_bytes}
 use Rattle.witness.proofs.word_value.eight_bits.Goals as goal
 
@@ -14,5 +15,5 @@ returns-then-excess-ne0 c =
 pub returns : goal.returns
 returns c =
     let tested : AreTested c.args.bytes.now = are_tested c.args.bytes.now (search rules) (are_bytes c.args.bytes.now (search rules)) in
-    subst (λ (n : ℕ). (list_all is_known c.args.bytes.now ≡ true) × ((bit_xor n 3472328296227680304 * 9241421688590303745) % 2 ^ 64 / 2 ^ 56 ≡ digits_word 0 c.args.bytes.now)) (sym c.from_le_bytes-read.ensures)
+    subst (λ (n : ℕ). (list_all is_bit c.args.bytes.now ≡ true) × ((bit_xor n 3472328296227680304 * 9241421688590303745) % 2 ^ 64 / 2 ^ 56 ≡ digits_word 0 c.args.bytes.now)) (sym c.from_le_bytes-read.ensures)
     (tested.digits (subst (λ (n : ℕ). bit_and (bit_xor n 3472328296227680304) 18374403900871474942 ≡ 0) c.from_le_bytes-read.ensures c.if-excess-ne0.false))

@@ -1,7 +1,8 @@
 use Rattle.std.proofs.Common.{◌+◌, ◌-◌, ◌*◌, ◌<◌, length, take, subst, sym, ap, ◌∙◌, arith}
 use Rattle.std.specs.List.{list_all}
 use Rattle.std.proofs.lemmas.List.{take_more, length-take, take_all}
-use Rattle.witness.specs.WordValues.{is_known, digits_word}
+use Rattle.witness.specs.BitScans.{is_bit}
+use Rattle.witness.specs.WordValues.{digits_word}
 use Rattle.witness.proofs.WordValueLemmas.{bit_most}
 use Rattle.witness.proofs.EightDigitLemmas.{IsBehind, behind_nothing, behind_below, behind_more}
 use Rattle.witness.proofs.word_value.known_behind.Goals as goal
@@ -28,4 +29,4 @@ loop-byte-preserved c =
 pub returns : goal.returns
 returns c =
     let all = take_all c.loop-byte.byte-index c.args.bytes.now c.loop-byte-test.false in
-    (sym (ap (list_all is_known) all) ∙ c.loop-byte.invariant.known, c.loop-byte.invariant.word ∙ ap (digits_word c.args.front) all)
+    (sym (ap (list_all is_bit) all) ∙ c.loop-byte.invariant.known, c.loop-byte.invariant.word ∙ ap (digits_word c.args.front) all)

@@ -10,17 +10,15 @@ use Rattle.witness.proofs.bit_judge.BitJudge.end_line.Goals as goal
 
 pub returns-then-is_none : goal.returns-then-is_none
 returns-then-is_none c circuit text stands =
-    let j : BitJudge = record { reader = c.self.inside.reader; line = c.self.inside.line; admitted = c.self.inside.admitted; refused = c.self.inside.refused; no_claim = c.self.inside.no_claim } in
-    let now : StandsFor circuit j text = subst (λ (j : BitJudge). StandsFor circuit j text) (sym c.self.view_is) stands in
+    let now = subst (λ (j : BitJudge). StandsFor circuit j text) (sym c.self.view_is) stands in
     let none = no_refusal c.self.inside.refused c.if-is_none.ensures in
     line_ended (bit_judging circuit) (text ++ 10 ∷ []) (whole_lines text ++ unfinished text ∷ []) c.judge_line.new.self (whole_lines-end text) (unfinished-end text)
-    (c.judge_line.ensures.lines circuit (whole_lines text) (unfinished text) (with_bytes (bit_judging circuit) (whole_lines text) (unfinished text) (unfinished text) j j.reader c.new-self-inside.result now.lines now.lines.counts now.lines.reads) now.line none)
+    (c.judge_line.ensures.lines circuit (whole_lines text) (unfinished text) (with_bytes (bit_judging circuit) (whole_lines text) (unfinished text) (unfinished text) _ c.self.inside.reader c.new-self-inside.result now.lines now.lines.counts now.lines.reads) now.line none)
     (subst (λ (s : Scan). Scans s []) (sym c.judge_line.ensures.line) c.new-self-inside.ensures)
 
 pub returns-else-is_none : goal.returns-else-is_none
 returns-else-is_none c circuit text stands =
-    let j : BitJudge = record { reader = c.self.inside.reader; line = c.self.inside.line; admitted = c.self.inside.admitted; refused = c.self.inside.refused; no_claim = c.self.inside.no_claim } in
-    let now : StandsFor circuit j text = subst (λ (j : BitJudge). StandsFor circuit j text) (sym c.self.view_is) stands in
+    let now = subst (λ (j : BitJudge). StandsFor circuit j text) (sym c.self.view_is) stands in
     let refused = some_refusal c.self.inside.refused c.if-is_none.ensures in
-    line_ended (bit_judging circuit) (text ++ 10 ∷ []) (whole_lines text ++ unfinished text ∷ []) (record j { line = c.new-self-inside.result }) (whole_lines-end text) (unfinished-end text)
-    (stays_refused (bit_judging circuit) (claims_more circuit) (whole_lines text) (unfinished text) (unfinished text) j now.lines refused.0 refused.1 c.new-self-inside.result) c.new-self-inside.ensures
+    line_ended (bit_judging circuit) (text ++ 10 ∷ []) (whole_lines text ++ unfinished text ∷ []) _ (whole_lines-end text) (unfinished-end text)
+    (stays_refused (bit_judging circuit) (claims_more circuit) (whole_lines text) (unfinished text) (unfinished text) _ now.lines refused.0 refused.1 c.new-self-inside.result) c.new-self-inside.ensures

@@ -9,15 +9,13 @@ use Rattle.witness.proofs.bit_judge.BitJudge.take_byte.Goals as goal
 
 pub returns-then-is_none : goal.returns-then-is_none
 returns-then-is_none c circuit text other stands =
-    let j : BitJudge = record { reader = c.self.inside.reader; line = c.self.inside.line; admitted = c.self.inside.admitted; refused = c.self.inside.refused; no_claim = c.self.inside.no_claim } in
-    let now : StandsFor circuit j text = subst (λ (j : BitJudge). StandsFor circuit j text) (sym c.self.view_is) stands in
+    let now = subst (λ (j : BitJudge). StandsFor circuit j text) (sym c.self.view_is) stands in
     let none = no_refusal c.self.inside.refused c.if-is_none.ensures in
     let reads = c.take.ensures circuit (lines_read (bit_reader circuit) (whole_lines text)).read (unfinished text) (c.count-count.ensures (unfinished text) now.line) (now.lines.reads none) in
-    part_more (bit_judging circuit) text (c.args.byte ∷ []) j c.take.new.self c.push.new.self (one_byte c.args.byte other) now (c.push.ensures (unfinished text) now.line) reads.counts (λ _. reads)
+    part_more (bit_judging circuit) text (c.args.byte ∷ []) _ c.take.new.self c.push.new.self (one_byte c.args.byte other) now (c.push.ensures (unfinished text) now.line) reads.counts (λ _. reads)
 
 pub returns-else-is_none : goal.returns-else-is_none
 returns-else-is_none c circuit text other stands =
-    let j : BitJudge = record { reader = c.self.inside.reader; line = c.self.inside.line; admitted = c.self.inside.admitted; refused = c.self.inside.refused; no_claim = c.self.inside.no_claim } in
-    let now : StandsFor circuit j text = subst (λ (j : BitJudge). StandsFor circuit j text) (sym c.self.view_is) stands in
+    let now = subst (λ (j : BitJudge). StandsFor circuit j text) (sym c.self.view_is) stands in
     let refused = some_refusal c.self.inside.refused c.if-is_none.ensures in
-    part_more (bit_judging circuit) text (c.args.byte ∷ []) j c.self.inside.reader c.push.new.self (one_byte c.args.byte other) now (c.push.ensures (unfinished text) now.line) now.lines.counts (λ none. absurd (cc (none, refused.1)))
+    part_more (bit_judging circuit) text (c.args.byte ∷ []) _ c.self.inside.reader c.push.new.self (one_byte c.args.byte other) now (c.push.ensures (unfinished text) now.line) now.lines.counts (λ none. absurd (cc (none, refused.1)))

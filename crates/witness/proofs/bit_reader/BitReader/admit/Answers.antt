@@ -1,9 +1,9 @@
-use Rattle.std.proofs.Common.{◌≡◌, ◌<◌, ◌^◌, Ok, Err, map, length, subst, sym, ap, ◌∙◌}
+use Rattle.std.proofs.Common.{◌≡◌, ◌<◌, ◌^◌, Ok, Err, map, length, subst, sym, ap, ◌∙◌, refl}
 use Rattle.aiger.specs.Circuit.{Circuit}
 use Rattle.witness.specs.declared.bit_place.BitPlace.TheVariants as code
 use Rattle.witness.specs.BitAdmits.{claim_at, bits_at}
 use Rattle.witness.specs.BitScans.{is_one_bit}
-use Rattle.witness.proofs.BitReaderLemmas.{plays_at, header_refused, header_admitted, claim_refused, claim_admitted, initial_refused, initial_admitted, end_refused, end_admitted, trailing_refused, first_frame, later_frame, frame_gives}
+use Rattle.witness.proofs.BitReaderLemmas.{plays_at, header_refused, header_admitted, claim_refused, claim_admitted, initial_refused, initial_admitted, end_refused, end_admitted, trailing_refused, frame_line, frame_gives}
 use Rattle.witness.proofs.bit_reader.BitReader.admit.Goals as goal
 
 pub returns-then-not-is_byte-clause-line : goal.returns-then-not-is_byte-clause-line
@@ -50,11 +50,11 @@ returns-in-Done-clause-line c circuit r bytes reads scans few =
 pub returns-else-is_byte-clause-line : goal.returns-else-is_byte-clause-line
 returns-else-is_byte-clause-line c circuit r bytes reads scans few =
     let plays = plays_at circuit r bytes c.args.self.now reads code.First c.in-First.is in
-    frame_gives circuit r bytes c.args.self.now reads c.admit_frame.new.self c.admit_frame.result (first_frame circuit r bytes c.args.self.now reads c.in-First.is (sym (c.is_byte-in-First.ensures bytes scans) ∙ c.if-is_byte.false))
+    frame_gives circuit r bytes c.args.self.now reads c.admit_frame.new.self c.admit_frame.result (frame_line circuit r bytes c.args.self.now reads code.First c.in-First.is refl (sym (c.is_byte-in-First.ensures bytes scans) ∙ c.if-is_byte.false))
     (c.admit_frame.ensures.frame circuit r bytes reads scans plays.0 plays.1 few)
 
 pub returns-else-is_byte-2-clause-line : goal.returns-else-is_byte-2-clause-line
 returns-else-is_byte-2-clause-line c circuit r bytes reads scans few =
     let plays = plays_at circuit r bytes c.args.self.now reads code.Later c.in-Later.is in
-    frame_gives circuit r bytes c.args.self.now reads c.admit_frame-in-Later.new.self c.admit_frame-in-Later.result (later_frame circuit r bytes c.args.self.now reads c.in-Later.is (sym (c.is_byte-in-Later.ensures bytes scans) ∙ c.if-is_byte-2.false))
+    frame_gives circuit r bytes c.args.self.now reads c.admit_frame-in-Later.new.self c.admit_frame-in-Later.result (frame_line circuit r bytes c.args.self.now reads code.Later c.in-Later.is refl (sym (c.is_byte-in-Later.ensures bytes scans) ∙ c.if-is_byte-2.false))
     (c.admit_frame-in-Later.ensures.frame circuit r bytes reads scans plays.0 plays.1 few)

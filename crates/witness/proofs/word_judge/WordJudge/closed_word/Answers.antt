@@ -8,7 +8,6 @@ use Rattle.witness.proofs.word_judge.WordJudge.closed_word.Goals as goal
 
 pub returns : goal.returns
 returns c items text fs stands trace =
-    let j : WordJudge = record { reader = c.self.inside.reader; line = c.self.inside.line; admitted = c.self.inside.admitted; refused = c.self.inside.refused; no_claim = c.self.inside.no_claim } in
-    let now : StandsFor items j text = subst (λ (j : WordJudge). StandsFor items j text) (sym c.self.view_is) stands in
-    closed_word_is items text j fs c.args.node c.closed_word.result now trace
+    let now = subst (λ (j : WordJudge). StandsFor items j text) (sym c.self.view_is) stands in
+    closed_word_is items text _ fs c.args.node c.closed_word.result now trace
     (subst (λ (p : WordPlay). (f : Frame) → (p.run.settled ≡ true → IsNow p.run f) → c.closed_word.result ≡ cond p.run.settled (word_at p.items f c.args.node) None) c.play.ensures c.closed_word.ensures)

@@ -1,4 +1,4 @@
-use Rattle.std.proofs.Common.{◌≡◌, true, [], ◌∷◌, ◌++◌, List, ℕ, subst, sym, ap, ◌∙◌}
+use Rattle.std.proofs.Common.{◌≡◌, true, [], ◌∷◌, ◌++◌, List, ℕ, subst, sym, ap, ◌∙◌, refl}
 use Rattle.base.specs.Lines.{whole_lines, unfinished}
 use Rattle.witness.specs.Texts.{shape_of}
 use Rattle.witness.specs.Readings.{lines_read}
@@ -14,12 +14,11 @@ use Rattle.witness.proofs.word_judge.WordJudge.take_line.Goals as goal
 
 pub returns-then-is_some : goal.returns-then-is_some
 returns-then-is_some c items text line stands =
-    let j : WordJudge = record { reader = c.self.inside.reader; line = c.self.inside.line; admitted = c.self.inside.admitted; refused = c.self.inside.refused; no_claim = c.self.inside.no_claim } in
-    let now : StandsFor items j text = subst (λ (j : WordJudge). StandsFor items j text) (sym c.self.view_is) stands in
+    let now = subst (λ (j : WordJudge). StandsFor items j text) (sym c.self.view_is) stands in
     let bytes : List ℕ = c.args.bytes.now in
     let refused = some_refusal c.self.inside.refused (sym c.if-is_some.ensures) in
-    line_ended (word_judging items) (text ++ (bytes ++ 10 ∷ [])) (whole_lines text ++ (unfinished text ++ bytes) ∷ []) (record j { line = c.clear.new.self }) (whole_lines-line_end text bytes line) (unfinished-line_end text bytes)
-    (stays_refused (word_judging items) (claims_more items) (whole_lines text) (unfinished text ++ bytes) (unfinished text) j now.lines refused.0 refused.1 c.clear.new.self) c.clear.ensures
+    line_ended (word_judging items) (text ++ (bytes ++ 10 ∷ [])) (whole_lines text ++ (unfinished text ++ bytes) ∷ []) _ (whole_lines-line_end text bytes line) (unfinished-line_end text bytes)
+    (stays_refused (word_judging items) (claims_more items) (whole_lines text) (unfinished text ++ bytes) (unfinished text) _ now.lines refused.0 refused.1 c.clear.new.self) c.clear.ensures
 
 pub returns-then-takes_whole_lines : goal.returns-then-takes_whole_lines
 returns-then-takes_whole_lines c items text line stands =
@@ -30,7 +29,7 @@ returns-then-takes_whole_lines c items text line stands =
     let empty : unfinished text ≡ [] = c.takes_whole_lines.ensures.begins items text stands c.if-takes_whole_lines.true in
     let here : IsOfLines (word_judging items) j (whole_lines text) (unfinished text ++ bytes) =
     with_bytes (word_judging items) (whole_lines text) (unfinished text) (unfinished text ++ bytes) j j.reader j.line stands.lines stands.lines.counts
-    (λ none. reads_of_other items (lines_read (word_reader (shape_of items)) (whole_lines text)).read (unfinished text) j.reader (stands.lines.reads none) (unfinished text ++ bytes) alone) in
+    (λ none. reads_of_other items (lines_read (word_reader (shape_of items)) (whole_lines text)).read (unfinished text) j.reader j.reader refl (stands.lines.reads none) (unfinished text ++ bytes) alone) in
     let alike : AreAlike bytes (unfinished text ++ bytes) = ap (λ (l : List ℕ). kept (l ++ bytes)) (sym empty) in
     line_ended (word_judging items) (text ++ (bytes ++ 10 ∷ [])) (whole_lines text ++ (unfinished text ++ bytes) ∷ []) c.judge_line.new.self (whole_lines-line_end text bytes line) (unfinished-line_end text bytes)
     (c.judge_line.ensures.lines items (whole_lines text) (unfinished text ++ bytes) here alike none)

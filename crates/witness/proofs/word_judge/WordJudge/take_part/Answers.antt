@@ -12,18 +12,16 @@ use Rattle.witness.proofs.word_judge.WordJudge.take_part.Goals as goal
 
 pub returns-then-is_none-clause-stands : goal.returns-then-is_none-clause-stands
 returns-then-is_none-clause-stands c items text one stands =
-    let j : WordJudge = record { reader = c.self.inside.reader; line = c.self.inside.line; admitted = c.self.inside.admitted; refused = c.self.inside.refused; no_claim = c.self.inside.no_claim } in
-    let now : StandsFor items j text = subst (λ (j : WordJudge). StandsFor items j text) (sym c.self.view_is) stands in
+    let now = subst (λ (j : WordJudge). StandsFor items j text) (sym c.self.view_is) stands in
     let none = no_refusal c.self.inside.refused c.if-is_none.ensures in
     let read = (lines_read (word_reader (shape_of items)) (whole_lines text)).read in
     let reads = c.take.ensures items read (unfinished text) (now.lines.reads none) in
     let keeps : c.extend.new.self ≡ kept (unfinished text ++ c.args.bytes.now) = c.extend.ensures ∙ (ap (λ (l : List ℕ). kept (l ++ c.args.bytes.now)) now.line ∙ kept_more (unfinished text) c.args.bytes.now) in
-    part_more (word_judging items) text c.args.bytes.now j c.take.new.self c.extend.new.self one now keeps (counts_of items c.take.new.self read _ reads) (λ _. reads)
+    part_more (word_judging items) text c.args.bytes.now _ c.take.new.self c.extend.new.self one now keeps (counts_of items c.take.new.self read _ reads) (λ _. reads)
 
 pub returns-else-is_none-clause-stands : goal.returns-else-is_none-clause-stands
 returns-else-is_none-clause-stands c items text one stands =
-    let j : WordJudge = record { reader = c.self.inside.reader; line = c.self.inside.line; admitted = c.self.inside.admitted; refused = c.self.inside.refused; no_claim = c.self.inside.no_claim } in
-    let now : StandsFor items j text = subst (λ (j : WordJudge). StandsFor items j text) (sym c.self.view_is) stands in
+    let now = subst (λ (j : WordJudge). StandsFor items j text) (sym c.self.view_is) stands in
     let refused = some_refusal c.self.inside.refused c.if-is_none.ensures in
     let keeps : c.extend.new.self ≡ kept (unfinished text ++ c.args.bytes.now) = c.extend.ensures ∙ (ap (λ (l : List ℕ). kept (l ++ c.args.bytes.now)) now.line ∙ kept_more (unfinished text) c.args.bytes.now) in
-    part_more (word_judging items) text c.args.bytes.now j c.self.inside.reader c.extend.new.self one now keeps now.lines.counts (λ none. absurd (cc (none, refused.1)))
+    part_more (word_judging items) text c.args.bytes.now _ c.self.inside.reader c.extend.new.self one now keeps now.lines.counts (λ none. absurd (cc (none, refused.1)))

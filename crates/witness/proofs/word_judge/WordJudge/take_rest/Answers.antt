@@ -1,4 +1,4 @@
-use Rattle.std.proofs.Common.{◌≡◌, List, ℕ, None, [], ◌∷◌, ◌++◌, append_assoc, subst, sym, ap, ◌∙◌}
+use Rattle.std.proofs.Common.{List, ℕ, [], ◌∷◌, ◌++◌, append_assoc, subst, sym, ap, ◌∙◌}
 use Rattle.base.specs.Lines.{whole_lines, unfinished}
 use Rattle.witness.specs.KeptLines.{kept, AreAlike}
 use Rattle.witness.specs.Stands.{IsOfLines}
@@ -10,12 +10,11 @@ use Rattle.witness.proofs.word_judge.WordJudge.take_rest.Goals as goal
 
 pub returns : goal.returns
 returns c items text line stands none =
-    let j : WordJudge = record { reader = c.self.inside.reader; line = c.self.inside.line; admitted = c.self.inside.admitted; refused = c.self.inside.refused; no_claim = c.self.inside.no_claim } in
     let all : List ℕ = text ++ c.args.bytes.now in
-    let now : StandsFor items j all = subst (λ (j : WordJudge). StandsFor items j all) (sym c.self.view_is) (c.take_part.ensures.stands items text line stands) in
-    let fresh : j.refused ≡ None = ap (λ (j : WordJudge). j.refused) c.self.view_is ∙ (c.take_part.ensures.refused ∙ none) in
+    let now = subst (λ (j : WordJudge). StandsFor items j all) (sym c.self.view_is) (c.take_part.ensures.stands items text line stands) in
+    let fresh = ap (λ (j : WordJudge). j.refused) c.self.view_is ∙ (c.take_part.ensures.refused ∙ none) in
     let alike : AreAlike c.bytes.result.now (unfinished all) = ap kept (c.bytes.ensures ∙ (c.replace-line.ensures.value ∙ now.line)) ∙ kept_alike (unfinished all) in
     let judged : IsOfLines (word_judging items) c.judge_line.new.self (whole_lines all ++ unfinished all ∷ []) [] =
-    c.judge_line.ensures.lines items (whole_lines all) (unfinished all) (with_bytes (word_judging items) (whole_lines all) (unfinished all) (unfinished all) j j.reader c.replace-line.new.dest now.lines now.lines.counts now.lines.reads) alike fresh in
+    c.judge_line.ensures.lines items (whole_lines all) (unfinished all) (with_bytes (word_judging items) (whole_lines all) (unfinished all) (unfinished all) _ c.self.inside.reader c.replace-line.new.dest now.lines now.lines.counts now.lines.reads) alike fresh in
     subst (StandsFor items c.judge_line.new.self) (append_assoc text c.args.bytes.now (10 ∷ []))
     (line_ended (word_judging items) (all ++ 10 ∷ []) (whole_lines all ++ unfinished all ∷ []) c.judge_line.new.self (whole_lines-end all) (unfinished-end all) judged (c.judge_line.ensures.line ∙ (c.replace-line.ensures.after ∙ c.new.ensures)))

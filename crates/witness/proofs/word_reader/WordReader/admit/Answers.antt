@@ -17,7 +17,7 @@ by_bytes : (items : List Item) (r : Read) (line bytes : List ℕ) (old new : Wor
 by_bytes items r line bytes old new result x at alone small reads alike few gives =
     let here : is_alone (place_of old.place) ≡ true = ap (λ (y : CodePlace). is_alone (place_of y)) at ∙ alone in
     gives_alike items r line bytes new result (subst (λ (l : List Item). IsSmall (shape_of l)) reads.play.items_are small) few alike (sym (ap is_alone reads.place) ∙ here)
-    (gives (reads_of_other items r bytes old reads line here) at)
+    (gives (reads_of_other items r bytes old old refl reads line here) at)
 
 pub returns-in-Status-clause-line : goal.returns-in-Status-clause-line
 returns-in-Status-clause-line c items r bytes reads alike few =
@@ -48,4 +48,4 @@ pub returns-in-Claims-clause-line : goal.returns-in-Claims-clause-line
 returns-in-Claims-clause-line c items r bytes reads alike few = c.admit_claims.ensures.line items r bytes reads (sym (ap (λ (q : WordReader). q.place) c.self.view_is) ∙ c.in-Claims.is)
 
 pub returns-in-End-clause-line : goal.returns-in-End-clause-line
-returns-in-End-clause-line c items r bytes reads alike few = trailing_refused items r bytes c.args.self.now reads (sym (ap (λ (q : WordReader). q.place) c.self.view_is) ∙ c.in-End.is)
+returns-in-End-clause-line c items r bytes reads alike few = trailing_refused items r bytes c.args.self.now c.args.self.now refl reads (sym (ap (λ (q : WordReader). q.place) c.self.view_is) ∙ c.in-End.is)

@@ -6,27 +6,21 @@ use Rattle.witness.specs.declared.word_place.Place.TheVariants as code
 use Rattle.witness.specs.Texts.{shape_of}
 use Rattle.witness.specs.Admits.{claims_at}
 use Rattle.witness.specs.WordClaims.{AreClaims}
-use Rattle.witness.specs.WordStands.{WordReader, Reads}
+use Rattle.witness.specs.WordStands.{WordReader}
 use Rattle.witness.proofs.WordReaderLemmas.{claims_there, claims_admitted, claims_refused}
 use Rattle.witness.proofs.word_reader.WordReader.admit_claims.Goals as goal
 
 pub returns-in-Ok-clause-line : goal.returns-in-Ok-clause-line
 returns-in-Ok-clause-line c items r bytes reads there =
-    let q : WordReader = record { play = c.self.inside.play; place = c.self.inside.place; claims = c.self.inside.claims; claimed = c.self.inside.claimed.items; has_free = c.self.inside.has_free } in
-    let now : Reads items q r bytes = subst (λ (q : WordReader). Reads items q r bytes) (sym c.self.view_is) reads in
-    let at : q.place ≡ code.Claims = ap (λ (q : WordReader). q.place) c.self.view_is ∙ there in
-    let are : AreClaims c.self.inside.claims c.as_mut_slice.result.now bytes = subst (λ (l : List Bool). AreClaims c.self.inside.claims l bytes) (sym c.as_mut_slice.ensures.value) (claims_there items r bytes q now code.Claims at) in
-    let count : length c.as_mut_slice.result.now ≡ (shape_of items).bads = ap length c.as_mut_slice.ensures.value ∙ now.many in
+    let are : AreClaims c.self.inside.claims c.as_mut_slice.result.now bytes = subst (λ (l : List Bool). AreClaims c.self.inside.claims l bytes) (sym c.as_mut_slice.ensures.value) (claims_there items r bytes _ _ c.self.view_is reads code.Claims there) in
+    let count : length c.as_mut_slice.result.now ≡ (shape_of items).bads = ap length c.as_mut_slice.ensures.value ∙ (ap (λ (q : WordReader). length q.claimed) c.self.view_is ∙ reads.many) in
     let told = c.in-Ok.ensures.line bytes are in
     let back = with_items_is c.self.inside.claimed c.end.new.claimed (omega arith) in
-    claims_admitted items r bytes q now (with_items c.self.inside.claimed c.end.new.claimed).items told.0 at (subst (λ (n : ℕ). claims_at n bytes ≡ Ok told.0) count told.1.0)
+    claims_admitted items r bytes _ _ c.self.view_is reads (with_items c.self.inside.claimed c.end.new.claimed).items told.0 there (subst (λ (n : ℕ). claims_at n bytes ≡ Ok told.0) count told.1.0)
     (subst (λ (l : List Bool). AreClaimed l told.0) (sym back) told.1.1) (ap length back ∙ (c.end.ensures.many ∙ ap length c.as_mut_slice.ensures.value))
 
 pub returns-in-Err-clause-line : goal.returns-in-Err-clause-line
 returns-in-Err-clause-line c items r bytes reads there =
-    let q : WordReader = record { play = c.self.inside.play; place = c.self.inside.place; claims = c.self.inside.claims; claimed = c.self.inside.claimed.items; has_free = c.self.inside.has_free } in
-    let now : Reads items q r bytes = subst (λ (q : WordReader). Reads items q r bytes) (sym c.self.view_is) reads in
-    let at : q.place ≡ code.Claims = ap (λ (q : WordReader). q.place) c.self.view_is ∙ there in
-    let are : AreClaims c.self.inside.claims c.as_mut_slice.result.now bytes = subst (λ (l : List Bool). AreClaims c.self.inside.claims l bytes) (sym c.as_mut_slice.ensures.value) (claims_there items r bytes q now code.Claims at) in
-    let count : length c.as_mut_slice.result.now ≡ (shape_of items).bads = ap length c.as_mut_slice.ensures.value ∙ now.many in
-    claims_refused items r bytes q now c.in-Err.why at (subst (λ (n : ℕ). claims_at n bytes ≡ Err c.in-Err.why) count (c.in-Err.ensures.line bytes are))
+    let are : AreClaims c.self.inside.claims c.as_mut_slice.result.now bytes = subst (λ (l : List Bool). AreClaims c.self.inside.claims l bytes) (sym c.as_mut_slice.ensures.value) (claims_there items r bytes _ _ c.self.view_is reads code.Claims there) in
+    let count : length c.as_mut_slice.result.now ≡ (shape_of items).bads = ap length c.as_mut_slice.ensures.value ∙ (ap (λ (q : WordReader). length q.claimed) c.self.view_is ∙ reads.many) in
+    claims_refused items r bytes _ _ c.self.view_is reads c.in-Err.why there (subst (λ (n : ℕ). claims_at n bytes ≡ Err c.in-Err.why) count (c.in-Err.ensures.line bytes are))

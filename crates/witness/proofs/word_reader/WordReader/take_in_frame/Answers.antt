@@ -1,15 +1,13 @@
-use Rattle.std.proofs.Common.{◌≡◌, ℕ, suc, ◌+◌, ◌<◌, ◌^◌, ◌&&◌, Bool, List, [], IfSome, IfNone, Ok, map, length, unwrap_or, decimal, ap, sym, subst, ◌∙◌}
-use Rattle.btor2.specs.declared.item.Item.{Item}
+use Rattle.std.proofs.Common.{◌≡◌, ℕ, suc, ◌+◌, ◌<◌, ◌^◌, ◌&&◌, Bool, List, IfSome, IfNone, Ok, length, decimal, ap, subst, ◌∙◌}
 use Rattle.btor2.specs.Items.{is_input}
 use Rattle.witness.specs.declared.word_place.Place.{Place as CodePlace}
 use Rattle.witness.specs.declared.word_place.Place.TheVariants as code
 use Rattle.witness.specs.Texts.{widths_of, assignment_line}
-use Rattle.witness.specs.Judgements.{pairs_of, frame_words}
 use Rattle.witness.specs.PlainLines.{NoAssignment, NoFrameLine}
-use Rattle.witness.specs.WordPlays.{WordPlay, Plays, GivesInput}
-use Rattle.witness.specs.WordStands.{WordReader, Reads, TakesLine, NoPlainLine, is_alone, is_status, place_of}
+use Rattle.witness.specs.WordPlays.{WordPlay}
+use Rattle.witness.specs.WordStands.{WordReader, TakesLine, NoPlainLine, is_alone, is_status, place_of}
 use Rattle.witness.proofs.AssignmentLemmas.{IsPlain, assignment_line_is_line, assignment_line_is_plain}
-use Rattle.witness.proofs.WordReaderLemmas.{plays_at, input_more, if_none}
+use Rattle.witness.proofs.WordReaderLemmas.{input_more, if_none}
 use Rattle.witness.proofs.word_reader.WordReader.take_in_frame.Goals as goal
 
 pub returns-in-Some-clause-line : goal.returns-in-Some-clause-line
@@ -27,13 +25,8 @@ returns-in-Some-clause-line c there =
       alone = ap (λ (x : CodePlace). is_alone (place_of x)) there;
       behind = ap (λ (x : CodePlace). is_status (place_of x)) there;
       gives = λ items r reads few.
-          let now : Reads items q r line = subst (λ (q : WordReader). Reads items q r line) (sym c.self.view_is) reads in
-          let at : q.place ≡ code.Frame = ap (λ (q : WordReader). q.place) c.self.view_is ∙ there in
-          let plays : Plays items (map frame_words r.closed) (record { states = pairs_of (unwrap_or r.states []); inputs = pairs_of r.open_part }) q.play = plays_at items r line q now code.Frame at in
-          let gives : GivesInput items (map frame_words r.closed) (pairs_of (unwrap_or r.states [])) r.open_part line c.take_input.new.self (Ok tt) =
-          subst (λ (l : List Item). Plays l (map frame_words r.closed) (record { states = pairs_of (unwrap_or r.states []); inputs = pairs_of r.open_part }) q.play → GivesInput l (map frame_words r.closed) (pairs_of (unwrap_or r.states [])) r.open_part line c.take_input.new.self (Ok tt)) plays.items_are (taken.gives (map frame_words r.closed) (pairs_of (unwrap_or r.states [])) r.open_part) plays in
           let no_states = ap (λ (b : Bool). b && q.has_free) (plain.no_states (decimal (suc (length r.closed)))) in
-          input_more items r line q now c.take_input.new.self (Ok tt) at (plain.no_frame (decimal (suc (length r.closed)))) no_states plain.no_end plain.no_part gives;
+          input_more items r line _ _ c.self.view_is reads c.take_input.new.self (Ok tt) there (plain.no_frame (decimal (suc (length r.closed)))) no_states plain.no_end plain.no_part taken.gives;
     }
 
 pub returns-in-None-clause-line : goal.returns-in-None-clause-line

@@ -1,20 +1,14 @@
-use Rattle.std.proofs.Common.{◌≡◌, ℕ, suc, ◌+◌, List, ◌∷◌, ◌++◌, map, length, unwrap_or, [], decimal, ap, sym, subst, ◌∙◌, arith}
-use Rattle.std.proofs.lemmas.List.{length-map}
-use Rattle.btor2.specs.declared.item.Item.{Item}
+use Rattle.std.proofs.Common.{◌≡◌, ℕ, suc, ◌+◌, List, ◌∷◌, ◌++◌, length, decimal, ap, sym, ◌∙◌, arith, refl}
 use Rattle.witness.specs.declared.word_place.Place.{Place as CodePlace}
-use Rattle.witness.specs.declared.word_place.Place.TheVariants as code
-use Rattle.witness.specs.Admits.{InFrame, opens_frame}
-use Rattle.witness.specs.Judgements.{pairs_of, frame_words}
-use Rattle.witness.specs.WordPlays.{Plays, nothing_given}
-use Rattle.witness.specs.WordStands.{WordReader, here_of, Reads, is_alone, is_status, place_of}
+use Rattle.witness.specs.Admits.{opens_frame}
+use Rattle.witness.specs.WordStands.{WordReader, is_alone, is_status, place_of}
 use Rattle.witness.proofs.PieceLemmas.{decimal_without}
-use Rattle.witness.proofs.WordLineLemmas.{itself}
-use Rattle.witness.proofs.WordReaderLemmas.{plays_at, next_frame}
+use Rattle.std.proofs.lemmas.Slice.Eq.{bytes_eq-Decides}
+use Rattle.witness.proofs.WordReaderLemmas.{frames_are, next_frame}
 use Rattle.witness.proofs.word_reader.WordReader.take_opening.Goals as goal
 
 pub returns-in-Some-clause-line : goal.returns-in-Some-clause-line
 returns-in-Some-clause-line c there =
-    let q : WordReader = record { play = c.self.inside.play; place = c.self.inside.place; claims = c.self.inside.claims; claimed = c.self.inside.claimed.items; has_free = c.self.inside.has_free } in
     let next : ℕ = c.saturating_add-next.result in
     let line : List ℕ = 64 ∷ decimal next in
     record {
@@ -24,12 +18,8 @@ returns-in-Some-clause-line c there =
       alone = ap (λ (x : CodePlace). is_alone (place_of x)) there;
       behind = ap (λ (x : CodePlace). is_status (place_of x)) there;
       gives = λ items r reads few.
-          let now : Reads items q r line = subst (λ (q : WordReader). Reads items q r line) (sym c.self.view_is) reads in
-          let at : q.place ≡ code.Frame = ap (λ (q : WordReader). q.place) c.self.view_is ∙ there in
-          let plays : Plays items (map frame_words r.closed) (record { states = pairs_of (unwrap_or r.states []); inputs = pairs_of r.open_part }) q.play = plays_at items r line q now code.Frame at in
-          let count : next ≡ suc (length r.closed) = c.saturating_add-next.ensures ∙ omega (arith, c.frames.ensures, plays.count, length-map r.closed frame_words, few) in
-          let closed : Plays items (map frame_words r.closed ++ here_of r InFrame ∷ []) nothing_given c.close.new.self = subst (λ (l : List Item). Plays l (map frame_words r.closed) (record { states = pairs_of (unwrap_or r.states []); inputs = pairs_of r.open_part }) q.play → Plays l (map frame_words r.closed ++ here_of r InFrame ∷ []) nothing_given c.close.new.self) plays.items_are (λ playing. c.close.ensures.more (map frame_words r.closed) (record { states = pairs_of (unwrap_or r.states []); inputs = pairs_of r.open_part }) playing (omega (arith, few, length-map r.closed frame_words))) plays in
-          next_frame items r line q now c.close.new.self at (ap (λ (n : ℕ). opens_frame n line) (sym count) ∙ itself line) closed;
+          let count : next ≡ suc (length r.closed) = c.saturating_add-next.ensures ∙ omega (arith, c.frames.ensures, frames_are items r line _ _ c.self.view_is reads, few) in
+          next_frame items r line _ _ c.self.view_is reads c.close.new.self there (ap (λ (n : ℕ). opens_frame n line) (sym count) ∙ (bytes_eq-Decides line line).1 refl) few c.close.ensures.more;
     }
 
 pub returns-in-None-clause-none : goal.returns-in-None-clause-none
