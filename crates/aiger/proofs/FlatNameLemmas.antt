@@ -94,18 +94,9 @@ key_here (k ∷ keys) [] i d e h = absurd (cc)
 key_here (k ∷ keys) (n ∷ names) zero d e h = let z : ◌≡◌ {A = ℕ × List ℕ} (k, n) e = some_same (k, n) e h in (omega arith, ap (λ (x : ℕ × List ℕ). x.0) z)
 key_here (k ∷ keys) (n ∷ names) (suc i) d e h = let r = key_here keys names i d e h in (omega (arith, r.0), r.1)
 
--- what a search finds
-pub name_found : (keys : List ℕ) (names : List (List ℕ)) (i key : ℕ) (name : List ℕ) → length keys ≡ length names → IsStrictlySortedBy nat_cmp keys → i < length keys → get_or keys i 0 ≡ key → slice_get names i ≡ Some name → lookup (is_at (nat_cmp key)) (named_keys keys names) ≡ Some name
-name_found keys names i key name many rising low e h =
-    let d : IsDistinct (eq_by_cmp nat_cmp) (keys_of (named_keys keys names)) = IsDistinct-from_sorted nat_cmp (keys_of (named_keys keys names)) (subst (IsStrictlySortedBy nat_cmp) (sym (keys_of-named_keys keys names many)) rising) in
-    lookup_from_place (eq_by_cmp_equiv nat_cmp_total) (named_keys keys names) i key name d (name_here keys names i 0 name low h ∙ ap (λ (k : ℕ). Some (k, name)) e)
-
--- and where it finds none
-pub name_missed : (keys : List ℕ) (names : List (List ℕ)) (i key : ℕ) → length keys ≡ length names → IsStrictlySortedBy nat_cmp keys → ((k : ℕ) → k < i → get_or keys k 0 < key) → ((k : ℕ) → i ≤ k → k < length keys → key < get_or keys k 0) → lookup (is_at (nat_cmp key)) (named_keys keys names) ≡ None
-name_missed keys names i key many rising below above =
-    lookup_at_gap nat_cmp_total key (named_keys keys names) i (subst (IsStrictlySortedBy nat_cmp) (sym (keys_of-named_keys keys names many)) rising)
-    (λ j e low h. greater_from_above key e.0 (omega (arith, below j low, (key_here keys names j 0 e h).1)))
-    (λ e h. let r = key_here keys names i 0 e h in less_from_below key e.0 (omega (arith, above i (omega arith) r.0, r.1)))
+-- the keys of names rise
+named_rise : (keys : List ℕ) (names : List (List ℕ)) → AreFlat keys names → IsStrictlySortedBy nat_cmp (keys_of (named_keys keys names))
+named_rise keys names is = subst (IsStrictlySortedBy nat_cmp) (sym (keys_of-named_keys keys names is.as_many)) is.rising
 
 -- keys that rise do not fall
 never_fall : (keys : List ℕ) → IsStrictlySortedBy nat_cmp keys → (i j : ℕ) → i ≤ j → j < length keys → get_or keys i 0 ≤ get_or keys j 0
@@ -118,13 +109,16 @@ pub flat_found : (keys : List ℕ) (names : List (List ℕ)) (ks : List ℕ) (i 
 flat_found keys names ks i key name is a found here =
     let at : IsBinarySearchResult (λ y. nat_cmp y key) keys (Ok i) = subst (λ (xs : List ℕ). IsBinarySearchResult (λ y. nat_cmp y key) xs (Ok i)) a found in
     let r = searched keys key (Ok i) at (never_fall keys is.rising) in
-    name_found keys names i key name is.as_many is.rising r.0 r.1 here
+    let d : IsDistinct (eq_by_cmp nat_cmp) (keys_of (named_keys keys names)) = IsDistinct-from_sorted nat_cmp (keys_of (named_keys keys names)) (named_rise keys names is) in
+    lookup_from_place (eq_by_cmp_equiv nat_cmp_total) (named_keys keys names) i key name d (name_here keys names i 0 name r.0 here ∙ ap (λ (k : ℕ). Some (k, name)) r.1)
 
 pub flat_missed : (keys : List ℕ) (names : List (List ℕ)) (ks : List ℕ) (i key : ℕ) → AreFlat keys names → ks ≡ keys → IsBinarySearchResult (λ y. nat_cmp y key) ks (Err i) → lookup (is_at (nat_cmp key)) (named_keys keys names) ≡ None
 flat_missed keys names ks i key is a missed =
     let at : IsBinarySearchResult (λ y. nat_cmp y key) keys (Err i) = subst (λ (xs : List ℕ). IsBinarySearchResult (λ y. nat_cmp y key) xs (Err i)) a missed in
     let r = searched keys key (Err i) at (never_fall keys is.rising) in
-    name_missed keys names i key is.as_many is.rising r.1 r.2
+    lookup_at_gap nat_cmp_total key (named_keys keys names) i (named_rise keys names is)
+    (λ j e low h. greater_from_above key e.0 (omega (arith, r.1 j low, (key_here keys names j 0 e h).1)))
+    (λ e h. let k = key_here keys names i 0 e h in less_from_below key e.0 (omega (arith, r.2 i (omega arith) k.0, k.1)))
 
 pub flat_none : (keys : List ℕ) (names : List (List ℕ)) → keys ≡ [] → names ≡ [] → AreFlat keys names
 unfolding IsStrictlySortedBy

@@ -8,7 +8,7 @@ use Rattle.aiger.specs.declared.circuit.Latch.{Latch}
 use Rattle.aiger.specs.Limits.{greatest_count}
 use Rattle.aiger.specs.Net.{IsDefined}
 use Rattle.aiger.specs.Circuit.{Circuit, IsCircuit, IsNamed, HasFew, net, fresh_circuit, fresh_latch, NameMap}
-use Rattle.aiger.specs.Loose.{IsLoose, IsNamedLine, HasDefinitions, HasSmall, HasFewLines, empty_loose}
+use Rattle.aiger.specs.Loose.{IsLoose, HasDefinitions, HasSmall, HasFewLines, sections_of, empty_loose}
 
 pub IsCircuit-fresh : (inputs latches : ℕ) → inputs + latches ≤ greatest_count → IsCircuit (fresh_circuit inputs latches)
 unfolding IsStrictlySortedBy
@@ -40,4 +40,4 @@ IsLoose-empty =
     let definitions : HasDefinitions empty_loose = search rules in
     let small : HasSmall empty_loose = search rules in
     let few : HasFewLines empty_loose = search rules in
-    record { definitions = definitions; small = small; few = few; names = record { sorted = tt; named = All-nil (IsNamedLine empty_loose) } }
+    record { definitions = definitions; small = small; few = few; names = record { sorted = tt; named = All-nil (IsNamed (sections_of empty_loose)) } }

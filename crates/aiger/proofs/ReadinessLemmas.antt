@@ -462,14 +462,6 @@ pub record LinkedBelow (slots : List ℕ) (n : ℕ) (s : ℕ) (heads : List ℕ)
   pub chains : ChainsBelow slots n s heads nexts
   pub are : mixed ≡ nexts ++ drop s slots
 
-pub linked_begins : (slots heads : List ℕ) (n : ℕ) → heads ≡ replicate n 0 → LinkedBelow slots n 0 heads slots
-linked_begins slots heads n e =
-    record {
-      nexts = [];
-      chains = record { heads_count = ap length e ∙ length-replicate n 0; nexts_count = refl; head = λ g h. ap (λ (l : List ℕ). slice_index_or l g 0) e ∙ get_or-replicate n g 0 0 h; next = λ k g h u. absurd (omega arith) };
-      are = refl;
-    }
-
 -- what stands at the place, and how many there are
 pub linked_at : (slots : List ℕ) (n s : ℕ) (heads mixed : List ℕ) → LinkedBelow slots n s heads mixed → s < length slots → (slice_index_or mixed s 0 ≡ slot_at slots s) × (length mixed ≡ length slots)
 linked_at slots n s heads mixed b h =

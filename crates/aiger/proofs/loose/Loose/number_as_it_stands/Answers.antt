@@ -1,8 +1,7 @@
 use Rattle.std.proofs.Common.{◌≡◌, map, length, ap, sym, ◌∙◌, subst, arith}
 use Rattle.aiger.specs.Circuit.{IsCircuit}
 use Rattle.aiger.specs.Loose.{Loose}
-use Rattle.aiger.specs.Numbering.{circuit_by}
-use Rattle.aiger.specs.Renumbering.{new_gate, renumbered}
+use Rattle.aiger.specs.Renumbering.{new_gate, renumbered, circuit_by}
 use Rattle.aiger.proofs.InOrderLemmas.{as_they_stand, is_order, is_circuit, by_places}
 use Rattle.aiger.proofs.KnownLemmas.{all_known}
 use Rattle.aiger.proofs.PlacesLemmas.{length_defined}
