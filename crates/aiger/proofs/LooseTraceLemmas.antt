@@ -13,8 +13,7 @@ use Rattle.aiger.specs.Net.{SatisfiesFrom, bits_from, variables, IsDefined}
 use Rattle.aiger.specs.Circuit.{Circuit, IsCircuit, net}
 use Rattle.aiger.specs.Trace.{IsFrame, IsTrace, next_state, SameFrame, SameTrace}
 use Rattle.aiger.specs.Loose.{Loose, IsLoose, latch_of, latch_variable, gate_variable}
-use Rattle.aiger.specs.LooseTrace.{HoldsOf, IsLooseFrame, IsLooseTrace, loose_next_state}
-use Rattle.aiger.specs.LooseObserved.{ShowsSame, AllShowSame}
+use Rattle.aiger.specs.LooseTrace.{HoldsOf, IsLooseFrame, IsLooseTrace, loose_next_state, ShowsSame, AllShowSame}
 use Rattle.aiger.specs.Renumbering.{gate_line, gate_name, numbered, has_number, AreInTurn, IsOrder, IsRenumbered, new_literal, new_gate, ordered_gate, renumbered}
 use Rattle.aiger.proofs.TraceLemmas.{trace_exists, trace_unique, literal_value-agree, next_state-agree}
 use Rattle.aiger.proofs.LooseLemmas.{count_join}
