@@ -1,10 +1,10 @@
 -- What keeps the lists of a file.
-use Rattle.std.proofs.Common.{◌≡◌, ℕ, ◌+◌, ◌%◌, ◌<◌, ◌≤◌, Bool, true, false, not, ◌&&◌, ◌||◌, ◌==◌, List, [], ◌∷◌, ◌++◌, map, length, All, nat_eq, nat_le, Result, Ok, Err, OnOk, OnErr, cond, refl, ap, sym, ◌∙◌, subst, arith, if◌then◌else◌, length-append}
+use Rattle.std.proofs.Common.{◌≡◌, ℕ, ◌+◌, ◌%◌, ◌<◌, ◌≤◌, Bool, true, false, not, ◌&&◌, ◌||◌, ◌==◌, List, [], ◌∷◌, ◌++◌, map, length, All, nat_eq, nat_le, Result, Ok, Err, OnOk, OnErr, cond, refl, ap, sym, ◌∙◌, subst, arith, if◌then◌else◌, length-append, append_assoc, append-nil}
 use Rattle.std.proofs.lemmas.Bool.Decides.{nat_tests}
 use Rattle.std.proofs.lemmas.List.{map-append, length-map}
 use Rattle.std.proofs.lemmas.List.Elements.{All-push, All-nil, All-cons}
 use Rattle.std.proofs.lemmas.List.Folds.{list_any-append}
-use Rattle.std.proofs.lemmas.List.Sums.{sum_by-append, sum_by-cons, sum_by_push}
+use Rattle.std.proofs.lemmas.List.Sums.{sum_by-append, sum_by-cons}
 use Rattle.std.specs.List.{list_any, list_all, count_by}
 use Rattle.aiger.specs.declared.loose.GateLine.{GateLine}
 use Rattle.aiger.specs.declared.loose.LatchLine.{LatchLine}
@@ -56,36 +56,23 @@ all_small_from_test (l ∷ ls) t =
     let r : list_all is_small ls ≡ true = grind (arith, nat_tests) in
     All-cons IsSmall l ls (grind (arith, nat_tests)) (all_small_from_test ls r)
 
--- a test of three lists joined, one of which has an element more
-any_first : (p : ℕ → Bool) (x : ℕ) (a b c : List ℕ) → list_any p ((a ++ x ∷ []) ++ b ++ c) ≡ (p x || list_any p (a ++ b ++ c))
-any_first p x a b c =
-    let e = list_any-append p ((a ++ x ∷ []) ++ b) c in
-    let f = list_any-append p (a ++ x ∷ []) b in
-    let g = list_any-append p a (x ∷ []) in
-    let h = list_any-append p (a ++ b) c in
-    let i = list_any-append p a b in
-    grind (arith, nat_tests, e, f, g, h, i)
+-- one number more somewhere in a list
+record HasOneMore (old new : List ℕ) (x : ℕ) : Type 0 where
+  count : (v : ℕ) → count_by (nat_eq v) new ≡ count_by (nat_eq v) old + (if nat_eq v x then 1 else 0)
+  any : (v : ℕ) → list_any (nat_eq v) new ≡ (nat_eq v x || list_any (nat_eq v) old)
 
-any_second : (p : ℕ → Bool) (x : ℕ) (a b c : List ℕ) → list_any p (a ++ (b ++ x ∷ []) ++ c) ≡ (p x || list_any p (a ++ b ++ c))
-any_second p x a b c =
-    let e = list_any-append p (a ++ (b ++ x ∷ [])) c in
-    let f = list_any-append p a (b ++ x ∷ []) in
-    let g = list_any-append p b (x ∷ []) in
-    let h = list_any-append p (a ++ b) c in
-    let i = list_any-append p a b in
-    grind (arith, nat_tests, e, f, g, h, i)
-
-any_third : (p : ℕ → Bool) (x : ℕ) (a b c : List ℕ) → list_any p (a ++ b ++ (c ++ x ∷ [])) ≡ (p x || list_any p (a ++ b ++ c))
-any_third p x a b c =
-    let e = list_any-append p (a ++ b) (c ++ x ∷ []) in
-    let g = list_any-append p c (x ∷ []) in
-    let h = list_any-append p (a ++ b) c in
-    grind (arith, nat_tests, e, g, h)
+one_more : (old new front behind : List ℕ) (x : ℕ) → old ≡ front ++ behind → new ≡ front ++ x ∷ behind → HasOneMore old new x
+one_more old new front behind x e f =
+    rw (e, f)
+    (record {
+      count = λ v. omega (arith, sum_by-append (λ (y : ℕ). cond (nat_eq v y) 1 0) front (x ∷ behind), sum_by-append (λ (y : ℕ). cond (nat_eq v y) 1 0) front behind, sum_by-cons (λ (y : ℕ). cond (nat_eq v y) 1 0) x behind);
+      any = λ v.
+          let a = list_any-append (nat_eq v) front (x ∷ behind) in
+          let b = list_any-append (nat_eq v) front behind in
+          grind (arith, nat_tests, a, b);
+    })
 
 -- how many of a list pass
-count_push : (p : ℕ → Bool) (x : ℕ) (a : List ℕ) → count_by p (a ++ x ∷ []) ≡ count_by p a + (if p x then 1 else 0)
-count_push p x a = sum_by_push (λ (y : ℕ). cond (p y) 1 0) a x
-
 pub count_join : (p : ℕ → Bool) (a b c : List ℕ) → count_by p (a ++ b ++ c) ≡ count_by p a + count_by p b + count_by p c
 count_join p a b c = sum_by-append (λ (y : ℕ). cond (p y) 1 0) (a ++ b) c ∙ ap (λ (n : ℕ). n + count_by p c) (sum_by-append (λ (y : ℕ). cond (p y) 1 0) a b)
 
@@ -127,26 +114,21 @@ defining_from_test l lit t =
     let even : (lit % 2 == 0) ≡ true = grind (arith, nat_tests) in
     (record { even = grind (arith, nat_tests); least = grind (arith, nat_tests) }, grind (arith, nat_tests))
 
--- the variables with an input more
-variables_input : (l : Loose) (lit : ℕ) → defined_variables (record l { inputs = l.inputs ++ lit ∷ [] }) ≡ (map variable l.inputs ++ variable lit ∷ []) ++ map latch_variable l.latches ++ map gate_variable l.gates
-variables_input l lit = ap (λ (xs : List ℕ). xs ++ map latch_variable l.latches ++ map gate_variable l.gates) (map-append variable l.inputs (lit ∷ []))
+-- the variables with a definition more
+more_input : (l : Loose) (lit : ℕ) → HasOneMore (defined_variables l) (defined_variables (record l { inputs = l.inputs ++ lit ∷ [] })) (variable lit)
+more_input l lit = one_more _ _ (map variable l.inputs) (map latch_variable l.latches ++ map gate_variable l.gates) (variable lit) (append_assoc (map variable l.inputs) (map latch_variable l.latches) (map gate_variable l.gates)) (simp (map-append, append_assoc))
 
-variables_latch : (l : Loose) (line : LatchLine) → defined_variables (record l { latches = l.latches ++ line ∷ [] }) ≡ map variable l.inputs ++ (map latch_variable l.latches ++ latch_variable line ∷ []) ++ map gate_variable l.gates
-variables_latch l line = ap (λ (xs : List ℕ). map variable l.inputs ++ xs ++ map gate_variable l.gates) (map-append latch_variable l.latches (line ∷ []))
+more_latch : (l : Loose) (line : LatchLine) → HasOneMore (defined_variables l) (defined_variables (record l { latches = l.latches ++ line ∷ [] })) (latch_variable line)
+more_latch l line = one_more _ _ (map variable l.inputs ++ map latch_variable l.latches) (map gate_variable l.gates) (latch_variable line) refl (simp (map-append, append_assoc))
 
-variables_gate : (l : Loose) (line : GateLine) → defined_variables (record l { gates = l.gates ++ line ∷ [] }) ≡ map variable l.inputs ++ map latch_variable l.latches ++ (map gate_variable l.gates ++ gate_variable line ∷ [])
-variables_gate l line = ap (λ (xs : List ℕ). map variable l.inputs ++ map latch_variable l.latches ++ xs) (map-append gate_variable l.gates (line ∷ []))
+more_gate : (l : Loose) (line : GateLine) → HasOneMore (defined_variables l) (defined_variables (record l { gates = l.gates ++ line ∷ [] })) (gate_variable line)
+more_gate l line = one_more _ _ (defined_variables l) [] (gate_variable line) (sym (append-nil (defined_variables l))) (simp (map-append, append_assoc))
 
 -- with an input more
 with_input : (l : Loose) (lit : ℕ) → IsLoose l → IsDefining lit → is_defined l (variable lit) ≡ false → IsSmall lit → defined_count l < greatest_count → IsLoose (record l { inputs = l.inputs ++ lit ∷ [] })
 with_input l lit valid defining new small room =
-    let a : List ℕ = map variable l.inputs in
-    let b : List ℕ = map latch_variable l.latches in
-    let c : List ℕ = map gate_variable l.gates in
     let d : Loose = record l { inputs = l.inputs ++ lit ∷ [] } in
-    let more : (v : ℕ) → count_by (nat_eq v) (defined_variables d) ≡ count_by (nat_eq v) (a ++ b ++ c) + (if nat_eq v (variable lit) then 1 else 0) = λ v.
-    ap (count_by (nat_eq v)) (variables_input l lit) ∙ omega (arith, count_join (nat_eq v) (a ++ variable lit ∷ []) b c, count_push (nat_eq v) (variable lit) a, count_join (nat_eq v) a b c) in
-    let once : (v : ℕ) → count_by (nat_eq v) (defined_variables d) ≤ 1 = once_push (a ++ b ++ c) (defined_variables d) (variable lit) more valid.definitions.once new in
+    let once : (v : ℕ) → count_by (nat_eq v) (defined_variables d) ≤ 1 = once_push (defined_variables l) (defined_variables d) (variable lit) (more_input l lit).count valid.definitions.once new in
     IsLoose-lines l (l.inputs ++ lit ∷ []) l.latches l.gates valid
     (record { inputs = All-push IsDefining l.inputs lit valid.definitions.inputs defining; latches = valid.definitions.latches; gates = valid.definitions.gates; once = once })
     (omega (arith, length-append l.inputs (lit ∷ []))) (omega (arith, length-append l.inputs (lit ∷ []))) (omega arith)
@@ -161,13 +143,8 @@ IsLoose-input l lit inputs (Err x) valid test small room ok err = subst (λ (ls 
 -- with a latch more
 with_latch : (l : Loose) (line : LatchLine) → IsLoose l → IsDefining line.current → is_defined l (latch_variable line) ≡ false → IsSmall line.current → IsSmall line.next → defined_count l < greatest_count → IsLoose (record l { latches = l.latches ++ line ∷ [] })
 with_latch l line valid defining new small small_next room =
-    let a : List ℕ = map variable l.inputs in
-    let b : List ℕ = map latch_variable l.latches in
-    let c : List ℕ = map gate_variable l.gates in
     let d : Loose = record l { latches = l.latches ++ line ∷ [] } in
-    let more : (v : ℕ) → count_by (nat_eq v) (defined_variables d) ≡ count_by (nat_eq v) (a ++ b ++ c) + (if nat_eq v (latch_variable line) then 1 else 0) = λ v.
-    ap (count_by (nat_eq v)) (variables_latch l line) ∙ omega (arith, count_join (nat_eq v) a (b ++ latch_variable line ∷ []) c, count_push (nat_eq v) (latch_variable line) b, count_join (nat_eq v) a b c) in
-    let once : (v : ℕ) → count_by (nat_eq v) (defined_variables d) ≤ 1 = once_push (a ++ b ++ c) (defined_variables d) (latch_variable line) more valid.definitions.once new in
+    let once : (v : ℕ) → count_by (nat_eq v) (defined_variables d) ≤ 1 = once_push (defined_variables l) (defined_variables d) (latch_variable line) (more_latch l line).count valid.definitions.once new in
     IsLoose-lines l l.inputs (l.latches ++ line ∷ []) l.gates valid
     (record { inputs = valid.definitions.inputs; latches = All-push (λ (x : LatchLine). IsDefining x.current) l.latches line valid.definitions.latches defining; gates = valid.definitions.gates; once = once })
     (omega (arith, length-append l.latches (line ∷ []))) (omega arith) (omega (arith, length-append l.latches (line ∷ [])))
@@ -184,13 +161,8 @@ IsLoose-latch l line latches (Err x) valid test small small_next room ok err = s
 -- with a gate more
 with_gate : (l : Loose) (line : GateLine) → IsLoose l → IsDefining line.lhs → is_defined l (gate_variable line) ≡ false → IsSmall line.lhs → IsSmall line.rhs0 → IsSmall line.rhs1 → defined_count l < greatest_count → IsLoose (record l { gates = l.gates ++ line ∷ [] })
 with_gate l line valid defining new small small0 small1 room =
-    let a : List ℕ = map variable l.inputs in
-    let b : List ℕ = map latch_variable l.latches in
-    let c : List ℕ = map gate_variable l.gates in
     let d : Loose = record l { gates = l.gates ++ line ∷ [] } in
-    let more : (v : ℕ) → count_by (nat_eq v) (defined_variables d) ≡ count_by (nat_eq v) (a ++ b ++ c) + (if nat_eq v (gate_variable line) then 1 else 0) = λ v.
-    ap (count_by (nat_eq v)) (variables_gate l line) ∙ omega (arith, count_join (nat_eq v) a b (c ++ gate_variable line ∷ []), count_push (nat_eq v) (gate_variable line) c, count_join (nat_eq v) a b c) in
-    let once : (v : ℕ) → count_by (nat_eq v) (defined_variables d) ≤ 1 = once_push (a ++ b ++ c) (defined_variables d) (gate_variable line) more valid.definitions.once new in
+    let once : (v : ℕ) → count_by (nat_eq v) (defined_variables d) ≤ 1 = once_push (defined_variables l) (defined_variables d) (gate_variable line) (more_gate l line).count valid.definitions.once new in
     IsLoose-lines l l.inputs l.latches (l.gates ++ line ∷ []) valid
     (record { inputs = valid.definitions.inputs; latches = valid.definitions.latches; gates = All-push (λ (x : GateLine). IsDefining x.lhs) l.gates line valid.definitions.gates defining; once = once })
     (omega (arith, length-append l.gates (line ∷ []))) (omega arith) (omega arith)
@@ -206,31 +178,22 @@ IsLoose-gate l line gates (Err x) valid test small small0 small1 room ok err = s
 -- the set of defined variables with one more, or as it was
 pub HasSet-input : (l : Loose) (lit : ℕ) (inputs : List ℕ) (r : Result (Unit {0}) CircuitFault) (has had : ℕ → Bool) → ((v : ℕ) → had v ≡ is_defined l v) → OnOk r ((v : ℕ) → has v ≡ cond (nat_eq (variable lit) v) true (had v)) → OnErr r ((v : ℕ) → has v ≡ had v) → OnOk r (inputs ≡ l.inputs ++ lit ∷ []) → OnErr r (inputs ≡ l.inputs) → (v : ℕ) → has v ≡ is_defined (record l { inputs = inputs }) v
 HasSet-input l lit inputs (Ok x) has had before ok err e f =
-    let a : List ℕ = map variable l.inputs in
-    let b : List ℕ = map latch_variable l.latches in
-    let c : List ℕ = map gate_variable l.gates in
     subst (λ (ls : List ℕ). (v : ℕ) → has v ≡ is_defined (record l { inputs = ls }) v) (sym e)
-    (set_push has had (a ++ b ++ c) (defined_variables (record l { inputs = l.inputs ++ lit ∷ [] })) (variable lit) before ok (λ v. ap (list_any (nat_eq v)) (variables_input l lit) ∙ any_first (nat_eq v) (variable lit) a b c))
+    (set_push has had (defined_variables l) (defined_variables (record l { inputs = l.inputs ++ lit ∷ [] })) (variable lit) before ok (more_input l lit).any)
 HasSet-input l lit inputs (Err x) has had before ok err e f =
     subst (λ (ls : List ℕ). (v : ℕ) → has v ≡ is_defined (record l { inputs = ls }) v) (sym f) (λ v. err v ∙ before v)
 
 pub HasSet-latch : (l : Loose) (line : LatchLine) (latches : List LatchLine) (r : Result (Unit {0}) CircuitFault) (has had : ℕ → Bool) → ((v : ℕ) → had v ≡ is_defined l v) → OnOk r ((v : ℕ) → has v ≡ cond (nat_eq (latch_variable line) v) true (had v)) → OnErr r ((v : ℕ) → has v ≡ had v) → OnOk r (latches ≡ l.latches ++ line ∷ []) → OnErr r (latches ≡ l.latches) → (v : ℕ) → has v ≡ is_defined (record l { latches = latches }) v
 HasSet-latch l line latches (Ok x) has had before ok err e f =
-    let a : List ℕ = map variable l.inputs in
-    let b : List ℕ = map latch_variable l.latches in
-    let c : List ℕ = map gate_variable l.gates in
     subst (λ (ls : List LatchLine). (v : ℕ) → has v ≡ is_defined (record l { latches = ls }) v) (sym e)
-    (set_push has had (a ++ b ++ c) (defined_variables (record l { latches = l.latches ++ line ∷ [] })) (latch_variable line) before ok (λ v. ap (list_any (nat_eq v)) (variables_latch l line) ∙ any_second (nat_eq v) (latch_variable line) a b c))
+    (set_push has had (defined_variables l) (defined_variables (record l { latches = l.latches ++ line ∷ [] })) (latch_variable line) before ok (more_latch l line).any)
 HasSet-latch l line latches (Err x) has had before ok err e f =
     subst (λ (ls : List LatchLine). (v : ℕ) → has v ≡ is_defined (record l { latches = ls }) v) (sym f) (λ v. err v ∙ before v)
 
 pub HasSet-gate : (l : Loose) (line : GateLine) (gates : List GateLine) (r : Result (Unit {0}) CircuitFault) (has had : ℕ → Bool) → ((v : ℕ) → had v ≡ is_defined l v) → OnOk r ((v : ℕ) → has v ≡ cond (nat_eq (gate_variable line) v) true (had v)) → OnErr r ((v : ℕ) → has v ≡ had v) → OnOk r (gates ≡ l.gates ++ line ∷ []) → OnErr r (gates ≡ l.gates) → (v : ℕ) → has v ≡ is_defined (record l { gates = gates }) v
 HasSet-gate l line gates (Ok x) has had before ok err e f =
-    let a : List ℕ = map variable l.inputs in
-    let b : List ℕ = map latch_variable l.latches in
-    let c : List ℕ = map gate_variable l.gates in
     subst (λ (ls : List GateLine). (v : ℕ) → has v ≡ is_defined (record l { gates = ls }) v) (sym e)
-    (set_push has had (a ++ b ++ c) (defined_variables (record l { gates = l.gates ++ line ∷ [] })) (gate_variable line) before ok (λ v. ap (list_any (nat_eq v)) (variables_gate l line) ∙ any_third (nat_eq v) (gate_variable line) a b c))
+    (set_push has had (defined_variables l) (defined_variables (record l { gates = l.gates ++ line ∷ [] })) (gate_variable line) before ok (more_gate l line).any)
 HasSet-gate l line gates (Err x) has had before ok err e f =
     subst (λ (ls : List GateLine). (v : ℕ) → has v ≡ is_defined (record l { gates = ls }) v) (sym f) (λ v. err v ∙ before v)
 
