@@ -35,12 +35,12 @@ file_small l greatest valid small = record {
   variables = small;
   inputs = omega (arith, valid.few.defined);
   latches = omega (arith, valid.few.defined);
-  outputs = valid.few.outputs;
+  outputs = valid.few.sections.outputs;
   gates = omega (arith, valid.few.defined);
-  bads = valid.few.bads;
-  constraints = valid.few.constraints;
-  justice = valid.few.justice;
-  fair = valid.few.fair;
+  bads = valid.few.sections.bads;
+  constraints = valid.few.sections.constraints;
+  justice = valid.few.sections.justice;
+  fair = valid.few.sections.fair;
 }
 
 pub ascii-read : IsCircuitLaw → (text : List ℕ) (c : Circuit) → IsAsciiText text c → AnswersText text (Ok c)
