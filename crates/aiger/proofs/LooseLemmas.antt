@@ -85,7 +85,7 @@ count_none p (x ∷ xs) e =
     sum_by-cons (λ (y : ℕ). cond (p y) 1 0) x xs ∙ (ap (λ (b : Bool). cond b 1 0 + count_by p xs) h ∙ (omega (arith, count_none p xs t)))
 
 -- each number stands once at most, also with one more that was not there
-once_push : (old new : List ℕ) (x : ℕ) → ((v : ℕ) → count_by (nat_eq v) new ≡ count_by (nat_eq v) old + (if nat_eq v x then 1 else 0)) → ((v : ℕ) → count_by (nat_eq v) old ≤ 1) → list_any (nat_eq x) old ≡ false → (v : ℕ) → count_by (nat_eq v) new ≤ 1
+pub once_push : (old new : List ℕ) (x : ℕ) → ((v : ℕ) → count_by (nat_eq v) new ≡ count_by (nat_eq v) old + (if nat_eq v x then 1 else 0)) → ((v : ℕ) → count_by (nat_eq v) old ≤ 1) → list_any (nat_eq x) old ≡ false → (v : ℕ) → count_by (nat_eq v) new ≤ 1
 once_push old new x more once none v = by (nat_eq v x) refl
   where
     by : (b : Bool) → nat_eq v x ≡ b → count_by (nat_eq v) new ≤ 1

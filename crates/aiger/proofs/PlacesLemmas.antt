@@ -17,7 +17,7 @@ use Rattle.aiger.specs.Numbering.{IsOnce, line_in, name_in, slot_of, slots_of, I
 use Rattle.aiger.proofs.RenumberingLemmas.{found}
 use Rattle.aiger.proofs.OrderLemmas.{AreGates, AreGates-push, count_some, false_unless, fresh, ready_parts, name_at_place, numbered-append}
 use Rattle.aiger.proofs.KnownLemmas.{IsKnown, AllKnown}
-use Rattle.aiger.proofs.LooseLemmas.{count_none}
+use Rattle.aiger.proofs.LooseLemmas.{once_push}
 use Rattle.aiger.proofs.NumbersLemmas.{place_found, place_missed}
 use Rattle.aiger.proofs.NumberingLemmas.{IsSlotOf, AreSlotsOf, next_is_ready, in_turn_from_slots, first_cyclic}
 
@@ -54,20 +54,7 @@ length_defined l =
 
 -- with a new variable more each still stands once
 pub once_more : (xs : List ℕ) (x : ℕ) → IsOnce xs → list_any (nat_eq x) xs ≡ false → IsOnce (xs ++ x ∷ [])
-once_more xs x once new v = by (nat_eq v x) refl
-  where
-    pushed : count_by (nat_eq v) (xs ++ x ∷ []) ≡ count_by (nat_eq v) xs + cond (nat_eq v x) 1 0
-    pushed = sum_by_push (λ (y : ℕ). cond (nat_eq v y) 1 0) xs x
-
-    by : (b : Bool) → nat_eq v x ≡ b → count_by (nat_eq v) (xs ++ x ∷ []) ≤ 1
-    by true e =
-        let s : v ≡ x = grind (arith, nat_tests) in
-        let z : count_by (nat_eq v) xs ≡ 0 = subst (λ (y : ℕ). count_by (nat_eq y) xs ≡ 0) (sym s) (count_none (nat_eq x) xs new) in
-        let o : ◌≡◌ {A = ℕ} (cond (nat_eq v x) 1 0) 1 = ap (λ (b : Bool). cond b 1 0) e in
-        omega (arith, pushed, z, o)
-    by false e =
-        let o : ◌≡◌ {A = ℕ} (cond (nat_eq v x) 1 0) 0 = ap (λ (b : Bool). cond b 1 0) e in
-        omega (arith, pushed, once v, o)
+once_more xs x once new = once_push xs (xs ++ x ∷ []) x (λ v. sum_by_push (λ (y : ℕ). cond (nat_eq v y) 1 0) xs x) once new
 
 -- gates in turn give numbers to variables that have none
 once_in_turn : (l : Loose) (done js : List ℕ) → IsLoose l → AreGates l done → AreInTurn l done js → IsOnce (numbered l done) → IsOnce (numbered l (done ++ js))
