@@ -98,10 +98,6 @@ pub record IsWriting (words : List ℕ) (first : ℕ) (bit : Bool) (now : List �
   pub within : at / 64 < length now
   pub open' : (base : ℕ) → base ≤ first → length words ≤ base + 1 → IsMarked words base → IsOpen words base first bit now at
 
-pub writing_begins : (words : List ℕ) (first : ℕ) (bit : Bool) → first / 64 < length words → IsWriting words first bit words first
-writing_begins words first bit low =
-    record { count = refl; within = low; open' = λ base above most m. record { others = λ q h _. m q h; below = λ h. absurd (omega arith); bits = λ q h. refl } }
-
 -- once it is written, only the bit of its word may be wrong
 now_others : (words : List ℕ) (base first : ℕ) (bit : Bool) (now next : List ℕ) (at : ℕ) → IsOpen words base first bit now at
     → ((q : ℕ) → has_bit next q ≡ cond (nat_eq at q) bit (has_bit now q)) → ((k : ℕ) → k ≢ at / 64 → has_any next k ≡ has_any now k)

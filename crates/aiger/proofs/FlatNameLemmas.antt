@@ -7,7 +7,8 @@ use Rattle.std.proofs.lemmas.Cmp.{eq_by_cmp_equiv, nat_cmp_total}
 use Rattle.std.proofs.lemmas.Map.Entries.{lookup_from_place, lookup_at_gap}
 use Rattle.std.proofs.lemmas.Map.Keys.{IsDistinct-from_sorted, below_from_sorted}
 use Rattle.std.proofs.lemmas.Option.{slice_get-get_or, get_or_from_slice_get}
-use Rattle.std.specs.List.{AllByRecursion, IsDistinct}
+use Rattle.std.proofs.lemmas.Map.Made.{keys_of-zip}
+use Rattle.std.specs.List.{AllByRecursion, IsDistinct, zip}
 use Rattle.std.specs.Ordering.{eq_by_cmp}
 use Rattle.std.specs.List.Sorted.{IsStrictlySortedBy, IsBinarySearchResult}
 use Rattle.std.proofs.lemmas.List.Sorted.{searched}
@@ -15,20 +16,14 @@ use Rattle.std.specs.declared.cmp.Ordering.TheVariants.{Less, Equal, Greater}
 use Rattle.std.specs.Ordering.{nat_cmp}
 use Rattle.std.specs.BTreeMap.{is_at}
 use Rattle.std.specs.Map.{lookup, keys_of}
-use Rattle.aiger.specs.FlatNames.{named_keys, AreFlat}
-
--- the keys of names
-pub keys_of-named_keys : (keys : List ℕ) (names : List (List ℕ)) → length keys ≡ length names → keys_of (named_keys keys names) ≡ keys
-keys_of-named_keys [] names e = refl
-keys_of-named_keys (k ∷ keys) [] e = absurd (omega (arith, e))
-keys_of-named_keys (k ∷ keys) (n ∷ names) e = ap (λ (ks : List ℕ). k ∷ ks) (keys_of-named_keys keys names (omega (arith, e)))
+use Rattle.aiger.specs.FlatNames.{AreFlat}
 
 -- one name more
-named_keys-push : (keys : List ℕ) (names : List (List ℕ)) (key : ℕ) (name : List ℕ) → length keys ≡ length names → named_keys (keys ++ key ∷ []) (names ++ name ∷ []) ≡ named_keys keys names ++ (key, name) ∷ []
-named_keys-push [] [] key name e = refl
-named_keys-push [] (n ∷ names) key name e = absurd (omega (arith, e))
-named_keys-push (k ∷ keys) [] key name e = absurd (omega (arith, e))
-named_keys-push (k ∷ keys) (n ∷ names) key name e = ap (λ (es : List (ℕ × List ℕ)). (k, n) ∷ es) (named_keys-push keys names key name (omega (arith, e)))
+zip-push : (keys : List ℕ) (names : List (List ℕ)) (key : ℕ) (name : List ℕ) → length keys ≡ length names → zip (keys ++ key ∷ []) (names ++ name ∷ []) ≡ zip keys names ++ (key, name) ∷ []
+zip-push [] [] key name e = refl
+zip-push [] (n ∷ names) key name e = absurd (omega (arith, e))
+zip-push (k ∷ keys) [] key name e = absurd (omega (arith, e))
+zip-push (k ∷ keys) (n ∷ names) key name e = ap (λ (es : List (ℕ × List ℕ)). (k, n) ∷ es) (zip-push keys names key name (omega (arith, e)))
 
 -- numbers in order compare so
 pub less_from_below : (x y : ℕ) → x < y → nat_cmp x y ≡ Less
@@ -57,13 +52,13 @@ rising-push [] key rising below = (tt, tt)
 rising-push (k ∷ keys) key rising below = below_more k key keys rising below (rising-push keys key rising.1 (All-tail (λ k. k < key) k keys below))
 
 -- one name more at the end of all
-pub flat-push : (keys keys' : List ℕ) (names names' : List (List ℕ)) (key : ℕ) (name : List ℕ) → AreFlat keys names → keys' ≡ keys ++ key ∷ [] → names' ≡ names ++ name ∷ [] → All (λ k. k < key) (keys_of (named_keys keys names))
-    → AreFlat keys' names' × (named_keys keys' names' ≡ named_keys keys names ++ (key, name) ∷ [])
+pub flat-push : (keys keys' : List ℕ) (names names' : List (List ℕ)) (key : ℕ) (name : List ℕ) → AreFlat keys names → keys' ≡ keys ++ key ∷ [] → names' ≡ names ++ name ∷ [] → All (λ k. k < key) (keys_of (zip keys names))
+    → AreFlat keys' names' × (zip keys' names' ≡ zip keys names ++ (key, name) ∷ [])
 flat-push keys keys' names names' key name is k n above =
-    let below : All (λ k. k < key) keys = subst (All (λ k. k < key)) (keys_of-named_keys keys names is.as_many) above in
+    let below : All (λ k. k < key) keys = subst (All (λ k. k < key)) (keys_of-zip keys names (sym is.as_many)) above in
     let rising : IsStrictlySortedBy nat_cmp keys' = subst (IsStrictlySortedBy nat_cmp) (sym k) (rising-push keys key is.rising below) in
     let many : length keys' ≡ length names' = omega (arith, ap length k, ap length n, length-append keys (key ∷ []), length-append names (name ∷ []), is.as_many) in
-    (record { as_many = many; rising = rising }, rw (k, n) (named_keys-push keys names key name is.as_many))
+    (record { as_many = many; rising = rising }, rw (k, n) (zip-push keys names key name is.as_many))
 
 -- all are below where the last one is, and where there is none
 pub below_by_last : (keys : List ℕ) (last key : ℕ) → IsStrictlySortedBy nat_cmp keys → slice_get keys (length keys - 1) ≡ Some last → last < key → All (λ k. k < key) keys
@@ -78,7 +73,7 @@ below_by_none keys key e i d low =
     absurd (let z : None ≡ Some (get_or keys (length keys - 1) d) = sym e ∙ some in cc)
 
 -- the name at a place
-name_here : (keys : List ℕ) (names : List (List ℕ)) (i d : ℕ) (name : List ℕ) → i < length keys → slice_get names i ≡ Some name → slice_get (named_keys keys names) i ≡ Some (get_or keys i d, name)
+name_here : (keys : List ℕ) (names : List (List ℕ)) (i d : ℕ) (name : List ℕ) → i < length keys → slice_get names i ≡ Some name → slice_get (zip keys names) i ≡ Some (get_or keys i d, name)
 name_here [] names i d name low e = absurd (omega arith)
 name_here (k ∷ keys) [] i d name low e = absurd (cc)
 name_here (k ∷ keys) (n ∷ names) zero d name low e = let z : n ≡ name = cc in ap (λ (x : List ℕ). Some (k, x)) z
@@ -88,24 +83,15 @@ some_same : {X : Type 0} (x y : X) → Some x ≡ Some y → x ≡ y
 some_same x y e = cc
 
 -- the key at a place
-key_here : (keys : List ℕ) (names : List (List ℕ)) (i d : ℕ) (e : ℕ × List ℕ) → slice_get (named_keys keys names) i ≡ Some e → (i < length keys) × (get_or keys i d ≡ e.0)
+key_here : (keys : List ℕ) (names : List (List ℕ)) (i d : ℕ) (e : ℕ × List ℕ) → slice_get (zip keys names) i ≡ Some e → (i < length keys) × (get_or keys i d ≡ e.0)
 key_here [] names i d e h = absurd (cc)
 key_here (k ∷ keys) [] i d e h = absurd (cc)
 key_here (k ∷ keys) (n ∷ names) zero d e h = let z : ◌≡◌ {A = ℕ × List ℕ} (k, n) e = some_same (k, n) e h in (omega arith, ap (λ (x : ℕ × List ℕ). x.0) z)
 key_here (k ∷ keys) (n ∷ names) (suc i) d e h = let r = key_here keys names i d e h in (omega (arith, r.0), r.1)
 
--- what a search finds
-pub name_found : (keys : List ℕ) (names : List (List ℕ)) (i key : ℕ) (name : List ℕ) → length keys ≡ length names → IsStrictlySortedBy nat_cmp keys → i < length keys → get_or keys i 0 ≡ key → slice_get names i ≡ Some name → lookup (is_at (nat_cmp key)) (named_keys keys names) ≡ Some name
-name_found keys names i key name many rising low e h =
-    let d : IsDistinct (eq_by_cmp nat_cmp) (keys_of (named_keys keys names)) = IsDistinct-from_sorted nat_cmp (keys_of (named_keys keys names)) (subst (IsStrictlySortedBy nat_cmp) (sym (keys_of-named_keys keys names many)) rising) in
-    lookup_from_place (eq_by_cmp_equiv nat_cmp_total) (named_keys keys names) i key name d (name_here keys names i 0 name low h ∙ ap (λ (k : ℕ). Some (k, name)) e)
-
--- and where it finds none
-pub name_missed : (keys : List ℕ) (names : List (List ℕ)) (i key : ℕ) → length keys ≡ length names → IsStrictlySortedBy nat_cmp keys → ((k : ℕ) → k < i → get_or keys k 0 < key) → ((k : ℕ) → i ≤ k → k < length keys → key < get_or keys k 0) → lookup (is_at (nat_cmp key)) (named_keys keys names) ≡ None
-name_missed keys names i key many rising below above =
-    lookup_at_gap nat_cmp_total key (named_keys keys names) i (subst (IsStrictlySortedBy nat_cmp) (sym (keys_of-named_keys keys names many)) rising)
-    (λ j e low h. greater_from_above key e.0 (omega (arith, below j low, (key_here keys names j 0 e h).1)))
-    (λ e h. let r = key_here keys names i 0 e h in less_from_below key e.0 (omega (arith, above i (omega arith) r.0, r.1)))
+-- the keys of names rise
+named_rise : (keys : List ℕ) (names : List (List ℕ)) → AreFlat keys names → IsStrictlySortedBy nat_cmp (keys_of (zip keys names))
+named_rise keys names is = subst (IsStrictlySortedBy nat_cmp) (sym (keys_of-zip keys names (sym is.as_many))) is.rising
 
 -- keys that rise do not fall
 never_fall : (keys : List ℕ) → IsStrictlySortedBy nat_cmp keys → (i j : ℕ) → i ≤ j → j < length keys → get_or keys i 0 ≤ get_or keys j 0
@@ -114,17 +100,20 @@ never_fall keys rising i j h low =
 
 -- what a search among the keys finds, and where it finds none
 pub flat_found : (keys : List ℕ) (names : List (List ℕ)) (ks : List ℕ) (i key : ℕ) (name : List ℕ) → AreFlat keys names → ks ≡ keys
-    → IsBinarySearchResult (λ y. nat_cmp y key) ks (Ok i) → slice_get names i ≡ Some name → lookup (is_at (nat_cmp key)) (named_keys keys names) ≡ Some name
+    → IsBinarySearchResult (λ y. nat_cmp y key) ks (Ok i) → slice_get names i ≡ Some name → lookup (is_at (nat_cmp key)) (zip keys names) ≡ Some name
 flat_found keys names ks i key name is a found here =
     let at : IsBinarySearchResult (λ y. nat_cmp y key) keys (Ok i) = subst (λ (xs : List ℕ). IsBinarySearchResult (λ y. nat_cmp y key) xs (Ok i)) a found in
     let r = searched keys key (Ok i) at (never_fall keys is.rising) in
-    name_found keys names i key name is.as_many is.rising r.0 r.1 here
+    let d : IsDistinct (eq_by_cmp nat_cmp) (keys_of (zip keys names)) = IsDistinct-from_sorted nat_cmp (keys_of (zip keys names)) (named_rise keys names is) in
+    lookup_from_place (eq_by_cmp_equiv nat_cmp_total) (zip keys names) i key name d (name_here keys names i 0 name r.0 here ∙ ap (λ (k : ℕ). Some (k, name)) r.1)
 
-pub flat_missed : (keys : List ℕ) (names : List (List ℕ)) (ks : List ℕ) (i key : ℕ) → AreFlat keys names → ks ≡ keys → IsBinarySearchResult (λ y. nat_cmp y key) ks (Err i) → lookup (is_at (nat_cmp key)) (named_keys keys names) ≡ None
+pub flat_missed : (keys : List ℕ) (names : List (List ℕ)) (ks : List ℕ) (i key : ℕ) → AreFlat keys names → ks ≡ keys → IsBinarySearchResult (λ y. nat_cmp y key) ks (Err i) → lookup (is_at (nat_cmp key)) (zip keys names) ≡ None
 flat_missed keys names ks i key is a missed =
     let at : IsBinarySearchResult (λ y. nat_cmp y key) keys (Err i) = subst (λ (xs : List ℕ). IsBinarySearchResult (λ y. nat_cmp y key) xs (Err i)) a missed in
     let r = searched keys key (Err i) at (never_fall keys is.rising) in
-    name_missed keys names i key is.as_many is.rising r.1 r.2
+    lookup_at_gap nat_cmp_total key (zip keys names) i (named_rise keys names is)
+    (λ j e low h. greater_from_above key e.0 (omega (arith, r.1 j low, (key_here keys names j 0 e h).1)))
+    (λ e h. let k = key_here keys names i 0 e h in less_from_below key e.0 (omega (arith, r.2 i (omega arith) k.0, k.1)))
 
 pub flat_none : (keys : List ℕ) (names : List (List ℕ)) → keys ≡ [] → names ≡ [] → AreFlat keys names
 unfolding IsStrictlySortedBy

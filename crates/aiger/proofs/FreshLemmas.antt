@@ -1,14 +1,13 @@
 -- What is made without names: a fresh circuit, and empty lists of a file.
-use Rattle.std.proofs.Common.{rules, ◌≡◌, ℕ, ◌+◌, ◌≤◌, List, [], replicate, All, arith}
+use Rattle.std.proofs.Common.{rules, ℕ, ◌+◌, ◌≤◌, All, arith}
 use Rattle.std.proofs.lemmas.List.{length-replicate}
 use Rattle.std.proofs.lemmas.List.Elements.{All-nil, All-replicate}
 use Rattle.std.specs.List.Sorted.{IsStrictlySortedBy}
-use Rattle.aiger.specs.declared.circuit.Gate.{Gate}
 use Rattle.aiger.specs.declared.circuit.Latch.{Latch}
 use Rattle.aiger.specs.Limits.{greatest_count}
 use Rattle.aiger.specs.Net.{IsDefined}
-use Rattle.aiger.specs.Circuit.{Circuit, IsCircuit, IsNamed, HasFew, net, fresh_circuit, fresh_latch, NameMap}
-use Rattle.aiger.specs.Loose.{IsLoose, IsNamedLine, HasDefinitions, HasSmall, HasFewLines, empty_loose}
+use Rattle.aiger.specs.Circuit.{Circuit, IsCircuit, IsNamed, HasFew, net, fresh_circuit, fresh_latch}
+use Rattle.aiger.specs.Loose.{IsLoose, HasDefinitions, HasSmall, HasFewLines, sections_of, empty_loose}
 
 pub IsCircuit-fresh : (inputs latches : ℕ) → inputs + latches ≤ greatest_count → IsCircuit (fresh_circuit inputs latches)
 unfolding IsStrictlySortedBy
@@ -30,14 +29,10 @@ IsCircuit-fresh inputs latches h =
       names = record { sorted = tt; named = All-nil (IsNamed c) };
     }
 
-pub made_fresh : (inputs latches : ℕ) (ls : List Latch) (gates : List Gate) (outputs bads constraints : List ℕ) (justice : List (List ℕ)) (fair : List ℕ) (names : NameMap) → ls ≡ replicate latches fresh_latch → gates ≡ [] → outputs ≡ [] → bads ≡ [] → constraints ≡ [] → justice ≡ [] → fair ≡ [] → names ≡ []
-    → inputs + latches ≤ greatest_count → IsCircuit (record { inputs = inputs; latches = ls; gates = gates; outputs = outputs; bads = bads; constraints = constraints; justice = justice; fair = fair; names = names })
-made_fresh inputs latches ls gates outputs bads constraints justice fair names a b c d e f g h few = rw (a, b, c, d, e, f, g, h) (IsCircuit-fresh inputs latches few)
-
 pub IsLoose-empty : IsLoose empty_loose
 unfolding IsStrictlySortedBy
 IsLoose-empty =
     let definitions : HasDefinitions empty_loose = search rules in
     let small : HasSmall empty_loose = search rules in
     let few : HasFewLines empty_loose = search rules in
-    record { definitions = definitions; small = small; few = few; names = record { sorted = tt; named = All-nil (IsNamedLine empty_loose) } }
+    record { definitions = definitions; small = small; few = few; names = record { sorted = tt; named = All-nil (IsNamed (sections_of empty_loose)) } }

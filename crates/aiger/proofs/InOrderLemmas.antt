@@ -8,8 +8,8 @@ use Rattle.aiger.specs.declared.circuit.Gate.{Gate}
 use Rattle.aiger.specs.Circuit.{IsCircuit}
 use Rattle.aiger.specs.Literal.{variable}
 use Rattle.aiger.specs.Loose.{Loose, IsLoose, latch_variable, gate_variable, defined_variables}
-use Rattle.aiger.specs.Numbering.{WaitForEarlier, slot_of, circuit_by}
-use Rattle.aiger.specs.Renumbering.{gate_line, gate_name, numbered, has_number, is_ready, IsFirstReady, AreInTurn, IsOrder, new_gate, renumbered}
+use Rattle.aiger.specs.Numbering.{WaitForEarlier, slot_of}
+use Rattle.aiger.specs.Renumbering.{gate_line, gate_name, numbered, has_number, is_ready, IsFirstReady, AreInTurn, IsOrder, new_gate, renumbered, circuit_by}
 use Rattle.aiger.proofs.KnownLemmas.{AllKnown}
 use Rattle.aiger.proofs.NumberingLemmas.{IsSlotOf, IsCircuit-renumbered}
 use Rattle.aiger.proofs.OrderLemmas.{any_map, has_number-append, numbered-append}

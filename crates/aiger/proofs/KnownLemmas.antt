@@ -1,13 +1,16 @@
 -- Where each variable that a file uses is defined.
 use Rattle.std.proofs.Common.{◌≡◌, ℕ, ◌+◌, ◌≤◌, Bool, true, false, not, ◌||◌, List, [], ◌∷◌, ◌++◌, map, length, All, None, Some, nat_lt, cond, refl, ap, sym, ◌∙◌, arith}
+use Rattle.std.proofs.lemmas.Bool.{or_parts}
 use Rattle.std.proofs.lemmas.Bool.Decides.{nat_tests}
 use Rattle.std.proofs.lemmas.List.{map-append}
-use Rattle.std.proofs.lemmas.List.Elements.{All-cons, All-nil}
+use Rattle.std.proofs.lemmas.List.Elements.{All-cons, All-nil, All-head, All-tail, All-map}
 use Rattle.std.proofs.lemmas.List.Folds.{list_any-append}
 use Rattle.std.specs.List.{list_any, position, position_or_len, concat}
+use Rattle.aiger.specs.declared.circuit.Latch.{Latch}
 use Rattle.aiger.specs.declared.loose.GateLine.{GateLine}
 use Rattle.aiger.specs.declared.loose.LatchLine.{LatchLine}
-use Rattle.aiger.specs.Loose.{Loose}
+use Rattle.aiger.specs.Circuit.{AllLiterals}
+use Rattle.aiger.specs.Loose.{Loose, sections_of, latch_of}
 use Rattle.aiger.specs.Numbering.{is_unknown}
 use Rattle.aiger.specs.Renumbering.{alone, is_known, used_lines, first_undefined}
 
@@ -31,16 +34,24 @@ none_from_position p xs e = by (nat_lt (position_or_len p xs) (length xs)) refl 
     by true t e = absurd (cc)
     by false t e = place_of_none p xs (grind (arith, nat_tests))
 
+-- what holds of what elements become
+pub All-unmap : {X Y : Type 0} (P : X → Type 0) (f : Y → X) (ys : List Y) → All P (map f ys) → All (λ y. P (f y)) ys
+All-unmap P f [] h = All-nil (λ y. P (f y))
+All-unmap P f (y ∷ ys) h = All-cons (λ y. P (f y)) y ys (All-head P (f y) (map f ys) h) (All-unmap P f ys (All-tail P (f y) (map f ys) h))
+
 -- a literal is known
 abbrev pub IsKnown : Loose → ℕ → Type 0
 IsKnown l lit = is_known l lit ≡ true
 
+-- what holds of elements whose literals are known holds of all where none is unknown
+all_known_by : {X : Type 0} (l : Loose) (f : X → List ℕ) (P : X → Type 0) → ((x : X) → is_unknown l (f x) ≡ false → P x) → (xs : List X) → list_any (is_unknown l) (map f xs) ≡ false → All P xs
+all_known_by l f P here [] t = All-nil P
+all_known_by l f P here (x ∷ xs) t =
+    let parts = or_parts (is_unknown l (f x)) (list_any (is_unknown l) (map f xs)) t in
+    All-cons P x xs (here x parts.0) (all_known_by l f P here xs parts.1)
+
 known_alone : (l : Loose) (xs : List ℕ) → list_any (is_unknown l) (map alone xs) ≡ false → All (IsKnown l) xs
-known_alone l [] t = All-nil (IsKnown l)
-known_alone l (x ∷ xs) t =
-    let h : is_known l x ≡ true = grind (arith, nat_tests) in
-    let r : list_any (is_unknown l) (map alone xs) ≡ false = grind (arith, nat_tests) in
-    All-cons (IsKnown l) x xs h (known_alone l xs r)
+known_alone l xs t = all_known_by l alone (IsKnown l) (λ x h. grind (arith, nat_tests, h)) xs t
 
 known_lists : (l : Loose) (xss : List (List ℕ)) → list_any (is_unknown l) (map alone (concat xss)) ≡ false → All (All (IsKnown l)) xss
 known_lists l [] t = All-nil (All (IsKnown l))
@@ -51,29 +62,9 @@ known_lists l (xs ∷ xss) t =
     let r : list_any (is_unknown l) (map alone (concat xss)) ≡ false = grind (arith, nat_tests) in
     All-cons (All (IsKnown l)) xs xss (known_alone l xs h) (known_lists l xss r)
 
-known_nexts : (l : Loose) (lines : List LatchLine) → list_any (is_unknown l) (map (λ line. line.next ∷ []) lines) ≡ false → All (λ line. IsKnown l line.next) lines
-known_nexts l [] t = All-nil (λ (line : LatchLine). IsKnown l line.next)
-known_nexts l (x ∷ xs) t =
-    let h : is_known l x.next ≡ true = grind (arith, nat_tests) in
-    let r : list_any (is_unknown l) (map (λ (line : LatchLine). line.next ∷ []) xs) ≡ false = grind (arith, nat_tests) in
-    All-cons (λ (line : LatchLine). IsKnown l line.next) x xs h (known_nexts l xs r)
-
-known_operands : (l : Loose) (lines : List GateLine) → list_any (is_unknown l) (map (λ line. line.rhs0 ∷ line.rhs1 ∷ []) lines) ≡ false → All (λ line. IsKnown l line.rhs0 × IsKnown l line.rhs1) lines
-known_operands l [] t = All-nil (λ (line : GateLine). IsKnown l line.rhs0 × IsKnown l line.rhs1)
-known_operands l (x ∷ xs) t =
-    let h : is_known l x.rhs0 ≡ true = grind (arith, nat_tests) in
-    let g : is_known l x.rhs1 ≡ true = grind (arith, nat_tests) in
-    let r : list_any (is_unknown l) (map (λ (line : GateLine). line.rhs0 ∷ line.rhs1 ∷ []) xs) ≡ false = grind (arith, nat_tests) in
-    All-cons (λ (line : GateLine). IsKnown l line.rhs0 × IsKnown l line.rhs1) x xs (h, g) (known_operands l xs r)
-
 -- each literal of the file is known
 pub record AllKnown (l : Loose) : Type 0 where
-  pub nexts : All (λ line. IsKnown l line.next) l.latches
-  pub outputs : All (IsKnown l) l.outputs
-  pub bads : All (IsKnown l) l.bads
-  pub constraints : All (IsKnown l) l.constraints
-  pub justice : All (All (IsKnown l)) l.justice
-  pub fair : All (IsKnown l) l.fair
+  pub sections : AllLiterals (IsKnown l) (sections_of l)
   pub operands : All (λ line. IsKnown l line.rhs0 × IsKnown l line.rhs1) l.gates
 
 -- neither of two lists joined
@@ -99,11 +90,6 @@ all_known l e =
     let n3 = none_left p (a ++ b) c n4.0 in
     let n2 = none_left p a b n3.0 in
     record {
-      nexts = known_nexts l l.latches n2.0;
-      outputs = known_alone l l.outputs n2.1;
-      bads = known_alone l l.bads n3.1;
-      constraints = known_alone l l.constraints n4.1;
-      justice = known_lists l l.justice n5.1;
-      fair = known_alone l l.fair n6.1;
-      operands = known_operands l l.gates n7.1;
+      sections = record { nexts = All-map (λ (x : Latch). IsKnown l x.next) latch_of l.latches (all_known_by l (λ (line : LatchLine). line.next ∷ []) (λ line. IsKnown l line.next) (λ line h. grind (arith, nat_tests, h)) l.latches n2.0); outputs = known_alone l l.outputs n2.1; bads = known_alone l l.bads n3.1; constraints = known_alone l l.constraints n4.1; justice = known_lists l l.justice n5.1; fair = known_alone l l.fair n6.1 };
+      operands = all_known_by l (λ (line : GateLine). line.rhs0 ∷ line.rhs1 ∷ []) (λ line. IsKnown l line.rhs0 × IsKnown l line.rhs1) (λ line h. (grind (arith, nat_tests, h), grind (arith, nat_tests, h))) l.gates n7.1;
     }

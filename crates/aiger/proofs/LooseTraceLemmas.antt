@@ -12,15 +12,15 @@ use Rattle.aiger.specs.Literal.{Valuation, variable, literal_value}
 use Rattle.aiger.specs.Net.{SatisfiesFrom, bits_from, variables, IsDefined}
 use Rattle.aiger.specs.Circuit.{Circuit, IsCircuit, net}
 use Rattle.aiger.specs.Trace.{IsFrame, IsTrace, next_state, SameFrame, SameTrace}
-use Rattle.aiger.specs.Loose.{Loose, IsLoose, latch_variable, gate_variable}
-use Rattle.aiger.specs.LooseTrace.{HoldsOf, IsLooseFrame, IsLooseTrace, loose_next_state}
-use Rattle.aiger.specs.LooseObserved.{ShowsSame, AllShowSame}
+use Rattle.aiger.specs.Loose.{Loose, IsLoose, latch_of, latch_variable, gate_variable}
+use Rattle.aiger.specs.LooseTrace.{HoldsOf, IsLooseFrame, IsLooseTrace, loose_next_state, ShowsSame, AllShowSame}
 use Rattle.aiger.specs.Renumbering.{gate_line, gate_name, numbered, has_number, AreInTurn, IsOrder, IsRenumbered, new_literal, new_gate, ordered_gate, renumbered}
 use Rattle.aiger.proofs.TraceLemmas.{trace_exists, trace_unique, literal_value-agree, next_state-agree}
 use Rattle.aiger.proofs.LooseLemmas.{count_join}
+use Rattle.aiger.proofs.NumberingLemmas.{new_latch}
 use Rattle.aiger.proofs.RenumberingLemmas.{placed, rename, value_renamed, unname, value_unnamed, bits_of_middle, at_middle}
 use Rattle.aiger.proofs.OrderLemmas.{numbered-append, has_number-append, ready_parts, number_from_known, count_some, AreGates, AreGates-push, fresh, false_unless}
-use Rattle.aiger.proofs.KnownLemmas.{IsKnown, AllKnown, all_known}
+use Rattle.aiger.proofs.KnownLemmas.{All-unmap, IsKnown, AllKnown, all_known}
 
 -- a gate says the same with its operands in order
 ordered_value : (w : Valuation) (a b : ℕ) → (literal_value w (ordered_gate a b).rhs0 && literal_value w (ordered_gate a b).rhs1) ≡ (literal_value w a && literal_value w b)
@@ -37,9 +37,6 @@ ordered_value w a b = by (nat_lt a b) refl
     by false e = ap (λ (t : Bool). let g : Gate = if t then record { rhs0 = b; rhs1 = a } else record { rhs0 = a; rhs1 = b } in literal_value w g.rhs0 && literal_value w g.rhs1) e
 
 -- one gate more has one number more
-names_with_gate : (l : Loose) (done js : List ℕ) (j : ℕ) → numbered l (done ++ j ∷ js) ≡ numbered l done ++ gate_name l j ∷ map (gate_name l) js
-names_with_gate l done js j = numbered-append l done (j ∷ js)
-
 length_with_gate : (l : Loose) (done : List ℕ) (j : ℕ) → length (numbered l (done ++ j ∷ [])) ≡ suc (length (numbered l done))
 length_with_gate l done j = ap length (numbered-append l done (j ∷ [])) ∙ omega (arith, length-append (numbered l done) (gate_name l j ∷ []))
 
@@ -50,7 +47,7 @@ satisfies l done (j ∷ js) order v holds turn e =
     let names : List ℕ = numbered l order in
     let w : Valuation = rename names v in
     let r = ready_parts l done j turn.0.ready in
-    let split : names ≡ numbered l done ++ gate_name l j ∷ map (gate_name l) js = ap (numbered l) e ∙ names_with_gate l done js j in
+    let split : names ≡ numbered l done ++ gate_name l j ∷ map (gate_name l) js = ap (numbered l) e ∙ numbered-append l done (j ∷ js) in
     let z : suc (length (numbered l done)) - 1 ≡ length (numbered l done) = omega arith in
     let name : slice_index_or names (length (numbered l done)) 0 ≡ gate_name l j = ap (λ (ns : List ℕ). slice_index_or ns (length (numbered l done)) 0) split ∙ at_middle (numbered l done) (map (gate_name l) js) (gate_name l j) in
     let here : w (suc (length (numbered l done))) ≡ v (gate_name l j) = ap (λ (k : ℕ). v (slice_index_or names k 0)) z ∙ ap v name in
@@ -64,14 +61,10 @@ satisfies l done (j ∷ js) order v holds turn e =
     let rest = satisfies l (done ++ j ∷ []) js order v holds turn.1 (e ∙ sym (append_assoc done (j ∷ []) js)) in
     (gate, subst (λ (n : ℕ). SatisfiesFrom (suc n) (map (λ (k : ℕ). new_gate names (gate_line l k)) js) w) (length_with_gate l done j) rest)
 
--- bits of mapped variables
-bits_of_inputs : (v : Valuation) (xs : List ℕ) → map v (map variable xs) ≡ map (λ lit. v (variable lit)) xs
-bits_of_inputs v [] = refl
-bits_of_inputs v (x ∷ xs) = ap (λ (bs : List Bool). v (variable x) ∷ bs) (bits_of_inputs v xs)
-
-bits_of_latches : (v : Valuation) (xs : List LatchLine) → map v (map latch_variable xs) ≡ map (λ line. v (latch_variable line)) xs
-bits_of_latches v [] = refl
-bits_of_latches v (x ∷ xs) = ap (λ (bs : List Bool). v (latch_variable x) ∷ bs) (bits_of_latches v xs)
+-- what elements become twice
+map_twice : {X Y Z : Type 0} (g : Y → Z) (f : X → Y) (xs : List X) → map g (map f xs) ≡ map (λ x. g (f x)) xs
+map_twice g f [] = refl
+map_twice {X} {Y} {Z} g f (x ∷ xs) = ap (λ (ys : List Z). g (f x) ∷ ys) (map_twice g f xs)
 
 -- the inputs and latches alone have the first numbers
 length_of_leaves : (l : Loose) → length (numbered l []) ≡ length l.inputs + length l.latches
@@ -91,13 +84,9 @@ IsFrame-renamed l order state input v turn frame =
     let j = bits_of_middle a b g v in
     record {
       gates = subst (λ (n : ℕ). SatisfiesFrom (suc n) c.gates w) (length_of_leaves l ∙ ap (λ (n : ℕ). length l.inputs + n) (sym k)) gates;
-      inputs = subst (λ (n : ℕ). bits_from 1 n w ≡ input) (length-map l.inputs variable) (subst (λ (ns : List ℕ). bits_from 1 (length a) (rename ns v) ≡ input) (sym (append_assoc a b g)) (i ∙ (bits_of_inputs v l.inputs ∙ frame.inputs)));
-      latches = subst (λ (n : ℕ). bits_from (suc (length l.inputs)) n w ≡ state) (length-map l.latches latch_variable ∙ sym k) (subst (λ (n : ℕ). bits_from (suc n) (length b) w ≡ state) (length-map l.inputs variable) (j ∙ (bits_of_latches v l.latches ∙ frame.latches)));
+      inputs = subst (λ (n : ℕ). bits_from 1 n w ≡ input) (length-map l.inputs variable) (subst (λ (ns : List ℕ). bits_from 1 (length a) (rename ns v) ≡ input) (sym (append_assoc a b g)) (i ∙ (map_twice v variable l.inputs ∙ frame.inputs)));
+      latches = subst (λ (n : ℕ). bits_from (suc (length l.inputs)) n w ≡ state) (length-map l.latches latch_variable ∙ sym k) (subst (λ (n : ℕ). bits_from (suc n) (length b) w ≡ state) (length-map l.inputs variable) (j ∙ (map_twice v latch_variable l.latches ∙ frame.latches)));
     }
-
--- a latch by the number of its next literal
-abbrev new_latch : List ℕ → LatchLine → Latch
-new_latch names line = record { next = new_literal names line.next; reset = line.reset }
 
 -- the latches take the same bits
 nexts_renamed : (names : List ℕ) (v : Valuation) (lines : List LatchLine) → All (λ line. has_number names line.next ≡ true) lines
@@ -112,7 +101,7 @@ nexts_renamed names v (x ∷ xs) known =
 -- each next literal has a number
 nexts_numbered : (l : Loose) (order : List ℕ) → ((j : ℕ) → j < length l.gates → list_any (nat_eq j) order ≡ true) → AllKnown l → All (λ line. has_number (numbered l order) line.next ≡ true) l.latches
 nexts_numbered l order all known =
-    All-weaker (λ (line : LatchLine). IsKnown l line.next) (λ (line : LatchLine). has_number (numbered l order) line.next ≡ true) (λ line t. number_from_known l order line.next all t) l.latches known.nexts
+    All-weaker (λ (line : LatchLine). IsKnown l line.next) (λ (line : LatchLine). has_number (numbered l order) line.next ≡ true) (λ line t. number_from_known l order line.next all t) l.latches (All-unmap (λ (x : Latch). IsKnown l x.next) latch_of l.latches known.sections.nexts)
 
 -- a trace of the file is one of the circuit
 IsTrace-renamed : (l : Loose) (order : List ℕ) (state : List Bool) (inputs : List (List Bool)) (vs : List Valuation) → IsOrder l order → AllKnown l → IsLooseTrace l state inputs vs → IsTrace (renumbered l order) state inputs (map (rename (numbered l order)) vs)
@@ -155,9 +144,9 @@ all_show_same l order state (input ∷ inputs) (v ∷ vs) (w ∷ ws) turn known 
     let shows : ShowsSame l c v w =
     record {
       latches = t.0.latches ∙ sym u.0.latches;
-      outputs = section_same l order v w l.outputs turn same.0 known.outputs valid.defined.outputs;
-      bads = section_same l order v w l.bads turn same.0 known.bads valid.defined.bads;
-      constraints = section_same l order v w l.constraints turn same.0 known.constraints valid.defined.constraints;
+      outputs = section_same l order v w l.outputs turn same.0 known.sections.outputs valid.defined.outputs;
+      bads = section_same l order v w l.bads turn same.0 known.sections.bads valid.defined.bads;
+      constraints = section_same l order v w l.constraints turn same.0 known.sections.constraints valid.defined.constraints;
     } in
     let e : next_state c (rename names v) ≡ loose_next_state l v = nexts_renamed names v l.latches (nexts_numbered l order turn.all known) in
     let f : next_state c (rename names v) ≡ next_state c w = next_state-agree c (rename names v) w valid same.0 in
@@ -187,7 +176,7 @@ holds_back l done (k ∷ js) order w valid within turn e s j t =
         let names : List ℕ = numbered l order in
         let same : j ≡ k = grind (arith, nat_tests) in
         let line : GateLine = gate_line l k in
-        let split : names ≡ numbered l done ++ gate_name l k ∷ map (gate_name l) js = ap (numbered l) e ∙ names_with_gate l done js k in
+        let split : names ≡ numbered l done ++ gate_name l k ∷ map (gate_name l) js = ap (numbered l) e ∙ numbered-append l done (k ∷ js) in
         let place : position_or_len (nat_eq (gate_name l k)) names ≡ length (numbered l done) = ap (position_or_len (nat_eq (gate_name l k))) split ∙ placed (gate_name l k) (numbered l done) (map (gate_name l) js) (fresh l done k valid within turn.0.ready) in
         let here : unname names w (gate_name l k) ≡ w (suc (length (numbered l done))) = ap (λ (n : ℕ). w (suc n)) place in
         let p : literal_value w (new_literal names line.rhs0) ≡ literal_value (unname names w) line.rhs0 = value_unnamed names w line.rhs0 in
@@ -246,8 +235,8 @@ IsLooseFrame-unnamed l order state input w valid turn frame =
     let j : map v b ≡ bits_from (suc (length a)) (length b) w = bits_back a b g w new_latches in
     record {
       gates = All-from_get_or (HoldsOf v) l.gates (record { lhs = 0; rhs0 = 0; rhs1 = 0 }) (λ n h. holds_back l [] order order w valid (λ x u. absurd (cc)) turn.in_turn refl sat n (turn.all n h));
-      inputs = sym (bits_of_inputs v l.inputs) ∙ (i ∙ (ap (λ (n : ℕ). bits_from 1 n w) (length-map l.inputs variable) ∙ frame.inputs));
-      latches = sym (bits_of_latches v l.latches) ∙ (j ∙ (ap (λ (n : ℕ). bits_from (suc n) (length b) w) (length-map l.inputs variable) ∙ (ap (λ (n : ℕ). bits_from (suc (length l.inputs)) n w) (length-map l.latches latch_variable ∙ sym k) ∙ frame.latches)));
+      inputs = sym (map_twice v variable l.inputs) ∙ (i ∙ (ap (λ (n : ℕ). bits_from 1 n w) (length-map l.inputs variable) ∙ frame.inputs));
+      latches = sym (map_twice v latch_variable l.latches) ∙ (j ∙ (ap (λ (n : ℕ). bits_from (suc n) (length b) w) (length-map l.inputs variable) ∙ (ap (λ (n : ℕ). bits_from (suc (length l.inputs)) n w) (length-map l.latches latch_variable ∙ sym k) ∙ frame.latches)));
     }
 
 nexts_unnamed : (names : List ℕ) (w : Valuation) (lines : List LatchLine) → map (λ (line : LatchLine). literal_value (unname names w) line.next) lines ≡ map (λ (latch : Latch). literal_value w latch.next) (map (new_latch names) lines)
@@ -277,8 +266,4 @@ loose_trace_exists l c state inputs valid is circuit s i =
 
 -- latches begin alike
 pub same_resets : (l : Loose) (c : Circuit) → IsRenumbered l c → map (λ latch. latch.reset) c.latches ≡ map (λ line. line.reset) l.latches
-same_resets l c is = ap (λ (d : Circuit). map (λ (latch : Latch). latch.reset) d.latches) is.circuit ∙ resets (numbered l is.order) l.latches
-  where
-    resets : (names : List ℕ) (lines : List LatchLine) → map (λ (latch : Latch). latch.reset) (map (new_latch names) lines) ≡ map (λ (line : LatchLine). line.reset) lines
-    resets names [] = refl
-    resets names (x ∷ xs) = ap (λ rs. x.reset ∷ rs) (resets names xs)
+same_resets l c is = ap (λ (d : Circuit). map (λ (latch : Latch). latch.reset) d.latches) is.circuit ∙ map_twice (λ (latch : Latch). latch.reset) (new_latch (numbered l is.order)) l.latches

@@ -25,10 +25,6 @@ SatisfiesFrom-join first (g ∷ gs) hs v s t =
     let e : first + suc (length gs) ≡ suc first + length gs = omega arith in
     (s.0, SatisfiesFrom-join (suc first) gs hs v s.1 (subst (λ k. SatisfiesFrom k hs v) e t))
 
--- what satisfies a net with more gates satisfies the net
-pub Satisfies-front : (n : Net) (gs : List Gate) (v : Valuation) → Satisfies (record n { gates = n.gates ++ gs }) v → Satisfies n v
-Satisfies-front n gs v s = (SatisfiesFrom-split (suc (n.inputs + n.latches)) n.gates gs v s).0
-
 -- gates in order stay so with one more, whose operands are below it
 pub AreOrderedFrom-push : (first : ℕ) (gs : List Gate) (g : Gate) → AreOrderedFrom first gs → g.rhs0 < 2 * (first + length gs) → g.rhs1 ≤ g.rhs0 → AreOrderedFrom first (gs ++ g ∷ [])
 AreOrderedFrom-push first [] g o below order = (omega arith, order, tt)
@@ -40,24 +36,13 @@ pub AreOrdered-push : (n : Net) (g : Gate) → AreOrdered n → IsDefined n g.rh
 AreOrdered-push n g o defined order =
     AreOrderedFrom-push (suc (n.inputs + n.latches)) n.gates g o (omega arith) order
 
--- so many variables more as gates
-pub variables-append : (n : Net) (gs : List Gate) → variables (record n { gates = n.gates ++ gs }) ≡ variables n + length gs
-variables-append n gs = omega (arith, length-append n.gates gs)
-
 -- a defined literal stays defined with more gates
 pub IsDefined-append : (n : Net) (gs : List Gate) (l : ℕ) → IsDefined n l → IsDefined (record n { gates = n.gates ++ gs }) l
 IsDefined-append n gs l d = omega (arith, length-append n.gates gs)
 
--- the literal of a new gate is defined
-pub IsDefined-new : (n : Net) (g : Gate) → IsDefined (record n { gates = n.gates ++ g ∷ [] }) (2 * (variables n + 1))
-IsDefined-new n g = omega (arith, length-append n.gates (g ∷ []))
-
--- false and true are defined
+-- false is defined
 pub IsDefined-false : (n : Net) → IsDefined n 0
 IsDefined-false n = omega arith
-
-pub IsDefined-true : (n : Net) → IsDefined n 1
-IsDefined-true n = omega arith
 
 -- a literal and its negation are of one variable
 pub variable-negation : (l : ℕ) → variable (negation l) ≡ variable l

@@ -14,43 +14,17 @@ use Rattle.aiger.specs.declared.circuit.Section.TheVariants as section
 use Rattle.aiger.specs.declared.loose.LatchLine.{LatchLine}
 use Rattle.aiger.specs.Literal.{variable}
 use Rattle.aiger.specs.Net.{IsDefined, AreOrderedFrom, variables}
-use Rattle.aiger.specs.Circuit.{Circuit, IsCircuit, IsNamed, net, section_count, Place, NameMap}
-use Rattle.aiger.specs.Loose.{Loose, IsLoose, IsNamedLine, loose_count, latch_variable, gate_variable}
-use Rattle.aiger.specs.Numbering.{circuit_by}
-use Rattle.aiger.specs.Renumbering.{is_known, gate_line, gate_name, numbered, has_number, is_ready, AreInTurn, IsOrder, Uses, LeadsAlong, DependsOn, LeadsToCycle, IsFirstCyclic, new_literal, ordered_gate, new_gate, renumbered}
+use Rattle.aiger.specs.Circuit.{Circuit, IsCircuit, net, section_count, NameMap}
+use Rattle.aiger.specs.Loose.{Loose, IsLoose, sections_of, latch_of, latch_variable}
+use Rattle.aiger.specs.Renumbering.{gate_line, gate_name, numbered, has_number, is_ready, AreInTurn, IsOrder, Uses, LeadsAlong, DependsOn, LeadsToCycle, IsFirstCyclic, new_literal, ordered_gate, new_gate, renumbered, circuit_by}
+use Rattle.aiger.proofs.CircuitLemmas.{names_kept}
 use Rattle.aiger.proofs.RenumberingLemmas.{found, place_kept, named_from_test, new_of_variable, new_constant}
-use Rattle.aiger.proofs.OrderLemmas.{numbered-append, has_number-append, ready_parts, any_map, name_at_place, false_unless, no_cycle, number_from_known, AreGates, AreGates-push, gate_from_name, gate_is_variable}
-use Rattle.aiger.proofs.KnownLemmas.{IsKnown, AllKnown}
+use Rattle.aiger.proofs.OrderLemmas.{numbered-append, has_number-append, ready_parts, any_map, no_cycle, unnumbered_operand, number_from_known, AreGates, AreGates-push, gate_from_name, gate_is_variable}
+use Rattle.aiger.proofs.KnownLemmas.{All-unmap, IsKnown, AllKnown}
 use Rattle.aiger.specs.Readiness.{slot_at, waits, may_be_next, FollowInTurn}
 use Rattle.aiger.proofs.ReadinessLemmas.{any_suc}
 
--- a gate that has no number uses another one that has none, where none is ready
-unnumbered_operand : (l : Loose) (order : List ℕ) (lit : ℕ) → is_known l lit ≡ true → has_number (numbered l order) lit ≡ false → (i : ℕ) × ((i < length l.gates) × (variable lit ≡ gate_name l i) × (list_any (nat_eq i) order ≡ false))
-unnumbered_operand l order lit t none =
-    by (variable lit == 0) (list_any (nat_eq (variable lit)) (map variable l.inputs ++ map latch_variable l.latches)) (list_any (nat_eq (variable lit)) (map gate_variable l.gates)) refl refl refl
-  where
-    by : (x y z : Bool) → (variable lit == 0) ≡ x → list_any (nat_eq (variable lit)) (map variable l.inputs ++ map latch_variable l.latches) ≡ y → list_any (nat_eq (variable lit)) (map gate_variable l.gates) ≡ z → (i : ℕ) × ((i < length l.gates) × (variable lit ≡ gate_name l i) × (list_any (nat_eq i) order ≡ false))
-    by true y z e f g =
-        let u : has_number (numbered l order) lit ≡ true = ap (λ (c : Bool). c || list_any (nat_eq (variable lit)) (numbered l order)) e in
-        absurd (let w : true ≡ false = sym u ∙ none in cc)
-    by false true z e f g =
-        let h = list_any-append (nat_eq (variable lit)) (map variable l.inputs ++ map latch_variable l.latches) (map (gate_name l) order) in
-        absurd (grind (arith, nat_tests, f, h, none))
-    by false false true e f g =
-        let p : ℕ = position_or_len (nat_eq (variable lit)) (map gate_variable l.gates) in
-        let r = found (variable lit) (map gate_variable l.gates) g in
-        let low : p < length l.gates = omega (arith, r.0, length-map l.gates gate_variable) in
-        let name : gate_name l p ≡ variable lit = sym (name_at_place l.gates p (record { lhs = 0; rhs0 = 0; rhs1 = 0 }) low) ∙ r.1 in
-        let h = list_any-append (nat_eq (variable lit)) (map variable l.inputs ++ map latch_variable l.latches) (map (gate_name l) order) in
-        let new : list_any (nat_eq p) order ≡ false = false_unless (list_any (nat_eq p) order) (λ u.
-        let m : list_any (nat_eq (variable lit)) (map (gate_name l) order) ≡ true = subst (λ (v : ℕ). list_any (nat_eq v) (map (gate_name l) order) ≡ true) name (any_map (gate_name l) p order u) in
-        grind (arith, nat_tests, m, h, none)) in
-        (p, (low, sym name, new))
-    by false false false e f g =
-        let h = list_any-append (nat_eq (variable lit)) (map variable l.inputs ++ map latch_variable l.latches) (map gate_variable l.gates) in
-        absurd (grind (arith, nat_tests, e, f, g, h, t))
-
--- so it uses one that has none
+-- a gate that has no number uses one that has none, where none is ready
 uses_unnumbered : (l : Loose) (order : List ℕ) (j : ℕ) → AllKnown l → is_ready l order j ≡ false → j < length l.gates → list_any (nat_eq j) order ≡ false → (i : ℕ) × (Uses l j i × (list_any (nat_eq i) order ≡ false))
 uses_unnumbered l order j known stuck low new =
     by (has_number (numbered l order) (gate_line l j).rhs0) (has_number (numbered l order) (gate_line l j).rhs1) refl refl
@@ -209,9 +183,9 @@ section_renumbered l order lits all known =
     All-map (IsDefined (net (renumbered l order))) (new_literal (numbered l order)) lits (All-weaker (IsKnown l) (λ (lit : ℕ). IsDefined (net (renumbered l order)) (new_literal (numbered l order) lit)) (λ lit t. defined_renumbered l order lit (number_from_known l order lit all t)) lits known)
 
 -- as many positions
-counts_renumbered : (l : Loose) (order : List ℕ) (s : Section) → section_count s (renumbered l order) ≡ loose_count s l
+counts_renumbered : (l : Loose) (order : List ℕ) (s : Section) → section_count s (renumbered l order) ≡ section_count s (sections_of l)
 counts_renumbered l order section.Input = refl
-counts_renumbered l order section.Latch = length-map l.latches (new_latch (numbered l order))
+counts_renumbered l order section.Latch = length-map l.latches (new_latch (numbered l order)) ∙ sym (length-map l.latches latch_of)
 counts_renumbered l order section.Output = length-map l.outputs (new_literal (numbered l order))
 counts_renumbered l order section.Bad = length-map l.bads (new_literal (numbered l order))
 counts_renumbered l order section.Constraint = length-map l.constraints (new_literal (numbered l order))
@@ -229,28 +203,24 @@ pub IsCircuit-renumbered : (l : Loose) (order : List ℕ) → IsLoose l → AllK
 IsCircuit-renumbered l order valid known is few =
     let names : List ℕ = numbered l order in
     let c : Circuit = renumbered l order in
-    let named : (entry : Place × List ℕ) → IsNamedLine l entry → IsNamed c entry = λ entry n. record { section = n.section; is_section = n.is_section; position = omega (arith, n.position, counts_renumbered l order n.section); name = n.name } in
+    let many = counts_renumbered l order in
+    let u = valid.few.sections in
+    let k = known.sections in
     let first : length (numbered l []) ≡ length l.inputs + length c.latches = omega (arith, length_numbered l [], length-map l.latches (new_latch names)) in
+    let defined = λ (lits : List ℕ) (t : All (IsKnown l) lits). section_renumbered l order lits is.all t in
     record {
       small = omega (arith, variables_renumbered l order, length_numbered l order, valid.few.defined);
-      few = record {
-        outputs = omega (arith, length-map l.outputs (new_literal names), valid.few.outputs);
-        bads = omega (arith, length-map l.bads (new_literal names), valid.few.bads);
-        constraints = omega (arith, length-map l.constraints (new_literal names), valid.few.constraints);
-        justice = omega (arith, length-map l.justice (map (new_literal names)), valid.few.justice);
-        justice_literals = omega (arith, sizes_kept (new_literal names) l.justice, valid.few.justice_literals);
-        fair = omega (arith, length-map l.fair (new_literal names), valid.few.fair);
-      };
+      few = record { outputs = omega (arith, many section.Output, u.outputs); bads = omega (arith, many section.Bad, u.bads); constraints = omega (arith, many section.Constraint, u.constraints); justice = omega (arith, many section.Justice, u.justice); justice_literals = omega (arith, sizes_kept (new_literal names) l.justice, u.justice_literals); fair = omega (arith, many section.Fair, u.fair) };
       ordered = subst (λ (k : ℕ). AreOrderedFrom (suc k) c.gates) first (are_ordered l [] order order is.in_turn refl);
       defined = record {
-        nexts = All-map (λ (x : Latch). IsDefined (net c) x.next) (new_latch names) l.latches (All-weaker (λ (line : LatchLine). IsKnown l line.next) (λ (line : LatchLine). IsDefined (net c) (new_literal names line.next)) (λ line t. defined_renumbered l order line.next (number_from_known l order line.next is.all t)) l.latches known.nexts);
-        outputs = section_renumbered l order l.outputs is.all known.outputs;
-        bads = section_renumbered l order l.bads is.all known.bads;
-        constraints = section_renumbered l order l.constraints is.all known.constraints;
-        justice = All-map (All (IsDefined (net c))) (map (new_literal names)) l.justice (All-weaker (All (IsKnown l)) (λ (lits : List ℕ). All (IsDefined (net c)) (map (new_literal names) lits)) (λ lits t. section_renumbered l order lits is.all t) l.justice known.justice);
-        fair = section_renumbered l order l.fair is.all known.fair;
+        nexts = All-map (λ (x : Latch). IsDefined (net c) x.next) (new_latch names) l.latches (All-weaker (λ (line : LatchLine). IsKnown l line.next) (λ (line : LatchLine). IsDefined (net c) (new_literal names line.next)) (λ line t. defined_renumbered l order line.next (number_from_known l order line.next is.all t)) l.latches (All-unmap (λ (x : Latch). IsKnown l x.next) latch_of l.latches k.nexts));
+        outputs = defined l.outputs k.outputs;
+        bads = defined l.bads k.bads;
+        constraints = defined l.constraints k.constraints;
+        justice = All-map (All (IsDefined (net c))) (map (new_literal names)) l.justice (All-weaker (All (IsKnown l)) (λ (lits : List ℕ). All (IsDefined (net c)) (map (new_literal names) lits)) defined l.justice k.justice);
+        fair = defined l.fair k.fair;
       };
-      names = record { sorted = valid.names.sorted; named = All-weaker (IsNamedLine l) (IsNamed c) named l.names valid.names.named };
+      names = names_kept (sections_of l) c valid.names refl (λ s. omega (arith, many s));
     }
 
 -- a slot says what a literal waits for

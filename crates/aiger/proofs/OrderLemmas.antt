@@ -50,42 +50,46 @@ any_map f k (x ∷ xs) t = by (nat_eq k x) refl (λ r. any_map f k xs r)
 
 -- the gate line of a place in the mapped lines
 pub name_at_place : (gates : List GateLine) (k : ℕ) (d : GateLine) → k < length gates → slice_index_or (map gate_variable gates) k 0 ≡ gate_variable (slice_index_or gates k d)
-name_at_place [] k d h = absurd (omega arith)
-name_at_place (g ∷ gates) zero d h = refl
-name_at_place (g ∷ gates) (suc k) d h = name_at_place gates k d (omega arith)
+name_at_place gates k d h = get_or-map gate_variable gates k d 0 h
 
 -- a test of a list fails where it does not pass
 pub false_unless : (b : Bool) → (b ≡ true → ⊥) → b ≡ false
 false_unless true h = absurd (h refl)
 false_unless false h = refl
 
--- a literal that is known has a number once all gates have
-pub number_from_known : (l : Loose) (order : List ℕ) (lit : ℕ) → ((j : ℕ) → j < length l.gates → list_any (nat_eq j) order ≡ true) → is_known l lit ≡ true → has_number (numbered l order) lit ≡ true
-number_from_known l order lit all t =
-    by (variable lit == 0) (list_any (nat_eq (variable lit)) (a ++ b)) (list_any (nat_eq (variable lit)) (map gate_variable l.gates)) refl refl refl
+-- a known literal without a number is of a gate that has none
+pub unnumbered_operand : (l : Loose) (order : List ℕ) (lit : ℕ) → is_known l lit ≡ true → has_number (numbered l order) lit ≡ false → (i : ℕ) × ((i < length l.gates) × (variable lit ≡ gate_name l i) × (list_any (nat_eq i) order ≡ false))
+unnumbered_operand l order lit t none =
+    by (variable lit == 0) (list_any (nat_eq (variable lit)) (map variable l.inputs ++ map latch_variable l.latches)) (list_any (nat_eq (variable lit)) (map gate_variable l.gates)) refl refl refl
   where
-    a : List ℕ
-    a = map variable l.inputs
-
-    b : List ℕ
-    b = map latch_variable l.latches
-
-    by : (x y z : Bool) → (variable lit == 0) ≡ x → list_any (nat_eq (variable lit)) (map variable l.inputs ++ map latch_variable l.latches) ≡ y → list_any (nat_eq (variable lit)) (map gate_variable l.gates) ≡ z → has_number (numbered l order) lit ≡ true
-    by true y z e f g = ap (λ (c : Bool). c || list_any (nat_eq (variable lit)) (numbered l order)) e
+    by : (x y z : Bool) → (variable lit == 0) ≡ x → list_any (nat_eq (variable lit)) (map variable l.inputs ++ map latch_variable l.latches) ≡ y → list_any (nat_eq (variable lit)) (map gate_variable l.gates) ≡ z → (i : ℕ) × ((i < length l.gates) × (variable lit ≡ gate_name l i) × (list_any (nat_eq i) order ≡ false))
+    by true y z e f g =
+        let u : has_number (numbered l order) lit ≡ true = ap (λ (c : Bool). c || list_any (nat_eq (variable lit)) (numbered l order)) e in
+        absurd (let w : true ≡ false = sym u ∙ none in cc)
     by false true z e f g =
         let h = list_any-append (nat_eq (variable lit)) (map variable l.inputs ++ map latch_variable l.latches) (map (gate_name l) order) in
-        grind (arith, nat_tests, f, h)
+        absurd (grind (arith, nat_tests, f, h, none))
     by false false true e f g =
         let p : ℕ = position_or_len (nat_eq (variable lit)) (map gate_variable l.gates) in
         let r = found (variable lit) (map gate_variable l.gates) g in
         let low : p < length l.gates = omega (arith, r.0, length-map l.gates gate_variable) in
         let name : gate_name l p ≡ variable lit = sym (name_at_place l.gates p (record { lhs = 0; rhs0 = 0; rhs1 = 0 }) low) ∙ r.1 in
-        let m : list_any (nat_eq (variable lit)) (map (gate_name l) order) ≡ true = subst (λ (v : ℕ). list_any (nat_eq v) (map (gate_name l) order) ≡ true) name (any_map (gate_name l) p order (all p low)) in
         let h = list_any-append (nat_eq (variable lit)) (map variable l.inputs ++ map latch_variable l.latches) (map (gate_name l) order) in
-        grind (arith, nat_tests, m, h)
+        let new : list_any (nat_eq p) order ≡ false = false_unless (list_any (nat_eq p) order) (λ u.
+        let m : list_any (nat_eq (variable lit)) (map (gate_name l) order) ≡ true = subst (λ (v : ℕ). list_any (nat_eq v) (map (gate_name l) order) ≡ true) name (any_map (gate_name l) p order u) in
+        grind (arith, nat_tests, m, h, none)) in
+        (p, (low, sym name, new))
     by false false false e f g =
         let h = list_any-append (nat_eq (variable lit)) (map variable l.inputs ++ map latch_variable l.latches) (map gate_variable l.gates) in
         absurd (grind (arith, nat_tests, e, f, g, h, t))
+
+-- so it has a number once all gates have
+pub number_from_known : (l : Loose) (order : List ℕ) (lit : ℕ) → ((j : ℕ) → j < length l.gates → list_any (nat_eq j) order ≡ true) → is_known l lit ≡ true → has_number (numbered l order) lit ≡ true
+number_from_known l order lit all t = by (has_number (numbered l order) lit) refl
+  where
+    by : (b : Bool) → has_number (numbered l order) lit ≡ b → has_number (numbered l order) lit ≡ true
+    by true e = e
+    by false e = let r = unnumbered_operand l order lit t e in let z : true ≡ false = sym (all r.0 r.1.0) ∙ r.1.2 in absurd (cc)
 
 -- a count of at least one where an element passes
 pub count_some : (v : ℕ) (xs : List ℕ) → list_any (nat_eq v) xs ≡ true → 1 ≤ count_by (nat_eq v) xs

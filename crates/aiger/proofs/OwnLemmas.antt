@@ -1,5 +1,5 @@
 -- A circuit's own lists are lists of a file, and the circuit is these lists as numbered.
-use Rattle.std.proofs.Common.{◌≡◌, ℕ, zero, suc, ◌+◌, ◌-◌, ◌*◌, ◌/◌, ◌%◌, ◌<◌, ◌≤◌, ◌==◌, Bool, true, false, not, List, [], ◌∷◌, ◌++◌, map, length, All, None, nat_eq, nat_lt, cond, refl, ap, sym, ◌∙◌, subst, arith, if◌then◌else◌}
+use Rattle.std.proofs.Common.{◌≡◌, ℕ, zero, suc, ◌+◌, ◌-◌, ◌*◌, ◌/◌, ◌%◌, ◌<◌, ◌≤◌, ◌==◌, Bool, true, false, List, [], ◌∷◌, ◌++◌, map, length, All, None, nat_eq, nat_lt, cond, refl, ap, sym, ◌∙◌, subst, arith, if◌then◌else◌}
 use Rattle.std.proofs.lemmas.Bool.Decides.{nat_tests}
 use Rattle.std.proofs.lemmas.Bool.{or_from}
 use Rattle.std.proofs.lemmas.List.Elements.{All-weaker, All-nil, All-cons, All-head, All-tail, All-append}
@@ -15,17 +15,18 @@ use Rattle.aiger.specs.declared.loose.LatchLine.{LatchLine}
 use Rattle.aiger.specs.Limits.{greatest_count}
 use Rattle.aiger.specs.Literal.{variable}
 use Rattle.aiger.specs.Net.{Net, variables, IsDefined, AreOrderedFrom}
-use Rattle.aiger.specs.Circuit.{Circuit, IsCircuit, IsNamed, net, section_count}
-use Rattle.aiger.specs.Loose.{Loose, IsLoose, IsDefining, IsSmall, IsNamedLine, latch_variable, gate_variable, loose_count, defined_count, defined_variables}
+use Rattle.aiger.specs.Circuit.{Circuit, IsCircuit, net, section_count}
+use Rattle.aiger.specs.Loose.{IsLoose, IsDefining, IsSmall, sections_of, latch_of, latch_variable, gate_variable, defined_count, defined_variables}
 use Rattle.aiger.specs.Numbering.{WaitForEarlier, is_unknown, line_in, slot_of}
 use Rattle.aiger.specs.Renumbering.{IsRenumbered, alone, is_known, used_lines, first_undefined, has_number, new_literal, new_gate, renumbered}
 use Rattle.aiger.specs.OwnLists.{own_inputs, own_latches, own_gates, own_lists}
+use Rattle.aiger.proofs.CircuitLemmas.{AllLiterals-weaker, names_kept}
 use Rattle.aiger.proofs.InOrderLemmas.{as_they_stand, is_order, by_places}
 use Rattle.aiger.proofs.KnownLemmas.{all_known}
 use Rattle.aiger.proofs.LooseLemmas.{count_none}
 use Rattle.aiger.proofs.PlacesLemmas.{leaf_count}
 use Rattle.aiger.proofs.RangeLemmas.{in_range, place_in_range, range_joined}
-use Rattle.aiger.proofs.UndefinedLemmas.{none_passes}
+use Rattle.aiger.proofs.UndefinedLemmas.{none_passes, none_unknown}
 
 -- ---- they are in order
 
@@ -111,8 +112,10 @@ once_in_range v a (suc n) = by (nat_eq v a) refl (once_in_range v (a + 1) n)
 small_below : (n : Net) (lit : ℕ) → variables n ≤ greatest_count → IsDefined n lit → IsSmall lit
 small_below n lit few h = omega (arith, few, h)
 
-all_small : (n : Net) (ls : List ℕ) → variables n ≤ greatest_count → All (IsDefined n) ls → All IsSmall ls
-all_small n ls few h = All-weaker (IsDefined n) IsSmall (λ lit d. small_below n lit few d) ls h
+-- their latches without their own literals
+same_sections : (first : ℕ) (ls : List Latch) → map latch_of (own_latches first ls) ≡ ls
+same_sections first [] = refl
+same_sections first (l ∷ ls) = ap (λ (xs : List Latch). l ∷ xs) (same_sections (suc first) ls)
 
 nexts_hold : (P : ℕ → Type 0) (first : ℕ) (ls : List Latch) → All (λ l. P l.next) ls → All (λ line. P line.next) (own_latches first ls)
 nexts_hold P first [] h = All-nil (λ line. P line.next)
@@ -127,11 +130,6 @@ operands_defined n first (g ∷ gs) h few =
 all_concat : (P : ℕ → Type 0) (lists : List (List ℕ)) → All (All P) lists → All P (concat lists)
 all_concat P [] h = All-nil P
 all_concat P (ls ∷ lists) h = All-append P ls (concat lists) (All-head (All P) ls lists h) (all_concat P lists (All-tail (All P) ls lists h))
-
--- lines of one kind use known literals where these are defined
-none_unknown : {X : Type 0} (l : Loose) (f : X → List ℕ) (P : X → Type 0) → ((x : X) → P x → list_all (is_known l) (f x) ≡ true) → (xs : List X) → All P xs → list_any (is_unknown l) (map f xs) ≡ false
-none_unknown l f P known [] h = refl
-none_unknown l f P known (x ∷ xs) h = or_from _ _ (ap not (known x (All-head P x xs h))) (none_unknown l f P known xs (All-tail P x xs h))
 
 none_of_both : (p : List ℕ → Bool) (xs ys : List (List ℕ)) → list_any p xs ≡ false → list_any p ys ≡ false → list_any p (xs ++ ys) ≡ false
 none_of_both p xs ys h k = list_any-append p xs ys ∙ or_from _ _ h k
@@ -199,9 +197,9 @@ module _ (c : Circuit) (valid : IsCircuit c) where
   operands : All (λ line. IsDefined (net c) line.rhs0 × IsDefined (net c) line.rhs1) (own_lists c).gates
   operands = operands_defined (net c) (suc (c.inputs + length c.latches)) c.gates valid.ordered (omega arith)
 
-  same_count : (s : Section) → loose_count s (own_lists c) ≡ section_count s c
-  same_count section.Input = many_inputs 1 c.inputs
-  same_count section.Latch = many_latches (suc c.inputs) c.latches
+  same_count : (s : Section) → section_count s c ≡ section_count s (sections_of (own_lists c))
+  same_count section.Input = sym (many_inputs 1 c.inputs)
+  same_count section.Latch = ap length (sym (same_sections (suc c.inputs) c.latches))
   same_count section.Output = refl
   same_count section.Bad = refl
   same_count section.Constraint = refl
@@ -214,7 +212,7 @@ module _ (c : Circuit) (valid : IsCircuit c) where
       let i = inputs_own 1 c.inputs (omega arith) (omega (arith, few)) in
       let l = latches_own (suc c.inputs) c.latches (omega arith) (omega (arith, few)) in
       let g = gates_own (suc (c.inputs + length c.latches)) c.gates (omega arith) (omega (arith, few)) in
-      let small = λ (lit : ℕ) (d : IsDefined (net c) lit). small_below (net c) lit few d in
+      let all = AllLiterals-weaker (IsDefined (net c)) IsSmall (λ lit d. small_below (net c) lit few d) c valid.defined in
       record {
         definitions = record {
           inputs = All-weaker IsOwn IsDefining (λ n o. o.defining) (own_lists c).inputs i;
@@ -225,21 +223,13 @@ module _ (c : Circuit) (valid : IsCircuit c) where
         small = record {
           inputs = All-weaker IsOwn IsSmall (λ n o. o.small) (own_lists c).inputs i;
           latches = All-weaker (λ line. IsOwn line.current) (λ line. IsSmall line.current) (λ line o. o.small) (own_lists c).latches l;
-          nexts = nexts_hold IsSmall (suc c.inputs) c.latches (All-weaker (λ l. IsDefined (net c) l.next) (λ l. IsSmall l.next) (λ l d. small_below (net c) l.next few d) c.latches valid.defined.nexts);
           gates = All-weaker (λ line. IsOwn line.lhs) (λ line. IsSmall line.lhs) (λ line o. o.small) (own_lists c).gates g;
           first_operands = All-weaker (λ line. IsDefined (net c) line.rhs0 × IsDefined (net c) line.rhs1) (λ line. IsSmall line.rhs0) (λ line d. small_below (net c) line.rhs0 few d.0) (own_lists c).gates operands;
           second_operands = All-weaker (λ line. IsDefined (net c) line.rhs0 × IsDefined (net c) line.rhs1) (λ line. IsSmall line.rhs1) (λ line d. small_below (net c) line.rhs1 few d.1) (own_lists c).gates operands;
-          outputs = all_small (net c) c.outputs few valid.defined.outputs;
-          bads = all_small (net c) c.bads few valid.defined.bads;
-          constraints = all_small (net c) c.constraints few valid.defined.constraints;
-          justice = All-weaker (All (IsDefined (net c))) (All IsSmall) (λ ls d. all_small (net c) ls few d) c.justice valid.defined.justice;
-          fair = all_small (net c) c.fair few valid.defined.fair;
+          sections = record { nexts = subst (All (λ (l : Latch). IsSmall l.next)) (sym (same_sections (suc c.inputs) c.latches)) all.nexts; outputs = all.outputs; bads = all.bads; constraints = all.constraints; justice = all.justice; fair = all.fair };
         };
-        few = record { defined = omega (arith, count_is, few); outputs = valid.few.outputs; bads = valid.few.bads; constraints = valid.few.constraints; justice = valid.few.justice; justice_literals = valid.few.justice_literals; fair = valid.few.fair };
-        names = record {
-          sorted = valid.names.sorted;
-          named = All-weaker (IsNamed c) (IsNamedLine (own_lists c)) (λ entry n. record { section = n.section; is_section = n.is_section; position = omega (arith, n.position, same_count n.section); name = n.name }) c.names valid.names.named;
-        };
+        few = record { defined = omega (arith, count_is, few); sections = record { outputs = valid.few.outputs; bads = valid.few.bads; constraints = valid.few.constraints; justice = valid.few.justice; justice_literals = valid.few.justice_literals; fair = valid.few.fair } };
+        names = names_kept c (sections_of (own_lists c)) valid.names refl (λ s. omega (arith, same_count s));
       }
 
   known : (lit : ℕ) → IsDefined (net c) lit → is_known (own_lists c) lit ≡ true

@@ -5,7 +5,7 @@ use Rattle.std.proofs.lemmas.Bool.Decides.{nat_tests}
 use Rattle.std.proofs.lemmas.List.{length-map, map-append, get_or_append_left, get_or-append_right}
 use Rattle.std.proofs.lemmas.List.Elements.{All-cons, All-nil}
 use Rattle.std.proofs.lemmas.List.Folds.{list_any_at}
-use Rattle.std.proofs.lemmas.List.Sums.{sum_by-append, sum_by-cons, sum_by_push, fails_before_first, prefix_len_stops}
+use Rattle.std.proofs.lemmas.List.Sums.{sum_by-append, sum_by_push, fails_before_first, prefix_len_stops}
 use Rattle.std.specs.List.{list_any, position, position_or_len, count_by}
 use Rattle.aiger.specs.declared.loose.GateLine.{GateLine}
 use Rattle.aiger.specs.Limits.{greatest_count}
@@ -17,6 +17,7 @@ use Rattle.aiger.specs.Numbering.{IsOnce, line_in, name_in, slot_of, slots_of, I
 use Rattle.aiger.proofs.RenumberingLemmas.{found}
 use Rattle.aiger.proofs.OrderLemmas.{AreGates, AreGates-push, count_some, false_unless, fresh, ready_parts, name_at_place, numbered-append}
 use Rattle.aiger.proofs.KnownLemmas.{IsKnown, AllKnown}
+use Rattle.aiger.proofs.LooseLemmas.{once_push}
 use Rattle.aiger.proofs.NumbersLemmas.{place_found, place_missed}
 use Rattle.aiger.proofs.NumberingLemmas.{IsSlotOf, AreSlotsOf, next_is_ready, in_turn_from_slots, first_cyclic}
 
@@ -51,31 +52,9 @@ pub length_defined : (l : Loose) → length (defined_variables l) ≡ defined_co
 length_defined l =
     omega (arith, length-append (map variable l.inputs ++ map latch_variable l.latches) (map gate_variable l.gates), length-append (map variable l.inputs) (map latch_variable l.latches), length-map l.inputs variable, length-map l.latches latch_variable, length-map l.gates gate_variable)
 
--- a variable that does not stand in a list is not counted
-absent_count : (v : ℕ) (xs : List ℕ) → list_any (nat_eq v) xs ≡ false → count_by (nat_eq v) xs ≡ 0
-absent_count v [] t = refl
-absent_count v (x ∷ xs) t =
-    let h : nat_eq v x ≡ false = grind (arith, nat_tests) in
-    let r : list_any (nat_eq v) xs ≡ false = grind (arith, nat_tests) in
-    let z : ◌≡◌ {A = ℕ} (cond (nat_eq v x) 1 0) 0 = ap (λ (b : Bool). cond b 1 0) h in
-    omega (arith, sum_by-cons (λ (y : ℕ). cond (nat_eq v y) 1 0) x xs, z, absent_count v xs r)
-
 -- with a new variable more each still stands once
 pub once_more : (xs : List ℕ) (x : ℕ) → IsOnce xs → list_any (nat_eq x) xs ≡ false → IsOnce (xs ++ x ∷ [])
-once_more xs x once new v = by (nat_eq v x) refl
-  where
-    pushed : count_by (nat_eq v) (xs ++ x ∷ []) ≡ count_by (nat_eq v) xs + cond (nat_eq v x) 1 0
-    pushed = sum_by_push (λ (y : ℕ). cond (nat_eq v y) 1 0) xs x
-
-    by : (b : Bool) → nat_eq v x ≡ b → count_by (nat_eq v) (xs ++ x ∷ []) ≤ 1
-    by true e =
-        let s : v ≡ x = grind (arith, nat_tests) in
-        let z : count_by (nat_eq v) xs ≡ 0 = subst (λ (y : ℕ). count_by (nat_eq y) xs ≡ 0) (sym s) (absent_count x xs new) in
-        let o : ◌≡◌ {A = ℕ} (cond (nat_eq v x) 1 0) 1 = ap (λ (b : Bool). cond b 1 0) e in
-        omega (arith, pushed, z, o)
-    by false e =
-        let o : ◌≡◌ {A = ℕ} (cond (nat_eq v x) 1 0) 0 = ap (λ (b : Bool). cond b 1 0) e in
-        omega (arith, pushed, once v, o)
+once_more xs x once new = once_push xs (xs ++ x ∷ []) x (λ v. sum_by_push (λ (y : ℕ). cond (nat_eq v y) 1 0) xs x) once new
 
 -- gates in turn give numbers to variables that have none
 once_in_turn : (l : Loose) (done js : List ℕ) → IsLoose l → AreGates l done → AreInTurn l done js → IsOnce (numbered l done) → IsOnce (numbered l (done ++ js))

@@ -2,10 +2,9 @@
 use Rattle.std.proofs.Common.{◌≡◌, ℕ, zero, suc, ◌+◌, ◌-◌, ◌*◌, ◌/◌, ◌%◌, ◌<◌, ◌≤◌, Bool, true, false, not, ◌&&◌, ◌||◌, List, [], ◌∷◌, ◌++◌, length, ◌⊎◌, inl, inr, nat_eq, nat_lt, get_or, slice_index_or, slice_set, cond, refl, ap, sym, ◌∙◌, subst, arith, if◌then◌else◌, length-append, length-drop, replicate, drop, append_assoc, append-nil, ⊎_elim}
 use Rattle.std.proofs.lemmas.Bool.Decides.{nat_tests}
 use Rattle.std.proofs.lemmas.Bool.{cases_lt, cases_order}
-use Rattle.std.proofs.lemmas.List.{get_or-set_same, get_or-set_other, length-set, get_or_append_left, get_or-replicate, length-replicate, drop_more, drop_all}
+use Rattle.std.proofs.lemmas.List.{get_or-set_same, get_or-set_other, length-set, get_or_append_left, get_or-replicate, length-replicate, drop_more}
 use Rattle.std.proofs.lemmas.Grind.{get_or_default_zero}
 use Rattle.std.proofs.Math.Seq.{get_or-append_seam, set-append_seam}
-use Rattle.std.specs.Int.{from_bool}
 use Rattle.std.proofs.lemmas.List.Folds.{list_any-append, sum_by-replicate}
 use Rattle.std.proofs.lemmas.List.Sums.{sum_by-set}
 use Rattle.std.specs.List.{list_any, count_by}
@@ -462,14 +461,6 @@ pub record LinkedBelow (slots : List ℕ) (n : ℕ) (s : ℕ) (heads : List ℕ)
   pub chains : ChainsBelow slots n s heads nexts
   pub are : mixed ≡ nexts ++ drop s slots
 
-pub linked_begins : (slots heads : List ℕ) (n : ℕ) → heads ≡ replicate n 0 → LinkedBelow slots n 0 heads slots
-linked_begins slots heads n e =
-    record {
-      nexts = [];
-      chains = record { heads_count = ap length e ∙ length-replicate n 0; nexts_count = refl; head = λ g h. ap (λ (l : List ℕ). slice_index_or l g 0) e ∙ get_or-replicate n g 0 0 h; next = λ k g h u. absurd (omega arith) };
-      are = refl;
-    }
-
 -- what stands at the place, and how many there are
 pub linked_at : (slots : List ℕ) (n s : ℕ) (heads mixed : List ℕ) → LinkedBelow slots n s heads mixed → s < length slots → (slice_index_or mixed s 0 ≡ slot_at slots s) × (length mixed ≡ length slots)
 linked_at slots n s heads mixed b h =
@@ -486,16 +477,6 @@ linked_step slots n s heads mixed linked next b h within e f =
     ap (λ (l : List ℕ). slice_set l s next) on ∙ (ap (λ (i : ℕ). slice_set (b.nexts ++ slot_at slots s ∷ drop (s + 1) slots) i next) (sym b.chains.nexts_count) ∙ set-append_seam b.nexts (slot_at slots s) (drop (s + 1) slots) next) in
     record { nexts = b.nexts ++ next ∷ []; chains = chains_step slots n s heads b.nexts linked next b.chains within e f; are = now ∙ sym (append_assoc b.nexts (next ∷ []) (drop (s + 1) slots)) }
 
-pub linked_ends : (slots : List ℕ) (n s : ℕ) (heads mixed : List ℕ) → LinkedBelow slots n s heads mixed → s ≡ length slots → HasChains slots n heads mixed
-linked_ends slots n s heads mixed b e =
-    let all : mixed ≡ b.nexts = b.are ∙ (ap (λ (l : List ℕ). b.nexts ++ l) (drop_all s slots (omega (arith, e))) ∙ append-nil b.nexts) in
-    record {
-      heads_count = b.chains.heads_count;
-      nexts_count = ap length all ∙ (b.chains.nexts_count ∙ e);
-      head = λ g h. b.chains.head g h ∙ ap (last_user slots g) e;
-      next = λ k g h u. ap (λ (l : List ℕ). slice_index_or l k 0) all ∙ b.chains.next k g (omega (arith, e, h)) u;
-    }
-
 -- before any gate is taken
 pub between_begins : (slots : List ℕ) (n : ℕ) (order waiting : List ℕ) (marks : List Bool) (is_in : ℕ → Bool) → CountsWaits slots n [] waiting → order ≡ [] → marks ≡ replicate n false → ((i : ℕ) → is_in i ≡ waits_for_nothing n [] waiting i) → IsBetween slots n order waiting marks is_in
 between_begins slots n order waiting marks is_in w o m r =
@@ -507,25 +488,3 @@ between_begins slots n order waiting marks is_in w o m r =
 pub record FirstWaits (slots : List ℕ) (gate : ℕ) (waiting : List ℕ) : Type 0 where
   pub count : length waiting ≡ gate
   pub each : (j : ℕ) → j < gate → slice_index_or waiting j 0 ≡ waits slots [] (2 * j) + waits slots [] (2 * j + 1)
-
-pub first_wait : (slots : List ℕ) (s : ℕ) (b : Bool) → b ≡ not (nat_eq (slot_at slots s) 0) → from_bool b ≡ waits slots [] s
-first_wait slots s b e = by (nat_eq (slot_at slots s) 0) refl
-  where
-    by : (t : Bool) → nat_eq (slot_at slots s) 0 ≡ t → from_bool b ≡ waits slots [] s
-    by true t = ap from_bool (e ∙ ap not t) ∙ sym (ap (λ (x : Bool). if x || false then 0 else 1) t)
-    by false t = ap from_bool (e ∙ ap not t) ∙ sym (ap (λ (x : Bool). if x || false then 0 else 1) t)
-
-pub first_waits_step : (slots : List ℕ) (gate count' : ℕ) (waiting : List ℕ) → FirstWaits slots gate waiting → count' ≡ waits slots [] (2 * gate) + waits slots [] (2 * gate + 1) → FirstWaits slots (gate + 1) (waiting ++ count' ∷ [])
-first_waits_step slots gate count' waiting w e =
-    record {
-      count = omega (arith, w.count, length-append waiting (count' ∷ []));
-      each = λ j h. ⊎_elim
-          (λ (low : j < gate). get_or_append_left waiting (count' ∷ []) 0 j (omega (arith, w.count)) ∙ w.each j low)
-          (λ (high : gate ≤ j).
-          let q : j ≡ gate = omega arith in
-          ap (λ (i : ℕ). slice_index_or (waiting ++ count' ∷ []) i 0) (q ∙ sym w.count) ∙ (get_or-append_seam waiting count' [] 0 ∙ (e ∙ ap (λ (i : ℕ). waits slots [] (2 * i) + waits slots [] (2 * i + 1)) (sym q))))
-          (cases_lt j gate);
-    }
-
-pub first_waits_end : (slots : List ℕ) (n : ℕ) (waiting : List ℕ) → FirstWaits slots n waiting → CountsWaits slots n [] waiting
-first_waits_end slots n waiting w = record { count = w.count; each = w.each; none = λ j t. absurd (cc) }

@@ -1,7 +1,7 @@
 -- The names of each section as a list: how long it is, and what a name, a push and a fresh circuit make of it.
-use Rattle.std.proofs.Common.{◌≡◌, ◌≢◌, ℕ, zero, suc, ◌+◌, ◌<◌, ◌≤◌, Bool, true, List, [], ◌∷◌, ◌++◌, map, length, set, get_or, Option, Some, None, slice_get, slice_set, replicate, refl, ap, sym, ◌∙◌, subst, arith, length-set, cond, ◌⊎◌, inl, inr, ⊎_elim}
+use Rattle.std.proofs.Common.{◌≡◌, ◌≢◌, ℕ, zero, suc, ◌+◌, ◌<◌, ◌≤◌, Bool, true, List, [], ◌∷◌, ◌++◌, map, length, set, get_or, Option, Some, None, slice_get, slice_set, replicate, refl, ap, sym, ◌∙◌, subst, arith, length-set, cond, ⊎_elim}
 use Rattle.std.proofs.lemmas.List.{get_or-set_same, get_or-set_other}
-use Rattle.std.proofs.lemmas.Bool.{cases_lt}
+use Rattle.std.proofs.lemmas.Bool.{cases_eq}
 use Rattle.std.proofs.lemmas.Cmp.{tied_itself}
 use Rattle.std.proofs.lemmas.List.FromFn.{get_or-map-range_with_len, length-map-range_with_len, map-range_with_len_more}
 use Rattle.std.proofs.lemmas.List.Elements.{All-get_or}
@@ -16,7 +16,7 @@ use Rattle.std.specs.Map.{lookup}
 use Rattle.aiger.specs.declared.circuit.Section.{Section}
 use Rattle.aiger.specs.declared.circuit.Section.TheVariants as section
 use Rattle.aiger.specs.Limits.{greatest_count}
-use Rattle.aiger.specs.Circuit.{Circuit, IsCircuit, IsNamed, Place, NameMap, Names, rank, place_cmp, name_in, name_of, name_at, section_count, section_names, with_name, fresh_circuit}
+use Rattle.aiger.specs.Circuit.{Circuit, IsCircuit, IsNamed, Place, NameMap, Names, rank, place_cmp, name_in, name_of, name_at, section_count, section_names, with_name}
 use Rattle.aiger.proofs.NameLemmas.{entries_from_lookups, exact_places, places_total, places_apart, positions_apart, lookup-insert_entry, section_from_rank}
 
 -- lists as long and with the same elements are the same
@@ -28,13 +28,6 @@ same_elements (x ∷ xs) (y ∷ ys) n h =
     let e : x ≡ y = h zero (omega arith) in
     let t : xs ≡ ys = same_elements xs ys (omega arith) (λ k l. h (suc k) (omega arith)) in
     cc
-
--- two positions are the same or not
-same_or_not : (j k : ℕ) → (j ≡ k) ⊎ (j ≢ k)
-same_or_not j k =
-    ⊎_elim (λ (l : j < k). inr (λ (e : j ≡ k). absurd (omega arith)))
-    (λ (m : k ≤ j). ⊎_elim (λ (l : k < j). inr (λ (e : j ≡ k). absurd (omega arith))) (λ (n : j ≤ k). inl (omega arith)) (cases_lt k j))
-    (cases_lt j k)
 
 -- there are as many as the section has positions
 pub length-section_names : (s : Section) (c : Circuit) → length (section_names s c) ≡ section_count s c
@@ -63,9 +56,6 @@ none_from_map s start (suc n) = ap (λ (names : Names). None ∷ names) (none_fr
 pub section_names-unnamed : (s : Section) (c : Circuit) → c.names ≡ [] → section_names s c ≡ replicate (section_count s c) None
 section_names-unnamed s c e = ap (λ (ns : NameMap). map (λ k. name_in ns s k) (range_with_len 0 (section_count s c))) e ∙ none_from_map s 0 (section_count s c)
 
-pub section_names-fresh : (s : Section) (inputs latches : ℕ) → section_names s (fresh_circuit inputs latches) ≡ replicate (section_count s (fresh_circuit inputs latches)) None
-section_names-fresh s inputs latches = none_from_map s 0 (section_count s (fresh_circuit inputs latches))
-
 -- a test that is passed is of places that are the same
 same_place : (p q : Place) → is_eq (place_cmp p q) ≡ true → p ≡ q
 same_place p q t = by (place_cmp p q) refl t
@@ -75,20 +65,25 @@ same_place p q t = by (place_cmp p q) refl t
     by Equal e t = exact_places p q e
     by Greater e t = absurd (cc)
 
--- a circuit has no names behind its positions
+-- a name of a circuit is at a place of a section, and of one of its positions
+section_of_name : (c : Circuit) (q : Place) (v : List ℕ) → IsCircuit c → lookup (is_at (place_cmp q)) c.names ≡ Some v → (s : Section) × ((q ≡ (rank s, q.1)) × (q.1 < section_count s c))
+section_of_name c q v valid e =
+    let found = place_from_lookup (is_at (place_cmp q)) c.names v e in
+    let there : found.0 < length c.names = slice_get_within c.names found.0 (found.1, v) found.2 in
+    let same : q ≡ found.1 = same_place q found.1 found.3 in
+    let named : IsNamed c (found.1, v) = subst (IsNamed c) (get_or_from_slice_get c.names found.0 (found.1, v) (found.1, v) found.2) (All-get_or (IsNamed c) c.names found.0 (found.1, v) there valid.names.named) in
+    (named.section, (ap (λ (r : ℕ). (r, q.1)) (ap (λ (p : Place). p.0) same ∙ named.is_section), omega (arith, ap (λ (p : Place). p.1) same, named.position)))
+
+-- so it has no names behind its positions
 pub name_of-outside : (c : Circuit) (s : Section) (k : ℕ) → IsCircuit c → section_count s c ≤ k → name_of c s k ≡ None
 name_of-outside c s k valid out = by (name_of c s k) refl
   where
     by : (r : Option (List ℕ)) → name_of c s k ≡ r → name_of c s k ≡ None
     by None e = e
     by (Some v) e =
-        let found = place_from_lookup (is_at (place_cmp (rank s, k))) c.names v e in
-        let there : found.0 < length c.names = slice_get_within c.names found.0 (found.1, v) found.2 in
-        let same : (rank s, k) ≡ found.1 = same_place (rank s, k) found.1 found.3 in
-        let named : IsNamed c (found.1, v) = subst (IsNamed c) (get_or_from_slice_get c.names found.0 (found.1, v) (found.1, v) found.2) (All-get_or (IsNamed c) c.names found.0 (found.1, v) there valid.names.named) in
-        let section : s ≡ named.section = section_from_rank s named.section (ap (λ (p : Place). p.0) same ∙ named.is_section) in
-        let position : k ≡ found.1.1 = ap (λ (p : Place). p.1) same in
-        absurd (omega (arith, out, position, named.position, ap (λ (t : Section). section_count t c) section))
+        let at = section_of_name c (rank s, k) v valid e in
+        let section : s ≡ at.0 = section_from_rank s at.0 (ap (λ (p : Place). p.0) at.1.0) in
+        absurd (omega (arith, out, at.1.1, ap (λ (t : Section). section_count t c) section))
 
 -- so a position more has none
 pub section_names-push : (s : Section) (c d : Circuit) → IsCircuit c → d.names ≡ c.names → section_count s d ≡ section_count s c + 1 → section_names s d ≡ section_names s c ++ None ∷ []
@@ -135,7 +130,7 @@ section_names-with_name c s k name l =
     get_or-section_names s d j None j_in
     ∙ ⊎_elim (λ (e : j ≡ k). subst (λ (i : ℕ). name_of d s i ≡ get_or (set (section_names s c) k (Some name)) i None) (sym e) (name_of-with_name c s k name ∙ sym (get_or-set_same (section_names s c) k (Some name) None (omega arith))))
     (λ (n : j ≢ k). name_of-other_position c s j k name n ∙ (sym (get_or-section_names s c j None (omega arith)) ∙ sym (get_or-set_other (section_names s c) k j (Some name) None n)))
-    (same_or_not j k))
+    (cases_eq j k))
 
 -- and the names of the other sections are as before
 pub section_names-other_section : (c : Circuit) (s t : Section) (k : ℕ) (name : List ℕ) → s ≢ t → section_names t (with_name c s k name) ≡ section_names t c
@@ -157,15 +152,6 @@ few_positions section.Constraint c valid = valid.few.constraints
 few_positions section.Justice c valid = valid.few.justice
 few_positions section.Fair c valid = valid.few.fair
 
--- the names of a circuit at a place that a section has
-section_of_name : (c : Circuit) (q : Place) (v : List ℕ) → IsCircuit c → lookup (is_at (place_cmp q)) c.names ≡ Some v → (s : Section) × (q ≡ (rank s, q.1))
-section_of_name c q v valid e =
-    let found = place_from_lookup (is_at (place_cmp q)) c.names v e in
-    let there : found.0 < length c.names = slice_get_within c.names found.0 (found.1, v) found.2 in
-    let same : q ≡ found.1 = same_place q found.1 found.3 in
-    let named : IsNamed c (found.1, v) = subst (IsNamed c) (get_or_from_slice_get c.names found.0 (found.1, v) (found.1, v) found.2) (All-get_or (IsNamed c) c.names found.0 (found.1, v) there valid.names.named) in
-    (named.section, ap (λ (r : ℕ). (r, q.1)) (ap (λ (p : Place). p.0) same ∙ named.is_section))
-
 -- names that are found alike at each position are found alike at each place
 found_alike : (c d : Circuit) (q : Place) → IsCircuit c → IsCircuit d → ((s : Section) (k : ℕ) → name_of d s k ≡ name_of c s k)
     → lookup (is_at (place_cmp q)) d.names ≡ lookup (is_at (place_cmp q)) c.names
@@ -177,8 +163,8 @@ found_alike c d q valid other same = by (lookup (is_at (place_cmp q)) d.names) r
     by : (r : Option (List ℕ)) → lookup (is_at (place_cmp q)) d.names ≡ r → (t : Option (List ℕ)) → lookup (is_at (place_cmp q)) c.names ≡ t
         → lookup (is_at (place_cmp q)) d.names ≡ lookup (is_at (place_cmp q)) c.names
     by None e None f = e ∙ sym f
-    by (Some v) e t f = let at = section_of_name d q v other e in here at.0 at.1
-    by None e (Some v) f = let at = section_of_name c q v valid f in here at.0 at.1
+    by (Some v) e t f = let at = section_of_name d q v other e in here at.0 at.1.0
+    by None e (Some v) f = let at = section_of_name c q v valid f in here at.0 at.1.0
 
 -- so the names of two circuits that are found alike are the same
 pub same_names : (c : Circuit) (names : NameMap) → IsCircuit c → IsCircuit (record c { names = names }) → ((s : Section) (k : ℕ) → name_in names s k ≡ name_of c s k) → names ≡ c.names

@@ -1,17 +1,18 @@
 -- The first line of a list of lines that is joined from parts.
-use Rattle.std.proofs.Common.{◌≡◌, ℕ, suc, ◌+◌, ◌-◌, ◌<◌, ◌≤◌, ◌==◌, ◌||◌, if◌then◌else◌, nat_eq, Bool, true, false, not, ◌&&◌, List, [], ◌∷◌, ◌++◌, map, length, Option, Some, None, nat_le, nat_lt, cond, refl, ap, sym, ◌∙◌, arith, length-append, append-nil}
+use Rattle.std.proofs.Common.{◌≡◌, ℕ, suc, ◌+◌, ◌-◌, ◌≤◌, ◌==◌, ◌||◌, if◌then◌else◌, nat_eq, Bool, true, false, not, ◌&&◌, List, [], ◌∷◌, ◌++◌, map, length, All, Option, Some, None, nat_le, nat_lt, cond, refl, ap, sym, ◌∙◌, arith, length-append, append-nil}
 use Rattle.std.proofs.lemmas.Bool.Decides.{nat_tests}
 use Rattle.std.proofs.lemmas.List.Sums.{sum_by-cons}
 use Rattle.aiger.specs.Limits.{greatest_count}
 use Rattle.std.specs.Option.{option_map}
 use Rattle.std.specs.List.{list_all, list_any, position, position_or_len, concat, sum_by}
-use Rattle.std.proofs.lemmas.Bool.{or_parts, and_parts, leb-true}
+use Rattle.std.proofs.lemmas.Bool.{or_parts, or_from, and_parts, leb-true}
+use Rattle.std.proofs.lemmas.List.Elements.{All-head, All-tail, All-from_get_or}
 use Rattle.aiger.specs.declared.loose.GateLine.{GateLine}
 use Rattle.aiger.specs.declared.loose.LatchLine.{LatchLine}
 use Rattle.aiger.specs.Literal.{variable}
 use Rattle.aiger.specs.Loose.{Loose, IsLoose, defined_variables, is_defined}
-use Rattle.aiger.specs.Renumbering.{alone, is_known, first_undefined}
-use Rattle.aiger.specs.Numbering.{WaitForEarlier, is_unknown, line_in, lines_with, slot_of, slots_of}
+use Rattle.aiger.specs.Renumbering.{alone, is_known, first_undefined, lines_with}
+use Rattle.aiger.specs.Numbering.{WaitForEarlier, is_unknown, line_in, slot_of, slots_of}
 use Rattle.aiger.proofs.NumbersLemmas.{not_found}
 use Rattle.aiger.proofs.PlacesLemmas.{length_defined}
 
@@ -113,7 +114,7 @@ length_concat (x ∷ xs) = omega (arith, length-append x (concat xs), length_con
 
 -- there are few justice literals
 pub few_justice : (l : Loose) → IsLoose l → length (concat l.justice) ≤ greatest_count
-few_justice l valid = omega (arith, length_concat l.justice, valid.few.justice_literals)
+few_justice l valid = omega (arith, length_concat l.justice, valid.few.sections.justice_literals)
 
 -- the lines that use literals, from the lists
 pub are_used_lines : (l : Loose) (nexts : List LatchLine) (outputs bads constraints justice fair : List ℕ) (gates now : List GateLine)
@@ -125,6 +126,11 @@ are_used_lines l nexts outputs bads constraints justice fair gates now a b c d e
 
 abbrev lines_before : Loose → List (List ℕ)
 lines_before l = map (λ line. line.next ∷ []) l.latches ++ map alone l.outputs ++ map alone l.bads ++ map alone l.constraints ++ map alone (concat l.justice) ++ map alone l.fair
+
+-- lines of one kind use known literals where these are known
+pub none_unknown : {X : Type 0} (l : Loose) (f : X → List ℕ) (P : X → Type 0) → ((x : X) → P x → list_all (is_known l) (f x) ≡ true) → (xs : List X) → All P xs → list_any (is_unknown l) (map f xs) ≡ false
+none_unknown l f P known [] h = refl
+none_unknown l f P known (x ∷ xs) h = or_from _ _ (ap not (known x (All-head P x xs h))) (none_unknown l f P known xs (All-tail P x xs h))
 
 -- a line that is undefined before the gates is the first of all
 pub undefined_in_front : (l : Loose) (k : ℕ) → position (is_unknown l) (lines_with l []) ≡ Some k → first_undefined l ≡ Some k
@@ -153,30 +159,24 @@ gates_known l (x ∷ lines) t =
     let here : is_unknown l (x.rhs0 ∷ x.rhs1 ∷ []) ≡ false = ap (λ (t : Bool). not (t && (is_known l x.rhs1 && true))) first ∙ ap (λ (t : Bool). not (t && true)) second in
     ap (λ (t : Bool). t || list_any (is_unknown l) (map (λ line. line.rhs0 ∷ line.rhs1 ∷ []) lines)) here ∙ gates_known l lines b.1
 
+-- where none is unknown before the gates, nor of a gate, none is
+none_undefined : (l : Loose) → list_any (is_unknown l) (map (λ line. line.rhs0 ∷ line.rhs1 ∷ []) l.gates) ≡ false → position (is_unknown l) (lines_with l []) ≡ None → first_undefined l ≡ None
+none_undefined l known e =
+    place_behind (is_unknown l) (lines_before l) (map (λ line. line.rhs0 ∷ line.rhs1 ∷ []) l.gates) (ap (position (is_unknown l)) (sym (append-nil (lines_before l))) ∙ e)
+    ∙ ap (option_map (λ k. length (lines_before l) + k)) (none_passes (is_unknown l) (map (λ line. line.rhs0 ∷ line.rhs1 ∷ []) l.gates) known)
+
 -- where no slot is behind all gates, the first undefined line is none of a gate
 pub undefined_by_slots : (l : Loose) → list_all (λ slot. nat_le slot (length l.gates)) (slots_of (defined_variables l) (length l.inputs + length l.latches) l.gates) ≡ true → position (is_unknown l) (lines_with l []) ≡ first_undefined l
 undefined_by_slots l t = by (position (is_unknown l) (lines_with l [])) refl
   where
     by : (o : Option ℕ) → position (is_unknown l) (lines_with l []) ≡ o → position (is_unknown l) (lines_with l []) ≡ first_undefined l
     by (Some k) e = e ∙ sym (undefined_in_front l k e)
-    by None e =
-        e
-        ∙ sym (place_behind (is_unknown l) (lines_before l) (map (λ line. line.rhs0 ∷ line.rhs1 ∷ []) l.gates) (ap (position (is_unknown l)) (sym (append-nil (lines_before l))) ∙ e)
-        ∙ ap (option_map (λ k. length (lines_before l) + k)) (none_passes (is_unknown l) (map (λ line. line.rhs0 ∷ line.rhs1 ∷ []) l.gates) (gates_known l l.gates t)))
+    by None e = e ∙ sym (none_undefined l (gates_known l l.gates t) e)
 
 -- where gates wait for earlier ones, all that they use is known
 pub known_in_order : (l : Loose) → position (is_unknown l) (lines_with l []) ≡ None → WaitForEarlier (defined_variables l) (length l.inputs + length l.latches) l.gates → first_undefined l ≡ None
 known_in_order l e wait =
-    place_behind (is_unknown l) (lines_before l) (map (λ line. line.rhs0 ∷ line.rhs1 ∷ []) l.gates) (ap (position (is_unknown l)) (sym (append-nil (lines_before l))) ∙ e)
-    ∙ ap (option_map (λ k. length (lines_before l) + k)) (none_passes (is_unknown l) (map (λ line. line.rhs0 ∷ line.rhs1 ∷ []) l.gates) (none l.gates (λ j h. j_known j h)))
-  where
-    none : (lines : List GateLine) → ((j : ℕ) → j < length lines → (is_known l (line_in lines j).rhs0 ≡ true) × (is_known l (line_in lines j).rhs1 ≡ true)) → list_any (is_unknown l) (map (λ line. line.rhs0 ∷ line.rhs1 ∷ []) lines) ≡ false
-    none [] h = refl
-    none (x ∷ lines) h =
-        let a = h 0 (omega arith) in
-        let rest : list_any (is_unknown l) (map (λ line. line.rhs0 ∷ line.rhs1 ∷ []) lines) ≡ false = none lines (λ j low. h (suc j) (omega (arith, low))) in
-        let here : is_unknown l (x.rhs0 ∷ x.rhs1 ∷ []) ≡ false = ap (λ (t : Bool). not (t && (is_known l x.rhs1 && true))) a.0 ∙ ap (λ (t : Bool). not (t && true)) a.1 in
-        ap (λ (t : Bool). t || list_any (is_unknown l) (map (λ line. line.rhs0 ∷ line.rhs1 ∷ []) lines)) here ∙ rest
-
-    j_known : (j : ℕ) → j < length l.gates → (is_known l (line_in l.gates j).rhs0 ≡ true) × (is_known l (line_in l.gates j).rhs1 ≡ true)
-    j_known j h = let w = wait j h in (known_by_slot l (line_in l.gates j).rhs0 (omega (arith, w.0, h)), known_by_slot l (line_in l.gates j).rhs1 (omega (arith, w.1, h)))
+    let P : GateLine → Type 0 = λ line. (is_known l line.rhs0 ≡ true) × (is_known l line.rhs1 ≡ true) in
+    let known : All P l.gates = All-from_get_or P l.gates (record { lhs = 0; rhs0 = 0; rhs1 = 0 })
+    (λ j h. let w = wait j h in (known_by_slot l (line_in l.gates j).rhs0 (omega (arith, w.0, h)), known_by_slot l (line_in l.gates j).rhs1 (omega (arith, w.1, h)))) in
+    none_undefined l (none_unknown l (λ line. line.rhs0 ∷ line.rhs1 ∷ []) P (λ line k. rw (k.0, k.1) refl) l.gates known) e

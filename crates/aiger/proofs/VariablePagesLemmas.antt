@@ -5,7 +5,7 @@ use Rattle.std.proofs.lemmas.List.{get_or-set_same, get_or-set_other}
 use Rattle.std.proofs.lemmas.Nat.Bits.{bit_at_set_same, bit_at_set_other, bit_at-zero}
 use Rattle.std.specs.Int.{bit_at}
 use Rattle.std.specs.Int.Bits.{or_zero_l}
-use Rattle.aiger.specs.VariablePages.{in_page}
+use Rattle.aiger.specs.VariableNumbers.{in_page}
 use Rattle.aiger.specs.Definitions.{is_marked}
 
 -- what is read of variables after the page of one was put, in which what is read at its place is new, and nothing else

@@ -109,14 +109,18 @@ pub record HasFew (c : Circuit) : Type 0 where
   pub justice_literals : sum_by length c.justice ≤ greatest_count
   pub fair : length c.fair ≤ greatest_count
 
--- each literal of a circuit is defined over these gates
-pub record HasDefined (n : Net) (c : Circuit) : Type 0 where
-  pub nexts : All (λ l. IsDefined n l.next) c.latches
-  pub outputs : All (IsDefined n) c.outputs
-  pub bads : All (IsDefined n) c.bads
-  pub constraints : All (IsDefined n) c.constraints
-  pub justice : All (All (IsDefined n)) c.justice
-  pub fair : All (IsDefined n) c.fair
+-- something holds of each literal of the latches and the properties
+pub record AllLiterals (P : ℕ → Type 0) (c : Circuit) : Type 0 where
+  pub nexts : All (λ l. P l.next) c.latches
+  pub outputs : All P c.outputs
+  pub bads : All P c.bads
+  pub constraints : All P c.constraints
+  pub justice : All (All P) c.justice
+  pub fair : All P c.fair
+
+-- each of them is defined over these gates
+abbrev pub HasDefined : Net → Circuit → Type 0
+HasDefined n c = AllLiterals (IsDefined n) c
 
 -- a name that a circuit may have at a place: its section has the position
 pub record IsNamed (c : Circuit) (entry : Place × List ℕ) : Type 0 where

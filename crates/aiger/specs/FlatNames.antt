@@ -12,12 +12,6 @@ key_of p = p.0 * 4294967296 + p.1
 abbrev pub place_of : ℕ → Place
 place_of key = (key / 4294967296, key % 4294967296)
 
--- keys with their names
-abbrev pub named_keys : List ℕ → List (List ℕ) → List (ℕ × List ℕ)
-named_keys [] names = []
-named_keys (key ∷ keys) [] = []
-named_keys (key ∷ keys) (name ∷ names) = (key, name) ∷ named_keys keys names
-
 -- keys that rise, and as many names
 pub record AreFlat (keys : List ℕ) (names : List (List ℕ)) : Type 0 where
   pub as_many : length keys ≡ length names

@@ -6,12 +6,10 @@ pub mod Names
 pub mod FlatNames
 pub mod Circuit
 pub mod Loose
-pub mod VariablePages
 pub mod VariableNumbers
 pub mod Definitions
 pub mod LooseTrace
 pub mod Renumbering
-pub mod LooseObserved
 pub mod View
 pub mod LooseView
 pub mod Trace

@@ -1,18 +1,16 @@
 -- The lists of an ascii file as it names them ("AIGER 1.9 and Beyond", ascii format): variables in any numbering, gates in any order.
-use Rattle.std.specs.Prelude.{◌≡◌, ℕ, ◌+◌, ◌%◌, ◌<◌, ◌≤◌, Bool, ◌&&◌, not, ◌==◌, List, [], ◌∷◌, ◌++◌, map, length, sum_by, count_by, Option, None, Some, All, is_some, nat_le, nat_eq, if◌then◌else◌}
+use Rattle.std.specs.Prelude.{◌≡◌, ℕ, ◌+◌, ◌%◌, ◌≤◌, Bool, ◌&&◌, not, ◌==◌, List, [], ◌∷◌, ◌++◌, map, length, count_by, Option, Some, All, nat_le, nat_eq, if◌then◌else◌}
 use Rattle.std.specs.List.{list_all, list_any}
-use Rattle.std.specs.List.Sorted.{IsStrictlySortedBy}
-use Rattle.std.specs.Map.{keys_of}
 use Rattle.aiger.specs.declared.loose.LatchLine.{LatchLine}
 use Rattle.aiger.specs.declared.loose.GateLine.{GateLine}
+use Rattle.aiger.specs.declared.circuit.Latch.{Latch}
 use Rattle.aiger.specs.declared.circuit.Section.{Section}
-use Rattle.aiger.specs.declared.circuit.Section.TheVariants as section
 use Rattle.aiger.specs.declared.fault.CircuitFault.{CircuitFault}
-use Rattle.aiger.specs.declared.fault.CircuitFault.TheVariants.{LiteralOutOfRange, TooBig, NoSuchPosition, NameTaken, BadName}
+use Rattle.aiger.specs.declared.fault.CircuitFault.TheVariants.{LiteralOutOfRange, TooBig}
 use Rattle.aiger.specs.Limits.{greatest_count}
 use Rattle.aiger.specs.Literal.{variable}
-use Rattle.aiger.specs.Names.{Place, NameMap, rank, place_cmp, name_in, with_name_in, IsName, is_name}
-use Rattle.aiger.specs.Circuit.{count_refusal, size_refusal}
+use Rattle.aiger.specs.Names.{NameMap, name_in, with_name_in}
+use Rattle.aiger.specs.Circuit.{Circuit, AllLiterals, HasFew, HasNames, count_refusal, size_refusal, name_refusal}
 
 pub record Loose : Type 0 where
   pub inputs : List ℕ
@@ -60,15 +58,24 @@ defined_count l = length l.inputs + length l.latches + length l.gates
 abbrev pub is_defined : Loose → ℕ → Bool
 is_defined l v = list_any (nat_eq v) (defined_variables l)
 
--- how many positions a section has
-abbrev pub loose_count : Section → Loose → ℕ
-loose_count section.Input l = length l.inputs
-loose_count section.Latch l = length l.latches
-loose_count section.Output l = length l.outputs
-loose_count section.Bad l = length l.bads
-loose_count section.Constraint l = length l.constraints
-loose_count section.Justice l = length l.justice
-loose_count section.Fair l = length l.fair
+-- a latch line without its own literal
+abbrev pub latch_of : LatchLine → Latch
+latch_of line = record { next = line.next; reset = line.reset }
+
+-- their sections as those of a circuit without gates, with each literal as it stands
+abbrev pub sections_of : Loose → Circuit
+sections_of l =
+    record {
+      inputs = length l.inputs;
+      latches = map latch_of l.latches;
+      gates = [];
+      outputs = l.outputs;
+      bads = l.bads;
+      constraints = l.constraints;
+      justice = l.justice;
+      fair = l.fair;
+      names = l.names;
+    }
 
 -- the name of a position of a section, if it has one
 abbrev pub loose_name : Loose → Section → ℕ → Option (List ℕ)
@@ -138,44 +145,22 @@ pub record HasDefinitions (l : Loose) : Type 0 where
 pub record HasSmall (l : Loose) : Type 0 where
   pub inputs : All IsSmall l.inputs
   pub latches : All (λ line. IsSmall line.current) l.latches
-  pub nexts : All (λ line. IsSmall line.next) l.latches
   pub gates : All (λ line. IsSmall line.lhs) l.gates
   pub first_operands : All (λ line. IsSmall line.rhs0) l.gates
   pub second_operands : All (λ line. IsSmall line.rhs1) l.gates
-  pub outputs : All IsSmall l.outputs
-  pub bads : All IsSmall l.bads
-  pub constraints : All IsSmall l.constraints
-  pub justice : All (All IsSmall) l.justice
-  pub fair : All IsSmall l.fair
+  pub sections : AllLiterals IsSmall (sections_of l)
 
 -- there are at most 2^30 definitions, lines of each section, and justice literals
 pub record HasFewLines (l : Loose) : Type 0 where
   pub defined : defined_count l ≤ greatest_count
-  pub outputs : length l.outputs ≤ greatest_count
-  pub bads : length l.bads ≤ greatest_count
-  pub constraints : length l.constraints ≤ greatest_count
-  pub justice : length l.justice ≤ greatest_count
-  pub justice_literals : sum_by length l.justice ≤ greatest_count
-  pub fair : length l.fair ≤ greatest_count
-
--- a name that there may be at a place: its section has the position
-pub record IsNamedLine (l : Loose) (entry : Place × List ℕ) : Type 0 where
-  pub section : Section
-  pub is_section : entry.0.0 ≡ rank section
-  pub position : entry.0.1 < loose_count section l
-  pub name : IsName entry.1
-
--- the names, in order
-pub record HasLineNames (l : Loose) : Type 0 where
-  pub sorted : IsStrictlySortedBy place_cmp (keys_of l.names)
-  pub named : All (IsNamedLine l) l.names
+  pub sections : HasFew (sections_of l)
 
 -- what the lists of a file keep
 pub record IsLoose (l : Loose) : Type 0 where
   pub definitions : HasDefinitions l
   pub small : HasSmall l
   pub few : HasFewLines l
-  pub names : HasLineNames l
+  pub names : HasNames (sections_of l)
 
 -- the first fault of a line that defines a variable and has these further literals: the defining literal, a limit
 abbrev pub line_refusal : Loose → ℕ → List ℕ → Option CircuitFault
@@ -194,7 +179,4 @@ loose_justice_refusal lists lits = if list_all is_small lits then size_refusal l
 
 -- the first fault of a name for a position of a section
 abbrev pub loose_name_refusal : Loose → Section → ℕ → List ℕ → Option CircuitFault
-loose_name_refusal l section position name =
-    if nat_le (loose_count section l) position then Some NoSuchPosition
-    else (if is_some (loose_name l section position) then Some NameTaken
-    else (if is_name name then None else Some BadName))
+loose_name_refusal l section position name = name_refusal (sections_of l) section position name

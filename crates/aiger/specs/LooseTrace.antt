@@ -1,7 +1,10 @@
--- What the lists of a file say of its variables by name ("AIGER 1.9 and Beyond", semantics).
+-- What the lists of a file say of its variables by name, and what the file and its circuit show in a frame ("AIGER 1.9 and Beyond", semantics).
 use Rattle.std.specs.Prelude.{◌≡◌, Bool, ◌&&◌, List, [], ◌∷◌, map, All}
+use Rattle.std.specs.List.{AllZip}
 use Rattle.aiger.specs.declared.loose.GateLine.{GateLine}
 use Rattle.aiger.specs.Literal.{Valuation, variable, literal_value}
+use Rattle.aiger.specs.Net.{latch_bits}
+use Rattle.aiger.specs.Circuit.{Circuit, net}
 use Rattle.aiger.specs.Loose.{Loose, latch_variable, gate_variable}
 
 -- a gate's variable is true exactly when both its operands are
@@ -25,3 +28,14 @@ IsLooseTrace l state [] (v ∷ vs) = ⊥
 IsLooseTrace l state (input ∷ inputs) [] = ⊥
 IsLooseTrace l state (input ∷ inputs) (v ∷ vs) =
     IsLooseFrame l state input v × IsLooseTrace l (loose_next_state l v) inputs vs
+
+-- a file and a circuit show the same latches, outputs, bad properties and constraints
+pub record ShowsSame (l : Loose) (c : Circuit) (v : Valuation) (w : Valuation) : Type 0 where
+  pub latches : map (λ line. v (latch_variable line)) l.latches ≡ latch_bits (net c) w
+  pub outputs : map (literal_value v) l.outputs ≡ map (literal_value w) c.outputs
+  pub bads : map (literal_value v) l.bads ≡ map (literal_value w) c.bads
+  pub constraints : map (literal_value v) l.constraints ≡ map (literal_value w) c.constraints
+
+-- as many frames, and the same in each
+abbrev pub AllShowSame : Loose → Circuit → List Valuation → List Valuation → Type 0
+AllShowSame l c vs ws = AllZip (ShowsSame l c) vs ws

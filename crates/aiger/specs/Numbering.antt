@@ -1,23 +1,15 @@
 -- What stands between the parts of numbering: the slots of a file's gates, and their order as far as it goes.
-use Rattle.std.specs.Prelude.{◌≡◌, ℕ, suc, ◌-◌, ◌<◌, ◌≤◌, slice_index_or, count_by, Bool, not, false, List, [], ◌∷◌, ◌++◌, map, length, nat_eq, if◌then◌else◌, ◌==◌}
-use Rattle.std.specs.List.{position_or_len, concat, flat_map, list_all, list_any}
-use Rattle.aiger.specs.declared.circuit.Gate.{Gate}
+use Rattle.std.specs.Prelude.{◌≡◌, ℕ, suc, ◌-◌, ◌<◌, ◌≤◌, slice_index_or, count_by, Bool, not, false, List, [], ◌∷◌, length, nat_eq, if◌then◌else◌, ◌==◌}
+use Rattle.std.specs.List.{position_or_len, flat_map, list_all, list_any}
 use Rattle.aiger.specs.declared.loose.GateLine.{GateLine}
-use Rattle.aiger.specs.Circuit.{Circuit}
 use Rattle.aiger.specs.Literal.{variable}
 use Rattle.aiger.specs.Loose.{Loose, gate_variable}
-use Rattle.aiger.specs.Renumbering.{AreInTurn, alone, is_ready, is_known, new_literal}
+use Rattle.aiger.specs.Renumbering.{AreInTurn, is_ready, is_known}
 use Rattle.aiger.specs.Readiness.{MarksDone}
 
 -- a line with a literal whose variable is neither 0 nor defined
 abbrev pub is_unknown : Loose → List ℕ → Bool
 is_unknown l lits = not (list_all (is_known l) lits)
-
--- the lines that use literals, with these gates for all
-abbrev pub lines_with : Loose → List GateLine → List (List ℕ)
-lines_with l gates =
-    map (λ line. line.next ∷ []) l.latches ++ map alone l.outputs ++ map alone l.bads ++ map alone l.constraints
-    ++ map alone (concat l.justice) ++ map alone l.fair ++ map (λ line. line.rhs0 ∷ line.rhs1 ∷ []) gates
 
 -- no variable stands twice
 abbrev pub IsOnce : List ℕ → Type 0
@@ -46,21 +38,6 @@ slots_of names leaves gates = flat_map (λ line. slot_of names leaves line.rhs0 
 -- the operands of each gate wait for no gate but those before it
 abbrev pub WaitForEarlier : List ℕ → ℕ → List GateLine → Type 0
 WaitForEarlier names leaves gates = (j : ℕ) → j < length gates → (slot_of names leaves (line_in gates j).rhs0 ≤ j) × (slot_of names leaves (line_in gates j).rhs1 ≤ j)
-
--- the circuit of the lists of a file by the numbers of their variables, with these gates
-abbrev pub circuit_by : Loose → List ℕ → List Gate → Circuit
-circuit_by l names gates =
-    record {
-      inputs = length l.inputs;
-      latches = map (λ line. record { next = new_literal names line.next; reset = line.reset }) l.latches;
-      gates = gates;
-      outputs = map (new_literal names) l.outputs;
-      bads = map (new_literal names) l.bads;
-      constraints = map (new_literal names) l.constraints;
-      justice = map (map (new_literal names)) l.justice;
-      fair = map (new_literal names) l.fair;
-      names = l.names;
-    }
 
 -- the gates of a file in the order of readiness, until none is ready, and which ones these are
 pub record IsReadyOrder (l : Loose) (order : List ℕ) (marks : List Bool) : Type 0 where

@@ -17,11 +17,15 @@ is_known l lit = variable lit == 0 || is_defined l (variable lit)
 abbrev pub alone : ℕ → List ℕ
 alone lit = lit ∷ []
 
--- the lines that use literals, in file order, and for each the literals that it uses: latches, outputs, bad properties, constraints, justice literals, fairness constraints, gates
-abbrev pub used_lines : Loose → List (List ℕ)
-used_lines l =
+-- the lines that use literals, in file order, and for each the literals that it uses: latches, outputs, bad properties, constraints, justice literals, fairness constraints, and these gates
+abbrev pub lines_with : Loose → List GateLine → List (List ℕ)
+lines_with l gates =
     map (λ line. line.next ∷ []) l.latches ++ map alone l.outputs ++ map alone l.bads ++ map alone l.constraints
-    ++ map alone (concat l.justice) ++ map alone l.fair ++ map (λ line. line.rhs0 ∷ line.rhs1 ∷ []) l.gates
+    ++ map alone (concat l.justice) ++ map alone l.fair ++ map (λ line. line.rhs0 ∷ line.rhs1 ∷ []) gates
+
+-- the same of all gates
+abbrev pub used_lines : Loose → List (List ℕ)
+used_lines l = lines_with l l.gates
 
 -- the first of these lines with a literal whose variable is neither 0 nor defined, if there is one
 abbrev pub first_undefined : Loose → Option ℕ
@@ -78,20 +82,24 @@ ordered_gate a b = if nat_lt a b then record { rhs0 = b; rhs1 = a } else record 
 abbrev pub new_gate : List ℕ → GateLine → Gate
 new_gate names line = ordered_gate (new_literal names line.rhs0) (new_literal names line.rhs1)
 
--- the circuit in which the gates have their numbers in this order; variables without a definition are gone
-abbrev pub renumbered : Loose → List ℕ → Circuit
-renumbered l order =
+-- the circuit of the lists by the numbers of their variables, with these gates
+abbrev pub circuit_by : Loose → List ℕ → List Gate → Circuit
+circuit_by l names gates =
     record {
       inputs = length l.inputs;
-      latches = map (λ line. record { next = new_literal (numbered l order) line.next; reset = line.reset }) l.latches;
-      gates = map (λ j. new_gate (numbered l order) (gate_line l j)) order;
-      outputs = map (new_literal (numbered l order)) l.outputs;
-      bads = map (new_literal (numbered l order)) l.bads;
-      constraints = map (new_literal (numbered l order)) l.constraints;
-      justice = map (map (new_literal (numbered l order))) l.justice;
-      fair = map (new_literal (numbered l order)) l.fair;
+      latches = map (λ line. record { next = new_literal names line.next; reset = line.reset }) l.latches;
+      gates = gates;
+      outputs = map (new_literal names) l.outputs;
+      bads = map (new_literal names) l.bads;
+      constraints = map (new_literal names) l.constraints;
+      justice = map (map (new_literal names)) l.justice;
+      fair = map (new_literal names) l.fair;
       names = l.names;
     }
+
+-- the circuit in which the gates have their numbers in this order; variables without a definition are gone
+abbrev pub renumbered : Loose → List ℕ → Circuit
+renumbered l order = circuit_by l (numbered l order) (map (λ j. new_gate (numbered l order) (gate_line l j)) order)
 
 -- a circuit is the lists of a file with the numbers of a circuit
 pub record IsRenumbered (l : Loose) (c : Circuit) : Type 0 where

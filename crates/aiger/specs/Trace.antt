@@ -1,5 +1,6 @@
 -- Traces of a circuit ("AIGER 1.9 and Beyond", semantics: latches begin at their resets and take their next literals' bits).
 use Rattle.std.specs.Prelude.{◌≡◌, ℕ, ◌≤◌, Bool, true, false, List, [], ◌∷◌, map}
+use Rattle.std.specs.List.{AllZip}
 use Rattle.aiger.specs.declared.circuit.Latch.{Latch}
 use Rattle.aiger.specs.declared.circuit.Reset.{Reset}
 use Rattle.aiger.specs.declared.circuit.Reset.TheVariants.{Zero, One, Free}
@@ -32,10 +33,7 @@ AgreesWithReset Free b = Unit {0}
 
 -- initial bits: one for each latch, and each agrees with its reset
 abbrev pub AreInitial : List Latch → List Bool → Type 0
-AreInitial [] [] = Unit {0}
-AreInitial [] (b ∷ bs) = ⊥
-AreInitial (l ∷ ls) [] = ⊥
-AreInitial (l ∷ ls) (b ∷ bs) = AgreesWithReset l.reset b × AreInitial ls bs
+AreInitial latches bits = AllZip (λ (l : Latch) b. AgreesWithReset l.reset b) latches bits
 
 -- two valuations say the same of each variable of a circuit
 abbrev pub SameFrame : Circuit → Valuation → Valuation → Type 0
@@ -43,7 +41,4 @@ SameFrame c v w = (k : ℕ) → 1 ≤ k → k ≤ variables (net c) → v k ≡ 
 
 -- two traces are as long, and say the same in each frame
 abbrev pub SameTrace : Circuit → List Valuation → List Valuation → Type 0
-SameTrace c [] [] = Unit {0}
-SameTrace c [] (w ∷ ws) = ⊥
-SameTrace c (v ∷ vs) [] = ⊥
-SameTrace c (v ∷ vs) (w ∷ ws) = SameFrame c v w × SameTrace c vs ws
+SameTrace c vs ws = AllZip (SameFrame c) vs ws

@@ -3,23 +3,12 @@ use Rattle.std.specs.Prelude.{ℕ, [], ◌∷◌, false, ◌==◌}
 use Rattle.aiger.specs.declared.circuit.Reset.TheVariants.{Zero, Free}
 use Rattle.aiger.specs.Literal.{Valuation}
 use Rattle.aiger.specs.Net.{Net}
-use Rattle.aiger.specs.Circuit.{Circuit}
+use Rattle.aiger.specs.Circuit.{Circuit, fresh_circuit}
 use Rattle.aiger.specs.Loose.{Loose, empty_loose}
 
 -- one latch that begins with 0 and takes its negation, and is bad where it is 1
 abbrev pub toggler : Circuit
-toggler =
-    record {
-      inputs = 0;
-      latches = record { next = 3; reset = Zero } ∷ [];
-      gates = [];
-      outputs = [];
-      bads = 2 ∷ [];
-      constraints = [];
-      justice = [];
-      fair = [];
-      names = [];
-    }
+toggler = record (fresh_circuit 0 1) { latches = record { next = 3; reset = Zero } ∷ []; bads = 2 ∷ [] }
 
 -- its latch is 0, and 1
 abbrev pub off : Valuation
@@ -53,18 +42,7 @@ backwards =
 
 -- the circuit that both are as numbered
 abbrev pub straight : Circuit
-straight =
-    record {
-      inputs = 2;
-      latches = [];
-      gates = record { rhs0 = 5; rhs1 = 2 } ∷ record { rhs0 = 6; rhs1 = 3 } ∷ [];
-      outputs = 8 ∷ [];
-      bads = [];
-      constraints = [];
-      justice = [];
-      fair = [];
-      names = [];
-    }
+straight = record (fresh_circuit 2 0) { gates = record { rhs0 = 5; rhs1 = 2 } ∷ record { rhs0 = 6; rhs1 = 3 } ∷ []; outputs = 8 ∷ [] }
 
 -- two gates of which each has the other's variable in an operand
 abbrev pub looped : Loose
@@ -131,15 +109,4 @@ of_each =
 
 -- the circuit that it is as numbered
 abbrev pub of_each_numbered : Circuit
-of_each_numbered =
-    record {
-      inputs = 1;
-      latches = [];
-      gates = [];
-      outputs = 2 ∷ [];
-      bads = 3 ∷ [];
-      constraints = 1 ∷ [];
-      justice = (2 ∷ []) ∷ [];
-      fair = 3 ∷ [];
-      names = ((0, 0), 97 ∷ []) ∷ [];
-    }
+of_each_numbered = record (fresh_circuit 1 0) { outputs = 2 ∷ []; bads = 3 ∷ []; constraints = 1 ∷ []; justice = (2 ∷ []) ∷ []; fair = 3 ∷ []; names = ((0, 0), 97 ∷ []) ∷ [] }

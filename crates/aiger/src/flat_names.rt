@@ -20,11 +20,12 @@ pub struct FlatNames {
 
 impl Model for FlatNames {
     ghost use Rattle.std.specs.Prelude.{ℕ, List};
-    ghost use Rattle.aiger.specs.FlatNames.{named_keys, AreFlat};
+    ghost use Rattle.std.specs.List.{zip};
+    ghost use Rattle.aiger.specs.FlatNames.{AreFlat};
 
     ghost Value = { List (ℕ × List ℕ) };
 
-    ghost view = { λ n. named_keys n.keys.items n.names };
+    ghost view = { λ n. zip n.keys.items n.names };
 
     ghost invariant = { λ n. AreFlat n.keys.items n.names };
 }

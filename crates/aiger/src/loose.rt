@@ -2,6 +2,7 @@
 ghost use Rattle.std.specs.Prelude.{◌≡◌, ℕ, ◌<◌, true, [], ◌∷◌, ◌++◌, length, None, Some, OnOk, OnErr, option_copied, slice_get, nat_le, nat_eq, cond, ◌&&◌, not};
 ghost use Rattle.std.specs.List.{list_all, concat};
 ghost use Rattle.aiger.specs.Definitions.{has_variable};
+ghost use Rattle.aiger.specs.Circuit.{section_count};
 ghost use Rattle.aiger.specs.Literal.{variable};
 ghost use Rattle.aiger.specs.Refusal.{RefusesBy};
 ghost use Rattle.aiger.specs.Limits.{greatest_count};
@@ -74,7 +75,7 @@ impl Model for Loose {
 }
 
 impl Loose {
-    ghost use Rattle.aiger.specs.Loose.{IsLoose, empty_loose, is_defined, defined_count, loose_count, loose_name, with_input_line, with_latch_line, with_gate_line, with_output_line, with_bad_line, with_constraint_line, with_justice_lines, with_fair_line, with_loose_name, line_refusal, use_refusal, loose_justice_refusal, loose_name_refusal};
+    ghost use Rattle.aiger.specs.Loose.{IsLoose, empty_loose, is_defined, defined_count, sections_of, loose_name, with_input_line, with_latch_line, with_gate_line, with_output_line, with_bad_line, with_constraint_line, with_justice_lines, with_fair_line, with_loose_name, line_refusal, use_refusal, loose_justice_refusal, loose_name_refusal};
 
     /// Empty lists. It takes no memory.
     pub fn new(alloc: Global) -> Loose
@@ -298,7 +299,7 @@ impl Loose {
 
     /// How many positions a section has.
     fn count(&self, section: Section) -> usize
-        ensures { result ≡ loose_count section self.now }
+        ensures { result ≡ section_count section (sections_of self.now) }
     {
         match section {
             Section::Input => self.inputs.len(),

@@ -5,7 +5,7 @@ ghost use Rattle.aiger.specs.Limits.{greatest_count};
 ghost use Rattle.aiger.specs.Literal.{variable};
 ghost use Rattle.aiger.specs.Loose.{IsLoose, defined_variables, latch_variable};
 ghost use Rattle.aiger.specs.Renumbering.{AnswersNumber, IsOrder, first_undefined, numbered};
-ghost use Rattle.aiger.specs.Numbering.{slots_of, IsOnce, IsReadyOrder, WaitForEarlier};
+ghost use Rattle.aiger.specs.Numbering.{slots_of, IsOnce, WaitForEarlier};
 
 use crate::circuit::Circuit;
 use crate::circuit::renumbered::{gates_as_they_stand, gates_in_order};
@@ -69,20 +69,9 @@ impl Loose {
         requires valid { IsLoose self.now }
         ensures { AnswersNumber self.now result }
     {
-        match self.undefined_with(&[]) {
-            Some(line) => Err(LooseFault::Undefined(line)),
-            None => self.number_as_it_stands(alloc, places),
+        if let Some(line) = self.undefined_with(&[]) {
+            return Err(LooseFault::Undefined(line));
         }
-    }
-
-    /// The circuit of lists whose gates stand behind their operands, where each variable is defined.
-    fn number_as_it_stands(&self, alloc: Global, places: &Numbers) -> Result<Circuit, LooseFault>
-        requires known { first_undefined self.now ≡ None }
-        requires places { places.now ≡ defined_variables self.now }
-        requires in_order { WaitForEarlier (defined_variables self.now) (length self.now.inputs + length self.now.latches) self.now.gates }
-        requires valid { IsLoose self.now }
-        ensures { AnswersNumber self.now result }
-    {
         let gates = gates_as_they_stand(alloc, places, self.gates())?;
         Ok(Circuit::renumbered(alloc, self, places, gates)?)
     }
@@ -116,7 +105,7 @@ impl Loose {
         requires slots { slots.items ≡ slots_of (defined_variables self.now) (length self.now.inputs + length self.now.latches) self.now.gates }
         ensures { AnswersNumber self.now result }
     {
-        let (order, marks) = self.gate_order(alloc, slots)?;
+        let (order, marks) = order_of_readiness(alloc, slots, self.gates().len())?;
         match first_left(&marks) {
             Some(gate) => Err(LooseFault::Cycle(gate)),
             None => self.number_by_order(alloc, &order),
@@ -208,21 +197,6 @@ impl Loose {
         self.push_leaves(&mut numbers)?;
         numbers.push_gates(self.gates())?;
         Ok(numbers)
-    }
-
-    /// The gates in the order of readiness, until none is ready, and for each gate whether it is
-    /// among them.
-    fn gate_order(
-        &self,
-        alloc: Global,
-        slots: Vec<u32>,
-    ) -> Result<(Vec<u32>, Vec<bool>), AllocError>
-        requires known { first_undefined self.now ≡ None }
-        requires slots { slots.items ≡ slots_of (defined_variables self.now) (length self.now.inputs + length self.now.latches) self.now.gates }
-        ensures order { IfOk result (λ r. IsReadyOrder self.now r.0.items r.1.items) }
-        ensures valid { IsLoose self.now }
-    {
-        order_of_readiness(alloc, slots, self.gates().len())
     }
 
     /// For each gate the two slots of its operands: 0 where an operand waits for no gate, or the

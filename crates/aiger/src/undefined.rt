@@ -3,8 +3,8 @@ ghost use Rattle.std.specs.Prelude.{◌≡◌, ℕ, ◌+◌, ◌≤◌, List, []
 ghost use Rattle.std.specs.List.{position};
 ghost use Rattle.std.specs.Option.{option_map};
 ghost use Rattle.aiger.specs.Limits.{greatest_count};
-ghost use Rattle.aiger.specs.Renumbering.{alone, is_known, first_undefined};
-ghost use Rattle.aiger.specs.Numbering.{is_unknown, lines_with};
+ghost use Rattle.aiger.specs.Renumbering.{alone, is_known, first_undefined, lines_with};
+ghost use Rattle.aiger.specs.Numbering.{is_unknown};
 
 use crate::literal::Lit;
 use crate::loose::{GateLine, LatchLine, Loose};

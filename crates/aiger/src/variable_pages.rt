@@ -1,6 +1,6 @@
 //! A number for each variable that was given one, kept so that neighbouring variables stand side by side.
 ghost use Rattle.std.specs.Prelude.{◌≡◌, ℕ, ◌/◌, ◌%◌, ◌<◌, ◌≤◌, OnOk, OnErr, nat_eq, cond, slice_set};
-ghost use Rattle.aiger.specs.VariablePages.{paged_number};
+ghost use Rattle.aiger.specs.VariableNumbers.{paged_number};
 
 use std::alloc::{AllocError, Global};
 use std::collections::HashMap;

@@ -1,9 +1,9 @@
 -- An ascii text that stands for a circuit is read as it, and what is read stands for the text.
-use Rattle.std.proofs.Common.{◌≡◌, ℕ, ◌≤◌, List, [], ◌∷◌, ◌++◌, Result, Ok, Err, refl, sym, ap, subst, ◌∙◌, append_assoc, inl, inr, ◌⊎◌, arith}
+use Rattle.std.proofs.Common.{◌≡◌, ℕ, ◌≤◌, List, [], ◌∷◌, ◌++◌, length, Result, Ok, Err, refl, sym, ap, subst, ◌∙◌, append_assoc, inl, inr, ◌⊎◌}
 use Rattle.aiger.specs.declared.circuit.Section.{Section}
 use Rattle.aiger.specs.Circuit.{Circuit, IsCircuit, NameMap}
 use Rattle.aiger.specs.Limits.{greatest_count}
-use Rattle.aiger.specs.Loose.{Loose, IsLoose}
+use Rattle.aiger.specs.Loose.{Loose, IsLoose, sections_of}
 use Rattle.aiger.specs.Renumbering.{IsRenumbered}
 use Rattle.aiger.proofs.SectionNameLemmas.{few_positions}
 use Rattle.aigertext.specs.declared.reading.counts.Counts.{Counts}
@@ -19,7 +19,7 @@ use Rattle.aigertext.proofs.FileBackLemmas.{ListsBack, lists-back}
 use Rattle.aigertext.proofs.FileReadLemmas.{lists-read}
 use Rattle.aigertext.proofs.GateBackLemmas.{AreBytes}
 use Rattle.aigertext.proofs.HeaderBackLemmas.{HeaderBack, header-back}
-use Rattle.aigertext.proofs.HeaderLemmas.{header-read}
+use Rattle.aigertext.proofs.HeaderLemmas.{counts_small, header-read}
 use Rattle.aigertext.proofs.HeaderSmallLemmas.{header_small}
 use Rattle.aigertext.proofs.NameReadLemmas.{names-read}
 use Rattle.aigertext.proofs.ReadStandsLemmas.{NameLaw, names_valid, end-back, header_spelled, binary-stands}
@@ -31,17 +31,7 @@ IsCircuitLaw = (l : Loose) (c : Circuit) → IsLoose l → IsRenumbered l c → 
 
 -- the numbers of such a text are small
 file_small : (l : Loose) (greatest : ℕ) → IsLoose l → greatest ≤ greatest_count → AreSmall (counts_of_file greatest l)
-file_small l greatest valid small = record {
-  variables = small;
-  inputs = omega (arith, valid.few.defined);
-  latches = omega (arith, valid.few.defined);
-  outputs = valid.few.outputs;
-  gates = omega (arith, valid.few.defined);
-  bads = valid.few.bads;
-  constraints = valid.few.constraints;
-  justice = valid.few.justice;
-  fair = valid.few.fair;
-}
+file_small l greatest valid small = counts_small greatest (length l.inputs) (length l.latches) (length l.gates) (sections_of l) small valid.few.defined valid.few.sections
 
 pub ascii-read : IsCircuitLaw → (text : List ℕ) (c : Circuit) → IsAsciiText text c → AnswersText text (Ok c)
 unfolding AnswersText

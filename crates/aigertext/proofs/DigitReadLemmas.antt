@@ -1,5 +1,5 @@
 -- The digits of a delta, read one by one.
-use Rattle.std.proofs.Common.{◌≢◌, ℕ, zero, suc, ◌+◌, ◌-◌, ◌*◌, ◌^◌, ◌<◌, ◌≤◌, refl, arith}
+use Rattle.std.proofs.Common.{ℕ, zero, suc, ◌+◌, ◌^◌, ◌≤◌, arith}
 
 pub power_low : (m : ℕ) → m ≤ 3 → 128 ≤ 128 ^ (m + 1)
 power_low zero h = omega arith
@@ -15,10 +15,3 @@ power_high (suc (suc zero)) h = omega arith
 power_high (suc (suc (suc zero))) h = omega arith
 power_high (suc (suc (suc (suc zero)))) h = omega arith
 power_high (suc (suc (suc (suc (suc n))))) h = absurd (omega arith)
-
-pub power_step : (m b x : ℕ) → m ≤ 3 → m ≢ 0 → b < 256 → x < 128 ^ (m - 1 + 1) → (b - 128) + 128 * x < 128 ^ (m + 1)
-power_step zero b x h some small lt = absurd (some refl)
-power_step (suc zero) b x h some small lt = omega arith
-power_step (suc (suc zero)) b x h some small lt = omega arith
-power_step (suc (suc (suc zero))) b x h some small lt = omega arith
-power_step (suc (suc (suc (suc n)))) b x h some small lt = absurd (omega arith)

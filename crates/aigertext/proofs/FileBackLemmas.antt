@@ -4,14 +4,16 @@ use Rattle.std.specs.List.{concat}
 use Rattle.std.specs.List.Sorted.{IsStrictlySortedBy}
 use Rattle.std.proofs.lemmas.Bool.{and_parts, eqb-true, leb-true}
 use Rattle.std.proofs.lemmas.Bool.Decides.{nat_tests}
-use Rattle.std.proofs.lemmas.List.Elements.{All-weaker, All-nil}
+use Rattle.std.proofs.lemmas.List.Elements.{All-weaker, All-nil, All-map}
 use Rattle.base.specs.Decimals.{number_of}
 use Rattle.base.proofs.DecimalLemmas.{chosen, number_is_decimal}
 use Rattle.aiger.specs.declared.loose.GateLine.{GateLine}
+use Rattle.aiger.specs.declared.circuit.Latch.{Latch}
 use Rattle.aiger.specs.declared.loose.LatchLine.{LatchLine}
 use Rattle.aiger.specs.Limits.{greatest_count}
 use Rattle.aiger.specs.Literal.{variable}
-use Rattle.aiger.specs.Loose.{Loose, IsLoose, HasDefinitions, HasSmall, HasFewLines, IsDefining, IsSmall, IsNamedLine, empty_loose, latch_variable, gate_variable, defined_variables, is_defining, is_defined, with_input_line, with_latch_line, with_gate_line}
+use Rattle.aiger.specs.Circuit.{IsNamed}
+use Rattle.aiger.specs.Loose.{Loose, IsLoose, HasDefinitions, HasSmall, HasFewLines, IsDefining, IsSmall, sections_of, latch_of as latch_section, empty_loose, latch_variable, gate_variable, defined_variables, is_defining, is_defined, with_input_line, with_latch_line, with_gate_line}
 use Rattle.aiger.specs.Numbering.{IsOnce}
 use Rattle.aigertext.specs.declared.reading.counts.Counts.{Counts}
 use Rattle.aigertext.specs.declared.fault.Why.{Why}
@@ -221,33 +223,37 @@ module _ (h : Counts) (few : AreSmall h) (fits : h.inputs + h.latches + h.gates 
       record {
         inputs = All-weaker (IsGoodInput (2 * h.variables + 1)) IsSmall (λ n x. small_literal h.variables n few.variables x.0) i.things i.good;
         latches = All-weaker (IsGoodLatch (2 * h.variables + 1)) (λ x. IsSmall x.current) (λ x y. small_literal h.variables x.current few.variables y.0.0) k.things k.good;
-        nexts = All-weaker (IsGoodLatch (2 * h.variables + 1)) (λ x. IsSmall x.next) (λ x y. small_literal h.variables x.next few.variables y.0.1) k.things k.good;
         gates = All-weaker (IsGoodGate (2 * h.variables + 1)) (λ x. IsSmall x.lhs) (λ x y. small_literal h.variables x.lhs few.variables y.0.0) g.things g.good;
         first_operands = All-weaker (IsGoodGate (2 * h.variables + 1)) (λ x. IsSmall x.rhs0) (λ x y. small_literal h.variables x.rhs0 few.variables y.0.1) g.things g.good;
         second_operands = All-weaker (IsGoodGate (2 * h.variables + 1)) (λ x. IsSmall x.rhs1) (λ x y. small_literal h.variables x.rhs1 few.variables y.0.2) g.things g.good;
-        outputs = all_small p.outputs q.up_to.outputs;
-        bads = all_small p.bads q.up_to.bads;
-        constraints = all_small p.constraints q.up_to.constraints;
-        justice = lists_hold IsSmall (lists_of p.sizes p.listed) (all_small (concat (lists_of p.sizes p.listed)) q.up_to.justice);
-        fair = all_small p.fair q.up_to.fair;
+        sections = record {
+          nexts = All-map (λ (x : Latch). IsSmall x.next) latch_section k.things (All-weaker (IsGoodLatch (2 * h.variables + 1)) (λ x. IsSmall x.next) (λ x y. small_literal h.variables x.next few.variables y.0.1) k.things k.good);
+          outputs = all_small p.outputs q.up_to.outputs;
+          bads = all_small p.bads q.up_to.bads;
+          constraints = all_small p.constraints q.up_to.constraints;
+          justice = lists_hold IsSmall (lists_of p.sizes p.listed) (all_small (concat (lists_of p.sizes p.listed)) q.up_to.justice);
+          fair = all_small p.fair q.up_to.fair;
+        };
       }
 
   few_back : HasFewLines (made i.things k.things p g.things)
   few_back =
       record {
         defined = few_defined (length i.things) (length k.things) (length g.things) h.inputs h.latches h.gates h.variables i.many k.many g.many fits few.variables;
-        outputs = few_of (length p.outputs) h.outputs q.outputs few.outputs;
-        bads = few_of (length p.bads) h.bads q.bads few.bads;
-        constraints = few_of (length p.constraints) h.constraints q.constraints few.constraints;
-        justice = few_of (length (lists_of p.sizes p.listed)) h.justice (length_lists p.sizes p.listed ∙ q.sizes) few.justice;
-        justice_literals = lists_total p.sizes p.listed q.listed q.total;
-        fair = few_of (length p.fair) h.fair q.fair few.fair;
+        sections = record {
+          outputs = few_of (length p.outputs) h.outputs q.outputs few.outputs;
+          bads = few_of (length p.bads) h.bads q.bads few.bads;
+          constraints = few_of (length p.constraints) h.constraints q.constraints few.constraints;
+          justice = few_of (length (lists_of p.sizes p.listed)) h.justice (length_lists p.sizes p.listed ∙ q.sizes) few.justice;
+          justice_literals = lists_total p.sizes p.listed q.listed q.total;
+          fair = few_of (length p.fair) h.fair q.fair few.fair;
+        };
       }
 
   valid_back : IsLoose (made i.things k.things p g.things)
   unfolding IsStrictlySortedBy
   valid_back =
-      record { definitions = definitions_back; small = small_back; few = few_back; names = record { sorted = tt; named = All-nil (IsNamedLine (made i.things k.things p g.things)) } }
+      record { definitions = definitions_back; small = small_back; few = few_back; names = record { sorted = tt; named = All-nil (IsNamed (sections_of (made i.things k.things p g.things))) } }
 
   up_to_back : AreUpTo (2 * h.variables + 1) (made i.things k.things p g.things)
   up_to_back =

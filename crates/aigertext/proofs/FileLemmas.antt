@@ -3,11 +3,9 @@ use Rattle.std.proofs.Common.{◌≡◌, ℕ, suc, ◌+◌, ◌<◌, ◌≤◌, 
 use Rattle.std.specs.List.{list_all, AllByRecursion}
 use Rattle.std.proofs.lemmas.Bool.{and_from}
 use Rattle.std.proofs.lemmas.Bool.Decides.{nat_tests}
-use Rattle.aiger.specs.declared.loose.GateLine.{GateLine}
-use Rattle.aiger.specs.declared.loose.LatchLine.{LatchLine}
 use Rattle.aiger.specs.Limits.{greatest_count}
 use Rattle.aiger.specs.Literal.{variable}
-use Rattle.aiger.specs.Loose.{Loose, defined_count, is_small, line_refusal, with_input_line, with_latch_line, with_gate_line}
+use Rattle.aiger.specs.Loose.{Loose, defined_count, is_small, line_refusal, with_input_line}
 use Rattle.aigertext.specs.declared.fault.Stop.{Stop}
 use Rattle.aigertext.specs.declared.fault.Why.{Why}
 use Rattle.aigertext.specs.Reading.{line_at}
@@ -45,9 +43,3 @@ all_small greatest (n ∷ ns) few h = and_from (is_small n) (list_all is_small n
 
 pub input_more : (l m : Loose) (x : ℕ) → m ≡ with_input_line l x → defined_count m ≡ defined_count l + 1
 input_more l m x is = ap defined_count is ∙ omega (arith, length-append l.inputs (x ∷ []))
-
-pub latch_more : (l m : Loose) (x : LatchLine) → m ≡ with_latch_line l x → defined_count m ≡ defined_count l + 1
-latch_more l m x is = ap defined_count is ∙ omega (arith, length-append l.latches (x ∷ []))
-
-pub gate_more : (l m : Loose) (x : GateLine) → m ≡ with_gate_line l x → defined_count m ≡ defined_count l + 1
-gate_more l m x is = ap defined_count is ∙ omega (arith, length-append l.gates (x ∷ []))

@@ -12,9 +12,8 @@ use Rattle.aiger.specs.declared.loose.GateLine.{GateLine}
 use Rattle.aiger.specs.declared.loose.LatchLine.{LatchLine}
 use Rattle.aiger.specs.Limits.{greatest_count}
 use Rattle.aiger.specs.Literal.{variable}
-use Rattle.aiger.specs.Circuit.{Circuit}
 use Rattle.aiger.specs.Numbering.{IsOnce}
-use Rattle.aiger.specs.Loose.{Loose, IsLoose, IsDefining, empty_loose, latch_variable, gate_variable, defined_variables, is_defined, with_input_line, with_latch_line, with_gate_line}
+use Rattle.aiger.specs.Loose.{Loose, IsLoose, IsDefining, sections_of, empty_loose, latch_variable, gate_variable, defined_variables, is_defined, with_input_line, with_latch_line, with_gate_line}
 use Rattle.aigertext.specs.declared.fault.Stop.{Stop}
 use Rattle.aigertext.specs.declared.fault.Why.{Why}
 use Rattle.aigertext.specs.declared.fault.Why.TheVariants as why
@@ -139,21 +138,6 @@ behind_inputs a b c = simp (append-nil, append_assoc)
 behind_leaves : (a b c : List ℕ) → a ++ b ++ c ≡ (a ++ b ++ []) ++ (c ++ [])
 behind_leaves a b c = simp (append-nil, append_assoc)
 
--- the properties of lists as those of a circuit
-abbrev pub uses_in : Loose → Circuit
-uses_in l =
-    record {
-      inputs = 0;
-      latches = [];
-      gates = [];
-      outputs = l.outputs;
-      bads = l.bads;
-      constraints = l.constraints;
-      justice = l.justice;
-      fair = l.fair;
-      names = [];
-    }
-
 -- all of them
 module _ (greatest : ℕ) (l : Loose) (valid : IsLoose l) (unnamed : l.names ≡ []) (few : greatest ≤ greatest_count) (up_to : AreUpTo (2 * greatest + 1) l) where
   small : 2 * greatest + 1 < 2 ^ 64 - 1
@@ -167,7 +151,7 @@ module _ (greatest : ℕ) (l : Loose) (valid : IsLoose l) (unnamed : l.names ≡
   with_leaves = record empty_loose { inputs = l.inputs; latches = l.latches }
 
   abbrev with_all_uses : Loose
-  with_all_uses = with_properties_of with_leaves (properties_in (uses_in l))
+  with_all_uses = with_properties_of with_leaves (properties_in (sections_of l))
 
   inputs_read : (bytes rest : List ℕ) → AreLines IsInputLine l.inputs bytes → onto_lists (input_of (2 * greatest + 1)) with_input_line empty_loose (length l.inputs) (bytes ++ rest) ≡ Ok (with_inputs, rest)
   inputs_read bytes rest are =
@@ -202,10 +186,10 @@ module _ (greatest : ℕ) (l : Loose) (valid : IsLoose l) (unnamed : l.names ≡
       → lists_of_file (counts_of_file greatest l) (inputs ++ (latches ++ (use_lines l ++ (gates ++ end)))) ≡ Ok (l, end)
   unfolding lists_of_file
   lists-read inputs latches gates end are_inputs are_latches are_gates =
-      let below : HasUpTo (2 * greatest + 1) (uses_in l) = record { outputs = up_to.outputs; bads = up_to.bads; constraints = up_to.constraints; justice = up_to.justice; fair = up_to.fair } in
+      let below : HasUpTo (2 * greatest + 1) (sections_of l) = record { outputs = up_to.outputs; bads = up_to.bads; constraints = up_to.constraints; justice = up_to.justice; fair = up_to.fair } in
       rw (
         inputs_read inputs (latches ++ (use_lines l ++ (gates ++ end))) are_inputs,
         latches_read latches (use_lines l ++ (gates ++ end)) are_latches,
-        properties-read greatest (length l.inputs) (length l.latches) (length l.gates) (uses_in l) (gates ++ end) few below valid.few.justice_literals,
+        properties-read greatest (length l.inputs) (length l.latches) (length l.gates) (sections_of l) (gates ++ end) few below valid.few.sections.justice_literals,
         gates_read gates end are_gates,
       ) (all_read end)

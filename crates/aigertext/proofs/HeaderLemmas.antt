@@ -5,13 +5,14 @@ use Rattle.std.proofs.lemmas.Bool.Decides.{nat_tests}
 use Rattle.base.specs.Lines.{HasNone, IsLine}
 use Rattle.base.proofs.DecimalLemmas.{number_of-decimal}
 use Rattle.aiger.specs.Limits.{greatest_count}
-use Rattle.aiger.specs.Circuit.{Circuit, IsCircuit}
+use Rattle.aiger.specs.Net.{variables}
+use Rattle.aiger.specs.Circuit.{Circuit, IsCircuit, HasFew, net}
 use Rattle.aigertext.specs.declared.reading.counts.Counts.{Counts}
 use Rattle.aigertext.specs.declared.forms.Form.{Form}
 use Rattle.aigertext.specs.declared.forms.Form.TheVariants.{Ascii, Binary}
 use Rattle.aigertext.specs.Ascii.{numbers_line, form_word}
 use Rattle.aigertext.specs.Counts as counts
-use Rattle.aigertext.specs.Counts.{Fits, first_of_counts, last_of_counts, counts_in}
+use Rattle.aigertext.specs.Counts.{Fits, first_of_counts, last_of_counts, counts_by, counts_in}
 use Rattle.aigertext.specs.Spelling.{IsHeader}
 use Rattle.aigertext.specs.Reading.{fields, line_at, number_at, last_at, last_four, first_five, count_of, counts_of, fitting, form_of, header_fields, header_of}
 use Rattle.aigertext.proofs.FieldLemmas.{joined, AreSmall, fields-joined, fields-more, joined_is_line, none_of_both, numbers_line-joined, line_read}
@@ -88,19 +89,22 @@ small_front : (xs ys : List ℕ) → AreSmall (xs ++ ys) → AreSmall xs
 small_front [] ys small = tt
 small_front (x ∷ xs) ys small = (small.0, small_front xs ys small.1)
 
--- the numbers of a circuit
-pub circuit_counts : (c : Circuit) → IsCircuit c → counts.AreSmall (counts_in c)
-circuit_counts c valid = record {
-  variables = valid.small;
-  inputs = omega (arith, valid.small);
-  latches = omega (arith, valid.small);
-  outputs = valid.few.outputs;
-  gates = omega (arith, valid.small);
-  bads = valid.few.bads;
-  constraints = valid.few.constraints;
-  justice = valid.few.justice;
-  fair = valid.few.fair;
+-- the numbers of sections that are within the limits
+pub counts_small : (greatest inputs latches gates : ℕ) (c : Circuit) → greatest ≤ greatest_count → inputs + latches + gates ≤ greatest_count → HasFew c → counts.AreSmall (counts_by greatest inputs latches gates c)
+counts_small greatest inputs latches gates c small sum few = record {
+  variables = small;
+  inputs = omega (arith, sum);
+  latches = omega (arith, sum);
+  outputs = few.outputs;
+  gates = omega (arith, sum);
+  bads = few.bads;
+  constraints = few.constraints;
+  justice = few.justice;
+  fair = few.fair;
 }
+
+pub circuit_counts : (c : Circuit) → IsCircuit c → counts.AreSmall (counts_in c)
+circuit_counts c valid = counts_small (variables (net c)) c.inputs (length c.latches) (length c.gates) c valid.small valid.small valid.few
 
 last_small : (h : Counts) → counts.AreSmall h → AreSmall (last_of_counts h)
 last_small h small = (omega (arith, small.bads), (omega (arith, small.constraints), (omega (arith, small.justice), (omega (arith, small.fair), tt))))

@@ -52,7 +52,7 @@ printable_test (b ∷ bs) h =
 name_test : (name : List ℕ) → IsName name → is_name name ≡ true
 name_test name n = and_from _ _ (lt-ltb 0 (length name) n.some) (and_from _ _ (le-leb (length name) 300 n.short) (printable_test name n.printable))
 
-counts_kept : (s : Section) (c : Circuit) (names : NameMap) → section_count s (record c { names = names }) ≡ section_count s c
+pub counts_kept : (s : Section) (c : Circuit) (names : NameMap) → section_count s (record c { names = names }) ≡ section_count s c
 counts_kept section.Input c names = refl
 counts_kept section.Latch c names = refl
 counts_kept section.Output c names = refl

@@ -1,8 +1,8 @@
 -- Gates that are put onto a circuit by their text, and lines of inputs in turn.
-use Rattle.std.proofs.Common.{◌≡◌, ℕ, zero, suc, ◌+◌, ◌-◌, ◌*◌, ◌≤◌, List, [], ◌∷◌, ◌++◌, length, drop, take, decimal, Option, Some, None, refl, sym, ap, subst, ◌∙◌, append_assoc, append-nil, length-append, arith}
+use Rattle.std.proofs.Common.{◌≡◌, ℕ, zero, suc, ◌+◌, ◌-◌, ◌*◌, ◌≤◌, List, [], ◌∷◌, ◌++◌, length, take, decimal, Option, Some, None, refl, sym, ap, subst, ◌∙◌, append_assoc, append-nil, length-append, arith}
 use Rattle.std.specs.Io.KnownBytes.{prepend_known, Keeps, Consumes}
 use Rattle.std.proofs.KnownBytes.{Consumes-nil, Consumes-trans, Consumes-kept}
-use Rattle.std.proofs.lemmas.List.{drop_at, take_at}
+use Rattle.std.proofs.lemmas.List.{take_at}
 use Rattle.aiger.specs.declared.circuit.Gate.{Gate}
 use Rattle.aiger.specs.Net.{variables}
 use Rattle.aiger.specs.Circuit.{Circuit, net, with_gate}
@@ -125,11 +125,6 @@ pub puts_kept : (form : Form) (c d : Circuit) (n : ℕ) (x y z : Option (List �
 puts_kept form c d n x y z p kept = record { gates = p.gates; is = p.is; long = p.long; text = Consumes-kept x y z _ p.text kept }
 
 -- ---- fronts
-
-pub front_dropped : (text front rest : List ℕ) → text ≡ front ++ rest → drop (length text - length rest) text ≡ rest
-front_dropped text front rest is =
-    let long : length text ≡ length front + length rest = ap (length {A = ℕ}) is ∙ length-append front rest in
-    ap (drop (length text - length rest)) is ∙ drop_at front rest (length text - length rest) (omega (arith, long))
 
 pub front_taken : (text front rest : List ℕ) → text ≡ front ++ rest → take (length text - length rest) text ≡ front
 front_taken text front rest is =

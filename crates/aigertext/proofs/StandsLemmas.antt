@@ -4,7 +4,6 @@ use Rattle.std.specs.Prelude.{All}
 use Rattle.std.specs.List.{concat, sum_by}
 use Rattle.std.proofs.lemmas.List.Elements.{All-weaker, All-nil, All-head, All-tail, All-append}
 use Rattle.aiger.specs.declared.circuit.Latch.{Latch}
-use Rattle.aiger.specs.declared.circuit.Section.TheVariants as section
 use Rattle.aiger.specs.Limits.{greatest_count}
 use Rattle.aiger.specs.Net.{Net, variables, IsDefined}
 use Rattle.aiger.specs.Circuit.{Circuit, IsCircuit, net}
@@ -21,6 +20,7 @@ use Rattle.aigertext.specs.declared.forms.Form.{Form}
 use Rattle.aigertext.specs.declared.forms.Form.TheVariants.{Binary}
 use Rattle.aigertext.proofs.GateLemmas.{gates-read}
 use Rattle.aigertext.proofs.HeaderLemmas.{circuit_counts, header-read}
+use Rattle.aigertext.proofs.NameTextLemmas.{counts_kept}
 use Rattle.aigertext.proofs.NameReadLemmas.{HasFewPositions, names-read}
 use Rattle.aigertext.proofs.PropertyLemmas.{literals-read, sizes-read, list_lines-concat, length-concat, lists_of-concat, nexts-read}
 
@@ -100,13 +100,7 @@ nameless_is : (c : Circuit) → nameless c.inputs c.latches (properties_in c) c.
 nameless_is c = ap (λ (lists : List (List ℕ)). record c { names = []; justice = lists }) (lists_of-concat c.justice)
 
 pub few_in : (c : Circuit) → IsCircuit c → HasFewPositions (record c { names = [] })
-few_in c valid section.Input = few_positions section.Input c valid
-few_in c valid section.Latch = few_positions section.Latch c valid
-few_in c valid section.Output = few_positions section.Output c valid
-few_in c valid section.Bad = few_positions section.Bad c valid
-few_in c valid section.Constraint = few_positions section.Constraint c valid
-few_in c valid section.Justice = few_positions section.Justice c valid
-few_in c valid section.Fair = few_positions section.Fair c valid
+few_in c valid s = omega (arith, counts_kept s c [], few_positions s c valid)
 
 -- what stands behind the header
 body-read : (c : Circuit) (text : List ℕ) (t : IsBinaryText text c)

@@ -3,7 +3,7 @@ use Rattle.std.specs.Prelude.{◌≡◌, ℕ, ◌+◌, ◌≤◌, List, [], ◌�
 use Rattle.aiger.specs.Limits.{greatest_count}
 use Rattle.aiger.specs.Net.{variables}
 use Rattle.aiger.specs.Circuit.{Circuit, net}
-use Rattle.aiger.specs.Loose.{Loose}
+use Rattle.aiger.specs.Loose.{Loose, sections_of}
 use Rattle.aigertext.specs.declared.reading.counts.Counts.{Counts}
 use Rattle.aigertext.specs.declared.forms.Form.{Form}
 use Rattle.aigertext.specs.declared.forms.Form.TheVariants.{Ascii, Binary}
@@ -32,32 +32,25 @@ first_of_counts h = h.variables ∷ h.inputs ∷ h.latches ∷ h.outputs ∷ h.g
 abbrev pub last_of_counts : Counts → List ℕ
 last_of_counts h = h.bads ∷ h.constraints ∷ h.justice ∷ h.fair ∷ []
 
--- the numbers of a circuit
-abbrev pub counts_in : Circuit → Counts
-counts_in c =
+-- the numbers of sections, beside which there are so many variables, inputs, latches and gates
+abbrev pub counts_by : ℕ → ℕ → ℕ → ℕ → Circuit → Counts
+counts_by greatest inputs latches gates c =
     record {
-      variables = variables (net c);
-      inputs = c.inputs;
-      latches = length c.latches;
+      variables = greatest;
+      inputs = inputs;
+      latches = latches;
       outputs = length c.outputs;
-      gates = length c.gates;
+      gates = gates;
       bads = length c.bads;
       constraints = length c.constraints;
       justice = length c.justice;
       fair = length c.fair;
     }
 
+-- the numbers of a circuit
+abbrev pub counts_in : Circuit → Counts
+counts_in c = counts_by (variables (net c)) c.inputs (length c.latches) (length c.gates) c
+
 -- the numbers of the lists of a file with this greatest variable
 abbrev pub counts_of_file : ℕ → Loose → Counts
-counts_of_file greatest l =
-    record {
-      variables = greatest;
-      inputs = length l.inputs;
-      latches = length l.latches;
-      outputs = length l.outputs;
-      gates = length l.gates;
-      bads = length l.bads;
-      constraints = length l.constraints;
-      justice = length l.justice;
-      fair = length l.fair;
-    }
+counts_of_file greatest l = counts_by greatest (length l.inputs) (length l.latches) (length l.gates) (sections_of l)

@@ -2,8 +2,7 @@
 ghost use Rattle.std.specs.Prelude.{◌≡◌, ◌<◌, ◌≤◌, map, length, All, slice_index_or, IfOk};
 ghost use Rattle.aiger.specs.Limits.{greatest_count};
 ghost use Rattle.aiger.specs.Circuit.{IsCircuit};
-ghost use Rattle.aiger.specs.Numbering.{circuit_by};
-ghost use Rattle.aiger.specs.Renumbering.{new_literal, ordered_gate, new_gate};
+ghost use Rattle.aiger.specs.Renumbering.{new_literal, ordered_gate, new_gate, circuit_by};
 
 use crate::circuit::{Circuit, Gate, Latch};
 use crate::literal::Lit;

@@ -34,6 +34,7 @@ fn more_digits(more: u32, text: &[u8]) -> Result<(u64, &[u8]), Why>
 }
 
 /// A delta, and the text behind it.
+#[inline(always)]
 #[tactic(auto, unfolding(crate::specs::Reading::delta_at))]
 fn delta(text: &[u8]) -> Result<(u64, &[u8]), Why>
     ensures { Gives (λ x. (x.0, x.1.now)) result (delta_at text.now) }
@@ -58,6 +59,7 @@ fn delta(text: &[u8]) -> Result<(u64, &[u8]), Why>
 }
 
 /// The greater operand of a gate with this literal, and the text behind its delta.
+#[inline(always)]
 fn greater_operand(text: &[u8], own: u32) -> Result<(u32, &[u8]), Why>
     ensures gives { Gives (λ x. (x.0, x.1.now)) result (greater_at own text.now) }
     ensures below { IfOk result (λ x. x.0 < own) }
@@ -70,6 +72,7 @@ fn greater_operand(text: &[u8], own: u32) -> Result<(u32, &[u8]), Why>
 }
 
 /// The smaller operand of a gate whose greater one is given, and the text behind its delta.
+#[inline(always)]
 fn smaller_operand(text: &[u8], greater: u32) -> Result<(u32, &[u8]), Why>
     ensures gives { Gives (λ x. (x.0, x.1.now)) result (smaller_at greater text.now) }
     ensures below { IfOk result (λ x. x.0 ≤ greater) }
@@ -82,6 +85,7 @@ fn smaller_operand(text: &[u8], greater: u32) -> Result<(u32, &[u8]), Why>
 }
 
 /// The gate with this literal at the front of a text, and the text behind it.
+#[inline(always)]
 #[tactic(auto, unfolding(crate::specs::Reading::gate_at))]
 pub fn gate(text: &[u8], own: u32) -> Result<(Gate, &[u8]), Stop>
     ensures gives { Gives (λ x. (x.0, x.1.now)) result (gate_at own text.now) }

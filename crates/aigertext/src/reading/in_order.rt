@@ -4,7 +4,7 @@ ghost use Rattle.std.specs.Io.KnownBytes.{prepend_known, Keeps, IsAtEnd};
 ghost use Rattle.base.specs.Device.{HasRisen};
 ghost use Rattle.aigertext.specs.Ascii.{gate_lines};
 
-use crate::reading::pieces::{copied, read_rest};
+use crate::reading::pieces::read_rest;
 use crate::writing::line::Line;
 use aiger::Gate;
 use base::{ReadAllFault, Source};
@@ -39,7 +39,7 @@ fn restored(
     requires { first + length gates.now ≤ 1073741825 }
     ensures { IfOk result (λ text. text.items ≡ before.now ++ (gate_lines first gates.now ++ window.now)) }
 {
-    let mut text = copied(alloc, before)?;
+    let mut text = before.to_vec(alloc)?;
     append_gates(&mut text, first, gates)?;
     text.extend_from_slice(window)?;
     Ok(text)

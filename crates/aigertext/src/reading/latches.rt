@@ -1,32 +1,15 @@
 //! Reading the line of a latch whose own literal is given.
 ghost use Rattle.std.specs.Prelude.{◌≡◌, ◌≤◌, ◌∷◌, [], IfOk};
-ghost use Rattle.aigertext.specs.Reading.{Gives, within, reset_of, fields, fields_behind, next_fields, next_of};
+ghost use Rattle.aigertext.specs.Reading.{Gives, reset_of, fields, fields_behind, next_fields, next_of};
 ghost use Rattle.aigertext.specs.Passes.{own_fields, latch_in};
-ghost use Rattle.aigertext.specs.declared.fault.Why.TheVariants as why;
 ghost use Rattle.base.specs.Decimals.{number_of};
 
 use crate::fault::Why;
 use crate::forms::Form;
 use crate::reading::fields::{first_field, next_field};
-use aiger::{Latch, Lit, Reset};
+use crate::reading::numbers::literal_within;
+use aiger::{Latch, Reset};
 use base::decimal;
-
-/// The next literal of a latch, which is at most the greatest one.
-fn next_literal(field: &[u8], greatest: u32) -> Result<Lit, Why>
-    ensures gives { Gives (λ x. x) result (within why.BadLatch greatest (number_of field.now)) }
-    ensures small { IfOk result (λ l. l ≤ greatest) }
-{
-    match decimal(field) {
-        None => Err(Why::BadLatch),
-        Some(number) => {
-            if number <= u64::from(greatest) {
-                Ok(Lit::new(number as u32))
-            } else {
-                Err(Why::BadLatch)
-            }
-        }
-    }
-}
 
 /// How a latch begins: 0, 1, or its own literal where it has no initial value.
 fn reset(field: &[u8], own: u32) -> Result<Reset, Why>
@@ -54,7 +37,7 @@ fn plain_latch(next: &[u8], greatest: u32, own: u32) -> Result<Latch, Why>
     ensures gives { Gives (λ x. x) result (next_fields greatest own (next.now ∷ [])) }
     ensures small { IfOk result (λ l. l.next ≤ greatest) }
 {
-    let next = next_literal(next, greatest)?;
+    let next = literal_within(next, greatest, Why::BadLatch)?;
     Ok(Latch {
         next,
         reset: Reset::Zero,
@@ -67,7 +50,7 @@ fn latch_with(next: &[u8], begins: &[u8], greatest: u32, own: u32) -> Result<Lat
     ensures gives { Gives (λ x. x) result (next_fields greatest own (next.now ∷ begins.now ∷ [])) }
     ensures small { IfOk result (λ l. l.next ≤ greatest) }
 {
-    let next = next_literal(next, greatest)?;
+    let next = literal_within(next, greatest, Why::BadLatch)?;
     let reset = reset(begins, own)?;
     Ok(Latch { next, reset })
 }

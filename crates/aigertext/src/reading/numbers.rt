@@ -1,10 +1,28 @@
-//! Reading a line of one number: a literal, or the size of a justice property.
+//! Reading one number: a literal, or the size of a justice property.
 ghost use Rattle.std.specs.Prelude.{◌≡◌, ◌≤◌, ◌+◌, IfOk};
-ghost use Rattle.aigertext.specs.Reading.{Gives, literal_of, size_of};
+ghost use Rattle.base.specs.Decimals.{number_of};
+ghost use Rattle.aigertext.specs.Reading.{Gives, within, literal_of, size_of};
 
 use crate::fault::Why;
 use aiger::{GREATEST_COUNT, Lit};
 use base::decimal;
+
+/// A literal that is at most the greatest one; any other bytes are refused for the given reason.
+pub fn literal_within(bytes: &[u8], greatest: u32, why: Why) -> Result<Lit, Why>
+    ensures gives { Gives (λ x. x) result (within why greatest (number_of bytes.now)) }
+    ensures small { IfOk result (λ l. l ≤ greatest) }
+{
+    match decimal(bytes) {
+        None => Err(why),
+        Some(number) => {
+            if number <= u64::from(greatest) {
+                Ok(Lit::new(number as u32))
+            } else {
+                Err(why)
+            }
+        }
+    }
+}
 
 /// The literal of a line, which is at most the greatest one.
 #[tactic(auto, unfolding(crate::specs::Reading::literal_of))]
@@ -12,16 +30,7 @@ pub fn literal(line: &[u8], greatest: u32) -> Result<Lit, Why>
     ensures gives { Gives (λ x. x) result (literal_of greatest line.now) }
     ensures small { IfOk result (λ l. l ≤ greatest) }
 {
-    match decimal(line) {
-        None => Err(Why::BadNumber),
-        Some(number) => {
-            if number <= u64::from(greatest) {
-                Ok(Lit::new(number as u32))
-            } else {
-                Err(Why::BadNumber)
-            }
-        }
-    }
+    literal_within(line, greatest, Why::BadNumber)
 }
 
 /// The size of a justice property, where those before it have so many literals together.

@@ -1,10 +1,9 @@
 //! Reading a source piece by piece behind bytes that are held.
-ghost use Rattle.std.specs.Prelude.{vec_len, vec_capacity, ◌≡◌, ◌+◌, ◌<◌, ◌≤◌, ◌++◌, true, false, length, drop, Ok, IfOk, OnOk, IsErrOf};
+ghost use Rattle.std.specs.Prelude.{vec_len, vec_capacity, ◌≡◌, ◌+◌, ◌<◌, ◌≤◌, ◌++◌, true, false, length, drop, Ok, OnOk, IsErrOf};
 ghost use Rattle.std.specs.Io.KnownBytes.{prepend_known, Keeps, IsAtEnd};
 ghost use Rattle.base.specs.Device.{HasRisen};
 
 use base::{DeviceFault, ReadAllFault, Source};
-use std::alloc::{AllocError, Global};
 
 /// How many bytes one call of a source is asked for.
 const PIECE: usize = 65536;
@@ -61,13 +60,4 @@ fn append(bytes: &mut Vec<u8>, piece: &[u8])
     let Ok(()) = bytes.extend_from_slice(piece) else {
         unreachable!()
     };
-}
-
-/// A copy of bytes.
-pub fn copied(alloc: Global, bytes: &[u8]) -> Result<Vec<u8>, AllocError>
-    ensures { IfOk result (λ copy. copy.items ≡ bytes.now) }
-{
-    let mut copy = Vec::new(alloc);
-    copy.extend_from_slice(bytes)?;
-    Ok(copy)
 }

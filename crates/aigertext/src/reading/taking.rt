@@ -14,7 +14,7 @@ use crate::reading::front::{Front, read_front};
 use crate::reading::gates::read_gates;
 use crate::reading::in_order::read_on;
 use crate::reading::lines::fault;
-use crate::reading::pieces::{copied, read_rest};
+use crate::reading::pieces::read_rest;
 use aiger::Circuit;
 use base::{ReadAllFault, Source};
 use std::alloc::Global;
@@ -113,7 +113,7 @@ fn take_behind<S: Source>(
     ensures device { IsErrOf result ReadAllFault.Device → HasRisen (S.failures source.old) (S.failures source.new) }
     ensures memory { IsErrOf result ReadAllFault.NoMemory → S.failures source.new ≡ S.failures source.old }
 {
-    let Ok(mut window) = copied(alloc, gates) else {
+    let Ok(mut window) = gates.to_vec(alloc) else {
         return Err(ReadAllFault::NoMemory);
     };
     let Ok(mut circuit) = Circuit::new(alloc, front.counts.inputs, front.counts.latches) else {

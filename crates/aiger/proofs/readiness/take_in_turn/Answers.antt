@@ -1,7 +1,7 @@
-use Rattle.std.proofs.Common.{◌≡◌, ◌<◌, ℕ, true, false, not, length, slice_set, arith, List, [], ◌∷◌, ◌++◌, ap, sym, subst, ◌∙◌, length-append}
+use Rattle.std.proofs.Common.{◌≡◌, ◌<◌, ℕ, true, not, length, slice_set, arith, List, [], ◌∷◌, ◌++◌, ap, sym, subst, ◌∙◌, length-append}
 use Rattle.aiger.specs.ReadyGates.{is_ready}
 use Rattle.std.specs.List.{count_by}
-use Rattle.aiger.specs.Readiness.{AreSlots, HasChains, IsTaken, FollowInTurn, MarksDone, CountsWaits, waits_for_nothing, may_be_next}
+use Rattle.aiger.specs.Readiness.{AreSlots, HasChains, IsTaken, FollowInTurn, MarksDone, CountsWaits, waits_for_nothing}
 use Rattle.aiger.proofs.ReadinessLemmas.{taken, may_be_next_is}
 use Rattle.aiger.proofs.readiness.take_in_turn.Goals as goal
 

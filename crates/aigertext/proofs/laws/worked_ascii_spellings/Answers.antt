@@ -4,7 +4,9 @@ use Rattle.std.specs.Fmt.{digits}
 use Rattle.std.proofs.lemmas.List.Elements.{All-nil, All-cons}
 use Rattle.std.proofs.lemmas.List.Sums.{count_by-le-length}
 use Rattle.base.specs.Decimals.{is_decimal, capped_value, number_of}
-use Rattle.aiger.specs.Loose.{Loose, IsLoose, IsSmall, IsDefining, IsNamedLine, empty_loose}
+use Rattle.aiger.specs.declared.circuit.Latch.{Latch}
+use Rattle.aiger.specs.Circuit.{IsNamed}
+use Rattle.aiger.specs.Loose.{Loose, IsLoose, IsSmall, IsDefining, sections_of, empty_loose}
 use Rattle.aigertext.specs.declared.fault.Why.TheVariants as why
 use Rattle.aigertext.specs.Worked.{one_input}
 use Rattle.aigertext.specs.Reading.{header_fields, form_of, fitting, counts_of, count_of, first_five, last_four, last_at, number_at}
@@ -24,9 +26,9 @@ unfolding IsStrictlySortedBy
 valid =
     record {
       definitions = record { inputs = alone IsDefining 8 (record { even = refl; least = omega arith }); latches = All-nil (λ line. IsDefining line.current); gates = All-nil (λ line. IsDefining line.lhs); once = λ v. count_by-le-length (nat_eq v) (4 ∷ []) };
-      small = record { inputs = alone IsSmall 8 (omega arith); latches = All-nil (λ line. IsSmall line.current); nexts = All-nil (λ line. IsSmall line.next); gates = All-nil (λ line. IsSmall line.lhs); first_operands = All-nil (λ line. IsSmall line.rhs0); second_operands = All-nil (λ line. IsSmall line.rhs1); outputs = alone IsSmall 9 (omega arith); bads = All-nil IsSmall; constraints = All-nil IsSmall; justice = All-nil (All IsSmall); fair = All-nil IsSmall };
-      few = record { defined = omega arith; outputs = omega arith; bads = omega arith; constraints = omega arith; justice = omega arith; justice_literals = omega arith; fair = omega arith };
-      names = record { sorted = tt; named = All-nil (IsNamedLine lists) };
+      small = record { inputs = alone IsSmall 8 (omega arith); latches = All-nil (λ line. IsSmall line.current); gates = All-nil (λ line. IsSmall line.lhs); first_operands = All-nil (λ line. IsSmall line.rhs0); second_operands = All-nil (λ line. IsSmall line.rhs1); sections = record { nexts = All-nil (λ (x : Latch). IsSmall x.next); outputs = alone IsSmall 9 (omega arith); bads = All-nil IsSmall; constraints = All-nil IsSmall; justice = All-nil (All IsSmall); fair = All-nil IsSmall } };
+      few = record { defined = omega arith; sections = record { outputs = omega arith; bads = omega arith; constraints = omega arith; justice = omega arith; justice_literals = omega arith; fair = omega arith } };
+      names = record { sorted = tt; named = All-nil (IsNamed (sections_of lists)) };
     }
 
 pub returns-clause-any_number : goal.returns-clause-any_number

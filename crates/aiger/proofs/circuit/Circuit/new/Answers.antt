@@ -1,10 +1,9 @@
 use Rattle.std.proofs.Common.{◌≡◌, replicate, rules, arith}
 use Rattle.aiger.specs.Circuit.{fresh_latch}
-use Rattle.aiger.proofs.FreshLemmas.{made_fresh}
+use Rattle.aiger.proofs.FreshLemmas.{IsCircuit-fresh}
 use Rattle.aiger.proofs.circuit.Circuit.new.Goals as goal
 
 pub invariant_of-result : goal.invariant_of-result
 invariant_of-result c =
     let e : c.in_ok-fresh_latches.fresh_latches.items ≡ replicate c.args.latches fresh_latch = search rules in
-    made_fresh c.args.inputs c.args.latches c.in_ok-fresh_latches.fresh_latches.items c.new.result.items c.new-2.result.items c.new-3.result.items c.new-4.result.items c.new-5.result c.new-6.result.items c.new-7.result
-    e c.new.ensures.items c.new-2.ensures.items c.new-3.ensures.items c.new-4.ensures.items c.new-5.ensures c.new-6.ensures.items c.new-7.ensures (omega arith)
+    rw (e, c.new.ensures.items, c.new-2.ensures.items, c.new-3.ensures.items, c.new-4.ensures.items, c.new-5.ensures, c.new-6.ensures.items, c.new-7.ensures) (IsCircuit-fresh c.args.inputs c.args.latches (omega arith))

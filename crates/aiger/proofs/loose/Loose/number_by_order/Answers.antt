@@ -2,8 +2,7 @@ use Rattle.std.proofs.Common.{◌≡◌, ℕ, List, map, ap, sym, ◌∙◌, sub
 use Rattle.aiger.specs.declared.loose.GateLine.{GateLine}
 use Rattle.aiger.specs.Circuit.{IsCircuit}
 use Rattle.aiger.specs.Loose.{Loose}
-use Rattle.aiger.specs.Numbering.{circuit_by}
-use Rattle.aiger.specs.Renumbering.{new_gate, renumbered}
+use Rattle.aiger.specs.Renumbering.{new_gate, renumbered, circuit_by}
 use Rattle.aiger.proofs.InOrderLemmas.{by_order}
 use Rattle.aiger.proofs.KnownLemmas.{all_known}
 use Rattle.aiger.proofs.NumberingLemmas.{IsCircuit-renumbered}

@@ -1,20 +1,41 @@
-use Rattle.std.proofs.Common.{not, ap, sym, ◌∙◌, arith}
+use Rattle.std.proofs.Common.{◌≡◌, ℕ, List, Bool, None, length, not, ap, sym, ◌∙◌, subst, arith}
 use Rattle.std.specs.List.{position}
+use Rattle.aiger.specs.declared.loose.GateLine.{GateLine}
+use Rattle.aiger.specs.Loose.{Loose, IsLoose, defined_variables}
+use Rattle.aiger.specs.Numbering.{IsReadyOrder, slots_of}
+use Rattle.aiger.specs.Readiness.{IsWholeOrder}
+use Rattle.aiger.specs.Renumbering.{first_undefined}
 use Rattle.aiger.proofs.KnownLemmas.{all_known}
-use Rattle.aiger.proofs.PlacesLemmas.{left_is_cyclic, none_left_is_order}
+use Rattle.aiger.proofs.PlacesLemmas.{leaf_count, are_slots, ready_order, left_is_cyclic, none_left_is_order}
 use Rattle.aiger.proofs.loose.Loose.number_by_readiness.Goals as goal
 
+pub order_of_readiness-requires : goal.order_of_readiness-requires
+order_of_readiness-requires c =
+    let l : Loose = c.args.self.now in
+    let e : c.args.slots.items ≡ slots_of (defined_variables l) (leaf_count l) l.gates = c.requires.slots in
+    rw (e, c.gates.ensures.items) (are_slots l c.gates.ensures.valid (all_known l c.requires.known))
+
+-- the order of gates by their slots is their order of readiness
+ready : (l : Loose) (slots order : List ℕ) (marks : List Bool) (gates : List GateLine) → IsLoose l → first_undefined l ≡ None → slots ≡ slots_of (defined_variables l) (leaf_count l) l.gates → gates ≡ l.gates → IsWholeOrder slots (length gates) order marks → IsReadyOrder l order marks
+ready l slots order marks gates valid known e f is =
+    ready_order l order marks valid (all_known l known)
+    (subst (λ (n : ℕ). IsWholeOrder (slots_of (defined_variables l) (leaf_count l) l.gates) n order marks) (ap length f) (subst (λ (s : List ℕ). IsWholeOrder s (length gates) order marks) e is))
+
 pub returns-in-Some : goal.returns-in-Some
-returns-in-Some c = (
-  c.requires.known,
-  left_is_cyclic c.args.self.now c.in_ok-order.order.items c.in_ok-order.marks.items c.in-Some.gate c.gate_order.ensures.valid (all_known c.args.self.now c.requires.known) c.in_ok-order.ensures.order
-      (sym (ap (position not) c.deref.ensures.value) ∙ sym c.in-Some.ensures),
-)
+returns-in-Some c =
+    let l : Loose = c.args.self.now in (
+      c.requires.known,
+      left_is_cyclic l c.in_ok-order.order.items c.in_ok-order.marks.items c.in-Some.gate c.gates.ensures.valid (all_known l c.requires.known)
+          (ready l c.args.slots.items c.in_ok-order.order.items c.in_ok-order.marks.items c.gates.result.now c.gates.ensures.valid c.requires.known c.requires.slots c.gates.ensures.items c.in_ok-order.ensures)
+          (sym (ap (position not) c.deref.ensures.value) ∙ sym c.in-Some.ensures),
+    )
 
 pub number_by_order-requires-clause-order : goal.number_by_order-requires-clause-order
 number_by_order-requires-clause-order c =
     rw (c.deref-in-None.ensures.value)
-    (none_left_is_order c.args.self.now c.in_ok-order.order.items c.in_ok-order.marks.items c.in_ok-order.ensures.order (sym (ap (position not) c.deref.ensures.value) ∙ sym c.in-None.ensures))
+    (none_left_is_order c.args.self.now c.in_ok-order.order.items c.in_ok-order.marks.items
+    (ready c.args.self.now c.args.slots.items c.in_ok-order.order.items c.in_ok-order.marks.items c.gates.result.now c.gates.ensures.valid c.requires.known c.requires.slots c.gates.ensures.items c.in_ok-order.ensures)
+    (sym (ap (position not) c.deref.ensures.value) ∙ sym c.in-None.ensures))
 
 pub number_by_order-requires-clause-few : goal.number_by_order-requires-clause-few
-number_by_order-requires-clause-few c = rw (c.deref-in-None.ensures.value) (omega (arith, c.in_ok-order.ensures.order.marked.left))
+number_by_order-requires-clause-few c = rw (c.deref-in-None.ensures.value) (omega (arith, c.in_ok-order.ensures.marked.left, ap length c.gates.ensures.items))

@@ -1,9 +1,49 @@
-use Rattle.std.proofs.Common.{sym}
+use Rattle.std.proofs.Common.{◌≡◌, None, Result, Err, map, length, ap, sym, ◌∙◌, subst, arith}
+use Rattle.std.proofs.lemmas.Result.{err_from_is_err_and}
+use Rattle.aiger.specs.declared.fault.LooseFault.{LooseFault}
+use Rattle.aiger.specs.declared.fault.LooseFault.TheVariants.{NoMemory}
+use Rattle.aiger.specs.Circuit.{Circuit, IsCircuit}
+use Rattle.aiger.specs.Loose.{Loose}
+use Rattle.aiger.specs.Renumbering.{AnswersNumber, first_undefined, new_gate, renumbered, circuit_by}
+use Rattle.aiger.proofs.InOrderLemmas.{as_they_stand, is_order, is_circuit, by_places}
+use Rattle.aiger.proofs.KnownLemmas.{all_known}
+use Rattle.aiger.proofs.PlacesLemmas.{length_defined}
 use Rattle.aiger.proofs.UndefinedLemmas.{known_in_order, undefined_in_front}
 use Rattle.aiger.proofs.loose.Loose.number_in_order.Goals as goal
 
 pub returns-in-Some : goal.returns-in-Some
 returns-in-Some c = undefined_in_front c.args.self.now c.in-Some.line (sym c.in-Some.ensures)
 
-pub number_as_it_stands-requires-clause-known : goal.number_as_it_stands-requires-clause-known
-number_as_it_stands-requires-clause-known c = known_in_order c.args.self.now (sym c.in-None.ensures) c.requires.in_order
+pub gates_as_they_stand-requires : goal.gates_as_they_stand-requires
+gates_as_they_stand-requires c = omega (arith, ap length c.requires.places, length_defined c.args.self.now, c.requires.valid.few.defined)
+
+pub renumbered-requires-clause-few : goal.renumbered-requires-clause-few
+renumbered-requires-clause-few c = omega (arith, ap length c.requires.places, length_defined c.args.self.now, c.requires.valid.few.defined)
+
+pub renumbered-requires-clause-valid : goal.renumbered-requires-clause-valid
+renumbered-requires-clause-valid c =
+    let l : Loose = c.args.self.now in
+    let known : first_undefined l ≡ None = known_in_order l (sym c.in_default.ensures) c.requires.in_order in
+    let is : circuit_by l c.args.places.now c.in_ok-gates.gates.items ≡ renumbered l (as_they_stand l) = by_places l c.args.places.now c.in_ok-gates.gates.items c.requires.places (c.in_ok-gates.ensures ∙ ap (map (new_gate c.args.places.now)) c.gates.ensures.items) in
+    subst IsCircuit (sym is) (is_circuit l (all_known l known) c.requires.in_order c.requires.valid)
+
+-- where memory is wanting each variable is defined
+wanting : (l : Loose) (r : Result Circuit LooseFault) → (y : LooseFault) × (r ≡ Err y) × (y ≡ NoMemory) → first_undefined l ≡ None → AnswersNumber l r
+wanting l r is known = subst (AnswersNumber l) (sym (is.1 ∙ ap (λ (y : LooseFault). Err y) is.2)) known
+
+pub returns-in_err-gates : goal.returns-in_err-gates
+returns-in_err-gates c = wanting c.args.self.now _ (err_from_is_err_and c.from_residual.result c.from_residual.ensures.1) (known_in_order c.args.self.now (sym c.in_default.ensures) c.requires.in_order)
+
+pub returns-in_err-renumbered : goal.returns-in_err-renumbered
+returns-in_err-renumbered c = wanting c.args.self.now _ (err_from_is_err_and c.from_residual-in_err-renumbered.result c.from_residual-in_err-renumbered.ensures.1) (known_in_order c.args.self.now (sym c.in_default.ensures) c.requires.in_order)
+
+pub returns : goal.returns
+returns c =
+    let l : Loose = c.args.self.now in
+    let known : first_undefined l ≡ None = known_in_order l (sym c.in_default.ensures) c.requires.in_order in
+    record {
+      known = known;
+      order = as_they_stand l;
+      is_order = is_order l (all_known l known) c.requires.in_order;
+      circuit = c.in_ok-renumbered.ensures ∙ by_places l c.args.places.now c.in_ok-gates.gates.items c.requires.places (c.in_ok-gates.ensures ∙ ap (map (new_gate c.args.places.now)) c.gates.ensures.items);
+    }

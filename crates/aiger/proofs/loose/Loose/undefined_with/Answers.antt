@@ -11,17 +11,17 @@ use Rattle.aiger.proofs.loose.Loose.undefined_with.Goals as goal
 pub or_unknown-unknown-requires-4 : goal.or_unknown-unknown-requires-4
 or_unknown-unknown-requires-4 c =
     let valid : IsLoose c.args.self.now = c.latches-count.ensures.valid in
-    omega (arith, ap length c.latches-count.ensures.items, ap length c.outputs-2.ensures.items, ap length c.bads-2.ensures.items, ap length c.constraints-2.ensures.items, ap length c.justice_literals.ensures.items, few_justice c.args.self.now valid, valid.few.defined, valid.few.outputs, valid.few.bads, valid.few.constraints)
+    omega (arith, ap length c.latches-count.ensures.items, ap length c.outputs-2.ensures.items, ap length c.bads-2.ensures.items, ap length c.constraints-2.ensures.items, ap length c.justice_literals.ensures.items, few_justice c.args.self.now valid, valid.few.defined, valid.few.sections.outputs, valid.few.sections.bads, valid.few.sections.constraints)
 
 pub or_unknown-unknown-requires-5 : goal.or_unknown-unknown-requires-5
 or_unknown-unknown-requires-5 c =
     let valid : IsLoose c.args.self.now = c.latches-count.ensures.valid in
-    omega (arith, ap length c.latches-count.ensures.items, ap length c.outputs-2.ensures.items, ap length c.bads-2.ensures.items, ap length c.constraints-2.ensures.items, ap length c.justice_literals-2.ensures.items, ap length c.fair.ensures.items, few_justice c.args.self.now valid, valid.few.defined, valid.few.outputs, valid.few.bads, valid.few.constraints, valid.few.fair)
+    omega (arith, ap length c.latches-count.ensures.items, ap length c.outputs-2.ensures.items, ap length c.bads-2.ensures.items, ap length c.constraints-2.ensures.items, ap length c.justice_literals-2.ensures.items, ap length c.fair.ensures.items, few_justice c.args.self.now valid, valid.few.defined, valid.few.sections.outputs, valid.few.sections.bads, valid.few.sections.constraints, valid.few.sections.fair)
 
 pub or_unknown_gate-requires : goal.or_unknown_gate-requires
 or_unknown_gate-requires c =
     let valid : IsLoose c.args.self.now = c.latches-count.ensures.valid in
-    omega (arith, ap length c.latches-count.ensures.items, ap length c.outputs-2.ensures.items, ap length c.bads-2.ensures.items, ap length c.constraints-2.ensures.items, ap length c.justice_literals-2.ensures.items, ap length c.fair-2.ensures.items, few_justice c.args.self.now valid, valid.few.defined, valid.few.outputs, valid.few.bads, valid.few.constraints, valid.few.fair)
+    omega (arith, ap length c.latches-count.ensures.items, ap length c.outputs-2.ensures.items, ap length c.bads-2.ensures.items, ap length c.constraints-2.ensures.items, ap length c.justice_literals-2.ensures.items, ap length c.fair-2.ensures.items, few_justice c.args.self.now valid, valid.few.defined, valid.few.sections.outputs, valid.few.sections.bads, valid.few.sections.constraints, valid.few.sections.fair)
 
 pub returns : goal.returns
 returns c =

@@ -1,5 +1,5 @@
 use Rattle.std.proofs.Common.{ap, ◌%◌}
-use Rattle.aiger.specs.VariablePages.{in_page}
+use Rattle.aiger.specs.VariableNumbers.{in_page}
 use Rattle.aiger.proofs.variable_pages.VariablePages.get.Goals as goal
 
 pub returns-in-Some : goal.returns-in-Some

@@ -1,5 +1,5 @@
 use Rattle.std.proofs.Common.{refl}
-use Rattle.aiger.specs.VariablePages.{in_page}
+use Rattle.aiger.specs.VariableNumbers.{in_page}
 use Rattle.aiger.proofs.variable_pages.VariablePages.new.Goals as goal
 
 pub returns : goal.returns

@@ -1,6 +1,6 @@
 use Rattle.std.proofs.Common.{rules, ◌≡◌, ◌/◌, ◌%◌, nat_eq, cond, Some, slice_set, length, replicate, ap, refl, ◌∙◌}
 use Rattle.std.specs.HashMap.{get}
-use Rattle.aiger.specs.VariablePages.{in_page}
+use Rattle.aiger.specs.VariableNumbers.{in_page}
 use Rattle.aiger.proofs.VariablePagesLemmas.{after_page, zeros}
 use Rattle.aiger.proofs.variable_pages.VariablePages.set.Goals as goal
 
