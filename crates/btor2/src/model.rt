@@ -261,24 +261,6 @@ impl Model {
         self.nexts.get(&id).copied()
     }
 
-    /// The position of the value of the init line of the state at a position.
-    fn init_place(&self, place: usize) -> Option<usize>
-        ensures { result ≡ init_place self.now place }
-    {
-        let id = self.id_at(place)?;
-        let value = self.init_value(id)?;
-        self.position(value)
-    }
-
-    /// The position of the value of the next line of the state at a position.
-    fn next_place(&self, place: usize) -> Option<usize>
-        ensures { result ≡ next_place self.now place }
-    {
-        let id = self.id_at(place)?;
-        let value = self.next_value(id)?;
-        self.position(value)
-    }
-
     /// The position in `items` of the value of a state's init line, if the state has one.
     /// `k` counts the states in file order.
     ///
@@ -287,7 +269,9 @@ impl Model {
         requires { k < length (places is_state 0 self.now) }
         ensures { result ≡ init_place self.now (slice_index (places is_state 0 self.now) k) }
     {
-        self.init_place(self.states[k])
+        let id = self.id_at(self.states[k])?;
+        let value = self.init_value(id)?;
+        self.position(value)
     }
 
     /// The position in `items` of the value of a state's next line, if the state has one.
@@ -298,7 +282,9 @@ impl Model {
         requires { k < length (places is_state 0 self.now) }
         ensures { result ≡ next_place self.now (slice_index (places is_state 0 self.now) k) }
     {
-        self.next_place(self.states[k])
+        let id = self.id_at(self.states[k])?;
+        let value = self.next_value(id)?;
+        self.position(value)
     }
 
     /// Whether a state is free: it has neither an init line nor a next line, so it has any word in each frame.
