@@ -239,14 +239,6 @@ impl Model {
         Some(item.id)
     }
 
-    /// The width of the node at a position.
-    fn width_at(&self, place: usize) -> Option<u64>
-        ensures value { result ≡ width_at self.now place }
-        ensures range { IfSome result (λ n. (1 ≤ n) × (n ≤ 64)) }
-    {
-        self.entry_at(place).node_width()
-    }
-
     /// The id of the value that an init line gives the state with an id.
     fn init_value(&self, id: u64) -> Option<u64>
         ensures { result ≡ init_value self.now id }
@@ -331,7 +323,7 @@ impl Model {
         requires { node < length self.now }
         ensures { result ≡ width_at self.now node }
     {
-        let width = self.width_at(node)?;
+        let width = self.entry_at(node).node_width()?;
         Width::new(width)
     }
 
