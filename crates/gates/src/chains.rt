@@ -170,10 +170,7 @@ impl Chains {
         ensures room_beyond { OnOk result (chain ≡ None → 0 < spare self.new.beyond) }
         ensures memory { IfErr result (λ e. e ≡ GateFault.NoMemory) }
     {
-        if self.last.reserve(1).is_err() {
-            return Err(GateFault::NoMemory);
-        }
-        if self.before.reserve(1).is_err() {
+        if self.last.reserve(1).is_err() || self.before.reserve(1).is_err() {
             return Err(GateFault::NoMemory);
         }
         if chain.is_none() && self.beyond.reserve(1).is_err() {
