@@ -1,5 +1,6 @@
 -- What the items of a model are to those that name them, once one more item is added, and as it is looked up.
-use Rattle.std.proofs.Common.{◌≡◌, ℕ, zero, suc, ◌≤◌, List, [], ◌∷◌, ◌++◌, map, Option, Some, None, IfSome, slice_get, option_and_then, refl, sym, ap, ap₂, subst, ◌∙◌, append_assoc}
+use Rattle.std.proofs.Common.{◌≡◌, ℕ, ◌≤◌, List, [], ◌∷◌, ◌++◌, map, Option, Some, None, IfSome, slice_get, option_and_then, refl, sym, ap, ap₂, subst, ◌∙◌, append_assoc}
+use Rattle.std.proofs.lemmas.List.{map-append}
 use Rattle.std.proofs.lemmas.Option.{none-some, same_Some}
 use Rattle.btor2.specs.declared.item.Item.{Item}
 use Rattle.btor2.specs.declared.item.Body.{Body}
@@ -54,16 +55,12 @@ entries_stay front (x ∷ xs) more h =
     let rest = subst (λ (l : List Item). map (λ (y : Item). entry_of (l ++ more) y.body) xs ≡ map (λ (y : Item). entry_of l y.body) xs) next (entries_stay (front ++ x ∷ []) xs more (subst IsWellFormed (sym next) h)) in
     ap₂ (λ (a : Entry) (l : List Entry). a ∷ l) (ap (entry_by (sort_bits x.body)) own) rest
 
-map-append_one : (f : Item → Entry) (xs : List Item) (x : Item) → map f (xs ++ x ∷ []) ≡ map f xs ++ f x ∷ []
-map-append_one f [] x = refl
-map-append_one f (y ∷ ys) x = ap (λ (l : List Entry). f y ∷ l) (map-append_one f ys x)
-
 pub entries-added : (xs ys : List Item) (x : Item) (old between new : List Entry) (own : Entry) → IsWellFormed xs → refusal xs x ≡ None → ys ≡ xs ++ x ∷ []
     → old ≡ map (λ (y : Item). entry_of xs y.body) xs → between ≡ old → own ≡ entry_of xs x.body → new ≡ between ++ own ∷ [] → new ≡ map (λ (y : Item). entry_of ys y.body) ys
 entries-added xs ys x old between new own h r e before kept is after =
     let mine : own ≡ entry_of (xs ++ x ∷ []) x.body = is ∙ ap (entry_by (sort_bits x.body)) (sym (width_stays xs (x ∷ []) x r)) in
     let others : between ≡ map (λ (y : Item). entry_of (xs ++ x ∷ []) y.body) xs = kept ∙ before ∙ sym (entries_stay [] xs (x ∷ []) h) in
-    after ∙ ap₂ (λ (l : List Entry) (a : Entry). l ++ a ∷ []) others mine ∙ sym (map-append_one (λ (y : Item). entry_of (xs ++ x ∷ []) y.body) xs x)
+    after ∙ ap₂ (λ (l : List Entry) (a : Entry). l ++ a ∷ []) others mine ∙ sym (map-append (λ (y : Item). entry_of (xs ++ x ∷ []) y.body) xs (x ∷ []))
     ∙ ap (λ (l : List Item). map (λ (y : Item). entry_of l y.body) l) (sym e)
 
 -- an accepted sort has 1 to 64 bits
@@ -73,54 +70,6 @@ bits_fit items _ h = tt
 
 pub sort_fits : (xs : List Item) (x : Item) → refusal xs x ≡ None → IfSome (sort_bits x.body) (λ n. (1 ≤ n) × (n ≤ 64))
 sort_fits xs x r = bits_fit xs x.body (IsAccepted-from_refusal xs x r).says
-
--- ---- looked up
-
--- a body with a value is no sort
-no_sort : (items : List Item) (b : Body) (n : ℕ) → sort_bits b ≡ Some n → width_of_body items b ≡ None
-no_sort items (body.Sort m) n e = refl
-no_sort items _ n e = absurd (none-some n e)
-
-sort_by : (o p : Option ℕ) → entry_sort (entry_by o p) ≡ o
-sort_by (Some n) p = refl
-sort_by None (Some n) = refl
-sort_by None None = refl
-
-node_by : (o p : Option ℕ) → ((n : ℕ) → o ≡ Some n → p ≡ None) → entry_node (entry_by o p) ≡ p
-node_by (Some n) p h = sym (h n refl)
-node_by None (Some n) h = refl
-node_by None None h = refl
-
-pub entry-sort : (items : List Item) (b : Body) → entry_sort (entry_of items b) ≡ sort_bits b
-entry-sort items b = sort_by (sort_bits b) (width_of_body items b)
-
-pub entry-node : (items : List Item) (b : Body) → entry_node (entry_of items b) ≡ width_of_body items b
-entry-node items b = node_by (sort_bits b) (width_of_body items b) (no_sort items b)
-
-slice_get-map : (f : Item → Entry) (xs : List Item) (k : ℕ) → slice_get (map f xs) k ≡ option_and_then (λ (x : Item). Some (f x)) (slice_get xs k)
-slice_get-map f [] k = refl
-slice_get-map f (x ∷ xs) zero = refl
-slice_get-map f (x ∷ xs) (suc k) = slice_get-map f xs k
-
-at_item : (items : List Item) (o : Option Item) (entry : Entry) → Some entry ≡ option_and_then (λ (x : Item). Some (entry_of items x.body)) o
-    → (entry_sort entry ≡ option_and_then (λ (x : Item). sort_bits x.body) o) × (entry_node entry ≡ option_and_then (λ (x : Item). width_of_body items x.body) o)
-at_item items None entry e = absurd (none-some entry (sym e))
-at_item items (Some x) entry e =
-    let is = same_Some entry (entry_of items x.body) e in
-    (ap entry_sort is ∙ entry-sort items x.body, ap entry_node is ∙ entry-node items x.body)
-
--- the entry at a position
-pub entry-at : (items : List Item) (entries : List Entry) (k : ℕ) (entry : Entry) → entries ≡ map (λ (x : Item). entry_of items x.body) items → Some entry ≡ slice_get entries k
-    → (entry_sort entry ≡ option_and_then (λ (x : Item). sort_bits x.body) (slice_get items k)) × (entry_node entry ≡ width_at items k)
-entry-at items entries k entry kept at = at_item items (slice_get items k) entry (at ∙ ap (λ (l : List Entry). slice_get l k) kept ∙ slice_get-map (λ (x : Item). entry_of items x.body) items k)
-
-no_mapped : (o : Option Item) (f : Item → Entry) → None ≡ option_and_then (λ (x : Item). Some (f x)) o → o ≡ None
-no_mapped None f e = refl
-no_mapped (Some x) f e = absurd (none-some (f x) e)
-
--- there is none behind the last
-pub no_entry-at : (items : List Item) (entries : List Entry) (k : ℕ) → entries ≡ map (λ (x : Item). entry_of items x.body) items → None ≡ slice_get entries k → slice_get items k ≡ None
-no_entry-at items entries k kept at = no_mapped (slice_get items k) (λ (x : Item). entry_of items x.body) (at ∙ ap (λ (l : List Entry). slice_get l k) kept ∙ slice_get-map (λ (x : Item). entry_of items x.body) items k)
 
 -- ---- of an id
 

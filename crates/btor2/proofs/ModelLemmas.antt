@@ -1,5 +1,5 @@
 -- What well-formed lists of items say, for this crate and those above.
-use Rattle.std.proofs.Common.{◌≡◌, ℕ, zero, suc, ◌+◌, ◌≤◌, true, false, Bool, cond, nat_eq, eq-eqb, eqb-true, List, [], ◌∷◌, ◌++◌, length, length-append, Option, Some, None, IfSome, option_and_then, slice_get, ◌⊎◌, inl, inr, ⊎_elim, refl, sym, ap, ap₂, subst, ◌∙◌, append_assoc, append-nil, arith}
+use Rattle.std.proofs.Common.{◌≡◌, ℕ, zero, suc, ◌+◌, ◌≤◌, true, false, Bool, cond, nat_eq, eq-eqb, eqb-true, List, [], ◌∷◌, ◌++◌, length, length-append, Option, Some, None, option_and_then, slice_get, ◌⊎◌, inl, inr, ⊎_elim, refl, sym, ap, ap₂, subst, ◌∙◌, append_assoc, append-nil, arith}
 use Rattle.std.specs.List.{position_from}
 use Rattle.std.specs.Option.{option_or}
 use Rattle.std.proofs.lemmas.Option.{none-some, same_Some, cond_some}
@@ -134,11 +134,6 @@ pub node_width-range : (items : List Item) (id n : ℕ) → IsWellFormed items �
 node_width-range items id n h e =
     let parts = then_parts (λ (x : Item). width_of_body items x.body) (find_item items id) n e in
     width_of_body-range items parts.0.body n h parts.2
-
--- the same of an answer
-pub IfSome-sort_width : (items : List Item) (id : ℕ) (o : Option ℕ) → IsWellFormed items → o ≡ sort_width items id → IfSome o (λ n. (1 ≤ n) × (n ≤ 64))
-IfSome-sort_width items id None h e = tt
-IfSome-sort_width items id (Some n) h e = sort_width-range items id n h (sym e)
 
 -- The lines of a state.
 

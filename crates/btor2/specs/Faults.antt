@@ -5,41 +5,29 @@ use Rattle.btor2.specs.declared.symbol.SymbolFault.TheVariants as symbol
 use Rattle.btor2.specs.declared.fault.PushFault.{PushFault}
 use Rattle.btor2.specs.declared.fault.PushFault.TheVariants.{TooManyItems, IdOutOfRange, IdTaken, NoSuchSort, NoSuchNode, NotAState, WidthOutOfRange, SliceOutOfRange, SortMismatch, ConstantDoesNotFit, InitNotConstant, SecondInit, SecondNext, JusticeEmpty, NoMemory}
 
--- the number that is printed for a refusal
-abbrev pub number_of : PushFault → ℕ
-number_of IdTaken = 1
-number_of IdOutOfRange = 2
-number_of NoSuchSort = 3
-number_of NoSuchNode = 4
-number_of WidthOutOfRange = 5
-number_of SortMismatch = 6
-number_of SliceOutOfRange = 7
-number_of NotAState = 8
-number_of SecondInit = 9
-number_of SecondNext = 10
-number_of InitNotConstant = 11
-number_of TooManyItems = 12
-number_of JusticeEmpty = 13
-number_of NoMemory = 14
-number_of ConstantDoesNotFit = 15
+-- the number and the name that are printed for a refusal
+abbrev pub number_and_name : PushFault → ℕ × List ℕ
+number_and_name IdTaken = (1, codes "IdTaken")
+number_and_name IdOutOfRange = (2, codes "IdOutOfRange")
+number_and_name NoSuchSort = (3, codes "NoSuchSort")
+number_and_name NoSuchNode = (4, codes "NoSuchNode")
+number_and_name WidthOutOfRange = (5, codes "WidthOutOfRange")
+number_and_name SortMismatch = (6, codes "SortMismatch")
+number_and_name SliceOutOfRange = (7, codes "SliceOutOfRange")
+number_and_name NotAState = (8, codes "NotAState")
+number_and_name SecondInit = (9, codes "SecondInit")
+number_and_name SecondNext = (10, codes "SecondNext")
+number_and_name InitNotConstant = (11, codes "InitNotConstant")
+number_and_name TooManyItems = (12, codes "TooManyItems")
+number_and_name JusticeEmpty = (13, codes "JusticeEmpty")
+number_and_name NoMemory = (14, codes "NoMemory")
+number_and_name ConstantDoesNotFit = (15, codes "ConstantDoesNotFit")
 
--- the name that is printed for a refusal
+abbrev pub number_of : PushFault → ℕ
+number_of fault = (number_and_name fault).0
+
 abbrev pub name_of : PushFault → List ℕ
-name_of IdTaken = codes "IdTaken"
-name_of IdOutOfRange = codes "IdOutOfRange"
-name_of NoSuchSort = codes "NoSuchSort"
-name_of NoSuchNode = codes "NoSuchNode"
-name_of WidthOutOfRange = codes "WidthOutOfRange"
-name_of SortMismatch = codes "SortMismatch"
-name_of SliceOutOfRange = codes "SliceOutOfRange"
-name_of NotAState = codes "NotAState"
-name_of SecondInit = codes "SecondInit"
-name_of SecondNext = codes "SecondNext"
-name_of InitNotConstant = codes "InitNotConstant"
-name_of TooManyItems = codes "TooManyItems"
-name_of JusticeEmpty = codes "JusticeEmpty"
-name_of NoMemory = codes "NoMemory"
-name_of ConstantDoesNotFit = codes "ConstantDoesNotFit"
+name_of fault = (number_and_name fault).1
 
 -- the number that is printed for bytes that are no symbol
 abbrev pub symbol_fault_number : SymbolFault → ℕ

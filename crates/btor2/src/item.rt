@@ -180,11 +180,8 @@ fn wrapped(width: u64, value: i128) -> u64
 fn know_name(symbol: &Option<Symbol>)
     ensures { IfSome symbol.now (λ bytes. is_symbol bytes ≡ true) }
 {
-    match symbol {
-        None => {}
-        Some(symbol) => {
-            let _bytes = symbol.bytes();
-        }
+    if let Some(symbol) = symbol {
+        let _bytes = symbol.bytes();
     }
 }
 
@@ -203,11 +200,8 @@ impl Body {
     fn know_operands(&self)
         ensures { HasFewOperands self.now }
     {
-        match self {
-            Body::Justice { operands } => {
-                let _count = operands.count();
-            }
-            _ => {}
+        if let Body::Justice { operands } = self {
+            let _count = operands.count();
         }
     }
 

@@ -119,6 +119,7 @@ pub fn worked_leaves()
 {}
 
 /// Worked rows: an item for each row of the table of refusals.
+#[tactic(auto, unfolding(crate::specs::Check::refusal, crate::specs::Check::id_is_out_of_range, crate::specs::Check::id_is_taken, crate::specs::Check::sort_is_missing, crate::specs::Check::operand_is_missing, crate::specs::Check::state_is_none, crate::specs::Check::width_is_out_of_range, crate::specs::Check::slice_is_out_of_range, crate::specs::Check::widths_differ, crate::specs::Check::constant_does_not_fit, crate::specs::Check::init_is_not_constant, crate::specs::Check::is_second_init, crate::specs::Check::is_second_next, crate::specs::Check::justice_is_empty))]
 pub fn worked_refusals()
     ensures too_many_items { (items : List Item) (x : Item) → 1048576 ≤ length items
         → refusal items x ≡ Some fault.TooManyItems }

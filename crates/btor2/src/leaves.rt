@@ -1,6 +1,6 @@
 //! The leaves of a model, by what their words are in its frames.
-ghost use Rattle.std.specs.Prelude.{◌≡◌, ◌<◌, ◌≤◌, ◌^◌, length, slice_index, unwrap_or};
-ghost use Rattle.btor2.specs.Lists.{places, width_at};
+ghost use Rattle.std.specs.Prelude.{◌≡◌, ◌<◌, ◌≤◌, ◌^◌, length, slice_index};
+ghost use Rattle.btor2.specs.Lists.{places};
 ghost use Rattle.btor2.specs.Leaves.{list_of, kind_of, is_leaf_at, leaf_width, kind_width};
 
 use crate::model::Model;
@@ -15,18 +15,6 @@ pub enum Leaves {
     Free,
     /// The other states.
     Carried,
-}
-
-/// How many bits the node at a position has, and 0 for another item.
-fn bits_at(model: &Model, place: usize) -> u64
-    requires { place < length model.now }
-    ensures value { result ≡ unwrap_or (width_at model.now place) 0 }
-    ensures most { result ≤ 64 }
-{
-    match model.width_of(place) {
-        Some(width) => width.bits(),
-        None => 0,
-    }
 }
 
 impl Leaves {
@@ -63,7 +51,10 @@ impl Leaves {
         ensures most { result ≤ 64 }
     {
         if self.has(model, k) {
-            bits_at(model, self.places(model)[k])
+            match model.width_of(self.places(model)[k]) {
+                Some(width) => width.bits(),
+                None => 0,
+            }
         } else {
             0
         }

@@ -239,14 +239,6 @@ impl Model {
         Some(item.id)
     }
 
-    /// The width of the node at a position.
-    fn width_at(&self, place: usize) -> Option<u64>
-        ensures value { result ≡ width_at self.now place }
-        ensures range { IfSome result (λ n. (1 ≤ n) × (n ≤ 64)) }
-    {
-        self.entry_at(place).node_width()
-    }
-
     /// The id of the value that an init line gives the state with an id.
     fn init_value(&self, id: u64) -> Option<u64>
         ensures { result ≡ init_value self.now id }
@@ -261,24 +253,6 @@ impl Model {
         self.nexts.get(&id).copied()
     }
 
-    /// The position of the value of the init line of the state at a position.
-    fn init_place(&self, place: usize) -> Option<usize>
-        ensures { result ≡ init_place self.now place }
-    {
-        let id = self.id_at(place)?;
-        let value = self.init_value(id)?;
-        self.position(value)
-    }
-
-    /// The position of the value of the next line of the state at a position.
-    fn next_place(&self, place: usize) -> Option<usize>
-        ensures { result ≡ next_place self.now place }
-    {
-        let id = self.id_at(place)?;
-        let value = self.next_value(id)?;
-        self.position(value)
-    }
-
     /// The position in `items` of the value of a state's init line, if the state has one.
     /// `k` counts the states in file order.
     ///
@@ -287,7 +261,9 @@ impl Model {
         requires { k < length (places is_state 0 self.now) }
         ensures { result ≡ init_place self.now (slice_index (places is_state 0 self.now) k) }
     {
-        self.init_place(self.states[k])
+        let id = self.id_at(self.states[k])?;
+        let value = self.init_value(id)?;
+        self.position(value)
     }
 
     /// The position in `items` of the value of a state's next line, if the state has one.
@@ -298,7 +274,9 @@ impl Model {
         requires { k < length (places is_state 0 self.now) }
         ensures { result ≡ next_place self.now (slice_index (places is_state 0 self.now) k) }
     {
-        self.next_place(self.states[k])
+        let id = self.id_at(self.states[k])?;
+        let value = self.next_value(id)?;
+        self.position(value)
     }
 
     /// Whether a state is free: it has neither an init line nor a next line, so it has any word in each frame.
@@ -345,7 +323,7 @@ impl Model {
         requires { node < length self.now }
         ensures { result ≡ width_at self.now node }
     {
-        let width = self.width_at(node)?;
+        let width = self.entry_at(node).node_width()?;
         Width::new(width)
     }
 

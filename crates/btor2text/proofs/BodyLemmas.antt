@@ -58,10 +58,7 @@ pub record Taken (f : Form) (tokens : Tokens) (x : Body × Tokens) : Type 0 wher
 -- what the words of a group say
 leaf_taken : (l : Leaf) (tokens rest : Tokens) (s : ℕ) → (IsId s → tokens ≡ decimal s ∷ rest) → Taken (form.Leaf l) tokens (leaf_body l s, rest)
 leaf_taken leaf.Input tokens rest s e = record { form = refl; says = λ fits. (decimal s ∷ [], e fits, refl) }
-leaf_taken leaf.State tokens rest s e = record { form = refl; says = λ fits. (decimal s ∷ [], e fits, refl) }
-leaf_taken leaf.Zero tokens rest s e = record { form = refl; says = λ fits. (decimal s ∷ [], e fits, refl) }
-leaf_taken leaf.One tokens rest s e = record { form = refl; says = λ fits. (decimal s ∷ [], e fits, refl) }
-leaf_taken leaf.Ones tokens rest s e = record { form = refl; says = λ fits. (decimal s ∷ [], e fits, refl) }
+leaf_taken _ tokens rest s e = record { form = refl; says = λ fits. (decimal s ∷ [], e fits, refl) }
 
 extension_taken : (x : Extension) (tokens rest : Tokens) (s a w : ℕ) → (IsId s → IsId a → w ≤ 64 → tokens ≡ decimal s ∷ decimal a ∷ decimal w ∷ rest) → Taken (form.Extension x) tokens (extension_body x s a w, rest)
 extension_taken extension.Uext tokens rest s a w e = record { form = refl; says = λ fits. (decimal s ∷ decimal a ∷ decimal w ∷ [], e fits.0 fits.1 fits.2, refl) }
@@ -79,9 +76,7 @@ link_taken link.Next tokens rest s t v e = record { form = refl; says = λ fits.
 
 property_taken : (p : Property) (tokens rest : Tokens) (a : ℕ) → (IsId a → tokens ≡ decimal a ∷ rest) → Taken (form.Property p) tokens (property_body p a, rest)
 property_taken property.Bad tokens rest a e = record { form = refl; says = λ fits. (decimal a ∷ [], e fits, refl) }
-property_taken property.Constraint tokens rest a e = record { form = refl; says = λ fits. (decimal a ∷ [], e fits, refl) }
-property_taken property.Fair tokens rest a e = record { form = refl; says = λ fits. (decimal a ∷ [], e fits, refl) }
-property_taken property.Output tokens rest a e = record { form = refl; says = λ fits. (decimal a ∷ [], e fits, refl) }
+property_taken _ tokens rest a e = record { form = refl; says = λ fits. (decimal a ∷ [], e fits, refl) }
 
 -- digits behind a sort
 numeral_joined : (radix most : ℕ) (tokens : Tokens) (s : ℕ × Tokens) (x : ℕ × ℕ × Tokens) → 1 ≤ radix → radix ^ most ≡ 2 ^ 64 → sort_at tokens ≡ Ok s → digits_at radix most s.1 ≡ Ok x → IsId s.0 → x.0 ≤ most

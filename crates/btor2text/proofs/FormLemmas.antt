@@ -14,7 +14,7 @@ use Rattle.btor2text.specs.declared.forms.Constant.TheVariants as constant
 use Rattle.btor2text.specs.declared.forms.Extension.TheVariants as extension
 use Rattle.btor2text.specs.declared.forms.Link.TheVariants as link
 use Rattle.btor2text.specs.declared.forms.Property.TheVariants as property
-use Rattle.btor2text.specs.Words.{unary_name, binary_name, form_name, named, unaries, tests, bitwise, moves, arithmetic, overflows, leaves, constants, links, properties, others, unary_of, binary_of, plain_form_of, form_named, known_form, form_of}
+use Rattle.btor2text.specs.Words.{unary_name, binary_name, form_name, named, unaries, tests, bitwise, arithmetic, leaves, others, unary_of, binary_of, plain_form_of, form_named, known_form, form_of}
 use Rattle.btor2text.specs.Reading.{Tokens, form_at}
 use Rattle.btor2text.proofs.PlaceLemmas.{bind_ok, ok_is, some_is, is_word}
 
@@ -51,17 +51,11 @@ binary_is : (word : List ℕ) (op : Binary) → binary_of word ≡ Some op → w
 unfolding binary_of
 binary_is word op e0 =
     option_or_word _ _ op word (binary_name op) e0 (named_is binary_name word tests op) (λ e1.
-    option_or_word _ _ op word (binary_name op) e1 (named_is binary_name word bitwise op) (λ e2.
-    option_or_word _ _ op word (binary_name op) e2 (named_is binary_name word moves op) (λ e3.
-    option_or_word _ _ op word (binary_name op) e3 (named_is binary_name word arithmetic op) (named_is binary_name word overflows op))))
+    option_or_word _ _ op word (binary_name op) e1 (named_is binary_name word bitwise op) (named_is binary_name word arithmetic op))
 
 plain_is : (word : List ℕ) (f : Form) → plain_form_of word ≡ Some f → word ≡ form_name f
 unfolding plain_form_of
-plain_is word f e0 =
-    option_or_word _ _ f word (form_name f) e0 (named_is form_name word leaves f) (λ e1.
-    option_or_word _ _ f word (form_name f) e1 (named_is form_name word constants f) (λ e2.
-    option_or_word _ _ f word (form_name f) e2 (named_is form_name word links f) (λ e3.
-    option_or_word _ _ f word (form_name f) e3 (named_is form_name word properties f) (named_is form_name word others f))))
+plain_is word f e = option_or_word _ _ f word (form_name f) e (named_is form_name word leaves f) (named_is form_name word others f)
 
 operator_is : {A : Type 0} (make : A → Form) (name : A → List ℕ) (o : Option A) (word : List ℕ) (f : Form) → ((a : A) → form_name (make a) ≡ name a) → ((a : A) → o ≡ Some a → word ≡ name a) → option_map make o ≡ Some f → word ≡ form_name f
 operator_is make name o word f same is e =
@@ -95,72 +89,14 @@ form_at_takes (word ∷ rest) x e =
 -- each form's word is read as it
 form_named-again : (f : Form) → form_named (form_name f) ≡ Some f
 unfolding form_named plain_form_of unary_of binary_of
-form_named-again form.Sort = refl
 form_named-again (form.Leaf leaf.Input) = refl
-form_named-again (form.Leaf leaf.State) = refl
-form_named-again (form.Leaf leaf.Zero) = refl
-form_named-again (form.Leaf leaf.One) = refl
-form_named-again (form.Leaf leaf.Ones) = refl
 form_named-again (form.Constant constant.Const) = refl
-form_named-again (form.Constant constant.Constd) = refl
-form_named-again (form.Constant constant.Consth) = refl
 form_named-again (form.Extension extension.Uext) = refl
-form_named-again (form.Extension extension.Sext) = refl
-form_named-again form.Slice = refl
-form_named-again form.Concat = refl
-form_named-again form.Ite = refl
-form_named-again (form.Link link.Init) = refl
-form_named-again (form.Link link.Next) = refl
-form_named-again (form.Property property.Bad) = refl
-form_named-again (form.Property property.Constraint) = refl
-form_named-again (form.Property property.Fair) = refl
-form_named-again (form.Property property.Output) = refl
-form_named-again form.Justice = refl
 form_named-again (form.Unary unary.Not) = refl
-form_named-again (form.Unary unary.Inc) = refl
-form_named-again (form.Unary unary.Dec) = refl
-form_named-again (form.Unary unary.Neg) = refl
-form_named-again (form.Unary unary.Redand) = refl
-form_named-again (form.Unary unary.Redor) = refl
-form_named-again (form.Unary unary.Redxor) = refl
 form_named-again (form.Binary binary.Iff) = refl
-form_named-again (form.Binary binary.Implies) = refl
-form_named-again (form.Binary binary.Eq) = refl
-form_named-again (form.Binary binary.Neq) = refl
-form_named-again (form.Binary binary.Ugt) = refl
-form_named-again (form.Binary binary.Ugte) = refl
-form_named-again (form.Binary binary.Ult) = refl
-form_named-again (form.Binary binary.Ulte) = refl
-form_named-again (form.Binary binary.Sgt) = refl
-form_named-again (form.Binary binary.Sgte) = refl
-form_named-again (form.Binary binary.Slt) = refl
-form_named-again (form.Binary binary.Slte) = refl
-form_named-again (form.Binary binary.And) = refl
-form_named-again (form.Binary binary.Nand) = refl
-form_named-again (form.Binary binary.Or) = refl
-form_named-again (form.Binary binary.Nor) = refl
-form_named-again (form.Binary binary.Xor) = refl
-form_named-again (form.Binary binary.Xnor) = refl
-form_named-again (form.Binary binary.Rol) = refl
-form_named-again (form.Binary binary.Ror) = refl
-form_named-again (form.Binary binary.Sll) = refl
-form_named-again (form.Binary binary.Srl) = refl
-form_named-again (form.Binary binary.Sra) = refl
-form_named-again (form.Binary binary.Add) = refl
-form_named-again (form.Binary binary.Sub) = refl
-form_named-again (form.Binary binary.Mul) = refl
-form_named-again (form.Binary binary.Udiv) = refl
-form_named-again (form.Binary binary.Sdiv) = refl
-form_named-again (form.Binary binary.Urem) = refl
-form_named-again (form.Binary binary.Srem) = refl
-form_named-again (form.Binary binary.Smod) = refl
-form_named-again (form.Binary binary.Uaddo) = refl
-form_named-again (form.Binary binary.Saddo) = refl
-form_named-again (form.Binary binary.Usubo) = refl
-form_named-again (form.Binary binary.Ssubo) = refl
-form_named-again (form.Binary binary.Umulo) = refl
-form_named-again (form.Binary binary.Smulo) = refl
-form_named-again (form.Binary binary.Sdivo) = refl
+form_named-again (form.Link link.Init) = refl
+form_named-again (form.Property property.Bad) = refl
+form_named-again _ = refl
 
 pub form_at-again : (f : Form) (rest : Tokens) → form_at (form_name f ∷ rest) ≡ Ok (f, rest)
 unfolding form_at form_of

@@ -1,11 +1,9 @@
 -- Lemmas on the reading of a source's lines onto a model.
-use Rattle.std.proofs.Common.{◌≡◌, ◌≢◌, ℕ, List, [], ◌∷◌, ◌++◌, Option, Some, None, Result, Ok, Err, refl, sym, ap, subst, ◌∙◌, inl, inr, append_assoc}
+use Rattle.std.proofs.Common.{◌≡◌, ◌≢◌, ℕ, List, [], ◌∷◌, ◌++◌, Option, Some, None, Result, Ok, Err, sym, ap, subst, ◌∙◌, inl, inr, append_assoc}
 use Rattle.std.specs.Prelude.{IfSome}
 use Rattle.std.specs.Io.KnownBytes.{prepend_known, Keeps, Consumes, IsAtEnd}
 use Rattle.base.specs.Device.{HasRisen}
 use Rattle.base.specs.Lines.{IsLine, whole_lines, unfinished}
-use Rattle.base.specs.declared.sources.ReadAllFault.{ReadAllFault}
-use Rattle.base.specs.declared.sources.ReadAllFault.TheVariants as all
 use Rattle.std.proofs.lemmas.List.{append-nil}
 use Rattle.btor2.specs.declared.item.Item.{Item}
 use Rattle.btor2text.specs.declared.fault.Why.{Why}
@@ -13,7 +11,7 @@ use Rattle.btor2text.specs.declared.fault.Why.TheVariants as why
 use Rattle.btor2text.specs.declared.fault.ReadFault.{ReadFault}
 use Rattle.btor2text.specs.Tokens.{tokens}
 use Rattle.btor2text.specs.Reading.{line_after, fault_at, line_on, lines_on, ReadsLine}
-use Rattle.btor2text.specs.Stopping.{unread_fault, Stops, IsOfLine, TextFails, Ends, ReadsLines}
+use Rattle.btor2text.specs.Stopping.{Stops, IsOfLine, TextFails, Ends, ReadsLines}
 use Rattle.btor2text.proofs.TextLemmas.{goes_on, ends_at, is_done, is_unfinished}
 use Rattle.btor2text.proofs.WhyLemmas.{not_device, line_on_told, Told}
 
@@ -32,11 +30,6 @@ Follows None items known n now = Unit {0}
 Follows (Some text) items None n now = ⊥
 Follows (Some text) items (Some rest) n now =
     lines_on n now (whole_lines rest) (unfinished rest) ≡ lines_on 0 items (whole_lines text) (unfinished text)
-
--- nothing was read yet
-pub follows_at_first : (known : Option (List ℕ)) (items : List Item) → Follows known items (prepend_known [] known) 0 items
-follows_at_first None items = tt
-follows_at_first (Some text) items = refl
 
 -- a line was read
 line_in_front : (text line rest : List ℕ) → text ≡ (line ++ 10 ∷ []) ++ rest → text ≡ line ++ 10 ∷ rest
@@ -88,11 +81,6 @@ lines_end (Err e) known a b items now n rest fails failed f kept end whole ends 
       }),
       same,
     )
-
--- the source failed, or a growth was refused
-pub unread_stops : (cause : ReadAllFault) (e : ReadFault) (old new : ℕ) (Other : Type 0) → e ≡ unread_fault cause → (cause ≡ all.Device → HasRisen old new) → (cause ≡ all.NoMemory → new ≡ old) → Stops e old new Other
-unread_stops all.Device e old new Other is risen same = inl (is, risen refl)
-unread_stops all.NoMemory e old new Other is risen same = inr (inl is, same refl)
 
 -- a line's fault was told
 told_line : (known a b c : Option (List ℕ)) (items now : List Item) (n m : ℕ) (line : List ℕ) (w : Why) (e : ReadFault)

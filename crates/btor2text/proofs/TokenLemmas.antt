@@ -107,9 +107,6 @@ pieces_are_some (b ∷ bs) =
       | false ↦ (b ∷ rest.0, (rest.1.0, ap (to_first b) rest.1.1))
     ]
 
-pub tokens-comment : (bs : List ℕ) → tokens (59 ∷ bs) ≡ []
-tokens-comment bs = let rest = pieces_are_some bs in ap (λ ps. tokens_of (to_first 59 ps)) rest.1.1
-
 -- a line that begins with a token has one
 pub some_token : (line : List ℕ) → begins_token line ≡ true → (first : List ℕ) × ((rest : List (List ℕ)) × (tokens line ≡ first ∷ rest))
 some_token [] h = absurd cc

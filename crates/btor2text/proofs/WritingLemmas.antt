@@ -1,14 +1,12 @@
 -- Texts of items and of digits, piece by piece.
 use Rattle.std.proofs.Common.{◌≡◌, ℕ, true, refl, ◌^◌, lit<, suc, ◌+◌, ◌-◌, ◌<◌, ◌≤◌, ◌/◌, ◌%◌, List, [], ◌∷◌, ◌++◌, length, ◌==◌, eqb-true, get_or, take, drop, map, decimal, drop-cons, add-one, sym, ap, subst, ◌∙◌, append_assoc, append-nil, arith}
 use Rattle.std.specs.Char.{digit_char}
-use Rattle.std.proofs.lemmas.Bool.{and_parts, leb-true}
 use Rattle.std.proofs.lemmas.Fmt.{length-decimal-le}
 use Rattle.std.proofs.lemmas.List.{take-append-drop}
 use Rattle.btor2.specs.declared.item.Item.{Item}
 use Rattle.btor2.specs.declared.item.Body.{Body}
 use Rattle.btor2.specs.declared.item.Body.TheVariants as body
 use Rattle.btor2.specs.Check.{IsWellFormed}
-use Rattle.btor2.specs.Symbols.{is_symbol}
 use Rattle.btor2.proofs.ModelLemmas.{IsIn, refusal-at, IsWellFormed-front}
 use Rattle.btor2text.specs.Digits.{last_digits}
 use Rattle.btor2text.specs.Spelling.{form_tokens, symbol_tokens}
@@ -101,11 +99,6 @@ digits_none radix count value behind = let all : count - 0 ≡ count = omega ari
 -- a number of 64 bits has at most twenty digits
 pub decimal_short : (n : ℕ) → n < 2 ^ 64 → length (decimal n) ≤ 20
 decimal_short n h = length-decimal-le 20 n (lit< tt) (omega arith) h
-
--- a symbol has at most 255 bytes
-pub symbol_short : (bytes : List ℕ) → is_symbol bytes ≡ true → length bytes ≤ 255
-symbol_short [] h = omega arith
-symbol_short (b ∷ bs) h = leb-true (length (b ∷ bs)) 255 (and_parts _ _ (and_parts _ _ h).1).0
 
 pub digits_more : (radix count i rest : ℕ) (digits total : List ℕ) → i < count → last_digits radix (count - i) rest ++ digits ≡ total
     → last_digits radix (count - (i + 1)) (rest / radix) ++ digit_char (rest % radix) ∷ digits ≡ total

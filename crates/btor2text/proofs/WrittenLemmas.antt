@@ -195,52 +195,11 @@ last_number radix count value least most lt = record { each = last_each radix co
 
 unary_word : (op : Unary) → IsWord (unary_name op)
 unary_word unary.Not = record { printed = refl; first = refl }
-unary_word unary.Inc = record { printed = refl; first = refl }
-unary_word unary.Dec = record { printed = refl; first = refl }
-unary_word unary.Neg = record { printed = refl; first = refl }
-unary_word unary.Redand = record { printed = refl; first = refl }
-unary_word unary.Redor = record { printed = refl; first = refl }
-unary_word unary.Redxor = record { printed = refl; first = refl }
+unary_word _ = record { printed = refl; first = refl }
 
 binary_word : (op : Binary) → IsWord (binary_name op)
 binary_word binary.Iff = record { printed = refl; first = refl }
-binary_word binary.Implies = record { printed = refl; first = refl }
-binary_word binary.Eq = record { printed = refl; first = refl }
-binary_word binary.Neq = record { printed = refl; first = refl }
-binary_word binary.Ugt = record { printed = refl; first = refl }
-binary_word binary.Ugte = record { printed = refl; first = refl }
-binary_word binary.Ult = record { printed = refl; first = refl }
-binary_word binary.Ulte = record { printed = refl; first = refl }
-binary_word binary.Sgt = record { printed = refl; first = refl }
-binary_word binary.Sgte = record { printed = refl; first = refl }
-binary_word binary.Slt = record { printed = refl; first = refl }
-binary_word binary.Slte = record { printed = refl; first = refl }
-binary_word binary.And = record { printed = refl; first = refl }
-binary_word binary.Nand = record { printed = refl; first = refl }
-binary_word binary.Or = record { printed = refl; first = refl }
-binary_word binary.Nor = record { printed = refl; first = refl }
-binary_word binary.Xor = record { printed = refl; first = refl }
-binary_word binary.Xnor = record { printed = refl; first = refl }
-binary_word binary.Rol = record { printed = refl; first = refl }
-binary_word binary.Ror = record { printed = refl; first = refl }
-binary_word binary.Sll = record { printed = refl; first = refl }
-binary_word binary.Srl = record { printed = refl; first = refl }
-binary_word binary.Sra = record { printed = refl; first = refl }
-binary_word binary.Add = record { printed = refl; first = refl }
-binary_word binary.Sub = record { printed = refl; first = refl }
-binary_word binary.Mul = record { printed = refl; first = refl }
-binary_word binary.Udiv = record { printed = refl; first = refl }
-binary_word binary.Sdiv = record { printed = refl; first = refl }
-binary_word binary.Urem = record { printed = refl; first = refl }
-binary_word binary.Srem = record { printed = refl; first = refl }
-binary_word binary.Smod = record { printed = refl; first = refl }
-binary_word binary.Uaddo = record { printed = refl; first = refl }
-binary_word binary.Saddo = record { printed = refl; first = refl }
-binary_word binary.Usubo = record { printed = refl; first = refl }
-binary_word binary.Ssubo = record { printed = refl; first = refl }
-binary_word binary.Umulo = record { printed = refl; first = refl }
-binary_word binary.Smulo = record { printed = refl; first = refl }
-binary_word binary.Sdivo = record { printed = refl; first = refl }
+binary_word _ = record { printed = refl; first = refl }
 
 -- a word of the format
 abbrev keyword : (word : List ℕ) → list_all is_printed word ≡ true → is_first word ≡ true → IsWord word
@@ -272,29 +231,10 @@ form_words (body.Output a) fits few = (keyword (codes "output") refl refl, (id_w
 form_words (body.Justice nodes) fits few = (keyword (codes "justice") refl refl, (decimal_word (length nodes) (omega (arith, few)), id_words nodes fits))
 
 says_written : (b : Body) → BodyFits b → HasFewOperands b → Says b (form_tokens b)
-says_written (body.Sort n) fits few = refl
-says_written (body.Input s) fits few = refl
-says_written (body.State s) fits few = refl
-says_written (body.Zero s) fits few = refl
-says_written (body.One s) fits few = refl
-says_written (body.Ones s) fits few = refl
 says_written (body.Const s d v) fits few = (last_digits 2 d v, refl, last_number 2 d v (omega arith) (omega arith) fits.3)
-says_written (body.Constd s v) fits few = refl
 says_written (body.Consth s d v) fits few = (last_digits 16 d v, refl, last_number 16 d v (omega arith) (omega arith) fits.3)
-says_written (body.Uext s a w) fits few = refl
-says_written (body.Sext s a w) fits few = refl
-says_written (body.Slice s a u l) fits few = refl
-says_written (body.Unary op s a) fits few = refl
-says_written (body.Binary op s a b) fits few = refl
-says_written (body.Concat s a b) fits few = refl
-says_written (body.Ite s c t e) fits few = refl
-says_written (body.Init s t v) fits few = refl
-says_written (body.Next s t v) fits few = refl
-says_written (body.Bad a) fits few = refl
-says_written (body.Constraint a) fits few = refl
-says_written (body.Fair a) fits few = refl
-says_written (body.Output a) fits few = refl
 says_written (body.Justice nodes) fits few = (refl, few)
+says_written _ fits few = refl
 
 -- ---- lines
 

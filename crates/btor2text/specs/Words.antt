@@ -10,15 +10,10 @@ use Rattle.btor2text.specs.declared.fault.Why.{Why}
 use Rattle.btor2text.specs.declared.fault.Why.TheVariants as why
 use Rattle.btor2text.specs.declared.forms.Form.{Form}
 use Rattle.btor2text.specs.declared.forms.Form.TheVariants as form
-use Rattle.btor2text.specs.declared.forms.Leaf.{Leaf}
 use Rattle.btor2text.specs.declared.forms.Leaf.TheVariants as leaf
-use Rattle.btor2text.specs.declared.forms.Constant.{Constant}
 use Rattle.btor2text.specs.declared.forms.Constant.TheVariants as constant
-use Rattle.btor2text.specs.declared.forms.Extension.{Extension}
 use Rattle.btor2text.specs.declared.forms.Extension.TheVariants as extension
-use Rattle.btor2text.specs.declared.forms.Link.{Link}
 use Rattle.btor2text.specs.declared.forms.Link.TheVariants as link
-use Rattle.btor2text.specs.declared.forms.Property.{Property}
 use Rattle.btor2text.specs.declared.forms.Property.TheVariants as property
 
 -- the word of an operator of one operand
@@ -72,46 +67,30 @@ binary_name binary.Umulo = codes "umulo"
 binary_name binary.Smulo = codes "smulo"
 binary_name binary.Sdivo = codes "sdivo"
 
--- the words of the forms of a group
-abbrev pub leaf_name : Leaf → List ℕ
-leaf_name leaf.Input = codes "input"
-leaf_name leaf.State = codes "state"
-leaf_name leaf.Zero = codes "zero"
-leaf_name leaf.One = codes "one"
-leaf_name leaf.Ones = codes "ones"
-
-abbrev pub constant_name : Constant → List ℕ
-constant_name constant.Const = codes "const"
-constant_name constant.Constd = codes "constd"
-constant_name constant.Consth = codes "consth"
-
-abbrev pub extension_name : Extension → List ℕ
-extension_name extension.Uext = codes "uext"
-extension_name extension.Sext = codes "sext"
-
-abbrev pub link_name : Link → List ℕ
-link_name link.Init = codes "init"
-link_name link.Next = codes "next"
-
-abbrev pub property_name : Property → List ℕ
-property_name property.Bad = codes "bad"
-property_name property.Constraint = codes "constraint"
-property_name property.Fair = codes "fair"
-property_name property.Output = codes "output"
-
 -- the word of a form
 abbrev pub form_name : Form → List ℕ
 form_name form.Sort = codes "sort"
-form_name (form.Leaf l) = leaf_name l
-form_name (form.Constant c) = constant_name c
-form_name (form.Extension e) = extension_name e
+form_name (form.Leaf leaf.Input) = codes "input"
+form_name (form.Leaf leaf.State) = codes "state"
+form_name (form.Leaf leaf.Zero) = codes "zero"
+form_name (form.Leaf leaf.One) = codes "one"
+form_name (form.Leaf leaf.Ones) = codes "ones"
+form_name (form.Constant constant.Const) = codes "const"
+form_name (form.Constant constant.Constd) = codes "constd"
+form_name (form.Constant constant.Consth) = codes "consth"
+form_name (form.Extension extension.Uext) = codes "uext"
+form_name (form.Extension extension.Sext) = codes "sext"
 form_name form.Slice = codes "slice"
 form_name (form.Unary op) = unary_name op
 form_name (form.Binary op) = binary_name op
 form_name form.Concat = codes "concat"
 form_name form.Ite = codes "ite"
-form_name (form.Link l) = link_name l
-form_name (form.Property p) = property_name p
+form_name (form.Link link.Init) = codes "init"
+form_name (form.Link link.Next) = codes "next"
+form_name (form.Property property.Bad) = codes "bad"
+form_name (form.Property property.Constraint) = codes "constraint"
+form_name (form.Property property.Fair) = codes "fair"
+form_name (form.Property property.Output) = codes "output"
 form_name form.Justice = codes "justice"
 
 -- the first of some things whose name is a word
@@ -119,7 +98,7 @@ abbrev pub named : {A : Type 0} → (A → List ℕ) → List ℕ → List A →
 named name word [] = None
 named name word (x ∷ xs) = if bytes_eq word (name x) then Some x else named name word xs
 
--- the operators: of one operand; of two, that are tests, on each pair of bits, rotations and shifts, of arithmetic, tests for overflows
+-- the operators: of one operand; of two, that are tests, that go by bits (on each pair of bits, rotations and shifts), and of arithmetic with its tests for overflows
 abbrev pub unaries : List Unary
 unaries = unary.Not ∷ unary.Inc ∷ unary.Dec ∷ unary.Neg ∷ unary.Redand ∷ unary.Redor ∷ unary.Redxor ∷ []
 
@@ -127,32 +106,23 @@ abbrev pub tests : List Binary
 tests = binary.Iff ∷ binary.Implies ∷ binary.Eq ∷ binary.Neq ∷ binary.Ugt ∷ binary.Ugte ∷ binary.Ult ∷ binary.Ulte ∷ binary.Sgt ∷ binary.Sgte ∷ binary.Slt ∷ binary.Slte ∷ []
 
 abbrev pub bitwise : List Binary
-bitwise = binary.And ∷ binary.Nand ∷ binary.Or ∷ binary.Nor ∷ binary.Xor ∷ binary.Xnor ∷ []
-
-abbrev pub moves : List Binary
-moves = binary.Rol ∷ binary.Ror ∷ binary.Sll ∷ binary.Srl ∷ binary.Sra ∷ []
+bitwise = binary.And ∷ binary.Nand ∷ binary.Or ∷ binary.Nor ∷ binary.Xor ∷ binary.Xnor ∷ binary.Rol ∷ binary.Ror ∷ binary.Sll ∷ binary.Srl ∷ binary.Sra ∷ []
 
 abbrev pub arithmetic : List Binary
-arithmetic = binary.Add ∷ binary.Sub ∷ binary.Mul ∷ binary.Udiv ∷ binary.Sdiv ∷ binary.Urem ∷ binary.Srem ∷ binary.Smod ∷ []
+arithmetic =
+    binary.Add ∷ binary.Sub ∷ binary.Mul ∷ binary.Udiv ∷ binary.Sdiv ∷ binary.Urem ∷ binary.Srem ∷ binary.Smod
+    ∷ binary.Uaddo ∷ binary.Saddo ∷ binary.Usubo ∷ binary.Ssubo ∷ binary.Umulo ∷ binary.Smulo ∷ binary.Sdivo ∷ []
 
-abbrev pub overflows : List Binary
-overflows = binary.Uaddo ∷ binary.Saddo ∷ binary.Usubo ∷ binary.Ssubo ∷ binary.Umulo ∷ binary.Smulo ∷ binary.Sdivo ∷ []
-
--- the forms that are no operators of one or of two operands alike
+-- the forms that are no operators of one or of two operands alike: nodes without operands, and all others
 abbrev pub leaves : List Form
-leaves = form.Leaf leaf.Input ∷ form.Leaf leaf.State ∷ form.Leaf leaf.Zero ∷ form.Leaf leaf.One ∷ form.Leaf leaf.Ones ∷ []
-
-abbrev pub constants : List Form
-constants = form.Constant constant.Const ∷ form.Constant constant.Constd ∷ form.Constant constant.Consth ∷ []
-
-abbrev pub links : List Form
-links = form.Link link.Init ∷ form.Link link.Next ∷ []
-
-abbrev pub properties : List Form
-properties = form.Property property.Bad ∷ form.Property property.Constraint ∷ form.Property property.Fair ∷ form.Property property.Output ∷ []
+leaves =
+    form.Leaf leaf.Input ∷ form.Leaf leaf.State ∷ form.Leaf leaf.Zero ∷ form.Leaf leaf.One ∷ form.Leaf leaf.Ones
+    ∷ form.Constant constant.Const ∷ form.Constant constant.Constd ∷ form.Constant constant.Consth ∷ []
 
 abbrev pub others : List Form
-others = form.Sort ∷ form.Extension extension.Uext ∷ form.Extension extension.Sext ∷ form.Slice ∷ form.Concat ∷ form.Ite ∷ form.Justice ∷ []
+others =
+    form.Sort ∷ form.Extension extension.Uext ∷ form.Extension extension.Sext ∷ form.Slice ∷ form.Concat ∷ form.Ite ∷ form.Link link.Init ∷ form.Link link.Next
+    ∷ form.Property property.Bad ∷ form.Property property.Constraint ∷ form.Property property.Fair ∷ form.Property property.Output ∷ form.Justice ∷ []
 
 -- the operator of one operand that a word names
 unfoldable pub unary_of : List ℕ → Option Unary
@@ -160,19 +130,11 @@ unary_of word = named unary_name word unaries
 
 -- the operator of two operands that a word names
 unfoldable pub binary_of : List ℕ → Option Binary
-binary_of word =
-    option_or (named binary_name word tests)
-    (option_or (named binary_name word bitwise)
-    (option_or (named binary_name word moves)
-    (option_or (named binary_name word arithmetic) (named binary_name word overflows))))
+binary_of word = option_or (named binary_name word tests) (option_or (named binary_name word bitwise) (named binary_name word arithmetic))
 
 -- the form that a word names and that is no operator of one or of two operands alike
 unfoldable pub plain_form_of : List ℕ → Option Form
-plain_form_of word =
-    option_or (named form_name word leaves)
-    (option_or (named form_name word constants)
-    (option_or (named form_name word links)
-    (option_or (named form_name word properties) (named form_name word others))))
+plain_form_of word = option_or (named form_name word leaves) (named form_name word others)
 
 -- the form that a word names
 unfoldable pub form_named : List ℕ → Option Form

@@ -123,14 +123,12 @@ pub(crate) fn constant_at(constant: Constant, line: &[u8]) -> Result<(Body, &[u8
     match constant {
         Constant::Const => {
             let (digits, value, rest) = digits_at(2, 64, rest)?;
-            Ok((
-                Body::Const {
-                    sort,
-                    digits,
-                    value,
-                },
-                rest,
-            ))
+            let body = Body::Const {
+                sort,
+                digits,
+                value,
+            };
+            Ok((body, rest))
         }
         Constant::Constd => {
             let (value, rest) = signed_at(rest)?;
@@ -139,14 +137,12 @@ pub(crate) fn constant_at(constant: Constant, line: &[u8]) -> Result<(Body, &[u8
         }
         Constant::Consth => {
             let (digits, value, rest) = digits_at(16, 16, rest)?;
-            Ok((
-                Body::Consth {
-                    sort,
-                    digits,
-                    value,
-                },
-                rest,
-            ))
+            let body = Body::Consth {
+                sort,
+                digits,
+                value,
+            };
+            Ok((body, rest))
         }
     }
 }

@@ -1,9 +1,9 @@
 //! The forms of lines and the words that name them.
 ghost use Rattle.std.specs.Prelude.{◌≡◌};
-ghost use Rattle.btor2text.specs.Words.{named, form_name, leaves, constants, links, properties, others, plain_form_of, form_named, no_form, form_of};
+ghost use Rattle.btor2text.specs.Words.{named, form_name, leaves, others, plain_form_of, form_named, no_form, form_of};
 
 use crate::fault::Why;
-use crate::operators::{binary_of, is_word, unary_of};
+use crate::operators::{binary_of, by_word, is_word, unary_of};
 use base::{Binary, Unary};
 
 /// A node that has a sort alone.
@@ -64,91 +64,41 @@ pub(crate) enum Form {
     Justice,
 }
 
-/// The form that a word names, where it is a node that has a sort alone.
+/// The form that a word names, where it is a node that has a sort alone, or a constant that is spelled with digits.
 fn leaf_of(word: &[u8]) -> Option<Form>
     ensures { result ≡ named form_name word.now leaves }
 {
-    if is_word(word, b"input") {
-        Some(Form::Leaf(Leaf::Input))
-    } else if is_word(word, b"state") {
-        Some(Form::Leaf(Leaf::State))
-    } else if is_word(word, b"zero") {
-        Some(Form::Leaf(Leaf::Zero))
-    } else if is_word(word, b"one") {
-        Some(Form::Leaf(Leaf::One))
-    } else if is_word(word, b"ones") {
-        Some(Form::Leaf(Leaf::Ones))
-    } else {
-        None
-    }
+    by_word!(word;
+        b"input" => Form::Leaf(Leaf::Input),
+        b"state" => Form::Leaf(Leaf::State),
+        b"zero" => Form::Leaf(Leaf::Zero),
+        b"one" => Form::Leaf(Leaf::One),
+        b"ones" => Form::Leaf(Leaf::Ones),
+        b"const" => Form::Constant(Constant::Const),
+        b"constd" => Form::Constant(Constant::Constd),
+        b"consth" => Form::Constant(Constant::Consth),
+    )
 }
 
-/// The form that a word names, where it is a constant that is spelled with digits.
-fn constant_of(word: &[u8]) -> Option<Form>
-    ensures { result ≡ named form_name word.now constants }
-{
-    if is_word(word, b"const") {
-        Some(Form::Constant(Constant::Const))
-    } else if is_word(word, b"constd") {
-        Some(Form::Constant(Constant::Constd))
-    } else if is_word(word, b"consth") {
-        Some(Form::Constant(Constant::Consth))
-    } else {
-        None
-    }
-}
-
-/// The form that a word names, where it is what gives a state a value.
-fn link_of(word: &[u8]) -> Option<Form>
-    ensures { result ≡ named form_name word.now links }
-{
-    if is_word(word, b"init") {
-        Some(Form::Link(Link::Init))
-    } else if is_word(word, b"next") {
-        Some(Form::Link(Link::Next))
-    } else {
-        None
-    }
-}
-
-/// The form that a word names, where it is what marks a node.
-fn property_of(word: &[u8]) -> Option<Form>
-    ensures { result ≡ named form_name word.now properties }
-{
-    if is_word(word, b"bad") {
-        Some(Form::Property(Property::Bad))
-    } else if is_word(word, b"constraint") {
-        Some(Form::Property(Property::Constraint))
-    } else if is_word(word, b"fair") {
-        Some(Form::Property(Property::Fair))
-    } else if is_word(word, b"output") {
-        Some(Form::Property(Property::Output))
-    } else {
-        None
-    }
-}
-
-/// The form that a word names, where it is none of a group.
+/// The form that a word names, where it is no such node and no operator of one or of two operands alike.
 fn other_of(word: &[u8]) -> Option<Form>
     ensures { result ≡ named form_name word.now others }
 {
-    if is_word(word, b"sort") {
-        Some(Form::Sort)
-    } else if is_word(word, b"uext") {
-        Some(Form::Extension(Extension::Uext))
-    } else if is_word(word, b"sext") {
-        Some(Form::Extension(Extension::Sext))
-    } else if is_word(word, b"slice") {
-        Some(Form::Slice)
-    } else if is_word(word, b"concat") {
-        Some(Form::Concat)
-    } else if is_word(word, b"ite") {
-        Some(Form::Ite)
-    } else if is_word(word, b"justice") {
-        Some(Form::Justice)
-    } else {
-        None
-    }
+    by_word!(word;
+        b"sort" => Form::Sort,
+        b"uext" => Form::Extension(Extension::Uext),
+        b"sext" => Form::Extension(Extension::Sext),
+        b"slice" => Form::Slice,
+        b"concat" => Form::Concat,
+        b"ite" => Form::Ite,
+        b"init" => Form::Link(Link::Init),
+        b"next" => Form::Link(Link::Next),
+        b"bad" => Form::Property(Property::Bad),
+        b"constraint" => Form::Property(Property::Constraint),
+        b"fair" => Form::Property(Property::Fair),
+        b"output" => Form::Property(Property::Output),
+        b"justice" => Form::Justice,
+    )
 }
 
 /// The form that a word names and that is no operator of one or of two operands alike.
@@ -157,15 +107,6 @@ fn plain_form_of(word: &[u8]) -> Option<Form>
     ensures { result ≡ plain_form_of word.now }
 {
     if let Some(form) = leaf_of(word) {
-        return Some(form);
-    }
-    if let Some(form) = constant_of(word) {
-        return Some(form);
-    }
-    if let Some(form) = link_of(word) {
-        return Some(form);
-    }
-    if let Some(form) = property_of(word) {
         return Some(form);
     }
     other_of(word)

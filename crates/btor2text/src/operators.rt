@@ -2,7 +2,7 @@
 
 ghost use Rattle.std.specs.Prelude.{◌≡◌, ◌≤◌, length};
 ghost use Rattle.std.specs.Str.{bytes_eq};
-ghost use Rattle.btor2text.specs.Words.{named, unary_name, binary_name, unary_of, binary_of, tests, bitwise, moves, arithmetic, overflows};
+ghost use Rattle.btor2text.specs.Words.{named, unary_name, binary_name, unary_of, binary_of, tests, bitwise, arithmetic};
 
 use base::{Binary, Unary};
 
@@ -12,6 +12,15 @@ pub(crate) fn is_word(token: &[u8], word: &[u8]) -> bool
 {
     token == word
 }
+
+/// What a word names: of some words and what each names the first that it is, else nothing.
+macro_rules! by_word {
+    ($word:expr; $($name:literal => $named:expr,)*) => {
+        $(if is_word($word, $name) { Some($named) } else)* { None }
+    };
+}
+
+pub(crate) use by_word;
 
 /// The word of an operator of one operand.
 pub(crate) fn unary_name(operator: Unary) -> &'static [u8]
@@ -82,144 +91,77 @@ pub(crate) fn binary_name(operator: Binary) -> &'static [u8]
 pub fn unary_of(word: &[u8]) -> Option<Unary>
     ensures { result ≡ unary_of word.now }
 {
-    if is_word(word, b"not") {
-        Some(Unary::Not)
-    } else if is_word(word, b"inc") {
-        Some(Unary::Inc)
-    } else if is_word(word, b"dec") {
-        Some(Unary::Dec)
-    } else if is_word(word, b"neg") {
-        Some(Unary::Neg)
-    } else if is_word(word, b"redand") {
-        Some(Unary::Redand)
-    } else if is_word(word, b"redor") {
-        Some(Unary::Redor)
-    } else if is_word(word, b"redxor") {
-        Some(Unary::Redxor)
-    } else {
-        None
-    }
+    by_word!(word;
+        b"not" => Unary::Not,
+        b"inc" => Unary::Inc,
+        b"dec" => Unary::Dec,
+        b"neg" => Unary::Neg,
+        b"redand" => Unary::Redand,
+        b"redor" => Unary::Redor,
+        b"redxor" => Unary::Redxor,
+    )
 }
 
 /// The operator that a word names, where it is a test of two operands.
 fn test_of(word: &[u8]) -> Option<Binary>
     ensures { result ≡ named binary_name word.now tests }
 {
-    if is_word(word, b"iff") {
-        Some(Binary::Iff)
-    } else if is_word(word, b"implies") {
-        Some(Binary::Implies)
-    } else if is_word(word, b"eq") {
-        Some(Binary::Eq)
-    } else if is_word(word, b"neq") {
-        Some(Binary::Neq)
-    } else if is_word(word, b"ugt") {
-        Some(Binary::Ugt)
-    } else if is_word(word, b"ugte") {
-        Some(Binary::Ugte)
-    } else if is_word(word, b"ult") {
-        Some(Binary::Ult)
-    } else if is_word(word, b"ulte") {
-        Some(Binary::Ulte)
-    } else if is_word(word, b"sgt") {
-        Some(Binary::Sgt)
-    } else if is_word(word, b"sgte") {
-        Some(Binary::Sgte)
-    } else if is_word(word, b"slt") {
-        Some(Binary::Slt)
-    } else if is_word(word, b"slte") {
-        Some(Binary::Slte)
-    } else {
-        None
-    }
+    by_word!(word;
+        b"iff" => Binary::Iff,
+        b"implies" => Binary::Implies,
+        b"eq" => Binary::Eq,
+        b"neq" => Binary::Neq,
+        b"ugt" => Binary::Ugt,
+        b"ugte" => Binary::Ugte,
+        b"ult" => Binary::Ult,
+        b"ulte" => Binary::Ulte,
+        b"sgt" => Binary::Sgt,
+        b"sgte" => Binary::Sgte,
+        b"slt" => Binary::Slt,
+        b"slte" => Binary::Slte,
+    )
 }
 
-/// The operator that a word names, where it is an operator on each pair of bits.
+/// The operator that a word names, where it is an operator on each pair of bits, a rotation or a shift.
 fn bitwise_of(word: &[u8]) -> Option<Binary>
     ensures { result ≡ named binary_name word.now bitwise }
 {
-    if is_word(word, b"and") {
-        Some(Binary::And)
-    } else if is_word(word, b"nand") {
-        Some(Binary::Nand)
-    } else if is_word(word, b"or") {
-        Some(Binary::Or)
-    } else if is_word(word, b"nor") {
-        Some(Binary::Nor)
-    } else if is_word(word, b"xor") {
-        Some(Binary::Xor)
-    } else if is_word(word, b"xnor") {
-        Some(Binary::Xnor)
-    } else {
-        None
-    }
+    by_word!(word;
+        b"and" => Binary::And,
+        b"nand" => Binary::Nand,
+        b"or" => Binary::Or,
+        b"nor" => Binary::Nor,
+        b"xor" => Binary::Xor,
+        b"xnor" => Binary::Xnor,
+        b"rol" => Binary::Rol,
+        b"ror" => Binary::Ror,
+        b"sll" => Binary::Sll,
+        b"srl" => Binary::Srl,
+        b"sra" => Binary::Sra,
+    )
 }
 
-/// The operator that a word names, where it is a rotation or a shift.
-fn move_of(word: &[u8]) -> Option<Binary>
-    ensures { result ≡ named binary_name word.now moves }
-{
-    if is_word(word, b"rol") {
-        Some(Binary::Rol)
-    } else if is_word(word, b"ror") {
-        Some(Binary::Ror)
-    } else if is_word(word, b"sll") {
-        Some(Binary::Sll)
-    } else if is_word(word, b"srl") {
-        Some(Binary::Srl)
-    } else if is_word(word, b"sra") {
-        Some(Binary::Sra)
-    } else {
-        None
-    }
-}
-
-/// The operator that a word names, where it is an operator of arithmetic.
+/// The operator that a word names, where it is an operator of arithmetic or a test for an overflow.
 fn arithmetic_of(word: &[u8]) -> Option<Binary>
     ensures { result ≡ named binary_name word.now arithmetic }
 {
-    if is_word(word, b"add") {
-        Some(Binary::Add)
-    } else if is_word(word, b"sub") {
-        Some(Binary::Sub)
-    } else if is_word(word, b"mul") {
-        Some(Binary::Mul)
-    } else if is_word(word, b"udiv") {
-        Some(Binary::Udiv)
-    } else if is_word(word, b"sdiv") {
-        Some(Binary::Sdiv)
-    } else if is_word(word, b"urem") {
-        Some(Binary::Urem)
-    } else if is_word(word, b"srem") {
-        Some(Binary::Srem)
-    } else if is_word(word, b"smod") {
-        Some(Binary::Smod)
-    } else {
-        None
-    }
-}
-
-/// The operator that a word names, where it is a test for an overflow.
-fn overflow_of(word: &[u8]) -> Option<Binary>
-    ensures { result ≡ named binary_name word.now overflows }
-{
-    if is_word(word, b"uaddo") {
-        Some(Binary::Uaddo)
-    } else if is_word(word, b"saddo") {
-        Some(Binary::Saddo)
-    } else if is_word(word, b"usubo") {
-        Some(Binary::Usubo)
-    } else if is_word(word, b"ssubo") {
-        Some(Binary::Ssubo)
-    } else if is_word(word, b"umulo") {
-        Some(Binary::Umulo)
-    } else if is_word(word, b"smulo") {
-        Some(Binary::Smulo)
-    } else if is_word(word, b"sdivo") {
-        Some(Binary::Sdivo)
-    } else {
-        None
-    }
+    by_word!(word;
+        b"add" => Binary::Add,
+        b"sub" => Binary::Sub,
+        b"mul" => Binary::Mul,
+        b"udiv" => Binary::Udiv,
+        b"sdiv" => Binary::Sdiv,
+        b"urem" => Binary::Urem,
+        b"srem" => Binary::Srem,
+        b"smod" => Binary::Smod,
+        b"uaddo" => Binary::Uaddo,
+        b"saddo" => Binary::Saddo,
+        b"usubo" => Binary::Usubo,
+        b"ssubo" => Binary::Ssubo,
+        b"umulo" => Binary::Umulo,
+        b"smulo" => Binary::Smulo,
+        b"sdivo" => Binary::Sdivo,
+    )
 }
 
 /// The operator of two operands that a word names, as a line does; nothing where it names none ("Btor2, BtorMC
@@ -234,11 +176,5 @@ pub fn binary_of(word: &[u8]) -> Option<Binary>
     if let Some(operator) = bitwise_of(word) {
         return Some(operator);
     }
-    if let Some(operator) = move_of(word) {
-        return Some(operator);
-    }
-    if let Some(operator) = arithmetic_of(word) {
-        return Some(operator);
-    }
-    overflow_of(word)
+    arithmetic_of(word)
 }

@@ -1,5 +1,5 @@
 -- Chains of gates: what a walk along one and a look for a gate say, and what a gate more changes.
-use Rattle.std.proofs.Common.{◌≡◌, ℕ, zero, suc, ◌+◌, ◌<◌, ◌≤◌, Bool, true, false, ◌&&◌, List, [], ◌∷◌, ◌++◌, All, length, get_or, replicate, position, Option, None, Some, refl, sym, ◌∙◌, ap, subst, arith, rules, if◌then◌else◌, slice_set, nat_lt, ◌⊎◌, inl, inr, ⊎_elim, IfSome}
+use Rattle.std.proofs.Common.{◌≡◌, ℕ, zero, suc, ◌+◌, ◌<◌, ◌≤◌, Bool, true, false, List, [], ◌∷◌, ◌++◌, All, length, get_or, replicate, position, Option, None, Some, refl, sym, ◌∙◌, ap, subst, arith, rules, if◌then◌else◌, slice_set, nat_lt, ◌⊎◌, inl, inr, ⊎_elim, IfSome}
 use Rattle.std.specs.List.{position_or_len, list_any}
 use Rattle.std.proofs.lemmas.Bool.{cases_lt, cases_eq}
 use Rattle.std.proofs.lemmas.Bool.Decides.{nat_tests}

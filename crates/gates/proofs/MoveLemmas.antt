@@ -14,7 +14,7 @@ use Rattle.base.proofs.SignedLaws.{half}
 use Rattle.base.proofs.ShiftLaws.{sra_high}
 use Rattle.base.proofs.ShiftLemmas.{shifted_out_left, shifted_out_right}
 use Rattle.base.proofs.RotationLaws.{powers, rotated_left_below, rotated_right_below, ror_bit, ror_rol, rol_ror}
-use Rattle.gates.specs.Moves.{is_move, is_shift}
+use Rattle.gates.specs.Tests.{is_move, is_shift}
 
 -- a word whose sign is 0 is shifted as a whole number
 sra_low : (n a b : ℕ) → 1 ≤ n → a < 2 ^ (n - 1) → binary_value Sra n a b ≡ a / 2 ^ b

@@ -1,16 +1,19 @@
 -- The kinds of operators that one builder makes: their bounds and widths.
-use Rattle.std.proofs.Common.{◌≡◌, ℕ, ◌*◌, true, List, length, refl, ap, ◌∙◌, inl, inr, ◌⊎◌}
+use Rattle.std.proofs.Common.{◌≡◌, ℕ, zero, suc, ◌-◌, ◌*◌, ◌<◌, ◌==◌, true, List, length, bit_xor, refl, ap, ◌∙◌, inl, inr, ◌⊎◌, arith}
 use Rattle.std.proofs.lemmas.Bool.{false≢true}
-use Rattle.base.specs.Operator.{binary_value}
+use Rattle.base.specs.Operator.{ones, binary_value}
 use Rattle.base.specs.Widths.{binary_width}
+use Rattle.base.specs.Word.{bit_number}
 use Rattle.base.specs.declared.operators.Binary.{Binary}
 use Rattle.base.specs.declared.operators.Binary.TheVariants as binary
 use Rattle.aiger.specs.Net.{Net}
 use Rattle.gates.specs.Bound.{binary_bound}
+use Rattle.gates.specs.Connect.{connected_words, words_bound}
+use Rattle.gates.specs.declared.bitwise.Connective.TheVariants as by
 use Rattle.gates.specs.Division.{MakesDivision}
 use Rattle.gates.specs.Made.{MakesWord, word_value}
-use Rattle.gates.specs.Moves.{is_shift, is_rotation}
-use Rattle.gates.specs.Tests.{is_comparison, is_overflow}
+use Rattle.gates.specs.Tests.{is_shift, is_rotation, is_comparison, is_overflow}
+use Rattle.gates.proofs.BitListLemmas.{word_value-below}
 
 pub is_comparison-named : (op : Binary) → (op ≡ binary.Ugt) ⊎ ((op ≡ binary.Ugte) ⊎ ((op ≡ binary.Ult) ⊎ ((op ≡ binary.Ulte) ⊎ ((op ≡ binary.Sgt) ⊎ ((op ≡ binary.Sgte) ⊎ ((op ≡ binary.Slt) ⊎ (op ≡ binary.Slte))))))) → is_comparison op ≡ true
 is_comparison-named op (inl e) = ap is_comparison e
@@ -88,6 +91,25 @@ pub MakesWord-udiv : (old new : Net) (most : ℕ) (a b quotient remainder : List
     → MakesWord old new most (length a) (λ v. binary_value binary.Udiv (length a) (word_value v a) (word_value v b)) quotient
 MakesWord-udiv old new most a b quotient remainder d = record { grows = d.grows; wide = d.quotient_wide; defined = d.quotient_defined; means = d.quotient_means }
 
-pub MakesWord-urem : (old new : Net) (most : ℕ) (a b quotient remainder : List ℕ) → length b ≡ length a → MakesDivision old new most a b quotient remainder
+pub MakesWord-urem : (old new : Net) (most : ℕ) (a b quotient remainder : List ℕ) → MakesDivision old new most a b quotient remainder
     → MakesWord old new most (length a) (λ v. binary_value binary.Urem (length a) (word_value v a) (word_value v b)) remainder
-MakesWord-urem old new most a b quotient remainder same d = record { grows = d.grows; wide = d.remainder_wide ∙ same; defined = d.remainder_defined; means = d.remainder_means }
+MakesWord-urem old new most a b quotient remainder d = record { grows = d.grows; wide = d.remainder_wide; defined = d.remainder_defined; means = d.remainder_means }
+
+-- single bits are equal where none differs
+pub MakesWord-iff : (old new : Net) (a b bits : List ℕ) → length a ≡ 1 → length b ≡ length a
+    → MakesWord old new (words_bound by.Xor (length a)) (length a) (λ v. ones (length a) - connected_words by.Xor (word_value v a) (word_value v b)) bits
+    → MakesWord old new (binary_bound binary.Iff (length a)) (binary_width binary.Iff (length a)) (λ v. binary_value binary.Iff (length a) (word_value v a) (word_value v b)) bits
+MakesWord-iff old new a b bits one same m = record {
+  grows = rw one at m.grows;
+  wide = m.wide ∙ one;
+  defined = m.defined;
+  means = λ v s. (rw one at m.means v s) ∙ by_bits (word_value v a) (word_value v b) (word_value-below v a 1 one) (word_value-below v b 1 (same ∙ one));
+}
+  where
+    by_bits : (x y : ℕ) → x < 2 → y < 2 → ones 1 - bit_xor x y ≡ bit_number (x == y)
+    by_bits zero zero p q = refl
+    by_bits zero (suc zero) p q = refl
+    by_bits (suc zero) zero p q = refl
+    by_bits (suc zero) (suc zero) p q = refl
+    by_bits (suc (suc x)) y p q = absurd (omega arith)
+    by_bits x (suc (suc y)) p q = absurd (omega arith)

@@ -14,7 +14,7 @@ use Rattle.aiger.specs.Net.{Net, IsDefined, Satisfies}
 use Rattle.aiger.proofs.NetLemmas.{IsDefined-false, literal_value-negation}
 use Rattle.gates.specs.Made.{MakesAnd, MakesLiteral, MakesWord, word_value}
 use Rattle.gates.specs.Sums.{literal_number, MakesSum}
-use Rattle.gates.specs.Division.{reduced, MakesQuotientRow, MakesRows}
+use Rattle.gates.specs.Division.{reduced, MakesQuotientRow, MakesDivision}
 use Rattle.gates.proofs.GrowthLemmas.{Grows-refl, Grows-weaker, Grows-trans, Satisfies-earlier, IsDefined-grown, All-defined-grown, word_value-negation}
 use Rattle.base.proofs.BitLemmas.{two_more}
 use Rattle.gates.proofs.BitListLemmas.{word_value-below}
@@ -138,8 +138,8 @@ MakesQuotientRow-by_carry n0 n1 n2 n3 n4 dividend b low sum into_top out above b
     }
 
 -- no row is made yet
-pub MakesRows-start : (n : Net) (b : List ℕ) → MakesRows n n 0 [] b [] []
-MakesRows-start n b =
+pub MakesDivision-start : (n : Net) (b : List ℕ) → MakesDivision n n 0 [] b [] []
+MakesDivision-start n b =
     record {
       grows = Grows-refl n 0;
       quotient_wide = refl;
@@ -159,10 +159,10 @@ MakesRows-start n b =
     no_remainder (suc b) = rw (urem_by 0 b) (omega arith)
 
 -- a row more
-pub MakesRows-step : (old mid new : Net) (most more all : ℕ) (a b quotient remainder : List ℕ) (next bit : ℕ) (left : List ℕ)
-    → most + more ≤ all → MakesRows old mid most a b quotient remainder → MakesQuotientRow mid new more (next ∷ remainder) b bit left
-    → MakesRows old new all (next ∷ a) b (bit ∷ quotient) left
-MakesRows-step old mid new most more all a b quotient remainder next bit left le so_far row =
+pub MakesDivision-step : (old mid new : Net) (most more all : ℕ) (a b quotient remainder : List ℕ) (next bit : ℕ) (left : List ℕ)
+    → most + more ≤ all → MakesDivision old mid most a b quotient remainder → MakesQuotientRow mid new more (next ∷ remainder) b bit left
+    → MakesDivision old new all (next ∷ a) b (bit ∷ quotient) left
+MakesDivision-step old mid new most more all a b quotient remainder next bit left le so_far row =
     record {
       grows = Grows-weaker old new (most + more) all le (Grows-trans old mid new most more so_far.grows row.grows);
       quotient_wide = ap suc so_far.quotient_wide;
@@ -178,3 +178,15 @@ MakesRows-step old mid new most more all a b quotient remainder next bit left le
           row.left v s ∙ ap (λ r. reduced (literal_number v next + 2 * r) (word_value v b)) (so_far.remainder_means v before)
           ∙ sym (remainder_more (word_value v a) (word_value v b) (literal_value v next));
     }
+
+-- within a greater bound
+pub MakesDivision-weaker : (old new : Net) (few most : ℕ) (a b quotient remainder : List ℕ) → few ≤ most → MakesDivision old new few a b quotient remainder → MakesDivision old new most a b quotient remainder
+MakesDivision-weaker old new few most a b quotient remainder le m = record {
+  grows = Grows-weaker old new few most le m.grows;
+  quotient_wide = m.quotient_wide;
+  remainder_wide = m.remainder_wide;
+  quotient_defined = m.quotient_defined;
+  remainder_defined = m.remainder_defined;
+  quotient_means = m.quotient_means;
+  remainder_means = m.remainder_means;
+}

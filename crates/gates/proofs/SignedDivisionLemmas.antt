@@ -143,7 +143,7 @@ MakesWord-remainder n0 n1 n2 n3 n p q quotient remainder f h first second makes 
     let quotients = MakesWord-quotient n0 n1 n2 n3 n p q quotient remainder f h first second makes in
     record {
       grows = quotients.grows;
-      wide = makes.remainder_wide ∙ second.wide;
+      wide = makes.remainder_wide ∙ first.wide;
       defined = makes.remainder_defined;
       means = λ v s.
           let at_two = Satisfies-earlier n2 n3 (12 * (length p * length p) + 12 * length p) makes.grows v s in

@@ -11,7 +11,7 @@ use Rattle.base.specs.Word.{word, bit_number}
 use Rattle.base.specs.Operator.{ones, binary_value}
 use Rattle.aiger.specs.Literal.{Valuation, literal_value}
 use Rattle.gates.specs.Made.{word_value}
-use Rattle.gates.specs.Moves.{is_shift}
+use Rattle.gates.specs.Tests.{is_shift}
 use Rattle.gates.proofs.BitListLemmas.{word_value-below, word_value-more}
 use Rattle.gates.proofs.MoveLemmas.{window_value, sra_window_low, sra_window_high, moved_out_left, moved_out_right, moved_out_low, moved_out_high}
 

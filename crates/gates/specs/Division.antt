@@ -19,21 +19,11 @@ pub record MakesQuotientRow (old new : Net) (most : ℕ) (dividend b : List ℕ)
   pub goes : (v : Valuation) → Satisfies new v → literal_value v bit ≡ nat_le (word_value v b) (word_value v dividend)
   pub left : (v : Valuation) → Satisfies new v → word_value v remainder ≡ reduced (word_value v dividend) (word_value v b)
 
--- the quotient and the remainder of a dividend that may be narrower than the divisor, both as wide as it
-pub record MakesRows (old new : Net) (most : ℕ) (a b quotient remainder : List ℕ) : Type 0 where
-  pub grows : Grows old new most
-  pub quotient_wide : length quotient ≡ length a
-  pub remainder_wide : length remainder ≡ length a
-  pub quotient_defined : All (IsDefined new) quotient
-  pub remainder_defined : All (IsDefined new) remainder
-  pub quotient_means : (v : Valuation) → Satisfies new v → word_value v quotient ≡ udiv (length a) (word_value v a) (word_value v b)
-  pub remainder_means : (v : Valuation) → Satisfies new v → word_value v remainder ≡ urem (word_value v a) (word_value v b)
-
--- the quotient of two words, as wide as the dividend, and the remainder, as wide as the divisor, made with at most so many gates more
+-- the quotient and the remainder of a dividend that is no wider than the divisor, both as wide as it, made with at most so many gates more
 pub record MakesDivision (old new : Net) (most : ℕ) (a b quotient remainder : List ℕ) : Type 0 where
   pub grows : Grows old new most
   pub quotient_wide : length quotient ≡ length a
-  pub remainder_wide : length remainder ≡ length b
+  pub remainder_wide : length remainder ≡ length a
   pub quotient_defined : All (IsDefined new) quotient
   pub remainder_defined : All (IsDefined new) remainder
   pub quotient_means : (v : Valuation) → Satisfies new v → word_value v quotient ≡ udiv (length a) (word_value v a) (word_value v b)

@@ -3,7 +3,6 @@ pub mod Chains
 pub mod Connect
 pub mod Division
 pub mod Made
-pub mod Moves
 pub mod Operands
 pub mod Shared
 pub mod Sums

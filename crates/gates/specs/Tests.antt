@@ -1,5 +1,5 @@
--- The operators whose answer is one bit, by the builder that makes them.
-use Rattle.std.specs.Prelude.{ℕ, ◌-◌, Bool, true, false, List, [], ◌∷◌, ◌++◌, length, take, slice_index}
+-- The operators by the builder that makes them: those whose answer is one bit, and those that move the bits of a word by an amount.
+use Rattle.std.specs.Prelude.{ℕ, ◌-◌, Bool, true, false, ◌||◌, List, [], ◌∷◌, ◌++◌, length, take, slice_index}
 use Rattle.aiger.specs.Literal.{negation}
 use Rattle.base.specs.declared.operators.Binary.{Binary}
 use Rattle.base.specs.declared.operators.Binary.TheVariants as binary
@@ -26,6 +26,21 @@ is_overflow binary.Umulo = true
 is_overflow binary.Smulo = true
 is_overflow binary.Sdivo = true
 is_overflow _ = false
+
+-- the shifts and the rotations
+abbrev pub is_shift : Binary → Bool
+is_shift binary.Sll = true
+is_shift binary.Srl = true
+is_shift binary.Sra = true
+is_shift _ = false
+
+abbrev pub is_rotation : Binary → Bool
+is_rotation binary.Rol = true
+is_rotation binary.Ror = true
+is_rotation _ = false
+
+abbrev pub is_move : Binary → Bool
+is_move op = is_shift op || is_rotation op
 
 -- literals with the highest one negated, where there is one
 abbrev pub with_top_negated : List ℕ → List ℕ

@@ -1,5 +1,5 @@
 //! The bitwise operators, the reductions of a word to one bit, and the tests for equality.
-ghost use Rattle.std.specs.Prelude.{◌≡◌, ◌≤◌, ◌-◌, ◌*◌, length, All, IfOk, IfErr, ◌==◌, bit_xor};
+ghost use Rattle.std.specs.Prelude.{◌≡◌, ◌≤◌, ◌-◌, ◌*◌, length, All, IfOk, IfErr, ◌==◌};
 ghost use Rattle.base.specs.declared.operators.Binary.TheVariants as binary;
 ghost use Rattle.base.specs.Operator.{ones, unary_value, binary_value};
 ghost use Rattle.aiger.specs.Net.{IsDefined};
@@ -47,10 +47,7 @@ pub(crate) fn connect_words<G: Gates>(
     a: &[Lit],
     b: &[Lit],
 ) -> Result<Bits, GateFault>
-    requires most { length a.now ≤ 64 }
-    requires equal { length b.now ≡ length a.now }
-    requires left { All (IsDefined (G.made g.old)) a.now }
-    requires right { All (IsDefined (G.made g.old)) b.now }
+    requires { AreOperands (G.made g.old) 64 a.now b.now }
     ensures ok { IfOk result (λ bits. let n = length a.now in MakesWord (G.made g.old) (G.made g.new) (words_bound by n) n (λ v. connected_words by (word_value v a.now) (word_value v b.now)) bits.items) }
     ensures refused { IfErr result (Refuses (G.made g.old) (G.made g.new) (words_bound by (length a.now))) }
 {
@@ -85,10 +82,7 @@ pub(crate) fn connect_negated<G: Gates>(
     a: &[Lit],
     b: &[Lit],
 ) -> Result<Bits, GateFault>
-    requires most { length a.now ≤ 64 }
-    requires equal { length b.now ≡ length a.now }
-    requires left { All (IsDefined (G.made g.old)) a.now }
-    requires right { All (IsDefined (G.made g.old)) b.now }
+    requires { AreOperands (G.made g.old) 64 a.now b.now }
     ensures ok { IfOk result (λ bits. let n = length a.now in MakesWord (G.made g.old) (G.made g.new) (words_bound by n) n (λ v. ones n - connected_words by (word_value v a.now) (word_value v b.now)) bits.items) }
     ensures refused { IfErr result (Refuses (G.made g.old) (G.made g.new) (words_bound by (length a.now))) }
 {
@@ -107,15 +101,6 @@ pub(crate) fn reduction<G: Gates>(g: &mut G, by: Connective, a: &[Lit]) -> Resul
     Ok(one_bit(lit))
 }
 
-/// The places at which two words differ.
-fn differing_bits<G: Gates>(g: &mut G, a: &[Lit], b: &[Lit]) -> Result<Bits, GateFault>
-    requires { AreOperands (G.made g.old) 64 a.now b.now }
-    ensures ok { IfOk result (λ bits. let n = length a.now in MakesWord (G.made g.old) (G.made g.new) (3 * n) n (λ v. bit_xor (word_value v a.now) (word_value v b.now)) bits.items) }
-    ensures refused { IfErr result (Refuses (G.made g.old) (G.made g.new) (3 * length a.now)) }
-{
-    connect_words(g, Connective::Xor, a, b)
-}
-
 /// A literal that is true where two words are equal, with at most 4 gates a bit.
 ///
 /// Conditions: operands of equal length from 1 to 64, all literals defined. Errors: `TooBig` only where the variables so
@@ -125,7 +110,7 @@ pub fn equal<G: Gates>(g: &mut G, a: &[Lit], b: &[Lit]) -> Result<Lit, GateFault
     ensures ok { IfOk result (MakesLiteral (G.made g.old) (G.made g.new) (binary_bound binary.Eq (length a.now)) (λ v. word_value v a.now == word_value v b.now)) }
     ensures refused { IfErr result (Refuses (G.made g.old) (G.made g.new) (binary_bound binary.Eq (length a.now))) }
 {
-    let differing = differing_bits(g, a, b)?;
+    let differing = connect_words(g, Connective::Xor, a, b)?;
     let differ = connect_bits(g, Connective::Or, differing.as_slice())?;
     Ok(differ.not())
 }
@@ -150,25 +135,10 @@ pub(crate) fn neq<G: Gates>(g: &mut G, a: &[Lit], b: &[Lit]) -> Result<Bits, Gat
     Ok(one_bit(lit.not()))
 }
 
-/// The bit of the test whether two single bits are equal, with at most 3 gates.
-pub(crate) fn iff<G: Gates>(g: &mut G, a: &[Lit], b: &[Lit]) -> Result<Bits, GateFault>
-    requires left_bit { length a.now ≡ 1 }
-    requires right_bit { length b.now ≡ 1 }
-    requires left { All (IsDefined (G.made g.old)) a.now }
-    requires right { All (IsDefined (G.made g.old)) b.now }
-    ensures ok { IfOk result (λ bits. MakesWord (G.made g.old) (G.made g.new) 3 1 (λ v. binary_value binary.Iff 1 (word_value v a.now) (word_value v b.now)) bits.items) }
-    ensures refused { IfErr result (Refuses (G.made g.old) (G.made g.new) 3) }
-{
-    let differ = xor(g, a[0], b[0])?;
-    Ok(one_bit(differ.not()))
-}
-
 /// The bit of the test whether a single bit is 0 or another is 1, with at most 1 gate.
 pub(crate) fn implies<G: Gates>(g: &mut G, a: &[Lit], b: &[Lit]) -> Result<Bits, GateFault>
-    requires left_bit { length a.now ≡ 1 }
-    requires right_bit { length b.now ≡ 1 }
-    requires left { All (IsDefined (G.made g.old)) a.now }
-    requires right { All (IsDefined (G.made g.old)) b.now }
+    requires bit { length a.now ≡ 1 }
+    requires operands { AreOperands (G.made g.old) 64 a.now b.now }
     ensures ok { IfOk result (λ bits. MakesWord (G.made g.old) (G.made g.new) 1 1 (λ v. binary_value binary.Implies 1 (word_value v a.now) (word_value v b.now)) bits.items) }
     ensures refused { IfErr result (Refuses (G.made g.old) (G.made g.new) 1) }
 {

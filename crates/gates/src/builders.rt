@@ -9,9 +9,7 @@ ghost use Rattle.gates.specs.Bound.{unary_bound, binary_bound};
 
 use crate::adders::{add_bits, dec_bits, inc_bits, neg_bits, sub_bits};
 use crate::bit_lists::negation;
-use crate::bitwise::{
-    Connective, connect_negated, connect_words, eq, iff, implies, neq, reduction,
-};
+use crate::bitwise::{Connective, connect_negated, connect_words, eq, implies, neq, reduction};
 use crate::comparisons::comparison_bit;
 use crate::division::{udiv, urem};
 use crate::fault::GateFault;
@@ -57,7 +55,7 @@ pub fn binary_bits<G: Gates>(g: &mut G, op: Binary, a: &[Lit], b: &[Lit]) -> Res
     ensures refused { IfErr result (Refuses (G.made g.old) (G.made g.new) (binary_bound op (length a.now))) }
 {
     match op {
-        Binary::Iff => iff(g, a, b),
+        Binary::Iff => connect_negated(g, Connective::Xor, a, b),
         Binary::Implies => implies(g, a, b),
         Binary::Eq => eq(g, a, b),
         Binary::Neq => neq(g, a, b),

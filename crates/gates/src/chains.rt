@@ -3,10 +3,9 @@ ghost use Rattle.std.specs.Prelude.{◌≡◌, ◌+◌, ◌<◌, ◌≤◌, [], 
 ghost use Rattle.std.specs.HashMap.{get, spare};
 ghost use Rattle.aiger.specs.declared.circuit.Gate.{Gate as Operands};
 ghost use Rattle.aiger.specs.Limits.{greatest_count};
-ghost use Rattle.aiger.specs.Literal.{variable};
 ghost use Rattle.aiger.specs.Net.{IsDefined};
 ghost use Rattle.aiger.specs.Circuit.{net};
-ghost use Rattle.gates.specs.Chains.{longest, AreFound, chained, finds, is_beyond, is_pair, link, looked, looked_up, walked};
+ghost use Rattle.gates.specs.Chains.{longest, AreFound, chained, finds, is_beyond, is_pair, link, looked_up, walked};
 
 use crate::fault::GateFault;
 use crate::pair::Pair;
@@ -141,20 +140,6 @@ impl Chains {
         }
     }
 
-    /// Where the gate of a pair stands behind the full chain of its greater operand's variable, or what takes it.
-    fn find_behind(&self, circuit: &Circuit, pair: Pair) -> Look
-        requires found { AreFound longest (net circuit.now) self.now.last.items self.now.before.items (get is_pair self.now.beyond) }
-        requires defined { IsDefined (net circuit.now) pair.rhs1 }
-        ensures { result ≡ looked (walked circuit.now.gates self.now.before.items pair longest (get_or self.now.last.items (variable pair.rhs1) 0)) (variable pair.rhs1) (looked_up (get is_pair self.now.beyond pair)) }
-    {
-        let variable = pair.smaller / 2;
-        match self.walk(circuit, pair, variable) {
-            Walk::Met(place) => Look::Found(place),
-            Walk::End => Look::Absent(Some(variable)),
-            Walk::Full => self.look_up(pair),
-        }
-    }
-
     /// Where the gate of a pair stands, or what takes it. It takes no memory.
     pub(crate) fn find(&self, circuit: &Circuit, pair: Pair) -> Look
         requires found { AreFound longest (net circuit.now) self.now.last.items self.now.before.items (get is_pair self.now.beyond) }
@@ -162,11 +147,16 @@ impl Chains {
         requires smaller { IsDefined (net circuit.now) pair.rhs1 }
         ensures { result ≡ finds longest circuit.now.gates self.now.last.items self.now.before.items (get is_pair self.now.beyond) pair }
     {
-        let variable = pair.greater / 2;
-        match self.walk(circuit, pair, variable) {
+        let first = pair.greater / 2;
+        let second = pair.smaller / 2;
+        match self.walk(circuit, pair, first) {
             Walk::Met(place) => Look::Found(place),
-            Walk::End => Look::Absent(Some(variable)),
-            Walk::Full => self.find_behind(circuit, pair),
+            Walk::End => Look::Absent(Some(first)),
+            Walk::Full => match self.walk(circuit, pair, second) {
+                Walk::Met(place) => Look::Found(place),
+                Walk::End => Look::Absent(Some(second)),
+                Walk::Full => self.look_up(pair),
+            },
         }
     }
 
@@ -180,10 +170,7 @@ impl Chains {
         ensures room_beyond { OnOk result (chain ≡ None → 0 < spare self.new.beyond) }
         ensures memory { IfErr result (λ e. e ≡ GateFault.NoMemory) }
     {
-        if self.last.reserve(1).is_err() {
-            return Err(GateFault::NoMemory);
-        }
-        if self.before.reserve(1).is_err() {
+        if self.last.reserve(1).is_err() || self.before.reserve(1).is_err() {
             return Err(GateFault::NoMemory);
         }
         if chain.is_none() && self.beyond.reserve(1).is_err() {

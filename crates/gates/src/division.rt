@@ -1,9 +1,8 @@
 //! Division of words: a row of gates for each bit of the dividend, from the highest down. A row is as wide as the bits that
 //! the dividend has given so far.
-ghost use Rattle.std.specs.Prelude.{◌≡◌, ◌+◌, ◌-◌, ◌*◌, ◌≤◌, ◌==◌, not, length, drop, All, IfOk, IfErr, if◌then◌else◌};
+ghost use Rattle.std.specs.Prelude.{◌≡◌, ◌+◌, ◌-◌, ◌*◌, ◌≤◌, ◌==◌, not, length, drop, All, IfOk, IfErr};
 ghost use Rattle.base.specs.Operator.{binary_value};
 ghost use Rattle.base.specs.declared.operators.Binary.TheVariants as binary;
-ghost use Rattle.aiger.specs.Literal.{literal_value};
 ghost use Rattle.aiger.specs.Net.{IsDefined};
 ghost use Rattle.gates.specs.Operands.{AreOperands};
 ghost use Rattle.gates.specs.Made.{MakesLiteral, MakesWord, Refuses, word_value};
@@ -53,24 +52,6 @@ pub(crate) fn has_bit_from<G: Gates>(g: &mut G, a: &[Lit], from: usize) -> Resul
     Ok(some)
 }
 
-/// What is left of a dividend in one row: its difference to the divisor where that goes into it, and else all of it.
-fn left_over<G: Gates>(
-    g: &mut G,
-    goes: Lit,
-    difference: &[Lit],
-    dividend: &[Lit],
-) -> Result<Bits, GateFault>
-    requires most { length difference.now ≤ 64 }
-    requires equal { length dividend.now ≡ length difference.now }
-    requires goes { IsDefined (G.made g.old) goes }
-    requires then { All (IsDefined (G.made g.old)) difference.now }
-    requires otherwise { All (IsDefined (G.made g.old)) dividend.now }
-    ensures ok { IfOk result (λ bits. let n = length difference.now in MakesWord (G.made g.old) (G.made g.new) (3 * n) n (λ v. if literal_value v goes then word_value v difference.now else word_value v dividend.now) bits.items) }
-    ensures refused { IfErr result (Refuses (G.made g.old) (G.made g.new) (3 * length difference.now)) }
-{
-    choose(g, goes, difference, dividend)
-}
-
 /// One row of a division: the divisor is taken from a dividend that is no wider, where it goes into it.
 ///
 /// It does not where it has a bit above the dividend's; below, their difference tells.
@@ -87,7 +68,7 @@ fn next_row<G: Gates>(g: &mut G, dividend: &[Lit], b: &[Lit]) -> Result<Row, Gat
     let reduced = difference(g, dividend, &b[..width])?;
     let above = has_bit_from(g, b, width)?;
     let bit = g.and(reduced.out, above.not())?;
-    let remainder = left_over(g, bit, reduced.sum.as_slice(), dividend)?;
+    let remainder = choose(g, bit, reduced.sum.as_slice(), dividend)?;
     Ok(Row { bit, remainder })
 }
 

@@ -10,14 +10,13 @@ ghost use Rattle.gates.specs.declared.bitwise.Connective.TheVariants as by;
 ghost use Rattle.gates.specs.declared.bound.Op.TheVariants as op;
 ghost use Rattle.gates.specs.declared.fault.GateFault.TheVariants as fault;
 ghost use Rattle.gates.specs.Bound.{operator_bound};
-ghost use Rattle.gates.specs.Division.{reduced, MakesQuotientRow, MakesRows, MakesDivision};
+ghost use Rattle.gates.specs.Division.{reduced, MakesQuotientRow, MakesDivision};
 ghost use Rattle.gates.specs.Connect.{connected, connected_words, connected_bits, words_bound};
-ghost use Rattle.gates.specs.Moves.{is_shift, is_rotation, is_move};
 ghost use Rattle.gates.specs.Made.{Grows, MakesAnd, MakesLiteral, MakesWord, Refuses, word_value};
 ghost use Rattle.gates.specs.Operands.{AreOperands};
 ghost use Rattle.gates.specs.Sums.{literal_number, MakesColumn, MakesSum};
 ghost use Rattle.gates.specs.Shared.{folded_and, gate_of, standing_and, AreShared, HasValuation, HasValuations};
-ghost use Rattle.gates.specs.Tests.{is_comparison, is_overflow, with_top_negated};
+ghost use Rattle.gates.specs.Tests.{is_shift, is_rotation, is_move, is_comparison, is_overflow, with_top_negated};
 ghost use Rattle.gates.specs.Worked.{no_gate};
 
 use aiger::Circuit;
@@ -130,8 +129,8 @@ pub fn worked_divisions()
     ensures row_by_more { MakesQuotientRow no_gate no_gate 0 (1 ∷ []) (1 ∷ 1 ∷ []) 0 (1 ∷ []) }
     ensures row_that_takes_nothing { ¬ MakesQuotientRow no_gate no_gate 0 (1 ∷ []) (1 ∷ []) 0 (1 ∷ []) }
     ensures row_not_reduced { ¬ MakesQuotientRow no_gate no_gate 0 (1 ∷ []) (1 ∷ []) 1 (1 ∷ []) }
-    ensures rows { MakesRows no_gate no_gate 0 (1 ∷ []) (1 ∷ 1 ∷ []) (0 ∷ []) (1 ∷ []) }
-    ensures rows_too_wide { ¬ MakesRows no_gate no_gate 0 (1 ∷ []) (1 ∷ 1 ∷ []) (0 ∷ []) (1 ∷ 0 ∷ []) }
+    ensures narrow { MakesDivision no_gate no_gate 0 (1 ∷ []) (1 ∷ 1 ∷ []) (0 ∷ []) (1 ∷ []) }
+    ensures remainder_too_wide { ¬ MakesDivision no_gate no_gate 0 (1 ∷ []) (1 ∷ 1 ∷ []) (0 ∷ []) (1 ∷ 0 ∷ []) }
     ensures one_by_one { MakesDivision no_gate no_gate 0 (1 ∷ []) (1 ∷ []) (1 ∷ []) (0 ∷ []) }
     ensures one_by_zero { MakesDivision no_gate no_gate 0 (1 ∷ []) (0 ∷ []) (1 ∷ []) (1 ∷ []) }
     ensures no_quotient_by_zero { ¬ MakesDivision no_gate no_gate 0 (1 ∷ []) (0 ∷ []) (0 ∷ []) (1 ∷ []) }

@@ -8,7 +8,7 @@ ghost use Rattle.gates.specs.Made.{MakesLiteral, MakesWord, Refuses, word_value}
 ghost use Rattle.gates.specs.Sums.{literal_number};
 
 use crate::adders::{add, sum_bits};
-use crate::bit_lists::append;
+use crate::bit_lists::{append, repeated};
 use crate::division::has_bit_from;
 use crate::fault::GateFault;
 use crate::literals::disjunction;
@@ -39,10 +39,7 @@ fn raised(a: &[Lit], by: usize) -> Bits
     ensures defined { (n : Net) → All (IsDefined n) a.now → All (IsDefined n) result.items }
     ensures means { (v : Valuation) → word_value v result.items ≡ word_value v a.now * 2 ^ by % 2 ^ length a.now }
 {
-    let mut bits = Bits::new();
-    for _ in 0..by {
-        bits.push(Lit::FALSE);
-    }
+    let mut bits = repeated(Lit::FALSE, by);
     append(&mut bits, &a[..a.len() - by]);
     bits
 }

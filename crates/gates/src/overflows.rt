@@ -35,11 +35,13 @@ pub fn overflow<G: Gates>(g: &mut G, op: Binary, a: &[Lit], b: &[Lit]) -> Result
     ensures refused { IfErr result (Refuses (G.made g.old) (G.made g.new) (binary_bound op (length a.now))) }
 {
     match op {
-        Binary::Uaddo => uaddo(g, a, b),
-        Binary::Saddo => saddo(g, a, b),
-        Binary::Usubo => usubo(g, a, b),
-        Binary::Ssubo => ssubo(g, a, b),
-        Binary::Umulo => umulo(g, a, b),
+        // the second word is above what the first leaves up to the greatest
+        Binary::Uaddo => less(g, negation(a).as_slice(), b),
+        Binary::Saddo => sum_overflow(g, a, b, Lit::FALSE),
+        Binary::Usubo => less(g, a, b),
+        // as a sum: the second word negated, and one more
+        Binary::Ssubo => sum_overflow(g, a, negation(b).as_slice(), Lit::TRUE),
+        Binary::Umulo => Ok(whole_product(g, a, b)?.lost),
         Binary::Smulo => smulo(g, a, b),
         Binary::Sdivo => sdivo(g, a, b),
         _ => unreachable!(),
@@ -60,24 +62,6 @@ pub(crate) fn overflow_bit<G: Gates>(
 {
     let lit = overflow(g, op, a, b)?;
     Ok(one_bit(lit))
-}
-
-/// Whether the sum of words as whole numbers is no word: the second is above what the first leaves up to the greatest.
-fn uaddo<G: Gates>(g: &mut G, a: &[Lit], b: &[Lit]) -> Result<Lit, GateFault>
-    requires { AreOperands (G.made g.old) 64 a.now b.now }
-    ensures ok { IfOk result (λ l. let n = length a.now in MakesWord (G.made g.old) (G.made g.new) (9 * n) 1 (λ v. binary_value Binary.Uaddo n (word_value v a.now) (word_value v b.now)) (l ∷ [])) }
-    ensures refused { IfErr result (Refuses (G.made g.old) (G.made g.new) (9 * length a.now)) }
-{
-    less(g, negation(a).as_slice(), b)
-}
-
-/// Whether the difference of words as whole numbers is below 0: the first is less than the second.
-fn usubo<G: Gates>(g: &mut G, a: &[Lit], b: &[Lit]) -> Result<Lit, GateFault>
-    requires { AreOperands (G.made g.old) 64 a.now b.now }
-    ensures ok { IfOk result (λ l. let n = length a.now in MakesWord (G.made g.old) (G.made g.new) (9 * n) 1 (λ v. binary_value Binary.Usubo n (word_value v a.now) (word_value v b.now)) (l ∷ [])) }
-    ensures refused { IfErr result (Refuses (G.made g.old) (G.made g.new) (9 * length a.now)) }
-{
-    less(g, a, b)
 }
 
 /// Whether so many of the lowest columns of two words and a carry sum to more than the columns hold. It takes no gate
@@ -114,24 +98,6 @@ fn sum_overflow<G: Gates>(g: &mut G, a: &[Lit], b: &[Lit], carry: Lit) -> Result
     xor(g, into_top, out)
 }
 
-/// Whether the sum of signed numbers is none of the width.
-fn saddo<G: Gates>(g: &mut G, a: &[Lit], b: &[Lit]) -> Result<Lit, GateFault>
-    requires { AreOperands (G.made g.old) 64 a.now b.now }
-    ensures ok { IfOk result (λ l. let n = length a.now in MakesWord (G.made g.old) (G.made g.new) (12 * n) 1 (λ v. binary_value Binary.Saddo n (word_value v a.now) (word_value v b.now)) (l ∷ [])) }
-    ensures refused { IfErr result (Refuses (G.made g.old) (G.made g.new) (12 * length a.now)) }
-{
-    sum_overflow(g, a, b, Lit::FALSE)
-}
-
-/// Whether the difference of signed numbers is none of the width, as a sum: the second word negated, and one more.
-fn ssubo<G: Gates>(g: &mut G, a: &[Lit], b: &[Lit]) -> Result<Lit, GateFault>
-    requires { AreOperands (G.made g.old) 64 a.now b.now }
-    ensures ok { IfOk result (λ l. let n = length a.now in MakesWord (G.made g.old) (G.made g.new) (12 * n) 1 (λ v. binary_value Binary.Ssubo n (word_value v a.now) (word_value v b.now)) (l ∷ [])) }
-    ensures refused { IfErr result (Refuses (G.made g.old) (G.made g.new) (12 * length a.now)) }
-{
-    sum_overflow(g, a, negation(b).as_slice(), Lit::TRUE)
-}
-
 /// Whether the quotient of signed numbers is none of the width: the least number, whose highest bit alone is 1, by the
 /// word of all ones, which is -1.
 fn sdivo<G: Gates>(g: &mut G, a: &[Lit], b: &[Lit]) -> Result<Lit, GateFault>
@@ -143,16 +109,6 @@ fn sdivo<G: Gates>(g: &mut G, a: &[Lit], b: &[Lit]) -> Result<Lit, GateFault>
     let is_least = connect_bits(g, Connective::And, as_least.as_slice())?;
     let is_minus_one = connect_bits(g, Connective::And, b)?;
     g.and(is_least, is_minus_one)
-}
-
-/// Whether the product of words as whole numbers is no word.
-fn umulo<G: Gates>(g: &mut G, a: &[Lit], b: &[Lit]) -> Result<Lit, GateFault>
-    requires { AreOperands (G.made g.old) 64 a.now b.now }
-    ensures ok { IfOk result (λ l. let n = length a.now in MakesWord (G.made g.old) (G.made g.new) (40 * (n * n) + n) 1 (λ v. binary_value Binary.Umulo n (word_value v a.now) (word_value v b.now)) (l ∷ [])) }
-    ensures refused { IfErr result (let n = length a.now in Refuses (G.made g.old) (G.made g.new) (40 * (n * n) + n)) }
-{
-    let product = whole_product(g, a, b)?;
-    Ok(product.lost)
 }
 
 /// The product of the sizes of two signed numbers, and whether it is no word of the width.

@@ -1,5 +1,8 @@
 //! The operands of a gate as a key of a map.
+ghost use Rattle.std.specs.Prelude.{◌≡◌};
+ghost use Rattle.gates.specs.Shared.{gate_of};
 
+use aiger::Lit;
 use std::marker::Model;
 
 /// The operands of a gate, the greater one first.
@@ -17,4 +20,15 @@ impl Model for Pair {
     ghost view = { λ p. record { rhs0 = p.greater; rhs1 = p.smaller } };
 
     ghost inverse = { λ g. record { greater = g.rhs0; smaller = g.rhs1 } };
+}
+
+/// The pair of two literals.
+pub(crate) fn pair_of(a: Lit, b: Lit) -> Pair
+    ensures { result ≡ gate_of a b }
+{
+    let (a, b) = (a.number(), b.number());
+    Pair {
+        greater: a.max(b),
+        smaller: a.min(b),
+    }
 }

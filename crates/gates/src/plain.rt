@@ -3,12 +3,13 @@ ghost use Rattle.std.specs.Prelude.{◌≡◌, ◌+◌, ◌*◌, ◌<◌, ◌≤
 ghost use Rattle.aiger.specs.Limits.{greatest_count};
 ghost use Rattle.aiger.specs.Net.{variables, IsDefined};
 ghost use Rattle.aiger.specs.Circuit.{net, with_gate};
-ghost use Rattle.gates.specs.Made.{AreSame, MakesAnd, Refuses, gates_only};
+ghost use Rattle.gates.specs.Made.{MakesAnd, Refuses, gates_only};
 ghost use Rattle.gates.specs.Shared.{HasValuations};
 
 use crate::fault::GateFault;
 use crate::laws::gates_have_valuations;
 use crate::maker::Gates;
+use crate::pair::{Pair, pair_of};
 use aiger::{Circuit, CircuitFault, Lit};
 use std::alloc::Global;
 use std::marker::Model;
@@ -59,27 +60,15 @@ impl PlainGates {
     }
 }
 
-/// Two literals, the greater one first.
-fn in_order(a: Lit, b: Lit) -> (Lit, Lit)
-    ensures order { result.1 ≤ result.0 }
-    ensures same { AreSame a b result.0 result.1 }
-{
-    if a.number() >= b.number() {
-        (a, b)
-    } else {
-        (b, a)
-    }
-}
-
 /// Adds a gate to a circuit.
-pub(crate) fn push(circuit: &mut Circuit, greater: Lit, smaller: Lit) -> Result<Lit, GateFault>
-    requires order { smaller ≤ greater }
-    requires defined { IsDefined (net circuit.old) greater }
-    ensures ok { IfOk result (λ l. (circuit.new ≡ with_gate circuit.old greater smaller) × (l ≡ 2 * (variables (net circuit.old) + 1))) }
+pub(crate) fn push(circuit: &mut Circuit, pair: Pair) -> Result<Lit, GateFault>
+    requires order { pair.rhs1 ≤ pair.rhs0 }
+    requires defined { IsDefined (net circuit.old) pair.rhs0 }
+    ensures ok { IfOk result (λ l. (circuit.new ≡ with_gate circuit.old pair.rhs0 pair.rhs1) × (l ≡ 2 * (variables (net circuit.old) + 1))) }
     ensures err { OnErr result (circuit.new ≡ circuit.old) }
     ensures too_big { IsErrOf result GateFault.TooBig ↔ (greatest_count < variables (net circuit.old) + 1) }
 {
-    match circuit.push_gate(greater, smaller) {
+    match circuit.push_gate(Lit::new(pair.greater), Lit::new(pair.smaller)) {
         Ok(lit) => Ok(lit),
         Err(CircuitFault::TooBig) => Err(GateFault::TooBig),
         Err(CircuitFault::NoMemory) => Err(GateFault::NoMemory),
@@ -100,7 +89,6 @@ impl Gates for PlainGates {
         ensures own { IfOk result (λ l. l ≡ 2 * (variables self.old + 1)) }
         ensures too_big { IsErrOf result GateFault.TooBig ↔ (greatest_count < variables self.old + 1) }
     {
-        let (greater, smaller) = in_order(a, b);
-        push(&mut self.circuit, greater, smaller)
+        push(&mut self.circuit, pair_of(a, b))
     }
 }

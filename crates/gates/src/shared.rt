@@ -14,7 +14,7 @@ use crate::fault::GateFault;
 use crate::folding::folded;
 use crate::laws::gates_have_valuations;
 use crate::maker::Gates;
-use crate::pair::Pair;
+use crate::pair::{Pair, pair_of};
 use crate::plain::push;
 use aiger::{Circuit, CircuitFault, GREATEST_COUNT, Lit};
 use std::alloc::Global;
@@ -41,17 +41,6 @@ impl Model for HashGates {
     ghost view = { λ p. net p.circuit };
 
     ghost invariant = { λ p. (p.circuit ≡ gates_only (net p.circuit)) × AreFound longest (net p.circuit) p.chains.last.items p.chains.before.items (get is_pair p.chains.beyond) × AreShared p.circuit.gates };
-}
-
-/// The pair of two literals.
-fn pair_of(a: Lit, b: Lit) -> Pair
-    ensures { result ≡ gate_of a b }
-{
-    let (a, b) = (a.number(), b.number());
-    Pair {
-        greater: a.max(b),
-        smaller: a.min(b),
-    }
 }
 
 /// The literal of a circuit's gate at a place.
@@ -83,7 +72,7 @@ fn add_gate(
     ensures err { IfErr result (λ e. (e ≡ GateFault.NoMemory) × (circuit.new ≡ circuit.old)) }
     ensures found { AreFound longest (net circuit.new) chains.new.last.items chains.new.before.items (get is_pair chains.new.beyond) }
 {
-    let lit = push(circuit, Lit::new(pair.greater), Lit::new(pair.smaller))?;
+    let lit = push(circuit, pair)?;
     chains.note(pair, chain);
     Ok(lit)
 }

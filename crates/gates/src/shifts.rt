@@ -1,12 +1,12 @@
 //! Shifts and rotations: a row of choices for each bit of the amount.
-ghost use Rattle.std.specs.Prelude.{◌≡◌, ℕ, ◌+◌, ◌*◌, ◌^◌, ◌<◌, ◌≤◌, ◌++◌, length, take, drop, All, IfOk, IfErr, true, false, if◌then◌else◌};
+ghost use Rattle.std.specs.Prelude.{◌≡◌, ℕ, ◌+◌, ◌*◌, ◌^◌, ◌<◌, ◌≤◌, ◌++◌, length, take, drop, All, IfOk, IfErr, true, false};
 ghost use Rattle.base.specs.Operator.{binary_value};
-ghost use Rattle.aiger.specs.Literal.{Valuation, literal_value};
+ghost use Rattle.aiger.specs.Literal.{Valuation};
 ghost use Rattle.aiger.specs.Net.{Net, IsDefined};
 ghost use Rattle.gates.specs.Bound.{binary_bound};
 ghost use Rattle.gates.specs.Operands.{AreOperands};
 ghost use Rattle.gates.specs.Made.{MakesWord, Refuses, word_value};
-ghost use Rattle.gates.specs.Moves.{is_shift, is_rotation, is_move};
+ghost use Rattle.gates.specs.Tests.{is_shift, is_rotation, is_move};
 
 use crate::bit_lists::{append, repeated};
 use crate::bitwise::{Connective, connect_bits};
@@ -78,24 +78,6 @@ fn moved_in_turn<G: Gates>(
     Ok(bits)
 }
 
-/// A word moved by the low bits of an amount, or what is left where the amount has a high bit.
-fn near_or_far<G: Gates>(
-    g: &mut G,
-    is_far: Lit,
-    far: &[Lit],
-    near: &[Lit],
-) -> Result<Bits, GateFault>
-    requires most { length far.now ≤ 64 }
-    requires equal { length near.now ≡ length far.now }
-    requires condition { IsDefined (G.made g.old) is_far }
-    requires then { All (IsDefined (G.made g.old)) far.now }
-    requires otherwise { All (IsDefined (G.made g.old)) near.now }
-    ensures ok { IfOk result (λ bits. let n = length far.now in MakesWord (G.made g.old) (G.made g.new) (3 * n) n (λ v. if literal_value v is_far then word_value v far.now else word_value v near.now) bits.items) }
-    ensures refused { IfErr result (Refuses (G.made g.old) (G.made g.new) (3 * length far.now)) }
-{
-    choose(g, is_far, far, near)
-}
-
 /// A word shifted by an amount.
 ///
 /// Conditions: the operator is `Sll`, `Srl` or `Sra`; operands of equal length from 1 to 64, all literals defined.
@@ -115,7 +97,7 @@ pub fn shift<G: Gates>(g: &mut G, op: Binary, a: &[Lit], b: &[Lit]) -> Result<Bi
         Binary::Sra => a[width - 1],
         _ => Lit::FALSE,
     };
-    near_or_far(g, is_far, repeated(fill, width).as_slice(), near.as_slice())
+    choose(g, is_far, repeated(fill, width).as_slice(), near.as_slice())
 }
 
 /// A word rotated by an amount, which counts modulo the width.

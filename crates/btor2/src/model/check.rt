@@ -7,7 +7,7 @@ ghost use Rattle.std.specs.List.{list_all};
 ghost use Rattle.base.specs.Widths.{binary_width, is_of_bits};
 ghost use Rattle.btor2.specs.Items.{node_width, names_state, sort_width};
 ghost use Rattle.btor2.specs.declared.item.Body.TheVariants as body;
-ghost use Rattle.btor2.specs.Check.{most_items, first_row, said, refusal, Refuses, id_is_out_of_range, id_is_taken};
+ghost use Rattle.btor2.specs.Check.{first_row, said, refusal, Refuses};
 
 use crate::fault::PushFault;
 use crate::item::{Body, Item, all_ones};
@@ -82,27 +82,6 @@ fn refuse_if(found: bool, fault: PushFault) -> Result<(), PushFault>
 }
 
 impl Model {
-    /// Whether the model has as many items as it may have.
-    fn is_full(&self) -> bool
-        ensures { result ≡ nat_le most_items (length self.now) }
-    {
-        MOST_ITEMS <= self.items.len()
-    }
-
-    /// Whether the id is 0 or above the greatest.
-    fn id_is_out_of_range(&self, item: &Item) -> bool
-        ensures { result ≡ id_is_out_of_range item.now }
-    {
-        !(1 <= item.id && item.id <= GREATEST_ID)
-    }
-
-    /// Whether an item has the id.
-    fn id_is_taken(&self, item: &Item) -> bool
-        ensures { result ≡ id_is_taken self.now item.now }
-    {
-        self.item(item.id).is_some()
-    }
-
     /// The width of a sort that is named.
     #[inline(always)]
     fn named_sort(&self, id: u32) -> Result<u64, PushFault>
@@ -405,13 +384,13 @@ impl Model {
     pub(crate) fn check(&self, item: &Item) -> Result<(), PushFault>
         ensures { Refuses result (refusal self.now item.now) }
     {
-        if self.is_full() {
+        if MOST_ITEMS <= self.items.len() {
             return Err(PushFault::TooManyItems);
         }
-        if self.id_is_out_of_range(item) {
+        if !(1 <= item.id && item.id <= GREATEST_ID) {
             return Err(PushFault::IdOutOfRange);
         }
-        if self.id_is_taken(item) {
+        if self.item(item.id).is_some() {
             return Err(PushFault::IdTaken);
         }
         self.check_body(&item.body)

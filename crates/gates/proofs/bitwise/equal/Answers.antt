@@ -14,7 +14,7 @@ not_twice false = refl
 pub returns-clause-ok : goal.returns-clause-ok
 returns-clause-ok g c =
     let old = g.G.Gates.made c.args.g.now in
-    let mid = g.G.Gates.made c.differing_bits.new.g in
+    let mid = g.G.Gates.made c.connect_words.new.g in
     let new = g.G.Gates.made c.connect_bits.new.g in
     let a = c.args.a.now in
     let b = c.args.b.now in
@@ -37,7 +37,7 @@ connect_bits-requires-clause-defined g c = rw c.as_slice.ensures.value c.in_ok-d
 pub returns-in_err-differing-clause-refused : goal.returns-in_err-differing-clause-refused
 returns-in_err-differing-clause-refused g c =
     let n = length c.args.a.now in
-    let refused : Refuses (g.G.Gates.made c.args.g.now) (g.G.Gates.made c.differing_bits.new.g) (4 * n) c.in_err-differing.field-0.0 =
+    let refused : Refuses (g.G.Gates.made c.args.g.now) (g.G.Gates.made c.connect_words.new.g) (4 * n) c.in_err-differing.field-0.0 =
     Refuses-weaker _ _ (3 * n) (4 * n) _ (omega arith) c.in_err-differing.ensures.refused
     in search rules
 

@@ -20,5 +20,5 @@ returns-clause-ok g c =
     MakesWord-same _ _ 1 1 _ _ c.one_bit.result.items
     (λ v. ap (λ z. bit_number (z || literal_value v y)) (ap (literal_value v) c.not.ensures ∙ literal_value-negation v x)
     ∙ implied (literal_value v x) (literal_value v y)
-    ∙ sym (ap₂ (λ k m. bit_number ((k == 0) || (m == 1))) (word_value-bit v c.args.a.now x c.requires.left_bit (cc)) (word_value-bit v c.args.b.now y c.requires.right_bit (cc))))
+    ∙ sym (ap₂ (λ k m. bit_number ((k == 0) || (m == 1))) (word_value-bit v c.args.a.now x c.requires.bit (cc)) (word_value-bit v c.args.b.now y (c.requires.operands.equal ∙ c.requires.bit) (cc))))
     (MakesWord-bit _ _ 1 lit _ c.one_bit.result.items c.one_bit.ensures c.in_ok-lit.ensures.ok)

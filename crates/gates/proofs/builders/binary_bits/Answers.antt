@@ -1,5 +1,6 @@
-use Rattle.std.proofs.Common.{length, refl, ◌∙◌}
-use Rattle.gates.proofs.OperatorLemmas.{is_comparison-named, is_overflow-named, is_shift-named, is_rotation-named, shift_width, rotation_width}
+use Rattle.std.proofs.Common.{length, refl}
+use Rattle.std.proofs.lemmas.Result.{IfOk-weaker}
+use Rattle.gates.proofs.OperatorLemmas.{is_comparison-named, is_overflow-named, is_shift-named, is_rotation-named, shift_width, rotation_width, MakesWord-iff}
 use Rattle.gates.proofs.builders.binary_bits.Goals as goal
 
 pub comparison_bit-requires-clause-comparison : goal.comparison_bit-requires-clause-comparison
@@ -23,30 +24,6 @@ pub returns-in-Sll-clause-ok : goal.returns-in-Sll-clause-ok
 returns-in-Sll-clause-ok g c =
     let op = c.args.op in
     rw (shift_width op (length c.args.a.now) (is_shift-named op c.in-Sll.is)) c.shift.ensures.ok
-
-pub iff-requires-clause-left_bit : goal.iff-requires-clause-left_bit
-iff-requires-clause-left_bit g c = c.requires.of_bits (rw c.in-Iff.is refl)
-
-pub iff-requires-clause-right_bit : goal.iff-requires-clause-right_bit
-iff-requires-clause-right_bit g c = c.requires.operands.equal ∙ c.requires.of_bits (rw c.in-Iff.is refl)
-
-pub iff-requires-clause-left : goal.iff-requires-clause-left
-iff-requires-clause-left g c = c.requires.operands.left
-
-pub iff-requires-clause-right : goal.iff-requires-clause-right
-iff-requires-clause-right g c = c.requires.operands.right
-
-pub implies-requires-clause-left_bit : goal.implies-requires-clause-left_bit
-implies-requires-clause-left_bit g c = c.requires.of_bits (rw c.in-Implies.is refl)
-
-pub implies-requires-clause-right_bit : goal.implies-requires-clause-right_bit
-implies-requires-clause-right_bit g c = c.requires.operands.equal ∙ c.requires.of_bits (rw c.in-Implies.is refl)
-
-pub implies-requires-clause-left : goal.implies-requires-clause-left
-implies-requires-clause-left g c = c.requires.operands.left
-
-pub implies-requires-clause-right : goal.implies-requires-clause-right
-implies-requires-clause-right g c = c.requires.operands.right
 
 pub eq-requires : goal.eq-requires
 eq-requires g c = c.requires.operands
@@ -90,84 +67,6 @@ shift-requires-clause-operands g c = c.requires.operands
 pub overflow_bit-requires-clause-operands : goal.overflow_bit-requires-clause-operands
 overflow_bit-requires-clause-operands g c = c.requires.operands
 
-pub connect_words-requires-clause-most : goal.connect_words-requires-clause-most
-connect_words-requires-clause-most g c = c.requires.operands.most
-
-pub connect_words-requires-clause-equal : goal.connect_words-requires-clause-equal
-connect_words-requires-clause-equal g c = c.requires.operands.equal
-
-pub connect_words-requires-clause-left : goal.connect_words-requires-clause-left
-connect_words-requires-clause-left g c = c.requires.operands.left
-
-pub connect_words-requires-clause-right : goal.connect_words-requires-clause-right
-connect_words-requires-clause-right g c = c.requires.operands.right
-
-pub connect_words-requires-in-Or-clause-most : goal.connect_words-requires-in-Or-clause-most
-connect_words-requires-in-Or-clause-most g c = c.requires.operands.most
-
-pub connect_words-requires-in-Or-clause-equal : goal.connect_words-requires-in-Or-clause-equal
-connect_words-requires-in-Or-clause-equal g c = c.requires.operands.equal
-
-pub connect_words-requires-in-Or-clause-left : goal.connect_words-requires-in-Or-clause-left
-connect_words-requires-in-Or-clause-left g c = c.requires.operands.left
-
-pub connect_words-requires-in-Or-clause-right : goal.connect_words-requires-in-Or-clause-right
-connect_words-requires-in-Or-clause-right g c = c.requires.operands.right
-
-pub connect_words-requires-in-Xor-clause-most : goal.connect_words-requires-in-Xor-clause-most
-connect_words-requires-in-Xor-clause-most g c = c.requires.operands.most
-
-pub connect_words-requires-in-Xor-clause-equal : goal.connect_words-requires-in-Xor-clause-equal
-connect_words-requires-in-Xor-clause-equal g c = c.requires.operands.equal
-
-pub connect_words-requires-in-Xor-clause-left : goal.connect_words-requires-in-Xor-clause-left
-connect_words-requires-in-Xor-clause-left g c = c.requires.operands.left
-
-pub connect_words-requires-in-Xor-clause-right : goal.connect_words-requires-in-Xor-clause-right
-connect_words-requires-in-Xor-clause-right g c = c.requires.operands.right
-
-pub connect_negated-requires-clause-most : goal.connect_negated-requires-clause-most
-connect_negated-requires-clause-most g c = c.requires.operands.most
-
-pub connect_negated-requires-clause-equal : goal.connect_negated-requires-clause-equal
-connect_negated-requires-clause-equal g c = c.requires.operands.equal
-
-pub connect_negated-requires-clause-left : goal.connect_negated-requires-clause-left
-connect_negated-requires-clause-left g c = c.requires.operands.left
-
-pub connect_negated-requires-clause-right : goal.connect_negated-requires-clause-right
-connect_negated-requires-clause-right g c = c.requires.operands.right
-
-pub connect_negated-requires-in-Nor-clause-most : goal.connect_negated-requires-in-Nor-clause-most
-connect_negated-requires-in-Nor-clause-most g c = c.requires.operands.most
-
-pub connect_negated-requires-in-Nor-clause-equal : goal.connect_negated-requires-in-Nor-clause-equal
-connect_negated-requires-in-Nor-clause-equal g c = c.requires.operands.equal
-
-pub connect_negated-requires-in-Nor-clause-left : goal.connect_negated-requires-in-Nor-clause-left
-connect_negated-requires-in-Nor-clause-left g c = c.requires.operands.left
-
-pub connect_negated-requires-in-Nor-clause-right : goal.connect_negated-requires-in-Nor-clause-right
-connect_negated-requires-in-Nor-clause-right g c = c.requires.operands.right
-
-pub connect_negated-requires-in-Xnor-clause-most : goal.connect_negated-requires-in-Xnor-clause-most
-connect_negated-requires-in-Xnor-clause-most g c = c.requires.operands.most
-
-pub connect_negated-requires-in-Xnor-clause-equal : goal.connect_negated-requires-in-Xnor-clause-equal
-connect_negated-requires-in-Xnor-clause-equal g c = c.requires.operands.equal
-
-pub connect_negated-requires-in-Xnor-clause-left : goal.connect_negated-requires-in-Xnor-clause-left
-connect_negated-requires-in-Xnor-clause-left g c = c.requires.operands.left
-
-pub connect_negated-requires-in-Xnor-clause-right : goal.connect_negated-requires-in-Xnor-clause-right
-connect_negated-requires-in-Xnor-clause-right g c = c.requires.operands.right
-
-pub returns-in-Iff-clause-ok : goal.returns-in-Iff-clause-ok
-returns-in-Iff-clause-ok g c = rw c.in-Iff.is c.iff.ensures.ok
-
-pub returns-in-Iff-clause-refused : goal.returns-in-Iff-clause-refused
-returns-in-Iff-clause-refused g c = rw c.in-Iff.is c.iff.ensures.refused
-
 pub returns-in-Implies-clause-ok : goal.returns-in-Implies-clause-ok
 returns-in-Implies-clause-ok g c = rw c.in-Implies.is c.implies.ensures.ok
 
@@ -193,10 +92,10 @@ pub returns-in-And-clause-refused : goal.returns-in-And-clause-refused
 returns-in-And-clause-refused g c = rw c.in-And.is c.connect_words.ensures.refused
 
 pub returns-in-Nand-clause-ok : goal.returns-in-Nand-clause-ok
-returns-in-Nand-clause-ok g c = rw c.in-Nand.is c.connect_negated.ensures.ok
+returns-in-Nand-clause-ok g c = rw c.in-Nand.is c.connect_negated-in-Nand.ensures.ok
 
 pub returns-in-Nand-clause-refused : goal.returns-in-Nand-clause-refused
-returns-in-Nand-clause-refused g c = rw c.in-Nand.is c.connect_negated.ensures.refused
+returns-in-Nand-clause-refused g c = rw c.in-Nand.is c.connect_negated-in-Nand.ensures.refused
 
 pub returns-in-Or-clause-refused : goal.returns-in-Or-clause-refused
 returns-in-Or-clause-refused g c = rw c.in-Or.is c.connect_words-in-Or.ensures.refused
@@ -272,3 +171,40 @@ returns-in-Urem-clause-ok g c = rw c.in-Urem.is c.urem.ensures.ok
 
 pub returns-in-Urem-clause-refused : goal.returns-in-Urem-clause-refused
 returns-in-Urem-clause-refused g c = rw c.in-Urem.is c.urem.ensures.refused
+
+pub implies-requires-clause-bit : goal.implies-requires-clause-bit
+implies-requires-clause-bit g c = c.requires.of_bits (rw c.in-Implies.is refl)
+
+pub implies-requires-clause-operands : goal.implies-requires-clause-operands
+implies-requires-clause-operands g c = c.requires.operands
+
+pub connect_words-requires : goal.connect_words-requires
+connect_words-requires g c = c.requires.operands
+
+pub connect_words-requires-in-Or : goal.connect_words-requires-in-Or
+connect_words-requires-in-Or g c = c.requires.operands
+
+pub connect_words-requires-in-Xor : goal.connect_words-requires-in-Xor
+connect_words-requires-in-Xor g c = c.requires.operands
+
+pub connect_negated-requires : goal.connect_negated-requires
+connect_negated-requires g c = c.requires.operands
+
+pub connect_negated-requires-in-Nand : goal.connect_negated-requires-in-Nand
+connect_negated-requires-in-Nand g c = c.requires.operands
+
+pub connect_negated-requires-in-Nor : goal.connect_negated-requires-in-Nor
+connect_negated-requires-in-Nor g c = c.requires.operands
+
+pub connect_negated-requires-in-Xnor : goal.connect_negated-requires-in-Xnor
+connect_negated-requires-in-Xnor g c = c.requires.operands
+
+pub returns-in-Iff-clause-ok : goal.returns-in-Iff-clause-ok
+returns-in-Iff-clause-ok g c =
+    let one = c.requires.of_bits (rw c.in-Iff.is refl) in
+    rw c.in-Iff.is (IfOk-weaker c.connect_negated.result _ _ (λ bits makes. MakesWord-iff _ _ c.args.a.now c.args.b.now bits.items one c.requires.operands.equal makes) c.connect_negated.ensures.ok)
+
+pub returns-in-Iff-clause-refused : goal.returns-in-Iff-clause-refused
+returns-in-Iff-clause-refused g c =
+    let one = c.requires.of_bits (rw c.in-Iff.is refl) in
+    rw c.in-Iff.is (rw one at c.connect_negated.ensures.refused)

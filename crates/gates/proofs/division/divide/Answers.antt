@@ -1,13 +1,12 @@
 use Rattle.std.proofs.lemmas.List.Elements.{All-cons}
-use Rattle.std.proofs.Common.{◌≡◌, ℕ, ◌+◌, ◌-◌, ◌*◌, ◌∷◌, List, [], length, drop, get_or, sym, ap₂, ◌∙◌, arith, rules, ◌≤◌, subst, length-drop, ap}
+use Rattle.std.proofs.Common.{◌≡◌, ℕ, ◌+◌, ◌-◌, ◌*◌, ◌∷◌, [], length, drop, get_or, sym, ap₂, ◌∙◌, arith, rules, ◌≤◌, length-drop, ap}
 use Rattle.std.proofs.lemmas.List.{drop_more, drop_all}
 use Rattle.std.proofs.lemmas.Nat.{mul-le}
-use Rattle.aiger.specs.Net.{IsDefined, Net}
-use Rattle.gates.specs.Division.{MakesRows, MakesDivision}
+use Rattle.aiger.specs.Net.{IsDefined}
 use Rattle.gates.specs.Made.{Refuses}
 use Rattle.gates.proofs.LaterLemmas.{IsDefined-of_word}
-use Rattle.gates.proofs.GrowthLemmas.{Grows-weaker, All-defined-grown}
-use Rattle.gates.proofs.QuotientLemmas.{MakesRows-start, MakesRows-step}
+use Rattle.gates.proofs.GrowthLemmas.{All-defined-grown}
+use Rattle.gates.proofs.QuotientLemmas.{MakesDivision-start, MakesDivision-step, MakesDivision-weaker}
 use Rattle.gates.proofs.LiteralLemmas.{Refuses-behind}
 use Rattle.gates.proofs.division.divide.Goals as goal
 
@@ -17,7 +16,7 @@ loop-done-init g c =
     let b = c.args.b.now in
     let none : drop (length a - 0) a ≡ [] = drop_all (length a - 0) a (omega arith) in
     let cost : (12 * length b + 9) * 0 ≡ 0 = omega arith in
-    rw (none, cost, c.new-quotient.ensures, c.new-remainder.ensures) (MakesRows-start (g.G.Gates.made c.args.g.now) b)
+    rw (none, cost, c.new-quotient.ensures, c.new-remainder.ensures) (MakesDivision-start (g.G.Gates.made c.args.g.now) b)
 
 pub loop-done-preserved : goal.loop-done-preserved
 loop-done-preserved g c =
@@ -30,7 +29,7 @@ loop-done-preserved g c =
     let at : next ≡ get_or a place next = c.index-a-place.is ∙ ap (λ (k : ℕ). get_or a k next) (omega arith) in
     let longer : drop place a ≡ next ∷ drop (length a - done) a = drop_more a place next (omega arith) ∙ ap₂ (λ (x k : ℕ). x ∷ drop k a) (sym at) (omega arith) in
     rw (longer, c.insert-in-loop-done.ensures.items)
-    (MakesRows-step _ _ _ ((12 * length b + 9) * done) (12 * length b + 9) ((12 * length b + 9) * (done + 1)) (drop (length a - done) a) b c.loop-done.quotient.items c.loop-done.remainder.items next row.bit row.remainder.items
+    (MakesDivision-step _ _ _ ((12 * length b + 9) * done) (12 * length b + 9) ((12 * length b + 9) * (done + 1)) (drop (length a - done) a) b c.loop-done.quotient.items c.loop-done.remainder.items next row.bit row.remainder.items
     (omega arith) c.loop-done.invariant (rw (c.as_slice.ensures.value, c.insert.ensures.items) at c.in_ok-row.ensures.ok))
 
 pub returns-in_err-row-clause-refused : goal.returns-in_err-row-clause-refused
@@ -44,23 +43,6 @@ returns-in_err-row-clause-refused g c =
 -- the gates of all rows fit
 few_rows : (n m k : ℕ) → m ≡ n → k ≡ n → (12 * m + 9) * k ≤ 12 * (n * n) + 12 * n
 few_rows n m k same all = rw (same, all) (omega arith)
-
--- all rows are the division
-MakesDivision-rows : (old new : Net) (a b quotient remainder : List ℕ) (done : ℕ) → length b ≡ length a → done ≡ length a
-    → MakesRows old new ((12 * length b + 9) * done) (drop (length a - done) a) b quotient remainder
-    → MakesDivision old new (12 * (length a * length a) + 12 * length a) a b quotient remainder
-MakesDivision-rows old new a b quotient remainder done same all rows =
-    let none : length a - done ≡ 0 = omega arith in
-    let whole : MakesRows old new ((12 * length b + 9) * done) a b quotient remainder = subst (λ (k : ℕ). MakesRows old new ((12 * length b + 9) * done) (drop k a) b quotient remainder) none rows in
-    record {
-      grows = Grows-weaker old new _ _ (few_rows (length a) (length b) done same all) whole.grows;
-      quotient_wide = whole.quotient_wide;
-      remainder_wide = whole.remainder_wide ∙ sym same;
-      quotient_defined = whole.quotient_defined;
-      remainder_defined = whole.remainder_defined;
-      quotient_means = whole.quotient_means;
-      remainder_means = whole.remainder_means;
-    }
 
 pub next_row-requires-clause-some : goal.next_row-requires-clause-some
 next_row-requires-clause-some g c = rw (c.as_slice.ensures.value, c.insert.ensures.items) (omega arith)
@@ -88,4 +70,7 @@ next_row-requires-clause-right g c = All-defined-grown _ _ _ c.loop-done.invaria
 
 pub returns-clause-ok : goal.returns-clause-ok
 returns-clause-ok g c =
-    MakesDivision-rows _ _ c.args.a.now c.args.b.now c.loop-done.quotient.items c.loop-done.remainder.items c.loop-done.done c.requires.equal (omega arith) c.loop-done.invariant
+    let n = length c.args.a.now in
+    let all : c.loop-done.done ≡ n = omega arith in
+    let none : n - c.loop-done.done ≡ 0 = omega arith in
+    MakesDivision-weaker _ _ _ _ c.args.a.now c.args.b.now _ _ (few_rows n _ _ c.requires.equal all) (rw none at c.loop-done.invariant)

@@ -34,7 +34,7 @@ returns-in_err-bit-clause-refused g c =
 pub returns-in_err-remainder-clause-refused : goal.returns-in_err-remainder-clause-refused
 returns-in_err-remainder-clause-refused g c =
     let n = length c.args.b.now in
-    let refused : Refuses (g.G.Gates.made c.args.g.now) (g.G.Gates.made c.left_over.new.g) (12 * n + 9) c.in_err-remainder.field-0.0 =
+    let refused : Refuses (g.G.Gates.made c.args.g.now) (g.G.Gates.made c.choose.new.g) (12 * n + 9) c.in_err-remainder.field-0.0 =
     Refuses-behind _ _ _ _ _ (12 * n + 9) _ (omega (arith, ap length c.as_slice.ensures.value, c.requires.inside, c.in_ok-reduced.ensures.ok.wide)) (Grows-trans _ _ _ _ _ c.in_ok-reduced.ensures.ok.grows (Grows-trans _ _ _ _ _ c.in_ok-above.ensures.ok.grows c.in_ok-bit.ensures.ok.grows)) c.in_err-remainder.ensures.refused
     in search rules
 
@@ -57,21 +57,21 @@ and-requires-clause-left g c = IsDefined-grown _ _ _ c.in_ok-above.ensures.ok.gr
 pub and-requires-clause-right : goal.and-requires-clause-right
 and-requires-clause-right g c = IsDefined-not _ c.in_ok-above.above _ c.not.ensures c.in_ok-above.ensures.ok.defined
 
-pub left_over-requires-clause-most : goal.left_over-requires-clause-most
-left_over-requires-clause-most g c = omega (arith, ap length c.as_slice.ensures.value, c.in_ok-reduced.ensures.ok.wide, c.requires.inside, c.requires.most)
+pub choose-requires-clause-most : goal.choose-requires-clause-most
+choose-requires-clause-most g c = omega (arith, ap length c.as_slice.ensures.value, c.in_ok-reduced.ensures.ok.wide, c.requires.inside, c.requires.most)
 
-pub left_over-requires-clause-equal : goal.left_over-requires-clause-equal
-left_over-requires-clause-equal g c = sym (ap length c.as_slice.ensures.value ∙ c.in_ok-reduced.ensures.ok.wide)
+pub choose-requires-clause-equal : goal.choose-requires-clause-equal
+choose-requires-clause-equal g c = sym (ap length c.as_slice.ensures.value ∙ c.in_ok-reduced.ensures.ok.wide)
 
-pub left_over-requires-clause-goes : goal.left_over-requires-clause-goes
-left_over-requires-clause-goes g c = c.in_ok-bit.ensures.ok.defined
+pub choose-requires-clause-condition : goal.choose-requires-clause-condition
+choose-requires-clause-condition g c = c.in_ok-bit.ensures.ok.defined
 
-pub left_over-requires-clause-then : goal.left_over-requires-clause-then
-left_over-requires-clause-then g c =
+pub choose-requires-clause-then : goal.choose-requires-clause-then
+choose-requires-clause-then g c =
     rw c.as_slice.ensures.value (All-defined-grown _ _ _ (Grows-trans _ _ _ _ _ c.in_ok-above.ensures.ok.grows c.in_ok-bit.ensures.ok.grows) _ c.in_ok-reduced.ensures.ok.sum_defined)
 
-pub left_over-requires-clause-otherwise : goal.left_over-requires-clause-otherwise
-left_over-requires-clause-otherwise g c =
+pub choose-requires-clause-otherwise : goal.choose-requires-clause-otherwise
+choose-requires-clause-otherwise g c =
     All-defined-grown _ _ _ (Grows-trans _ _ _ _ _ c.in_ok-reduced.ensures.ok.grows (Grows-trans _ _ _ _ _ c.in_ok-above.ensures.ok.grows c.in_ok-bit.ensures.ok.grows)) _ c.requires.left
 
 pub returns-in_err-reduced-clause-refused : goal.returns-in_err-reduced-clause-refused

@@ -13,5 +13,5 @@ returns-clause-no_quotient_by_zero c = λ m. absurd (cc (m.quotient_means (λ k.
 pub returns-clause-no_remainder_by_zero : goal.returns-clause-no_remainder_by_zero
 returns-clause-no_remainder_by_zero c = λ m. absurd (cc (m.remainder_means (λ k. true) tt))
 
-pub returns-clause-rows_too_wide : goal.returns-clause-rows_too_wide
-returns-clause-rows_too_wide c = λ m. let wide = m.remainder_wide in absurd (omega arith)
+pub returns-clause-remainder_too_wide : goal.returns-clause-remainder_too_wide
+returns-clause-remainder_too_wide c = λ m. let wide = m.remainder_wide in absurd (omega arith)

@@ -1,4 +1,4 @@
-use Rattle.std.proofs.Common.{rules, ◌≡◌, ◌<◌, ◌++◌, ◌∷◌, [], length, arith}
+use Rattle.std.proofs.Common.{rules, ◌≡◌, ◌++◌, ◌∷◌, [], arith}
 use Rattle.std.specs.HashMap.{get}
 use Rattle.aiger.specs.Circuit.{net}
 use Rattle.gates.specs.Chains.{longest, is_pair}

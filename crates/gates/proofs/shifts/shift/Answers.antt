@@ -11,7 +11,7 @@ use Rattle.aiger.proofs.NetLemmas.{IsDefined-false}
 use Rattle.aiger.specs.Literal.{literal_value}
 use Rattle.gates.specs.Bound.{log_up, binary_bound}
 use Rattle.gates.specs.Made.{MakesWord, MakesLiteral, word_value, Refuses}
-use Rattle.gates.specs.Moves.{is_shift, is_rotation}
+use Rattle.gates.specs.Tests.{is_shift, is_rotation}
 use Rattle.gates.proofs.LaterLemmas.{IsDefined-of_word, Refuses-weaker}
 use Rattle.gates.proofs.BitListLemmas.{MakesWord-same, MakesWord-weaker, MakesWord-choice}
 use Rattle.gates.proofs.LiteralLemmas.{Refuses-behind}
@@ -35,7 +35,7 @@ returns-clause-ok g c =
     let old = g.G.Gates.made c.args.g.now in
     let first = g.G.Gates.made c.moved_in_turn.new.g in
     let second = g.G.Gates.made c.connect_bits.new.g in
-    let new = g.G.Gates.made c.near_or_far.new.g in
+    let new = g.G.Gates.made c.choose.new.g in
     let op = c.args.op in
     let a = c.args.a.now in
     let b = c.args.b.now in
@@ -57,7 +57,7 @@ returns-clause-ok g c =
     let test : MakesLiteral first second (length c.split_at.result.1.now) (λ v. not (word_value v (drop places b) == 0)) is_far = rw (← high) c.in_ok-is_far.ensures.ok in
     let filling : c.as_slice.result.now ≡ replicate n fill = (c.as_slice.ensures.value ∙ c.repeated.ensures) in
     let filled_count : length c.as_slice.result.now ≡ n = ap length filling ∙ length-replicate n fill in
-    IfOk-weaker c.near_or_far.result _ _
+    IfOk-weaker c.choose.result _ _
     (λ row m.
     let choice : MakesWord second new (3 * n) n (λ v. if literal_value v is_far then word_value v c.as_slice.result.now else word_value v near) row.items =
     subst (λ (k : ℕ). MakesWord second new (3 * k) k (λ v. if literal_value v is_far then word_value v c.as_slice.result.now else word_value v near) row.items) filled_count m
@@ -68,14 +68,14 @@ returns-clause-ok g c =
     let whole = MakesWord-choice old first second new (3 * (n * places)) (length c.split_at.result.1.now) (3 * n) n is_far (λ v. binary_value op n (word_value v a) (word_value v (take places b))) (λ v. if literal_value v fill then ones n else 0) (λ v. not (word_value v (drop places b) == 0)) near row.items word test fills in
     rw (shift_bound op n c.requires.shifts) (MakesWord-weaker old new (3 * (n * places) + length c.split_at.result.1.now + 3 * n) (3 * (n * places) + 4 * n) n _ row.items (omega arith)
     (MakesWord-same old new _ n _ (λ v. binary_value op n (word_value v a) (word_value v b)) row.items (λ v. shifted op v a b n fill places c.requires.shifts c.requires.operands.some refl is_fill (omega arith) (log_up_enough n c.requires.operands.most)) whole)))
-    (rw c.as_slice-2.ensures.value at c.near_or_far.ensures.ok)
+    (rw c.as_slice-2.ensures.value at c.choose.ensures.ok)
 
 pub returns-clause-refused : goal.returns-clause-refused
 returns-clause-refused g c =
     let old = g.G.Gates.made c.args.g.now in
     let first = g.G.Gates.made c.moved_in_turn.new.g in
     let second = g.G.Gates.made c.connect_bits.new.g in
-    let new = g.G.Gates.made c.near_or_far.new.g in
+    let new = g.G.Gates.made c.choose.new.g in
     let op = c.args.op in
     let n = length c.args.a.now in
     let count : c.log_up.result ≡ log_up n = c.log_up.ensures.value in
@@ -84,9 +84,9 @@ returns-clause-refused g c =
     let filled_count : length c.as_slice.result.now ≡ n = ap length (c.as_slice.ensures.value ∙ c.repeated.ensures) ∙ length-replicate (length c.args.a.now) c.match-op.fill in
     let stages : 3 * (n * length c.split_at.result.0.now) ≡ 3 * (n * log_up n) = ap (λ k. 3 * (n * k)) low_count in
     let before = Grows-trans old first second (3 * (n * length c.split_at.result.0.now)) (length c.split_at.result.1.now) c.in_ok-near.ensures.ok.grows c.in_ok-is_far.ensures.ok.grows in
-    IfErr-weaker c.near_or_far.result _ _
+    IfErr-weaker c.choose.result _ _
     (λ e r. rw (shift_bound op n c.requires.shifts) (Refuses-behind old second new (3 * (n * length c.split_at.result.0.now) + length c.split_at.result.1.now) (3 * length c.as_slice.result.now) (3 * (n * log_up n) + 4 * n) e (omega arith) before r))
-    c.near_or_far.ensures.refused
+    c.choose.ensures.refused
 
 -- that power of two is below the double
 near_enough : (n : ℕ) → 1 ≤ n → n ≤ 64 → 2 ^ log_up n < 2 * n
@@ -136,21 +136,21 @@ connect_bits-requires-clause-defined g c =
     let high : c.split_at.result.1.now ≡ drop c.log_up.result b = c.split_at.ensures.back in
     subst (λ (ls : List ℕ). All (IsDefined first) ls) (sym high) (All-drop (IsDefined first) c.log_up.result b (All-defined-grown old first _ c.in_ok-near.ensures.ok.grows b c.requires.operands.right))
 
-pub near_or_far-requires-clause-most : goal.near_or_far-requires-clause-most
-near_or_far-requires-clause-most g c =
+pub choose-requires-clause-most : goal.choose-requires-clause-most
+choose-requires-clause-most g c =
     let count = length-replicate (length c.args.a.now) c.match-op.fill in
     omega (arith, ap length (c.as_slice.ensures.value ∙ c.repeated.ensures), count, c.requires.operands.most)
 
-pub near_or_far-requires-clause-equal : goal.near_or_far-requires-clause-equal
-near_or_far-requires-clause-equal g c =
+pub choose-requires-clause-equal : goal.choose-requires-clause-equal
+choose-requires-clause-equal g c =
     let filled_count : length c.as_slice.result.now ≡ length c.args.a.now = ap length (c.as_slice.ensures.value ∙ c.repeated.ensures) ∙ length-replicate (length c.args.a.now) c.match-op.fill in
     ap length c.as_slice-2.ensures.value ∙ c.in_ok-near.ensures.ok.wide ∙ sym filled_count
 
-pub near_or_far-requires-clause-condition : goal.near_or_far-requires-clause-condition
-near_or_far-requires-clause-condition g c = c.in_ok-is_far.ensures.ok.defined
+pub choose-requires-clause-condition : goal.choose-requires-clause-condition
+choose-requires-clause-condition g c = c.in_ok-is_far.ensures.ok.defined
 
-pub near_or_far-requires-clause-then : goal.near_or_far-requires-clause-then
-near_or_far-requires-clause-then g c =
+pub choose-requires-clause-then : goal.choose-requires-clause-then
+choose-requires-clause-then g c =
     let second = g.G.Gates.made c.connect_bits.new.g in
     let a = c.args.a.now in
     let fill = c.match-op.fill in
@@ -164,8 +164,8 @@ near_or_far-requires-clause-then g c =
     ] in
     rw (c.as_slice.ensures.value ∙ c.repeated.ensures) (All-replicate (IsDefined second) (length c.args.a.now) fill defined)
 
-pub near_or_far-requires-clause-otherwise : goal.near_or_far-requires-clause-otherwise
-near_or_far-requires-clause-otherwise g c = rw c.as_slice-2.ensures.value (All-defined-grown _ _ _ c.in_ok-is_far.ensures.ok.grows _ c.in_ok-near.ensures.ok.defined)
+pub choose-requires-clause-otherwise : goal.choose-requires-clause-otherwise
+choose-requires-clause-otherwise g c = rw c.as_slice-2.ensures.value (All-defined-grown _ _ _ c.in_ok-is_far.ensures.ok.grows _ c.in_ok-near.ensures.ok.defined)
 
 pub returns-in_err-near-clause-refused : goal.returns-in_err-near-clause-refused
 returns-in_err-near-clause-refused g c =

@@ -9,4 +9,4 @@ width_in_range (Some w) n allowed same range = ap (λ (k : ℕ). Some k) same
 
 pub returns : goal.returns
 returns c =
-    width_in_range c.new.result c.in_ok-width.width c.new.ensures.allowed c.new.ensures.same c.in_ok-width.ensures.range ∙ c.in_ok-width.ensures.value
+    width_in_range c.new.result c.in_ok-width.width c.new.ensures.allowed c.new.ensures.same c.in_ok-width.ensures.range ∙ c.in_ok-width.ensures.value ∙ c.entry_at.ensures.node
