@@ -91,7 +91,7 @@ fn output_option<'a>(alloc: Global) -> Arg<'a> {
 /// The words of a command.
 fn command_of<'a>(alloc: Global, row: &'a Row) -> Result<Command<'a>, AllocError> {
     let (name, help) = row.file;
-    let mut command = Command::new(alloc, row.word)
+    let command = Command::new(alloc, row.word)
         .about(row.about)
         .after_help(HELP_END)
         .arg(file_name(alloc, name, help))?
@@ -100,32 +100,71 @@ fn command_of<'a>(alloc: Global, row: &'a Row) -> Result<Command<'a>, AllocError
             QUIET,
             "Do not tell on a terminal how far work is that takes more than two seconds",
         ))?;
-    if let Some(help) = row.witness {
-        command = command.arg(file_name(alloc, WITNESS, help))?;
-    }
-    if row.product != Product::Lines {
-        command = command.arg(output_option(alloc))?;
-    }
-    if row.product == Product::Circuit {
-        command = command
-            .arg(flag(alloc, ASCII, "Write the ascii form (the default)"))?
-            .arg(flag(alloc, BINARY, "Write the binary form"))?;
-    }
-    if row.task == Task::Wave(Shown::Named) {
-        command = command.arg(flag(
-            alloc,
-            ALL,
-            "Show every node that has a value, not only those with a symbol",
-        ))?;
-    }
-    if let Some(help) = help_of_names(row.task) {
-        command = command.arg(flag(alloc, NAMES, help))?;
-    }
+    let command = with_witness(alloc, command, row)?;
+    let command = with_product(alloc, command, row.product)?;
+    let command = with_shown(alloc, command, row.task)?;
+    let command = with_name_word(alloc, command, row.task)?;
     with_engine_words(alloc, command, row.engine)
 }
 
+/// These words with that for a witness, where a command reads one.
+fn with_witness<'a>(
+    alloc: Global,
+    command: Command<'a>,
+    row: &'a Row,
+) -> Result<Command<'a>, AllocError> {
+    match row.witness {
+        Some(help) => command.arg(file_name(alloc, WITNESS, help)),
+        None => Ok(command),
+    }
+}
+
+/// These words with those for what a command writes.
+fn with_product<'a>(
+    alloc: Global,
+    command: Command<'a>,
+    product: Product,
+) -> Result<Command<'a>, AllocError> {
+    match product {
+        Product::Lines => Ok(command),
+        Product::Text => command.arg(output_option(alloc)),
+        Product::Circuit => command
+            .arg(output_option(alloc))?
+            .arg(flag(alloc, ASCII, "Write the ascii form (the default)"))?
+            .arg(flag(alloc, BINARY, "Write the binary form")),
+    }
+}
+
+/// These words with that for what a dump shows.
+fn with_shown<'a>(
+    alloc: Global,
+    command: Command<'a>,
+    task: Task,
+) -> Result<Command<'a>, AllocError> {
+    if task != Task::Wave(Shown::Named) {
+        return Ok(command);
+    }
+    command.arg(flag(
+        alloc,
+        ALL,
+        "Show every node that has a value, not only those with a symbol",
+    ))
+}
+
+/// These words with that for names, where a command knows them.
+fn with_name_word<'a>(
+    alloc: Global,
+    command: Command<'a>,
+    task: Task,
+) -> Result<Command<'a>, AllocError> {
+    match help_of_names(task) {
+        Some(help) => command.arg(flag(alloc, NAMES, help)),
+        None => Ok(command),
+    }
+}
+
 /// What help says of names, for a command that knows them.
-fn help_of_names(task: Task) -> Option<&'static str> {
+fn help_of_names<'a>(task: Task) -> Option<&'a str> {
     match task {
         Task::CheckBtor => Some(
             "Say on standard error which line of the model the judgement is about, by its symbol and its id",
@@ -151,18 +190,34 @@ fn explain_command<'a>(alloc: Global) -> Result<Command<'a>, AllocError> {
         .arg(refusal)
 }
 
+/// The program without its commands.
+fn program<'a>(alloc: Global) -> Result<Command<'a>, AllocError> {
+    let named = Command::new(alloc, PROGRAM).bin_name(PROGRAM)?;
+    Ok(
+        named
+            .version(VERSION)
+            .after_help(HELP_END)
+            .about(
+                "Word-level BTOR2 models to AIGER circuits, and their witnesses. Without any word: lower standard input.",
+            )
+            .subcommand_required(true),
+    )
+}
+
+/// The program with one command more.
+fn with_command<'a>(
+    alloc: Global,
+    commands: Command<'a>,
+    row: &'a Row,
+) -> Result<Command<'a>, AllocError> {
+    commands.subcommand(command_of(alloc, row)?)
+}
+
 /// The commands and their words.
 fn commands<'a>(alloc: Global) -> Result<Command<'a>, AllocError> {
-    let mut commands = Command::new(alloc, PROGRAM)
-        .bin_name(PROGRAM)?
-        .version(VERSION)
-        .after_help(HELP_END)
-        .about(
-            "Word-level BTOR2 models to AIGER circuits, and their witnesses. Without any word: lower standard input.",
-        )
-        .subcommand_required(true);
+    let mut commands = program(alloc)?;
     for row in &ROWS {
-        commands = commands.subcommand(command_of(alloc, row)?)?;
+        commands = with_command(alloc, commands, row)?;
     }
     commands.subcommand(explain_command(alloc)?)
 }

@@ -46,49 +46,60 @@ pub(crate) fn with_engine_words<'a>(
 ) -> Result<Command<'a>, AllocError> {
     match engine {
         Engine::Unknown => Ok(command),
-        Engine::Written => command
-            .arg(flag(
-                alloc,
-                ENGINE,
-                "Write a circuit that every engine reads alike: latches begin with 0, and there are bad properties alone",
-            ))?
-            .arg(bad_option(
-                alloc,
-                "With --engine, keep the bad property at this position alone, from 0",
-            )),
-        Engine::ReadWhereAsked => command
-            .arg(flag(
-                alloc,
-                ENGINE,
-                "The witness is one of the engine form of the model's circuit",
-            ))?
-            .arg(flag(
-                alloc,
-                ABC,
-                "With --engine, the counterexample is in the form that ABC writes",
-            )
-            .requires_arg(ENGINE)?)?
-            .arg(bad_option(
-                alloc,
-                "With --engine, the position of the bad property that the form was made for, from 0; with --abc it says which is claimed, and is needed where the model has more than one",
-            )),
-        Engine::Read => command
-            .arg(flag(
-                alloc,
-                ABC,
-                "The witness is a counterexample in the form that ABC writes by write_cex -a",
-            ))?
-            .arg(bad_option(
-                alloc,
-                "The position of the bad property that the form was made for, from 0; with --abc it says which is claimed, and is needed where the circuit has more than one",
-            )),
+        Engine::Written => with_written_words(alloc, command),
+        Engine::ReadWhereAsked => with_asked_words(alloc, command),
+        Engine::Read => with_read_words(alloc, command),
         Engine::Owed => with_invariant_words(alloc, command),
-        Engine::Certified => with_invariant_words(alloc, command)?.arg(file_name(
-            alloc,
-            PROOF,
-            "The file of a proof of the obligation, in ascii DRAT, or - for standard input",
-        )),
+        Engine::Certified => with_proof_words(alloc, command),
     }
+}
+
+/// The words of a command that writes an engine form where it is asked to.
+fn with_written_words<'a>(alloc: Global, command: Command<'a>) -> Result<Command<'a>, AllocError> {
+    command
+        .arg(flag(
+            alloc,
+            ENGINE,
+            "Write a circuit that every engine reads alike: latches begin with 0, and there are bad properties alone",
+        ))?
+        .arg(bad_option(
+            alloc,
+            "With --engine, keep the bad property at this position alone, from 0",
+        ))
+}
+
+/// The words of a command that reads a witness of an engine form where it is asked to.
+fn with_asked_words<'a>(alloc: Global, command: Command<'a>) -> Result<Command<'a>, AllocError> {
+    command
+        .arg(flag(
+            alloc,
+            ENGINE,
+            "The witness is one of the engine form of the model's circuit",
+        ))?
+        .arg(flag(
+            alloc,
+            ABC,
+            "With --engine, the counterexample is in the form that ABC writes",
+        )
+        .requires_arg(ENGINE)?)?
+        .arg(bad_option(
+            alloc,
+            "With --engine, the position of the bad property that the form was made for, from 0; with --abc it says which is claimed, and is needed where the model has more than one",
+        ))
+}
+
+/// The words of a command that reads nothing else.
+fn with_read_words<'a>(alloc: Global, command: Command<'a>) -> Result<Command<'a>, AllocError> {
+    command
+        .arg(flag(
+            alloc,
+            ABC,
+            "The witness is a counterexample in the form that ABC writes by write_cex -a",
+        ))?
+        .arg(bad_option(
+            alloc,
+            "The position of the bad property that the form was made for, from 0; with --abc it says which is claimed, and is needed where the circuit has more than one",
+        ))
 }
 
 /// The words of a command on certificates.
@@ -111,6 +122,15 @@ fn with_invariant_words<'a>(
             alloc,
             "The position of the bad property that is claimed, from 0; needed where there is more than one",
         ))
+}
+
+/// The words of the command on proofs.
+fn with_proof_words<'a>(alloc: Global, command: Command<'a>) -> Result<Command<'a>, AllocError> {
+    with_invariant_words(alloc, command)?.arg(file_name(
+        alloc,
+        PROOF,
+        "The file of a proof of the obligation, in ascii DRAT, or - for standard input",
+    ))
 }
 
 /// Whether words are about an engine form: they ask for one, or for what is over one, as those of a command that reads

@@ -112,13 +112,15 @@ pub(crate) fn show<A: Source, O: Sink>(
     show_model(alloc, &model, out)
 }
 
-/// Writes the writer's text of a model and the line of its counts.
+/// The same of a model that was read.
 fn show_model<O: Sink>(alloc: Global, model: &Model, out: &mut O) -> Result<Answer, Refusal>
-    ensures done { OnOk result (Appends (O.written out.old) (O.written out.new) (written model.now ++ counts_line model.now)) }
+    ensures done { (known : Option (List ℕ)) → IsModelOf known model.now → OnOk result (Shows known (O.written out.old) (O.written out.new)) }
     ensures answer { IfOk result (λ answer. answer ≡ Answer.Done) }
     ensures no_input { IsOfNoInput result }
     ensures counted { (f s e : ℕ) → Counts result f f s s (O.failures out.old) (O.failures out.new) e e }
 {
+    // a model's items are well-formed
+    let _ = model.items();
     let line = counts_line(alloc, model)?;
     match write(model, out) {
         Ok(()) => {}
@@ -160,11 +162,13 @@ pub(crate) fn tell_cost<A: Source, O: Sink>(
 
 /// Writes how many gates and variables the lowering of a model that was read has at most.
 fn tell_cost_of<O: Sink>(alloc: Global, model: &Model, out: &mut O) -> Result<Answer, Refusal>
-    ensures done { OnOk result (Appends (O.written out.old) (O.written out.new) (cost_lines model.now)) }
+    ensures done { (known : Option (List ℕ)) → IsModelOf known model.now → OnOk result (TellsCost known (O.written out.old) (O.written out.new)) }
     ensures answer { IfOk result (λ answer. answer ≡ Answer.Done) }
     ensures no_input { IsOfNoInput result }
     ensures counted { (f s e : ℕ) → Counts result f f s s (O.failures out.old) (O.failures out.new) e e }
 {
+    // a model's items are well-formed
+    let _ = model.items();
     let lines = cost_lines(alloc, model)?;
     write_result(out, lines.as_bytes())?;
     Ok(Answer::Done)
