@@ -1,4 +1,6 @@
 //! How far long work is told to be, by a clock that goes on at each look and on a terminal that keeps what it is sent.
+ghost use Rattle.std.specs.Prelude.{◌≤◌};
+
 use base::{Source, VecSink, write_all};
 use blast::{Watch, lower_watched};
 use btor2::Model;
