@@ -3,7 +3,7 @@ ghost use Rattle.std.specs.Prelude.{◌≡◌, ◌⊎◌, ◌<◌, ⊤, length};
 ghost use Rattle.capi.specs.Written.{Fills};
 
 use crate::buffers::hand_over;
-use commands::refusal_table;
+use command_line::refusal_table;
 
 /// The status where no refusal has a number.
 const UNKNOWN: u32 = 2;

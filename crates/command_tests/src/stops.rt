@@ -1,6 +1,7 @@
 //! Want of memory in place of a command. Other stops, and commands, are shown by rows.
 use base::VecSink;
-use commands::{Stop, end};
+use commands::end;
+use orders::Stop;
 use std::alloc::Global;
 
 /// Whether want of memory ends with status 3, and its line is told.

@@ -1,7 +1,8 @@
 //! Models that are too big to be lowered, and the command that tells so.
 use base::VecSink;
 use blast::{LowerFault, Unwatched, bound, cost, lower};
-use commands::{NoFile, order, run};
+use command_line::order;
+use commands::{NoFile, run};
 use library_tests::samples::model_of;
 use std::alloc::Global;
 use std::test::Fail;

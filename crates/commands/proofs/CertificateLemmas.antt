@@ -23,8 +23,8 @@ use Rattle.invariants.specs.declared.certificate_fault.CertificateFault.TheVaria
 use Rattle.invariants.specs.Certificates.{IsCertified, IsNotJudged, OwesNone, OwesNoneOver}
 use Rattle.commands.specs.declared.answers.Answer.{Answer}
 use Rattle.commands.specs.declared.answers.Answer.TheVariants as answer
-use Rattle.commands.specs.declared.orders.Given.{Given}
-use Rattle.commands.specs.declared.orders.Given.TheVariants as given
+use Rattle.orders.specs.declared.tasks.Given.{Given}
+use Rattle.orders.specs.declared.tasks.Given.TheVariants as given
 use Rattle.commands.specs.declared.refusals.Fault.{Fault}
 use Rattle.commands.specs.declared.refusals.Refusal.{Refusal}
 use Rattle.commands.specs.declared.refusals.Refusal.TheVariants as refusal

@@ -4,5 +4,4 @@ pub mod EngineLemmas
 pub mod PieceLemmas
 pub mod RestoreLemmas
 pub mod SubjectLemmas
-pub mod TableLemmas
 pub mod WaveLemmas

@@ -15,8 +15,8 @@ use Rattle.clauses.specs.Printed.{why_number, why_name}
 use Rattle.invariants.specs.Certificates.{IsCertified, IsOwed}
 use Rattle.commands.specs.declared.answers.Answer.{Answer}
 use Rattle.commands.specs.declared.answers.Answer.TheVariants as answer
-use Rattle.commands.specs.declared.orders.Given.{Given}
-use Rattle.commands.specs.declared.orders.Given.TheVariants as given
+use Rattle.orders.specs.declared.tasks.Given.{Given}
+use Rattle.orders.specs.declared.tasks.Given.TheVariants as given
 use Rattle.commands.specs.Subjects.{bad_item_said, bad_name_said, holds_said}
 use Rattle.commands.specs.Texts.{IsCircuitText, IsClaim, IsModelOf}
 

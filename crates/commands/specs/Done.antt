@@ -42,10 +42,10 @@ pub use Rattle.commands.specs.Texts.{IsModelOf, IsCircuitText, IsClaim}
 use Rattle.commands.specs.Certificates.{Certifies, CertifiesByName, WritesOwed}
 use Rattle.commands.specs.declared.answers.Answer.{Answer}
 use Rattle.commands.specs.declared.answers.Answer.TheVariants as answer
-use Rattle.commands.specs.declared.orders.Named.{Named}
-use Rattle.commands.specs.declared.orders.Named.TheVariants as named
-use Rattle.commands.specs.declared.orders.Task.{Task}
-use Rattle.commands.specs.declared.orders.Task.TheVariants as task
+use Rattle.orders.specs.declared.tasks.Named.{Named}
+use Rattle.orders.specs.declared.tasks.Named.TheVariants as named
+use Rattle.orders.specs.declared.tasks.Task.{Task}
+use Rattle.orders.specs.declared.tasks.Task.TheVariants as task
 use Rattle.commands.specs.Subjects.{item_said, name_said, lifted_said, where_named}
 
 -- a judgement is that the witness is accepted

@@ -1,5 +1,5 @@
--- What is said of what a command reads, by what it is.
-use Rattle.std.specs.Prelude.{Bool, true, false}
+-- What is said of what a command reads, by what it is, and what the file of a result is called.
+use Rattle.std.specs.Prelude.{ℕ, Bool, true, false, List, ◌++◌, codes, decimal}
 use Rattle.commands.specs.declared.files.NoFile.{NoFile}
 use Rattle.commands.specs.declared.files.Input.{Input}
 use Rattle.commands.specs.declared.files.Input.TheVariants as input
@@ -15,3 +15,7 @@ abbrev pub is_standard : {S F : Type 0} → Input S F → Bool
 is_standard (input.Standard x) = true
 is_standard (input.File x) = false
 is_standard (input.Missing x) = false
+
+-- the name that a result has while it is written: that of its file and the number of a process
+abbrev pub part_name : List ℕ → ℕ → List ℕ
+part_name name process = name ++ (codes "." ++ (decimal process ++ codes ".part"))

@@ -2,9 +2,7 @@
 pub mod Certificates
 pub mod Conversions
 pub mod Done
-pub mod Explanations
 pub mod Files
-pub mod Orders
 pub mod Refusals
 pub mod Restoring
 pub mod Statuses

@@ -22,18 +22,18 @@ use Rattle.invariants.specs.Reading.{Reads}
 use Rattle.invariants.specs.Refusal.{obligation_refusal}
 use Rattle.witness.specs.Answers.{judge_number, judge_name}
 use Rattle.witness.specs.declared.fault.JudgeFault.TheVariants as judge
-use Rattle.commands.specs.declared.orders.Named.{Named}
-use Rattle.commands.specs.declared.orders.Named.TheVariants as named
-use Rattle.commands.specs.declared.orders.Task.{Task}
-use Rattle.commands.specs.declared.orders.Task.TheVariants as task
+use Rattle.orders.specs.declared.tasks.Named.{Named}
+use Rattle.orders.specs.declared.tasks.Named.TheVariants as named
+use Rattle.orders.specs.declared.tasks.Task.{Task}
+use Rattle.orders.specs.declared.tasks.Task.TheVariants as task
 use Rattle.commands.specs.declared.refusals.Device.{Device}
 use Rattle.commands.specs.declared.refusals.Device.TheVariants as device
 use Rattle.commands.specs.declared.refusals.Fault.{Fault}
 use Rattle.commands.specs.declared.refusals.Fault.TheVariants as fault
 use Rattle.commands.specs.declared.refusals.Refusal.{Refusal}
 use Rattle.commands.specs.declared.refusals.Refusal.TheVariants as refusal
-use Rattle.commands.specs.declared.orders.Given.{Given}
-use Rattle.commands.specs.declared.orders.Given.TheVariants as given
+use Rattle.orders.specs.declared.tasks.Given.{Given}
+use Rattle.orders.specs.declared.tasks.Given.TheVariants as given
 use Rattle.commands.specs.Certificates.{Gives}
 use Rattle.commands.specs.Texts.{IsClaim, IsModelOf}
 

@@ -2,7 +2,7 @@
 use Rattle.std.specs.Prelude.{◌≡◌, ℕ, List, Option, Result, Ok, Err, ◌⊎◌, codes}
 use Rattle.std.specs.Io.KnownBytes.{Appends}
 use Rattle.base.specs.Device.{HasRisen}
-use Rattle.commands.specs.declared.orders.Task.{Task}
+use Rattle.orders.specs.declared.tasks.Task.{Task}
 use Rattle.commands.specs.declared.refusals.Device.TheVariants as device
 use Rattle.commands.specs.declared.refusals.Fault.{Fault}
 use Rattle.commands.specs.declared.refusals.Refusal.{Refusal}

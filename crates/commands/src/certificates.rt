@@ -8,7 +8,7 @@ ghost use Rattle.blast.specs.Lowering.{Lowers};
 ghost use Rattle.blast.specs.Refusal.{lowering_refusal};
 ghost use Rattle.clauses.specs.FormulaTexts.{formula_text};
 ghost use Rattle.invariants.specs.Certificates.{IsCertified, IsOwed};
-ghost use Rattle.commands.specs.declared.orders.Given.TheVariants as given_is;
+ghost use Rattle.orders.specs.declared.tasks.Given.TheVariants as given_is;
 ghost use Rattle.commands.specs.Certificates.{CertifiesWith, Gives, IsFirst, IsSoDerived, LowersFirst, WritesOwed, given_said, verdict_line};
 ghost use Rattle.commands.specs.Done.{IsModelOf};
 ghost use Rattle.commands.specs.Refusals.{IsFaultyFor, IsFaultyInvariant, IsNoCircuit, IsNotClaimed, IsNotGiven, IsNotLowered, IsWithoutForm};
@@ -18,7 +18,6 @@ ghost use Rattle.commands.specs.Subjects.{bad_said, holds_said, where_named};
 use crate::answers::Answer;
 use crate::circuits::read_circuit;
 use crate::models::read_model;
-use crate::orders::Given;
 use crate::refusals::{Device, Refusal};
 use crate::restoring::claim_of;
 use crate::subjects::{Subject, tell_bad};
@@ -29,6 +28,7 @@ use blast::{Watch, lower_watched};
 use btor2::Model;
 use clauses::{Formula, Judgement, write_formula};
 use invariants::{judge_certificate, owed_formula};
+use orders::Given;
 use std::alloc::{AllocError, Global};
 
 /// The circuit that lowers a model.

@@ -3,7 +3,7 @@
 ghost use Rattle.std.specs.Prelude.{◌≡◌, ℕ, List, None, Option, IfOk, IfErr};
 ghost use Rattle.blast.specs.Lowering.{Lowers};
 ghost use Rattle.blast.specs.Refusal.{lowering_refusal};
-ghost use Rattle.commands.specs.declared.orders.Given.TheVariants as given_is;
+ghost use Rattle.orders.specs.declared.tasks.Given.TheVariants as given_is;
 ghost use Rattle.commands.specs.Done.{IsModelOf, LiftsFound};
 ghost use Rattle.commands.specs.Refusals.{IsNotClaimed};
 ghost use Rattle.commands.specs.Statuses.{Counts, IfInput, ErrUntold};

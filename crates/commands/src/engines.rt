@@ -1,7 +1,7 @@
 //! The commands that write engine forms of circuits.
 
 ghost use Rattle.std.specs.Prelude.{◌≡◌, ℕ, List, Option, IfOk, IfErr, OnOk};
-ghost use Rattle.commands.specs.declared.orders.Given.TheVariants as given_is;
+ghost use Rattle.orders.specs.declared.tasks.Given.TheVariants as given_is;
 ghost use Rattle.commands.specs.Done.{ConvertsForEngines, IsCircuitText, IsModelOf, LowersForEngines, WritesEngineForm};
 ghost use Rattle.commands.specs.Refusals.{IsNotForEngines, IsWithoutForm};
 ghost use Rattle.commands.specs.Statuses.{Counts, IfInput};

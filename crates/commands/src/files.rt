@@ -2,10 +2,10 @@
 
 ghost use Rattle.std.specs.Prelude.{◌≡◌, None, true, option_map};
 ghost use Rattle.commands.specs.Files.{is_standard, of_input};
-ghost use Rattle.commands.specs.Orders.{names_standard_input};
+ghost use Rattle.orders.specs.Files.{names_standard_input};
 
-use crate::orders::STANDARD_INPUT;
 use base::{DeviceFault, FromReader, Sink, Source};
+use orders::STANDARD_INPUT;
 use std::fs;
 use std::io::Read;
 use std::rt::Files;

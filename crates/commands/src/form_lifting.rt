@@ -4,7 +4,7 @@ ghost use Rattle.std.specs.Prelude.{◌≡◌, ℕ, List, None, Option, IfOk, If
 ghost use Rattle.blast.specs.Lowering.{Lowers};
 ghost use Rattle.blast.specs.Refusal.{lowering_refusal};
 ghost use Rattle.engine.specs.EngineForm.{IsEngineFormOf};
-ghost use Rattle.commands.specs.declared.orders.Given.TheVariants as given_is;
+ghost use Rattle.orders.specs.declared.tasks.Given.TheVariants as given_is;
 ghost use Rattle.commands.specs.Done.{IsFormLifted, IsModelOf, Judged};
 ghost use Rattle.commands.specs.Refusals.{IsNotForEngines};
 ghost use Rattle.commands.specs.Statuses.{Counts, IfInput, IsOfNoInput, ErrUntold};

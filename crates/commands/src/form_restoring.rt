@@ -2,7 +2,7 @@
 
 ghost use Rattle.std.specs.Prelude.{◌≡◌, ℕ, List, Option, IfOk, IfErr};
 ghost use Rattle.engine.specs.EngineForm.{IsEngineFormOf};
-ghost use Rattle.commands.specs.declared.orders.Given.TheVariants as given_is;
+ghost use Rattle.orders.specs.declared.tasks.Given.TheVariants as given_is;
 ghost use Rattle.commands.specs.Done.{IsCircuitText, IsFormRestored, Judged};
 ghost use Rattle.commands.specs.Refusals.{IsNotForEngines};
 ghost use Rattle.commands.specs.Statuses.{Counts, IfInput, IsOfNoInput, ErrUntold};

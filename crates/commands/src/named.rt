@@ -1,7 +1,7 @@
 //! The commands that say by name what their judgements are about.
 
 ghost use Rattle.std.specs.Prelude.{◌≡◌, ℕ, List, Option, false, IfOk, IfErr};
-ghost use Rattle.commands.specs.declared.orders.Task.TheVariants as task_is;
+ghost use Rattle.orders.specs.declared.tasks.Task.TheVariants as task_is;
 ghost use Rattle.commands.specs.Done.{AnswersByName, is_on_certificates};
 ghost use Rattle.commands.specs.Refusals.{RefusesByName};
 ghost use Rattle.commands.specs.Statuses.{Counts, ErrUntold, IfInput};
@@ -12,10 +12,10 @@ use crate::engine_lifting::lift_counterexample;
 use crate::form_lifting::lift_form_witness;
 use crate::lifting::lift_witness;
 use crate::models::check_model;
-use crate::orders::Named;
 use crate::refusals::Refusal;
 use base::{Sink, Source};
 use blast::Watch;
+use orders::Named;
 use std::alloc::Global;
 
 /// Does a command that says by name what its judgement is about, and is on no certificate.

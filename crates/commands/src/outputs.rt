@@ -4,17 +4,16 @@ ghost use Rattle.std.specs.Prelude.{◌≡◌, ◌≢◌, ◌≤◌, true, false
 ghost use Rattle.std.specs.String.{string_bytes};
 ghost use Rattle.commands.specs.declared.answers.Answer.TheVariants as answer;
 ghost use Rattle.commands.specs.Done.{AnswersSome, has_one_file, has_three_files, is_quiet};
-ghost use Rattle.commands.specs.Orders.{part_name};
+ghost use Rattle.commands.specs.Files.{part_name};
 ghost use Rattle.commands.specs.Statuses.{IsLeftOpen, IsRefused};
 
 use crate::files::NoFile;
-use crate::orders::Order;
 use crate::progress::{Progress, Watched, Work};
 use crate::running::run;
-use crate::statuses::{DEVICE, NOT_ACCEPTED};
 use crate::telling::{tell_no_memory, tell_output};
 use base::{Sink, Source, ToWriter};
 use blast::Watch;
+use orders::{DEVICE, NOT_ACCEPTED, Order};
 use std::alloc::{AllocError, Global};
 use std::fs::{self, OpenOptions};
 use std::io::{self, Write};

@@ -2,10 +2,10 @@
 
 ghost use Rattle.std.specs.Prelude.{◌≡◌, None};
 
-use crate::orders::{Named, Task};
 use base::{DeviceFault, Sink, Source};
 use blast::Watch;
 use itoa::Buffer;
+use orders::{Named, Task};
 use std::io::{self, Write};
 use std::time::{Clock, Duration};
 

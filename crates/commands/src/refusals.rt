@@ -7,12 +7,12 @@ ghost use Rattle.commands.specs.declared.refusals.Refusal.TheVariants as refusal
 ghost use Rattle.commands.specs.Refusals.{about, fault_line, item_line, numbered_name, status_of_fault};
 ghost use Rattle.commands.specs.Conversions.{of_reading, of_circuit_reading, of_lowering, of_engine_form, of_conversion, of_judging, of_lifting, of_dumping, of_reading_all, of_lines, of_invariant_for, of_obligation, of_claim, of_certificate};
 
-use crate::statuses::{REFUSED, WORDS_REFUSED};
 use base::ReadAllFault;
 use blast::{ConvertFault, LowerFault};
 use engine::EngineFault;
 use invariants::{CertificateFault, ClaimFault, InvariantFault, InvariantWhy, ObligationFault};
 use lift::LiftFault;
+use orders::{REFUSED, WORDS_REFUSED};
 use std::alloc::{AllocError, Global};
 use vectors::LinesFault;
 use wave::WaveFault;

@@ -5,7 +5,7 @@ ghost use Rattle.std.specs.Io.KnownBytes.{Appends};
 ghost use Rattle.std.specs.String.{string_bytes};
 ghost use Rattle.engine.specs.Refusal.{engine_refusal};
 ghost use Rattle.commands.specs.declared.answers.Answer.TheVariants as answer_is;
-ghost use Rattle.commands.specs.declared.orders.Given.TheVariants as given_is;
+ghost use Rattle.orders.specs.declared.tasks.Given.TheVariants as given_is;
 ghost use Rattle.commands.specs.declared.refusals.Refusal.TheVariants as refusal;
 ghost use Rattle.commands.specs.declared.refusals.Fault.TheVariants as fault_is;
 ghost use Rattle.restore.specs.Answers.{CountsRestore};

@@ -17,15 +17,14 @@ use crate::form_restoring::restore_witness;
 use crate::lifting::lift_witness;
 use crate::models::{check_model, lower_model, show, tell_cost};
 use crate::named::judge_by_name;
-use crate::orders::{Named, Order, Task};
 use crate::refusals::Refusal;
 use crate::restoring::restore_counterexample;
-use crate::statuses::DEVICE;
 use crate::telling::tell;
 use crate::vector_reports::compare_vectors;
 use crate::waving::dump_witness;
 use base::{Sink, Source};
 use blast::Watch;
+use orders::{DEVICE, Named, Order, Task};
 use std::alloc::Global;
 
 /// Does a command, and answers the exit status: 0 done or accepted, 1 not accepted, 2 input refused, 3 device or memory, 4

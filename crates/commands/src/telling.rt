@@ -9,10 +9,9 @@ ghost use Rattle.commands.specs.declared.refusals.Refusal.TheVariants as refusal
 ghost use Rattle.commands.specs.Refusals.{about};
 ghost use Rattle.commands.specs.Statuses.{Counts, IsOfNoInput, Tells, TellsFault};
 
-use crate::orders::{Order, STANDARD_INPUT, Stop};
 use crate::refusals::{Device, Fault, Refusal};
-use crate::statuses::{DEVICE, DONE};
 use base::{DeviceFault, Sink, write_all};
+use orders::{DEVICE, DONE, Order, STANDARD_INPUT, Stop};
 use std::alloc::Global;
 
 /// What is told where memory was wanting.

@@ -8,10 +8,10 @@ ghost use Rattle.commands.specs.Statuses.{Counts, IfInput, ErrUntold};
 use crate::answers::Answer;
 use crate::judgements::tell_line;
 use crate::models::read_model;
-use crate::orders::{Order, STANDARD_INPUT};
 use crate::refusals::Refusal;
 use base::{Sink, Source};
 use btor2::Model;
+use orders::{Order, STANDARD_INPUT};
 use std::alloc::{AllocError, Global};
 use wave::{Shown, wave};
 

@@ -2,10 +2,9 @@
 #![tactic(auto)]
 
 use base::ToWriter;
-use commands::{
-    Counted, Order, Output, Progress, Stop, Terminals, Watched, Work, end, given_words, open_input,
-    order_at, run, run_to_file,
-};
+use command_line::{Terminals, given_words, order_at};
+use commands::{Counted, Output, Progress, Watched, Work, end, open_input, run, run_to_file};
+use orders::{Order, Stop};
 use std::fs;
 use std::io::IsTerminal;
 use std::process::{self, ExitCode};

@@ -2,7 +2,8 @@
 
 use base::{Chop, FailAt, Source, VecSink};
 use blast::Unwatched;
-use commands::{Input, NoFile, Order, run};
+use commands::{Input, NoFile, run};
+use orders::Order;
 use std::alloc::{AllocError, Global};
 
 /// The status of a command, and what it writes to standard output and to standard error.

@@ -4,7 +4,8 @@ use crate::answers::{Answer, Files, gives};
 use crate::blocks::Cut;
 use base::VecSink;
 use blast::Unwatched;
-use commands::{NoFile, Order, run};
+use commands::{NoFile, run};
+use orders::Order;
 use std::alloc::{AllocError, Global};
 
 /// The beginning of a text: its bytes, how many of its lines are whole, and where the line behind these begins.

@@ -41,9 +41,10 @@ use answers::{
 };
 use base::{FromReader, next_line, read_all};
 use blocks::Row;
+use command_line::{given_words, order};
 use command_lines::CommandLine;
-use commands::{Order, Stop, given_words, order};
 use cuts::tells_cuts;
+use orders::{Order, Stop};
 use std::alloc::{AllocError, Global};
 use std::io;
 

@@ -2,7 +2,8 @@
 
 use crate::answers::Answer;
 use base::{Chop, FailAt, VecSink};
-use commands::{Stop, end};
+use commands::end;
+use orders::Stop;
 use std::alloc::Global;
 
 /// Whether a text has a part, or is empty where the part is.

@@ -1,6 +1,6 @@
 use Rattle.std.proofs.Common.{rules, ◌≡◌, Err, List}
 use Rattle.btor2.specs.declared.item.Item.{Item}
-use Rattle.commands.specs.declared.orders.Given.TheVariants as given
+use Rattle.orders.specs.declared.tasks.Given.TheVariants as given
 use Rattle.commands.specs.Refusals.{IsFaultyInvariant}
 use Rattle.commands.proofs.CountLemmas.{counted_all_behind, no_second_on, refused_first}
 use Rattle.commands.proofs.certificates.check_model.Goals as goal

@@ -1,0 +1,2 @@
+-- What is told of refusals that are asked for.
+pub mod Explanations

@@ -1,0 +1,167 @@
+//! What refusals mean and what to do about them: a table, which docs/REFUSALS.md repeats.
+
+ghost use Rattle.aiger.specs.Refusal.{fault_name, fault_number};
+ghost use Rattle.aiger.specs.Renumbering.{loose_fault_name, loose_fault_number};
+ghost use Rattle.aiger.specs.declared.fault.CircuitFault.{CircuitFault};
+ghost use Rattle.aiger.specs.declared.fault.LooseFault.{LooseFault};
+ghost use Rattle.aigertext.specs.Whys.{why_name, why_number};
+ghost use Rattle.aigertext.specs.declared.fault.Why.{Why as CircuitWhy};
+ghost use Rattle.blast.specs.Faults.{convert_name, convert_number, lower_name, lower_number};
+ghost use Rattle.blast.specs.declared.fault.ConvertFault.{ConvertFault};
+ghost use Rattle.blast.specs.declared.fault.LowerFault.{LowerFault};
+ghost use Rattle.btor2.specs.Faults.{symbol_fault_name, symbol_fault_number};
+ghost use Rattle.btor2.specs.declared.symbol.SymbolFault.{SymbolFault};
+ghost use Rattle.btor2text.specs.Whys.{name_of, printed_number};
+ghost use Rattle.btor2text.specs.declared.fault.Why.{Why};
+ghost use Rattle.clauses.specs.Faults.{clause_name, clause_number, formula_name, formula_number};
+ghost use Rattle.clauses.specs.Printed.{why_name as proof_name, why_number as proof_number};
+ghost use Rattle.clauses.specs.declared.fault.ClauseFault.{ClauseFault};
+ghost use Rattle.clauses.specs.declared.fault.FormulaFault.{FormulaFault};
+ghost use Rattle.clauses.specs.declared.why.Why.{Why as ProofWhy};
+ghost use Rattle.command_line.specs.Explanations.{Explains};
+ghost use Rattle.engine.specs.Faults.{name_of as engine_name, number_of as engine_number};
+ghost use Rattle.engine.specs.declared.fault.EngineFault.{EngineFault};
+ghost use Rattle.gates.specs.Faults.{name_of as gate_name, number_of as gate_number};
+ghost use Rattle.gates.specs.declared.fault.GateFault.{GateFault};
+ghost use Rattle.invariants.specs.Faults.{certificate_name, certificate_number, claim_name, claim_number};
+ghost use Rattle.invariants.specs.declared.certificate_fault.CertificateFault.{CertificateFault};
+ghost use Rattle.invariants.specs.declared.claim_fault.ClaimFault.{ClaimFault};
+ghost use Rattle.lift.specs.Answers.{fault_name as lift_name, fault_number as lift_number};
+ghost use Rattle.lift.specs.declared.fault.LiftFault.{LiftFault};
+ghost use Rattle.restore.specs.Faults.{why_name as restore_name, why_number as restore_number};
+ghost use Rattle.restore.specs.declared.fault.RestoreWhy.{RestoreWhy};
+ghost use Rattle.runs.specs.Faults.{new_name, new_number};
+ghost use Rattle.runs.specs.declared.fault.NewFault.{NewFault};
+ghost use Rattle.wave.specs.Answers.{fault_name as wave_name, fault_number as wave_number};
+ghost use Rattle.wave.specs.declared.fault.WaveFault.{WaveFault};
+ghost use Rattle.witness.specs.Answers.{judge_name, judge_number};
+ghost use Rattle.witness.specs.Numbers.{why_number as witness_number};
+ghost use Rattle.witness.specs.Printed.{why_name as witness_name};
+ghost use Rattle.witness.specs.declared.fault.JudgeFault.{JudgeFault};
+ghost use Rattle.witness.specs.declared.why.Why.{Why as WitnessWhy};
+
+mod certificates;
+mod circuits;
+mod models;
+mod often;
+mod witnesses;
+
+/// One case of a refusal: its number and name, when it is told, and what to do then.
+#[derive(Clone, Copy)]
+pub struct Explanation {
+    /// The number.
+    pub number: u32,
+    /// The name.
+    pub name: &'static str,
+    /// When it is told.
+    pub when: &'static str,
+    /// What to do about it.
+    pub remedy: &'static str,
+}
+
+/// Cases of refusals that are found in one place, in the order in which they are found.
+#[derive(Clone, Copy)]
+pub struct Part {
+    /// The place.
+    pub title: &'static str,
+    /// The cases.
+    pub rows: &'static [Explanation],
+}
+
+/// What all refusals mean and what to do about them. A refusal may have several cases, also in several parts.
+///
+/// Each refusal of each library is there, by the number and the name that the library gives it.
+pub fn refusal_table() -> [Part; 17]
+    // the number of a why of a model's text that a push gives is its own, which is printed for it
+    ensures models { (why : Why) → Explains result (printed_number why) (name_of why) }
+    ensures symbols { (fault : SymbolFault) → Explains result (symbol_fault_number fault) (symbol_fault_name fault) }
+    ensures lowerings { (fault : LowerFault) → Explains result (lower_number fault) (lower_name fault) }
+    ensures conversions { (fault : ConvertFault) → Explains result (convert_number fault) (convert_name fault) }
+    ensures runs { (fault : NewFault) → Explains result (new_number fault) (new_name fault) }
+    ensures judges { (fault : JudgeFault) → Explains result (judge_number fault) (judge_name fault) }
+    ensures witnesses { (why : WitnessWhy) → Explains result (witness_number why) (witness_name why) }
+    ensures gates { (fault : GateFault) → Explains result (gate_number fault) (gate_name fault) }
+    ensures circuits { (fault : CircuitFault) → Explains result (fault_number fault) (fault_name fault) }
+    ensures lists { (fault : LooseFault) → Explains result (loose_fault_number fault) (loose_fault_name fault) }
+    ensures liftings { (fault : LiftFault) → Explains result (lift_number fault) (lift_name fault) }
+    ensures engines { (fault : EngineFault) → Explains result (engine_number fault) (engine_name fault) }
+    ensures counterexamples { (why : RestoreWhy) → Explains result (restore_number why) (restore_name why) }
+    ensures dumps { (fault : WaveFault) → Explains result (wave_number fault) (wave_name fault) }
+    ensures texts { (why : CircuitWhy) → Explains result (why_number why) (why_name why) }
+    ensures proofs { (why : ProofWhy) → Explains result (proof_number why) (proof_name why) }
+    ensures clauses { (fault : ClauseFault) → Explains result (clause_number fault) (clause_name fault) }
+    ensures formulas { (fault : FormulaFault) → Explains result (formula_number fault) (formula_name fault) }
+    ensures claims { (fault : ClaimFault) → Explains result (claim_number fault) (claim_name fault) }
+    ensures certificates { (fault : CertificateFault) → Explains result (certificate_number fault) (certificate_name fault) }
+{
+    [
+        Part {
+            title: "What is met most",
+            rows: often::often(),
+        },
+        Part {
+            title: "Texts of models",
+            rows: models::texts(),
+        },
+        Part {
+            title: "Items of a model",
+            rows: models::items(),
+        },
+        Part {
+            title: "Names",
+            rows: models::names(),
+        },
+        Part {
+            title: "Lowering",
+            rows: models::lowering(),
+        },
+        Part {
+            title: "Runs and judges",
+            rows: witnesses::runs(),
+        },
+        Part {
+            title: "Witnesses",
+            rows: witnesses::witness_texts(),
+        },
+        Part {
+            title: "Witnesses of circuits",
+            rows: witnesses::bit_texts(),
+        },
+        Part {
+            title: "Gate makers",
+            rows: circuits::gates(),
+        },
+        Part {
+            title: "Circuits",
+            rows: circuits::calls(),
+        },
+        Part {
+            title: "Lifting",
+            rows: witnesses::lifting(),
+        },
+        Part {
+            title: "Texts of circuits",
+            rows: circuits::texts(),
+        },
+        Part {
+            title: "Engine forms",
+            rows: circuits::engines(),
+        },
+        Part {
+            title: "Counterexamples over engine forms",
+            rows: circuits::counterexamples(),
+        },
+        Part {
+            title: "Dumps",
+            rows: witnesses::dumps(),
+        },
+        Part {
+            title: "Formulas and proofs",
+            rows: certificates::proofs(),
+        },
+        Part {
+            title: "Invariants and certificates",
+            rows: certificates::invariants(),
+        },
+    ]
+}

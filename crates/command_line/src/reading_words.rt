@@ -1,0 +1,395 @@
+//! The command line: the words that the program is given, and what they ask for.
+
+ghost use Rattle.std.specs.Prelude.{◌≡◌, IfOk, false, option_map};
+ghost use Rattle.orders.specs.Files.{names_standard_input, reads_input_twice};
+
+use crate::arguments::{file_name, flag};
+use crate::command_table::{Product, ROWS, Row, row_of};
+use crate::engine_words::{INVARIANT, PROOF, engine_properties, with_engine, with_engine_words};
+use crate::explaining::explain;
+use crate::explanations::refusal_table;
+use aigertext::Form;
+use clap::error::ErrorKind;
+use clap::{Arg, ArgAction, ArgMatches, Command, Error};
+use orders::{Named, Order, STANDARD_INPUT, STANDARD_OUTPUT, Stop, Task};
+use std::alloc::{AllocError, AllocGlobal, Global};
+use std::convert::AsStr;
+use std::env::Env;
+use std::{env, io};
+use wave::Shown;
+
+/// The program's name, with which each usage line begins.
+const PROGRAM: &str = "hwtool";
+
+/// What `--version` prints behind the program's name.
+const VERSION: &str = "0.1.0";
+
+/// The end of each help.
+const HELP_END: &str = "The file - is standard input.
+
+hwtool explain tells what a refusal means and what to do about it, as in hwtool explain 20.
+
+Limits: words of 1 to 64 bits; ids up to 4,294,967,295; 1,048,576 items and no arrays in a model; symbols of 1 to 255
+bytes from 33 to 126; 2^30 variables of a circuit, with names of 1 to 300 bytes; 2^62 lines of a witness.
+
+Formats: docs/FORMATS.md describes them, after \"Btor2, BtorMC and Boolector 3.0\" and \"AIGER 1.9 and Beyond\".
+
+Exit statuses:
+  0  the command is done, the witness is accepted, the certificate holds, all vectors agree, or help or the version is
+     shown
+  1  the witness is not accepted, the certificate does not hold, or a vector differs
+  2  the input is refused
+  3  a device failed, or memory was wanting
+  4  the words of the command line are refused";
+
+/// What is told of words that are no text.
+const NO_TEXT: &str = "words: not UTF-8\n";
+
+/// What is told of words that name standard input twice.
+const INPUT_TWICE: &str = "words: standard input is read once, so - stands for one file\n";
+
+/// What is told of words that choose both forms of a circuit.
+const TWO_FORMS: &str = "words: choose one form\n";
+
+/// The flags that choose the form of a circuit that is written.
+const ASCII: &str = "ascii";
+
+const BINARY: &str = "binary";
+
+/// The name of the second file of a command that has one.
+const WITNESS: &str = "WITNESS";
+
+/// The name of the option for the file that a result goes to.
+const OUTPUT: &str = "output";
+
+/// The flag for a dump of all nodes that have a value.
+const ALL: &str = "all";
+
+/// The flag for names.
+const NAMES: &str = "names";
+
+/// The flag that leaves out how far work is.
+const QUIET: &str = "quiet";
+
+/// The word that asks what refusals mean, and the name of the number or the name that may stand behind it.
+const EXPLAIN: &str = "explain";
+
+const REFUSAL: &str = "REFUSAL";
+
+/// The option for the file that a result goes to.
+fn output_option<'a>(alloc: Global) -> Arg<'a> {
+    Arg::new(alloc, OUTPUT)
+        .short('o')
+        .long(OUTPUT)
+        .value_name("FILE")
+        .action(ArgAction::Set)
+        .help(
+            "Write to this file, which is made or replaced only when all is written; - is standard output",
+        )
+}
+
+/// The words of a command.
+fn command_of<'a>(alloc: Global, row: &'a Row) -> Result<Command<'a>, AllocError> {
+    let (name, help) = row.file;
+    let command = Command::new(alloc, row.word)
+        .about(row.about)
+        .after_help(HELP_END)
+        .arg(file_name(alloc, name, help))?
+        .arg(flag(
+            alloc,
+            QUIET,
+            "Do not tell on a terminal how far work is that takes more than two seconds",
+        ))?;
+    let command = with_witness(alloc, command, row)?;
+    let command = with_product(alloc, command, row.product)?;
+    let command = with_shown(alloc, command, row.task)?;
+    let command = with_name_word(alloc, command, row.task)?;
+    with_engine_words(alloc, command, row.engine)
+}
+
+/// These words with that for a witness, where a command reads one.
+fn with_witness<'a>(
+    alloc: Global,
+    command: Command<'a>,
+    row: &'a Row,
+) -> Result<Command<'a>, AllocError> {
+    match row.witness {
+        Some(help) => command.arg(file_name(alloc, WITNESS, help)),
+        None => Ok(command),
+    }
+}
+
+/// These words with those for what a command writes.
+fn with_product<'a>(
+    alloc: Global,
+    command: Command<'a>,
+    product: Product,
+) -> Result<Command<'a>, AllocError> {
+    match product {
+        Product::Lines => Ok(command),
+        Product::Text => command.arg(output_option(alloc)),
+        Product::Circuit => command
+            .arg(output_option(alloc))?
+            .arg(flag(alloc, ASCII, "Write the ascii form (the default)"))?
+            .arg(flag(alloc, BINARY, "Write the binary form")),
+    }
+}
+
+/// These words with that for what a dump shows.
+fn with_shown<'a>(
+    alloc: Global,
+    command: Command<'a>,
+    task: Task,
+) -> Result<Command<'a>, AllocError> {
+    if task != Task::Wave(Shown::Named) {
+        return Ok(command);
+    }
+    command.arg(flag(
+        alloc,
+        ALL,
+        "Show every node that has a value, not only those with a symbol",
+    ))
+}
+
+/// These words with that for names, where a command knows them.
+fn with_name_word<'a>(
+    alloc: Global,
+    command: Command<'a>,
+    task: Task,
+) -> Result<Command<'a>, AllocError> {
+    match help_of_names(task) {
+        Some(help) => command.arg(flag(alloc, NAMES, help)),
+        None => Ok(command),
+    }
+}
+
+/// What help says of names, for a command that knows them.
+fn help_of_names<'a>(task: Task) -> Option<&'a str> {
+    match task {
+        Task::CheckBtor => Some(
+            "Say on standard error which line of the model the judgement is about, by its symbol and its id",
+        ),
+        Task::CheckAig => Some("Say on standard error which name the judgement is about"),
+        Task::Lift => Some(
+            "Write symbols behind words, and say on standard error which line of the model the judgement is about",
+        ),
+        Task::CheckProof(..) => Some(
+            "Say on standard error which line of the model, or name of the circuit, the bad property is that holds",
+        ),
+        _ => None,
+    }
+}
+
+/// The words that ask what refusals mean.
+fn explain_command<'a>(alloc: Global) -> Result<Command<'a>, AllocError> {
+    let refusal = Arg::new(alloc, REFUSAL).action(ArgAction::Set).help(
+        "The number or the name of a refusal; without one all are told",
+    );
+    Command::new(alloc, EXPLAIN)
+        .about("Tell what a refusal means and what to do about it")
+        .arg(refusal)
+}
+
+/// The program without its commands.
+fn program<'a>(alloc: Global) -> Result<Command<'a>, AllocError> {
+    let named = Command::new(alloc, PROGRAM).bin_name(PROGRAM)?;
+    Ok(
+        named
+            .version(VERSION)
+            .after_help(HELP_END)
+            .about(
+                "Word-level BTOR2 models to AIGER circuits, and their witnesses. Without any word: lower standard input.",
+            )
+            .subcommand_required(true),
+    )
+}
+
+/// The program with one command more.
+fn with_command<'a>(
+    alloc: Global,
+    commands: Command<'a>,
+    row: &'a Row,
+) -> Result<Command<'a>, AllocError> {
+    commands.subcommand(command_of(alloc, row)?)
+}
+
+/// The commands and their words.
+fn commands<'a>(alloc: Global) -> Result<Command<'a>, AllocError> {
+    let mut commands = program(alloc)?;
+    for row in &ROWS {
+        commands = with_command(alloc, commands, row)?;
+    }
+    commands.subcommand(explain_command(alloc)?)
+}
+
+/// The name of the file that a result goes to. Without one, and where it is `-`, it goes to standard output.
+fn output_of<'a>(words: &ArgMatches<'a>) -> Option<&'a str> {
+    match words.get_str(OUTPUT) {
+        Some(STANDARD_OUTPUT) => None,
+        name => name,
+    }
+}
+
+/// The name of the second file, where the command has one.
+fn second_of<'a>(words: &ArgMatches<'a>) -> Option<&'a str> {
+    match words.get_str(WITNESS) {
+        Some(name) => Some(name),
+        None => words.get_str(INVARIANT),
+    }
+}
+
+/// A command, where names are asked for the one that knows them.
+fn with_names(task: Task) -> Task {
+    match task {
+        Task::CheckBtor => Task::Named(Named::CheckBtor),
+        Task::CheckAig => Task::Named(Named::CheckAig),
+        Task::Lift => Task::Named(Named::Lift),
+        Task::LiftFound(choice) => Task::Named(Named::LiftFound(choice)),
+        Task::LiftForm(choice) => Task::Named(Named::LiftForm(choice)),
+        Task::CheckProof(given, choice) => Task::Named(Named::CheckProof(given, choice)),
+        task => task,
+    }
+}
+
+/// The command that words ask for, with the engine form that they ask for.
+fn task_of(task: Task, words: &ArgMatches<'_>, engine: Option<Option<usize>>) -> Task {
+    match with_engine(task, words, engine) {
+        Task::Wave(_) if words.get_flag(ALL) => Task::Wave(Shown::All),
+        task if words.get_flag(NAMES) => with_names(task),
+        task => task,
+    }
+}
+
+/// The order that the words of a command name, with the engine form that they ask for.
+fn order_of<'a>(
+    word: &str,
+    words: &ArgMatches<'a>,
+    engine: Option<Option<usize>>,
+) -> Option<Order<'a>> {
+    let row = row_of(word)?;
+    let (name, _) = row.file;
+    Some(Order {
+        task: task_of(row.task, words, engine),
+        form: if words.get_flag(BINARY) {
+            Form::Binary
+        } else {
+            Form::Ascii
+        },
+        first: words.get_str(name)?,
+        second: second_of(words),
+        third: words.get_str(PROOF),
+        output: output_of(words),
+        tells_progress: !words.get_flag(QUIET),
+    })
+}
+
+/// Whether there is a name of a file, and it stands for standard input.
+fn names_standard_input(name: Option<&str>) -> bool
+    ensures { result ≡ names_standard_input (option_map (λ name. name.now) name.entry) }
+{
+    match name {
+        Some(name) => name == STANDARD_INPUT,
+        None => false,
+    }
+}
+
+/// Whether a command would read standard input twice.
+fn reads_input_twice(order: &Order<'_>) -> bool
+    ensures { result ≡ reads_input_twice order.now.first.now (option_map (λ name. name.now) order.now.second) (option_map (λ name. name.now) order.now.third) }
+{
+    let first = order.first == STANDARD_INPUT;
+    let second = names_standard_input(order.second);
+    let third = names_standard_input(order.third);
+    (first && (second || third)) || (second && third)
+}
+
+/// What stands in place of a command where words are refused with a line of this program's own.
+pub(crate) fn refused(alloc: Global, line: &str) -> Stop {
+    match String::from_str(alloc, line) {
+        Ok(text) => Stop::refused(text),
+        Err(_) => Stop::no_memory(alloc),
+    }
+}
+
+/// The order that the words of a command give, or what stands in its place.
+fn order_or_stop<'a>(alloc: Global, word: &str, words: &ArgMatches<'a>) -> Result<Order<'a>, Stop>
+    ensures { IfOk result (λ order. reads_input_twice order.first.now (option_map (λ name. name.now) order.second) (option_map (λ name. name.now) order.third) ≡ false) }
+{
+    if word == EXPLAIN {
+        return Err(explain(alloc, &refusal_table(), words.get_str(REFUSAL)));
+    }
+    if words.get_flag(ASCII) && words.get_flag(BINARY) {
+        return Err(refused(alloc, TWO_FORMS));
+    }
+    let engine = match engine_properties(word, words) {
+        Ok(engine) => engine,
+        Err(line) => return Err(refused(alloc, line)),
+    };
+    match order_of(word, words, engine) {
+        Some(order) if reads_input_twice(&order) => Err(refused(alloc, INPUT_TWICE)),
+        Some(order) => Ok(order),
+        None => Err(Stop::no_memory(alloc)),
+    }
+}
+
+/// What stands in place of a command that the parser does not find.
+fn stop_of(alloc: Global, error: &Error) -> Stop {
+    if error.kind() == ErrorKind::OutOfMemory {
+        return Stop::no_memory(alloc);
+    }
+    match format!(in alloc; "{error}") {
+        Ok(text) if error.use_stderr() => Stop::refused(text),
+        Ok(text) => Stop::shown(text),
+        Err(_) => Stop::no_memory(alloc),
+    }
+}
+
+/// The words after the program's name.
+///
+/// Errors: a `Stop` with status 4 where a word is no text, that is, not UTF-8; with 3 where there was no memory to copy
+/// them.
+pub fn given_words<R: Env + AllocGlobal>(rt: &R) -> Result<Vec<String>, Stop> {
+    let alloc = rt.alloc();
+    match env::args(rt) {
+        Ok(words) => words
+            .skip(1)
+            .collect(alloc)
+            .map_err(|_| Stop::no_memory(alloc)),
+        Err(error) if error.kind() == io::ErrorKind::InvalidData => Err(refused(alloc, NO_TEXT)),
+        Err(_) => Err(Stop::no_memory(alloc)),
+    }
+}
+
+/// Reads the words after the program's name. Without any it is `lower` on standard input.
+///
+/// Errors: a `Stop` with status 0 and the text of help, of the version or of what refusals mean; with 4 where the words
+/// are no command, also where they name standard input twice, which can be read once, choose both forms of a circuit, or a
+/// bad property of no engine form;
+/// with 3 where there was no memory.
+pub fn order<'a, S: AsStr>(alloc: Global, words: &'a [S]) -> Result<Order<'a>, Stop>
+    // standard input is read once
+    ensures { IfOk result (λ order. reads_input_twice order.first.now (option_map (λ name. name.now) order.second) (option_map (λ name. name.now) order.third) ≡ false) }
+{
+    if words.is_empty() {
+        return Ok(Order {
+            task: Task::Lower,
+            form: Form::Ascii,
+            first: STANDARD_INPUT,
+            second: None,
+            third: None,
+            output: None,
+            tells_progress: true,
+        });
+    }
+    let command = match commands(alloc) {
+        Ok(command) => command.no_binary_name(true),
+        Err(_) => return Err(Stop::no_memory(alloc)),
+    };
+    match command.try_get_matches_from(words) {
+        Ok(matches) => match matches.subcommand() {
+            Some((word, words)) => order_or_stop(alloc, word, words),
+            None => Err(Stop::no_memory(alloc)),
+        },
+        Err(error) => Err(stop_of(alloc, &error)),
+    }
+}

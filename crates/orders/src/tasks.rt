@@ -1,0 +1,150 @@
+//! Commands, and what stands in their place.
+
+ghost use Rattle.std.specs.Prelude.{◌≡◌, []};
+ghost use Rattle.std.specs.String.{string_bytes};
+
+use crate::statuses::{DEVICE, DONE, WORDS_REFUSED};
+use aigertext::Form;
+use std::alloc::Global;
+use wave::Shown;
+
+/// The file name that stands for standard input.
+pub const STANDARD_INPUT: &str = "-";
+
+/// The name of a result's file that stands for standard output.
+pub const STANDARD_OUTPUT: &str = "-";
+
+/// The commands that can say by name what their judgements are about.
+#[derive(Clone, Copy, PartialEq, Eq)]
+pub enum Named {
+    /// Judges a witness over a model.
+    CheckBtor,
+    /// Judges a witness over a circuit.
+    CheckAig,
+    /// Lifts a witness of a model's circuit to one of the model, with names behind words.
+    Lift,
+    /// Lifts a counterexample in the form that ABC writes over the engine form of a model's circuit to a witness of the model,
+    /// with names behind words; it claims the bad property at a position of the circuit, or the only one.
+    LiftFound(Option<usize>),
+    /// Lifts a witness of the engine form of a model's circuit, with all bad properties or with the one at a position, to a
+    /// witness of the model, with names behind words.
+    LiftForm(Option<usize>),
+    /// Judges a certificate, an invariant and a proof, of a bad property of what is given: of the one at a position, or of the
+    /// only one.
+    CheckProof(Given, Option<usize>),
+}
+
+/// What the first file of a command on certificates gives.
+#[derive(Clone, Copy, PartialEq, Eq)]
+pub enum Given {
+    /// A model, which is lowered.
+    Model,
+    /// A circuit.
+    Circuit,
+}
+
+/// The commands.
+#[derive(Clone, Copy, PartialEq, Eq)]
+pub enum Task {
+    /// Lowers a model to a circuit.
+    Lower,
+    /// Lowers a model, and writes the engine form of its circuit: with all bad properties, or with the one at a position.
+    LowerForEngines(Option<usize>),
+    /// Judges a witness over a model.
+    CheckBtor,
+    /// Writes a model's text in the writer's form.
+    Show,
+    /// Tells how many gates and variables the lowering of a model has at most.
+    Cost,
+    /// Writes a circuit in a form.
+    AigConvert,
+    /// Writes the engine form of a circuit, with all bad properties or with the one at a position.
+    ConvertForEngines(Option<usize>),
+    /// Judges a witness over a circuit.
+    CheckAig,
+    /// Lifts a witness of a model's circuit to one of the model.
+    Lift,
+    /// Restores a counterexample over the engine form of a circuit, in the form that ABC writes, to a witness of the circuit;
+    /// it claims the bad property at a position of the circuit, or the only one.
+    Restore(Option<usize>),
+    /// Restores a witness of the engine form of a circuit, with all bad properties or with the one at a position, to a witness
+    /// of the circuit.
+    RestoreForm(Option<usize>),
+    /// Lifts a counterexample in the form that ABC writes over the engine form of a model's circuit to a witness of the model.
+    LiftFound(Option<usize>),
+    /// Lifts a witness of the engine form of a model's circuit, with all bad properties or with the one at a position, to a
+    /// witness of the model.
+    LiftForm(Option<usize>),
+    /// Judges a witness over a model, and dumps its frames.
+    Wave(Shown),
+    /// Judges a witness, and says by name what the judgement is about.
+    Named(Named),
+    /// Judges vectors of operators.
+    Vectors,
+    /// Writes the formula that an invariant owes for a bad property of what is given: for the one at a position, or for the
+    /// only one.
+    Obligation(Given, Option<usize>),
+    /// Judges a certificate, an invariant and a proof of the formula that it owes.
+    CheckProof(Given, Option<usize>),
+}
+
+/// A command, the form of the circuits that it writes, and the names of its files.
+#[derive(Clone, Copy)]
+pub struct Order<'a> {
+    /// The command.
+    pub task: Task,
+    /// The form of a circuit that is written.
+    pub form: Form,
+    /// The name of the first file; `-` is standard input.
+    pub first: &'a str,
+    /// The name of the second file, for a command that has one; `-` is standard input.
+    pub second: Option<&'a str>,
+    /// The name of the third file, for a command that has one; `-` is standard input.
+    pub third: Option<&'a str>,
+    /// The name of the file that the result goes to; without one it goes to standard output.
+    pub output: Option<&'a str>,
+    /// Whether it is told how far work is that takes long.
+    pub tells_progress: bool,
+}
+
+/// What stands in place of a command: help or the version, refused words, or want of memory while the words are read.
+#[derive(Drop)]
+pub struct Stop {
+    /// The exit status, where the text can be written: 0 for help and the version, 4 for refused words, 3 where there was
+    /// no memory.
+    pub status: u8,
+    /// The text, whole lines; none where there was no memory.
+    pub text: String,
+}
+
+impl Stop {
+    /// Help or the version: the text goes to standard output.
+    pub fn shown(text: String) -> Stop
+        ensures status { result.status ≡ 0 }
+        ensures text { result.text ≡ text }
+    {
+        Stop { status: DONE, text }
+    }
+
+    /// Refused words: the text goes to standard error.
+    pub fn refused(text: String) -> Stop
+        ensures status { result.status ≡ 4 }
+        ensures text { result.text ≡ text }
+    {
+        Stop {
+            status: WORDS_REFUSED,
+            text,
+        }
+    }
+
+    /// There was no memory to read the words, and none for a text.
+    pub fn no_memory(alloc: Global) -> Stop
+        ensures status { result.status ≡ 3 }
+        ensures text { string_bytes result.text ≡ [] }
+    {
+        Stop {
+            status: DEVICE,
+            text: String::new(alloc),
+        }
+    }
+}
