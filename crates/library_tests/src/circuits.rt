@@ -103,12 +103,22 @@ fn each_call_with_ample_memory(rt: HostRuntime) -> Result<(), Fail> {
 /// Numbers of inputs and of latches that are too many together.
 const TOO_MANY: [(u32, u32); 3] = [(1_073_741_825, 0), (1_073_741_824, 1), (u32::MAX, u32::MAX)];
 
+/// Whether a circuit of so many inputs and latches is refused as too big.
+fn is_too_big(alloc: Global, inputs: u32, latches: u32) -> bool {
+    matches!(
+        Circuit::new(alloc, inputs, latches),
+        Err(CircuitFault::TooBig)
+    )
+}
+
 #[test]
-fn too_many_variables(rt: HostRuntime) {
+fn too_many_variables(rt: HostRuntime) -> Result<(), Fail> {
     for (inputs, latches) in &TOO_MANY {
-        let fault = Circuit::new(rt.alloc(), *inputs, *latches).err();
-        assert!(rt; fault == Some(CircuitFault::TooBig), "{inputs} {latches}");
+        if !is_too_big(rt.alloc(), *inputs, *latches) {
+            Err("so many inputs and latches are not refused")?;
+        }
     }
+    Ok(())
 }
 
 /// Calls that are refused on a circuit of an input with a name and a latch, and their faults.
