@@ -1,11 +1,11 @@
 -- A plain line at the front of a text, digit by digit and part by part.
-use Rattle.std.proofs.Common.{◌≡◌, ◌⊎◌, ℕ, zero, suc, ◌+◌, ◌-◌, ◌*◌, ◌/◌, ◌%◌, ◌<◌, ◌≤◌, ◌^◌, ◌==◌, Bool, true, false, List, [], ◌∷◌, ◌++◌, Option, Some, None, IfSome, length, map, reverse, get_or, slice_index, take, drop, decimal, append_assoc, length-append, inl, inr, refl, sym, ap, ap₂, subst, ◌∙◌, arith, not, ◌&&◌, nat_le, MatchOption}
+use Rattle.std.proofs.Common.{◌≡◌, ◌⊎◌, ℕ, zero, suc, ◌+◌, ◌-◌, ◌*◌, ◌/◌, ◌%◌, ◌<◌, ◌≤◌, ◌^◌, ◌==◌, Bool, true, false, List, [], ◌∷◌, ◌++◌, Option, Some, None, IfSome, length, map, reverse, get_or, slice_index, take, drop, decimal, append_assoc, length-append, inl, inr, refl, sym, ap, ap₂, subst, ◌∙◌, arith, not, ◌&&◌, nat_le, MatchOption, option_map, cond, slice_get, ◌≢◌}
 use Rattle.std.specs.List.{list_any, list_all, position, position_from}
 use Rattle.std.proofs.Math.Nat.{pow-suc, pow-le-pow_right}
 use Rattle.std.proofs.lemmas.Bool.{cases_Bool, cases_lt, eqb-false, or_parts, and_parts, and_from}
 use Rattle.std.proofs.lemmas.Fmt.{decimal_digit, decimal_step, decimal_nonempty, first_decimal, length-decimal-le, decimal_injective}
 use Rattle.std.proofs.lemmas.List.{take_more, get_or-take, get_or_at, get_or_append_left, length-take, length-map, length-reverse, take-append-le, drop-append-le, take_all, drop_all, take-append-drop}
-use Rattle.std.proofs.lemmas.List.Folds.{list_all_at}
+use Rattle.std.proofs.lemmas.List.Folds.{list_all_at, list_all-append}
 use Rattle.base.specs.Decimals.{is_digit}
 use Rattle.base.specs.Lines.{HasNone}
 use Rattle.base.specs.Word.{bits}
@@ -16,13 +16,14 @@ use Rattle.witness.specs.Texts.{digit, binary, symbol_part}
 use Rattle.witness.specs.Fits.{is_set}
 use Rattle.witness.specs.BitScans.{is_bit}
 use Rattle.witness.specs.WordValues.{IsKnown}
-use Rattle.witness.specs.PlainLines.{BeginsName, NoName, BeginsWord, BeginsAssignment}
+use Rattle.witness.specs.PlainLines.{NoNumber, BeginsName, NoName, BeginsWord, BeginsAssignment}
 use Rattle.witness.proofs.PieceLemmas.{decimal_digits, decimal_without, IsBinary, value_is_binary}
 use Rattle.witness.proofs.WordValueLemmas.{value_known}
 use Rattle.std.proofs.Math.Bool.{and-true}
 use Rattle.std.proofs.Math.Seq.{drop-append_seam, take-append_seam}
 use Rattle.std.proofs.lemmas.List.Quantifiers.{position-Some}
 use Rattle.std.proofs.lemmas.Iterator.Adapters.{position_from-zero}
+use Rattle.std.proofs.lemmas.Option.{slice_get-get_or}
 
 -- a byte is a digit from 0 to 9
 abbrev pub IsDigit : ℕ → Type 0
@@ -127,6 +128,18 @@ module _ (text rest : List ℕ) (end n : ℕ) (few : n < 10 ^ 19) (is : text ≡
             ]
       ]
 
+-- the first bytes are a number, and no digit more of it stands behind them
+pub number_ends : {A : Type 0} (o : Option (ℕ × A)) (view : A → List ℕ) (text : List ℕ) (end at value : ℕ) → end < 48 → 0 < at → value < 2 ^ 64 → IsRead text at value → (at < length text → IsDigit (get_or text at 0) → 0 < value → at < 19 → ⊥)
+    → MatchOption o (slice_get text at ≢ Some end) (λ x. (x.0 ≡ value) × (text ≡ take at text ++ end ∷ view x.1)) → MatchOption o (NoNumber end text) (λ x. (x.0 < 2 ^ 64) × (text ≡ decimal x.0 ++ end ∷ view x.1))
+number_ends None view text end at value low some small read stops told = λ n rest few is.
+    let there = next_there text rest end n few is at value low some read.digits small in
+    elim (there.1) [
+      | inl same ↦ told (slice_get-get_or text at 0 there.0 ∙ ap (λ (b : ℕ). Some b) same)
+      | inr more ↦ stops there.0 more.0 more.1 more.2
+    ]
+number_ends (Some x) view text end at value low some small read stops told =
+    (subst (λ (n : ℕ). n < 2 ^ 64) (sym told.0) small, told.1 ∙ ap (λ (l : List ℕ). l ++ end ∷ view x.1) (read.digits ∙ ap decimal (sym told.0)))
+
 -- the digits of a word, and a name behind them or none
 pub word_begins : (width x : ℕ) (text digits behind rest : List ℕ) → text ≡ digits ++ behind → length digits ≡ width → IsKnown x digits → BeginsName behind rest → BeginsWord width text x rest
 word_begins width x text digits behind rest is long known name =
@@ -202,11 +215,41 @@ name_bytes : (name : List ℕ) → is_symbol name ≡ true → list_all is_print
 name_bytes [] h = absurd cc
 name_bytes (b ∷ name) h = (and_parts (nat_le (length (b ∷ name)) 255) (list_all is_printed (b ∷ name)) (and_parts (not (b == 59)) (nat_le (length (b ∷ name)) 255 && list_all is_printed (b ∷ name)) h).1).1
 
-ends_from : (n : ℕ) (name rest : List ℕ) → list_all is_printed name ≡ true → position_from is_other n (name ++ 10 ∷ rest) ≡ Some (n + length name)
-ends_from n [] rest all = ap (λ (m : ℕ). Some m) (omega arith)
-ends_from n (b ∷ name) rest all =
-    let parts = and_parts (is_printed b) (list_all is_printed name) all in
-    rw parts.0 (ends_from (n + 1) name rest parts.1 ∙ ap (λ (m : ℕ). Some m) (omega arith))
+-- behind bytes of names the first that is none stands later by as many
+pub other_behind : (n : ℕ) (front rest : List ℕ) → list_all is_printed front ≡ true → position_from is_other n (front ++ rest) ≡ position_from is_other (n + length front) rest
+other_behind n [] rest all = ap (λ (m : ℕ). position_from is_other m rest) (omega arith)
+other_behind n (b ∷ front) rest all =
+    let parts = and_parts (is_printed b) (list_all is_printed front) all in
+    rw parts.0 (other_behind (n + 1) front rest parts.1 ∙ ap (λ (m : ℕ). position_from is_other m rest) (omega arith))
+
+later_by : (n m : ℕ) (rest : List ℕ) → position_from is_other (m + n) rest ≡ option_map (λ k. n + k) (position_from is_other m rest)
+later_by n m [] = refl
+later_by n m (b ∷ rest) =
+    elim (is_other b) as (λ t. cond t (Some (m + n)) (position_from is_other (m + n + 1) rest) ≡ option_map (λ k. n + k) (cond t (Some m) (position_from is_other (m + 1) rest))) [
+      | true ↦ ap (λ (k : ℕ). Some k) (omega arith)
+      | false ↦ ap (λ (k : ℕ). position_from is_other k rest) (omega arith) ∙ later_by n (m + 1) rest
+    ]
+
+pub position_behind : (text front rest : List ℕ) → text ≡ front ++ rest → list_all is_printed front ≡ true → option_map (λ k. length front + k) (position is_other rest) ≡ position is_other text
+position_behind text front rest is all =
+    sym
+    (ap (position is_other) is
+    ∙ (position_from-zero is_other (front ++ rest)
+    ∙ (other_behind 0 front rest all
+    ∙ (later_by (length front) 0 rest ∙ ap (option_map (λ k. length front + k)) (sym (position_from-zero is_other rest))))))
+
+-- eight bytes more
+pub eight_behind : (text front eight behind rest : List ℕ) (before : ℕ) → text ≡ front ++ rest → length front ≡ before → list_all is_printed front ≡ true → eight ≡ take 8 rest → behind ≡ drop 8 rest → length behind + 8 ≡ length rest → list_all is_printed eight ≡ true
+    → (more : List ℕ) × ((text ≡ more ++ behind) × (length more ≡ before + 8) × (list_all is_printed more ≡ true))
+eight_behind text front eight behind rest before is long all first others many printed =
+    let split : rest ≡ eight ++ behind = sym (ap₂ (λ (l r : List ℕ). l ++ r) first others ∙ take-append-drop 8 rest) in (
+      front ++ eight,
+      (
+        is ∙ (ap (λ (l : List ℕ). front ++ l) split ∙ sym (append_assoc front eight behind)),
+        length-append front eight ∙ omega (arith, long, ap length first, length-take 8 rest, many),
+        list_all-append is_printed front eight ∙ and_from (list_all is_printed front) (list_all is_printed eight) all printed,
+      ),
+    )
 
 front_printed : (text : List ℕ) (n : ℕ) → ((k : ℕ) → k < n → is_other (get_or text k 0) ≡ false) → list_all is_printed (take n text) ≡ true
 front_printed text zero before = refl
@@ -224,7 +267,7 @@ name_there text rest begins =
       | inl is ↦ absurd (omega (arith, ap (λ (l : List ℕ). get_or l 0 0) is))
       | inr parts ↦
           let is : text ≡ parts.0 ++ 10 ∷ rest = tail_same 32 32 text (parts.0 ++ 10 ∷ rest) parts.1.0 in
-          let ends = position_from-zero is_other (parts.0 ++ 10 ∷ rest) ∙ (ends_from 0 parts.0 rest (name_bytes parts.0 parts.1.1) ∙ ap (λ (m : ℕ). Some m) (omega arith)) in
+          let ends = position_from-zero is_other (parts.0 ++ 10 ∷ rest) ∙ (other_behind 0 parts.0 (10 ∷ rest) (name_bytes parts.0 parts.1.1) ∙ ap (λ (m : ℕ). Some m) (omega arith)) in
           (parts.0, (is, parts.1.1, ap (position is_other) is ∙ ends))
     ]
 
