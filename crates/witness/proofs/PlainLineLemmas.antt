@@ -25,17 +25,14 @@ use Rattle.std.proofs.lemmas.List.Quantifiers.{position-Some}
 use Rattle.std.proofs.lemmas.Iterator.Adapters.{position_from-zero}
 use Rattle.std.proofs.lemmas.Option.{slice_get-get_or}
 
--- a byte is a digit from 0 to 9
-abbrev pub IsDigit : ℕ → Type 0
-IsDigit b = (48 ≤ b) × (b ≤ 57)
-
 -- a digit's byte
 byte_back : (b : ℕ) → 48 ≤ b → 48 + (b - 48) ≡ b
 byte_back b h = omega arith
 
 -- a number with a digit more
-with_digit : (v b : ℕ) → IsDigit b → 0 < v → v < 10 ^ 18 → decimal (v * 10 + (b - 48)) ≡ decimal v ++ b ∷ []
-with_digit v b digit some room =
+with_digit : (v b : ℕ) → is_digit b ≡ true → 0 < v → v < 10 ^ 18 → decimal (v * 10 + (b - 48)) ≡ decimal v ++ b ∷ []
+with_digit v b is some room =
+    let digit = digit_range b is in
     let n : ℕ = v * 10 + (b - 48) in
     let front : n / 10 ≡ v = omega (arith, digit) in
     let last : 48 + n % 10 ≡ b = omega (arith, digit) in
@@ -46,8 +43,9 @@ pub record IsRead (text : List ℕ) (at value : ℕ) : Type 0 where
   pub digits : take at text ≡ decimal value
   pub small : value < 10 ^ at
 
-pub read_first : (text rest : List ℕ) (first : ℕ) → text ≡ first ∷ rest → IsDigit first → IsRead text 1 (first - 48)
-read_first text rest first is digit =
+pub read_first : (text rest : List ℕ) (first : ℕ) → text ≡ first ∷ rest → is_digit first ≡ true → IsRead text 1 (first - 48)
+read_first text rest first is told =
+    let digit = digit_range first told in
     record {
       digits = ap (take 1) is ∙ (ap (λ (b : ℕ). b ∷ []) (sym (byte_back first digit.0)) ∙ sym (decimal_digit (first - 48) (omega (arith, digit))));
       small = omega (arith, digit);
@@ -59,21 +57,21 @@ room text at value read few =
     let power : 10 ^ at ≤ 10 ^ 18 = pow-le-pow_right {n = 10} (omega arith) {i = at} {j = 18} (omega (arith, few)) in
     omega (arith, power, read.small)
 
-pub read_more : (text : List ℕ) (at value : ℕ) → IsRead text at value → at < length text → IsDigit (get_or text at 0) → 0 < value → at < 19 → IsRead text (at + 1) (value * 10 + (get_or text at 0 - 48))
+pub read_more : (text : List ℕ) (at value : ℕ) → IsRead text at value → at < length text → is_digit (get_or text at 0) ≡ true → 0 < value → at < 19 → IsRead text (at + 1) (value * 10 + (get_or text at 0 - 48))
 read_more text at value read lt digit some few =
     let power : 10 ^ suc at ≡ 10 ^ at * 10 = pow-suc 10 at in
     let same : 10 ^ (at + 1) ≡ 10 ^ suc at = ap (λ (n : ℕ). 10 ^ n) (omega arith) in
     record {
       digits = take_more text at 0 lt ∙ ap (λ (ds : List ℕ). ds ++ get_or text at 0 ∷ []) read.digits ∙ sym (with_digit value (get_or text at 0) digit some (room text at value read few));
-      small = omega (arith, power, same, read.small, digit);
+      small = omega (arith, power, same, read.small, digit_range (get_or text at 0) digit);
     }
 
 -- ---- a text that begins with a decimal and a byte that is no digit
 
-digit_there : (n k : ℕ) → n < 2 ^ 64 → k < length (decimal n) → IsDigit (get_or (decimal n) k 0)
+digit_there : (n k : ℕ) → n < 2 ^ 64 → k < length (decimal n) → is_digit (get_or (decimal n) k 0) ≡ true
 digit_there n k small lt =
     elim (cases_Bool (is_digit (get_or (decimal n) k 0))) [
-      | inl e ↦ digit_range (get_or (decimal n) k 0) e
+      | inl e ↦ e
       | inr e ↦ absurd (cc (list_all_at is_digit (decimal n) k 0 lt e, decimal_digits n small))
     ]
 
@@ -90,10 +88,10 @@ module _ (text rest : List ℕ) (end n : ℕ) (few : n < 10 ^ 19) (is : text ≡
   end_there : get_or text (length (decimal n)) 0 ≡ end
   end_there = ap (λ (l : List ℕ). get_or l (length (decimal n)) 0) is ∙ get_or_at (decimal n) end rest 0 (length (decimal n)) refl
 
-  pub first_there : (0 < length text) × IsDigit (get_or text 0 0)
+  pub first_there : (0 < length text) × (is_digit (get_or text 0 0) ≡ true)
   first_there =
       let some = decimal_nonempty n small_number in
-      (omega (arith, long_text), subst IsDigit (sym (byte_there 0 some)) (digit_there n 0 small_number some))
+      (omega (arith, long_text), ap is_digit (byte_there 0 some) ∙ digit_there n 0 small_number some)
 
   -- a byte `0` begins no more than itself
   not_zero : (at value : ℕ) → 0 < at → at < length (decimal n) → take at text ≡ decimal value → 0 < value
@@ -110,18 +108,18 @@ module _ (text rest : List ℕ) (end n : ℕ) (few : n < 10 ^ 19) (is : text ≡
 
   -- where its first bytes are a number, the next is the byte behind it or a digit more
   pub next_there : (at value : ℕ) → end < 48 → 0 < at → take at text ≡ decimal value → value < 2 ^ 64
-      → (at < length text) × ((get_or text at 0 ≡ end) ⊎ (IsDigit (get_or text at 0) × (0 < value) × (at < 19)))
+      → (at < length text) × ((get_or text at 0 ≡ end) ⊎ ((is_digit (get_or text at 0) ≡ true) × (0 < value) × (at < 19)))
   next_there at value low some read small =
       let most : length (decimal n) ≤ 19 = length-decimal-le 19 n (omega arith) few small_number in
       elim (cases_lt at (length (decimal n))) [
         | inl inside ↦
-            (omega (arith, long_text, inside), inr (subst IsDigit (sym (byte_there at inside)) (digit_there n at small_number inside), not_zero at value some inside read, omega (arith, most, inside)))
+            (omega (arith, long_text, inside), inr (ap is_digit (byte_there at inside) ∙ digit_there n at small_number inside, not_zero at value some inside read, omega (arith, most, inside)))
         | inr not_inside ↦
             elim (cases_lt (length (decimal n)) at) [
               | inl past ↦
                   let same : get_or (decimal value) (length (decimal n)) 0 ≡ end = ap (λ (l : List ℕ). get_or l (length (decimal n)) 0) (sym read) ∙ (get_or-take at text (length (decimal n)) 0 past ∙ end_there) in
                   let within : length (decimal n) < length (decimal value) = omega (arith, ap length read, length-take at text, long_text, past) in
-                  absurd (omega (arith, digit_there value (length (decimal n)) small within, same, low))
+                  absurd (omega (arith, digit_range (get_or (decimal value) (length (decimal n)) 0) (digit_there value (length (decimal n)) small within), same, low))
               | inr not_past ↦
                   let at_end : length (decimal n) ≡ at = omega (arith, not_inside, not_past) in
                   (omega (arith, long_text, at_end), inl (subst (λ (k : ℕ). get_or text k 0 ≡ end) at_end end_there))
@@ -129,7 +127,7 @@ module _ (text rest : List ℕ) (end n : ℕ) (few : n < 10 ^ 19) (is : text ≡
       ]
 
 -- the first bytes are a number, and no digit more of it stands behind them
-pub number_ends : {A : Type 0} (o : Option (ℕ × A)) (view : A → List ℕ) (text : List ℕ) (end at value : ℕ) → end < 48 → 0 < at → value < 2 ^ 64 → IsRead text at value → (at < length text → IsDigit (get_or text at 0) → 0 < value → at < 19 → ⊥)
+pub number_ends : {A : Type 0} (o : Option (ℕ × A)) (view : A → List ℕ) (text : List ℕ) (end at value : ℕ) → end < 48 → 0 < at → value < 2 ^ 64 → IsRead text at value → (at < length text → is_digit (get_or text at 0) ≡ true → 0 < value → at < 19 → ⊥)
     → MatchOption o (slice_get text at ≢ Some end) (λ x. (x.0 ≡ value) × (text ≡ take at text ++ end ∷ view x.1)) → MatchOption o (NoNumber end text) (λ x. (x.0 < 2 ^ 64) × (text ≡ decimal x.0 ++ end ∷ view x.1))
 number_ends None view text end at value low some small read stops told = λ n rest few is.
     let there = next_there text rest end n few is at value low some read.digits small in

@@ -4,6 +4,7 @@ ghost use Rattle.std.specs.List.{list_all, position};
 ghost use Rattle.btor2.specs.Symbols.{is_printed, is_symbol};
 ghost use Rattle.witness.specs.PlainLines.{NoNumber, NoFrameLine, BeginsName, NoName, BeginsWord, NoWord, BeginsAssignment, NoAssignment};
 
+use crate::bit_scan::is_digit;
 use crate::given::Given;
 use crate::word_value::known_word;
 use base::Width;
@@ -31,17 +32,17 @@ fn number_before(text: &[u8], end: u8) -> Option<(u64, &[u8])>
     ensures { MatchOption result (NoNumber end text.now) (λ x. (x.0 < 2 ^ 64) × (text.now ≡ decimal x.0 ++ end ∷ x.1.now)) }
 {
     let (first, _) = text.split_first()?;
-    if *first < b'0' || *first > b'9' {
+    if !is_digit(*first) {
         return None;
     }
     let mut value = u64::from(*first - b'0');
     if value == 0 {
-        return ended(text, 1, value, end);
+        return ended(text, 1, 0, end);
     }
     let most = text.len().min(MOST_DIGITS);
     for at in 1..most {
         let byte = text[at];
-        if byte < b'0' || byte > b'9' {
+        if !is_digit(byte) {
             return ended(text, at, value, end);
         }
         value = value * 10 + u64::from(byte - b'0');
