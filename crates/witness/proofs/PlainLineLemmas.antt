@@ -1,11 +1,11 @@
 -- A plain line at the front of a text, digit by digit and part by part.
-use Rattle.std.proofs.Common.{◌≡◌, ◌⊎◌, ℕ, zero, suc, ◌+◌, ◌-◌, ◌*◌, ◌/◌, ◌%◌, ◌<◌, ◌≤◌, ◌^◌, ◌==◌, Bool, true, false, List, [], ◌∷◌, ◌++◌, Option, Some, None, IfSome, length, map, reverse, get_or, slice_index, take, drop, decimal, append_assoc, length-append, inl, inr, refl, sym, ap, ap₂, subst, ◌∙◌, arith, not, ◌&&◌, nat_le, MatchOption}
+use Rattle.std.proofs.Common.{◌≡◌, ◌⊎◌, ℕ, zero, suc, ◌+◌, ◌-◌, ◌*◌, ◌/◌, ◌%◌, ◌<◌, ◌≤◌, ◌^◌, ◌==◌, Bool, true, false, List, [], ◌∷◌, ◌++◌, Option, Some, None, IfSome, length, map, reverse, get_or, slice_index, take, drop, decimal, append_assoc, length-append, inl, inr, refl, sym, ap, ap₂, subst, ◌∙◌, arith, not, ◌&&◌, nat_le, MatchOption, option_map, cond, slice_get, ◌≢◌}
 use Rattle.std.specs.List.{list_any, list_all, position, position_from}
 use Rattle.std.proofs.Math.Nat.{pow-suc, pow-le-pow_right}
 use Rattle.std.proofs.lemmas.Bool.{cases_Bool, cases_lt, eqb-false, or_parts, and_parts, and_from}
 use Rattle.std.proofs.lemmas.Fmt.{decimal_digit, decimal_step, decimal_nonempty, first_decimal, length-decimal-le, decimal_injective}
 use Rattle.std.proofs.lemmas.List.{take_more, get_or-take, get_or_at, get_or_append_left, length-take, length-map, length-reverse, take-append-le, drop-append-le, take_all, drop_all, take-append-drop}
-use Rattle.std.proofs.lemmas.List.Folds.{list_all_at}
+use Rattle.std.proofs.lemmas.List.Folds.{list_all_at, list_all-append}
 use Rattle.base.specs.Decimals.{is_digit}
 use Rattle.base.specs.Lines.{HasNone}
 use Rattle.base.specs.Word.{bits}
@@ -16,25 +16,23 @@ use Rattle.witness.specs.Texts.{digit, binary, symbol_part}
 use Rattle.witness.specs.Fits.{is_set}
 use Rattle.witness.specs.BitScans.{is_bit}
 use Rattle.witness.specs.WordValues.{IsKnown}
-use Rattle.witness.specs.PlainLines.{BeginsName, NoName, BeginsWord, BeginsAssignment}
+use Rattle.witness.specs.PlainLines.{NoNumber, BeginsName, NoName, BeginsWord, BeginsAssignment}
 use Rattle.witness.proofs.PieceLemmas.{decimal_digits, decimal_without, IsBinary, value_is_binary}
 use Rattle.witness.proofs.WordValueLemmas.{value_known}
 use Rattle.std.proofs.Math.Bool.{and-true}
 use Rattle.std.proofs.Math.Seq.{drop-append_seam, take-append_seam}
 use Rattle.std.proofs.lemmas.List.Quantifiers.{position-Some}
 use Rattle.std.proofs.lemmas.Iterator.Adapters.{position_from-zero}
-
--- a byte is a digit from 0 to 9
-abbrev pub IsDigit : ℕ → Type 0
-IsDigit b = (48 ≤ b) × (b ≤ 57)
+use Rattle.std.proofs.lemmas.Option.{slice_get-get_or}
 
 -- a digit's byte
 byte_back : (b : ℕ) → 48 ≤ b → 48 + (b - 48) ≡ b
 byte_back b h = omega arith
 
 -- a number with a digit more
-with_digit : (v b : ℕ) → IsDigit b → 0 < v → v < 10 ^ 18 → decimal (v * 10 + (b - 48)) ≡ decimal v ++ b ∷ []
-with_digit v b digit some room =
+with_digit : (v b : ℕ) → is_digit b ≡ true → 0 < v → v < 10 ^ 18 → decimal (v * 10 + (b - 48)) ≡ decimal v ++ b ∷ []
+with_digit v b is some room =
+    let digit = digit_range b is in
     let n : ℕ = v * 10 + (b - 48) in
     let front : n / 10 ≡ v = omega (arith, digit) in
     let last : 48 + n % 10 ≡ b = omega (arith, digit) in
@@ -45,8 +43,9 @@ pub record IsRead (text : List ℕ) (at value : ℕ) : Type 0 where
   pub digits : take at text ≡ decimal value
   pub small : value < 10 ^ at
 
-pub read_first : (text rest : List ℕ) (first : ℕ) → text ≡ first ∷ rest → IsDigit first → IsRead text 1 (first - 48)
-read_first text rest first is digit =
+pub read_first : (text rest : List ℕ) (first : ℕ) → text ≡ first ∷ rest → is_digit first ≡ true → IsRead text 1 (first - 48)
+read_first text rest first is told =
+    let digit = digit_range first told in
     record {
       digits = ap (take 1) is ∙ (ap (λ (b : ℕ). b ∷ []) (sym (byte_back first digit.0)) ∙ sym (decimal_digit (first - 48) (omega (arith, digit))));
       small = omega (arith, digit);
@@ -58,21 +57,21 @@ room text at value read few =
     let power : 10 ^ at ≤ 10 ^ 18 = pow-le-pow_right {n = 10} (omega arith) {i = at} {j = 18} (omega (arith, few)) in
     omega (arith, power, read.small)
 
-pub read_more : (text : List ℕ) (at value : ℕ) → IsRead text at value → at < length text → IsDigit (get_or text at 0) → 0 < value → at < 19 → IsRead text (at + 1) (value * 10 + (get_or text at 0 - 48))
+pub read_more : (text : List ℕ) (at value : ℕ) → IsRead text at value → at < length text → is_digit (get_or text at 0) ≡ true → 0 < value → at < 19 → IsRead text (at + 1) (value * 10 + (get_or text at 0 - 48))
 read_more text at value read lt digit some few =
     let power : 10 ^ suc at ≡ 10 ^ at * 10 = pow-suc 10 at in
     let same : 10 ^ (at + 1) ≡ 10 ^ suc at = ap (λ (n : ℕ). 10 ^ n) (omega arith) in
     record {
       digits = take_more text at 0 lt ∙ ap (λ (ds : List ℕ). ds ++ get_or text at 0 ∷ []) read.digits ∙ sym (with_digit value (get_or text at 0) digit some (room text at value read few));
-      small = omega (arith, power, same, read.small, digit);
+      small = omega (arith, power, same, read.small, digit_range (get_or text at 0) digit);
     }
 
 -- ---- a text that begins with a decimal and a byte that is no digit
 
-digit_there : (n k : ℕ) → n < 2 ^ 64 → k < length (decimal n) → IsDigit (get_or (decimal n) k 0)
+digit_there : (n k : ℕ) → n < 2 ^ 64 → k < length (decimal n) → is_digit (get_or (decimal n) k 0) ≡ true
 digit_there n k small lt =
     elim (cases_Bool (is_digit (get_or (decimal n) k 0))) [
-      | inl e ↦ digit_range (get_or (decimal n) k 0) e
+      | inl e ↦ e
       | inr e ↦ absurd (cc (list_all_at is_digit (decimal n) k 0 lt e, decimal_digits n small))
     ]
 
@@ -89,10 +88,10 @@ module _ (text rest : List ℕ) (end n : ℕ) (few : n < 10 ^ 19) (is : text ≡
   end_there : get_or text (length (decimal n)) 0 ≡ end
   end_there = ap (λ (l : List ℕ). get_or l (length (decimal n)) 0) is ∙ get_or_at (decimal n) end rest 0 (length (decimal n)) refl
 
-  pub first_there : (0 < length text) × IsDigit (get_or text 0 0)
+  pub first_there : (0 < length text) × (is_digit (get_or text 0 0) ≡ true)
   first_there =
       let some = decimal_nonempty n small_number in
-      (omega (arith, long_text), subst IsDigit (sym (byte_there 0 some)) (digit_there n 0 small_number some))
+      (omega (arith, long_text), ap is_digit (byte_there 0 some) ∙ digit_there n 0 small_number some)
 
   -- a byte `0` begins no more than itself
   not_zero : (at value : ℕ) → 0 < at → at < length (decimal n) → take at text ≡ decimal value → 0 < value
@@ -109,23 +108,35 @@ module _ (text rest : List ℕ) (end n : ℕ) (few : n < 10 ^ 19) (is : text ≡
 
   -- where its first bytes are a number, the next is the byte behind it or a digit more
   pub next_there : (at value : ℕ) → end < 48 → 0 < at → take at text ≡ decimal value → value < 2 ^ 64
-      → (at < length text) × ((get_or text at 0 ≡ end) ⊎ (IsDigit (get_or text at 0) × (0 < value) × (at < 19)))
+      → (at < length text) × ((get_or text at 0 ≡ end) ⊎ ((is_digit (get_or text at 0) ≡ true) × (0 < value) × (at < 19)))
   next_there at value low some read small =
       let most : length (decimal n) ≤ 19 = length-decimal-le 19 n (omega arith) few small_number in
       elim (cases_lt at (length (decimal n))) [
         | inl inside ↦
-            (omega (arith, long_text, inside), inr (subst IsDigit (sym (byte_there at inside)) (digit_there n at small_number inside), not_zero at value some inside read, omega (arith, most, inside)))
+            (omega (arith, long_text, inside), inr (ap is_digit (byte_there at inside) ∙ digit_there n at small_number inside, not_zero at value some inside read, omega (arith, most, inside)))
         | inr not_inside ↦
             elim (cases_lt (length (decimal n)) at) [
               | inl past ↦
                   let same : get_or (decimal value) (length (decimal n)) 0 ≡ end = ap (λ (l : List ℕ). get_or l (length (decimal n)) 0) (sym read) ∙ (get_or-take at text (length (decimal n)) 0 past ∙ end_there) in
                   let within : length (decimal n) < length (decimal value) = omega (arith, ap length read, length-take at text, long_text, past) in
-                  absurd (omega (arith, digit_there value (length (decimal n)) small within, same, low))
+                  absurd (omega (arith, digit_range (get_or (decimal value) (length (decimal n)) 0) (digit_there value (length (decimal n)) small within), same, low))
               | inr not_past ↦
                   let at_end : length (decimal n) ≡ at = omega (arith, not_inside, not_past) in
                   (omega (arith, long_text, at_end), inl (subst (λ (k : ℕ). get_or text k 0 ≡ end) at_end end_there))
             ]
       ]
+
+-- the first bytes are a number, and no digit more of it stands behind them
+pub number_ends : {A : Type 0} (o : Option (ℕ × A)) (view : A → List ℕ) (text : List ℕ) (end at value : ℕ) → end < 48 → 0 < at → value < 2 ^ 64 → IsRead text at value → (at < length text → is_digit (get_or text at 0) ≡ true → 0 < value → at < 19 → ⊥)
+    → MatchOption o (slice_get text at ≢ Some end) (λ x. (x.0 ≡ value) × (text ≡ take at text ++ end ∷ view x.1)) → MatchOption o (NoNumber end text) (λ x. (x.0 < 2 ^ 64) × (text ≡ decimal x.0 ++ end ∷ view x.1))
+number_ends None view text end at value low some small read stops told = λ n rest few is.
+    let there = next_there text rest end n few is at value low some read.digits small in
+    elim (there.1) [
+      | inl same ↦ told (slice_get-get_or text at 0 there.0 ∙ ap (λ (b : ℕ). Some b) same)
+      | inr more ↦ stops there.0 more.0 more.1 more.2
+    ]
+number_ends (Some x) view text end at value low some small read stops told =
+    (subst (λ (n : ℕ). n < 2 ^ 64) (sym told.0) small, told.1 ∙ ap (λ (l : List ℕ). l ++ end ∷ view x.1) (read.digits ∙ ap decimal (sym told.0)))
 
 -- the digits of a word, and a name behind them or none
 pub word_begins : (width x : ℕ) (text digits behind rest : List ℕ) → text ≡ digits ++ behind → length digits ≡ width → IsKnown x digits → BeginsName behind rest → BeginsWord width text x rest
@@ -202,11 +213,41 @@ name_bytes : (name : List ℕ) → is_symbol name ≡ true → list_all is_print
 name_bytes [] h = absurd cc
 name_bytes (b ∷ name) h = (and_parts (nat_le (length (b ∷ name)) 255) (list_all is_printed (b ∷ name)) (and_parts (not (b == 59)) (nat_le (length (b ∷ name)) 255 && list_all is_printed (b ∷ name)) h).1).1
 
-ends_from : (n : ℕ) (name rest : List ℕ) → list_all is_printed name ≡ true → position_from is_other n (name ++ 10 ∷ rest) ≡ Some (n + length name)
-ends_from n [] rest all = ap (λ (m : ℕ). Some m) (omega arith)
-ends_from n (b ∷ name) rest all =
-    let parts = and_parts (is_printed b) (list_all is_printed name) all in
-    rw parts.0 (ends_from (n + 1) name rest parts.1 ∙ ap (λ (m : ℕ). Some m) (omega arith))
+-- behind bytes of names the first that is none stands later by as many
+pub other_behind : (n : ℕ) (front rest : List ℕ) → list_all is_printed front ≡ true → position_from is_other n (front ++ rest) ≡ position_from is_other (n + length front) rest
+other_behind n [] rest all = ap (λ (m : ℕ). position_from is_other m rest) (omega arith)
+other_behind n (b ∷ front) rest all =
+    let parts = and_parts (is_printed b) (list_all is_printed front) all in
+    rw parts.0 (other_behind (n + 1) front rest parts.1 ∙ ap (λ (m : ℕ). position_from is_other m rest) (omega arith))
+
+later_by : (n m : ℕ) (rest : List ℕ) → position_from is_other (m + n) rest ≡ option_map (λ k. n + k) (position_from is_other m rest)
+later_by n m [] = refl
+later_by n m (b ∷ rest) =
+    elim (is_other b) as (λ t. cond t (Some (m + n)) (position_from is_other (m + n + 1) rest) ≡ option_map (λ k. n + k) (cond t (Some m) (position_from is_other (m + 1) rest))) [
+      | true ↦ ap (λ (k : ℕ). Some k) (omega arith)
+      | false ↦ ap (λ (k : ℕ). position_from is_other k rest) (omega arith) ∙ later_by n (m + 1) rest
+    ]
+
+pub position_behind : (text front rest : List ℕ) → text ≡ front ++ rest → list_all is_printed front ≡ true → option_map (λ k. length front + k) (position is_other rest) ≡ position is_other text
+position_behind text front rest is all =
+    sym
+    (ap (position is_other) is
+    ∙ (position_from-zero is_other (front ++ rest)
+    ∙ (other_behind 0 front rest all
+    ∙ (later_by (length front) 0 rest ∙ ap (option_map (λ k. length front + k)) (sym (position_from-zero is_other rest))))))
+
+-- eight bytes more
+pub eight_behind : (text front eight behind rest : List ℕ) (before : ℕ) → text ≡ front ++ rest → length front ≡ before → list_all is_printed front ≡ true → eight ≡ take 8 rest → behind ≡ drop 8 rest → length behind + 8 ≡ length rest → list_all is_printed eight ≡ true
+    → (more : List ℕ) × ((text ≡ more ++ behind) × (length more ≡ before + 8) × (list_all is_printed more ≡ true))
+eight_behind text front eight behind rest before is long all first others many printed =
+    let split : rest ≡ eight ++ behind = sym (ap₂ (λ (l r : List ℕ). l ++ r) first others ∙ take-append-drop 8 rest) in (
+      front ++ eight,
+      (
+        is ∙ (ap (λ (l : List ℕ). front ++ l) split ∙ sym (append_assoc front eight behind)),
+        length-append front eight ∙ omega (arith, long, ap length first, length-take 8 rest, many),
+        list_all-append is_printed front eight ∙ and_from (list_all is_printed front) (list_all is_printed eight) all printed,
+      ),
+    )
 
 front_printed : (text : List ℕ) (n : ℕ) → ((k : ℕ) → k < n → is_other (get_or text k 0) ≡ false) → list_all is_printed (take n text) ≡ true
 front_printed text zero before = refl
@@ -224,7 +265,7 @@ name_there text rest begins =
       | inl is ↦ absurd (omega (arith, ap (λ (l : List ℕ). get_or l 0 0) is))
       | inr parts ↦
           let is : text ≡ parts.0 ++ 10 ∷ rest = tail_same 32 32 text (parts.0 ++ 10 ∷ rest) parts.1.0 in
-          let ends = position_from-zero is_other (parts.0 ++ 10 ∷ rest) ∙ (ends_from 0 parts.0 rest (name_bytes parts.0 parts.1.1) ∙ ap (λ (m : ℕ). Some m) (omega arith)) in
+          let ends = position_from-zero is_other (parts.0 ++ 10 ∷ rest) ∙ (other_behind 0 parts.0 (10 ∷ rest) (name_bytes parts.0 parts.1.1) ∙ ap (λ (m : ℕ). Some m) (omega arith)) in
           (parts.0, (is, parts.1.1, ap (position is_other) is ∙ ends))
     ]
 

@@ -1,10 +1,10 @@
 -- Frames of a witness over a model, closed one after the other.
-use Rattle.std.proofs.Common.{◌≡◌, ℕ, suc, ◌+◌, ◌*◌, ◌<◌, ◌-◌, ◌^◌, ◌==◌, min, Bool, true, false, not, cond, ◌&&◌, ◌||◌, List, [], ◌∷◌, ◌++◌, Option, Some, None, option_and_then, All, map, length, get_or, length-append, refl, sym, ap, ap₂, subst, ◌∙◌, arith, inl, inr, replicate}
+use Rattle.std.proofs.Common.{◌≡◌, ℕ, suc, ◌+◌, ◌*◌, ◌<◌, ◌-◌, ◌^◌, ◌==◌, min, Bool, true, false, not, cond, ◌&&◌, ◌||◌, List, [], ◌∷◌, ◌++◌, Option, Some, None, option_and_then, All, map, length, get_or, length-append, refl, sym, ap, ap₂, subst, ◌∙◌, arith, inl, inr}
 use Rattle.std.specs.Option.{option_or}
 use Rattle.std.specs.List.{last_or}
 use Rattle.std.proofs.lemmas.Bool.{cases_lt, ne_eqb, eq-eqb}
-use Rattle.std.proofs.lemmas.List.{length-map, map-append, get_or_past, get_or-replicate, length-replicate}
-use Rattle.std.proofs.lemmas.List.Elements.{All-nil, All-head, All-tail, All-push}
+use Rattle.std.proofs.lemmas.List.{length-map, map-append, get_or_past, get_or-map}
+use Rattle.std.proofs.lemmas.List.Elements.{All-nil, All-head, All-tail, All-push, All-get_or}
 use Rattle.std.proofs.lemmas.List.Folds.{list_all-append}
 use Rattle.btor2.specs.declared.item.Item.{Item}
 use Rattle.btor2.specs.Items.{is_state, is_bad}
@@ -25,13 +25,13 @@ use Rattle.witness.proofs.VerdictLemmas.{settled_now}
 use Rattle.witness.proofs.MoveLemmas.{moves, one_ahead, goes_items}
 use Rattle.std.proofs.Math.Bool.{and-true}
 
--- ---- flags
+-- ---- what parts give
 
-pub none_of_many : (n : ℕ) → NoneIsSet (replicate n false)
-none_of_many n i =
-    elim (cases_lt i n) [
-      | inl below ↦ get_or-replicate n i false false below
-      | inr above ↦ get_or_past (replicate n false) i false (omega (arith, above, length-replicate n false))
+pub none_behind : (list : List ℕ) (open_part : ℕ) → All (λ n. n < open_part) list → NoneIsSet (map (λ n. n == open_part) list)
+none_behind list open_part before i =
+    elim (cases_lt i (length list)) [
+      | inl below ↦ get_or-map (λ (n : ℕ). n == open_part) list i 0 false below ∙ ne_eqb (get_or list i 0) open_part (λ e. omega (arith, e, All-get_or (λ n. n < open_part) list i 0 below before))
+      | inr above ↦ get_or_past (map (λ (n : ℕ). n == open_part) list) i false (omega (arith, above, length-map list (λ (n : ℕ). n == open_part)))
     ]
 
 -- ---- a frame behind others

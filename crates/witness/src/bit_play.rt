@@ -8,7 +8,7 @@ ghost use Rattle.witness.specs.BitScans.{is_one_bit};
 ghost use Rattle.witness.specs.BitJudgements.{differs_from_reset, first_bit_violated};
 ghost use Rattle.witness.specs.BitPlays.{Begins, Plays, play_start, differing, latch_given};
 
-use crate::verdicts::{Breach, earlier, either};
+use crate::verdicts::{Breach, either, note_breach};
 use aiger::{Circuit, Reset};
 use runs::{BitRun, NewFault};
 use std::alloc::Global;
@@ -199,7 +199,7 @@ impl<'a> BitPlay<'a> {
         self.run.settle();
         let violated = first_violated(self.circuit, &self.run);
         let rises = rises(self.circuit, &self.run, claim);
-        self.breach = earlier(self.breach, self.frames, violated);
+        note_breach(&mut self.breach, self.frames, violated);
         self.rose = either(self.rose, rises);
         self.run.advance();
         self.frames = self.frames.saturating_add(1);

@@ -30,7 +30,7 @@ pub(crate) struct Scan {
 }
 
 /// Whether a byte is a digit.
-fn is_digit(byte: u8) -> bool
+pub(crate) fn is_digit(byte: u8) -> bool
     ensures { result ≡ is_digit byte }
 {
     b'0' <= byte && byte <= b'9'

@@ -9,6 +9,7 @@ mod bit_play;
 mod bit_reader;
 mod bit_scan;
 mod fault;
+mod given;
 mod judgement;
 mod kept_line;
 mod last_line;

@@ -1,14 +1,28 @@
 //! A plain line of a witness over a model at the front of a text, read in one pass up to its end.
-ghost use Rattle.std.specs.Prelude.{◌≡◌, ◌<◌, ◌^◌, ◌∷◌, ◌++◌, MatchOption, decimal, length, not, true};
+ghost use Rattle.std.specs.Prelude.{◌≡◌, ◌≢◌, ◌<◌, ◌^◌, ◌∷◌, ◌++◌, MatchOption, Some, decimal, length, not, slice_get, take, true};
 ghost use Rattle.std.specs.List.{list_all, position};
 ghost use Rattle.btor2.specs.Symbols.{is_printed, is_symbol};
 ghost use Rattle.witness.specs.PlainLines.{NoNumber, NoFrameLine, BeginsName, NoName, BeginsWord, NoWord, BeginsAssignment, NoAssignment};
 
+use crate::bit_scan::is_digit;
+use crate::given::Given;
 use crate::word_value::known_word;
 use base::Width;
 
 /// The most digits of a number that has room in 64 bits, whatever they are.
 const MOST_DIGITS: usize = 19;
+
+/// A number whose digits end in front of a place of a text, and the text behind this byte, where the byte stands there.
+#[inline(always)]
+fn ended(text: &[u8], at: usize, value: u64, end: u8) -> Option<(u64, &[u8])>
+    ensures { MatchOption result (slice_get text.now at ≢ Some end) (λ x. (x.0 ≡ value) × (text.now ≡ take at text.now ++ end ∷ x.1.now)) }
+{
+    if at >= text.len() || text[at] != end {
+        return None;
+    }
+    let (_, rest) = text.split_at(at + 1);
+    Some((value, rest))
+}
 
 /// The number that stands at the front of a text up to this byte, and the text behind the byte, where the number is a
 /// decimal of at most 19 digits; else nothing. Each byte is looked at once.
@@ -18,25 +32,22 @@ fn number_before(text: &[u8], end: u8) -> Option<(u64, &[u8])>
     ensures { MatchOption result (NoNumber end text.now) (λ x. (x.0 < 2 ^ 64) × (text.now ≡ decimal x.0 ++ end ∷ x.1.now)) }
 {
     let (first, _) = text.split_first()?;
-    if *first < b'0' || *first > b'9' {
+    if !is_digit(*first) {
         return None;
     }
     let mut value = u64::from(*first - b'0');
-    for at in 1..text.len() {
+    if value == 0 {
+        return ended(text, 1, 0, end);
+    }
+    let most = text.len().min(MOST_DIGITS);
+    for at in 1..most {
         let byte = text[at];
-        if byte < b'0' || byte > b'9' {
-            if byte != end {
-                return None;
-            }
-            let (_, rest) = text.split_at(at + 1);
-            return Some((value, rest));
-        }
-        if value == 0 || at >= MOST_DIGITS {
-            return None;
+        if !is_digit(byte) {
+            return ended(text, at, value, end);
         }
         value = value * 10 + u64::from(byte - b'0');
     }
-    None
+    ended(text, most, value, end)
 }
 
 /// The text behind the line `@<k>` of this frame, where a text begins with it.
@@ -59,12 +70,42 @@ fn is_printed(byte: u8) -> bool
     b'!' <= byte && byte <= b'~'
 }
 
-/// Where the first byte stands that is none of a name. Names are short, so this is a plain loop.
+/// Whether eight bytes are those of names. All eight are tested at once.
+#[inline(always)]
+fn are_printed(bytes: &[u8; 8]) -> bool
+    ensures { result ≡ list_all is_printed bytes.now }
+{
+    let mut all = true;
+    for at in 0..8 {
+        all &= is_printed(bytes[at]);
+    }
+    all
+}
+
+/// Where the first byte stands that is none of a name, by a plain loop.
+#[inline(always)]
+fn first_other(text: &[u8]) -> Option<usize>
+    ensures { result ≡ position (λ b. not (is_printed b)) text.now }
+{
+    text.iter().position(|byte| !is_printed(*byte))
+}
+
+/// The same, with eight bytes tested at a time as long as they are all those of names.
 #[inline(always)]
 fn name_end(text: &[u8]) -> Option<usize>
     ensures { result ≡ position (λ b. not (is_printed b)) text.now }
 {
-    text.iter().position(|byte| !is_printed(*byte))
+    let mut before = 0;
+    let mut rest = text;
+    while let Some((eight, behind)) = rest.split_first_chunk::<8>() {
+        if !are_printed(eight) {
+            break;
+        }
+        before += 8;
+        rest = behind;
+    }
+    let at = first_other(rest)?;
+    Some(before + at)
 }
 
 /// Whether bytes of names are one: 1 to 255, of which the first is not `;`.
@@ -131,14 +172,14 @@ fn plain_word(text: &[u8], width: Width) -> Option<(u64, &[u8])>
 pub(crate) fn plain_assignment<'t>(
     text: &'t [u8],
     widths: &[Width],
-    given: &[bool],
+    given: &Given,
 ) -> Option<(u64, u64, &'t [u8])>
     requires { length given.now ≡ length widths.now }
     ensures { MatchOption result (NoAssignment widths.now given.now text.now) (λ x. BeginsAssignment widths.now given.now text.now x.0 x.1 x.2.now) }
 {
     let (index, behind) = number_before(text, b' ')?;
     let k = index as usize;
-    if k >= widths.len() || given[k] {
+    if k >= widths.len() || given.has(k) {
         return None;
     }
     let (word, rest) = plain_word(behind, widths[k])?;

@@ -129,16 +129,15 @@ pub(crate) fn either(one: bool, other: bool) -> bool
     one || other
 }
 
-/// A breach that was found, or else one of a constraint in a frame.
-pub(crate) fn earlier(found: Option<Breach>, frame: u64, violated: Option<u64>) -> Option<Breach>
-    ensures { result ≡ option_or found (violated_at frame violated None) }
+/// Notes the constraint that does not hold in a frame, where there is one and no breach was found before.
+pub(crate) fn note_breach(found: &mut Option<Breach>, frame: u64, violated: Option<u64>)
+    ensures { found.new ≡ option_or found.old (violated_at frame violated None) }
 {
-    match found {
-        Some(breach) => Some(breach),
-        None => match violated {
-            Some(constraint) => Some(Breach { frame, constraint }),
-            None => None,
-        },
+    if found.is_some() {
+        return;
+    }
+    if let Some(constraint) = violated {
+        *found = Some(Breach { frame, constraint });
     }
 }
 

@@ -5,6 +5,7 @@ ghost use Rattle.witness.specs.Admits.{cut_at_space};
 ghost use Rattle.witness.specs.WordValues.{Gives};
 ghost use Rattle.witness.specs.WordAssigns.{assigned_number, assigned};
 
+use crate::given::Given;
 use crate::why::Why;
 use crate::word_fields::{index_of, word_of};
 use base::Width;
@@ -12,7 +13,7 @@ use base::Width;
 /// The word that is given to the node of a number, of nodes of these widths.
 fn assigned_number(
     widths: &[Width],
-    given: &[bool],
+    given: &Given,
     index: u64,
     line: &[u8],
 ) -> Result<(u64, u64), Why>
@@ -24,7 +25,7 @@ fn assigned_number(
     if k >= widths.len() {
         return Err(Why::BadIndex);
     }
-    if given[k] {
+    if given.has(k) {
         return Err(Why::IndexTwice);
     }
     match word_of(line, widths[k]) {
@@ -33,9 +34,9 @@ fn assigned_number(
     }
 }
 
-/// The word that a line gives to one of the nodes of these widths, or why it gives none. `given` has a flag for each of
-/// them, whether it has a word in the part already.
-pub(crate) fn assigned(widths: &[Width], given: &[bool], line: &[u8]) -> Result<(u64, u64), Why>
+/// The word that a line gives to one of the nodes of these widths, or why it gives none. `given` says which of them
+/// have a word in the part already.
+pub(crate) fn assigned(widths: &[Width], given: &Given, line: &[u8]) -> Result<(u64, u64), Why>
     requires { length given.now ≡ length widths.now }
     ensures is { Gives (λ p. p) result (assigned widths.now given.now line.now) }
     ensures fits { IfOk result (PairFits widths.now) }

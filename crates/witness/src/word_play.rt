@@ -13,8 +13,9 @@ ghost use Rattle.witness.specs.Fits.{NoneIsSet, PairFits};
 ghost use Rattle.witness.specs.PlainLines.{NoAssignment};
 ghost use Rattle.witness.specs.WordPlays.{IsStart, GoesOn, Plays, MayGive, GivesState, GivesInput, TakesInput, state_given, input_given, nothing_given, word_at, steps_taken};
 
+use crate::given::Given;
 use crate::plain_line::plain_assignment;
-use crate::verdicts::{Breach, earlier, first_different, first_violated, note_rises};
+use crate::verdicts::{Breach, first_different, first_violated, note_breach, note_rises};
 use crate::why::Why;
 use crate::word_assign::assigned;
 use crate::word_widths::widths_at;
@@ -33,8 +34,8 @@ pub(crate) struct WordPlay<'a> {
     state_widths: Vec<Width>,
     input_widths: Vec<Width>,
     // for each state, and for each input, whether it has a word in the part that is open
-    states_given: Vec<bool>,
-    inputs_given: Vec<bool>,
+    states_given: Given,
+    inputs_given: Given,
     // the first state whose initial word is not that of its init line, once the first frame is closed
     differs: Option<u64>,
     frames: u64,
@@ -53,9 +54,9 @@ impl<'a> std::marker::Model for WordPlay<'a> {
 
     ghost Value = { WordPlayValue };
 
-    ghost view = { λ p. record { items = p.model.now; run = p.run; states_given = p.states_given.items; inputs_given = p.inputs_given.items; differs = p.differs; frames = p.frames; breach = p.breach; rose = p.rose.items } };
+    ghost view = { λ p. record { items = p.model.now; run = p.run; states_given = p.states_given; inputs_given = p.inputs_given; differs = p.differs; frames = p.frames; breach = p.breach; rose = p.rose.items } };
 
-    ghost invariant = { λ p. (p.run.items ≡ p.model.now) × (length p.states_given.items ≡ length (places is_state 0 p.model.now)) × (length p.inputs_given.items ≡ length (places is_input 0 p.model.now)) × (length p.rose.items ≡ length (places is_bad 0 p.model.now)) × (p.state_widths.items ≡ widths_of is_state p.model.now) × (p.input_widths.items ≡ widths_of is_input p.model.now) };
+    ghost invariant = { λ p. (p.run.items ≡ p.model.now) × (length p.states_given ≡ length (places is_state 0 p.model.now)) × (length p.inputs_given ≡ length (places is_input 0 p.model.now)) × (length p.rose.items ≡ length (places is_bad 0 p.model.now)) × (p.state_widths.items ≡ widths_of is_state p.model.now) × (p.input_widths.items ≡ widths_of is_input p.model.now) };
 }
 
 /// So many flags, none of them set.
@@ -70,25 +71,15 @@ pub(crate) fn no_flags(alloc: Global, count: usize) -> Result<Vec<bool>, NewFaul
     }
 }
 
-/// Takes all flags back.
-fn clear(flags: &mut [bool])
-    ensures many { length flags.new ≡ length flags.old }
-    ensures none { NoneIsSet flags.new }
-{
-    flags.fill(false);
-}
-
-/// The first state with another word than that of its init line, in the first frame.
-fn differing(model: &Model, run: &WordRun<'_>, frames: u64, found: Option<u64>) -> Option<u64>
+/// Notes the first state with another word than that of its init line, in the first frame.
+fn note_difference(model: &Model, run: &WordRun<'_>, frame: u64, found: &mut Option<u64>)
     requires same { run.now.items ≡ model.now }
     requires well_formed { IsWellFormed model.now }
     requires settled { run.now.settled ≡ true }
-    ensures { (f : Frame) → IsNow run.now f → result ≡ (if frames == 0 then first_different model.now f else found) }
+    ensures { (f : Frame) → IsNow run.now f → found.new ≡ (if frame == 0 then first_different model.now f else found.old) }
 {
-    if frames == 0 {
-        first_different(model, run)
-    } else {
-        found
+    if frame == 0 {
+        *found = first_different(model, run);
     }
 }
 
@@ -126,8 +117,8 @@ impl<'a> WordPlay<'a> {
         let run = WordRun::new(alloc, model)?;
         let state_widths = widths_at(alloc, model, model.states())?;
         let input_widths = widths_at(alloc, model, model.inputs())?;
-        let states_given = no_flags(alloc, model.states().len())?;
-        let inputs_given = no_flags(alloc, model.inputs().len())?;
+        let states_given = Given::new(alloc, model.states().len())?;
+        let inputs_given = Given::new(alloc, model.inputs().len())?;
         let rose = no_flags(alloc, model.bads().len())?;
         Ok(WordPlay {
             model,
@@ -168,7 +159,7 @@ impl<'a> WordPlay<'a> {
     {
         let _items = self.model.items();
         self.run.set_state(index, word);
-        self.states_given[index] = true;
+        self.states_given.give(index);
     }
 
     /// Gives an input a word in the open part.
@@ -179,7 +170,7 @@ impl<'a> WordPlay<'a> {
     {
         let _items = self.model.items();
         self.run.set_input(index, word);
-        self.inputs_given[index] = true;
+        self.inputs_given.give(index);
     }
 
     /// Gives a state the word of a line in the open part, or answers why the line gives none.
@@ -190,7 +181,7 @@ impl<'a> WordPlay<'a> {
     {
         let _items = self.model.items();
         let widths = self.state_widths.as_slice();
-        match assigned(widths, self.states_given.as_slice(), line) {
+        match assigned(widths, &self.states_given, line) {
             Ok(given) => {
                 go_on(&mut self.run);
                 self.give_state(given.0 as usize, given.1);
@@ -208,7 +199,7 @@ impl<'a> WordPlay<'a> {
     {
         let _items = self.model.items();
         let widths = self.input_widths.as_slice();
-        match assigned(widths, self.inputs_given.as_slice(), line) {
+        match assigned(widths, &self.inputs_given, line) {
             Ok(given) => {
                 go_on(&mut self.run);
                 self.give_input(given.0 as usize, given.1);
@@ -229,7 +220,7 @@ impl<'a> WordPlay<'a> {
     {
         let _items = self.model.items();
         let widths = self.input_widths.as_slice();
-        match plain_assignment(text, widths, self.inputs_given.as_slice()) {
+        match plain_assignment(text, widths, &self.inputs_given) {
             Some((index, word, rest)) => {
                 go_on(&mut self.run);
                 self.give_input(index as usize, word);
@@ -241,6 +232,7 @@ impl<'a> WordPlay<'a> {
 
     /// Closes the open frame: settles it, and looks at its constraints and at the bad properties. The run moves on later,
     /// so that the frame's words can be read.
+    #[inline(always)]
     pub(crate) fn close(&mut self)
         ensures more { (frames : List FrameWords) (here : FrameWords) → Plays self.old.items frames here self.old → length frames < 2 ^ 62 → Plays self.old.items (frames ++ here ∷ []) nothing_given self.new }
         ensures same { self.new.items ≡ self.old.items }
@@ -248,14 +240,12 @@ impl<'a> WordPlay<'a> {
         let _items = self.model.items();
         go_on(&mut self.run);
         self.run.settle();
-        let differs = differing(self.model, &self.run, self.frames, self.differs);
+        note_difference(self.model, &self.run, self.frames, &mut self.differs);
         let violated = first_violated(self.model, &self.run);
-        let breach = earlier(self.breach, self.frames, violated);
+        note_breach(&mut self.breach, self.frames, violated);
         note_rises(&self.run, self.rose.as_mut_slice());
-        clear(self.states_given.as_mut_slice());
-        clear(self.inputs_given.as_mut_slice());
-        self.differs = differs;
-        self.breach = breach;
+        self.states_given.clear();
+        self.inputs_given.clear();
         self.frames = self.frames.saturating_add(1);
     }
 

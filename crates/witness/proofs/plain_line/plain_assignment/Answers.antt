@@ -3,14 +3,14 @@ use Rattle.std.proofs.lemmas.List.{get_or_default}
 use Rattle.witness.specs.PlainLines.{BeginsWord}
 use Rattle.witness.proofs.PlainLineLemmas.{own_index, assignment_begins}
 use Rattle.witness.proofs.plain_line.plain_assignment.Goals as goal
-use Rattle.witness.proofs.plain_line.plain_assignment.Goals.{then-k-widths-via-then-k-widths, then-k-widths-via-else-k-widths+then-given-k}
+use Rattle.witness.proofs.plain_line.plain_assignment.Goals.{then-k-widths-via-then-k-widths, then-k-widths-via-else-k-widths+then-has}
 
 pub returns-then-k-widths : goal.returns-then-k-widths
 returns-then-k-widths c index word rest few begins =
     let own = own_index c.args.widths.now c.args.given.now c.args.text.now c.in_ok-index.behind.now c.in_ok-index.index index word rest c.in_ok-index.ensures.0 few c.in_ok-index.ensures.1 begins in
     elim c.then-k-widths.branch [
       | then-k-widths-via-then-k-widths w ↦ absurd (omega (arith, own.0, w.if-k-widths.true))
-      | then-k-widths-via-else-k-widths+then-given-k w ↦ absurd (cc (own.1, w.if-given-k.true))
+      | then-k-widths-via-else-k-widths+then-has w ↦ absurd (cc (own.1, w.if-has.true))
     ]
 
 pub returns-in_err-word : goal.returns-in_err-word
@@ -24,5 +24,5 @@ returns-in_err-word c =
 pub returns : goal.returns
 returns c =
     let width : c.index-widths-k.result ≡ slice_index c.args.widths.now c.in_ok-index.index = c.index-widths-k.is ∙ get_or_default c.args.widths.now c.in_ok-index.index c.index-widths-k.result 0 c.if-k-widths.false in
-    assignment_begins c.args.widths.now c.args.given.now c.args.text.now c.in_ok-index.behind.now c.in_ok-index.index c.in_ok-word.word c.in_ok-word.rest.now c.in_ok-index.ensures.1 c.if-k-widths.false c.if-given-k.false
+    assignment_begins c.args.widths.now c.args.given.now c.args.text.now c.in_ok-index.behind.now c.in_ok-index.index c.in_ok-word.word c.in_ok-word.rest.now c.in_ok-index.ensures.1 c.if-k-widths.false (sym c.has.ensures ∙ c.if-has.false)
     (subst (λ (n : ℕ). BeginsWord n c.in_ok-index.behind.now c.in_ok-word.word c.in_ok-word.rest.now) width c.in_ok-word.ensures)

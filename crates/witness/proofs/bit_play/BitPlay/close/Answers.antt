@@ -14,7 +14,7 @@ use Rattle.witness.proofs.bit_play.BitPlay.close.Goals as goal
 pub returns : goal.returns
 returns c circuit initial frames line plays below few whole =
     let was : BitPlay = record { circuit = c.self.inside.circuit.now; run = c.self.inside.run; differs = c.self.inside.differs; frames = c.self.inside.frames; breach = c.self.inside.breach; rose = c.self.inside.rose } in
-    let is : BitPlay = record { circuit = c.self.inside.circuit.now; run = c.advance.new.self; differs = c.self.inside.differs; frames = c.saturating_add-self-inside.result; breach = c.earlier-self-inside.result; rose = c.either-self-inside.result } in
+    let is : BitPlay = record { circuit = c.self.inside.circuit.now; run = c.advance.new.self; differs = c.self.inside.differs; frames = c.saturating_add-self-inside.result; breach = c.note_breach.new.found; rose = c.either-self-inside.result } in
     let begun : Plays circuit c.args.claim initial frames was line = subst (λ (p : BitPlay). Plays circuit c.args.claim initial frames p line) (sym c.self.view_is) plays in
     let same : c.self.inside.circuit.now ≡ circuit = begun.circuit in
     let closes : Closes circuit c.args.claim was is = record {
@@ -27,7 +27,7 @@ returns c circuit initial frames line plays below few whole =
       latches = subst (λ (r : CircuitRun). (v : Valuation) → IsFrameNow r v → c.advance.new.self.latches ≡ next_state r.circuit v) c.settle.ensures c.advance.ensures.latches;
       breach = λ v now.
           let found = subst (λ (r : CircuitRun). IsFrameNow r v → c.first_violated-violated.result ≡ first_bit_violated c.self.inside.circuit.now v) c.settle.ensures (c.first_violated-violated.ensures v) now in
-          c.earlier-self-inside.ensures
+          c.note_breach.ensures
           ∙ ap (λ (o : Option ℕ). option_or c.self.inside.breach (violated_at c.self.inside.frames o None)) (found ∙ ap (λ (k : Circuit). first_bit_violated k v) same);
       rose = λ v now.
           let there : c.args.claim < length c.self.inside.circuit.now.bads = subst (λ (k : Circuit). c.args.claim < length k.bads) (sym same) below in

@@ -14,14 +14,14 @@ use Rattle.witness.proofs.word_play.WordPlay.assign_input.Goals as goal
 use Rattle.witness.specs.WordAssigns.{assigned}
 
 pub assigned-requires : goal.assigned-requires
-assigned-requires c = ap length c.as_slice.ensures.value ∙ c.self.invariant.2 ∙ sym (ap length (c.as_slice-widths.ensures.value ∙ c.self.invariant.5) ∙ length-widths is_input c.self.inside.model.now)
+assigned-requires c = c.self.invariant.2 ∙ sym (ap length (c.as_slice-widths.ensures.value ∙ c.self.invariant.5) ∙ length-widths is_input c.self.inside.model.now)
 
 pub returns-in-Ok-clause-line : goal.returns-in-Ok-clause-line
 returns-in-Ok-clause-line c frames states before plays =
     let p : WordPlay = c.args.self.now in
     let widths = widths_of is_input p.items in
     let of_widths : c.as_slice-widths.result.now ≡ widths_of is_input c.args.self.now.items = c.as_slice-widths.ensures.value ∙ (c.self.invariant.5 ∙ ap (λ (q : WordPlay). widths_of is_input q.items) c.self.view_is) in
-    let of_flags : c.as_slice.result.now ≡ c.args.self.now.inputs_given = c.as_slice.ensures.value ∙ ap (λ (q : WordPlay). q.inputs_given) c.self.view_is in
+    let of_flags : c.self.inside.inputs_given ≡ c.args.self.now.inputs_given = ap (λ (q : WordPlay). q.inputs_given) c.self.view_is in
     let told = subst (λ (o : Result (ℕ × ℕ) Why). Tells before o (assignment_at widths before c.args.line.now)) (ap₂ (λ (ws : List ℕ) (gs : List Bool). assigned ws gs c.args.line.now) (sym of_widths) (sym of_flags) ∙ c.in-Ok.ensures.is) (assigned_tells widths p.inputs_given before c.args.line.now plays.inputs_flagged) in
     let a = told.0 in
     let index : c.in-Ok.given.0 ≡ a.index = sym (ap (λ (q : ℕ × ℕ). q.0) told.1.1) in
@@ -37,5 +37,5 @@ pub returns-in-Err-clause-line : goal.returns-in-Err-clause-line
 returns-in-Err-clause-line c frames states before plays =
     let widths = widths_of is_input c.args.self.now.items in
     let of_widths : c.as_slice-widths.result.now ≡ widths_of is_input c.args.self.now.items = c.as_slice-widths.ensures.value ∙ (c.self.invariant.5 ∙ ap (λ (q : WordPlay). widths_of is_input q.items) c.self.view_is) in
-    let of_flags : c.as_slice.result.now ≡ c.args.self.now.inputs_given = c.as_slice.ensures.value ∙ ap (λ (q : WordPlay). q.inputs_given) c.self.view_is in
+    let of_flags : c.self.inside.inputs_given ≡ c.args.self.now.inputs_given = ap (λ (q : WordPlay). q.inputs_given) c.self.view_is in
     subst (λ (o : Result (ℕ × ℕ) Why). Tells before o (assignment_at widths before c.args.line.now)) (ap₂ (λ (ws : List ℕ) (gs : List Bool). assigned ws gs c.args.line.now) (sym of_widths) (sym of_flags) ∙ c.in-Err.ensures.is) (assigned_tells widths c.args.self.now.inputs_given before c.args.line.now plays.inputs_flagged)

@@ -14,30 +14,26 @@ use Rattle.witness.proofs.word_play.WordPlay.close.Goals as goal
 pub returns-clause-more : goal.returns-clause-more
 returns-clause-more c frames here plays few =
     let items : List Item = c.self.inside.model.now in
-    let p : WordPlay = record { items = c.self.inside.model.now; run = c.self.inside.run; states_given = c.self.inside.states_given.items; inputs_given = c.self.inside.inputs_given.items; differs = c.self.inside.differs; frames = c.self.inside.frames; breach = c.self.inside.breach; rose = c.self.inside.rose.items } in
+    let p : WordPlay = record { items = c.self.inside.model.now; run = c.self.inside.run; states_given = c.self.inside.states_given; inputs_given = c.self.inside.inputs_given; differs = c.self.inside.differs; frames = c.self.inside.frames; breach = c.self.inside.breach; rose = c.self.inside.rose.items } in
     let now : Plays items frames here p = subst (λ (q : WordPlay). Plays q.items frames here q) (sym c.self.view_is) plays in
     let settled : Run = c.settle.new.self in
-    let new : WordPlay = record { items = c.self.inside.model.now; run = c.settle.new.self; states_given = c.clear.new.flags; inputs_given = c.clear-2.new.flags; differs = c.differing-differs.result; frames = c.saturating_add-self-inside.result; breach = c.earlier-breach.result; rose = c.note_rises.new.rose } in
+    let new : WordPlay = record { items = c.self.inside.model.now; run = c.settle.new.self; states_given = c.clear.new.self; inputs_given = c.clear-2.new.self; differs = c.note_difference.new.found; frames = c.saturating_add-self-inside.result; breach = c.note_breach.new.found; rose = c.note_rises.new.rose } in
     let same : settled.items ≡ items = ap (λ (r : Run). r.items) c.settle.ensures ∙ (c.go_on.ensures.same ∙ now.run) in
     let closes : Closes items settled p new =
     record {
       same = refl;
-      differs = c.differing-differs.ensures;
+      differs = c.note_difference.ensures;
       frames = c.saturating_add-self-inside.ensures;
       run = refl;
-      breach = λ f h. c.earlier-breach.ensures ∙ ap (λ (o : Option ℕ). option_or p.breach (violated_at p.frames o None)) (c.first_violated-violated.ensures f h);
+      breach = λ f h. c.note_breach.ensures ∙ ap (λ (o : Option ℕ). option_or p.breach (violated_at p.frames o None)) (c.first_violated-violated.ensures f h);
       rose = λ f h.
           subst (λ (l : List Item). RisesIn (nodes_of is_bad l) f c.self.inside.rose.items c.note_rises.new.rose) same
           (subst (λ (r : List Bool). RisesIn (nodes_of is_bad settled.items) f r c.note_rises.new.rose) c.as_mut_slice.ensures.value (c.note_rises.ensures f h));
       states_clear = c.clear.ensures.none;
       inputs_clear = c.clear-2.ensures.none;
     } in
-    let made : List Bool → List Bool → List Bool → WordPlay = λ states inputs rose. record { items = c.self.inside.model.now; run = c.settle.new.self; states_given = states; inputs_given = inputs; differs = c.differing-differs.result; frames = c.saturating_add-self-inside.result; breach = c.earlier-breach.result; rose = rose } in
-    let states_back = with_items_is c.self.inside.states_given c.clear.new.flags (omega arith) in
-    let inputs_back = with_items_is c.self.inside.inputs_given c.clear-2.new.flags (omega arith) in
+    let made : List Bool → WordPlay = λ rose. record { items = c.self.inside.model.now; run = c.settle.new.self; states_given = c.clear.new.self; inputs_given = c.clear-2.new.self; differs = c.note_difference.new.found; frames = c.saturating_add-self-inside.result; breach = c.note_breach.new.found; rose = rose } in
     let rose_back = with_items_is c.self.inside.rose c.note_rises.new.rose (omega arith) in
     let more = plays_more items here p new c.go_on.new.run settled c.items-items.ensures.well_formed c.go_on.ensures.goes c.settle.ensures closes frames now few in
-    subst (λ (l : List Item). Plays l (frames ++ here ∷ []) nothing_given (made (with_items c.self.inside.states_given c.clear.new.flags).items (with_items c.self.inside.inputs_given c.clear-2.new.flags).items (with_items c.self.inside.rose c.note_rises.new.rose).items)) (ap (λ (q : WordPlay). q.items) c.self.view_is)
-    (subst (λ (s : List Bool). Plays items (frames ++ here ∷ []) nothing_given (made s (with_items c.self.inside.inputs_given c.clear-2.new.flags).items (with_items c.self.inside.rose c.note_rises.new.rose).items)) (sym states_back)
-    (subst (λ (i : List Bool). Plays items (frames ++ here ∷ []) nothing_given (made c.clear.new.flags i (with_items c.self.inside.rose c.note_rises.new.rose).items)) (sym inputs_back)
-    (subst (λ (r : List Bool). Plays items (frames ++ here ∷ []) nothing_given (made c.clear.new.flags c.clear-2.new.flags r)) (sym rose_back) more)))
+    subst (λ (l : List Item). Plays l (frames ++ here ∷ []) nothing_given (made (with_items c.self.inside.rose c.note_rises.new.rose).items)) (ap (λ (q : WordPlay). q.items) c.self.view_is)
+    (subst (λ (r : List Bool). Plays items (frames ++ here ∷ []) nothing_given (made r)) (sym rose_back) more)

@@ -1,4 +1,4 @@
-use Rattle.std.proofs.Common.{◌<◌, ◌^◌, List, IfSome, length, slice_index, subst, sym, arith, rules}
+use Rattle.std.proofs.Common.{◌<◌, ◌^◌, List, IfSome, length, slice_index, subst, sym, arith}
 use Rattle.btor2.specs.declared.item.Item.{Item}
 use Rattle.btor2.specs.Items.{is_input}
 use Rattle.btor2.specs.Lists.{places, width_at}
@@ -19,8 +19,7 @@ set_input-requires-clause-fits c =
     subst (λ (l : List Item). IfSome (width_at l (slice_index (places is_input 0 l) c.args.index)) (λ n. c.args.word < 2 ^ n)) (sym c.self.invariant.0)
     (fits_at_place is_input c.self.inside.model.now c.args.index c.args.word c.items-items.ensures.well_formed fits)
 
-pub index_mut-requires : goal.index_mut-requires
-index_mut-requires c =
+pub give-requires : goal.give-requires
+give-requires c =
     let fits : PairFits (widths_of is_input c.self.inside.model.now) (c.args.index, c.args.word) = subst (λ (q : WordPlay). PairFits (widths_of is_input q.items) (c.args.index, c.args.word)) (sym c.self.view_is) c.requires in
-    let there : c.args.index < length c.self.inside.inputs_given.items = omega (arith, fits.index, length-widths is_input c.self.inside.model.now, c.self.invariant.2) in
-    search rules
+    omega (arith, fits.index, length-widths is_input c.self.inside.model.now, c.self.invariant.2)
