@@ -1,5 +1,5 @@
 -- Where an item is found by its id.
-use Rattle.std.proofs.Common.{◌≡◌, ℕ, suc, ◌+◌, ◌-◌, ◌<◌, ◌≤◌, Bool, true, false, cond, nat_eq, eqb-true, List, [], ◌∷◌, Option, Some, None, MatchOption, length, slice_get, option_and_then, refl, sym, ap, ◌∙◌, arith, zero}
+use Rattle.std.proofs.Common.{◌≡◌, ℕ, suc, ◌+◌, ◌-◌, ◌%◌, ◌^◌, ◌<◌, ◌≤◌, Bool, true, false, cond, nat_eq, eqb-true, List, [], ◌∷◌, Option, Some, None, MatchOption, length, slice_get, option_and_then, refl, sym, ap, subst, ◌∙◌, arith, zero}
 use Rattle.std.specs.List.{position_from}
 use Rattle.std.specs.Option.{option_map_or}
 use Rattle.std.proofs.lemmas.Option.{none-some, same_Some}
@@ -8,7 +8,7 @@ use Rattle.btor2.specs.Items.{find_item, position_of, constant_of_body, constant
 use Rattle.btor2.specs.Check.{IsWellFormed}
 use Rattle.btor2.specs.Index.{is_in_place}
 use Rattle.btor2.specs.Lists.{constant_at}
-use Rattle.btor2.proofs.ModelLemmas.{position_of-at}
+use Rattle.btor2.proofs.ModelLemmas.{few_items, IsIn-from_find, position_of-at}
 
 -- an answer among the items behind one
 place_behind : (x : Item) (xs : List Item) (id n : ℕ) (o : Option ℕ) → MatchOption o (find_item xs id ≡ None) (λ k. (n + 1 ≤ k) × (slice_get xs (k - (n + 1)) ≡ find_item xs id)) → MatchOption o (find_item xs id ≡ None) (λ k. (n ≤ k) × (slice_get (x ∷ xs) (k - n) ≡ find_item xs id))
@@ -78,3 +78,32 @@ init_some items (Some v) place e = (
 pub init_none : (items : List Item) (o : Option ℕ) → option_and_then (position_of items) o ≡ None → option_and_then (constant_of items) o ≡ None
 init_none items None e = refl
 init_none items (Some v) e = ap (option_and_then (λ (x : Item). constant_of_body items x.body)) (no_item items v e)
+
+-- ---- the first items, which are in place
+
+-- the id of one of them is one more than its place
+in_turn : (items : List Item) (id k : ℕ) (o : Option Item) → slice_get items k ≡ o → find_item items id ≡ o → option_map_or (λ (x : Item). nat_eq (k + 1) x.id) o false ≡ true → id ≡ k + 1
+in_turn items id k None at found placed = absurd cc
+in_turn items id k (Some x) at found placed = (IsIn-from_find items id x found).1 ∙ sym (eqb-true (k + 1) x.id placed)
+
+-- so many of the items come first
+module _ (items : List Item) (id count : ℕ) (h : IsWellFormed items) (few : count ≤ length items) (front : (j : ℕ) → 1 ≤ j → j ≤ count → is_in_place items j ≡ true) (fits : id < 2 ^ 64) where
+  pub position_in_front : (id + 18446744073709551615) % 18446744073709551616 < count → Some ((id + 18446744073709551615) % 18446744073709551616) ≡ position_of items id
+  position_in_front lt =
+      let most = few_items items h in
+      let least : 1 ≤ id = omega (arith, lt, few, most) in
+      let same : (id + 18446744073709551615) % 18446744073709551616 ≡ id - 1 = omega (arith, least, fits) in
+      ap (λ (k : ℕ). Some k) same ∙ sym (position-in_place items id h (front id least (omega (arith, least, same, lt))))
+
+  -- where they are all, no other id has a position
+  pub position_behind : count ≤ (id + 18446744073709551615) % 18446744073709551616 → count ≡ length items → position_of items id ≡ None
+  position_behind ge all = by (position_of items id) refl
+    where
+      by : (o : Option ℕ) → position_of items id ≡ o → o ≡ None
+      by None e = refl
+      by (Some k) e =
+          let below = place_below items id k e in
+          let next : k + 1 - 1 ≡ k = omega arith in
+          let placed = subst (λ (j : ℕ). option_map_or (λ (x : Item). nat_eq (k + 1) x.id) (slice_get items j) false ≡ true) next (front (k + 1) (omega arith) (omega (arith, below, all))) in
+          let is = in_turn items id k (slice_get items k) refl (sym (position_found items id k e)) placed in
+          absurd (omega (arith, is, ge, below, all, fits))

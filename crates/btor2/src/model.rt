@@ -136,18 +136,15 @@ impl Model {
     fn is_in_place(&self, id: u64) -> bool
         ensures { result ≡ is_in_place self.now id }
     {
-        // the first items are, and are not touched
-        if 1 <= id && id <= self.in_place as u64 {
-            return true;
-        }
         match item_at(self.items.as_slice(), place_by_number(id)) {
             Some(item) => item.id == id,
             None => false,
         }
     }
 
-    /// The position in `items` of the item with an id.
-    pub fn position(&self, id: u64) -> Option<usize>
+    /// The same as `position`: the items are looked at, whichever it is.
+    #[inline(never)]
+    fn searched(&self, id: u64) -> Option<usize>
         ensures { result ≡ position_of self.now id }
     {
         // The item in place is asked first, since that takes no hash. If it has the id it is the one: ids are distinct.
@@ -156,6 +153,23 @@ impl Model {
         } else {
             found_in(&self.elsewhere, id)
         }
+    }
+
+    /// The position in `items` of the item with an id.
+    #[inline(always)]
+    pub fn position(&self, id: u64) -> Option<usize>
+        ensures { result ≡ position_of self.now id }
+    {
+        // the first items are in place, and are not touched; one less than 0 is more here than there are items
+        let place = id.wrapping_sub(1) as usize;
+        if place < self.in_place {
+            return Some(place);
+        }
+        // where they are all, no other id has an item
+        if self.in_place == self.items.len() {
+            return None;
+        }
+        self.searched(id)
     }
 
     /// The item with an id.
@@ -169,26 +183,41 @@ impl Model {
         }
     }
 
-    /// What the item at a position is to those that name it; where there is none, as a line without a value.
+    /// What the item at a position is to those that name it.
+    ///
+    /// Condition: `place` is below the number of items.
+    #[inline(always)]
     fn entry_at(&self, place: usize) -> Entry
+        requires { place < length self.now }
         ensures sort { entry_sort result ≡ option_and_then (λ (x : Item). sort_bits x.body) (slice_get self.now place) }
         ensures node { entry_node result ≡ width_at self.now place }
     {
-        match self.entries.get(place) {
-            Some(entry) => *entry,
+        self.entries[place]
+    }
+
+    /// The same as `entry`: the items are looked at, whichever it is.
+    #[inline(never)]
+    fn searched_entry(&self, id: u32) -> Entry
+        ensures sort { entry_sort result ≡ sort_width self.now id }
+        ensures node { entry_node result ≡ node_width self.now id }
+    {
+        match self.searched(u64::from(id)) {
+            Some(place) => self.entry_at(place),
             None => Entry::Other,
         }
     }
 
     /// What the item with an id is to those that name it.
+    #[inline(always)]
     fn entry(&self, id: u32) -> Entry
         ensures sort { entry_sort result ≡ sort_width self.now id }
         ensures node { entry_node result ≡ node_width self.now id }
     {
-        match self.position(u64::from(id)) {
-            Some(place) => self.entry_at(place),
-            None => Entry::Other,
+        let place = u64::from(id).wrapping_sub(1) as usize;
+        if place < self.in_place {
+            return self.entry_at(place);
         }
+        self.searched_entry(id)
     }
 
     /// The width of the sort with an id.
@@ -323,8 +352,7 @@ impl Model {
         requires { node < length self.now }
         ensures { result ≡ width_at self.now node }
     {
-        let width = self.entry_at(node).node_width()?;
-        Width::new(width)
+        self.entry_at(node).node()
     }
 
     /// The word of a constant node, by its position in `items`; none for other items.

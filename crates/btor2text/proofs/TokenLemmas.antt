@@ -1,12 +1,9 @@
 -- Which tokens a line has, from its front.
-use Rattle.std.proofs.Common.{◌≡◌, ℕ, zero, suc, ◌<◌, Bool, true, false, not, ◌||◌, ◌==◌, cond, Some, None, nat_lt, List, [], ◌∷◌, ◌++◌, length, get_or, take, drop, filter, refl, sym, ap, ◌∙◌, arith}
-use Rattle.std.specs.List.{list_any, position, position_or_len}
+use Rattle.std.proofs.Common.{◌≡◌, ℕ, zero, suc, ◌+◌, ◌<◌, true, false, not, ◌||◌, ◌==◌, cond, List, [], ◌∷◌, ◌++◌, length, get_or, take, drop, filter, refl, sym, ap, subst, ◌∙◌, arith}
+use Rattle.std.specs.List.{list_any}
 use Rattle.std.proofs.lemmas.Bool.{or_parts, or_from, not-true, not-false, both_ways, or_left}
 use Rattle.std.proofs.lemmas.Bool.Decides.{nat_tests}
 use Rattle.std.proofs.lemmas.List.{drop_more, take_all, drop_all, take-append-drop}
-use Rattle.std.proofs.lemmas.List.Quantifiers.{position-Some}
-use Rattle.std.proofs.lemmas.List.Sums.{fails_before_first}
-use Rattle.base.proofs.CutLemmas.{IsCut, none_passes}
 use Rattle.bstr.specs.Bytes.{is_in, not_in}
 use Rattle.btor2text.specs.Tokens.{is_blank, to_first, pieces, is_some_bytes, before_comment, tokens, begins_blank, begins_token}
 
@@ -17,31 +14,6 @@ blanks = 32 ∷ 9 ∷ []
 pub is_in-blanks : (b : ℕ) → is_in blanks b ≡ is_blank b
 unfolding is_in
 is_in-blanks b = grind (arith, nat_tests)
-
--- the first blank of a line cuts it, and where there is none no byte of it is a blank
-is_no_place : (b : Bool) (n : ℕ) → cond b (Some n) None ≡ None → b ≡ false
-is_no_place true n h = absurd cc
-is_no_place false n h = refl
-
-pub no_blank : (line : List ℕ) → position is_blank line ≡ None → list_any is_blank line ≡ false
-no_blank line h =
-    let past : nat_lt (position_or_len is_blank line) (length line) ≡ false = is_no_place _ _ h in
-    none_passes is_blank line (λ k lt e. both_ways _ (fails_before_first is_blank line k 0 (grind (arith, nat_tests))) e)
-
-none_before : (line : List ℕ) (n : ℕ) → ((k : ℕ) → k < n → is_blank (get_or line k 0) ≡ false) → list_any is_blank (take n line) ≡ false
-none_before line zero h = refl
-none_before [] (suc n) h = refl
-none_before (b ∷ bs) (suc n) h = or_from _ _ (h 0 (omega arith)) (none_before bs n (λ k lt. h (suc k) (omega arith)))
-
-pub cut_at_blank : (line : List ℕ) (at : ℕ) → position is_blank line ≡ Some at → IsCut is_blank line at
-cut_at_blank line at h =
-    let first = position-Some is_blank line at 0 h in
-    record {
-      before = none_before line at first.2;
-      passes = first.1;
-      parts = sym (take-append-drop at line) ∙ ap (λ (rest : List ℕ). take at line ++ rest) (drop_more line at 0 first.0);
-      inside = first.0;
-    }
 
 pub is_blank_not : (b : ℕ) → not_in blanks b ≡ true → is_blank b ≡ false
 is_blank_not b h = sym (is_in-blanks b) ∙ not-true (is_in blanks b) h
@@ -89,6 +61,17 @@ word_is_token c cs ps h = let parts = or_parts (is_blank c) (c == 59) (not-true 
 pub tokens-word_blank : (word : List ℕ) (b : ℕ) (rest : List ℕ) → list_any is_blank word ≡ false → is_blank b ≡ true → begins_token (word ++ b ∷ rest) ≡ true → tokens (word ++ b ∷ rest) ≡ word ∷ tokens rest
 tokens-word_blank [] b rest h blank begins = absurd (both_ways (is_blank b || (b == 59)) (not-true _ begins) (or_left _ _ blank))
 tokens-word_blank (c ∷ cs) b rest h blank begins = ap tokens_of (pieces-word_blank (c ∷ cs) b rest h blank) ∙ word_is_token c cs (pieces rest) begins
+
+-- a line up to its first blank is a token, where it begins one
+pub tokens-to_blank : (line : List ℕ) (at : ℕ) → at < length line → list_any is_blank (take at line) ≡ false → is_blank (get_or line at 0) ≡ true → begins_token line ≡ true → tokens line ≡ take at line ∷ tokens (drop (at + 1) line)
+tokens-to_blank line at inside none blank begins =
+    let parts : line ≡ take at line ++ get_or line at 0 ∷ drop (at + 1) line = sym (take-append-drop at line) ∙ ap (λ (rest : List ℕ). take at line ++ rest) (drop_more line at 0 inside) in
+    ap tokens parts ∙ tokens-word_blank (take at line) (get_or line at 0) (drop (at + 1) line) none blank (subst (λ l. begins_token l ≡ true) parts begins)
+
+-- and its first byte is no blank
+pub first_is_none : (line : List ℕ) → begins_token line ≡ true → list_any is_blank (take 1 line) ≡ false
+first_is_none [] h = absurd cc
+first_is_none (b ∷ bs) h = or_from _ _ (or_parts (is_blank b) (b == 59) (not-true _ h)).0 refl
 
 pub tokens-word : (word : List ℕ) → list_any is_blank word ≡ false → begins_token word ≡ true → tokens word ≡ word ∷ []
 tokens-word [] h begins = absurd cc

@@ -46,36 +46,39 @@ fn operand(token: &[u8]) -> Result<u64, Why>
     }
 }
 
-/// The greatest number that has room for one more digit, whatever that is.
-const ROOM: u64 = u64::MAX / 10 - 1;
+/// The greatest number of digits that write a number below 2^32, whatever they are.
+const MOST_DIGITS: usize = 9;
 
 /// The number that a line begins with, and the line behind it, where the first token begins at once, with a digit from
-/// 1 to 9, is all digits and its number has room below 2^64; else nothing. Each byte is looked at once. Of nothing no
-/// more is said, so a body that always answers it would prove: the callers' contracts pin what is read.
+/// 1 to 9, and is all digits, of which there are few; else nothing. Each byte is looked at once, and the number is kept
+/// modulo 2^32 until it is known that so few digits write it. Of nothing no more is said, so a body that always answers
+/// it would prove: the callers' contracts pin what is read.
 #[inline(always)]
 fn number_at(line: &[u8]) -> Option<(u64, &[u8])>
     ensures { IfSome result (λ x. plain_at (tokens line.now) ≡ Ok (x.0, tokens x.1.now)) }
 {
     let mut value = match line {
-        [first, ..] if *first >= b'1' && *first <= b'9' => u64::from(*first - b'0'),
+        [first, ..] if *first >= b'1' && *first <= b'9' => u32::from(*first) - 48,
         _ => return None,
     };
     for at in 1..line.len() {
         let byte = line[at];
-        if byte < b'0' || byte > b'9' {
-            if byte != b' ' && byte != b'\t' {
+        let digit = u32::from(byte).wrapping_sub(48);
+        if digit > 9 {
+            if at > MOST_DIGITS || (byte != b' ' && byte != b'\t') {
                 return None;
             }
             let (_, rest) = line.split_at(at + 1);
-            return Some((value, rest));
+            return Some((u64::from(value), rest));
         }
-        if value > ROOM {
-            return None;
-        }
-        value = value * 10 + u64::from(byte - b'0');
+        value = value.wrapping_mul(10).wrapping_add(digit);
     }
-    let (_, rest) = line.split_at(line.len());
-    Some((value, rest))
+    if line.len() > MOST_DIGITS {
+        None
+    } else {
+        let (_, rest) = line.split_at(line.len());
+        Some((u64::from(value), rest))
+    }
 }
 
 /// The same as `plain_at`: the first token is cut off, and then read.
@@ -189,6 +192,7 @@ pub(crate) fn width_at(line: &[u8]) -> Result<(u64, &[u8]), Why>
 }
 
 /// A sort and an operand, and the line behind them.
+#[inline(always)]
 #[tactic(auto, unfolding(crate::specs::Reading::pair_at))]
 pub(crate) fn pair_at(line: &[u8]) -> Result<(u32, u32, &[u8]), Why>
     ensures { Gives (λ x. (x.0, x.1, tokens x.2.now)) result (pair_at (tokens line.now)) }
@@ -199,6 +203,7 @@ pub(crate) fn pair_at(line: &[u8]) -> Result<(u32, u32, &[u8]), Why>
 }
 
 /// A sort and two operands, and the line behind them.
+#[inline(always)]
 #[tactic(auto, unfolding(crate::specs::Reading::triple_at))]
 pub(crate) fn triple_at(line: &[u8]) -> Result<(u32, u32, u32, &[u8]), Why>
     ensures { Gives (λ x. (x.0, x.1, x.2, tokens x.3.now)) result (triple_at (tokens line.now)) }

@@ -1,7 +1,6 @@
 //! The tokens of a line.
 ghost use Rattle.std.specs.Prelude.{◌≡◌, true, false, [], ◌∷◌, MatchOption};
-ghost use Rattle.std.specs.List.{position};
-ghost use Rattle.btor2text.specs.Tokens.{is_blank, tokens, begins_token, begins_blank};
+ghost use Rattle.btor2text.specs.Tokens.{tokens, begins_token, begins_blank};
 
 use bstr::ByteSlice;
 
@@ -23,49 +22,36 @@ fn without_blanks(line: &[u8]) -> &[u8]
     }
 }
 
-/// The same. Between most tokens there is one blank, which is cut off with the token before it.
-#[inline(always)]
-fn skip_blanks(line: &[u8]) -> &[u8]
-    ensures same { tokens result.now ≡ tokens line.now }
-    ensures begins { begins_blank result.now ≡ false }
-{
-    match line {
-        [b' ' | b'\t', ..] => without_blanks(line),
-        _ => line,
-    }
-}
-
-/// Where the first blank of a line stands. Tokens are short, so this is a plain loop and no search that is made for
-/// long texts.
-#[inline(always)]
-fn first_blank(line: &[u8]) -> Option<usize>
-    ensures { result ≡ position is_blank line.now }
-{
-    line.iter().position(|b| *b == b' ' || *b == b'\t')
-}
-
-/// A token at the start of a line, and the line behind it.
+/// A token at the start of a line, and the line behind it. Tokens are short, so this is a plain loop and no search that
+/// is made for long texts.
 #[inline(always)]
 fn cut(line: &[u8]) -> (&[u8], &[u8])
     requires { begins_token line.now ≡ true }
     ensures { tokens line.now ≡ result.0.now ∷ tokens result.1.now }
 {
-    match first_blank(line) {
-        None => line.split_at(line.len()),
-        Some(at) => {
-            let (token, rest) = line.split_at(at);
-            let (_, after) = rest.split_at(1);
-            (token, after)
+    // the first byte is no blank
+    for at in 1..line.len() {
+        if line[at] == b' ' || line[at] == b'\t' {
+            let (token, _) = line.split_at(at);
+            let (_, rest) = line.split_at(at + 1);
+            return (token, rest);
         }
     }
+    line.split_at(line.len())
 }
 
-/// A line from its first token on; nothing where no token stands before a comment.
+/// A line from its first token on; nothing where no token stands before a comment. Between most tokens there is one
+/// blank, which is cut off with the token before it, so most often the line begins with the token, or is empty.
 #[inline(always)]
 pub(crate) fn from_token(line: &[u8]) -> Option<&[u8]>
     ensures { MatchOption result (tokens line.now ≡ []) (λ x. (tokens x.now ≡ tokens line.now) × (begins_token x.now ≡ true)) }
 {
-    let rest = skip_blanks(line);
+    match line {
+        [] => return None,
+        [first, ..] if *first > b' ' && *first != b';' => return Some(line),
+        _ => {}
+    }
+    let rest = without_blanks(line);
     match rest {
         [] => None,
         [b';', ..] => None,

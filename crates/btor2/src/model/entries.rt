@@ -1,6 +1,6 @@
 //! What items are to the lines that name them.
-ghost use Rattle.std.specs.Prelude.{◌≡◌, ◌≤◌, IfSome};
-ghost use Rattle.btor2.specs.Entries.{entry_sort, entry_node};
+ghost use Rattle.std.specs.Prelude.{◌≡◌, ◌≤◌, IfSome, None};
+ghost use Rattle.btor2.specs.Entries.{entry_sort, entry_node, entry_by};
 
 use base::Width;
 
@@ -35,6 +35,26 @@ impl Entry {
         match self {
             Entry::Node(width) => Some(width.bits()),
             Entry::Sort(_) | Entry::Other => None,
+        }
+    }
+
+    /// The width of a node, as such.
+    pub(crate) fn node(self) -> Option<Width>
+        ensures { result ≡ entry_node self }
+    {
+        match self {
+            Entry::Node(width) => Some(width),
+            Entry::Sort(_) | Entry::Other => None,
+        }
+    }
+
+    /// What a node of this sort is.
+    pub(crate) fn of_node(self) -> Entry
+        ensures { result ≡ entry_by None (entry_sort self) }
+    {
+        match self {
+            Entry::Sort(width) => Entry::Node(width),
+            Entry::Node(_) | Entry::Other => Entry::Other,
         }
     }
 }

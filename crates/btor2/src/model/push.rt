@@ -1,5 +1,5 @@
 //! How an item is added: the lists and maps beside the items get their entries first.
-ghost use Rattle.std.specs.Prelude.{◌≡◌, ℕ, ◌<◌, ◌≤◌, ◌+◌, ◌-◌, ◌==◌, ◌&&◌, IfSome, not, false, [], ◌∷◌, ◌++◌, None, Some, OnOk, OnErr, IfErr, is_ok, MatchResult, nat_eq, if◌then◌else◌, length, vec_len, vec_capacity};
+ghost use Rattle.std.specs.Prelude.{◌≡◌, ℕ, ◌<◌, ◌≤◌, ◌+◌, ◌-◌, ◌^◌, ◌==◌, ◌&&◌, IfSome, not, false, [], ◌∷◌, ◌++◌, None, Some, OnOk, OnErr, IfErr, is_ok, MatchResult, nat_eq, if◌then◌else◌, length, vec_len, vec_capacity};
 ghost use Rattle.std.specs.HashMap.{get};
 ghost use Rattle.std.specs.Option.{option_or};
 ghost use Rattle.indexmap.specs.IndexMap.{spare};
@@ -67,16 +67,23 @@ fn make_room(
     }
 }
 
-/// Adds the place of an item by its id, where the id is not in place and there is room.
-fn add_elsewhere(elsewhere: &mut IndexMap<u64, usize>, id: u64, place: usize)
-    requires { (id - 1 == place) ≡ false → 0 < spare elsewhere.old }
-    ensures { (k : ℕ) → get nat_eq elsewhere.new k ≡ (if not (id - 1 == place) && (k == id) then Some place else get nat_eq elsewhere.old k) }
+/// Adds the place of an item by its id, where the id is not in place and there is room. Answers how many of the first
+/// items are in place with it.
+fn add_by_id(elsewhere: &mut IndexMap<u64, usize>, in_place: usize, id: u64, place: usize) -> usize
+    requires room { (id - 1 == place) ≡ false → 0 < spare elsewhere.old }
+    requires few { place < 2 ^ 64 - 1 }
+    ensures elsewhere { (k : ℕ) → get nat_eq elsewhere.new k ≡ (if not (id - 1 == place) && (k == id) then Some place else get nat_eq elsewhere.old k) }
+    ensures front { result ≡ (if (in_place == place) && (id - 1 == place) then in_place + 1 else in_place) }
 {
     if place_by_number(id) != place {
         match elsewhere.insert(id, place) {
-            Ok(_) => {}
+            Ok(_) => in_place,
             Err(_) => unreachable!(),
         }
+    } else if in_place == place {
+        in_place + 1
+    } else {
+        in_place
     }
 }
 
@@ -88,18 +95,6 @@ fn add_last<T: Drop>(list: &mut Vec<T>, last: T)
     match list.push(last) {
         Ok(()) => {}
         Err(_) => unreachable!(),
-    }
-}
-
-/// How many of the first items are in place, with one more item.
-fn more_in_place(in_place: usize, place: usize, id: u64) -> usize
-    requires { in_place ≤ place }
-    ensures { result ≡ (if (in_place == place) && (id - 1 == place) then in_place + 1 else in_place) }
-{
-    if in_place == place && place_by_number(id) == place {
-        in_place.saturating_add(1)
-    } else {
-        in_place
     }
 }
 
@@ -146,11 +141,8 @@ impl Model {
                 Some(width) => Entry::Sort(width),
                 None => unreachable!(),
             },
-            None => match self.body_width(body) {
-                Some(bits) => match Width::new(bits) {
-                    Some(width) => Entry::Node(width),
-                    None => unreachable!(),
-                },
+            None => match body.node_sort() {
+                Some(sort) => self.entry(sort).of_node(),
                 None => Entry::Other,
             },
         }
@@ -185,8 +177,7 @@ impl Model {
             &mut self.nexts,
         ) {
             Ok(()) => {
-                add_elsewhere(&mut self.elsewhere, item.id, place);
-                self.in_place = more_in_place(self.in_place, place, item.id);
+                self.in_place = add_by_id(&mut self.elsewhere, self.in_place, item.id, place);
                 add_last(&mut self.entries, entry);
                 add_last(&mut self.items, item);
                 Ok(())

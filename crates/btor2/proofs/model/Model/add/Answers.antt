@@ -23,9 +23,9 @@ invariant_of-self-in-Ok-note c =
     record {
       well_formed = items-added xs ys x known.well_formed accepted added;
       parts = parts-added xs ys x known.parts c.know_parts.ensures added;
-      elsewhere = elsewhere-added xs ys x place (get nat_eq c.make_room.new.elsewhere) (get nat_eq c.add_elsewhere.new.elsewhere) known.well_formed accepted added at (λ id. c.make_room.ensures.kept id ∙ known.elsewhere id) c.add_elsewhere.ensures;
-      few = few-added xs ys x place c.self.inside.in_place c.more_in_place-self-inside.result added at known.few c.more_in_place-self-inside.ensures;
-      front = front-added xs ys x place c.self.inside.in_place c.more_in_place-self-inside.result known.well_formed accepted added at known.front c.more_in_place-self-inside.ensures;
+      elsewhere = elsewhere-added xs ys x place (get nat_eq c.make_room.new.elsewhere) (get nat_eq c.add_by_id-self-inside.new.elsewhere) known.well_formed accepted added at (λ id. c.make_room.ensures.kept id ∙ known.elsewhere id) c.add_by_id-self-inside.ensures.elsewhere;
+      few = few-added xs ys x place c.self.inside.in_place c.add_by_id-self-inside.result added at known.few c.add_by_id-self-inside.ensures.front;
+      front = front-added xs ys x place c.self.inside.in_place c.add_by_id-self-inside.result known.well_formed accepted added at known.front c.add_by_id-self-inside.ensures.front;
       entries = entries-added xs ys x c.self.inside.entries.items c.make_room.new.entries.items c.add_last.new.list.items c.entry_of-entry.result known.well_formed accepted added known.entries c.make_room.ensures.same_entries (c.entry_of-entry.ensures ∙ ap (λ (l : List Item). entry_of l x.body) (sym c.self.view_is)) c.add_last.ensures;
       inputs = places-added is_input xs ys x place c.self.inside.inputs.items c.note.new.inputs.items added at known.inputs c.in-Ok-note.ensures.inputs;
       states = places-added is_state xs ys x place c.self.inside.states.items c.note.new.states.items added at known.states c.in-Ok-note.ensures.states;

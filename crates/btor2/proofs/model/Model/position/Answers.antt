@@ -1,8 +1,14 @@
-use Rattle.std.proofs.Common.{ℕ, Some, sym, ap, ◌∙◌}
-use Rattle.btor2.proofs.LookUps.{position-in_place}
+use Rattle.std.proofs.Common.{◌≡◌, length, rules, sym}
+use Rattle.btor2.proofs.LookUps.{position_in_front, position_behind}
 use Rattle.btor2.proofs.model.Model.position.Goals as goal
 
-pub returns-then-is_in_place : goal.returns-then-is_in_place
-returns-then-is_in_place c =
-    let placed = position-in_place c.self.inside.items.items c.args.id c.self.invariant.well_formed (rw c.self.view_is (sym c.is_in_place.ensures ∙ c.if-is_in_place.true)) in
-    ap (λ (k : ℕ). Some k) c.place_by_number.ensures ∙ rw (← c.self.view_is) (sym placed)
+pub returns-then-place-self : goal.returns-then-place-self
+returns-then-place-self c =
+    let known = c.self.invariant in
+    rw (← c.self.view_is) (position_in_front c.self.inside.items.items c.args.id c.self.inside.in_place known.well_formed known.few known.front c.ranges.id.fits c.if-place-self.true)
+
+pub returns-then-self-len : goal.returns-then-self-len
+returns-then-self-len c =
+    let known = c.self.invariant in
+    let all : c.self.inside.in_place ≡ length c.self.inside.items.items = search rules in
+    rw (← c.self.view_is) (sym (position_behind c.self.inside.items.items c.args.id c.self.inside.in_place known.well_formed known.few known.front c.ranges.id.fits c.if-place-self.false all))
