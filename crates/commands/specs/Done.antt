@@ -304,7 +304,7 @@ AnswersByName (named.LiftForm choice) first second third before now told told' a
 AnswersByName (named.CheckProof g choice) first second third before now told told' a = CertifiesByName g choice first second third before now told told' a
 
 -- what a command has done that answers so. Of `first`, `second` and `third` each, all bytes that were to come are known, or none are; `before` and `now` stand on standard output, `told` and `told'` on standard error
-abbrev pub Answers : Task → Form → Answer → Option (List ℕ) → Option (List ℕ) → Option (List ℕ) → Option (List ℕ) → Option (List ℕ) → Option (List ℕ) → Option (List ℕ) → Type 0
+unfoldable pub Answers : Task → Form → Answer → Option (List ℕ) → Option (List ℕ) → Option (List ℕ) → Option (List ℕ) → Option (List ℕ) → Option (List ℕ) → Option (List ℕ) → Type 0
 Answers task.Lower form answer.Done first second third before now told told' = Converts first before now form
 Answers (task.LowerForEngines choice) form answer.Done first second third before now told told' = LowersForEngines first before now form choice
 Answers task.CheckBtor form a first second third before now told told' = Judged (IsJudged first second before now) a

@@ -128,6 +128,7 @@ fn is_on_certificates(task: Task) -> bool
 }
 
 /// Does a command on certificates.
+#[tactic(auto, unfolding(crate::specs::Done::Answers))]
 fn obey_on_certificates<A: Source, B: Source, T: Source, O: Sink, E: Sink, W: Watch>(
     alloc: Global,
     task: Task,
@@ -164,6 +165,7 @@ fn obey_on_certificates<A: Source, B: Source, T: Source, O: Sink, E: Sink, W: Wa
 }
 
 /// Does a command that reads no third file and is on no certificate.
+#[tactic(auto, unfolding(crate::specs::Done::Answers))]
 fn obey_two<A: Source, B: Source, O: Sink, E: Sink, W: Watch>(
     alloc: Global,
     order: &Order<'_>,
