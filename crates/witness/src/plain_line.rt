@@ -25,7 +25,7 @@ fn ended(text: &[u8], at: usize, value: u64, end: u8) -> Option<(u64, &[u8])>
 }
 
 /// The number that stands at the front of a text up to this byte, and the text behind the byte, where the number is a
-/// decimal of at most 19 digits; else nothing. Each byte is looked at once.
+/// decimal of at most 19 digits; else nothing.
 #[inline(always)]
 fn number_before(text: &[u8], end: u8) -> Option<(u64, &[u8])>
     requires { end < 48 }
@@ -120,8 +120,7 @@ fn is_name(bytes: &[u8]) -> bool
     }
 }
 
-/// The text behind a name and the end of its line, where a text begins so behind a space. Each byte of the name is
-/// looked at once.
+/// The text behind a name and the end of its line, where a text begins so behind a space.
 #[inline(always)]
 fn behind_symbol(text: &[u8]) -> Option<&[u8]>
     ensures { MatchOption result (NoName (32 ∷ text.now)) (λ rest. BeginsName (32 ∷ text.now) rest.now) }

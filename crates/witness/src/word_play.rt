@@ -232,7 +232,6 @@ impl<'a> WordPlay<'a> {
 
     /// Closes the open frame: settles it, and looks at its constraints and at the bad properties. The run moves on later,
     /// so that the frame's words can be read.
-    #[inline(always)]
     pub(crate) fn close(&mut self)
         ensures more { (frames : List FrameWords) (here : FrameWords) → Plays self.old.items frames here self.old → length frames < 2 ^ 62 → Plays self.old.items (frames ++ here ∷ []) nothing_given self.new }
         ensures same { self.new.items ≡ self.old.items }
