@@ -195,18 +195,6 @@ impl Model {
         self.entries[place]
     }
 
-    /// The same as `entry`: the items are looked at, whichever it is.
-    #[inline(never)]
-    fn searched_entry(&self, id: u64) -> Entry
-        ensures sort { entry_sort result ≡ sort_width self.now id }
-        ensures node { entry_node result ≡ node_width self.now id }
-    {
-        match self.searched(id) {
-            Some(place) => self.entry_at(place),
-            None => Entry::Other,
-        }
-    }
-
     /// What the item with an id is to those that name it.
     #[inline(always)]
     fn entry(&self, id: u32) -> Entry
@@ -216,9 +204,11 @@ impl Model {
         let id = u64::from(id);
         let place = id.wrapping_sub(1) as usize;
         if place < self.in_place {
-            self.entry_at(place)
-        } else {
-            self.searched_entry(id)
+            return self.entry_at(place);
+        }
+        match self.searched(id) {
+            Some(place) => self.entry_at(place),
+            None => Entry::Other,
         }
     }
 
