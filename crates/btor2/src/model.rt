@@ -195,29 +195,21 @@ impl Model {
         self.entries[place]
     }
 
-    /// The same as `entry`: the items are looked at, whichever it is.
-    #[inline(never)]
-    fn searched_entry(&self, id: u32) -> Entry
-        ensures sort { entry_sort result ≡ sort_width self.now id }
-        ensures node { entry_node result ≡ node_width self.now id }
-    {
-        match self.searched(u64::from(id)) {
-            Some(place) => self.entry_at(place),
-            None => Entry::Other,
-        }
-    }
-
     /// What the item with an id is to those that name it.
     #[inline(always)]
     fn entry(&self, id: u32) -> Entry
         ensures sort { entry_sort result ≡ sort_width self.now id }
         ensures node { entry_node result ≡ node_width self.now id }
     {
-        let place = u64::from(id).wrapping_sub(1) as usize;
+        let id = u64::from(id);
+        let place = id.wrapping_sub(1) as usize;
         if place < self.in_place {
             return self.entry_at(place);
         }
-        self.searched_entry(id)
+        match self.searched(id) {
+            Some(place) => self.entry_at(place),
+            None => Entry::Other,
+        }
     }
 
     /// The width of the sort with an id.
@@ -241,7 +233,8 @@ impl Model {
     fn node_width(&self, id: u32) -> Option<u64>
         ensures { result ≡ node_width self.now id }
     {
-        self.entry(id).node_width()
+        let width = self.entry(id).node()?;
+        Some(width.bits())
     }
 
     /// The word of a constant's body.

@@ -11,7 +11,7 @@ use base::decimal;
 use std::alloc::Global;
 
 /// The number of a token in a plain place.
-#[inline(always)]
+#[inline(never)]
 #[tactic(auto, unfolding(crate::specs::Reading::plain))]
 fn plain(token: &[u8]) -> Result<u64, Why>
     ensures { Gives (λ n. n) result (plain token.now) }
@@ -34,7 +34,7 @@ fn is_negative(token: &[u8]) -> bool
 }
 
 /// The number of a token in an operand's place.
-#[inline(always)]
+#[inline(never)]
 #[tactic(auto, unfolding(crate::specs::Reading::operand))]
 fn operand(token: &[u8]) -> Result<u64, Why>
     ensures { Gives (λ n. n) result (operand token.now) }
@@ -82,7 +82,7 @@ fn number_at(line: &[u8]) -> Option<(u64, &[u8])>
 }
 
 /// The same as `plain_at`: the first token is cut off, and then read.
-#[inline(never)]
+#[inline(always)]
 #[tactic(auto, unfolding(crate::specs::Reading::plain_at))]
 fn plain_token_at(line: &[u8]) -> Result<(u64, &[u8]), Why>
     ensures { Gives (λ x. (x.0, tokens x.1.now)) result (plain_at (tokens line.now)) }
@@ -147,7 +147,7 @@ pub(crate) fn bit_at(line: &[u8]) -> Result<(u32, &[u8]), Why>
 }
 
 /// The same as `operand_at`: the first token is cut off, and then read.
-#[inline(never)]
+#[inline(always)]
 #[tactic(auto, unfolding(crate::specs::Reading::operand_at))]
 fn operand_token_at(line: &[u8]) -> Result<(u32, &[u8]), Why>
     ensures { Gives (λ x. (x.0, tokens x.1.now)) result (operand_at (tokens line.now)) }

@@ -28,17 +28,6 @@ impl Entry {
     }
 
     /// The width of a node.
-    pub(crate) fn node_width(self) -> Option<u64>
-        ensures value { result ≡ entry_node self }
-        ensures range { IfSome result (λ n. (1 ≤ n) × (n ≤ 64)) }
-    {
-        match self {
-            Entry::Node(width) => Some(width.bits()),
-            Entry::Sort(_) | Entry::Other => None,
-        }
-    }
-
-    /// The width of a node, as such.
     pub(crate) fn node(self) -> Option<Width>
         ensures { result ≡ entry_node self }
     {
