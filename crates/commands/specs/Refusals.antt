@@ -182,7 +182,7 @@ IsNotClaimed g choice known fault.Unchosen = GivesUnchosen g choice known
 IsNotClaimed g choice known f = IsNotGiven g known f
 
 -- the first text has this fault, for which a command refuses it that says by name what its judgement is about
-abbrev pub RefusesByName : Named → Option (List ℕ) → Fault → Type 0
+unfoldable pub RefusesByName : Named → Option (List ℕ) → Fault → Type 0
 RefusesByName named.CheckBtor known f = IsNotJudged known f
 RefusesByName named.CheckAig known f = IsNoCircuit known f
 RefusesByName named.Lift known f = IsNotLowered known f
@@ -191,7 +191,7 @@ RefusesByName (named.LiftForm choice) known f = IsNotForEngines given.Model choi
 RefusesByName (named.CheckProof g choice) known f = IsNotClaimed g choice known f
 
 -- the first text has this fault, for which a command refuses it
-abbrev pub Refuses : Task → Option (List ℕ) → Fault → Type 0
+unfoldable pub Refuses : Task → Option (List ℕ) → Fault → Type 0
 Refuses task.Lower known f = IsNotLowered known f
 Refuses (task.LowerForEngines choice) known f = IsNotForEngines given.Model choice known f
 Refuses task.CheckBtor known f = IsNotJudged known f

@@ -128,7 +128,7 @@ fn is_on_certificates(task: Task) -> bool
 }
 
 /// Does a command on certificates.
-#[tactic(auto, unfolding(crate::specs::Done::Answers))]
+#[tactic(auto, unfolding(crate::specs::Done::Answers, crate::specs::Refusals::Refuses, crate::specs::Refusals::RefusesByName))]
 fn obey_on_certificates<A: Source, B: Source, T: Source, O: Sink, E: Sink, W: Watch>(
     alloc: Global,
     task: Task,
@@ -165,7 +165,7 @@ fn obey_on_certificates<A: Source, B: Source, T: Source, O: Sink, E: Sink, W: Wa
 }
 
 /// Does a command that reads no third file and is on no certificate.
-#[tactic(auto, unfolding(crate::specs::Done::Answers))]
+#[tactic(auto, unfolding(crate::specs::Done::Answers, crate::specs::Refusals::Refuses))]
 fn obey_two<A: Source, B: Source, O: Sink, E: Sink, W: Watch>(
     alloc: Global,
     order: &Order<'_>,
