@@ -295,7 +295,7 @@ IsJudgedOverWith false circuit witness before now told told' verdict = IsJudgedO
 IsJudgedOverWith true circuit witness before now told told' verdict = IsJudgedOverByName circuit witness before now told told' verdict
 
 -- what a command has done that says by name what its judgement is about
-abbrev pub AnswersByName : Named → Option (List ℕ) → Option (List ℕ) → Option (List ℕ) → Option (List ℕ) → Option (List ℕ) → Option (List ℕ) → Option (List ℕ) → Answer → Type 0
+unfoldable pub AnswersByName : Named → Option (List ℕ) → Option (List ℕ) → Option (List ℕ) → Option (List ℕ) → Option (List ℕ) → Option (List ℕ) → Option (List ℕ) → Answer → Type 0
 AnswersByName named.CheckBtor first second third before now told told' a = Judged (IsJudgedByName first second before now told told') a
 AnswersByName named.CheckAig first second third before now told told' a = Judged (IsJudgedOverByName first second before now told told') a
 AnswersByName named.Lift first second third before now told told' a = Judged (IsLifted true first second before now told told') a
@@ -330,7 +330,7 @@ abbrev pub AnswersSome : Task → Form → Answer → Option (List ℕ) → Opti
 AnswersSome task form a first second third told told' = (before : Option (List ℕ)) × ((now : Option (List ℕ)) × Answers task form a first second third before now told told')
 
 -- a command has one file
-abbrev pub has_one_file : Task → Bool
+unfoldable pub has_one_file : Task → Bool
 has_one_file task.CheckBtor = false
 has_one_file task.CheckAig = false
 has_one_file task.Lift = false
@@ -345,20 +345,20 @@ has_one_file (task.CheckProof g choice) = false
 has_one_file _ = true
 
 -- a command is on certificates
-abbrev pub is_on_certificates : Task → Bool
+unfoldable pub is_on_certificates : Task → Bool
 is_on_certificates (task.Obligation g choice) = true
 is_on_certificates (task.CheckProof g choice) = true
 is_on_certificates (task.Named (named.CheckProof g choice)) = true
 is_on_certificates _ = false
 
 -- a command has three files
-abbrev pub has_three_files : Task → Bool
+unfoldable pub has_three_files : Task → Bool
 has_three_files (task.CheckProof g choice) = true
 has_three_files (task.Named (named.CheckProof g choice)) = true
 has_three_files _ = false
 
 -- a command that is done tells nothing on standard error
-abbrev pub is_quiet : Task → Bool
+unfoldable pub is_quiet : Task → Bool
 is_quiet task.Lift = false
 is_quiet (task.Restore choice) = false
 is_quiet (task.RestoreForm choice) = false

@@ -19,7 +19,7 @@ use orders::Named;
 use std::alloc::Global;
 
 /// Does a command that says by name what its judgement is about, and is on no certificate.
-#[tactic(auto, unfolding(crate::specs::Refusals::RefusesByName))]
+#[tactic(auto, unfolding(crate::specs::Done::AnswersByName, crate::specs::Done::is_on_certificates, crate::specs::Refusals::RefusesByName))]
 pub(crate) fn judge_by_name<A: Source, B: Source, O: Sink, E: Sink, W: Watch>(
     alloc: Global,
     named: Named,

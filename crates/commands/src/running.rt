@@ -89,6 +89,7 @@ pub fn run<A: Source, B: Source, T: Source, O: Sink, E: Sink, W: Watch>(
 }
 
 /// Does a command, and tells no refusal.
+#[tactic(auto, unfolding(crate::specs::Done::is_on_certificates, crate::specs::Done::has_one_file, crate::specs::Done::has_three_files))]
 fn obey<A: Source, B: Source, T: Source, O: Sink, E: Sink, W: Watch>(
     alloc: Global,
     order: &Order<'_>,
@@ -118,6 +119,7 @@ fn obey<A: Source, B: Source, T: Source, O: Sink, E: Sink, W: Watch>(
 }
 
 /// Whether a command is on certificates.
+#[tactic(auto, unfolding(crate::specs::Done::is_on_certificates))]
 fn is_on_certificates(task: Task) -> bool
     ensures { result ≡ is_on_certificates task }
 {
@@ -128,7 +130,7 @@ fn is_on_certificates(task: Task) -> bool
 }
 
 /// Does a command on certificates.
-#[tactic(auto, unfolding(crate::specs::Done::Answers, crate::specs::Refusals::Refuses, crate::specs::Refusals::RefusesByName))]
+#[tactic(auto, unfolding(crate::specs::Done::Answers, crate::specs::Done::AnswersByName, crate::specs::Done::is_on_certificates, crate::specs::Done::is_quiet, crate::specs::Done::has_three_files, crate::specs::Refusals::Refuses, crate::specs::Refusals::RefusesByName))]
 fn obey_on_certificates<A: Source, B: Source, T: Source, O: Sink, E: Sink, W: Watch>(
     alloc: Global,
     task: Task,
@@ -165,7 +167,7 @@ fn obey_on_certificates<A: Source, B: Source, T: Source, O: Sink, E: Sink, W: Wa
 }
 
 /// Does a command that reads no third file and is on no certificate.
-#[tactic(auto, unfolding(crate::specs::Done::Answers, crate::specs::Refusals::Refuses))]
+#[tactic(auto, unfolding(crate::specs::Done::Answers, crate::specs::Done::is_on_certificates, crate::specs::Done::is_quiet, crate::specs::Done::has_one_file, crate::specs::Refusals::Refuses))]
 fn obey_two<A: Source, B: Source, O: Sink, E: Sink, W: Watch>(
     alloc: Global,
     order: &Order<'_>,

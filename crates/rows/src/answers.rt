@@ -1,6 +1,6 @@
 //! What commands answer on files that are given whole, in pieces and by devices that fail.
 
-use base::{Chop, FailAt, Source, VecSink};
+use base::{Chop, FailAt, Sink, Source, VecSink};
 use blast::Unwatched;
 use commands::{Input, NoFile, run};
 use orders::Order;
@@ -28,6 +28,20 @@ pub(crate) struct Files<'a> {
     pub(crate) third: &'a [u8],
 }
 
+/// The status of a command on three files. Nothing is said of it: `run` has a dozen clauses, which the prover writes out
+/// wherever it is called, so that it is called here alone.
+pub(crate) fn status_on<A: Source, B: Source, T: Source, O: Sink, E: Sink>(
+    alloc: Global,
+    order: &Order<'_>,
+    first: &mut A,
+    second: &mut B,
+    third: &mut T,
+    out: &mut O,
+    err: &mut E,
+) -> u8 {
+    run(alloc, order, first, second, third, out, err, &mut Unwatched)
+}
+
 /// Whether a command gives an answer; where a device fails, a beginning of what would stand on standard output is enough.
 pub(crate) fn gives<A: Source, B: Source, T: Source>(
     alloc: Global,
@@ -39,16 +53,7 @@ pub(crate) fn gives<A: Source, B: Source, T: Source>(
 ) -> bool {
     let mut out = VecSink::new(alloc);
     let mut err = VecSink::new(alloc);
-    let status = run(
-        alloc,
-        order,
-        first,
-        second,
-        third,
-        &mut out,
-        &mut err,
-        &mut Unwatched,
-    );
+    let status = status_on(alloc, order, first, second, third, &mut out, &mut err);
     let is_written = if status == 3 {
         wanted.out.starts_with(out.bytes())
     } else {
@@ -199,7 +204,7 @@ fn tells_failing_write(
     let (mut first, mut second, mut third) = (files.first, files.second, files.third);
     let mut out = FailAt::new(Chop::new(VecSink::new(alloc), FEW), call);
     let mut err = VecSink::new(alloc);
-    run(
+    let status = status_on(
         alloc,
         order,
         &mut first,
@@ -207,8 +212,8 @@ fn tells_failing_write(
         &mut third,
         &mut out,
         &mut err,
-        &mut Unwatched,
-    ) == 3
+    );
+    status == 3
         && err.bytes() == b"output: device\n".as_slice()
         && text.starts_with(out.inner().inner().bytes())
 }
@@ -233,7 +238,7 @@ pub(crate) fn status_untold(alloc: Global, order: &Order<'_>, files: Files<'_>) 
     let (mut first, mut second, mut third) = (files.first, files.second, files.third);
     let mut out = VecSink::new(alloc);
     let mut err = FailAt::new(VecSink::new(alloc), 0);
-    run(
+    status_on(
         alloc,
         order,
         &mut first,
@@ -241,6 +246,5 @@ pub(crate) fn status_untold(alloc: Global, order: &Order<'_>, files: Files<'_>) 
         &mut third,
         &mut out,
         &mut err,
-        &mut Unwatched,
     )
 }

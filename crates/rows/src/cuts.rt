@@ -1,10 +1,9 @@
 //! Files that are cut after any byte.
 
-use crate::answers::{Answer, Files, gives};
+use crate::answers::{Answer, Files, gives, status_on};
 use crate::blocks::Cut;
 use base::VecSink;
-use blast::Unwatched;
-use commands::{NoFile, run};
+use commands::NoFile;
 use orders::Order;
 use std::alloc::{AllocError, Global};
 
@@ -40,7 +39,7 @@ fn shows(alloc: Global, order: &Order<'_>, front: Front<'_>) -> bool {
     let mut second = NoFile::new();
     let mut out = VecSink::new(alloc);
     let mut err = VecSink::new(alloc);
-    run(
+    let status = status_on(
         alloc,
         order,
         &mut first,
@@ -48,9 +47,8 @@ fn shows(alloc: Global, order: &Order<'_>, front: Front<'_>) -> bool {
         &mut NoFile::new(),
         &mut out,
         &mut err,
-        &mut Unwatched,
-    ) == 0
-        && out.bytes().starts_with(front.bytes)
+    );
+    status == 0 && out.bytes().starts_with(front.bytes)
 }
 
 /// Whether a command tells a line on standard error, with status 2.

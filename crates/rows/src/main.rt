@@ -24,8 +24,11 @@
 //! of a file that is read, of standard output, and of standard error. `~ model`, `~ circuit 4` and `~ witness` try the
 //! first or the second file also cut after each byte (`Cut` says what is to come of it).
 //!
-//! Each row that is not as it should be, and each that cannot be read, is told by the number of its first line; the last
+//! Each row that is not as it should be, and each that cannot be read, is told by the number of its first line; then a
 //! line tells how many rows there are, and how many of them are as they should be.
+//!
+//! Behind them comes what no row says: want of memory in place of a command, a model that is too big for a row, and how far
+//! long work is told to be. The last line tells whether all of that is as it should be, or what is not.
 #![tactic(auto)]
 
 mod answers;
@@ -33,7 +36,9 @@ mod blocks;
 mod command_lines;
 mod cuts;
 mod escapes;
+mod progress;
 mod stops;
+mod too_big;
 
 use answers::{
     Answer, Files, gives_by_pieces, gives_on, status_untold, tells_failing_first,
@@ -45,8 +50,10 @@ use command_line::{given_words, order};
 use command_lines::CommandLine;
 use cuts::tells_cuts;
 use orders::{Order, Stop};
+use progress::fault_of_progress;
 use std::alloc::{AllocError, Global};
 use std::io;
+use too_big::is_told_too_big;
 
 /// What is not as it should be, of a row; nothing where all is.
 type Fault = Option<&'static str>;
@@ -62,8 +69,23 @@ struct Count {
 fn main(rt: HostRuntime) -> io::Result<()> {
     let mut input = FromReader::new(rt.stdin());
     match read_all(rt.alloc(), &mut input) {
-        Ok(text) => try_rows(&rt, text.as_slice()),
-        Err(fault) => println!(rt; "{fault}"),
+        Ok(text) => try_rows(&rt, text.as_slice())?,
+        Err(fault) => println!(rt; "{fault}")?,
+    }
+    match fault_beside_rows(rt.alloc())? {
+        None => println!(rt; "what no row says is as it should be"),
+        Some(fault) => println!(rt; "not as it should be: {fault}"),
+    }
+}
+
+/// What is not as it should be of what no row says.
+fn fault_beside_rows(alloc: Global) -> Result<Fault, AllocError> {
+    if !stops::tells_no_memory(alloc) {
+        return Ok(Some("want of memory in place of a command"));
+    }
+    match order(alloc, &["lower", "model"]) {
+        Ok(order) if is_told_too_big(alloc, &order)? => fault_of_progress(alloc),
+        _ => Ok(Some("a model that is too big")),
     }
 }
 

@@ -34,3 +34,11 @@ pub(crate) fn tells_failing_writes(alloc: Global, stop: &Stop) -> bool {
         end(stop, &mut other, &mut failing) == 3 && other.bytes().is_empty()
     }
 }
+
+/// Whether want of memory in place of a command ends with status 3, and its line is told.
+pub(crate) fn tells_no_memory(alloc: Global) -> bool {
+    let mut out = VecSink::new(alloc);
+    let mut err = VecSink::new(alloc);
+    let status = end(&Stop::no_memory(alloc), &mut out, &mut err);
+    status == 3 && out.bytes().is_empty() && err.bytes() == b"no memory\n".as_slice()
+}

@@ -1,5 +1,5 @@
-//! Tests of the libraries that stand on texts and gates: lowerings, runs, witnesses and lifting, of what no clause says and
-//! no row of the crate `rows` shows.
+//! Tests of the libraries that stand on texts and gates: lowerings, runs, witnesses, lifting and the way back from engines,
+//! of what no clause says and no row of the crate `rows` shows.
 #![tactic(auto)]
 
 #[cfg(test)]
@@ -9,6 +9,10 @@ mod large;
 #[cfg(test)]
 mod no_memory_left;
 #[cfg(test)]
+mod restoring;
+#[cfg(test)]
 mod sizes;
+#[cfg(test)]
+mod too_big;
 #[cfg(test)]
 mod witnesses;

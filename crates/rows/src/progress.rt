@@ -1,15 +1,13 @@
 //! How far long work is told to be, by a clock that goes on at each look and on a terminal that keeps what it is sent.
 ghost use Rattle.std.specs.Prelude.{◌≤◌};
 
+use crate::Fault;
 use base::{Source, VecSink, write_all};
-use blast::{Watch, lower_watched};
-use btor2::Model;
+use blast::Watch;
 use commands::{Counted, Progress, Watched, Work};
-use library_tests::samples::{COUNTER, model_of};
-use std::alloc::Global;
+use std::alloc::{AllocError, Global};
 use std::cell::Cell;
 use std::io::{self, Write};
-use std::test::Fail;
 use std::time::{Clock, Duration};
 
 /// A clock that begins with 0 and goes on by so many milliseconds at each look.
@@ -68,7 +66,7 @@ fn shown(
     size: usize,
     work: Work,
     step: u64,
-) -> Result<Option<Vec<u8>>, Fail> {
+) -> Result<Option<Vec<u8>>, AllocError> {
     let clock = Steps::by(step);
     let kept = Cell::new(Some(Vec::new(alloc)));
     let progress = Progress::new(&clock, Some(Terminal { kept: &kept }));
@@ -107,39 +105,37 @@ const BLANKS: &[u8] = b"\r                                        \r";
 /// A megabyte.
 const MEGABYTE: usize = 1_000_000;
 
-/// Fails where a terminal shows other lines while so many megabytes are read, one a look.
-fn expect_shown(
+/// Whether a terminal shows these lines while so many megabytes are read, one a look.
+fn is_shown(
     alloc: Global,
     megabytes: usize,
     work: Work,
     step: u64,
     lines: &[&str],
-) -> Result<(), Fail>
+) -> Result<bool, AllocError>
     requires { megabytes ≤ 28 }
 {
     let text = vec![in alloc; 7u8; megabytes * MEGABYTE]?;
     let kept = shown(alloc, &text, MEGABYTE, work, step)?;
-    if !shows(&kept, lines) {
-        Err((megabytes, step))?;
-    }
-    Ok(())
+    Ok(shows(&kept, lines))
 }
 
-#[test]
-fn bytes_are_told_from_two_seconds_on(rt: HostRuntime) -> Result<(), Fail> {
+/// Whether bytes are told from two seconds on.
+fn is_told_late(alloc: Global) -> Result<bool, AllocError> {
     let three = ["read 3 MB", "read 4 MB", "read 5 MB"];
     // looks at 0.9, 1.8, 2.7, 3.6, 4.5 seconds
-    expect_shown(rt.alloc(), 5, Work::Read, 900, &three)?;
+    let are_read = is_shown(alloc, 5, Work::Read, 900, &three)?;
     // looks at 0.41, 0.82, .. 2.05: the last alone is past two seconds
-    expect_shown(rt.alloc(), 5, Work::Written, 410, &["written 5 MB"])?;
-    expect_shown(rt.alloc(), 5, Work::Read, 400, &[])
+    let are_written = is_shown(alloc, 5, Work::Written, 410, &["written 5 MB"])?;
+    let are_early = is_shown(alloc, 5, Work::Read, 400, &[])?;
+    Ok(are_read && are_written && are_early)
 }
 
-#[test]
-fn lines_stand_for_a_quarter_of_a_second(rt: HostRuntime) -> Result<(), Fail> {
+/// Whether a line stands for a quarter of a second.
+fn does_stand(alloc: Global) -> Result<bool, AllocError> {
     let three = ["read 21 MB", "read 24 MB", "read 27 MB"];
     // looks at 0.1, 0.2, .. 2.8 seconds
-    expect_shown(rt.alloc(), 28, Work::Read, 100, &three)
+    is_shown(alloc, 28, Work::Read, 100, &three)
 }
 
 /// Texts that are judged: the text, what is counted of it, and what is shown when all is read.
@@ -159,72 +155,30 @@ static COUNTED: [(&[u8], Counted, &str); 5] = [
     (b"1 2 0\nd 1 0\n-3 0\n", Counted::Steps, "judged 3 steps"),
 ];
 
-/// Whether a line is shown while a text is judged: a piece that holds all of it is looked at behind two seconds.
-fn is_counted(alloc: Global, text: &[u8], counted: Counted, line: &str) -> Result<bool, Fail> {
-    let kept = shown(alloc, text, 64, Work::Judged(counted), 2100)?;
-    Ok(shows(&kept, &[line]))
-}
-
-#[test]
-fn frames_and_steps_are_counted_by_their_lines(rt: HostRuntime) -> Result<(), Fail> {
+/// Whether frames and steps are counted by their lines: a piece that holds all of a text is looked at behind two seconds.
+fn are_counted(alloc: Global) -> Result<bool, AllocError> {
     for (text, counted, line) in &COUNTED {
-        if !is_counted(rt.alloc(), text, *counted, line)? {
-            Err(*line)?;
+        let kept = shown(alloc, *text, 64, Work::Judged(*counted), 2100)?;
+        if !shows(&kept, &[*line]) {
+            return Ok(false);
         }
     }
-    Ok(())
+    Ok(true)
 }
 
-/// What a terminal shows where gates are told, and then a byte is written.
-fn shown_of_gates(alloc: Global) -> Result<Option<Vec<u8>>, Fail> {
+/// Whether gates are told, and hidden before a byte is written.
+fn are_gates_told(alloc: Global) -> bool {
     let clock = Steps::by(1100);
     let kept = Cell::new(Some(Vec::new(alloc)));
     let mut progress = Progress::new(&clock, Some(Terminal { kept: &kept }));
     progress.made(7);
     progress.made(9);
     let mut sink = Watched::new(VecSink::new(alloc), None, progress);
-    write_all(&mut sink, b"x")?;
-    Ok(kept.replace(None))
+    let is_written = write_all(&mut sink, b"x").is_ok();
+    is_written && shows(&kept.replace(None), &["made 9 gates", ""])
 }
 
-#[test]
-fn gates_are_told_and_lines_are_hidden(rt: HostRuntime) -> Result<(), Fail> {
-    let kept = shown_of_gates(rt.alloc())?;
-    assert!(rt; shows(&kept, &["made 9 gates", ""]));
-    Ok(())
-}
-
-/// What was told of a lowering.
-#[derive(Drop)]
-struct Told {
-    lines: usize,
-    gates: usize,
-}
-
-impl Watch for Told {
-    fn made(&mut self, gates: usize) {
-        self.lines = self.lines.saturating_add(1);
-        self.gates = gates;
-    }
-}
-
-/// Whether as many lines are told as a model has, and at the last as many gates as its circuit has, which are some.
-fn is_told_behind_lines(alloc: Global, model: &Model) -> Result<bool, Fail> {
-    let mut told = Told { lines: 0, gates: 0 };
-    let circuit = lower_watched(alloc, model, &mut told)?;
-    let are_gates = told.gates == circuit.gates().len() && told.gates > 0;
-    Ok(are_gates && told.lines == model.items().len())
-}
-
-#[test]
-fn gates_are_told_behind_each_line(rt: HostRuntime) -> Result<(), Fail> {
-    let model = model_of(rt.alloc(), COUNTER)?;
-    let is_told = is_told_behind_lines(rt.alloc(), &model)?;
-    assert!(rt; is_told);
-    Ok(())
-}
-
-/// Whether a source that nothing is told of is read.
+/// Whether a source is read of which nothing is told, since there is no terminal.
 fn is_read_untold() -> bool {
     let clock = Steps::by(5000);
     let none: Option<Terminal<'_>> = None;
@@ -234,7 +188,22 @@ fn is_read_untold() -> bool {
     source.read(&mut buffer) == Ok(3) && buffer.starts_with(b"abc")
 }
 
-#[test]
-fn nothing_is_told_without_a_terminal(rt: HostRuntime) {
-    assert!(rt; is_read_untold());
+/// What is not as it should be of how far work is told to be.
+pub(crate) fn fault_of_progress(alloc: Global) -> Result<Fault, AllocError> {
+    if !is_told_late(alloc)? {
+        return Ok(Some("bytes are told from two seconds on"));
+    }
+    if !does_stand(alloc)? {
+        return Ok(Some("a line stands for a quarter of a second"));
+    }
+    if !are_counted(alloc)? {
+        return Ok(Some("frames and steps are counted by their lines"));
+    }
+    if !are_gates_told(alloc) {
+        return Ok(Some("gates are told, and hidden before a write"));
+    }
+    if !is_read_untold() {
+        return Ok(Some("nothing is told without a terminal"));
+    }
+    Ok(None)
 }

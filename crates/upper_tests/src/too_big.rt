@@ -1,9 +1,7 @@
-//! Models that are too big to be lowered, and the command that tells so.
-use base::VecSink;
-use blast::{LowerFault, Unwatched, bound, cost, lower};
-use command_line::order;
-use commands::{NoFile, run};
-use library_tests::samples::model_of;
+//! Models that are too big to be lowered, and how many gates are told while one is lowered.
+use blast::{LowerFault, Watch, bound, cost, lower, lower_watched};
+use btor2::Model;
+use library_tests::samples::{COUNTER, model_of};
 use std::alloc::Global;
 use std::test::Fail;
 
@@ -60,32 +58,32 @@ fn models_that_are_too_big(rt: HostRuntime) -> Result<(), Fail> {
     Ok(())
 }
 
-/// Whether the command that lowers a model answers so of a text.
-fn is_lowered_to(alloc: Global, text: &str, status: u8, told: &[u8]) -> Result<bool, Fail> {
-    let order = match order(alloc, &["lower", "model"]) {
-        Ok(order) => order,
-        Err(_) => Err("a command")?,
-    };
-    let mut out = VecSink::new(alloc);
-    let mut err = VecSink::new(alloc);
-    let mut model = text.as_bytes();
-    let answer = run(
-        alloc,
-        &order,
-        &mut model,
-        &mut NoFile::new(),
-        &mut NoFile::new(),
-        &mut out,
-        &mut err,
-        &mut Unwatched,
-    );
-    Ok(answer == status && out.bytes().is_empty() && err.bytes() == told)
+/// What was told of a lowering.
+#[derive(Drop)]
+struct Told {
+    lines: usize,
+    gates: usize,
+}
+
+impl Watch for Told {
+    fn made(&mut self, gates: usize) {
+        self.lines = self.lines.saturating_add(1);
+        self.gates = gates;
+    }
+}
+
+/// Whether as many lines are told as a model has, and at the last as many gates as its circuit has, which are some.
+fn is_told_behind_lines(alloc: Global, model: &Model) -> Result<bool, Fail> {
+    let mut told = Told { lines: 0, gates: 0 };
+    let circuit = lower_watched(alloc, model, &mut told)?;
+    let are_gates = told.gates == circuit.gates().len() && told.gates > 0;
+    Ok(are_gates && told.lines == model.items().len())
 }
 
 #[test]
-fn the_command_tells_a_model_that_is_too_big(rt: HostRuntime) -> Result<(), Fail> {
-    let text = products(rt.alloc(), 6544, "")?;
-    let is_told = is_lowered_to(rt.alloc(), text.as_str(), 2, b"model: 93 TooBig\n")?;
+fn gates_are_told_behind_each_line(rt: HostRuntime) -> Result<(), Fail> {
+    let model = model_of(rt.alloc(), COUNTER)?;
+    let is_told = is_told_behind_lines(rt.alloc(), &model)?;
     assert!(rt; is_told);
     Ok(())
 }
