@@ -56,7 +56,7 @@ impl Loose {
         if places.are_in_order(self.leaf_count(), self.gates()) {
             return self.number_in_order(alloc, &places);
         }
-        match places.gate_slots(alloc, self.leaf_count(), self.gates()) {
+        match self.slots(alloc, places) {
             Ok(slots) => self.number_by_slots(alloc, slots),
             Err(_) => self.number_without_memory(),
         }
@@ -197,6 +197,16 @@ impl Loose {
         self.push_leaves(&mut numbers)?;
         numbers.push_gates(self.gates())?;
         Ok(numbers)
+    }
+
+    /// For each gate the two slots of its operands: 0 where an operand waits for no gate, or the
+    /// position of the gate that it waits for and 1. The places are needed no more, and are dropped.
+    fn slots(&self, alloc: Global, places: Numbers) -> Result<Vec<u32>, AllocError>
+        requires { places ≡ defined_variables self.now }
+        ensures slots { IfOk result (λ v. v.items ≡ slots_of (defined_variables self.now) (length self.now.inputs + length self.now.latches) self.now.gates) }
+        ensures valid { IsLoose self.now }
+    {
+        places.gate_slots(alloc, self.leaf_count(), self.gates())
     }
 }
 
