@@ -17,6 +17,8 @@ pub struct Definitions {
     place: u32,
     word: u64,
     others: HashMap<u32, u64>,
+    // the greatest that was defined out of turn
+    greatest: u32,
 }
 
 impl Definitions {
@@ -32,6 +34,7 @@ impl Definitions {
             place: 0,
             word: 0,
             others: HashMap::new(alloc),
+            greatest: 0,
         }
     }
 
@@ -48,6 +51,11 @@ impl Definitions {
         ensures { result ≡ true → (v : ℕ) → has_variable self.now v ≡ (nat_le 1 v && nat_le v self.now.in_turn) }
     {
         self.word == 0 && self.others.is_empty()
+    }
+
+    /// The greatest of them, or 0.
+    pub fn greatest(&self) -> u32 {
+        self.greatest.max(self.in_turn)
     }
 
     /// Adds a variable. The error is want of memory, and nothing has changed then.
@@ -91,6 +99,7 @@ impl Definitions {
     {
         self.turn_to(variable / 64)?;
         self.word |= 1u64 << (variable % 64);
+        self.greatest = self.greatest.max(variable);
         Ok(())
     }
 

@@ -280,6 +280,11 @@ impl Loose {
         self.defined.are_in_turn()
     }
 
+    /// The greatest variable that a line defines, or 0.
+    pub(crate) fn greatest_defined(&self) -> u32 {
+        self.defined.greatest()
+    }
+
     /// Whether there are fewer than 2^30 definitions.
     fn has_room(&self) -> bool
         ensures { result ≡ not (nat_le greatest_count (defined_count self.now)) }

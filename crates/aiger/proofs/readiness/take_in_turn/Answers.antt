@@ -1,7 +1,7 @@
 use Rattle.std.proofs.Common.{◌≡◌, ◌<◌, ℕ, true, not, length, slice_set, arith, List, [], ◌∷◌, ◌++◌, ap, sym, subst, ◌∙◌, length-append}
 use Rattle.aiger.specs.NextGates.{is_next}
 use Rattle.std.specs.List.{count_by}
-use Rattle.aiger.specs.Readiness.{AreSlots, HasChains, IsTaken, FollowInTurn, MarksDone, CountsWaits, waits_for_nothing}
+use Rattle.aiger.specs.Readiness.{AreSlots, HasChains, IsTaken, AreFirst, may_be_next, MarksDone, CountsWaits, waits_for_nothing}
 use Rattle.aiger.proofs.ReadinessLemmas.{taken}
 use Rattle.aiger.proofs.readiness.take_in_turn.Goals as goal
 
@@ -40,7 +40,7 @@ loop-gate-preserved c =
             waits = subst (λ (m : ℕ). CountsWaits slots m c.push.new.self.items c.release.new.waiting.items) b.waits.count (subst (λ (x : List ℕ). CountsWaits slots (length c.loop-gate.waiting.items) x c.release.new.waiting.items) v waits);
             marked = subst (λ (x : List ℕ). MarksDone (length c.args.waiting.now.items) x (slice_set c.loop-gate.marks.items c.in-Some.gate true)) (sym o) t.2;
             ready = λ i. c.release.ensures.ready i ∙ (ap (λ (x : List ℕ). waits_for_nothing (length c.loop-gate.waiting.items) x c.release.new.waiting.items i) v ∙ ap (λ (m : ℕ). waits_for_nothing m c.push.new.self.items c.release.new.waiting.items i) b.waits.count);
-            in_turn = subst (λ (x : List ℕ). FollowInTurn slots (length c.args.waiting.now.items) [] x) (sym o) t.1;
+            in_turn = subst (λ (x : List ℕ). AreFirst (may_be_next slots (length c.args.waiting.now.items)) [] x) (sym o) t.1;
           };
       within = omega (arith, c.loop-gate.invariant.within, c.in-Some.ensures.room, c.release.ensures.room);
     }
