@@ -9,7 +9,8 @@ use Rattle.std.specs.List.{list_any, count_by}
 use Rattle.aiger.specs.Circuit.{Circuit, IsCircuit}
 use Rattle.aiger.specs.Loose.{Loose, IsLoose}
 use Rattle.aiger.specs.Renumbering.{first_undefined, is_ready, AreInTurn, IsOrder, IsRenumbered, LeadsToCycle, IsFirstCyclic, renumbered}
-use Rattle.aiger.proofs.OrderLemmas.{ready_parts, false_unless, AreInTurn-push}
+use Rattle.aiger.proofs.OrderLemmas.{ready_parts, false_unless}
+use Rattle.aiger.proofs.ReadinessLemmas.{AreFirst-push}
 use Rattle.aiger.proofs.KnownLemmas.{all_known}
 use Rattle.aiger.proofs.NumberingLemmas.{mark_more, none_marked, leads_to_cycle, first_cyclic, IsCircuit-renumbered}
 
@@ -65,14 +66,14 @@ goes_on : (l : Loose) (fuel : ℕ) (order : List ℕ) → AreInTurn l [] order �
 goes_on l zero order turn enough =
     ⊎_elim
     (λ (f : (j : ℕ) × ((is_ready l order j ≡ true) × ((i : ℕ) → i < j → is_ready l order i ≡ false))).
-    let more : AreInTurn l [] (order ++ f.0 ∷ []) = AreInTurn-push l [] order f.0 turn (record { ready = f.1.0; first = f.1.1 }) in
+    let more : AreInTurn l [] (order ++ f.0 ∷ []) = AreFirst-push (is_ready l) [] order f.0 turn (record { ready = f.1.0; first = f.1.1 }) in
     absurd (omega (arith, few_in_order l (order ++ f.0 ∷ []) more, length-append order (f.0 ∷ []), enough)))
     (λ (none : (i : ℕ) → i < length l.gates → is_ready l order i ≡ false). (order, (turn, none_at_all l order none)))
     (least_below (is_ready l order) (length l.gates))
 goes_on l (suc fuel) order turn enough =
     ⊎_elim
     (λ (f : (j : ℕ) × ((is_ready l order j ≡ true) × ((i : ℕ) → i < j → is_ready l order i ≡ false))).
-    let more : AreInTurn l [] (order ++ f.0 ∷ []) = AreInTurn-push l [] order f.0 turn (record { ready = f.1.0; first = f.1.1 }) in
+    let more : AreInTurn l [] (order ++ f.0 ∷ []) = AreFirst-push (is_ready l) [] order f.0 turn (record { ready = f.1.0; first = f.1.1 }) in
     goes_on l fuel (order ++ f.0 ∷ []) more (omega (arith, length-append order (f.0 ∷ []), enough)))
     (λ (none : (i : ℕ) → i < length l.gates → is_ready l order i ≡ false). (order, (turn, none_at_all l order none)))
     (least_below (is_ready l order) (length l.gates))

@@ -6,7 +6,7 @@ use Rattle.std.proofs.lemmas.List.Elements.{All-head, All-tail}
 use Rattle.std.proofs.lemmas.Cmp.{eq_by_cmp_equiv, nat_cmp_total}
 use Rattle.std.proofs.lemmas.Map.Entries.{lookup_from_place, lookup_at_gap}
 use Rattle.std.proofs.lemmas.Map.Keys.{IsDistinct-from_sorted, below_from_sorted}
-use Rattle.std.proofs.lemmas.Option.{slice_get-get_or, get_or_from_slice_get}
+use Rattle.std.proofs.lemmas.Option.{get_or_from_slice_get}
 use Rattle.std.proofs.lemmas.Map.Made.{keys_of-zip}
 use Rattle.std.specs.List.{AllByRecursion, IsDistinct, zip}
 use Rattle.std.specs.Ordering.{eq_by_cmp}
@@ -66,11 +66,6 @@ below_by_last keys last key rising e h i d low =
     let final : get_or keys (length keys - 1) d ≡ last = get_or_from_slice_get keys (length keys - 1) last d e in
     ⊎_elim (λ (front : i < length keys - 1). let b = below_from_sorted keys i (length keys - 1) d rising front (omega arith) in omega (arith, b, final, h))
     (λ (end' : length keys - 1 ≤ i). let s : i ≡ length keys - 1 = omega arith in omega (arith, ap (λ (k : ℕ). get_or keys k d) s, final, h)) (cases_lt i (length keys - 1))
-
-pub below_by_none : (keys : List ℕ) (key : ℕ) → slice_get keys (length keys - 1) ≡ None → All (λ k. k < key) keys
-below_by_none keys key e i d low =
-    let some : slice_get keys (length keys - 1) ≡ Some (get_or keys (length keys - 1) d) = slice_get-get_or keys (length keys - 1) d (omega arith) in
-    absurd (let z : None ≡ Some (get_or keys (length keys - 1) d) = sym e ∙ some in cc)
 
 -- the name at a place
 name_here : (keys : List ℕ) (names : List (List ℕ)) (i d : ℕ) (name : List ℕ) → i < length keys → slice_get names i ≡ Some name → slice_get (zip keys names) i ≡ Some (get_or keys i d, name)

@@ -9,7 +9,8 @@ use Rattle.aiger.specs.Circuit.{IsCircuit}
 use Rattle.aiger.specs.Literal.{variable}
 use Rattle.aiger.specs.Loose.{Loose, IsLoose, latch_variable, gate_variable, defined_variables}
 use Rattle.aiger.specs.Numbering.{WaitForEarlier, slot_of}
-use Rattle.aiger.specs.Renumbering.{gate_line, gate_name, numbered, has_number, is_ready, IsFirstReady, AreInTurn, IsOrder, new_gate, renumbered, circuit_by}
+use Rattle.aiger.specs.Readiness.{IsFirst}
+use Rattle.aiger.specs.Renumbering.{gate_line, gate_name, numbered, has_number, is_ready, AreInTurn, IsOrder, new_gate, renumbered, circuit_by}
 use Rattle.aiger.proofs.KnownLemmas.{AllKnown}
 use Rattle.aiger.proofs.NumberingLemmas.{IsSlotOf, IsCircuit-renumbered}
 use Rattle.aiger.proofs.OrderLemmas.{any_map, has_number-append, numbered-append}
@@ -34,7 +35,7 @@ number_by_slot l k lit (suc g) is h =
 
 module _ (l : Loose) (known : AllKnown l) (wait : WaitForEarlier (defined_variables l) (leaf_count l) l.gates) where
   -- a gate is ready when its turn comes, and none before it is
-  first_in_turn : (k : ℕ) → k < length l.gates → IsFirstReady l (range_with_len 0 k) k
+  first_in_turn : (k : ℕ) → k < length l.gates → IsFirst (is_ready l) (range_with_len 0 k) k
   first_in_turn k low =
       let done : List ℕ = range_with_len 0 k in
       let operands = known.operands k (record { lhs = 0; rhs0 = 0; rhs1 = 0 }) low in

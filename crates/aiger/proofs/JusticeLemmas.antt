@@ -12,11 +12,6 @@ size_refusal-none lists size few small =
     let b : nat_lt greatest_count (sum_by length lists + size) ≡ false = grind (arith, nat_tests) in
     rw (a, b) refl
 
-pub size_refusal-many : (lists : List (List ℕ)) (size : ℕ) → greatest_count ≤ length lists → size_refusal lists size ≡ Some TooBig
-size_refusal-many lists size many =
-    let a : nat_le greatest_count (length lists) ≡ true = grind (arith, nat_tests) in
-    rw a refl
-
 pub size_refusal-large : (lists : List (List ℕ)) (size : ℕ) → greatest_count < sum_by length lists + size → size_refusal lists size ≡ Some TooBig
 size_refusal-large lists size large = by (nat_le greatest_count (length lists))
   where

@@ -21,7 +21,7 @@ use Rattle.aiger.proofs.CircuitLemmas.{names_kept}
 use Rattle.aiger.proofs.RenumberingLemmas.{found, place_kept, named_from_test, new_of_variable, new_constant}
 use Rattle.aiger.proofs.OrderLemmas.{numbered-append, has_number-append, ready_parts, any_map, no_cycle, unnumbered_operand, number_from_known, AreGates, AreGates-push, gate_from_name, gate_is_variable}
 use Rattle.aiger.proofs.KnownLemmas.{All-unmap, IsKnown, AllKnown}
-use Rattle.aiger.specs.Readiness.{slot_at, waits, may_be_next, FollowInTurn}
+use Rattle.aiger.specs.Readiness.{slot_at, waits, may_be_next, AreFirst}
 use Rattle.aiger.proofs.ReadinessLemmas.{any_suc}
 
 -- a gate that has no number uses one that has none, where none is ready
@@ -284,11 +284,11 @@ next_is_ready l slots done valid within are j =
     both false false m n e f = let z : m + n ≡ 2 = omega (arith, e, f) in grind (arith, nat_tests)
 
 -- gates in turn by their slots are in turn
-pub in_turn_from_slots : (l : Loose) (slots done js : List ℕ) → IsLoose l → AreGates l done → AreSlotsOf l slots → FollowInTurn slots (length l.gates) done js → AreInTurn l done js
+pub in_turn_from_slots : (l : Loose) (slots done js : List ℕ) → IsLoose l → AreGates l done → AreSlotsOf l slots → AreFirst (may_be_next slots (length l.gates)) done js → AreInTurn l done js
 in_turn_from_slots l slots done [] valid within are turn = tt
 in_turn_from_slots l slots done (j ∷ js) valid within are turn =
     let e = next_is_ready l slots done valid within are in
-    let ready : is_ready l done j ≡ true = sym (e j) ∙ turn.0.next in
+    let ready : is_ready l done j ≡ true = sym (e j) ∙ turn.0.ready in
     let low = (ready_parts l done j ready).0 in
     (record { ready = ready; first = λ i h. sym (e i) ∙ turn.0.first i h }, in_turn_from_slots l slots (done ++ j ∷ []) js valid (AreGates-push l done j within low) are turn.1)
 

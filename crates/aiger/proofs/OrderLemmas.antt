@@ -9,7 +9,7 @@ use Rattle.std.specs.List.{list_any, position_or_len, count_by}
 use Rattle.aiger.specs.declared.loose.GateLine.{GateLine}
 use Rattle.aiger.specs.Literal.{variable}
 use Rattle.aiger.specs.Loose.{Loose, IsLoose, IsDefining, defined_variables, latch_variable, gate_variable}
-use Rattle.aiger.specs.Renumbering.{is_known, gate_line, gate_name, numbered, has_number, is_ready, IsFirstReady, AreInTurn, Uses, LeadsAlong, DependsOn, LeadsToCycle}
+use Rattle.aiger.specs.Renumbering.{is_known, gate_line, gate_name, numbered, has_number, is_ready, AreInTurn, Uses, LeadsAlong, DependsOn, LeadsToCycle}
 use Rattle.aiger.proofs.LooseLemmas.{count_join}
 use Rattle.aiger.proofs.RenumberingLemmas.{found, placed, place_kept, named_from_test}
 
@@ -192,11 +192,6 @@ AreGates-push l done j within h i t =
         let s : nat_eq i j ≡ true = grind (arith, nat_tests, a, e, t) in
         let q : i ≡ j = grind (arith, nat_tests) in
         omega (arith, q, h)
-
--- one order is in turn with another gate more
-pub AreInTurn-push : (l : Loose) (done js : List ℕ) (j : ℕ) → AreInTurn l done js → IsFirstReady l (done ++ js) j → AreInTurn l done (js ++ j ∷ [])
-AreInTurn-push l done [] j a f = (subst (λ (xs : List ℕ). IsFirstReady l xs j) (append-nil done) f, tt)
-AreInTurn-push l done (i ∷ js) j a f = (a.0, AreInTurn-push l (done ++ i ∷ []) js j a.1 (subst (λ (xs : List ℕ). IsFirstReady l xs j) (sym (append_assoc done (i ∷ []) js)) f))
 
 -- two complete orders are the same
 pub same_order : (l : Loose) (done xs ys : List ℕ) → AreInTurn l done xs → AreInTurn l done ys → ((j : ℕ) → j < length l.gates → list_any (nat_eq j) (done ++ xs) ≡ true) → ((j : ℕ) → j < length l.gates → list_any (nat_eq j) (done ++ ys) ≡ true) → xs ≡ ys

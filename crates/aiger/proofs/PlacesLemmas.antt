@@ -1,6 +1,5 @@
 -- Variables that stand once, their places, and the slots that these give.
-use Rattle.std.proofs.Common.{◌≡◌, ℕ, zero, suc, ◌+◌, ◌-◌, ◌*◌, ◌<◌, ◌≤◌, Bool, true, false, not, ◌||◌, ◌==◌, List, [], ◌∷◌, ◌++◌, map, length, take, drop, get_or, slice_index_or, All, Some, None, nat_eq, cond, refl, ap, sym, ◌∙◌, subst, arith, if◌then◌else◌, length-append, append-nil, append_assoc, ⊎_elim}
-use Rattle.std.proofs.lemmas.Bool.{cases_lt}
+use Rattle.std.proofs.Common.{◌≡◌, ℕ, zero, suc, ◌+◌, ◌-◌, ◌*◌, ◌<◌, ◌≤◌, Bool, true, false, not, ◌||◌, ◌==◌, List, [], ◌∷◌, ◌++◌, map, length, take, drop, get_or, slice_index_or, All, Some, None, nat_eq, cond, refl, ap, sym, ◌∙◌, subst, arith, if◌then◌else◌, length-append, append-nil, append_assoc}
 use Rattle.std.proofs.lemmas.Bool.Decides.{nat_tests}
 use Rattle.std.proofs.lemmas.List.{length-map, map-append, get_or_append_left, get_or-append_right}
 use Rattle.std.proofs.lemmas.List.Elements.{All-cons, All-nil}
@@ -8,7 +7,6 @@ use Rattle.std.proofs.lemmas.List.Folds.{list_any_at}
 use Rattle.std.proofs.lemmas.List.Sums.{sum_by-append, sum_by_push, fails_before_first, prefix_len_stops}
 use Rattle.std.specs.List.{list_any, position, position_or_len, count_by}
 use Rattle.aiger.specs.declared.loose.GateLine.{GateLine}
-use Rattle.aiger.specs.Limits.{greatest_count}
 use Rattle.aiger.specs.Literal.{variable}
 use Rattle.aiger.specs.Loose.{Loose, IsLoose, defined_variables, defined_count, latch_variable, gate_variable}
 use Rattle.aiger.specs.Renumbering.{is_known, gate_line, gate_name, numbered, AreInTurn, IsOrder, IsFirstCyclic}
@@ -220,23 +218,3 @@ line_read (y ∷ ys) (suc i) d h = line_read ys i d (omega arith)
 
 pub name_read : (lines : List GateLine) (i : ℕ) (d : GateLine) → i < length lines → gate_variable (get_or lines i d) ≡ name_in lines i
 name_read lines i d h = ap gate_variable (line_read lines i d h)
-
--- the operands of the gate at a place wait for no gate but those before it
-abbrev pub WaitsAt : List ℕ → ℕ → List GateLine → ℕ → Type 0
-WaitsAt names leaves lines j = (slot_of names leaves (line_in lines j).rhs0 ≤ j) × (slot_of names leaves (line_in lines j).rhs1 ≤ j)
-
--- and so those of one gate more
-pub wait_more : (names : List ℕ) (leaves at : ℕ) (lines : List GateLine) (line : GateLine) (slots : ℕ × ℕ) → ((j : ℕ) → j < at → WaitsAt names leaves lines j) → at < length lines → line ≡ get_or lines at line
-    → slots ≡ (slot_of names leaves line.rhs0, slot_of names leaves line.rhs1) → slots.0 ≤ at → slots.1 ≤ at → (j : ℕ) → j < at + 1 → WaitsAt names leaves lines j
-wait_more names leaves at lines line slots before low is e first second j h =
-    ⊎_elim (λ (less : j < at). before j less)
-    (λ (most : at ≤ j).
-    let here : at ≡ j = omega (arith, h) in
-    let both : (slot_of names leaves line.rhs0 ≤ at) × (slot_of names leaves line.rhs1 ≤ at) = subst (λ (p : ℕ × ℕ). (p.0 ≤ at) × (p.1 ≤ at)) e (first, second) in
-    subst (WaitsAt names leaves lines) here (subst (λ (x : GateLine). (slot_of names leaves x.rhs0 ≤ at) × (slot_of names leaves x.rhs1 ≤ at)) (is ∙ line_read lines at line low) both))
-    (cases_lt j at)
-
--- no more variables have numbers than are defined
-pub numbered_few : (l : Loose) (order : List ℕ) → IsLoose l → length order ≤ length l.gates → length (numbered l order) ≤ greatest_count
-numbered_few l order valid few =
-    omega (arith, length-append (leaf_names l) (map (gate_name l) order), length_leaves l, length-map order (gate_name l), few, valid.few.defined)

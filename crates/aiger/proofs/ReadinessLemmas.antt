@@ -8,7 +8,7 @@ use Rattle.std.proofs.Math.Seq.{get_or-append_seam, set-append_seam}
 use Rattle.std.proofs.lemmas.List.Folds.{list_any-append, sum_by-replicate}
 use Rattle.std.proofs.lemmas.List.Sums.{sum_by-set}
 use Rattle.std.specs.List.{list_any, count_by}
-use Rattle.aiger.specs.Readiness.{slot_at, waits, last_user, may_be_next, AreSlots, HasChains, CountsWaits, waits_for_nothing, IsFirstNext, FollowInTurn, MarksDone, IsBetween, IsTaken}
+use Rattle.aiger.specs.Readiness.{slot_at, waits, last_user, may_be_next, AreSlots, HasChains, CountsWaits, waits_for_nothing, IsFirst, AreFirst, MarksDone, IsBetween, IsTaken}
 
 -- what is read at a position is the element there
 pub read_at : (xs : List ℕ) (i e : ℕ) → i < length xs → e ≡ get_or xs i e → slice_index_or xs i 0 ≡ e
@@ -286,9 +286,9 @@ may_be_next_is slots n done waiting c i =
     (cases_lt i n)
 
 -- one more in turn
-pub FollowInTurn-push : (slots : List ℕ) (n : ℕ) (done js : List ℕ) (j : ℕ) → FollowInTurn slots n done js → IsFirstNext slots n (done ++ js) j → FollowInTurn slots n done (js ++ j ∷ [])
-FollowInTurn-push slots n done [] j a f = (subst (λ (xs : List ℕ). IsFirstNext slots n xs j) (append-nil done) f, tt)
-FollowInTurn-push slots n done (i ∷ js) j a f = (a.0, FollowInTurn-push slots n (done ++ i ∷ []) js j a.1 (subst (λ (xs : List ℕ). IsFirstNext slots n xs j) (sym (append_assoc done (i ∷ []) js)) f))
+pub AreFirst-push : (passes : List ℕ → ℕ → Bool) (done js : List ℕ) (j : ℕ) → AreFirst passes done js → IsFirst passes (done ++ js) j → AreFirst passes done (js ++ j ∷ [])
+AreFirst-push passes done [] j a f = (subst (λ (xs : List ℕ). IsFirst passes xs j) (append-nil done) f, tt)
+AreFirst-push passes done (i ∷ js) j a f = (a.0, AreFirst-push passes (done ++ i ∷ []) js j a.1 (subst (λ (xs : List ℕ). IsFirst passes xs j) (sym (append_assoc done (i ∷ []) js)) f))
 
 -- the parts of a gate that waits for nothing
 nothing_parts : (n : ℕ) (done waiting : List ℕ) (j : ℕ) → waits_for_nothing n done waiting j ≡ true → (j < n) × (list_any (nat_eq j) done ≡ false) × (slice_index_or waiting j 0 ≡ 0)
@@ -329,19 +329,19 @@ marks_push n done marks k m low new =
 
 -- a gate is taken from those that are ready
 pub taken : (slots : List ℕ) (n : ℕ) (done waiting : List ℕ) (marks : List Bool) (is_in now_in : ℕ → Bool) (k : ℕ) → IsBetween slots n done waiting marks is_in → is_in k ≡ true → ((i : ℕ) → i < k → is_in i ≡ false) → ((i : ℕ) → now_in i ≡ (is_in i && not (nat_eq k i)))
-    → IsTaken slots n (done ++ k ∷ []) waiting now_in × FollowInTurn slots n [] (done ++ k ∷ []) × MarksDone n (done ++ k ∷ []) (slice_set marks k true) × (k < n)
+    → IsTaken slots n (done ++ k ∷ []) waiting now_in × AreFirst (may_be_next slots n) [] (done ++ k ∷ []) × MarksDone n (done ++ k ∷ []) (slice_set marks k true) × (k < n)
 taken slots n done waiting marks is_in now_in k b member least now =
     let parts = nothing_parts n done waiting k (sym (b.ready k) ∙ member) in
     let still : (i : ℕ) → now_in i ≡ waits_for_nothing n (done ++ k ∷ []) waiting i = λ i.
     let c = list_any-append (nat_eq i) done (k ∷ []) in
     let d = b.ready i in
     still_by i (nat_eq k i) refl (now i) c d in
-    let first : IsFirstNext slots n done k =
+    let first : IsFirst (may_be_next slots n) done k =
     record {
-      next = may_be_next_is slots n done waiting b.waits k ∙ (sym (b.ready k) ∙ member);
+      ready = may_be_next_is slots n done waiting b.waits k ∙ (sym (b.ready k) ∙ member);
       first = λ i low. may_be_next_is slots n done waiting b.waits i ∙ (sym (b.ready i) ∙ least i low);
     } in
-    (record { done = done; gate = k; last = refl; within = parts.0; new = parts.1; waits = b.waits; free = parts.2; ready = still }, FollowInTurn-push slots n [] done k b.in_turn first, marks_push n done marks k b.marked parts.0 parts.1, parts.0)
+    (record { done = done; gate = k; last = refl; within = parts.0; new = parts.1; waits = b.waits; free = parts.2; ready = still }, AreFirst-push (may_be_next slots n) [] done k b.in_turn first, marks_push n done marks k b.marked parts.0 parts.1, parts.0)
   where
     and_false : (x : Bool) → (x && false) ≡ false
     and_false true = refl

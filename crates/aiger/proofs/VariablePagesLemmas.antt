@@ -1,10 +1,10 @@
 -- Numbers and marks of variables by the pages of a table.
-use Rattle.std.proofs.Common.{◌≡◌, ℕ, zero, suc, replicate, ◌/◌, ◌%◌, ◌*◌, ◌^◌, ◌<◌, ◌≢◌, Bool, true, false, List, length, Option, Some, slice_index_or, slice_set, nat_eq, cond, refl, ap, sym, ◌∙◌, arith, bit_or, w64}
+use Rattle.std.proofs.Common.{◌≡◌, ℕ, zero, suc, replicate, ◌/◌, ◌%◌, ◌*◌, ◌^◌, ◌<◌, ◌≢◌, Bool, true, false, List, length, Option, None, Some, slice_index_or, slice_set, nat_eq, cond, refl, ap, sym, ◌∙◌, arith, bit_or, w64}
 use Rattle.std.proofs.lemmas.Bool.Decides.{nat_tests}
 use Rattle.std.proofs.lemmas.List.{get_or-set_same, get_or-set_other}
 use Rattle.std.proofs.lemmas.Nat.Bits.{bit_at_set_same, bit_at_set_other, bit_at-zero}
 use Rattle.std.specs.Int.{bit_at}
-use Rattle.std.specs.Int.Bits.{or_zero_l}
+use Rattle.std.specs.Option.{unwrap_or}
 use Rattle.aiger.specs.VariableNumbers.{in_page}
 use Rattle.aiger.specs.Definitions.{is_marked}
 
@@ -107,6 +107,24 @@ after_mark old new bits variable is before =
 pub no_mark : (i : ℕ) → nat_eq (bit_at 0 i) 1 ≡ false
 no_mark i = ap (λ (n : ℕ). nat_eq n 1) (bit_at-zero i)
 
--- the first bit of a word
-pub first_bit : (variable : ℕ) → 1 * 2 ^ (variable % 64) % 2 ^ 64 ≡ bit_or 0 (1 * 2 ^ (variable % 64) % 2 ^ 64)
-first_bit variable = sym (or_zero_l (1 * 2 ^ (variable % 64) % 2 ^ 64))
+-- the marks stay where one word stands for what was at its place
+pub after_turn : (old new : ℕ → Option ℕ) (place word : ℕ) → ((q : ℕ) → new q ≡ cond (nat_eq place q) (Some word) (old q)) → ((i : ℕ) → is_marked (Some word) i ≡ is_marked (old place) i)
+    → (w i : ℕ) → is_marked (new w) i ≡ is_marked (old w) i
+after_turn old new place word is same w i = by (nat_eq place w) refl
+  where
+    by : (b : Bool) → nat_eq place w ≡ b → is_marked (new w) i ≡ is_marked (old w) i
+    by true e =
+        let s : place ≡ w = grind (arith, nat_tests) in
+        ap (λ (m : Option ℕ). is_marked m i) (is w ∙ ap (λ (b : Bool). cond b (Some word) (old w)) e) ∙ (same i ∙ ap (λ (k : ℕ). is_marked (old k) i) s)
+    by false e = ap (λ (m : Option ℕ). is_marked m i) (is w ∙ ap (λ (b : Bool). cond b (Some word) (old w)) e)
+
+-- a word that may be missing is 0 then
+pub word_or_zero : (m : Option ℕ) (i : ℕ) → is_marked (Some (unwrap_or m 0)) i ≡ is_marked m i
+unfolding is_marked
+word_or_zero None i = no_mark i
+word_or_zero (Some word) i = refl
+
+-- what stood at a place is of no account behind what stands there now
+pub written_over : {X : Type 0} (b : Bool) (now before rest : X) → cond b now rest ≡ cond b now (cond b before rest)
+written_over true now before rest = refl
+written_over false now before rest = refl

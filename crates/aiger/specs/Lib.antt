@@ -16,6 +16,7 @@ pub mod Trace
 pub mod Readiness
 pub mod BitTree
 pub mod ReadyGates
+pub mod NextGates
 pub mod Numbering
 pub mod OwnLists
 pub mod Worked

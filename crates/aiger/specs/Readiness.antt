@@ -53,14 +53,15 @@ pub record CountsWaits (slots : List ℕ) (n : ℕ) (done : List ℕ) (waiting :
 abbrev pub waits_for_nothing : ℕ → List ℕ → List ℕ → ℕ → Bool
 waits_for_nothing n done waiting j = nat_lt j n && (not (list_any (nat_eq j) done) && nat_eq (slice_index_or waiting j 0) 0)
 
--- gates in turn: each is the first that may be next after the ones before it
-pub record IsFirstNext (slots : List ℕ) (n : ℕ) (done : List ℕ) (j : ℕ) : Type 0 where
-  pub next : may_be_next slots n done j ≡ true
-  pub first : (i : ℕ) → i < j → may_be_next slots n done i ≡ false
+-- a position is the first that passes a test after these
+pub record IsFirst (passes : List ℕ → ℕ → Bool) (done : List ℕ) (j : ℕ) : Type 0 where
+  pub ready : passes done j ≡ true
+  pub first : (i : ℕ) → i < j → passes done i ≡ false
 
-abbrev pub FollowInTurn : List ℕ → ℕ → List ℕ → List ℕ → Type 0
-FollowInTurn slots n done [] = Unit {0}
-FollowInTurn slots n done (j ∷ js) = IsFirstNext slots n done j × FollowInTurn slots n (done ++ j ∷ []) js
+-- positions in turn: each is the first that passes after the ones before it
+abbrev pub AreFirst : (List ℕ → ℕ → Bool) → List ℕ → List ℕ → Type 0
+AreFirst passes done [] = Unit {0}
+AreFirst passes done (j ∷ js) = IsFirst passes done j × AreFirst passes (done ++ j ∷ []) js
 
 -- which gates are done
 pub record MarksDone (n : ℕ) (done : List ℕ) (marks : List Bool) : Type 0 where
@@ -73,7 +74,7 @@ pub record IsBetween (slots : List ℕ) (n : ℕ) (done : List ℕ) (waiting : L
   pub waits : CountsWaits slots n done waiting
   pub marked : MarksDone n done marks
   pub ready : (i : ℕ) → is_in i ≡ waits_for_nothing n done waiting i
-  pub in_turn : FollowInTurn slots n [] done
+  pub in_turn : AreFirst (may_be_next slots n) [] done
 
 -- a gate has left those that are ready, and its slots still count as waiting
 pub record IsTaken (slots : List ℕ) (n : ℕ) (order : List ℕ) (waiting : List ℕ) (is_in : ℕ → Bool) : Type 0 where
@@ -88,6 +89,6 @@ pub record IsTaken (slots : List ℕ) (n : ℕ) (order : List ℕ) (waiting : Li
 
 -- all gates in turn, until none may be next
 pub record IsWholeOrder (slots : List ℕ) (n : ℕ) (order : List ℕ) (marks : List Bool) : Type 0 where
-  pub in_turn : FollowInTurn slots n [] order
+  pub in_turn : AreFirst (may_be_next slots n) [] order
   pub marked : MarksDone n order marks
   pub whole : (j : ℕ) → may_be_next slots n order j ≡ false

@@ -1,5 +1,5 @@
 -- How the variables of a file get the numbers of a circuit: inputs by their lines, then latches, then gates in the order of readiness.
-use Rattle.std.specs.Prelude.{◌≡◌, ℕ, suc, ◌+◌, ◌*◌, ◌%◌, ◌<◌, Bool, true, false, ◌&&◌, ◌||◌, not, ◌==◌, List, [], ◌∷◌, ◌++◌, map, length, ◌⊎◌, Option, None, Some, codes, Result, Ok, Err, slice_index_or, nat_lt, nat_eq, if◌then◌else◌}
+use Rattle.std.specs.Prelude.{◌≡◌, ℕ, suc, ◌+◌, ◌*◌, ◌%◌, ◌<◌, Bool, true, ◌&&◌, ◌||◌, not, ◌==◌, List, [], ◌∷◌, ◌++◌, map, length, ◌⊎◌, Option, None, Some, codes, Result, Ok, Err, slice_index_or, nat_lt, nat_eq, if◌then◌else◌}
 use Rattle.std.specs.List.{list_all, list_any, position, position_or_len, concat}
 use Rattle.aiger.specs.declared.circuit.Gate.{Gate}
 use Rattle.aiger.specs.declared.loose.GateLine.{GateLine}
@@ -7,6 +7,7 @@ use Rattle.aiger.specs.declared.fault.LooseFault.{LooseFault}
 use Rattle.aiger.specs.declared.fault.LooseFault.TheVariants.{Undefined, Cycle, NoMemory}
 use Rattle.aiger.specs.Literal.{variable}
 use Rattle.aiger.specs.Circuit.{Circuit}
+use Rattle.aiger.specs.Readiness.{AreFirst}
 use Rattle.aiger.specs.Loose.{Loose, latch_variable, gate_variable, is_defined}
 
 -- a literal's variable is 0 or defined
@@ -53,15 +54,9 @@ is_ready l order j =
     nat_lt j (length l.gates) && (not (list_any (nat_eq j) order)
     && (has_number (numbered l order) (gate_line l j).rhs0 && has_number (numbered l order) (gate_line l j).rhs1))
 
--- a gate is the first in the file of those that are ready
-pub record IsFirstReady (l : Loose) (order : List ℕ) (j : ℕ) : Type 0 where
-  pub ready : is_ready l order j ≡ true
-  pub first : (i : ℕ) → i < j → is_ready l order i ≡ false
-
--- further gates get their numbers in turn: each is the first of those that are ready after the ones before it
+-- further gates get their numbers in turn: each is the first in the file of those that are ready after the ones before it
 abbrev pub AreInTurn : Loose → List ℕ → List ℕ → Type 0
-AreInTurn l order [] = Unit {0}
-AreInTurn l order (j ∷ js) = IsFirstReady l order j × AreInTurn l (order ++ j ∷ []) js
+AreInTurn l order js = AreFirst (is_ready l) order js
 
 -- all gates in the order of their numbers
 pub record IsOrder (l : Loose) (order : List ℕ) : Type 0 where

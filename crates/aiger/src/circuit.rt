@@ -98,6 +98,8 @@ impl Section {
 /// operands, the greater of which comes first, and every literal is of a variable that is there.
 /// Names are a map from section and position: in whatever order they were given, the circuits are
 /// the same, and a position without a name takes no memory.
+///
+/// Of the errors that a call names, the first that applies is answered, and the circuit is then unchanged.
 #[derive(Drop)]
 pub struct Circuit {
     inputs: u32,
@@ -162,10 +164,8 @@ impl Circuit {
 
     /// Adds an AND gate of two literals, the greater one first, and answers its literal.
     ///
-    /// Errors, of which the first that applies in this order is answered: `LiteralOutOfRange` where
-    /// an operand's variable is above the greatest so far, `OrderBroken` where `rhs0` is below
-    /// `rhs1`, `TooBig` where there are 2^30 variables already, `NoMemory`. The circuit is then
-    /// unchanged.
+    /// Errors: `LiteralOutOfRange` where an operand's variable is above the greatest so far, `OrderBroken` where `rhs0`
+    /// is below `rhs1`, `TooBig` where there are 2^30 variables already, `NoMemory`.
     pub fn push_gate(&mut self, rhs0: Lit, rhs1: Lit) -> Result<Lit, CircuitFault>
         ensures ok { OnOk result (self.new ≡ with_gate self.old rhs0 rhs1) }
         ensures literal { IfOk result (λ l. l ≡ 2 * (variables (net self.old) + 1)) }
@@ -190,8 +190,7 @@ impl Circuit {
 
     /// Sets the literal that a latch takes in the next frame, and how it begins.
     ///
-    /// Error: `LiteralOutOfRange` where the literal's variable is above the greatest so far. The
-    /// circuit is then unchanged. It takes no memory.
+    /// Error: `LiteralOutOfRange` where the literal's variable is above the greatest so far. It takes no memory.
     pub fn set_latch(&mut self, k: usize, next: Lit, reset: Reset) -> Result<(), CircuitFault>
         requires { k < length self.old.latches }
         ensures ok { OnOk result (self.new ≡ with_latch self.old k (record { next = next; reset = reset })) }
@@ -207,9 +206,8 @@ impl Circuit {
 
     /// Adds an output.
     ///
-    /// Errors, of which the first that applies in this order is answered: `LiteralOutOfRange` where
-    /// the literal's variable is above the greatest so far, `TooBig` where there are 2^30 outputs
-    /// already, `NoMemory`. The circuit is then unchanged.
+    /// Errors: `LiteralOutOfRange` where the literal's variable is above the greatest so far, `TooBig` where there are
+    /// 2^30 outputs already, `NoMemory`.
     pub fn push_output(&mut self, lit: Lit) -> Result<(), CircuitFault>
         ensures ok { OnOk result (self.new ≡ with_output self.old lit) }
         ensures refused { RefusesBy result (property_refusal self.old (length self.old.outputs) lit) }
@@ -223,9 +221,8 @@ impl Circuit {
 
     /// Adds a bad property, the literal that is true where it holds.
     ///
-    /// Errors, of which the first that applies in this order is answered: `LiteralOutOfRange` where
-    /// the literal's variable is above the greatest so far, `TooBig` where there are 2^30 bad properties
-    /// already, `NoMemory`. The circuit is then unchanged.
+    /// Errors: `LiteralOutOfRange` where the literal's variable is above the greatest so far, `TooBig` where there are
+    /// 2^30 bad properties already, `NoMemory`.
     pub fn push_bad(&mut self, lit: Lit) -> Result<(), CircuitFault>
         ensures ok { OnOk result (self.new ≡ with_bad self.old lit) }
         ensures refused { RefusesBy result (property_refusal self.old (length self.old.bads) lit) }
@@ -239,9 +236,8 @@ impl Circuit {
 
     /// Adds a constraint, a literal that is to be true in every frame.
     ///
-    /// Errors, of which the first that applies in this order is answered: `LiteralOutOfRange` where
-    /// the literal's variable is above the greatest so far, `TooBig` where there are 2^30 constraints
-    /// already, `NoMemory`. The circuit is then unchanged.
+    /// Errors: `LiteralOutOfRange` where the literal's variable is above the greatest so far, `TooBig` where there are
+    /// 2^30 constraints already, `NoMemory`.
     pub fn push_constraint(&mut self, lit: Lit) -> Result<(), CircuitFault>
         ensures ok { OnOk result (self.new ≡ with_constraint self.old lit) }
         ensures refused { RefusesBy result (property_refusal self.old (length self.old.constraints) lit) }
@@ -253,13 +249,10 @@ impl Circuit {
         push_counted(&mut self.constraints, lit)
     }
 
-    /// Adds a justice property: literals each of which is to be true again and again. There may be
-    /// none.
+    /// Adds a justice property: literals each of which is to be true again and again. There may be none.
     ///
-    /// Errors, of which the first that applies in this order is answered: `LiteralOutOfRange` where
-    /// a literal's variable is above the greatest so far, `TooBig` where there are 2^30 justice
-    /// properties already, or all together would have more than 2^30 literals, `NoMemory`. The
-    /// circuit is then unchanged.
+    /// Errors: `LiteralOutOfRange` where a literal's variable is above the greatest so far, `TooBig` where there are 2^30
+    /// justice properties already, or all together would have more than 2^30 literals, `NoMemory`.
     pub fn push_justice(&mut self, lits: &[Lit]) -> Result<(), CircuitFault>
         ensures ok { OnOk result (self.new ≡ with_justice self.old lits.now) }
         ensures refused { RefusesBy result (justice_refusal self.old lits.now) }
@@ -273,9 +266,8 @@ impl Circuit {
 
     /// Adds a fairness constraint, a literal that is to be true again and again.
     ///
-    /// Errors, of which the first that applies in this order is answered: `LiteralOutOfRange` where
-    /// the literal's variable is above the greatest so far, `TooBig` where there are 2^30 fairness constraints
-    /// already, `NoMemory`. The circuit is then unchanged.
+    /// Errors: `LiteralOutOfRange` where the literal's variable is above the greatest so far, `TooBig` where there are
+    /// 2^30 fairness constraints already, `NoMemory`.
     pub fn push_fair(&mut self, lit: Lit) -> Result<(), CircuitFault>
         ensures ok { OnOk result (self.new ≡ with_fair self.old lit) }
         ensures refused { RefusesBy result (property_refusal self.old (length self.old.fair) lit) }
@@ -289,9 +281,8 @@ impl Circuit {
 
     /// Gives a name to a position of a section: 1 to 300 bytes, each from 32 to 126.
     ///
-    /// Errors, of which the first that applies in this order is answered: `NoSuchPosition` where
-    /// the section has no such position, `NameTaken` where it has a name already, `BadName` where
-    /// the bytes are no name, `NoMemory`. The circuit is then unchanged.
+    /// Errors: `NoSuchPosition` where the section has no such position, `NameTaken` where it has a name already,
+    /// `BadName` where the bytes are no name, `NoMemory`.
     pub fn set_name(
         &mut self,
         section: Section,

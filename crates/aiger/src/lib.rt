@@ -10,6 +10,7 @@ pub mod laws;
 mod literal;
 mod loose;
 mod names;
+mod next_gates;
 mod numbering;
 mod numbers;
 mod readiness;

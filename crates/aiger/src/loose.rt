@@ -47,6 +47,8 @@ pub struct GateLine {
 /// A defining literal is even and at least 2, and no variable is defined twice; what the other
 /// literals name need not be defined. Variables, the number of definitions, the length of each list
 /// and the literals of all justice properties are at most 2^30.
+///
+/// Of the errors that a call names, the first that applies is answered, and the lists are then unchanged.
 #[derive(Drop)]
 pub struct Loose {
     inputs: Vec<Lit>,
@@ -97,9 +99,8 @@ impl Loose {
 
     /// Adds an input line.
     ///
-    /// Errors, of which the first that applies in this order is answered: `LiteralOutOfRange` where
-    /// the literal is odd, below 2 or defined already, `TooBig` where its variable is above 2^30 or
-    /// there are 2^30 definitions already, `NoMemory`. The lists are then unchanged.
+    /// Errors: `LiteralOutOfRange` where the literal is odd, below 2 or defined already, `TooBig` where its variable is
+    /// above 2^30 or there are 2^30 definitions already, `NoMemory`.
     pub fn push_input(&mut self, lit: Lit) -> Result<(), CircuitFault>
         ensures ok { OnOk result (self.new ≡ with_input_line self.old lit) }
         ensures refused { RefusesBy result (line_refusal self.old lit []) }
@@ -116,9 +117,8 @@ impl Loose {
 
     /// Adds a latch line. A reset that is the own literal is `Free`.
     ///
-    /// Errors, of which the first that applies in this order is answered: `LiteralOutOfRange` where
-    /// the literal `current` is odd, below 2 or defined already, `TooBig` where a variable is above
-    /// 2^30 or there are 2^30 definitions already, `NoMemory`. The lists are then unchanged.
+    /// Errors: `LiteralOutOfRange` where `current` is odd, below 2 or defined already, `TooBig` where a variable is above
+    /// 2^30 or there are 2^30 definitions already, `NoMemory`.
     pub fn push_latch(&mut self, current: Lit, next: Lit, reset: Reset) -> Result<(), CircuitFault>
         ensures ok { OnOk result (self.new ≡ with_latch_line self.old (record { current = current; next = next; reset = reset })) }
         ensures refused { RefusesBy result (line_refusal self.old current (next ∷ [])) }
@@ -140,9 +140,8 @@ impl Loose {
 
     /// Adds a gate line. Its operands may be in any order, and need not be defined yet.
     ///
-    /// Errors, of which the first that applies in this order is answered: `LiteralOutOfRange` where
-    /// the literal `lhs` is odd, below 2 or defined already, `TooBig` where a variable is above 2^30
-    /// or there are 2^30 definitions already, `NoMemory`. The lists are then unchanged.
+    /// Errors: `LiteralOutOfRange` where `lhs` is odd, below 2 or defined already, `TooBig` where a variable is above
+    /// 2^30 or there are 2^30 definitions already, `NoMemory`.
     pub fn push_gate(&mut self, lhs: Lit, rhs0: Lit, rhs1: Lit) -> Result<(), CircuitFault>
         ensures ok { OnOk result (self.new ≡ with_gate_line self.old (record { lhs = lhs; rhs0 = rhs0; rhs1 = rhs1 })) }
         ensures refused { RefusesBy result (line_refusal self.old lhs (rhs0 ∷ rhs1 ∷ [])) }
@@ -160,9 +159,7 @@ impl Loose {
 
     /// Adds an output. Its variable need not be defined yet.
     ///
-    /// Errors, of which the first that applies in this order is answered: `TooBig` where the
-    /// literal's variable is above 2^30 or there are 2^30 outputs already, `NoMemory`. The lists
-    /// are then unchanged.
+    /// Errors: `TooBig` where the literal's variable is above 2^30 or there are 2^30 outputs already, `NoMemory`.
     pub fn push_output(&mut self, lit: Lit) -> Result<(), CircuitFault>
         ensures ok { OnOk result (self.new ≡ with_output_line self.old lit) }
         ensures refused { RefusesBy result (use_refusal (length self.old.outputs) lit) }
@@ -176,9 +173,8 @@ impl Loose {
 
     /// Adds a bad property. Its variable need not be defined yet.
     ///
-    /// Errors, of which the first that applies in this order is answered: `TooBig` where the
-    /// literal's variable is above 2^30 or there are 2^30 bad properties already, `NoMemory`. The lists
-    /// are then unchanged.
+    /// Errors: `TooBig` where the literal's variable is above 2^30 or there are 2^30 bad properties already, and
+    /// `NoMemory`.
     pub fn push_bad(&mut self, lit: Lit) -> Result<(), CircuitFault>
         ensures ok { OnOk result (self.new ≡ with_bad_line self.old lit) }
         ensures refused { RefusesBy result (use_refusal (length self.old.bads) lit) }
@@ -192,9 +188,7 @@ impl Loose {
 
     /// Adds a constraint, a literal that is to be true in every frame. Its variable need not be defined yet.
     ///
-    /// Errors, of which the first that applies in this order is answered: `TooBig` where the
-    /// literal's variable is above 2^30 or there are 2^30 constraints already, `NoMemory`. The lists
-    /// are then unchanged.
+    /// Errors: `TooBig` where the literal's variable is above 2^30 or there are 2^30 constraints already, `NoMemory`.
     pub fn push_constraint(&mut self, lit: Lit) -> Result<(), CircuitFault>
         ensures ok { OnOk result (self.new ≡ with_constraint_line self.old lit) }
         ensures refused { RefusesBy result (use_refusal (length self.old.constraints) lit) }
@@ -209,9 +203,8 @@ impl Loose {
     /// Adds a justice property: literals each of which is to be true again and again. There may be
     /// none, and their variables need not be defined yet.
     ///
-    /// Errors, of which the first that applies in this order is answered: `TooBig` where a literal's
-    /// variable is above 2^30, there are 2^30 justice properties already, or all together would have
-    /// more than 2^30 literals, `NoMemory`. The lists are then unchanged.
+    /// Errors: `TooBig` where a literal's variable is above 2^30, there are 2^30 justice properties already, or all
+    /// together would have more than 2^30 literals, `NoMemory`.
     pub fn push_justice(&mut self, lits: &[Lit]) -> Result<(), CircuitFault>
         ensures ok { OnOk result (self.new ≡ with_justice_lines self.old lits.now) }
         ensures refused { RefusesBy result (loose_justice_refusal self.old.justice lits.now) }
@@ -225,9 +218,8 @@ impl Loose {
 
     /// Adds a fairness constraint, a literal that is to be true again and again. Its variable need not be defined yet.
     ///
-    /// Errors, of which the first that applies in this order is answered: `TooBig` where the
-    /// literal's variable is above 2^30 or there are 2^30 fairness constraints already, `NoMemory`. The lists
-    /// are then unchanged.
+    /// Errors: `TooBig` where the literal's variable is above 2^30 or there are 2^30 fairness constraints already, and
+    /// `NoMemory`.
     pub fn push_fair(&mut self, lit: Lit) -> Result<(), CircuitFault>
         ensures ok { OnOk result (self.new ≡ with_fair_line self.old lit) }
         ensures refused { RefusesBy result (use_refusal (length self.old.fair) lit) }
@@ -241,9 +233,8 @@ impl Loose {
 
     /// Gives a name to a position of a section: 1 to 300 bytes, each from 32 to 126.
     ///
-    /// Errors, of which the first that applies in this order is answered: `NoSuchPosition` where
-    /// the section has no such position, `NameTaken` where it has a name already, `BadName` where
-    /// the bytes are no name, `NoMemory`. The lists are then unchanged.
+    /// Errors: `NoSuchPosition` where the section has no such position, `NameTaken` where it has a name already,
+    /// `BadName` where the bytes are no name, `NoMemory`.
     pub fn set_name(
         &mut self,
         section: Section,
@@ -287,6 +278,11 @@ impl Loose {
         ensures { result ≡ true → (greatest : ℕ) × ((v : ℕ) → is_defined self.now v ≡ (nat_le 1 v && nat_le v greatest)) }
     {
         self.defined.are_in_turn()
+    }
+
+    /// The greatest variable that a line defines, or 0.
+    pub(crate) fn greatest_defined(&self) -> u32 {
+        self.defined.greatest()
     }
 
     /// Whether there are fewer than 2^30 definitions.

@@ -72,10 +72,7 @@ impl NameKeeper {
             return self.in_order.push(key, name);
         }
         let mut bytes = Vec::new(self.alloc);
-        match bytes.extend_from_slice(name) {
-            Ok(()) => {}
-            Err(_) => return Err(CircuitFault::NoMemory),
-        }
+        bytes.extend_from_slice(name)?;
         match self.others.insert(place, bytes) {
             Ok(_) => Ok(()),
             Err(_) => Err(CircuitFault::NoMemory),

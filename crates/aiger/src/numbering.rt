@@ -172,17 +172,6 @@ impl Loose {
         Numbers::with_room(alloc, count, low + 1)
     }
 
-    /// The greatest variable that a line defines, or 0.
-    fn greatest_defined(&self) -> u32 {
-        let inputs = self.inputs().iter().map(|lit| lit.var()).max();
-        let latches = self.latches().iter().map(|line| line.current.var()).max();
-        let gates = self.gates().iter().map(|line| line.lhs.var()).max();
-        inputs
-            .unwrap_or(0)
-            .max(latches.unwrap_or(0))
-            .max(gates.unwrap_or(0))
-    }
-
     /// The defined variables by their places: inputs, latches and gates, each in file order.
     fn places(&self, alloc: Global) -> Result<Numbers, AllocError>
         ensures numbers { IfOk result (λ n. n ≡ defined_variables self.now) }
@@ -200,7 +189,7 @@ impl Loose {
     }
 
     /// For each gate the two slots of its operands: 0 where an operand waits for no gate, or the
-    /// position of the gate that it waits for and 1. The places are needed no more.
+    /// position of the gate that it waits for and 1. The places are needed no more, and are dropped.
     fn slots(&self, alloc: Global, places: Numbers) -> Result<Vec<u32>, AllocError>
         requires { places ≡ defined_variables self.now }
         ensures slots { IfOk result (λ v. v.items ≡ slots_of (defined_variables self.now) (length self.now.inputs + length self.now.latches) self.now.gates) }

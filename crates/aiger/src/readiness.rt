@@ -1,9 +1,9 @@
 //! The order of readiness: each time the first gate of those that wait for no other.
 ghost use Rattle.std.specs.Prelude.{◌≡◌, ℕ, suc, ◌+◌, ◌-◌, ◌*◌, ◌<◌, ◌≤◌, [], ◌∷◌, ◌++◌, ◌&&◌, ◌||◌, length, slice_index_or, nat_lt, nat_eq, IfOk, OnOk, slice_set, if◌then◌else◌};
 ghost use Rattle.aiger.specs.Readiness.{AreSlots, HasChains, HasSlots, ForSlots, CountsWaits, waits_for_nothing, IsBetween, IsTaken, IsWholeOrder};
-ghost use Rattle.aiger.specs.ReadyGates.{is_ready, room};
+ghost use Rattle.aiger.specs.NextGates.{is_next, next_room};
 
-use crate::ready_gates::ReadyGates;
+use crate::next_gates::NextGates;
 use std::alloc::{AllocError, Global};
 
 /// Who waits for whom.
@@ -41,13 +41,13 @@ pub fn order_of_readiness(
 fn take_in_turn(
     users: &Users,
     waiting: &mut Vec<u8>,
-    ready: &mut ReadyGates,
+    ready: &mut NextGates,
     order: &mut Vec<u32>,
     marks: &mut Vec<bool>,
 ) -> Result<(), AllocError>
-    requires known { HasSlots (length waiting.old.items) users.now.heads.items users.now.nexts.items (λ slots. IsBetween slots (length waiting.old.items) order.old.items waiting.old.items marks.old.items (is_ready ready.old)) }
-    requires room { length waiting.old.items ≤ room ready.old }
-    ensures { OnOk result (ForSlots (length waiting.old.items) users.now.heads.items users.now.nexts.items (λ slots. IsBetween slots (length waiting.old.items) order.old.items waiting.old.items marks.old.items (is_ready ready.old))
+    requires known { HasSlots (length waiting.old.items) users.now.heads.items users.now.nexts.items (λ slots. IsBetween slots (length waiting.old.items) order.old.items waiting.old.items marks.old.items (is_next ready.old)) }
+    requires room { length waiting.old.items ≤ next_room ready.old }
+    ensures { OnOk result (ForSlots (length waiting.old.items) users.now.heads.items users.now.nexts.items (λ slots. IsBetween slots (length waiting.old.items) order.old.items waiting.old.items marks.old.items (is_next ready.old))
         (λ slots. IsWholeOrder slots (length waiting.old.items) order.new.items marks.new.items)) }
 {
     while let Some(gate) = ready.pop_first() {
@@ -102,12 +102,12 @@ fn first_waits(alloc: Global, slots: &[u32], gates: usize) -> Result<Vec<u8>, Al
 }
 
 /// The gates that wait for nothing, before any gate is done.
-fn first_ready(alloc: Global, waiting: &[u8]) -> Result<ReadyGates, AllocError>
+fn first_ready(alloc: Global, waiting: &[u8]) -> Result<NextGates, AllocError>
     requires { length waiting.now ≤ 1073741824 }
-    ensures ready { IfOk result (λ r. (i : ℕ) → is_ready r i ≡ waits_for_nothing (length waiting.now) [] waiting.now i) }
-    ensures room { IfOk result (λ r. length waiting.now ≤ room r) }
+    ensures ready { IfOk result (λ r. (i : ℕ) → is_next r i ≡ waits_for_nothing (length waiting.now) [] waiting.now i) }
+    ensures room { IfOk result (λ r. length waiting.now ≤ next_room r) }
 {
-    let mut ready = ReadyGates::new(alloc, waiting.len())?;
+    let mut ready = NextGates::new(alloc, waiting.len())?;
     for gate in 0..waiting.len() {
         note(&mut ready, gate as u32, waiting[gate]);
     }
@@ -115,10 +115,10 @@ fn first_ready(alloc: Global, waiting: &[u8]) -> Result<ReadyGates, AllocError>
 }
 
 /// Notes a gate as ready where nothing is left that it waits for.
-fn note(ready: &mut ReadyGates, gate: u32, left: u8)
-    requires { gate < room ready.old }
-    ensures noted { (i : ℕ) → is_ready ready.new i ≡ (is_ready ready.old i || (nat_eq gate i && nat_eq left 0)) }
-    ensures room { room ready.new ≡ room ready.old }
+fn note(ready: &mut NextGates, gate: u32, left: u8)
+    requires { gate < next_room ready.old }
+    ensures noted { (i : ℕ) → is_next ready.new i ≡ (is_next ready.old i || (nat_eq gate i && nat_eq left 0)) }
+    ensures room { next_room ready.new ≡ next_room ready.old }
 {
     if left != 0 {
         return;
@@ -127,13 +127,13 @@ fn note(ready: &mut ReadyGates, gate: u32, left: u8)
 }
 
 /// Each slot of the last gate of an order waits no longer.
-fn release(users: &Users, order: &[u32], waiting: &mut Vec<u8>, ready: &mut ReadyGates)
-    requires known { HasSlots (length waiting.old.items) users.now.heads.items users.now.nexts.items (λ slots. IsTaken slots (length waiting.old.items) order.now waiting.old.items (is_ready ready.old)) }
-    requires room { length waiting.old.items ≤ room ready.old }
-    ensures waits { ForSlots (length waiting.old.items) users.now.heads.items users.now.nexts.items (λ slots. IsTaken slots (length waiting.old.items) order.now waiting.old.items (is_ready ready.old))
+fn release(users: &Users, order: &[u32], waiting: &mut Vec<u8>, ready: &mut NextGates)
+    requires known { HasSlots (length waiting.old.items) users.now.heads.items users.now.nexts.items (λ slots. IsTaken slots (length waiting.old.items) order.now waiting.old.items (is_next ready.old)) }
+    requires room { length waiting.old.items ≤ next_room ready.old }
+    ensures waits { ForSlots (length waiting.old.items) users.now.heads.items users.now.nexts.items (λ slots. IsTaken slots (length waiting.old.items) order.now waiting.old.items (is_next ready.old))
         (λ slots. CountsWaits slots (length waiting.old.items) order.now waiting.new.items) }
-    ensures ready { (i : ℕ) → is_ready ready.new i ≡ waits_for_nothing (length waiting.old.items) order.now waiting.new.items i }
-    ensures room { room ready.new ≡ room ready.old }
+    ensures ready { (i : ℕ) → is_next ready.new i ≡ waits_for_nothing (length waiting.old.items) order.now waiting.new.items i }
+    ensures room { next_room ready.new ≡ next_room ready.old }
 {
     let gate = order[order.len() - 1] as usize;
     let mut at = users.heads[gate];

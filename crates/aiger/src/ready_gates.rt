@@ -34,14 +34,12 @@ impl ReadyGates {
             base = 64 * (base + 1);
             levels += 1;
         }
-        match vec![in alloc; 0u64; (base + bound) / 64 + 1] {
-            Ok(words) => Ok(ReadyGates {
-                words,
-                levels,
-                base,
-            }),
-            Err(_) => Err(AllocError),
-        }
+        let words = vec![in alloc; 0u64; (base + bound) / 64 + 1]?;
+        Ok(ReadyGates {
+            words,
+            levels,
+            base,
+        })
     }
 
     /// Puts a number into the set. It takes no memory.
@@ -60,6 +58,7 @@ impl ReadyGates {
         ensures least { IfSome result (λ gate. (i : ℕ) → i < gate → is_ready self.old i ≡ false) }
         ensures rest { IfSome result (λ gate. (i : ℕ) → is_ready self.new i ≡ (is_ready self.old i && not (nat_eq gate i))) }
         ensures none { IfNone result ((i : ℕ) → is_ready self.old i ≡ false) }
+        ensures kept { IfNone result (self.new ≡ self.old) }
         ensures room { room self.new ≡ room self.old }
     {
         if self.words[0] == 0 {

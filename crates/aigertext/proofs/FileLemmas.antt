@@ -22,9 +22,6 @@ module _ {A : Type 0} (says : Loose → List ℕ → Result A Why) (with' : Loos
       let stops : onto_lists says with' l m text ≡ Err e = ap (λ (k : ℕ). onto_lists says with' l k text) left ∙ rw one refl in
       sym so_far ∙ stops
 
-pub file_done : {A : Type 0} (says : Loose → List ℕ → Result A Why) (with' : Loose → A → Loose) (l : Loose) (m : ℕ) (text : List ℕ) (whole : Result (Loose × List ℕ) Stop) → m ≡ 0 → onto_lists says with' l m text ≡ whole → whole ≡ Ok (l, text)
-file_done says with' l m text whole none so_far = sym so_far ∙ ap (λ (k : ℕ). onto_lists says with' l k text) none
-
 -- ---- nothing refuses such a line
 
 pub small_literal : (greatest n : ℕ) → greatest ≤ 2147483649 → n ≤ greatest → is_small n ≡ true

@@ -25,8 +25,7 @@ use Rattle.aigertext.specs.Reading.{◌>>=◌, line_at, header_of, gate_at, gate
 use Rattle.aigertext.specs.AsciiReading.{lists_of_file, AnswersNamed, AnswersLists, AnswersAscii, AnswersHeader, AnswersText}
 use Rattle.aiger.specs.Loose.{Loose}
 use Rattle.base.specs.Lines.{IsLine}
-use Rattle.aigertext.specs.Passes.{onto, Reads, with_gates, with_latches, latch_in, latches_in}
-use Rattle.aigertext.specs.PropertyLists.{circuit_with, lists_made}
+use Rattle.aigertext.specs.Passes.{onto, with_gates, latch_in, latches_in}
 use Rattle.aigertext.specs.InOrder.{uses_at, uses_of, IsFront, HasFront, text_with, PutsGates, Finishes, IsFinish, ReadsOnto}
 use Rattle.aigertext.proofs.AsciiWrittenLemmas.{OwnValid, OwnNumbered, OwnMany, up_to, written_inputs, written_gates}
 use Rattle.aigertext.proofs.BackLemmas.{ok_same, err_same, not_err, bind-then, line-back}
@@ -52,16 +51,6 @@ uses-back form h text uses rest e =
     bind-then (latches_in form (2 * h.variables + 1) (2 * suc h.inputs) h.latches text) _ (uses, rest) e
     (λ l l' e1. bind-then (properties_at h l.1) _ (uses, rest) e1
     (λ p p' e2. subst (λ (x : (List Latch × Properties) × List ℕ). UsesBack form h text x.0 x.1) (ok_same _ (uses, rest) e2) (record { after = l.1; latches = l'; properties = p' })))
-
--- they are read one after the other
-pub uses_then : {X : Type 0} (form : Form) (h : Counts) (text : List ℕ) (ls : List Latch) (t : List ℕ) (p : Properties) (rest : X → List ℕ) (r : Result X Stop) → latches_in form (2 * h.variables + 1) (2 * suc h.inputs) h.latches text ≡ Ok (ls, t) → Reads (λ x. (p, rest x)) r (properties_at h t)
-    → Reads (λ x. ((ls, p), rest x)) r (uses_at form h text)
-uses_then form h text ls t p rest (Ok x) one two = rw (one, two) refl
-uses_then form h text ls t p rest (Err e) one (inl full) = inl full
-uses_then form h text ls t p rest (Err e) one (inr two) = inr (rw (one, two) refl)
-
-pub uses_stop : (form : Form) (h : Counts) (text : List ℕ) (e : Stop) → latches_in form (2 * h.variables + 1) (2 * suc h.inputs) h.latches text ≡ Err e → uses_at form h text ≡ Err e
-uses_stop form h text e one = rw one refl
 
 -- they are the front of a text, behind which anything may stand
 uses-front : (form : Form) (h : Counts) (text : List ℕ) (uses : List Latch × Properties) (rest : List ℕ) → UsesBack form h text uses rest → IsAtFront (uses_at form h) text uses rest
@@ -450,10 +439,3 @@ gate_answer Binary h uses before front c0 c1 n window names bare puts valid e ow
     (is ∙ own_after Binary h uses before front c0 c1 n window names bare puts valid) stops)
 
 -- ---- finishing
-
--- what a circuit is before its names, and what it is then
-pub finishes : (h : Counts) (c1 c2 c3 : Circuit) (ls : List Latch) (p : Properties) (names : List ℕ) (r : Result Circuit Stop) → c1 ≡ with_gates (fresh_circuit h.inputs h.latches) c1.gates
-    → c2 ≡ with_latches c1 ls → c3 ≡ circuit_with c2 (lists_made p) → IsCircuit c3 → names_at c3 names ≡ r → Finishes h (ls, p) c1.gates r names
-finishes h c1 c2 c3 ls p names r is1 is2 is3 valid read =
-    let made : c3 ≡ nameless h.inputs ls p c1.gates = is3 ∙ ap (λ (c : Circuit). circuit_with c (lists_made p)) (is2 ∙ ap (λ (c : Circuit). with_latches c ls) is1) in
-    record { valid = subst IsCircuit made valid; are_names = ap (λ (c : Circuit). names_at c names) (sym made) ∙ read }

@@ -37,11 +37,6 @@ pub onto_nothing : {A : Type 0} (r : Result (List A × List ℕ) Stop) → onto 
 onto_nothing (Ok x) = refl
 onto_nothing (Err e) = refl
 
-pub onto_begins : {A S : Type 0} (says : S → List ℕ → Result A Why) (next : S → A → S) (s : S) (n : ℕ) (text : List ℕ) (xs : List A) → xs ≡ [] → onto xs (lines_at says next s (n - 0) text) ≡ lines_at says next s n text
-onto_begins says next s n text xs none =
-    let all : n - 0 ≡ n = omega arith in
-    ap (λ (l : List _). onto l (lines_at says next s (n - 0) text)) none ∙ onto_nothing (lines_at says next s (n - 0) text) ∙ ap (λ (k : ℕ). lines_at says next s k text) all
-
 module _ {A S : Type 0} (says : S → List ℕ → Result A Why) (next : S → A → S) (s : S) (m n : ℕ) (text : List ℕ) (left : m ≡ suc n) where
   pub lines_more : (x : A) (after : List ℕ) → line_at (says s) text ≡ Ok (x, after) → lines_at says next s m text ≡ onto (x ∷ []) (lines_at says next (next s x) n after)
   lines_more x after one = ap (λ (k : ℕ). lines_at says next s k text) left ∙ rw one (onto_one x (lines_at says next (next s x) n after))

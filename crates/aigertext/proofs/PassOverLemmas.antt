@@ -3,12 +3,11 @@ use Rattle.std.proofs.Common.{◌≡◌, ℕ, zero, suc, ◌+◌, ◌<◌, ◌�
 use Rattle.std.specs.List.{concat, sum_by}
 use Rattle.std.specs.List.{slice_get}
 use Rattle.std.proofs.lemmas.List.{length-map}
-use Rattle.std.proofs.lemmas.List.Sums.{sum_by-cons, sum_by_more, sum_by-take-le}
+use Rattle.std.proofs.lemmas.List.Sums.{sum_by-cons, sum_by_more}
 use Rattle.std.proofs.lemmas.Option.{slice_get_within, get_or_from_slice_get}
 use Rattle.std.proofs.lemmas.Bool.Decides.{nat_tests}
 use Rattle.aiger.specs.declared.loose.GateLine.{GateLine}
 use Rattle.aiger.specs.declared.loose.LatchLine.{LatchLine}
-use Rattle.aiger.specs.Circuit.{Circuit}
 use Rattle.aiger.specs.Loose.{Loose, empty_loose, defined_count, with_input_line, with_latch_line}
 use Rattle.aiger.specs.Renumbering.{used_lines, alone, AnswersNumber, LeadsToCycle, LeadsAlong}
 use Rattle.aiger.specs.declared.fault.LooseFault.{LooseFault}
@@ -17,8 +16,7 @@ use Rattle.aigertext.specs.declared.reading.counts.Counts.{Counts}
 use Rattle.aigertext.specs.declared.fault.Stop.{Stop}
 use Rattle.aigertext.specs.declared.fault.Why.{Why}
 use Rattle.aigertext.specs.Reading.{◌>>=◌, cut, line_at, Properties, properties_at}
-use Rattle.aigertext.specs.AsciiReading.{behind_line, behind_lines, lines_before, onto_lists, with_properties_of, lists_of_file, AnswersLists, AnswersAscii}
-use Rattle.aigertext.specs.Passes.{ReadsBy}
+use Rattle.aigertext.specs.AsciiReading.{behind_line, behind_lines, lines_before, onto_lists, with_properties_of}
 use Rattle.aigertext.specs.PropertyLists.{no_lists, file_lists, properties_onto}
 use Rattle.aigertext.proofs.BackLemmas.{ok_same, err_same, not_err, bind-back, line-back}
 
@@ -70,9 +68,6 @@ sum_more lists i sum ls found is =
     let one : get_or lists i ls ≡ ls = get_or_from_slice_get lists i ls ls found in
     omega (arith, sum_by_more length lists i ls (slice_get_within lists i ls found), is, ap (length {A = ℕ}) one)
 
-pub sum_within : (lists : List (List ℕ)) (i sum : ℕ) (ls : List ℕ) → slice_get lists i ≡ Some ls → sum ≡ sum_by length (take i lists) → sum + length ls ≤ sum_by length lists
-sum_within lists i sum ls found is = omega (arith, sum_more lists i sum ls found is, sum_by-take-le (length {A = ℕ}) lists (i + 1))
-
 -- a gate that leads to a cycle is one of the gates
 uses_within : (l : Loose) (j i : ℕ) (ks : List ℕ) → LeadsAlong l j ks i → j < length l.gates
 uses_within l j i [] u = u.user
@@ -112,9 +107,6 @@ no_uses h text t1 t2 l0 l1 l2 says1 says2 none one two =
 room : (i l g v a b c : ℕ) → i + l + g ≤ v → v ≤ 1073741824 → a ≡ 0 → b ≡ a + i → c ≡ b + l → (b + l ≤ 1073741824) × (c + g ≤ 1073741824)
 room i l g v a b c fits few first second third = (omega arith, omega arith)
 
-pub none_few : (l0 : Loose) (n : ℕ) → l0 ≡ empty_loose → n ≤ 1073741824 → defined_count l0 + n ≤ 1073741824
-none_few l0 n none few = subst (λ (l : Loose). defined_count l + n ≤ 1073741824) (sym none) (omega arith)
-
 module _ (h : Counts) (fits : h.inputs + h.latches + h.gates ≤ h.variables) (few : h.variables ≤ 1073741824) (l0 l1 : Loose) (none : l0 ≡ empty_loose) (i : defined_count l1 ≡ defined_count l0 + h.inputs) where
   pub latches_few : defined_count l1 + h.latches ≤ 1073741824
   latches_few = (room h.inputs h.latches h.gates h.variables (defined_count l0) (defined_count l1) (defined_count l1 + h.latches) fits few (ap defined_count none) i refl).0
@@ -133,18 +125,3 @@ gates_stop {B} h l text next e = by (properties_at h text)
     by : (r : Result (Properties × List ℕ) Stop) → ◌>>=◌ {A = Properties × List ℕ} {B = Loose × List ℕ} {E = Stop} r (λ p. Ok (with_properties_of l p.0, p.1)) ≡ Err e → (r >>= (λ p. next (with_properties_of l p.0) p.1)) ≡ Err e
     by (Ok p) is = absurd (not_err _ _ (sym is))
     by (Err w) is = ap (λ (v : Stop). Err v) (err_same w e is)
-
-pub gates_few : (h : Counts) → h.inputs + h.latches + h.gates ≤ h.variables → h.variables ≤ 1073741824 → (l0 l1 : Loose) → l0 ≡ empty_loose → defined_count l1 ≡ defined_count l0 + h.inputs
-    → (l2 l3 : Loose) (t2 t3 : List ℕ) → defined_count l2 ≡ defined_count l1 + h.latches → properties_onto h l2 t2 ≡ Ok (l3, t3) → defined_count l3 + h.gates ≤ 1073741824
-gates_few h fits few l0 l1 none i l2 l3 t2 t3 k is = (room h.inputs h.latches h.gates h.variables (defined_count l0) (defined_count l1) (defined_count l3) fits few (ap defined_count none) i (same (properties_at h t2) is ∙ k)).1
-  where
-    same : (r : Result (Properties × List ℕ) Stop) → ◌>>=◌ {A = Properties × List ℕ} {B = Loose × List ℕ} {E = Stop} r (λ p. Ok (with_properties_of l2 p.0, p.1)) ≡ Ok (l3, t3) → defined_count l3 ≡ defined_count l2
-    same (Ok p) e = sym (ap (λ (x : Loose × List ℕ). defined_count x.0) (ok_same (with_properties_of l2 p.0, p.1) (l3, t3) e))
-    same (Err w) e = absurd (not_err _ _ e)
-
--- lists that were read, or where reading them stops, have the answers of the text
-pub answers_of_lists : (h : Counts) (text t : List ℕ) (l : Loose) (r : Result Circuit Stop) → lists_of_file h text ≡ Ok (l, t) → ReadsBy (λ e. e.why) (λ c. c) r (AnswersLists h text (Ok (l, t))) → ReadsBy (λ e. e.why) (λ c. c) r (AnswersAscii h text)
-answers_of_lists h text t l r is answers = subst (λ (read : Result (Loose × List ℕ) Stop). ReadsBy (λ e. e.why) (λ c. c) r (AnswersLists h text read)) (sym is) answers
-
-pub answers_stop : (h : Counts) (text : List ℕ) (e : Stop) → lists_of_file h text ≡ Err e → AnswersAscii h text (Err e)
-answers_stop h text e is = subst (λ (read : Result (Loose × List ℕ) Stop). AnswersLists h text read (Err e)) (sym is) refl

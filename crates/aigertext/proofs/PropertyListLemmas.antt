@@ -50,9 +50,6 @@ pub record ListsMade (takes : ℕ → Bool) (sizes listed : List ℕ) (index : �
   pub total : sum_by length made + length rest ≡ length listed
   pub taken : list_all takes rest ≡ true
 
-pub lists_begin : (takes : ℕ → Bool) (sizes listed : List ℕ) → length listed ≡ sum sizes → list_all takes listed ≡ true → ListsMade takes sizes listed 0 [] listed
-lists_begin takes sizes listed sums taken = record { all = refl; many = refl; sums = sums; total = omega arith; taken = taken }
-
 module _ (takes : ℕ → Bool) (sizes listed : List ℕ) (index : ℕ) (made : List (List ℕ)) (rest : List ℕ) (m : ListsMade takes sizes listed index made rest) (more : index < length sizes) where
   abbrev pub size : ℕ
   size = get_or sizes index 0
@@ -88,9 +85,6 @@ module _ (takes : ℕ → Bool) (sizes listed : List ℕ) (index : ℕ) (made : 
       let free : nat_le greatest_count (length made) ≡ false = grind (arith, nat_tests) in
       let small : nat_lt greatest_count (sum_by length made + length (take size rest)) ≡ false = grind (arith, nat_tests) in
       rw (free, small) refl
-
-pub lists_end : (takes : ℕ → Bool) (sizes listed : List ℕ) (index : ℕ) (made : List (List ℕ)) (rest : List ℕ) → ListsMade takes sizes listed index made rest → drop index sizes ≡ [] → made ≡ lists_of sizes listed
-lists_end takes sizes listed index made rest m none = sym (append-nil made) ∙ ap (λ (ns : List ℕ). made ++ lists_of ns rest) (sym none) ∙ m.all
 
 -- ---- what has them
 

@@ -1,7 +1,7 @@
 -- Gates that are put onto a circuit by their text, and lines of inputs in turn.
 use Rattle.std.proofs.Common.{◌≡◌, ℕ, zero, suc, ◌+◌, ◌-◌, ◌*◌, ◌≤◌, List, [], ◌∷◌, ◌++◌, length, take, decimal, Option, Some, None, refl, sym, ap, subst, ◌∙◌, append_assoc, append-nil, length-append, arith}
 use Rattle.std.specs.Io.KnownBytes.{prepend_known, Keeps, Consumes}
-use Rattle.std.proofs.KnownBytes.{Consumes-nil, Consumes-trans, Consumes-kept}
+use Rattle.std.proofs.KnownBytes.{Consumes-trans, Consumes-kept}
 use Rattle.std.proofs.lemmas.List.{take_at}
 use Rattle.aiger.specs.declared.circuit.Gate.{Gate}
 use Rattle.aiger.specs.Net.{variables}
@@ -54,17 +54,6 @@ gates_text-append form first (g ∷ gs) hs =
     ∙ ap (λ (t : List ℕ). gate_text form (2 * first) g ++ t) (gates_text-append form (suc first) gs hs ∙ ap (λ (k : ℕ). gates_text form (suc first) gs ++ gates_text form k hs) (plus_suc first (length gs)))
     ∙ sym (append_assoc (gate_text form (2 * first) g) (gates_text form (suc first) gs) (gates_text form (first + suc (length gs)) hs))
     ∙ ap (λ (t : List ℕ). t ++ gates_text form (first + suc (length gs)) hs) (sym (gates_text-cons form first g gs))
-
--- none yet
-pub puts_none : (form : Form) (c : Circuit) (known : Option (List ℕ)) → PutsGates form c c 0 known known
-puts_none form c known =
-    let none = gates_text-none form (suc (variables (net c))) in
-    record {
-      gates = [];
-      is = ap (λ (gs : List Gate). record c { gates = gs }) (sym (append-nil c.gates));
-      long = ap (length {A = ℕ}) none;
-      text = subst (Consumes known known) none (Consumes-nil known);
-    }
 
 -- how many variables and gates there are then
 pub variables_then : (old new : Circuit) (gs : List Gate) → new ≡ with_gates old gs → variables (net new) ≡ variables (net old) + length gs

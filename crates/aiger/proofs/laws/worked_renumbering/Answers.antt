@@ -1,11 +1,10 @@
-use Rattle.std.proofs.Common.{rules, ◌≡◌, ◌<◌, ℕ, zero, suc, true, false, List, [], ◌∷◌, ◌⊎◌, inl, inr, refl, arith, nat_eq, ⊎_elim}
-use Rattle.std.specs.List.{list_any}
-use Rattle.aiger.specs.Renumbering.{is_ready, Uses, LeadsAlong, gate_line}
+use Rattle.std.proofs.Common.{rules, ◌≡◌, ◌<◌, ℕ, zero, suc, List, [], ◌∷◌, ◌⊎◌, inl, inr, refl, arith, ⊎_elim}
+use Rattle.aiger.specs.Renumbering.{Uses, LeadsAlong, gate_line}
 use Rattle.aiger.specs.Literal.{variable}
 use Rattle.std.specs.List.Sorted.{IsStrictlySortedBy}
 use Rattle.std.proofs.lemmas.List.Elements.{All-nil}
 use Rattle.aiger.specs.Circuit.{IsNamed, HasFew, HasDefined, net}
-use Rattle.aiger.specs.Worked.{crossed, backwards, straight, looped, led}
+use Rattle.aiger.specs.Worked.{straight, looped, led}
 use Rattle.aiger.proofs.laws.worked_renumbering.Goals as goal
 
 -- what holds of 0 holds of each number below 1
@@ -18,25 +17,6 @@ below_two : (P : ℕ → Type 0) → P 0 → P 1 → (i : ℕ) → i < 2 → P i
 below_two P p q zero h = p
 below_two P p q (suc zero) h = q
 below_two P p q (suc (suc i)) h = absurd (omega arith)
-
-pub returns-clause-in_order : goal.returns-clause-in_order
-returns-clause-in_order c =
-    record {
-      in_turn = (record { ready = refl; first = λ i h. absurd (omega arith) }, (record { ready = refl; first = below_one (λ i. is_ready crossed (0 ∷ []) i ≡ false) refl }, tt));
-      all = below_two (λ j. list_any (nat_eq j) (0 ∷ 1 ∷ []) ≡ true) refl refl;
-    }
-
-pub returns-clause-before_its_line : goal.returns-clause-before_its_line
-returns-clause-before_its_line c =
-    record {
-      in_turn = (record { ready = refl; first = below_one (λ i. is_ready backwards [] i ≡ false) refl }, (record { ready = refl; first = λ i h. absurd (omega arith) }, tt));
-      all = below_two (λ j. list_any (nat_eq j) (1 ∷ 0 ∷ []) ≡ true) refl refl;
-    }
-
-pub returns-clause-by_file_order : goal.returns-clause-by_file_order
-returns-clause-by_file_order c o =
-    let z : false ≡ true = o.in_turn.0.ready in
-    absurd (cc)
 
 pub returns-clause-valid : goal.returns-clause-valid
 unfolding IsStrictlySortedBy
@@ -95,12 +75,3 @@ returns-clause-led c =
       (λ d. none_leads 0 d.0 d.1),
       ([], own),
     )
-
-pub returns-clause-of_each : goal.returns-clause-of_each
-returns-clause-of_each c =
-    record {
-      known = refl;
-      order = [];
-      is_order = record { in_turn = tt; all = λ j h. absurd (omega arith) };
-      circuit = refl;
-    }

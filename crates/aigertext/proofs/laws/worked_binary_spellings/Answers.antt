@@ -1,12 +1,10 @@
-use Rattle.std.proofs.Common.{◌≡◌, ℕ, List, [], ◌∷◌, ◌++◌, codes, get_or, refl, ap, ◌∙◌, rules, arith, inr}
+use Rattle.std.proofs.Common.{[], ◌∷◌, ◌++◌, codes, refl, rules, arith, inr}
 use Rattle.std.specs.List.Sorted.{IsStrictlySortedBy}
 use Rattle.std.proofs.lemmas.List.Elements.{All-nil}
 use Rattle.std.specs.Fmt.{digits}
 use Rattle.base.specs.Decimals.{is_decimal, capped_value, number_of}
 use Rattle.aiger.specs.Circuit.{IsCircuit, IsNamed, HasFew, HasDefined, net}
 use Rattle.aigertext.specs.declared.fault.Why.TheVariants as why
-use Rattle.aigertext.specs.Ascii.{property_lines}
-use Rattle.aigertext.specs.Binary.{gate_deltas}
 use Rattle.aigertext.specs.Worked.{one_output}
 use Rattle.aigertext.specs.Reading.{binary_at, properties_at, name_on, section_of, gate_at, delta_at, size_of, next_fields, literal_of, header_fields, form_of, fitting, counts_of, count_of, first_five, last_four, last_at, number_at}
 use Rattle.aigertext.specs.AsciiReading.{AnswersText}
@@ -47,9 +45,3 @@ returns-clause-unended c = λ t. not_stopped one_output (record { left = 1; why 
 pub returns-clause-too_long : goal.returns-clause-too_long
 unfolding AnswersText binary_at properties_at name_on section_of gate_at delta_at size_of next_fields literal_of header_fields form_of fitting counts_of count_of first_five last_four last_at number_at number_of capped_value is_decimal
 returns-clause-too_long c = λ t. not_stopped one_output (record { left = 3; why = why.DeltaNotShortest }) (stands-read (codes "aig 3 2 0 1 1\n6\n" ++ 130 ∷ 0 ∷ 2 ∷ []) one_output t)
-
-pub returns-clause-ascii : goal.returns-clause-ascii
-returns-clause-ascii c = λ t. absurd (first_byte (ap (λ (l : List ℕ). get_or l 1 0) t.whole ∙ ap (λ (l : List ℕ). get_or (l ++ (t.latches ++ (property_lines one_output ++ (gate_deltas 3 one_output.gates ++ t.end)))) 1 0) t.is_header.spelled))
-  where
-    first_byte : ◌≡◌ {A = ℕ} 97 105 → ⊥
-    first_byte e = omega (arith, e)

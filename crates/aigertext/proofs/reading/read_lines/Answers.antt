@@ -1,5 +1,4 @@
-use Rattle.std.proofs.Common.{subst, Err, inl, inr, sym}
-use Rattle.aigertext.specs.Counts.{AreSmall}
+use Rattle.std.proofs.Common.{subst, Err, inl, inr}
 use Rattle.aigertext.specs.InOrder.{uses_of}
 use Rattle.aigertext.specs.AsciiReading.{AnswersText}
 use Rattle.aigertext.specs.Spelling.{Spells}
@@ -13,9 +12,6 @@ returns-in-Err c =
       | inl full ↦ inl full
       | inr stops ↦ inr (stop_before c.args.counts.now c.args.text.now c.args.lines.now c.requires.header c.in-Err.stop stops)
     ]
-
-pub read_left-requires-clause-small : goal.read_left-requires-clause-small
-read_left-requires-clause-small c = subst AreSmall (sym c.in-Ok.ensures.counts) c.requires.small
 
 pub read_left-requires-clause-front : goal.read_left-requires-clause-front
 read_left-requires-clause-front c =

@@ -1,9 +1,5 @@
-use Rattle.std.proofs.Common.{refl}
-use Rattle.aigertext.proofs.AnswerLemmas.{text_spells, fault_read}
+use Rattle.aigertext.proofs.AnswerLemmas.{text_spells}
 use Rattle.aigertext.proofs.reading.read_text.Goals as goal
 
 pub returns-in-Ok : goal.returns-in-Ok
 returns-in-Ok c = text_spells c.one_renumbering.ensures.circuit c.circuit_with_a_name.ensures c.args.text.now c.in-Ok.circuit c.type_inv.text c.in-Ok.ensures
-
-pub returns-in-Err : goal.returns-in-Err
-returns-in-Err c = fault_read c.args.text.now _ c.in-Err.stop c.fault.result refl c.fault.ensures c.in-Err.ensures

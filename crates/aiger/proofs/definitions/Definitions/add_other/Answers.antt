@@ -1,24 +1,19 @@
-use Rattle.std.proofs.Common.{ℕ, ◌/◌, ◌%◌, ◌*◌, ◌^◌, nat_eq, cond, Some, bit_or, ap, refl, ◌∙◌}
+use Rattle.std.proofs.Common.{◌≡◌, ℕ, ◌/◌, ◌%◌, ◌*◌, ◌^◌, true, nat_eq, cond, Some, bit_or, ap, sym, ◌∙◌, arith}
+use Rattle.std.proofs.lemmas.Bool.Decides.{nat_tests}
 use Rattle.std.specs.HashMap.{get}
-use Rattle.aiger.specs.Definitions.{is_marked}
-use Rattle.aiger.proofs.VariablePagesLemmas.{after_mark, no_mark, first_bit}
+use Rattle.aiger.specs.Definitions.{is_marked, word_of}
+use Rattle.aiger.proofs.VariablePagesLemmas.{after_mark, written_over}
 use Rattle.aiger.proofs.definitions.Definitions.add_other.Goals as goal
 
-pub returns-in-Some-clause-added : goal.returns-in-Some-clause-added
+pub returns-clause-added : goal.returns-clause-added
 unfolding is_marked
-returns-in-Some-clause-added c =
-    let bits : ℕ = bit_or c.in-Some.bits.now (1 * 2 ^ (c.args.variable % 64) % 2 ^ 64) in
-    let written = c.get_mut.follows.holds bits in
-    let there = c.in-Some.ensures.value in
-    after_mark (get nat_eq c.args.self.now.others) (get nat_eq (c.get_mut.follows.lender bits)) c.in-Some.bits.now c.args.variable
-    (written.3 (rw (← there) refl)).0 (λ i. ap (λ b. is_marked b i) there)
-
-pub returns-in-Ok-clause-added : goal.returns-in-Ok-clause-added
-unfolding is_marked
-returns-in-Ok-clause-added c =
-    let bits : ℕ = 1 * 2 ^ (c.args.variable % 64) % 2 ^ 64 in
-    after_mark (get nat_eq c.args.self.now.others) (get nat_eq c.insert.new.self) 0 c.args.variable
-    (λ q. c.in-Ok.ensures.updates.0 q
-    ∙ (ap (λ m. cond (nat_eq (c.args.variable / 64) q) (Some bits) (get nat_eq m q)) c.get_mut.follows.holds-at-none
-    ∙ ap (λ (n : ℕ). cond (nat_eq (c.args.variable / 64) q) (Some n) (get nat_eq c.args.self.now.others q)) (first_bit c.args.variable)))
-    (λ i. no_mark i ∙ ap (λ b. is_marked b i) c.in_default.ensures.value)
+returns-clause-added c = λ v.
+    let d = c.turn_to.new.self in
+    let word : ℕ = bit_or d.word (1 * 2 ^ (c.args.variable % 64) % 2 ^ 64) in
+    let place : d.place ≡ c.args.variable / 64 = c.in_ok-turn_to.ensures.place in
+    let here : nat_eq d.place (c.args.variable / 64) ≡ true = grind (arith, nat_tests) in
+    after_mark (word_of d) (λ q. cond (nat_eq d.place q) (Some word) (get nat_eq d.others q)) d.word c.args.variable
+    (λ q. written_over (nat_eq d.place q) (Some word) (Some d.word) (get nat_eq d.others q) ∙ ap (λ (p : ℕ). cond (nat_eq p q) (Some word) (word_of d q)) place)
+    (λ i. ap (λ b. is_marked (cond b (Some d.word) (get nat_eq d.others (c.args.variable / 64))) i) (sym here))
+    v
+    ∙ ap (λ b. cond (nat_eq c.args.variable v) true b) (c.in_ok-turn_to.ensures.same (v / 64) (v % 64))

@@ -1,7 +1,7 @@
-use Rattle.std.proofs.Common.{◌≡◌, ◌<◌, ◌-◌, List, ℕ, Some, None, length, slice_get, arith, sym, subst}
+use Rattle.std.proofs.Common.{◌≡◌, ◌<◌, ◌-◌, List, ℕ, Some, length, slice_get, arith, sym, subst}
 use Rattle.std.proofs.lemmas.Bool.Decides.{nat_tests}
 use Rattle.std.proofs.lemmas.Map.Made.{keys_of-zip}
-use Rattle.aiger.proofs.FlatNameLemmas.{below_by_last, below_by_none}
+use Rattle.aiger.proofs.FlatNameLemmas.{below_by_last}
 use Rattle.aiger.proofs.flat_names.FlatNames.are_below.Goals as goal
 
 pub returns-in-Some-clause-below : goal.returns-in-Some-clause-below
@@ -12,11 +12,3 @@ returns-in-Some-clause-below c t =
 
 pub returns-in-Some-clause-rising : goal.returns-in-Some-clause-rising
 returns-in-Some-clause-rising c = rw (← c.self.view_is, keys_of-zip c.self.inside.keys.items c.self.inside.names (sym c.self.invariant.as_many)) c.self.invariant.rising
-
-pub returns-in-None-clause-below : goal.returns-in-None-clause-below
-returns-in-None-clause-below c t =
-    let none : slice_get c.self.inside.keys.items (length c.self.inside.keys.items - 1) ≡ None = subst (λ (ks : List ℕ). slice_get ks (length ks - 1) ≡ None) c.deref.ensures.value (sym c.in-None.ensures.value) in
-    rw (← c.self.view_is, keys_of-zip c.self.inside.keys.items c.self.inside.names (sym c.self.invariant.as_many)) (below_by_none c.self.inside.keys.items c.args.key none)
-
-pub returns-in-None-clause-rising : goal.returns-in-None-clause-rising
-returns-in-None-clause-rising c = rw (← c.self.view_is, keys_of-zip c.self.inside.keys.items c.self.inside.names (sym c.self.invariant.as_many)) c.self.invariant.rising

@@ -1,9 +1,6 @@
-use Rattle.std.proofs.Common.{sym, ap, length, arith}
+use Rattle.std.proofs.Common.{sym}
 use Rattle.aiger.proofs.FlatNameLemmas.{flat_found, flat_missed}
 use Rattle.aiger.proofs.flat_names.FlatNames.name.Goals as goal
-
-pub row-requires : goal.row-requires
-row-requires c = omega (arith, c.in-Ok.ensures.bound, c.self.invariant.as_many, ap length c.deref.ensures.value)
 
 pub returns-in-Ok : goal.returns-in-Ok
 returns-in-Ok c =

@@ -6,7 +6,7 @@ use Rattle.aiger.specs.Renumbering.{new_gate, renumbered, circuit_by}
 use Rattle.aiger.proofs.InOrderLemmas.{by_order}
 use Rattle.aiger.proofs.KnownLemmas.{all_known}
 use Rattle.aiger.proofs.NumberingLemmas.{IsCircuit-renumbered}
-use Rattle.aiger.proofs.PlacesLemmas.{each_is_gate, once_numbered, numbered_few}
+use Rattle.aiger.proofs.PlacesLemmas.{each_is_gate, once_numbered}
 use Rattle.aiger.proofs.loose.Loose.number_by_order.Goals as goal
 
 pub numbers-requires-clause-within : goal.numbers-requires-clause-within
@@ -15,17 +15,8 @@ numbers-requires-clause-within c = each_is_gate c.args.self.now c.args.order.now
 pub numbers-requires-clause-once : goal.numbers-requires-clause-once
 numbers-requires-clause-once c = once_numbered c.args.self.now c.args.order.now c.requires.valid c.requires.order.in_turn
 
-pub numbers-requires-clause-few : goal.numbers-requires-clause-few
-numbers-requires-clause-few c = numbered_few c.args.self.now c.args.order.now c.requires.valid c.requires.few
-
-pub gates_in_order-requires-clause-few : goal.gates_in_order-requires-clause-few
-gates_in_order-requires-clause-few c = rw c.in_ok-numbers.ensures (numbered_few c.args.self.now c.args.order.now c.requires.valid c.requires.few)
-
 pub gates_in_order-requires-clause-within : goal.gates_in_order-requires-clause-within
 gates_in_order-requires-clause-within c = rw c.gates.ensures.items (each_is_gate c.args.self.now c.args.order.now c.requires.order.in_turn)
-
-pub renumbered-requires-clause-few : goal.renumbered-requires-clause-few
-renumbered-requires-clause-few c = rw c.in_ok-numbers.ensures (numbered_few c.args.self.now c.args.order.now c.requires.valid c.requires.few)
 
 pub renumbered-requires-clause-valid : goal.renumbered-requires-clause-valid
 renumbered-requires-clause-valid c =

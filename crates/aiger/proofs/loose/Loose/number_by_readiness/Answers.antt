@@ -1,4 +1,4 @@
-use Rattle.std.proofs.Common.{◌≡◌, ℕ, List, Bool, None, length, not, ap, sym, ◌∙◌, subst, arith}
+use Rattle.std.proofs.Common.{◌≡◌, ℕ, List, Bool, None, length, not, ap, sym, ◌∙◌, subst}
 use Rattle.std.specs.List.{position}
 use Rattle.aiger.specs.declared.loose.GateLine.{GateLine}
 use Rattle.aiger.specs.Loose.{Loose, IsLoose, defined_variables}
@@ -36,6 +36,3 @@ number_by_order-requires-clause-order c =
     (none_left_is_order c.args.self.now c.in_ok-order.order.items c.in_ok-order.marks.items
     (ready c.args.self.now c.args.slots.items c.in_ok-order.order.items c.in_ok-order.marks.items c.gates.result.now c.gates.ensures.valid c.requires.known c.requires.slots c.gates.ensures.items c.in_ok-order.ensures)
     (sym (ap (position not) c.deref.ensures.value) ∙ sym c.in-None.ensures))
-
-pub number_by_order-requires-clause-few : goal.number_by_order-requires-clause-few
-number_by_order-requires-clause-few c = rw (c.deref-in-None.ensures.value) (omega (arith, c.in_ok-order.ensures.marked.left, ap length c.gates.ensures.items))

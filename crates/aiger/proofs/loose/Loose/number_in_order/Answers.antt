@@ -1,4 +1,4 @@
-use Rattle.std.proofs.Common.{◌≡◌, None, Result, Err, map, length, ap, sym, ◌∙◌, subst, arith}
+use Rattle.std.proofs.Common.{◌≡◌, None, Result, Err, map, ap, sym, ◌∙◌, subst}
 use Rattle.std.proofs.lemmas.Result.{err_from_is_err_and}
 use Rattle.aiger.specs.declared.fault.LooseFault.{LooseFault}
 use Rattle.aiger.specs.declared.fault.LooseFault.TheVariants.{NoMemory}
@@ -7,18 +7,11 @@ use Rattle.aiger.specs.Loose.{Loose}
 use Rattle.aiger.specs.Renumbering.{AnswersNumber, first_undefined, new_gate, renumbered, circuit_by}
 use Rattle.aiger.proofs.InOrderLemmas.{as_they_stand, is_order, is_circuit, by_places}
 use Rattle.aiger.proofs.KnownLemmas.{all_known}
-use Rattle.aiger.proofs.PlacesLemmas.{length_defined}
 use Rattle.aiger.proofs.UndefinedLemmas.{known_in_order, undefined_in_front}
 use Rattle.aiger.proofs.loose.Loose.number_in_order.Goals as goal
 
 pub returns-in-Some : goal.returns-in-Some
 returns-in-Some c = undefined_in_front c.args.self.now c.in-Some.line (sym c.in-Some.ensures)
-
-pub gates_as_they_stand-requires : goal.gates_as_they_stand-requires
-gates_as_they_stand-requires c = omega (arith, ap length c.requires.places, length_defined c.args.self.now, c.requires.valid.few.defined)
-
-pub renumbered-requires-clause-few : goal.renumbered-requires-clause-few
-renumbered-requires-clause-few c = omega (arith, ap length c.requires.places, length_defined c.args.self.now, c.requires.valid.few.defined)
 
 pub renumbered-requires-clause-valid : goal.renumbered-requires-clause-valid
 renumbered-requires-clause-valid c =

@@ -28,12 +28,12 @@ returns-then-is_none-clause-sorted c =
     let none : lookup (is_at (place_cmp (c.rank_of.result, c.args.position))) (map (λ e. (e.0, e.1.items)) c.self.inside.others.entries) ≡ None = rw (lookup-map_values (λ (v : Vec ℕ Global). v.items), ← got) refl in
     on_ok_weaker c.push.result (λ e. (given_in_order (c.rank_of.result, c.args.position) c.args.name.now c.self.inside.in_order c.push.new.self (map (λ e. (e.0, e.1.items)) c.self.inside.others.entries) small c.are_below-below.ensures.rising above none (e ∙ ap (λ (n : ℕ). c.self.inside.in_order ++ (n, c.args.name.now) ∷ []) key)).1) c.push.ensures.ok
 
-pub returns-in-Ok-insert-clause-ok : goal.returns-in-Ok-insert-clause-ok
-returns-in-Ok-insert-clause-ok c =
-    let e : map (λ e. (e.0, e.1.items)) c.insert.new.self.entries ≡ insert_entry place_cmp (map (λ e. (e.0, e.1.items)) c.self.inside.others.entries) (c.rank_of.result, c.args.position) c.args.name.now = rw (c.in-Ok-insert.ensures.entries, insert_entry-map place_cmp (λ (v : Vec ℕ Global). v.items), c.in-Ok.ensures.items, c.new-bytes.ensures.items) refl in
+pub returns-in-Ok-clause-ok : goal.returns-in-Ok-clause-ok
+returns-in-Ok-clause-ok c =
+    let e : map (λ e. (e.0, e.1.items)) c.insert.new.self.entries ≡ insert_entry place_cmp (map (λ e. (e.0, e.1.items)) c.self.inside.others.entries) (c.rank_of.result, c.args.position) c.args.name.now = rw (c.in-Ok.ensures.entries, insert_entry-map place_cmp (λ (v : Vec ℕ Global). v.items), c.in_ok-extend_from_slice.ensures.items, c.new-bytes.ensures.items) refl in
     rw (← c.self.view_is, ← c.rank_of.ensures) (given_other (c.rank_of.result, c.args.position) c.args.name.now c.self.inside.in_order (map (λ e. (e.0, e.1.items)) c.self.inside.others.entries) (map (λ e. (e.0, e.1.items)) c.insert.new.self.entries) c.are_below-below.ensures.rising e).0
 
-pub returns-in-Ok-insert-clause-sorted : goal.returns-in-Ok-insert-clause-sorted
-returns-in-Ok-insert-clause-sorted c =
-    let e : map (λ e. (e.0, e.1.items)) c.insert.new.self.entries ≡ insert_entry place_cmp (map (λ e. (e.0, e.1.items)) c.self.inside.others.entries) (c.rank_of.result, c.args.position) c.args.name.now = rw (c.in-Ok-insert.ensures.entries, insert_entry-map place_cmp (λ (v : Vec ℕ Global). v.items), c.in-Ok.ensures.items, c.new-bytes.ensures.items) refl in
+pub returns-in-Ok-clause-sorted : goal.returns-in-Ok-clause-sorted
+returns-in-Ok-clause-sorted c =
+    let e : map (λ e. (e.0, e.1.items)) c.insert.new.self.entries ≡ insert_entry place_cmp (map (λ e. (e.0, e.1.items)) c.self.inside.others.entries) (c.rank_of.result, c.args.position) c.args.name.now = rw (c.in-Ok.ensures.entries, insert_entry-map place_cmp (λ (v : Vec ℕ Global). v.items), c.in_ok-extend_from_slice.ensures.items, c.new-bytes.ensures.items) refl in
     (given_other (c.rank_of.result, c.args.position) c.args.name.now c.self.inside.in_order (map (λ e. (e.0, e.1.items)) c.self.inside.others.entries) (map (λ e. (e.0, e.1.items)) c.insert.new.self.entries) c.are_below-below.ensures.rising e).1

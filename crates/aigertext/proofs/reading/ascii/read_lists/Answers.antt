@@ -4,19 +4,13 @@ use Rattle.aiger.specs.Loose.{with_gate_line}
 use Rattle.aigertext.specs.Passes.{Reads}
 use Rattle.aigertext.specs.AsciiReading.{lists_of_file, onto_lists, gate_of}
 use Rattle.aigertext.proofs.PassLemmas.{reads_stop, stops_then, reads_then, stopped}
-use Rattle.aigertext.proofs.PassOverLemmas.{no_uses, none_few, latches_few, gates_few, gates_left, gates_stop}
+use Rattle.aigertext.proofs.PassOverLemmas.{no_uses, gates_left, gates_stop}
 use Rattle.aigertext.proofs.reading.ascii.read_lists.Goals as goal
-
-pub push_definitions-requires-clause-few : goal.push_definitions-requires-clause-few
-push_definitions-requires-clause-few c = none_few c.args.lists.now c.args.counts.now.inputs c.requires.empty c.requires.small.inputs
 
 pub returns-in_err-rest : goal.returns-in_err-rest
 unfolding lists_of_file
 returns-in_err-rest c =
     stopped _ _ _ _ (err_from_is_err_and c.from_residual.result c.from_residual.ensures.1) (reads_stop _ _ _ (rw c.requires.empty at c.in_err-rest.ensures.read))
-
-pub push_definitions-requires-2-clause-few : goal.push_definitions-requires-2-clause-few
-push_definitions-requires-2-clause-few c = latches_few c.args.counts.now c.requires.fits c.requires.small.variables c.args.lists.now c.push_definitions.new.lists c.requires.empty c.in_ok-rest.ensures.count
 
 pub returns-in_err-rest-2 : goal.returns-in_err-rest-2
 unfolding lists_of_file
@@ -37,11 +31,6 @@ returns-in_err-rest-3 c =
       | inr stops ↦
           inr (gates_stop c.args.counts.now c.push_definitions-2.new.lists _ (λ l t. onto_lists (gate_of (2 * c.args.counts.now.variables + 1)) with_gate_line l c.args.counts.now.gates t) _ stops)
     ])))
-
-pub push_definitions-requires-3-clause-few : goal.push_definitions-requires-3-clause-few
-push_definitions-requires-3-clause-few c =
-    gates_few c.args.counts.now c.requires.fits c.requires.small.variables c.args.lists.now c.push_definitions.new.lists c.requires.empty c.in_ok-rest.ensures.count
-    c.push_definitions-2.new.lists c.push_properties.new.lists _ _ c.in_ok-rest-2.ensures.count c.in_ok-rest-3.ensures
 
 pub returns : goal.returns
 unfolding lists_of_file

@@ -14,6 +14,3 @@ returns-clause-count c =
       c.justice_literals.ensures.sum,
       ap length c.fair.ensures.items,
     )
-
-pub returns-clause-few : goal.returns-clause-few
-returns-clause-few c = omega (arith, c.latches.ensures.valid.few.defined)

@@ -1,19 +1,8 @@
-use Rattle.std.proofs.Common.{◌+◌, ◌-◌, ◌<◌, ◌∷◌, ap, inr, arith}
+use Rattle.std.proofs.Common.{◌+◌, ◌-◌, ◌<◌, ◌∷◌, arith}
 use Rattle.aiger.specs.Loose.{defined_count}
-use Rattle.aigertext.specs.AsciiReading.{onto_lists}
 use Rattle.aigertext.proofs.TakeLemmas.{only_memory}
-use Rattle.aigertext.proofs.FileLemmas.{file_step, file_stop, file_done, line_accepts, all_small}
+use Rattle.aigertext.proofs.FileLemmas.{file_step, line_accepts, all_small}
 use Rattle.aigertext.proofs.reading.ascii_definitions.push_definitions.Goals as goal
-
-pub loop-index-init : goal.loop-index-init
-loop-index-init g c =
-    let d = g.D.Definition in
-    record { read = ap (λ k. onto_lists (d.says c.args.greatest) d.with_line c.args.lists.now k c.args.text.now) (omega arith); many = omega arith }
-
-pub returns-in-Err-clause-read : goal.returns-in-Err-clause-read
-returns-in-Err-clause-read g c =
-    let d = g.D.Definition in
-    inr (file_stop (d.says c.args.greatest) d.with_line c.loop-index.lists (c.args.count - c.loop-index._index) (c.args.count - (c.loop-index._index + 1)) c.loop-index.rest.now _ (omega arith) c.loop-index.invariant.read c.in-Err.stop c.in-Err.ensures.gives)
 
 pub loop-index-preserved : goal.loop-index-preserved
 loop-index-preserved g c =
@@ -34,11 +23,3 @@ want_of_memory-requires g c =
     (all_small c.args.greatest (d.own c.in-Ok.found.0 ∷ d.uses c.in-Ok.found.0) c.requires.small (c.in-Ok.ensures.new.0, c.in-Ok.ensures.small))
     room)
     c.in-Err-push.ensures.refused
-
-pub returns-clause-read : goal.returns-clause-read
-returns-clause-read g c =
-    let d = g.D.Definition in
-    file_done (d.says c.args.greatest) d.with_line c.loop-index.lists (c.args.count - c.loop-index._index) c.loop-index.rest.now _ (omega arith) c.loop-index.invariant.read
-
-pub returns-clause-count : goal.returns-clause-count
-returns-clause-count g c = omega (arith, c.loop-index.invariant.many, c.loop-index-test.false, c.loop-index.auto._index-end)

@@ -1,12 +1,7 @@
 use Rattle.std.proofs.Common.{◌+◌, ◌-◌, ◌*◌, ◌∙◌, ap, inr, arith}
 use Rattle.aigertext.specs.Passes.{onto, latch_in, latches_in}
-use Rattle.aigertext.proofs.PassLemmas.{onto_begins, onto_step, onto_stop, onto_done}
+use Rattle.aigertext.proofs.PassLemmas.{onto_step, onto_stop}
 use Rattle.aigertext.proofs.reading.front.read_latches.Goals as goal
-
-pub loop-index-init : goal.loop-index-init
-loop-index-init c =
-    ap (λ o. onto c.args.latches.now.items (latches_in c.args.form c.args.greatest o (c.args.count - 0) c.args.text.now)) (omega arith)
-    ∙ onto_begins (latch_in c.args.form c.args.greatest) (λ o l. o + 2) c.args.first c.args.count c.args.text.now c.args.latches.now.items c.requires.none
 
 pub returns-in-Err : goal.returns-in-Err
 returns-in-Err c =
@@ -18,6 +13,3 @@ loop-index-preserved c =
     ap (λ ls. onto ls (latches_in c.args.form c.args.greatest (c.args.first + 2 * (c.loop-index.index + 1)) (c.args.count - (c.loop-index.index + 1)) c.in-Ok.found.1.now)) c.in-Ok-push.ensures.items
     ∙ onto_step (latch_in c.args.form c.args.greatest) (λ o l. o + 2) (c.args.first + 2 * c.loop-index.index) (c.args.count - c.loop-index.index) (c.args.count - (c.loop-index.index + 1)) c.loop-index.rest.now (omega arith)
     c.loop-index.latches.items c.in-Ok.found.0 c.in-Ok.found.1.now (c.args.first + 2 * (c.loop-index.index + 1)) _ (omega arith) c.in-Ok.ensures.gives c.loop-index.invariant
-
-pub returns : goal.returns
-returns c = onto_done (latch_in c.args.form c.args.greatest) (λ o l. o + 2) (c.args.first + 2 * c.loop-index.index) (c.args.count - c.loop-index.index) c.loop-index.rest.now (omega arith) c.loop-index.latches.items _ c.loop-index.invariant

@@ -1,13 +1,6 @@
-use Rattle.std.proofs.Common.{Some, arith}
-use Rattle.aigertext.proofs.PutsLemmas.{puts_none, puts_long, puts_more, one_variable, one_gate}
+use Rattle.std.proofs.Common.{arith}
+use Rattle.aigertext.proofs.PutsLemmas.{puts_more, one_variable, one_gate}
 use Rattle.aigertext.proofs.reading.gates.push_gates.Goals as goal
-
-pub loop-index-init : goal.loop-index-init
-loop-index-init c = record {
-  puts = puts_long c.args.form c.args.circuit.now c.args.circuit.now 0 c.args.text.now c.args.text.now (puts_none c.args.form c.args.circuit.now (Some c.args.text.now));
-  own = omega arith;
-  few = omega arith;
-}
 
 pub loop-index-preserved : goal.loop-index-preserved
 loop-index-preserved c = record {

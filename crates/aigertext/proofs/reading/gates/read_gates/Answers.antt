@@ -1,9 +1,6 @@
-use Rattle.std.proofs.Common.{◌∙◌, refl}
-use Rattle.aigertext.proofs.PutsLemmas.{puts_none, puts_then, puts_held, puts_kept}
+use Rattle.std.proofs.Common.{◌∙◌}
+use Rattle.aigertext.proofs.PutsLemmas.{puts_then, puts_held, puts_kept}
 use Rattle.aigertext.proofs.reading.gates.read_gates.Goals as goal
-
-pub loop-sum-init : goal.loop-sum-init
-loop-sum-init g c = record { puts = puts_none c.args.form c.args.circuit.now _; few = c.requires; counted = refl }
 
 pub returns-then-gates-count-clause-puts : goal.returns-then-gates-count-clause-puts
 returns-then-gates-count-clause-puts g c =

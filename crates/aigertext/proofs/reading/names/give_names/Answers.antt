@@ -1,13 +1,8 @@
-use Rattle.std.proofs.Common.{◌≡◌, length, sym, ap, ◌∙◌, inl, inr}
+use Rattle.std.proofs.Common.{sym, ap, ◌∙◌, inl, inr}
 use Rattle.std.specs.Str.{bytes_eq}
-use Rattle.std.proofs.lemmas.Bool.{eqb-true, eqb-false}
-use Rattle.aigertext.proofs.NamingLemmas.{comment_ends, name_given, name_refused, names_end, names_cut}
+use Rattle.std.proofs.lemmas.Bool.{eqb-false}
+use Rattle.aigertext.proofs.NamingLemmas.{name_given, name_refused, names_cut}
 use Rattle.aigertext.proofs.reading.names.give_names.Goals as goal
-
-pub returns-then-eq : goal.returns-then-eq
-returns-then-eq c =
-    comment_ends c.loop-line.circuit c.loop-line.rest.now c.in-Some.line.now c.in-Some.after.now _ c.in-Some.ensures.0 c.in-Some.ensures.1 c.loop-line.invariant
-    (ap (bytes_eq c.in-Some.line.now) (sym c.as_slice.ensures) ∙ sym c.if-eq.ensures)
 
 pub loop-line-preserved : goal.loop-line-preserved
 loop-line-preserved c =
@@ -22,11 +17,6 @@ returns-in-Err c =
           inr (rw c.stop.ensures (name_refused c.loop-line.circuit c.loop-line.rest.now c.in-Some.line.now c.in-Some.after.now _ c.in-Some.ensures.0 c.in-Some.ensures.1 c.loop-line.invariant
           (ap (bytes_eq c.in-Some.line.now) (sym c.as_slice.ensures) ∙ sym c.if-eq.ensures) c.in-Err.why read))
     ]
-
-pub returns-then-is_empty : goal.returns-then-is_empty
-returns-then-is_empty c =
-    let none : length c.loop-line.rest.now ≡ 0 = eqb-true _ 0 (sym c.if-is_empty.ensures) in
-    names_end c.loop-line.circuit _ c.loop-line.rest.now c.in_default.ensures none c.loop-line.invariant
 
 pub returns-else-is_empty : goal.returns-else-is_empty
 returns-else-is_empty c =

@@ -1,11 +1,8 @@
 use Rattle.std.proofs.Common.{◌+◌, ◌-◌, ◌∙◌, ap, refl, inr, arith}
 use Rattle.aigertext.specs.Passes.{onto}
 use Rattle.aigertext.specs.Reading.{literal_of, literals_at}
-use Rattle.aigertext.proofs.PassLemmas.{onto_begins, onto_step, onto_stop, onto_done}
+use Rattle.aigertext.proofs.PassLemmas.{onto_step, onto_stop}
 use Rattle.aigertext.proofs.reading.properties.read_literals.Goals as goal
-
-pub loop-index-init : goal.loop-index-init
-loop-index-init c = onto_begins literal_of (λ g l. g) c.args.greatest c.args.count c.args.text.now c.args.list.now.items c.requires
 
 pub returns-in-Err : goal.returns-in-Err
 returns-in-Err c =
@@ -17,6 +14,3 @@ loop-index-preserved c =
     ap (λ ls. onto ls (literals_at c.args.greatest (c.args.count - (c.loop-index._index + 1)) c.in-Ok.found.1.now)) c.in-Ok-push.ensures.items
     ∙ onto_step literal_of (λ g l. g) c.args.greatest (c.args.count - c.loop-index._index) (c.args.count - (c.loop-index._index + 1)) c.loop-index.rest.now (omega arith)
     c.loop-index.list.items c.in-Ok.found.0 c.in-Ok.found.1.now c.args.greatest _ refl c.in-Ok.ensures.gives c.loop-index.invariant
-
-pub returns : goal.returns
-returns c = onto_done literal_of (λ g l. g) c.args.greatest (c.args.count - c.loop-index._index) c.loop-index.rest.now (omega arith) c.loop-index.list.items _ c.loop-index.invariant

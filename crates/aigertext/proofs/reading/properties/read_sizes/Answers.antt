@@ -1,16 +1,9 @@
-use Rattle.std.proofs.Common.{◌+◌, ◌-◌, ◌∙◌, sym, ap, refl, inr, arith}
+use Rattle.std.proofs.Common.{◌+◌, ◌-◌, ◌∙◌, ap, refl, inr, arith}
 use Rattle.std.specs.List.{sum}
 use Rattle.aigertext.specs.Passes.{onto}
 use Rattle.aigertext.specs.Reading.{size_of, sizes_at}
-use Rattle.aigertext.proofs.PassLemmas.{onto_begins, onto_step, onto_stop, onto_done, sum_of_more}
+use Rattle.aigertext.proofs.PassLemmas.{onto_step, onto_stop, sum_of_more}
 use Rattle.aigertext.proofs.reading.properties.read_sizes.Goals as goal
-
-pub loop-index-init : goal.loop-index-init
-loop-index-init c = record {
-  read = onto_begins size_of (λ b size. b + size) 0 c.args.count c.args.text.now c.args.list.now.items c.requires;
-  sums = sym (ap sum c.requires);
-  small = omega arith;
-}
 
 pub returns-in-Err-clause-read : goal.returns-in-Err-clause-read
 returns-in-Err-clause-read c =
@@ -26,6 +19,3 @@ loop-index-preserved c = record {
   sums = omega (arith, c.loop-index.invariant.sums, sum_of_more c.in-Ok.found.0 c.loop-index.list.items, ap sum c.in-Ok-push.ensures.items);
   small = c.in-Ok.ensures.small;
 }
-
-pub returns-clause-read : goal.returns-clause-read
-returns-clause-read c = onto_done size_of (λ b size. b + size) c.loop-index.total (c.args.count - c.loop-index._index) c.loop-index.rest.now (omega arith) c.loop-index.list.items _ c.loop-index.invariant.read

@@ -1,8 +1,8 @@
 use Rattle.std.proofs.Common.{ℕ, List, [], ◌∷◌, ◌++◌, refl, sym, ap, ◌∙◌, rules, arith}
-use Rattle.std.proofs.lemmas.Result.{err_from_is_err_and}
 use Rattle.base.proofs.PieceLemmas.{put_none, put_more, put_fails, puts_last}
 use Rattle.aigertext.specs.Binary.{delta}
 use Rattle.aigertext.proofs.DeltaLemmas.{digits_begin, digits_go_on, digits_end}
+use Rattle.aigertext.proofs.SectionLemmas.{put_stops}
 use Rattle.aigertext.proofs.writing.gates.put_delta.Goals as goal
 
 pub loop-rest-init : goal.loop-rest-init
@@ -15,9 +15,8 @@ loop-rest-init g c = record {
 
 pub returns-in_err-put_bytes-clause-puts : goal.returns-in_err-put_bytes-clause-puts
 returns-in_err-put_bytes-clause-puts g c =
-    let is = err_from_is_err_and c.from_residual.result c.from_residual.ensures.1 in
     let next = digits_go_on c.loop-rest.rest c.loop-rest.invariant.text c.loop-rest-test.true c.loop-rest.invariant.digits in
-    rw is.1 (put_fails _ _ _ _ _ _ _ _ next.0 c.loop-rest.invariant.put c.in_err-put_bytes.ensures.puts next.1.0)
+    put_stops _ _ c.from_residual.result c.from_residual.ensures.1 (put_fails _ _ _ _ _ _ _ _ next.0 c.loop-rest.invariant.put c.in_err-put_bytes.ensures.puts next.1.0)
 
 pub loop-rest-preserved : goal.loop-rest-preserved
 loop-rest-preserved g c =

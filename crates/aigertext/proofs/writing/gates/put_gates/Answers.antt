@@ -1,13 +1,12 @@
 use Rattle.std.proofs.Common.{rules, ◌<◌, ◌≤◌, ◌*◌, arith}
-use Rattle.std.proofs.lemmas.Result.{err_from_is_err_and}
 use Rattle.base.proofs.PieceLemmas.{put_more, put_fails}
 use Rattle.aigertext.proofs.FormLemmas.{gates_text_at, ordered_at}
+use Rattle.aigertext.proofs.SectionLemmas.{put_stops}
 use Rattle.aigertext.proofs.writing.gates.put_gates.Goals as goal
 
 pub returns-in_err-put_gate-clause-puts : goal.returns-in_err-put_gate-clause-puts
 returns-in_err-put_gate-clause-puts g c =
-    let is = err_from_is_err_and c.from_residual.result c.from_residual.ensures.1 in
-    rw is.1 (put_fails _ _ _ _ _ _ _ _ _ c.loop-gate.invariant.put c.in_err-put_gate.ensures.puts
+    put_stops _ _ c.from_residual.result c.from_residual.ensures.1 (put_fails _ _ _ _ _ _ _ _ _ c.loop-gate.invariant.put c.in_err-put_gate.ensures.puts
     (gates_text_at c.args.form c.loop-gate.variable c.loop-gate.gate-index c.args.gates.now c.gate-item.result (omega arith) c.gate-item.is))
 
 pub loop-gate-preserved : goal.loop-gate-preserved

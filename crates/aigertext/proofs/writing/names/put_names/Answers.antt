@@ -1,17 +1,11 @@
 use Rattle.std.proofs.Common.{rules, arith}
-use Rattle.std.proofs.lemmas.Result.{err_from_is_err_and}
 use Rattle.base.proofs.PieceLemmas.{put_all, put_more, put_fails}
-use Rattle.aiger.proofs.SectionNameLemmas.{few_positions}
-use Rattle.aigertext.proofs.SectionLemmas.{name_lines_at, no_name_lines}
+use Rattle.aigertext.proofs.SectionLemmas.{put_stops, name_lines_at, no_name_lines}
 use Rattle.aigertext.proofs.writing.names.put_names.Goals as goal
-
-pub overflow_cast-position-end : goal.overflow_cast-position-end
-overflow_cast-position-end g c = omega (arith, c.count-position-end.ensures.count, few_positions c.args.section c.args.circuit.now c.count-position-end.ensures.valid)
 
 pub returns-in_err-put_name_at-clause-puts : goal.returns-in_err-put_name_at-clause-puts
 returns-in_err-put_name_at-clause-puts g c =
-    let is = err_from_is_err_and c.from_residual.result c.from_residual.ensures.1 in
-    rw is.1 (put_fails _ _ _ _ _ _ _ _ _ c.loop-position.invariant.put c.in_err-put_name_at.ensures.puts
+    put_stops _ _ c.from_residual.result c.from_residual.ensures.1 (put_fails _ _ _ _ _ _ _ _ _ c.loop-position.invariant.put c.in_err-put_name_at.ensures.puts
     (name_lines_at c.loop-position.position c.args.section c.args.circuit.now (omega arith)))
 
 pub loop-position-preserved : goal.loop-position-preserved

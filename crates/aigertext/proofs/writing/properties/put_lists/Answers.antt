@@ -1,13 +1,11 @@
-use Rattle.std.proofs.Common.{rules, arith}
-use Rattle.std.proofs.lemmas.Result.{err_from_is_err_and}
-use Rattle.base.proofs.PieceLemmas.{put_all, put_more, put_fails}
-use Rattle.aigertext.proofs.SectionLemmas.{list_lines_at, no_list_lines}
+use Rattle.std.proofs.Common.{rules}
+use Rattle.base.proofs.PieceLemmas.{put_more, put_fails}
+use Rattle.aigertext.proofs.SectionLemmas.{put_stops, list_lines_at}
 use Rattle.aigertext.proofs.writing.properties.put_lists.Goals as goal
 
 pub returns-in_err-put_literals-clause-puts : goal.returns-in_err-put_literals-clause-puts
 returns-in_err-put_literals-clause-puts g c =
-    let is = err_from_is_err_and c.from_residual.result c.from_residual.ensures.1 in
-    rw is.1 (put_fails _ _ _ _ _ _ _ _ _ c.loop-index.invariant.put c.in_err-put_literals.ensures.puts
+    put_stops _ _ c.from_residual.result c.from_residual.ensures.1 (put_fails _ _ _ _ _ _ _ _ _ c.loop-index.invariant.put c.in_err-put_literals.ensures.puts
     (list_lines_at c.loop-index.index c.args.circuit.now.justice c.justice.result.now c.justice.ensures.items))
 
 pub loop-index-preserved : goal.loop-index-preserved
@@ -17,6 +15,3 @@ loop-index-preserved g c = record {
       (list_lines_at c.loop-index.index c.args.circuit.now.justice c.justice.result.now c.justice.ensures.items);
   counted = search rules;
 }
-
-pub returns-clause-puts : goal.returns-clause-puts
-returns-clause-puts g c = put_all _ _ _ _ _ _ c.loop-index.invariant.put (no_list_lines c.loop-index.index c.args.circuit.now.justice (omega arith))

@@ -1,8 +1,7 @@
 use Rattle.std.proofs.Common.{◌≤◌, length, rules, arith}
 use Rattle.aiger.specs.Limits.{greatest_count}
-use Rattle.std.proofs.lemmas.Result.{err_from_is_err_and}
-use Rattle.base.proofs.PieceLemmas.{put_all, put_more, put_fails}
-use Rattle.aigertext.proofs.SectionLemmas.{few_literals, size_lines_at, no_size_lines}
+use Rattle.base.proofs.PieceLemmas.{put_more, put_fails}
+use Rattle.aigertext.proofs.SectionLemmas.{put_stops, few_literals, size_lines_at}
 use Rattle.aigertext.proofs.writing.properties.put_sizes.Goals as goal
 
 pub overflow_cast-justice : goal.overflow_cast-justice
@@ -12,8 +11,7 @@ overflow_cast-justice g c =
 
 pub returns-in_err-put_number-clause-puts : goal.returns-in_err-put_number-clause-puts
 returns-in_err-put_number-clause-puts g c =
-    let is = err_from_is_err_and c.from_residual.result c.from_residual.ensures.1 in
-    rw is.1 (put_fails _ _ _ _ _ _ _ _ _ c.loop-index.invariant.put c.in_err-put_number.ensures.puts
+    put_stops _ _ c.from_residual.result c.from_residual.ensures.1 (put_fails _ _ _ _ _ _ _ _ _ c.loop-index.invariant.put c.in_err-put_number.ensures.puts
     (size_lines_at c.loop-index.index c.args.circuit.now.justice c.justice.result.now c.justice.ensures.items))
 
 pub loop-index-preserved : goal.loop-index-preserved
@@ -23,6 +21,3 @@ loop-index-preserved g c = record {
       (size_lines_at c.loop-index.index c.args.circuit.now.justice c.justice.result.now c.justice.ensures.items);
   counted = search rules;
 }
-
-pub returns-clause-puts : goal.returns-clause-puts
-returns-clause-puts g c = put_all _ _ _ _ _ _ c.loop-index.invariant.put (no_size_lines c.loop-index.index c.args.circuit.now.justice (omega arith))
