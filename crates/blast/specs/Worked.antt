@@ -5,7 +5,7 @@ use Rattle.base.specs.declared.operators.Binary.TheVariants as binary
 use Rattle.btor2.specs.declared.item.Item.{Item}
 use Rattle.btor2.specs.declared.item.Body.{Body}
 use Rattle.btor2.specs.declared.item.Body.TheVariants as body
-use Rattle.btor2.specs.Worked.{line}
+use Rattle.btor2.specs.Worked.{line, numbered}
 use Rattle.aiger.specs.declared.circuit.Reset.TheVariants as reset
 use Rattle.aiger.specs.Circuit.{Circuit, fresh_circuit}
 
@@ -15,13 +15,7 @@ named id name says = record { id = id; symbol = Some name; body = says }
 
 -- a state of two bits, without an init line, whose next word is its and with an input
 abbrev pub masked : List Item
-masked =
-    line 1 (body.Sort 2)
-    ∷ line 2 (body.Input 1)
-    ∷ line 3 (body.State 1)
-    ∷ line 4 (body.Binary binary.And 1 2 3)
-    ∷ line 5 (body.Next 1 3 4)
-    ∷ []
+masked = numbered 1 (body.Sort 2 ∷ body.Input 1 ∷ body.State 1 ∷ body.Binary binary.And 1 2 3 ∷ body.Next 1 3 4 ∷ [])
 
 -- the toggling bit with the name t, bad where it is 1; a bit of input, x, is asked to be 1
 abbrev pub named_toggler : List Item
@@ -51,21 +45,15 @@ named_follower =
 -- its circuit: x and then f are the inputs, and s is a latch that takes f
 abbrev pub follower_circuit : Circuit
 follower_circuit =
-    record {
-      inputs = 2;
+    record (fresh_circuit 2 1) {
       latches = record { next = 4; reset = reset.Free } ∷ [];
-      gates = [];
-      outputs = [];
       bads = 6 ∷ [];
-      constraints = [];
-      justice = [];
-      fair = [];
       names = ((0, 0), codes "x[0]") ∷ ((0, 1), codes "f[0]") ∷ ((1, 0), codes "s[0]") ∷ [];
     }
 
 -- a free state alone, its circuit of one input, and a circuit that takes it for a latch
 abbrev pub free_alone : List Item
-free_alone = line 1 (body.Sort 1) ∷ line 2 (body.State 1) ∷ []
+free_alone = numbered 1 (body.Sort 1 ∷ body.State 1 ∷ [])
 
 abbrev pub one_input : Circuit
 one_input = fresh_circuit 1 0
@@ -75,37 +63,15 @@ one_latch = fresh_circuit 0 1
 
 -- a state with an init line and no next line
 abbrev pub init_alone : List Item
-init_alone =
-    line 1 (body.Sort 1)
-    ∷ line 2 (body.Zero 1)
-    ∷ line 3 (body.State 1)
-    ∷ line 4 (body.Init 1 3 2)
-    ∷ []
+init_alone = numbered 1 (body.Sort 1 ∷ body.Zero 1 ∷ body.State 1 ∷ body.Init 1 3 2 ∷ [])
 
 -- two bits of input, bad where both are 1
 abbrev pub gated : List Item
-gated =
-    line 1 (body.Sort 1)
-    ∷ line 2 (body.Input 1)
-    ∷ line 3 (body.Input 1)
-    ∷ line 4 (body.Binary binary.And 1 2 3)
-    ∷ line 5 (body.Bad 4)
-    ∷ []
+gated = numbered 1 (body.Sort 1 ∷ body.Input 1 ∷ body.Input 1 ∷ body.Binary binary.And 1 2 3 ∷ body.Bad 4 ∷ [])
 
 -- two inputs, a bad property that is false, and a gate that would be its own negation, which no valuation satisfies
 abbrev pub unsatisfied : Circuit
-unsatisfied =
-    record {
-      inputs = 2;
-      latches = [];
-      gates = record { rhs0 = 7; rhs1 = 1 } ∷ [];
-      outputs = [];
-      bads = 0 ∷ [];
-      constraints = [];
-      justice = [];
-      fair = [];
-      names = [];
-    }
+unsatisfied = record (fresh_circuit 2 0) { gates = record { rhs0 = 7; rhs1 = 1 } ∷ []; bads = 0 ∷ [] }
 
 -- two bits of input, x, which are shown negated, as y
 abbrev pub named_inverter : List Item
@@ -119,15 +85,8 @@ named_inverter =
 -- its circuit: the outputs are the negated inputs
 abbrev pub inverter_circuit : Circuit
 inverter_circuit =
-    record {
-      inputs = 2;
-      latches = [];
-      gates = [];
+    record (fresh_circuit 2 0) {
       outputs = 3 ∷ 5 ∷ [];
-      bads = [];
-      constraints = [];
-      justice = [];
-      fair = [];
       names = ((0, 0), codes "x[0]") ∷ ((0, 1), codes "x[1]") ∷ ((2, 0), codes "y[0]") ∷ ((2, 1), codes "y[1]") ∷ [];
     }
 
@@ -149,32 +108,15 @@ named_keeper =
 -- its circuit: each latch takes its own bit, and the second is the bad property
 abbrev pub keeper_circuit : Circuit
 keeper_circuit =
-    record {
-      inputs = 0;
+    record (fresh_circuit 0 2) {
       latches = record { next = 2; reset = reset.Free } ∷ record { next = 4; reset = reset.Free } ∷ [];
-      gates = [];
-      outputs = [];
       bads = 4 ∷ [];
-      constraints = [];
-      justice = [];
-      fair = [];
       names = ((1, 0), codes "s[0]") ∷ ((1, 1), codes "s[1]") ∷ [];
     }
 
 -- a fairness line before a justice line, and a justice line before a state with an init line and no next line
 abbrev pub fair_first : List Item
-fair_first =
-    line 1 (body.Sort 1)
-    ∷ line 2 (body.Input 1)
-    ∷ line 3 (body.Fair 2)
-    ∷ line 4 (body.Justice (2 ∷ []))
-    ∷ []
+fair_first = numbered 1 (body.Sort 1 ∷ body.Input 1 ∷ body.Fair 2 ∷ body.Justice (2 ∷ []) ∷ [])
 
 abbrev pub justice_first : List Item
-justice_first =
-    line 1 (body.Sort 1)
-    ∷ line 2 (body.Zero 1)
-    ∷ line 3 (body.Justice (2 ∷ []))
-    ∷ line 4 (body.State 1)
-    ∷ line 5 (body.Init 1 4 2)
-    ∷ []
+justice_first = numbered 1 (body.Sort 1 ∷ body.Zero 1 ∷ body.Justice (2 ∷ []) ∷ body.State 1 ∷ body.Init 1 4 2 ∷ [])

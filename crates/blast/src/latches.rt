@@ -22,13 +22,8 @@ fn reset_of(init: Option<u64>, bit: usize) -> Reset
     ensures { result ≡ reset_at init bit }
 {
     match init {
-        Some(word) => {
-            if (word >> bit) % 2 == 1 {
-                Reset::One
-            } else {
-                Reset::Zero
-            }
-        }
+        Some(word) if (word >> bit) % 2 == 1 => Reset::One,
+        Some(_) => Reset::Zero,
         None => Reset::Free,
     }
 }
@@ -64,10 +59,8 @@ fn init_of(model: &Model, k: usize, item: &Item) -> Option<u64>
     requires place { slice_get model.now (slice_index (places is_state 0 model.now) k) ≡ Some item.now }
     ensures { result ≡ init_word model.now item.now.id }
 {
-    match model.init_of(k) {
-        Some(place) => model.constant(place),
-        None => None,
-    }
+    let place = model.init_of(k)?;
+    model.constant(place)
 }
 
 /// The row of a state's next node. `k` counts the states.

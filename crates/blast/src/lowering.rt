@@ -29,14 +29,8 @@ fn refusal(model: &Model) -> Option<LowerFault>
     // a model's items are well-formed
     let _ = model.items();
     match form_refusal(model) {
-        Some(fault) => Some(fault),
-        None => {
-            if bound(model) > u64::from(GREATEST_COUNT) {
-                Some(LowerFault::TooBig)
-            } else {
-                None
-            }
-        }
+        None if bound(model) > u64::from(GREATEST_COUNT) => Some(LowerFault::TooBig),
+        refused => refused,
     }
 }
 

@@ -39,14 +39,10 @@ pub(crate) fn write_bit_name(symbol: &[u8], bit: u64, name: &mut ArrayVec<u8, LO
     let mut digits = Buffer::new();
     name.clear();
     let front = name.try_extend_from_slice(symbol);
-    if front.is_err() {
-        unreachable!()
-    }
+    prove!(front.is_ok());
     name.push(b'[');
     let number = name.try_extend_from_slice(digits.format(bit).as_bytes());
-    if number.is_err() {
-        unreachable!()
-    }
+    prove!(number.is_ok());
     name.push(b']');
 }
 

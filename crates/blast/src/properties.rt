@@ -110,8 +110,9 @@ fn push_bit(
             write_bit_name(symbol.bytes(), bit, &mut name);
             push_named(property, lit, name.as_slice(), circuit)
         }
-        Property::Bad => push_named(property, lit, symbol.bytes(), circuit),
-        Property::Constraint => push_named(property, lit, symbol.bytes(), circuit),
+        Property::Bad | Property::Constraint => {
+            push_named(property, lit, symbol.bytes(), circuit)
+        }
     }
 }
 

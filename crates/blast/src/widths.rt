@@ -131,6 +131,5 @@ pub fn cost_and_bound(model: &Model) -> (u64, u64)
 pub fn bound(model: &Model) -> u64
     ensures { result ≡ bound model.now }
 {
-    let (_gates, variables) = cost_and_bound(model);
-    variables
+    cost_and_bound(model).1
 }

@@ -54,7 +54,10 @@ fn unread(cause: ReadAllFault) -> ReadFault
     ReadFault { line: 0, why }
 }
 
-/// The fault of a line. The rest of the source is read first, since a failure of the device comes before it.
+/// The fault of a line. The rest of the source is read first, since a failure of the device comes before it. It is made no
+/// part of its callers, whose frames would have its buffer too.
+#[cold]
+#[inline(never)]
 fn line_fault<S: Source>(source: &mut S, line: u64, why: Why) -> ReadFault
     ensures { Stops result (S.failures source.old) (S.failures source.new) (IsOfLine (S.to_come source.new) line why result) }
 {
@@ -80,7 +83,8 @@ fn ended(line: u64, rest: &[u8]) -> Result<(), ReadFault>
     })
 }
 
-/// Reads the lines of a source onto a model.
+/// Reads the lines of a source onto a model. Its frame, with a buffer, stands only while it reads.
+#[inline(never)]
 fn read_lines<S: Source>(alloc: Global, source: &mut S, model: &mut Model) -> Result<(), ReadFault>
     ensures { ReadsLines result model.old model.new (S.to_come source.old) (S.to_come source.new) (S.failures source.old) (S.failures source.new) }
 {

@@ -18,6 +18,7 @@ use btor2::{Body, Item, Model, Symbol};
 /// and no comments. The text stands for exactly this model, and is read again as it. No memory is taken.
 ///
 /// Errors: the sink's own; a beginning of the text was written then.
+#[inline(never)]
 pub fn write<K: Sink>(model: &Model, sink: &mut K) -> Result<(), DeviceFault>
     ensures ok { OnOk result (Appends (K.written sink.old) (K.written sink.new) (written model.now)) }
     ensures err { OnErr result (AppendsBeginning (K.written sink.old) (K.written sink.new) (written model.now)) }

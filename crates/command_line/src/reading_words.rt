@@ -213,8 +213,16 @@ fn with_command<'a>(
     commands.subcommand(command_of(alloc, row)?)
 }
 
-/// The commands and their words.
-fn commands<'a>(alloc: Global) -> Result<Command<'a>, AllocError> {
+/// The program with the command that a word names alone, which is all that is read or told of then, or with all commands.
+fn program_for<'a>(alloc: Global, word: &str) -> Result<Command<'a>, AllocError> {
+    match row_of(word) {
+        Some(row) => with_command(alloc, program(alloc)?.disable_help_subcommand(true), row),
+        None => all_commands(alloc),
+    }
+}
+
+/// The program with all commands.
+fn all_commands<'a>(alloc: Global) -> Result<Command<'a>, AllocError> {
     let mut commands = program(alloc)?;
     for row in &ROWS {
         commands = with_command(alloc, commands, row)?;
@@ -366,11 +374,12 @@ pub fn given_words<R: Env + AllocGlobal>(rt: &R) -> Result<Vec<String>, Stop> {
 /// are no command, also where they name standard input twice, which can be read once, choose both forms of a circuit, or a
 /// bad property of no engine form;
 /// with 3 where there was no memory.
+#[inline(never)]
 pub fn order<'a, S: AsStr>(alloc: Global, words: &'a [S]) -> Result<Order<'a>, Stop>
     // standard input is read once
     ensures { IfOk result (λ order. reads_input_twice order.first.now (option_map (λ name. name.now) order.second) (option_map (λ name. name.now) order.third) ≡ false) }
 {
-    if words.is_empty() {
+    let Some(first) = words.first() else {
         return Ok(Order {
             task: Task::Lower,
             form: Form::Ascii,
@@ -380,8 +389,8 @@ pub fn order<'a, S: AsStr>(alloc: Global, words: &'a [S]) -> Result<Order<'a>, S
             output: None,
             tells_progress: true,
         });
-    }
-    let command = match commands(alloc) {
+    };
+    let command = match program_for(alloc, first.as_str()) {
         Ok(command) => command.no_binary_name(true),
         Err(_) => return Err(Stop::no_memory(alloc)),
     };
