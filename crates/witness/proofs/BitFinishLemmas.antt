@@ -10,9 +10,8 @@ use Rattle.witness.specs.BitTexts.{BitWitness}
 use Rattle.witness.specs.BitAdmits.{AtDone, BitRead, is_done, bit_reader, bit_witness_of}
 use Rattle.witness.specs.BitJudgements.{bit_verdict, JudgesBits}
 use Rattle.witness.specs.BitPlays.{BitPlay, Plays, Traced}
-use Rattle.witness.specs.Stands.{first_of}
+use Rattle.witness.specs.Judgements.{first_of}
 use Rattle.witness.specs.BitStands.{place_of, PlaysAt, BitJudge, StandsFor}
-use Rattle.witness.proofs.BitOneJudgement.{verdict_is}
 use Rattle.witness.proofs.BitReadLemmas.{done}
 
 -- ---- the verdict
@@ -29,7 +28,7 @@ module _ (c : Circuit) (w : BitWitness) (p : BitPlay) (vs : List Valuation) (pla
 
   -- the claim, where it is not reached
   pub judged_whole : (o : Option ℕ) → o ≡ cond p.rose None (Some w.claim) → first_of p.differs p.breach o p.frames ≡ bit_verdict c w vs
-  judged_whole o e = rw (plays.differs, traced.breach, e, traced.rose, plays.count ∙ sym (trace_length c w.initial w.frames vs trace)) (verdict_is c w vs)
+  judged_whole o e = rw (plays.differs, traced.breach, e, traced.rose, plays.count ∙ sym (trace_length c w.initial w.frames vs trace)) refl
 
 -- ---- the judgement
 

@@ -12,10 +12,9 @@ use Rattle.witness.specs.declared.judgement.Judgement.{Judgement}
 use Rattle.witness.specs.Judgements.{violated_at}
 use Rattle.witness.specs.BitTexts.{BitWitness, IsBitWitness}
 use Rattle.witness.specs.BitAdmits.{BitRead, read_bit_text, bit_witness_of}
-use Rattle.witness.specs.BitJudgements.{first_reset_differing, bit_violation_from, bit_rises, when_risen, when_unbroken, when_reset, bit_verdict, makes_no_bit_claim, JudgesBits, BitJudges}
+use Rattle.witness.specs.BitJudgements.{first_reset_differing, bit_violation_from, bit_rises, bit_verdict, makes_no_bit_claim, JudgesBits, BitJudges}
 use Rattle.witness.proofs.BitReadLemmas.{bit_read_says}
 use Rattle.witness.proofs.JudgedLemmas.{some_judged, judged_once}
-use Rattle.witness.specs.Stands.{first_of}
 
 -- ---- traces that are the same have the same verdict
 
@@ -50,25 +49,12 @@ length_same c [] (w ∷ ws) same = absurd same
 length_same c (v ∷ vs) [] same = absurd same
 length_same c (v ∷ vs) (w ∷ ws) same = ap suc (length_same c vs ws same.1)
 
--- a verdict by what is looked for
-pub verdict_is : (c : Circuit) (w : BitWitness) (vs : List Valuation) → first_of (first_reset_differing 0 c.latches w.initial) (bit_violation_from c 0 vs) (cond (bit_rises c w.claim vs) None (Some w.claim)) (length vs) ≡ bit_verdict c w vs
-verdict_is c w vs =
-    let unreached : Option ℕ = cond (bit_rises c w.claim vs) None (Some w.claim) in
-    elim (first_reset_differing 0 c.latches w.initial) as (λ d. first_of d (bit_violation_from c 0 vs) unreached (length vs) ≡ when_reset c w vs d) [
-      | Some k ↦ refl
-      | None ↦
-          elim (bit_violation_from c 0 vs) as (λ v. first_of None v unreached (length vs) ≡ when_unbroken c w vs v) [
-            | Some v ↦ refl
-            | None ↦ elim (bit_rises c w.claim vs) as (λ b. first_of None None (cond b None (Some w.claim)) (length vs) ≡ when_risen w.claim (length vs) b) [ true ↦ refl | false ↦ refl ]
-          ]
-    ]
-
 -- it goes by what traces agree on
 verdict_same : (c : Circuit) (w : BitWitness) (vs us : List Valuation) → IsCircuit c → w.claim < length c.bads → SameTrace c vs us → bit_verdict c w vs ≡ bit_verdict c w us
 verdict_same c w vs us circuit below same =
     let defined : IsDefined (net c) (slice_index c.bads w.claim) = All-get_or (IsDefined (net c)) c.bads w.claim 0 below circuit.defined.bads in
     let broken = violations_same c 0 vs us (recursion_from_All (IsDefined (net c)) c.constraints circuit.defined.constraints) same in
-    sym (verdict_is c w vs) ∙ rw (broken, rises_same c w.claim vs us defined same, length_same c vs us same) (verdict_is c w us)
+    rw (broken, rises_same c w.claim vs us defined same, length_same c vs us same) refl
 
 -- ---- one judgement
 

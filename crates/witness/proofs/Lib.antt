@@ -9,7 +9,6 @@ pub mod LastLineLemmas
 pub mod ReadingLemmas
 pub mod ReadLemmas
 pub mod WitnessTextLemmas
-pub mod AdmittedLineLemmas
 pub mod ReadTextLemmas
 pub mod GivenWordLemmas
 pub mod FrameLemmas

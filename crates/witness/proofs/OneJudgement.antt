@@ -14,10 +14,9 @@ use Rattle.witness.specs.declared.judgement.Judgement.{Judgement}
 use Rattle.witness.specs.Texts.{shape_of}
 use Rattle.witness.specs.Admits.{Read, read_text, witness_of}
 use Rattle.btor2.specs.Lists.{of_kind}
-use Rattle.witness.specs.Judgements.{Words, initial_words, given_frames, nodes_of, first_different, violated_at, violation_from, never_rises, unreached_from, when_reached, when_kept, when_begun, verdict, words_of, makes_no_claim, JudgesWords, Judges}
+use Rattle.witness.specs.Judgements.{Words, initial_words, given_frames, nodes_of, first_different, violated_at, violation_from, never_rises, unreached_from, verdict, words_of, makes_no_claim, JudgesWords, Judges}
 use Rattle.base.specs.Lines.{whole_lines}
 use Rattle.witness.proofs.JudgedLemmas.{some_judged, judged_once}
-use Rattle.witness.specs.Stands.{first_of}
 
 -- ---- the nodes of properties have values
 
@@ -86,26 +85,13 @@ length_same items [] (g ∷ gs) same = absurd same
 length_same items (f ∷ fs) [] same = absurd same
 length_same items (f ∷ fs) (g ∷ gs) same = ap suc (length_same items fs gs same.1)
 
--- a verdict by what is looked for
-pub verdict_is : (items : List Item) (w : Words) (fs : List Frame) → first_of (first_different items (initial_words items w)) (violation_from items 0 fs) (unreached_from w.claims fs 0 (nodes_of is_bad items)) (length fs) ≡ verdict items w fs
-verdict_is items w fs =
-    let unreached : Option ℕ = unreached_from w.claims fs 0 (nodes_of is_bad items) in
-    elim (first_different items (initial_words items w)) as (λ d. first_of d (violation_from items 0 fs) unreached (length fs) ≡ when_begun items w fs d) [
-      | Some i ↦ refl
-      | None ↦
-          elim (violation_from items 0 fs) as (λ v. first_of None v unreached (length fs) ≡ when_kept items w fs v) [
-            | Some v ↦ refl
-            | None ↦ elim unreached as (λ u. first_of None None u (length fs) ≡ when_reached (length fs) u) [ Some i ↦ refl | None ↦ refl ]
-          ]
-    ]
-
 -- it goes by what traces agree on
 verdict_same : (items : List Item) (w : Words) (fs gs : List Frame) → IsWellFormed items → SameTrace items fs gs → verdict items w fs ≡ verdict items w gs
 verdict_same items w fs gs well same =
     let bads = nodes_of is_bad items in
     let reached = unreached_same w.claims fs gs 0 bads (each_weaker (HasWidth items) (λ a. never_rises fs a ≡ never_rises gs a) bads (λ a there. never_same items fs gs a there same) (nodes_have_widths is_bad items well)) in
     let violated = violations_same items 0 fs gs (nodes_have_widths is_constraint items well) same in
-    sym (verdict_is items w fs) ∙ rw (violated, reached, length_same items fs gs same) (verdict_is items w gs)
+    rw (violated, reached, length_same items fs gs same) refl
 
 -- ---- one judgement
 

@@ -10,7 +10,7 @@ use Rattle.witness.proofs.ReadingLemmas.{admit_all, admitted, text_is_read}
 use Rattle.witness.proofs.PieceLemmas.{decimal_without}
 use Rattle.witness.proofs.ClaimLemmas.{claims_at-claims_line}
 use Rattle.witness.proofs.AssignmentLemmas.{assignment_line_is_line, claims_line_is_line}
-use Rattle.witness.proofs.ReadLemmas.{IsSmall, at_claims, at_parts, in_states, in_frame, at_end, comment_line, status_line, line_of_claims, states_begin, frames_begin, states_end, states_part, frame_lines-behind, frames_part}
+use Rattle.witness.proofs.ReadLemmas.{IsSmall, at_claims, at_parts, in_states, in_frame, at_end, comment_line, status_line, line_of_claims, states_begin, frames_begin, states_read, frame_lines-behind, frames_part}
 
 -- ---- the frames behind the claims
 
@@ -21,12 +21,10 @@ frames_and_end shape frames = frame_lines shape 0 frames ++ codes "." ∷ []
 -- the first frame begins, by its states or by its line
 first_begins : (shape : Shape) (claims : List ℕ) (states : Option (List Assignment)) (tail : List (List ℕ)) → IsSmall shape → IfSome states (IsPart shape.states)
     → admit_all (word_reader shape) (at_parts claims) (states_lines shape.states 0 states ++ ((64 ∷ decimal 0) ∷ tail)) ≡ admit_all (word_reader shape) (in_frame claims [] states []) tail
-first_begins shape claims None tail small part = admitted (word_reader shape) (at_parts claims) (64 ∷ decimal 0) (in_frame claims [] None []) tail (frames_begin shape claims)
+first_begins shape claims None tail small part = admitted (word_reader shape) (at_parts claims) (64 ∷ decimal 0) (in_frame claims [] None []) tail (frames_begin shape (at_parts claims) refl)
 first_begins shape claims (Some list) tail small part =
-    let lines : List (List ℕ) = (64 ∷ decimal 0) ∷ tail in
-    admitted (word_reader shape) (at_parts claims) (35 ∷ decimal 0) (in_states claims []) (assignment_lines shape.states list ++ lines) (states_begin shape claims)
-    ∙ (states_part shape claims list lines small part
-    ∙ admitted (word_reader shape) (in_states claims list) (64 ∷ decimal 0) (in_frame claims [] (Some list) []) tail (states_end shape claims list))
+    admitted (word_reader shape) (at_parts claims) (35 ∷ decimal 0) (in_states claims [] []) (assignment_lines shape.states list ++ ((64 ∷ decimal 0) ∷ tail)) (states_begin shape (at_parts claims) refl)
+    ∙ states_read shape claims [] list tail small part
 
 frames_read : (shape : Shape) (claims : List ℕ) (first : Parts) (more : List Parts) → IsSmall shape → IsFirst shape first → AllByRecursion (IsLater shape) more
     → admit_all (word_reader shape) (at_parts claims) (frames_and_end shape (first ∷ more)) ≡ Ok (at_end claims (first ∷ more))
@@ -57,9 +55,9 @@ witness_read : (shape : Shape) (comments : List (List ℕ)) (w : Witness) → Is
     → admit_all (word_reader shape) nothing_read (witness_lines shape comments w) ≡ Ok (all_read w)
 witness_read shape comments w small marked valid =
     let after : List (List ℕ) = frames_and_end shape w.frames in
-    let claims = line_of_claims shape (claims_line w.claims) w.claims (claims_at-claims_line shape.bads w.claims small.bads valid.some_claim (recursion_from_All (λ i. i < shape.bads) w.claims valid.claims) valid.distinct) in
+    let claims = line_of_claims shape at_claims (claims_line w.claims) w.claims refl (claims_at-claims_line shape.bads w.claims small.bads valid.some_claim (recursion_from_All (λ i. i < shape.bads) w.claims valid.claims) valid.distinct) in
     comments_read shape comments (codes "sat" ∷ claims_line w.claims ∷ after) marked
-    ∙ (admitted (word_reader shape) nothing_read (codes "sat") at_claims (claims_line w.claims ∷ after) (status_line shape)
+    ∙ (admitted (word_reader shape) nothing_read (codes "sat") at_claims (claims_line w.claims ∷ after) (status_line shape nothing_read refl)
     ∙ (admitted (word_reader shape) at_claims (claims_line w.claims) (at_parts w.claims) after claims
     ∙ all_frames_read shape w.claims w.frames small valid.frames))
 

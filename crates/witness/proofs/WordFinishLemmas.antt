@@ -12,13 +12,13 @@ use Rattle.witness.specs.Judgements.{FrameWords, frame_words, words_of, Words, i
 use Rattle.witness.specs.Fits.{AreClaimed, NoneIsSet, RisesAmong}
 use Rattle.witness.specs.WordPlays.{WordPlay, Plays, Traced, TracedBy, frames_alone, nothing_given, word_at}
 use Rattle.witness.specs.ClosedWords.{IsClosedTrace, last_word}
-use Rattle.witness.specs.Stands.{first_of}
+use Rattle.witness.specs.Judgements.{first_of}
 use Rattle.witness.specs.WordStands.{place_of, WordReader, Reads, ClaimsAt, here_of, WordJudge, StandsFor}
 use Rattle.witness.proofs.VerdictLemmas.{as_many_frames}
 use Rattle.runs.specs.Run.{IsNow}
 use Rattle.witness.proofs.WordJudgeLemmas.{in_frames}
 use Rattle.witness.proofs.WordPlayLemmas.{word_is}
-use Rattle.witness.proofs.OneJudgement.{verdict_is}
+use Rattle.witness.proofs.ReadTextLemmas.{ended}
 
 -- ---- a whole witness
 
@@ -56,13 +56,9 @@ module _ (items : List Item) (q : WordReader) (r : Read) (line : List ℕ) (read
       subst (λ (l : List Item). RisesAmong (nodes_of is_bad l) fs [] q.play.rose → o ≡ unreached_from r.claims fs 0 (nodes_of is_bad l)) plays.items_are (λ rises. says r.claims fs [] claimed no_flag rises) (traced.rose [] no_flag)
 
   judged_whole : (o : Option ℕ) → o ≡ unreached_from r.claims fs 0 (nodes_of is_bad items) → first_of q.play.differs q.play.breach o q.play.frames ≡ verdict items w fs
-  judged_whole o e = rw (traced.differs, traced.breach, e, plays.count ∙ as_many_frames items w fs trace) (verdict_is items w fs)
+  judged_whole o e = rw (traced.differs, traced.breach, e, plays.count ∙ as_many_frames items w fs trace) refl
 
 -- ---- the judgement
-
-ended : (at : Place) → is_at_end at ≡ true → at ≡ AtEnd
-ended AtEnd h = refl
-ended _ h = absurd cc
 
 abbrev pub Says : List Item → Read → Judgement → Type 0
 Says items r = JudgesWords items (words_of (witness_of r))

@@ -13,7 +13,7 @@ use Rattle.witness.specs.Texts.{Shape, Assignment, Parts, has_free, is_comment, 
 use Rattle.witness.proofs.MoveLemmas.{goes_steps}
 use Rattle.witness.proofs.WordPlayLemmas.{between_behind}
 use Rattle.witness.specs.Readings.{Reading, so_far, nothing_admitted, one_more_line, next_line_of, next_line, lines_behind, lines_read, reading, is_nothing}
-use Rattle.witness.specs.Admits.{claims_at, assignment_at, free_assignment_at, Place, AtStatus, AtClaims, AtParts, InStates, InFree, InFrame, AtEnd, Read, nothing_read, states_closed, frame_closed, opens_frame, opens_states, begins_part, after_claims, after_assignment, in_part, admit_at, admit, word_reader}
+use Rattle.witness.specs.Admits.{claims_at, assignment_at, state_assignment_at, Place, AtStatus, AtClaims, AtParts, InStates, InFrame, AtEnd, Read, nothing_read, states_closed, frame_closed, opens_frame, opens_states, begins_part, after_claims, after_assignment, in_part, admit_at, admit, word_reader}
 use Rattle.witness.specs.Judgements.{frame_words, makes_no_claim}
 use Rattle.witness.specs.WordPlays.{nothing_given, is_between, steps_of, steps_taken}
 use Rattle.witness.specs.WordReadings.{closed_word_frames}
@@ -135,23 +135,18 @@ line_moves shape r next line AtParts at h =
           ]
     ]
 line_moves shape r next line InStates at h =
-    elim (chosen (opens_frame 0 line) (Ok (states_closed r)) (in_part r line (assignment_at shape.states r.open_part line)) (Ok next) h) [
+    elim (chosen (opens_frame (length r.closed) line) (Ok (states_closed r)) (in_part r line (state_assignment_at shape r.closed r.open_part line)) (Ok next) h) [
       | inl e ↦ states_move r next e.1
-      | inr e ↦ part_moves r next line (assignment_at shape.states r.open_part line) (λ end. cc (at, end)) e.1
-    ]
-line_moves shape r next line InFree at h =
-    elim (chosen (opens_frame (length r.closed) line) (Ok (states_closed r)) (in_part r line (free_assignment_at shape r.open_part line)) (Ok next) h) [
-      | inl e ↦ states_move r next e.1
-      | inr e ↦ part_moves r next line (free_assignment_at shape r.open_part line) (λ end. cc (at, end)) e.1
+      | inr e ↦ part_moves r next line (state_assignment_at shape r.closed r.open_part line) (λ end. cc (at, end)) e.1
     ]
 line_moves shape r next line InFrame at h =
     let inputs : Result Read Why = in_part r line (assignment_at shape.inputs r.open_part line) in
     let ends : Result Read Why = cond (bytes_eq line (codes ".")) (Ok (frame_closed AtEnd r)) inputs in
-    elim (chosen (opens_frame (suc (length r.closed)) line) (Ok (frame_closed InFrame r)) (cond (opens_states (suc (length r.closed)) line && has_free shape) (Ok (frame_closed InFree r)) ends) (Ok next) h) [
+    elim (chosen (opens_frame (suc (length r.closed)) line) (Ok (frame_closed InFrame r)) (cond (opens_states (suc (length r.closed)) line && has_free shape) (Ok (frame_closed InStates r)) ends) (Ok next) h) [
       | inl e ↦ frame_moves r next InFrame refl e.1
       | inr e ↦
-          elim (chosen (opens_states (suc (length r.closed)) line && has_free shape) (Ok (frame_closed InFree r)) ends (Ok next) e.1) [
-            | inl d ↦ frame_moves r next InFree refl d.1
+          elim (chosen (opens_states (suc (length r.closed)) line && has_free shape) (Ok (frame_closed InStates r)) ends (Ok next) e.1) [
+            | inl d ↦ frame_moves r next InStates refl d.1
             | inr d ↦
                 elim (chosen (bytes_eq line (codes ".")) (Ok (frame_closed AtEnd r)) inputs (Ok next) d.1) [
                   | inl f ↦ frame_moves r next AtEnd refl f.1

@@ -5,7 +5,7 @@ use Rattle.btor2.specs.declared.item.Item.{Item}
 use Rattle.btor2.specs.Lists.{width_at}
 use Rattle.btor2.specs.Trace.{Frame, IsTrace}
 use Rattle.witness.specs.Texts.{Parts, shape_of}
-use Rattle.witness.specs.Admits.{Place, InStates, InFree, InFrame, Read, witness_of}
+use Rattle.witness.specs.Admits.{Place, InStates, InFrame, Read, witness_of}
 use Rattle.witness.specs.Judgements.{FrameWords, Words, pairs_of, frame_words, words_of, initial_words, given_frames}
 use Rattle.witness.specs.WordReadings.{word_reading}
 
@@ -32,7 +32,6 @@ nothing_given = record { states = []; inputs = [] }
 -- the words that are given in the frame that is open
 abbrev pub here_of : Read → Place → FrameWords
 here_of r InStates = record { states = pairs_of r.open_part; inputs = [] }
-here_of r InFree = record { states = pairs_of r.open_part; inputs = [] }
 here_of r InFrame = frame_words (record { states = r.states; inputs = r.open_part })
 here_of r _ = nothing_given
 

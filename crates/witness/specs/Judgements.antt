@@ -109,21 +109,17 @@ unreached_from claims fs i (a ∷ more) =
 
 -- ---- the judgement
 
-abbrev pub when_reached : ℕ → Option ℕ → Judgement
-when_reached frames None = judgement.Accepted frames
-when_reached frames (Some i) = judgement.NotReached i
-
-abbrev pub when_kept : List Item → Words → List Frame → Option Violation → Judgement
-when_kept items w fs None = when_reached (length fs) (unreached_from w.claims fs 0 (nodes_of is_bad items))
-when_kept items w fs (Some v) = judgement.Violated v.frame v.constraint
-
-abbrev pub when_begun : List Item → Words → List Frame → Option ℕ → Judgement
-when_begun items w fs None = when_kept items w fs (violation_from items 0 fs)
-when_begun items w fs (Some i) = judgement.InitDiffers i
+-- what is judged of a whole witness of so many frames: by the first initial value that differs, else the first breach, else the first claim that is not reached
+abbrev pub first_of : Option ℕ → Option Violation → Option ℕ → ℕ → Judgement
+first_of (Some k) breach unreached frames = judgement.InitDiffers k
+first_of None (Some v) unreached frames = judgement.Violated v.frame v.constraint
+first_of None None (Some claim) frames = judgement.NotReached claim
+first_of None None None frames = judgement.Accepted frames
 
 -- of a witness with its trace: initial words first, then constraints in all frames, then claims
 abbrev pub verdict : List Item → Words → List Frame → Judgement
-verdict items w fs = when_begun items w fs (first_different items (initial_words items w))
+verdict items w fs =
+    first_of (first_different items (initial_words items w)) (violation_from items 0 fs) (unreached_from w.claims fs 0 (nodes_of is_bad items)) (length fs)
 
 -- the first line that is no comment is whole, among the lines that may be there, and says that there is no counterexample, or that none is known
 abbrev pub makes_no_claim : ℕ → List (List ℕ) → Bool

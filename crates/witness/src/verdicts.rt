@@ -7,7 +7,7 @@ ghost use Rattle.btor2.specs.Lists.{places, of_kind};
 ghost use Rattle.btor2.specs.Trace.{Frame};
 ghost use Rattle.runs.specs.Run.{IsNow};
 ghost use Rattle.witness.specs.Judgements.{nodes_of, differs, first_different, first_violated, violated_at, unreached_from};
-ghost use Rattle.witness.specs.Stands.{first_of};
+ghost use Rattle.witness.specs.Judgements.{first_of};
 ghost use Rattle.witness.specs.Fits.{RisesIn, RisesAmong, NoneIsSet, AreClaimed};
 
 use crate::judgement::Judgement;

@@ -8,10 +8,8 @@ pub(crate) enum Place {
     Claims,
     /// The first line of the first frame, or of its states' part.
     Parts,
-    /// One of the states' part of the first frame, or the line behind it.
+    /// One of a frame's part of states, or the line behind it.
     States,
-    /// One of the states' part of a later frame, or the line behind it.
-    Free,
     /// One of a frame's inputs, the first line of the next frame or of its states' part, or the last line.
     Frame,
     /// None.

@@ -1,5 +1,5 @@
 //! The lines of a witness over a model, admitted one after the other.
-ghost use Rattle.std.specs.Prelude.{◌≡◌, ℕ, ◌&&◌, ◌<◌, ◌+◌, ◌-◌, ◌^◌, Bool, List, [], ◌∷◌, ◌++◌, IfNone, IfOk, IfSome, OnErr, length, slice_index};
+ghost use Rattle.std.specs.Prelude.{◌≡◌, ℕ, ◌&&◌, ◌<◌, ◌+◌, ◌-◌, ◌^◌, true, Bool, List, [], ◌∷◌, ◌++◌, IfNone, IfOk, IfSome, OnErr, length, slice_index};
 ghost use Rattle.btor2.specs.declared.item.Item.{Item};
 ghost use Rattle.btor2.specs.Items.{is_state, is_bad};
 ghost use Rattle.btor2.specs.Lists.{places, is_free_at, first_init_without_next};
@@ -128,11 +128,15 @@ impl<'a> WordReader<'a> {
         }
     }
 
-    /// Whether an assignment is one of a free state.
-    fn names_free(&self, line: &[u8]) -> bool
-        ensures { result ≡ names_free (shape_of self.now.play.items) (number_of (cut_at_space line.now).0) }
+    /// Whether an assignment may stand in a part of states: any in the first frame, and behind it one of a free state.
+    fn may_assign(&self, line: &[u8]) -> bool
+        ensures first { self.now.play.frames ≡ 0 → result ≡ true }
+        ensures later { 0 < self.now.play.frames → result ≡ names_free (shape_of self.now.play.items) (number_of (cut_at_space line.now).0) }
     {
         let model = self.play.model();
+        if self.play.frames() == 0 {
+            return true;
+        }
         match index_of(line) {
             Some(index) => {
                 let k = index as usize;
@@ -194,24 +198,9 @@ impl<'a> WordReader<'a> {
         Err(Why::FrameOrder)
     }
 
-    /// A line of the states' part of the first frame has ended, or the one behind it.
+    /// A line of a part of states has ended, or the one behind it.
     fn admit_states(&mut self, line: &[u8]) -> Result<(), Why>
-        ensures line { (items : List Item) (r : Read) → Reads items self.old r line.now → self.old.place ≡ place.States → GivesLine items r line.now self.new result }
-        ensures err { OnErr result (self.new.play ≡ self.old.play) }
-    {
-        if is_numbered(line, b'@', 0) {
-            self.place = Place::Frame;
-            return Ok(());
-        }
-        if begins_part(line) {
-            return Err(Why::FrameOrder);
-        }
-        self.play.assign_state(line)
-    }
-
-    /// The same of a later frame.
-    fn admit_free(&mut self, line: &[u8]) -> Result<(), Why>
-        ensures line { (items : List Item) (r : Read) → Reads items self.old r line.now → self.old.place ≡ place.Free → length r.closed < 2 ^ 62 → GivesLine items r line.now self.new result }
+        ensures line { (items : List Item) (r : Read) → Reads items self.old r line.now → self.old.place ≡ place.States → length r.closed < 2 ^ 62 → GivesLine items r line.now self.new result }
         ensures err { OnErr result (self.new.play ≡ self.old.play) }
     {
         if is_numbered(line, b'@', self.play.frames()) {
@@ -221,7 +210,7 @@ impl<'a> WordReader<'a> {
         if begins_part(line) {
             return Err(Why::FrameOrder);
         }
-        if !self.names_free(line) {
+        if !self.may_assign(line) {
             return Err(Why::BadIndex);
         }
         self.play.assign_state(line)
@@ -242,7 +231,7 @@ impl<'a> WordReader<'a> {
         }
         if self.begins_states(line, next) {
             self.play.close();
-            self.place = Place::Free;
+            self.place = Place::States;
             return Ok(());
         }
         if is_word(line, b".") {
@@ -298,7 +287,6 @@ impl<'a> WordReader<'a> {
             | Place::Claims
             | Place::Parts
             | Place::States
-            | Place::Free
             | Place::End => None,
         }
     }
@@ -314,7 +302,6 @@ impl<'a> WordReader<'a> {
             Place::Claims => self.admit_claims(),
             Place::Parts => self.admit_parts(line),
             Place::States => self.admit_states(line),
-            Place::Free => self.admit_free(line),
             Place::Frame => self.admit_frame(line),
             Place::End => Err(Why::Trailing),
         }

@@ -4,7 +4,7 @@ use Rattle.witness.specs.declared.bit_place.BitPlace.{BitPlace as CodePlace}
 use Rattle.witness.specs.BitAdmits.{is_done}
 use Rattle.witness.specs.BitJudgements.{BitJudges}
 use Rattle.witness.specs.BitPlays.{BitPlay}
-use Rattle.witness.specs.Stands.{first_of}
+use Rattle.witness.specs.Judgements.{first_of}
 use Rattle.witness.specs.BitStands.{BitJudge, bit_judging, place_of}
 use Rattle.witness.proofs.StandsLemmas.{refused_line, refused_last, whole_text}
 use Rattle.witness.proofs.BitFinishLemmas.{Says, ended_at, whole_witness}

@@ -5,7 +5,7 @@ use Rattle.witness.specs.Admits.{is_at_end}
 use Rattle.witness.specs.declared.word_place.Place.{Place as CodePlace}
 use Rattle.witness.specs.Judgements.{Judges}
 use Rattle.witness.specs.WordPlays.{WordPlay}
-use Rattle.witness.specs.Stands.{first_of}
+use Rattle.witness.specs.Judgements.{first_of}
 use Rattle.witness.specs.WordStands.{WordJudge, word_judging, place_of}
 use Rattle.witness.proofs.KeptLineLemmas.{nothing_kept}
 use Rattle.witness.proofs.StandsLemmas.{refused_line, refused_last, whole_text}
