@@ -10,8 +10,8 @@ use Rattle.runs.specs.Run.{more_steps}
 use Rattle.runs.specs.CircuitRun.{first_bit}
 use Rattle.witness.specs.declared.why.Why.{Why}
 use Rattle.witness.specs.declared.why.Why.TheVariants as why
-use Rattle.witness.specs.declared.bit_place.BitPlace.{BitPlace as CodePlace}
-use Rattle.witness.specs.declared.bit_place.BitPlace.TheVariants as code
+use Rattle.witness.specs.declared.bit_reader.BitPlace.{BitPlace as CodePlace}
+use Rattle.witness.specs.declared.bit_reader.BitPlace.TheVariants as code
 use Rattle.witness.specs.BitAdmits.{AtClaim, AtInitial, AtFirst, AtLater, AtDone, BitRead, claim_at, bits_at, after_frame, bit_admit}
 use Rattle.witness.specs.BitScans.{is_one_bit}
 use Rattle.witness.specs.BitPlays.{BitPlay, play_start, frame_steps, Begins, Traced, Plays}

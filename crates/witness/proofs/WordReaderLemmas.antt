@@ -7,8 +7,8 @@ use Rattle.base.specs.Decimals.{number_of}
 use Rattle.btor2.specs.declared.item.Item.{Item}
 use Rattle.witness.specs.declared.why.Why.{Why}
 use Rattle.witness.specs.declared.why.Why.TheVariants as why
-use Rattle.witness.specs.declared.word_place.Place.{Place as CodePlace}
-use Rattle.witness.specs.declared.word_place.Place.TheVariants as code
+use Rattle.witness.specs.declared.word_reader.Place.{Place as CodePlace}
+use Rattle.witness.specs.declared.word_reader.Place.TheVariants as code
 use Rattle.witness.specs.Texts.{Assignment, Parts, is_free_index, has_free, shape_of, is_comment}
 use Rattle.witness.specs.Admits.{Place, AtClaims, AtParts, InStates, InFrame, AtEnd, Read, nothing_read, cut_at_space, names_free, may_name, state_assignment_at, claims_at, opens_frame, opens_states, begins_part, states_closed, frame_closed, admit}
 use Rattle.witness.specs.Judgements.{FrameWords, pairs_of, frame_words}

@@ -3,8 +3,8 @@ use Rattle.std.specs.Prelude.{◌≡◌, ℕ, ◌<◌, ◌||◌, Bool, true, fal
 use Rattle.std.specs.Str.{bytes_eq}
 use Rattle.aiger.specs.Circuit.{Circuit}
 use Rattle.witness.specs.declared.why.Why.{Why}
-use Rattle.witness.specs.declared.bit_place.BitPlace.{BitPlace as CodePlace}
-use Rattle.witness.specs.declared.bit_place.BitPlace.TheVariants as code
+use Rattle.witness.specs.declared.bit_reader.BitPlace.{BitPlace as CodePlace}
+use Rattle.witness.specs.declared.bit_reader.BitPlace.TheVariants as code
 use Rattle.witness.specs.declared.bit_reader.BitReader.{BitReader}
 use Rattle.witness.specs.declared.bit_scan.Scan.{Scan}
 use Rattle.witness.specs.Stands.{Judge, Judging}

@@ -5,8 +5,8 @@ use Rattle.base.specs.Lines.{IsLine}
 use Rattle.btor2.specs.declared.item.Item.{Item}
 use Rattle.btor2.specs.Items.{is_input}
 use Rattle.witness.specs.declared.why.Why.{Why}
-use Rattle.witness.specs.declared.word_place.Place.{Place as CodePlace}
-use Rattle.witness.specs.declared.word_place.Place.TheVariants as code
+use Rattle.witness.specs.declared.word_reader.Place.{Place as CodePlace}
+use Rattle.witness.specs.declared.word_reader.Place.TheVariants as code
 use Rattle.witness.specs.declared.word_claims.ClaimScan.{ClaimScan}
 use Rattle.witness.specs.Texts.{widths_of, has_free, shape_of}
 use Rattle.witness.specs.Admits.{Place, AtStatus, AtClaims, AtParts, InStates, InFrame, AtEnd, Read, word_reader, admit}

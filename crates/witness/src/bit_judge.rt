@@ -11,12 +11,10 @@ ghost use Rattle.witness.specs.BitPlays.{steps_of};
 ghost use Rattle.witness.specs.Stands.{IsOfLines};
 ghost use Rattle.witness.specs.BitStands.{StandsFor, bit_judging, is_header, place_of};
 
-use crate::bit_place::BitPlace;
-use crate::bit_reader::BitReader;
+use crate::bit_reader::{BitPlace, BitReader};
 use crate::bit_scan::Scan;
 use crate::judgement::Judgement;
-use crate::last_line::{are_most, last_refusal};
-use crate::verdicts::{either, judgement_of};
+use crate::verdicts::{are_most, either, last_refusal};
 use crate::why::Why;
 use aiger::Circuit;
 use base::next_line;
@@ -211,13 +209,7 @@ impl<'a> BitJudge<'a> {
         if let Some(why) = last_refusal(ended, self.admitted, self.line.is_empty()) {
             return Judgement::Malformed { line, why };
         }
-        let play = self.reader.play();
-        judgement_of(
-            play.differs(),
-            play.breach(),
-            self.reader.unreached(),
-            play.frames(),
-        )
+        self.reader.play().judgement(self.reader.unreached())
     }
 
     /// The judgement of the text: of every one that the judge stands for.

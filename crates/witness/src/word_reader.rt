@@ -10,7 +10,7 @@ ghost use Rattle.witness.specs.Admits.{Read, nothing_read, opens_states, names_f
 ghost use Rattle.base.specs.Decimals.{number_of};
 ghost use Rattle.witness.specs.Judgements.{nodes_of, unreached_from};
 ghost use Rattle.witness.specs.Fits.{NoneIsSet, RisesAmong, AreClaimed};
-ghost use Rattle.witness.specs.declared.word_place.Place.TheVariants as place;
+ghost use Rattle.witness.specs.declared.word_reader.Place.TheVariants as place;
 ghost use Rattle.witness.specs.KeptLines.{AreAlike};
 ghost use Rattle.witness.specs.WordStands.{Reads, GivesLine, TakesLine, NoPlainLine, is_alone, place_of};
 ghost use Rattle.witness.specs.PlainLines.{NoFrameLine};
@@ -21,11 +21,27 @@ use crate::why::Why;
 use crate::word_claims::ClaimScan;
 use crate::word_fields::index_of;
 use crate::word_line::{begins_part, is_comment, is_numbered, is_word};
-use crate::word_place::Place;
 use crate::word_play::{WordPlay, no_flags};
 use btor2::Model;
 use runs::NewFault;
 use std::alloc::Global;
+
+/// Which line of a witness comes next.
+#[derive(Clone, Copy, PartialEq, Eq)]
+pub(crate) enum Place {
+    /// A comment or the status.
+    Status,
+    /// The claims.
+    Claims,
+    /// The first line of the first frame, or of its states' part.
+    Parts,
+    /// One of a frame's part of states, or the line behind it.
+    States,
+    /// One of a frame's inputs, the first line of the next frame or of its states' part, or the last line.
+    Frame,
+    /// None.
+    End,
+}
 
 /// What the admitted lines of a witness over a model say.
 #[derive(Drop)]
@@ -283,11 +299,7 @@ impl<'a> WordReader<'a> {
     {
         match self.place {
             Place::Frame => self.take_in_frame(text),
-            Place::Status
-            | Place::Claims
-            | Place::Parts
-            | Place::States
-            | Place::End => None,
+            Place::Status | Place::Claims | Place::Parts | Place::States | Place::End => None,
         }
     }
 

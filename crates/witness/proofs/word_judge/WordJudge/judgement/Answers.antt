@@ -2,7 +2,7 @@ use Rattle.std.proofs.Common.{◌≡◌, refl, subst, sym, ap, ◌∙◌}
 use Rattle.base.specs.Lines.{unfinished}
 use Rattle.witness.specs.Readings.{is_nothing}
 use Rattle.witness.specs.Admits.{is_at_end}
-use Rattle.witness.specs.declared.word_place.Place.{Place as CodePlace}
+use Rattle.witness.specs.declared.word_reader.Place.{Place as CodePlace}
 use Rattle.witness.specs.Judgements.{Judges}
 use Rattle.witness.specs.WordPlays.{WordPlay}
 use Rattle.witness.specs.Judgements.{first_of}
@@ -25,8 +25,8 @@ returns-in-Some-last_refusal c items text stands =
 pub returns : goal.returns
 returns c items text stands =
     let play : WordPlay = c.self.inside.reader.play in
-    let is : c.judgement_of.result ≡ first_of play.differs play.breach c.unreached.result play.frames =
-    c.judgement_of.ensures ∙ rw (c.differs.ensures, c.breach.ensures, c.frames.ensures, c.play-play.ensures) refl in
+    let is : c.judgement.result ≡ first_of play.differs play.breach c.unreached.result play.frames =
+    c.judgement.ensures ∙ rw c.play.ensures refl in
     subst (Judges items text) (sym is)
     (whole_text (word_judging items) (Says items) text _ _ c.self.view_is stands c.has_ended-ended.result c.is_empty.result (first_of play.differs play.breach c.unreached.result play.frames) c.if-self.false c.in_default.is
     (c.has_ended-ended.ensures ∙ (ap (λ (x : CodePlace). is_at_end (place_of x)) c.place.ensures ∙ ended_at items text _ _ c.self.view_is stands c.in_default.is))

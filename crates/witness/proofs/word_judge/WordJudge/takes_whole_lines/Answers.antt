@@ -5,7 +5,7 @@ use Rattle.witness.specs.Readings.{is_nothing}
 use Rattle.witness.proofs.KeptLineLemmas.{nothing_kept}
 use Rattle.base.proofs.DecimalLemmas.{nothing}
 use Rattle.witness.proofs.word_judge.WordJudge.takes_whole_lines.Goals as goal
-use Rattle.witness.specs.declared.word_place.Place.{Place as CodePlace}
+use Rattle.witness.specs.declared.word_reader.Place.{Place as CodePlace}
 
 pub returns-clause-alone : goal.returns-clause-alone
 returns-clause-alone c is = ap (λ (j : WordJudge). is_alone (place_of j.reader.place)) (sym c.self.view_is) ∙ (ap (λ (x : CodePlace). is_alone (place_of x)) (sym c.place.ensures) ∙ (sym c.is_alone.ensures ∙ c.if-not-is_alone.false))

@@ -1,7 +1,7 @@
 use Rattle.std.proofs.Common.{◌≡◌, ℕ, ◌<◌, ◌^◌, List, Result, length, true, refl, sym, ap, subst, ◌∙◌}
 use Rattle.btor2.specs.declared.item.Item.{Item}
-use Rattle.witness.specs.declared.word_place.Place.{Place as CodePlace}
-use Rattle.witness.specs.declared.word_place.Place.TheVariants as code
+use Rattle.witness.specs.declared.word_reader.Place.{Place as CodePlace}
+use Rattle.witness.specs.declared.word_reader.Place.TheVariants as code
 use Rattle.witness.specs.Texts.{shape_of}
 use Rattle.witness.specs.declared.why.Why.{Why}
 use Rattle.witness.specs.Admits.{Read}

@@ -1,7 +1,7 @@
 use Rattle.std.proofs.Common.{◌≡◌, Bool, List, ◌++◌, length, sym, ap, subst, ◌∙◌, arith, refl}
 use Rattle.std.specs.Vec.{with_items}
 use Rattle.std.proofs.lemmas.List.{with_items_is}
-use Rattle.witness.specs.declared.word_place.Place.TheVariants as code
+use Rattle.witness.specs.declared.word_reader.Place.TheVariants as code
 use Rattle.witness.specs.WordClaims.{AreClaims}
 use Rattle.witness.specs.WordStands.{WordReader, is_alone, place_of}
 use Rattle.witness.proofs.WordReaderLemmas.{claims_there, claim_part, is_claims, reads_of_other}

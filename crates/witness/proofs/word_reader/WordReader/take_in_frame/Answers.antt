@@ -1,7 +1,7 @@
 use Rattle.std.proofs.Common.{◌≡◌, ℕ, suc, ◌+◌, ◌<◌, ◌^◌, ◌&&◌, Bool, List, IfSome, IfNone, Ok, length, decimal, ap, subst, ◌∙◌}
 use Rattle.btor2.specs.Items.{is_input}
-use Rattle.witness.specs.declared.word_place.Place.{Place as CodePlace}
-use Rattle.witness.specs.declared.word_place.Place.TheVariants as code
+use Rattle.witness.specs.declared.word_reader.Place.{Place as CodePlace}
+use Rattle.witness.specs.declared.word_reader.Place.TheVariants as code
 use Rattle.witness.specs.Texts.{widths_of, assignment_line}
 use Rattle.witness.specs.PlainLines.{NoAssignment, NoFrameLine}
 use Rattle.witness.specs.WordPlays.{WordPlay}

@@ -1,5 +1,5 @@
 use Rattle.std.proofs.Common.{◌≡◌, ℕ, suc, ◌+◌, List, ◌∷◌, ◌++◌, length, decimal, ap, sym, ◌∙◌, arith, refl}
-use Rattle.witness.specs.declared.word_place.Place.{Place as CodePlace}
+use Rattle.witness.specs.declared.word_reader.Place.{Place as CodePlace}
 use Rattle.witness.specs.Admits.{opens_frame}
 use Rattle.witness.specs.WordStands.{WordReader, is_alone, is_status, place_of}
 use Rattle.witness.proofs.PieceLemmas.{decimal_without}

@@ -1,7 +1,7 @@
 use Rattle.std.proofs.Common.{◌≡◌}
 use Rattle.witness.specs.WordStands.{StandsFor}
 use Rattle.witness.proofs.FeedLemmas.{Fed}
-use Rattle.witness.proofs.word_judging.feed_all.Given as goal
+use Rattle.witness.proofs.judging.feed_words.Given as goal
 
 -- what was read was fed
 abbrev pub invariant-loop-count : goal.invariant-loop-count

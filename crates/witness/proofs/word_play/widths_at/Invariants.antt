@@ -1,6 +1,6 @@
 use Rattle.std.proofs.Common.{◌≡◌, take}
 use Rattle.witness.specs.WordAssigns.{widths_by}
-use Rattle.witness.proofs.word_widths.widths_at.Given as goal
+use Rattle.witness.proofs.word_play.widths_at.Given as goal
 
 -- those of the places before
 abbrev pub invariant-loop-place : goal.invariant-loop-place

@@ -1,7 +1,7 @@
 use Rattle.std.proofs.Common.{refl, ◌∙◌}
-use Rattle.witness.specs.BitStands.{StandsFor}
+use Rattle.witness.specs.WordStands.{StandsFor}
 use Rattle.witness.proofs.FeedLemmas.{fed_nothing, fed_more}
-use Rattle.witness.proofs.bit_judging.feed_all.Goals as goal
+use Rattle.witness.proofs.judging.feed_words.Goals as goal
 
 pub loop-count-init : goal.loop-count-init
 loop-count-init g c = record { fed = fed_nothing StandsFor _ _; counted = refl }
