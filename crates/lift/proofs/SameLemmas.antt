@@ -126,17 +126,18 @@ kept_same items c b w fs vs claims within inside same =
     rw (claims, same_violation items c 0 fs vs same, same_reached items c b.claim fs vs within inside same, same_length items c fs vs same)
     (one_verdict items (violation_from items 0 fs) (unreached_from (b.claim ∷ []) fs 0 (nodes_of is_bad items)) (length fs))
 
+-- by which initial word differs
+abbrev by_words : List Item → Words → List Frame → Option ℕ → Judgement
+by_words items w fs different = first_of different (violation_from items 0 fs) (unreached_from w.claims fs 0 (nodes_of is_bad items)) (length fs)
+
 -- where none differs the traces show the same
 pub same_verdict : (items : List Item) (c : Circuit) (b : BitWitness) (w : Words) (fs : List Frame) (vs : List Valuation) → w.claims ≡ b.claim ∷ [] → b.claim < length c.bads → b.claim < length (nodes_of is_bad items)
     → Belongs (latch_states items) 0 (first_reset_differing 0 c.latches b.initial) (first_different items (initial_words items w)) → (first_different items (initial_words items w) ≡ None → ShowSame items c fs vs)
     → IsSameVerdict items (bit_verdict c b vs) (verdict items w fs)
 same_verdict items c b w fs vs claims within inside belongs shows = by (first_reset_differing 0 c.latches b.initial) (first_different items (initial_words items w)) belongs shows
   where
-    abbrev by_words : Option ℕ → Judgement
-    by_words p = first_of p (violation_from items 0 fs) (unreached_from w.claims fs 0 (nodes_of is_bad items)) (length fs)
-
-    by : (o p : Option ℕ) → Belongs (latch_states items) 0 o p → (p ≡ None → ShowSame items c fs vs) → IsSameVerdict items (first_of o (bit_violation_from c 0 vs) (cond (bit_rises c b.claim vs) None (Some b.claim)) (length vs)) (by_words p)
-    by None p h shows = subst (λ (q : Option ℕ). IsSameVerdict items (first_of None (bit_violation_from c 0 vs) (cond (bit_rises c b.claim vs) None (Some b.claim)) (length vs)) (by_words q)) (sym h) (kept_same items c b w fs vs claims within inside (shows h))
+    by : (o p : Option ℕ) → Belongs (latch_states items) 0 o p → (p ≡ None → ShowSame items c fs vs) → IsSameVerdict items (first_of o (bit_violation_from c 0 vs) (cond (bit_rises c b.claim vs) None (Some b.claim)) (length vs)) (by_words items w fs p)
+    by None p h shows = subst (λ (q : Option ℕ). IsSameVerdict items (first_of None (bit_violation_from c 0 vs) (cond (bit_rises c b.claim vs) None (Some b.claim)) (length vs)) (by_words items w fs q)) (sym h) (kept_same items c b w fs vs claims within inside (shows h))
     by (Some l) p h shows =
         let at : l ≡ h.1 = omega (arith, h.2) in
-        (h.0, (ap (slice_get (latch_states items)) at ∙ h.3, ap by_words h.4))
+        (h.0, (ap (slice_get (latch_states items)) at ∙ h.3, ap (by_words items w fs) h.4))

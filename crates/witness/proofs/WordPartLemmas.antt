@@ -1,5 +1,5 @@
 -- A word more in the open part of a witness over a model.
-use Rattle.std.proofs.Common.{◌≡◌, ℕ, ◌<◌, ◌^◌, ◌==◌, Bool, true, false, ◌||◌, ◌&&◌, List, [], ◌∷◌, ◌++◌, Ok, All, map, length, length-append, set, refl, sym, ap, subst, ◌∙◌, arith, inl, inr}
+use Rattle.std.proofs.Common.{◌≡◌, ℕ, ◌<◌, ◌==◌, Bool, true, false, ◌||◌, ◌&&◌, List, [], ◌∷◌, ◌++◌, Ok, All, map, length, length-append, set, refl, sym, ap, subst, ◌∙◌, arith, inl, inr}
 use Rattle.std.specs.List.{list_any}
 use Rattle.std.proofs.lemmas.Bool.{cases_eq, eq-eqb, ne_eqb}
 use Rattle.std.proofs.lemmas.List.{map-append, get_or-set_same, get_or-set_other}
@@ -16,10 +16,10 @@ use Rattle.witness.specs.Judgements.{FrameWords, pairs_of}
 use Rattle.witness.specs.WordPlays.{WordPlay, GoesOn, is_between, Traced, TracedBy, Plays, MayGive, TakesInput, state_given, input_given}
 use Rattle.witness.specs.PlainLines.{BeginsAssignment}
 use Rattle.witness.proofs.AssignmentLemmas.{IsAssigned, assignment_at-assignment_line, assignment_is_line, may_stand}
-use Rattle.witness.proofs.WordAssignLemmas.{flag_of}
+use Rattle.witness.proofs.WordFieldLemmas.{flag_of}
 use Rattle.witness.proofs.ReadLemmas.{IsSmall, distinct_with}
 use Rattle.witness.proofs.FitLemmas.{shape_is_small}
-use Rattle.witness.proofs.MoveLemmas.{one_ahead, goes_items}
+use Rattle.witness.proofs.WordPlayLemmas.{one_ahead, goes_items}
 use Rattle.std.proofs.Math.Bool.{or-true, or-false, and-false}
 
 -- ---- a pair behind others

@@ -1,5 +1,5 @@
 -- The judgement of a text over a circuit ("AIGER 1.9 and Beyond", semantics; the order of the six answers is this project's).
-use Rattle.std.specs.Prelude.{◌≡◌, ℕ, suc, Bool, true, false, not, ◌||◌, List, [], ◌∷◌, Option, Some, None, codes, length, slice_index, if◌then◌else◌}
+use Rattle.std.specs.Prelude.{◌≡◌, ℕ, suc, Bool, false, not, ◌||◌, List, [], ◌∷◌, Option, Some, None, codes, length, slice_index, if◌then◌else◌}
 use Rattle.std.specs.List.{list_any, position_from}
 use Rattle.std.specs.Str.{bytes_eq}
 use Rattle.base.specs.Lines.{whole_lines}
@@ -10,7 +10,7 @@ use Rattle.aiger.specs.Literal.{Valuation, literal_value}
 use Rattle.aiger.specs.Circuit.{Circuit}
 use Rattle.aiger.specs.Trace.{IsTrace}
 use Rattle.witness.specs.declared.judgement.Judgement.{Judgement}
-use Rattle.witness.specs.Judgements.{Violation, violated_at, first_of, JudgesAs}
+use Rattle.witness.specs.Judgements.{Violation, breach_from, first_of, JudgesAs}
 use Rattle.witness.specs.BitTexts.{BitWitness}
 use Rattle.witness.specs.BitAdmits.{read_bit_text, bit_witness_of}
 
@@ -34,8 +34,7 @@ first_bit_violated c v = position_from (λ l. not (literal_value v l)) 0 c.const
 
 -- the first frame in which a constraint does not hold, and the first such constraint; frames are counted from k on
 abbrev pub bit_violation_from : Circuit → ℕ → List Valuation → Option Violation
-bit_violation_from c k [] = None
-bit_violation_from c k (v ∷ vs) = violated_at k (first_bit_violated c v) (bit_violation_from c (suc k) vs)
+bit_violation_from c k vs = breach_from (first_bit_violated c) k vs
 
 -- a bad property rises in a frame
 abbrev pub bit_rises : Circuit → ℕ → List Valuation → Bool

@@ -93,9 +93,13 @@ abbrev pub violated_at : ℕ → Option ℕ → Option Violation → Option Viol
 violated_at k None later = later
 violated_at k (Some i) later = Some (record { frame = k; constraint = i })
 
+-- by which constraint does not hold in one
+abbrev pub breach_from : {F : Type 0} → (F → Option ℕ) → ℕ → List F → Option Violation
+breach_from violated k [] = None
+breach_from violated k (f ∷ fs) = violated_at k (violated f) (breach_from violated (suc k) fs)
+
 abbrev pub violation_from : List Item → ℕ → List Frame → Option Violation
-violation_from items k [] = None
-violation_from items k (f ∷ fs) = violated_at k (first_violated items f) (violation_from items (suc k) fs)
+violation_from items k fs = breach_from (first_violated items) k fs
 
 -- a node is 1 in no frame
 abbrev pub never_rises : List Frame → ℕ → Bool

@@ -17,8 +17,7 @@ use Rattle.witness.specs.WordClaims.{AreClaims}
 use Rattle.witness.specs.KeptLines.{kept}
 use Rattle.witness.specs.WordPlays.{WordPlay, Plays, steps_of, steps_taken}
 use Rattle.witness.specs.PlainLines.{NoFrameLine, NoAssignment}
-use Rattle.witness.specs.Stands.{Judge, Judging}
-use Rattle.witness.specs.Stands.{StandsFor as JudgeStandsFor}
+use Rattle.witness.specs.Stands.{Judge, Judging, StandsFor as JudgeStandsFor}
 
 -- which line comes next, as the code has it
 abbrev pub place_of : CodePlace → Place

@@ -137,14 +137,6 @@ impl<'a> BitJudge<'a> {
         }
     }
 
-    /// Takes the rest of a line byte by byte, and its end.
-    fn take_rest(&mut self, bytes: &[u8])
-        ensures { (c : Circuit) (text : List ℕ) → StandsFor c self.old text → StandsFor c self.new ((text ++ bytes.now) ++ 10 ∷ []) }
-    {
-        self.take_all(bytes);
-        self.end_line();
-    }
-
     /// Whether a line begins that may be admitted.
     fn begins_line(&self) -> bool
         ensures open { result ≡ true → self.now.refused ≡ None }
@@ -177,7 +169,8 @@ impl<'a> BitJudge<'a> {
         ensures { (c : Circuit) (text : List ℕ) → IsLine bytes.now → StandsFor c self.old text → StandsFor c self.new (text ++ (bytes.now ++ 10 ∷ [])) }
     {
         if !self.takes_bits(bytes) {
-            self.take_rest(bytes);
+            self.take_all(bytes);
+            self.end_line();
         }
     }
 

@@ -1,5 +1,5 @@
 //! The frames of a witness of a circuit, played while its lines are read.
-ghost use Rattle.std.specs.Prelude.{◌≡◌, ℕ, ◌<◌, ◌-◌, ◌^◌, ◌||◌, min, true, Bool, List, [], ◌∷◌, ◌++◌, MatchResult, length, map, slice_index, slice_index_or};
+ghost use Rattle.std.specs.Prelude.{◌≡◌, ℕ, ◌<◌, ◌-◌, ◌^◌, min, true, Bool, List, [], ◌∷◌, ◌++◌, MatchResult, length, map, slice_index, slice_index_or};
 ghost use Rattle.aiger.specs.declared.circuit.Latch.{Latch};
 ghost use Rattle.aiger.specs.Literal.{Valuation, literal_value};
 ghost use Rattle.aiger.specs.Circuit.{Circuit};

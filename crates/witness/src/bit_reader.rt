@@ -1,8 +1,7 @@
 //! The lines of a witness of a circuit, admitted one after the other.
-ghost use Rattle.std.specs.Prelude.{◌≡◌, ℕ, ◌<◌, ◌-◌, ◌^◌, min, Bool, true, false, List, [], ◌∷◌, ◌++◌, MatchResult, None, OnErr, Ok, Err, Some, length, map, if◌then◌else◌};
+ghost use Rattle.std.specs.Prelude.{◌≡◌, ℕ, ◌<◌, ◌-◌, ◌^◌, min, true, false, List, [], ◌∷◌, ◌++◌, MatchResult, None, OnErr, Ok, Err, Some, length, map, if◌then◌else◌};
 ghost use Rattle.aiger.specs.Circuit.{Circuit};
-ghost use Rattle.runs.specs.CircuitRun.{circuit_held};
-ghost use Rattle.witness.specs.BitAdmits.{BitRead, AtLater, bits_at, bit_admit};
+ghost use Rattle.witness.specs.BitAdmits.{BitRead, AtLater, bits_at};
 ghost use Rattle.witness.specs.BitScans.{Scans, is_one_bit};
 ghost use Rattle.witness.specs.BitPlays.{play_start, Plays};
 ghost use Rattle.witness.specs.BitStands.{Reads, Admits, GivesLine, is_frame, is_header, place_of};

@@ -1,7 +1,7 @@
 //! What a run of a model says in one frame, what was found in frames, and the line behind the last whole one.
 ghost use Rattle.std.specs.Prelude.{◌≡◌, ℕ, ◌<◌, ◌||◌, Bool, List, IfSome, length, false, true, slice_get, nat_le};
 ghost use Rattle.std.specs.Option.{option_or};
-ghost use Rattle.btor2.specs.Items.{is_state, is_bad, is_constraint, init_word};
+ghost use Rattle.btor2.specs.Items.{is_state, is_bad, init_word};
 ghost use Rattle.btor2.specs.Check.{IsWellFormed};
 ghost use Rattle.btor2.specs.Lists.{places, of_kind};
 ghost use Rattle.btor2.specs.Trace.{Frame};

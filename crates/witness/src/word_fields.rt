@@ -4,9 +4,8 @@ ghost use Rattle.std.specs.List.{position};
 ghost use Rattle.base.specs.Lines.{HasNone};
 ghost use Rattle.base.specs.Decimals.{number_of};
 ghost use Rattle.witness.specs.Admits.{cut_at_space, value_of};
-ghost use Rattle.witness.specs.WordValues.{Gives, word_behind, word_with};
+ghost use Rattle.witness.specs.WordValues.{Gives, word_behind, word_with, assigned_number, assigned};
 ghost use Rattle.witness.specs.Fits.{PairFits};
-ghost use Rattle.witness.specs.WordAssigns.{assigned_number, assigned};
 
 use crate::given::Given;
 use crate::why::Why;

@@ -1,5 +1,5 @@
 //! The frames of a witness over a model, played while its lines are read.
-ghost use Rattle.std.specs.Prelude.{◌≡◌, ℕ, ◌<◌, ◌+◌, ◌^◌, ◌==◌, true, false, Option, None, List, [], ◌∷◌, ◌++◌, if◌then◌else◌, IfErr, IfNone, IfOk, IfSome, MatchOption, OnErr, is_some, length, All, Some};
+ghost use Rattle.std.specs.Prelude.{◌≡◌, ℕ, ◌<◌, ◌+◌, ◌^◌, ◌==◌, true, false, Option, None, List, [], ◌∷◌, ◌++◌, if◌then◌else◌, IfErr, IfNone, IfOk, IfSome, OnErr, is_some, length, All, Some};
 ghost use Rattle.btor2.specs.Items.{is_input, is_state, is_bad};
 ghost use Rattle.btor2.specs.Check.{IsWellFormed};
 ghost use Rattle.btor2.specs.Lists.{places, width_at, first_init_without_next};
@@ -12,7 +12,7 @@ ghost use Rattle.witness.specs.KeptLines.{IsSmall};
 ghost use Rattle.witness.specs.Fits.{NoneIsSet, PairFits};
 ghost use Rattle.witness.specs.PlainLines.{NoAssignment};
 ghost use Rattle.witness.specs.WordPlays.{IsStart, GoesOn, Plays, MayGive, GivesState, GivesInput, TakesInput, state_given, input_given, nothing_given, word_at, steps_taken};
-ghost use Rattle.witness.specs.WordAssigns.{widths_by};
+ghost use Rattle.witness.specs.WordValues.{widths_by};
 
 use crate::given::Given;
 use crate::judgement::Judgement;

@@ -1,5 +1,5 @@
 //! The lines of a witness over a model, admitted one after the other.
-ghost use Rattle.std.specs.Prelude.{◌≡◌, ℕ, ◌&&◌, ◌<◌, ◌+◌, ◌-◌, ◌^◌, true, Bool, List, [], ◌∷◌, ◌++◌, IfNone, IfOk, IfSome, OnErr, length, slice_index};
+ghost use Rattle.std.specs.Prelude.{◌≡◌, ℕ, ◌&&◌, ◌<◌, ◌+◌, ◌-◌, ◌^◌, true, Bool, List, [], ◌++◌, IfNone, IfOk, IfSome, OnErr, length, slice_index};
 ghost use Rattle.btor2.specs.declared.item.Item.{Item};
 ghost use Rattle.btor2.specs.Items.{is_state, is_bad};
 ghost use Rattle.btor2.specs.Lists.{places, is_free_at, first_init_without_next};
@@ -13,7 +13,6 @@ ghost use Rattle.witness.specs.Fits.{NoneIsSet, RisesAmong, AreClaimed};
 ghost use Rattle.witness.specs.declared.word_reader.Place.TheVariants as place;
 ghost use Rattle.witness.specs.KeptLines.{AreAlike};
 ghost use Rattle.witness.specs.WordStands.{Reads, GivesLine, TakesLine, NoPlainLine, is_alone, place_of};
-ghost use Rattle.witness.specs.PlainLines.{NoFrameLine};
 
 use crate::plain_line::behind_frame_line;
 use crate::verdicts::first_unreached;
@@ -258,23 +257,6 @@ impl<'a> WordReader<'a> {
         Err(Why::FrameOrder)
     }
 
-    /// Takes the line that opens the next frame, where a text begins with it, and answers the text behind it.
-    #[inline(always)]
-    fn take_opening<'t>(&mut self, text: &'t [u8]) -> Option<&'t [u8]>
-        ensures line { self.old.place ≡ place.Frame → IfSome result (λ rest. TakesLine self.old self.new text.now rest.now) }
-        ensures none { IfNone result (NoFrameLine (self.old.play.frames + 1) text.now) }
-        ensures kept { IfNone result (self.new ≡ self.old) }
-    {
-        let next = self.play.frames().saturating_add(1);
-        match behind_frame_line(text, next) {
-            Some(rest) => {
-                self.play.close();
-                Some(rest)
-            }
-            None => None,
-        }
-    }
-
     /// Takes the line of an input's word or that which opens the next frame, where a text begins with it.
     #[inline(always)]
     fn take_in_frame<'t>(&mut self, text: &'t [u8]) -> Option<&'t [u8]>
@@ -283,9 +265,16 @@ impl<'a> WordReader<'a> {
         ensures kept { IfNone result (self.new ≡ self.old) }
     {
         let _model = self.play.model();
-        match self.play.take_input(text) {
-            Some(rest) => Some(rest),
-            None => self.take_opening(text),
+        if let Some(rest) = self.play.take_input(text) {
+            return Some(rest);
+        }
+        let next = self.play.frames().saturating_add(1);
+        match behind_frame_line(text, next) {
+            Some(rest) => {
+                self.play.close();
+                Some(rest)
+            }
+            None => None,
         }
     }
 

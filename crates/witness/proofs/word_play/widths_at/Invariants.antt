@@ -1,5 +1,5 @@
 use Rattle.std.proofs.Common.{◌≡◌, take}
-use Rattle.witness.specs.WordAssigns.{widths_by}
+use Rattle.witness.specs.WordValues.{widths_by}
 use Rattle.witness.proofs.word_play.widths_at.Given as goal
 
 -- those of the places before

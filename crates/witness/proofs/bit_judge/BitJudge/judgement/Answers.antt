@@ -7,7 +7,7 @@ use Rattle.witness.specs.BitPlays.{BitPlay}
 use Rattle.witness.specs.Judgements.{first_of}
 use Rattle.witness.specs.BitStands.{BitJudge, bit_judging, place_of}
 use Rattle.witness.proofs.StandsLemmas.{refused_line, refused_last, whole_text}
-use Rattle.witness.proofs.BitFinishLemmas.{Says, ended_at, whole_witness}
+use Rattle.witness.proofs.BitJudgeLemmas.{Says, ended_at, whole_witness}
 use Rattle.witness.proofs.bit_judge.BitJudge.judgement.Goals as goal
 use Rattle.witness.specs.BitScans.{Scans}
 

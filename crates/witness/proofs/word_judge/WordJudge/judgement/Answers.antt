@@ -3,13 +3,12 @@ use Rattle.base.specs.Lines.{unfinished}
 use Rattle.witness.specs.Readings.{is_nothing}
 use Rattle.witness.specs.Admits.{is_at_end}
 use Rattle.witness.specs.declared.word_reader.Place.{Place as CodePlace}
-use Rattle.witness.specs.Judgements.{Judges}
+use Rattle.witness.specs.Judgements.{Judges, first_of}
 use Rattle.witness.specs.WordPlays.{WordPlay}
-use Rattle.witness.specs.Judgements.{first_of}
 use Rattle.witness.specs.WordStands.{WordJudge, word_judging, place_of}
 use Rattle.witness.proofs.KeptLineLemmas.{nothing_kept}
 use Rattle.witness.proofs.StandsLemmas.{refused_line, refused_last, whole_text}
-use Rattle.witness.proofs.WordFinishLemmas.{Says, ended_at, whole_witness}
+use Rattle.witness.proofs.WordJudgeLemmas.{Says, ended_at, whole_witness}
 use Rattle.witness.proofs.word_judge.WordJudge.judgement.Goals as goal
 
 pub returns-in-Some : goal.returns-in-Some

@@ -1,7 +1,6 @@
 use Rattle.std.proofs.Common.{◌≡◌, ℕ, length, sym, ap, ◌∙◌, arith}
 use Rattle.witness.specs.Admits.{opens_frame}
-use Rattle.witness.specs.WordStands.{WordReader}
-use Rattle.witness.proofs.WordReaderLemmas.{frames_are, MayAssign, states_done, states_refused, state_refused, state_more}
+use Rattle.witness.proofs.WordReaderLemmas.{frames_are, states_done, states_refused, state_refused, state_more}
 use Rattle.witness.proofs.word_reader.WordReader.admit_states.Goals as goal
 
 pub returns-then-is_numbered-clause-line : goal.returns-then-is_numbered-clause-line
