@@ -15,7 +15,7 @@ use Rattle.aigertext.specs.Whys.{why_number as circuit_why_number}
 use Rattle.witness.specs.Answers.{judge_number}
 use Rattle.witness.specs.BitJudgements.{BitJudges}
 use Rattle.witness.specs.Judgements.{Judges}
-use Rattle.witness.specs.Numbers.{why_number}
+use Rattle.witness.specs.Printed.{why_number}
 use Rattle.witness.specs.declared.fault.JudgeFault.TheVariants as judge
 use Rattle.witness.specs.declared.judgement.Judgement.{Judgement}
 use Rattle.witness.specs.declared.judgement.Judgement.TheVariants as judgement

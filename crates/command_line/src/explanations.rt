@@ -35,8 +35,7 @@ ghost use Rattle.runs.specs.declared.fault.NewFault.{NewFault};
 ghost use Rattle.wave.specs.Answers.{fault_name as wave_name, fault_number as wave_number};
 ghost use Rattle.wave.specs.declared.fault.WaveFault.{WaveFault};
 ghost use Rattle.witness.specs.Answers.{judge_name, judge_number};
-ghost use Rattle.witness.specs.Numbers.{why_number as witness_number};
-ghost use Rattle.witness.specs.Printed.{why_name as witness_name};
+ghost use Rattle.witness.specs.Printed.{why_number as witness_number, why_name as witness_name};
 ghost use Rattle.witness.specs.declared.fault.JudgeFault.{JudgeFault};
 ghost use Rattle.witness.specs.declared.why.Why.{Why as WitnessWhy};
 

@@ -15,9 +15,9 @@ use Rattle.blast.specs.Leaves.{by_body, of_kind, observed}
 use Rattle.blast.specs.Lowering.{ShowsSame, ShowSame}
 use Rattle.witness.specs.declared.judgement.Judgement.{Judgement}
 use Rattle.witness.specs.declared.judgement.Judgement.TheVariants as judgement
-use Rattle.witness.specs.Judgements.{Words, nodes_of, first_different, first_violated, Violation, violated_at, violation_from, never_rises, unreached_from, when_reached, when_kept, when_begun, verdict, initial_words}
+use Rattle.witness.specs.Judgements.{Words, nodes_of, first_different, first_violated, Violation, violated_at, violation_from, never_rises, unreached_from, first_of, verdict, initial_words}
 use Rattle.witness.specs.BitTexts.{BitWitness}
-use Rattle.witness.specs.BitJudgements.{first_reset_differing, first_bit_violated, bit_violation_from, bit_rises, when_risen, when_unbroken, when_reset, bit_verdict}
+use Rattle.witness.specs.BitJudgements.{first_reset_differing, first_bit_violated, bit_violation_from, bit_rises, bit_verdict}
 use Rattle.lift.specs.Verdicts.{latch_states, IsSameVerdict}
 use Rattle.lift.proofs.AssignedLemmas.{greater_is_other}
 use Rattle.lift.proofs.DifferLemmas.{Belongs}
@@ -102,33 +102,33 @@ claimed claim fs i (suc m) (a ∷ more) at h =
     let other : nat_eq claim i ≡ false = greater_is_other i claim (omega (arith, at)) in
     ap (λ (b : Bool). if (b || false) && never_rises fs a then Some i else unreached_from (claim ∷ []) fs (suc i) more) other ∙ claimed claim fs (suc i) m more (omega (arith, at)) (omega (arith, h))
 
-risen_or_not : (claim n : ℕ) (b : Bool) → when_risen claim n b ≡ when_reached n (cond (not b) (Some claim) None)
-risen_or_not claim n true = refl
-risen_or_not claim n false = refl
-
 same_reached : (items : List Item) (c : Circuit) (claim : ℕ) (fs : List Frame) (vs : List Valuation) → claim < length c.bads → claim < length (nodes_of is_bad items) → ShowSame items c fs vs
-    → when_risen claim (length vs) (bit_rises c claim vs) ≡ when_reached (length fs) (unreached_from (claim ∷ []) fs 0 (nodes_of is_bad items))
+    → cond (bit_rises c claim vs) None (Some claim) ≡ unreached_from (claim ∷ []) fs 0 (nodes_of is_bad items)
 same_reached items c claim fs vs within inside same =
     let at : claim ≡ 0 + claim = omega arith in
-    risen_or_not claim (length vs) (bit_rises c claim vs)
-    ∙ ap₂ when_reached (same_length items c fs vs same) (ap (λ (b : Bool). cond b (Some claim) None) (same_rises items c claim fs vs within inside same) ∙ sym (claimed claim fs 0 claim (nodes_of is_bad items) at inside))
+    risen_or_not (bit_rises c claim vs) ∙ (ap (λ (b : Bool). cond b (Some claim) None) (same_rises items c claim fs vs within inside same) ∙ sym (claimed claim fs 0 claim (nodes_of is_bad items) at inside))
+  where
+    risen_or_not : (b : Bool) → cond b None (Some claim) ≡ cond (not b) (Some claim) None
+    risen_or_not true = refl
+    risen_or_not false = refl
 
 -- ---- the verdict
 
-reached_same : (items : List Item) (j k : Judgement) (n : ℕ) (o : Option ℕ) → j ≡ when_reached n o → k ≡ when_reached n o → IsSameVerdict items j k
-reached_same items j k n None e d = subst (λ (x : Judgement). IsSameVerdict items x k) (sym e) d
-reached_same items j k n (Some i) e d = subst (λ (x : Judgement). IsSameVerdict items x k) (sym e) d
+-- one verdict that no initial value differs
+one_verdict : (items : List Item) (breach : Option Violation) (unreached : Option ℕ) (frames : ℕ) → IsSameVerdict items (first_of None breach unreached frames) (first_of None breach unreached frames)
+one_verdict items (Some v) unreached frames = refl
+one_verdict items None (Some i) frames = refl
+one_verdict items None None frames = refl
 
 kept_same : (items : List Item) (c : Circuit) (b : BitWitness) (w : Words) (fs : List Frame) (vs : List Valuation) → w.claims ≡ b.claim ∷ [] → b.claim < length c.bads → b.claim < length (nodes_of is_bad items) → ShowSame items c fs vs
-    → IsSameVerdict items (when_unbroken c b vs (bit_violation_from c 0 vs)) (when_kept items w fs (violation_from items 0 fs))
-kept_same items c b w fs vs claims within inside same = by (bit_violation_from c 0 vs) (violation_from items 0 fs) (same_violation items c 0 fs vs same)
-  where
-    by : (o p : Option Violation) → o ≡ p → IsSameVerdict items (when_unbroken c b vs o) (when_kept items w fs p)
-    by None p e =
-        subst (λ (q : Option Violation). IsSameVerdict items (when_risen b.claim (length vs) (bit_rises c b.claim vs)) (when_kept items w fs q)) e
-        (reached_same items (when_risen b.claim (length vs) (bit_rises c b.claim vs)) (when_reached (length fs) (unreached_from w.claims fs 0 (nodes_of is_bad items))) (length fs) (unreached_from (b.claim ∷ []) fs 0 (nodes_of is_bad items))
-        (same_reached items c b.claim fs vs within inside same) (ap (λ (l : List ℕ). when_reached (length fs) (unreached_from l fs 0 (nodes_of is_bad items))) claims))
-    by (Some v) p e = subst (λ (q : Option Violation). IsSameVerdict items (judgement.Violated v.frame v.constraint) (when_kept items w fs q)) e refl
+    → IsSameVerdict items (first_of None (bit_violation_from c 0 vs) (cond (bit_rises c b.claim vs) None (Some b.claim)) (length vs)) (first_of None (violation_from items 0 fs) (unreached_from w.claims fs 0 (nodes_of is_bad items)) (length fs))
+kept_same items c b w fs vs claims within inside same =
+    rw (claims, same_violation items c 0 fs vs same, same_reached items c b.claim fs vs within inside same, same_length items c fs vs same)
+    (one_verdict items (violation_from items 0 fs) (unreached_from (b.claim ∷ []) fs 0 (nodes_of is_bad items)) (length fs))
+
+-- by which initial word differs
+abbrev by_words : List Item → Words → List Frame → Option ℕ → Judgement
+by_words items w fs different = first_of different (violation_from items 0 fs) (unreached_from w.claims fs 0 (nodes_of is_bad items)) (length fs)
 
 -- where none differs the traces show the same
 pub same_verdict : (items : List Item) (c : Circuit) (b : BitWitness) (w : Words) (fs : List Frame) (vs : List Valuation) → w.claims ≡ b.claim ∷ [] → b.claim < length c.bads → b.claim < length (nodes_of is_bad items)
@@ -136,8 +136,8 @@ pub same_verdict : (items : List Item) (c : Circuit) (b : BitWitness) (w : Words
     → IsSameVerdict items (bit_verdict c b vs) (verdict items w fs)
 same_verdict items c b w fs vs claims within inside belongs shows = by (first_reset_differing 0 c.latches b.initial) (first_different items (initial_words items w)) belongs shows
   where
-    by : (o p : Option ℕ) → Belongs (latch_states items) 0 o p → (p ≡ None → ShowSame items c fs vs) → IsSameVerdict items (when_reset c b vs o) (when_begun items w fs p)
-    by None p h shows = subst (λ (q : Option ℕ). IsSameVerdict items (when_unbroken c b vs (bit_violation_from c 0 vs)) (when_begun items w fs q)) (sym h) (kept_same items c b w fs vs claims within inside (shows h))
+    by : (o p : Option ℕ) → Belongs (latch_states items) 0 o p → (p ≡ None → ShowSame items c fs vs) → IsSameVerdict items (first_of o (bit_violation_from c 0 vs) (cond (bit_rises c b.claim vs) None (Some b.claim)) (length vs)) (by_words items w fs p)
+    by None p h shows = subst (λ (q : Option ℕ). IsSameVerdict items (first_of None (bit_violation_from c 0 vs) (cond (bit_rises c b.claim vs) None (Some b.claim)) (length vs)) (by_words items w fs q)) (sym h) (kept_same items c b w fs vs claims within inside (shows h))
     by (Some l) p h shows =
         let at : l ≡ h.1 = omega (arith, h.2) in
-        (h.0, (ap (slice_get (latch_states items)) at ∙ h.3, ap (when_begun items w fs) h.4))
+        (h.0, (ap (slice_get (latch_states items)) at ∙ h.3, ap (by_words items w fs) h.4))

@@ -1,5 +1,5 @@
 -- What is accepted over an engine form is found again in what it is restored to.
-use Rattle.std.proofs.Common.{◌≡◌, ◌≢◌, ℕ, zero, suc, ◌+◌, ◌<◌, ◌≤◌, Bool, true, false, List, [], ◌∷◌, ◌++◌, length, map, take, replicate, get_or, All, Option, None, Some, Result, Ok, Err, refl, sym, ap, subst, ◌∙◌, append_assoc, inl, inr, arith}
+use Rattle.std.proofs.Common.{◌≡◌, ◌≢◌, ℕ, zero, suc, ◌+◌, ◌<◌, ◌≤◌, Bool, true, false, cond, List, [], ◌∷◌, ◌++◌, length, map, take, replicate, get_or, All, Option, None, Some, Result, Ok, Err, refl, sym, ap, subst, ◌∙◌, append_assoc, inl, inr, arith}
 use Rattle.std.specs.List.{list_any, position_from}
 use Rattle.std.proofs.lemmas.Bool.{cases_Bool}
 use Rattle.std.proofs.lemmas.Bool.Decides.{nat_tests}
@@ -15,12 +15,12 @@ use Rattle.engine.specs.EngineForm.{begins, input_count, chosen, has_chosen, Sho
 use Rattle.witness.specs.declared.judgement.Judgement.{Judgement}
 use Rattle.witness.specs.declared.judgement.Judgement.TheVariants as judgement
 use Rattle.witness.specs.declared.why.Why.{Why}
-use Rattle.witness.specs.Judgements.{Violation, JudgesAs}
+use Rattle.witness.specs.Judgements.{Violation, first_of, JudgesAs}
 use Rattle.witness.specs.Texts.{most_lines}
 use Rattle.witness.specs.Readings.{Reading, Fault, refused_for, read_or_fault, last_refusal, is_nothing, reading}
 use Rattle.witness.specs.BitTexts.{BitWitness, bit_line, bit_witness_lines, BitSays}
 use Rattle.witness.specs.BitAdmits.{BitRead, bit_reader, is_done, read_bit_text, bit_witness_of}
-use Rattle.witness.specs.BitJudgements.{first_reset_differing, bit_violation_from, bit_rises, when_risen, when_unbroken, when_reset, bit_verdict, makes_no_bit_claim, JudgesBits, BitJudges}
+use Rattle.witness.specs.BitJudgements.{first_reset_differing, bit_violation_from, bit_rises, bit_verdict, makes_no_bit_claim, JudgesBits, BitJudges}
 use Rattle.restore.specs.Counterexample.{HasProperty, place_in, first_bad}
 use Rattle.restore.specs.Restored.{opening, written_frames, restored_witness}
 use Rattle.restore.specs.FormWitness.{property_of, frame_lines, last_line, read_restored, form_restored_text, told_of, FormJudges, IsFoundAgain}
@@ -69,17 +69,11 @@ some_position p k (v ∷ vs) h = elim (cases_Bool (p v)) [
   | inr other ↦ let rest = some_position p (k + 1) vs (rw other at h) in (rest.0, rw other rest.1)
 ]
 
-risen_of : (i frames m : ℕ) (b : Bool) → judgement.Accepted m ≡ when_risen i frames b → b ≡ true
-risen_of i frames m true h = refl
-risen_of i frames m false h = absurd cc
-
-unbroken_of : (d : Circuit) (w : BitWitness) (vs : List Valuation) (m : ℕ) (o : Option Violation) → judgement.Accepted m ≡ when_unbroken d w vs o → bit_rises d w.claim vs ≡ true
-unbroken_of d w vs m None h = risen_of w.claim (length vs) m (bit_rises d w.claim vs) h
-unbroken_of d w vs m (Some v) h = absurd cc
-
-reset_of : (d : Circuit) (w : BitWitness) (vs : List Valuation) (m : ℕ) (o : Option ℕ) → judgement.Accepted m ≡ when_reset d w vs o → (o ≡ None) × (bit_rises d w.claim vs ≡ true)
-reset_of d w vs m None h = (refl, unbroken_of d w vs m (bit_violation_from d 0 vs) h)
-reset_of d w vs m (Some k) h = absurd cc
+reset_of : (o : Option ℕ) (breach : Option Violation) (risen : Bool) (claim frames m : ℕ) → judgement.Accepted m ≡ first_of o breach (cond risen None (Some claim)) frames → (o ≡ None) × (risen ≡ true)
+reset_of None None true claim frames m h = (refl, refl)
+reset_of None None false claim frames m h = absurd cc
+reset_of None (Some v) risen claim frames m h = absurd cc
+reset_of (Some k) breach risen claim frames m h = absurd cc
 
 -- ---- properties of the form
 
@@ -145,7 +139,7 @@ found_again c choice d text m reads said traces form accepted =
     let some : r.frames ≢ [] = says.valid.some_frame in
     let trace = traces d w.initial w.frames form.circuit says.valid.initial says.valid.frames in
     let ws : List Valuation = trace.0 in
-    let verdict = reset_of d w ws m (first_reset_differing 0 d.latches w.initial) (read.1.1 ws trace.1) in
+    let verdict = reset_of (first_reset_differing 0 d.latches w.initial) (bit_violation_from d 0 ws) (bit_rises d w.claim ws) w.claim (length ws) m (read.1.1 ws trace.1) in
     let zeros : w.initial ≡ replicate (length d.latches) false = all_zero 0 _ d.latches w.initial form.resets says.valid.initial verdict.0 in
     let begun : IsTrace d (replicate (length d.latches) false) w.frames ws = subst (λ (s : List Bool). IsTrace d s w.frames ws) zeros trace.1 in
     let wide : All (λ bits. length bits ≡ input_count c) w.frames = subst (λ (n : ℕ). All (λ bits. length bits ≡ n) w.frames) form.inputs says.valid.frames in
@@ -172,19 +166,13 @@ found_again c choice d text m reads said traces form accepted =
 -- ---- what is told
 
 verdict_told : (d : Circuit) (w : BitWitness) (vs : List Valuation) (restored : Judgement) → told_of (bit_verdict d w vs) restored ≡ restored
-verdict_told d w vs restored = by_reset (first_reset_differing 0 d.latches w.initial)
+verdict_told d w vs restored = by (first_reset_differing 0 d.latches w.initial) (bit_violation_from d 0 vs) (bit_rises d w.claim vs)
   where
-    by_risen : (b : Bool) → told_of (when_risen w.claim (length vs) b) restored ≡ restored
-    by_risen true = refl
-    by_risen false = refl
-
-    by_violation : (o : Option Violation) → told_of (when_unbroken d w vs o) restored ≡ restored
-    by_violation None = by_risen (bit_rises d w.claim vs)
-    by_violation (Some v) = refl
-
-    by_reset : (o : Option ℕ) → told_of (when_reset d w vs o) restored ≡ restored
-    by_reset None = by_violation (bit_violation_from d 0 vs)
-    by_reset (Some k) = refl
+    by : (o : Option ℕ) (breach : Option Violation) (risen : Bool) → told_of (first_of o breach (cond risen None (Some w.claim)) (length vs)) restored ≡ restored
+    by (Some k) breach risen = refl
+    by None (Some v) risen = refl
+    by None None true = refl
+    by None None false = refl
 
 judged_by : (P Q : BitRead → Judgement → Type 0) (none : Bool) (read : Result BitRead Fault) (over restored : Judgement) → ((r : BitRead) → read ≡ Ok r → P r over → told_of over restored ≡ restored) → ((r : BitRead) → Q r restored) → JudgesAs P none read over → JudgesAs Q none read (told_of over restored)
 judged_by P Q true read over restored kind is h = ap (λ (j : Judgement). told_of j restored) h

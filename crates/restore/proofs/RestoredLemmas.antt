@@ -16,7 +16,7 @@ use Rattle.engine.specs.EngineForm.{taken_bits, first_bit, first_bits, begins, c
 use Rattle.witness.specs.declared.judgement.Judgement.TheVariants as judgement
 use Rattle.witness.specs.Judgements.{violated_at}
 use Rattle.witness.specs.BitTexts.{IsBitWitness}
-use Rattle.witness.specs.BitJudgements.{differs_from_reset, first_reset_differing, bit_violation_from, bit_rises, when_risen, when_unbroken, when_reset, JudgesBits}
+use Rattle.witness.specs.BitJudgements.{differs_from_reset, first_reset_differing, bit_violation_from, bit_rises, JudgesBits}
 use Rattle.restore.specs.Counterexample.{restored, ends_bad}
 
 -- ---- initial bits
@@ -100,11 +100,7 @@ pub accepted : (c : Circuit) (k : ℕ) (d : Circuit) (given : List (List Bool)) 
 accepted c k d given ws form t bad vs own =
     let shows = shows_last c k d true true 0 vs ws (is_there k c.bads form.has_bad) (form.frames given vs ws own t) bad in
     let many : length vs ≡ length given = trace_length c (begins c given) (map (take c.inputs) given) vs own ∙ length-map given (take c.inputs) in
-    sym
-    (ap (when_reset c (restored c k given) vs) (begins_as_reset c given)
-    ∙ ap (when_unbroken c (restored c k given) vs) shows.unbroken
-    ∙ ap (when_risen k (length vs)) shows.rises
-    ∙ ap judgement.Accepted many)
+    sym (rw (begins_as_reset c given, shows.unbroken, shows.rises) (ap judgement.Accepted many))
 
 -- ---- a witness
 

@@ -14,7 +14,7 @@ use Rattle.witness.specs.declared.judgement.Judgement.TheVariants as judgement
 use Rattle.witness.specs.Texts.{claim, most_lines}
 use Rattle.witness.specs.BitTexts.{BitWitness, bit_line, bit_witness_lines, BitSays}
 use Rattle.witness.specs.BitAdmits.{BitRead, read_bit_text, bit_witness_of}
-use Rattle.witness.specs.BitJudgements.{when_risen, when_unbroken, when_reset, makes_no_bit_claim, JudgesBits, BitJudges}
+use Rattle.witness.specs.BitJudgements.{makes_no_bit_claim, JudgesBits, BitJudges}
 use Rattle.restore.specs.Counterexample.{HasProperty, place_in, first_bad}
 use Rattle.restore.specs.Reading.{Found, whole, read_text}
 use Rattle.restore.specs.Frames.{trace_from}
@@ -244,11 +244,7 @@ accepted_of c choice k d text given ws n reads form has below some wide_all few 
     let last = trace_taken d (replicate (length d.latches) false) given ws (suc n) trace in
     let shown = shows c choice k d has below true true 0 n 0 us (take (suc n) ws) (form.frames cut us (take (suc n) ws) t' last) at_end (long ∙ ap suc (sym zero_less)) in
     let as_many : length us ≡ suc n = frames.trace_length c (begins c cut) (own_inputs c cut) us t' ∙ length-map cut (take c.inputs) ∙ sym (frames.trace_length d (replicate (length d.latches) false) cut (take (suc n) ws) last) ∙ long in
-    sym
-    (ap (when_reset c (restored_witness c k given) us) (frames.begins_as_reset c given)
-    ∙ ap (when_unbroken c (restored_witness c k given) us) shown.unbroken
-    ∙ ap (when_risen k (length us)) shown.rises
-    ∙ ap judgement.Accepted as_many) in
+    sym (rw (frames.begins_as_reset c given, shown.unbroken, shown.rises) (ap judgement.Accepted as_many)) in
     let r = reads c text (restored_witness c k given) form.original (says_of c k text given below some wide_all few spelled) in
     let one : suc n ≡ n + 1 = omega arith in
     rw (claims c k text given spelled, r.1.0) (subst (λ (w : BitWitness). JudgesBits c w (judgement.Accepted (n + 1))) (sym r.1.1) (subst (λ (m : ℕ). JudgesBits c (restored_witness c k given) (judgement.Accepted m)) one judged))

@@ -11,9 +11,8 @@ use Rattle.btor2.specs.Check.{IsWellFormed}
 use Rattle.btor2.specs.Trace.{Frame}
 use Rattle.witness.specs.Texts.{Parts, shape_of}
 use Rattle.witness.specs.Admits.{Read}
-use Rattle.witness.specs.ClosedWords.{IsClosedTrace, said_in, ClosesFrame}
+use Rattle.witness.specs.ClosedWords.{IsClosedTrace, said_in, ClosesFrame, closed_word_frames}
 use Rattle.witness.specs.Readings.{reading}
-use Rattle.witness.specs.WordReadings.{closed_word_frames}
 use Rattle.witness.specs.WordStands.{WordJudge, StandsFor}
 use Rattle.witness.proofs.ClosedLemmas.{line_closes_one, part_closes_none, front_closes}
 use Rattle.wave.specs.declared.scope.Shown.{Shown}

@@ -11,8 +11,8 @@ use Rattle.base.proofs.DecimalLemmas.{digit_range, chosen, number_is_decimal, nu
 use Rattle.btor2.specs.Symbols.{is_printed, is_symbol}
 use Rattle.witness.specs.declared.why.Why.{Why}
 use Rattle.witness.specs.declared.why.Why.TheVariants as why
-use Rattle.witness.specs.Texts.{Shape, is_free_index, Assignment, binary, symbol_part, assignment_line, claim, claims_line, IsAssignment}
-use Rattle.witness.specs.Admits.{cut_at_space, value_of, with_symbol, with_value, with_index, assignment_at, names_free, free_assignment_at, begins_part}
+use Rattle.witness.specs.Texts.{Shape, Assignment, binary, symbol_part, assignment_line, claim, claims_line, IsAssignment}
+use Rattle.witness.specs.Admits.{cut_at_space, value_of, with_symbol, with_value, with_index, assignment_at, may_name, state_assignment_at, begins_part}
 use Rattle.witness.proofs.PieceLemmas.{none_of, digits_without, decimal_digits, decimal_without, binary_digits, cut_at_space-parts, parts_of_cut, value_of-binary, IsBinary, value_is_binary}
 use Rattle.witness.proofs.ClaimLemmas.{AreBelow}
 
@@ -65,12 +65,18 @@ index_of_line widths a small is =
     let within = is.index in
     ap (λ (c : List ℕ × Option (List ℕ)). number_of c.0) (cut_of_line widths a small is) ∙ number_of-decimal a.index (omega arith)
 
--- the same of a free state
-pub free_assignment_at-assignment_line : (shape : Shape) (before : List Assignment) (a : Assignment) → length shape.states < 2 ^ 64 → IsAssignment shape.states a → is_free_index shape a.index ≡ true
-    → stands_in a.index before ≡ false → free_assignment_at shape before (assignment_line shape.states a) ≡ Ok (before ++ a ∷ [])
-unfolding free_assignment_at
-free_assignment_at-assignment_line shape before a small is free new =
-    rw (index_of_line shape.states a small is, free) (assignment_at-assignment_line shape.states before a small is new)
+-- the same in a part of states
+pub state_assignment_at-assignment_line : {A : Type 0} (shape : Shape) (closed : List A) (before : List Assignment) (a : Assignment) → length shape.states < 2 ^ 64 → IsAssignment shape.states a → may_name shape closed (Some a.index) ≡ true
+    → stands_in a.index before ≡ false → state_assignment_at shape closed before (assignment_line shape.states a) ≡ Ok (before ++ a ∷ [])
+unfolding state_assignment_at
+state_assignment_at-assignment_line shape closed before a small is may new =
+    rw (index_of_line shape.states a small is, may) (assignment_at-assignment_line shape.states before a small is new)
+
+-- where its line may stand there, its index may
+pub may_stand : {A : Type 0} (shape : Shape) (closed : List A) (line : List ℕ) (a : Assignment) → length shape.states < 2 ^ 64 → line ≡ assignment_line shape.states a → IsAssignment shape.states a
+    → may_name shape closed (number_of (cut_at_space line).0) ≡ true → may_name shape closed (Some a.index) ≡ true
+may_stand shape closed line a small spelled is may =
+    ap (may_name shape closed) (sym (ap (λ (bytes : List ℕ). number_of (cut_at_space bytes).0) spelled ∙ index_of_line shape.states a small is)) ∙ may
 
 -- ---- a line that is read as an assignment
 
@@ -137,21 +143,13 @@ assignment_is_line widths before line list small h =
       all = symbol.1.2;
     }
 
--- the same of a free state
-pub record IsFreeAssigned (shape : Shape) (before : List Assignment) (line : List ℕ) (list : List Assignment) : Type 0 where
-  pub assigned : IsAssigned shape.states before line list
-  pub free : is_free_index shape assigned.assignment.index ≡ true
-
-pub free_assignment_is_line : (shape : Shape) (before : List Assignment) (line : List ℕ) (list : List Assignment) → length shape.states < 2 ^ 64 → free_assignment_at shape before line ≡ Ok list → IsFreeAssigned shape before line list
-unfolding free_assignment_at
-free_assignment_is_line shape before line list small h =
-    let index : Option ℕ = number_of (cut_at_space line).0 in
-    elim (chosen (names_free shape index) (assignment_at shape.states before line) (Err why.BadIndex) (Ok list) h) [
-      | inl e ↦
-          let assigned = assignment_is_line shape.states before line list small e.1 in
-          let own : index ≡ Some assigned.assignment.index =
-          ap (λ (bytes : List ℕ). number_of (cut_at_space bytes).0) assigned.spelled ∙ index_of_line shape.states assigned.assignment small assigned.valid in
-          record { assigned = assigned; free = ap (names_free shape) (sym own) ∙ e.0 }
+-- the same in a part of states
+pub state_assignment_is_line : {A : Type 0} (shape : Shape) (closed : List A) (before : List Assignment) (line : List ℕ) (list : List Assignment) → length shape.states < 2 ^ 64 → state_assignment_at shape closed before line ≡ Ok list
+    → (is : IsAssigned shape.states before line list) × (may_name shape closed (Some is.assignment.index) ≡ true)
+unfolding state_assignment_at
+state_assignment_is_line shape closed before line list small h =
+    elim (chosen (may_name shape closed (number_of (cut_at_space line).0)) (assignment_at shape.states before line) (Err why.BadIndex) (Ok list) h) [
+      | inl e ↦ let is = assignment_is_line shape.states before line list small e.1 in (is, may_stand shape closed line is.assignment small is.spelled is.valid e.0)
       | inr e ↦ absurd (cc (e.1))
     ]
 

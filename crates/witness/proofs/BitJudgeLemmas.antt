@@ -1,22 +1,30 @@
--- What a judge of witnesses of a circuit holds: what an admitted line changes, and whether there is a claim.
-use Rattle.std.proofs.Common.{◌≡◌, ℕ, ◌+◌, ◌<◌, ◌≤◌, ◌^◌, Bool, true, false, ◌||◌, List, [], ◌∷◌, ◌++◌, Result, Ok, Err, codes, length, length-append, refl, sym, ap, subst, ◌∙◌, arith, inl, inr}
+-- What a judge of witnesses of a circuit holds, line by line, and what it judges of a text.
+use Rattle.std.proofs.Common.{◌≡◌, ℕ, ◌+◌, ◌<◌, ◌≤◌, ◌^◌, Bool, true, false, ◌||◌, List, [], ◌∷◌, ◌++◌, Result, Ok, Err, codes, length, length-append, refl, sym, ap, subst, ◌∙◌, arith, inl, inr, suc, cond, Option, Some, None}
 use Rattle.std.specs.Str.{bytes_eq}
 use Rattle.std.proofs.lemmas.Bool.{false_from_ne_true}
 use Rattle.base.specs.Lines.{IsLine, whole_lines, unfinished}
 use Rattle.base.proofs.DecimalLemmas.{chosen}
 use Rattle.aiger.specs.Circuit.{Circuit}
 use Rattle.witness.specs.declared.why.Why.{Why}
-use Rattle.witness.specs.declared.why.Why.TheVariants as why
 use Rattle.witness.specs.declared.bit_scan.Scan.{Scan}
 use Rattle.witness.specs.Readings.{Reading, nothing_admitted, lines_read}
 use Rattle.witness.specs.Stands.{IsOfLines}
-use Rattle.witness.specs.BitAdmits.{claim_at, bits_at, BitPlace, AtHeader, AtClaim, AtInitial, AtFirst, AtLater, AtDone, BitRead, no_line_read, after_claim, after_initial, after_frame, bit_admit_at, bit_admit, bit_reader}
+use Rattle.witness.specs.BitAdmits.{claim_at, bits_at, BitPlace, AtHeader, AtClaim, AtInitial, AtFirst, AtLater, AtDone, BitRead, no_line_read, after_claim, after_initial, after_frame, bit_admit_at, bit_admit, bit_reader, is_done, bit_witness_of}
 use Rattle.witness.specs.BitScans.{Scans}
-use Rattle.witness.specs.BitStands.{is_header, BitJudge, bit_judging, StandsFor}
+use Rattle.witness.specs.BitStands.{is_header, BitJudge, bit_judging, StandsFor, place_of, PlaysAt}
 use Rattle.witness.proofs.TextEndLemmas.{whole_lines-line_end, unfinished-line_end}
 use Rattle.witness.proofs.ReadingLemmas.{Goes, On, Until, goes, holds_behind}
 use Rattle.witness.proofs.StandsLemmas.{awaits, none_awaited, ClaimsMore, line_ended}
 use Rattle.std.proofs.Math.Bool.{or-false}
+use Rattle.aiger.specs.Literal.{Valuation}
+use Rattle.aiger.specs.Trace.{IsTrace, next_state}
+use Rattle.witness.specs.declared.judgement.Judgement.{Judgement}
+use Rattle.witness.specs.BitTexts.{BitWitness}
+use Rattle.witness.specs.BitJudgements.{bit_verdict, JudgesBits}
+use Rattle.witness.specs.BitPlays.{BitPlay, Plays, Traced}
+use Rattle.witness.specs.Judgements.{first_of}
+use Rattle.witness.proofs.BitReadLemmas.{done}
+use Rattle.witness.specs.declared.why.Why.TheVariants as why
 
 -- what an admitted line changes
 record Moves (r next : BitRead) : Type 0 where
@@ -106,3 +114,38 @@ pub whole_line : (c : Circuit) (text bytes : List ℕ) (j new : BitJudge) → Is
 whole_line c text bytes j new is stands empty same lines =
     line_ended (bit_judging c) (text ++ (bytes ++ 10 ∷ [])) (whole_lines text ++ bytes ∷ []) new (whole_lines-line_end text bytes is ∙ ap (λ (l : List ℕ). whole_lines text ++ (l ++ bytes) ∷ []) empty) (unfinished-line_end text bytes) lines
     (subst (λ (s : Scan). Scans s []) (sym same) (subst (Scans j.line) empty stands.line))
+
+-- ---- the verdict
+
+trace_length : (c : Circuit) (state : List Bool) (frames : List (List Bool)) (vs : List Valuation) → IsTrace c state frames vs → length vs ≡ length frames
+trace_length c state [] [] t = refl
+trace_length c state [] (v ∷ vs) t = absurd t
+trace_length c state (f ∷ frames) [] t = absurd t
+trace_length c state (f ∷ frames) (v ∷ vs) t = ap suc (trace_length c (next_state c v) frames vs t.1)
+
+module _ (c : Circuit) (w : BitWitness) (p : BitPlay) (vs : List Valuation) (plays : Plays c w.claim w.initial w.frames p []) (trace : IsTrace c w.initial w.frames vs) where
+  traced : Traced c w.claim w.initial p vs
+  traced = plays.traced vs trace
+
+  -- the claim, where it is not reached
+  pub judged_whole : (o : Option ℕ) → o ≡ cond p.rose None (Some w.claim) → first_of p.differs p.breach o p.frames ≡ bit_verdict c w vs
+  judged_whole o e = rw (plays.differs, traced.breach, e, traced.rose, plays.count ∙ sym (trace_length c w.initial w.frames vs trace)) refl
+
+-- ---- the judgement
+
+abbrev pub Says : Circuit → BitRead → Judgement → Type 0
+Says c r = JudgesBits c (bit_witness_of r)
+
+pub ended_at : (c : Circuit) (text : List ℕ) (j old : BitJudge) → j ≡ old → StandsFor c old text → j.refused ≡ None → is_done (place_of j.reader.place) ≡ is_done (lines_read (bit_reader c) (whole_lines text)).read.place
+ended_at c text j old same was none = let stands = subst (λ (k : BitJudge). StandsFor c k text) (sym same) was in ap is_done (stands.lines.reads none).place
+
+-- what is judged of a whole witness
+pub whole_witness : (c : Circuit) (text : List ℕ) (j old : BitJudge) → j ≡ old → (o : Option ℕ) → StandsFor c old text → j.refused ≡ None → o ≡ cond j.reader.play.rose None (Some j.reader.claim)
+    → is_done (lines_read (bit_reader c) (whole_lines text)).read.place ≡ true
+    → Says c (lines_read (bit_reader c) (whole_lines text)).read (first_of j.reader.play.differs j.reader.play.breach o j.reader.play.frames)
+whole_witness c text j old same o was none unreached at_end vs t =
+    let stands = subst (λ (k : BitJudge). StandsFor c k text) (sym same) was in
+    let r : BitRead = (lines_read (bit_reader c) (whole_lines text)).read in
+    let reads = stands.lines.reads none in
+    let plays : PlaysAt c r j.reader.play (unfinished text) AtDone = subst (PlaysAt c r j.reader.play (unfinished text)) (done r.place at_end) reads.play in
+    judged_whole c (bit_witness_of r) j.reader.play vs plays t o (unreached ∙ ap (λ (i : ℕ). cond j.reader.play.rose None (Some i)) reads.claim)

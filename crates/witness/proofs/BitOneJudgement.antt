@@ -1,6 +1,7 @@
 -- A text has one judgement over a circuit: the circuit has one trace, and a judgement looks only at its literals.
-use Rattle.std.proofs.Common.{◌≡◌, ℕ, suc, ◌+◌, ◌<◌, Bool, cond, not, ◌||◌, List, [], ◌∷◌, length, Option, Some, None, slice_index, refl, sym, ap, ap₂, ◌∙◌, arith, true, false}
-use Rattle.std.specs.List.{position_from, AllByRecursion}
+use Rattle.std.proofs.Common.{◌≡◌, ℕ, suc, ◌+◌, ◌<◌, Bool, cond, not, ◌||◌, List, [], ◌∷◌, length, map, Option, Some, slice_index, refl, sym, ap, ap₂, ◌∙◌, arith}
+use Rattle.std.specs.List.{list_any, position_from, AllByRecursion}
+use Rattle.std.proofs.lemmas.List.{length-map}
 use Rattle.std.proofs.lemmas.List.Elements.{recursion_from_All, All-get_or}
 use Rattle.base.specs.Lines.{whole_lines}
 use Rattle.aiger.specs.Literal.{Valuation, literal_value}
@@ -9,13 +10,12 @@ use Rattle.aiger.specs.Circuit.{Circuit, IsCircuit, net}
 use Rattle.aiger.specs.Trace.{SameFrame, SameTrace}
 use Rattle.aiger.proofs.TraceLemmas.{literal_value-agree, trace_exists, trace_unique}
 use Rattle.witness.specs.declared.judgement.Judgement.{Judgement}
-use Rattle.witness.specs.Judgements.{violated_at}
+use Rattle.witness.specs.Judgements.{breach_from}
 use Rattle.witness.specs.BitTexts.{BitWitness, IsBitWitness}
 use Rattle.witness.specs.BitAdmits.{BitRead, read_bit_text, bit_witness_of}
-use Rattle.witness.specs.BitJudgements.{first_reset_differing, bit_violation_from, bit_rises, when_risen, when_unbroken, when_reset, bit_verdict, makes_no_bit_claim, JudgesBits, BitJudges}
+use Rattle.witness.specs.BitJudgements.{first_bit_violated, bit_verdict, makes_no_bit_claim, JudgesBits, BitJudges}
 use Rattle.witness.proofs.BitReadLemmas.{bit_read_says}
-use Rattle.witness.proofs.JudgedLemmas.{some_judged, judged_once}
-use Rattle.witness.specs.Stands.{first_of}
+use Rattle.witness.proofs.JudgedLemmas.{some_judged, judged_once, breach_by}
 
 -- ---- traces that are the same have the same verdict
 
@@ -30,45 +30,29 @@ first_same c v w n [] same defined = refl
 first_same c v w n (l ∷ ls) same defined =
     ap₂ (λ (b : Bool) (o : Option ℕ). cond (not b) (Some n) o) (same_bit c v w l same defined.0) (first_same c v w (n + 1) ls same defined.1)
 
-violations_same : (c : Circuit) (k : ℕ) (vs ws : List Valuation) → AllByRecursion (IsDefined (net c)) c.constraints → SameTrace c vs ws → bit_violation_from c k vs ≡ bit_violation_from c k ws
-violations_same c k [] [] defined same = refl
-violations_same c k [] (w ∷ ws) defined same = absurd same
-violations_same c k (v ∷ vs) [] defined same = absurd same
-violations_same c k (v ∷ vs) (w ∷ ws) defined same =
-    ap₂ (violated_at k) (first_same c v w 0 c.constraints same.0 defined) (violations_same c (suc k) vs ws defined same.1)
+-- what each frame says of literals is the same
+said_same : {A : Type 0} (says : Valuation → A) (c : Circuit) (vs ws : List Valuation) → ((v w : Valuation) → SameFrame c v w → says v ≡ says w) → SameTrace c vs ws → map says vs ≡ map says ws
+said_same says c [] [] each same = refl
+said_same says c [] (w ∷ ws) each same = absurd same
+said_same says c (v ∷ vs) [] each same = absurd same
+said_same says c (v ∷ vs) (w ∷ ws) each same = ap₂ (λ x xs. x ∷ xs) (each v w same.0) (said_same says c vs ws each same.1)
 
-rises_same : (c : Circuit) (i : ℕ) (vs ws : List Valuation) → IsDefined (net c) (slice_index c.bads i) → SameTrace c vs ws → bit_rises c i vs ≡ bit_rises c i ws
-rises_same c i [] [] defined same = refl
-rises_same c i [] (w ∷ ws) defined same = absurd same
-rises_same c i (v ∷ vs) [] defined same = absurd same
-rises_same c i (v ∷ vs) (w ∷ ws) defined same =
-    ap₂ (λ (a b : Bool). a || b) (same_bit c v w (slice_index c.bads i) same.0 defined) (rises_same c i vs ws defined same.1)
-
-length_same : (c : Circuit) (vs ws : List Valuation) → SameTrace c vs ws → length vs ≡ length ws
-length_same c [] [] same = refl
-length_same c [] (w ∷ ws) same = absurd same
-length_same c (v ∷ vs) [] same = absurd same
-length_same c (v ∷ vs) (w ∷ ws) same = ap suc (length_same c vs ws same.1)
-
--- a verdict by what is looked for
-pub verdict_is : (c : Circuit) (w : BitWitness) (vs : List Valuation) → first_of (first_reset_differing 0 c.latches w.initial) (bit_violation_from c 0 vs) (cond (bit_rises c w.claim vs) None (Some w.claim)) (length vs) ≡ bit_verdict c w vs
-verdict_is c w vs =
-    let unreached : Option ℕ = cond (bit_rises c w.claim vs) None (Some w.claim) in
-    elim (first_reset_differing 0 c.latches w.initial) as (λ d. first_of d (bit_violation_from c 0 vs) unreached (length vs) ≡ when_reset c w vs d) [
-      | Some k ↦ refl
-      | None ↦
-          elim (bit_violation_from c 0 vs) as (λ v. first_of None v unreached (length vs) ≡ when_unbroken c w vs v) [
-            | Some v ↦ refl
-            | None ↦ elim (bit_rises c w.claim vs) as (λ b. first_of None None (cond b None (Some w.claim)) (length vs) ≡ when_risen w.claim (length vs) b) [ true ↦ refl | false ↦ refl ]
-          ]
-    ]
+some_same : (says : Valuation → Bool) (vs ws : List Valuation) → map says vs ≡ map says ws → list_any says vs ≡ list_any says ws
+some_same says [] [] same = refl
+some_same says [] (w ∷ ws) same = absurd cc
+some_same says (v ∷ vs) [] same = absurd cc
+some_same says (v ∷ vs) (w ∷ ws) same = ap₂ (λ (a b : Bool). a || b) (cc) (some_same says vs ws (cc))
 
 -- it goes by what traces agree on
 verdict_same : (c : Circuit) (w : BitWitness) (vs us : List Valuation) → IsCircuit c → w.claim < length c.bads → SameTrace c vs us → bit_verdict c w vs ≡ bit_verdict c w us
 verdict_same c w vs us circuit below same =
     let defined : IsDefined (net c) (slice_index c.bads w.claim) = All-get_or (IsDefined (net c)) c.bads w.claim 0 below circuit.defined.bads in
-    let broken = violations_same c 0 vs us (recursion_from_All (IsDefined (net c)) c.constraints circuit.defined.constraints) same in
-    sym (verdict_is c w vs) ∙ rw (broken, rises_same c w.claim vs us defined same, length_same c vs us same) (verdict_is c w us)
+    let constraints = recursion_from_All (IsDefined (net c)) c.constraints circuit.defined.constraints in
+    let said = said_same (first_bit_violated c) c vs us (λ v u alike. first_same c v u 0 c.constraints alike constraints) same in
+    let broken = breach_by (first_bit_violated c) 0 vs ∙ (ap (breach_from (λ o. o) 0) said ∙ sym (breach_by (first_bit_violated c) 0 us)) in
+    let long : length vs ≡ length us = sym (length-map vs (first_bit_violated c)) ∙ (ap length said ∙ length-map us (first_bit_violated c)) in
+    let rises = said_same (λ (v : Valuation). literal_value v (slice_index c.bads w.claim)) c vs us (λ v u alike. same_bit c v u (slice_index c.bads w.claim) alike defined) same in
+    rw (broken, some_same (λ (v : Valuation). literal_value v (slice_index c.bads w.claim)) vs us rises, long) refl
 
 -- ---- one judgement
 

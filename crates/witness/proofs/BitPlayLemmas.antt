@@ -16,6 +16,7 @@ use Rattle.witness.specs.BitJudgements.{differs_from_reset, first_reset_differin
 use Rattle.witness.specs.BitScans.{is_one_bit}
 use Rattle.witness.specs.BitPlays.{BitPlay, frame_steps, steps_of, state_behind, Begins, Traced, Plays, differing, latch_given}
 use Rattle.std.proofs.Math.Bool.{or-false}
+use Rattle.witness.proofs.JudgedLemmas.{breach_more}
 
 -- ---- initial bits
 
@@ -95,15 +96,6 @@ state_more : (c : Circuit) (state : List Bool) (vs : List Valuation) (v : Valuat
 state_more c state [] v = refl
 state_more c state (w ∷ vs) v = state_more c (next_state c w) vs v
 
-violation_more : (c : Circuit) (k : ℕ) (vs : List Valuation) (v : Valuation) → bit_violation_from c k (vs ++ v ∷ []) ≡ option_or (bit_violation_from c k vs) (violated_at (k + length vs) (first_bit_violated c v) None)
-violation_more c k [] v = ap (λ (n : ℕ). violated_at n (first_bit_violated c v) None) (omega arith)
-violation_more c k (w ∷ vs) v =
-    let rest = violation_more c (suc k) vs v in
-    elim (first_bit_violated c w) as (λ o. violated_at k o (bit_violation_from c (suc k) (vs ++ v ∷ [])) ≡ option_or (violated_at k o (bit_violation_from c (suc k) vs)) (violated_at (k + suc (length vs)) (first_bit_violated c v) None)) [
-      | Some i ↦ refl
-      | None ↦ rest ∙ ap (λ (n : ℕ). option_or (bit_violation_from c (suc k) vs) (violated_at n (first_bit_violated c v) None)) (omega arith)
-    ]
-
 rises_more : (c : Circuit) (claim : ℕ) (vs : List Valuation) (v : Valuation) → bit_rises c claim (vs ++ v ∷ []) ≡ (bit_rises c claim vs || literal_value v (get_or c.bads claim 0))
 rises_more c claim vs v =
     list_any-append (λ (w : Valuation). literal_value w (get_or c.bads claim 0)) vs (v ∷ []) ∙ ap (λ (b : Bool). bit_rises c claim vs || b) (or-false (literal_value v (get_or c.bads claim 0)))
@@ -142,7 +134,7 @@ module _ (c : Circuit) (claim : ℕ) (initial : List Bool) (frames : List (List 
         breach =
             closes.breach s.v now
             ∙ (ap₂ (λ (o : Option Violation) (n : ℕ). option_or o (violated_at n (first_bit_violated c s.v) None)) was.breach number
-            ∙ (sym (violation_more c 0 s.front s.v) ∙ ap (bit_violation_from c 0) (sym s.is)));
+            ∙ (sym (breach_more (first_bit_violated c) 0 s.front s.v) ∙ ap (bit_violation_from c 0) (sym s.is)));
         rose =
             closes.rose s.v now
             ∙ (ap (λ (b : Bool). b || literal_value s.v (get_or c.bads claim 0)) was.rose

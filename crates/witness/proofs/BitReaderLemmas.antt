@@ -1,6 +1,13 @@
 -- Lines of a witness of a circuit, admitted one after the other by what is kept of them.
-use Rattle.std.proofs.Common.{◌≡◌, ℕ, ◌*◌, ◌<◌, ◌^◌, Bool, true, false, List, [], ◌∷◌, ◌++◌, None, Result, Ok, Err, MatchResult, codes, map, length, take, refl, sym, ap, subst, ◌∙◌, arith}
+use Rattle.std.proofs.Common.{◌≡◌, ℕ, ◌==◌, true, false, ◌&&◌, List, Ok, codes, map, length, refl, sym, ap, ◌∙◌, ◌*◌, ◌<◌, ◌^◌, Bool, [], ◌∷◌, ◌++◌, None, Result, Err, MatchResult, take, subst, arith}
+use Rattle.std.specs.List.{list_all}
 use Rattle.std.specs.Str.{bytes_eq}
+use Rattle.std.proofs.lemmas.Bool.{and_parts, eqb-true}
+use Rattle.witness.specs.BitAdmits.{bits_at, AtClaim, AtInitial, AtFirst, AtLater, AtDone, BitRead, claim_at, after_frame, bit_admit}
+use Rattle.witness.specs.BitScans.{is_bit, is_one_bit}
+use Rattle.witness.proofs.BitReadLemmas.{bits_are_no_end, claim_is_line, bits_are_line}
+use Rattle.witness.proofs.PieceLemmas.{none_of, digits_of_bits}
+use Rattle.witness.proofs.WordValueLemmas.{known_not_x, known_are_values}
 use Rattle.std.proofs.lemmas.List.{length-map, length-replicate}
 use Rattle.std.proofs.Math.Seq.{take-length}
 use Rattle.aiger.specs.Circuit.{Circuit}
@@ -9,16 +16,31 @@ use Rattle.aiger.specs.Trace.{IsTrace}
 use Rattle.runs.specs.Run.{more_steps}
 use Rattle.runs.specs.CircuitRun.{first_bit}
 use Rattle.witness.specs.declared.why.Why.{Why}
-use Rattle.witness.specs.declared.why.Why.TheVariants as why
-use Rattle.witness.specs.declared.bit_place.BitPlace.{BitPlace as CodePlace}
-use Rattle.witness.specs.declared.bit_place.BitPlace.TheVariants as code
-use Rattle.witness.specs.BitAdmits.{AtClaim, AtInitial, AtFirst, AtLater, AtDone, BitRead, claim_at, bits_at, after_frame, bit_admit}
-use Rattle.witness.specs.BitScans.{is_one_bit}
+use Rattle.witness.specs.declared.bit_reader.BitPlace.{BitPlace as CodePlace}
 use Rattle.witness.specs.BitPlays.{BitPlay, play_start, frame_steps, Begins, Traced, Plays}
 use Rattle.witness.specs.declared.bit_reader.BitReader.{BitReader}
 use Rattle.witness.specs.BitStands.{place_of, PlaysAt, Counts, Reads, GivesLine, is_frame}
-use Rattle.witness.proofs.BitReadLemmas.{claim_is_line, bits_are_line}
 use Rattle.witness.proofs.BitPlayLemmas.{none_left}
+use Rattle.witness.specs.declared.why.Why.TheVariants as why
+use Rattle.witness.specs.declared.bit_reader.BitPlace.TheVariants as code
+
+-- so many bits
+pub record AreBits (count : ℕ) (line : List ℕ) : Type 0 where
+  pub many : length line ≡ count
+  pub bits : bits_at count line ≡ Ok (map is_one_bit line)
+  pub no_end : bytes_eq line (codes ".") ≡ false
+
+pub are_bits : (count : ℕ) (line : List ℕ) → ((length line == count) && list_all is_bit line) ≡ true → AreBits count line
+are_bits count line h =
+    let parts = and_parts (length line == count) (list_all is_bit line) h in
+    let many : length line ≡ count = eqb-true (length line) count parts.0 in
+    let values = known_are_values line parts.1 in
+    let known = none_of is_bit 120 line known_not_x parts.1 in
+    record {
+      many = many;
+      bits = rw (parts.0, values, known) refl;
+      no_end = ap (λ (l : List ℕ). bytes_eq l (codes ".")) (sym (digits_of_bits line values known)) ∙ bits_are_no_end (map is_one_bit line);
+    }
 
 -- ---- the play begins
 

@@ -16,7 +16,7 @@ use Rattle.witness.specs.BitScans.{Scans}
 use Rattle.witness.specs.Fits.{is_set, NoneIsSet, AreClaimed}
 use Rattle.witness.specs.WordClaims.{piece_of, and_claim, AreFine, AreUnfit, HaveJustice, IsKind, AreClaims}
 use Rattle.witness.proofs.PieceLemmas.{some_piece}
-use Rattle.witness.proofs.AdmittedLineLemmas.{distinct_with}
+use Rattle.witness.proofs.ReadLemmas.{distinct_with}
 use Rattle.std.proofs.Math.Bool.{or-false, and-false}
 
 -- ---- numbers that stand twice

@@ -1,22 +1,29 @@
--- Frames of a run, one after another.
-use Rattle.std.proofs.Common.{◌≡◌, ℕ, suc, ◌+◌, ◌<◌, ◌≤◌, Bool, true, false, cond, ◌&&◌, nat_eq, List, [], ◌∷◌, ◌++◌, length, map, get_or, drop, flat_map, slice_get, Option, Some, None, IfSome, is_none, option_and_then, refl, sym, ap, ap₂, subst, ◌∙◌, append_assoc, arith}
-use Rattle.std.specs.List.{position_from}
+-- Frames of a run, one after another, and what one of them says in the words of judgements.
+use Rattle.std.proofs.Common.{◌≡◌, ℕ, suc, ◌+◌, ◌<◌, ◌≤◌, Bool, true, false, cond, ◌&&◌, nat_eq, List, [], ◌∷◌, ◌++◌, length, map, get_or, drop, flat_map, slice_get, Option, Some, None, IfSome, is_none, option_and_then, refl, sym, ap, ap₂, subst, ◌∙◌, append_assoc, arith, ◌≢◌, ◌||◌, set, ⊎_elim, not}
+use Rattle.std.specs.List.{position_from, list_any}
 use Rattle.std.proofs.Math.Seq.{drop-cons}
-use Rattle.std.proofs.lemmas.List.{length-map, drop_all}
+use Rattle.std.proofs.lemmas.List.{length-map, drop_all, get_or-set_same, get_or-set_other}
 use Rattle.btor2.specs.declared.item.Item.{Item}
 use Rattle.btor2.specs.declared.item.Body.{Body}
-use Rattle.btor2.specs.declared.item.Body.TheVariants as body
-use Rattle.btor2.specs.Items.{operands, is_input, is_state, is_bad, is_constraint, constant_of, init_value, next_value, init_word}
+use Rattle.btor2.specs.Items.{operands, is_input, is_state, is_bad, is_constraint, constant_of, init_value, next_value, init_word, find_item, position_of, is_free}
 use Rattle.btor2.specs.Check.{IsWellFormed}
-use Rattle.btor2.specs.Lists.{places, of_kind}
+use Rattle.btor2.specs.Lists.{places, of_kind, init_place, constant_at}
 use Rattle.btor2.specs.Trace.{Frame, state_word, LineHolds, LinesHold, IsFrame, IsTrace, next_state}
 use Rattle.btor2.proofs.ModelLemmas.{find_item-in}
-use Rattle.runs.specs.Run.{property_id, is_one}
-use Rattle.runs.proofs.RankLemmas.{nth, length-places}
+use Rattle.runs.specs.Run.{property_id, is_one, Run, IsNow, zeros}
+use Rattle.runs.proofs.RankLemmas.{nth, length-places, IsNth, length-ids, state_leaf, input_leaf, either_word}
 use Rattle.runs.proofs.PlaceLemmas.{map_read}
-use Rattle.runs.proofs.StateLemmas.{nth-get}
-use Rattle.witness.specs.Judgements.{nodes_of, differs, first_different}
-use Rattle.witness.proofs.GivenWordLemmas.{SameAt}
+use Rattle.runs.proofs.StateLemmas.{nth-get, init_at}
+use Rattle.witness.specs.Judgements.{nodes_of, differs, first_different, FrameWords, initial_words, given_words, given_frames, Words, never_rises, unreached_from}
+use Rattle.witness.proofs.GivenWordLemmas.{SameAt, put_given, named_state, inputs_given}
+use Rattle.std.proofs.lemmas.Bool.{cases_eq}
+use Rattle.std.proofs.lemmas.Option.{get_or_from_slice_get}
+use Rattle.btor2.proofs.LookUps.{found, init_some, init_none}
+use Rattle.runs.specs.Frames.{ids_of, given_leaves, given as given_at}
+use Rattle.witness.specs.Texts.{shape_of}
+use Rattle.witness.specs.Fits.{is_set, FirstFits, StandsAt, RisesAmong, NoneIsSet, words_put}
+use Rattle.std.proofs.Math.Bool.{or-true, or-false, and-false}
+use Rattle.btor2.specs.declared.item.Body.TheVariants as body
 
 -- ---- frames from words that agree
 
@@ -122,3 +129,168 @@ trace_length items state [] [] h = refl
 trace_length items state [] (f ∷ fs) h = absurd h
 trace_length items state (i ∷ is) [] h = absurd h
 trace_length items state (i ∷ is) (f ∷ fs) h = ap suc (trace_length items (next_state items f) is fs h.1)
+
+-- A run that stood before a frame, with these words of its states, that was given the words of the frame's two parts, and that was settled then, is in the frame.
+module _ (items : List Item) (settled : Run) (base : List ℕ) (frame : FrameWords) (w : IsWellFormed items) (many : length base ≡ length (ids_of is_state items)) (fits : FirstFits (shape_of items) frame)
+    (of_items : settled.items ≡ items) (of_states : settled.states ≡ words_put base frame.states) (of_inputs : settled.inputs ≡ words_put (zeros items) frame.inputs) where
+  run_now : (f : Frame) → IsFrame items (given_at is_state items (words_put base frame.states)) (given_leaves items (words_put base frame.states) (words_put (zeros items) frame.inputs)) f → IsNow settled f
+  run_now f h =
+      subst (λ (l : List Item). IsFrame l (given_at is_state l settled.states) (given_leaves l settled.states settled.inputs) f) (sym of_items)
+      (subst (λ (l : List ℕ). IsFrame items (given_at is_state items l) (given_leaves items l settled.inputs) f) (sym of_states)
+      (subst (λ (l : List ℕ). IsFrame items (given_at is_state items (words_put base frame.states)) (given_leaves items (words_put base frame.states) l) f) (sym of_inputs) h))
+
+  -- the words of the states, as the frame has them
+  state_now : (carried : Frame) → StandsAt items carried frame (given_at is_state items base) → (id : ℕ) (y : Item) → find_item items id ≡ Some y → is_state y.body ≡ true
+      → state_word items carried (given_words items frame) id ≡ given_at is_state items (words_put base frame.states) id
+  state_now carried stands id y found is = sym (put_given is_state items base frame.states many fits.states.distinct id y found is ∙ stands id (named_state items id y found is))
+
+  pub settled_now : (carried f : Frame) → StandsAt items carried frame (given_at is_state items base) → IsFrame items carried (given_words items frame) f → IsNow settled f
+  settled_now carried f stands h =
+      let states : List ℕ = words_put base frame.states in
+      let inputs : List ℕ = words_put (zeros items) frame.inputs in
+      run_now f
+      (frame_agrees items carried (given_at is_state items states) (given_words items frame) (given_leaves items states inputs) f w
+      (λ id y found is. state_now carried stands id y found is
+      ∙ sym (either_word (is_free items id) (given_at is_state items states id) (given_leaves items states inputs id) (given_at is_state items states id) refl (state_leaf items states inputs id y found is)))
+      (λ id y found is. sym (inputs_given items frame fits.inputs.distinct id y found is) ∙ sym (input_leaf items states inputs id y found is)) h)
+
+-- ---- the first of a list
+
+pub first_here : {A : Type 0} (test : A → Bool) (list : List A) (i : ℕ) (d : A) (whole : Option ℕ) → i < length list → test (get_or list i d) ≡ true → position_from test i (drop i list) ≡ whole → Some i ≡ whole
+first_here test list i d whole h is e =
+    sym (first_step test list i d h ∙ ap (λ (b : Bool). cond b (Some i) (position_from test (i + 1) (drop (i + 1) list))) is) ∙ e
+
+pub first_behind : {A : Type 0} (test : A → Bool) (list : List A) (i : ℕ) (d : A) (whole : Option ℕ) → i < length list → test (get_or list i d) ≡ false → position_from test i (drop i list) ≡ whole
+    → position_from test (i + 1) (drop (i + 1) list) ≡ whole
+first_behind test list i d whole h is e =
+    sym (first_step test list i d h ∙ ap (λ (b : Bool). cond b (Some i) (position_from test (i + 1) (drop (i + 1) list))) is) ∙ e
+
+-- the test of a constraint
+pub constraint_test : (items : List Item) (i : ℕ) (f : Frame) (b b' : Bool) → i < length (places is_constraint 0 items) → IfSome (slice_get items (get_or (places is_constraint 0 items) i 0)) (λ x. b ≡ is_one f x.body) → b ≡ b'
+    → not (nat_eq (f (get_or (nodes_of is_constraint items) i 0)) 1) ≡ not b'
+constraint_test items i f b b' h says e = ap not (sym (property_at is_constraint items i f b constraint_names h says) ∙ e)
+
+pub constraint_inside : (items : List Item) (i : ℕ) → i < length (places is_constraint 0 items) → i < length (nodes_of is_constraint items)
+constraint_inside items i h = omega (arith, length-nodes is_constraint items constraint_names)
+
+-- the test of a state
+pub record StateTest (items : List Item) (k : ℕ) (f : Frame) (b : Bool) : Type 0 where
+  pub item : Item
+  pub inside : k < length (of_kind is_state items)
+  pub test : differs (init_word items (get_or (of_kind is_state items) k item).id) (f (get_or (of_kind is_state items) k item).id) ≡ b
+
+pub state_test : (items : List Item) (k : ℕ) (f : Frame) (b b' : Bool) → k < length (places is_state 0 items) → IfSome (slice_get (of_kind is_state items) k) (λ x. b ≡ differs (init_word items x.id) (f x.id)) → b ≡ b' → StateTest items k f b'
+state_test items k f b b' h says e =
+    let inside : k < length (of_kind is_state items) = omega (arith, length-places is_state 0 items) in
+    let there = nth is_state items k inside in
+    let x = there.0 in
+    let own : b ≡ differs (init_word items x.id) (f x.id) = subst (λ (o : Option Item). IfSome o (λ y. b ≡ differs (init_word items y.id) (f y.id))) there.1.stands says in
+    record {
+      item = x;
+      inside = inside;
+      test = ap (λ (y : Item). differs (init_word items y.id) (f y.id)) (get_or_from_slice_get (of_kind is_state items) k x x there.1.stands) ∙ sym own ∙ e;
+    }
+
+-- ---- the init line of a state
+
+-- what is known of the k-th state, by its init line's place and constant
+module _ (items : List Item) (k : ℕ) (f : Frame) (h : k < length (places is_state 0 items)) where
+  abbrev pub Differs : Bool → Type 0
+  Differs b = IfSome (slice_get (of_kind is_state items) k) (λ x. b ≡ differs (init_word items x.id) (f x.id))
+
+  by_item : (b : Bool) → ((x : Item) → IsNth is_state items k x → b ≡ differs (init_word items x.id) (f x.id)) → Differs b
+  by_item b says =
+      let there = nth is_state items k (omega (arith, length-places is_state 0 items)) in
+      subst (λ (o : Option Item). IfSome o (λ x. b ≡ differs (init_word items x.id) (f x.id))) (sym there.1.stands) (says there.0 there.1)
+
+  own_place : (x : Item) → IsNth is_state items k x → init_place items (get_or (places is_state 0 items) k 0) ≡ option_and_then (position_of items) (init_value items x.id)
+  own_place x n =
+      init_at items k (omega (arith, length-ids is_state items, length-places is_state 0 items)) ∙ ap (λ (i : ℕ). option_and_then (position_of items) (init_value items i)) n.id
+
+  pub differs-none : None ≡ init_place items (get_or (places is_state 0 items) k 0) → Differs false
+  differs-none e = by_item false (λ x n. ap (λ (o : Option ℕ). differs o (f x.id)) (sym (init_none items (init_value items x.id) (sym (own_place x n) ∙ sym e))))
+
+  own_constant : (place : ℕ) (x : Item) → IsNth is_state items k x → Some place ≡ init_place items (get_or (places is_state 0 items) k 0) → constant_at items place ≡ init_word items x.id
+  own_constant place x n e = (init_some items (init_value items x.id) place (sym (own_place x n) ∙ sym e)).0
+
+  differs-no_constant : (place : ℕ) → Some place ≡ init_place items (get_or (places is_state 0 items) k 0) → None ≡ constant_at items place → Differs false
+  differs-no_constant place e d = by_item false (λ x n. ap (λ (o : Option ℕ). differs o (f x.id)) (d ∙ own_constant place x n e))
+
+  differs-some : (place word value : ℕ) → Some place ≡ init_place items (get_or (places is_state 0 items) k 0) → Some word ≡ constant_at items place
+      → IfSome (slice_get items (get_or (places is_state 0 items) k 0)) (λ x. value ≡ f x.id) → Differs (not (nat_eq word value))
+  differs-some place word value e d says =
+      by_item (not (nat_eq word value))
+      (λ x n.
+      let own : value ≡ f x.id = subst (λ (o : Option Item). IfSome o (λ y. value ≡ f y.id)) (nth-get is_state items k x n) says in
+      ap (λ (v : ℕ). not (nat_eq word v)) own ∙ ap (λ (o : Option ℕ). differs o (f x.id)) (d ∙ own_constant place x n e))
+
+  -- what a state with an init line differs by, whatever its value is
+  pub differs-init : (place value : ℕ) (o : Option ℕ) → Some place ≡ init_place items (get_or (places is_state 0 items) k 0) → o ≡ constant_at items place
+      → IfSome (slice_get items (get_or (places is_state 0 items) k 0)) (λ x. value ≡ f x.id) → Differs (differs o value)
+  differs-init place value None e d says = differs-no_constant place e d
+  differs-init place value (Some word) e d says = differs-some place word value e d says
+
+-- ---- flags
+
+abbrev pub set_if : Bool → List Bool → ℕ → List Bool
+set_if b rose i = cond b (set rose i true) rose
+
+set_if-own : (b v : Bool) (rose rose0 : List Bool) (i : ℕ) → i < length rose → b ≡ v → is_set rose i ≡ is_set rose0 i → is_set (set_if b rose i) i ≡ (is_set rose0 i || v)
+set_if-own true v rose rose0 i h e same = get_or-set_same rose i true false h ∙ sym (or-true (is_set rose0 i)) ∙ ap (λ (c : Bool). is_set rose0 i || c) e
+set_if-own false v rose rose0 i h e same = same ∙ sym (or-false (is_set rose0 i)) ∙ ap (λ (c : Bool). is_set rose0 i || c) e
+
+set_if-other : (b : Bool) (rose : List Bool) (i j : ℕ) → j ≢ i → is_set (set_if b rose i) j ≡ is_set rose j
+set_if-other true rose i j h = get_or-set_other rose i j true false h
+set_if-other false rose i j h = refl
+
+pub note_below : (b : Bool) (v : ℕ → Bool) (rose rose0 rose' : List Bool) (i j : ℕ) → rose' ≡ set_if b rose i → i < length rose → b ≡ v i
+    → ((k : ℕ) → k < i → is_set rose k ≡ (is_set rose0 k || v k)) → ((k : ℕ) → i ≤ k → is_set rose k ≡ is_set rose0 k) → j < i + 1 → is_set rose' j ≡ (is_set rose0 j || v j)
+note_below b v rose rose0 rose' i j r h e below above l =
+    ap (λ (x : List Bool). is_set x j) r
+    ∙ ⊎_elim
+    (λ (same : j ≡ i). ap (λ (k : ℕ). is_set (set_if b rose i) k) same ∙ set_if-own b (v i) rose rose0 i h e (above i (omega arith)) ∙ ap (λ (k : ℕ). is_set rose0 k || v k) (sym same))
+    (λ (apart : j ≢ i). set_if-other b rose i j apart ∙ below j (omega arith))
+    (cases_eq j i)
+
+pub note_above : (b : Bool) (rose rose0 rose' : List Bool) (i j : ℕ) → rose' ≡ set_if b rose i → ((k : ℕ) → i ≤ k → is_set rose k ≡ is_set rose0 k) → i + 1 ≤ j → is_set rose' j ≡ is_set rose0 j
+note_above b rose rose0 rose' i j r above l =
+    let apart : j ≢ i = λ e. absurd (omega arith) in
+    ap (λ (x : List Bool). is_set x j) r ∙ set_if-other b rose i j apart ∙ above j (omega arith)
+
+-- ---- claims
+
+twice_not : (b c : Bool) → b ≡ (false || not c) → not b ≡ c
+twice_not b true e = ap not e
+twice_not b false e = ap not e
+
+module _ (claims : List ℕ) (nodes : List ℕ) (fs : List Frame) (none rose : List Bool) (i : ℕ) (whole : Option ℕ) (h : i < length nodes) (clear : NoneIsSet none) (rises : RisesAmong nodes fs none rose)
+    (e : unreached_from claims fs i (drop i nodes) ≡ whole) where
+  unreached_step : cond (list_any (λ c. nat_eq c i) claims && not (is_set rose i)) (Some i) (unreached_from claims fs (i + 1) (drop (i + 1) nodes)) ≡ whole
+  unreached_step =
+      let one : i + 1 ≡ suc i = omega arith in
+      let own : is_set rose i ≡ (false || not (never_rises fs (get_or nodes i 0))) = rises i h ∙ ap (λ (b : Bool). b || not (never_rises fs (get_or nodes i 0))) (clear i) in
+      ap (λ (b : Bool). cond (list_any (λ c. nat_eq c i) claims && b) (Some i) (unreached_from claims fs (i + 1) (drop (i + 1) nodes))) (twice_not (is_set rose i) (never_rises fs (get_or nodes i 0)) own)
+      ∙ ap (λ (k : ℕ). cond (list_any (λ c. nat_eq c i) claims && never_rises fs (get_or nodes i 0)) (Some i) (unreached_from claims fs k (drop k nodes))) one
+      ∙ sym (ap (unreached_from claims fs i) (drop-cons nodes i 0 h)) ∙ e
+
+  pub unreached_here : list_any (λ c. nat_eq c i) claims ≡ true → is_set rose i ≡ false → Some i ≡ whole
+  unreached_here claimed none_set =
+      sym (ap (λ (b : Bool). cond (b && not (is_set rose i)) (Some i) (unreached_from claims fs (i + 1) (drop (i + 1) nodes))) claimed
+      ∙ ap (λ (b : Bool). cond (not b) (Some i) (unreached_from claims fs (i + 1) (drop (i + 1) nodes))) none_set) ∙ unreached_step
+
+  unreached_behind : (list_any (λ c. nat_eq c i) claims && not (is_set rose i)) ≡ false → unreached_from claims fs (i + 1) (drop (i + 1) nodes) ≡ whole
+  unreached_behind off = sym (ap (λ (b : Bool). cond b (Some i) (unreached_from claims fs (i + 1) (drop (i + 1) nodes))) off) ∙ unreached_step
+
+  pub unreached_unclaimed : list_any (λ c. nat_eq c i) claims ≡ false → unreached_from claims fs (i + 1) (drop (i + 1) nodes) ≡ whole
+  unreached_unclaimed off = unreached_behind (ap (λ (b : Bool). b && not (is_set rose i)) off)
+
+  pub unreached_risen : is_set rose i ≡ true → unreached_from claims fs (i + 1) (drop (i + 1) nodes) ≡ whole
+  unreached_risen on = unreached_behind (ap (λ (b : Bool). list_any (λ c. nat_eq c i) claims && not b) on ∙ and-false (list_any (λ c. nat_eq c i) claims))
+
+pub unreached_end : (claims nodes : List ℕ) (fs : List Frame) (i : ℕ) (whole : Option ℕ) → length nodes ≤ i → unreached_from claims fs i (drop i nodes) ≡ whole → None ≡ whole
+unreached_end claims nodes fs i whole h e = sym (ap (unreached_from claims fs i) (drop_all i nodes h)) ∙ e
+
+-- ---- the judgement
+
+pub as_many_frames : (items : List Item) (w : Words) (fs : List Frame) → IsTrace items (initial_words items w) (given_frames items w) fs → length w.frames ≡ length fs
+as_many_frames items w fs h = sym (trace_length items (initial_words items w) (given_frames items w) fs h ∙ length-map w.frames (given_words items))

@@ -10,8 +10,7 @@ use Rattle.btor2.specs.declared.item.Item.{Item}
 use Rattle.btor2.specs.declared.item.Body.{Body}
 use Rattle.btor2.specs.Items.{find_item, is_input, is_state, names_state, init_value, next_value, constant_of, is_free, init_word}
 use Rattle.btor2.specs.Trace.{Frame, next_state}
-use Rattle.runs.specs.Frames.{ids_of, rank}
-use Rattle.runs.specs.Frames.{given as given_at}
+use Rattle.runs.specs.Frames.{ids_of, rank, given as given_at}
 use Rattle.runs.specs.Run.{first_word, zeros}
 use Rattle.runs.proofs.RankLemmas.{rank-below, ids-rank, length-ids}
 use Rattle.witness.specs.Texts.{Shape, shape_of, is_free_index, are_distinct}

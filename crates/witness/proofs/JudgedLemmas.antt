@@ -1,9 +1,10 @@
--- What is judged of a text of either kind, by its claim and by what it reads as.
-use Rattle.std.proofs.Common.{◌≡◌, Bool, true, false, Result, Ok, Err, refl, sym, subst, ◌∙◌}
+-- What is judged of a text of either kind, by its claim and by what it reads as, and the first breach in its frames.
+use Rattle.std.proofs.Common.{◌≡◌, ℕ, suc, ◌+◌, Bool, true, false, List, [], ◌∷◌, ◌++◌, Option, Some, None, Result, Ok, Err, length, map, refl, sym, ap, subst, ◌∙◌, arith}
+use Rattle.std.specs.Option.{option_or}
 use Rattle.witness.specs.declared.judgement.Judgement.{Judgement}
 use Rattle.witness.specs.declared.judgement.Judgement.TheVariants as judgement
 use Rattle.witness.specs.Readings.{Fault}
-use Rattle.witness.specs.Judgements.{JudgesAs}
+use Rattle.witness.specs.Judgements.{violated_at, breach_from, JudgesAs}
 
 module _ {R : Type 0} (Says : R → Judgement → Type 0) (none : Bool) (read : Result R Fault) where
   pub some_judged : ((r : R) → read ≡ Ok r → (j : Judgement) × Says r j) → (j : Judgement) × JudgesAs Says none read j
@@ -28,3 +29,20 @@ module _ {R : Type 0} (Says : R → Judgement → Type 0) (none : Bool) (read : 
   -- and back
   pub judged_says : (r : R) (j : Judgement) → none ≡ false → read ≡ Ok r → JudgesAs Says none read j → Says r j
   judged_says r j e is h = subst (λ (o : Result R Fault). JudgesAs Says false o j) is (subst (λ (b : Bool). JudgesAs Says b read j) e h)
+
+-- ---- the first breach
+
+module _ {F : Type 0} (violated : F → Option ℕ) where
+  pub breach_more : (k : ℕ) (fs : List F) (f : F) → breach_from violated k (fs ++ f ∷ []) ≡ option_or (breach_from violated k fs) (violated_at (k + length fs) (violated f) None)
+  breach_more k [] f = ap (λ (n : ℕ). violated_at n (violated f) None) (omega arith)
+  breach_more k (g ∷ fs) f =
+      let rest = breach_more (suc k) fs f in
+      elim (violated g) as (λ o. violated_at k o (breach_from violated (suc k) (fs ++ f ∷ [])) ≡ option_or (violated_at k o (breach_from violated (suc k) fs)) (violated_at (k + suc (length fs)) (violated f) None)) [
+        | Some i ↦ refl
+        | None ↦ rest ∙ ap (λ (n : ℕ). option_or (breach_from violated (suc k) fs) (violated_at n (violated f) None)) (omega arith)
+      ]
+
+  -- it goes by what does not hold in each
+  pub breach_by : (k : ℕ) (fs : List F) → breach_from violated k fs ≡ breach_from (λ o. o) k (map violated fs)
+  breach_by k [] = refl
+  breach_by k (f ∷ fs) = ap (violated_at k (violated f)) (breach_by (suc k) fs)

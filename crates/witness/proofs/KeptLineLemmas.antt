@@ -11,9 +11,9 @@ use Rattle.btor2.specs.Symbols.{is_symbol}
 use Rattle.btor2.specs.declared.item.Item.{Item}
 use Rattle.witness.specs.declared.why.Why.{Why}
 use Rattle.witness.specs.declared.why.Why.TheVariants as why
-use Rattle.witness.specs.Texts.{Shape, Assignment, is_comment, shape_of}
+use Rattle.witness.specs.Texts.{Shape, Assignment, Parts, is_comment, shape_of}
 use Rattle.witness.specs.Readings.{is_nothing}
-use Rattle.witness.specs.Admits.{Cut, to_front, cut_at_space, value_of, with_symbol, with_index, assignment_at, names_free, free_assignment_at, Place, AtStatus, AtClaims, AtParts, InStates, InFree, InFrame, AtEnd, Read, begins_part, admit_at, admit}
+use Rattle.witness.specs.Admits.{Cut, to_front, cut_at_space, value_of, with_symbol, with_index, assignment_at, may_name, state_assignment_at, Place, AtStatus, AtClaims, AtParts, InStates, InFrame, AtEnd, Read, begins_part, admit_at, admit}
 use Rattle.witness.specs.KeptLines.{kept, AreAlike, IsSmall, AreSmall}
 use Rattle.witness.specs.WordStands.{WordReader, GivesLine, is_alone}
 use Rattle.witness.proofs.WordValueLemmas.{other_length}
@@ -188,16 +188,19 @@ same_either true false x y e is other = is
 same_either false true x y e is other = sym other
 same_either false false x y e is other = refl
 
-free_kept : (shape : Shape) (before : List Assignment) (line : List ℕ) → AreSmall shape.states → free_assignment_at shape before (kept line) ≡ free_assignment_at shape before line
-unfolding free_assignment_at
-free_kept shape before line small = by (tokens 342 line)
+abbrev may : Shape → List Parts → List ℕ → Bool
+may shape closed token = may_name shape closed (number_of token)
+
+state_kept : (shape : Shape) (closed : List Parts) (before : List Assignment) (line : List ℕ) → AreSmall shape.states → state_assignment_at shape closed before (kept line) ≡ state_assignment_at shape closed before line
+unfolding state_assignment_at
+state_kept shape closed before line small = by (tokens 342 line)
   where
-    by : Tokens 342 line → cond (names_free shape (number_of (cut_at_space (kept line)).0)) (assignment_at shape.states before (kept line)) (Err why.BadIndex) ≡ cond (names_free shape (number_of (cut_at_space line).0)) (assignment_at shape.states before line) (Err why.BadIndex)
-    by (Short short) = ap (λ (l : List ℕ). cond (names_free shape (number_of (cut_at_space l).0)) (assignment_at shape.states before l) (Err why.BadIndex)) (take_all 342 line short)
+    by : Tokens 342 line → cond (may shape closed (cut_at_space (kept line)).0) (assignment_at shape.states before (kept line)) (Err why.BadIndex) ≡ cond (may shape closed (cut_at_space line).0) (assignment_at shape.states before line) (Err why.BadIndex)
+    by (Short short) = ap (λ (l : List ℕ). cond (may shape closed (cut_at_space l).0) (assignment_at shape.states before l) (Err why.BadIndex)) (take_all 342 line short)
     by (Same token behind left whole front many) =
-        ap₂ (λ (t : List ℕ) (a : Result (List Assignment) Why). cond (names_free shape (number_of t)) a (Err why.BadIndex)) (ap (λ (c : Cut). c.0) front ∙ sym (ap (λ (c : Cut). c.0) whole)) (assignment_kept shape.states before small line)
+        ap₂ (λ (t : List ℕ) (a : Result (List Assignment) Why). cond (may shape closed t) a (Err why.BadIndex)) (ap (λ (c : Cut). c.0) front ∙ sym (ap (λ (c : Cut). c.0) whole)) (assignment_kept shape.states before small line)
     by (Long whole front) =
-        same_either (names_free shape (number_of (cut_at_space (kept line)).0)) (names_free shape (number_of (cut_at_space line).0)) (assignment_at shape.states before (kept line)) (assignment_at shape.states before line) (Err why.BadIndex)
+        same_either (may shape closed (cut_at_space (kept line)).0) (may shape closed (cut_at_space line).0) (assignment_at shape.states before (kept line)) (assignment_at shape.states before line) (Err why.BadIndex)
         (long_refused shape.states before small (kept line) (omega (arith, front))) (long_refused shape.states before small line (omega (arith, whole)))
 
 -- ---- a line
@@ -207,8 +210,7 @@ module _ (shape : Shape) (small : IsSmall shape) (r : Read) (few : length r.clos
   line_kept line AtStatus alone = rw (comment_kept 341 line, word_kept 342 line (codes "sat") (omega arith)) refl
   line_kept line AtClaims alone = absurd (cc alone)
   line_kept line AtParts alone = rw (number_kept line 35 0 (omega arith), number_kept line 64 0 (omega arith)) refl
-  line_kept line InStates alone = rw (number_kept line 64 0 (omega arith), begin_kept 341 line, assignment_kept shape.states r.open_part small.states line) refl
-  line_kept line InFree alone = rw (number_kept line 64 (length r.closed) (omega (arith, few)), begin_kept 341 line, free_kept shape r.open_part line small.states) refl
+  line_kept line InStates alone = rw (number_kept line 64 (length r.closed) (omega (arith, few)), begin_kept 341 line, state_kept shape r.closed r.open_part line small.states) refl
   line_kept line InFrame alone =
       rw (number_kept line 64 (suc (length r.closed)) (omega (arith, few)), number_kept line 35 (suc (length r.closed)) (omega (arith, few)), word_kept 342 line (codes ".") (omega arith), begin_kept 341 line, assignment_kept shape.inputs r.open_part small.inputs line) refl
   line_kept line AtEnd alone = refl

@@ -1,6 +1,8 @@
 -- A text has one judgement over a well-formed model: the model has one trace, and a judgement looks only at nodes with a value.
-use Rattle.std.proofs.Common.{◌≡◌, ℕ, suc, ◌+◌, Bool, true, false, cond, not, ◌&&◌, nat_eq, List, [], ◌∷◌, ◌++◌, length, flat_map, Option, Some, None, refl, sym, ap, ap₂, subst, ◌∙◌, append_assoc}
-use Rattle.std.specs.List.{list_any, position_from}
+use Rattle.std.proofs.Common.{◌≡◌, ℕ, suc, ◌+◌, Bool, true, false, cond, not, ◌&&◌, nat_eq, List, [], ◌∷◌, ◌++◌, length, map, flat_map, Option, Some, refl, sym, ap, ap₂, subst, ◌∙◌, append_assoc}
+use Rattle.std.specs.List.{list_any, list_all, position_from}
+use Rattle.std.proofs.lemmas.List.{length-map}
+use Rattle.std.proofs.lemmas.List.Folds.{list_all-map}
 use Rattle.btor2.specs.declared.item.Item.{Item}
 use Rattle.btor2.specs.declared.item.Body.{Body}
 use Rattle.btor2.specs.Items.{operands, node_width, is_bad, is_constraint}
@@ -14,10 +16,9 @@ use Rattle.witness.specs.declared.judgement.Judgement.{Judgement}
 use Rattle.witness.specs.Texts.{shape_of}
 use Rattle.witness.specs.Admits.{Read, read_text, witness_of}
 use Rattle.btor2.specs.Lists.{of_kind}
-use Rattle.witness.specs.Judgements.{Words, initial_words, given_frames, nodes_of, first_different, violated_at, violation_from, never_rises, unreached_from, when_reached, when_kept, when_begun, verdict, words_of, makes_no_claim, JudgesWords, Judges}
+use Rattle.witness.specs.Judgements.{Words, initial_words, given_frames, nodes_of, first_violated, breach_from, never_rises, unreached_from, verdict, words_of, makes_no_claim, JudgesWords, Judges}
 use Rattle.base.specs.Lines.{whole_lines}
-use Rattle.witness.proofs.JudgedLemmas.{some_judged, judged_once}
-use Rattle.witness.specs.Stands.{first_of}
+use Rattle.witness.proofs.JudgedLemmas.{some_judged, judged_once, breach_by}
 
 -- ---- the nodes of properties have values
 
@@ -58,54 +59,33 @@ first_same f g n [] h = refl
 first_same f g n (a ∷ more) h =
     ap₂ (λ (v : ℕ) (o : Option ℕ). cond (not (nat_eq v 1)) (Some n) o) h.0 (first_same f g (n + 1) more h.1)
 
-violations_same : (items : List Item) (k : ℕ) (fs gs : List Frame) → Each (HasWidth items) (nodes_of is_constraint items) → SameTrace items fs gs → violation_from items k fs ≡ violation_from items k gs
-violations_same items k [] [] h same = refl
-violations_same items k [] (g ∷ gs) h same = absurd same
-violations_same items k (f ∷ fs) [] h same = absurd same
-violations_same items k (f ∷ fs) (g ∷ gs) h same =
-    let nodes = nodes_of is_constraint items in
-    ap₂ (violated_at k)
-    (first_same f g 0 nodes (each_weaker (HasWidth items) (λ a. f a ≡ g a) nodes (λ a there. same_word items f g a same.0 there) h))
-    (violations_same items (suc k) fs gs h same.1)
+-- what each frame says of nodes is the same
+said_same : {A : Type 0} (says : Frame → A) (items : List Item) (fs gs : List Frame) → ((f g : Frame) → SameFrame items f g → says f ≡ says g) → SameTrace items fs gs → map says fs ≡ map says gs
+said_same says items [] [] each same = refl
+said_same says items [] (g ∷ gs) each same = absurd same
+said_same says items (f ∷ fs) [] each same = absurd same
+said_same says items (f ∷ fs) (g ∷ gs) each same = ap₂ (λ x xs. x ∷ xs) (each f g same.0) (said_same says items fs gs each same.1)
 
 never_same : (items : List Item) (fs gs : List Frame) (a : ℕ) → HasWidth items a → SameTrace items fs gs → never_rises fs a ≡ never_rises gs a
-never_same items [] [] a h same = refl
-never_same items [] (g ∷ gs) a h same = absurd same
-never_same items (f ∷ fs) [] a h same = absurd same
-never_same items (f ∷ fs) (g ∷ gs) a h same =
-    ap₂ (λ (v : ℕ) (b : Bool). not (nat_eq v 1) && b) (same_word items f g a same.0 h) (never_same items fs gs a h same.1)
+never_same items fs gs a h same =
+    let said = said_same (λ (f : Frame). f a) items fs gs (λ f g alike. same_word items f g a alike h) same in
+    sym (list_all-map (λ (x : ℕ). not (nat_eq x 1)) (λ (f : Frame). f a) fs) ∙ (ap (list_all (λ x. not (nat_eq x 1))) said ∙ list_all-map (λ (x : ℕ). not (nat_eq x 1)) (λ (f : Frame). f a) gs)
 
 unreached_same : (claims : List ℕ) (fs gs : List Frame) (i : ℕ) (nodes : List ℕ) → Each (λ a. never_rises fs a ≡ never_rises gs a) nodes → unreached_from claims fs i nodes ≡ unreached_from claims gs i nodes
 unreached_same claims fs gs i [] h = refl
 unreached_same claims fs gs i (a ∷ more) h =
     ap₂ (λ (b : Bool) (o : Option ℕ). cond (list_any (λ c. nat_eq c i) claims && b) (Some i) o) h.0 (unreached_same claims fs gs (suc i) more h.1)
 
-length_same : (items : List Item) (fs gs : List Frame) → SameTrace items fs gs → length fs ≡ length gs
-length_same items [] [] same = refl
-length_same items [] (g ∷ gs) same = absurd same
-length_same items (f ∷ fs) [] same = absurd same
-length_same items (f ∷ fs) (g ∷ gs) same = ap suc (length_same items fs gs same.1)
-
--- a verdict by what is looked for
-pub verdict_is : (items : List Item) (w : Words) (fs : List Frame) → first_of (first_different items (initial_words items w)) (violation_from items 0 fs) (unreached_from w.claims fs 0 (nodes_of is_bad items)) (length fs) ≡ verdict items w fs
-verdict_is items w fs =
-    let unreached : Option ℕ = unreached_from w.claims fs 0 (nodes_of is_bad items) in
-    elim (first_different items (initial_words items w)) as (λ d. first_of d (violation_from items 0 fs) unreached (length fs) ≡ when_begun items w fs d) [
-      | Some i ↦ refl
-      | None ↦
-          elim (violation_from items 0 fs) as (λ v. first_of None v unreached (length fs) ≡ when_kept items w fs v) [
-            | Some v ↦ refl
-            | None ↦ elim unreached as (λ u. first_of None None u (length fs) ≡ when_reached (length fs) u) [ Some i ↦ refl | None ↦ refl ]
-          ]
-    ]
-
 -- it goes by what traces agree on
 verdict_same : (items : List Item) (w : Words) (fs gs : List Frame) → IsWellFormed items → SameTrace items fs gs → verdict items w fs ≡ verdict items w gs
 verdict_same items w fs gs well same =
     let bads = nodes_of is_bad items in
     let reached = unreached_same w.claims fs gs 0 bads (each_weaker (HasWidth items) (λ a. never_rises fs a ≡ never_rises gs a) bads (λ a there. never_same items fs gs a there same) (nodes_have_widths is_bad items well)) in
-    let violated = violations_same items 0 fs gs (nodes_have_widths is_constraint items well) same in
-    sym (verdict_is items w fs) ∙ rw (violated, reached, length_same items fs gs same) (verdict_is items w gs)
+    let constraints = nodes_of is_constraint items in
+    let said = said_same (first_violated items) items fs gs (λ f g alike. first_same f g 0 constraints (each_weaker (HasWidth items) (λ a. f a ≡ g a) constraints (λ a there. same_word items f g a alike there) (nodes_have_widths is_constraint items well))) same in
+    let violated = breach_by (first_violated items) 0 fs ∙ (ap (breach_from (λ o. o) 0) said ∙ sym (breach_by (first_violated items) 0 gs)) in
+    let long : length fs ≡ length gs = sym (length-map fs (first_violated items)) ∙ (ap length said ∙ length-map gs (first_violated items)) in
+    rw (violated, reached, long) refl
 
 -- ---- one judgement
 

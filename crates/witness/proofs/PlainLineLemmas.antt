@@ -19,7 +19,6 @@ use Rattle.witness.specs.WordValues.{IsKnown}
 use Rattle.witness.specs.PlainLines.{NoNumber, BeginsName, NoName, BeginsWord, BeginsAssignment}
 use Rattle.witness.proofs.PieceLemmas.{decimal_digits, decimal_without, IsBinary, value_is_binary}
 use Rattle.witness.proofs.WordValueLemmas.{value_known}
-use Rattle.std.proofs.Math.Bool.{and-true}
 use Rattle.std.proofs.Math.Seq.{drop-append_seam, take-append_seam}
 use Rattle.std.proofs.lemmas.List.Quantifiers.{position-Some}
 use Rattle.std.proofs.lemmas.Iterator.Adapters.{position_from-zero}
@@ -188,17 +187,6 @@ tail_same : (x y : ℕ) (xs ys : List ℕ) → x ∷ xs ≡ y ∷ ys → xs ≡ 
 tail_same x y xs ys h = cc
 
 module _ (text behind : List ℕ) (first : ℕ) (whole : text ≡ first ∷ behind) where
-  pub name_none : first ≡ 10 → BeginsName text behind
-  name_none end = record { symbol = None; is = whole ∙ ap (λ (b : ℕ). b ∷ behind) end; valid = tt }
-
-  -- another first byte
-  pub no_name_at : (first ≡ 10 → ⊥) → (first ≡ 32 → ⊥) → NoName text
-  no_name_at end space rest begins =
-      elim (name_parts text rest begins.symbol begins.is begins.valid) [
-        | inl is ↦ end (ap (λ (l : List ℕ). get_or l 0 0) (sym whole ∙ is))
-        | inr parts ↦ space (ap (λ (l : List ℕ). get_or l 0 0) (sym whole ∙ parts.1.0))
-      ]
-
   -- a space
   pub name_behind : {A : Type 0} (o : Option A) (view : A → List ℕ) → first ≡ 32 → MatchOption o (NoName (32 ∷ behind)) (λ x. BeginsName (32 ∷ behind) (view x)) → MatchOption o (NoName text) (λ x. BeginsName text (view x))
   name_behind o view space told = subst (λ (t : List ℕ). MatchOption o (NoName t) (λ x. BeginsName t (view x))) (sym (whole ∙ ap (λ (b : ℕ). b ∷ behind) space)) told
@@ -287,23 +275,6 @@ module _ (text front behind : List ℕ) (at : ℕ) (is : Some at ≡ position is
   begins_name end rest split last symbol =
       let whole : text ≡ front ++ behind = sym (ap₂ (λ (l r : List ℕ). l ++ r) is_front is_behind ∙ take-append-drop at text) in
       record { symbol = Some front; is = ap (λ (t : List ℕ). 32 ∷ t) (whole ∙ (ap (λ (t : List ℕ). front ++ t) split ∙ ap (λ (b : ℕ). front ++ b ∷ rest) last)); valid = symbol }
-
--- 1 to 255 bytes of names, of which the first is not `;`
-pub is_a_name : (bytes rest : List ℕ) (first : ℕ) (mark : Bool) → bytes ≡ first ∷ rest → (first == 59) ≡ mark → list_all is_printed bytes ≡ true → (not mark && nat_le (length bytes) 255) ≡ is_symbol bytes
-is_a_name bytes rest first mark is e all =
-    subst (λ (l : List ℕ). list_all is_printed l ≡ true → (not mark && nat_le (length l) 255) ≡ is_symbol l) (sym is)
-    (λ printed. ap₂ (λ (m t : Bool). not m && t) (sym e) (sym (ap (λ (t : Bool). nat_le (length (first ∷ rest)) 255 && t) printed ∙ and-true (nat_le (length (first ∷ rest)) 255)))) all
-
-pub is_no_name : (bytes : List ℕ) → length bytes ≡ 0 → false ≡ is_symbol bytes
-is_no_name [] none = refl
-is_no_name (b ∷ bytes) none = absurd (omega (arith, none))
-
-pub no_name_nothing : (text : List ℕ) → length text ≡ 0 → NoName text
-no_name_nothing text none rest begins =
-    elim (name_parts text rest begins.symbol begins.is begins.valid) [
-      | inl is ↦ omega (arith, ap length is, none)
-      | inr parts ↦ omega (arith, ap length parts.1.0, none)
-    ]
 
 -- another frame's line
 pub other_frame : (text behind rest others : List ℕ) (first n frame : ℕ) → n < 2 ^ 64 → frame < 10 ^ 19 → (n ≡ frame → ⊥) → text ≡ first ∷ behind → behind ≡ decimal n ++ 10 ∷ rest → text ≡ (64 ∷ decimal frame) ++ 10 ∷ others → ⊥

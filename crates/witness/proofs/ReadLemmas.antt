@@ -1,17 +1,21 @@
--- A text that says a witness is read as it.
-use Rattle.std.proofs.Common.{◌≡◌, ℕ, suc, ◌<◌, ◌^◌, ◌==◌, Bool, true, false, not, ◌||◌, List, [], ◌∷◌, ◌++◌, Option, Some, None, Ok, IfSome, length, map, decimal, codes, append_assoc, length-append, refl, sym, ap, ◌∙◌, arith}
+-- A text that says a witness is read as it: line by line, and its lines together.
+use Rattle.std.proofs.Common.{◌≡◌, ℕ, suc, ◌<◌, ◌^◌, ◌==◌, Bool, true, false, not, ◌||◌, List, [], ◌∷◌, ◌++◌, Option, Some, None, Ok, IfSome, All, length, map, decimal, codes, append_assoc, length-append, refl, sym, ap, ◌∙◌, arith, ◌+◌, ◌≤◌}
 use Rattle.std.specs.Fmt.{digits}
 use Rattle.std.specs.List.{list_any, AllByRecursion}
 use Rattle.std.specs.Str.{bytes_eq}
-use Rattle.std.proofs.lemmas.Bool.{or_parts, and_parts, eqb-false, ne_eqb}
+use Rattle.std.proofs.lemmas.Bool.{or_parts, or_from, and_parts, eqb-false, ne_eqb}
 use Rattle.std.proofs.lemmas.List.{append-nil, map-append}
-use Rattle.std.proofs.lemmas.List.Elements.{recursion_from_All}
+use Rattle.std.proofs.lemmas.List.Elements.{All-weaker, recursion_from_All}
 use Rattle.std.proofs.lemmas.List.Folds.{list_any-append}
 use Rattle.std.proofs.lemmas.Slice.Eq.{bytes_eq-Decides}
-use Rattle.witness.specs.Texts.{Shape, is_free_index, has_free, Assignment, Parts, assignment_line, assignment_lines, states_lines, frame_lines, is_comment, are_distinct, IsAssignment, IsPart, IsFreePart, IsLater}
-use Rattle.witness.specs.Admits.{assignment_at, free_assignment_at, claims_at, AtClaims, AtParts, InStates, InFree, InFrame, AtEnd, Read, nothing_read, admit, word_reader}
-use Rattle.witness.proofs.ReadingLemmas.{admit_all, admitted}
-use Rattle.witness.proofs.AssignmentLemmas.{stands_in, assignment_at-assignment_line, free_assignment_at-assignment_line, IsPlain, assignment_line_is_plain}
+use Rattle.witness.specs.Texts.{Shape, has_free, Assignment, Parts, assignment_line, assignment_lines, states_lines, frame_lines, is_comment, are_distinct, IsAssignment, IsPart, IsFreePart, IsLater, Witness, claims_line, witness_lines, IsFirst, AreFrames, IsWitness, most_lines, Says}
+use Rattle.witness.specs.Admits.{assignment_at, may_name, state_assignment_at, claims_at, AtStatus, AtClaims, AtParts, InStates, InFrame, AtEnd, Read, nothing_read, states_closed, frame_closed, admit, word_reader, read_text}
+use Rattle.witness.proofs.ReadingLemmas.{admit_all, admitted, text_is_read}
+use Rattle.witness.proofs.AssignmentLemmas.{stands_in, assignment_at-assignment_line, state_assignment_at-assignment_line, IsPlain, assignment_line_is_plain, assignment_line_is_line, claims_line_is_line}
+use Rattle.base.specs.Lines.{IsLine, whole_lines, unfinished}
+use Rattle.base.proofs.LineLemmas.{EachLine, lines_of_text, unfinished_of_text}
+use Rattle.witness.proofs.PieceLemmas.{decimal_without}
+use Rattle.witness.proofs.ClaimLemmas.{claims_at-claims_line}
 
 -- the decimals of a model's properties, states and inputs can be read
 pub record IsSmall (shape : Shape) : Type 0 where
@@ -42,6 +46,17 @@ none_before (x ∷ xs) y ys h =
     let first = ne_eqb x y (λ e. eqb-false y x (or_parts (y == x) (list_any (λ z. z == x) ys) behind).0 (sym e)) in
     rw first (none_before xs y ys parts.1)
 
+-- a number that is none of some distinct ones, behind them
+pub distinct_with : (xs : List ℕ) (y : ℕ) → are_distinct xs ≡ true → list_any (λ x. x == y) xs ≡ false → are_distinct (xs ++ y ∷ []) ≡ true
+distinct_with [] y distinct new = refl
+distinct_with (x ∷ xs) y distinct new =
+    let parts = and_parts (not (list_any (λ z. z == x) xs)) (are_distinct xs) distinct in
+    let apart = or_parts (x == y) (list_any (λ z. z == y) xs) new in
+    let other : (y == x) ≡ false = ne_eqb y x (λ e. eqb-false x y apart.0 (sym e)) in
+    let first : list_any (λ z. z == x) xs ≡ false = was_false (list_any (λ z. z == x) xs) parts.0 in
+    let all : list_any (λ z. z == x) (xs ++ y ∷ []) ≡ false = list_any-append (λ z. z == x) xs (y ∷ []) ∙ or_from (list_any (λ z. z == x) xs) ((y == x) || false) first (or_from (y == x) false other refl) in
+    rw all (distinct_with xs y parts.1 apart.1)
+
 -- ---- line by line
 
 -- the parts of a frame
@@ -55,11 +70,8 @@ at_claims = record { place = AtClaims; claims = []; closed = []; states = None; 
 abbrev pub at_parts : List ℕ → Read
 at_parts claims = record { place = AtParts; claims = claims; closed = []; states = None; open_part = [] }
 
-abbrev pub in_states : List ℕ → List Assignment → Read
-in_states claims list = record { place = InStates; claims = claims; closed = []; states = None; open_part = list }
-
-abbrev pub in_free : List ℕ → List Parts → List Assignment → Read
-in_free claims closed list = record { place = InFree; claims = claims; closed = closed; states = None; open_part = list }
+abbrev pub in_states : List ℕ → List Parts → List Assignment → Read
+in_states claims closed list = record { place = InStates; claims = claims; closed = closed; states = None; open_part = list }
 
 abbrev pub in_frame : List ℕ → List Parts → Option (List Assignment) → List Assignment → Read
 in_frame claims closed states list = record { place = InFrame; claims = claims; closed = closed; states = states; open_part = list }
@@ -71,71 +83,52 @@ pub comment_line : (shape : Shape) (line : List ℕ) → is_comment line ≡ tru
 unfolding admit
 comment_line shape line is = rw is refl
 
-pub status_line : (shape : Shape) → admit shape nothing_read (codes "sat") ≡ Ok at_claims
-unfolding admit
-status_line shape = refl
+same_line : (line : List ℕ) → bytes_eq line line ≡ true
+same_line line = (bytes_eq-Decides line line).1 refl
 
-pub line_of_claims : (shape : Shape) (line claims : List ℕ) → claims_at shape.bads line ≡ Ok claims → admit shape at_claims line ≡ Ok (at_parts claims)
-unfolding admit
-line_of_claims shape line claims h = rw h refl
+-- whatever was read before
+module _ (shape : Shape) (r : Read) where
+  pub status_line : r.place ≡ AtStatus → admit shape r (codes "sat") ≡ Ok (record r { place = AtClaims })
+  unfolding admit
+  status_line at = rw at refl
 
-pub states_begin : (shape : Shape) (claims : List ℕ) → admit shape (at_parts claims) (35 ∷ decimal 0) ≡ Ok (in_states claims [])
-unfolding admit digits
-states_begin shape claims = refl
+  pub line_of_claims : (line claims : List ℕ) → r.place ≡ AtClaims → claims_at shape.bads line ≡ Ok claims → admit shape r line ≡ Ok (record r { place = AtParts; claims = claims })
+  unfolding admit
+  line_of_claims line claims at h = rw (at, h) refl
 
-pub frames_begin : (shape : Shape) (claims : List ℕ) → admit shape (at_parts claims) (64 ∷ decimal 0) ≡ Ok (in_frame claims [] None [])
-unfolding admit digits
-frames_begin shape claims = refl
+  pub states_begin : r.place ≡ AtParts → admit shape r (35 ∷ decimal 0) ≡ Ok (record r { place = InStates })
+  unfolding admit digits
+  states_begin at = rw at refl
 
-pub states_end : (shape : Shape) (claims : List ℕ) (list : List Assignment) → admit shape (in_states claims list) (64 ∷ decimal 0) ≡ Ok (in_frame claims [] (Some list) [])
-unfolding admit digits
-states_end shape claims list = refl
+  pub frames_begin : r.place ≡ AtParts → admit shape r (64 ∷ decimal 0) ≡ Ok (record r { place = InFrame })
+  unfolding admit digits
+  frames_begin at = rw at refl
 
-pub free_end : (shape : Shape) (claims : List ℕ) (closed : List Parts) (list : List Assignment)
-    → admit shape (in_free claims closed list) (64 ∷ decimal (length closed)) ≡ Ok (in_frame claims closed (Some list) [])
-unfolding admit
-free_end shape claims closed list =
-    let line : List ℕ = 64 ∷ decimal (length closed) in
-    let same : bytes_eq line line ≡ true = (bytes_eq-Decides line line).1 refl in
-    rw same refl
+  pub states_end : r.place ≡ InStates → admit shape r (64 ∷ decimal (length r.closed)) ≡ Ok (states_closed r)
+  unfolding admit
+  states_end at = rw (at, same_line (64 ∷ decimal (length r.closed))) refl
 
-next_frame : (shape : Shape) (claims : List ℕ) (closed : List Parts) (states : Option (List Assignment)) (list : List Assignment)
-    → admit shape (in_frame claims closed states list) (64 ∷ decimal (suc (length closed))) ≡ Ok (in_frame claims (closed ++ parts_of states list ∷ []) None [])
-unfolding admit
-next_frame shape claims closed states list =
-    let line : List ℕ = 64 ∷ decimal (suc (length closed)) in
-    let same : bytes_eq line line ≡ true = (bytes_eq-Decides line line).1 refl in
-    rw same refl
+  next_frame : r.place ≡ InFrame → admit shape r (64 ∷ decimal (suc (length r.closed))) ≡ Ok (frame_closed InFrame r)
+  unfolding admit
+  next_frame at = rw (at, same_line (64 ∷ decimal (suc (length r.closed)))) refl
 
-next_states : (shape : Shape) (claims : List ℕ) (closed : List Parts) (states : Option (List Assignment)) (list : List Assignment) → has_free shape ≡ true
-    → admit shape (in_frame claims closed states list) (35 ∷ decimal (suc (length closed))) ≡ Ok (in_free claims (closed ++ parts_of states list ∷ []) [])
-unfolding admit
-next_states shape claims closed states list some =
-    let line : List ℕ = 35 ∷ decimal (suc (length closed)) in
-    let same : bytes_eq line line ≡ true = (bytes_eq-Decides line line).1 refl in
-    rw (same, some) refl
+  next_states : r.place ≡ InFrame → has_free shape ≡ true → admit shape r (35 ∷ decimal (suc (length r.closed))) ≡ Ok (frame_closed InStates r)
+  unfolding admit
+  next_states at some = rw (at, same_line (35 ∷ decimal (suc (length r.closed))), some) refl
 
-pub last_line : (shape : Shape) (claims : List ℕ) (closed : List Parts) (states : Option (List Assignment)) (list : List Assignment)
-    → admit shape (in_frame claims closed states list) (codes ".") ≡ Ok (at_end claims (closed ++ parts_of states list ∷ []))
-unfolding admit
-last_line shape claims closed states list = refl
+  pub last_line : r.place ≡ InFrame → admit shape r (codes ".") ≡ Ok (frame_closed AtEnd r)
+  unfolding admit
+  last_line at = rw at refl
 
-line_in_states : (shape : Shape) (claims : List ℕ) (before : List Assignment) (line : List ℕ) (list : List Assignment) → IsPlain line
-    → assignment_at shape.states before line ≡ Ok list → admit shape (in_states claims before) line ≡ Ok (in_states claims list)
-unfolding admit
-line_in_states shape claims before line list plain h = rw (plain.no_frame (decimal 0), plain.no_part, h) refl
+  line_in_states : (line : List ℕ) (list : List Assignment) → r.place ≡ InStates → IsPlain line → state_assignment_at shape r.closed r.open_part line ≡ Ok list → admit shape r line ≡ Ok (record r { open_part = list })
+  unfolding admit
+  line_in_states line list at plain h = rw (at, plain.no_frame (decimal (length r.closed)), plain.no_part, h) refl
 
-line_in_free : (shape : Shape) (claims : List ℕ) (closed : List Parts) (before : List Assignment) (line : List ℕ) (list : List Assignment) → IsPlain line
-    → free_assignment_at shape before line ≡ Ok list → admit shape (in_free claims closed before) line ≡ Ok (in_free claims closed list)
-unfolding admit
-line_in_free shape claims closed before line list plain h = rw (plain.no_frame (decimal (length closed)), plain.no_part, h) refl
-
-line_in_frame : (shape : Shape) (claims : List ℕ) (closed : List Parts) (states : Option (List Assignment)) (before : List Assignment) (line : List ℕ) (list : List Assignment) → IsPlain line
-    → assignment_at shape.inputs before line ≡ Ok list → admit shape (in_frame claims closed states before) line ≡ Ok (in_frame claims closed states list)
-unfolding admit
-line_in_frame shape claims closed states before line list plain h =
-    let k : ℕ = suc (length closed) in
-    rw (plain.no_frame (decimal k), plain.no_states (decimal k), plain.no_end, plain.no_part, h) refl
+  line_in_frame : (line : List ℕ) (list : List Assignment) → r.place ≡ InFrame → IsPlain line → assignment_at shape.inputs r.open_part line ≡ Ok list → admit shape r line ≡ Ok (record r { open_part = list })
+  unfolding admit
+  line_in_frame line list at plain h =
+      let k : ℕ = suc (length r.closed) in
+      rw (at, plain.no_frame (decimal k), plain.no_states (decimal k), plain.no_end, plain.no_part, h) refl
 
 -- ---- a part
 
@@ -159,29 +152,47 @@ part_read shape widths at Valid step before (a ∷ list) tail each distinct =
     ∙ (part_read shape widths at Valid step (before ++ a ∷ []) list tail each.1 (moved before a list distinct)
     ∙ ap (λ (l : List Assignment). admit_all (word_reader shape) (at l) tail) (append_assoc before (a ∷ []) list))
 
-pub states_part : (shape : Shape) (claims : List ℕ) (list : List Assignment) (tail : List (List ℕ)) → IsSmall shape → IsPart shape.states list
-    → admit_all (word_reader shape) (in_states claims []) (assignment_lines shape.states list ++ tail) ≡ admit_all (word_reader shape) (in_states claims list) tail
-states_part shape claims list tail small part =
-    part_read shape shape.states (in_states claims) (IsAssignment shape.states)
-    (λ before a is new. line_in_states shape claims before (assignment_line shape.states a) (before ++ a ∷ []) (assignment_line_is_plain shape.states a small.states is) (assignment_at-assignment_line shape.states before a small.states is new)) [] list tail
-    (recursion_from_All (IsAssignment shape.states) list part.each) part.distinct
+-- what a part of states may say behind these frames
+abbrev pub IsStates : Shape → List Parts → List Assignment → Type 0
+IsStates shape [] list = IsPart shape.states list
+IsStates shape (x ∷ xs) list = IsFreePart shape list
 
-free_part : (shape : Shape) (claims : List ℕ) (closed : List Parts) (list : List Assignment) (tail : List (List ℕ)) → IsSmall shape → IsFreePart shape list
-    → admit_all (word_reader shape) (in_free claims closed []) (assignment_lines shape.states list ++ tail) ≡ admit_all (word_reader shape) (in_free claims closed list) tail
-free_part shape claims closed list tail small part =
-    part_read shape shape.states (in_free claims closed) (λ a. IsAssignment shape.states a × (is_free_index shape a.index ≡ true))
-    (λ before a is new. line_in_free shape claims closed before (assignment_line shape.states a) (before ++ a ∷ []) (assignment_line_is_plain shape.states a small.states is.0) (free_assignment_at-assignment_line shape before a small.states is.0 is.1 new)) [] list
-    tail (both list (recursion_from_All (IsAssignment shape.states) list part.part.each) (recursion_from_All (λ (a : Assignment). is_free_index shape a.index ≡ true) list part.free)) part.part.distinct
+pub later_states : (shape : Shape) (closed : List Parts) (last : Parts) (list : List Assignment) → IsFreePart shape list → IsStates shape (closed ++ last ∷ []) list
+later_states shape [] last list part = part
+later_states shape (x ∷ xs) last list part = part
+
+-- an assignment that may stand there
+abbrev MayStand : Shape → List Parts → Assignment → Type 0
+MayStand shape closed a = may_name shape closed (Some a.index) ≡ true
+
+each_may_stand : (shape : Shape) (closed : List Parts) (list : List Assignment) → IsStates shape closed list → IsPart shape.states list × All (MayStand shape closed) list
+each_may_stand shape [] list part = (part, All-weaker (IsAssignment shape.states) (MayStand shape []) (λ a h. refl) list part.each)
+each_may_stand shape (x ∷ xs) list part = (part.part, part.free)
+
+states_part : (shape : Shape) (claims : List ℕ) (closed : List Parts) (list : List Assignment) (tail : List (List ℕ)) → IsSmall shape → IsStates shape closed list
+    → admit_all (word_reader shape) (in_states claims closed []) (assignment_lines shape.states list ++ tail) ≡ admit_all (word_reader shape) (in_states claims closed list) tail
+states_part shape claims closed list tail small part =
+    let are = each_may_stand shape closed list part in
+    part_read shape shape.states (in_states claims closed) (λ a. IsAssignment shape.states a × MayStand shape closed a)
+    (λ before a is new. line_in_states shape (in_states claims closed before) (assignment_line shape.states a) (before ++ a ∷ []) refl (assignment_line_is_plain shape.states a small.states is.0) (state_assignment_at-assignment_line shape closed before a small.states is.0 is.1 new)) []
+    list tail (both list (recursion_from_All (IsAssignment shape.states) list are.0.each) (recursion_from_All (MayStand shape closed) list are.1)) are.0.distinct
   where
-    both : (l : List Assignment) → AllByRecursion (IsAssignment shape.states) l → AllByRecursion (λ a. is_free_index shape a.index ≡ true) l → AllByRecursion (λ a. IsAssignment shape.states a × (is_free_index shape a.index ≡ true)) l
-    both [] each free = tt
-    both (a ∷ l) each free = ((each.0, free.0), both l each.1 free.1)
+    both : (l : List Assignment) → AllByRecursion (IsAssignment shape.states) l → AllByRecursion (MayStand shape closed) l → AllByRecursion (λ a. IsAssignment shape.states a × MayStand shape closed a) l
+    both [] each may = tt
+    both (a ∷ l) each may = ((each.0, may.0), both l each.1 may.1)
+
+-- with the line behind it
+pub states_read : (shape : Shape) (claims : List ℕ) (closed : List Parts) (list : List Assignment) (tail : List (List ℕ)) → IsSmall shape → IsStates shape closed list
+    → admit_all (word_reader shape) (in_states claims closed []) (assignment_lines shape.states list ++ ((64 ∷ decimal (length closed)) ∷ tail)) ≡ admit_all (word_reader shape) (in_frame claims closed (Some list) []) tail
+states_read shape claims closed list tail small part =
+    states_part shape claims closed list ((64 ∷ decimal (length closed)) ∷ tail) small part
+    ∙ admitted (word_reader shape) (in_states claims closed list) (64 ∷ decimal (length closed)) (in_frame claims closed (Some list) []) tail (states_end shape (in_states claims closed list) refl)
 
 inputs_part : (shape : Shape) (claims : List ℕ) (closed : List Parts) (states : Option (List Assignment)) (list : List Assignment) (tail : List (List ℕ)) → IsSmall shape → IsPart shape.inputs list
     → admit_all (word_reader shape) (in_frame claims closed states []) (assignment_lines shape.inputs list ++ tail) ≡ admit_all (word_reader shape) (in_frame claims closed states list) tail
 inputs_part shape claims closed states list tail small part =
     part_read shape shape.inputs (in_frame claims closed states) (IsAssignment shape.inputs)
-    (λ before a is new. line_in_frame shape claims closed states before (assignment_line shape.inputs a) (before ++ a ∷ []) (assignment_line_is_plain shape.inputs a small.inputs is) (assignment_at-assignment_line shape.inputs before a small.inputs is new)) []
+    (λ before a is new. line_in_frame shape (in_frame claims closed states before) (assignment_line shape.inputs a) (before ++ a ∷ []) refl (assignment_line_is_plain shape.inputs a small.inputs is) (assignment_at-assignment_line shape.inputs before a small.inputs is new)) []
     list tail (recursion_from_All (IsAssignment shape.inputs) list part.each) part.distinct
 
 -- ---- the frames, and the line behind them
@@ -201,21 +212,20 @@ next_begins : (shape : Shape) (claims : List ℕ) (closed : List Parts) (states 
     ≡ admit_all (word_reader shape) (in_frame claims (closed ++ parts_of states list ∷ []) next []) tail
 next_begins shape claims closed states list None tail small part =
     let k : ℕ = suc (length closed) in
-    admitted (word_reader shape) (in_frame claims closed states list) (64 ∷ decimal k) (in_frame claims (closed ++ parts_of states list ∷ []) None []) tail (next_frame shape claims closed states list)
+    admitted (word_reader shape) (in_frame claims closed states list) (64 ∷ decimal k) (in_frame claims (closed ++ parts_of states list ∷ []) None []) tail (next_frame shape (in_frame claims closed states list) refl)
 next_begins shape claims closed states list (Some free) tail small part =
     let k : ℕ = suc (length closed) in
     let others : List Parts = closed ++ parts_of states list ∷ [] in
     let count : k ≡ length others = omega (arith, length-append closed (parts_of states list ∷ [])) in
-    admitted (word_reader shape) (in_frame claims closed states list) (35 ∷ decimal k) (in_free claims others []) (assignment_lines shape.states free ++ ((64 ∷ decimal k) ∷ tail)) (next_states shape claims closed states list part.some)
-    ∙ (free_part shape claims others free ((64 ∷ decimal k) ∷ tail) small part
-    ∙ (ap (λ (n : ℕ). admit_all (word_reader shape) (in_free claims others free) ((64 ∷ decimal n) ∷ tail)) count
-    ∙ admitted (word_reader shape) (in_free claims others free) (64 ∷ decimal (length others)) (in_frame claims others (Some free) []) tail (free_end shape claims others free)))
+    admitted (word_reader shape) (in_frame claims closed states list) (35 ∷ decimal k) (in_states claims others []) (assignment_lines shape.states free ++ ((64 ∷ decimal k) ∷ tail)) (next_states shape (in_frame claims closed states list) refl part.some)
+    ∙ (ap (λ (n : ℕ). admit_all (word_reader shape) (in_states claims others []) (assignment_lines shape.states free ++ ((64 ∷ decimal n) ∷ tail))) count
+    ∙ states_read shape claims others free tail small (later_states shape closed (parts_of states list) free part))
 
 pub frames_part : (shape : Shape) (claims : List ℕ) (closed : List Parts) (states : Option (List Assignment)) (list : List Assignment) (more : List Parts) → IsSmall shape → IsPart shape.inputs list → AllByRecursion (IsLater shape) more
     → admit_all (word_reader shape) (in_frame claims closed states []) (assignment_lines shape.inputs list ++ (frame_lines shape (suc (length closed)) more ++ codes "." ∷ [])) ≡ Ok (at_end claims (closed ++ parts_of states list ∷ more))
 frames_part shape claims closed states list [] small part parts =
     inputs_part shape claims closed states list (codes "." ∷ []) small part
-    ∙ admitted (word_reader shape) (in_frame claims closed states list) (codes ".") (at_end claims (closed ++ parts_of states list ∷ [])) [] (last_line shape claims closed states list)
+    ∙ admitted (word_reader shape) (in_frame claims closed states list) (codes ".") (at_end claims (closed ++ parts_of states list ∷ [])) [] (last_line shape (in_frame claims closed states list) refl)
 frames_part shape claims closed states list (next ∷ more) small part parts =
     let k : ℕ = suc (length closed) in
     let others : List Parts = closed ++ parts_of states list ∷ [] in
@@ -228,3 +238,122 @@ frames_part shape claims closed states list (next ∷ more) small part parts =
     ∙ (ap (λ (n : ℕ). admit_all (word_reader shape) (in_frame claims others next.states []) (here ++ (frame_lines shape n more ++ codes "." ∷ []))) count
     ∙ (frames_part shape claims others next.states next.inputs more small parts.0.inputs parts.1
     ∙ ap (λ (fs : List Parts). Ok (at_end claims fs)) (append_assoc closed (parts_of states list ∷ []) (next ∷ more))))))
+
+-- ---- the frames behind the claims
+
+-- the lines of the frames and the last one
+abbrev pub frames_and_end : Shape → List Parts → List (List ℕ)
+frames_and_end shape frames = frame_lines shape 0 frames ++ codes "." ∷ []
+
+-- the first frame begins, by its states or by its line
+first_begins : (shape : Shape) (claims : List ℕ) (states : Option (List Assignment)) (tail : List (List ℕ)) → IsSmall shape → IfSome states (IsPart shape.states)
+    → admit_all (word_reader shape) (at_parts claims) (states_lines shape.states 0 states ++ ((64 ∷ decimal 0) ∷ tail)) ≡ admit_all (word_reader shape) (in_frame claims [] states []) tail
+first_begins shape claims None tail small part = admitted (word_reader shape) (at_parts claims) (64 ∷ decimal 0) (in_frame claims [] None []) tail (frames_begin shape (at_parts claims) refl)
+first_begins shape claims (Some list) tail small part =
+    admitted (word_reader shape) (at_parts claims) (35 ∷ decimal 0) (in_states claims [] []) (assignment_lines shape.states list ++ ((64 ∷ decimal 0) ∷ tail)) (states_begin shape (at_parts claims) refl)
+    ∙ states_read shape claims [] list tail small part
+
+frames_read : (shape : Shape) (claims : List ℕ) (first : Parts) (more : List Parts) → IsSmall shape → IsFirst shape first → AllByRecursion (IsLater shape) more
+    → admit_all (word_reader shape) (at_parts claims) (frames_and_end shape (first ∷ more)) ≡ Ok (at_end claims (first ∷ more))
+frames_read shape claims first more small parts later =
+    let tail : List (List ℕ) = assignment_lines shape.inputs first.inputs ++ (frame_lines shape 1 more ++ codes "." ∷ []) in
+    ap (admit_all (word_reader shape) (at_parts claims)) (frame_lines-behind shape 0 first more (codes "." ∷ []))
+    ∙ (first_begins shape claims first.states tail small parts.states
+    ∙ frames_part shape claims [] first.states first.inputs more small parts.inputs later)
+
+-- ---- the comments, the status and the claims
+
+comments_read : (shape : Shape) (comments lines : List (List ℕ)) → AllByRecursion (λ line. is_comment line ≡ true) comments
+    → admit_all (word_reader shape) nothing_read (comments ++ lines) ≡ admit_all (word_reader shape) nothing_read lines
+comments_read shape [] lines each = refl
+comments_read shape (line ∷ comments) lines each =
+    admitted (word_reader shape) nothing_read line nothing_read (comments ++ lines) (comment_line shape line each.0) ∙ comments_read shape comments lines each.1
+
+-- what a witness says is what its lines are read as
+abbrev pub all_read : Witness → Read
+all_read w = at_end w.claims w.frames
+
+all_frames_read : (shape : Shape) (claims : List ℕ) (frames : List Parts) → IsSmall shape → AreFrames shape frames
+    → admit_all (word_reader shape) (at_parts claims) (frames_and_end shape frames) ≡ Ok (at_end claims frames)
+all_frames_read shape claims [] small valid = absurd valid
+all_frames_read shape claims (first ∷ more) small valid = frames_read shape claims first more small valid.0 (recursion_from_All (IsLater shape) more valid.1)
+
+witness_read : (shape : Shape) (comments : List (List ℕ)) (w : Witness) → IsSmall shape → AllByRecursion (λ line. is_comment line ≡ true) comments → IsWitness shape w
+    → admit_all (word_reader shape) nothing_read (witness_lines shape comments w) ≡ Ok (all_read w)
+witness_read shape comments w small marked valid =
+    let after : List (List ℕ) = frames_and_end shape w.frames in
+    let claims = line_of_claims shape at_claims (claims_line w.claims) w.claims refl (claims_at-claims_line shape.bads w.claims small.bads valid.some_claim (recursion_from_All (λ i. i < shape.bads) w.claims valid.claims) valid.distinct) in
+    comments_read shape comments (codes "sat" ∷ claims_line w.claims ∷ after) marked
+    ∙ (admitted (word_reader shape) nothing_read (codes "sat") at_claims (claims_line w.claims ∷ after) (status_line shape nothing_read refl)
+    ∙ (admitted (word_reader shape) at_claims (claims_line w.claims) (at_parts w.claims) after claims
+    ∙ all_frames_read shape w.claims w.frames small valid.frames))
+
+-- ---- no line has a byte 10
+
+each_append : (front back : List (List ℕ)) → EachLine front → EachLine back → EachLine (front ++ back)
+each_append [] back f b = b
+each_append (line ∷ front) back f b = (f.0, each_append front back f.1 b)
+
+each_assignment : (widths : List ℕ) (list : List Assignment) → length widths < 2 ^ 64 → AllByRecursion (IsAssignment widths) list → EachLine (assignment_lines widths list)
+each_assignment widths [] small each = tt
+each_assignment widths (a ∷ list) small each = (assignment_line_is_line widths a small each.0, each_assignment widths list small each.1)
+
+-- any frame is one that the first may be
+later_is_first : (shape : Shape) (more : List Parts) → AllByRecursion (IsLater shape) more → AllByRecursion (IsFirst shape) more
+later_is_first shape [] later = tt
+later_is_first shape (parts ∷ more) later = (record { states = any_states shape parts.states later.0.states; inputs = later.0.inputs }, later_is_first shape more later.1)
+  where
+    any_states : (shape : Shape) (states : Option (List Assignment)) → IfSome states (IsFreePart shape) → IfSome states (IsPart shape.states)
+    any_states shape None free = tt
+    any_states shape (Some list) free = free.part
+
+each_are_frames : (shape : Shape) (frames : List Parts) → AreFrames shape frames → AllByRecursion (IsFirst shape) frames
+each_are_frames shape [] valid = absurd valid
+each_are_frames shape (first ∷ more) valid = (valid.0, later_is_first shape more (recursion_from_All (IsLater shape) more valid.1))
+
+each_states : (widths : List ℕ) (k : ℕ) (states : Option (List Assignment)) → length widths < 2 ^ 64 → k < 2 ^ 64 → IfSome states (IsPart widths) → EachLine (states_lines widths k states)
+each_states widths k None small lt part = tt
+each_states widths k (Some list) small lt part = (decimal_without 10 k (omega arith) lt, each_assignment widths list small (recursion_from_All (IsAssignment widths) list part.each))
+
+each_frame : (shape : Shape) (k : ℕ) (frames : List Parts) → IsSmall shape → k + length frames ≤ 2 ^ 62 → AllByRecursion (IsFirst shape) frames → EachLine (frame_lines shape k frames)
+each_frame shape k [] small few all = tt
+each_frame shape k (parts ∷ more) small few all =
+    let lt : k < 2 ^ 64 = omega arith in
+    let fewer : suc k + length more ≤ 2 ^ 62 = omega arith in
+    let here = each_assignment shape.inputs parts.inputs small.inputs (recursion_from_All (IsAssignment shape.inputs) parts.inputs all.0.inputs.each) in
+    let inputs = each_append (assignment_lines shape.inputs parts.inputs) (frame_lines shape (suc k) more) here (each_frame shape (suc k) more small fewer all.1) in
+    each_append (states_lines shape.states k parts.states) ((64 ∷ decimal k) ∷ (assignment_lines shape.inputs parts.inputs ++ frame_lines shape (suc k) more))
+    (each_states shape.states k parts.states small.states lt all.0.states) (decimal_without 10 k (omega arith) lt, inputs)
+
+-- each frame has a line
+pub frames_have_lines : (shape : Shape) (k : ℕ) (frames : List Parts) → length frames ≤ length (frame_lines shape k frames)
+frames_have_lines shape k [] = omega arith
+frames_have_lines shape k (parts ∷ more) =
+    let others = frames_have_lines shape (suc k) more in
+    let behind : List (List ℕ) = (64 ∷ decimal k) ∷ (assignment_lines shape.inputs parts.inputs ++ frame_lines shape (suc k) more) in
+    omega (arith, length-append (states_lines shape.states k parts.states) behind, length-append (assignment_lines shape.inputs parts.inputs) (frame_lines shape (suc k) more))
+
+few_frames : (shape : Shape) (comments : List (List ℕ)) (w : Witness) → length (witness_lines shape comments w) ≤ most_lines → length w.frames ≤ 2 ^ 62
+few_frames shape comments w few =
+    let frames : List (List ℕ) = frame_lines shape 0 w.frames in
+    omega (arith, length-append comments (codes "sat" ∷ (claims_line w.claims ∷ frames_and_end shape w.frames)), length-append frames (codes "." ∷ []), frames_have_lines shape 0 w.frames)
+
+each_witness_line : (shape : Shape) (comments : List (List ℕ)) (w : Witness) → IsSmall shape → EachLine comments → IsWitness shape w → length (witness_lines shape comments w) ≤ most_lines → EachLine (witness_lines shape comments w)
+each_witness_line shape comments w small lines valid few =
+    let claims = claims_line_is_line shape.bads w.claims small.bads (recursion_from_All (λ i. i < shape.bads) w.claims valid.claims) in
+    let number : 0 + length w.frames ≤ 2 ^ 62 = omega (arith, few_frames shape comments w few) in
+    let frames = each_frame shape 0 w.frames small number (each_are_frames shape w.frames valid.frames) in
+    each_append comments (codes "sat" ∷ (claims_line w.claims ∷ frames_and_end shape w.frames)) lines
+    (refl, (claims, each_append (frame_lines shape 0 w.frames) (codes "." ∷ []) frames (refl, tt)))
+
+-- ---- the whole text
+
+-- a text that says a witness is read as it
+pub says_read : (shape : Shape) (text : List ℕ) (w : Witness) → IsSmall shape → Says shape text w → read_text shape text ≡ Ok (all_read w)
+says_read shape text w small says =
+    let lines : List (List ℕ) = witness_lines shape says.comments w in
+    let each = each_witness_line shape says.comments w small (recursion_from_All IsLine says.comments says.lines) says.valid says.few in
+    let whole : whole_lines text ≡ lines = ap whole_lines says.whole ∙ lines_of_text lines each in
+    let rest : unfinished text ≡ [] = ap unfinished says.whole ∙ unfinished_of_text lines in
+    let read = witness_read shape says.comments w small (recursion_from_All (λ line. is_comment line ≡ true) says.comments says.marked) says.valid in
+    text_is_read (word_reader shape) text (all_read w) (ap (admit_all (word_reader shape) nothing_read) whole ∙ read) refl rest (omega (arith, says.few, ap length whole))

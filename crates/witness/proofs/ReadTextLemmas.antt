@@ -1,195 +1,328 @@
--- A text that is read says what it is read as: all its lines.
-use Rattle.std.proofs.Common.{◌≡◌, ℕ, suc, ◌<◌, ◌≤◌, true, List, [], ◌∷◌, ◌++◌, Option, Some, None, Ok, length, decimal, codes, append_assoc, inl, inr, refl, sym, ap, ap₂, subst, ◌∙◌}
-use Rattle.std.proofs.lemmas.List.{append-nil}
-use Rattle.std.proofs.lemmas.List.Elements.{All-from_recursion, All-nil}
+-- A text that is read says what it is read as, and whole lines are all admitted exactly where further lines make them the text of a witness.
+use Rattle.std.proofs.Common.{◌≡◌, ℕ, suc, ◌+◌, ◌<◌, ◌≤◌, ◌==◌, true, false, cond, ◌&&◌, List, [], ◌∷◌, ◌++◌, Option, Some, None, IfSome, Result, Ok, Err, length, decimal, codes, append_assoc, length-append, inl, inr, refl, sym, ap, subst, ◌∙◌, arith}
+use Rattle.std.specs.List.{list_any, AllByRecursion}
+use Rattle.std.specs.Str.{bytes_eq}
+use Rattle.std.proofs.lemmas.Bool.{and_parts}
+use Rattle.std.proofs.lemmas.List.{append-nil, map-append}
+use Rattle.std.proofs.lemmas.List.Elements.{All-push, All-nil, All-from_recursion}
+use Rattle.std.proofs.lemmas.Slice.Eq.{bytes_eq-Decides}
 use Rattle.base.specs.Lines.{IsLine, text_of_lines, whole_lines, unfinished}
+use Rattle.base.proofs.DecimalLemmas.{chosen}
 use Rattle.base.proofs.LineLemmas.{EachLine, each_front, lines_are_lines, parts_of_text}
-use Rattle.witness.specs.Texts.{Shape, Assignment, Parts, Witness, assignment_line, claims_line, states_lines, frame_lines, witness_lines, is_comment, IsPart, IsFreePart, IsLater, AreFrames, IsWitness, most_lines, Says}
-use Rattle.witness.specs.Admits.{Read, nothing_read, admit, is_at_end, word_reader, read_text, witness_of}
-use Rattle.witness.proofs.ClaimLemmas.{AreClaims}
-use Rattle.witness.proofs.AssignmentLemmas.{IsAssigned, IsFreeAssigned}
-use Rattle.witness.proofs.ReadingLemmas.{admit_all, admit_parts, text_was_read}
-use Rattle.witness.proofs.ReadLemmas.{IsSmall, parts_of, at_claims, at_parts, in_states, in_free, in_frame}
-use Rattle.witness.proofs.WitnessTextLemmas.{all_read, frames_and_end, says_read}
-use Rattle.witness.proofs.AdmittedLineLemmas.{behind_comments, behind_status, behind_claims, behind_states, behind_free, BehindFrame, NextFrame, NextStates, TheEnd, OneMore, behind_frame, behind_end, part_more, empty_part, free_more, empty_free, later_frame, frame_lines-assignment, frame_lines-frame, frame_lines-states, states_lines-assignment, frame_lines-behind_states, AreComments, IsClaimed, before_frames, AreOpen, Told, ToldComments, ToldStatus, ToldClaims, ToldStates, ToldFree, ToldFrame, ToldAll}
+use Rattle.witness.specs.declared.why.Why.{Why}
+use Rattle.witness.specs.Texts.{Shape, is_free_index, has_free, Assignment, Parts, Witness, assignment_line, assignment_lines, claims_line, states_lines, frame_lines, is_comment, are_distinct, IsAssignment, IsPart, IsFreePart, IsLater, AreFrames, most_lines, Says}
+use Rattle.witness.specs.Admits.{Place, AtStatus, AtClaims, AtParts, InStates, InFrame, AtEnd, begins_part, opens_frame, opens_states, assignment_at, may_name, state_assignment_at, after_assignment, claims_at, after_claims, states_closed, frame_closed, Read, nothing_read, in_part, admit_at, admit, is_at_end, word_reader, read_text, witness_of}
+use Rattle.witness.specs.WordStands.{NoFrame}
+use Rattle.witness.proofs.ClaimLemmas.{AreBelow, claims_are_line, claims_at-claims_line}
+use Rattle.witness.proofs.AssignmentLemmas.{stands_in, assignment_is_line, state_assignment_is_line}
+use Rattle.witness.proofs.ReadingLemmas.{admit_all, admit_parts, text_was_read, Ends, no_more_lines, one_line, more_lines, Begins, admitted_begins, before_begins, none_begins, beginning_is_admitted as reading_is_admitted}
+use Rattle.witness.proofs.ReadLemmas.{IsSmall, indices, stands_in-indices, distinct_with, parts_of, in_states, in_frame, IsStates, later_states, frame_lines-behind, all_read, says_read, status_line, line_of_claims, frames_begin, states_end, last_line, frames_have_lines}
+use Rattle.witness.specs.Beginnings.{IsBeginning}
+use Rattle.witness.specs.ClosedWords.{admitted_word_lines}
+use Rattle.witness.proofs.PieceLemmas.{decimal_without}
+use Rattle.witness.specs.declared.why.Why.TheVariants as why
 
--- ---- one more line
+-- ---- parts and frames with one more
 
--- a line behind some
-behind : (lines front : List (List ℕ)) (line same : List ℕ) → lines ≡ front → line ≡ same → lines ++ line ∷ [] ≡ front ++ same ∷ []
-behind lines front line same whole is = ap₂ (λ (ls : List (List ℕ)) (l : List ℕ). ls ++ l ∷ []) whole is
+part_more : (widths : List ℕ) (before : List Assignment) (a : Assignment) → IsPart widths before → IsAssignment widths a → stands_in a.index before ≡ false → IsPart widths (before ++ a ∷ [])
+part_more widths before a part valid new =
+    let others : list_any (λ x. x == a.index) (indices before) ≡ false = sym (stands_in-indices a.index before) ∙ new in
+    record {
+      each = All-push (IsAssignment widths) before a part.each valid;
+      distinct = ap are_distinct (map-append (λ (b : Assignment). b.index) before (a ∷ [])) ∙ distinct_with (indices before) a.index part.distinct others;
+    }
+
+empty_part : (widths : List ℕ) → IsPart widths []
+empty_part widths = record { each = All-nil (IsAssignment widths); distinct = refl }
+
+states_more : (shape : Shape) (closed : List Parts) (before : List Assignment) (a : Assignment) → IsStates shape closed before → IsAssignment shape.states a → may_name shape closed (Some a.index) ≡ true → stands_in a.index before ≡ false
+    → IsStates shape closed (before ++ a ∷ [])
+states_more shape [] before a part valid may new = part_more shape.states before a part valid new
+states_more shape (x ∷ xs) before a part valid may new =
+    record { some = part.some; part = part_more shape.states before a part.part valid new; free = All-push (λ (b : Assignment). is_free_index shape b.index ≡ true) before a part.free may }
+
+empty_free : (shape : Shape) → has_free shape ≡ true → IsFreePart shape []
+empty_free shape some = record { some = some; part = empty_part shape.states; free = All-nil (λ (a : Assignment). is_free_index shape a.index ≡ true) }
+
+-- closed frames, or none
+abbrev AreClosed : Shape → List Parts → Type 0
+AreClosed shape closed = (closed ≡ [] → ⊥) → AreFrames shape closed
+
+-- with the one that is open
+frames_more : (shape : Shape) (closed : List Parts) (states : Option (List Assignment)) (list : List Assignment) → AreClosed shape closed → IfSome states (IsStates shape closed) → IsPart shape.inputs list
+    → AreFrames shape (closed ++ parts_of states list ∷ [])
+frames_more shape [] states list closed part inputs = (record { states = part; inputs = inputs }, All-nil (IsLater shape))
+frames_more shape (first ∷ more) states list closed part inputs =
+    let before = closed (λ e. cc) in
+    (before.0, All-push (IsLater shape) more (parts_of states list) before.1 (record { states = part; inputs = inputs }))
+
+frame_lines-append : (shape : Shape) (k : ℕ) (xs ys : List Parts) → frame_lines shape k (xs ++ ys) ≡ frame_lines shape k xs ++ frame_lines shape (k + length xs) ys
+frame_lines-append shape k [] ys = ap (λ (n : ℕ). frame_lines shape n ys) (omega arith)
+frame_lines-append shape k (parts ∷ xs) ys =
+    let count : suc k + length xs ≡ k + suc (length xs) = omega arith in
+    let states : List (List ℕ) = states_lines shape.states k parts.states in
+    let here : List (List ℕ) = assignment_lines shape.inputs parts.inputs in
+    let rest : List (List ℕ) = frame_lines shape (suc k) xs in
+    ap (λ (ls : List (List ℕ)). states ++ ((64 ∷ decimal k) ∷ (here ++ ls))) (frame_lines-append shape (suc k) xs ys ∙ ap (λ (n : ℕ). rest ++ frame_lines shape n ys) count)
+    ∙ sym (frame_lines-behind shape k parts xs (frame_lines shape (k + suc (length xs)) ys))
+
+-- the same of one frame behind others
+one_frame : (shape : Shape) (closed : List Parts) (states : Option (List Assignment)) (list : List Assignment)
+    → frame_lines shape 0 (closed ++ parts_of states list ∷ []) ≡ frame_lines shape 0 closed ++ (states_lines shape.states (length closed) states ++ ((64 ∷ decimal (length closed)) ∷ assignment_lines shape.inputs list))
+one_frame shape closed states list =
+    let count : 0 + length closed ≡ length closed = omega arith in
+    let front : List (List ℕ) = frame_lines shape 0 closed in
+    let header : List ℕ = 64 ∷ decimal (length closed) in
+    frame_lines-append shape 0 closed (parts_of states list ∷ [])
+    ∙ (ap (λ (n : ℕ). front ++ frame_lines shape n (parts_of states list ∷ [])) count
+    ∙ ap (λ (ls : List (List ℕ)). front ++ (states_lines shape.states (length closed) states ++ (header ∷ ls))) (append-nil (assignment_lines shape.inputs list)))
+
+-- one more assignment in the last frame
+frame_lines-assignment : (shape : Shape) (closed : List Parts) (states : Option (List Assignment)) (before : List Assignment) (a : Assignment)
+    → frame_lines shape 0 (closed ++ parts_of states before ∷ []) ++ assignment_line shape.inputs a ∷ [] ≡ frame_lines shape 0 (closed ++ parts_of states (before ++ a ∷ []) ∷ [])
+frame_lines-assignment shape closed states before a =
+    let widths : List ℕ = shape.inputs in
+    let front : List (List ℕ) = frame_lines shape 0 closed in
+    let part : List (List ℕ) = states_lines shape.states (length closed) states in
+    let header : List ℕ = 64 ∷ decimal (length closed) in
+    let here : List (List ℕ) = assignment_lines widths before in
+    let more : List (List ℕ) = assignment_line widths a ∷ [] in
+    ap (λ (ls : List (List ℕ)). ls ++ more) (one_frame shape closed states before)
+    ∙ (append_assoc front (part ++ (header ∷ here)) more
+    ∙ (ap (λ (ls : List (List ℕ)). front ++ ls) (append_assoc part (header ∷ here) more)
+    ∙ (ap (λ (ls : List (List ℕ)). front ++ (part ++ (header ∷ ls))) (sym (map-append (assignment_line widths) before (a ∷ [])))
+    ∙ sym (one_frame shape closed states (before ++ a ∷ [])))))
+
+-- one more frame, without a part of states
+frame_lines-frame : (shape : Shape) (closed : List Parts) (parts : Parts)
+    → frame_lines shape 0 (closed ++ parts ∷ []) ++ (64 ∷ decimal (suc (length closed))) ∷ [] ≡ frame_lines shape 0 ((closed ++ parts ∷ []) ++ parts_of None [] ∷ [])
+frame_lines-frame shape closed parts =
+    let frames : List Parts = closed ++ parts ∷ [] in
+    let count : suc (length closed) ≡ length frames = omega (arith, length-append closed (parts ∷ [])) in
+    ap (λ (n : ℕ). frame_lines shape 0 frames ++ (64 ∷ decimal n) ∷ []) count ∙ sym (one_frame shape frames None [])
+
+-- its part of states begins
+frame_lines-states : (shape : Shape) (closed : List Parts) (parts : Parts)
+    → frame_lines shape 0 (closed ++ parts ∷ []) ++ (35 ∷ decimal (suc (length closed))) ∷ [] ≡ frame_lines shape 0 (closed ++ parts ∷ []) ++ states_lines shape.states (length (closed ++ parts ∷ [])) (Some [])
+frame_lines-states shape closed parts =
+    let frames : List Parts = closed ++ parts ∷ [] in
+    let count : suc (length closed) ≡ length frames = omega (arith, length-append closed (parts ∷ [])) in
+    ap (λ (n : ℕ). frame_lines shape 0 frames ++ (35 ∷ decimal n) ∷ []) count
+
+-- one more assignment in a part of states
+states_lines-assignment : (widths : List ℕ) (front : List (List ℕ)) (k : ℕ) (before : List Assignment) (a : Assignment)
+    → (front ++ states_lines widths k (Some before)) ++ assignment_line widths a ∷ [] ≡ front ++ states_lines widths k (Some (before ++ a ∷ []))
+states_lines-assignment widths front k before a =
+    append_assoc front ((35 ∷ decimal k) ∷ assignment_lines widths before) (assignment_line widths a ∷ [])
+    ∙ ap (λ (ls : List (List ℕ)). front ++ ((35 ∷ decimal k) ∷ ls)) (sym (map-append (assignment_line widths) before (a ∷ [])))
+
+-- the line behind a part of states
+frame_lines-behind_states : (shape : Shape) (closed : List Parts) (list : List Assignment)
+    → (frame_lines shape 0 closed ++ states_lines shape.states (length closed) (Some list)) ++ (64 ∷ decimal (length closed)) ∷ [] ≡ frame_lines shape 0 (closed ++ parts_of (Some list) [] ∷ [])
+frame_lines-behind_states shape closed list =
+    append_assoc (frame_lines shape 0 closed) (states_lines shape.states (length closed) (Some list)) ((64 ∷ decimal (length closed)) ∷ [])
+    ∙ sym (one_frame shape closed (Some list) [])
+
+-- ---- what all admitted lines say
+
+abbrev AreComments : List (List ℕ) → Type 0
+AreComments comments = AllByRecursion (λ line. is_comment line ≡ true) comments
 
 comment_more : (comments : List (List ℕ)) (line : List ℕ) → AreComments comments → is_comment line ≡ true → AreComments (comments ++ line ∷ [])
 comment_more [] line marked is = (is, tt)
 comment_more (c ∷ comments) line marked is = (marked.0, comment_more comments line marked.1 is)
 
-after_comments : (shape : Shape) (lines comments : List (List ℕ)) (line : List ℕ) (next : Read) → AreComments comments → lines ≡ comments → admit shape nothing_read line ≡ Ok next → Told shape (lines ++ line ∷ []) next
-after_comments shape lines comments line next marked whole h =
-    elim (behind_comments shape line next h) [
-      | inl e ↦ ToldComments (comments ++ line ∷ []) (comment_more comments line marked e.0) (behind lines comments line line whole refl) e.1
-      | inr e ↦ ToldStatus comments marked (behind lines comments line (codes "sat") whole e.0) e.1
+-- claims that a claims line has
+record IsClaimed (bads : ℕ) (claims : List ℕ) : Type 0 where
+  some : claims ≡ [] → ⊥
+  below : AreBelow bads claims
+  distinct : are_distinct claims ≡ true
+
+-- the lines behind the comments that are read as this
+abbrev lines_of : Shape → Read → Place → List (List ℕ)
+lines_of shape r AtStatus = []
+lines_of shape r AtClaims = codes "sat" ∷ []
+lines_of shape r AtParts = codes "sat" ∷ (claims_line r.claims ∷ [])
+lines_of shape r InStates = codes "sat" ∷ (claims_line r.claims ∷ (frame_lines shape 0 r.closed ++ states_lines shape.states (length r.closed) (Some r.open_part)))
+lines_of shape r InFrame = codes "sat" ∷ (claims_line r.claims ∷ frame_lines shape 0 (r.closed ++ parts_of r.states r.open_part ∷ []))
+lines_of shape r AtEnd = codes "sat" ∷ (claims_line r.claims ∷ (frame_lines shape 0 r.closed ++ codes "." ∷ []))
+
+abbrev Fits : Shape → Read → Place → Type 0
+Fits shape r AtStatus = NoFrame r
+Fits shape r AtClaims = NoFrame r
+Fits shape r AtParts = IsClaimed shape.bads r.claims × NoFrame r
+Fits shape r InStates = IsClaimed shape.bads r.claims × AreClosed shape r.closed × IsStates shape r.closed r.open_part
+Fits shape r InFrame = IsClaimed shape.bads r.claims × AreClosed shape r.closed × IfSome r.states (IsStates shape r.closed) × IsPart shape.inputs r.open_part
+Fits shape r AtEnd = IsClaimed shape.bads r.claims × AreFrames shape r.closed
+
+-- what is read of lines is what they say
+pub record Told (shape : Shape) (lines : List (List ℕ)) (r : Read) (at : Place) : Type 0 where
+  pub comments : List (List ℕ)
+  marked : AreComments comments
+  pub spelled : lines ≡ comments ++ lines_of shape r at
+  fits : Fits shape r at
+
+pub nothing_told : (shape : Shape) → Told shape [] nothing_read AtStatus
+nothing_told shape = record { comments = []; marked = tt; spelled = refl; fits = record { closed = refl; states = refl; open_part = refl } }
+
+-- ---- one more line
+
+same_bytes : (xs ys : List ℕ) → bytes_eq xs ys ≡ true → xs ≡ ys
+same_bytes xs ys = (bytes_eq-Decides xs ys).0
+
+claims_parts : (r : Read) (o : Result (List ℕ) Why) (next : Read) → after_claims r o ≡ Ok next → (claims : List ℕ) × ((o ≡ Ok claims) × (after_claims r (Ok claims) ≡ Ok next))
+claims_parts r (Ok claims) next h = (claims, (refl, h))
+claims_parts r (Err w) next h = absurd cc
+
+assignment_parts : (r : Read) (o : Result (List Assignment) Why) (next : Read) → after_assignment r o ≡ Ok next → (list : List Assignment) × ((o ≡ Ok list) × (after_assignment r (Ok list) ≡ Ok next))
+assignment_parts r (Ok list) next h = (list, (refl, h))
+assignment_parts r (Err w) next h = absurd cc
+
+-- a line of a part is read as an assignment
+in_part_parts : (r : Read) (line : List ℕ) (o : Result (List Assignment) Why) (next : Read) → in_part r line o ≡ Ok next → (list : List Assignment) × ((o ≡ Ok list) × (after_assignment r (Ok list) ≡ Ok next))
+in_part_parts r line o next h =
+    elim (chosen (begins_part line) (Err why.FrameOrder) (after_assignment r o) (Ok next) h) [
+      | inl d ↦ absurd (cc (d.1))
+      | inr d ↦ assignment_parts r o next d.1
     ]
 
-after_status : (shape : Shape) (lines comments : List (List ℕ)) (line : List ℕ) (next : Read) → IsSmall shape → AreComments comments → lines ≡ comments ++ codes "sat" ∷ [] → admit shape at_claims line ≡ Ok next → Told shape (lines ++ line ∷ []) next
-after_status shape lines comments line next small marked whole h =
-    let found = behind_status shape line next small h in
-    let claims : List ℕ = found.0 in
-    let are : AreClaims shape.bads line claims = found.1.0 in
-    let good : IsClaimed shape.bads claims = record { some = are.some; below = are.below; distinct = are.distinct } in
-    let all = behind lines (comments ++ codes "sat" ∷ []) line (claims_line claims) whole are.spelled in
-    ToldClaims comments marked claims good (all ∙ append_assoc comments (codes "sat" ∷ []) (claims_line claims ∷ [])) found.1.1
+module _ (shape : Shape) (small : IsSmall shape) (lines : List (List ℕ)) (line : List ℕ) (r next : Read) where
+  abbrev Tells : Read → Type 0
+  Tells s = Told shape (lines ++ line ∷ []) s s.place
 
-after_claims_line : (shape : Shape) (lines comments : List (List ℕ)) (claims line : List ℕ) (next : Read) → AreComments comments → IsClaimed shape.bads claims
-    → lines ≡ before_frames comments claims → admit shape (at_parts claims) line ≡ Ok next → Told shape (lines ++ line ∷ []) next
-after_claims_line shape lines comments claims line next marked good whole h =
-    elim (behind_claims shape claims line next h) [
-      | inl e ↦ ToldStates comments marked claims good [] (empty_part shape.states) (behind lines (before_frames comments claims) line (35 ∷ decimal 0) whole e.0) e.1
-      | inr e ↦
-          let opened : AreOpen shape [] None = λ list part. (record { states = tt; inputs = part }, All-nil (IsLater shape)) in
-          ToldFrame comments marked claims good [] None opened [] (empty_part shape.inputs) (behind lines (before_frames comments claims) line (64 ∷ decimal 0) whole e.0) e.1
-    ]
+  tells : (at : Place) (s : Read) → Told shape lines r at → lines_of shape r at ++ line ∷ [] ≡ lines_of shape s s.place → Fits shape s s.place → s ≡ next → Tells next
+  tells at s told spelled fits is =
+      subst Tells is
+      (record {
+        comments = told.comments;
+        marked = told.marked;
+        spelled = ap (λ (ls : List (List ℕ)). ls ++ line ∷ []) told.spelled ∙ (append_assoc told.comments (lines_of shape r at) (line ∷ []) ∙ ap (λ (ls : List (List ℕ)). told.comments ++ ls) spelled);
+        fits = fits;
+      })
 
-after_states : (shape : Shape) (lines comments : List (List ℕ)) (claims : List ℕ) (before : List Assignment) (line : List ℕ) (next : Read) → IsSmall shape → AreComments comments → IsClaimed shape.bads claims → IsPart shape.states before
-    → lines ≡ before_frames comments claims ++ states_lines shape.states 0 (Some before) → admit shape (in_states claims before) line ≡ Ok next → Told shape (lines ++ line ∷ []) next
-after_states shape lines comments claims before line next small marked good part whole h =
-    let widths : List ℕ = shape.states in
-    let front : List (List ℕ) = before_frames comments claims in
-    let so_far : List (List ℕ) = states_lines widths 0 (Some before) in
-    elim (behind_states shape claims before line next small h) [
-      | inl e ↦
-          let all = behind lines (front ++ so_far) line (64 ∷ decimal 0) whole e.0 in
-          let opened : AreOpen shape [] (Some before) = λ list inputs. (record { states = part; inputs = inputs }, All-nil (IsLater shape)) in
-          ToldFrame comments marked claims good [] (Some before) opened [] (empty_part shape.inputs) (all ∙ append_assoc front so_far ((64 ∷ decimal 0) ∷ [])) e.1
-      | inr e ↦
-          let list : List Assignment = e.0 in
-          let assigned : IsAssigned widths before line list = e.1.0 in
-          let a : Assignment = assigned.assignment in
-          let all = behind lines (front ++ so_far) line (assignment_line widths a) whole assigned.spelled in
-          ToldStates comments marked claims good (before ++ a ∷ []) (part_more widths before a part assigned.valid assigned.new) (all ∙ states_lines-assignment widths front 0 before a) (e.1.1 ∙ ap (in_states claims) assigned.all)
-    ]
+  -- behind the claims
+  behind : (front all : List (List ℕ)) (same : List ℕ) → line ≡ same → front ++ same ∷ [] ≡ all → (codes "sat" ∷ (claims_line r.claims ∷ front)) ++ line ∷ [] ≡ codes "sat" ∷ (claims_line r.claims ∷ all)
+  behind front all same is e = ap (λ (ls : List (List ℕ)). codes "sat" ∷ (claims_line r.claims ∷ ls)) (ap (λ (l : List ℕ). front ++ l ∷ []) is ∙ e)
 
-after_free : (shape : Shape) (lines comments : List (List ℕ)) (claims : List ℕ) (closed : List Parts) (before : List Assignment) (line : List ℕ) (next : Read) → IsSmall shape → AreComments comments → IsClaimed shape.bads claims
-    → AreFrames shape closed → IsFreePart shape before → lines ≡ before_frames comments claims ++ (frame_lines shape 0 closed ++ states_lines shape.states (length closed) (Some before))
-    → admit shape (in_free claims closed before) line ≡ Ok next → Told shape (lines ++ line ∷ []) next
-after_free shape lines comments claims closed before line next small marked good frames part whole h =
-    let widths : List ℕ = shape.states in
-    let front : List (List ℕ) = before_frames comments claims in
-    let so_far : List (List ℕ) = frame_lines shape 0 closed ++ states_lines widths (length closed) (Some before) in
-    elim (behind_free shape claims closed before line next small h) [
-      | inl e ↦
-          let header : List ℕ = 64 ∷ decimal (length closed) in
-          let all = behind lines (front ++ so_far) line header whole e.0 in
-          let joined = append_assoc front so_far (header ∷ []) ∙ ap (λ (ls : List (List ℕ)). front ++ ls) (frame_lines-behind_states shape closed before) in
-          let opened : AreOpen shape closed (Some before) = λ list inputs. later_frame shape closed (parts_of (Some before) list) frames (record { states = part; inputs = inputs }) in
-          ToldFrame comments marked claims good closed (Some before) opened [] (empty_part shape.inputs) (all ∙ joined) e.1
-      | inr e ↦
-          let list : List Assignment = e.0 in
-          let free : IsFreeAssigned shape before line list = e.1.0 in
-          let a : Assignment = free.assigned.assignment in
-          let all = behind lines (front ++ so_far) line (assignment_line widths a) whole free.assigned.spelled in
-          let joined = append_assoc front so_far (assignment_line widths a ∷ []) ∙ ap (λ (ls : List (List ℕ)). front ++ ls) (states_lines-assignment widths (frame_lines shape 0 closed) (length closed) before a) in
-          ToldFree comments marked claims good closed frames (before ++ a ∷ []) (free_more shape before a part free.assigned.valid free.free free.assigned.new) (all ∙ joined) (e.1.1 ∙ ap (in_free claims closed) free.assigned.all)
-    ]
-
--- a line behind those of a frame
-module _ (shape : Shape) (lines comments : List (List ℕ)) (claims : List ℕ) (closed : List Parts) (states : Option (List Assignment)) (before : List Assignment) (line : List ℕ) (next : Read) (marked : AreComments comments)
-    (good : IsClaimed shape.bads claims) (is_open : AreOpen shape closed states) (part : IsPart shape.inputs before) (whole : lines ≡ before_frames comments claims ++ frame_lines shape 0 (closed ++ parts_of states before ∷ [])) where
-  by_frame : BehindFrame shape claims closed states before line next → Told shape (lines ++ line ∷ []) next
-  by_frame (NextFrame spelled is) =
-      let front : List (List ℕ) = before_frames comments claims in
-      let frames : List Parts = closed ++ parts_of states before ∷ [] in
-      let header : List ℕ = 64 ∷ decimal (suc (length closed)) in
-      let all = behind lines (front ++ frame_lines shape 0 frames) line header whole spelled in
-      let joined = append_assoc front (frame_lines shape 0 frames) (header ∷ []) ∙ ap (λ (ls : List (List ℕ)). front ++ ls) (frame_lines-frame shape closed (parts_of states before)) in
-      let opened : AreOpen shape frames None = λ list inputs. later_frame shape frames (parts_of None list) (is_open before part) (record { states = tt; inputs = inputs }) in
-      ToldFrame comments marked claims good frames None opened [] (empty_part shape.inputs) (all ∙ joined) is
-  by_frame (NextStates spelled some is) =
-      let front : List (List ℕ) = before_frames comments claims in
-      let frames : List Parts = closed ++ parts_of states before ∷ [] in
-      let header : List ℕ = 35 ∷ decimal (suc (length closed)) in
-      let all = behind lines (front ++ frame_lines shape 0 frames) line header whole spelled in
-      let joined = append_assoc front (frame_lines shape 0 frames) (header ∷ []) ∙ ap (λ (ls : List (List ℕ)). front ++ ls) (frame_lines-states shape closed (parts_of states before)) in
-      ToldFree comments marked claims good frames (is_open before part) [] (empty_free shape some) (all ∙ joined) is
-  by_frame (TheEnd spelled is) =
-      let front : List (List ℕ) = codes "sat" ∷ claims_line claims ∷ [] in
-      let frames : List Parts = closed ++ parts_of states before ∷ [] in
-      let all = behind lines (before_frames comments claims ++ frame_lines shape 0 frames) line (codes ".") whole spelled in
-      let joined = append_assoc (before_frames comments claims) (frame_lines shape 0 frames) (codes "." ∷ []) ∙ append_assoc comments front (frames_and_end shape frames) in
-      let valid : IsWitness shape (record { claims = claims; frames = frames }) =
-      record { some_claim = good.some; claims = All-from_recursion (λ i. i < shape.bads) claims good.below; distinct = good.distinct; frames = is_open before part } in
-      ToldAll comments marked (record { claims = claims; frames = frames }) valid (all ∙ joined) is
-  by_frame (OneMore list assigned is) =
-      let front : List (List ℕ) = before_frames comments claims in
-      let so_far : List (List ℕ) = frame_lines shape 0 (closed ++ parts_of states before ∷ []) in
-      let a : Assignment = assigned.assignment in
-      let all = behind lines (front ++ so_far) line (assignment_line shape.inputs a) whole assigned.spelled in
-      let joined = append_assoc front so_far (assignment_line shape.inputs a ∷ []) ∙ ap (λ (ls : List (List ℕ)). front ++ ls) (frame_lines-assignment shape closed states before a) in
-      ToldFrame comments marked claims good closed states is_open (before ++ a ∷ []) (part_more shape.inputs before a part assigned.valid assigned.new) (all ∙ joined) (is ∙ ap (in_frame claims closed states) assigned.all)
-
-after_frame : (shape : Shape) (lines comments : List (List ℕ)) (claims : List ℕ) (closed : List Parts) (states : Option (List Assignment)) (before : List Assignment) (line : List ℕ) (next : Read) → IsSmall shape → AreComments comments → IsClaimed shape.bads claims
-    → AreOpen shape closed states → IsPart shape.inputs before → lines ≡ before_frames comments claims ++ frame_lines shape 0 (closed ++ parts_of states before ∷ [])
-    → admit shape (in_frame claims closed states before) line ≡ Ok next → Told shape (lines ++ line ∷ []) next
-after_frame shape lines comments claims closed states before line next small marked good opened part whole h =
-    by_frame shape lines comments claims closed states before line next marked good opened part whole (behind_frame shape claims closed states before line next small h)
-
--- a line that is admitted, behind lines that say what was read
-told_line : (shape : Shape) (lines : List (List ℕ)) (r : Read) (line : List ℕ) (next : Read) → IsSmall shape → Told shape lines r → admit shape r line ≡ Ok next → Told shape (lines ++ line ∷ []) next
-told_line shape lines r line next small (ToldComments comments marked whole is) h =
-    after_comments shape lines comments line next marked whole (subst (λ (s : Read). admit shape s line ≡ Ok next) is h)
-told_line shape lines r line next small (ToldStatus comments marked whole is) h =
-    after_status shape lines comments line next small marked whole (subst (λ (s : Read). admit shape s line ≡ Ok next) is h)
-told_line shape lines r line next small (ToldClaims comments marked claims good whole is) h =
-    after_claims_line shape lines comments claims line next marked good whole (subst (λ (s : Read). admit shape s line ≡ Ok next) is h)
-told_line shape lines r line next small (ToldStates comments marked claims good list part whole is) h =
-    after_states shape lines comments claims list line next small marked good part whole (subst (λ (s : Read). admit shape s line ≡ Ok next) is h)
-told_line shape lines r line next small (ToldFree comments marked claims good closed frames list part whole is) h =
-    after_free shape lines comments claims closed list line next small marked good frames part whole (subst (λ (s : Read). admit shape s line ≡ Ok next) is h)
-told_line shape lines r line next small (ToldFrame comments marked claims good closed states opened list part whole is) h =
-    after_frame shape lines comments claims closed states list line next small marked good opened part whole (subst (λ (s : Read). admit shape s line ≡ Ok next) is h)
-told_line shape lines r line next small (ToldAll comments marked w valid whole is) h =
-    absurd (behind_end shape w.claims w.frames line next (subst (λ (s : Read). admit shape s line ≡ Ok next) is h))
+  line_told : (at : Place) → r.place ≡ at → admit_at shape r line at ≡ Ok next → Told shape lines r at → Tells next
+  line_told AtStatus there h told =
+      elim (chosen (is_comment line) (Ok r) (cond (bytes_eq line (codes "sat")) (Ok (record r { place = AtClaims })) (Err why.BadHeader)) (Ok next) h) [
+        | inl e ↦
+            let is : r ≡ next = cc (e.1) in
+            let comments : List (List ℕ) = told.comments ++ line ∷ [] in
+            let spelled = ap (λ (ls : List (List ℕ)). ls ++ line ∷ []) (told.spelled ∙ append-nil told.comments) ∙ sym (append-nil comments) in
+            subst Tells is (subst (Told shape (lines ++ line ∷ []) r) (sym there) (record { comments = comments; marked = comment_more told.comments line told.marked e.0; spelled = spelled; fits = told.fits }))
+        | inr e ↦
+            elim (chosen (bytes_eq line (codes "sat")) (Ok (record r { place = AtClaims })) (Err why.BadHeader) (Ok next) e.1) [
+              | inl d ↦
+                  let none = told.fits in
+                  tells AtStatus (record r { place = AtClaims }) told (ap (λ (l : List ℕ). l ∷ []) (same_bytes line (codes "sat") d.0)) (record { closed = none.closed; states = none.states; open_part = none.open_part }) (cc (d.1))
+              | inr d ↦ absurd (cc (d.1))
+            ]
+      ]
+  line_told AtClaims there h told =
+      let parts = claims_parts r (claims_at shape.bads line) next h in
+      let are = claims_are_line shape.bads line parts.0 small.bads parts.1.0 in
+      let none = told.fits in
+      tells AtClaims (record r { place = AtParts; claims = parts.0 }) told (ap (λ (l : List ℕ). codes "sat" ∷ (l ∷ [])) are.spelled)
+      (record { some = are.some; below = are.below; distinct = are.distinct }, record { closed = none.closed; states = none.states; open_part = none.open_part }) (cc (parts.1.1))
+  line_told AtParts there h told =
+      let none = told.fits.1 in
+      elim (chosen (opens_states 0 line) (Ok (record r { place = InStates })) (cond (opens_frame 0 line) (Ok (record r { place = InFrame })) (Err why.FrameOrder)) (Ok next) h) [
+        | inl e ↦
+            tells AtParts (in_states r.claims [] []) told (behind [] ((35 ∷ decimal 0) ∷ []) (35 ∷ decimal 0) (same_bytes line (35 ∷ decimal 0) e.0) refl) (told.fits.0, (λ some. absurd (some refl)), empty_part shape.states)
+            (cc (e.1, none.closed, none.states, none.open_part))
+        | inr e ↦
+            elim (chosen (opens_frame 0 line) (Ok (record r { place = InFrame })) (Err why.FrameOrder) (Ok next) e.1) [
+              | inl d ↦
+                  tells AtParts (in_frame r.claims [] None []) told (behind [] ((64 ∷ decimal 0) ∷ []) (64 ∷ decimal 0) (same_bytes line (64 ∷ decimal 0) d.0) refl) (told.fits.0, (λ some. absurd (some refl)), tt, empty_part shape.inputs)
+                  (cc (d.1, none.closed, none.states, none.open_part))
+              | inr d ↦ absurd (cc (d.1))
+            ]
+      ]
+  line_told InStates there h told =
+      let count : ℕ = length r.closed in
+      let front : List (List ℕ) = frame_lines shape 0 r.closed ++ states_lines shape.states count (Some r.open_part) in
+      elim (chosen (opens_frame count line) (Ok (states_closed r)) (in_part r line (state_assignment_at shape r.closed r.open_part line)) (Ok next) h) [
+        | inl e ↦
+            tells InStates (states_closed r) told (behind front (lines_behind_states) (64 ∷ decimal count) (same_bytes line (64 ∷ decimal count) e.0) (frame_lines-behind_states shape r.closed r.open_part)) (told.fits.0, told.fits.1, told.fits.2, empty_part shape.inputs) (cc (e.1))
+        | inr e ↦
+            let parts = in_part_parts r line (state_assignment_at shape r.closed r.open_part line) next e.1 in
+            let found = state_assignment_is_line shape r.closed r.open_part line parts.0 small.states parts.1.0 in
+            let is = found.0 in
+            let a : Assignment = is.assignment in
+            tells InStates (record r { place = InStates; open_part = r.open_part ++ a ∷ [] }) told
+            (behind front (frame_lines shape 0 r.closed ++ states_lines shape.states count (Some (r.open_part ++ a ∷ []))) (assignment_line shape.states a) is.spelled (states_lines-assignment shape.states (frame_lines shape 0 r.closed) count r.open_part a))
+            (told.fits.0, told.fits.1, states_more shape r.closed r.open_part a told.fits.2 is.valid found.1 is.new) (cc (parts.1.1, is.all, there))
+      ]
+    where
+      lines_behind_states : List (List ℕ)
+      lines_behind_states = frame_lines shape 0 (r.closed ++ parts_of (Some r.open_part) [] ∷ [])
+  line_told InFrame there h told =
+      let k : ℕ = suc (length r.closed) in
+      let last : Parts = parts_of r.states r.open_part in
+      let frames : List Parts = r.closed ++ last ∷ [] in
+      let front : List (List ℕ) = frame_lines shape 0 frames in
+      let valid : AreFrames shape frames = frames_more shape r.closed r.states r.open_part told.fits.1 told.fits.2 told.fits.3 in
+      let inside : Result Read Why = in_part r line (assignment_at shape.inputs r.open_part line) in
+      let end : Result Read Why = cond (bytes_eq line (codes ".")) (Ok (frame_closed AtEnd r)) inside in
+      elim (chosen (opens_frame k line) (Ok (frame_closed InFrame r)) (cond (opens_states k line && has_free shape) (Ok (frame_closed InStates r)) end) (Ok next) h) [
+        | inl e ↦
+            tells InFrame (frame_closed InFrame r) told (behind front (frame_lines shape 0 (frames ++ parts_of None [] ∷ [])) (64 ∷ decimal k) (same_bytes line (64 ∷ decimal k) e.0) (frame_lines-frame shape r.closed last)) (told.fits.0, (λ some. valid), tt, empty_part shape.inputs) (cc (e.1))
+        | inr e ↦
+            elim (chosen (opens_states k line && has_free shape) (Ok (frame_closed InStates r)) end (Ok next) e.1) [
+              | inl d ↦
+                  let both = and_parts (opens_states k line) (has_free shape) d.0 in
+                  tells InFrame (frame_closed InStates r) told (behind front (front ++ states_lines shape.states (length frames) (Some [])) (35 ∷ decimal k) (same_bytes line (35 ∷ decimal k) both.0) (frame_lines-states shape r.closed last))
+                  (told.fits.0, (λ some. valid), later_states shape r.closed last [] (empty_free shape both.1)) (cc (d.1))
+              | inr d ↦
+                  elim (chosen (bytes_eq line (codes ".")) (Ok (frame_closed AtEnd r)) inside (Ok next) d.1) [
+                    | inl f ↦ tells InFrame (frame_closed AtEnd r) told (behind front (front ++ codes "." ∷ []) (codes ".") (same_bytes line (codes ".") f.0) refl) (told.fits.0, valid) (cc (f.1))
+                    | inr f ↦
+                        let parts = in_part_parts r line (assignment_at shape.inputs r.open_part line) next f.1 in
+                        let is = assignment_is_line shape.inputs r.open_part line parts.0 small.inputs parts.1.0 in
+                        let a : Assignment = is.assignment in
+                        tells InFrame (record r { place = InFrame; open_part = r.open_part ++ a ∷ [] }) told
+                        (behind front (frame_lines shape 0 (r.closed ++ parts_of r.states (r.open_part ++ a ∷ []) ∷ [])) (assignment_line shape.inputs a) is.spelled (frame_lines-assignment shape r.closed r.states r.open_part a))
+                        (told.fits.0, told.fits.1, told.fits.2, part_more shape.inputs r.open_part a told.fits.3 is.valid is.new) (cc (parts.1.1, is.all, there))
+                  ]
+            ]
+      ]
+  line_told AtEnd there h told = absurd cc
 
 -- ---- all lines
 
-pub told_lines : (shape : Shape) (before lines : List (List ℕ)) (r final : Read) → IsSmall shape → Told shape before r → admit_all (word_reader shape) r lines ≡ Ok final → Told shape (before ++ lines) final
+pub told_lines : (shape : Shape) (before lines : List (List ℕ)) (r final : Read) → IsSmall shape → Told shape before r r.place → admit_all (word_reader shape) r lines ≡ Ok final → Told shape (before ++ lines) final final.place
+unfolding admit
 told_lines shape before [] r final small told h =
     let is : r ≡ final = cc in
-    subst (λ (s : Read). Told shape (before ++ []) s) is (subst (λ (ls : List (List ℕ)). Told shape ls r) (sym (append-nil before)) told)
+    subst (λ (s : Read). Told shape (before ++ []) s s.place) is (subst (λ (ls : List (List ℕ)). Told shape ls r r.place) (sym (append-nil before)) told)
 told_lines shape before (line ∷ lines) r final small told h =
     let parts = admit_parts (admit shape r line) (λ next. admit_all (word_reader shape) next lines) final h in
-    let next : Read = parts.0 in
-    subst (λ (ls : List (List ℕ)). Told shape ls final) (append_assoc before (line ∷ []) lines) (told_lines shape (before ++ line ∷ []) lines next final small (told_line shape before r line next small told parts.1.0) parts.1.1)
+    subst (λ (ls : List (List ℕ)). Told shape ls final final.place) (append_assoc before (line ∷ []) lines)
+    (told_lines shape (before ++ line ∷ []) lines parts.0 final small (line_told shape small before line r parts.0 r.place refl parts.1.0 told) parts.1.1)
 
--- what was told of all lines is what the text says
-told_says : (shape : Shape) (text : List ℕ) (r : Read) → Told shape (whole_lines text) r → is_at_end r.place ≡ true → unfinished text ≡ [] → length (whole_lines text) ≤ most_lines → Says shape text (witness_of r)
-told_says shape text r (ToldComments comments marked whole is) done ended few = absurd (cc (subst (λ (s : Read). is_at_end s.place ≡ true) is done))
-told_says shape text r (ToldStatus comments marked whole is) done ended few = absurd (cc (subst (λ (s : Read). is_at_end s.place ≡ true) is done))
-told_says shape text r (ToldClaims comments marked claims good whole is) done ended few = absurd (cc (subst (λ (s : Read). is_at_end s.place ≡ true) is done))
-told_says shape text r (ToldStates comments marked claims good list part whole is) done ended few = absurd (cc (subst (λ (s : Read). is_at_end s.place ≡ true) is done))
-told_says shape text r (ToldFree comments marked claims good closed frames list part whole is) done ended few = absurd (cc (subst (λ (s : Read). is_at_end s.place ≡ true) is done))
-told_says shape text r (ToldFrame comments marked claims good closed states opened list part whole is) done ended few = absurd (cc (subst (λ (s : Read). is_at_end s.place ≡ true) is done))
-told_says shape text r (ToldAll comments marked w valid whole is) done ended few =
-    let lines : List (List ℕ) = witness_lines shape comments w in
-    let each : EachLine lines = subst EachLine whole (lines_are_lines text) in
-    let back : List (List ℕ) = codes "sat" ∷ claims_line w.claims ∷ frames_and_end shape w.frames in
-    let front : EachLine comments = each_front comments back each in
-    let joined : text ≡ text_of_lines (whole_lines text) = sym (parts_of_text text) ∙ (ap (λ (t : List ℕ). text_of_lines (whole_lines text) ++ t) ended ∙ append-nil (text_of_lines (whole_lines text))) in
-    let says : Says shape text w =
-    record {
-      comments = comments;
-      lines = All-from_recursion IsLine comments front;
-      marked = All-from_recursion (λ line. is_comment line ≡ true) comments marked;
-      whole = joined ∙ ap text_of_lines whole;
-      valid = valid;
-      few = subst (λ (ls : List (List ℕ)). length ls ≤ most_lines) whole few;
-    } in
-    subst (λ (s : Read). Says shape text (witness_of s)) (sym is) says
+-- the last line was read
+pub ended : (at : Place) → is_at_end at ≡ true → at ≡ AtEnd
+ended AtEnd h = refl
+ended _ h = absurd cc
 
 -- a text that is read says what it is read as
 pub read_says : (shape : Shape) (text : List ℕ) (r : Read) → IsSmall shape → read_text shape text ≡ Ok r → Says shape text (witness_of r)
 read_says shape text r small h =
     let were = text_was_read (word_reader shape) text r h in
-    told_says shape text r (told_lines shape [] (whole_lines text) nothing_read r small (ToldComments [] tt refl refl) were.all) were.done were.rest were.few
+    let told : Told shape (whole_lines text) r AtEnd = subst (Told shape (whole_lines text) r) (ended r.place were.done) (told_lines shape [] (whole_lines text) nothing_read r small (nothing_told shape) were.all) in
+    let each : EachLine (told.comments ++ lines_of shape r AtEnd) = subst EachLine told.spelled (lines_are_lines text) in
+    let joined : text ≡ text_of_lines (whole_lines text) = sym (parts_of_text text) ∙ (ap (λ (t : List ℕ). text_of_lines (whole_lines text) ++ t) were.rest ∙ append-nil (text_of_lines (whole_lines text))) in
+    let claimed : IsClaimed shape.bads r.claims = told.fits.0 in
+    record {
+      comments = told.comments;
+      lines = All-from_recursion IsLine told.comments (each_front told.comments (lines_of shape r AtEnd) each);
+      marked = All-from_recursion (λ line. is_comment line ≡ true) told.comments told.marked;
+      whole = joined ∙ ap text_of_lines told.spelled;
+      valid = record { some_claim = claimed.some; claims = All-from_recursion (λ i. i < shape.bads) r.claims claimed.below; distinct = claimed.distinct; frames = told.fits.1 };
+      few = subst (λ (ls : List (List ℕ)). length ls ≤ most_lines) told.spelled were.few;
+    }
 
 -- a text says one witness
 pub says_one : (shape : Shape) (text : List ℕ) (w v : Witness) → IsSmall shape → Says shape text w → Says shape text v → w ≡ v
@@ -198,3 +331,77 @@ says_one shape text w v small first second =
     let other = says_read shape text v small second in
     let same : all_read w ≡ all_read v = cc in
     ap witness_of same
+
+-- ---- the lines that end a witness
+
+module _ (shape : Shape) where
+  in_a_frame : (r : Read) → r.place ≡ InFrame → Ends (word_reader shape) 1 r
+  in_a_frame r at = one_line (word_reader shape) 0 r (codes ".") (frame_closed AtEnd r) refl (last_line shape r at) (no_more_lines (word_reader shape) (frame_closed AtEnd r) refl)
+
+  in_states_part : (r : Read) → r.place ≡ InStates → length r.closed ≤ most_lines → Ends (word_reader shape) 2 r
+  in_states_part r at few =
+      one_line (word_reader shape) 1 r (64 ∷ decimal (length r.closed)) (states_closed r) (decimal_without 10 (length r.closed) (omega arith) (omega arith)) (states_end shape r at) (in_a_frame (states_closed r) refl)
+
+  behind_claims_line : (r : Read) → r.place ≡ AtParts → Ends (word_reader shape) 2 r
+  behind_claims_line r at =
+      let opened : Read = record r { place = InFrame } in
+      one_line (word_reader shape) 1 r (64 ∷ decimal 0) opened (decimal_without 10 0 (omega arith) (omega arith)) (frames_begin shape r at) (in_a_frame opened refl)
+
+  behind_status_line : (r : Read) → r.place ≡ AtClaims → IsSmall shape → 0 < shape.bads → Ends (word_reader shape) 3 r
+  behind_status_line r at small some =
+      let read = claims_at-claims_line shape.bads (0 ∷ []) small.bads (λ e. cc) (some, tt) refl in
+      let claimed : Read = record r { place = AtParts; claims = 0 ∷ [] } in
+      one_line (word_reader shape) 2 r (claims_line (0 ∷ [])) claimed (decimal_without 10 0 (omega arith) (omega arith)) (line_of_claims shape r (claims_line (0 ∷ [])) (0 ∷ []) at read) (behind_claims_line claimed refl)
+
+  behind_comments_lines : (r : Read) → r.place ≡ AtStatus → IsSmall shape → 0 < shape.bads → Ends (word_reader shape) 4 r
+  behind_comments_lines r at small some =
+      let status : Read = record r { place = AtClaims } in
+      one_line (word_reader shape) 3 r (codes "sat") status refl (status_line shape r at) (behind_status_line status refl small some)
+
+  -- whatever was read of lines
+  lines_end : (lines : List (List ℕ)) (r : Read) (at : Place) → r.place ≡ at → IsSmall shape → 0 < shape.bads → length lines ≤ most_lines → Told shape lines r at → Ends (word_reader shape) 4 r
+  lines_end lines r AtStatus at small some few told = behind_comments_lines r at small some
+  lines_end lines r AtClaims at small some few told = more_lines (word_reader shape) 3 4 r (omega arith) (behind_status_line r at small some)
+  lines_end lines r AtParts at small some few told = more_lines (word_reader shape) 2 4 r (omega arith) (behind_claims_line r at)
+  lines_end lines r InStates at small some few told =
+      let front : List (List ℕ) = frame_lines shape 0 r.closed in
+      let back : List (List ℕ) = states_lines shape.states (length r.closed) (Some r.open_part) in
+      let count : length r.closed ≤ most_lines = omega (arith, few, ap length told.spelled, length-append told.comments (codes "sat" ∷ (claims_line r.claims ∷ (front ++ back))), length-append front back, frames_have_lines shape 0 r.closed) in
+      more_lines (word_reader shape) 2 4 r (omega arith) (in_states_part r at count)
+  lines_end lines r InFrame at small some few told = more_lines (word_reader shape) 1 4 r (omega arith) (in_a_frame r at)
+  lines_end lines r AtEnd at small some few told = more_lines (word_reader shape) 0 4 r (omega arith) (no_more_lines (word_reader shape) r (ap is_at_end at))
+
+-- ---- whole texts
+
+-- of a text that others make that of a witness all whole lines are admitted
+pub beginning_is_admitted : (shape : Shape) (text further : List ℕ) (w : Witness) → IsSmall shape → Says shape (text ++ further) w → admitted_word_lines shape text ≡ length (whole_lines text)
+beginning_is_admitted shape text further w small says = reading_is_admitted (word_reader shape) text further (all_read w) (says_read shape (text ++ further) w small says)
+
+module _ (shape : Shape) (small : IsSmall shape) (some : 0 < shape.bads) where
+  each_ends : (lines : List (List ℕ)) (r : Read) → length lines ≤ most_lines → admit_all (word_reader shape) nothing_read lines ≡ Ok r → Ends (word_reader shape) 4 r
+  each_ends lines r few h = lines_end shape lines r r.place refl small some few (told_lines shape [] lines nothing_read r small (nothing_told shape) h)
+
+  is_beginning : (text : List ℕ) → Begins (word_reader shape) 4 text → IsBeginning shape text
+  is_beginning text b =
+      record {
+        more = b.more;
+        lines = All-from_recursion IsLine b.more b.lines;
+        four = b.few;
+        witness = witness_of b.final;
+        says = read_says shape (text ++ text_of_lines b.more) b.final small b.read;
+      }
+
+  -- whole lines that are all admitted are the beginning of a witness
+  pub admitted_is_beginning : (text : List ℕ) → unfinished text ≡ [] → length (whole_lines text) + 4 ≤ most_lines → admitted_word_lines shape text ≡ length (whole_lines text) → IsBeginning shape text
+  admitted_is_beginning text ended few all = is_beginning text (admitted_begins (word_reader shape) 4 each_ends text ended few all)
+
+  -- the lines before the first that is not admitted are the beginning of a witness
+  pub beginning_before : (text : List ℕ) (before : List (List ℕ)) (line : List ℕ) (behind : List (List ℕ)) → whole_lines text ≡ before ++ line ∷ behind
+      → admitted_word_lines shape text ≡ length before → length before + 4 ≤ most_lines → IsBeginning shape (text_of_lines before)
+  beginning_before text before line behind split count few = is_beginning (text_of_lines before) (before_begins (word_reader shape) 4 each_ends text before line behind split count few)
+
+-- with it they are none
+pub no_beginning_with : (shape : Shape) (text : List ℕ) (before : List (List ℕ)) (line : List ℕ) (behind : List (List ℕ)) (further : List ℕ) (w : Witness) → IsSmall shape
+    → whole_lines text ≡ before ++ line ∷ behind → admitted_word_lines shape text ≡ length before → Says shape (text_of_lines (before ++ line ∷ []) ++ further) w → ⊥
+no_beginning_with shape text before line behind further w small split count says =
+    none_begins (word_reader shape) text before line behind further (all_read w) split count (says_read shape (text_of_lines (before ++ line ∷ []) ++ further) w small says)

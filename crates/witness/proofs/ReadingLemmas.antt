@@ -1,16 +1,28 @@
 -- Lines of a witness of either kind: how far they are admitted, and which whole lines further lines make a whole witness.
-use Rattle.std.proofs.Common.{◌≡◌, ◌⊎◌, ℕ, suc, ◌+◌, ◌<◌, ◌≤◌, nat_le, true, false, cond, List, [], ◌∷◌, ◌++◌, Option, Some, None, Result, Ok, Err, length, append_assoc, length-append, inl, inr, refl, sym, ap, ap₂, subst, ◌∙◌, arith}
+use Rattle.std.proofs.Common.{◌≡◌, ℕ, nat_le, Bool, true, false, cond, not, ◌&&◌, Some, None, refl, ◌⊎◌, suc, ◌+◌, ◌<◌, ◌≤◌, List, [], ◌∷◌, ◌++◌, Option, Result, Ok, Err, length, append_assoc, length-append, inl, inr, sym, ap, ap₂, subst, ◌∙◌, arith}
+use Rattle.witness.specs.Texts.{most_lines}
+use Rattle.witness.specs.Readings.{last_refusal, Reader, Reading, so_far, nothing_admitted, one_more_line, next_line_of, next_line, lines_behind, lines_read, reading, is_nothing, refused_for, read_or_fault, text_read}
 use Rattle.std.proofs.lemmas.Bool.{cases_lt, le-leb, lt-leb}
 use Rattle.std.proofs.lemmas.List.{append-nil}
 use Rattle.base.specs.Lines.{IsLine, text_of_lines, whole_lines, unfinished}
 use Rattle.base.proofs.LineLemmas.{EachLine, each_front, lines_are_lines, lines_of_text, parts_of_text, unfinished_of_text, unfinished-lines}
 use Rattle.witness.specs.declared.why.Why.{Why}
-use Rattle.witness.specs.declared.why.Why.TheVariants as why
-use Rattle.witness.specs.Texts.{most_lines}
-use Rattle.witness.proofs.LastLineLemmas.{whole_is}
 use Rattle.witness.proofs.TextEndLemmas.{lines_behind_text}
-use Rattle.witness.specs.Readings.{Reader, Reading, so_far, nothing_admitted, one_more_line, next_line_of, next_line, lines_behind, lines_read, reading, is_nothing, last_refusal, refused_for, read_or_fault, text_read}
 use Rattle.base.proofs.DecimalLemmas.{nothing}
+use Rattle.witness.specs.declared.why.Why.TheVariants as why
+
+whole : (ended many empty : Bool) → cond (ended && empty) None (cond (many && not empty) (Some why.TooLong) (cond ended (Some why.Trailing) (Some why.Truncated))) ≡ None → (ended ≡ true) × (empty ≡ true)
+whole true many true h = (refl, refl)
+whole true true false h = absurd cc
+whole true false false h = absurd cc
+whole false true true h = absurd cc
+whole false false true h = absurd cc
+whole false true false h = absurd cc
+whole false false false h = absurd cc
+
+-- it is refused, where it does not end a witness
+pub whole_is : (ended : Bool) (n : ℕ) (empty : Bool) → last_refusal ended n empty ≡ None → (ended ≡ true) × (empty ≡ true)
+whole_is ended n empty h = whole ended (nat_le most_lines n) empty h
 
 -- ---- line by line
 

@@ -10,10 +10,9 @@ use Rattle.witness.specs.Texts.{most_lines}
 use Rattle.witness.specs.Readings.{Reading, so_far, nothing_admitted, next_line, lines_read, reading, is_nothing, last_refusal, Fault, refused_for, read_or_fault, text_read}
 use Rattle.witness.specs.Judgements.{JudgesAs}
 use Rattle.witness.specs.Stands.{Judge, Judging, IsOfLines, StandsFor}
-use Rattle.witness.proofs.LastLineLemmas.{whole_is}
+use Rattle.witness.proofs.ReadingLemmas.{whole_is, goes, lines_append, few_read}
 use Rattle.witness.proofs.JudgedLemmas.{read_judged}
 use Rattle.witness.proofs.TextEndLemmas.{whole_lines-part, unfinished-part}
-use Rattle.witness.proofs.ReadingLemmas.{goes, lines_append, few_read}
 use Rattle.std.proofs.Math.Bool.{or-false}
 
 -- whether there is a refusal, by the test

@@ -1,5 +1,5 @@
--- What a judge of witnesses over a model holds: what an admitted line changes, and whether there is a claim.
-use Rattle.std.proofs.Common.{◌≡◌, ℕ, suc, ◌+◌, ◌<◌, ◌≤◌, nat_le, ◌^◌, Bool, true, false, not, cond, ◌&&◌, ◌||◌, List, [], ◌∷◌, ◌++◌, None, Result, Ok, Err, codes, length, map, length-append, refl, sym, ap, ap₂, subst, ◌∙◌, arith, inl, inr}
+-- What a judge of witnesses over a model holds: what an admitted line changes, whether there is a claim, and what it judges of a text.
+use Rattle.std.proofs.Common.{◌≡◌, ℕ, suc, ◌+◌, ◌<◌, ◌≤◌, nat_le, ◌^◌, Bool, true, false, not, cond, ◌&&◌, ◌||◌, List, [], ◌∷◌, ◌++◌, None, Result, Ok, Err, codes, length, map, length-append, refl, sym, ap, ap₂, subst, ◌∙◌, arith, inl, inr, Option}
 use Rattle.std.specs.Str.{bytes_eq}
 use Rattle.std.proofs.lemmas.Bool.{cases_Bool, eqb-true, false_from_ne_true}
 use Rattle.std.proofs.lemmas.List.{length-map, map-append}
@@ -8,24 +8,29 @@ use Rattle.base.specs.Lines.{whole_lines, unfinished}
 use Rattle.base.proofs.DecimalLemmas.{chosen, nothing}
 use Rattle.btor2.specs.declared.item.Item.{Item}
 use Rattle.witness.specs.declared.why.Why.{Why}
-use Rattle.witness.specs.declared.why.Why.TheVariants as why
 use Rattle.witness.specs.Texts.{Shape, Assignment, Parts, has_free, is_comment, shape_of, most_lines}
-use Rattle.witness.proofs.MoveLemmas.{goes_steps}
-use Rattle.witness.proofs.WordPlayLemmas.{between_behind}
+use Rattle.witness.proofs.WordPlayLemmas.{goes_steps, between_behind, word_is}
 use Rattle.witness.specs.Readings.{Reading, so_far, nothing_admitted, one_more_line, next_line_of, next_line, lines_behind, lines_read, reading, is_nothing}
-use Rattle.witness.specs.Admits.{claims_at, assignment_at, free_assignment_at, Place, AtStatus, AtClaims, AtParts, InStates, InFree, InFrame, AtEnd, Read, nothing_read, states_closed, frame_closed, opens_frame, opens_states, begins_part, after_claims, after_assignment, in_part, admit_at, admit, word_reader}
-use Rattle.witness.specs.Judgements.{frame_words, makes_no_claim}
-use Rattle.witness.specs.WordPlays.{nothing_given, is_between, steps_of, steps_taken}
-use Rattle.witness.specs.WordReadings.{closed_word_frames}
-use Rattle.witness.specs.ClosedWords.{ClosesFrame, ClosesAtMostOne}
+use Rattle.witness.specs.Admits.{claims_at, assignment_at, state_assignment_at, Place, AtStatus, AtClaims, AtParts, InStates, InFrame, AtEnd, Read, nothing_read, states_closed, frame_closed, opens_frame, opens_states, begins_part, after_claims, after_assignment, in_part, admit_at, admit, word_reader, is_at_end, witness_of}
+use Rattle.witness.specs.Judgements.{frame_words, makes_no_claim, FrameWords, words_of, Words, initial_words, given_words, given_frames, nodes_of, unreached_from, verdict, JudgesWords, first_of}
+use Rattle.witness.specs.WordPlays.{nothing_given, is_between, steps_of, steps_taken, WordPlay, Plays, Traced, TracedBy, frames_alone, word_at}
+use Rattle.witness.specs.ClosedWords.{closed_word_frames, ClosesFrame, ClosesAtMostOne, IsClosedTrace, last_word}
 use Rattle.witness.specs.Stands.{IsOfLines}
-use Rattle.witness.specs.WordStands.{place_of, WordReader, Reads, GivesLine, TakesLine, is_status, Counts, here_of, WordJudge, word_judging, StandsFor}
+use Rattle.witness.specs.WordStands.{place_of, WordReader, Reads, GivesLine, TakesLine, is_status, Counts, here_of, WordJudge, word_judging, StandsFor, ClaimsAt}
 use Rattle.witness.proofs.TextEndLemmas.{whole_lines-line_end, unfinished-line_end}
 use Rattle.witness.proofs.ReadingLemmas.{stopped, stays, holds_behind}
 use Rattle.witness.proofs.StandsLemmas.{awaits, none_awaited, ClaimsMore, line_admitted, with_bytes, line_ended}
 use Rattle.witness.proofs.KeptLineLemmas.{nothing_kept}
 use Rattle.witness.proofs.WordReaderLemmas.{reads_of_other}
 use Rattle.std.proofs.Math.Bool.{or-false}
+use Rattle.btor2.specs.Items.{is_bad}
+use Rattle.btor2.specs.Trace.{Frame, IsTrace}
+use Rattle.witness.specs.declared.judgement.Judgement.{Judgement}
+use Rattle.witness.specs.Fits.{AreClaimed, NoneIsSet, RisesAmong}
+use Rattle.witness.proofs.FrameLemmas.{as_many_frames}
+use Rattle.runs.specs.Run.{IsNow}
+use Rattle.witness.proofs.ReadTextLemmas.{ended}
+use Rattle.witness.specs.declared.why.Why.TheVariants as why
 
 -- ---- what an admitted line changes
 
@@ -135,23 +140,18 @@ line_moves shape r next line AtParts at h =
           ]
     ]
 line_moves shape r next line InStates at h =
-    elim (chosen (opens_frame 0 line) (Ok (states_closed r)) (in_part r line (assignment_at shape.states r.open_part line)) (Ok next) h) [
+    elim (chosen (opens_frame (length r.closed) line) (Ok (states_closed r)) (in_part r line (state_assignment_at shape r.closed r.open_part line)) (Ok next) h) [
       | inl e ↦ states_move r next e.1
-      | inr e ↦ part_moves r next line (assignment_at shape.states r.open_part line) (λ end. cc (at, end)) e.1
-    ]
-line_moves shape r next line InFree at h =
-    elim (chosen (opens_frame (length r.closed) line) (Ok (states_closed r)) (in_part r line (free_assignment_at shape r.open_part line)) (Ok next) h) [
-      | inl e ↦ states_move r next e.1
-      | inr e ↦ part_moves r next line (free_assignment_at shape r.open_part line) (λ end. cc (at, end)) e.1
+      | inr e ↦ part_moves r next line (state_assignment_at shape r.closed r.open_part line) (λ end. cc (at, end)) e.1
     ]
 line_moves shape r next line InFrame at h =
     let inputs : Result Read Why = in_part r line (assignment_at shape.inputs r.open_part line) in
     let ends : Result Read Why = cond (bytes_eq line (codes ".")) (Ok (frame_closed AtEnd r)) inputs in
-    elim (chosen (opens_frame (suc (length r.closed)) line) (Ok (frame_closed InFrame r)) (cond (opens_states (suc (length r.closed)) line && has_free shape) (Ok (frame_closed InFree r)) ends) (Ok next) h) [
+    elim (chosen (opens_frame (suc (length r.closed)) line) (Ok (frame_closed InFrame r)) (cond (opens_states (suc (length r.closed)) line && has_free shape) (Ok (frame_closed InStates r)) ends) (Ok next) h) [
       | inl e ↦ frame_moves r next InFrame refl e.1
       | inr e ↦
-          elim (chosen (opens_states (suc (length r.closed)) line && has_free shape) (Ok (frame_closed InFree r)) ends (Ok next) e.1) [
-            | inl d ↦ frame_moves r next InFree refl d.1
+          elim (chosen (opens_states (suc (length r.closed)) line && has_free shape) (Ok (frame_closed InStates r)) ends (Ok next) e.1) [
+            | inl d ↦ frame_moves r next InStates refl d.1
             | inr d ↦
                 elim (chosen (bytes_eq line (codes ".")) (Ok (frame_closed AtEnd r)) inputs (Ok next) d.1) [
                   | inl f ↦ frame_moves r next AtEnd refl f.1
@@ -324,3 +324,72 @@ line_taken items text j q all rest taken fresh few none stands =
     let silent : j.no_claim ≡ (j.no_claim || (is_status (place_of j.reader.place) && says_none line)) = sym (ap (λ (b : Bool). j.no_claim || (b && says_none line)) taken.behind ∙ or-false j.no_claim) in
     line_ended (word_judging items) (text ++ (line ++ 10 ∷ [])) (lines ++ line ∷ []) (record j { reader = q; admitted = j.admitted + 1 }) (whole_lines-line_end text line taken.whole ∙ ap (λ (l : List ℕ). lines ++ (l ++ line) ∷ []) empty)
     (unfinished-line_end text line) (given_line items lines line line j q j.no_claim here fresh few gives silent) none
+
+-- ---- a whole witness
+
+no_words : (frames : List Parts) → map frame_words frames ≡ [] → frames ≡ []
+no_words [] e = refl
+no_words (x ∷ frames) e = absurd cc
+
+traced_by : (items : List Item) (base : List ℕ) (p : WordPlay) (frames : List FrameWords) (fs : List Frame) → (frames ≡ [] → ⊥) → TracedBy items base p frames
+    → IsTrace items (initial_words items (frames_alone frames)) (map (given_words items) frames) fs → Traced items frames base p fs
+traced_by items base p [] fs some by t = absurd (some refl)
+traced_by items base p (x ∷ frames) fs some by t = by fs t
+
+no_flag : NoneIsSet []
+no_flag i = refl
+
+module _ (items : List Item) (q : WordReader) (r : Read) (line : List ℕ) (reads : Reads items q r line) (at : r.place ≡ AtEnd) (some : r.closed ≡ [] → ⊥) (fs : List Frame)
+    (trace : IsTrace items (initial_words items (words_of (witness_of r))) (given_frames items (words_of (witness_of r))) fs) where
+  abbrev w : Words
+  w = words_of (witness_of r)
+
+  plays : Plays items w.frames nothing_given q.play
+  plays = subst (λ (p : Place). Plays items w.frames (here_of r p) q.play) at reads.play
+
+  claimed : AreClaimed q.claimed r.claims
+  claimed = subst (ClaimsAt q r line) at reads.claims
+
+  traced : Traced items w.frames plays.base q.play fs
+  traced = traced_by items plays.base q.play w.frames fs (λ e. some (no_words r.closed e)) plays.traced trace
+
+  -- the first claim that is not reached
+  unreached : (o : Option ℕ)
+      → ((claims : List ℕ) (gs : List Frame) (none : List Bool) → AreClaimed q.claimed claims → NoneIsSet none → RisesAmong (nodes_of is_bad q.play.items) gs none q.play.rose → o ≡ unreached_from claims gs 0 (nodes_of is_bad q.play.items))
+      → o ≡ unreached_from r.claims fs 0 (nodes_of is_bad items)
+  unreached o says =
+      subst (λ (l : List Item). RisesAmong (nodes_of is_bad l) fs [] q.play.rose → o ≡ unreached_from r.claims fs 0 (nodes_of is_bad l)) plays.items_are (λ rises. says r.claims fs [] claimed no_flag rises) (traced.rose [] no_flag)
+
+  judged_whole : (o : Option ℕ) → o ≡ unreached_from r.claims fs 0 (nodes_of is_bad items) → first_of q.play.differs q.play.breach o q.play.frames ≡ verdict items w fs
+  judged_whole o e = rw (traced.differs, traced.breach, e, plays.count ∙ as_many_frames items w fs trace) refl
+
+-- ---- the judgement
+
+abbrev pub Says : List Item → Read → Judgement → Type 0
+Says items r = JudgesWords items (words_of (witness_of r))
+
+pub ended_at : (items : List Item) (text : List ℕ) (j old : WordJudge) → j ≡ old → StandsFor items old text → j.refused ≡ None → is_at_end (place_of j.reader.place) ≡ is_at_end (lines_read (word_reader (shape_of items)) (whole_lines text)).read.place
+ended_at items text j old same was none = let stands = subst (λ (k : WordJudge). StandsFor items k text) (sym same) was in ap is_at_end (stands.lines.reads none).place
+
+-- what is judged of a whole witness
+pub whole_witness : (items : List Item) (text : List ℕ) (j old : WordJudge) → j ≡ old → (o : Option ℕ) → StandsFor items old text → j.refused ≡ None
+    → ((claims : List ℕ) (gs : List Frame) (none : List Bool) → AreClaimed j.reader.claimed claims → NoneIsSet none → RisesAmong (nodes_of is_bad j.reader.play.items) gs none j.reader.play.rose
+    → o ≡ unreached_from claims gs 0 (nodes_of is_bad j.reader.play.items))
+    → is_at_end (lines_read (word_reader (shape_of items)) (whole_lines text)).read.place ≡ true
+    → Says items (lines_read (word_reader (shape_of items)) (whole_lines text)).read (first_of j.reader.play.differs j.reader.play.breach o j.reader.play.frames)
+whole_witness items text j old same o was none says done fs t =
+    let stands = subst (λ (k : WordJudge). StandsFor items k text) (sym same) was in
+    let r : Read = (lines_read (word_reader (shape_of items)) (whole_lines text)).read in
+    let reads = stands.lines.reads none in
+    let at : r.place ≡ AtEnd = ended r.place done in
+    let some = (in_frames (shape_of items) (whole_lines text)).1 at in
+    judged_whole items j.reader r (unfinished text) reads at some fs t o (unreached items j.reader r (unfinished text) reads at some fs t o says)
+
+-- ---- the word of a node in the frame that was closed last
+
+pub closed_word_is : (items : List Item) (text : List ℕ) (j : WordJudge) (fs : List Frame) (node : ℕ) (o : Option ℕ) → StandsFor items j text → IsClosedTrace items text fs
+    → ((f : Frame) → (j.reader.play.run.settled ≡ true → IsNow j.reader.play.run f) → o ≡ cond j.reader.play.run.settled (word_at j.reader.play.items f node) None) → o ≡ last_word items text fs node
+unfolding reading
+closed_word_is items text j fs node o stands trace says =
+    let r : Read = (lines_read (word_reader (shape_of items)) (whole_lines text)).read in
+    word_is items (map frame_words r.closed) (here_of r r.place) j.reader.play fs node o stands.lines.counts.plays trace says

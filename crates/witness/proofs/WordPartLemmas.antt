@@ -1,27 +1,25 @@
 -- A word more in the open part of a witness over a model.
-use Rattle.std.proofs.Common.{◌≡◌, ℕ, ◌<◌, ◌^◌, ◌==◌, Bool, true, false, ◌||◌, ◌&&◌, List, [], ◌∷◌, ◌++◌, Ok, All, map, length, length-append, set, refl, sym, ap, subst, ◌∙◌, arith, inl, inr}
+use Rattle.std.proofs.Common.{◌≡◌, ℕ, ◌<◌, ◌==◌, Bool, true, false, ◌||◌, ◌&&◌, List, [], ◌∷◌, ◌++◌, Ok, All, map, length, length-append, set, refl, sym, ap, subst, ◌∙◌, arith, inl, inr}
 use Rattle.std.specs.List.{list_any}
 use Rattle.std.proofs.lemmas.Bool.{cases_eq, eq-eqb, ne_eqb}
 use Rattle.std.proofs.lemmas.List.{map-append, get_or-set_same, get_or-set_other}
 use Rattle.std.proofs.lemmas.List.Elements.{All-nil, All-cons, All-head, All-tail, All-push}
 use Rattle.std.proofs.lemmas.List.Folds.{list_any-append}
-use Rattle.base.specs.Decimals.{number_of}
 use Rattle.btor2.specs.declared.item.Item.{Item}
 use Rattle.btor2.specs.Items.{is_input}
 use Rattle.btor2.specs.Check.{IsWellFormed}
 use Rattle.runs.specs.Run.{Run, zeros}
 use Rattle.witness.specs.Texts.{Shape, Assignment, widths_of, is_free_index, shape_of, are_distinct, assignment_line}
-use Rattle.witness.specs.Admits.{cut_at_space, names_free, assignment_at, free_assignment_at}
+use Rattle.witness.specs.Admits.{assignment_at}
 use Rattle.witness.specs.Fits.{is_set, IsFlagged, PairFits, PartFits, LaterFits, FramesFit, words_put}
 use Rattle.witness.specs.Judgements.{FrameWords, pairs_of}
 use Rattle.witness.specs.WordPlays.{WordPlay, GoesOn, is_between, Traced, TracedBy, Plays, MayGive, TakesInput, state_given, input_given}
 use Rattle.witness.specs.PlainLines.{BeginsAssignment}
-use Rattle.witness.proofs.AssignmentLemmas.{IsAssigned, assignment_at-assignment_line, assignment_is_line, free_assignment_is_line}
-use Rattle.witness.proofs.WordAssignLemmas.{flag_of}
-use Rattle.witness.proofs.AdmittedLineLemmas.{distinct_with}
-use Rattle.witness.proofs.ReadLemmas.{IsSmall}
+use Rattle.witness.proofs.AssignmentLemmas.{IsAssigned, assignment_at-assignment_line, assignment_is_line, may_stand}
+use Rattle.witness.proofs.WordFieldLemmas.{flag_of}
+use Rattle.witness.proofs.ReadLemmas.{IsSmall, distinct_with}
 use Rattle.witness.proofs.FitLemmas.{shape_is_small}
-use Rattle.witness.proofs.MoveLemmas.{one_ahead, goes_items}
+use Rattle.witness.proofs.WordPlayLemmas.{one_ahead, goes_items}
 use Rattle.std.proofs.Math.Bool.{or-true, or-false, and-false}
 
 -- ---- a pair behind others
@@ -71,17 +69,11 @@ last_changed shape (x ∷ frames) here next change fit =
 abbrev states_alone : List Assignment → FrameWords
 states_alone list = record { states = pairs_of list; inputs = [] }
 
+abbrev Free : List Item → ℕ × ℕ → Type 0
+Free items p = is_free_index (shape_of items) p.0 ≡ true
+
 abbrev with_inputs : List (ℕ × ℕ) → List Assignment → FrameWords
 with_inputs states list = record { states = states; inputs = pairs_of list }
-
-free_behind : (shape : Shape) (before : List Assignment) (line : List ℕ) (list : List Assignment) → length shape.states < 2 ^ 64 → names_free shape (number_of (cut_at_space line).0) ≡ true → assignment_at shape.states before line ≡ Ok list
-    → All (λ p. is_free_index shape p.0 ≡ true) (pairs_of before) → All (λ p. is_free_index shape p.0 ≡ true) (pairs_of list)
-unfolding free_assignment_at
-free_behind shape before line list small free is fits =
-    let h = free_assignment_is_line shape before line list small (rw free is) in
-    let a = h.assigned.assignment in
-    subst (λ (l : List (ℕ × ℕ)). All (λ p. is_free_index shape p.0 ≡ true) l) (sym (ap pairs_of h.assigned.all ∙ pairs_more before a))
-    (All-push (λ (p : ℕ × ℕ). is_free_index shape p.0 ≡ true) (pairs_of before) (a.index, a.word) fits h.free)
 
 state_fits : (items : List Item) (frames : List FrameWords) (before : List Assignment) (line : List ℕ) (list : List Assignment) → IsSmall (shape_of items) → MayGive items frames line → assignment_at (shape_of items).states before line ≡ Ok list
     → FramesFit (shape_of items) (frames ++ states_alone before ∷ []) → FramesFit (shape_of items) (frames ++ states_alone list ∷ [])
@@ -95,7 +87,9 @@ state_fits items (x ∷ frames) before line list small may is fit =
           (λ (last : LaterFits (shape_of items) (states_alone before)).
           record {
             states = part_behind (shape_of items).states before line list h last.states;
-            free = free_behind (shape_of items) before line list small.states may is last.free;
+            free =
+                subst (All (Free items)) (sym (ap pairs_of h.all ∙ pairs_more before h.assignment))
+                (All-push (Free items) (pairs_of before) (h.assignment.index, h.assignment.word) last.free (may_stand (shape_of items) (x ∷ frames) line h.assignment small.states h.spelled h.valid may));
             inputs = last.inputs;
           }) fit.1,
     )

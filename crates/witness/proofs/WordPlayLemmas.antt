@@ -1,29 +1,93 @@
--- Frames of a witness over a model, closed one after the other.
-use Rattle.std.proofs.Common.{◌≡◌, ℕ, suc, ◌+◌, ◌*◌, ◌<◌, ◌-◌, ◌^◌, ◌==◌, min, Bool, true, false, not, cond, ◌&&◌, ◌||◌, List, [], ◌∷◌, ◌++◌, Option, Some, None, option_and_then, All, map, length, get_or, length-append, refl, sym, ap, ap₂, subst, ◌∙◌, arith, inl, inr}
+-- The frames of a witness over a model, played while its lines are read, by a run that moves on from the frame that it is settled in.
+use Rattle.std.proofs.Common.{◌≡◌, ℕ, ◌+◌, ◌-◌, ◌^◌, ◌<◌, min, Bool, true, false, cond, List, [], ◌∷◌, Option, Some, None, IfSome, map, is_some, option_map, option_and_then, unwrap_or, slice_get, refl, sym, ap, ap₂, subst, ◌∙◌, suc, ◌*◌, ◌==◌, not, ◌&&◌, ◌||◌, ◌++◌, All, length, get_or, length-append, arith, inl, inr}
+use Rattle.base.proofs.StepLemmas.{more_steps-min, more_steps-sum}
+use Rattle.btor2.specs.declared.item.Item.{Item}
+use Rattle.btor2.specs.Items.{is_state, node_width, next_value, width_of_body, is_bad}
+use Rattle.btor2.specs.Lists.{width_at}
+use Rattle.btor2.specs.Check.{IsWellFormed}
+use Rattle.btor2.specs.Trace.{Frame, SameFrame, next_state, IsFrame, IsTrace}
+use Rattle.btor2.proofs.AppendLemmas.{is_some_from}
+use Rattle.btor2.proofs.ModelLemmas.{IsNextOf-from_value}
+use Rattle.btor2.proofs.TraceLemmas.{frame_exists, frame_unique}
+use Rattle.runs.specs.Frames.{ids_of, given as given_at}
+use Rattle.runs.specs.Run.{Run, state_words, leaf_words, zeros, state_count, more_steps, IsNow, first_word, node_count}
+use Rattle.witness.specs.WordPlays.{MovesOn, GoesOn, steps_taken, word_at, WordPlay, frame_steps, steps_of, frames_alone, carried_behind, is_between, Fresh, Traced, TracedBy, Plays, nothing_given}
 use Rattle.std.specs.Option.{option_or}
 use Rattle.std.specs.List.{last_or}
 use Rattle.std.proofs.lemmas.Bool.{cases_lt, ne_eqb, eq-eqb}
 use Rattle.std.proofs.lemmas.List.{length-map, map-append, get_or_past, get_or-map}
 use Rattle.std.proofs.lemmas.List.Elements.{All-nil, All-head, All-tail, All-push, All-get_or}
 use Rattle.std.proofs.lemmas.List.Folds.{list_all-append}
-use Rattle.btor2.specs.declared.item.Item.{Item}
-use Rattle.btor2.specs.Items.{is_state, is_bad}
-use Rattle.btor2.specs.Check.{IsWellFormed}
-use Rattle.btor2.specs.Trace.{Frame, IsFrame, IsTrace, next_state}
-use Rattle.runs.specs.Frames.{ids_of}
-use Rattle.runs.specs.Frames.{given as given_at}
-use Rattle.runs.specs.Run.{Run, IsNow, state_words, leaf_words, zeros, first_word, node_count, state_count, more_steps}
-use Rattle.base.proofs.StepLemmas.{more_steps-sum}
-use Rattle.btor2.proofs.TraceLemmas.{frame_exists}
 use Rattle.witness.specs.Texts.{Shape, shape_of}
 use Rattle.witness.specs.Fits.{is_set, FirstFits, LaterFits, FramesFit, StandsAt, RisesIn, RisesAmong, NoneIsSet}
 use Rattle.witness.specs.Judgements.{FrameWords, Violation, violated_at, violation_from, never_rises, nodes_of, first_different, first_violated, initial_words, given_words}
-use Rattle.witness.specs.WordPlays.{WordPlay, frame_steps, steps_of, frames_alone, carried_behind, MovesOn, GoesOn, is_between, word_at, Fresh, Traced, TracedBy, Plays, nothing_given}
+use Rattle.witness.proofs.JudgedLemmas.{breach_more}
 use Rattle.witness.proofs.GivenWordLemmas.{words_of_kind, first_stands, later_stands}
-use Rattle.witness.proofs.FrameLemmas.{different_of}
-use Rattle.witness.proofs.VerdictLemmas.{settled_now}
-use Rattle.witness.proofs.MoveLemmas.{moves, one_ahead, goes_items}
+use Rattle.witness.proofs.FrameLemmas.{different_of, settled_now}
 use Rattle.std.proofs.Math.Bool.{and-true}
+
+-- frames that have one word at each node leave one word to a state
+next_same : (items : List Item) (f g : Frame) (id : ℕ) → IsWellFormed items → SameFrame items f g → next_state items f id ≡ next_state items g id
+next_same items f g id w same = by (next_value items id) refl
+  where
+    by : (o : Option ℕ) → next_value items id ≡ o → unwrap_or (option_map f o) 0 ≡ unwrap_or (option_map g o) 0
+    by None e = refl
+    by (Some v) e = let line = IsNextOf-from_value items id v w e in same v (is_some_from (node_width items v) line.width line.of_value)
+
+map_same : (list : List ℕ) (g h : ℕ → ℕ) → ((k : ℕ) → g k ≡ h k) → map g list ≡ map h list
+map_same [] g h same = refl
+map_same (x ∷ list) g h same = rw (same x) (ap (λ (l : List ℕ). h x ∷ l) (map_same list g h same))
+
+-- there is a run behind each frame
+pub moves : (r : Run) → IsWellFormed r.items → (ahead : Run) × MovesOn r ahead
+moves r w =
+    let some = frame_exists r.items (state_words r) (leaf_words r) w in
+    let states : List ℕ = map (next_state r.items some.0) (ids_of is_state r.items) in (
+      record { items = r.items; states = states; inputs = zeros r.items; settled = false; steps = more_steps (state_count r.items) r.steps },
+      record {
+        states = λ f h. map_same (ids_of is_state r.items) (next_state r.items some.0) (next_state r.items f)
+            (λ id. next_same r.items some.0 f id w (frame_unique r.items (state_words r) (state_words r) (leaf_words r) some.0 f w (λ k. refl) some.1 h));
+        others = refl;
+      },
+    )
+
+-- and no other
+pub one_ahead : (b : Bool) (r m n : Run) → IsWellFormed r.items → GoesOn b r m → GoesOn b r n → m ≡ n
+one_ahead false r m n w g h = g ∙ sym h
+one_ahead true r m n w g h =
+    let some = frame_exists r.items (state_words r) (leaf_words r) w in
+    let same : m.states ≡ n.states = g.states some.0 some.1 ∙ sym (h.states some.0 some.1) in
+    g.others
+    ∙ (ap (λ (l : List ℕ). record r { states = l; inputs = zeros r.items; settled = false; steps = more_steps (state_count r.items) r.steps }) same
+    ∙ sym h.others)
+
+pub goes_items : (b : Bool) (r m : Run) → GoesOn b r m → m.items ≡ r.items
+goes_items false r m g = ap (λ (x : Run). x.items) g
+goes_items true r m g = ap (λ (x : Run). x.items) g.others
+
+-- its steps
+pub goes_steps : (items : List Item) (r m : Run) → r.items ≡ items → GoesOn r.settled r m → m.steps ≡ steps_taken items r
+goes_steps items r m e g = by r.settled g
+  where
+    by : (b : Bool) → GoesOn b r m → m.steps ≡ cond b (more_steps (state_count items) r.steps) r.steps
+    by false h = ap (λ (x : Run). x.steps) h
+    by true h = ap (λ (x : Run). x.steps) h.others ∙ ap (λ (l : List Item). more_steps (state_count l) r.steps) e
+
+pub steps_on : (items : List Item) (r : Run) (n count steps : ℕ) → r.settled ≡ true → n ≡ state_count items → count ≡ r.steps → count < 2 ^ 128 → steps ≡ min (count + n) (2 ^ 128 - 1) → steps ≡ steps_taken items r
+steps_on items r n count steps done many same fits is =
+    is ∙ (sym (more_steps-min n count fits) ∙ (ap₂ more_steps many same ∙ sym (ap (λ (b : Bool). cond b (more_steps (state_count items) r.steps) r.steps) done)))
+
+-- ---- the word of a node
+
+pub some_word : (items : List Item) (r : Run) (f : Frame) (node word : ℕ) → r.settled ≡ true → r.items ≡ items → is_some (width_at items node) ≡ true → IfSome (slice_get r.items node) (λ x. word ≡ f x.id)
+    → Some word ≡ cond r.settled (word_at items f node) None
+some_word items r f node word done same wide says =
+    by (slice_get items node) wide (subst (λ (l : List Item). IfSome (slice_get l node) (λ x. word ≡ f x.id)) same says)
+    ∙ (sym (ap (λ (b : Bool). cond b (option_map (λ (x : Item). f x.id) (slice_get items node)) None) wide) ∙ sym (ap (λ (b : Bool). cond b (word_at items f node) None) done))
+  where
+    by : (o : Option Item) → is_some (option_and_then (λ (x : Item). width_of_body items x.body) o) ≡ true → IfSome o (λ x. word ≡ f x.id) → Some word ≡ option_map (λ (x : Item). f x.id) o
+    by None h s = absurd cc
+    by (Some x) h s = ap (λ (n : ℕ). Some n) s
 
 -- ---- what parts give
 
@@ -57,15 +121,6 @@ split_trace items carried (input ∷ inputs) last (f ∷ fs) t =
 carried_more : (items : List Item) (carried : Frame) (fs : List Frame) (f : Frame) → carried_behind items carried (fs ++ f ∷ []) ≡ next_state items f
 carried_more items carried [] f = refl
 carried_more items carried (g ∷ fs) f = carried_more items (next_state items g) fs f
-
-violation_more : (items : List Item) (k : ℕ) (fs : List Frame) (f : Frame) → violation_from items k (fs ++ f ∷ []) ≡ option_or (violation_from items k fs) (violated_at (k + length fs) (first_violated items f) None)
-violation_more items k [] f = ap (λ (n : ℕ). violated_at n (first_violated items f) None) (omega arith)
-violation_more items k (g ∷ fs) f =
-    let rest = violation_more items (suc k) fs f in
-    elim (first_violated items g) as (λ o. violated_at k o (violation_from items (suc k) (fs ++ f ∷ [])) ≡ option_or (violated_at k o (violation_from items (suc k) fs)) (violated_at (k + suc (length fs)) (first_violated items f) None)) [
-      | Some i ↦ refl
-      | None ↦ rest ∙ ap (λ (n : ℕ). option_or (violation_from items (suc k) fs) (violated_at n (first_violated items f) None)) (omega arith)
-    ]
 
 never_more : (fs : List Frame) (f : Frame) (a : ℕ) → never_rises (fs ++ f ∷ []) a ≡ (never_rises fs a && not (f a == 1))
 never_more fs f a = list_all-append (λ (g : Frame). not (g a == 1)) fs (f ∷ []) ∙ ap (λ (b : Bool). never_rises fs a && b) (and-true (not (f a == 1)))
@@ -227,7 +282,7 @@ module _ (items : List Item) (here : FrameWords) (old new : WordPlay) (before se
         breach =
             closes.breach s.f now
             ∙ (ap₂ (λ (o : Option Violation) (n : ℕ). option_or o (violated_at n (first_violated items s.f) None)) was.breach number
-            ∙ (sym (violation_more items 0 s.front s.f) ∙ ap (violation_from items 0) (sym s.is)));
+            ∙ (sym (breach_more (first_violated items) 0 s.front s.f) ∙ ap (violation_from items 0) (sym s.is)));
         rose = λ none clear.
             subst (λ (l : List Frame). RisesAmong (nodes_of is_bad items) l none new.rose) (sym s.is)
             (rises_behind (nodes_of is_bad items) s.front s.f none old.rose new.rose (was.rose none clear) (closes.rose s.f now));

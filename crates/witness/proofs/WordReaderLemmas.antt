@@ -7,10 +7,10 @@ use Rattle.base.specs.Decimals.{number_of}
 use Rattle.btor2.specs.declared.item.Item.{Item}
 use Rattle.witness.specs.declared.why.Why.{Why}
 use Rattle.witness.specs.declared.why.Why.TheVariants as why
-use Rattle.witness.specs.declared.word_place.Place.{Place as CodePlace}
-use Rattle.witness.specs.declared.word_place.Place.TheVariants as code
-use Rattle.witness.specs.Texts.{Assignment, is_free_index, has_free, shape_of, is_comment}
-use Rattle.witness.specs.Admits.{Place, AtClaims, AtParts, InStates, InFree, InFrame, AtEnd, Read, nothing_read, cut_at_space, names_free, claims_at, opens_frame, opens_states, begins_part, states_closed, frame_closed, free_assignment_at, admit}
+use Rattle.witness.specs.declared.word_reader.Place.{Place as CodePlace}
+use Rattle.witness.specs.declared.word_reader.Place.TheVariants as code
+use Rattle.witness.specs.Texts.{Assignment, Parts, is_free_index, has_free, shape_of, is_comment}
+use Rattle.witness.specs.Admits.{Place, AtClaims, AtParts, InStates, InFrame, AtEnd, Read, nothing_read, cut_at_space, names_free, may_name, state_assignment_at, claims_at, opens_frame, opens_states, begins_part, states_closed, frame_closed, admit}
 use Rattle.witness.specs.Judgements.{FrameWords, pairs_of, frame_words}
 use Rattle.witness.specs.Fits.{AreClaimed}
 use Rattle.std.specs.List.{list_any}
@@ -139,7 +139,7 @@ module _ (items : List Item) (r : Read) (line : List ℕ) (q old : WordReader) (
   states_opened e is =
       let said : NoFrame r = said_at code.Parts e in
       let play = subst (λ (l : List Assignment). Plays items (map frame_words r.closed) (record { states = pairs_of l; inputs = [] }) q.play) (sym said.open_part) (plays_at code.Parts e) in
-      (record r { place = InStates }, (rw (is_at code.Parts e, is) refl, record { free = reads.free; many = reads.many; place = refl; said = said.closed; claims = claims_there code.Parts e; play = play }))
+      (record r { place = InStates }, (rw (is_at code.Parts e, is) refl, record { free = reads.free; many = reads.many; place = refl; said = tt; claims = claims_there code.Parts e; play = play }))
 
   pub frame_opened : old.place ≡ code.Parts → opens_states 0 line ≡ false → opens_frame 0 line ≡ true → Passes items r line (record q { place = code.Frame })
   unfolding admit
@@ -166,49 +166,40 @@ module _ (items : List Item) (r : Read) (line : List ℕ) (q old : WordReader) (
       subst (λ (l : List Item). Plays l (map frame_words r.closed) (record { states = pairs_of r.open_part; inputs = [] }) q.play → MayGive l (map frame_words r.closed) line → GivesState l (map frame_words r.closed) r.open_part line p result) plays.items_are
       (clause (map frame_words r.closed) r.open_part) plays
 
-  pub states_done : old.place ≡ code.States → opens_frame 0 line ≡ true → Passes items r line (record q { place = code.Frame })
+  pub states_done : old.place ≡ code.States → opens_frame (length r.closed) line ≡ true → Passes items r line (record q { place = code.Frame })
   unfolding admit
   states_done e is = (states_closed r, (rw (is_at code.States e, is) refl, record { free = reads.free; many = reads.many; place = refl; said = tt; claims = claims_there code.States e; play = plays_at code.States e }))
 
-  pub states_refused : old.place ≡ code.States → opens_frame 0 line ≡ false → begins_part line ≡ true → admit (shape_of items) r line ≡ Err why.FrameOrder
+  pub states_refused : old.place ≡ code.States → opens_frame (length r.closed) line ≡ false → begins_part line ≡ true → admit (shape_of items) r line ≡ Err why.FrameOrder
   unfolding admit
   states_refused e other begins = rw (is_at code.States e, other, begins) refl
 
-  pub state_more : (p : WordPlay) (result : Result (Unit {0}) Why) → old.place ≡ code.States → opens_frame 0 line ≡ false → begins_part line ≡ false → AssignsState p result → GivesLine items r line (record q { play = p }) result
-  unfolding admit
-  state_more p result e other plain clause = by result (state_given p result clause (plays_at code.States e) (subst (λ (l : _). MayGive items (map frame_words l) line) (sym (said_at code.States e)) tt))
+  -- whether an index may stand there, as it is told by the number of frames
+  abbrev pub MayAssign : Bool → Type 0
+  MayAssign b = (old.play.frames ≡ 0 → b ≡ true) × (0 < old.play.frames → b ≡ names_free (shape_of old.play.items) (number_of (cut_at_space line).0))
+
+  named : (b : Bool) → MayAssign b → may_name (shape_of items) r.closed (number_of (cut_at_space line).0) ≡ b
+  named b told = by r.closed (was.play.count ∙ length-map r.closed frame_words)
     where
-      by : (o : Result (Unit {0}) Why) → GivesState items (map frame_words r.closed) r.open_part line p o → GivesLine items r line (record q { play = p }) o
-      by (Err w) gives = rw (is_at code.States e, other, plain, gives) refl
-      by (Ok u) gives = (record r { open_part = gives.0 }, (rw (is_at code.States e, other, plain, gives.1.0) refl, given_more code.States p gives.0 e (said_at code.States e) (claims_there code.States e) gives.1.1))
+      by : (closed : List Parts) → old.play.frames ≡ length closed → may_name (shape_of items) closed (number_of (cut_at_space line).0) ≡ b
+      by [] count = sym (told.0 count)
+      by (x ∷ closed) count = sym (told.1 (omega (arith, count)) ∙ ap (λ (l : List Item). names_free (shape_of l) (number_of (cut_at_space line).0)) was.play.items_are)
 
-  pub free_done : old.place ≡ code.Free → opens_frame (length r.closed) line ≡ true → Passes items r line (record q { place = code.Frame })
-  unfolding admit
-  free_done e is = (states_closed r, (rw (is_at code.Free e, is) refl, record { free = reads.free; many = reads.many; place = refl; said = tt; claims = claims_there code.Free e; play = plays_at code.Free e }))
+  pub state_refused : old.place ≡ code.States → opens_frame (length r.closed) line ≡ false → begins_part line ≡ false → MayAssign false → admit (shape_of items) r line ≡ Err why.BadIndex
+  unfolding admit state_assignment_at
+  state_refused e other plain fails = rw (is_at code.States e, other, plain, named false fails) refl
 
-  pub free_refused : old.place ≡ code.Free → opens_frame (length r.closed) line ≡ false → begins_part line ≡ true → admit (shape_of items) r line ≡ Err why.FrameOrder
-  unfolding admit
-  free_refused e other begins = rw (is_at code.Free e, other, begins) refl
-
-  named : (b : Bool) → names_free (shape_of old.play.items) (number_of (cut_at_space line).0) ≡ b → names_free (shape_of items) (number_of (cut_at_space line).0) ≡ b
-  named b e = sym (ap (λ (l : List Item). names_free (shape_of l) (number_of (cut_at_space line).0)) was.play.items_are) ∙ e
-
-  pub not_free_refused : old.place ≡ code.Free → opens_frame (length r.closed) line ≡ false → begins_part line ≡ false → names_free (shape_of old.play.items) (number_of (cut_at_space line).0) ≡ false → admit (shape_of items) r line ≡ Err why.BadIndex
-  unfolding admit free_assignment_at
-  not_free_refused e other plain fails = rw (is_at code.Free e, other, plain, named false fails) refl
-
-  pub free_more : (p : WordPlay) (result : Result (Unit {0}) Why) → old.place ≡ code.Free → opens_frame (length r.closed) line ≡ false → begins_part line ≡ false → names_free (shape_of old.play.items) (number_of (cut_at_space line).0) ≡ true
-      → AssignsState p result → GivesLine items r line (record q { play = p }) result
-  unfolding admit free_assignment_at
-  free_more p result e other plain free clause = by result (state_given p result clause (plays_at code.Free e) (may (map frame_words r.closed)))
+  pub state_more : (p : WordPlay) (result : Result (Unit {0}) Why) → old.place ≡ code.States → opens_frame (length r.closed) line ≡ false → begins_part line ≡ false → MayAssign true → AssignsState p result → GivesLine items r line (record q { play = p }) result
+  unfolding admit state_assignment_at
+  state_more p result e other plain free clause = by result (state_given p result clause (plays_at code.States e) (may r.closed (named true free)))
     where
-      may : (closed : List FrameWords) → MayGive items closed line
-      may [] = tt
-      may (x ∷ closed) = named true free
+      may : (closed : List Parts) → may_name (shape_of items) closed (number_of (cut_at_space line).0) ≡ true → MayGive items (map frame_words closed) line
+      may [] h = refl
+      may (x ∷ closed) h = h
 
       by : (o : Result (Unit {0}) Why) → GivesState items (map frame_words r.closed) r.open_part line p o → GivesLine items r line (record q { play = p }) o
-      by (Err w) gives = rw (is_at code.Free e, other, plain, named true free, gives) refl
-      by (Ok u) gives = (record r { open_part = gives.0 }, (rw (is_at code.Free e, other, plain, named true free, gives.1.0) refl, given_more code.Free p gives.0 e tt (claims_there code.Free e) gives.1.1))
+      by (Err w) gives = rw (is_at code.States e, other, plain, named true free, gives) refl
+      by (Ok u) gives = (record r { open_part = gives.0 }, (rw (is_at code.States e, other, plain, named true free, gives.1.0) refl, given_more code.States p gives.0 e tt (claims_there code.States e) gives.1.1))
 
   -- ---- a frame
 
@@ -228,11 +219,11 @@ module _ (items : List Item) (r : Read) (line : List ℕ) (q old : WordReader) (
   next_frame p e is few clause = (frame_closed InFrame r, (rw (is_at code.Frame e, is) refl, record { free = reads.free; many = reads.many; place = ap (λ (p : WordReader). place_of p.place) same ∙ ap place_of e; said = tt; claims = claims_there code.Frame e; play = closed_plays p e few clause }))
 
   pub next_states : (p : WordPlay) → old.place ≡ code.Frame → opens_frame (suc (length r.closed)) line ≡ false → (opens_states (suc (length r.closed)) line && q.has_free) ≡ true → length r.closed < 2 ^ 62 → Closes p
-      → Passes items r line (record q { play = p; place = code.Free })
+      → Passes items r line (record q { play = p; place = code.States })
   unfolding admit
   next_states p e other is few clause =
       let some = ap (λ (b : Bool). opens_states (suc (length r.closed)) line && b) (sym reads.free) ∙ is in
-      (frame_closed InFree r, (rw (is_at code.Frame e, other, some) refl, record { free = reads.free; many = reads.many; place = refl; said = tt; claims = claims_there code.Frame e; play = closed_plays p e few clause }))
+      (frame_closed InStates r, (rw (is_at code.Frame e, other, some) refl, record { free = reads.free; many = reads.many; place = refl; said = tt; claims = claims_there code.Frame e; play = closed_plays p e few clause }))
 
   -- no line of states follows
   abbrev pub NoStates : Type 0

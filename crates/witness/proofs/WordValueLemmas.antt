@@ -1,8 +1,8 @@
 -- The word that the digits of a value write.
-use Rattle.std.proofs.Common.{◌≡◌, ℕ, suc, ◌+◌, ◌-◌, ◌*◌, ◌≤◌, ◌^◌, ◌==◌, Bool, true, false, ◌&&◌, List, [], ◌∷◌, ◌++◌, Ok, Err, length, map, reverse, length-append, refl, sym, ap, ◌∙◌, arith, inl, inr, if◌then◌else◌}
+use Rattle.std.proofs.Common.{◌≡◌, ℕ, suc, ◌+◌, ◌*◌, ◌≤◌, ◌^◌, ◌==◌, Bool, true, false, ◌&&◌, List, [], ◌∷◌, ◌++◌, Ok, Err, length, map, reverse, length-append, refl, sym, ap, ◌∙◌, arith, inl, inr, if◌then◌else◌}
 use Rattle.std.specs.List.{list_any, list_all}
 use Rattle.std.proofs.Math.Nat.{pow-suc}
-use Rattle.std.proofs.lemmas.Bool.{cases_Bool, and_parts, and_from, eqb-true, eqb-false, ne_eqb, eq-eqb}
+use Rattle.std.proofs.lemmas.Bool.{cases_Bool, and_parts, and_from, ne_eqb, eq-eqb}
 use Rattle.std.proofs.lemmas.List.{reverse-append, map-append}
 use Rattle.std.proofs.lemmas.List.Folds.{list_all-append}
 use Rattle.base.specs.Word.{word, bit_number}
@@ -11,15 +11,6 @@ use Rattle.witness.specs.Admits.{is_value_byte, value_of}
 use Rattle.witness.specs.BitScans.{is_bit, is_one_bit}
 use Rattle.witness.specs.WordValues.{IsKnown}
 use Rattle.witness.proofs.PieceLemmas.{none_of}
-
--- ---- bytes `0` and `1`
-
-pub known_byte : (b : ℕ) → 48 ≤ b → b ≤ 49 → (b - 48 ≡ bit_number (is_one_bit b)) × (is_bit b ≡ true)
-known_byte b least most =
-    elim (cases_Bool (b == 49)) [
-      | inl one ↦ let is : b ≡ 49 = eqb-true b 49 one in rw is (refl, refl)
-      | inr other ↦ let is : b ≡ 48 = omega (arith, least, most, eqb-false b 49 other) in rw is (refl, refl)
-    ]
 
 -- ---- the word of such bytes
 

@@ -108,21 +108,25 @@ abbrev pub names_free : Shape → Option ℕ → Bool
 names_free shape None = false
 names_free shape (Some i) = is_free_index shape i
 
--- the same behind the assignments of a part of free states: 114 also where the index is that of a state that is not free
-unfoldable pub free_assignment_at : Shape → List Assignment → List ℕ → Result (List Assignment) Why
-free_assignment_at shape before line =
-    if names_free shape (number_of (cut_at_space line).0) then assignment_at shape.states before line else Err why.BadIndex
+-- which may stand in a part of states: any in the first frame, and behind frames one of a free state
+abbrev pub may_name : {A : Type 0} → Shape → List A → Option ℕ → Bool
+may_name shape [] index = true
+may_name shape (x ∷ xs) index = names_free shape index
+
+-- the same in a part of states behind these frames: 114 also where the index may not stand there
+unfoldable pub state_assignment_at : {A : Type 0} → Shape → List A → List Assignment → List ℕ → Result (List Assignment) Why
+state_assignment_at shape closed before line =
+    if may_name shape closed (number_of (cut_at_space line).0) then assignment_at shape.states before line else Err why.BadIndex
 
 -- ---- the lines in their order
 
--- where the next line stands: among comments or the status, the claims, the first line of the first frame, in the states' part of the first frame, in that of
--- a later frame, in a frame behind its line `@<k>`, or behind the end
+-- where the next line stands: among comments or the status, the claims, the first line of the first frame, in a frame's part of states, in a frame behind its
+-- line `@<k>`, or behind the end
 pub data Place : Type 0 where
   AtStatus : Place
   AtClaims : Place
   AtParts : Place
   InStates : Place
-  InFree : Place
   InFrame : Place
   AtEnd : Place
 
@@ -178,12 +182,10 @@ admit_at shape r line AtParts =
     if opens_states 0 line then Ok (record r { place = InStates })
     else (if opens_frame 0 line then Ok (record r { place = InFrame }) else Err why.FrameOrder)
 admit_at shape r line InStates =
-    if opens_frame 0 line then Ok (states_closed r) else in_part r line (assignment_at shape.states r.open_part line)
-admit_at shape r line InFree =
-    if opens_frame (length r.closed) line then Ok (states_closed r) else in_part r line (free_assignment_at shape r.open_part line)
+    if opens_frame (length r.closed) line then Ok (states_closed r) else in_part r line (state_assignment_at shape r.closed r.open_part line)
 admit_at shape r line InFrame =
     if opens_frame (suc (length r.closed)) line then Ok (frame_closed InFrame r)
-    else (if opens_states (suc (length r.closed)) line && has_free shape then Ok (frame_closed InFree r)
+    else (if opens_states (suc (length r.closed)) line && has_free shape then Ok (frame_closed InStates r)
     else (if bytes_eq line (codes ".") then Ok (frame_closed AtEnd r) else in_part r line (assignment_at shape.inputs r.open_part line)))
 admit_at shape r line AtEnd = Err why.Trailing
 

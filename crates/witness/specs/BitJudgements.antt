@@ -1,5 +1,5 @@
 -- The judgement of a text over a circuit ("AIGER 1.9 and Beyond", semantics; the order of the six answers is this project's).
-use Rattle.std.specs.Prelude.{◌≡◌, ℕ, suc, Bool, true, false, not, ◌||◌, List, [], ◌∷◌, Option, Some, None, codes, length, slice_index, if◌then◌else◌}
+use Rattle.std.specs.Prelude.{◌≡◌, ℕ, suc, Bool, false, not, ◌||◌, List, [], ◌∷◌, Option, Some, None, codes, length, slice_index, if◌then◌else◌}
 use Rattle.std.specs.List.{list_any, position_from}
 use Rattle.std.specs.Str.{bytes_eq}
 use Rattle.base.specs.Lines.{whole_lines}
@@ -10,8 +10,7 @@ use Rattle.aiger.specs.Literal.{Valuation, literal_value}
 use Rattle.aiger.specs.Circuit.{Circuit}
 use Rattle.aiger.specs.Trace.{IsTrace}
 use Rattle.witness.specs.declared.judgement.Judgement.{Judgement}
-use Rattle.witness.specs.declared.judgement.Judgement.TheVariants as judgement
-use Rattle.witness.specs.Judgements.{Violation, violated_at, JudgesAs}
+use Rattle.witness.specs.Judgements.{Violation, breach_from, first_of, JudgesAs}
 use Rattle.witness.specs.BitTexts.{BitWitness}
 use Rattle.witness.specs.BitAdmits.{read_bit_text, bit_witness_of}
 
@@ -35,8 +34,7 @@ first_bit_violated c v = position_from (λ l. not (literal_value v l)) 0 c.const
 
 -- the first frame in which a constraint does not hold, and the first such constraint; frames are counted from k on
 abbrev pub bit_violation_from : Circuit → ℕ → List Valuation → Option Violation
-bit_violation_from c k [] = None
-bit_violation_from c k (v ∷ vs) = violated_at k (first_bit_violated c v) (bit_violation_from c (suc k) vs)
+bit_violation_from c k vs = breach_from (first_bit_violated c) k vs
 
 -- a bad property rises in a frame
 abbrev pub bit_rises : Circuit → ℕ → List Valuation → Bool
@@ -44,21 +42,10 @@ bit_rises c i vs = list_any (λ v. literal_value v (slice_index c.bads i)) vs
 
 -- ---- the judgement
 
-abbrev pub when_risen : ℕ → ℕ → Bool → Judgement
-when_risen i frames true = judgement.Accepted frames
-when_risen i frames false = judgement.NotReached i
-
-abbrev pub when_unbroken : Circuit → BitWitness → List Valuation → Option Violation → Judgement
-when_unbroken c w vs None = when_risen w.claim (length vs) (bit_rises c w.claim vs)
-when_unbroken c w vs (Some v) = judgement.Violated v.frame v.constraint
-
-abbrev pub when_reset : Circuit → BitWitness → List Valuation → Option ℕ → Judgement
-when_reset c w vs None = when_unbroken c w vs (bit_violation_from c 0 vs)
-when_reset c w vs (Some k) = judgement.InitDiffers k
-
 -- of a witness with its trace: initial bits first, then constraints in all frames, then the claim
 abbrev pub bit_verdict : Circuit → BitWitness → List Valuation → Judgement
-bit_verdict c w vs = when_reset c w vs (first_reset_differing 0 c.latches w.initial)
+bit_verdict c w vs =
+    first_of (first_reset_differing 0 c.latches w.initial) (bit_violation_from c 0 vs) (if bit_rises c w.claim vs then None else Some w.claim) (length vs)
 
 -- the first line is whole, and says that there is no counterexample, or that none is known
 abbrev pub makes_no_bit_claim : List (List ℕ) → Bool

@@ -3,12 +3,11 @@ use Rattle.std.specs.Prelude.{◌≡◌, ℕ, ◌<◌, ◌||◌, Bool, true, fal
 use Rattle.std.specs.Str.{bytes_eq}
 use Rattle.aiger.specs.Circuit.{Circuit}
 use Rattle.witness.specs.declared.why.Why.{Why}
-use Rattle.witness.specs.declared.bit_place.BitPlace.{BitPlace as CodePlace}
-use Rattle.witness.specs.declared.bit_place.BitPlace.TheVariants as code
+use Rattle.witness.specs.declared.bit_reader.BitPlace.{BitPlace as CodePlace}
+use Rattle.witness.specs.declared.bit_reader.BitPlace.TheVariants as code
 use Rattle.witness.specs.declared.bit_reader.BitReader.{BitReader}
 use Rattle.witness.specs.declared.bit_scan.Scan.{Scan}
-use Rattle.witness.specs.Stands.{Judge, Judging}
-use Rattle.witness.specs.Stands.{StandsFor as JudgeStandsFor}
+use Rattle.witness.specs.Stands.{Judge, Judging, StandsFor as JudgeStandsFor}
 use Rattle.witness.specs.BitAdmits.{BitPlace, AtHeader, AtClaim, AtInitial, AtFirst, AtLater, AtDone, BitRead, bit_admit, bit_reader}
 use Rattle.witness.specs.BitJudgements.{makes_no_bit_claim}
 use Rattle.witness.specs.BitScans.{Scans}

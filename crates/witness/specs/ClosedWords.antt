@@ -1,13 +1,27 @@
--- The closed frames of a text over a model, and the words of the one that was closed last (this project's).
-use Rattle.std.specs.Prelude.{◌≡◌, ℕ, Bool, true, false, ◌&&◌, ◌==◌, List, [], ◌∷◌, ◌++◌, Option, None, ◌⊎◌, is_some, option_map, option_and_then, if◌then◌else◌, map, length, slice_get}
+-- How far the whole lines of a text over a model are admitted, its closed frames, and the words of the one that was closed last (this project's).
+use Rattle.std.specs.Prelude.{ℕ, List, Result, length, ◌≡◌, Bool, true, false, ◌&&◌, ◌==◌, [], ◌∷◌, ◌++◌, Option, None, ◌⊎◌, is_some, option_map, option_and_then, if◌then◌else◌, map, slice_get}
+use Rattle.witness.specs.Texts.{Shape, Parts, shape_of}
+use Rattle.witness.specs.Readings.{Reading, Fault, reading, read_or_fault}
+use Rattle.witness.specs.Admits.{Read, is_at_end, word_reader, Place, InStates, InFrame, witness_of}
 use Rattle.std.specs.List.{last_or}
 use Rattle.btor2.specs.declared.item.Item.{Item}
 use Rattle.btor2.specs.Lists.{width_at}
 use Rattle.btor2.specs.Trace.{Frame, IsTrace}
-use Rattle.witness.specs.Texts.{Parts, shape_of}
-use Rattle.witness.specs.Admits.{Place, InStates, InFree, InFrame, Read, witness_of}
 use Rattle.witness.specs.Judgements.{FrameWords, Words, pairs_of, frame_words, words_of, initial_words, given_frames}
-use Rattle.witness.specs.WordReadings.{word_reading}
+
+abbrev pub word_reading : Shape → List ℕ → Reading Read
+word_reading shape text = reading (word_reader shape) text
+
+-- what the lines read as, with the bytes behind the last of them, or the fault
+abbrev pub read_with : Reading Read → List ℕ → Result Read Fault
+read_with g last = read_or_fault (λ r. is_at_end r.place) g last g.refused
+
+-- the whole lines before the faulty one, or all lines; and the frames whose closing lines are among them
+abbrev pub admitted_word_lines : Shape → List ℕ → ℕ
+admitted_word_lines shape text = (word_reading shape text).admitted
+
+abbrev pub closed_word_frames : Shape → List ℕ → ℕ
+closed_word_frames shape text = length (word_reading shape text).read.closed
 
 -- ---- the closed frames
 
@@ -32,7 +46,6 @@ nothing_given = record { states = []; inputs = [] }
 -- the words that are given in the frame that is open
 abbrev pub here_of : Read → Place → FrameWords
 here_of r InStates = record { states = pairs_of r.open_part; inputs = [] }
-here_of r InFree = record { states = pairs_of r.open_part; inputs = [] }
 here_of r InFrame = frame_words (record { states = r.states; inputs = r.open_part })
 here_of r _ = nothing_given
 

@@ -93,9 +93,13 @@ abbrev pub violated_at : ℕ → Option ℕ → Option Violation → Option Viol
 violated_at k None later = later
 violated_at k (Some i) later = Some (record { frame = k; constraint = i })
 
+-- by which constraint does not hold in one
+abbrev pub breach_from : {F : Type 0} → (F → Option ℕ) → ℕ → List F → Option Violation
+breach_from violated k [] = None
+breach_from violated k (f ∷ fs) = violated_at k (violated f) (breach_from violated (suc k) fs)
+
 abbrev pub violation_from : List Item → ℕ → List Frame → Option Violation
-violation_from items k [] = None
-violation_from items k (f ∷ fs) = violated_at k (first_violated items f) (violation_from items (suc k) fs)
+violation_from items k fs = breach_from (first_violated items) k fs
 
 -- a node is 1 in no frame
 abbrev pub never_rises : List Frame → ℕ → Bool
@@ -109,21 +113,17 @@ unreached_from claims fs i (a ∷ more) =
 
 -- ---- the judgement
 
-abbrev pub when_reached : ℕ → Option ℕ → Judgement
-when_reached frames None = judgement.Accepted frames
-when_reached frames (Some i) = judgement.NotReached i
-
-abbrev pub when_kept : List Item → Words → List Frame → Option Violation → Judgement
-when_kept items w fs None = when_reached (length fs) (unreached_from w.claims fs 0 (nodes_of is_bad items))
-when_kept items w fs (Some v) = judgement.Violated v.frame v.constraint
-
-abbrev pub when_begun : List Item → Words → List Frame → Option ℕ → Judgement
-when_begun items w fs None = when_kept items w fs (violation_from items 0 fs)
-when_begun items w fs (Some i) = judgement.InitDiffers i
+-- what is judged of a whole witness of so many frames: by the first initial value that differs, else the first breach, else the first claim that is not reached
+abbrev pub first_of : Option ℕ → Option Violation → Option ℕ → ℕ → Judgement
+first_of (Some k) breach unreached frames = judgement.InitDiffers k
+first_of None (Some v) unreached frames = judgement.Violated v.frame v.constraint
+first_of None None (Some claim) frames = judgement.NotReached claim
+first_of None None None frames = judgement.Accepted frames
 
 -- of a witness with its trace: initial words first, then constraints in all frames, then claims
 abbrev pub verdict : List Item → Words → List Frame → Judgement
-verdict items w fs = when_begun items w fs (first_different items (initial_words items w))
+verdict items w fs =
+    first_of (first_different items (initial_words items w)) (violation_from items 0 fs) (unreached_from w.claims fs 0 (nodes_of is_bad items)) (length fs)
 
 -- the first line that is no comment is whole, among the lines that may be there, and says that there is no counterexample, or that none is known
 abbrev pub makes_no_claim : ℕ → List (List ℕ) → Bool

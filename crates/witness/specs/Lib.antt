@@ -1,5 +1,4 @@
 -- The definitions of texts of witnesses and of their judgement.
-pub mod Numbers
 pub mod Texts
 pub mod Readings
 pub mod Admits
@@ -18,10 +17,8 @@ pub mod BitStands
 pub mod KeptLines
 pub mod WordClaims
 pub mod WordValues
-pub mod WordReadings
 pub mod ClosedWords
 pub mod WordPlays
 pub mod WordStands
-pub mod WordAssigns
 pub mod PlainLines
 pub mod Beginnings

@@ -1,11 +1,8 @@
 -- What a judge of witnesses of either kind holds, and which texts it stands for.
-use Rattle.std.specs.Prelude.{◌≡◌, ℕ, Bool, List, Option, Some, None}
+use Rattle.std.specs.Prelude.{◌≡◌, ℕ, Bool, List, Option, None}
 use Rattle.base.specs.Lines.{whole_lines, unfinished}
 use Rattle.witness.specs.declared.why.Why.{Why}
-use Rattle.witness.specs.declared.judgement.Judgement.{Judgement}
-use Rattle.witness.specs.declared.judgement.Judgement.TheVariants as judgement
 use Rattle.witness.specs.Readings.{Reader, lines_read}
-use Rattle.witness.specs.Judgements.{Violation}
 
 -- what is kept of the admitted lines and of the line that has not ended, how many lines are admitted, why the next whole line was refused, where there was
 -- one, and whether the status says that there is no claim
@@ -39,10 +36,3 @@ pub record IsOfLines {R Q L : Type 0} (g : Judging R Q L) (j : Judge Q L) (lines
 pub record StandsFor {R Q L : Type 0} (g : Judging R Q L) (j : Judge Q L) (text : List ℕ) : Type 0 where
   pub lines : IsOfLines g j (whole_lines text) (unfinished text)
   pub line : g.Keeps j.line (unfinished text)
-
--- what is judged of a whole witness of so many frames: by the first initial value that differs, else the first breach, else the first claim that is not reached
-abbrev pub first_of : Option ℕ → Option Violation → Option ℕ → ℕ → Judgement
-first_of (Some k) breach unreached frames = judgement.InitDiffers k
-first_of None (Some v) unreached frames = judgement.Violated v.frame v.constraint
-first_of None None (Some claim) frames = judgement.NotReached claim
-first_of None None None frames = judgement.Accepted frames

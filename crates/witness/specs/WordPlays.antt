@@ -9,7 +9,7 @@ use Rattle.runs.specs.Frames.{ids_of}
 use Rattle.runs.specs.Run.{Run, IsNow, start, first_word, zeros, node_count, state_count, more_steps}
 use Rattle.witness.specs.declared.why.Why.{Why}
 use Rattle.witness.specs.Texts.{widths_of, Assignment, shape_of, assignment_line, IsAssignment}
-use Rattle.witness.specs.Admits.{cut_at_space, names_free, assignment_at}
+use Rattle.witness.specs.Admits.{cut_at_space, may_name, assignment_at}
 use Rattle.witness.specs.Fits.{IsFlagged, FramesFit, words_put, RisesAmong, NoneIsSet}
 pub use Rattle.witness.specs.ClosedWords.{nothing_given, is_between, word_at}
 use Rattle.witness.specs.Judgements.{FrameWords, Words, pairs_of, initial_words, given_words, nodes_of, Violation, violation_from, first_different}
@@ -115,8 +115,7 @@ input_given p k word = record p { run = record p.run { inputs = slice_set p.run.
 
 -- a line may give a word to a state in the open part: in a later frame to a free one
 abbrev pub MayGive : List Item → List FrameWords → List ℕ → Type 0
-MayGive items [] line = Unit {0}
-MayGive items (x ∷ xs) line = names_free (shape_of items) (number_of (cut_at_space line).0) ≡ true
+MayGive items frames line = may_name (shape_of items) frames (number_of (cut_at_space line).0) ≡ true
 
 -- what a line gives to a state in a part of states, or to an input behind these words of states
 abbrev pub GivesState : List Item → List FrameWords → List Assignment → List ℕ → WordPlay → Result (Unit {0}) Why → Type 0

@@ -5,11 +5,11 @@ use Rattle.base.specs.Lines.{IsLine}
 use Rattle.btor2.specs.declared.item.Item.{Item}
 use Rattle.btor2.specs.Items.{is_input}
 use Rattle.witness.specs.declared.why.Why.{Why}
-use Rattle.witness.specs.declared.word_place.Place.{Place as CodePlace}
-use Rattle.witness.specs.declared.word_place.Place.TheVariants as code
+use Rattle.witness.specs.declared.word_reader.Place.{Place as CodePlace}
+use Rattle.witness.specs.declared.word_reader.Place.TheVariants as code
 use Rattle.witness.specs.declared.word_claims.ClaimScan.{ClaimScan}
 use Rattle.witness.specs.Texts.{widths_of, has_free, shape_of}
-use Rattle.witness.specs.Admits.{Place, AtStatus, AtClaims, AtParts, InStates, InFree, InFrame, AtEnd, Read, word_reader, admit}
+use Rattle.witness.specs.Admits.{Place, AtStatus, AtClaims, AtParts, InStates, InFrame, AtEnd, Read, word_reader, admit}
 use Rattle.witness.specs.Judgements.{frame_words, makes_no_claim}
 use Rattle.witness.specs.Fits.{AreClaimed}
 pub use Rattle.witness.specs.ClosedWords.{here_of}
@@ -17,8 +17,7 @@ use Rattle.witness.specs.WordClaims.{AreClaims}
 use Rattle.witness.specs.KeptLines.{kept}
 use Rattle.witness.specs.WordPlays.{WordPlay, Plays, steps_of, steps_taken}
 use Rattle.witness.specs.PlainLines.{NoFrameLine, NoAssignment}
-use Rattle.witness.specs.Stands.{Judge, Judging}
-use Rattle.witness.specs.Stands.{StandsFor as JudgeStandsFor}
+use Rattle.witness.specs.Stands.{Judge, Judging, StandsFor as JudgeStandsFor}
 
 -- which line comes next, as the code has it
 abbrev pub place_of : CodePlace → Place
@@ -26,7 +25,6 @@ place_of code.Status = AtStatus
 place_of code.Claims = AtClaims
 place_of code.Parts = AtParts
 place_of code.States = InStates
-place_of code.Free = InFree
 place_of code.Frame = InFrame
 place_of code.End = AtEnd
 
@@ -50,7 +48,6 @@ abbrev pub SaidAt : Read → Place → Type 0
 SaidAt r AtStatus = NoFrame r
 SaidAt r AtClaims = NoFrame r
 SaidAt r AtParts = NoFrame r
-SaidAt r InStates = r.closed ≡ []
 SaidAt r _ = Unit {0}
 
 -- what is claimed, with these bytes of the next line

@@ -1,12 +1,16 @@
--- The word behind the index of an assignment of a witness over a model.
-use Rattle.std.specs.Prelude.{◌≡◌, ℕ, ◌+◌, ◌*◌, ◌<◌, ◌^◌, true, List, [], ◌∷◌, Option, Some, None, Result, Ok, Err, map, length, reverse, if◌then◌else◌}
+-- The word behind the index of an assignment of a witness over a model, and the word that a line gives to a state or an input of which it is known whether it has one.
+use Rattle.std.specs.Prelude.{◌≡◌, ℕ, ◌+◌, ◌*◌, ◌<◌, ◌^◌, true, List, [], ◌∷◌, Option, Some, None, Result, Ok, Err, map, length, reverse, if◌then◌else◌, Bool, nat_lt, unwrap_or, slice_index}
 use Rattle.std.specs.List.{list_all}
 use Rattle.base.specs.Word.{word, bit_number}
 use Rattle.btor2.specs.Symbols.{is_symbol}
 use Rattle.witness.specs.declared.why.Why.{Why}
-use Rattle.witness.specs.declared.why.Why.TheVariants as why
 use Rattle.witness.specs.Admits.{value_of, cut_at_space}
 use Rattle.witness.specs.BitScans.{is_bit, is_one_bit}
+use Rattle.base.specs.Decimals.{number_of}
+use Rattle.btor2.specs.declared.item.Item.{Item}
+use Rattle.btor2.specs.Lists.{width_at}
+use Rattle.witness.specs.Fits.{is_set}
+use Rattle.witness.specs.declared.why.Why.TheVariants as why
 
 -- the word that bytes `0` and `1` write, the highest first
 pub record IsKnown (x : ℕ) (bytes : List ℕ) : Type 0 where
@@ -33,3 +37,25 @@ word_behind width (Some rest) = word_with (cut_at_space rest).1 (value_of width 
 abbrev pub Gives : {X Y : Type 0} → (X → Y) → Result X Why → Result Y Why → Type 0
 Gives view (Ok x) read = read ≡ Ok (view x)
 Gives view (Err e) read = read ≡ Err e
+
+-- the widths of the nodes at some places
+abbrev pub widths_by : List Item → List ℕ → List ℕ
+widths_by items places = map (λ k. unwrap_or (width_at items k) 0) places
+
+abbrev pub pair_with : ℕ → Result ℕ Why → Result (ℕ × ℕ) Why
+pair_with i (Ok x) = Ok (i, x)
+pair_with i (Err w) = Err w
+
+-- by a number, with what stands behind it; flags say which have a word
+abbrev pub assigned_number : List ℕ → List Bool → Option (List ℕ) → ℕ → Result (ℕ × ℕ) Why
+assigned_number widths given rest i =
+    if nat_lt i (length widths)
+    then (if is_set given i then Err why.IndexTwice else pair_with i (word_behind (slice_index widths i) rest))
+    else Err why.BadIndex
+
+abbrev pub assigned_by : List ℕ → List Bool → Option (List ℕ) → Option ℕ → Result (ℕ × ℕ) Why
+assigned_by widths given rest None = Err why.BadIndex
+assigned_by widths given rest (Some i) = assigned_number widths given rest i
+
+abbrev pub assigned : List ℕ → List Bool → List ℕ → Result (ℕ × ℕ) Why
+assigned widths given line = assigned_by widths given (cut_at_space line).1 (number_of (cut_at_space line).0)

@@ -11,12 +11,10 @@ ghost use Rattle.witness.specs.BitPlays.{steps_of};
 ghost use Rattle.witness.specs.Stands.{IsOfLines};
 ghost use Rattle.witness.specs.BitStands.{StandsFor, bit_judging, is_header, place_of};
 
-use crate::bit_place::BitPlace;
-use crate::bit_reader::BitReader;
+use crate::bit_reader::{BitPlace, BitReader};
 use crate::bit_scan::Scan;
 use crate::judgement::Judgement;
-use crate::last_line::{are_most, last_refusal};
-use crate::verdicts::{either, judgement_of};
+use crate::verdicts::{are_most, either, last_refusal};
 use crate::why::Why;
 use aiger::Circuit;
 use base::next_line;
@@ -139,14 +137,6 @@ impl<'a> BitJudge<'a> {
         }
     }
 
-    /// Takes the rest of a line byte by byte, and its end.
-    fn take_rest(&mut self, bytes: &[u8])
-        ensures { (c : Circuit) (text : List ℕ) → StandsFor c self.old text → StandsFor c self.new ((text ++ bytes.now) ++ 10 ∷ []) }
-    {
-        self.take_all(bytes);
-        self.end_line();
-    }
-
     /// Whether a line begins that may be admitted.
     fn begins_line(&self) -> bool
         ensures open { result ≡ true → self.now.refused ≡ None }
@@ -179,7 +169,8 @@ impl<'a> BitJudge<'a> {
         ensures { (c : Circuit) (text : List ℕ) → IsLine bytes.now → StandsFor c self.old text → StandsFor c self.new (text ++ (bytes.now ++ 10 ∷ [])) }
     {
         if !self.takes_bits(bytes) {
-            self.take_rest(bytes);
+            self.take_all(bytes);
+            self.end_line();
         }
     }
 
@@ -211,13 +202,7 @@ impl<'a> BitJudge<'a> {
         if let Some(why) = last_refusal(ended, self.admitted, self.line.is_empty()) {
             return Judgement::Malformed { line, why };
         }
-        let play = self.reader.play();
-        judgement_of(
-            play.differs(),
-            play.breach(),
-            self.reader.unreached(),
-            play.frames(),
-        )
+        self.reader.play().judgement(self.reader.unreached())
     }
 
     /// The judgement of the text: of every one that the judge stands for.

@@ -1,5 +1,5 @@
 //! Laws of witnesses of circuits, and worked rows, as functions with no code.
-ghost use Rattle.std.specs.Prelude.{◌≡◌, ◌↔◌, ℕ, ◌+◌, ◌<◌, ◌≤◌, true, false, Bool, List, [], ◌∷◌, ◌++◌, length, None, Some, Ok, Err, codes};
+ghost use Rattle.std.specs.Prelude.{◌≡◌, ◌↔◌, ℕ, ◌+◌, ◌<◌, ◌≤◌, true, Bool, List, [], ◌∷◌, ◌++◌, length, None, Ok, Err, codes};
 ghost use Rattle.base.specs.Lines.{text_of_lines, whole_lines, unfinished};
 ghost use Rattle.aiger.specs.declared.circuit.Latch.{Latch};
 ghost use Rattle.aiger.specs.Circuit.{Circuit, IsCircuit};

@@ -1,14 +1,16 @@
 //! The frames of a witness of a circuit, played while its lines are read.
-ghost use Rattle.std.specs.Prelude.{◌≡◌, ℕ, ◌<◌, ◌-◌, ◌^◌, ◌||◌, min, true, Bool, List, [], ◌∷◌, ◌++◌, MatchResult, length, map, slice_index, slice_index_or};
+ghost use Rattle.std.specs.Prelude.{◌≡◌, ℕ, ◌<◌, ◌-◌, ◌^◌, min, true, Bool, List, [], ◌∷◌, ◌++◌, MatchResult, length, map, slice_index, slice_index_or};
 ghost use Rattle.aiger.specs.declared.circuit.Latch.{Latch};
 ghost use Rattle.aiger.specs.Literal.{Valuation, literal_value};
 ghost use Rattle.aiger.specs.Circuit.{Circuit};
 ghost use Rattle.runs.specs.CircuitRun.{IsFrameNow, circuit_held};
 ghost use Rattle.witness.specs.BitScans.{is_one_bit};
+ghost use Rattle.witness.specs.Judgements.{first_of};
 ghost use Rattle.witness.specs.BitJudgements.{differs_from_reset, first_bit_violated};
 ghost use Rattle.witness.specs.BitPlays.{Begins, Plays, play_start, differing, latch_given};
 
-use crate::verdicts::{Breach, either, note_breach};
+use crate::judgement::Judgement;
+use crate::verdicts::{Breach, either, judgement_of, note_breach};
 use aiger::{Circuit, Reset};
 use runs::{BitRun, NewFault};
 use std::alloc::Global;
@@ -205,20 +207,14 @@ impl<'a> BitPlay<'a> {
         self.frames = self.frames.saturating_add(1);
     }
 
-    /// The first latch whose initial bit is not that of its reset, the first breach in a closed frame, and whether the
-    /// claimed bad property rose.
-    pub(crate) fn differs(&self) -> Option<u64>
-        ensures { result ≡ self.now.differs }
+    /// What is judged of the closed frames where they are all, by the claim where it is not reached.
+    pub(crate) fn judgement(&self, unreached: Option<u64>) -> Judgement
+        ensures { result ≡ first_of self.now.differs self.now.breach unreached self.now.frames }
     {
-        self.differs
+        judgement_of(self.differs, self.breach, unreached, self.frames)
     }
 
-    pub(crate) fn breach(&self) -> Option<Breach>
-        ensures { result ≡ self.now.breach }
-    {
-        self.breach
-    }
-
+    /// Whether the claimed bad property rose.
     pub(crate) fn rose(&self) -> bool
         ensures { result ≡ self.now.rose }
     {

@@ -1,19 +1,34 @@
 //! The lines of a witness of a circuit, admitted one after the other.
-ghost use Rattle.std.specs.Prelude.{◌≡◌, ℕ, ◌<◌, ◌-◌, ◌^◌, min, Bool, true, false, List, [], ◌∷◌, ◌++◌, MatchResult, None, OnErr, Ok, Err, Some, length, map, if◌then◌else◌};
+ghost use Rattle.std.specs.Prelude.{◌≡◌, ℕ, ◌<◌, ◌-◌, ◌^◌, min, true, false, List, [], ◌∷◌, ◌++◌, MatchResult, None, OnErr, Ok, Err, Some, length, map, if◌then◌else◌};
 ghost use Rattle.aiger.specs.Circuit.{Circuit};
-ghost use Rattle.runs.specs.CircuitRun.{circuit_held};
-ghost use Rattle.witness.specs.BitAdmits.{BitRead, AtLater, bits_at, bit_admit};
+ghost use Rattle.witness.specs.BitAdmits.{BitRead, AtLater, bits_at};
 ghost use Rattle.witness.specs.BitScans.{Scans, is_one_bit};
 ghost use Rattle.witness.specs.BitPlays.{play_start, Plays};
 ghost use Rattle.witness.specs.BitStands.{Reads, Admits, GivesLine, is_frame, is_header, place_of};
 
-use crate::bit_place::BitPlace;
 use crate::bit_play::BitPlay;
 use crate::bit_scan::{Scan, are_bits};
 use crate::why::Why;
 use aiger::Circuit;
 use runs::NewFault;
 use std::alloc::Global;
+
+/// Which line of a witness of a circuit comes next.
+#[derive(Clone, Copy, PartialEq, Eq)]
+pub(crate) enum BitPlace {
+    /// The status.
+    Header,
+    /// The claim.
+    Claim,
+    /// The bits that the latches begin with.
+    Initial,
+    /// The first frame.
+    First,
+    /// A later frame, or the last line.
+    Later,
+    /// None.
+    Done,
+}
 
 /// What the admitted lines of a witness of a circuit say, and the bits of the line that may go on.
 #[derive(Drop)]

@@ -13,8 +13,7 @@ ghost use Rattle.witness.specs.Texts.{Shape, shape_of, has_free, Parts, Witness,
 ghost use Rattle.witness.specs.Beginnings.{IsBeginning};
 ghost use Rattle.witness.specs.Admits.{Read, read_text, witness_of};
 ghost use Rattle.witness.specs.Judgements.{words_of, given_frames, makes_no_claim, Judges};
-ghost use Rattle.witness.specs.WordReadings.{word_reading, read_with, admitted_word_lines, closed_word_frames};
-ghost use Rattle.witness.specs.ClosedWords.{said_in, closed_words, IsClosedTrace, last_word, ClosesAtMostOne};
+ghost use Rattle.witness.specs.ClosedWords.{word_reading, read_with, admitted_word_lines, closed_word_frames, said_in, IsClosedTrace, last_word, ClosesAtMostOne};
 ghost use Rattle.witness.specs.Worked.{constrained, wide, nothing_given, rises, follows};
 
 /// A law: over a well-formed model, a text that says a witness is read as it, and a text that is read says what it is

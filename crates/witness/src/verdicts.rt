@@ -1,18 +1,46 @@
-//! What a run of a model says in one frame, and what was found in frames.
-ghost use Rattle.std.specs.Prelude.{◌≡◌, ℕ, ◌<◌, ◌||◌, Bool, List, IfSome, length, false, true, slice_get};
+//! What a run of a model says in one frame, what was found in frames, and the line behind the last whole one.
+ghost use Rattle.std.specs.Prelude.{◌≡◌, ℕ, ◌<◌, ◌||◌, Bool, List, IfSome, length, false, true, slice_get, nat_le};
 ghost use Rattle.std.specs.Option.{option_or};
-ghost use Rattle.btor2.specs.Items.{is_state, is_bad, is_constraint, init_word};
+ghost use Rattle.btor2.specs.Items.{is_state, is_bad, init_word};
 ghost use Rattle.btor2.specs.Check.{IsWellFormed};
 ghost use Rattle.btor2.specs.Lists.{places, of_kind};
 ghost use Rattle.btor2.specs.Trace.{Frame};
 ghost use Rattle.runs.specs.Run.{IsNow};
-ghost use Rattle.witness.specs.Judgements.{nodes_of, differs, first_different, first_violated, violated_at, unreached_from};
-ghost use Rattle.witness.specs.Stands.{first_of};
+ghost use Rattle.witness.specs.Judgements.{nodes_of, differs, first_different, first_violated, violated_at, unreached_from, first_of};
 ghost use Rattle.witness.specs.Fits.{RisesIn, RisesAmong, NoneIsSet, AreClaimed};
+ghost use Rattle.witness.specs.Texts.{most_lines};
+ghost use Rattle.witness.specs.Readings.{last_refusal};
 
 use crate::judgement::Judgement;
+use crate::why::Why;
 use btor2::Model;
 use runs::WordRun;
+
+/// The most lines of a witness.
+const MOST_LINES: u64 = 1 << 62;
+
+/// Whether so many lines are the most, so that none may follow.
+pub(crate) fn are_most(lines: u64) -> bool
+    ensures { result ≡ nat_le most_lines lines }
+{
+    lines >= MOST_LINES
+}
+
+/// Why the line is refused that follows so many whole lines and does not end, if it is.
+pub(crate) fn last_refusal(ended: bool, admitted: u64, empty: bool) -> Option<Why>
+    ensures { result ≡ last_refusal ended admitted empty }
+{
+    if ended && empty {
+        return None;
+    }
+    if are_most(admitted) && !empty {
+        return Some(Why::TooLong);
+    }
+    if ended {
+        return Some(Why::Trailing);
+    }
+    Some(Why::Truncated)
+}
 
 /// A frame and a constraint that does not hold in it, both counted from 0.
 #[derive(Clone, Copy, PartialEq, Eq)]

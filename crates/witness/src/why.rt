@@ -1,7 +1,6 @@
 //! Why a line is refused.
 ghost use Rattle.std.specs.Prelude.{◌≡◌};
-ghost use Rattle.witness.specs.Numbers.{why_number};
-ghost use Rattle.witness.specs.Printed.{why_name};
+ghost use Rattle.witness.specs.Printed.{why_number, why_name};
 
 use std::fmt;
 use thiserror::Error;

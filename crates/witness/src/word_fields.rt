@@ -1,11 +1,13 @@
-//! An assignment: an index, a value and a name, with a space between.
-ghost use Rattle.std.specs.Prelude.{◌≡◌, ◌<◌, ◌^◌, ◌∷◌, ◌++◌, IfOk, MatchOption, Some, ◌==◌};
+//! An assignment: an index, a value and a name, with a space between, and the word that it gives.
+ghost use Rattle.std.specs.Prelude.{◌≡◌, ◌<◌, ◌^◌, ◌∷◌, ◌++◌, IfOk, MatchOption, Some, ◌==◌, length};
 ghost use Rattle.std.specs.List.{position};
 ghost use Rattle.base.specs.Lines.{HasNone};
 ghost use Rattle.base.specs.Decimals.{number_of};
 ghost use Rattle.witness.specs.Admits.{cut_at_space, value_of};
-ghost use Rattle.witness.specs.WordValues.{Gives, word_behind, word_with};
+ghost use Rattle.witness.specs.WordValues.{Gives, word_behind, word_with, assigned_number, assigned};
+ghost use Rattle.witness.specs.Fits.{PairFits};
 
+use crate::given::Given;
 use crate::why::Why;
 use crate::word_value::value_of;
 use base::{Width, decimal};
@@ -75,12 +77,49 @@ fn word_with(behind: &[u8], width: Width) -> Result<u64, Why>
 }
 
 /// The word of so many bits behind the index of a line, or why there is none.
-pub(crate) fn word_of(line: &[u8], width: Width) -> Result<u64, Why>
+fn word_of(line: &[u8], width: Width) -> Result<u64, Why>
     ensures is { Gives (λ w. w) result (word_behind width (cut_at_space line.now).1) }
     ensures fits { IfOk result (λ w. w < 2 ^ width) }
 {
     match cut(line) {
         None => Err(Why::BadValue),
         Some((_token, behind)) => word_with(behind, width),
+    }
+}
+
+/// The word that is given to the node of a number, of nodes of these widths.
+fn assigned_number(
+    widths: &[Width],
+    given: &Given,
+    index: u64,
+    line: &[u8],
+) -> Result<(u64, u64), Why>
+    requires { length given.now ≡ length widths.now }
+    ensures is { Gives (λ p. p) result (assigned_number widths.now given.now (cut_at_space line.now).1 index) }
+    ensures fits { IfOk result (PairFits widths.now) }
+{
+    let k = index as usize;
+    if k >= widths.len() {
+        return Err(Why::BadIndex);
+    }
+    if given.has(k) {
+        return Err(Why::IndexTwice);
+    }
+    match word_of(line, widths[k]) {
+        Ok(word) => Ok((index, word)),
+        Err(why) => Err(why),
+    }
+}
+
+/// The word that a line gives to one of the nodes of these widths, or why it gives none. `given` says which of them
+/// have a word in the part already.
+pub(crate) fn assigned(widths: &[Width], given: &Given, line: &[u8]) -> Result<(u64, u64), Why>
+    requires { length given.now ≡ length widths.now }
+    ensures is { Gives (λ p. p) result (assigned widths.now given.now line.now) }
+    ensures fits { IfOk result (PairFits widths.now) }
+{
+    match index_of(line) {
+        Some(index) => assigned_number(widths, given, index, line),
+        None => Err(Why::BadIndex),
     }
 }

@@ -10,22 +10,19 @@ ghost use Rattle.witness.specs.Texts.{shape_of};
 ghost use Rattle.witness.specs.Admits.{is_at_end};
 ghost use Rattle.witness.specs.Judgements.{Judges};
 ghost use Rattle.witness.specs.WordPlays.{steps_of};
-ghost use Rattle.witness.specs.WordReadings.{admitted_word_lines, closed_word_frames};
-ghost use Rattle.witness.specs.ClosedWords.{IsClosedTrace, last_word};
+ghost use Rattle.witness.specs.ClosedWords.{admitted_word_lines, closed_word_frames, IsClosedTrace, last_word};
 ghost use Rattle.base.specs.Lines.{IsLine, unfinished};
 ghost use Rattle.witness.specs.KeptLines.{AreAlike};
-ghost use Rattle.witness.specs.declared.word_place.Place.TheVariants as place;
+ghost use Rattle.witness.specs.declared.word_reader.Place.TheVariants as place;
 ghost use Rattle.witness.specs.Stands.{IsOfLines};
 ghost use Rattle.witness.specs.WordStands.{StandsFor, JudgesLine, NoPlainLine, is_alone, is_status, place_of, word_judging};
 
 use crate::judgement::Judgement;
 use crate::kept_line::KeptLine;
-use crate::last_line::{are_most, last_refusal};
-use crate::verdicts::{either, judgement_of};
+use crate::verdicts::{are_most, either, last_refusal};
 use crate::why::Why;
 use crate::word_line::is_word;
-use crate::word_place::Place;
-use crate::word_reader::{WordReader, is_alone};
+use crate::word_reader::{Place, WordReader, is_alone};
 use base::next_line;
 use btor2::Model;
 use runs::NewFault;
@@ -229,13 +226,7 @@ impl<'a> WordJudge<'a> {
         if let Some(why) = last_refusal(ended, self.admitted, self.line.is_empty()) {
             return Judgement::Malformed { line, why };
         }
-        let play = self.reader.play();
-        judgement_of(
-            play.differs(),
-            play.breach(),
-            self.reader.unreached(),
-            play.frames(),
-        )
+        self.reader.play().judgement(self.reader.unreached())
     }
 
     /// The judgement of the text: of every one that the judge stands for.

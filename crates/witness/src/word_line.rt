@@ -1,5 +1,5 @@
 //! A whole line of a witness over a model that is no assignment.
-ghost use Rattle.std.specs.Prelude.{◌≡◌, ℕ, ◌==◌, ◌||◌, ◌<◌, ◌-◌, ◌^◌, ◌∷◌, decimal, slice_index_or};
+ghost use Rattle.std.specs.Prelude.{◌≡◌, ◌==◌, ◌||◌, ◌<◌, ◌-◌, ◌^◌, ◌∷◌, decimal, slice_index_or};
 ghost use Rattle.std.specs.Str.{bytes_eq};
 ghost use Rattle.witness.specs.Texts.{is_comment};
 ghost use Rattle.base.specs.Decimals.{number_of};

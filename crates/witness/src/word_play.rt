@@ -1,24 +1,27 @@
 //! The frames of a witness over a model, played while its lines are read.
-ghost use Rattle.std.specs.Prelude.{◌≡◌, ℕ, ◌<◌, ◌+◌, ◌^◌, ◌==◌, true, false, Option, None, List, [], ◌∷◌, ◌++◌, if◌then◌else◌, IfErr, IfNone, IfOk, IfSome, MatchOption, OnErr, is_some, length};
+ghost use Rattle.std.specs.Prelude.{◌≡◌, ℕ, ◌<◌, ◌+◌, ◌^◌, ◌==◌, true, false, Option, None, List, [], ◌∷◌, ◌++◌, if◌then◌else◌, IfErr, IfNone, IfOk, IfSome, OnErr, is_some, length, All, Some};
 ghost use Rattle.btor2.specs.Items.{is_input, is_state, is_bad};
 ghost use Rattle.btor2.specs.Check.{IsWellFormed};
 ghost use Rattle.btor2.specs.Lists.{places, width_at, first_init_without_next};
 ghost use Rattle.btor2.specs.Trace.{Frame};
 ghost use Rattle.runs.specs.Run.{IsNow, node_count, state_count};
 ghost use Rattle.runs.specs.Refusal.{AnswersNew};
-ghost use Rattle.witness.specs.Judgements.{FrameWords, pairs_of, first_different};
+ghost use Rattle.witness.specs.Judgements.{FrameWords, pairs_of, first_different, first_of};
 ghost use Rattle.witness.specs.Texts.{Assignment, shape_of, widths_of};
 ghost use Rattle.witness.specs.KeptLines.{IsSmall};
 ghost use Rattle.witness.specs.Fits.{NoneIsSet, PairFits};
 ghost use Rattle.witness.specs.PlainLines.{NoAssignment};
 ghost use Rattle.witness.specs.WordPlays.{IsStart, GoesOn, Plays, MayGive, GivesState, GivesInput, TakesInput, state_given, input_given, nothing_given, word_at, steps_taken};
+ghost use Rattle.witness.specs.WordValues.{widths_by};
 
 use crate::given::Given;
+use crate::judgement::Judgement;
 use crate::plain_line::plain_assignment;
-use crate::verdicts::{Breach, first_different, first_violated, note_breach, note_rises};
+use crate::verdicts::{
+    Breach, first_different, first_violated, judgement_of, note_breach, note_rises,
+};
 use crate::why::Why;
-use crate::word_assign::assigned;
-use crate::word_widths::widths_at;
+use crate::word_fields::assigned;
 use base::Width;
 use btor2::Model;
 use runs::{NewFault, WordRun};
@@ -57,6 +60,37 @@ impl<'a> std::marker::Model for WordPlay<'a> {
     ghost view = { λ p. record { items = p.model.now; run = p.run; states_given = p.states_given; inputs_given = p.inputs_given; differs = p.differs; frames = p.frames; breach = p.breach; rose = p.rose.items } };
 
     ghost invariant = { λ p. (p.run.items ≡ p.model.now) × (length p.states_given ≡ length (places is_state 0 p.model.now)) × (length p.inputs_given ≡ length (places is_input 0 p.model.now)) × (length p.rose.items ≡ length (places is_bad 0 p.model.now)) × (p.state_widths.items ≡ widths_of is_state p.model.now) × (p.input_widths.items ≡ widths_of is_input p.model.now) };
+}
+
+/// The width of a node at a place of a model.
+fn width_at(model: &Model, place: usize) -> Width
+    requires there { place < length model.now }
+    requires some { is_some (width_at model.now place) ≡ true }
+    ensures { Some result ≡ width_at model.now place }
+{
+    match model.width_of(place) {
+        Some(width) => width,
+        None => unreachable!(),
+    }
+}
+
+/// The widths of the nodes at some places of a model, in the order of the places.
+///
+/// Error: `NoMemory`.
+fn widths_at(alloc: Global, model: &Model, places: &[usize]) -> Result<Vec<Width>, NewFault>
+    requires there { All (λ k. k < length model.now) places.now }
+    requires some { All (λ k. is_some (width_at model.now k) ≡ true) places.now }
+    ensures ok { IfOk result (λ widths. widths.items ≡ widths_by model.now places.now) }
+    ensures fault { IfErr result (λ fault. fault ≡ NewFault.NoMemory) }
+{
+    let mut widths = Vec::new(alloc);
+    for place in places {
+        match widths.push(width_at(model, *place)) {
+            Ok(()) => {}
+            Err(_) => return Err(NewFault::NoMemory),
+        }
+    }
+    Ok(widths)
 }
 
 /// So many flags, none of them set.
@@ -280,18 +314,11 @@ impl<'a> WordPlay<'a> {
         Some(self.run.value(node))
     }
 
-    /// The first state whose initial word is not that of its init line.
-    pub(crate) fn differs(&self) -> Option<u64>
-        ensures { result ≡ self.now.differs }
+    /// What is judged of the closed frames where they are all, by the first claim that is not reached.
+    pub(crate) fn judgement(&self, unreached: Option<u64>) -> Judgement
+        ensures { result ≡ first_of self.now.differs self.now.breach unreached self.now.frames }
     {
-        self.differs
-    }
-
-    /// The first breach in a closed frame.
-    pub(crate) fn breach(&self) -> Option<Breach>
-        ensures { result ≡ self.now.breach }
-    {
-        self.breach
+        judgement_of(self.differs, self.breach, unreached, self.frames)
     }
 
     /// For each bad property whether it rose in a closed frame.

@@ -1,5 +1,5 @@
 //! The lines of a witness over a model, admitted one after the other.
-ghost use Rattle.std.specs.Prelude.{◌≡◌, ℕ, ◌&&◌, ◌<◌, ◌+◌, ◌-◌, ◌^◌, Bool, List, [], ◌∷◌, ◌++◌, IfNone, IfOk, IfSome, OnErr, length, slice_index};
+ghost use Rattle.std.specs.Prelude.{◌≡◌, ℕ, ◌&&◌, ◌<◌, ◌+◌, ◌-◌, ◌^◌, true, Bool, List, [], ◌++◌, IfNone, IfOk, IfSome, OnErr, length, slice_index};
 ghost use Rattle.btor2.specs.declared.item.Item.{Item};
 ghost use Rattle.btor2.specs.Items.{is_state, is_bad};
 ghost use Rattle.btor2.specs.Lists.{places, is_free_at, first_init_without_next};
@@ -10,10 +10,9 @@ ghost use Rattle.witness.specs.Admits.{Read, nothing_read, opens_states, names_f
 ghost use Rattle.base.specs.Decimals.{number_of};
 ghost use Rattle.witness.specs.Judgements.{nodes_of, unreached_from};
 ghost use Rattle.witness.specs.Fits.{NoneIsSet, RisesAmong, AreClaimed};
-ghost use Rattle.witness.specs.declared.word_place.Place.TheVariants as place;
+ghost use Rattle.witness.specs.declared.word_reader.Place.TheVariants as place;
 ghost use Rattle.witness.specs.KeptLines.{AreAlike};
 ghost use Rattle.witness.specs.WordStands.{Reads, GivesLine, TakesLine, NoPlainLine, is_alone, place_of};
-ghost use Rattle.witness.specs.PlainLines.{NoFrameLine};
 
 use crate::plain_line::behind_frame_line;
 use crate::verdicts::first_unreached;
@@ -21,11 +20,27 @@ use crate::why::Why;
 use crate::word_claims::ClaimScan;
 use crate::word_fields::index_of;
 use crate::word_line::{begins_part, is_comment, is_numbered, is_word};
-use crate::word_place::Place;
 use crate::word_play::{WordPlay, no_flags};
 use btor2::Model;
 use runs::NewFault;
 use std::alloc::Global;
+
+/// Which line of a witness comes next.
+#[derive(Clone, Copy, PartialEq, Eq)]
+pub(crate) enum Place {
+    /// A comment or the status.
+    Status,
+    /// The claims.
+    Claims,
+    /// The first line of the first frame, or of its states' part.
+    Parts,
+    /// One of a frame's part of states, or the line behind it.
+    States,
+    /// One of a frame's inputs, the first line of the next frame or of its states' part, or the last line.
+    Frame,
+    /// None.
+    End,
+}
 
 /// What the admitted lines of a witness over a model say.
 #[derive(Drop)]
@@ -128,11 +143,15 @@ impl<'a> WordReader<'a> {
         }
     }
 
-    /// Whether an assignment is one of a free state.
-    fn names_free(&self, line: &[u8]) -> bool
-        ensures { result ≡ names_free (shape_of self.now.play.items) (number_of (cut_at_space line.now).0) }
+    /// Whether an assignment may stand in a part of states: any in the first frame, and behind it one of a free state.
+    fn may_assign(&self, line: &[u8]) -> bool
+        ensures first { self.now.play.frames ≡ 0 → result ≡ true }
+        ensures later { 0 < self.now.play.frames → result ≡ names_free (shape_of self.now.play.items) (number_of (cut_at_space line.now).0) }
     {
         let model = self.play.model();
+        if self.play.frames() == 0 {
+            return true;
+        }
         match index_of(line) {
             Some(index) => {
                 let k = index as usize;
@@ -194,24 +213,9 @@ impl<'a> WordReader<'a> {
         Err(Why::FrameOrder)
     }
 
-    /// A line of the states' part of the first frame has ended, or the one behind it.
+    /// A line of a part of states has ended, or the one behind it.
     fn admit_states(&mut self, line: &[u8]) -> Result<(), Why>
-        ensures line { (items : List Item) (r : Read) → Reads items self.old r line.now → self.old.place ≡ place.States → GivesLine items r line.now self.new result }
-        ensures err { OnErr result (self.new.play ≡ self.old.play) }
-    {
-        if is_numbered(line, b'@', 0) {
-            self.place = Place::Frame;
-            return Ok(());
-        }
-        if begins_part(line) {
-            return Err(Why::FrameOrder);
-        }
-        self.play.assign_state(line)
-    }
-
-    /// The same of a later frame.
-    fn admit_free(&mut self, line: &[u8]) -> Result<(), Why>
-        ensures line { (items : List Item) (r : Read) → Reads items self.old r line.now → self.old.place ≡ place.Free → length r.closed < 2 ^ 62 → GivesLine items r line.now self.new result }
+        ensures line { (items : List Item) (r : Read) → Reads items self.old r line.now → self.old.place ≡ place.States → length r.closed < 2 ^ 62 → GivesLine items r line.now self.new result }
         ensures err { OnErr result (self.new.play ≡ self.old.play) }
     {
         if is_numbered(line, b'@', self.play.frames()) {
@@ -221,7 +225,7 @@ impl<'a> WordReader<'a> {
         if begins_part(line) {
             return Err(Why::FrameOrder);
         }
-        if !self.names_free(line) {
+        if !self.may_assign(line) {
             return Err(Why::BadIndex);
         }
         self.play.assign_state(line)
@@ -242,7 +246,7 @@ impl<'a> WordReader<'a> {
         }
         if self.begins_states(line, next) {
             self.play.close();
-            self.place = Place::Free;
+            self.place = Place::States;
             return Ok(());
         }
         if is_word(line, b".") {
@@ -253,23 +257,6 @@ impl<'a> WordReader<'a> {
         Err(Why::FrameOrder)
     }
 
-    /// Takes the line that opens the next frame, where a text begins with it, and answers the text behind it.
-    #[inline(always)]
-    fn take_opening<'t>(&mut self, text: &'t [u8]) -> Option<&'t [u8]>
-        ensures line { self.old.place ≡ place.Frame → IfSome result (λ rest. TakesLine self.old self.new text.now rest.now) }
-        ensures none { IfNone result (NoFrameLine (self.old.play.frames + 1) text.now) }
-        ensures kept { IfNone result (self.new ≡ self.old) }
-    {
-        let next = self.play.frames().saturating_add(1);
-        match behind_frame_line(text, next) {
-            Some(rest) => {
-                self.play.close();
-                Some(rest)
-            }
-            None => None,
-        }
-    }
-
     /// Takes the line of an input's word or that which opens the next frame, where a text begins with it.
     #[inline(always)]
     fn take_in_frame<'t>(&mut self, text: &'t [u8]) -> Option<&'t [u8]>
@@ -278,9 +265,16 @@ impl<'a> WordReader<'a> {
         ensures kept { IfNone result (self.new ≡ self.old) }
     {
         let _model = self.play.model();
-        match self.play.take_input(text) {
-            Some(rest) => Some(rest),
-            None => self.take_opening(text),
+        if let Some(rest) = self.play.take_input(text) {
+            return Some(rest);
+        }
+        let next = self.play.frames().saturating_add(1);
+        match behind_frame_line(text, next) {
+            Some(rest) => {
+                self.play.close();
+                Some(rest)
+            }
+            None => None,
         }
     }
 
@@ -294,12 +288,7 @@ impl<'a> WordReader<'a> {
     {
         match self.place {
             Place::Frame => self.take_in_frame(text),
-            Place::Status
-            | Place::Claims
-            | Place::Parts
-            | Place::States
-            | Place::Free
-            | Place::End => None,
+            Place::Status | Place::Claims | Place::Parts | Place::States | Place::End => None,
         }
     }
 
@@ -314,7 +303,6 @@ impl<'a> WordReader<'a> {
             Place::Claims => self.admit_claims(),
             Place::Parts => self.admit_parts(line),
             Place::States => self.admit_states(line),
-            Place::Free => self.admit_free(line),
             Place::Frame => self.admit_frame(line),
             Place::End => Err(Why::Trailing),
         }

@@ -1,5 +1,5 @@
 use Rattle.base.specs.Lines.{text_of_lines}
-use Rattle.witness.proofs.BitBeginningLemmas.{admitted_is_beginning, beginning_is_admitted}
+use Rattle.witness.proofs.BitReadLemmas.{admitted_is_beginning, beginning_is_admitted}
 use Rattle.witness.proofs.bit_laws.admitted_lines_begin_bit_witnesses.Goals as goal
 
 pub returns : goal.returns

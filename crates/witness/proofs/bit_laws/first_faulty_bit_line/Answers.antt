@@ -1,4 +1,4 @@
-use Rattle.witness.proofs.BitBeginningLemmas.{beginning_before, no_beginning_with}
+use Rattle.witness.proofs.BitReadLemmas.{beginning_before, no_beginning_with}
 use Rattle.witness.proofs.bit_laws.first_faulty_bit_line.Goals as goal
 
 pub returns : goal.returns

@@ -9,7 +9,7 @@ use Rattle.aiger.specs.Circuit.{IsNamed, HasFew, HasDefined, IsCircuit, net}
 use Rattle.aiger.specs.Worked.{toggler}
 use Rattle.witness.specs.Readings.{next_line, reading}
 use Rattle.witness.specs.BitAdmits.{bit_admit}
-use Rattle.witness.proofs.BitBeginningLemmas.{admitted_is_beginning, beginning_is_admitted}
+use Rattle.witness.proofs.BitReadLemmas.{admitted_is_beginning, beginning_is_admitted}
 use Rattle.witness.proofs.bit_laws.worked_bit_beginnings.Goals as goal
 
 circuit : IsCircuit toggler

@@ -1,6 +1,6 @@
 use Rattle.base.specs.Lines.{text_of_lines}
 use Rattle.witness.specs.Texts.{shape_of}
-use Rattle.witness.proofs.BeginningLemmas.{admitted_is_beginning, beginning_is_admitted}
+use Rattle.witness.proofs.ReadTextLemmas.{admitted_is_beginning, beginning_is_admitted}
 use Rattle.witness.proofs.FitLemmas.{shape_is_small}
 use Rattle.witness.proofs.laws.admitted_lines_begin_witnesses.Goals as goal
 

@@ -1,5 +1,5 @@
 use Rattle.witness.specs.Texts.{shape_of}
-use Rattle.witness.proofs.BeginningLemmas.{beginning_before, no_beginning_with}
+use Rattle.witness.proofs.ReadTextLemmas.{beginning_before, no_beginning_with}
 use Rattle.witness.proofs.FitLemmas.{shape_is_small}
 use Rattle.witness.proofs.laws.first_faulty_line.Goals as goal
 

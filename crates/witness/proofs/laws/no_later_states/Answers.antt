@@ -1,11 +1,8 @@
-use Rattle.std.proofs.Common.{◌≡◌, ℕ, suc, Bool, true, false, cond, ◌||◌, List, [], ◌∷◌, map, filter, Option, Some, None, IfSome, slice_get, refl, sym, ap₂, ◌∙◌}
+use Rattle.std.proofs.Common.{◌≡◌, ℕ, suc, Bool, true, false, cond, ◌||◌, List, [], ◌∷◌, map, filter, Some, slice_get, refl, ap₂}
 use Rattle.std.specs.List.{list_any}
-use Rattle.std.proofs.lemmas.Bool.{true≢false}
-use Rattle.std.proofs.lemmas.List.Elements.{All-weaker}
 use Rattle.btor2.specs.declared.item.Item.{Item}
 use Rattle.btor2.specs.Items.{is_state, is_free}
 use Rattle.btor2.proofs.StateWords.{not_free}
-use Rattle.witness.specs.Texts.{Shape, has_free, Assignment, Parts, IsFreePart, IsLater}
 use Rattle.witness.proofs.laws.no_later_states.Goals as goal
 
 -- of items whose states are not free no state is
@@ -22,13 +19,5 @@ none_free_of items (x ∷ xs) none = by (is_state x.body) (none 0 x refl) (none_
     by true free others = ap₂ (λ (l r : Bool). l || r) (free refl) others
     by false free others = others
 
-none_there : (shape : Shape) (states : Option (List Assignment)) → has_free shape ≡ false → IfSome states (IsFreePart shape) → states ≡ None
-none_there shape None none h = refl
-none_there shape (Some list) none h = absurd (true≢false (sym h.some ∙ none))
-
 pub returns-clause-none_free : goal.returns-clause-none_free
 returns-clause-none_free c items h = none_free_of items items (λ place x at state. not_free items x.id (h place x at state))
-
-pub returns-clause-no_part : goal.returns-clause-no_part
-returns-clause-no_part c shape first later none frames =
-    All-weaker (IsLater shape) (λ (parts : Parts). parts.states ≡ None) (λ parts h. none_there shape parts.states none h.states) later frames.1

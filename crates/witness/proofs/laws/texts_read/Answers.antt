@@ -1,7 +1,7 @@
 use Rattle.std.proofs.Common.{refl}
 use Rattle.witness.specs.Texts.{shape_of}
 use Rattle.witness.proofs.FitLemmas.{shape_is_small}
-use Rattle.witness.proofs.WitnessTextLemmas.{all_read, says_read}
+use Rattle.witness.proofs.ReadLemmas.{all_read, says_read}
 use Rattle.witness.proofs.ReadTextLemmas.{read_says}
 use Rattle.witness.proofs.laws.texts_read.Goals as goal
 

@@ -8,7 +8,7 @@ use Rattle.witness.specs.Texts.{shape_of}
 use Rattle.witness.specs.Readings.{next_line, reading}
 use Rattle.witness.specs.Admits.{claims_at, admit}
 use Rattle.witness.proofs.ReadLemmas.{IsSmall}
-use Rattle.witness.proofs.BeginningLemmas.{admitted_is_beginning, beginning_is_admitted}
+use Rattle.witness.proofs.ReadTextLemmas.{admitted_is_beginning, beginning_is_admitted}
 use Rattle.witness.proofs.laws.worked_beginnings.Goals as goal
 
 small : IsSmall (shape_of toggler)

@@ -7,7 +7,7 @@ use Rattle.base.specs.Decimals.{is_decimal, capped_value, number_of}
 use Rattle.btor2.specs.Worked.{follower}
 use Rattle.witness.specs.Texts.{Shape, shape_of, is_free_index, Assignment, Parts, is_comment, IsAssignment, IsPart, IsLater}
 use Rattle.witness.specs.Readings.{next_line, reading}
-use Rattle.witness.specs.Admits.{AtEnd, Read, claims_at, value_of, assignment_at, free_assignment_at, admit}
+use Rattle.witness.specs.Admits.{AtEnd, Read, claims_at, value_of, assignment_at, state_assignment_at, admit}
 use Rattle.witness.specs.Worked.{nothing_given, follows}
 use Rattle.witness.proofs.laws.worked_free_witnesses.Goals as goal
 
@@ -19,7 +19,7 @@ abbrev one : ℕ → ℕ → Assignment
 one i x = record { index = i; word = x; symbol = None }
 
 pub returns : goal.returns
-unfolding digits reading next_line admit claims_at assignment_at free_assignment_at value_of number_of capped_value is_decimal
+unfolding digits reading next_line admit claims_at assignment_at state_assignment_at value_of number_of capped_value is_decimal
 returns c =
     record {
       read = (all_of follows.frames, (refl, refl));

@@ -8,12 +8,12 @@ use Rattle.std.specs.Fmt.{digits}
 use Rattle.btor2.specs.Check.{refusal, id_is_out_of_range, id_is_taken, sort_is_missing, operand_is_missing, state_is_none, width_is_out_of_range, slice_is_out_of_range, widths_differ, constant_does_not_fit, init_is_not_constant, is_second_init, is_second_next, justice_is_empty}
 use Rattle.base.specs.Decimals.{is_decimal, capped_value, number_of}
 use Rattle.witness.specs.Readings.{next_line, reading}
-use Rattle.witness.specs.Admits.{AtEnd, claims_at, value_of, assignment_at, admit}
+use Rattle.witness.specs.Admits.{AtEnd, claims_at, value_of, assignment_at, state_assignment_at, admit}
 use Rattle.witness.specs.Worked.{rises, nothing_given}
 use Rattle.witness.proofs.laws.worked_witnesses.Goals as goal
 
 pub returns : goal.returns
-unfolding digits reading next_line admit claims_at assignment_at value_of number_of capped_value is_decimal refusal id_is_out_of_range id_is_taken sort_is_missing operand_is_missing state_is_none width_is_out_of_range slice_is_out_of_range widths_differ constant_does_not_fit init_is_not_constant is_second_init is_second_next justice_is_empty
+unfolding digits reading next_line admit claims_at assignment_at state_assignment_at value_of number_of capped_value is_decimal refusal id_is_out_of_range id_is_taken sort_is_missing operand_is_missing state_is_none width_is_out_of_range slice_is_out_of_range widths_differ constant_does_not_fit init_is_not_constant is_second_init is_second_next justice_is_empty
 returns c =
     record {
       read = (record { place = AtEnd; claims = 0 ∷ []; closed = rises.frames; states = None; open_part = [] }, (refl, refl));

@@ -1,4 +1,4 @@
-use Rattle.std.proofs.Common.{length, sym, ap, ◌∙◌, arith}
+use Rattle.std.proofs.Common.{sym, ◌∙◌}
 use Rattle.witness.proofs.PlainLineLemmas.{name_there, front_is_printed, name_is, begins_name}
 use Rattle.witness.proofs.plain_line.behind_symbol.Goals as goal
 
@@ -7,13 +7,6 @@ returns-in_err-at c = rw c.from_residual.ensures (λ rest begins. cc ((name_ther
 
 pub is_name-requires : goal.is_name-requires
 is_name-requires c = front_is_printed c.args.text.now c.split_at.result.0.now c.split_at.result.1.now c.in_ok-at.at c.in_ok-at.ensures c.split_at.ensures.front c.split_at.ensures.back
-
-pub returns-in_err-end : goal.returns-in_err-end
-returns-in_err-end c =
-    rw c.from_residual-in_err-end.ensures
-    (λ rest begins.
-    let there = name_is c.args.text.now c.split_at.result.0.now c.split_at.result.1.now c.in_ok-at.at c.in_ok-at.ensures c.split_at.ensures.front c.split_at.ensures.back rest begins in
-    omega (arith, ap length there.0, c.in_err-end.ensures.cases))
 
 pub returns-then-end-ne10 : goal.returns-then-end-ne10
 returns-then-end-ne10 c rest begins =

@@ -17,9 +17,6 @@ pub loop-at-preserved : goal.loop-at-preserved
 loop-at-preserved c =
     rw c.from.ensures (read_more c.args.text.now c.loop-at.at c.loop-at.value c.loop-at.invariant.0 (omega (arith, c.min-most.ensures, c.loop-at-test.true)) (sym c.is_digit-in-loop-at.ensures ∙ c.if-not-is_digit-2.false) c.loop-at.invariant.1 (omega (arith, c.min-most.ensures, c.loop-at-test.true)), omega (arith, c.loop-at.invariant.1))
 
-pub returns-in_err-first : goal.returns-in_err-first
-returns-in_err-first c = rw c.from_residual.ensures (λ n rest few is. omega (arith, (first_there c.args.text.now rest c.args.end n few is).0, c.in_err-first.ensures.cases))
-
 pub returns-then-not-is_digit : goal.returns-then-not-is_digit
 returns-then-not-is_digit c n rest few is =
     let there = first_there c.args.text.now rest c.args.end n few is in

@@ -1,7 +1,7 @@
 use Rattle.std.proofs.Common.{◌≡◌, ℕ, slice_index, sym, subst, ◌∙◌, arith}
 use Rattle.std.proofs.lemmas.List.{get_or_default}
 use Rattle.witness.specs.PlainLines.{BeginsWord}
-use Rattle.witness.proofs.PlainLineLemmas.{own_index, assignment_begins}
+use Rattle.witness.proofs.PlainLineLemmas.{own_index}
 use Rattle.witness.proofs.plain_line.plain_assignment.Goals as goal
 use Rattle.witness.proofs.plain_line.plain_assignment.Goals.{then-k-widths-via-then-k-widths, then-k-widths-via-else-k-widths+then-has}
 
@@ -20,9 +20,3 @@ returns-in_err-word c =
     let own = own_index c.args.widths.now c.args.given.now c.args.text.now c.in_ok-index.behind.now c.in_ok-index.index index word rest c.in_ok-index.ensures.0 few c.in_ok-index.ensures.1 begins in
     let width : slice_index c.args.widths.now c.in_ok-index.index ≡ c.index-widths-k.result = get_or_default c.args.widths.now c.in_ok-index.index 0 c.index-widths-k.result own.0 ∙ sym c.index-widths-k.is in
     c.in_err-word.ensures word rest (subst (λ (n : ℕ). BeginsWord n c.in_ok-index.behind.now word rest) width own.2))
-
-pub returns : goal.returns
-returns c =
-    let width : c.index-widths-k.result ≡ slice_index c.args.widths.now c.in_ok-index.index = c.index-widths-k.is ∙ get_or_default c.args.widths.now c.in_ok-index.index c.index-widths-k.result 0 c.if-k-widths.false in
-    assignment_begins c.args.widths.now c.args.given.now c.args.text.now c.in_ok-index.behind.now c.in_ok-index.index c.in_ok-word.word c.in_ok-word.rest.now c.in_ok-index.ensures.1 c.if-k-widths.false (sym c.has.ensures ∙ c.if-has.false)
-    (subst (λ (n : ℕ). BeginsWord n c.in_ok-index.behind.now c.in_ok-word.word c.in_ok-word.rest.now) width c.in_ok-word.ensures)

@@ -6,7 +6,7 @@ use Rattle.btor2.specs.Lists.{places, width_at}
 use Rattle.runs.proofs.RankLemmas.{length-ids, length-places}
 use Rattle.runs.proofs.StateLemmas.{init_inside}
 use Rattle.witness.proofs.ShapeLemmas.{each_has_width, states_have_bits}
-use Rattle.witness.proofs.VerdictLemmas.{differs-none, differs-init}
+use Rattle.witness.proofs.FrameLemmas.{differs-none, differs-init}
 use Rattle.witness.proofs.verdicts.differs_from_init.Goals as goal
 
 pub constant-requires : goal.constant-requires

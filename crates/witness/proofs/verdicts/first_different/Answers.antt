@@ -2,8 +2,7 @@ use Rattle.std.proofs.Common.{◌<◌, length, sym, ◌∙◌, ap, arith}
 use Rattle.btor2.specs.Items.{is_state}
 use Rattle.btor2.specs.Lists.{places}
 use Rattle.runs.proofs.RankLemmas.{length-places}
-use Rattle.witness.proofs.FrameLemmas.{first_end}
-use Rattle.witness.proofs.VerdictLemmas.{first_here, first_behind, state_test}
+use Rattle.witness.proofs.FrameLemmas.{first_end, first_here, first_behind, state_test}
 use Rattle.witness.proofs.verdicts.first_different.Goals as goal
 
 pub returns-then-differs_from_init : goal.returns-then-differs_from_init

@@ -1,5 +1,5 @@
 use Rattle.std.proofs.Common.{◌∙◌, sym, arith}
-use Rattle.witness.proofs.VerdictLemmas.{unreached_here, unreached_unclaimed, unreached_risen, unreached_end}
+use Rattle.witness.proofs.FrameLemmas.{unreached_here, unreached_unclaimed, unreached_risen, unreached_end}
 use Rattle.witness.proofs.verdicts.first_unreached.Goals as goal
 use Rattle.witness.proofs.verdicts.first_unreached.Goals.{else-claimed-i-via-then-claimed-i+else-not-rose-i, else-claimed-i-via-else-claimed-i}
 

@@ -3,8 +3,7 @@ use Rattle.btor2.specs.declared.item.Item.{Item}
 use Rattle.btor2.specs.Items.{is_constraint}
 use Rattle.btor2.specs.Lists.{places}
 use Rattle.runs.specs.Run.{is_one}
-use Rattle.witness.proofs.FrameLemmas.{constraint_names, length-nodes, first_end}
-use Rattle.witness.proofs.VerdictLemmas.{first_here, first_behind, constraint_test, constraint_inside}
+use Rattle.witness.proofs.FrameLemmas.{constraint_names, length-nodes, first_end, first_here, first_behind, constraint_test, constraint_inside}
 use Rattle.witness.proofs.verdicts.first_violated.Goals as goal
 
 pub returns-then-not-constraint : goal.returns-then-not-constraint

@@ -2,8 +2,7 @@ use Rattle.std.proofs.Common.{◌≡◌, ◌<◌, Bool, nat_eq, length, get_or, 
 use Rattle.btor2.specs.Items.{is_bad}
 use Rattle.btor2.specs.Lists.{places}
 use Rattle.witness.specs.Judgements.{nodes_of}
-use Rattle.witness.proofs.FrameLemmas.{bad_names, length-nodes, property_at}
-use Rattle.witness.proofs.VerdictLemmas.{set_if, note_below, note_above}
+use Rattle.witness.proofs.FrameLemmas.{bad_names, length-nodes, property_at, set_if, note_below, note_above}
 use Rattle.witness.proofs.verdicts.note_rises.Goals as goal
 use Rattle.witness.proofs.verdicts.note_rises.Goals.{then-bad, else-bad}
 

@@ -1,7 +1,7 @@
 use Rattle.std.proofs.Common.{◌≡◌, Bool, ◌||◌, ◌&&◌, codes, length, ◌<◌, ◌^◌, subst, sym, ap, ◌∙◌}
 use Rattle.std.specs.Str.{bytes_eq}
 use Rattle.std.proofs.lemmas.Bool.{leb-true, leb-false}
-use Rattle.witness.specs.declared.bit_place.BitPlace.{BitPlace as CodePlace}
+use Rattle.witness.specs.declared.bit_reader.BitPlace.{BitPlace as CodePlace}
 use Rattle.witness.specs.Readings.{lines_read}
 use Rattle.witness.specs.BitAdmits.{BitRead, bit_reader}
 use Rattle.witness.specs.Stands.{IsOfLines}

@@ -1,13 +1,13 @@
 use Rattle.std.proofs.Common.{◌≡◌, refl, subst, sym, ap, ◌∙◌}
 use Rattle.base.specs.Lines.{unfinished}
-use Rattle.witness.specs.declared.bit_place.BitPlace.{BitPlace as CodePlace}
+use Rattle.witness.specs.declared.bit_reader.BitPlace.{BitPlace as CodePlace}
 use Rattle.witness.specs.BitAdmits.{is_done}
 use Rattle.witness.specs.BitJudgements.{BitJudges}
 use Rattle.witness.specs.BitPlays.{BitPlay}
-use Rattle.witness.specs.Stands.{first_of}
+use Rattle.witness.specs.Judgements.{first_of}
 use Rattle.witness.specs.BitStands.{BitJudge, bit_judging, place_of}
 use Rattle.witness.proofs.StandsLemmas.{refused_line, refused_last, whole_text}
-use Rattle.witness.proofs.BitFinishLemmas.{Says, ended_at, whole_witness}
+use Rattle.witness.proofs.BitJudgeLemmas.{Says, ended_at, whole_witness}
 use Rattle.witness.proofs.bit_judge.BitJudge.judgement.Goals as goal
 use Rattle.witness.specs.BitScans.{Scans}
 
@@ -24,8 +24,8 @@ returns-in-Some-last_refusal c circuit text stands =
 pub returns : goal.returns
 returns c circuit text stands =
     let play : BitPlay = c.self.inside.reader.play in
-    let is : c.judgement_of.result ≡ first_of play.differs play.breach c.unreached.result play.frames =
-    c.judgement_of.ensures ∙ rw (c.differs.ensures, c.breach.ensures, c.frames.ensures, c.play-play.ensures) refl in
+    let is : c.judgement.result ≡ first_of play.differs play.breach c.unreached.result play.frames =
+    c.judgement.ensures ∙ rw c.play.ensures refl in
     subst (BitJudges circuit text) (sym is)
     (whole_text (bit_judging circuit) (Says circuit) text _ _ c.self.view_is stands c.has_ended-ended.result c.is_empty.result (first_of play.differs play.breach c.unreached.result play.frames) c.if-self.false c.in_default.is
     (c.has_ended-ended.ensures ∙ (ap (λ (x : CodePlace). is_done (place_of x)) c.place.ensures ∙ ended_at circuit text _ _ c.self.view_is stands c.in_default.is))

@@ -1,6 +1,6 @@
 use Rattle.std.proofs.Common.{◌≡◌, ◌<◌, ◌^◌, Ok, Err, map, length, subst, sym, ap, ◌∙◌, refl}
 use Rattle.aiger.specs.Circuit.{Circuit}
-use Rattle.witness.specs.declared.bit_place.BitPlace.TheVariants as code
+use Rattle.witness.specs.declared.bit_reader.BitPlace.TheVariants as code
 use Rattle.witness.specs.BitAdmits.{claim_at, bits_at}
 use Rattle.witness.specs.BitScans.{is_one_bit}
 use Rattle.witness.proofs.BitReaderLemmas.{plays_at, header_refused, header_admitted, claim_refused, claim_admitted, initial_refused, initial_admitted, end_refused, end_admitted, trailing_refused, frame_line, frame_gives}

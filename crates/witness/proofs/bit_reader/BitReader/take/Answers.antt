@@ -1,5 +1,5 @@
 use Rattle.std.proofs.Common.{◌++◌, ◌∷◌, []}
-use Rattle.witness.specs.declared.bit_place.BitPlace.TheVariants as code
+use Rattle.witness.specs.declared.bit_reader.BitPlace.TheVariants as code
 use Rattle.witness.proofs.BitReaderLemmas.{plays_at, bytes_read}
 use Rattle.witness.proofs.bit_reader.BitReader.take.Goals as goal
 

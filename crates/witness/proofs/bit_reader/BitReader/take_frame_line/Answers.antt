@@ -6,8 +6,7 @@ use Rattle.witness.specs.BitScans.{is_bit, is_one_bit}
 use Rattle.witness.specs.BitPlays.{Plays}
 use Rattle.witness.specs.declared.bit_reader.BitReader.{BitReader}
 use Rattle.witness.specs.BitStands.{Reads}
-use Rattle.witness.proofs.BitLineLemmas.{are_bits}
-use Rattle.witness.proofs.BitReaderLemmas.{frame_plays, frame_line, input_read, frame_read}
+use Rattle.witness.proofs.BitReaderLemmas.{are_bits, frame_plays, frame_line, input_read, frame_read}
 use Rattle.witness.proofs.bit_reader.BitReader.take_frame_line.Goals as goal
 
 pub returns-clause-taken : goal.returns-clause-taken

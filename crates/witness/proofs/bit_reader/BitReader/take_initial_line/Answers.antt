@@ -1,10 +1,9 @@
 use Rattle.std.proofs.Common.{◌≡◌, ◌==◌, ◌&&◌, true, [], length, subst, sym, ap, ◌∙◌}
 use Rattle.std.specs.List.{list_all}
 use Rattle.aiger.specs.Circuit.{Circuit}
-use Rattle.witness.specs.declared.bit_place.BitPlace.TheVariants as code
+use Rattle.witness.specs.declared.bit_reader.BitPlace.TheVariants as code
 use Rattle.witness.specs.BitScans.{is_bit}
-use Rattle.witness.proofs.BitLineLemmas.{are_bits}
-use Rattle.witness.proofs.BitReaderLemmas.{plays_at, initial_read, initial_admitted}
+use Rattle.witness.proofs.BitReaderLemmas.{are_bits, plays_at, initial_read, initial_admitted}
 use Rattle.witness.proofs.bit_reader.BitReader.take_initial_line.Goals as goal
 
 pub returns-clause-taken : goal.returns-clause-taken

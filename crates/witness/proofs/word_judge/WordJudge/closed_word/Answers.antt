@@ -3,7 +3,7 @@ use Rattle.btor2.specs.Trace.{Frame}
 use Rattle.runs.specs.Run.{IsNow}
 use Rattle.witness.specs.WordPlays.{WordPlay, word_at}
 use Rattle.witness.specs.WordStands.{WordJudge, StandsFor}
-use Rattle.witness.proofs.WordFinishLemmas.{closed_word_is}
+use Rattle.witness.proofs.WordJudgeLemmas.{closed_word_is}
 use Rattle.witness.proofs.word_judge.WordJudge.closed_word.Goals as goal
 
 pub returns : goal.returns

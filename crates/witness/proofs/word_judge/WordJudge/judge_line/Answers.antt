@@ -1,6 +1,6 @@
 use Rattle.std.proofs.Common.{Bool, ◌||◌, ◌&&◌, ◌<◌, ◌^◌, sym, subst, ap, ap₂, ◌∙◌}
 use Rattle.std.proofs.lemmas.Bool.{leb-true, leb-false}
-use Rattle.witness.specs.declared.word_place.Place.{Place as CodePlace}
+use Rattle.witness.specs.declared.word_reader.Place.{Place as CodePlace}
 use Rattle.witness.specs.Texts.{shape_of}
 use Rattle.witness.specs.Readings.{lines_read}
 use Rattle.witness.specs.Admits.{word_reader}

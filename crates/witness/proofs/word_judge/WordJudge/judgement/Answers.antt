@@ -2,14 +2,13 @@ use Rattle.std.proofs.Common.{◌≡◌, refl, subst, sym, ap, ◌∙◌}
 use Rattle.base.specs.Lines.{unfinished}
 use Rattle.witness.specs.Readings.{is_nothing}
 use Rattle.witness.specs.Admits.{is_at_end}
-use Rattle.witness.specs.declared.word_place.Place.{Place as CodePlace}
-use Rattle.witness.specs.Judgements.{Judges}
+use Rattle.witness.specs.declared.word_reader.Place.{Place as CodePlace}
+use Rattle.witness.specs.Judgements.{Judges, first_of}
 use Rattle.witness.specs.WordPlays.{WordPlay}
-use Rattle.witness.specs.Stands.{first_of}
 use Rattle.witness.specs.WordStands.{WordJudge, word_judging, place_of}
 use Rattle.witness.proofs.KeptLineLemmas.{nothing_kept}
 use Rattle.witness.proofs.StandsLemmas.{refused_line, refused_last, whole_text}
-use Rattle.witness.proofs.WordFinishLemmas.{Says, ended_at, whole_witness}
+use Rattle.witness.proofs.WordJudgeLemmas.{Says, ended_at, whole_witness}
 use Rattle.witness.proofs.word_judge.WordJudge.judgement.Goals as goal
 
 pub returns-in-Some : goal.returns-in-Some
@@ -25,8 +24,8 @@ returns-in-Some-last_refusal c items text stands =
 pub returns : goal.returns
 returns c items text stands =
     let play : WordPlay = c.self.inside.reader.play in
-    let is : c.judgement_of.result ≡ first_of play.differs play.breach c.unreached.result play.frames =
-    c.judgement_of.ensures ∙ rw (c.differs.ensures, c.breach.ensures, c.frames.ensures, c.play-play.ensures) refl in
+    let is : c.judgement.result ≡ first_of play.differs play.breach c.unreached.result play.frames =
+    c.judgement.ensures ∙ rw c.play.ensures refl in
     subst (Judges items text) (sym is)
     (whole_text (word_judging items) (Says items) text _ _ c.self.view_is stands c.has_ended-ended.result c.is_empty.result (first_of play.differs play.breach c.unreached.result play.frames) c.if-self.false c.in_default.is
     (c.has_ended-ended.ensures ∙ (ap (λ (x : CodePlace). is_at_end (place_of x)) c.place.ensures ∙ ended_at items text _ _ c.self.view_is stands c.in_default.is))

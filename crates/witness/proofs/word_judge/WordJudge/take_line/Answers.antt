@@ -34,6 +34,3 @@ returns-then-takes_whole_lines c items text line stands =
     line_ended (word_judging items) (text ++ (bytes ++ 10 ∷ [])) (whole_lines text ++ (unfinished text ++ bytes) ∷ []) c.judge_line.new.self (whole_lines-line_end text bytes line) (unfinished-line_end text bytes)
     (c.judge_line.ensures.lines items (whole_lines text) (unfinished text ++ bytes) here alike none)
     (c.judge_line.ensures.line ∙ (stands.line ∙ ap kept empty))
-
-pub returns : goal.returns
-returns c items text line stands = c.take_rest.ensures items text line stands (sym (ap (λ (j : WordJudge). j.refused) c.self.view_is) ∙ no_refusal c.self.inside.refused (sym c.if-is_some.ensures))

@@ -8,10 +8,10 @@ use Rattle.witness.specs.Admits.{assignment_at}
 use Rattle.witness.specs.Judgements.{pairs_of}
 use Rattle.witness.specs.WordPlays.{WordPlay, GoesOn, Plays, input_given}
 use Rattle.witness.proofs.ShapeLemmas.{length-widths}
-use Rattle.witness.proofs.WordAssignLemmas.{Tells, assigned_tells}
+use Rattle.witness.proofs.WordFieldLemmas.{Tells, assigned_tells}
 use Rattle.witness.proofs.WordPartLemmas.{input_plays}
 use Rattle.witness.proofs.word_play.WordPlay.assign_input.Goals as goal
-use Rattle.witness.specs.WordAssigns.{assigned}
+use Rattle.witness.specs.WordValues.{assigned}
 
 pub assigned-requires : goal.assigned-requires
 assigned-requires c = c.self.invariant.2 ∙ sym (ap length (c.as_slice-widths.ensures.value ∙ c.self.invariant.5) ∙ length-widths is_input c.self.inside.model.now)

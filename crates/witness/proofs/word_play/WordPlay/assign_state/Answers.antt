@@ -8,10 +8,10 @@ use Rattle.witness.specs.Admits.{assignment_at}
 use Rattle.witness.specs.Judgements.{pairs_of}
 use Rattle.witness.specs.WordPlays.{WordPlay, GoesOn, Plays, state_given}
 use Rattle.witness.proofs.ShapeLemmas.{length-widths}
-use Rattle.witness.proofs.WordAssignLemmas.{Tells, assigned_tells}
+use Rattle.witness.proofs.WordFieldLemmas.{Tells, assigned_tells}
 use Rattle.witness.proofs.WordPartLemmas.{state_plays}
 use Rattle.witness.proofs.word_play.WordPlay.assign_state.Goals as goal
-use Rattle.witness.specs.WordAssigns.{assigned}
+use Rattle.witness.specs.WordValues.{assigned}
 
 pub assigned-requires : goal.assigned-requires
 assigned-requires c = c.self.invariant.1 ∙ sym (ap length (c.as_slice-widths.ensures.value ∙ c.self.invariant.4) ∙ length-widths is_state c.self.inside.model.now)

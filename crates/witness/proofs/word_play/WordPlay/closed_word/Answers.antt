@@ -2,7 +2,7 @@ use Rattle.std.proofs.Common.{◌≡◌, true, cond, Some, None, subst, sym, ◌
 use Rattle.btor2.specs.Trace.{Frame}
 use Rattle.runs.specs.Run.{IsNow}
 use Rattle.witness.specs.WordPlays.{WordPlay, word_at}
-use Rattle.witness.proofs.MoveLemmas.{some_word}
+use Rattle.witness.proofs.WordPlayLemmas.{some_word}
 use Rattle.witness.proofs.word_play.WordPlay.closed_word.Goals as goal
 
 pub returns : goal.returns

@@ -1,6 +1,6 @@
 use Rattle.std.proofs.Common.{ap, ◌∙◌, rules}
 use Rattle.btor2.specs.Items.{is_input, is_state}
-use Rattle.witness.specs.WordAssigns.{widths_by}
+use Rattle.witness.specs.WordValues.{widths_by}
 use Rattle.witness.proofs.ShapeLemmas.{states_have_bits, inputs_have_bits, each_has_width, widths_at_places, each_inside}
 use Rattle.witness.proofs.word_play.WordPlay.new.Goals as goal
 

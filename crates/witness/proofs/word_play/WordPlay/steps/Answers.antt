@@ -3,7 +3,7 @@ use Rattle.btor2.specs.Items.{is_state}
 use Rattle.runs.specs.Run.{state_count}
 use Rattle.runs.proofs.RankLemmas.{length-places}
 use Rattle.witness.specs.WordPlays.{WordPlay, steps_taken}
-use Rattle.witness.proofs.MoveLemmas.{steps_on}
+use Rattle.witness.proofs.WordPlayLemmas.{steps_on}
 use Rattle.witness.proofs.word_play.WordPlay.steps.Goals as goal
 
 pub returns : goal.returns

@@ -1,7 +1,7 @@
 use Rattle.std.proofs.Common.{◌≡◌, ℕ, ◌<◌, ◌^◌, List, Result, length, true, refl, sym, ap, subst, ◌∙◌}
 use Rattle.btor2.specs.declared.item.Item.{Item}
-use Rattle.witness.specs.declared.word_place.Place.{Place as CodePlace}
-use Rattle.witness.specs.declared.word_place.Place.TheVariants as code
+use Rattle.witness.specs.declared.word_reader.Place.{Place as CodePlace}
+use Rattle.witness.specs.declared.word_reader.Place.TheVariants as code
 use Rattle.witness.specs.Texts.{shape_of}
 use Rattle.witness.specs.declared.why.Why.{Why}
 use Rattle.witness.specs.Admits.{Read}
@@ -32,12 +32,7 @@ returns-in-Parts-clause-line c items r bytes reads alike few =
 pub returns-in-States-clause-line : goal.returns-in-States-clause-line
 returns-in-States-clause-line c items r bytes reads alike few =
     by_bytes items r c.args.line.now bytes c.args.self.now c.admit_states.new.self c.admit_states.result code.States (sym (ap (λ (q : WordReader). q.place) c.self.view_is) ∙ c.in-States.is) refl
-    (subst (λ (q : WordReader). IsSmall (shape_of q.play.items)) c.self.view_is c.model-model.ensures.small) reads alike few (c.admit_states.ensures.line items r)
-
-pub returns-in-Free-clause-line : goal.returns-in-Free-clause-line
-returns-in-Free-clause-line c items r bytes reads alike few =
-    by_bytes items r c.args.line.now bytes c.args.self.now c.admit_free.new.self c.admit_free.result code.Free (sym (ap (λ (q : WordReader). q.place) c.self.view_is) ∙ c.in-Free.is) refl
-    (subst (λ (q : WordReader). IsSmall (shape_of q.play.items)) c.self.view_is c.model-model.ensures.small) reads alike few (λ here at. c.admit_free.ensures.line items r here at few)
+    (subst (λ (q : WordReader). IsSmall (shape_of q.play.items)) c.self.view_is c.model-model.ensures.small) reads alike few (λ here at. c.admit_states.ensures.line items r here at few)
 
 pub returns-in-Frame-clause-line : goal.returns-in-Frame-clause-line
 returns-in-Frame-clause-line c items r bytes reads alike few =
