@@ -374,7 +374,6 @@ pub fn given_words<R: Env + AllocGlobal>(rt: &R) -> Result<Vec<String>, Stop> {
 /// are no command, also where they name standard input twice, which can be read once, choose both forms of a circuit, or a
 /// bad property of no engine form;
 /// with 3 where there was no memory.
-#[inline(never)]
 pub fn order<'a, S: AsStr>(alloc: Global, words: &'a [S]) -> Result<Order<'a>, Stop>
     // standard input is read once
     ensures { IfOk result (λ order. reads_input_twice order.first.now (option_map (λ name. name.now) order.second) (option_map (λ name. name.now) order.third) ≡ false) }
