@@ -139,6 +139,9 @@ fn write_owed_over<B: Source, O: Sink>(
 }
 
 /// Reads what is given, and writes the formula that an invariant owes for the bad property that is claimed of it.
+///
+/// Its buffers stand in a frame of its own: each command enters that of its caller.
+#[inline(never)]
 pub(crate) fn write_obligation<A: Source, B: Source, O: Sink, W: Watch>(
     alloc: Global,
     given: Given,

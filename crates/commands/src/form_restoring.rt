@@ -20,6 +20,9 @@ use std::alloc::Global;
 
 /// Reads a circuit, restores a witness of its engine form to standard output, and tells on standard error how that is
 /// judged.
+///
+/// Its buffers stand in a frame of its own: each command enters that of its caller.
+#[inline(never)]
 pub(crate) fn restore_witness<A: Source, B: Source, O: Sink, E: Sink>(
     alloc: Global,
     choice: Option<usize>,

@@ -130,6 +130,9 @@ fn restore_over<B: Source, O: Sink, E: Sink>(
 
 /// Reads a circuit, restores a counterexample over its engine form to standard output, and tells on standard error how that
 /// is judged.
+///
+/// Its buffers stand in a frame of its own: each command enters that of its caller.
+#[inline(never)]
 pub(crate) fn restore_counterexample<A: Source, B: Source, O: Sink, E: Sink>(
     alloc: Global,
     choice: Option<usize>,

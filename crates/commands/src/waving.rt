@@ -23,6 +23,9 @@ fn title_of(alloc: Global, order: &Order<'_>) -> Result<String, AllocError> {
 }
 
 /// Judges a witness over a model, dumps its frames to standard output, and tells its judgement on standard error.
+///
+/// Its buffers stand in a frame of its own: each command enters that of its caller.
+#[inline(never)]
 pub(crate) fn dump_witness<A: Source, B: Source, O: Sink, E: Sink>(
     alloc: Global,
     order: &Order<'_>,
