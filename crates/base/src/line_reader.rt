@@ -1,6 +1,6 @@
 //! The lines of a source, one after the other, without holding all of its bytes.
-ghost use Rattle.std.specs.Prelude.{vec_len, vec_capacity, ◌≡◌, ℕ, ◌+◌, ◌-◌, ◌*◌, ◌<◌, ◌≤◌, Bool, true, false, List, [], ◌∷◌, ◌++◌, length, take, drop, if◌then◌else◌, IfOk, OnOk, OnErr, IsErrOf};
-ghost use Rattle.std.specs.Io.KnownBytes.{prepend_known, Keeps, IsAtEnd};
+ghost use Rattle.std.specs.Prelude.{vec_len, vec_capacity, ◌≡◌, ℕ, ◌+◌, ◌-◌, ◌*◌, ◌<◌, ◌≤◌, Bool, true, false, List, [], ◌∷◌, ◌++◌, length, take, drop, if◌then◌else◌, IfOk, OnOk, OnErr, IsErrOf, MatchResult};
+ghost use Rattle.std.specs.Io.KnownBytes.{prepend_known, Keeps, Consumes, IsAtEnd};
 ghost use Rattle.base.specs.Device.{HasRisen, CountsFaults};
 ghost use Rattle.base.specs.Lines.{IsLine};
 ghost use Rattle.base.specs.Held.{Held, Advances, lines_left};
@@ -11,16 +11,18 @@ use crate::sources::{ReadAllFault, Source};
 use std::alloc::Global;
 use std::marker::Model;
 
-/// How many bytes one call of a source is asked for.
+/// At most how many bytes one call of a source is asked for, and how much room the buffer gets at a time.
 const PIECE: usize = 32768;
 
-/// The lines of a source, one after the other. Bytes are read in pieces of 32768 into one buffer, which grows only where
-/// a piece does not fit behind the part of a line that is held.
+/// The lines of a source, one after the other. Bytes are read straight into one buffer of 32768, which grows only where
+/// the part of a line that is held fills it.
 ///
 /// Clauses see the line that was found last and the bytes that were read behind it.
 #[derive(Drop)]
 pub struct LineReader {
-    bytes: Vec<u8>,
+    // what was read is the front of it, so many bytes
+    buffer: Vec<u8>,
+    filled: usize,
     start: usize,
     end: usize,
     next: usize,
@@ -29,9 +31,9 @@ pub struct LineReader {
 impl Model for LineReader {
     ghost Value = { Held };
 
-    ghost view = { λ r. record { line = drop r.start (take r.end r.bytes.items); rest = drop r.next r.bytes.items } };
+    ghost view = { λ r. record { line = drop r.start (take r.end r.buffer.items); rest = drop r.next (take r.filled r.buffer.items) } };
 
-    ghost invariant = { λ r. (r.start ≤ r.end) × ((r.end ≤ r.next) × (r.next ≤ length r.bytes.items)) };
+    ghost invariant = { λ r. (r.start ≤ r.end) × ((r.end ≤ r.next) × ((r.next ≤ r.filled) × (r.filled ≤ length r.buffer.items))) };
 }
 
 impl LineReader {
@@ -40,7 +42,8 @@ impl LineReader {
         ensures { result ≡ record { line = []; rest = [] } }
     {
         LineReader {
-            bytes: Vec::new(alloc),
+            buffer: Vec::new(alloc),
+            filled: 0,
             start: 0,
             end: 0,
             next: 0,
@@ -51,7 +54,7 @@ impl LineReader {
     pub fn line(&self) -> &[u8]
         ensures { result.now ≡ self.now.line }
     {
-        let (front, _) = self.bytes.as_slice().split_at(self.end);
+        let (front, _) = self.buffer.as_slice().split_at(self.end);
         let (_, line) = front.split_at(self.start);
         line
     }
@@ -60,7 +63,8 @@ impl LineReader {
     pub fn rest(&self) -> &[u8]
         ensures { result.now ≡ self.now.rest }
     {
-        let (_, rest) = self.bytes.as_slice().split_at(self.next);
+        let (read, _) = self.buffer.as_slice().split_at(self.filled);
+        let (_, rest) = read.split_at(self.next);
         rest
     }
 
@@ -80,7 +84,7 @@ impl LineReader {
         }
         self.compact();
         loop {
-            let seen = self.bytes.len() - self.next;
+            let seen = self.filled - self.next;
             if self.fill(source)? == 0 {
                 return Ok(false);
             }
@@ -97,12 +101,11 @@ impl LineReader {
         ensures found { result ≡ true → IsLine self.new.line × (self.old.rest ≡ self.new.line ++ 10 ∷ self.new.rest) }
         ensures none { result ≡ false → IsLine self.old.rest × (self.new ≡ self.old) }
     {
-        let from = self.next + seen;
-        let (_, unseen) = self.bytes.as_slice().split_at(from);
+        let (_, unseen) = self.rest().split_at(seen);
         match next_line(unseen) {
             None => false,
             Some((line, _)) => {
-                let end = from + line.len();
+                let end = self.next + seen + line.len();
                 self.start = self.next;
                 self.end = end;
                 self.next = end + 1;
@@ -115,14 +118,15 @@ impl LineReader {
     fn compact(&mut self)
         ensures { self.new ≡ record { line = []; rest = self.old.rest } }
     {
-        let next = self.next;
+        let (next, filled) = (self.next, self.filled);
+        self.buffer.copy_within(next..filled, 0);
+        self.filled = filled - next;
         self.start = 0;
         self.end = 0;
         self.next = 0;
-        remove_front(&mut self.bytes, next);
     }
 
-    /// Reads a piece behind what is held, and answers how many bytes; none at the end.
+    /// Reads behind what is held, and answers how many bytes; none at the end.
     fn fill<S: Source>(&mut self, source: &mut S) -> Result<usize, ReadAllFault>
         ensures line { self.new.line ≡ self.old.line }
         ensures front { take (length self.old.rest) self.new.rest ≡ self.old.rest }
@@ -135,36 +139,43 @@ impl LineReader {
         ensures device { IsErrOf result ReadAllFault.Device → HasRisen (S.failures source.old) (S.failures source.new) }
         ensures memory { IsErrOf result ReadAllFault.NoMemory → S.failures source.new ≡ S.failures source.old }
     {
-        if self.bytes.reserve(PIECE).is_err() {
+        if !has_room(&mut self.buffer, self.filled) {
             return Err(ReadAllFault::NoMemory);
         }
-        let mut piece = [0u8; PIECE];
-        match source.read(&mut piece) {
+        match read_behind(source, &mut self.buffer, self.filled) {
             Err(DeviceFault::Failed) => Err(ReadAllFault::Device),
             Ok(count) => {
-                append(&mut self.bytes, &piece[..count]);
+                self.filled += count;
                 Ok(count)
             }
         }
     }
 }
 
-/// Drops the first n bytes of a buffer.
-fn remove_front(bytes: &mut Vec<u8>, n: usize)
-    requires { n ≤ length bytes.old.items }
-    ensures { bytes.new.items ≡ drop n bytes.old.items }
+/// Whether a buffer has room behind what fills it; where it has none it grows.
+fn has_room(buffer: &mut Vec<u8>, filled: usize) -> bool
+    requires { filled ≤ length buffer.old.items }
+    ensures front { take filled buffer.new.items ≡ take filled buffer.old.items }
+    ensures len { length buffer.old.items ≤ length buffer.new.items }
+    ensures room { result ≡ true → filled < length buffer.new.items }
 {
-    let len = bytes.len();
-    bytes.as_mut_slice().copy_within(n..len, 0);
-    bytes.truncate(len - n);
+    filled < buffer.len() || buffer.resize(filled + PIECE, 0).is_ok()
 }
 
-/// Puts a piece behind a buffer that has room for it.
-fn append(bytes: &mut Vec<u8>, piece: &[u8])
-    requires { vec_len bytes.old + length piece.now ≤ vec_capacity bytes.old }
-    ensures { bytes.new.items ≡ bytes.old.items ++ piece.now }
+/// Reads a piece into the room behind what fills a buffer, and answers how many bytes; none at the end.
+fn read_behind<S: Source>(
+    source: &mut S,
+    buffer: &mut Vec<u8>,
+    filled: usize,
+) -> Result<usize, DeviceFault>
+    requires { filled < length buffer.old.items }
+    ensures front { take filled buffer.new.items ≡ take filled buffer.old.items }
+    ensures within { IfOk result (λ n. (filled + n ≤ length buffer.new.items) × (n ≤ 32768)) }
+    ensures bytes { MatchResult result (λ n. Consumes (S.to_come source.old) (S.to_come source.new) (take n (drop filled buffer.new.items))) (λ _. Keeps (S.to_come source.old) (S.to_come source.new)) }
+    ensures end { result ≡ Ok 0 → IsAtEnd (S.to_come source.new) }
+    ensures ends { IfOk result (λ n. 0 < n → S.calls_left source.new < S.calls_left source.old) }
+    ensures failures { CountsFaults result (S.failures source.old) (S.failures source.new) }
 {
-    let Ok(()) = bytes.extend_from_slice(piece) else {
-        unreachable!()
-    };
+    let end = buffer.len().min(filled + PIECE);
+    source.read(&mut buffer[filled..end])
 }
