@@ -15,6 +15,10 @@ use crate::model::{Model, place_by_number};
 use base::Width;
 use indexmap::IndexMap;
 
+/// How many items a model gets room for at first: so much that the allocator gives them pages of their own, which a growth
+/// moves and does not copy.
+const FIRST_ROOM: usize = 4096;
+
 /// Adds a place at the end of a list.
 fn add_place(list: &mut Vec<usize>, place: usize) -> Result<(), PushFault>
     ensures { MatchResult result
@@ -55,7 +59,8 @@ fn make_room(
     ensures kept { (k : ℕ) → get nat_eq elsewhere.new k ≡ get nat_eq elsewhere.old k }
 {
     let place = items.len();
-    if items.reserve(1).is_err() || entries.reserve(1).is_err() {
+    let room = if place == 0 { FIRST_ROOM } else { 1 };
+    if items.reserve(room).is_err() || entries.reserve(room).is_err() {
         return Err(PushFault::NoMemory);
     }
     if place_by_number(id) == place {
