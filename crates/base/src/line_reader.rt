@@ -20,20 +20,20 @@ const PIECE: usize = 32768;
 /// Clauses see the line that was found last and the bytes that were read behind it.
 #[derive(Drop)]
 pub struct LineReader {
-    // what was read is the front of it, so many bytes
+    // what was read is its front, so many bytes
     buffer: Vec<u8>,
     filled: usize,
+    // where the line that was found last begins, and the place behind its byte 10; 0 both where there is none
     start: usize,
-    end: usize,
     next: usize,
 }
 
 impl Model for LineReader {
     ghost Value = { Held };
 
-    ghost view = { λ r. record { line = drop r.start (take r.end r.buffer.items); rest = drop r.next (take r.filled r.buffer.items) } };
+    ghost view = { λ r. record { line = drop r.start (take (r.next - 1) r.buffer.items); rest = drop r.next (take r.filled r.buffer.items) } };
 
-    ghost invariant = { λ r. (r.start ≤ r.end) × ((r.end ≤ r.next) × ((r.next ≤ r.filled) × (r.filled ≤ length r.buffer.items))) };
+    ghost invariant = { λ r. (r.start ≤ r.next - 1) × ((r.next ≤ r.filled) × (r.filled ≤ length r.buffer.items)) };
 }
 
 impl LineReader {
@@ -45,7 +45,6 @@ impl LineReader {
             buffer: Vec::new(alloc),
             filled: 0,
             start: 0,
-            end: 0,
             next: 0,
         }
     }
@@ -54,7 +53,7 @@ impl LineReader {
     pub fn line(&self) -> &[u8]
         ensures { result.now ≡ self.now.line }
     {
-        let (front, _) = self.buffer.as_slice().split_at(self.end);
+        let (front, _) = self.buffer.as_slice().split_at(self.next.saturating_sub(1));
         let (_, line) = front.split_at(self.start);
         line
     }
@@ -72,6 +71,7 @@ impl LineReader {
     ///
     /// Errors: `Device` where the source failed in this call, `NoMemory` where a growth was refused. No byte is lost
     /// then: a further call goes on.
+    #[tactic(auto, using(crate::proofs::HeldLemmas::takes_line))]
     pub fn advance<S: Source>(&mut self, source: &mut S) -> Result<bool, ReadAllFault>
         ensures bytes { Advances result self.old self.new (S.to_come source.old) (S.to_come source.new) }
         ensures ends { result ≡ Ok true → lines_left self.new.rest (S.calls_left source.new) < lines_left self.old.rest (S.calls_left source.old) }
@@ -105,16 +105,16 @@ impl LineReader {
         match next_line(unseen) {
             None => false,
             Some((line, _)) => {
-                let end = self.next + seen + line.len();
+                let next = self.next + seen + line.len() + 1;
                 self.start = self.next;
-                self.end = end;
-                self.next = end + 1;
+                self.next = next;
                 true
             }
         }
     }
 
     /// Moves what is held to the front of the buffer, over what is behind the reader.
+    #[tactic(auto, using(crate::proofs::HeldLemmas::moved_to_front))]
     fn compact(&mut self)
         ensures { self.new ≡ record { line = []; rest = self.old.rest } }
     {
@@ -122,11 +122,11 @@ impl LineReader {
         self.buffer.copy_within(next..filled, 0);
         self.filled = filled - next;
         self.start = 0;
-        self.end = 0;
         self.next = 0;
     }
 
     /// Reads behind what is held, and answers how many bytes; none at the end.
+    #[tactic(auto, using(crate::proofs::HeldLemmas::held_more))]
     fn fill<S: Source>(&mut self, source: &mut S) -> Result<usize, ReadAllFault>
         ensures line { self.new.line ≡ self.old.line }
         ensures front { take (length self.old.rest) self.new.rest ≡ self.old.rest }
@@ -142,7 +142,8 @@ impl LineReader {
         if !has_room(&mut self.buffer, self.filled) {
             return Err(ReadAllFault::NoMemory);
         }
-        match read_behind(source, &mut self.buffer, self.filled) {
+        let end = self.buffer.len().min(self.filled + PIECE);
+        match source.read(&mut self.buffer[self.filled..end]) {
             Err(DeviceFault::Failed) => Err(ReadAllFault::Device),
             Ok(count) => {
                 self.filled += count;
@@ -160,22 +161,4 @@ fn has_room(buffer: &mut Vec<u8>, filled: usize) -> bool
     ensures room { result ≡ true → filled < length buffer.new.items }
 {
     filled < buffer.len() || buffer.resize(filled + PIECE, 0).is_ok()
-}
-
-/// Reads a piece into the room behind what fills a buffer, and answers how many bytes; none at the end.
-fn read_behind<S: Source>(
-    source: &mut S,
-    buffer: &mut Vec<u8>,
-    filled: usize,
-) -> Result<usize, DeviceFault>
-    requires { filled < length buffer.old.items }
-    ensures front { take filled buffer.new.items ≡ take filled buffer.old.items }
-    ensures within { IfOk result (λ n. (filled + n ≤ length buffer.new.items) × (n ≤ 32768)) }
-    ensures bytes { MatchResult result (λ n. Consumes (S.to_come source.old) (S.to_come source.new) (take n (drop filled buffer.new.items))) (λ _. Keeps (S.to_come source.old) (S.to_come source.new)) }
-    ensures end { result ≡ Ok 0 → IsAtEnd (S.to_come source.new) }
-    ensures ends { IfOk result (λ n. 0 < n → S.calls_left source.new < S.calls_left source.old) }
-    ensures failures { CountsFaults result (S.failures source.old) (S.failures source.new) }
-{
-    let end = buffer.len().min(filled + PIECE);
-    source.read(&mut buffer[filled..end])
 }
