@@ -59,8 +59,10 @@ fn make_room(
     ensures kept { (k : ℕ) → get nat_eq elsewhere.new k ≡ get nat_eq elsewhere.old k }
 {
     let place = items.len();
-    let room = if place == 0 { FIRST_ROOM } else { 1 };
-    if items.reserve(room).is_err() || entries.reserve(room).is_err() {
+    if place == 0 && items.reserve(FIRST_ROOM).is_err() {
+        return Err(PushFault::NoMemory);
+    }
+    if items.reserve(1).is_err() || entries.reserve(1).is_err() {
         return Err(PushFault::NoMemory);
     }
     if place_by_number(id) == place {
@@ -161,17 +163,14 @@ impl Model {
             (λ fault. (fault ≡ PushFault.NoMemory) × (self.new ≡ self.old)) }
     {
         let entry = self.entry_of(&item.body);
-        let place = match make_room(
+        let place = make_room(
             &mut self.items,
             &mut self.entries,
             &mut self.elsewhere,
             item.id,
-        ) {
-            Ok(place) => place,
-            Err(fault) => return Err(fault),
-        };
+        )?;
         item.know_parts();
-        match note(
+        note(
             &item.body,
             place,
             &mut self.inputs,
@@ -180,15 +179,11 @@ impl Model {
             &mut self.constraints,
             &mut self.inits,
             &mut self.nexts,
-        ) {
-            Ok(()) => {
-                self.in_place = add_by_id(&mut self.elsewhere, self.in_place, item.id, place);
-                add_last(&mut self.entries, entry);
-                add_last(&mut self.items, item);
-                Ok(())
-            }
-            Err(fault) => Err(fault),
-        }
+        )?;
+        self.in_place = add_by_id(&mut self.elsewhere, self.in_place, item.id, place);
+        add_last(&mut self.entries, entry);
+        add_last(&mut self.items, item);
+        Ok(())
     }
 
     /// Adds an item at the end.
