@@ -181,6 +181,7 @@ fn symbol_at(alloc: Global, line: &[u8]) -> Result<Option<Symbol>, Why>
 }
 
 /// The item that a line spells.
+#[inline(always)]
 #[tactic(auto, unfolding(crate::specs::Reading::item_of))]
 pub(crate) fn item(alloc: Global, line: &[u8]) -> Result<Item, Why>
     ensures { GivesUnlessFull (λ x. x) result (item_of (tokens line.now)) }

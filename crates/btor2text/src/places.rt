@@ -74,11 +74,10 @@ fn number_at(line: &[u8]) -> Option<(u64, &[u8])>
         value = value.wrapping_mul(10).wrapping_add(digit);
     }
     if line.len() > MOST_DIGITS {
-        None
-    } else {
-        let (_, rest) = line.split_at(line.len());
-        Some((u64::from(value), rest))
+        return None;
     }
+    let (_, rest) = line.split_at(line.len());
+    Some((u64::from(value), rest))
 }
 
 /// The same as `plain_at`: the first token is cut off, and then read.

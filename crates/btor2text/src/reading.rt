@@ -30,6 +30,7 @@ fn push(model: &mut Model, item: Item) -> Result<(), Why>
 }
 
 /// Reads a line onto a model.
+#[inline(always)]
 #[tactic(auto, unfolding(crate::specs::Reading::line_on))]
 fn read_line(alloc: Global, line: &[u8], model: &mut Model) -> Result<(), Why>
     ensures { ReadsLine result model.new (line_on model.old (tokens line.now)) }

@@ -53,8 +53,7 @@ pub(crate) fn from_token(line: &[u8]) -> Option<&[u8]>
     }
     let rest = without_blanks(line);
     match rest {
-        [] => None,
-        [b';', ..] => None,
+        [] | [b';', ..] => None,
         _ => Some(rest),
     }
 }

@@ -18,7 +18,7 @@ returns-then-digit-gt9 c =
     ] in
     rw (c.from-then-digit-gt9.ensures, c.split_at.ensures.back) (read_to_blank c.args.line.now c.loop-at.at c.loop-at.value c.in-len1-up.len_at_least (c.if-first-ge49.true, c.if-first-le57.true) c.loop-at.invariant c.if-at-gt-MOST_DIGITS.false c.loop-at-test.true blank)
 
-pub returns-else-line-gt-MOST_DIGITS : goal.returns-else-line-gt-MOST_DIGITS
-returns-else-line-gt-MOST_DIGITS c =
+pub returns : goal.returns
+returns c =
     let few : c.loop-at.at ≤ 9 = omega (arith, c.loop-at.auto.at-end c.in-len1-up.len_at_least, c.if-line-gt-MOST_DIGITS.false) in
-    rw (c.from-else-line-gt-MOST_DIGITS.ensures, c.split_at-else-line-gt-MOST_DIGITS.ensures.back) (read_to_end c.args.line.now c.loop-at.at c.loop-at.value c.in-len1-up.len_at_least (c.if-first-ge49.true, c.if-first-le57.true) c.loop-at.invariant few c.loop-at-test.false)
+    rw (c.from-2.ensures, c.split_at-2.ensures.back) (read_to_end c.args.line.now c.loop-at.at c.loop-at.value c.in-len1-up.len_at_least (c.if-first-ge49.true, c.if-first-le57.true) c.loop-at.invariant few c.loop-at-test.false)
