@@ -84,7 +84,7 @@ fn ended(line: u64, rest: &[u8]) -> Result<(), ReadFault>
     })
 }
 
-/// Reads the lines of a source onto a model. Its frame, with a buffer, stands only while it reads.
+/// Reads the lines of a source onto a model. What reads a line is a part of this loop, and the loop no part of its caller.
 #[inline(never)]
 fn read_lines<S: Source>(alloc: Global, source: &mut S, model: &mut Model) -> Result<(), ReadFault>
     ensures { ReadsLines result model.old model.new (S.to_come source.old) (S.to_come source.new) (S.failures source.old) (S.failures source.new) }
