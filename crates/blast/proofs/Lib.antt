@@ -1,4 +1,3 @@
-pub mod TableLemmas
 pub mod WidthLemmas
 pub mod KindBlocks
 pub mod KindRows

@@ -1,5 +1,5 @@
--- Rows of numbers, kept one after another in one list beside the places where they end; and what the rows of a lowering are while it is made.
-use Rattle.std.specs.Prelude.{◌≡◌, ℕ, suc, ◌+◌, ◌≤◌, true, List, [], ◌∷◌, Option, Some, option_and_then, if◌then◌else◌, is_some, All, length, map, sum_by, take, slice_range, slice_index, slice_get}
+-- What the rows of a lowering are while it is made.
+use Rattle.std.specs.Prelude.{◌≡◌, ℕ, suc, ◌+◌, ◌≤◌, true, List, Option, Some, option_and_then, if◌then◌else◌, is_some, All, length, map, sum_by, take, slice_get}
 use Rattle.base.specs.Word.{bits}
 use Rattle.btor2.specs.declared.item.Item.{Item}
 use Rattle.btor2.specs.Items.{is_input, is_state, is_free, is_free_state, is_carried_state, position_of, node_width}
@@ -13,20 +13,6 @@ use Rattle.blast.specs.Cost.{line_cost, input_width, given_width}
 use Rattle.blast.specs.Leaves.{by_body}
 use Rattle.blast.specs.declared.nodes.NextLeaf.{NextLeaf}
 use Rattle.blast.specs.Reads.{Together, ReadsWord, RowReads, RowsRead, leaves_only}
-
--- the rows with these ends, of which the first begins at a place
-abbrev pub rows_from : ℕ → List ℕ → List ℕ → List (List ℕ)
-rows_from start [] all = []
-rows_from start (stop ∷ stops) all = slice_range all start stop ∷ rows_from stop stops all
-
--- each row ends where it begins or later, and the last at the end of the list
-abbrev pub AreEnds : ℕ → List ℕ → ℕ → Type 0
-AreEnds start [] total = start ≡ total
-AreEnds start (stop ∷ stops) total = (start ≤ stop) × AreEnds stop stops total
-
--- where a row begins: where the one before it ends
-abbrev pub start_at : List ℕ → ℕ → ℕ
-start_at stops place = slice_index (0 ∷ stops) place
 
 -- a row that reads in every frame as a value of the frame, made with at most so many gates more
 pub record MakesNode (items : List Item) (old new : Net) (most width : ℕ) (value : Frame → ℕ) (row : List ℕ) : Type 0 where

@@ -5,8 +5,8 @@ ghost use Rattle.btor2.specs.Lists.{width_at};
 ghost use Rattle.btor2.specs.Trace.{bits_of};
 ghost use Rattle.blast.specs.Table.{row_of};
 
-use crate::table::Table;
 use aiger::Lit;
+use base::Rows;
 use btor2::{Item, Model};
 
 /// The item at a place.
@@ -32,7 +32,7 @@ pub(crate) fn bit_count(model: &Model, place: usize, item: &Item) -> u64
 }
 
 /// The row of the node with an id.
-pub(crate) fn node_row<'a>(model: &Model, table: &'a Table, id: u32) -> &'a [Lit]
+pub(crate) fn node_row<'a>(model: &Model, table: &'a Rows<Lit>, id: u32) -> &'a [Lit]
     requires { is_some (row_of model.now table.now id) ≡ true }
     ensures { row_of model.now table.now id ≡ Some result.now }
 {

@@ -12,8 +12,8 @@ ghost use Rattle.blast.specs.Reads.{RowsRead, LatchesRead};
 ghost use Rattle.blast.specs.Rows.{row_at, reset_at, row_latches, state_latches, item_latches};
 
 use crate::items::item_at;
-use crate::table::Table;
 use aiger::{Circuit, Lit, Reset};
+use base::Rows;
 use btor2::{Item, Model};
 
 /// How a bit of a state begins that has the word `init` at first: freely without one.
@@ -64,7 +64,7 @@ fn init_of(model: &Model, k: usize, item: &Item) -> Option<u64>
 }
 
 /// The row of a state's next node. `k` counts the states.
-fn next_row<'a>(model: &Model, table: &'a Table, k: usize, item: &Item) -> &'a [Lit]
+fn next_row<'a>(model: &Model, table: &'a Rows<Lit>, k: usize, item: &Item) -> &'a [Lit]
     requires there { k < length (places is_state 0 model.now) }
     requires place { slice_get model.now (slice_index (places is_state 0 model.now) k) ≡ Some item.now }
     requires well_formed { IsWellFormed model.now }
@@ -82,7 +82,7 @@ fn next_row<'a>(model: &Model, table: &'a Table, k: usize, item: &Item) -> &'a [
 /// states.
 fn set_state(
     model: &Model,
-    table: &Table,
+    table: &Rows<Lit>,
     k: usize,
     item: &Item,
     first: usize,
@@ -113,7 +113,7 @@ fn set_state(
 ///
 /// Conditions: the table has a row for each item, which reads as its node's word; the circuit has a latch for each
 /// bit of a state that is not free, of which nothing was said yet; each such state has a next.
-pub(crate) fn set_latches(model: &Model, table: &Table, circuit: &mut Circuit)
+pub(crate) fn set_latches(model: &Model, table: &Rows<Lit>, circuit: &mut Circuit)
     requires reads { RowsRead model.now (net circuit.old) table.now }
     requires all { length table.now ≡ length model.now }
     requires fresh { circuit.old.latches ≡ replicate (carried_width model.now) fresh_latch }

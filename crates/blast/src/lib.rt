@@ -12,7 +12,6 @@ mod nodes;
 mod placed;
 mod properties;
 mod refusals;
-mod table;
 mod watching;
 mod widths;
 

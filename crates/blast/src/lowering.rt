@@ -13,10 +13,10 @@ use crate::names::set_names;
 use crate::nodes::lower_nodes;
 use crate::properties::push_properties;
 use crate::refusals::form_refusal;
-use crate::table::Table;
 use crate::watching::{Unwatched, Watch};
 use crate::widths::{bound, carried_width, given_width};
-use aiger::{Circuit, GREATEST_COUNT};
+use aiger::{Circuit, GREATEST_COUNT, Lit};
+use base::Rows;
 use btor2::Model;
 use gates::{GateFault, HashGates};
 use std::alloc::Global;
@@ -36,7 +36,7 @@ fn refusal(model: &Model) -> Option<LowerFault>
 
 /// The circuit of a model, from the bare one of its gates: the latches, their names and those of the inputs, and the
 /// properties with theirs are put in. The table has the literals of each node.
-fn completed(model: &Model, table: &Table, mut circuit: Circuit) -> Result<Circuit, LowerFault>
+fn completed(model: &Model, table: &Rows<Lit>, mut circuit: Circuit) -> Result<Circuit, LowerFault>
     requires accepted { lowering_refusal model.now ≡ None }
     requires well_formed { IsWellFormed model.now }
     requires bare { circuit ≡ gates_only (net circuit) }

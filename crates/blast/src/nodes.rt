@@ -15,11 +15,10 @@ ghost use Rattle.blast.specs.Table.{MakesNode, MakesRow, IsOperand, next_leaf, n
 
 use crate::items::{bit_count, node_row};
 use crate::placed::{concat_row, constant_row, sext_row, slice_row, uext_row};
-use crate::table::Table;
 use crate::watching::Watch;
 use crate::widths::{given_width, input_width};
 use aiger::Lit;
-use base::{Binary, Unary};
+use base::{Binary, Rows, Unary};
 use btor2::{Body, Item, Model};
 use gates::{Bits, GateFault, Gates, HashGates, binary_bits, ite_bits, unary_bits};
 use std::alloc::Global;
@@ -79,7 +78,7 @@ fn next_bits(next: &mut u64, width: u64) -> Bits
 fn unary_row<G: Gates>(
     model: &Model,
     gates: &mut G,
-    table: &Table,
+    table: &Rows<Lit>,
     operator: Unary,
     operand: u32,
 ) -> Result<Bits, GateFault>
@@ -97,7 +96,7 @@ fn unary_row<G: Gates>(
 fn binary_row<G: Gates>(
     model: &Model,
     gates: &mut G,
-    table: &Table,
+    table: &Rows<Lit>,
     operator: Binary,
     left: u32,
     right: u32,
@@ -120,7 +119,7 @@ fn binary_row<G: Gates>(
 fn ite_row<G: Gates>(
     model: &Model,
     gates: &mut G,
-    table: &Table,
+    table: &Rows<Lit>,
     condition: u32,
     first: u32,
     second: u32,
@@ -178,7 +177,7 @@ fn state_row(model: &Model, place: usize, item: &Item, next: &mut NextLeaf) -> B
 fn line_row<G: Gates>(
     model: &Model,
     gates: &mut G,
-    table: &Table,
+    table: &Rows<Lit>,
     place: usize,
     item: &Item,
     next: &mut NextLeaf,
@@ -231,7 +230,7 @@ fn line_row<G: Gates>(
 fn lower_item<G: Gates>(
     model: &Model,
     gates: &mut G,
-    table: &mut Table,
+    table: &mut Rows<Lit>,
     place: usize,
     item: &Item,
     next: &mut NextLeaf,
@@ -261,14 +260,14 @@ pub(crate) fn lower_nodes<W: Watch>(
     model: &Model,
     gates: &mut HashGates,
     watch: &mut W,
-) -> Result<Table, GateFault>
+) -> Result<Rows<Lit>, GateFault>
     requires leaves { gates.old ≡ leaves_only model.now }
     requires fits { bound model.now ≤ greatest_count }
     ensures ok { IfOk result (λ rows. LowersNodes model.now gates.old gates.new rows) }
     ensures memory { IfErr result (λ e. e ≡ GateFault.NoMemory) }
 {
     let items = model.items();
-    let mut table = Table::new(alloc);
+    let mut table = Rows::new(alloc);
     let mut next = first_leaf(model);
     for (place, item) in items.iter().enumerate() {
         lower_item(model, gates, &mut table, place, item, &mut next)?;

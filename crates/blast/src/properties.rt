@@ -12,9 +12,9 @@ ghost use Rattle.blast.specs.Reads.{RowsRead};
 use crate::fault::LowerFault;
 use crate::items::{item_at, node_row};
 use crate::names::{give_name, write_bit_name};
-use crate::table::Table;
 use aiger::{Circuit, CircuitFault, Lit, Section};
 use arrayvec::ArrayVec;
+use base::Rows;
 use btor2::{Body, Item, Model, Symbol};
 
 /// A kind of the literals that a circuit shows, or wants to be 0 or 1.
@@ -158,7 +158,7 @@ fn operand_of(property: Property, body: &Body) -> Option<u32>
 /// Adds the properties of an item: those of its node's row where it is a line of their kind, and none of any other item.
 fn push_item(
     model: &Model,
-    table: &Table,
+    table: &Rows<Lit>,
     property: Property,
     place: usize,
     item: &Item,
@@ -181,7 +181,7 @@ fn push_item(
 /// Adds the properties of a kind, in file order.
 fn push_kind(
     model: &Model,
-    table: &Table,
+    table: &Rows<Lit>,
     property: Property,
     circuit: &mut Circuit,
 ) -> Result<(), LowerFault>
@@ -214,7 +214,7 @@ fn push_kind(
 /// Error: `NoMemory`. Some of them may then be there.
 pub(crate) fn push_properties(
     model: &Model,
-    table: &Table,
+    table: &Rows<Lit>,
     circuit: &mut Circuit,
 ) -> Result<(), LowerFault>
     requires reads { RowsRead model.now (net circuit.old) table.now }
