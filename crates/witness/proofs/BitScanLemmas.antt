@@ -1,5 +1,5 @@
 -- What is kept of a line byte by byte is what its bytes say.
-use Rattle.std.proofs.Common.{◌≡◌, ℕ, ◌+◌, ◌-◌, ◌*◌, ◌≤◌, ◌^◌, ◌==◌, min, nat_lt, nat_le, Bool, true, false, not, ◌&&◌, ◌||◌, List, [], ◌∷◌, ◌++◌, Some, None, Err, length, take, get_or, length-append, refl, sym, ap, ap₂, ◌∙◌, arith, inl, inr}
+use Rattle.std.proofs.Common.{◌≡◌, ℕ, ◌+◌, ◌-◌, ◌*◌, ◌≤◌, ◌^◌, ◌==◌, min, nat_lt, nat_le, Bool, true, false, not, ◌&&◌, ◌||◌, List, [], ◌∷◌, ◌++◌, Option, Some, None, option_map, if◌then◌else◌, length, take, get_or, length-append, refl, sym, ap, ap₂, ◌∙◌, arith, inl, inr}
 use Rattle.std.specs.List.{list_any, list_all}
 use Rattle.std.proofs.lemmas.Bool.{cases_Bool, and_parts, and_from, eqb-true, eqb-false, ne_eqb, le-leb, lt-ltb}
 use Rattle.std.proofs.lemmas.List.Folds.{list_any-append, list_all-append}
@@ -7,9 +7,7 @@ use Rattle.std.proofs.Math.Seq.{take-append_seam, take-length}
 use Rattle.base.specs.Decimals.{is_digit, are_digits, is_decimal, capped_value, number_of}
 use Rattle.base.proofs.DecimalLemmas.{digit_range, capped_value-nil, capped_value_more}
 use Rattle.witness.specs.declared.bit_scan.Scan.{Scan}
-use Rattle.witness.specs.Admits.{is_value_byte}
-use Rattle.witness.specs.declared.why.Why.TheVariants as why
-use Rattle.witness.specs.BitAdmits.{claim_at}
+use Rattle.witness.specs.Admits.{is_value_byte, Claim, claim_with, claim_of}
 use Rattle.witness.specs.BitScans.{behind_first, Scans, number_more, scan_more, has_decimal, claimed}
 use Rattle.std.proofs.Math.Bool.{and-true, or-false, and-false}
 
@@ -135,67 +133,63 @@ decimal_test s a (d ∷ e ∷ ds) h =
       | inr not ↦ rw (above, not_two, h.digits, h.zero, not) (digits_not_zero d (e ∷ ds) not ∙ sym (and-true (are_digits (d ∷ e ∷ ds))))
     ]
 
--- a decimal that is kept
-number_kept : (s : Scan) (a : ℕ) (tail : List ℕ) → Scans s (a ∷ tail) → has_decimal s ≡ true → number_of tail ≡ Some s.number
+-- the number behind the first byte, where it is a decimal
+number_kept : (s : Scan) (a : ℕ) (tail : List ℕ) → Scans s (a ∷ tail) → number_of tail ≡ (if has_decimal s then Some s.number else None)
 unfolding number_of
-number_kept s a tail h holds =
-    let test : is_decimal tail ≡ true = decimal_test s a tail h ∙ holds in
-    let digits : s.digits ≡ true = (and_parts s.digits (not s.zero || (s.count == 2)) (and_parts (nat_lt 1 s.count) (s.digits && (not s.zero || (s.count == 2))) holds).1).0 in
-    rw (test, h.number digits) refl
-
-no_number : (s : Scan) (a : ℕ) (tail : List ℕ) → Scans s (a ∷ tail) → has_decimal s ≡ false → number_of tail ≡ None
-unfolding number_of
-no_number s a tail h fails =
-    let test : is_decimal tail ≡ false = decimal_test s a tail h ∙ fails in
-    rw test refl
+number_kept s a tail h =
+    elim (cases_Bool (has_decimal s)) [
+      | inl holds ↦
+          let test : is_decimal tail ≡ true = decimal_test s a tail h ∙ holds in
+          let digits : s.digits ≡ true = (and_parts s.digits (not s.zero || (s.count == 2)) (and_parts (nat_lt 1 s.count) (s.digits && (not s.zero || (s.count == 2))) holds).1).0 in
+          rw (test, h.number digits, holds) refl
+      | inr fails ↦
+          let test : is_decimal tail ≡ false = decimal_test s a tail h ∙ fails in
+          rw (test, fails) refl
+    ]
 
 -- ---- claims
 
-no_claim_without : (line : List ℕ) (bads : ℕ) → number_of (behind_first line) ≡ None → claim_at bads line ≡ Err why.BadClaim
-no_claim_without [] bads none = refl
-no_claim_without (a ∷ tail) bads none =
+abbrev pair_of : Claim → Bool × ℕ
+pair_of c = (c.justice, c.index)
+
+-- what is claimed by a first byte with a decimal behind it, or with none
+claimed_by : (a n : ℕ) (tail : List ℕ) (there : Bool) → number_of tail ≡ (if there then Some n else None)
+    → (if there && ((a == 106) || (a == 98)) then Some (a == 106, n) else None) ≡ option_map pair_of (claim_of (a ∷ tail))
+claimed_by a n tail there is =
     elim (cases_Bool (a == 98)) [
-      | inl b ↦ rw (b, none) refl
+      | inl b ↦ let one : a ≡ 98 = eqb-true a 98 b in rw (one, is) (by_number false there)
       | inr not_b ↦
           elim (cases_Bool (a == 106)) [
-            | inl j ↦ rw (not_b, j, none) refl
-            | inr not_j ↦ rw (not_b, not_j) refl
+            | inl j ↦ rw (not_b, j, is) (by_number true there)
+            | inr not_j ↦ rw (not_b, not_j, and-false there) refl
           ]
     ]
+  where
+    by_number : (justice b : Bool) → (if b && true then Some (justice, n) else None) ≡ option_map pair_of (claim_with justice (if b then Some n else None))
+    by_number justice true = refl
+    by_number justice false = refl
 
-pub claims_no_decimal : (s : Scan) (line : List ℕ) (bads : ℕ) → Scans s line → has_decimal s ≡ false → Err why.BadClaim ≡ claim_at bads line
-claims_no_decimal s [] bads h fails = refl
-claims_no_decimal s (a ∷ tail) bads h fails = sym (no_claim_without (a ∷ tail) bads (no_number s a tail h fails))
-
-claims_by_first : (a n bads : ℕ) (tail : List ℕ) → number_of tail ≡ Some n → claimed a n bads ≡ claim_at bads (a ∷ tail)
-claims_by_first a n bads tail is =
-    elim (cases_Bool (a == 98)) [
-      | inl b ↦ let one : a ≡ 98 = eqb-true a 98 b in rw (one, is) refl
-      | inr not_b ↦
-          elim (cases_Bool (a == 106)) [
-            | inl j ↦ rw (not_b, j, is) refl
-            | inr not_j ↦ rw (not_b, not_j) refl
-          ]
-    ]
-
--- a decimal behind the first byte
-pub claims_decimal : (s : Scan) (line : List ℕ) (bads : ℕ) → Scans s line → has_decimal s ≡ true → claimed s.first s.number bads ≡ claim_at bads line
-claims_decimal s [] bads h holds =
+claimed_is : (s : Scan) (line : List ℕ) → Scans s line → claimed s ≡ option_map pair_of (claim_of line)
+claimed_is s [] h =
     let none : s.count ≡ 0 = h.count in
-    absurd (cc (rw none at holds))
-claims_decimal s (a ∷ tail) bads h holds =
+    rw none refl
+claimed_is s (a ∷ tail) h =
     let is : s.first ≡ a = h.first in
-    ap (λ (f : ℕ). claimed f s.number bads) is ∙ claims_by_first a s.number bads tail (number_kept s a tail h holds)
+    ap (λ (f : ℕ). if has_decimal s && ((f == 106) || (f == 98)) then Some (f == 106, s.number) else None) is ∙ claimed_by a s.number tail (has_decimal s) (number_kept s a tail h)
 
--- ---- the number behind the first byte
+module _ (s : Scan) (line : List ℕ) (h : Scans s line) where
+  pub no_claim : claimed s ≡ None → claim_of line ≡ None
+  no_claim none = by (claim_of line) (sym (claimed_is s line h) ∙ none)
+    where
+      by : (o : Option Claim) → option_map pair_of o ≡ None → o ≡ None
+      by None e = refl
+      by (Some c) e = absurd cc
 
-pub number_behind : (s : Scan) (line : List ℕ) → Scans s line → has_decimal s ≡ true → Some s.number ≡ number_of (behind_first line)
-number_behind s [] h holds =
-    let none : s.count ≡ 0 = h.count in
-    absurd (cc (rw none at holds))
-number_behind s (a ∷ tail) h holds = sym (number_kept s a tail h holds)
-
-pub nothing_behind : (s : Scan) (line : List ℕ) → Scans s line → has_decimal s ≡ false → None ≡ number_of (behind_first line)
-unfolding number_of is_decimal
-nothing_behind s [] h fails = refl
-nothing_behind s (a ∷ tail) h fails = sym (no_number s a tail h fails)
+  pub one_claim : (justice : Bool) (n : ℕ) → claimed s ≡ Some (justice, n) → claim_of line ≡ Some (record { justice = justice; index = n })
+  one_claim justice n some = by (claim_of line) (sym (claimed_is s line h) ∙ some)
+    where
+      by : (o : Option Claim) → option_map pair_of o ≡ Some (justice, n) → o ≡ Some (record { justice = justice; index = n })
+      by None e = absurd cc
+      by (Some c) e =
+          let same : pair_of c ≡ (justice, n) = cc in
+          ap (λ (p : Bool × ℕ). Some (record { justice = p.0; index = p.1 })) same

@@ -1,9 +1,10 @@
 -- A text that says a witness is read as it: line by line, and its lines together.
-use Rattle.std.proofs.Common.{◌≡◌, ℕ, suc, ◌<◌, ◌^◌, ◌==◌, Bool, true, false, not, ◌||◌, List, [], ◌∷◌, ◌++◌, Option, Some, None, Ok, IfSome, All, length, map, decimal, codes, append_assoc, length-append, refl, sym, ap, ◌∙◌, arith, ◌+◌, ◌≤◌}
+use Rattle.std.proofs.Common.{◌≡◌, ℕ, suc, ◌<◌, ◌^◌, ◌==◌, Bool, true, false, not, ◌&&◌, ◌||◌, inl, inr, List, [], ◌∷◌, ◌++◌, Option, Some, None, Ok, IfSome, All, length, map, decimal, codes, append_assoc, length-append, refl, sym, ap, ◌∙◌, arith, ◌+◌, ◌≤◌}
 use Rattle.std.specs.Fmt.{digits}
 use Rattle.std.specs.List.{list_any, AllByRecursion}
 use Rattle.std.specs.Str.{bytes_eq}
-use Rattle.std.proofs.lemmas.Bool.{or_parts, or_from, and_parts, eqb-false, ne_eqb}
+use Rattle.std.proofs.lemmas.Bool.{or_parts, and_parts, eqb-false, ne_eqb, eq-eqb, cases_eq}
+use Rattle.std.proofs.Math.Bool.{or-false}
 use Rattle.std.proofs.lemmas.List.{append-nil, map-append}
 use Rattle.std.proofs.lemmas.List.Elements.{All-weaker, recursion_from_All}
 use Rattle.std.proofs.lemmas.List.Folds.{list_any-append}
@@ -46,16 +47,28 @@ none_before (x ∷ xs) y ys h =
     let first = ne_eqb x y (λ e. eqb-false y x (or_parts (y == x) (list_any (λ z. z == x) ys) behind).0 (sym e)) in
     rw first (none_before xs y ys parts.1)
 
--- a number that is none of some distinct ones, behind them
+-- numbers with one behind them
+pub distinct_more : (xs : List ℕ) (y : ℕ) → are_distinct (xs ++ y ∷ []) ≡ (are_distinct xs && not (list_any (λ x. x == y) xs))
+distinct_more [] y = refl
+distinct_more (x ∷ xs) y =
+    let all : list_any (λ z. z == x) (xs ++ y ∷ []) ≡ (list_any (λ z. z == x) xs || (x == y)) = list_any-append (λ z. z == x) xs (y ∷ []) ∙ ap (λ (b : Bool). list_any (λ z. z == x) xs || b) (or-false (y == x) ∙ turned) in
+    rw (all, distinct_more xs y) (by (list_any (λ z. z == x) xs) (x == y) (are_distinct xs) (list_any (λ z. z == y) xs))
+  where
+    turned : (y == x) ≡ (x == y)
+    turned =
+        elim (cases_eq x y) [
+          | inl e ↦ rw (eq-eqb x y e, eq-eqb y x (sym e)) refl
+          | inr n ↦ rw (ne_eqb x y n, ne_eqb y x (λ e. n (sym e))) refl
+        ]
+
+    by : (some same apart twice : Bool) → (not (some || same) && (apart && not twice)) ≡ ((not some && apart) && not (same || twice))
+    by true same apart twice = refl
+    by false true true twice = refl
+    by false true false twice = refl
+    by false false apart twice = refl
+
 pub distinct_with : (xs : List ℕ) (y : ℕ) → are_distinct xs ≡ true → list_any (λ x. x == y) xs ≡ false → are_distinct (xs ++ y ∷ []) ≡ true
-distinct_with [] y distinct new = refl
-distinct_with (x ∷ xs) y distinct new =
-    let parts = and_parts (not (list_any (λ z. z == x) xs)) (are_distinct xs) distinct in
-    let apart = or_parts (x == y) (list_any (λ z. z == y) xs) new in
-    let other : (y == x) ≡ false = ne_eqb y x (λ e. eqb-false x y apart.0 (sym e)) in
-    let first : list_any (λ z. z == x) xs ≡ false = was_false (list_any (λ z. z == x) xs) parts.0 in
-    let all : list_any (λ z. z == x) (xs ++ y ∷ []) ≡ false = list_any-append (λ z. z == x) xs (y ∷ []) ∙ or_from (list_any (λ z. z == x) xs) ((y == x) || false) first (or_from (y == x) false other refl) in
-    rw all (distinct_with xs y parts.1 apart.1)
+distinct_with xs y distinct new = rw (distinct_more xs y, distinct, new) refl
 
 -- ---- line by line
 

@@ -1,10 +1,9 @@
 -- A word more in the open part of a witness over a model.
-use Rattle.std.proofs.Common.{◌≡◌, ℕ, ◌<◌, ◌==◌, Bool, true, false, ◌||◌, ◌&&◌, List, [], ◌∷◌, ◌++◌, Ok, All, map, length, length-append, set, refl, sym, ap, subst, ◌∙◌, arith, inl, inr}
+use Rattle.std.proofs.Common.{◌≡◌, ℕ, ◌<◌, ◌==◌, Bool, true, false, ◌||◌, ◌&&◌, List, [], ◌∷◌, ◌++◌, Ok, All, map, length, length-append, set, refl, sym, ap, subst, ◌∙◌, arith}
 use Rattle.std.specs.List.{list_any}
-use Rattle.std.proofs.lemmas.Bool.{cases_eq, eq-eqb, ne_eqb}
-use Rattle.std.proofs.lemmas.List.{map-append, get_or-set_same, get_or-set_other}
+use Rattle.std.proofs.lemmas.Bool.{ne_eqb}
+use Rattle.std.proofs.lemmas.List.{map-append}
 use Rattle.std.proofs.lemmas.List.Elements.{All-nil, All-cons, All-head, All-tail, All-push}
-use Rattle.std.proofs.lemmas.List.Folds.{list_any-append}
 use Rattle.btor2.specs.declared.item.Item.{Item}
 use Rattle.btor2.specs.Items.{is_input}
 use Rattle.btor2.specs.Check.{IsWellFormed}
@@ -18,26 +17,15 @@ use Rattle.witness.specs.PlainLines.{BeginsAssignment}
 use Rattle.witness.proofs.AssignmentLemmas.{IsAssigned, assignment_at-assignment_line, assignment_is_line, may_stand}
 use Rattle.witness.proofs.WordFieldLemmas.{flag_of}
 use Rattle.witness.proofs.ReadLemmas.{IsSmall, distinct_with}
-use Rattle.witness.proofs.FitLemmas.{shape_is_small}
+use Rattle.witness.proofs.FitLemmas.{shape_is_small, flagged_more}
 use Rattle.witness.proofs.WordPlayLemmas.{one_ahead, goes_items}
-use Rattle.std.proofs.Math.Bool.{or-true, or-false, and-false}
+use Rattle.std.proofs.Math.Bool.{and-false}
 
 -- ---- a pair behind others
 
 put_more : (words : List ℕ) (list : List (ℕ × ℕ)) (i x : ℕ) → words_put words (list ++ (i, x) ∷ []) ≡ set (words_put words list) i x
 put_more words [] i x = refl
 put_more words (p ∷ list) i x = put_more (set words p.0 p.1) list i x
-
-flag_more : (flags : List Bool) (list : List (ℕ × ℕ)) (i x : ℕ) → i < length flags → IsFlagged flags list → IsFlagged (set flags i true) (list ++ (i, x) ∷ [])
-flag_more flags list i x inside flagged k =
-    sym
-    (list_any-append (λ (p : ℕ × ℕ). p.0 == k) list ((i, x) ∷ [])
-    ∙ elim (cases_eq k i) [
-      | inl same ↦ rw (eq-eqb i k (sym same)) (or-true (list_any (λ (p : ℕ × ℕ). p.0 == k) list) ∙ sym (ap (is_set (set flags i true)) same ∙ get_or-set_same flags i true false inside))
-      | inr other ↦
-          rw (ne_eqb i k (λ e. other (sym e)))
-          (or-false (list_any (λ (p : ℕ × ℕ). p.0 == k) list) ∙ (sym (flagged k) ∙ sym (get_or-set_other flags i k true false other)))
-    ])
 
 -- ---- words that fit
 
@@ -147,7 +135,7 @@ state_plays items frames before list line p moved a w is all inside may goes pla
       items_are = plays.items_are;
       run = goes_items p.run.settled p.run moved goes ∙ plays.run;
       fit = state_fits items frames before line list (shape_is_small items w) may is plays.fit;
-      states_flagged = subst (IsFlagged (set p.states_given a.index true)) (sym pairs) (flag_more p.states_given (pairs_of before) a.index a.word inside plays.states_flagged);
+      states_flagged = subst (IsFlagged (set p.states_given a.index true)) (sym pairs) (flagged_more (λ (x : ℕ × ℕ). x.0) p.states_given (pairs_of before) (a.index, a.word) inside plays.states_flagged);
       inputs_flagged = plays.inputs_flagged;
       settled = state_between frames before list a all;
       ahead = next.run;
@@ -172,7 +160,7 @@ input_plays items frames states before list line p moved a w is all inside goes 
       run = goes_items p.run.settled p.run moved goes ∙ plays.run;
       fit = input_fits items frames states before line list (shape_is_small items w) is plays.fit;
       states_flagged = plays.states_flagged;
-      inputs_flagged = subst (IsFlagged (set p.inputs_given a.index true)) (sym pairs) (flag_more p.inputs_given (pairs_of before) a.index a.word inside plays.inputs_flagged);
+      inputs_flagged = subst (IsFlagged (set p.inputs_given a.index true)) (sym pairs) (flagged_more (λ (x : ℕ × ℕ). x.0) p.inputs_given (pairs_of before) (a.index, a.word) inside plays.inputs_flagged);
       settled = input_between frames states before list a all;
       ahead = next.run;
       goes = refl;

@@ -1,10 +1,8 @@
 -- What is kept of the bytes of a line of which more may follow.
-use Rattle.std.specs.Prelude.{◌≡◌, ℕ, ◌+◌, ◌-◌, ◌*◌, ◌^◌, min, Bool, true, not, ◌&&◌, ◌||◌, ◌==◌, nat_lt, List, [], ◌∷◌, length, slice_index_or, Result, Ok, Err, if◌then◌else◌}
+use Rattle.std.specs.Prelude.{◌≡◌, ℕ, ◌+◌, ◌-◌, ◌*◌, ◌^◌, min, Bool, true, not, ◌&&◌, ◌||◌, ◌==◌, nat_lt, List, [], ◌∷◌, length, slice_index_or, Option, Some, None, if◌then◌else◌}
 use Rattle.std.specs.List.{list_any, list_all}
 use Rattle.base.specs.Decimals.{is_digit, are_digits, capped_value}
 use Rattle.witness.specs.declared.bit_scan.Scan.{Scan}
-use Rattle.witness.specs.declared.why.Why.{Why}
-use Rattle.witness.specs.declared.why.Why.TheVariants as why
 use Rattle.witness.specs.Admits.{is_value_byte}
 
 -- the bytes behind the first
@@ -51,7 +49,6 @@ scan_more s byte =
 abbrev pub has_decimal : Scan → Bool
 has_decimal s = nat_lt 1 s.count && (s.digits && (not s.zero || (s.count == 2)))
 
--- what is claimed by a line with this first byte and this number behind it, of so many bad properties
-abbrev pub claimed : ℕ → ℕ → ℕ → Result ℕ Why
-claimed first number bads =
-    if first == 106 then Err why.JusticeClaim else (if (first == 98) && nat_lt number bads then Ok number else Err why.BadClaim)
+-- what is claimed: whether a justice property, and its number
+abbrev pub claimed : Scan → Option (Bool × ℕ)
+claimed s = if has_decimal s && ((s.first == 106) || (s.first == 98)) then Some (s.first == 106, s.number) else None

@@ -158,7 +158,7 @@ impl<'a> BitReader<'a> {
                 self.place = BitPlace::Claim;
                 Ok(())
             }
-            BitPlace::Claim => match line.claim(self.play.bads()) {
+            BitPlace::Claim => match line.bad_claim(self.play.bads()) {
                 Ok(claim) => {
                     self.claim = claim;
                     self.place = BitPlace::Initial;

@@ -1,12 +1,12 @@
 //! A line of a witness of a circuit, byte by byte.
-ghost use Rattle.std.specs.Prelude.{◌≡◌, ℕ, ◌==◌, ◌&&◌, ◌<◌, ◌-◌, ◌^◌, min, List, [], ◌∷◌, ◌++◌, MatchResult, Ok, Err, map, length};
+ghost use Rattle.std.specs.Prelude.{◌≡◌, ℕ, ◌==◌, ◌&&◌, ◌<◌, ◌-◌, ◌^◌, min, List, [], ◌∷◌, ◌++◌, MatchResult, Some, Ok, Err, map, length};
 ghost use Rattle.std.specs.List.{list_all};
 ghost use Rattle.std.specs.Str.{bytes_eq};
-ghost use Rattle.base.specs.Decimals.{is_digit, number_of};
+ghost use Rattle.base.specs.Decimals.{is_digit};
 ghost use Rattle.witness.specs.Readings.{is_nothing};
 ghost use Rattle.witness.specs.Admits.{is_value_byte};
-ghost use Rattle.witness.specs.BitAdmits.{claim_at, bits_at};
-ghost use Rattle.witness.specs.BitScans.{behind_first, Scans, number_more, scan_more, has_decimal, claimed, is_bit, is_one_bit};
+ghost use Rattle.witness.specs.BitAdmits.{judged_claim, claim_at, bits_at};
+ghost use Rattle.witness.specs.BitScans.{Scans, number_more, scan_more, has_decimal, claimed, is_bit, is_one_bit};
 
 use crate::why::Why;
 
@@ -56,14 +56,14 @@ fn number_more(number: u64, byte: u8) -> u64
     }
 }
 
-/// What is claimed by a line with this first byte and this number behind it, of so many bad properties, or why nothing is.
-fn claimed(first: u8, number: u64, bads: u64) -> Result<u64, Why>
-    ensures { result ≡ claimed first number bads }
+/// The bad property that a claim is of, of so many, or why it is of none.
+fn judged(justice: bool, number: u64, bads: u64) -> Result<u64, Why>
+    ensures { result ≡ judged_claim bads (Some (record { justice = justice; index = number })) }
 {
-    if first == b'j' {
+    if justice {
         return Err(Why::JusticeClaim);
     }
-    if first == b'b' && number < bads {
+    if number < bads {
         Ok(number)
     } else {
         Err(Why::BadClaim)
@@ -165,32 +165,26 @@ impl Scan {
         self.count > 1 && self.digits && (!self.zero || self.count == 2)
     }
 
-    /// The first byte, where there is one, and else 0.
-    pub(crate) fn first(self) -> u8
-        ensures { result ≡ self.first }
+    /// What the line claims: whether a justice property, and its number, at most 2^64 - 1.
+    pub(crate) fn claim(self) -> Option<(bool, u64)>
+        ensures { result ≡ claimed self }
     {
-        self.first
-    }
-
-    /// The number that the bytes behind the first write, at most 2^64 - 1, where they are a decimal.
-    pub(crate) fn number(self) -> Option<u64>
-        ensures { (line : List ℕ) → Scans self line → result ≡ number_of (behind_first line) }
-    {
-        if self.has_decimal() {
-            Some(self.number)
+        let justice = self.first == b'j';
+        if self.has_decimal() && (justice || self.first == b'b') {
+            Some((justice, self.number))
         } else {
             None
         }
     }
 
-    /// The index that the line claims, of so many bad properties, or why it claims none.
-    pub(crate) fn claim(self, bads: u64) -> Result<u64, Why>
+    /// The bad property that the line claims, of so many, or why it claims none.
+    pub(crate) fn bad_claim(self, bads: u64) -> Result<u64, Why>
         ensures { (line : List ℕ) → Scans self line → result ≡ claim_at bads line }
     {
-        if !self.has_decimal() {
-            return Err(Why::BadClaim);
+        match self.claim() {
+            Some((justice, number)) => judged(justice, number, bads),
+            None => Err(Why::BadClaim),
         }
-        claimed(self.first, self.number, bads)
     }
 
     /// That the line is so many bits, or why it is not.

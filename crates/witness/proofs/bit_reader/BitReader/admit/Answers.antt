@@ -18,12 +18,12 @@ pub returns-in-Ok-clause-line : goal.returns-in-Ok-clause-line
 returns-in-Ok-clause-line c circuit r bytes reads scans few =
     let count : c.bads.result ≡ length circuit.bads = c.bads.ensures ∙ ap (λ (k : Circuit). length k.bads) reads.counts.circuit in
     let small : length circuit.bads < 2 ^ 64 = subst (λ n. n < 2 ^ 64) count c.bads.type_inv in
-    claim_admitted circuit r bytes c.args.self.now reads c.in-Ok.claim c.in-Claim.is small (subst (λ n. claim_at n bytes ≡ Ok c.in-Ok.claim) count (sym (c.claim.ensures bytes scans) ∙ c.in-Ok.is))
+    claim_admitted circuit r bytes c.args.self.now reads c.in-Ok.claim c.in-Claim.is small (subst (λ n. claim_at n bytes ≡ Ok c.in-Ok.claim) count (sym (c.bad_claim.ensures bytes scans) ∙ c.in-Ok.is))
 
 pub returns-in-Err-clause-line : goal.returns-in-Err-clause-line
 returns-in-Err-clause-line c circuit r bytes reads scans few =
     let count : c.bads.result ≡ length circuit.bads = c.bads.ensures ∙ ap (λ (k : Circuit). length k.bads) reads.counts.circuit in
-    claim_refused circuit r bytes c.args.self.now reads c.in-Err.why c.in-Claim.is (subst (λ n. claim_at n bytes ≡ Err c.in-Err.why) count (sym (c.claim.ensures bytes scans) ∙ c.in-Err.is))
+    claim_refused circuit r bytes c.args.self.now reads c.in-Err.why c.in-Claim.is (subst (λ n. claim_at n bytes ≡ Err c.in-Err.why) count (sym (c.bad_claim.ensures bytes scans) ∙ c.in-Err.is))
 
 pub returns-in-Ok-bits-clause-line : goal.returns-in-Ok-bits-clause-line
 returns-in-Ok-bits-clause-line c circuit r bytes reads scans few =

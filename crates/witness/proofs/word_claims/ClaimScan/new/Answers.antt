@@ -3,4 +3,4 @@ use Rattle.witness.proofs.ClaimScanLemmas.{claims_nothing}
 use Rattle.witness.proofs.word_claims.ClaimScan.new.Goals as goal
 
 pub returns : goal.returns
-returns c flags none = claims_nothing _ flags refl none c.new.ensures
+returns c flags none = claims_nothing _ flags refl refl refl none c.new.ensures
