@@ -168,14 +168,6 @@ pub record IsBehind (x n y : ℕ) (bytes : List ℕ) : Type 0 where
   pub word : y ≡ digits_word x bytes
   pub small : y < 2 ^ (n + length bytes)
 
-pub behind_nothing : (x n : ℕ) → x < 2 ^ n → IsBehind x n x []
-behind_nothing x n small = record { known = refl; word = refl; small = subst (λ (m : ℕ). x < 2 ^ m) (omega arith) small }
-
-pub behind_below : (x n word : ℕ) (bytes : List ℕ) → n + length bytes < 64 → IsBehind x n word bytes → word < 2 ^ 63
-behind_below x n word bytes fewer h =
-    let power : 2 ^ (n + length bytes) ≤ 2 ^ 63 = pow-le-pow_right {n = 2} (omega arith) {i = n + length bytes} {j = 63} (omega (arith, fewer)) in
-    omega (arith, power, h.small)
-
 pub behind_more : (x n word bit : ℕ) (bytes : List ℕ) (b : ℕ) → bit ≡ bit_number (is_one_bit b) → is_bit b ≡ true → IsBehind x n word bytes → IsBehind x n (word * 2 + bit) (bytes ++ b ∷ [])
 behind_more x n word bit bytes b is known h =
     let long : n + length (bytes ++ b ∷ []) ≡ suc (n + length bytes) = omega (arith, length-append bytes (b ∷ [])) in

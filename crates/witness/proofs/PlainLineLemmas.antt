@@ -148,19 +148,6 @@ word_begins width x text digits behind rest is long known name =
       valid = name.valid;
     }
 
--- an index, and such a word behind a space
-pub assignment_begins : (widths : List ℕ) (given : List Bool) (text behind : List ℕ) (index x : ℕ) (rest : List ℕ) → text ≡ decimal index ++ 32 ∷ behind → index < length widths → is_set given index ≡ false → BeginsWord (slice_index widths index) behind x rest
-    → BeginsAssignment widths given text index x rest
-assignment_begins widths given text behind index x rest is there fresh word =
-    let digits : List ℕ = binary (slice_index widths index) x in
-    let joined : decimal index ++ 32 ∷ ((digits ++ symbol_part word.symbol) ++ 10 ∷ rest) ≡ ((decimal index ++ 32 ∷ digits) ++ symbol_part word.symbol) ++ 10 ∷ rest = simp append_assoc in
-    record {
-      symbol = word.symbol;
-      is = is ∙ (ap (λ (t : List ℕ). decimal index ++ 32 ∷ t) word.is ∙ joined);
-      valid = record { index = there; word = word.fits; symbol = word.valid };
-      fresh = fresh;
-    }
-
 -- ---- a text that begins otherwise
 
 -- where a byte stands first is one place

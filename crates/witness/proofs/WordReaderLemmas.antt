@@ -36,10 +36,6 @@ same_claims : (q : WordReader) (r : Read) (line next : List ℕ) (x : CodePlace)
 same_claims q r line next code.Claims alone h = absurd (cc alone)
 same_claims q r line next _ alone h = h
 
-pub is_claims : (x : CodePlace) → is_alone (place_of x) ≡ false → x ≡ code.Claims
-is_claims code.Claims other = refl
-is_claims _ other = absurd (cc other)
-
 -- a line that opens no part is no line that begins with such a byte
 pub not_opened : (b : ℕ) (rest line : List ℕ) → begins_part (b ∷ rest) ≡ true → begins_part line ≡ false → bytes_eq line (b ∷ rest) ≡ false
 not_opened b rest line opens plain =
@@ -265,19 +261,6 @@ module _ (items : List Item) (r : Read) (line : List ℕ) (q old : WordReader) (
   unfolding admit
   trailing_refused e = rw (is_at code.End e) refl
 
-  -- ---- more bytes
-
-  pub claim_part : (s : ClaimScan) (flags : List Bool) (part : List ℕ) → old.place ≡ code.Claims → AreClaims s flags (line ++ part) → length flags ≡ length q.claimed → Reads items (record q { claims = s; claimed = flags }) r (line ++ part)
-  claim_part s flags part e are many =
-      record {
-        free = reads.free;
-        many = many ∙ reads.many;
-        place = reads.place;
-        said = reads.said;
-        claims = subst (ClaimsAt (record q { claims = s; claimed = flags }) r (line ++ part)) (sym (is_at code.Claims e)) are;
-        play = reads.play;
-      }
-
 -- ---- free states
 
 pub free_index : (items : List Item) (i : ℕ) → i < length (places is_state 0 items) → is_free_index (shape_of items) i ≡ is_free_at items (slice_index (places is_state 0 items) i)
@@ -327,7 +310,3 @@ pub reads_start : (items : List Item) (p : WordPlay) (s : ClaimScan) (flags : Li
     → Reads items (record { play = p; place = code.Status; claims = s; claimed = flags; has_free = free }) nothing_read []
 reads_start items p s flags free start are many is =
     record { free = is; many = many ∙ length-places is_bad 0 items; place = refl; said = record { closed = refl; states = refl; open_part = refl }; claims = are; play = plays_start items p start }
-
-pub if_none : {A : Type 0} (o : Option A) (P Q : Type 0) → (P → Q) → IfNone o P → IfNone o Q
-if_none None P Q f h = f h
-if_none (Some x) P Q f h = h

@@ -14,7 +14,7 @@ ghost use Rattle.witness.specs.BitStands.{StandsFor, bit_judging, is_header, pla
 use crate::bit_reader::{BitPlace, BitReader};
 use crate::bit_scan::Scan;
 use crate::judgement::Judgement;
-use crate::verdicts::{are_most, either, last_refusal};
+use crate::verdicts::{are_most, last_refusal};
 use crate::why::Why;
 use aiger::Circuit;
 use base::next_line;
@@ -88,7 +88,7 @@ impl<'a> BitJudge<'a> {
             self.refused = Some(Why::TooLong);
             return;
         }
-        self.no_claim = either(self.no_claim, says_no_claim(self.reader.place(), line));
+        self.no_claim |= says_no_claim(self.reader.place(), line);
         match self.reader.admit(line) {
             Ok(()) => self.admitted += 1,
             Err(why) => self.refused = Some(why),

@@ -10,7 +10,7 @@ ghost use Rattle.witness.specs.BitJudgements.{differs_from_reset, first_bit_viol
 ghost use Rattle.witness.specs.BitPlays.{Begins, Plays, play_start, differing, latch_given};
 
 use crate::judgement::Judgement;
-use crate::verdicts::{Breach, either, judgement_of, note_breach};
+use crate::verdicts::{Breach, judgement_of, note_breach};
 use aiger::{Circuit, Reset};
 use runs::{BitRun, NewFault};
 use std::alloc::Global;
@@ -202,7 +202,7 @@ impl<'a> BitPlay<'a> {
         let violated = first_violated(self.circuit, &self.run);
         let rises = rises(self.circuit, &self.run, claim);
         note_breach(&mut self.breach, self.frames, violated);
-        self.rose = either(self.rose, rises);
+        self.rose |= rises;
         self.run.advance();
         self.frames = self.frames.saturating_add(1);
     }

@@ -94,14 +94,10 @@ impl<'a> BitReader<'a> {
         ensures frame { (c : Circuit) (r : BitRead) (bytes : List ℕ) → Reads c self.old r bytes → Scans line bytes → Plays c r.claim r.initial r.frames self.old.play bytes → r.claim < length c.bads → length r.frames < 2 ^ 62 → MatchResult result (λ _. (bits_at c.inputs bytes ≡ Ok (map is_one_bit bytes)) × Reads c self.new (record r { place = AtLater; frames = r.frames ++ map is_one_bit bytes ∷ [] }) []) (λ why. bits_at c.inputs bytes ≡ Err why) }
         ensures err { OnErr result (self.new ≡ self.old) }
     {
-        match line.bits(self.play.inputs()) {
-            Ok(()) => {
-                self.play.close(self.claim);
-                self.place = BitPlace::Later;
-                Ok(())
-            }
-            Err(why) => Err(why),
-        }
+        line.bits(self.play.inputs())?;
+        self.play.close(self.claim);
+        self.place = BitPlace::Later;
+        Ok(())
     }
 
     /// Takes the whole line of the initial bits, where it is one.
@@ -158,21 +154,16 @@ impl<'a> BitReader<'a> {
                 self.place = BitPlace::Claim;
                 Ok(())
             }
-            BitPlace::Claim => match line.bad_claim(self.play.bads()) {
-                Ok(claim) => {
-                    self.claim = claim;
-                    self.place = BitPlace::Initial;
-                    Ok(())
-                }
-                Err(why) => Err(why),
-            },
-            BitPlace::Initial => match line.bits(self.play.latches()) {
-                Ok(()) => {
-                    self.place = BitPlace::First;
-                    Ok(())
-                }
-                Err(why) => Err(why),
-            },
+            BitPlace::Claim => {
+                self.claim = line.bad_claim(self.play.bads())?;
+                self.place = BitPlace::Initial;
+                Ok(())
+            }
+            BitPlace::Initial => {
+                line.bits(self.play.latches())?;
+                self.place = BitPlace::First;
+                Ok(())
+            }
             BitPlace::First => {
                 if line.is_byte(b'.') {
                     return Err(Why::FrameOrder);

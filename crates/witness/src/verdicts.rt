@@ -150,13 +150,6 @@ pub(crate) fn note_rises(run: &WordRun<'_>, rose: &mut [bool])
     }
 }
 
-/// Whether one of two holds.
-pub(crate) fn either(one: bool, other: bool) -> bool
-    ensures { result ≡ (one || other) }
-{
-    one || other
-}
-
 /// Notes the constraint that does not hold in a frame, where there is one and no breach was found before.
 pub(crate) fn note_breach(found: &mut Option<Breach>, frame: u64, violated: Option<u64>)
     ensures { found.new ≡ option_or found.old (violated_at frame violated None) }

@@ -28,14 +28,10 @@ fn cut(line: &[u8]) -> Option<(&[u8], &[u8])>
     ensures { MatchOption result (HasNone 32 line.now)
         (λ x. (line.now ≡ x.0.now ++ 32 ∷ x.1.now) × HasNone 32 x.0.now) }
 {
-    match first_space(line) {
-        None => None,
-        Some(at) => {
-            let (front, rest) = line.split_at(at);
-            let (_, behind) = rest.split_at(1);
-            Some((front, behind))
-        }
-    }
+    let at = first_space(line)?;
+    let (front, rest) = line.split_at(at);
+    let (_, behind) = rest.split_at(1);
+    Some((front, behind))
 }
 
 /// The index that a line begins with, where it is a decimal, at most 2^64 - 1.
@@ -53,15 +49,11 @@ fn named(digits: &[u8], name: &[u8], width: Width) -> Result<u64, Why>
     ensures is { Gives (λ w. w) result (word_with (Some name.now) (value_of width digits.now)) }
     ensures fits { IfOk result (λ w. w < 2 ^ width) }
 {
-    match value_of(digits, width) {
-        Ok(word) => {
-            if Symbol::is_symbol(name) {
-                Ok(word)
-            } else {
-                Err(Why::BadSymbol)
-            }
-        }
-        Err(why) => Err(why),
+    let word = value_of(digits, width)?;
+    if Symbol::is_symbol(name) {
+        Ok(word)
+    } else {
+        Err(Why::BadSymbol)
     }
 }
 
@@ -105,10 +97,8 @@ fn assigned_number(
     if given.has(k) {
         return Err(Why::IndexTwice);
     }
-    match word_of(line, widths[k]) {
-        Ok(word) => Ok((index, word)),
-        Err(why) => Err(why),
-    }
+    let word = word_of(line, widths[k])?;
+    Ok((index, word))
 }
 
 /// The word that a line gives to one of the nodes of these widths, or why it gives none. `given` says which of them

@@ -19,7 +19,7 @@ ghost use Rattle.witness.specs.WordStands.{StandsFor, JudgesLine, NoPlainLine, i
 
 use crate::judgement::Judgement;
 use crate::kept_line::KeptLine;
-use crate::verdicts::{are_most, either, last_refusal};
+use crate::verdicts::{are_most, last_refusal};
 use crate::why::Why;
 use crate::word_line::is_word;
 use crate::word_reader::{Place, WordReader, is_alone};
@@ -96,7 +96,7 @@ impl<'a> WordJudge<'a> {
             self.refused = Some(Why::TooLong);
             return;
         }
-        self.no_claim = either(self.no_claim, says_no_claim(self.reader.place(), line));
+        self.no_claim |= says_no_claim(self.reader.place(), line);
         match self.reader.admit(line) {
             Ok(()) => self.admitted += 1,
             Err(why) => self.refused = Some(why),
@@ -160,13 +160,9 @@ impl<'a> WordJudge<'a> {
         if self.refused.is_some() || are_most(self.admitted) || !self.line.is_empty() {
             return None;
         }
-        match self.reader.take_line(text) {
-            Some(rest) => {
-                self.admitted += 1;
-                Some(rest)
-            }
-            None => None,
-        }
+        let rest = self.reader.take_line(text)?;
+        self.admitted += 1;
+        Some(rest)
     }
 
     /// Takes the line with which a text begins, whatever it is, and answers the text behind it; nothing where no byte 10
@@ -176,13 +172,9 @@ impl<'a> WordJudge<'a> {
         ensures none { IfNone result (IsLine text.now) }
         ensures kept { IfNone result (self.new ≡ self.old) }
     {
-        match next_line(text) {
-            Some((line, rest)) => {
-                self.take_line(line);
-                Some(rest)
-            }
-            None => None,
-        }
+        let (line, rest) = next_line(text)?;
+        self.take_line(line);
+        Some(rest)
     }
 
     /// Takes the line with which a text begins, in one pass where it is a plain one, and answers the text behind it;

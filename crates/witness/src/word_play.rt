@@ -215,14 +215,10 @@ impl<'a> WordPlay<'a> {
     {
         let _items = self.model.items();
         let widths = self.state_widths.as_slice();
-        match assigned(widths, &self.states_given, line) {
-            Ok(given) => {
-                go_on(&mut self.run);
-                self.give_state(given.0 as usize, given.1);
-                Ok(())
-            }
-            Err(why) => Err(why),
-        }
+        let given = assigned(widths, &self.states_given, line)?;
+        go_on(&mut self.run);
+        self.give_state(given.0 as usize, given.1);
+        Ok(())
     }
 
     /// Gives an input the word of a line in the open part, or answers why the line gives none.
@@ -233,14 +229,10 @@ impl<'a> WordPlay<'a> {
     {
         let _items = self.model.items();
         let widths = self.input_widths.as_slice();
-        match assigned(widths, &self.inputs_given, line) {
-            Ok(given) => {
-                go_on(&mut self.run);
-                self.give_input(given.0 as usize, given.1);
-                Ok(())
-            }
-            Err(why) => Err(why),
-        }
+        let given = assigned(widths, &self.inputs_given, line)?;
+        go_on(&mut self.run);
+        self.give_input(given.0 as usize, given.1);
+        Ok(())
     }
 
     /// Gives an input the word of the plain line with which a text begins, and answers the text behind the line; nothing
@@ -254,14 +246,10 @@ impl<'a> WordPlay<'a> {
     {
         let _items = self.model.items();
         let widths = self.input_widths.as_slice();
-        match plain_assignment(text, widths, &self.inputs_given) {
-            Some((index, word, rest)) => {
-                go_on(&mut self.run);
-                self.give_input(index as usize, word);
-                Some(rest)
-            }
-            None => None,
-        }
+        let (index, word, rest) = plain_assignment(text, widths, &self.inputs_given)?;
+        go_on(&mut self.run);
+        self.give_input(index as usize, word);
+        Some(rest)
     }
 
     /// Closes the open frame: settles it, and looks at its constraints and at the bad properties. The run moves on later,

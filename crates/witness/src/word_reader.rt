@@ -188,13 +188,9 @@ impl<'a> WordReader<'a> {
         ensures line { (items : List Item) (r : Read) (bytes : List ℕ) → Reads items self.old r bytes → self.old.place ≡ place.Claims → GivesLine items r bytes self.new result }
         ensures err { OnErr result (self.new.play ≡ self.old.play) }
     {
-        match self.claims.end(self.claimed.as_mut_slice()) {
-            Ok(()) => {
-                self.place = Place::Parts;
-                Ok(())
-            }
-            Err(why) => Err(why),
-        }
+        self.claims.end(self.claimed.as_mut_slice())?;
+        self.place = Place::Parts;
+        Ok(())
     }
 
     /// The line behind the claims has ended.
@@ -269,13 +265,9 @@ impl<'a> WordReader<'a> {
             return Some(rest);
         }
         let next = self.play.frames().saturating_add(1);
-        match behind_frame_line(text, next) {
-            Some(rest) => {
-                self.play.close();
-                Some(rest)
-            }
-            None => None,
-        }
+        let rest = behind_frame_line(text, next)?;
+        self.play.close();
+        Some(rest)
     }
 
     /// Takes the line with which a text begins, where one of a frame comes next and it is a plain one: the line of an

@@ -14,7 +14,7 @@ use Rattle.witness.proofs.bit_play.BitPlay.close.Goals as goal
 pub returns : goal.returns
 returns c circuit initial frames line plays below few whole =
     let was : BitPlay = record { circuit = c.self.inside.circuit.now; run = c.self.inside.run; differs = c.self.inside.differs; frames = c.self.inside.frames; breach = c.self.inside.breach; rose = c.self.inside.rose } in
-    let is : BitPlay = record { circuit = c.self.inside.circuit.now; run = c.advance.new.self; differs = c.self.inside.differs; frames = c.saturating_add-self-inside.result; breach = c.note_breach.new.found; rose = c.either-self-inside.result } in
+    let is : BitPlay = record { circuit = c.self.inside.circuit.now; run = c.advance.new.self; differs = c.self.inside.differs; frames = c.saturating_add-self-inside.result; breach = c.note_breach.new.found; rose = c.self.inside.rose || c.rises-rises.result } in
     let begun : Plays circuit c.args.claim initial frames was line = subst (λ (p : BitPlay). Plays circuit c.args.claim initial frames p line) (sym c.self.view_is) plays in
     let same : c.self.inside.circuit.now ≡ circuit = begun.circuit in
     let closes : Closes circuit c.args.claim was is = record {
@@ -32,7 +32,6 @@ returns c circuit initial frames line plays below few whole =
       rose = λ v now.
           let there : c.args.claim < length c.self.inside.circuit.now.bads = subst (λ (k : Circuit). c.args.claim < length k.bads) (sym same) below in
           let risen = subst (λ (r : CircuitRun). IsFrameNow r v → c.rises-rises.result ≡ literal_value v (get_or c.self.inside.circuit.now.bads c.args.claim 0)) c.settle.ensures (λ n. c.rises-rises.ensures v n there) now in
-          c.either-self-inside.ensures
-          ∙ ap (λ (b : Bool). c.self.inside.rose || b) (risen ∙ ap (λ (k : Circuit). literal_value v (get_or k.bads c.args.claim 0)) same);
+          ap (λ (b : Bool). c.self.inside.rose || b) (risen ∙ ap (λ (k : Circuit). literal_value v (get_or k.bads c.args.claim 0)) same);
     } in
     plays_more circuit c.args.claim initial frames line was is begun closes few whole

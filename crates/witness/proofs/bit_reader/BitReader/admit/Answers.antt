@@ -1,5 +1,7 @@
 use Rattle.std.proofs.Common.{◌≡◌, ◌<◌, ◌^◌, Ok, Err, map, length, subst, sym, ap, ◌∙◌, refl}
+use Rattle.std.proofs.lemmas.Result.{err_from_is_err_and}
 use Rattle.aiger.specs.Circuit.{Circuit}
+use Rattle.witness.specs.declared.why.Why.{Why}
 use Rattle.witness.specs.declared.bit_reader.BitPlace.TheVariants as code
 use Rattle.witness.specs.BitAdmits.{claim_at, bits_at}
 use Rattle.witness.specs.BitScans.{is_one_bit}
@@ -14,26 +16,32 @@ pub returns-else-not-is_byte-clause-line : goal.returns-else-not-is_byte-clause-
 returns-else-not-is_byte-clause-line c circuit r bytes reads scans few =
     header_admitted circuit r bytes c.args.self.now reads c.in-Header.is (sym (c.is_byte.ensures bytes scans) ∙ c.if-not-is_byte.false)
 
-pub returns-in-Ok-clause-line : goal.returns-in-Ok-clause-line
-returns-in-Ok-clause-line c circuit r bytes reads scans few =
+pub returns-in_ok-self-in-Claim-clause-line : goal.returns-in_ok-self-in-Claim-clause-line
+returns-in_ok-self-in-Claim-clause-line c circuit r bytes reads scans few =
     let count : c.bads.result ≡ length circuit.bads = c.bads.ensures ∙ ap (λ (k : Circuit). length k.bads) reads.counts.circuit in
     let small : length circuit.bads < 2 ^ 64 = subst (λ n. n < 2 ^ 64) count c.bads.type_inv in
-    claim_admitted circuit r bytes c.args.self.now reads c.in-Ok.claim c.in-Claim.is small (subst (λ n. claim_at n bytes ≡ Ok c.in-Ok.claim) count (sym (c.bad_claim.ensures bytes scans) ∙ c.in-Ok.is))
+    claim_admitted circuit r bytes c.args.self.now reads c.in_ok-self-in-Claim.field-0 c.in-Claim.is small (subst (λ n. claim_at n bytes ≡ Ok c.in_ok-self-in-Claim.field-0) count (sym (c.bad_claim.ensures bytes scans) ∙ c.in_ok-self-in-Claim.was))
 
-pub returns-in-Err-clause-line : goal.returns-in-Err-clause-line
-returns-in-Err-clause-line c circuit r bytes reads scans few =
+pub returns-in_err-self-in-Claim-clause-line : goal.returns-in_err-self-in-Claim-clause-line
+returns-in_err-self-in-Claim-clause-line c circuit r bytes reads scans few =
     let count : c.bads.result ≡ length circuit.bads = c.bads.ensures ∙ ap (λ (k : Circuit). length k.bads) reads.counts.circuit in
-    claim_refused circuit r bytes c.args.self.now reads c.in-Err.why c.in-Claim.is (subst (λ n. claim_at n bytes ≡ Err c.in-Err.why) count (sym (c.bad_claim.ensures bytes scans) ∙ c.in-Err.is))
+    let gone = err_from_is_err_and c.from_residual.result c.from_residual.ensures.1 in
+    let why : Why = c.in_err-self-in-Claim.field-0.0 in
+    let is : c.from_residual.result ≡ Err why = gone.1 ∙ ap Err gone.2 in
+    rw is (claim_refused circuit r bytes c.args.self.now reads why c.in-Claim.is (subst (λ n. claim_at n bytes ≡ Err why) count (sym (c.bad_claim.ensures bytes scans) ∙ c.in_err-self-in-Claim.was)))
 
-pub returns-in-Ok-bits-clause-line : goal.returns-in-Ok-bits-clause-line
-returns-in-Ok-bits-clause-line c circuit r bytes reads scans few =
+pub returns-in_ok-bits-in-Initial-clause-line : goal.returns-in_ok-bits-in-Initial-clause-line
+returns-in_ok-bits-in-Initial-clause-line c circuit r bytes reads scans few =
     let count : c.latches.result ≡ length circuit.latches = c.latches.ensures.count ∙ ap (λ (k : Circuit). length k.latches) reads.counts.circuit in
-    initial_admitted circuit r bytes c.args.self.now reads c.in-Initial.is (subst (λ n. bits_at n bytes ≡ Ok (map is_one_bit bytes)) count (c.in-Ok-bits.ensures bytes scans))
+    initial_admitted circuit r bytes c.args.self.now reads c.in-Initial.is (subst (λ n. bits_at n bytes ≡ Ok (map is_one_bit bytes)) count (c.in_ok-bits-in-Initial.ensures bytes scans))
 
-pub returns-in-Err-bits-clause-line : goal.returns-in-Err-bits-clause-line
-returns-in-Err-bits-clause-line c circuit r bytes reads scans few =
+pub returns-in_err-bits-in-Initial-clause-line : goal.returns-in_err-bits-in-Initial-clause-line
+returns-in_err-bits-in-Initial-clause-line c circuit r bytes reads scans few =
     let count : c.latches.result ≡ length circuit.latches = c.latches.ensures.count ∙ ap (λ (k : Circuit). length k.latches) reads.counts.circuit in
-    initial_refused circuit r bytes c.args.self.now reads c.in-Err-bits.why c.in-Initial.is (subst (λ n. bits_at n bytes ≡ Err c.in-Err-bits.why) count (c.in-Err-bits.ensures bytes scans))
+    let gone = err_from_is_err_and c.from_residual-in_err-bits-in-Initial.result c.from_residual-in_err-bits-in-Initial.ensures.1 in
+    let why : Why = c.in_err-bits-in-Initial.field-0.0 in
+    let is : c.from_residual-in_err-bits-in-Initial.result ≡ Err why = gone.1 ∙ ap Err gone.2 in
+    rw is (initial_refused circuit r bytes c.args.self.now reads why c.in-Initial.is (subst (λ n. bits_at n bytes ≡ Err why) count (c.in_err-bits-in-Initial.ensures bytes scans)))
 
 pub returns-then-is_byte-clause-line : goal.returns-then-is_byte-clause-line
 returns-then-is_byte-clause-line c circuit r bytes reads scans few =

@@ -8,10 +8,10 @@ use Rattle.witness.proofs.BitReadLemmas.{bits_are_line}
 use Rattle.witness.proofs.BitReaderLemmas.{frame_read}
 use Rattle.witness.proofs.bit_reader.BitReader.admit_frame.Goals as goal
 
-pub returns-in-Ok-clause-frame : goal.returns-in-Ok-clause-frame
-returns-in-Ok-clause-frame c circuit r bytes reads scans plays below few =
+pub returns-clause-frame : goal.returns-clause-frame
+returns-clause-frame c circuit r bytes reads scans plays below few =
     let count : c.inputs.result ≡ circuit.inputs = c.inputs.ensures.count ∙ ap (λ (k : Circuit). k.inputs) reads.counts.circuit in
-    let bits : bits_at circuit.inputs bytes ≡ Ok (map is_one_bit bytes) = subst (λ n. bits_at n bytes ≡ Ok (map is_one_bit bytes)) count (c.in-Ok.ensures bytes scans) in
+    let bits : bits_at circuit.inputs bytes ≡ Ok (map is_one_bit bytes) = subst (λ n. bits_at n bytes ≡ Ok (map is_one_bit bytes)) count (c.in_ok-bits.ensures bytes scans) in
     let are = bits_are_line circuit.inputs bytes (map is_one_bit bytes) bits in
     let whole : length bytes ≡ circuit.inputs = sym (length-map bytes is_one_bit) ∙ are.many in
     let play : Plays circuit c.args.self.now.claim r.initial r.frames c.args.self.now.play bytes =

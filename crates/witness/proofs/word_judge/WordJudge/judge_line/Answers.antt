@@ -22,17 +22,17 @@ pub returns-in-Ok-clause-lines : goal.returns-in-Ok-clause-lines
 returns-in-Ok-clause-lines c items lines bytes is alike none =
     let now = subst (λ (j : WordJudge). IsOfLines (word_judging items) j lines bytes) (sym c.self.view_is) is in
     let fresh = ap (λ (j : WordJudge). j.refused) c.self.view_is ∙ none in
-    let says = c.either-self-inside.ensures ∙ ap (λ (b : Bool). c.self.inside.no_claim || b) (c.says_no_claim.ensures ∙ ap₂ (λ (x : CodePlace) (b : Bool). is_status (place_of x) && b) c.place.ensures (status_alike c.args.line.now bytes alike)) in
+    let says = ap (λ (b : Bool). c.self.inside.no_claim || b) (c.says_no_claim.ensures ∙ ap₂ (λ (x : CodePlace) (b : Bool). is_status (place_of x) && b) c.place.ensures (status_alike c.args.line.now bytes alike)) in
     let few : c.self.inside.admitted < 2 ^ 62 = leb-false (2 ^ 62) c.self.inside.admitted (sym c.are_most.ensures ∙ c.if-are_most.false) in
     let read = (lines_read (word_reader (shape_of items)) lines).read in
-    given_line items lines bytes bytes _ c.admit.new.self c.either-self-inside.result now fresh few (c.in-Ok.ensures.line items read bytes (now.reads fresh) alike (few_frames items lines bytes _ now few)) says
+    given_line items lines bytes bytes _ c.admit.new.self (c.self.inside.no_claim || c.says_no_claim.result) now fresh few (c.in-Ok.ensures.line items read bytes (now.reads fresh) alike (few_frames items lines bytes _ now few)) says
 
 pub returns-in-Err-clause-lines : goal.returns-in-Err-clause-lines
 returns-in-Err-clause-lines c items lines bytes is alike none =
     let now = subst (λ (j : WordJudge). IsOfLines (word_judging items) j lines bytes) (sym c.self.view_is) is in
     let fresh = ap (λ (j : WordJudge). j.refused) c.self.view_is ∙ none in
-    let says = c.either-self-inside.ensures ∙ ap (λ (b : Bool). c.self.inside.no_claim || b) (c.says_no_claim.ensures ∙ ap₂ (λ (x : CodePlace) (b : Bool). is_status (place_of x) && b) c.place.ensures (status_alike c.args.line.now bytes alike)) in
+    let says = ap (λ (b : Bool). c.self.inside.no_claim || b) (c.says_no_claim.ensures ∙ ap₂ (λ (x : CodePlace) (b : Bool). is_status (place_of x) && b) c.place.ensures (status_alike c.args.line.now bytes alike)) in
     let few : c.self.inside.admitted < 2 ^ 62 = leb-false (2 ^ 62) c.self.inside.admitted (sym c.are_most.ensures ∙ c.if-are_most.false) in
     let read = (lines_read (word_reader (shape_of items)) lines).read in
     let counts : Counts items c.admit.new.self.play read = subst (λ (p : WordPlay). Counts items p read) (sym c.in-Err.ensures.err) now.counts in
-    not_admitted (word_judging items) (claims_more items) lines bytes bytes _ now fresh few c.admit.new.self c.in-Err.why c.either-self-inside.result (is_status (place_of c.self.inside.reader.place)) counts (c.in-Err.ensures.line items read bytes (now.reads fresh) alike (few_frames items lines bytes _ now few)) (ap is_status (now.reads fresh).place) says
+    not_admitted (word_judging items) (claims_more items) lines bytes bytes _ now fresh few c.admit.new.self c.in-Err.why (c.self.inside.no_claim || c.says_no_claim.result) (is_status (place_of c.self.inside.reader.place)) counts (c.in-Err.ensures.line items read bytes (now.reads fresh) alike (few_frames items lines bytes _ now few)) (ap is_status (now.reads fresh).place) says

@@ -31,14 +31,14 @@ returns-in-Some-clause-line c there =
           input_more items r line _ _ c.self.view_is reads c.take_input.new.self (Ok tt) there (plain.no_frame (decimal (suc (length r.closed)))) no_states plain.no_end plain.no_part taken.gives;
     }
 
-pub returns-in-Some-behind_frame_line-clause-line : goal.returns-in-Some-behind_frame_line-clause-line
-returns-in-Some-behind_frame_line-clause-line c there =
+pub returns-clause-line : goal.returns-clause-line
+returns-clause-line c there =
     let same = ap (λ (p : WordPlay). record { play = p; place = c.self.inside.place; claims = c.self.inside.claims; claimed = c.self.inside.claimed.items; has_free = c.self.inside.has_free }) c.in_default.ensures.kept ∙ c.self.view_is in
     let next : ℕ = c.saturating_add-next.result in
     let line : List ℕ = 64 ∷ decimal next in
     record {
       line = line;
-      is = c.in-Some-behind_frame_line.ensures;
+      is = c.in_ok-rest.ensures;
       whole = decimal_without 10 next (omega arith) (omega arith);
       alone = ap (λ (x : CodePlace). is_alone (place_of x)) there;
       behind = ap (λ (x : CodePlace). is_status (place_of x)) there;
@@ -47,13 +47,14 @@ returns-in-Some-behind_frame_line-clause-line c there =
           next_frame items r line _ _ same reads c.close.new.self there (ap (λ (n : ℕ). opens_frame n line) (sym count) ∙ (bytes_eq-Decides line line).1 refl) few c.close.ensures.more;
     }
 
-pub returns-in-None-clause-none : goal.returns-in-None-clause-none
-returns-in-None-clause-none c =
+pub returns-in_err-rest-clause-none : goal.returns-in_err-rest-clause-none
+returns-in_err-rest-clause-none c =
     let same = ap (λ (p : WordPlay). record { play = p; place = c.self.inside.place; claims = c.self.inside.claims; claimed = c.self.inside.claimed.items; has_free = c.self.inside.has_free }) c.in_default.ensures.kept ∙ c.self.view_is in
-    record {
+    rw c.from_residual.ensures
+    (record {
       assignment = subst (λ (q : WordReader). NoAssignment (widths_of is_input q.play.items) q.play.inputs_given c.args.text.now) c.self.view_is c.in_default.ensures.none;
       opening = λ rest few is.
           let frames = ap (λ (q : WordReader). q.play.frames) same in
           let next : c.saturating_add-next.result ≡ c.args.self.now.play.frames + 1 = c.saturating_add-next.ensures ∙ omega (arith, c.frames.ensures, frames, few) in
-          c.in-None.ensures rest (omega (arith, next, few)) (is ∙ sym (ap (λ (n : ℕ). (64 ∷ decimal n) ++ 10 ∷ rest) next));
-    }
+          c.in_err-rest.ensures rest (omega (arith, next, few)) (is ∙ sym (ap (λ (n : ℕ). (64 ∷ decimal n) ++ 10 ∷ rest) next));
+    })
