@@ -1,5 +1,5 @@
 -- Frames of a run, one after another, and what one of them says in the words of judgements.
-use Rattle.std.proofs.Common.{◌≡◌, ℕ, suc, ◌+◌, ◌<◌, ◌≤◌, Bool, true, false, cond, ◌&&◌, nat_eq, List, [], ◌∷◌, ◌++◌, length, map, get_or, drop, flat_map, slice_get, Option, Some, None, IfSome, is_none, option_and_then, refl, sym, ap, ap₂, subst, ◌∙◌, append_assoc, arith, ◌≢◌, ◌||◌, set, ⊎_elim, not}
+use Rattle.std.proofs.Common.{◌≡◌, ℕ, suc, ◌+◌, ◌<◌, ◌≤◌, Bool, true, false, cond, ◌&&◌, nat_eq, List, [], ◌∷◌, ◌++◌, length, map, get_or, drop, flat_map, slice_get, Option, Some, None, IfSome, is_none, option_and_then, refl, sym, ap, ap₂, subst, ◌∙◌, append_assoc, arith, ◌≢◌, ◌||◌, set, ⊎_elim, not, inl, inr}
 use Rattle.std.specs.List.{position_from, list_any}
 use Rattle.std.proofs.Math.Seq.{drop-cons}
 use Rattle.std.proofs.lemmas.List.{length-map, drop_all, get_or-set_same, get_or-set_other}
@@ -232,30 +232,14 @@ module _ (items : List Item) (k : ℕ) (f : Frame) (h : k < length (places is_st
 
 -- ---- flags
 
-abbrev pub set_if : Bool → List Bool → ℕ → List Bool
-set_if b rose i = cond b (set rose i true) rose
-
-set_if-own : (b v : Bool) (rose rose0 : List Bool) (i : ℕ) → i < length rose → b ≡ v → is_set rose i ≡ is_set rose0 i → is_set (set_if b rose i) i ≡ (is_set rose0 i || v)
-set_if-own true v rose rose0 i h e same = get_or-set_same rose i true false h ∙ sym (or-true (is_set rose0 i)) ∙ ap (λ (c : Bool). is_set rose0 i || c) e
-set_if-own false v rose rose0 i h e same = same ∙ sym (or-false (is_set rose0 i)) ∙ ap (λ (c : Bool). is_set rose0 i || c) e
-
-set_if-other : (b : Bool) (rose : List Bool) (i j : ℕ) → j ≢ i → is_set (set_if b rose i) j ≡ is_set rose j
-set_if-other true rose i j h = get_or-set_other rose i j true false h
-set_if-other false rose i j h = refl
-
-pub note_below : (b : Bool) (v : ℕ → Bool) (rose rose0 rose' : List Bool) (i j : ℕ) → rose' ≡ set_if b rose i → i < length rose → b ≡ v i
-    → ((k : ℕ) → k < i → is_set rose k ≡ (is_set rose0 k || v k)) → ((k : ℕ) → i ≤ k → is_set rose k ≡ is_set rose0 k) → j < i + 1 → is_set rose' j ≡ (is_set rose0 j || v j)
-note_below b v rose rose0 rose' i j r h e below above l =
-    ap (λ (x : List Bool). is_set x j) r
-    ∙ ⊎_elim
-    (λ (same : j ≡ i). ap (λ (k : ℕ). is_set (set_if b rose i) k) same ∙ set_if-own b (v i) rose rose0 i h e (above i (omega arith)) ∙ ap (λ (k : ℕ). is_set rose0 k || v k) (sym same))
-    (λ (apart : j ≢ i). set_if-other b rose i j apart ∙ below j (omega arith))
-    (cases_eq j i)
-
-pub note_above : (b : Bool) (rose rose0 rose' : List Bool) (i j : ℕ) → rose' ≡ set_if b rose i → ((k : ℕ) → i ≤ k → is_set rose k ≡ is_set rose0 k) → i + 1 ≤ j → is_set rose' j ≡ is_set rose0 j
-note_above b rose rose0 rose' i j r above l =
-    let apart : j ≢ i = λ e. absurd (omega arith) in
-    ap (λ (x : List Bool). is_set x j) r ∙ set_if-other b rose i j apart ∙ above j (omega arith)
+-- the flag at i is set too where b holds
+pub note_more : (b : Bool) (v : ℕ → Bool) (rose rose0 : List Bool) (i j : ℕ) → i < length rose → b ≡ v i
+    → ((k : ℕ) → k < i → is_set rose k ≡ (is_set rose0 k || v k)) → ((k : ℕ) → i ≤ k → is_set rose k ≡ is_set rose0 k) → j < i + 1 → is_set (set rose i (is_set rose i || b)) j ≡ (is_set rose0 j || v j)
+note_more b v rose rose0 i j h e below above l =
+    elim (cases_eq j i) [
+      | inl same ↦ rw same (get_or-set_same rose i (is_set rose i || b) false h ∙ ap₂ (λ (x y : Bool). x || y) (above i (omega arith)) e)
+      | inr apart ↦ get_or-set_other rose i j (is_set rose i || b) false apart ∙ below j (omega arith)
+    ]
 
 -- ---- claims
 
@@ -273,19 +257,8 @@ module _ (claims : List ℕ) (nodes : List ℕ) (fs : List Frame) (none rose : L
       ∙ ap (λ (k : ℕ). cond (list_any (λ c. nat_eq c i) claims && never_rises fs (get_or nodes i 0)) (Some i) (unreached_from claims fs k (drop k nodes))) one
       ∙ sym (ap (unreached_from claims fs i) (drop-cons nodes i 0 h)) ∙ e
 
-  pub unreached_here : list_any (λ c. nat_eq c i) claims ≡ true → is_set rose i ≡ false → Some i ≡ whole
-  unreached_here claimed none_set =
-      sym (ap (λ (b : Bool). cond (b && not (is_set rose i)) (Some i) (unreached_from claims fs (i + 1) (drop (i + 1) nodes))) claimed
-      ∙ ap (λ (b : Bool). cond (not b) (Some i) (unreached_from claims fs (i + 1) (drop (i + 1) nodes))) none_set) ∙ unreached_step
-
-  unreached_behind : (list_any (λ c. nat_eq c i) claims && not (is_set rose i)) ≡ false → unreached_from claims fs (i + 1) (drop (i + 1) nodes) ≡ whole
-  unreached_behind off = sym (ap (λ (b : Bool). cond b (Some i) (unreached_from claims fs (i + 1) (drop (i + 1) nodes))) off) ∙ unreached_step
-
-  pub unreached_unclaimed : list_any (λ c. nat_eq c i) claims ≡ false → unreached_from claims fs (i + 1) (drop (i + 1) nodes) ≡ whole
-  unreached_unclaimed off = unreached_behind (ap (λ (b : Bool). b && not (is_set rose i)) off)
-
-  pub unreached_risen : is_set rose i ≡ true → unreached_from claims fs (i + 1) (drop (i + 1) nodes) ≡ whole
-  unreached_risen on = unreached_behind (ap (λ (b : Bool). list_any (λ c. nat_eq c i) claims && not b) on ∙ and-false (list_any (λ c. nat_eq c i) claims))
+  pub unreached_by : (b : Bool) → (list_any (λ c. nat_eq c i) claims && not (is_set rose i)) ≡ b → cond b (Some i) (unreached_from claims fs (i + 1) (drop (i + 1) nodes)) ≡ whole
+  unreached_by b is = sym (ap (λ (b : Bool). cond b (Some i) (unreached_from claims fs (i + 1) (drop (i + 1) nodes))) is) ∙ unreached_step
 
 pub unreached_end : (claims nodes : List ℕ) (fs : List Frame) (i : ℕ) (whole : Option ℕ) → length nodes ≤ i → unreached_from claims fs i (drop i nodes) ≡ whole → None ≡ whole
 unreached_end claims nodes fs i whole h e = sym (ap (unreached_from claims fs i) (drop_all i nodes h)) ∙ e

@@ -144,9 +144,7 @@ pub(crate) fn note_rises(run: &WordRun<'_>, rose: &mut [bool])
     ensures { (f : Frame) → IsNow run.now f → RisesIn (nodes_of is_bad run.now.items) f rose.old rose.new }
 {
     for i in 0..rose.len() {
-        if run.bad(i) {
-            rose[i] = true;
-        }
+        rose[i] |= run.bad(i);
     }
 }
 
@@ -168,7 +166,7 @@ pub(crate) fn first_unreached(claimed: &[bool], rose: &[bool]) -> Option<u64>
     ensures { (claims nodes : List ℕ) (fs : List Frame) (none : List Bool) → AreClaimed claimed.now claims → length nodes ≡ length rose.now → NoneIsSet none → RisesAmong nodes fs none rose.now → result ≡ unreached_from claims fs 0 nodes }
 {
     for i in 0..rose.len() {
-        if claimed[i] && !rose[i] {
+        if claimed[i] & !rose[i] {
             return Some(i as u64);
         }
     }
