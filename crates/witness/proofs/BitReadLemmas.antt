@@ -1,10 +1,11 @@
 -- Witnesses of circuits: a text that says one is read as it, what is read was said, and which whole lines further lines make a witness.
-use Rattle.std.proofs.Common.{◌≡◌, ◌↔◌, ℕ, suc, ◌<◌, ◌≤◌, ◌^◌, ◌==◌, nat_lt, Bool, true, false, cond, ◌&&◌, ◌||◌, List, [], ◌∷◌, ◌++◌, Option, Some, None, Result, Ok, Err, map, length, codes, append_assoc, refl, sym, ap, ap₂, subst, ◌∙◌, arith, inl, inr, All, length-append, ◌+◌, replicate}
+use Rattle.std.proofs.Common.{◌≡◌, ◌↔◌, ℕ, suc, ◌<◌, ◌≤◌, ◌^◌, ◌==◌, nat_lt, Bool, true, false, cond, ◌&&◌, ◌||◌, List, [], ◌∷◌, ◌++◌, Option, Some, None, Result, Ok, Err, IfOk, map, length, codes, append_assoc, refl, sym, ap, ap₂, subst, ◌∙◌, arith, inl, inr, All, length-append, ◌+◌, replicate}
 use Rattle.std.specs.List.{list_any, list_all, AllByRecursion}
 use Rattle.std.specs.Str.{bytes_eq}
 use Rattle.std.proofs.lemmas.Bool.{cases_Bool, and_parts, eqb-true, eq-eqb, ltb-true, lt-ltb}
 use Rattle.std.proofs.lemmas.List.{length-map, append-nil, map-append, length-replicate}
 use Rattle.std.proofs.lemmas.Slice.Eq.{bytes_eq-Decides}
+use Rattle.std.proofs.lemmas.Result.{IfOk-at_ok}
 use Rattle.std.proofs.lemmas.List.Elements.{recursion_from_All, All-push, All-nil, All-from_recursion}
 use Rattle.base.specs.Lines.{text_of_lines, IsLine, whole_lines, unfinished}
 use Rattle.base.proofs.LineLemmas.{EachLine, lines_of_text, unfinished_of_text, parts_of_text}
@@ -21,7 +22,7 @@ use Rattle.witness.specs.Admits.{Claim, claim_of, is_value_byte}
 use Rattle.witness.specs.BitTexts.{BitWitness, bit_line, bit_witness_lines, IsBitWitness, BitSays}
 use Rattle.witness.specs.BitAdmits.{judged_claim, claim_at, bits_at, BitPlace, AtClaim, AtInitial, AtFirst, AtLater, AtDone, BitRead, no_line_read, after_claim, after_initial, after_frame, bit_admit, is_done, bit_reader, read_bit_text, bit_witness_of, AtHeader, bit_admit_at, admitted_lines}
 use Rattle.witness.specs.BitJudgements.{differs_from_reset, first_reset_differing, makes_no_bit_claim}
-use Rattle.witness.proofs.ReadingLemmas.{admit_all, admit_parts, admitted, stopped, stays, text_is_read, text_was_read, Ends, no_more_lines, one_line, more_lines, Begins, admitted_begins, before_begins, none_begins, beginning_is_admitted as reading_is_admitted}
+use Rattle.witness.proofs.ReadingLemmas.{by_test, admit_all, admit_parts, admitted, stopped, stays, text_is_read, text_was_read, Ends, no_more_lines, one_line, more_lines, Begins, admitted_begins, before_begins, none_begins, beginning_is_admitted as reading_is_admitted}
 use Rattle.witness.proofs.PieceLemmas.{decimal_without, digits_are_values, digits_determine, bits_of_digits, digits_of_bits}
 use Rattle.witness.proofs.ClaimLemmas.{piece_is_claim}
 use Rattle.witness.specs.Beginnings.{IsBitBeginning}
@@ -201,67 +202,49 @@ record Told (c : Circuit) (lines : List (List ℕ)) (r : BitRead) (at : BitPlace
   spelled : lines ≡ lines_of r at
   fits : Fits c r at
 
-module _ (c : Circuit) (small : length c.bads < 2 ^ 64) (lines : List (List ℕ)) (line : List ℕ) (r next : BitRead) where
+module _ (c : Circuit) (small : length c.bads < 2 ^ 64) (lines : List (List ℕ)) (line : List ℕ) (r : BitRead) where
   abbrev Tells : BitRead → Type 0
   Tells s = Told c (lines ++ line ∷ []) s s.place
 
   behind : (front : List (List ℕ)) (same : List ℕ) → lines ≡ front → line ≡ same → lines ++ line ∷ [] ≡ front ++ same ∷ []
   behind front same whole is = ap₂ (λ (ls : List (List ℕ)) (l : List ℕ). ls ++ l ∷ []) whole is
 
-  claim_told : (o : Result ℕ Why) → claim_at (length c.bads) line ≡ o → after_claim r o ≡ Ok next → Told c lines r AtClaim → Tells next
-  claim_told (Ok i) is h told =
-      let one = claim_is_line (length c.bads) line i small is in
-      let here : record r { place = AtInitial; claim = i } ≡ next = cc in
-      subst Tells here (record { spelled = behind (codes "1" ∷ []) (claim i) told.spelled one.spelled; fits = (one.below, told.fits) })
-  claim_told (Err w) is h told = absurd cc
-
-  initial_told : (o : Result (List Bool) Why) → bits_at (length c.latches) line ≡ o → after_initial r o ≡ Ok next → Told c lines r AtInitial → Tells next
-  initial_told (Ok bits) is h told =
-      let are = bits_are_line (length c.latches) line bits is in
-      let here : record r { place = AtFirst; initial = bits } ≡ next = cc in
-      subst Tells here
-      (record {
-        spelled = behind (codes "1" ∷ (claim r.claim ∷ [])) (bit_line bits) told.spelled are.spelled ∙ ap (λ (fs : List (List Bool)). codes "1" ∷ (claim r.claim ∷ (bit_line bits ∷ map bit_line fs))) (sym told.fits.1);
-        fits = (told.fits.0, are.many, told.fits.1);
-      })
-  initial_told (Err w) is h told = absurd cc
-
-  frame_told : (o : Result (List Bool) Why) → bits_at c.inputs line ≡ o → after_frame r o ≡ Ok next → lines ≡ lines_of r AtLater → r.claim < length c.bads → length r.initial ≡ length c.latches → All (λ bits. length bits ≡ c.inputs) r.frames → Tells next
-  frame_told (Ok bits) is h spelled below many all =
+  frame_told : (o : Result (List Bool) Why) → bits_at c.inputs line ≡ o → lines ≡ lines_of r AtLater → r.claim < length c.bads → length r.initial ≡ length c.latches → All (λ bits. length bits ≡ c.inputs) r.frames → IfOk (after_frame r o) Tells
+  frame_told (Ok bits) is spelled below many all =
       let are = bits_are_line c.inputs line bits is in
-      let here : record r { place = AtLater; frames = r.frames ++ bits ∷ [] } ≡ next = cc in
-      subst Tells here
-      (record {
+      record {
         spelled =
             behind (lines_of r AtLater) (bit_line bits) spelled are.spelled
             ∙ ap (λ (ls : List (List ℕ)). codes "1" ∷ (claim r.claim ∷ (bit_line r.initial ∷ ls))) (sym (map-append bit_line r.frames (bits ∷ [])));
         fits = record { claim = below; initial = many; some_frame = λ e. omega (arith, ap length e, length-append r.frames (bits ∷ [])); frames = All-push (λ bits. length bits ≡ c.inputs) r.frames bits all are.many };
-      })
-  frame_told (Err w) is h spelled below many all = absurd cc
+      }
+  frame_told (Err w) is spelled below many all = tt
 
-  line_told : (at : BitPlace) → bit_admit_at c r line at ≡ Ok next → Told c lines r at → Tells next
-  line_told AtHeader h told =
-      elim (chosen (bytes_eq line (codes "1")) (Ok (record r { place = AtClaim })) (Err why.BadHeader) (Ok next) h) [
-        | inl e ↦
-            let here : record r { place = AtClaim } ≡ next = cc (e.1) in
-            subst Tells here (record { spelled = behind [] (codes "1") told.spelled ((bytes_eq-Decides line (codes "1")).0 e.0); fits = told.fits })
-        | inr e ↦ absurd (cc (e.1))
-      ]
-  line_told AtClaim h told = claim_told (claim_at (length c.bads) line) refl h told
-  line_told AtInitial h told = initial_told (bits_at (length c.latches) line) refl h told
-  line_told AtFirst h told =
-      elim (chosen (bytes_eq line (codes ".")) (Err why.FrameOrder) (after_frame r (bits_at c.inputs line)) (Ok next) h) [
-        | inl e ↦ absurd (cc (e.1))
-        | inr e ↦ frame_told (bits_at c.inputs line) refl e.1 told.spelled told.fits.0 told.fits.1 (subst (All (λ bits. length bits ≡ c.inputs)) (sym told.fits.2) (All-nil (λ bits. length bits ≡ c.inputs)))
-      ]
-  line_told AtLater h told =
-      elim (chosen (bytes_eq line (codes ".")) (Ok (record r { place = AtDone })) (after_frame r (bits_at c.inputs line)) (Ok next) h) [
-        | inl e ↦
-            let here : record r { place = AtDone } ≡ next = cc (e.1) in
-            subst Tells here (record { spelled = behind (lines_of r AtLater) (codes ".") told.spelled ((bytes_eq-Decides line (codes ".")).0 e.0); fits = told.fits })
-        | inr e ↦ frame_told (bits_at c.inputs line) refl e.1 told.spelled told.fits.claim told.fits.initial told.fits.frames
-      ]
-  line_told AtDone h told = absurd cc
+  line_told : (at : BitPlace) → Told c lines r at → IfOk (bit_admit_at c r line at) Tells
+  line_told AtHeader told = by_test Tells (bytes_eq line (codes "1")) _ _ (λ e. record { spelled = behind [] (codes "1") told.spelled ((bytes_eq-Decides line (codes "1")).0 e); fits = told.fits }) (λ e. tt)
+  line_told AtClaim told = by (claim_at (length c.bads) line) refl
+    where
+      by : (o : Result ℕ Why) → claim_at (length c.bads) line ≡ o → IfOk (after_claim r o) Tells
+      by (Ok i) is = let one = claim_is_line (length c.bads) line i small is in record { spelled = behind (codes "1" ∷ []) (claim i) told.spelled one.spelled; fits = (one.below, told.fits) }
+      by (Err w) is = tt
+  line_told AtInitial told = by (bits_at (length c.latches) line) refl
+    where
+      by : (o : Result (List Bool) Why) → bits_at (length c.latches) line ≡ o → IfOk (after_initial r o) Tells
+      by (Ok bits) is =
+          let are = bits_are_line (length c.latches) line bits is in
+          record {
+            spelled = behind (codes "1" ∷ (claim r.claim ∷ [])) (bit_line bits) told.spelled are.spelled ∙ ap (λ (fs : List (List Bool)). codes "1" ∷ (claim r.claim ∷ (bit_line bits ∷ map bit_line fs))) (sym told.fits.1);
+            fits = (told.fits.0, are.many, told.fits.1);
+          }
+      by (Err w) is = tt
+  line_told AtFirst told =
+      by_test Tells (bytes_eq line (codes ".")) _ _ (λ e. tt)
+      (λ e. frame_told (bits_at c.inputs line) refl told.spelled told.fits.0 told.fits.1 (subst (All (λ bits. length bits ≡ c.inputs)) (sym told.fits.2) (All-nil (λ bits. length bits ≡ c.inputs))))
+  line_told AtLater told =
+      by_test Tells (bytes_eq line (codes ".")) _ _
+      (λ e. record { spelled = behind (lines_of r AtLater) (codes ".") told.spelled ((bytes_eq-Decides line (codes ".")).0 e); fits = told.fits })
+      (λ e. frame_told (bits_at c.inputs line) refl told.spelled told.fits.claim told.fits.initial told.fits.frames)
+  line_told AtDone told = tt
 
 lines_told : (c : Circuit) (before lines : List (List ℕ)) (r final : BitRead) → length c.bads < 2 ^ 64 → Told c before r r.place → admit_all (bit_reader c) r lines ≡ Ok final → Told c (before ++ lines) final final.place
 unfolding bit_admit
@@ -271,7 +254,7 @@ lines_told c before [] r final small told h =
 lines_told c before (line ∷ lines) r final small told h =
     let parts = admit_parts (bit_admit c r line) (λ next. admit_all (bit_reader c) next lines) final h in
     subst (λ (ls : List (List ℕ)). Told c ls final final.place) (append_assoc before (line ∷ []) lines)
-    (lines_told c (before ++ line ∷ []) lines parts.0 final small (line_told c small before line r parts.0 r.place parts.1.0 told) parts.1.1)
+    (lines_told c (before ++ line ∷ []) lines parts.0 final small (IfOk-at_ok (Tells c small before line r) parts.1.0 (line_told c small before line r r.place told)) parts.1.1)
 
 -- the last line was read
 pub done : (at : BitPlace) → is_done at ≡ true → at ≡ AtDone

@@ -1,11 +1,12 @@
 -- A text that is read says what it is read as, and whole lines are all admitted exactly where further lines make them the text of a witness.
-use Rattle.std.proofs.Common.{◌≡◌, ℕ, suc, ◌+◌, ◌<◌, ◌≤◌, ◌==◌, true, false, cond, ◌&&◌, List, [], ◌∷◌, ◌++◌, Option, Some, None, IfSome, Result, Ok, Err, length, decimal, codes, append_assoc, length-append, inl, inr, refl, sym, ap, subst, ◌∙◌, arith}
+use Rattle.std.proofs.Common.{◌≡◌, ℕ, suc, ◌+◌, ◌<◌, ◌≤◌, ◌==◌, true, false, cond, ◌&&◌, List, [], ◌∷◌, ◌++◌, Option, Some, None, IfSome, Result, Ok, Err, IfOk, length, decimal, codes, append_assoc, length-append, inl, inr, refl, sym, ap, subst, ◌∙◌, arith}
 use Rattle.std.specs.List.{list_any, AllByRecursion}
 use Rattle.std.specs.Str.{bytes_eq}
 use Rattle.std.proofs.lemmas.Bool.{and_parts}
 use Rattle.std.proofs.lemmas.List.{append-nil, map-append}
 use Rattle.std.proofs.lemmas.List.Elements.{All-push, All-nil, All-from_recursion}
 use Rattle.std.proofs.lemmas.Slice.Eq.{bytes_eq-Decides}
+use Rattle.std.proofs.lemmas.Result.{IfOk-at_ok}
 use Rattle.base.specs.Lines.{IsLine, text_of_lines, whole_lines, unfinished}
 use Rattle.base.proofs.DecimalLemmas.{chosen}
 use Rattle.base.proofs.LineLemmas.{EachLine, each_front, lines_are_lines, parts_of_text}
@@ -15,7 +16,7 @@ use Rattle.witness.specs.Admits.{Place, AtStatus, AtClaims, AtParts, InStates, I
 use Rattle.witness.specs.WordStands.{NoFrame}
 use Rattle.witness.proofs.ClaimLemmas.{AreBelow, claims_are_line, claims_at-claims_line}
 use Rattle.witness.proofs.AssignmentLemmas.{stands_in, assignment_is_line, state_assignment_is_line}
-use Rattle.witness.proofs.ReadingLemmas.{admit_all, admit_parts, text_was_read, Ends, no_more_lines, one_line, more_lines, Begins, admitted_begins, before_begins, none_begins, beginning_is_admitted as reading_is_admitted}
+use Rattle.witness.proofs.ReadingLemmas.{by_test, admit_all, admit_parts, text_was_read, Ends, no_more_lines, one_line, more_lines, Begins, admitted_begins, before_begins, none_begins, beginning_is_admitted as reading_is_admitted}
 use Rattle.witness.proofs.ReadLemmas.{IsSmall, indices, stands_in-indices, distinct_with, parts_of, in_states, in_frame, IsStates, later_states, frame_lines-behind, all_read, says_read, status_line, line_of_claims, frames_begin, states_end, last_line, frames_have_lines}
 use Rattle.witness.specs.Beginnings.{IsBeginning}
 use Rattle.witness.specs.ClosedWords.{admitted_word_lines}
@@ -167,128 +168,98 @@ nothing_told shape = record { comments = []; marked = tt; spelled = refl; fits =
 
 -- ---- one more line
 
-same_bytes : (xs ys : List ℕ) → bytes_eq xs ys ≡ true → xs ≡ ys
-same_bytes xs ys = (bytes_eq-Decides xs ys).0
-
-claims_parts : (r : Read) (o : Result (List ℕ) Why) (next : Read) → after_claims r o ≡ Ok next → (claims : List ℕ) × ((o ≡ Ok claims) × (after_claims r (Ok claims) ≡ Ok next))
-claims_parts r (Ok claims) next h = (claims, (refl, h))
-claims_parts r (Err w) next h = absurd cc
-
-assignment_parts : (r : Read) (o : Result (List Assignment) Why) (next : Read) → after_assignment r o ≡ Ok next → (list : List Assignment) × ((o ≡ Ok list) × (after_assignment r (Ok list) ≡ Ok next))
-assignment_parts r (Ok list) next h = (list, (refl, h))
-assignment_parts r (Err w) next h = absurd cc
-
--- a line of a part is read as an assignment
-in_part_parts : (r : Read) (line : List ℕ) (o : Result (List Assignment) Why) (next : Read) → in_part r line o ≡ Ok next → (list : List Assignment) × ((o ≡ Ok list) × (after_assignment r (Ok list) ≡ Ok next))
-in_part_parts r line o next h =
-    elim (chosen (begins_part line) (Err why.FrameOrder) (after_assignment r o) (Ok next) h) [
-      | inl d ↦ absurd (cc (d.1))
-      | inr d ↦ assignment_parts r o next d.1
-    ]
-
-module _ (shape : Shape) (small : IsSmall shape) (lines : List (List ℕ)) (line : List ℕ) (r next : Read) where
+module _ (shape : Shape) (small : IsSmall shape) (lines : List (List ℕ)) (line : List ℕ) (r : Read) where
   abbrev Tells : Read → Type 0
   Tells s = Told shape (lines ++ line ∷ []) s s.place
 
-  tells : (at : Place) (s : Read) → Told shape lines r at → lines_of shape r at ++ line ∷ [] ≡ lines_of shape s s.place → Fits shape s s.place → s ≡ next → Tells next
-  tells at s told spelled fits is =
-      subst Tells is
-      (record {
+  tells : (at : Place) (s : Read) → Told shape lines r at → lines_of shape r at ++ line ∷ [] ≡ lines_of shape s s.place → Fits shape s s.place → Tells s
+  tells at s told spelled fits =
+      record {
         comments = told.comments;
         marked = told.marked;
         spelled = ap (λ (ls : List (List ℕ)). ls ++ line ∷ []) told.spelled ∙ (append_assoc told.comments (lines_of shape r at) (line ∷ []) ∙ ap (λ (ls : List (List ℕ)). told.comments ++ ls) spelled);
         fits = fits;
-      })
+      }
 
   -- behind the claims
-  behind : (front all : List (List ℕ)) (same : List ℕ) → line ≡ same → front ++ same ∷ [] ≡ all → (codes "sat" ∷ (claims_line r.claims ∷ front)) ++ line ∷ [] ≡ codes "sat" ∷ (claims_line r.claims ∷ all)
-  behind front all same is e = ap (λ (ls : List (List ℕ)). codes "sat" ∷ (claims_line r.claims ∷ ls)) (ap (λ (l : List ℕ). front ++ l ∷ []) is ∙ e)
+  behind : (front all : List (List ℕ)) (same : List ℕ) → bytes_eq line same ≡ true → front ++ same ∷ [] ≡ all → (codes "sat" ∷ (claims_line r.claims ∷ front)) ++ line ∷ [] ≡ codes "sat" ∷ (claims_line r.claims ∷ all)
+  behind front all same is e = ap (λ (ls : List (List ℕ)). codes "sat" ∷ (claims_line r.claims ∷ ls)) (ap (λ (l : List ℕ). front ++ l ∷ []) ((bytes_eq-Decides line same).0 is) ∙ e)
 
-  line_told : (at : Place) → r.place ≡ at → admit_at shape r line at ≡ Ok next → Told shape lines r at → Tells next
-  line_told AtStatus there h told =
-      elim (chosen (is_comment line) (Ok r) (cond (bytes_eq line (codes "sat")) (Ok (record r { place = AtClaims })) (Err why.BadHeader)) (Ok next) h) [
-        | inl e ↦
-            let is : r ≡ next = cc (e.1) in
-            let comments : List (List ℕ) = told.comments ++ line ∷ [] in
-            let spelled = ap (λ (ls : List (List ℕ)). ls ++ line ∷ []) (told.spelled ∙ append-nil told.comments) ∙ sym (append-nil comments) in
-            subst Tells is (subst (Told shape (lines ++ line ∷ []) r) (sym there) (record { comments = comments; marked = comment_more told.comments line told.marked e.0; spelled = spelled; fits = told.fits }))
-        | inr e ↦
-            elim (chosen (bytes_eq line (codes "sat")) (Ok (record r { place = AtClaims })) (Err why.BadHeader) (Ok next) e.1) [
-              | inl d ↦
-                  let none = told.fits in
-                  tells AtStatus (record r { place = AtClaims }) told (ap (λ (l : List ℕ). l ∷ []) (same_bytes line (codes "sat") d.0)) (record { closed = none.closed; states = none.states; open_part = none.open_part }) (cc (d.1))
-              | inr d ↦ absurd (cc (d.1))
-            ]
-      ]
-  line_told AtClaims there h told =
-      let parts = claims_parts r (claims_at shape.bads line) next h in
-      let are = claims_are_line shape.bads line parts.0 small.bads parts.1.0 in
-      let none = told.fits in
-      tells AtClaims (record r { place = AtParts; claims = parts.0 }) told (ap (λ (l : List ℕ). codes "sat" ∷ (l ∷ [])) are.spelled)
-      (record { some = are.some; below = are.below; distinct = are.distinct }, record { closed = none.closed; states = none.states; open_part = none.open_part }) (cc (parts.1.1))
-  line_told AtParts there h told =
+  line_told : (at : Place) → r.place ≡ at → Told shape lines r at → IfOk (admit_at shape r line at) Tells
+  line_told AtStatus there told =
+      by_test Tells (is_comment line) _ _
+      (λ e.
+      let comments : List (List ℕ) = told.comments ++ line ∷ [] in
+      let spelled = ap (λ (ls : List (List ℕ)). ls ++ line ∷ []) (told.spelled ∙ append-nil told.comments) ∙ sym (append-nil comments) in
+      subst (Told shape (lines ++ line ∷ []) r) (sym there) (record { comments = comments; marked = comment_more told.comments line told.marked e; spelled = spelled; fits = told.fits }))
+      (λ e. by_test Tells (bytes_eq line (codes "sat")) _ _
+      (λ d. tells AtStatus (record r { place = AtClaims }) told (ap (λ (l : List ℕ). l ∷ []) ((bytes_eq-Decides line (codes "sat")).0 d)) (record { closed = told.fits.closed; states = told.fits.states; open_part = told.fits.open_part }))
+      (λ d. tt))
+  line_told AtClaims there told = by (claims_at shape.bads line) refl
+    where
+      by : (o : Result (List ℕ) Why) → claims_at shape.bads line ≡ o → IfOk (after_claims r o) Tells
+      by (Ok claims) is =
+          let are = claims_are_line shape.bads line claims small.bads is in
+          tells AtClaims (record r { place = AtParts; claims = claims }) told (ap (λ (l : List ℕ). codes "sat" ∷ (l ∷ [])) are.spelled)
+          (record { some = are.some; below = are.below; distinct = are.distinct }, record { closed = told.fits.closed; states = told.fits.states; open_part = told.fits.open_part })
+      by (Err w) is = tt
+  line_told AtParts there told =
       let none = told.fits.1 in
-      elim (chosen (opens_states 0 line) (Ok (record r { place = InStates })) (cond (opens_frame 0 line) (Ok (record r { place = InFrame })) (Err why.FrameOrder)) (Ok next) h) [
-        | inl e ↦
-            tells AtParts (in_states r.claims [] []) told (behind [] ((35 ∷ decimal 0) ∷ []) (35 ∷ decimal 0) (same_bytes line (35 ∷ decimal 0) e.0) refl) (told.fits.0, (λ some. absurd (some refl)), empty_part shape.states)
-            (cc (e.1, none.closed, none.states, none.open_part))
-        | inr e ↦
-            elim (chosen (opens_frame 0 line) (Ok (record r { place = InFrame })) (Err why.FrameOrder) (Ok next) e.1) [
-              | inl d ↦
-                  tells AtParts (in_frame r.claims [] None []) told (behind [] ((64 ∷ decimal 0) ∷ []) (64 ∷ decimal 0) (same_bytes line (64 ∷ decimal 0) d.0) refl) (told.fits.0, (λ some. absurd (some refl)), tt, empty_part shape.inputs)
-                  (cc (d.1, none.closed, none.states, none.open_part))
-              | inr d ↦ absurd (cc (d.1))
-            ]
-      ]
-  line_told InStates there h told =
+      let states : in_states r.claims [] [] ≡ record r { place = InStates } = cc (none.closed, none.states, none.open_part) in
+      let inputs : in_frame r.claims [] None [] ≡ record r { place = InFrame } = cc (none.closed, none.states, none.open_part) in
+      by_test Tells (opens_states 0 line) _ _
+      (λ e. subst Tells states (tells AtParts (in_states r.claims [] []) told (behind [] ((35 ∷ decimal 0) ∷ []) (35 ∷ decimal 0) e refl) (told.fits.0, (λ some. absurd (some refl)), empty_part shape.states)))
+      (λ e. by_test Tells (opens_frame 0 line) _ _
+      (λ d. subst Tells inputs (tells AtParts (in_frame r.claims [] None []) told (behind [] ((64 ∷ decimal 0) ∷ []) (64 ∷ decimal 0) d refl) (told.fits.0, (λ some. absurd (some refl)), tt, empty_part shape.inputs)))
+      (λ d. tt))
+  line_told InStates there told =
       let count : ℕ = length r.closed in
       let front : List (List ℕ) = frame_lines shape 0 r.closed ++ states_lines shape.states count (Some r.open_part) in
-      elim (chosen (opens_frame count line) (Ok (states_closed r)) (in_part r line (state_assignment_at shape r.closed r.open_part line)) (Ok next) h) [
-        | inl e ↦
-            tells InStates (states_closed r) told (behind front (lines_behind_states) (64 ∷ decimal count) (same_bytes line (64 ∷ decimal count) e.0) (frame_lines-behind_states shape r.closed r.open_part)) (told.fits.0, told.fits.1, told.fits.2, empty_part shape.inputs) (cc (e.1))
-        | inr e ↦
-            let parts = in_part_parts r line (state_assignment_at shape r.closed r.open_part line) next e.1 in
-            let found = state_assignment_is_line shape r.closed r.open_part line parts.0 small.states parts.1.0 in
-            let is = found.0 in
-            let a : Assignment = is.assignment in
-            tells InStates (record r { place = InStates; open_part = r.open_part ++ a ∷ [] }) told
-            (behind front (frame_lines shape 0 r.closed ++ states_lines shape.states count (Some (r.open_part ++ a ∷ []))) (assignment_line shape.states a) is.spelled (states_lines-assignment shape.states (frame_lines shape 0 r.closed) count r.open_part a))
-            (told.fits.0, told.fits.1, states_more shape r.closed r.open_part a told.fits.2 is.valid found.1 is.new) (cc (parts.1.1, is.all, there))
-      ]
+      by_test Tells (opens_frame count line) _ _
+      (λ e. tells InStates (states_closed r) told (behind front (frame_lines shape 0 (r.closed ++ parts_of (Some r.open_part) [] ∷ [])) (64 ∷ decimal count) e (frame_lines-behind_states shape r.closed r.open_part))
+      (told.fits.0, told.fits.1, told.fits.2, empty_part shape.inputs))
+      (λ e. by_test Tells (begins_part line) _ _ (λ d. tt) (λ d. by (state_assignment_at shape r.closed r.open_part line) refl))
     where
-      lines_behind_states : List (List ℕ)
-      lines_behind_states = frame_lines shape 0 (r.closed ++ parts_of (Some r.open_part) [] ∷ [])
-  line_told InFrame there h told =
+      by : (o : Result (List Assignment) Why) → state_assignment_at shape r.closed r.open_part line ≡ o → IfOk (after_assignment r o) Tells
+      by (Ok list) h =
+          let found = state_assignment_is_line shape r.closed r.open_part line list small.states h in
+          let is = found.0 in
+          let a : Assignment = is.assignment in
+          let same : record r { place = InStates; open_part = r.open_part ++ a ∷ [] } ≡ record r { open_part = list } = cc (is.all, there) in
+          subst Tells same
+          (tells InStates (record r { place = InStates; open_part = r.open_part ++ a ∷ [] }) told
+          (ap (λ (ls : List (List ℕ)). codes "sat" ∷ (claims_line r.claims ∷ ls))
+          (ap (λ (l : List ℕ). (frame_lines shape 0 r.closed ++ states_lines shape.states (length r.closed) (Some r.open_part)) ++ l ∷ []) is.spelled ∙ states_lines-assignment shape.states (frame_lines shape 0 r.closed) (length r.closed) r.open_part a))
+          (told.fits.0, told.fits.1, states_more shape r.closed r.open_part a told.fits.2 is.valid found.1 is.new))
+      by (Err w) h = tt
+  line_told InFrame there told =
       let k : ℕ = suc (length r.closed) in
       let last : Parts = parts_of r.states r.open_part in
       let frames : List Parts = r.closed ++ last ∷ [] in
       let front : List (List ℕ) = frame_lines shape 0 frames in
       let valid : AreFrames shape frames = frames_more shape r.closed r.states r.open_part told.fits.1 told.fits.2 told.fits.3 in
-      let inside : Result Read Why = in_part r line (assignment_at shape.inputs r.open_part line) in
-      let end : Result Read Why = cond (bytes_eq line (codes ".")) (Ok (frame_closed AtEnd r)) inside in
-      elim (chosen (opens_frame k line) (Ok (frame_closed InFrame r)) (cond (opens_states k line && has_free shape) (Ok (frame_closed InStates r)) end) (Ok next) h) [
-        | inl e ↦
-            tells InFrame (frame_closed InFrame r) told (behind front (frame_lines shape 0 (frames ++ parts_of None [] ∷ [])) (64 ∷ decimal k) (same_bytes line (64 ∷ decimal k) e.0) (frame_lines-frame shape r.closed last)) (told.fits.0, (λ some. valid), tt, empty_part shape.inputs) (cc (e.1))
-        | inr e ↦
-            elim (chosen (opens_states k line && has_free shape) (Ok (frame_closed InStates r)) end (Ok next) e.1) [
-              | inl d ↦
-                  let both = and_parts (opens_states k line) (has_free shape) d.0 in
-                  tells InFrame (frame_closed InStates r) told (behind front (front ++ states_lines shape.states (length frames) (Some [])) (35 ∷ decimal k) (same_bytes line (35 ∷ decimal k) both.0) (frame_lines-states shape r.closed last))
-                  (told.fits.0, (λ some. valid), later_states shape r.closed last [] (empty_free shape both.1)) (cc (d.1))
-              | inr d ↦
-                  elim (chosen (bytes_eq line (codes ".")) (Ok (frame_closed AtEnd r)) inside (Ok next) d.1) [
-                    | inl f ↦ tells InFrame (frame_closed AtEnd r) told (behind front (front ++ codes "." ∷ []) (codes ".") (same_bytes line (codes ".") f.0) refl) (told.fits.0, valid) (cc (f.1))
-                    | inr f ↦
-                        let parts = in_part_parts r line (assignment_at shape.inputs r.open_part line) next f.1 in
-                        let is = assignment_is_line shape.inputs r.open_part line parts.0 small.inputs parts.1.0 in
-                        let a : Assignment = is.assignment in
-                        tells InFrame (record r { place = InFrame; open_part = r.open_part ++ a ∷ [] }) told
-                        (behind front (frame_lines shape 0 (r.closed ++ parts_of r.states (r.open_part ++ a ∷ []) ∷ [])) (assignment_line shape.inputs a) is.spelled (frame_lines-assignment shape r.closed r.states r.open_part a))
-                        (told.fits.0, told.fits.1, told.fits.2, part_more shape.inputs r.open_part a told.fits.3 is.valid is.new) (cc (parts.1.1, is.all, there))
-                  ]
-            ]
-      ]
-  line_told AtEnd there h told = absurd cc
+      by_test Tells (opens_frame k line) _ _
+      (λ e. tells InFrame (frame_closed InFrame r) told (behind front (frame_lines shape 0 (frames ++ parts_of None [] ∷ [])) (64 ∷ decimal k) e (frame_lines-frame shape r.closed last)) (told.fits.0, (λ some. valid), tt, empty_part shape.inputs))
+      (λ e. by_test Tells (opens_states k line && has_free shape) _ _
+      (λ d.
+      let both = and_parts (opens_states k line) (has_free shape) d in
+      tells InFrame (frame_closed InStates r) told (behind front (front ++ states_lines shape.states (length frames) (Some [])) (35 ∷ decimal k) both.0 (frame_lines-states shape r.closed last))
+      (told.fits.0, (λ some. valid), later_states shape r.closed last [] (empty_free shape both.1)))
+      (λ d. by_test Tells (bytes_eq line (codes ".")) _ _
+      (λ f. tells InFrame (frame_closed AtEnd r) told (behind front (front ++ codes "." ∷ []) (codes ".") f refl) (told.fits.0, valid))
+      (λ f. by_test Tells (begins_part line) _ _ (λ g. tt) (λ g. by (assignment_at shape.inputs r.open_part line) refl))))
+    where
+      by : (o : Result (List Assignment) Why) → assignment_at shape.inputs r.open_part line ≡ o → IfOk (after_assignment r o) Tells
+      by (Ok list) h =
+          let is = assignment_is_line shape.inputs r.open_part line list small.inputs h in
+          let a : Assignment = is.assignment in
+          let same : record r { place = InFrame; open_part = r.open_part ++ a ∷ [] } ≡ record r { open_part = list } = cc (is.all, there) in
+          subst Tells same
+          (tells InFrame (record r { place = InFrame; open_part = r.open_part ++ a ∷ [] }) told
+          (ap (λ (ls : List (List ℕ)). codes "sat" ∷ (claims_line r.claims ∷ ls)) (ap (λ (l : List ℕ). frame_lines shape 0 (r.closed ++ parts_of r.states r.open_part ∷ []) ++ l ∷ []) is.spelled ∙ frame_lines-assignment shape r.closed r.states r.open_part a))
+          (told.fits.0, told.fits.1, told.fits.2, part_more shape.inputs r.open_part a told.fits.3 is.valid is.new))
+      by (Err w) h = tt
+  line_told AtEnd there told = tt
 
 -- ---- all lines
 
@@ -300,7 +271,7 @@ told_lines shape before [] r final small told h =
 told_lines shape before (line ∷ lines) r final small told h =
     let parts = admit_parts (admit shape r line) (λ next. admit_all (word_reader shape) next lines) final h in
     subst (λ (ls : List (List ℕ)). Told shape ls final final.place) (append_assoc before (line ∷ []) lines)
-    (told_lines shape (before ++ line ∷ []) lines parts.0 final small (line_told shape small before line r parts.0 r.place refl parts.1.0 told) parts.1.1)
+    (told_lines shape (before ++ line ∷ []) lines parts.0 final small (IfOk-at_ok (Tells shape small before line r) parts.1.0 (line_told shape small before line r r.place refl told)) parts.1.1)
 
 -- the last line was read
 pub ended : (at : Place) → is_at_end at ≡ true → at ≡ AtEnd

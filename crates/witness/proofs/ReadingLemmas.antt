@@ -1,5 +1,5 @@
 -- Lines of a witness of either kind: how far they are admitted, and which whole lines further lines make a whole witness.
-use Rattle.std.proofs.Common.{◌≡◌, ℕ, nat_le, Bool, true, false, cond, not, ◌&&◌, Some, None, refl, ◌⊎◌, suc, ◌+◌, ◌<◌, ◌≤◌, List, [], ◌∷◌, ◌++◌, Option, Result, Ok, Err, length, append_assoc, length-append, inl, inr, sym, ap, ap₂, subst, ◌∙◌, arith}
+use Rattle.std.proofs.Common.{◌≡◌, ℕ, nat_le, Bool, true, false, cond, not, ◌&&◌, Some, None, refl, ◌⊎◌, suc, ◌+◌, ◌<◌, ◌≤◌, List, [], ◌∷◌, ◌++◌, Option, Result, Ok, Err, IfOk, length, append_assoc, length-append, inl, inr, sym, ap, ap₂, subst, ◌∙◌, arith}
 use Rattle.witness.specs.Texts.{most_lines}
 use Rattle.witness.specs.Readings.{last_refusal, Reader, Reading, so_far, nothing_admitted, one_more_line, next_line_of, next_line, lines_behind, lines_read, reading, is_nothing, refused_for, read_or_fault, text_read}
 use Rattle.std.proofs.lemmas.Bool.{cases_lt, le-leb, lt-leb}
@@ -25,6 +25,11 @@ pub whole_is : (ended : Bool) (n : ℕ) (empty : Bool) → last_refusal ended n 
 whole_is ended n empty h = whole ended (nat_le most_lines n) empty h
 
 -- ---- line by line
+
+-- what holds of what is admitted by a test, by cases
+pub by_test : {R : Type 0} (P : R → Type 0) (b : Bool) (x y : Result R Why) → (b ≡ true → IfOk x P) → (b ≡ false → IfOk y P) → IfOk (cond b x y) P
+by_test P true x y f g = f refl
+by_test P false x y f g = g refl
 
 abbrev pub admit_then : {R : Type 0} → Result R Why → (R → Result R Why) → Result R Why
 admit_then (Ok r) others = others r

@@ -1,9 +1,10 @@
 -- What a judge of witnesses over a model holds: what an admitted line changes, whether there is a claim, and what it judges of a text.
-use Rattle.std.proofs.Common.{◌≡◌, ℕ, suc, ◌+◌, ◌<◌, ◌≤◌, nat_le, ◌^◌, Bool, true, false, not, cond, ◌&&◌, ◌||◌, List, [], ◌∷◌, ◌++◌, None, Result, Ok, Err, codes, length, map, length-append, refl, sym, ap, ap₂, subst, ◌∙◌, arith, inl, inr, Option}
+use Rattle.std.proofs.Common.{◌≡◌, ℕ, suc, ◌+◌, ◌<◌, ◌≤◌, nat_le, ◌^◌, Bool, true, false, not, cond, ◌&&◌, ◌||◌, List, [], ◌∷◌, ◌++◌, None, Result, Ok, Err, IfOk, codes, length, map, length-append, refl, sym, ap, ap₂, subst, ◌∙◌, arith, inl, inr, Option}
 use Rattle.std.specs.Str.{bytes_eq}
 use Rattle.std.proofs.lemmas.Bool.{cases_Bool, eqb-true, false_from_ne_true}
 use Rattle.std.proofs.lemmas.List.{length-map, map-append}
 use Rattle.std.proofs.lemmas.Slice.Eq.{bytes_eq-Decides}
+use Rattle.std.proofs.lemmas.Result.{IfOk-at_ok}
 use Rattle.base.specs.Lines.{whole_lines, unfinished}
 use Rattle.base.proofs.DecimalLemmas.{chosen, nothing}
 use Rattle.btor2.specs.declared.item.Item.{Item}
@@ -18,7 +19,7 @@ use Rattle.witness.specs.ClosedWords.{closed_word_frames, ClosesFrame, ClosesAtM
 use Rattle.witness.specs.Stands.{IsOfLines}
 use Rattle.witness.specs.WordStands.{place_of, WordReader, Reads, GivesLine, TakesLine, is_status, Counts, here_of, WordJudge, word_judging, StandsFor, ClaimsAt}
 use Rattle.witness.proofs.TextEndLemmas.{whole_lines-line_end, unfinished-line_end}
-use Rattle.witness.proofs.ReadingLemmas.{stopped, stays, holds_behind}
+use Rattle.witness.proofs.ReadingLemmas.{by_test, stopped, stays, holds_behind}
 use Rattle.witness.proofs.StandsLemmas.{awaits, none_awaited, ClaimsMore, line_admitted, with_bytes, line_ended}
 use Rattle.witness.proofs.KeptLineLemmas.{nothing_kept}
 use Rattle.witness.proofs.WordReaderLemmas.{reads_of_other}
@@ -78,92 +79,39 @@ stays_at r next inside there same =
       whole = λ e none. inside (sym there ∙ e);
     }
 
-claims_move : (r next : Read) (o : Result (List ℕ) Why) → after_claims r o ≡ Ok next → Moves r next
-claims_move r next (Ok claims) h =
-    let e : record r { place = AtParts; claims = claims } ≡ next = cc in
-    moves_to r next AtParts (ap (λ (x : Read). x.place) (sym e)) refl (λ e. cc) (ap (λ (x : Read). x.closed) (sym e))
-claims_move r next (Err w) h = absurd cc
+part_moves : (r : Read) (line : List ℕ) (o : Result (List Assignment) Why) → (r.place ≡ AtEnd → ⊥) → IfOk (in_part r line o) (Moves r)
+part_moves r line o inside = by_test (Moves r) (begins_part line) _ _ (λ e. tt) (λ e. by o)
+  where
+    by : (o : Result (List Assignment) Why) → IfOk (after_assignment r o) (Moves r)
+    by (Ok list) = stays_at r _ inside refl refl
+    by (Err w) = tt
 
-assigned_moves : (r next : Read) (o : Result (List Assignment) Why) → (r.place ≡ AtEnd → ⊥) → after_assignment r o ≡ Ok next → Moves r next
-assigned_moves r next (Ok list) inside h =
-    let e : record r { open_part = list } ≡ next = cc in
-    stays_at r next inside (ap (λ (x : Read). x.place) (sym e)) (ap (λ (x : Read). x.closed) (sym e))
-assigned_moves r next (Err w) inside h = absurd cc
-
-part_moves : (r next : Read) (line : List ℕ) (o : Result (List Assignment) Why) → (r.place ≡ AtEnd → ⊥) → in_part r line o ≡ Ok next → Moves r next
-part_moves r next line o inside h =
-    elim (chosen (begins_part line) (Err why.FrameOrder) (after_assignment r o) (Ok next) h) [
-      | inl e ↦ absurd (cc (e.1))
-      | inr e ↦ assigned_moves r next o inside e.1
-    ]
-
-abbrev says : Read → Result Read Why
-says r = Ok r
-
-states_move : (r next : Read) → says (states_closed r) ≡ Ok next → Moves r next
-states_move r next h =
-    let e : states_closed r ≡ next = cc in
-    moves_to r next InFrame (ap (λ (x : Read). x.place) (sym e)) refl (λ e. cc) (ap (λ (x : Read). x.closed) (sym e))
-
-frame_moves : (r next : Read) (at : Place) → is_status at ≡ false → says (frame_closed at r) ≡ Ok next → Moves r next
-frame_moves r next at other h =
-    let e : frame_closed at r ≡ next = cc in
+frame_moves : (r : Read) (at : Place) → is_status at ≡ false → Moves r (frame_closed at r)
+frame_moves r at other =
     let last : Parts = record { states = r.states; inputs = r.open_part } in
-    subst (Moves r) e (record { status = λ s. absurd (cc (s, other)); frames = omega (arith, length-append r.closed (last ∷ [])); closes = inr (closes_frame r at); whole = λ there. none_behind r.closed last })
+    record { status = λ s. absurd (cc (s, other)); frames = omega (arith, length-append r.closed (last ∷ [])); closes = inr (closes_frame r at); whole = λ there. none_behind r.closed last }
 
-line_moves : (shape : Shape) (r next : Read) (line : List ℕ) (at : Place) → r.place ≡ at → admit_at shape r line at ≡ Ok next → Moves r next
-line_moves shape r next line AtStatus at h =
-    elim (chosen (is_comment line) (Ok r) (cond (bytes_eq line (codes "sat")) (Ok (record r { place = AtClaims })) (Err why.BadHeader)) (Ok next) h) [
-      | inl e ↦
-          let is : r ≡ next = cc (e.1) in
-          stays_at r next (λ end. cc (at, end)) (ap (λ (x : Read). x.place) (sym is)) (ap (λ (x : Read). x.closed) (sym is))
-      | inr e ↦
-          elim (chosen (bytes_eq line (codes "sat")) (Ok (record r { place = AtClaims })) (Err why.BadHeader) (Ok next) e.1) [
-            | inl d ↦
-                let is : record r { place = AtClaims } ≡ next = cc (d.1) in
-                moves_to r next AtClaims (ap (λ (x : Read). x.place) (sym is)) refl (λ e. cc) (ap (λ (x : Read). x.closed) (sym is))
-            | inr d ↦ absurd (cc (d.1))
-          ]
-    ]
-line_moves shape r next line AtClaims at h = claims_move r next (claims_at shape.bads line) h
-line_moves shape r next line AtParts at h =
-    elim (chosen (opens_states 0 line) (Ok (record r { place = InStates })) (cond (opens_frame 0 line) (Ok (record r { place = InFrame })) (Err why.FrameOrder)) (Ok next) h) [
-      | inl e ↦
-          let is : record r { place = InStates } ≡ next = cc (e.1) in
-          moves_to r next InStates (ap (λ (x : Read). x.place) (sym is)) refl (λ e. cc) (ap (λ (x : Read). x.closed) (sym is))
-      | inr e ↦
-          elim (chosen (opens_frame 0 line) (Ok (record r { place = InFrame })) (Err why.FrameOrder) (Ok next) e.1) [
-            | inl d ↦
-                let is : record r { place = InFrame } ≡ next = cc (d.1) in
-                moves_to r next InFrame (ap (λ (x : Read). x.place) (sym is)) refl (λ e. cc) (ap (λ (x : Read). x.closed) (sym is))
-            | inr d ↦ absurd (cc (d.1))
-          ]
-    ]
-line_moves shape r next line InStates at h =
-    elim (chosen (opens_frame (length r.closed) line) (Ok (states_closed r)) (in_part r line (state_assignment_at shape r.closed r.open_part line)) (Ok next) h) [
-      | inl e ↦ states_move r next e.1
-      | inr e ↦ part_moves r next line (state_assignment_at shape r.closed r.open_part line) (λ end. cc (at, end)) e.1
-    ]
-line_moves shape r next line InFrame at h =
-    let inputs : Result Read Why = in_part r line (assignment_at shape.inputs r.open_part line) in
-    let ends : Result Read Why = cond (bytes_eq line (codes ".")) (Ok (frame_closed AtEnd r)) inputs in
-    elim (chosen (opens_frame (suc (length r.closed)) line) (Ok (frame_closed InFrame r)) (cond (opens_states (suc (length r.closed)) line && has_free shape) (Ok (frame_closed InStates r)) ends) (Ok next) h) [
-      | inl e ↦ frame_moves r next InFrame refl e.1
-      | inr e ↦
-          elim (chosen (opens_states (suc (length r.closed)) line && has_free shape) (Ok (frame_closed InStates r)) ends (Ok next) e.1) [
-            | inl d ↦ frame_moves r next InStates refl d.1
-            | inr d ↦
-                elim (chosen (bytes_eq line (codes ".")) (Ok (frame_closed AtEnd r)) inputs (Ok next) d.1) [
-                  | inl f ↦ frame_moves r next AtEnd refl f.1
-                  | inr f ↦ part_moves r next line (assignment_at shape.inputs r.open_part line) (λ end. cc (at, end)) f.1
-                ]
-          ]
-    ]
-line_moves shape r next line AtEnd at h = absurd cc
+line_moves : (shape : Shape) (r : Read) (line : List ℕ) (at : Place) → r.place ≡ at → IfOk (admit_at shape r line at) (Moves r)
+line_moves shape r line AtStatus at =
+    by_test (Moves r) (is_comment line) _ _ (λ e. stays_at r r (λ end. cc (at, end)) refl refl) (λ e. by_test (Moves r) (bytes_eq line (codes "sat")) _ _ (λ e. moves_to r _ AtClaims refl refl (λ e. cc) refl) (λ e. tt))
+line_moves shape r line AtClaims at = by (claims_at shape.bads line)
+  where
+    by : (o : Result (List ℕ) Why) → IfOk (after_claims r o) (Moves r)
+    by (Ok claims) = moves_to r _ AtParts refl refl (λ e. cc) refl
+    by (Err w) = tt
+line_moves shape r line AtParts at =
+    by_test (Moves r) (opens_states 0 line) _ _ (λ e. moves_to r _ InStates refl refl (λ e. cc) refl) (λ e. by_test (Moves r) (opens_frame 0 line) _ _ (λ e. moves_to r _ InFrame refl refl (λ e. cc) refl) (λ e. tt))
+line_moves shape r line InStates at =
+    by_test (Moves r) (opens_frame (length r.closed) line) _ _ (λ e. moves_to r _ InFrame refl refl (λ e. cc) refl) (λ e. part_moves r line (state_assignment_at shape r.closed r.open_part line) (λ end. cc (at, end)))
+line_moves shape r line InFrame at =
+    by_test (Moves r) (opens_frame (suc (length r.closed)) line) _ _ (λ e. frame_moves r InFrame refl)
+    (λ e. by_test (Moves r) (opens_states (suc (length r.closed)) line && has_free shape) _ _ (λ e. frame_moves r InStates refl)
+    (λ e. by_test (Moves r) (bytes_eq line (codes ".")) _ _ (λ e. frame_moves r AtEnd refl) (λ e. part_moves r line (assignment_at shape.inputs r.open_part line) (λ end. cc (at, end)))))
+line_moves shape r line AtEnd at = tt
 
 admitted_moves : (shape : Shape) (r next : Read) (line : List ℕ) → admit shape r line ≡ Ok next → Moves r next
 unfolding admit
-admitted_moves shape r next line h = line_moves shape r next line r.place refl h
+admitted_moves shape r next line h = IfOk-at_ok (Moves r) h (line_moves shape r line r.place refl)
 
 pub line_closes : (shape : Shape) (r next : Read) (line : List ℕ) → admit shape r line ≡ Ok next → ClosesAtMostOne r next
 line_closes shape r next line h = (admitted_moves shape r next line h).closes
