@@ -1,9 +1,9 @@
 -- What a judge of witnesses of a circuit holds, line by line, and what it judges of a text.
-use Rattle.std.proofs.Common.{◌≡◌, ℕ, ◌+◌, ◌<◌, ◌≤◌, ◌^◌, Bool, true, false, ◌||◌, List, [], ◌∷◌, ◌++◌, Result, Ok, Err, codes, length, length-append, refl, sym, ap, subst, ◌∙◌, arith, inl, inr, suc, cond, Option, Some, None}
+use Rattle.std.proofs.Common.{◌≡◌, ℕ, ◌+◌, ◌<◌, ◌≤◌, ◌^◌, Bool, true, false, ◌||◌, List, [], ◌∷◌, ◌++◌, Result, IfOk, Ok, Err, codes, length, length-append, refl, sym, ap, subst, ◌∙◌, arith, inl, inr, suc, cond, Option, Some, None}
 use Rattle.std.specs.Str.{bytes_eq}
 use Rattle.std.proofs.lemmas.Bool.{false_from_ne_true}
 use Rattle.base.specs.Lines.{IsLine, whole_lines, unfinished}
-use Rattle.base.proofs.DecimalLemmas.{chosen}
+use Rattle.std.proofs.lemmas.Result.{IfOk-at_ok}
 use Rattle.aiger.specs.Circuit.{Circuit}
 use Rattle.witness.specs.declared.why.Why.{Why}
 use Rattle.witness.specs.declared.bit_scan.Scan.{Scan}
@@ -13,7 +13,7 @@ use Rattle.witness.specs.BitAdmits.{claim_at, bits_at, BitPlace, AtHeader, AtCla
 use Rattle.witness.specs.BitScans.{Scans}
 use Rattle.witness.specs.BitStands.{is_header, BitJudge, bit_judging, StandsFor, place_of, PlaysAt}
 use Rattle.witness.proofs.TextEndLemmas.{whole_lines-line_end, unfinished-line_end}
-use Rattle.witness.proofs.ReadingLemmas.{Goes, On, Until, goes, holds_behind}
+use Rattle.witness.proofs.ReadingLemmas.{by_test, Goes, On, Until, goes, holds_behind}
 use Rattle.witness.proofs.StandsLemmas.{awaits, none_awaited, ClaimsMore, line_ended}
 use Rattle.std.proofs.Math.Bool.{or-false}
 use Rattle.aiger.specs.Literal.{Valuation}
@@ -31,51 +31,29 @@ record Moves (r next : BitRead) : Type 0 where
   other : is_header next.place ≡ false
   frames : length next.frames ≤ length r.frames + 1
 
-claim_moves : (r next : BitRead) (o : Result ℕ Why) → after_claim r o ≡ Ok next → Moves r next
-claim_moves r next (Ok i) h =
-    let e : record r { place = AtInitial; claim = i } ≡ next = cc in
-    subst (Moves r) e (record { other = refl; frames = omega arith })
-claim_moves r next (Err w) h = absurd cc
+frame_moves : (r : BitRead) (o : Result (List Bool) Why) → IfOk (after_frame r o) (Moves r)
+frame_moves r (Ok bits) = record { other = refl; frames = omega (arith, length-append r.frames (bits ∷ [])) }
+frame_moves r (Err w) = tt
 
-initial_moves : (r next : BitRead) (o : Result (List Bool) Why) → after_initial r o ≡ Ok next → Moves r next
-initial_moves r next (Ok bits) h =
-    let e : record r { place = AtFirst; initial = bits } ≡ next = cc in
-    subst (Moves r) e (record { other = refl; frames = omega arith })
-initial_moves r next (Err w) h = absurd cc
-
-frame_moves : (r next : BitRead) (o : Result (List Bool) Why) → after_frame r o ≡ Ok next → Moves r next
-frame_moves r next (Ok bits) h =
-    let e : record r { place = AtLater; frames = r.frames ++ bits ∷ [] } ≡ next = cc in
-    subst (Moves r) e (record { other = refl; frames = omega (arith, length-append r.frames (bits ∷ [])) })
-frame_moves r next (Err w) h = absurd cc
-
-line_moves : (c : Circuit) (r next : BitRead) (line : List ℕ) (place : BitPlace) → bit_admit_at c r line place ≡ Ok next → Moves r next
-line_moves c r next line AtHeader h =
-    elim (chosen (bytes_eq line (codes "1")) (Ok (record r { place = AtClaim })) (Err why.BadHeader) (Ok next) h) [
-      | inl e ↦
-          let is : record r { place = AtClaim } ≡ next = cc (e.1) in
-          subst (Moves r) is (record { other = refl; frames = omega arith })
-      | inr e ↦ absurd (cc (e.1))
-    ]
-line_moves c r next line AtClaim h = claim_moves r next (claim_at (length c.bads) line) h
-line_moves c r next line AtInitial h = initial_moves r next (bits_at (length c.latches) line) h
-line_moves c r next line AtFirst h =
-    elim (chosen (bytes_eq line (codes ".")) (Err why.FrameOrder) (after_frame r (bits_at c.inputs line)) (Ok next) h) [
-      | inl e ↦ absurd (cc (e.1))
-      | inr e ↦ frame_moves r next (bits_at c.inputs line) e.1
-    ]
-line_moves c r next line AtLater h =
-    elim (chosen (bytes_eq line (codes ".")) (Ok (record r { place = AtDone })) (after_frame r (bits_at c.inputs line)) (Ok next) h) [
-      | inl e ↦
-          let is : record r { place = AtDone } ≡ next = cc (e.1) in
-          subst (Moves r) is (record { other = refl; frames = omega arith })
-      | inr e ↦ frame_moves r next (bits_at c.inputs line) e.1
-    ]
-line_moves c r next line AtDone h = absurd cc
+line_moves : (c : Circuit) (r : BitRead) (line : List ℕ) (place : BitPlace) → IfOk (bit_admit_at c r line place) (Moves r)
+line_moves c r line AtHeader = by_test (Moves r) (bytes_eq line (codes "1")) _ _ (λ e. record { other = refl; frames = omega arith }) (λ e. tt)
+line_moves c r line AtClaim = by (claim_at (length c.bads) line)
+  where
+    by : (o : Result ℕ Why) → IfOk (after_claim r o) (Moves r)
+    by (Ok i) = record { other = refl; frames = omega arith }
+    by (Err w) = tt
+line_moves c r line AtInitial = by (bits_at (length c.latches) line)
+  where
+    by : (o : Result (List Bool) Why) → IfOk (after_initial r o) (Moves r)
+    by (Ok bits) = record { other = refl; frames = omega arith }
+    by (Err w) = tt
+line_moves c r line AtFirst = by_test (Moves r) (bytes_eq line (codes ".")) _ _ (λ e. tt) (λ e. frame_moves r (bits_at c.inputs line))
+line_moves c r line AtLater = by_test (Moves r) (bytes_eq line (codes ".")) _ _ (λ e. record { other = refl; frames = omega arith }) (λ e. frame_moves r (bits_at c.inputs line))
+line_moves c r line AtDone = tt
 
 admitted_moves : (c : Circuit) (r next : BitRead) (line : List ℕ) → bit_admit c r line ≡ Ok next → Moves r next
 unfolding bit_admit
-admitted_moves c r next line h = line_moves c r next line r.place h
+admitted_moves c r next line h = IfOk-at_ok (Moves r) h (line_moves c r line r.place)
 
 -- as many frames at most as lines, and the first line where none is
 abbrev InFrames : ℕ → BitRead → Type 0

@@ -44,22 +44,13 @@ pub record AreBitsOf (count : ℕ) (line : List ℕ) (bits : List Bool) : Type 0
 -- and a line that is read as bits is theirs
 pub bits_are_line : (count : ℕ) (line : List ℕ) (bits : List Bool) → bits_at count line ≡ Ok bits → AreBitsOf count line bits
 bits_are_line count line bits h =
-    let inner : Result (List Bool) Why = cond (list_any (λ b. b == 120) line) (Err why.Undetermined) (Ok (map (λ b. b == 49) line)) in
-    elim (chosen ((length line == count) && list_all is_value_byte line) inner (Err why.BadValue) (Ok bits) h) [
-      | inl e ↦
-          let parts = and_parts (length line == count) (list_all is_value_byte line) e.0 in
-          elim (chosen (list_any (λ b. b == 120) line) (Err why.Undetermined) (Ok (map (λ b. b == 49) line)) (Ok bits) e.1) [
-            | inl d ↦ absurd (cc (d.1))
-            | inr d ↦
-                let is : bits ≡ map (λ b. b == 49) line = cc (d.1) in
-                record {
-                  spelled = sym (ap bit_line is ∙ digits_of_bits line parts.1 d.0);
-                  many = ap length is ∙ (length-map line (λ b. b == 49) ∙ eqb-true (length line) count parts.0);
-                  are = is;
-                }
-          ]
-      | inr e ↦ absurd (cc (e.1))
-    ]
+    IfOk-at_ok (AreBitsOf count line) h
+    (by_test (AreBitsOf count line) ((length line == count) && list_all is_value_byte line) _ _
+    (λ e.
+    let parts = and_parts (length line == count) (list_all is_value_byte line) e in
+    by_test (AreBitsOf count line) (list_any (λ b. b == 120) line) _ _ (λ d. tt)
+    (λ d. record { spelled = sym (digits_of_bits line parts.1 d); many = length-map line (λ b. b == 49) ∙ eqb-true (length line) count parts.0; are = refl }))
+    (λ e. tt))
 
 -- a line of bits is not the last line
 pub bits_are_no_end : (bits : List Bool) → bytes_eq (bit_line bits) (codes ".") ≡ false
@@ -75,24 +66,14 @@ pub record IsClaimOf (bads : ℕ) (line : List ℕ) (i : ℕ) : Type 0 where
   pub spelled : line ≡ claim i
   pub below : i < bads
 
-claim_of_line : (bads : ℕ) (line : List ℕ) (o : Option Claim) (i : ℕ) → bads < 2 ^ 64 → claim_of line ≡ o → judged_claim bads o ≡ Ok i → IsClaimOf bads line i
-claim_of_line bads line None i small of h = absurd cc
-claim_of_line bads line (Some c) i small of h =
-    let inner : Result ℕ Why = cond (nat_lt c.index bads) (Ok c.index) (Err why.BadClaim) in
-    elim (chosen c.justice (Err why.JusticeClaim) inner (Ok i) h) [
-      | inl e ↦ absurd (cc (e.1))
-      | inr e ↦
-          elim (chosen (nat_lt c.index bads) (Ok c.index) (Err why.BadClaim) (Ok i) e.1) [
-            | inl d ↦
-                let is : c.index ≡ i = cc (d.1) in
-                let below : c.index < bads = ltb-true c.index bads d.0 in
-                record { spelled = piece_is_claim line c of e.0 (omega (arith, below)) ∙ ap claim is; below = subst (λ n. n < bads) is below }
-            | inr d ↦ absurd (cc (d.1))
-          ]
-    ]
-
 pub claim_is_line : (bads : ℕ) (line : List ℕ) (i : ℕ) → bads < 2 ^ 64 → claim_at bads line ≡ Ok i → IsClaimOf bads line i
-claim_is_line bads line i small h = claim_of_line bads line (claim_of line) i small refl h
+claim_is_line bads line i small h = IfOk-at_ok (IsClaimOf bads line) h (by (claim_of line) refl)
+  where
+    by : (o : Option Claim) → claim_of line ≡ o → IfOk (judged_claim bads o) (IsClaimOf bads line)
+    by None of = tt
+    by (Some c) of =
+        by_test (IsClaimOf bads line) c.justice _ _ (λ e. tt)
+        (λ e. by_test (IsClaimOf bads line) (nat_lt c.index bads) _ _ (λ d. let below = ltb-true c.index bads d in record { spelled = piece_is_claim line c of e (omega (arith, below)); below = below }) (λ d. tt))
 
 -- ---- what is read at each place
 

@@ -1,13 +1,15 @@
 -- Claims lines: each list of claims has one line, and the line is read as the list.
-use Rattle.std.proofs.Common.{◌≡◌, ℕ, ◌<◌, ◌^◌, ◌-◌, ◌==◌, nat_lt, Bool, true, false, ◌&&◌, List, [], ◌∷◌, ◌++◌, Option, Some, None, Result, Ok, Err, map, if◌then◌else◌, inl, inr, refl, sym, ap, subst, ◌∙◌, arith}
+use Rattle.std.proofs.Common.{◌≡◌, ℕ, ◌<◌, ◌^◌, ◌-◌, ◌==◌, nat_lt, Bool, true, false, ◌&&◌, List, [], ◌∷◌, ◌++◌, Option, Some, None, Result, Ok, Err, IfOk, map, if◌then◌else◌, inl, inr, refl, sym, ap, subst, ◌∙◌, arith}
 use Rattle.std.specs.List.{list_any, list_all, AllByRecursion}
 use Rattle.std.proofs.lemmas.Bool.{or_parts, and_parts, and_from, eqb-true, ltb-true, lt-ltb}
+use Rattle.std.proofs.lemmas.Result.{IfOk-at_ok}
 use Rattle.base.specs.Decimals.{number_of}
 use Rattle.base.proofs.DecimalLemmas.{chosen, number_is_decimal, number_of-decimal}
 use Rattle.witness.specs.declared.why.Why.{Why}
 use Rattle.witness.specs.declared.why.Why.TheVariants as why
 use Rattle.witness.specs.Texts.{claim, claims_line, are_distinct}
 use Rattle.witness.specs.Admits.{between_spaces, Claim, claim_with, claim_of, with_claim, claims_of, judged_claims, claims_at}
+use Rattle.witness.proofs.ReadingLemmas.{by_test}
 use Rattle.witness.proofs.PieceLemmas.{decimal_without, between_spaces-last, between_spaces-more, with_spaces, some_piece, parts_of_line}
 
 -- each claim is below the number of bad properties
@@ -120,22 +122,18 @@ pieces_are_claims bads (p ∷ ps) cs small h =
     let parts = with_claim_parts (claim_of p) (claims_of ps) cs h in
     first_and_others bads p ps parts.0 parts.1.0 cs small parts.1.1.0 parts.1.1.2 (pieces_are_claims bads ps parts.1.0 small parts.1.1.1)
 
-judged_parts : (bads : ℕ) (o : Option (List Claim)) (list : List ℕ) → judged_claims bads o ≡ Ok list
-    → (cs : List Claim) × ((o ≡ Some cs) × (list_any (λ c. c.justice) cs ≡ false) × (list_all (λ c. nat_lt c.index bads) cs ≡ true) × (are_distinct (map (λ c. c.index) cs) ≡ true) × (map (λ c. c.index) cs ≡ list))
-judged_parts bads None list h = absurd cc
-judged_parts bads (Some cs) list h =
-    let fits : Bool = list_all (λ c. nat_lt c.index bads) cs && are_distinct (map (λ c. c.index) cs) in
-    let inner : Result (List ℕ) Why = if fits then Ok (map (λ c. c.index) cs) else Err why.BadClaim in
-    elim (chosen (list_any (λ c. c.justice) cs) (Err why.JusticeClaim) inner (Ok list) h) [
-      | inl e ↦ absurd (cc (e.1))
-      | inr e ↦
-          elim (chosen fits (Ok (map (λ c. c.index) cs)) (Err why.BadClaim) (Ok list) e.1) [
-            | inl d ↦
-                let both = and_parts (list_all (λ c. nat_lt c.index bads) cs) (are_distinct (map (λ c. c.index) cs)) d.0 in
-                (cs, (refl, e.0, both.0, both.1, cc (d.1)))
-            | inr d ↦ absurd (cc (d.1))
-          ]
-    ]
+-- what is told of claims by the numbers that they are judged as
+abbrev AreJudged : ℕ → Option (List Claim) → List ℕ → Type 0
+AreJudged bads o list =
+    (cs : List Claim) × ((o ≡ Some cs) × (list_any (λ c. c.justice) cs ≡ false) × (list_all (λ c. nat_lt c.index bads) cs ≡ true) × (are_distinct (map (λ c. c.index) cs) ≡ true) × (map (λ c. c.index) cs ≡ list))
+
+judged_parts : (bads : ℕ) (o : Option (List Claim)) → IfOk (judged_claims bads o) (AreJudged bads o)
+judged_parts bads None = tt
+judged_parts bads (Some cs) =
+    by_test (AreJudged bads (Some cs)) (list_any (λ c. c.justice) cs) _ _ (λ e. tt)
+    (λ e. by_test (AreJudged bads (Some cs)) (list_all (λ c. nat_lt c.index bads) cs && are_distinct (map (λ c. c.index) cs)) _ _
+    (λ d. let both = and_parts (list_all (λ c. nat_lt c.index bads) cs) (are_distinct (map (λ c. c.index) cs)) d in (cs, (refl, e, both.0, both.1, refl)))
+    (λ d. tt))
 
 line_of_claims : (list : List ℕ) → with_spaces (map claim list) ≡ claims_line list
 line_of_claims [] = refl
@@ -146,7 +144,7 @@ line_of_claims (i ∷ j ∷ more) = ap (λ (rest : List ℕ). claim i ++ 32 ∷ 
 pub claims_are_line : (bads : ℕ) (line list : List ℕ) → bads < 2 ^ 64 → claims_at bads line ≡ Ok list → AreClaims bads line list
 unfolding claims_at
 claims_are_line bads line list small h =
-    let parts = judged_parts bads (claims_of (between_spaces line)) list h in
+    let parts = IfOk-at_ok (AreJudged bads (claims_of (between_spaces line))) h (judged_parts bads (claims_of (between_spaces line))) in
     let facts = parts.1 in
     let is = facts.4 in
     let found = pieces_are_claims bads (between_spaces line) parts.0 small facts.0 facts.1 facts.2 in

@@ -10,6 +10,8 @@ use Rattle.base.proofs.BitLemmas.{length-bits, word_below, word-bits, bits-word_
 use Rattle.witness.specs.declared.why.Why.{Why}
 use Rattle.witness.specs.declared.why.Why.TheVariants as why
 use Rattle.witness.specs.Texts.{digit, binary, symbol_part}
+use Rattle.std.proofs.lemmas.Result.{IfOk-at_ok}
+use Rattle.witness.proofs.ReadingLemmas.{by_test}
 use Rattle.witness.specs.Admits.{to_front, cut_at_space, to_first, between_spaces, is_value_byte, value_of}
 
 -- bytes of a kind that x is not of
@@ -176,15 +178,9 @@ bytes_are_digits width bytes long all none =
 pub value_is_binary : (width : ℕ) (bytes : List ℕ) (x : ℕ) → value_of width bytes ≡ Ok x → IsBinary width bytes x
 unfolding value_of
 value_is_binary width bytes x h =
-    let inner : Result ℕ Why = if list_any (λ b. b == 120) bytes then Err why.Undetermined else Ok (word (reverse (map (λ b. b == 49) bytes))) in
-    elim (chosen ((length bytes == width) && list_all is_value_byte bytes) inner (Err why.BadValue) (Ok x) h) [
-      | inl e ↦
-          let parts = and_parts (length bytes == width) (list_all is_value_byte bytes) e.0 in
-          elim (chosen (list_any (λ b. b == 120) bytes) (Err why.Undetermined) (Ok (word (reverse (map (λ b. b == 49) bytes)))) (Ok x) e.1) [
-            | inl d ↦ absurd (cc (d.1))
-            | inr d ↦
-                let is : word (reverse (map (λ b. b == 49) bytes)) ≡ x = cc (d.1) in
-                subst (λ (y : ℕ). IsBinary width bytes y) is (bytes_are_digits width bytes (eqb-true (length bytes) width parts.0) parts.1 d.0)
-          ]
-      | inr e ↦ absurd (cc (e.1))
-    ]
+    IfOk-at_ok (IsBinary width bytes) h
+    (by_test (IsBinary width bytes) ((length bytes == width) && list_all is_value_byte bytes) _ _
+    (λ e.
+    let parts = and_parts (length bytes == width) (list_all is_value_byte bytes) e in
+    by_test (IsBinary width bytes) (list_any (λ b. b == 120) bytes) _ _ (λ d. tt) (λ d. bytes_are_digits width bytes (eqb-true (length bytes) width parts.0) parts.1 d))
+    (λ e. tt))

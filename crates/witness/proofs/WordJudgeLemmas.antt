@@ -141,22 +141,15 @@ moved shape g lines e =
     line_more : (n : ℕ) (r next : Read) (line : List ℕ) → admit shape r line ≡ Ok next → is_status r.place ≡ false → is_status next.place ≡ false
     line_more n r next line is other = false_from_ne_true (is_status next.place) (λ s. absurd (cc ((admitted_moves shape r next line is).status s, other)))
 
-moved_by : (shape : Shape) (n : ℕ) (r : Read) (lines : List (List ℕ)) (o : Result Read Why) → ((next : Read) → o ≡ Ok next → is_status next.place ≡ false)
+moved_by : (shape : Shape) (n : ℕ) (r : Read) (lines : List (List ℕ)) (o : Result Read Why) → IfOk o (λ s. is_status s.place ≡ false)
     → awaits status (lines_behind (word_reader shape) (one_more_line (so_far n r) o) lines) ≡ false
-moved_by shape n r lines (Ok next) behind = moved shape (so_far (n + 1) next) lines (behind next refl)
+moved_by shape n r lines (Ok next) behind = moved shape (so_far (n + 1) next) lines behind
 moved_by shape n r lines (Err w) behind = ap (awaits status) (stays (word_reader shape) n r w lines)
 
 -- a first line that is no comment
-status_moves : (shape : Shape) (r next : Read) (line : List ℕ) → r.place ≡ AtStatus → is_comment line ≡ false → admit shape r line ≡ Ok next → is_status next.place ≡ false
+status_moves : (shape : Shape) (r : Read) (line : List ℕ) → r.place ≡ AtStatus → is_comment line ≡ false → IfOk (admit shape r line) (λ s. is_status s.place ≡ false)
 unfolding admit
-status_moves shape r next line at other h =
-    let said : cond (bytes_eq line (codes "sat")) (Ok (record r { place = AtClaims })) (Err why.BadHeader) ≡ Ok next = sym (rw (at, other) refl) ∙ h in
-    elim (chosen (bytes_eq line (codes "sat")) (Ok (record r { place = AtClaims })) (Err why.BadHeader) (Ok next) said) [
-      | inl d ↦
-          let is : record r { place = AtClaims } ≡ next = cc (d.1) in
-          ap (λ (x : Read). is_status x.place) (sym is)
-      | inr d ↦ absurd (cc (d.1))
-    ]
+status_moves shape r line at other = rw (at, other) (by_test (λ s. is_status s.place ≡ false) (bytes_eq line (codes "sat")) _ _ (λ d. refl) (λ d. tt))
 
 comment_stays : (shape : Shape) (r : Read) (line : List ℕ) → r.place ≡ AtStatus → is_comment line ≡ true → admit shape r line ≡ Ok r
 unfolding admit
@@ -184,7 +177,7 @@ claim_more shape n r (l ∷ lines) line at =
             | inl e ↦ rw (e, comment_stays shape r l (is_awaited r.place at) e) (claim_more shape (n + 1) r lines line at)
             | inr e ↦
                 let none : awaits status (lines_behind (word_reader shape) (one_more_line (so_far n r) (admit shape r l)) lines) ≡ false =
-                moved_by shape n r lines (admit shape r l) (λ next a. status_moves shape r next l (is_awaited r.place at) e a) in
+                moved_by shape n r lines (admit shape r l) (status_moves shape r l (is_awaited r.place at) e) in
                 rw (e, none) (sym (or-false (says_none l)))
           ]
     ]
