@@ -49,26 +49,20 @@ impl ClaimScan {
         }
     }
 
-    /// The same where the piece is whole, whose flag is set then, and another begins.
-    fn with_piece(self, claimed: &mut [bool]) -> ClaimScan
-        ensures told { (before : Option (List Claim)) (bytes : List ℕ) → Scans self.piece bytes → AreTold self claimed.old before → AreTold result claimed.new (and_claim before (claim_of bytes)) }
-        ensures piece { Scans result.piece [] }
+    /// The piece is whole, whose flag is set then, and another begins.
+    fn end_piece(&mut self, claimed: &mut [bool])
+        ensures told { (before : Option (List Claim)) (bytes : List ℕ) → Scans self.old.piece bytes → AreTold self.old claimed.old before → AreTold self.new claimed.new (and_claim before (claim_of bytes)) }
+        ensures piece { Scans self.new.piece [] }
         ensures many { length claimed.new ≡ length claimed.old }
     {
-        let piece = Scan::new();
-        let (claims, justice, fit) = match self.piece.claim() {
+        match self.piece.claim() {
             Some((justice, number)) => {
-                let fresh = set_flag(claimed, number);
-                (self.claims, self.justice | justice, self.fit & fresh)
+                self.justice |= justice;
+                self.fit &= set_flag(claimed, number);
             }
-            None => (false, self.justice, self.fit),
-        };
-        ClaimScan {
-            claims,
-            justice,
-            fit,
-            piece,
+            None => self.claims = false,
         }
+        self.piece = Scan::new();
     }
 
     /// Takes a byte behind the others, and sets the flag of a claim that ends with it.
@@ -77,7 +71,7 @@ impl ClaimScan {
         ensures many { length claimed.new ≡ length claimed.old }
     {
         if byte == b' ' {
-            *self = self.with_piece(claimed);
+            self.end_piece(claimed);
             return;
         }
         self.piece.push(byte);
@@ -98,7 +92,8 @@ impl ClaimScan {
         ensures line { (line : List ℕ) → AreClaims self claimed.old line → MatchResult result (λ _. (list : List ℕ) × ((claims_at (length claimed.old) line ≡ Ok list) × AreClaimed claimed.new list)) (λ why. claims_at (length claimed.old) line ≡ Err why) }
         ensures many { length claimed.new ≡ length claimed.old }
     {
-        let all = self.with_piece(claimed);
+        let mut all = self;
+        all.end_piece(claimed);
         if all.claims & all.justice {
             return Err(Why::JusticeClaim);
         }

@@ -128,10 +128,7 @@ impl<'a> WordJudge<'a> {
         ensures alone { result ≡ true → is_alone (place_of self.now.reader.place) ≡ true }
         ensures begins { (items : List Item) (text : List ℕ) → StandsFor items self.now text → result ≡ true → unfinished text ≡ [] }
     {
-        if !is_alone(self.reader.place()) {
-            return false;
-        }
-        self.line.is_empty()
+        is_alone(self.reader.place()) & self.line.is_empty()
     }
 
     /// Takes the rest of a line and its end.

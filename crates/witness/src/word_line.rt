@@ -22,10 +22,8 @@ fn first_of(line: &[u8]) -> u8
 fn number_behind(line: &[u8]) -> Option<u64>
     ensures { result ≡ number_of (behind_first line.now) }
 {
-    match line.split_first() {
-        Some((_, behind)) => decimal(behind),
-        None => None,
-    }
+    let (_, behind) = line.split_first()?;
+    decimal(behind)
 }
 
 /// Whether a first byte is one of those that open or end a part.
