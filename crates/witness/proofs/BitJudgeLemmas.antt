@@ -1,5 +1,5 @@
 -- What a judge of witnesses of a circuit holds, line by line, and what it judges of a text.
-use Rattle.std.proofs.Common.{◌≡◌, ℕ, ◌+◌, ◌<◌, ◌≤◌, ◌^◌, Bool, true, false, ◌||◌, List, [], ◌∷◌, ◌++◌, Result, IfOk, Ok, Err, codes, length, length-append, refl, sym, ap, subst, ◌∙◌, arith, inl, inr, suc, cond, Option, Some, None}
+use Rattle.std.proofs.Common.{◌≡◌, ℕ, ◌+◌, ◌<◌, ◌≤◌, ◌^◌, Bool, true, false, ◌||◌, List, [], ◌∷◌, ◌++◌, Result, IfOk, Ok, Err, codes, length, length-append, refl, sym, ap, subst, ◌∙◌, arith, suc, cond, Option, Some, None}
 use Rattle.std.specs.Str.{bytes_eq}
 use Rattle.std.proofs.lemmas.Bool.{false_from_ne_true}
 use Rattle.base.specs.Lines.{IsLine, whole_lines, unfinished}
@@ -24,7 +24,6 @@ use Rattle.witness.specs.BitJudgements.{bit_verdict, JudgesBits}
 use Rattle.witness.specs.BitPlays.{BitPlay, Plays, Traced}
 use Rattle.witness.specs.Judgements.{first_of}
 use Rattle.witness.proofs.BitReadLemmas.{done}
-use Rattle.witness.specs.declared.why.Why.TheVariants as why
 
 -- what an admitted line changes
 record Moves (r next : BitRead) : Type 0 where

@@ -1,5 +1,5 @@
 -- Witnesses of circuits: a text that says one is read as it, what is read was said, and which whole lines further lines make a witness.
-use Rattle.std.proofs.Common.{◌≡◌, ◌↔◌, ℕ, suc, ◌<◌, ◌≤◌, ◌^◌, ◌==◌, nat_lt, Bool, true, false, cond, ◌&&◌, ◌||◌, List, [], ◌∷◌, ◌++◌, Option, Some, None, Result, Ok, Err, IfOk, map, length, codes, append_assoc, refl, sym, ap, ap₂, subst, ◌∙◌, arith, inl, inr, All, length-append, ◌+◌, replicate}
+use Rattle.std.proofs.Common.{◌≡◌, ◌↔◌, ℕ, suc, ◌<◌, ◌≤◌, ◌^◌, ◌==◌, nat_lt, Bool, true, false, ◌&&◌, ◌||◌, List, [], ◌∷◌, ◌++◌, Option, Some, None, Result, Ok, Err, IfOk, map, length, codes, append_assoc, refl, sym, ap, ap₂, subst, ◌∙◌, arith, inl, inr, All, length-append, ◌+◌, replicate}
 use Rattle.std.specs.List.{list_any, list_all, AllByRecursion}
 use Rattle.std.specs.Str.{bytes_eq}
 use Rattle.std.proofs.lemmas.Bool.{cases_Bool, and_parts, eqb-true, eq-eqb, ltb-true, lt-ltb}

@@ -44,7 +44,7 @@ one_byte s b h =
     record {
       count = omega (arith, none);
       first = rw none refl;
-      zero = rw none h.zero;
+      zero = rw (none, h.zero) refl;
       digits = rw (none, h.digits) refl;
       number = λ all. rw none capped_value-nil;
       values = rw h.values (sym (and-true (is_value_byte b)));
@@ -59,7 +59,7 @@ second_byte s a b h =
     record {
       count = omega (arith, one);
       first = rw one h.first;
-      zero = rw one refl;
+      zero = rw (one, h.zero) refl;
       digits = rw (one, digits) (sym (and-true (is_digit b)));
       number = λ all.
           let digit : is_digit b ≡ true = rw (one, digits) at all in
@@ -79,7 +79,7 @@ later_byte s x y line b h =
     record {
       count = omega (arith, many, length-append whole (b ∷ []));
       first = rw not_none h.first;
-      zero = rw not_one h.zero;
+      zero = rw not_one (or-false s.zero ∙ h.zero);
       digits = rw not_none all_digits;
       number = λ all.
           let both : (s.digits && is_digit b) ≡ true = rw not_none at all in

@@ -1,5 +1,5 @@
 -- Frames of a run, one after another, and what one of them says in the words of judgements.
-use Rattle.std.proofs.Common.{◌≡◌, ℕ, suc, ◌+◌, ◌<◌, ◌≤◌, Bool, true, false, cond, ◌&&◌, nat_eq, List, [], ◌∷◌, ◌++◌, length, map, get_or, drop, flat_map, slice_get, Option, Some, None, IfSome, is_none, option_and_then, refl, sym, ap, ap₂, subst, ◌∙◌, append_assoc, arith, ◌≢◌, ◌||◌, set, ⊎_elim, not, inl, inr}
+use Rattle.std.proofs.Common.{◌≡◌, ℕ, suc, ◌+◌, ◌<◌, ◌≤◌, Bool, true, false, cond, ◌&&◌, nat_eq, List, [], ◌∷◌, ◌++◌, length, map, get_or, drop, flat_map, slice_get, Option, Some, None, IfSome, is_none, option_and_then, refl, sym, ap, ap₂, subst, ◌∙◌, append_assoc, arith, ◌||◌, set, not, inl, inr}
 use Rattle.std.specs.List.{position_from, list_any}
 use Rattle.std.proofs.Math.Seq.{drop-cons}
 use Rattle.std.proofs.lemmas.List.{length-map, drop_all, get_or-set_same, get_or-set_other}
@@ -22,7 +22,6 @@ use Rattle.btor2.proofs.LookUps.{found, init_some, init_none}
 use Rattle.runs.specs.Frames.{ids_of, given_leaves, given as given_at}
 use Rattle.witness.specs.Texts.{shape_of}
 use Rattle.witness.specs.Fits.{is_set, FirstFits, StandsAt, RisesAmong, NoneIsSet, words_put}
-use Rattle.std.proofs.Math.Bool.{or-true, or-false, and-false}
 use Rattle.btor2.specs.declared.item.Body.TheVariants as body
 
 -- ---- frames from words that agree

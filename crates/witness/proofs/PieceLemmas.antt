@@ -1,5 +1,5 @@
 -- Pieces of lines: what stands between spaces, and the digits of words.
-use Rattle.std.proofs.Common.{◌≡◌, ℕ, ◌<◌, ◌^◌, ◌==◌, Bool, true, false, ◌&&◌, List, [], ◌∷◌, ◌++◌, Option, Some, None, Result, Ok, Err, length, map, reverse, decimal, inl, inr, refl, sym, ap, if◌then◌else◌, subst, ◌∙◌, arith}
+use Rattle.std.proofs.Common.{◌≡◌, ℕ, ◌<◌, ◌^◌, ◌==◌, Bool, true, false, ◌&&◌, List, [], ◌∷◌, ◌++◌, Option, Some, None, Ok, length, map, reverse, decimal, inl, inr, refl, sym, ap, subst, ◌∙◌, arith}
 use Rattle.std.specs.List.{list_any, list_all}
 use Rattle.std.proofs.lemmas.Bool.{cases_Bool, and_parts, and_from, or_from, or_parts, eqb-true, eq-eqb, ne_eqb, cases_eq}
 use Rattle.std.proofs.lemmas.List.{length-map, length-reverse, reverse-reverse}
@@ -7,8 +7,6 @@ use Rattle.base.specs.Word.{word, bits}
 use Rattle.base.specs.Decimals.{is_digit, are_digits, is_decimal, capped_value, number_of}
 use Rattle.base.proofs.DecimalLemmas.{digit_range, chosen, decimal_are_digits, number_of-decimal}
 use Rattle.base.proofs.BitLemmas.{length-bits, word_below, word-bits, bits-word_of_length}
-use Rattle.witness.specs.declared.why.Why.{Why}
-use Rattle.witness.specs.declared.why.Why.TheVariants as why
 use Rattle.witness.specs.Texts.{digit, binary, symbol_part}
 use Rattle.std.proofs.lemmas.Result.{IfOk-at_ok}
 use Rattle.witness.proofs.ReadingLemmas.{by_test}

@@ -1,5 +1,5 @@
 -- A text that is read says what it is read as, and whole lines are all admitted exactly where further lines make them the text of a witness.
-use Rattle.std.proofs.Common.{◌≡◌, ℕ, suc, ◌+◌, ◌<◌, ◌≤◌, ◌==◌, true, false, cond, ◌&&◌, List, [], ◌∷◌, ◌++◌, Option, Some, None, IfSome, Result, Ok, Err, IfOk, length, decimal, codes, append_assoc, length-append, inl, inr, refl, sym, ap, subst, ◌∙◌, arith}
+use Rattle.std.proofs.Common.{◌≡◌, ℕ, suc, ◌+◌, ◌<◌, ◌≤◌, ◌==◌, true, false, ◌&&◌, List, [], ◌∷◌, ◌++◌, Option, Some, None, IfSome, Result, Ok, Err, IfOk, length, decimal, codes, append_assoc, length-append, refl, sym, ap, subst, ◌∙◌, arith}
 use Rattle.std.specs.List.{list_any, AllByRecursion}
 use Rattle.std.specs.Str.{bytes_eq}
 use Rattle.std.proofs.lemmas.Bool.{and_parts}
@@ -8,11 +8,10 @@ use Rattle.std.proofs.lemmas.List.Elements.{All-push, All-nil, All-from_recursio
 use Rattle.std.proofs.lemmas.Slice.Eq.{bytes_eq-Decides}
 use Rattle.std.proofs.lemmas.Result.{IfOk-at_ok}
 use Rattle.base.specs.Lines.{IsLine, text_of_lines, whole_lines, unfinished}
-use Rattle.base.proofs.DecimalLemmas.{chosen}
 use Rattle.base.proofs.LineLemmas.{EachLine, each_front, lines_are_lines, parts_of_text}
 use Rattle.witness.specs.declared.why.Why.{Why}
 use Rattle.witness.specs.Texts.{Shape, is_free_index, has_free, Assignment, Parts, Witness, assignment_line, assignment_lines, claims_line, states_lines, frame_lines, is_comment, are_distinct, IsAssignment, IsPart, IsFreePart, IsLater, AreFrames, most_lines, Says}
-use Rattle.witness.specs.Admits.{Place, AtStatus, AtClaims, AtParts, InStates, InFrame, AtEnd, begins_part, opens_frame, opens_states, assignment_at, may_name, state_assignment_at, after_assignment, claims_at, after_claims, states_closed, frame_closed, Read, nothing_read, in_part, admit_at, admit, is_at_end, word_reader, read_text, witness_of}
+use Rattle.witness.specs.Admits.{Place, AtStatus, AtClaims, AtParts, InStates, InFrame, AtEnd, begins_part, opens_frame, opens_states, assignment_at, may_name, state_assignment_at, after_assignment, claims_at, after_claims, states_closed, frame_closed, Read, nothing_read, admit_at, admit, is_at_end, word_reader, read_text, witness_of}
 use Rattle.witness.specs.WordStands.{NoFrame}
 use Rattle.witness.proofs.ClaimLemmas.{AreBelow, claims_are_line, claims_at-claims_line}
 use Rattle.witness.proofs.AssignmentLemmas.{stands_in, assignment_is_line, state_assignment_is_line}
@@ -21,7 +20,6 @@ use Rattle.witness.proofs.ReadLemmas.{IsSmall, indices, stands_in-indices, disti
 use Rattle.witness.specs.Beginnings.{IsBeginning}
 use Rattle.witness.specs.ClosedWords.{admitted_word_lines}
 use Rattle.witness.proofs.PieceLemmas.{decimal_without}
-use Rattle.witness.specs.declared.why.Why.TheVariants as why
 
 -- ---- parts and frames with one more
 

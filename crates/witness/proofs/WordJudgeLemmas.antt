@@ -12,7 +12,7 @@ use Rattle.witness.specs.declared.why.Why.{Why}
 use Rattle.witness.specs.Texts.{Shape, Assignment, Parts, has_free, is_comment, shape_of, most_lines}
 use Rattle.witness.proofs.WordPlayLemmas.{goes_steps, between_behind, word_is}
 use Rattle.witness.specs.Readings.{Reading, so_far, nothing_admitted, one_more_line, next_line_of, next_line, lines_behind, lines_read, reading, is_nothing}
-use Rattle.witness.specs.Admits.{claims_at, assignment_at, state_assignment_at, Place, AtStatus, AtClaims, AtParts, InStates, InFrame, AtEnd, Read, nothing_read, states_closed, frame_closed, opens_frame, opens_states, begins_part, after_claims, after_assignment, in_part, admit_at, admit, word_reader, is_at_end, witness_of}
+use Rattle.witness.specs.Admits.{claims_at, assignment_at, state_assignment_at, Place, AtStatus, AtClaims, AtParts, InStates, InFrame, AtEnd, Read, nothing_read, frame_closed, opens_frame, opens_states, begins_part, after_claims, after_assignment, in_part, admit_at, admit, word_reader, is_at_end, witness_of}
 use Rattle.witness.specs.Judgements.{frame_words, makes_no_claim, FrameWords, words_of, Words, initial_words, given_words, given_frames, nodes_of, unreached_from, verdict, JudgesWords, first_of}
 use Rattle.witness.specs.WordPlays.{nothing_given, is_between, steps_of, steps_taken, WordPlay, Plays, Traced, TracedBy, frames_alone, word_at}
 use Rattle.witness.specs.ClosedWords.{closed_word_frames, ClosesFrame, ClosesAtMostOne, IsClosedTrace, last_word}

@@ -1,5 +1,5 @@
 -- Lines of a witness over a model, admitted one after the other by what is kept of them.
-use Rattle.std.proofs.Common.{◌≡◌, ℕ, suc, ◌*◌, ◌<◌, ◌≤◌, Bool, true, false, ◌&&◌, List, [], ◌∷◌, ◌++◌, Option, Some, None, IfNone, Result, Ok, Err, codes, map, length, unwrap_or, slice_index, slice_index_or, arith, refl, sym, ap, subst, ◌∙◌, ◌^◌}
+use Rattle.std.proofs.Common.{◌≡◌, ℕ, suc, ◌*◌, ◌<◌, ◌≤◌, Bool, true, false, ◌&&◌, List, [], ◌∷◌, ◌++◌, Option, Result, Ok, Err, codes, map, length, unwrap_or, slice_index, slice_index_or, arith, refl, sym, ap, subst, ◌∙◌, ◌^◌}
 use Rattle.std.specs.Str.{bytes_eq}
 use Rattle.std.proofs.lemmas.Bool.{false_from_ne_true}
 use Rattle.std.proofs.lemmas.Slice.Eq.{bytes_eq-Decides}

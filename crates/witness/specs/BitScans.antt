@@ -38,7 +38,7 @@ scan_more s byte =
     record {
       count = min (s.count + 1) (2 ^ 64 - 1);
       first = if s.count == 0 then byte else s.first;
-      zero = if s.count == 1 then byte == 48 else s.zero;
+      zero = s.zero || ((s.count == 1) && (byte == 48));
       digits = s.digits && ((s.count == 0) || is_digit byte);
       number = if s.count == 0 then 0 else number_more s.number byte;
       values = s.values && is_value_byte byte;

@@ -121,11 +121,7 @@ impl Scan {
         Scan {
             count: self.count.saturating_add(1),
             first: if self.count == 0 { byte } else { self.first },
-            zero: if self.count == 1 {
-                byte == b'0'
-            } else {
-                self.zero
-            },
+            zero: self.zero || (self.count == 1 && byte == b'0'),
             digits: self.digits && (self.count == 0 || is_digit(byte)),
             number: if self.count == 0 {
                 0

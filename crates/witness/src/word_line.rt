@@ -12,10 +12,7 @@ use base::decimal;
 fn first_of(line: &[u8]) -> u8
     ensures { result ≡ slice_index_or line.now 0 0 }
 {
-    match line.first() {
-        Some(first) => *first,
-        None => 0,
-    }
+    line.first().copied().unwrap_or(0)
 }
 
 /// The number that the bytes behind the first write, where they are a decimal, at most 2^64 - 1.
@@ -24,13 +21,6 @@ fn number_behind(line: &[u8]) -> Option<u64>
 {
     let (_, behind) = line.split_first()?;
     decimal(behind)
-}
-
-/// Whether a first byte is one of those that open or end a part.
-fn opens_part(first: u8) -> bool
-    ensures { result ≡ ((first == 35) || ((first == 64) || (first == 46))) }
-{
-    first == b'#' || (first == b'@' || first == b'.')
 }
 
 /// Whether a line is a comment.
@@ -51,7 +41,8 @@ pub(crate) fn is_word(line: &[u8], word: &[u8]) -> bool
 pub(crate) fn begins_part(line: &[u8]) -> bool
     ensures { result ≡ begins_part line.now }
 {
-    opens_part(first_of(line))
+    let first = first_of(line);
+    first == b'#' || (first == b'@' || first == b'.')
 }
 
 /// Whether a line is this byte with a number behind it.
