@@ -106,16 +106,23 @@ place known (Err e) read = place_of read.text e read.reads
 
 -- ---- a source of which the first bytes are held
 
-some_kept : (P : List ℕ → Type 0) (known now : Option (List ℕ)) → Keeps (prepend_known [] known) now → IfSome now P → IfSome known P
+some_kept : (P : List ℕ → Type 0) (known now : Option (List ℕ)) → Keeps known now → IfSome now P → IfSome known P
 some_kept P None now kept h = tt
 some_kept P (Some all) None kept h = absurd kept
 some_kept P (Some all) (Some other) kept h = subst P kept h
 
-pub taken_kept : (known now : Option (List ℕ)) (t : Taken) → Keeps (prepend_known [] known) now → IsTaken now t → IsTaken known t
+pub taken_kept : (known now : Option (List ℕ)) (t : Taken) → Keeps known now → IsTaken now t → IsTaken known t
 taken_kept known now (taken.Circuit c) kept is = record { text = is.text; is = some_kept (λ all. is.text ≡ all) known now kept is.is; reads = is.reads }
 taken_kept known now (taken.Fault e) kept is = record { text = is.text; is = some_kept (λ all. is.text ≡ all) known now kept is.is; reads = is.reads }
 taken_kept known now (taken.Text text) kept is = some_kept (λ all. text.items ≡ all) known now kept is
 
+nothing_held : (known now : Option (List ℕ)) → Keeps (prepend_known [] known) now → Keeps known now
+nothing_held None now kept = tt
+nothing_held (Some all) now kept = kept
+
+pub all_kept : (known now : Option (List ℕ)) (r : Result Taken ReadAllFault) → Keeps known now → IfOk r (IsTaken now) → IfOk r (IsTaken known)
+all_kept known now (Ok t) kept is = taken_kept known now t kept is
+all_kept known now (Err e) kept is = tt
+
 pub all_taken : (known now : Option (List ℕ)) (r : Result Taken ReadAllFault) → Keeps (prepend_known [] known) now → IfOk r (IsTaken now) → IfOk r (IsTaken known)
-all_taken known now (Ok t) kept is = taken_kept known now t kept is
-all_taken known now (Err e) kept is = tt
+all_taken known now r kept is = all_kept known now r (nothing_held known now kept) is

@@ -1,7 +1,8 @@
 -- A text that was read onto a circuit spells it, or has the fault, and what was read of any text gives back its bytes.
-use Rattle.std.proofs.Common.{◌≡◌, ◌≢◌, ℕ, suc, ◌+◌, ◌-◌, ◌*◌, ◌^◌, ◌<◌, ◌≤◌, List, [], ◌∷◌, ◌++◌, length, take, Option, Some, None, Result, Ok, Err, refl, sym, ap, subst, ◌∙◌, append_assoc, append-nil, length-append, inl, inr, arith}
+use Rattle.std.proofs.Common.{◌≡◌, ◌≢◌, ℕ, suc, ◌+◌, ◌-◌, ◌*◌, ◌^◌, ◌<◌, ◌≤◌, List, [], ◌∷◌, ◌++◌, length, take, Option, Some, Result, Ok, Err, refl, sym, ap, subst, ◌∙◌, append_assoc, append-nil, length-append, inl, inr, arith}
 use Rattle.std.specs.Prelude.{IfSome}
-use Rattle.std.specs.Io.KnownBytes.{prepend_known, Keeps, Consumes, IsAtEnd}
+use Rattle.std.specs.Io.KnownBytes.{prepend_known, Keeps, IsAtEnd}
+use Rattle.std.proofs.KnownBytes.{Keeps-trans}
 use Rattle.std.proofs.lemmas.List.{length-replicate}
 use Rattle.aiger.specs.declared.circuit.Gate.{Gate}
 use Rattle.aiger.specs.declared.circuit.Latch.{Latch}
@@ -26,14 +27,14 @@ use Rattle.aigertext.specs.AsciiReading.{lists_of_file, AnswersNamed, AnswersLis
 use Rattle.aiger.specs.Loose.{Loose}
 use Rattle.base.specs.Lines.{IsLine}
 use Rattle.aigertext.specs.Passes.{onto, with_gates, latch_in, latches_in}
-use Rattle.aigertext.specs.InOrder.{uses_at, uses_of, IsFront, HasFront, text_with, PutsGates, Finishes, IsFinish, ReadsOnto}
+use Rattle.aigertext.specs.InOrder.{uses_at, uses_of, IsFront, HasFront, text_with, IsPut, PutsText, Finishes, IsFinish, ReadsOnto}
 use Rattle.aigertext.proofs.AsciiWrittenLemmas.{OwnValid, OwnNumbered, OwnMany, up_to, written_inputs, written_gates}
 use Rattle.aigertext.proofs.BackLemmas.{ok_same, err_same, not_err, bind-then, line-back}
 use Rattle.aigertext.proofs.FieldLemmas.{line_read}
 use Rattle.aigertext.proofs.GateLemmas.{gates-read, gates-read-on}
 use Rattle.aigertext.proofs.HeaderBackLemmas.{HeaderBack, header-back}
 use Rattle.aigertext.proofs.LatchBackLemmas.{AreLatchesAt, latches-back}
-use Rattle.aigertext.proofs.PutsLemmas.{gates_text-none, gates_text-append, front_taken, rest_within}
+use Rattle.aigertext.proofs.PutsLemmas.{gates_text-none, gates_text-append, front_kept, more_kept, at_end, front_taken, rest_within}
 use Rattle.aigertext.proofs.ReadStandsLemmas.{PropertiesBack, properties-back, property_is, length_lists, end-back, header_spelled}
 use Rattle.aigertext.proofs.FileReadLemmas.{lists-read}
 use Rattle.aigertext.proofs.ReadFrontLemmas.{IsAtFront, line-front, lines-front, properties-front}
@@ -302,19 +303,11 @@ gates_put inputs latches c0 c gs fresh is =
     let own : c.gates ≡ gs = ap (λ (d : Circuit). d.gates) all in
     (own, all ∙ ap (λ (g : List Gate). with_gates (fresh_circuit inputs latches) g) (sym own))
 
--- the lines of gates that were put together again
-pub put_together : (h : Counts) (c : Circuit) (before : List ℕ) (first : ℕ) (gs : List Gate) (window : List ℕ) → first ≡ h.inputs + h.latches + 1 → gs ≡ c.gates → before ++ (gate_lines first gs ++ window) ≡ text_with Ascii h before c.gates window
-put_together h c before first gs window first_is gs_is =
-    let own : first ≡ suc (h.inputs + h.latches) = omega (arith, first_is) in
-    ap (λ (v : ℕ). before ++ (gate_lines v gs ++ window)) own ∙ ap (λ (g : List Gate). before ++ (gate_lines (suc (h.inputs + h.latches)) g ++ window)) gs_is
-
--- what is held at the end is what was to come
-all_held : (new x : List ℕ) (known : Option (List ℕ)) → Keeps (Some x) (prepend_known new known) → IsAtEnd known → x ≡ new
-all_held new x None kept end = absurd kept
-all_held new x (Some y) kept end = sym kept ∙ ap (λ (t : List ℕ). new ++ t) end ∙ append-nil new
-
-joined : (b g n a : List ℕ) → (b ++ (g ++ n)) ++ a ≡ b ++ (g ++ (n ++ a))
-joined b g n a = simp append_assoc
+-- the lines of gates that are put together again
+pub put_together : (form : Form) (h : Counts) (before : List ℕ) (first : ℕ) (gs hs : List Gate) (window : List ℕ) → form ≡ Ascii → first ≡ h.inputs + h.latches + 1 → hs ≡ gs → text_with form h before gs window ≡ before ++ (gate_lines first hs ++ window)
+put_together form h before first gs hs window form_is first_is gs_is =
+    let own : suc (h.inputs + h.latches) ≡ first = omega (arith, first_is) in
+    ap (λ (f : Form). text_with f h before gs window) form_is ∙ ap (λ (v : ℕ). before ++ (gate_lines v gs ++ window)) own ∙ ap (λ (g : List Gate). before ++ (gate_lines first g ++ window)) (sym gs_is)
 
 -- a whole text whose lines before the gates were read
 pub whole_parts : (f : Front) (h : Counts) (text lines gates : List ℕ) → f.form ≡ Binary → f.counts ≡ h → line_at header_of text ≡ Ok ((Binary, h), lines) → Fits Binary h → uses_at Binary h lines ≡ Ok (uses_of f, gates) → FrontParts f.form f.counts (uses_of f) text gates
@@ -326,39 +319,26 @@ pub whole_text_is : (form : Form) (h : Counts) (uses : List Latch × Properties)
 whole_text_is form h uses text gates p c fresh =
     ap (λ (d : Circuit). text_with form h p.before d.gates gates) fresh ∙ ap (λ (l : List ℕ). p.before ++ (l ++ gates)) (sym (gates_text-none form (suc (h.inputs + h.latches)))) ∙ sym p.parts
 
-module _ (form : Form) (h : Counts) (before : List ℕ) (c0 c1 : Circuit) (passed : ℕ) (window0 window1 : List ℕ) (k0 k1 k2 : Option (List ℕ))
-    (fresh : c0 ≡ fresh_circuit h.inputs h.latches) (puts : PutsGates form c0 c1 passed (prepend_known window0 k0) (prepend_known window1 k1)) where
+module _ (form : Form) (h : Counts) (before : List ℕ) (c0 c1 : Circuit) (passed : ℕ) (window0 window1 : List ℕ) (k0 k1 : Option (List ℕ))
+    (fresh : c0 ≡ fresh_circuit h.inputs h.latches) (puts : PutsText (IsPut form) c0 c1 passed (prepend_known window0 k0) (prepend_known window1 k1)) where
   pub put_on : c1 ≡ with_gates (fresh_circuit h.inputs h.latches) c1.gates
-  put_on = (gates_put h.inputs h.latches c0 c1 puts.gates fresh puts.is).1
+  put_on = (gates_put h.inputs h.latches c0 c1 puts.puts.gates fresh puts.puts.is).1
 
-  own_text : gates_text form (suc (variables (net c0))) puts.gates ≡ gates_text form (suc (h.inputs + h.latches)) c1.gates
+  own_text : puts.bytes ≡ gates_text form (suc (h.inputs + h.latches)) c1.gates
   own_text =
-      ap (λ (v : ℕ). gates_text form v puts.gates) (ap (λ (d : Circuit). suc (variables (net d))) fresh ∙ fresh_first h.inputs h.latches)
-      ∙ ap (gates_text form (suc (h.inputs + h.latches))) (sym (gates_put h.inputs h.latches c0 c1 puts.gates fresh puts.is).0)
+      puts.puts.own ∙ ap (λ (v : ℕ). gates_text form v puts.puts.gates) (ap (λ (d : Circuit). suc (variables (net d))) fresh ∙ fresh_first h.inputs h.latches)
+      ∙ ap (gates_text form (suc (h.inputs + h.latches))) (sym (gates_put h.inputs h.latches c0 c1 puts.puts.gates fresh puts.puts.is).0)
 
   -- what stands before the gates, their text and the rest are what was to come
-  core : (x y : List ℕ) → window0 ++ x ≡ gates_text form (suc (variables (net c0))) puts.gates ++ (window1 ++ y) → text_with form h before c1.gates (window1 ++ y) ≡ (before ++ window0) ++ x
-  core x y known = ap (λ (l : List ℕ). before ++ (l ++ (window1 ++ y))) (sym own_text) ∙ ap (λ (l : List ℕ). before ++ l) (sym known) ∙ sym (append_assoc before window0 x)
-
-  -- the rest is read behind the gates' text that was put together again
-  pub text_more : (whole0 whole1 : List ℕ) → whole0 ≡ text_with form h before c1.gates window1 → Keeps (prepend_known whole0 k1) (prepend_known whole1 k2) → IsAtEnd k2 → IfSome (prepend_known (before ++ window0) k0) (λ t. whole1 ≡ t)
-  text_more whole0 whole1 whole_is kept end = by k0 k1 puts.text kept
-    where
-      by : (x y : Option (List ℕ)) → Consumes (prepend_known window0 x) (prepend_known window1 y) (gates_text form (suc (variables (net c0))) puts.gates) → Keeps (prepend_known whole0 y) (prepend_known whole1 k2) → IfSome (prepend_known (before ++ window0) x) (λ t. whole1 ≡ t)
-      by None y known kept' = tt
-      by (Some x) None known kept' = absurd known
-      by (Some x) (Some y) known kept' =
-          sym (all_held whole1 (whole0 ++ y) k2 kept' end) ∙ ap (λ (t : List ℕ). t ++ y) whole_is
-          ∙ joined before (gates_text form (suc (h.inputs + h.latches)) c1.gates) window1 y ∙ core x y known
+  pub text_kept : Keeps (prepend_known (before ++ window0) k0) (prepend_known (text_with form h before c1.gates window1) k1)
+  text_kept =
+      subst (λ (t : List ℕ). Keeps (prepend_known (before ++ window0) k0) (prepend_known (before ++ (t ++ window1)) k1)) own_text (front_kept before puts.bytes window0 window1 k0 k1 puts.text)
 
   -- the rest was read already
-  pub text_all : (window2 : List ℕ) → Keeps (prepend_known window1 k1) (prepend_known window2 k2) → IsAtEnd k2 → IfSome (prepend_known (before ++ window0) k0) (λ t. text_with form h before c1.gates window2 ≡ t)
-  text_all window2 kept end = by k0 k1 puts.text kept
-    where
-      by : (x y : Option (List ℕ)) → Consumes (prepend_known window0 x) (prepend_known window1 y) (gates_text form (suc (variables (net c0))) puts.gates) → Keeps (prepend_known window1 y) (prepend_known window2 k2) → IfSome (prepend_known (before ++ window0) x) (λ t. text_with form h before c1.gates window2 ≡ t)
-      by None y known kept' = tt
-      by (Some x) None known kept' = absurd known
-      by (Some x) (Some y) known kept' = ap (text_with form h before c1.gates) (sym (all_held window2 (window1 ++ y) k2 kept' end)) ∙ core x y known
+  pub text_all : (window2 : List ℕ) (k2 : Option (List ℕ)) → Keeps (prepend_known window1 k1) (prepend_known window2 k2) → IsAtEnd k2 → IfSome (prepend_known (before ++ window0) k0) (λ t. text_with form h before c1.gates window2 ≡ t)
+  text_all window2 k2 kept end =
+      at_end _ (text_with form h before c1.gates window2) k2
+      (Keeps-trans _ _ _ text_kept (more_kept before _ _ k1 k2 (more_kept (gates_text form (suc (h.inputs + h.latches)) c1.gates) window1 window2 k1 k2 kept))) end
 
   -- how long it is
   pub text_long : (total : ℕ) (window2 : List ℕ) → total ≡ length before + (passed + length window2) → length (text_with form h before c1.gates window2) ≡ total
@@ -369,12 +349,12 @@ module _ (form : Form) (h : Counts) (before : List ℕ) (c0 c1 : Circuit) (passe
 -- ---- what is left of a text
 
 module _ (form : Form) (h : Counts) (uses : List Latch × Properties) (before : List ℕ) (front : IsFront form h uses before) (c0 c1 : Circuit) (n : ℕ) (window names : List ℕ)
-    (bare : c0 ≡ with_gates (fresh_circuit h.inputs h.latches) c0.gates) (puts : PutsGates form c0 c1 n (Some window) (Some names)) (valid : IsCircuit c1) where
-  own_gates : c1.gates ≡ c0.gates ++ puts.gates
-  own_gates = ap (λ (c : Circuit). c.gates) puts.is
+    (bare : c0 ≡ with_gates (fresh_circuit h.inputs h.latches) c0.gates) (puts : PutsText (IsPut form) c0 c1 n (Some window) (Some names)) (valid : IsCircuit c1) where
+  own_gates : c1.gates ≡ c0.gates ++ puts.puts.gates
+  own_gates = ap (λ (c : Circuit). c.gates) puts.puts.is
 
   bare_then : c1 ≡ with_gates (fresh_circuit h.inputs h.latches) c1.gates
-  bare_then = puts.is ∙ ap (λ (c : Circuit). record c { gates = c0.gates ++ puts.gates }) bare ∙ ap (λ (gs : List Gate). with_gates (fresh_circuit h.inputs h.latches) gs) (sym own_gates)
+  bare_then = puts.puts.is ∙ ap (λ (c : Circuit). record c { gates = c0.gates ++ puts.puts.gates }) bare ∙ ap (λ (gs : List Gate). with_gates (fresh_circuit h.inputs h.latches) gs) (sym own_gates)
 
   latches_are : length c1.latches ≡ h.latches
   latches_are = ap (λ (c : Circuit). length c.latches) bare_then ∙ length-replicate h.latches fresh_latch
@@ -394,10 +374,11 @@ module _ (form : Form) (h : Counts) (uses : List Latch × Properties) (before : 
   text_then : text_with form h before c1.gates names ≡ text_with form h before c0.gates window
   text_then =
       let first = suc (h.inputs + h.latches) in
-      let own : gates_text form first c1.gates ≡ gates_text form first c0.gates ++ gates_text form (suc (variables (net c0))) puts.gates =
-      ap (gates_text form first) own_gates ∙ gates_text-append form first c0.gates puts.gates ∙ ap (λ (k : ℕ). gates_text form first c0.gates ++ gates_text form k puts.gates) (sym first_are) in
+      let own : gates_text form first c1.gates ≡ gates_text form first c0.gates ++ puts.bytes =
+      ap (gates_text form first) own_gates ∙ gates_text-append form first c0.gates puts.puts.gates ∙ ap (λ (k : ℕ). gates_text form first c0.gates ++ gates_text form k puts.puts.gates) (sym first_are)
+      ∙ ap (λ (l : List ℕ). gates_text form first c0.gates ++ l) (sym puts.puts.own) in
       ap (λ (l : List ℕ). before ++ (l ++ names)) own
-      ∙ ap (λ (l : List ℕ). before ++ l) (append_assoc (gates_text form first c0.gates) (gates_text form (suc (variables (net c0))) puts.gates) names ∙ ap (λ (l : List ℕ). gates_text form first c0.gates ++ l) (sym puts.text))
+      ∙ ap (λ (l : List ℕ). before ++ l) (append_assoc (gates_text form first c0.gates) puts.bytes names ∙ ap (λ (l : List ℕ). gates_text form first c0.gates ++ l) (sym puts.text))
 
   in_order : AreOrderedFrom (suc (h.inputs + h.latches)) c1.gates
   in_order = subst (λ (m : ℕ). AreOrderedFrom (suc m) c1.gates) (ap (λ (i : ℕ). i + length c1.latches) (ap (λ (c : Circuit). c.inputs) bare_then) ∙ ap (λ (l : ℕ). h.inputs + l) latches_are) valid.ordered
@@ -422,17 +403,17 @@ finish_reads own_valid own_numbered own_many Binary h uses before front gs names
     inr (stops_at_name h uses before front gs names ordered few e many f)
 
 module _ (form : Form) (h : Counts) (uses : List Latch × Properties) (before : List ℕ) (front : IsFront form h uses before) (c0 c1 : Circuit) (n : ℕ) (window names : List ℕ)
-    (bare : c0 ≡ with_gates (fresh_circuit h.inputs h.latches) c0.gates) (puts : PutsGates form c0 c1 n (Some window) (Some names)) (valid : IsCircuit c1) where
+    (bare : c0 ≡ with_gates (fresh_circuit h.inputs h.latches) c0.gates) (puts : PutsText (IsPut form) c0 c1 n (Some window) (Some names)) (valid : IsCircuit c1) where
   pub reads_left : OwnValid → OwnNumbered → OwnMany → {X : Type 0} (c : Circuit) (r : Result X Stop) → length c1.gates ≡ h.gates → IsFinish h uses c1.gates c names r → ReadsOnto c (text_with form h before c0.gates window) r
   reads_left own_valid own_numbered own_many c r many f =
       subst (λ (t : List ℕ). ReadsOnto c t r) (text_then form h uses before front c0 c1 n window names bare puts valid)
       (finish_reads own_valid own_numbered own_many form h uses before front c1.gates names c r (in_order form h uses before front c0 c1 n window names bare puts valid) (few_gates form h uses before front c0 c1 n window names bare puts valid) many f)
 
 pub gate_answer : (form : Form) (h : Counts) (uses : List Latch × Properties) (before : List ℕ) (front : IsFront form h uses before) (c0 c1 : Circuit) (n : ℕ) (window names : List ℕ) (bare : c0 ≡ with_gates (fresh_circuit h.inputs h.latches) c0.gates)
-    (puts : PutsGates form c0 c1 n (Some window) (Some names)) (valid : IsCircuit c1) (e : Stop) (own : ℕ) → (form ≡ Ascii → length c0.gates ≡ h.gates) → length c1.gates ≤ h.gates → length c1.gates ≢ h.gates → own ≡ 2 * (variables (net c1) + 1) → gate_at own names ≡ Err e
+    (puts : PutsText (IsPut form) c0 c1 n (Some window) (Some names)) (valid : IsCircuit c1) (e : Stop) (own : ℕ) → (form ≡ Ascii → length c0.gates ≡ h.gates) → length c1.gates ≤ h.gates → length c1.gates ≢ h.gates → own ≡ 2 * (variables (net c1) + 1) → gate_at own names ≡ Err e
     → AnswersText (text_with form h before c0.gates window) (Err e)
 gate_answer Ascii h uses before front c0 c1 n window names bare puts valid e own all most other is stops =
-    absurd (other (omega (arith, all refl, most, ap (length {A = Gate}) (own_gates Ascii h uses before front c0 c1 n window names bare puts valid), length-append c0.gates puts.gates)))
+    absurd (other (omega (arith, all refl, most, ap (length {A = Gate}) (own_gates Ascii h uses before front c0 c1 n window names bare puts valid), length-append c0.gates puts.puts.gates)))
 gate_answer Binary h uses before front c0 c1 n window names bare puts valid e own all most other is stops =
     subst (λ (t : List ℕ). AnswersText t (Err e)) (text_then Binary h uses before front c0 c1 n window names bare puts valid)
     (stops_at_gate h uses before front c1.gates names (in_order Binary h uses before front c0 c1 n window names bare puts valid) (few_gates Binary h uses before front c0 c1 n window names bare puts valid) own e (omega (arith, most, other))

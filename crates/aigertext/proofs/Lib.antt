@@ -28,6 +28,7 @@ mod PutsLemmas
 mod ReadFrontLemmas
 mod InOrderLemmas
 mod AnswerLemmas
+mod AnyOrderLemmas
 mod FileLemmas
 mod PassOverLemmas
 mod HeaderSmallLemmas

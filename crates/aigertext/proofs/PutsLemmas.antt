@@ -1,9 +1,13 @@
 -- Gates that are put onto a circuit by their text, and lines of inputs in turn.
-use Rattle.std.proofs.Common.{◌≡◌, ℕ, zero, suc, ◌+◌, ◌-◌, ◌*◌, ◌≤◌, List, [], ◌∷◌, ◌++◌, length, take, decimal, Option, Some, None, refl, sym, ap, subst, ◌∙◌, append_assoc, append-nil, length-append, arith}
-use Rattle.std.specs.Io.KnownBytes.{prepend_known, Keeps, Consumes}
-use Rattle.std.proofs.KnownBytes.{Consumes-trans, Consumes-kept}
+use Rattle.std.proofs.Common.{◌≡◌, ℕ, zero, suc, ◌+◌, ◌-◌, ◌*◌, ◌≤◌, List, [], ◌∷◌, ◌++◌, length, take, decimal, Option, Some, None, refl, sym, ap, ◌∙◌, append_assoc, append-nil, length-append, arith}
+use Rattle.std.specs.Prelude.{IfSome}
+use Rattle.std.specs.Io.KnownBytes.{prepend_known, Keeps, Consumes, IsAtEnd}
+use Rattle.std.proofs.KnownBytes.{Consumes-nil, Consumes-trans, Consumes-kept}
 use Rattle.std.proofs.lemmas.List.{take_at}
+use Rattle.std.proofs.lemmas.List.Elements.{All-nil, All-cons, All-append}
 use Rattle.aiger.specs.declared.circuit.Gate.{Gate}
+use Rattle.aiger.specs.declared.loose.GateLine.{GateLine}
+use Rattle.aiger.specs.Loose.{Loose, with_gate_line}
 use Rattle.aiger.specs.Net.{variables}
 use Rattle.aiger.specs.Circuit.{Circuit, net, with_gate}
 use Rattle.aigertext.specs.declared.forms.Form.{Form}
@@ -11,7 +15,7 @@ use Rattle.aigertext.specs.declared.forms.Form.TheVariants.{Ascii, Binary}
 use Rattle.aigertext.specs.Ascii.{numbers_line, input_lines}
 use Rattle.aigertext.specs.Binary.{gate_text, gates_text}
 use Rattle.aigertext.specs.Passes.{with_gates}
-use Rattle.aigertext.specs.InOrder.{PutsGates}
+use Rattle.aigertext.specs.InOrder.{line_texts, IsLineUpTo, IsPut, IsPutOnLists, PutsText, FollowEachOther}
 
 -- ---- inputs
 
@@ -36,7 +40,7 @@ inputs_step index number text rest behind so_far line is =
     so_far ∙ ap (λ (t : List ℕ). input_lines 1 index ++ t) one ∙ sym (append_assoc (input_lines 1 index) (numbers_line (2 * (1 + index) ∷ [])) behind)
     ∙ ap (λ (t : List ℕ). t ++ behind) (sym (input_lines-more 1 index)) ∙ ap (λ (n : ℕ). input_lines 1 n ++ behind) next
 
--- ---- gates
+-- ---- gates of a circuit
 
 pub gates_text-none : (form : Form) (first : ℕ) → [] ≡ gates_text form first []
 gates_text-none Ascii first = refl
@@ -59,42 +63,32 @@ gates_text-append form first (g ∷ gs) hs =
 pub variables_then : (old new : Circuit) (gs : List Gate) → new ≡ with_gates old gs → variables (net new) ≡ variables (net old) + length gs
 variables_then old new gs is = ap (λ (c : Circuit). variables (net c)) is ∙ omega (arith, length-append old.gates gs)
 
--- more gates
-pub puts_then : (form : Form) (a b c : Circuit) (m n s : ℕ) (x y z : Option (List ℕ)) → s ≡ m + n → PutsGates form a b m x y → PutsGates form b c n y z → PutsGates form a c s x z
-puts_then form a b c m n s x y z both_long p q =
-    let first : suc (variables (net b)) ≡ suc (variables (net a)) + length p.gates = omega (arith, variables_then a b p.gates p.is) in
-    let both : gates_text form (suc (variables (net a))) p.gates ++ gates_text form (suc (variables (net b))) q.gates ≡ gates_text form (suc (variables (net a))) (p.gates ++ q.gates) =
-    ap (λ (k : ℕ). gates_text form (suc (variables (net a))) p.gates ++ gates_text form k q.gates) first ∙ sym (gates_text-append form (suc (variables (net a))) p.gates q.gates) in
-    record {
-      gates = p.gates ++ q.gates;
-      is = q.is ∙ ap (λ (d : Circuit). with_gates d q.gates) p.is ∙ ap (λ (gs : List Gate). record a { gates = gs }) (append_assoc a.gates p.gates q.gates);
-      long =
-          both_long ∙ ap (λ (k : ℕ). k + n) p.long ∙ ap (λ (k : ℕ). length (gates_text form (suc (variables (net a))) p.gates) + k) q.long
-          ∙ sym (length-append (gates_text form (suc (variables (net a))) p.gates) (gates_text form (suc (variables (net b))) q.gates)) ∙ ap (length {A = ℕ}) both;
-      text = subst (Consumes x z) both (Consumes-trans x y z _ _ p.text q.text);
-    }
-
--- where both texts are known, their lengths tell how many bytes the gates took
-pub puts_long : (form : Form) (c d : Circuit) (n : ℕ) (x y : List ℕ) → PutsGates form c d n (Some x) (Some y) → PutsGates form c d (length x - length y) (Some x) (Some y)
-puts_long form c d n x y p =
-    let taken : List ℕ = gates_text form (suc (variables (net c))) p.gates in
-    let long : length x ≡ length taken + length y = ap (length {A = ℕ}) p.text ∙ length-append taken y in
-    record { gates = p.gates; is = p.is; long = omega (arith, long); text = p.text }
+-- gates are put onto a circuit in pieces
+pub circuit_pieces : (form : Form) → FollowEachOther (IsPut form)
+circuit_pieces form = record {
+  none = λ c. record { gates = []; is = ap (λ (gs : List Gate). record c { gates = gs }) (sym (append-nil c.gates)); own = gates_text-none form (suc (variables (net c))) };
+  both = λ a b c x y p q.
+      let first : suc (variables (net b)) ≡ suc (variables (net a)) + length p.gates = omega (arith, variables_then a b p.gates p.is) in
+      record {
+        gates = p.gates ++ q.gates;
+        is = q.is ∙ ap (λ (d : Circuit). with_gates d q.gates) p.is ∙ ap (λ (gs : List Gate). record a { gates = gs }) (append_assoc a.gates p.gates q.gates);
+        own =
+            ap (λ (t : List ℕ). t ++ y) p.own ∙ ap (λ (t : List ℕ). gates_text form (suc (variables (net a))) p.gates ++ t) (q.own ∙ ap (λ (k : ℕ). gates_text form k q.gates) first)
+            ∙ sym (gates_text-append form (suc (variables (net a))) p.gates q.gates);
+      };
+}
 
 -- one gate by its text
-puts_one : (form : Form) (c d : Circuit) (own : ℕ) (g : Gate) (rest behind : List ℕ) → rest ≡ gate_text form own g ++ behind → own ≡ 2 * (variables (net c) + 1) → d ≡ with_gate c g.rhs0 g.rhs1
-    → PutsGates form c d (length (gate_text form own g)) (Some rest) (Some behind)
-puts_one form c d own g rest behind parts is next =
+pub one_put : (form : Form) (c d : Circuit) (own : ℕ) (g : Gate) → own ≡ 2 * (variables (net c) + 1) → d ≡ with_gate c g.rhs0 g.rhs1 → IsPut form c d (gate_text form own g)
+one_put form c d own g is next =
     let same : own ≡ 2 * suc (variables (net c)) = omega (arith, is) in
-    let one : gate_text form own g ≡ gates_text form (suc (variables (net c))) (g ∷ []) =
-    ap (λ (n : ℕ). gate_text form n g) same ∙ sym (append-nil (gate_text form (2 * suc (variables (net c))) g))
-    ∙ ap (λ (t : List ℕ). gate_text form (2 * suc (variables (net c))) g ++ t) (gates_text-none form (suc (suc (variables (net c))))) ∙ sym (gates_text-cons form (suc (variables (net c))) g []) in
-    record { gates = g ∷ []; is = next; long = ap (length {A = ℕ}) one; text = parts ∙ ap (λ (t : List ℕ). t ++ behind) one }
-
-pub puts_more : (form : Form) (c0 c d : Circuit) (own n : ℕ) (g : Gate) (text rest behind : List ℕ) → PutsGates form c0 c n (Some text) (Some rest) → rest ≡ gate_text form own g ++ behind → own ≡ 2 * (variables (net c) + 1) → d ≡ with_gate c g.rhs0 g.rhs1
-    → PutsGates form c0 d (length text - length behind) (Some text) (Some behind)
-puts_more form c0 c d own n g text rest behind p parts is next =
-    puts_long form c0 d _ text behind (puts_then form c0 c d n _ _ (Some text) (Some rest) (Some behind) refl p (puts_one form c d own g rest behind parts is next))
+    record {
+      gates = g ∷ [];
+      is = next;
+      own =
+          ap (λ (n : ℕ). gate_text form n g) same ∙ sym (append-nil (gate_text form (2 * suc (variables (net c))) g))
+          ∙ ap (λ (t : List ℕ). gate_text form (2 * suc (variables (net c))) g ++ t) (gates_text-none form (suc (suc (variables (net c))))) ∙ sym (gates_text-cons form (suc (variables (net c))) g []);
+    }
 
 -- there is a variable more
 pub one_variable : (c d : Circuit) (g : Gate) → d ≡ with_gate c g.rhs0 g.rhs1 → variables (net d) ≡ variables (net c) + 1
@@ -103,15 +97,80 @@ one_variable c d g is = variables_then c d (g ∷ []) is
 pub one_gate : (c d : Circuit) (g : Gate) → d ≡ with_gate c g.rhs0 g.rhs1 → length d.gates ≡ length c.gates + 1
 one_gate c d g is = ap (λ (x : Circuit). length x.gates) is ∙ length-append c.gates (g ∷ [])
 
+-- ---- gates of the lists of a file
+
+pub line_texts-append : (gs hs : List GateLine) → line_texts (gs ++ hs) ≡ line_texts gs ++ line_texts hs
+line_texts-append [] hs = refl
+line_texts-append (g ∷ gs) hs =
+    ap (λ (t : List ℕ). numbers_line (g.lhs ∷ g.rhs0 ∷ g.rhs1 ∷ []) ++ t) (line_texts-append gs hs) ∙ sym (append_assoc (numbers_line (g.lhs ∷ g.rhs0 ∷ g.rhs1 ∷ [])) (line_texts gs) (line_texts hs))
+
+pub lists_pieces : (greatest : ℕ) → FollowEachOther (IsPutOnLists greatest)
+lists_pieces greatest = record {
+  none = λ l. record { gates = []; is = ap (λ (gs : List GateLine). record l { gates = gs }) (sym (append-nil l.gates)); up_to = All-nil (IsLineUpTo greatest); own = refl };
+  both = λ a b c x y p q. record {
+    gates = p.gates ++ q.gates;
+    is = q.is ∙ ap (λ (l : Loose). record l { gates = l.gates ++ q.gates }) p.is ∙ ap (λ (gs : List GateLine). record a { gates = gs }) (append_assoc a.gates p.gates q.gates);
+    up_to = All-append (IsLineUpTo greatest) p.gates q.gates p.up_to q.up_to;
+    own = ap (λ (t : List ℕ). t ++ y) p.own ∙ ap (λ (t : List ℕ). line_texts p.gates ++ t) q.own ∙ sym (line_texts-append p.gates q.gates);
+  };
+}
+
+pub one_line : (greatest : ℕ) (l m : Loose) (g : GateLine) → (m ≡ with_gate_line l g) × IsLineUpTo greatest g → IsPutOnLists greatest l m (numbers_line (g.lhs ∷ g.rhs0 ∷ g.rhs1 ∷ []))
+one_line greatest l m g added =
+    record { gates = g ∷ []; is = added.0; up_to = All-cons (IsLineUpTo greatest) g [] added.1 (All-nil (IsLineUpTo greatest)); own = sym (append-nil (numbers_line (g.lhs ∷ g.rhs0 ∷ g.rhs1 ∷ []))) }
+
+pub one_line_more : (l m : Loose) (g : GateLine) → m ≡ with_gate_line l g → length m.gates ≡ length l.gates + 1
+one_line_more l m g is = ap (λ (x : Loose). length x.gates) is ∙ length-append l.gates (g ∷ [])
+
+-- ---- texts of what was put
+
+module _ {A : Type 0} (Puts : A → A → List ℕ → Type 0) (pieces : FollowEachOther Puts) where
+  pub puts_none : (a : A) (x : Option (List ℕ)) → PutsText Puts a a 0 x x
+  puts_none a x = record { bytes = []; puts = pieces.none a; long = refl; text = Consumes-nil x }
+
+  pub puts_then : (a b c : A) (m n s : ℕ) (x y z : Option (List ℕ)) → s ≡ m + n → PutsText Puts a b m x y → PutsText Puts b c n y z → PutsText Puts a c s x z
+  puts_then a b c m n s x y z both_long p q =
+      record {
+        bytes = p.bytes ++ q.bytes;
+        puts = pieces.both a b c p.bytes q.bytes p.puts q.puts;
+        long = both_long ∙ omega (arith, p.long, q.long, length-append p.bytes q.bytes);
+        text = Consumes-trans x y z _ _ p.text q.text;
+      }
+
+  -- where both texts are known, their lengths tell how many bytes were taken
+  pub puts_more : (a b c : A) (n : ℕ) (text rest one behind : List ℕ) → PutsText Puts a b n (Some text) (Some rest) → rest ≡ one ++ behind → Puts b c one → PutsText Puts a c (length text - length behind) (Some text) (Some behind)
+  puts_more a b c n text rest one behind p parts put =
+      let all = puts_then a b c n (length one) (n + length one) (Some text) (Some rest) (Some behind) refl p (record { bytes = one; puts = put; long = refl; text = parts }) in
+      let long : length text ≡ length all.bytes + length behind = ap (length {A = ℕ}) all.text ∙ length-append all.bytes behind in
+      record { bytes = all.bytes; puts = all.puts; long = omega (arith, long); text = all.text }
+
 -- what is still to come behind what is held
-pub puts_held : (form : Form) (c d : Circuit) (n : ℕ) (held rest : List ℕ) (known : Option (List ℕ)) → PutsGates form c d n (Some held) (Some rest) → PutsGates form c d n (prepend_known held known) (prepend_known rest known)
-puts_held form c d n held rest None p = record { gates = p.gates; is = p.is; long = p.long; text = tt }
-puts_held form c d n held rest (Some xs) p =
-    record { gates = p.gates; is = p.is; long = p.long; text = ap (λ (t : List ℕ). t ++ xs) p.text ∙ append_assoc (gates_text form (suc (variables (net c))) p.gates) rest xs }
+pub puts_held : {A : Type 0} (Puts : A → A → List ℕ → Type 0) (a b : A) (n : ℕ) (held rest : List ℕ) (known : Option (List ℕ)) → PutsText Puts a b n (Some held) (Some rest) → PutsText Puts a b n (prepend_known held known) (prepend_known rest known)
+puts_held Puts a b n held rest None p = record { bytes = p.bytes; puts = p.puts; long = p.long; text = tt }
+puts_held Puts a b n held rest (Some xs) p = record { bytes = p.bytes; puts = p.puts; long = p.long; text = ap (λ (t : List ℕ). t ++ xs) p.text ∙ append_assoc p.bytes rest xs }
 
 -- what is still to come is held in another way
-pub puts_kept : (form : Form) (c d : Circuit) (n : ℕ) (x y z : Option (List ℕ)) → PutsGates form c d n x y → Keeps y z → PutsGates form c d n x z
-puts_kept form c d n x y z p kept = record { gates = p.gates; is = p.is; long = p.long; text = Consumes-kept x y z _ p.text kept }
+pub puts_kept : {A : Type 0} (Puts : A → A → List ℕ → Type 0) (a b : A) (n : ℕ) (x y z : Option (List ℕ)) → PutsText Puts a b n x y → Keeps y z → PutsText Puts a b n x z
+puts_kept Puts a b n x y z p kept = record { bytes = p.bytes; puts = p.puts; long = p.long; text = Consumes-kept x y z _ p.text kept }
+
+-- what was taken stands behind what was there before
+pub front_kept : (front bytes held rest : List ℕ) (a b : Option (List ℕ)) → Consumes (prepend_known held a) (prepend_known rest b) bytes → Keeps (prepend_known (front ++ held) a) (prepend_known (front ++ (bytes ++ rest)) b)
+front_kept front bytes held rest None b is = tt
+front_kept front bytes held rest (Some xs) None is = absurd is
+front_kept front bytes held rest (Some xs) (Some ys) is =
+    append_assoc front (bytes ++ rest) ys ∙ ap (λ (t : List ℕ). front ++ t) (append_assoc bytes rest ys ∙ sym is) ∙ sym (append_assoc front held xs)
+
+-- the rest is held behind what was there before
+pub more_kept : (front held rest : List ℕ) (a b : Option (List ℕ)) → Keeps (prepend_known held a) (prepend_known rest b) → Keeps (prepend_known (front ++ held) a) (prepend_known (front ++ rest) b)
+more_kept front held rest None b is = tt
+more_kept front held rest (Some xs) None is = absurd is
+more_kept front held rest (Some xs) (Some ys) is = append_assoc front rest ys ∙ ap (λ (t : List ℕ). front ++ t) is ∙ sym (append_assoc front held xs)
+
+-- what is held at the end is what was to come
+pub at_end : (known : Option (List ℕ)) (held : List ℕ) (left : Option (List ℕ)) → Keeps known (prepend_known held left) → IsAtEnd left → IfSome known (λ all. held ≡ all)
+at_end None held left kept end = tt
+at_end (Some all) held None kept end = absurd kept
+at_end (Some all) held (Some xs) kept end = sym (append-nil held) ∙ ap (λ (t : List ℕ). held ++ t) (sym end) ∙ kept
 
 -- ---- fronts
 

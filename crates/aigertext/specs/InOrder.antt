@@ -1,8 +1,10 @@
 -- Words between the parts of the reader of a text that is read straight onto a circuit, of whose gates a piece is held: a binary text, or an ascii text whose variables have a circuit's numbers in turn, and whose gates stand behind their operands.
-use Rattle.std.specs.Prelude.{◌≡◌, ℕ, suc, ◌≤◌, ◌+◌, ◌*◌, List, ◌++◌, length, take, Option, Some, None, Result, Ok, Err, ◌⊎◌, IfSome}
+use Rattle.std.specs.Prelude.{◌≡◌, ℕ, suc, ◌≤◌, ◌+◌, ◌*◌, List, [], ◌∷◌, ◌++◌, All, length, take, Option, Some, None, Result, Ok, Err, ◌⊎◌, IfSome}
 use Rattle.std.specs.Io.KnownBytes.{Consumes}
 use Rattle.aiger.specs.declared.circuit.Gate.{Gate}
 use Rattle.aiger.specs.declared.circuit.Latch.{Latch}
+use Rattle.aiger.specs.declared.loose.GateLine.{GateLine}
+use Rattle.aiger.specs.Loose.{Loose}
 use Rattle.aiger.specs.Net.{variables}
 use Rattle.aiger.specs.Circuit.{Circuit, IsCircuit, net}
 use Rattle.aigertext.specs.declared.reading.counts.Counts.{Counts}
@@ -10,15 +12,16 @@ use Rattle.aigertext.specs.declared.fault.ReadFault.{ReadFault}
 use Rattle.aigertext.specs.declared.fault.Stop.{Stop}
 use Rattle.aigertext.specs.declared.fault.Why.TheVariants as why
 use Rattle.aigertext.specs.declared.forms.Form.{Form}
-use Rattle.aigertext.specs.declared.forms.Form.TheVariants.{Binary}
+use Rattle.aigertext.specs.declared.forms.Form.TheVariants.{Ascii, Binary}
 use Rattle.aigertext.specs.declared.reading.taking.Taken.{Taken}
 use Rattle.aigertext.specs.declared.reading.taking.Taken.TheVariants as taken
+use Rattle.aigertext.specs.Ascii.{numbers_line}
 use Rattle.aigertext.specs.Binary.{inputs_text, gates_text}
 use Rattle.aigertext.specs.declared.reading.front.Front.{Front}
 use Rattle.aigertext.specs.Counts.{AreSmall, Fits}
 use Rattle.aigertext.specs.PropertyLists.{numbers_of}
 use Rattle.aigertext.specs.Spelling.{Spells}
-use Rattle.aigertext.specs.AsciiReading.{AnswersText}
+use Rattle.aigertext.specs.AsciiReading.{lists_of_file, AnswersText}
 use Rattle.aigertext.specs.Reading.{◌>>=◌, line_at, header_of, Properties, properties_at, nameless, names_at}
 use Rattle.aigertext.specs.Passes.{with_gates, latches_in, ReadsText}
 
@@ -53,12 +56,11 @@ text_with form h before gs behind = before ++ (gates_text form (suc (h.inputs + 
 
 -- ---- the circuit
 
--- gates were put onto a circuit by their text at the front of what was to come, which has so many bytes; the first has the circuit's next variable
-pub record PutsGates (form : Form) (old new : Circuit) (passed : ℕ) (before after : Option (List ℕ)) : Type 0 where
+-- gates were put onto a circuit by their text; the first has the circuit's next variable
+pub record IsPut (form : Form) (old new : Circuit) (text : List ℕ) : Type 0 where
   pub gates : List Gate
   pub is : new ≡ with_gates old gates
-  pub long : passed ≡ length (gates_text form (suc (variables (net old))) gates)
-  pub text : Consumes before after (gates_text form (suc (variables (net old))) gates)
+  pub own : text ≡ gates_text form (suc (variables (net old))) gates
 
 -- a circuit of these gates, latches and properties has this answer for the names of a text
 pub record Finishes (h : Counts) (uses : List Latch × Properties) (gates : List Gate) (answer : Result Circuit Stop) (names : List ℕ) : Type 0 where
@@ -75,7 +77,46 @@ abbrev pub ReadsOnto : {X : Type 0} → Circuit → List ℕ → Result X Stop �
 ReadsOnto c text (Ok x) = Spells text c
 ReadsOnto c text (Err e) = (e.why ≡ why.NoMemory) ⊎ AnswersText text (Err e)
 
+-- ---- the lists of a file
+
+-- the lines of gates
+abbrev pub line_texts : List GateLine → List ℕ
+line_texts [] = []
+line_texts (g ∷ gs) = numbers_line (g.lhs ∷ g.rhs0 ∷ g.rhs1 ∷ []) ++ line_texts gs
+
+-- the literals of a gate are at most the greatest
+abbrev pub IsLineUpTo : ℕ → GateLine → Type 0
+IsLineUpTo greatest line = (line.lhs ≤ greatest) × (line.rhs0 ≤ greatest) × (line.rhs1 ≤ greatest)
+
+-- gates with literals up to the greatest were put onto the lists of a file by their lines
+pub record IsPutOnLists (greatest : ℕ) (old new : Loose) (text : List ℕ) : Type 0 where
+  pub gates : List GateLine
+  pub is : new ≡ record old { gates = old.gates ++ gates }
+  pub up_to : All (IsLineUpTo greatest) gates
+  pub own : text ≡ line_texts gates
+
+-- lists of a file with what a text says before its gates, and gates with literals up to the greatest
+pub record StandBefore (h : Counts) (before : List ℕ) (l : Loose) : Type 0 where
+  pub lines : List ℕ
+  pub header : line_at header_of before ≡ Ok ((Ascii, h), lines)
+  pub read : lists_of_file (record h { gates = 0 }) lines ≡ Ok (record l { gates = [] }, [])
+  pub small : AreSmall h
+  pub fits : Fits Ascii h
+  pub up_to : All (IsLineUpTo (2 * h.variables + 1)) l.gates
+
 -- ---- a source
+
+-- something was put onto a value by its text at the front of what was to come, which has so many bytes
+pub record PutsText {A : Type 0} (Puts : A → A → List ℕ → Type 0) (old new : A) (passed : ℕ) (before after : Option (List ℕ)) : Type 0 where
+  pub bytes : List ℕ
+  pub puts : Puts old new bytes
+  pub long : passed ≡ length bytes
+  pub text : Consumes before after bytes
+
+-- what is put in pieces is put as one
+pub record FollowEachOther {A : Type 0} (Puts : A → A → List ℕ → Type 0) : Type 0 where
+  pub none : (x : A) → Puts x x []
+  pub both : (x y z : A) (front behind : List ℕ) → Puts x y front → Puts y z behind → Puts x z (front ++ behind)
 
 -- what was read is the circuit or the fault of a text that is the source's, where that is known
 pub record IsReadOf (known : Option (List ℕ)) (r : Result Circuit ReadFault) : Type 0 where

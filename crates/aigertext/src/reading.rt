@@ -12,6 +12,7 @@ ghost use Rattle.aigertext.specs.Spelling.{Spells};
 ghost use Rattle.aigertext.specs.Passes.{ReadsBy, ReadsText};
 ghost use Rattle.aigertext.specs.declared.fault.Why.TheVariants as why;
 
+mod any_order;
 mod ascii;
 mod ascii_definitions;
 mod ascii_lines;
@@ -22,7 +23,6 @@ mod finishing;
 mod front;
 mod gates;
 mod header;
-mod in_order;
 mod latches;
 mod lines;
 mod names;

@@ -44,7 +44,7 @@ fn push_properties<'a>(
 }
 
 /// Reads the lists of a file onto empty ones, and answers the text behind them.
-fn read_lists<'a>(
+pub fn read_lists<'a>(
     alloc: Global,
     lists: &mut Loose,
     counts: &Counts,

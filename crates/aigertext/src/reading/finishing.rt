@@ -10,7 +10,7 @@ ghost use Rattle.aigertext.specs.InOrder.{uses_of, IsFront, text_with, IsFinish,
 use crate::fault::{Stop, Why};
 use crate::reading::deltas::gate;
 use crate::reading::front::Front;
-use crate::reading::gates::push_gates;
+use crate::reading::gates::TakesGates;
 use crate::reading::lines::stop;
 use crate::reading::names::give_names;
 use crate::reading::property_lists::put_properties;
@@ -69,7 +69,9 @@ pub fn read_left(circuit: &mut Circuit, front: &Front, window: &[u8]) -> Result<
 {
     own_numbers();
     let gates = front.counts.gates as usize;
-    let names = push_gates(front.form, circuit, window, gates - circuit.gates().len());
+    let greatest = 2 * front.counts.variables + 1;
+    let left = gates - circuit.gates().len();
+    let names = circuit.push_gates(front.form, greatest, window, left);
     let own = 2 * (circuit.variables() + 1);
     if circuit.gates().len() == gates {
         return finish(circuit, front, names);

@@ -1,17 +1,19 @@
-//! The gates of a text, put onto a circuit piece by piece: each has the circuit's next variable, and operands below it, the
-//! greater one first.
-ghost use Rattle.std.specs.Prelude.{◌≡◌, ◌+◌, ◌-◌, ◌≤◌, ◌∷◌, ◌++◌, [], Some, length, IfOk, IfSome, OnOk, IsErrOf};
+//! The gates of a text, put piece by piece onto a circuit, where each has the circuit's next variable, and operands below
+//! it, the greater one first; or onto the lists of a file.
+ghost use Rattle.std.specs.Prelude.{◌≡◌, ℕ, ◌+◌, ◌-◌, ◌≤◌, ◌∷◌, ◌++◌, List, [], true, false, Some, length, IfOk, IfSome, OnOk, IsErrOf};
 ghost use Rattle.std.specs.Io.KnownBytes.{prepend_known};
 ghost use Rattle.base.specs.Device.{HasRisen};
+ghost use Rattle.aiger.specs.Loose.{with_gate_line};
 ghost use Rattle.aigertext.specs.Ascii.{numbers_line};
 ghost use Rattle.aigertext.specs.Binary.{delta, gate_text};
-ghost use Rattle.aigertext.specs.InOrder.{PutsGates};
+ghost use Rattle.aigertext.specs.declared.forms.Form.{Form as FormValue};
+ghost use Rattle.aigertext.specs.InOrder.{IsLineUpTo, IsPut, IsPutOnLists, PutsText, FollowEachOther};
 
 use crate::forms::Form;
 use crate::reading::deltas::gate;
 use crate::reading::pieces::{read_piece, remove_front};
 use crate::reading::plain_numbers::three_numbers;
-use aiger::{Circuit, Gate, Lit};
+use aiger::{Circuit, Gate, Lit, Loose};
 use base::{ReadAllFault, Source};
 
 /// More bytes than a gate in order takes in either form.
@@ -53,66 +55,159 @@ fn gate_in(form: Form, text: &[u8], own: u32) -> Option<(Gate, &[u8])>
     }
 }
 
-/// Adds the gates at the front of a text, at most so many and as long as each is the next one of the circuit, and answers
-/// the text behind them. It ends where memory is wanting, too.
-pub fn push_gates<'a>(form: Form, circuit: &mut Circuit, text: &'a [u8], count: usize) -> &'a [u8]
-    ensures puts { PutsGates form circuit.old circuit.new (length text.now - length result.now) (Some text.now) (Some result.now) }
-    ensures few { length circuit.new.gates ≤ length circuit.old.gates + count }
-{
-    let mut rest = text;
-    let mut own = 2 * (circuit.variables() + 1);
-    for _index in 0..count {
-        let (gate, behind) = match gate_in(form, rest, own) {
-            Some(found) => found,
-            None => return rest,
-        };
-        match circuit.push_gate(gate.rhs0, gate.rhs1) {
-            Ok(_) => {}
-            Err(_) => return rest,
-        }
-        own += 2;
-        rest = behind;
-    }
-    rest
+/// What takes the gates of a text one after the other.
+pub(crate) trait TakesGates {
+    /// What it is then, where the text of gates was put onto it in a form, up to a greatest literal.
+    ghost puts: { FormValue → ℕ → Self → Self → List ℕ → Type 0 };
+
+    /// How many gates it has.
+    ghost count: { Self → ℕ };
+
+    /// Gates may be put in pieces.
+    fn in_pieces()
+        ensures { (form : FormValue) (greatest : ℕ) → FollowEachOther (puts form greatest) };
+
+    /// How many gates it has.
+    fn gate_count(&self) -> usize
+        ensures { result ≡ count self.now };
+
+    /// Adds the gates at the front of a text, at most so many and as long as it takes them, and answers the text behind
+    /// them. It ends where memory is wanting, too.
+    fn push_gates<'a>(&mut self, form: Form, greatest: u32, text: &'a [u8], most: usize) -> &'a [u8]
+        ensures puts { PutsText (puts form greatest) self.old self.new (length text.now - length result.now) (Some text.now) (Some result.now) }
+        ensures few { count self.new ≤ count self.old + most };
 }
 
-/// The same for what is held, of which the gates' text is dropped; answers how many bytes that was.
-fn push_held_gates(form: Form, circuit: &mut Circuit, window: &mut Vec<u8>, count: usize) -> usize
-    requires { length circuit.old.gates ≤ count }
-    ensures puts { PutsGates form circuit.old circuit.new result (Some window.old.items) (Some window.new.items) }
-    ensures few { length circuit.new.gates ≤ count }
+impl TakesGates for Circuit {
+    ghost puts = { λ form greatest. IsPut form };
+
+    ghost count = { λ c. length c.gates };
+
+    fn in_pieces() {}
+
+    fn gate_count(&self) -> usize {
+        self.gates().len()
+    }
+
+    fn push_gates<'a>(
+        &mut self,
+        form: Form,
+        _greatest: u32,
+        text: &'a [u8],
+        most: usize,
+    ) -> &'a [u8] {
+        let mut rest = text;
+        let mut own = 2 * (self.variables() + 1);
+        for _index in 0..most {
+            let (gate, behind) = match gate_in(form, rest, own) {
+                Some(found) => found,
+                None => return rest,
+            };
+            match self.push_gate(gate.rhs0, gate.rhs1) {
+                Ok(_) => {}
+                Err(_) => return rest,
+            }
+            own += 2;
+            rest = behind;
+        }
+        rest
+    }
+}
+
+impl TakesGates for Loose {
+    ghost puts = { λ form greatest. IsPutOnLists greatest };
+
+    ghost count = { λ l. length l.gates };
+
+    fn in_pieces() {}
+
+    fn gate_count(&self) -> usize {
+        self.gates().len()
+    }
+
+    fn push_gates<'a>(
+        &mut self,
+        _form: Form,
+        greatest: u32,
+        text: &'a [u8],
+        most: usize,
+    ) -> &'a [u8] {
+        let mut rest = text;
+        for _index in 0..most {
+            let (own, first, second, behind) = match three_numbers(rest) {
+                Some(found) => found,
+                None => return rest,
+            };
+            if !push_line(self, greatest, own, first, second) {
+                return rest;
+            }
+            rest = behind;
+        }
+        rest
+    }
+}
+
+/// Adds a gate to the lists of a file, where its literals are at most the greatest, its own one defines a new variable and
+/// there is memory; answers whether it did.
+#[inline(always)]
+pub fn push_line(lists: &mut Loose, greatest: u32, own: u32, first: u32, second: u32) -> bool
+    ensures added { result ≡ true → (lists.new ≡ with_gate_line lists.old (record { lhs = own; rhs0 = first; rhs1 = second })) × IsLineUpTo greatest (record { lhs = own; rhs0 = first; rhs1 = second }) }
+    ensures same { result ≡ false → lists.new ≡ lists.old }
 {
-    let left = count - circuit.gates().len();
-    let behind = push_gates(form, circuit, window.as_slice(), left).len();
+    if own > greatest || first > greatest || second > greatest {
+        return false;
+    }
+    match lists.push_gate(Lit::new(own), Lit::new(first), Lit::new(second)) {
+        Ok(()) => true,
+        Err(_) => false,
+    }
+}
+
+/// Adds the gates at the front of what is held, of which their text is dropped; answers how many bytes that was.
+fn push_held_gates<T: TakesGates>(
+    form: Form,
+    greatest: u32,
+    target: &mut T,
+    window: &mut Vec<u8>,
+    most: usize,
+) -> usize
+    ensures puts { PutsText (T.puts form greatest) target.old target.new result (Some window.old.items) (Some window.new.items) }
+    ensures few { T.count target.new ≤ T.count target.old + most }
+{
+    let behind = target
+        .push_gates(form, greatest, window.as_slice(), most)
+        .len();
     let passed = window.len() - behind;
     remove_front(window, passed);
     passed
 }
 
-/// Adds gates by what is held and what a source has to come, until there are so many or one is out of turn, and holds what
+/// Adds gates by what is held and what a source has to come, until there are so many or one is not taken, and holds what
 /// stands behind them; answers how many bytes they took.
-pub fn read_gates<S: Source>(
+pub fn read_gates<T: TakesGates, S: Source>(
     form: Form,
-    circuit: &mut Circuit,
+    greatest: u32,
+    target: &mut T,
     window: &mut Vec<u8>,
     count: usize,
     source: &mut S,
 ) -> Result<u64, ReadAllFault>
-    requires { length circuit.old.gates ≤ count }
-    ensures puts { IfOk result (λ passed. PutsGates form circuit.old circuit.new passed (prepend_known window.old.items (S.to_come source.old)) (prepend_known window.new.items (S.to_come source.new))) }
-    ensures few { OnOk result (length circuit.new.gates ≤ count) }
+    ensures puts { IfOk result (λ passed. PutsText (T.puts form greatest) target.old target.new passed (prepend_known window.old.items (S.to_come source.old)) (prepend_known window.new.items (S.to_come source.new))) }
+    ensures few { OnOk result (T.count target.old ≤ count → T.count target.new ≤ count) }
     ensures counted { OnOk result (S.failures source.new ≡ S.failures source.old) }
     ensures device { IsErrOf result ReadAllFault.Device → HasRisen (S.failures source.old) (S.failures source.new) }
     ensures memory { IsErrOf result ReadAllFault.NoMemory → S.failures source.new ≡ S.failures source.old }
 {
+    T::in_pieces();
     let mut passed = 0u64;
     loop {
-        let more = push_held_gates(form, circuit, window, count);
+        let left = count.saturating_sub(target.gate_count());
+        let more = push_held_gates(form, greatest, target, window, left);
         match passed.checked_add(more as u64) {
             Some(sum) => passed = sum,
             None => return Err(ReadAllFault::NoMemory),
         }
-        if circuit.gates().len() == count || window.len() >= LONG_GATE {
+        if target.gate_count() >= count || window.len() >= LONG_GATE {
             return Ok(passed);
         }
         if !read_piece(window, source)? {

@@ -9,10 +9,10 @@ ghost use Rattle.aigertext.specs.InOrder.{uses_of, IsFront, IsTaken, IsTakenOnto
 
 use crate::fault::ReadFault;
 use crate::forms::Form;
+use crate::reading::any_order::{lists_so_far, take_onto};
 use crate::reading::finishing::read_left;
 use crate::reading::front::{Front, read_front};
 use crate::reading::gates::read_gates;
-use crate::reading::in_order::read_on;
 use crate::reading::lines::fault;
 use crate::reading::pieces::read_rest;
 use aiger::Circuit;
@@ -51,8 +51,8 @@ fn is_out_of_turn(form: Form, circuit: &Circuit, count: usize) -> bool
 }
 
 /// Reads the gates of a text, and all behind them, onto a fresh circuit, where the gates' text as far as it was read is
-/// held, and what stands before that. At the first line of an ascii text's gate that is out of turn the lines of the
-/// gates so far are written again.
+/// held, and what stands before that. From the first line of an ascii text's gate that is out of turn on, the gates go
+/// onto the lists of a file.
 fn read_onto<S: Source>(
     alloc: Global,
     front: &Front,
@@ -71,18 +71,16 @@ fn read_onto<S: Source>(
     ensures memory { IsErrOf result ReadAllFault.NoMemory → S.failures source.new ≡ S.failures source.old }
 {
     let counts = &front.counts;
-    let passed = read_gates(front.form, circuit, window, counts.gates as usize, source)?;
-    if is_out_of_turn(front.form, circuit, counts.gates as usize) {
+    let count = counts.gates as usize;
+    let greatest = 2 * counts.variables + 1;
+    let passed = read_gates(front.form, greatest, circuit, window, count, source)?;
+    if is_out_of_turn(front.form, circuit, count) {
         let first = counts.inputs + counts.latches + 1;
-        return match read_on(
-            alloc,
-            before,
-            first,
-            circuit.gates(),
-            window.as_slice(),
-            source,
-        ) {
-            Ok(whole) => Ok(Some(Taken::Text(whole))),
+        let Some((counts, mut lists)) = lists_so_far(alloc, before, first, circuit.gates()) else {
+            return Err(ReadAllFault::NoMemory);
+        };
+        return match take_onto(alloc, before, &counts, &mut lists, window, source) {
+            Ok(taken) => Ok(Some(taken)),
             Err(fault) => Err(fault),
         };
     }

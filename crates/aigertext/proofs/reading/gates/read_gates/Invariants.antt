@@ -1,12 +1,13 @@
-use Rattle.std.proofs.Common.{◌≡◌, ◌≤◌, length}
+use Rattle.std.proofs.Common.{◌≡◌, ◌≤◌}
 use Rattle.std.specs.Io.KnownBytes.{prepend_known}
-use Rattle.aigertext.specs.InOrder.{PutsGates}
+use Rattle.aigertext.specs.InOrder.{PutsText}
 use Rattle.aigertext.proofs.reading.gates.read_gates.Given as goal
 
 abbrev pub invariant-loop-sum : goal.invariant-loop-sum
 invariant-loop-sum g l = record {
-  puts : PutsGates l.form l.initial.circuit l.circuit l.passed (prepend_known l.initial.window.items (g.S.Source.to_come l.initial.source)) (prepend_known l.window.items (g.S.Source.to_come l.source));
-  few : length l.circuit.gates ≤ l.count;
+  puts :
+      PutsText (g.T.TakesGates.puts l.form l.greatest) l.initial.target l.target l.passed (prepend_known l.initial.window.items (g.S.Source.to_come l.initial.source)) (prepend_known l.window.items (g.S.Source.to_come l.source));
+  few : g.T.TakesGates.count l.initial.target ≤ l.count → g.T.TakesGates.count l.target ≤ l.count;
   counted : g.S.Source.failures l.source ≡ g.S.Source.failures l.initial.source;
 }
 

@@ -1,0 +1,148 @@
+//! An ascii text whose inputs and latches are in order, but one of whose gates is out of turn: its gates are read onto the
+//! lists of a file. Where these are no circuit, or a line is spelled otherwise, the text is put together again.
+ghost use Rattle.std.specs.Prelude.{◌≡◌, ◌+◌, ◌≤◌, ◌++◌, [], true, length, Ok, IfOk, IfErr, IfSome, OnOk, IsErrOf};
+ghost use Rattle.std.specs.Io.KnownBytes.{prepend_known, IsAtEnd};
+ghost use Rattle.base.specs.Device.{HasRisen};
+ghost use Rattle.aigertext.specs.Ascii.{gate_lines};
+ghost use Rattle.aigertext.specs.AsciiReading.{AnswersNamed};
+ghost use Rattle.aigertext.specs.InOrder.{line_texts, IsPutOnLists, StandBefore, IsTaken};
+
+use crate::forms::Form;
+use crate::reading::ascii::read_lists;
+use crate::reading::counts::Counts;
+use crate::reading::gates::{push_line, read_gates};
+use crate::reading::lines::header_line;
+use crate::reading::names::give_names;
+use crate::reading::pieces::read_rest;
+use crate::reading::taking::Taken;
+use crate::writing::line::Line;
+use aiger::laws::one_renumbering;
+use aiger::{Circuit, Gate, GateLine, Loose};
+use base::{ReadAllFault, Source};
+use std::alloc::{AllocError, Global};
+
+/// Adds gates to the lists of a file, the first of which has the given variable; answers whether there was memory for it.
+fn push_own(lists: &mut Loose, greatest: u32, first: u32, gates: &[Gate]) -> bool
+    requires { first + length gates.now ≤ 1073741825 }
+    ensures { result ≡ true → IsPutOnLists greatest lists.old lists.new (gate_lines first gates.now) }
+{
+    let mut variable = first;
+    for gate in gates {
+        let (first, second) = (gate.rhs0.number(), gate.rhs1.number());
+        if !push_line(lists, greatest, 2 * variable, first, second) {
+            return false;
+        }
+        variable += 1;
+    }
+    true
+}
+
+/// The lists of what stands before the gates of a text and of these gates, the first of which has the given variable, with
+/// the counts of the text; nothing where memory is wanting.
+pub fn lists_so_far(
+    alloc: Global,
+    before: &[u8],
+    first: u32,
+    gates: &[Gate],
+) -> Option<(Counts, Loose)>
+    requires { first + length gates.now ≤ 1073741825 }
+    ensures stand { IfSome result (λ x. StandBefore x.0 before.now x.1) }
+    ensures own { IfSome result (λ x. line_texts x.1.gates ≡ gate_lines first gates.now) }
+{
+    let (counts, lines) = match header_line(before) {
+        Ok(((Form::Ascii, counts), lines)) => (counts, lines),
+        _ => return None,
+    };
+    let mut without_gates = counts;
+    without_gates.gates = 0;
+    let mut lists = Loose::new(alloc);
+    match read_lists(alloc, &mut lists, &without_gates, lines) {
+        Ok([]) => {}
+        _ => return None,
+    }
+    if push_own(&mut lists, 2 * counts.variables + 1, first, gates) {
+        Some((counts, lists))
+    } else {
+        None
+    }
+}
+
+/// Puts the lines of gates behind a text.
+fn append_lines(text: &mut Vec<u8>, gates: &[GateLine]) -> Result<(), AllocError>
+    ensures { OnOk result (text.new.items ≡ text.old.items ++ line_texts gates.now) }
+{
+    let mut line = Line::new();
+    for gate in gates {
+        line.last(gate.rhs1.number());
+        line.before(gate.rhs0.number());
+        line.before(gate.lhs.number());
+        text.extend_from_slice(line.bytes())?;
+    }
+    Ok(())
+}
+
+/// The text that was read: what stands before the gates, the lines of those that were read, and what is held behind them.
+fn restored(
+    alloc: Global,
+    before: &[u8],
+    gates: &[GateLine],
+    window: &[u8],
+) -> Result<Vec<u8>, ReadAllFault>
+    ensures text { IfOk result (λ text. text.items ≡ before.now ++ (line_texts gates.now ++ window.now)) }
+    ensures memory { IfErr result (λ e. e ≡ ReadAllFault.NoMemory) }
+{
+    let Ok(mut text) = before.to_vec(alloc) else {
+        return Err(ReadAllFault::NoMemory);
+    };
+    if append_lines(&mut text, gates).is_err() || text.extend_from_slice(window).is_err() {
+        return Err(ReadAllFault::NoMemory);
+    }
+    Ok(text)
+}
+
+/// The circuit that the lists of a file are, with the names of a text; nothing where there is none, or memory is wanting.
+fn circuit_of(alloc: Global, lists: &Loose, names: &[u8]) -> Option<Circuit>
+    ensures { IfSome result (λ c. AnswersNamed lists.now names.now (Ok c)) }
+{
+    let mut circuit = lists.number(alloc).ok()?;
+    match give_names(&mut circuit, names) {
+        Ok(()) => Some(circuit),
+        Err(_) => None,
+    }
+}
+
+/// Takes all of a source behind a text: what stands before its gates, which the lists of a file have with some gates, the
+/// lines of these, and what is held. Where the other gates' lines are in their one spelling, a piece of them is held.
+pub fn take_onto<S: Source>(
+    alloc: Global,
+    before: &[u8],
+    counts: &Counts,
+    lists: &mut Loose,
+    window: &mut Vec<u8>,
+    source: &mut S,
+) -> Result<Taken, ReadAllFault>
+    requires { StandBefore counts.now before.now lists.old }
+    ensures taken { IfOk result (IsTaken (prepend_known (before.now ++ (line_texts lists.old.gates ++ window.old.items)) (S.to_come source.old))) }
+    ensures end { OnOk result (IsAtEnd (S.to_come source.new)) }
+    ensures counted { OnOk result (S.failures source.new ≡ S.failures source.old) }
+    ensures device { IsErrOf result ReadAllFault.Device → HasRisen (S.failures source.old) (S.failures source.new) }
+    ensures memory { IsErrOf result ReadAllFault.NoMemory → S.failures source.new ≡ S.failures source.old }
+{
+    one_renumbering();
+    let greatest = 2 * counts.variables + 1;
+    let count = counts.gates as usize;
+    read_gates(Form::Ascii, greatest, lists, window, count, source)?;
+    if lists.gates().len() != count {
+        let mut text = restored(alloc, before, lists.gates(), window.as_slice())?;
+        read_rest(&mut text, source)?;
+        return Ok(Taken::Text(text));
+    }
+    read_rest(window, source)?;
+    match circuit_of(alloc, lists, window.as_slice()) {
+        Some(circuit) => Ok(Taken::Circuit(circuit)),
+        None => match restored(alloc, before, lists.gates(), window.as_slice()) {
+            Ok(text) => Ok(Taken::Text(text)),
+            Err(fault) => Err(fault),
+        },
+    }
+}
