@@ -1,7 +1,7 @@
 -- A number at the front of a text, digit by digit up to a byte.
-use Rattle.std.proofs.Common.{◌≡◌, ℕ, ◌+◌, ◌-◌, ◌*◌, ◌/◌, ◌%◌, ◌<◌, ◌≤◌, List, [], ◌∷◌, ◌++◌, length, get_or, take, decimal, sym, ap, ◌∙◌, arith}
+use Rattle.std.proofs.Common.{◌≡◌, ℕ, ◌+◌, ◌-◌, ◌*◌, ◌/◌, ◌%◌, ◌<◌, ◌≤◌, List, [], ◌∷◌, ◌++◌, length, get_or, take, drop, decimal, sym, ap, ◌∙◌, arith}
 use Rattle.std.proofs.lemmas.Fmt.{decimal_digit, decimal_step}
-use Rattle.std.proofs.lemmas.List.{take_more}
+use Rattle.std.proofs.lemmas.List.{take_more, take_all}
 
 -- a byte is a digit from 0 to 9
 abbrev pub IsDigit : ℕ → Type 0
@@ -11,9 +11,17 @@ IsDigit b = (48 ≤ b) × (b ≤ 57)
 byte_back : (b : ℕ) → 48 ≤ b → 48 + (b - 48) ≡ b
 byte_back b h = omega arith
 
-pub first_digit : (text : List ℕ) → 0 < length text → IsDigit (get_or text 0 0) → take 1 text ≡ decimal (get_or text 0 0 - 48)
-first_digit text lt digit =
-    take_more text 0 0 lt ∙ ap (λ (b : ℕ). b ∷ []) (sym (byte_back (get_or text 0 0) digit.0)) ∙ sym (decimal_digit (get_or text 0 0 - 48) (omega (arith, digit)))
+pub first_digit : (text : List ℕ) → 49 ≤ get_or text 0 0 → get_or text 0 0 ≤ 57 → take 1 text ≡ decimal (get_or text 0 0 - 48)
+first_digit [] low high = absurd (omega (arith, low))
+first_digit (b ∷ bs) low high = ap (λ (d : ℕ). d ∷ []) (sym (byte_back b (omega (arith, low)))) ∙ sym (decimal_digit (b - 48) (omega (arith, high)))
+
+-- 0 has no digit more
+pub zero_before : (text : List ℕ) (end : ℕ) → 2 ≤ length text → get_or text 0 0 ≡ 48 → get_or text 1 0 ≡ end → text ≡ decimal 0 ++ end ∷ take (length text - 2) (drop 2 text)
+zero_before [] end long zero is = absurd (omega (arith, long))
+zero_before (a ∷ []) end long zero is = absurd (omega (arith, long))
+zero_before (a ∷ b ∷ rest) end long zero is =
+    ap (λ (x : ℕ). x ∷ b ∷ rest) zero ∙ ap (λ (x : ℕ). 48 ∷ x ∷ rest) is ∙ ap (λ (t : List ℕ). 48 ∷ end ∷ t) (sym (take_all (length (a ∷ b ∷ rest) - 2) rest (omega arith)))
+    ∙ ap (λ (ds : List ℕ). ds ++ end ∷ take (length (a ∷ b ∷ rest) - 2) rest) (sym (decimal_digit 0 (omega arith)))
 
 -- a number with a digit more
 shifted : (v b : ℕ) → IsDigit b → 0 < v → v ≤ 429496728 → decimal (v * 10 + (b - 48)) ≡ decimal v ++ b ∷ []

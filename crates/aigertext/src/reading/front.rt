@@ -14,7 +14,7 @@ use crate::fault::{Stop, Why};
 use crate::forms::Form;
 use crate::reading::counts::Counts;
 use crate::reading::lines::{header_line, latch_line, stop};
-use crate::reading::pieces::read_piece;
+use crate::reading::pieces::{PIECE, read_piece};
 use crate::reading::plain_numbers::number_before;
 use crate::reading::properties::{PropertyLines, read_properties};
 use aiger::Latch;
@@ -174,8 +174,9 @@ pub fn read_front<S: Source>(
     ensures device { IsErrOf result ReadAllFault.Device → HasRisen (S.failures source.old) (S.failures source.new) }
     ensures memory { IsErrOf result ReadAllFault.NoMemory → S.failures source.new ≡ S.failures source.old }
 {
+    let mut piece = [0u8; PIECE];
     let mut enough = 0;
-    while read_piece(text, source)? {
+    while read_piece(text, &mut piece, source)? {
         if text.len() >= enough {
             match front_of(alloc, text.as_slice()) {
                 Some(found) => return Ok(Some(found)),

@@ -11,7 +11,7 @@ ghost use Rattle.aigertext.specs.InOrder.{IsLineUpTo, IsPut, IsPutOnLists, PutsT
 
 use crate::forms::Form;
 use crate::reading::deltas::gate;
-use crate::reading::pieces::{read_piece, remove_front};
+use crate::reading::pieces::{PIECE, read_piece, remove_front};
 use crate::reading::plain_numbers::three_numbers;
 use aiger::{Circuit, Gate, Lit, Loose};
 use base::{ReadAllFault, Source};
@@ -199,6 +199,7 @@ pub fn read_gates<T: TakesGates, S: Source>(
     ensures memory { IsErrOf result ReadAllFault.NoMemory → S.failures source.new ≡ S.failures source.old }
 {
     T::in_pieces();
+    let mut piece = [0u8; PIECE];
     let mut passed = 0u64;
     loop {
         let left = count.saturating_sub(target.gate_count());
@@ -210,7 +211,7 @@ pub fn read_gates<T: TakesGates, S: Source>(
         if target.gate_count() >= count || window.len() >= LONG_GATE {
             return Ok(passed);
         }
-        if !read_piece(window, source)? {
+        if !read_piece(window, &mut piece, source)? {
             return Ok(passed);
         }
     }

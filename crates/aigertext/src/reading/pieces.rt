@@ -6,10 +6,14 @@ ghost use Rattle.base.specs.Device.{HasRisen};
 use base::{DeviceFault, ReadAllFault, Source};
 
 /// How many bytes one call of a source is asked for.
-const PIECE: usize = 65536;
+pub(crate) const PIECE: usize = 65536;
 
-/// Reads a piece of a source behind some bytes, and answers whether there was one; there is none at the end.
-pub fn read_piece<S: Source>(bytes: &mut Vec<u8>, source: &mut S) -> Result<bool, ReadAllFault>
+/// Reads a piece of a source, in its place, behind some bytes, and answers whether there was one; there is none at the end.
+pub fn read_piece<S: Source>(
+    bytes: &mut Vec<u8>,
+    piece: &mut [u8; PIECE],
+    source: &mut S,
+) -> Result<bool, ReadAllFault>
     ensures bytes { OnOk result (Keeps (prepend_known bytes.old.items (S.to_come source.old)) (prepend_known bytes.new.items (S.to_come source.new))) }
     ensures end { result ≡ Ok false → IsAtEnd (S.to_come source.new) }
     ensures ends { result ≡ Ok true → S.calls_left source.new < S.calls_left source.old }
@@ -20,8 +24,7 @@ pub fn read_piece<S: Source>(bytes: &mut Vec<u8>, source: &mut S) -> Result<bool
     if bytes.reserve(PIECE).is_err() {
         return Err(ReadAllFault::NoMemory);
     }
-    let mut piece = [0u8; PIECE];
-    match source.read(&mut piece) {
+    match source.read(piece) {
         Err(DeviceFault::Failed) => Err(ReadAllFault::Device),
         Ok(count) => {
             append(bytes, &piece[..count]);
@@ -38,7 +41,8 @@ pub fn read_rest<S: Source>(bytes: &mut Vec<u8>, source: &mut S) -> Result<(), R
     ensures device { IsErrOf result ReadAllFault.Device → HasRisen (S.failures source.old) (S.failures source.new) }
     ensures memory { IsErrOf result ReadAllFault.NoMemory → S.failures source.new ≡ S.failures source.old }
 {
-    while read_piece(bytes, source)? {}
+    let mut piece = [0u8; PIECE];
+    while read_piece(bytes, &mut piece, source)? {}
     Ok(())
 }
 

@@ -12,7 +12,8 @@ pub(crate) fn number_before(text: &[u8], end: u8) -> Option<(u32, &[u8])>
     ensures { IfSome result (λ x. text.now ≡ decimal x.0 ++ end ∷ x.1.now) }
 {
     let mut value = match text {
-        [first, ..] if *first >= b'0' && *first <= b'9' => u32::from(*first - b'0'),
+        [first, byte, rest @ ..] if *first == b'0' && *byte == end => return Some((0, rest)),
+        [first, ..] if *first >= b'1' && *first <= b'9' => u32::from(*first - b'0'),
         _ => return None,
     };
     for at in 1..text.len() {
@@ -24,7 +25,7 @@ pub(crate) fn number_before(text: &[u8], end: u8) -> Option<(u32, &[u8])>
             let (_, rest) = text.split_at(at + 1);
             return Some((value, rest));
         }
-        if value == 0 || value > ROOM {
+        if value > ROOM {
             return None;
         }
         value = value * 10 + u32::from(byte - b'0');
