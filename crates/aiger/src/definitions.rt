@@ -39,6 +39,7 @@ impl Definitions {
     }
 
     /// Whether a variable is among them. It takes no memory.
+    #[inline(always)]
     pub fn has(&self, variable: u32) -> bool
         ensures { result ≡ has_variable self.now variable }
     {
@@ -59,6 +60,7 @@ impl Definitions {
     }
 
     /// Adds a variable. The error is want of memory, and nothing has changed then.
+    #[inline(always)]
     pub fn add(&mut self, variable: u32) -> Result<(), CircuitFault>
         ensures added { OnOk result ((v : ℕ) → has_variable self.new v ≡ cond (nat_eq variable v) true (has_variable self.old v)) }
         ensures refused { RefusesBy result None }
@@ -72,6 +74,7 @@ impl Definitions {
     }
 
     /// Whether a variable was added out of turn.
+    #[inline(always)]
     fn has_other(&self, variable: u32) -> bool
         ensures { result ≡ is_marked (word_of self.now (variable / 64)) (variable % 64) }
     {
@@ -82,6 +85,7 @@ impl Definitions {
     }
 
     /// The word at a place.
+    #[inline(always)]
     fn word(&self, place: u32) -> Option<u64>
         ensures { result ≡ word_of self.now place }
     {
@@ -92,6 +96,7 @@ impl Definitions {
     }
 
     /// Adds a variable out of turn. The error is want of memory, and nothing has changed then.
+    #[inline(always)]
     fn add_other(&mut self, variable: u32) -> Result<(), AllocError>
         ensures in_turn { self.new.in_turn ≡ self.old.in_turn }
         ensures added { OnOk result ((v : ℕ) → is_marked (word_of self.new (v / 64)) (v % 64) ≡ cond (nat_eq variable v) true (is_marked (word_of self.old (v / 64)) (v % 64))) }

@@ -259,6 +259,7 @@ impl Loose {
 
     /// Whether a literal may define a variable: it is even and at least 2, and no line defines its
     /// variable.
+    #[inline(always)]
     fn may_define(&self, lit: Lit) -> bool
         ensures { result ≡ (is_defining lit && not (is_defined self.now (variable lit))) }
     {
@@ -266,6 +267,7 @@ impl Loose {
     }
 
     /// Whether an input, a latch or a gate line defines a variable. It takes no memory.
+    #[inline(always)]
     pub fn defines(&self, variable: u32) -> bool
         ensures defined { result ≡ is_defined self.now variable }
         ensures valid { IsLoose self.now }
@@ -435,6 +437,7 @@ fn are_within(lits: &[Lit]) -> bool
 
 /// Adds a line that defines a variable, which no line defines yet. The error is want of memory, and
 /// nothing has changed then.
+#[inline(always)]
 fn define<T: Copy>(
     defined: &mut Definitions,
     lines: &mut Vec<T>,

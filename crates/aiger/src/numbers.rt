@@ -55,6 +55,7 @@ impl Numbers {
     }
 
     /// Gives a variable the next number.
+    #[inline(always)]
     pub fn push(&mut self, variable: u32) -> Result<(), AllocError>
         requires new { list_any (nat_eq variable) self.old ≡ false }
         requires few { length self.old < greatest_count }
@@ -68,6 +69,7 @@ impl Numbers {
     }
 
     /// Gives a variable the next number, whatever that is.
+    #[inline(always)]
     fn push_other(&mut self, variable: u32) -> Result<(), AllocError>
         requires new { list_any (nat_eq variable) self.old ≡ false }
         requires few { length self.old < greatest_count }

@@ -25,6 +25,7 @@ impl VariableNumbers {
     }
 
     /// The number of a variable, or 0. It takes no memory.
+    #[inline(always)]
     pub fn get(&self, variable: u32) -> u32
         ensures { result ≡ number_of self.now variable }
     {
@@ -35,6 +36,7 @@ impl VariableNumbers {
     }
 
     /// Gives a variable a number. The error is want of memory, and nothing has changed then.
+    #[inline(always)]
     pub fn set(&mut self, variable: u32, number: u32) -> Result<(), AllocError>
         ensures set { OnOk result ((v : ℕ) → number_of self.new v ≡ cond (nat_eq variable v) number (number_of self.old v)) }
         ensures kept { OnErr result ((v : ℕ) → number_of self.new v ≡ number_of self.old v) }
