@@ -26,6 +26,9 @@ use Rattle.aigertext.proofs.ReadFrontLemmas.{line-front}
 
 -- ---- lists
 
+few_without : (h : Counts) → AreSmall h → AreSmall (record h { gates = 0 })
+few_without h s = record { variables = s.variables; inputs = s.inputs; latches = s.latches; outputs = s.outputs; gates = omega arith; bads = s.bads; constraints = s.constraints; justice = s.justice; fair = s.fair }
+
 no_gates : (gs : List GateLine) → 0 ≡ length gs → gs ≡ []
 no_gates [] is = refl
 no_gates (g ∷ gs) is = absurd cc
@@ -51,9 +54,7 @@ pub stand_first : (h : Counts) (before lines : List ℕ) (l m : Loose) → AreSm
     → (text : List ℕ) → IsPutOnLists (2 * h.variables + 1) l m text → StandBefore h before m × (line_texts m.gates ≡ text)
 stand_first h before lines l m small fits header (b ∷ bs) none read text put = absurd (omega (arith, none))
 stand_first h before lines l m small fits header [] nothing read text put =
-    let few : AreSmall (record h { gates = 0 }) =
-    record { variables = small.variables; inputs = small.inputs; latches = small.latches; outputs = small.outputs; gates = omega arith; bads = small.bads; constraints = small.constraints; justice = small.justice; fair = small.fair } in
-    let b = lists-back (record h { gates = 0 }) lines l [] few (omega (arith, fits)) read in
+    let b = lists-back (record h { gates = 0 }) lines l [] (few_without h small) (omega (arith, fits)) read in
     let none : l.gates ≡ [] = no_gates l.gates (ap (λ (g : Counts). g.gates) b.counts) in
     let first : StandBefore h before l =
     record {
@@ -120,9 +121,7 @@ module _ (h : Counts) (before : List ℕ) (l : Loose) (s : StandBefore h before 
   -- they are the lists of the text
   lists_read : lists_of_file h (s.lines ++ (line_texts l.gates ++ names)) ≡ Ok (l, names)
   lists_read =
-      let few : AreSmall (record h { gates = 0 }) =
-      record { variables = s.small.variables; inputs = s.small.inputs; latches = s.small.latches; outputs = s.small.outputs; gates = omega arith; bads = s.small.bads; constraints = s.small.constraints; justice = s.small.justice; fair = s.small.fair } in
-      let b = lists-back (record h { gates = 0 }) s.lines (record l { gates = [] }) [] few (omega (arith, s.fits)) s.read in
+      let b = lists-back (record h { gates = 0 }) s.lines (record l { gates = [] }) [] (few_without h s.small) (omega (arith, s.fits)) s.read in
       let up_to : AreUpTo (2 * h.variables + 1) l =
       record { inputs = b.up_to.inputs; latches = b.up_to.latches; outputs = b.up_to.outputs; bads = b.up_to.bads; constraints = b.up_to.constraints; justice = b.up_to.justice; fair = b.up_to.fair; gates = s.up_to } in
       let counts : counts_of_file h.variables l ≡ h = ap (λ (g : Counts). record g { gates = length l.gates }) (sym b.counts) ∙ ap (λ (n : ℕ). record h { gates = n }) many in
