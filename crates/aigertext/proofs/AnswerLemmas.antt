@@ -120,9 +120,6 @@ nothing_held : (known now : Option (List ℕ)) → Keeps (prepend_known [] known
 nothing_held None now kept = tt
 nothing_held (Some all) now kept = kept
 
-pub all_kept : (known now : Option (List ℕ)) (r : Result Taken ReadAllFault) → Keeps known now → IfOk r (IsTaken now) → IfOk r (IsTaken known)
-all_kept known now (Ok t) kept is = taken_kept known now t kept is
-all_kept known now (Err e) kept is = tt
-
 pub all_taken : (known now : Option (List ℕ)) (r : Result Taken ReadAllFault) → Keeps (prepend_known [] known) now → IfOk r (IsTaken now) → IfOk r (IsTaken known)
-all_taken known now r kept is = all_kept known now r (nothing_held known now kept) is
+all_taken known now (Ok t) kept is = taken_kept known now t (nothing_held known now kept) is
+all_taken known now (Err e) kept is = tt

@@ -2,7 +2,7 @@
 use Rattle.std.proofs.Common.{◌≡◌, ℕ, zero, suc, ◌+◌, ◌-◌, ◌*◌, ◌≤◌, List, [], ◌∷◌, ◌++◌, length, take, decimal, Option, Some, None, refl, sym, ap, ◌∙◌, append_assoc, append-nil, length-append, arith}
 use Rattle.std.specs.Prelude.{IfSome}
 use Rattle.std.specs.Io.KnownBytes.{prepend_known, Keeps, Consumes, IsAtEnd}
-use Rattle.std.proofs.KnownBytes.{Consumes-nil, Consumes-trans, Consumes-kept}
+use Rattle.std.proofs.KnownBytes.{Consumes-trans, Consumes-kept}
 use Rattle.std.proofs.lemmas.List.{take_at}
 use Rattle.std.proofs.lemmas.List.Elements.{All-nil, All-cons, All-append}
 use Rattle.aiger.specs.declared.circuit.Gate.{Gate}
@@ -125,9 +125,6 @@ one_line_more l m g is = ap (λ (x : Loose). length x.gates) is ∙ length-appen
 -- ---- texts of what was put
 
 module _ {A : Type 0} (Puts : A → A → List ℕ → Type 0) (pieces : FollowEachOther Puts) where
-  pub puts_none : (a : A) (x : Option (List ℕ)) → PutsText Puts a a 0 x x
-  puts_none a x = record { bytes = []; puts = pieces.none a; long = refl; text = Consumes-nil x }
-
   pub puts_then : (a b c : A) (m n s : ℕ) (x y z : Option (List ℕ)) → s ≡ m + n → PutsText Puts a b m x y → PutsText Puts b c n y z → PutsText Puts a c s x z
   puts_then a b c m n s x y z both_long p q =
       record {
