@@ -7,8 +7,8 @@
 Commands of the toolchain that work on crates of one repository wait for each other where they share a library below. So
 each crate is checked in a copy of the sources, in which the libraries below it stand already, with files that are linked and
 not copied; what it leaves, the library and the kept work, then stands in this repository, as if it had been made here. What is
-proved is the same. Of the crates whose libraries below stand, the one with the longest way up to the program comes first, and
-where fewer crates can be checked than there are processors, each has more of them.
+proved is the same. Of the crates whose libraries below stand, the one with the longest way up to the program comes first and has
+twice the jobs, and where fewer crates can be checked than there are processors, each has more of them.
 
 On standard error it passes on what the toolchain says of a crate where that is done, and says how many are. The status is 0
 where all stands.
@@ -128,7 +128,8 @@ def build(wanted, libraries, free):
     while left or running:
         ready = [it for it in left if below(it, libraries) <= standing]
         for crate in ready[:len(free)]:
-            jobs = -(-processors // (len(ready) + len(running)))
+            share = -(-processors // (len(ready) + len(running)))
+            jobs = share if any(height[it.crate] > height[crate] for it in running) else min(2 * share, processors)
             say(f"crate {crate} begins")
             running.append(Check(crate, free.pop(), below(crate, libraries), jobs))
             left.remove(crate)
