@@ -4,7 +4,7 @@
 The circuits have 1,000 inputs, 2,000 latches, an output, a bad property, and 1,000,000 and 10,000,000 gates, most of
 whose operands are close to them. Each is read in binary, in ascii with its gates in order, in ascii with its gates in
 reverse order, and in ascii with its gates in order and its variables named anew; it is written in both forms. Of each
-program it prints the least processor time (user and system) of five runs and the greatest peak memory; with another
+program it prints the least processor time (user and system) of five runs or more and the greatest peak memory; with another
 program its own beside ours, the two in turns, and the ratios. What they write is thrown away.
 
     python3 bench/circuits.py run

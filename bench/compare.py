@@ -1,7 +1,7 @@
 #!/usr/bin/env python3
 """Times `show`, `cost` and `lower` in both forms of our program, and of another beside it.
 
-Of each program, model and command it prints the least processor time (user and system) of five runs and the greatest
+Of each program, model and command it prints the least processor time (user and system) of five runs or more and the greatest
 peak memory; with another program its own beside ours, the two in turns, and the ratios. What they write is thrown away.
 
     python3 bench/models.py FOLDER

@@ -2,7 +2,7 @@
 """Times `check-btor` of our program, and of another beside it.
 
 The model is a bit that toggles and an input; the witnesses give the input a word in each of 20,000, 200,000 and
-1,000,000 frames. Of each program it prints the least processor time (user and system) of five runs and the greatest
+1,000,000 frames. Of each program it prints the least processor time (user and system) of five runs or more and the greatest
 peak memory; with another program its own beside ours, the two in turns, and the ratios.
 
     python3 bench/witnesses.py run
