@@ -1,6 +1,3 @@
-pub mod CertificateLemmas
-pub mod CountLemmas
-pub mod EngineLemmas
-pub mod RestoreLemmas
-pub mod SubjectLemmas
-pub mod WaveLemmas
+pub mod FailureLemmas
+pub mod LiftLemmas
+pub mod TaskLemmas

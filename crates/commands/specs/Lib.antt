@@ -1,10 +1,5 @@
 -- What commands ask for, and what the exit statuses say.
-pub mod Certificates
-pub mod Conversions
 pub mod Done
 pub mod Files
 pub mod Refusals
-pub mod Restoring
 pub mod Statuses
-pub mod Subjects
-pub mod Texts

@@ -1,185 +1,17 @@
--- What a command says that is not done: the fault that its input has, or which file or stream failed, and the line that tells it.
-use Rattle.std.specs.Prelude.{◌≡◌, ◌≢◌, ℕ, List, [], ◌++◌, length, Option, None, Some, Err, IfSome, unwrap_or, codes, decimal}
-use Rattle.btor2.specs.declared.item.Item.{Item}
-use Rattle.btor2.specs.Check.{IsWellFormed}
-use Rattle.btor2.specs.Lists.{first_init_without_next}
-use Rattle.btor2text.specs.FirstFault.{IsFaultOf}
-use Rattle.aiger.specs.Circuit.{Circuit}
-use Rattle.btor2text.specs.Whys.{printed_number, name_of}
-use Rattle.aigertext.specs.AsciiReading.{IsFaultOf as IsCircuitFaultOf}
-use Rattle.aigertext.specs.Whys.{why_number, why_name}
-use Rattle.blast.specs.declared.fault.LowerFault.{LowerFault}
-use Rattle.blast.specs.declared.fault.LowerFault.TheVariants as lower
-use Rattle.blast.specs.Faults.{lower_number, lower_name}
-use Rattle.blast.specs.Refusal.{lowering_refusal}
-use Rattle.engine.specs.Faults.{number_of as engine_number, name_of as engine_name}
-use Rattle.engine.specs.Refusal.{engine_refusal}
-use Rattle.engine.specs.declared.fault.EngineFault.{EngineFault}
-use Rattle.vectors.specs.Vectors.{IsFirstBad}
-use Rattle.invariants.specs.Certificates.{AreCubes, IsFormFor}
-use Rattle.invariants.specs.Faults.{why_number as invariant_number, why_name as invariant_name, obligation_number, obligation_name}
-use Rattle.invariants.specs.Reading.{Reads}
-use Rattle.invariants.specs.Refusal.{obligation_refusal}
-use Rattle.witness.specs.Answers.{judge_number, judge_name}
-use Rattle.witness.specs.declared.fault.JudgeFault.TheVariants as judge
+-- What a command says that is not done: the fault that its input has, and what lifting does not give.
+use Rattle.std.specs.Prelude.{ℕ, List, Option}
+use Rattle.lift.specs.declared.fault.LiftFault.{LiftFault}
+use Rattle.lift.specs.declared.fault.LiftFault.TheVariants as lift
+use Rattle.orders.specs.declared.tasks.Given.TheVariants as given
 use Rattle.orders.specs.declared.tasks.Named.{Named}
 use Rattle.orders.specs.declared.tasks.Named.TheVariants as named
 use Rattle.orders.specs.declared.tasks.Task.{Task}
 use Rattle.orders.specs.declared.tasks.Task.TheVariants as task
-use Rattle.commands.specs.declared.refusals.Device.{Device}
-use Rattle.commands.specs.declared.refusals.Device.TheVariants as device
-use Rattle.commands.specs.declared.refusals.Fault.{Fault}
-use Rattle.commands.specs.declared.refusals.Fault.TheVariants as fault
-use Rattle.commands.specs.declared.refusals.Refusal.{Refusal}
-use Rattle.commands.specs.declared.refusals.Refusal.TheVariants as refusal
-use Rattle.orders.specs.declared.tasks.Given.{Given}
-use Rattle.orders.specs.declared.tasks.Given.TheVariants as given
-use Rattle.commands.specs.Certificates.{Gives}
-use Rattle.commands.specs.Texts.{IsClaim, IsModelOf}
-
--- ---- lines
-
--- what is said of a file
-abbrev pub about : List ℕ → List ℕ → List ℕ
-about file says = file ++ (codes ": " ++ says)
-
--- what is said of a place, which is counted
-abbrev pub at : List ℕ → ℕ → List ℕ → List ℕ
-at counted n says = counted ++ (decimal n ++ (codes ": " ++ says))
-
--- a number and a name, which end a line
-abbrev pub numbered_name : ℕ → List ℕ → List ℕ
-numbered_name number name = decimal number ++ (codes " " ++ (name ++ codes "\n"))
-
--- the line that tells a number and a name of an item of a file
-abbrev pub item_line : List ℕ → ℕ → ℕ → List ℕ → List ℕ
-item_line file id number name = about file (at (codes "item ") id (numbered_name number name))
-
--- what is said of the item that a lowering is refused for, or of the model as a whole
-abbrev pub at_item : LowerFault → List ℕ → List ℕ
-at_item (lower.Justice id) says = at (codes "item ") id says
-at_item (lower.Fair id) says = at (codes "item ") id says
-at_item (lower.NoNext id) says = at (codes "item ") id says
-at_item _ says = says
-
--- the line that tells a fault of a file
-abbrev pub fault_line : List ℕ → Fault → List ℕ
-fault_line file (fault.Model e) = about file (at (codes "line ") e.line (numbered_name (printed_number e.why) (name_of e.why)))
-fault_line file (fault.Circuit e) = about file (at (codes "byte ") e.place (numbered_name (why_number e.why) (why_name e.why)))
-fault_line file (fault.Lowering e) = about file (at_item e (numbered_name (lower_number e) (lower_name e)))
-fault_line file (fault.Engine e) = about file (numbered_name (engine_number e) (engine_name e))
-fault_line file (fault.Invariant e) = about file (at (codes "line ") e.line (numbered_name (invariant_number e.why) (invariant_name e.why)))
-fault_line file (fault.Obligation e) = about file (numbered_name (obligation_number e) (obligation_name e))
-fault_line file (fault.NoNext id) = item_line file id (judge_number (judge.NoNext id)) (judge_name (judge.NoNext id))
-fault_line file (fault.Vector n) = about file (at (codes "line ") n (codes "bad vector\n"))
-fault_line file fault.Unchosen = about file (codes "--bad K says which bad property is claimed: ABC prints its number as Output K of miter was asserted\n")
-
--- the exit status of a fault: words that leave a choice open are refused, and else the input is
-abbrev pub status_of_fault : Fault → ℕ
-status_of_fault fault.Unchosen = 4
-status_of_fault _ = 2
-
--- the name by which the second file is told
-abbrev pub second_name : Option (List ℕ) → List ℕ
-second_name second = unwrap_or second (codes "-")
-
--- the name by which a file or a stream is told
-abbrev pub device_name : List ℕ → Option (List ℕ) → Option (List ℕ) → Device → List ℕ
-device_name first second third device.First = first
-device_name first second third device.Second = second_name second
-device_name first second third device.Third = unwrap_or third (codes "-")
-device_name first second third device.Output = codes "output"
-device_name first second third device.Error = []
-
--- the line that tells a refusal, by the names of the files
-abbrev pub refusal_line : List ℕ → Option (List ℕ) → Option (List ℕ) → Refusal → List ℕ
-refusal_line first second third (refusal.Input f) = fault_line first f
-refusal_line first second third (refusal.Second f) = fault_line (second_name second) f
-refusal_line first second third (refusal.Failed d) = about (device_name first second third d) (codes "device\n")
-refusal_line first second third refusal.NoMemory = codes "no memory\n"
-
--- ---- the fault of an input
-
--- the first text is no model, and this is the fault of its first faulty line
-abbrev pub IsNoModel : Option (List ℕ) → Fault → Type 0
-IsNoModel known (fault.Model e) = IfSome known (λ text. IsFaultOf text e)
-IsNoModel known _ = ⊥
-
--- the first text is of a model, and this is the first that speaks against lowering it
-pub record IsUnlowered (known : Option (List ℕ)) (e : LowerFault) : Type 0 where
-  pub items : List Item
-  pub text : IsModelOf known items
-  pub well_formed : IsWellFormed items
-  pub first : lowering_refusal items ≡ Some e
-
--- the first text is no model, or is of one that is not lowered
-abbrev pub IsNotLowered : Option (List ℕ) → Fault → Type 0
-IsNotLowered known (fault.Lowering e) = IsUnlowered known e
-IsNotLowered known f = IsNoModel known f
-
--- the first text is of a model, and this is its first state with an init and no next
-pub record LacksNext (known : Option (List ℕ)) (id : ℕ) : Type 0 where
-  pub items : List Item
-  pub text : IsModelOf known items
-  pub well_formed : IsWellFormed items
-  pub first : first_init_without_next items items ≡ Some id
-
--- the first text is no model, or is of one over which nothing is judged
-abbrev pub IsNotJudged : Option (List ℕ) → Fault → Type 0
-IsNotJudged known (fault.NoNext id) = LacksNext known id
-IsNotJudged known f = IsNoModel known f
-
--- the first text is no circuit, and this is its first fault
-abbrev pub IsNoCircuit : Option (List ℕ) → Fault → Type 0
-IsNoCircuit known (fault.Circuit e) = IfSome known (λ text. IsCircuitFaultOf text e)
-IsNoCircuit known _ = ⊥
-
--- the first text is no list of vectors, and this is its first line that writes none
-abbrev pub IsNoVectorList : Option (List ℕ) → Fault → Type 0
-IsNoVectorList known (fault.Vector n) = IfSome known (λ text. IsFirstBad text n)
-IsNoVectorList known _ = ⊥
-
--- this is the first that speaks against an engine form of a circuit
-abbrev pub IsWithoutForm : Circuit → Option ℕ → Fault → Type 0
-IsWithoutForm c choice (fault.Engine e) = engine_refusal c choice ≡ Some e
-IsWithoutForm c choice _ = ⊥
-
--- the first text is no model, or is of one that is not lowered; or it is no circuit
-abbrev pub IsNotGiven : Given → Option (List ℕ) → Fault → Type 0
-IsNotGiven given.Model known f = IsNotLowered known f
-IsNotGiven given.Circuit known f = IsNoCircuit known f
-
--- the first text gives a circuit, and this is the first that speaks against an engine form of it
-pub record GivesWithoutForm (g : Given) (choice : Option ℕ) (known : Option (List ℕ)) (e : EngineFault) : Type 0 where
-  pub circuit : Circuit
-  pub gives : Gives g known circuit
-  pub first : engine_refusal circuit choice ≡ Some e
-
--- the first text gives no circuit, or one that has no such engine form
-abbrev pub IsNotForEngines : Given → Option ℕ → Option (List ℕ) → Fault → Type 0
-IsNotForEngines g choice known (fault.Engine e) = GivesWithoutForm g choice known e
-IsNotForEngines g choice known f = IsNotGiven g known f
-
--- the first text gives a circuit, and this is the first that speaks against an engine form of it with the bad property that is claimed
-pub record GivesNoForm (g : Given) (choice : Option ℕ) (known : Option (List ℕ)) (e : EngineFault) : Type 0 where
-  pub circuit : Circuit
-  pub claim : ℕ
-  pub gives : Gives g known circuit
-  pub is_claim : IsClaim choice circuit claim
-  pub first : engine_refusal circuit (Some claim) ≡ Some e
-
--- the first text gives a circuit that has none or several bad properties, and none is chosen
-pub record GivesUnchosen (g : Given) (choice : Option ℕ) (known : Option (List ℕ)) : Type 0 where
-  pub circuit : Circuit
-  pub gives : Gives g known circuit
-  pub none : choice ≡ None
-  pub not_one : length circuit.bads ≢ 1
-
--- the first text gives no circuit, or one without an engine form for the bad property that is claimed
-abbrev pub IsNotClaimed : Given → Option ℕ → Option (List ℕ) → Fault → Type 0
-IsNotClaimed g choice known (fault.Engine e) = GivesNoForm g choice known e
-IsNotClaimed g choice known fault.Unchosen = GivesUnchosen g choice known
-IsNotClaimed g choice known f = IsNotGiven g known f
+use Rattle.tasks.specs.declared.refusals.Device.TheVariants as device
+use Rattle.tasks.specs.declared.refusals.Fault.{Fault}
+use Rattle.tasks.specs.declared.refusals.Refusal.{Refusal}
+use Rattle.tasks.specs.declared.refusals.Refusal.TheVariants as refusal
+use Rattle.tasks.specs.Refusals.{IsFaultyInvariant, IsNoCircuit, IsNoModel, IsNoVectorList, IsNotClaimed, IsNotForEngines, IsNotJudged, IsNotLowered}
 
 -- the first text has this fault, for which a command refuses it that says by name what its judgement is about
 unfoldable pub RefusesByName : Named → Option (List ℕ) → Fault → Type 0
@@ -211,31 +43,15 @@ Refuses task.Vectors known f = IsNoVectorList known f
 Refuses (task.Obligation g choice) known f = IsNotClaimed g choice known f
 Refuses (task.CheckProof g choice) known f = IsNotClaimed g choice known f
 
--- ---- the fault of a second input
-
--- a text is no invariant over a circuit, and this is the fault of its first faulty line; or there is no obligation of its cubes
-abbrev pub IsFaultyOver : Circuit → Option (List ℕ) → Fault → Type 0
-IsFaultyOver d invariant (fault.Invariant e) = Reads (length d.latches) invariant (Err e)
-IsFaultyOver d invariant (fault.Obligation e) = (cubes : List (List ℕ)) × AreCubes d invariant cubes × (obligation_refusal d cubes ≡ Some e)
-IsFaultyOver d invariant _ = ⊥
-
--- a circuit has an engine form with this bad property, and over that a text of an invariant has this fault
-pub record IsFaultyFor (c : Circuit) (k : ℕ) (invariant : Option (List ℕ)) (f : Fault) : Type 0 where
-  pub form : Circuit
-  pub is_form : IsFormFor c k form
-  pub faulty : IsFaultyOver form invariant f
-
--- the second text has this fault, for the bad property that is claimed of the circuit that the first gives
-pub record IsFaultyInvariant (g : Given) (choice : Option ℕ) (first second : Option (List ℕ)) (f : Fault) : Type 0 where
-  pub circuit : Circuit
-  pub claim : ℕ
-  pub gives : Gives g first circuit
-  pub is_claim : IsClaim choice circuit claim
-  pub faulty : IsFaultyFor circuit claim second f
-
 -- the second text has this fault, for which a command refuses it
 abbrev pub RefusesSecond : Task → Option (List ℕ) → Option (List ℕ) → Fault → Type 0
 RefusesSecond (task.Obligation g choice) first second f = IsFaultyInvariant g choice first second f
 RefusesSecond (task.CheckProof g choice) first second f = IsFaultyInvariant g choice first second f
 RefusesSecond (task.Named (named.CheckProof g choice)) first second f = IsFaultyInvariant g choice first second f
 RefusesSecond _ first second f = ⊥
+
+-- of lifting a witness
+abbrev pub of_lifting : LiftFault → Refusal
+of_lifting lift.Read = refusal.Failed device.Second
+of_lifting lift.Write = refusal.Failed device.Output
+of_lifting lift.NoMemory = refusal.NoMemory

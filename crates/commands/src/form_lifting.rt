@@ -5,15 +5,11 @@ ghost use Rattle.blast.specs.Lowering.{Lowers};
 ghost use Rattle.blast.specs.Refusal.{lowering_refusal};
 ghost use Rattle.engine.specs.EngineForm.{IsEngineFormOf};
 ghost use Rattle.orders.specs.declared.tasks.Given.TheVariants as given_is;
-ghost use Rattle.commands.specs.Done.{IsFormLifted, IsModelOf, Judged};
-ghost use Rattle.commands.specs.Refusals.{IsNotForEngines};
-ghost use Rattle.commands.specs.Statuses.{Counts, IfInput, IsOfNoInput, ErrUntold};
+ghost use Rattle.tasks.specs.Done.{IsModelOf, Judged};
+ghost use Rattle.commands.specs.Done.{IsFormLifted};
+ghost use Rattle.tasks.specs.Refusals.{IsNotForEngines};
+ghost use Rattle.tasks.specs.Statuses.{Counts, IfInput, IsOfNoInput, ErrUntold};
 
-use crate::answers::Answer;
-use crate::models::read_model;
-use crate::refusals::Refusal;
-use crate::restoring::tell_restored;
-use crate::subjects::Subject;
 use aiger::Circuit;
 use base::{Sink, Source};
 use blast::{Watch, lower_watched};
@@ -21,31 +17,11 @@ use btor2::Model;
 use engine::engine_form;
 use lift::lift_form;
 use std::alloc::Global;
+use tasks::{Answer, Refusal, Subject, read_model, tell_restored};
 
 /// Lowers a model, lifts a witness of the engine form of its circuit to standard output, with names or without, and tells on
 /// standard error how that is judged, with names behind it what the judgement is about.
-pub(crate) fn lift_form_witness<A: Source, B: Source, O: Sink, E: Sink, W: Watch>(
-    alloc: Global,
-    named: bool,
-    choice: Option<usize>,
-    first: &mut A,
-    second: &mut B,
-    out: &mut O,
-    err: &mut E,
-    watch: &mut W,
-) -> Result<Answer, Refusal>
-    ensures done { IfOk result (Judged (IsFormLifted named choice (A.to_come first.old) (B.to_come second.old) (O.written out.old) (O.written out.new) (E.written err.old) (E.written err.new))) }
-    ensures refused { IfErr result (IfInput (IsNotForEngines given_is.Model choice (A.to_come first.old))) }
-    ensures unwritten { IfErr result (IfInput (λ _. out.new ≡ out.old)) }
-    ensures untold { ErrUntold result (err.new ≡ err.old) }
-    ensures counted { Counts result (A.failures first.old) (A.failures first.new) (B.failures second.old) (B.failures second.new) (O.failures out.old) (O.failures out.new) (E.failures err.old) (E.failures err.new) }
-{
-    let model = read_model(alloc, first)?;
-    lift_over_model(alloc, named, &model, choice, second, out, err, watch)
-}
-
-/// The same over a model that was read.
-fn lift_over_model<B: Source, O: Sink, E: Sink, W: Watch>(
+pub(crate) fn lift_form_witness<B: Source, O: Sink, E: Sink, W: Watch>(
     alloc: Global,
     named: bool,
     model: &Model,

@@ -7,46 +7,24 @@ ghost use Rattle.witness.specs.BitJudgements.{BitJudges};
 ghost use Rattle.lift.specs.Answers.{CountsLift};
 ghost use Rattle.lift.specs.Lifted.{lifted_with};
 ghost use Rattle.lift.specs.Verdicts.{KeepsVerdictIn};
-ghost use Rattle.commands.specs.Done.{IsLifted, IsModelOf, Judged};
-ghost use Rattle.commands.specs.Refusals.{IsNotLowered};
-ghost use Rattle.commands.specs.Statuses.{Counts, IfInput, ErrUntold};
+ghost use Rattle.tasks.specs.Done.{IsModelOf, Judged};
+ghost use Rattle.commands.specs.Done.{IsLifted};
+ghost use Rattle.commands.specs.Refusals.{of_lifting};
+ghost use Rattle.tasks.specs.Refusals.{IsNotLowered};
+ghost use Rattle.tasks.specs.Statuses.{Counts, IfInput, ErrUntold};
 
-use crate::answers::Answer;
-use crate::judgements::tell_judgement;
-use crate::models::read_model;
-use crate::refusals::Refusal;
-use crate::subjects::Subject;
 use aiger::Circuit;
 use base::{Sink, Source};
 use blast::{Watch, lower_watched};
 use btor2::Model;
 use lift::{LiftFault, lift, lift_named};
 use std::alloc::Global;
+use tasks::{Answer, Device, Refusal, Subject, read_model, tell_judgement};
 use witness::Judgement;
 
 /// Lowers a model, lifts a witness of its circuit to standard output, with names or without, and tells its judgement on
 /// standard error, with names behind it what the judgement is about.
-pub(crate) fn lift_witness<A: Source, B: Source, O: Sink, E: Sink, W: Watch>(
-    alloc: Global,
-    named: bool,
-    first: &mut A,
-    second: &mut B,
-    out: &mut O,
-    err: &mut E,
-    watch: &mut W,
-) -> Result<Answer, Refusal>
-    ensures done { IfOk result (Judged (IsLifted named (A.to_come first.old) (B.to_come second.old) (O.written out.old) (O.written out.new) (E.written err.old) (E.written err.new))) }
-    ensures refused { IfErr result (IfInput (IsNotLowered (A.to_come first.old))) }
-    ensures unwritten { IfErr result (IfInput (λ _. out.new ≡ out.old)) }
-    ensures untold { ErrUntold result (err.new ≡ err.old) }
-    ensures counted { Counts result (A.failures first.old) (A.failures first.new) (B.failures second.old) (B.failures second.new) (O.failures out.old) (O.failures out.new) (E.failures err.old) (E.failures err.new) }
-{
-    let model = read_model(alloc, first)?;
-    lift_over(alloc, named, &model, second, out, err, watch)
-}
-
-/// The same over a model that was read.
-fn lift_over<B: Source, O: Sink, E: Sink, W: Watch>(
+pub(crate) fn lift_witness<B: Source, O: Sink, E: Sink, W: Watch>(
     alloc: Global,
     named: bool,
     model: &Model,
@@ -64,7 +42,10 @@ fn lift_over<B: Source, O: Sink, E: Sink, W: Watch>(
     // a model's items are well-formed
     let _ = model.items();
     let circuit = lower_watched(alloc, model, watch)?;
-    let judgement = lift_with(alloc, named, model, &circuit, second, out)?;
+    let judgement = match lift_with(alloc, named, model, &circuit, second, out) {
+        Ok(judgement) => judgement,
+        Err(fault) => return Err(refusal_of(fault)),
+    };
     let subject = Subject::Lowered(model, &circuit);
     tell_judgement(alloc, named, subject, &judgement, err)
 }
@@ -88,5 +69,16 @@ fn lift_with<B: Source, O: Sink>(
         lift_named(alloc, model, circuit, second, out)
     } else {
         lift(alloc, model, circuit, second, out)
+    }
+}
+
+/// What is told of a lifting that gives no judgement.
+fn refusal_of(fault: LiftFault) -> Refusal
+    ensures { result ≡ of_lifting fault }
+{
+    match fault {
+        LiftFault::Read => Refusal::Failed(Device::Second),
+        LiftFault::Write => Refusal::Failed(Device::Output),
+        LiftFault::NoMemory => Refusal::NoMemory,
     }
 }

@@ -2,15 +2,12 @@
 
 ghost use Rattle.std.specs.Prelude.{◌≡◌, ◌≢◌, ◌≤◌, true, false, IfOk, option_map};
 ghost use Rattle.std.specs.String.{string_bytes};
-ghost use Rattle.commands.specs.declared.answers.Answer.TheVariants as answer;
+ghost use Rattle.tasks.specs.declared.answers.Answer.TheVariants as answer;
 ghost use Rattle.commands.specs.Done.{AnswersSome, has_one_file, has_three_files, is_quiet};
 ghost use Rattle.commands.specs.Files.{part_name};
 ghost use Rattle.commands.specs.Statuses.{IsLeftOpen, IsRefused};
 
-use crate::files::NoFile;
-use crate::progress::{Progress, Watched, Work};
 use crate::running::run;
-use crate::telling::{tell_no_memory, tell_output};
 use base::{Sink, Source, ToWriter};
 use blast::Watch;
 use orders::{DEVICE, NOT_ACCEPTED, Order};
@@ -19,6 +16,7 @@ use std::fs::{self, OpenOptions};
 use std::io::{self, Write};
 use std::rt::Files;
 use std::time::Clock;
+use tasks::{NoFile, Progress, Watched, Work, tell_no_memory, tell_output};
 
 /// A file that a result goes to.
 #[derive(Drop)]

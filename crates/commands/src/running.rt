@@ -2,30 +2,28 @@
 
 ghost use Rattle.std.specs.Prelude.{◌≡◌, ◌≢◌, ◌≤◌, ◌⊎◌, ℕ, List, Option, true, false, IfOk, IfErr, option_map};
 ghost use Rattle.aigertext.specs.declared.forms.Form.{Form};
-ghost use Rattle.commands.specs.declared.answers.Answer.TheVariants as answer;
-ghost use Rattle.commands.specs.Done.{Answers, has_one_file, has_three_files, is_on_certificates, is_quiet};
+ghost use Rattle.tasks.specs.declared.answers.Answer.TheVariants as answer;
+ghost use Rattle.tasks.specs.Texts.{IsCircuitText, IsModelOf};
+ghost use Rattle.commands.specs.declared.running.First.TheVariants as first_is;
+ghost use Rattle.commands.specs.Done.{Answers, first_of, has_one_file, has_three_files, is_quiet};
 ghost use Rattle.commands.specs.Refusals.{Refuses, RefusesSecond};
-ghost use Rattle.commands.specs.Statuses.{Counts, CountsAll, ErrUntold, HasFailed, IfInput, IfSecond, IsLeftOpen, IsRefused};
+ghost use Rattle.tasks.specs.Statuses.{Counts, CountsAll, ErrUntold, IfInput, IfSecond};
+ghost use Rattle.commands.specs.Statuses.{HasFailed, IsLeftOpen, IsRefused};
 
-use crate::answers::Answer;
-use crate::certificates::{check_proof, write_obligation};
-use crate::circuits::{check_circuit, convert_circuit};
 use crate::engine_lifting::lift_counterexample;
-use crate::engines::{convert_for_engines, lower_for_engines};
 use crate::form_lifting::lift_form_witness;
-use crate::form_restoring::restore_witness;
 use crate::lifting::lift_witness;
-use crate::models::{check_model, lower_model, show, tell_cost};
-use crate::named::judge_by_name;
-use crate::refusals::Refusal;
-use crate::restoring::restore_counterexample;
-use crate::telling::tell;
-use crate::vector_reports::compare_vectors;
-use crate::waving::dump_witness;
+use aiger::Circuit;
 use base::{Sink, Source};
 use blast::Watch;
+use btor2::Model;
 use orders::{DEVICE, Named, Order, Task};
 use std::alloc::Global;
+use tasks::{
+    Answer, Refusal, check_circuit, check_model, check_proof, compare_vectors, convert_circuit,
+    convert_for_engines, dump_witness, lower_for_engines, lower_model, read_circuit, read_model,
+    restore_counterexample, restore_witness, show, tell, tell_cost, write_obligation,
+};
 
 /// Does a command, and answers the exit status: 0 done or accepted, 1 not accepted, 2 input refused, 3 device or memory, 4
 /// words refused.
@@ -88,8 +86,41 @@ pub fn run<A: Source, B: Source, T: Source, O: Sink, E: Sink, W: Watch>(
     }
 }
 
+/// What the first file of a command is.
+#[derive(Clone, Copy, PartialEq, Eq)]
+enum First {
+    /// A text that is read as it comes: of a model that is lowered, or of vectors.
+    Text,
+    /// The text of a model.
+    Model,
+    /// The text of a circuit.
+    Circuit,
+    /// The text of a model or a circuit, of which a bad property is certified.
+    Certified,
+}
+
+/// What the first file of a command is.
+#[tactic(auto, unfolding(crate::specs::Done::first_of))]
+fn first_of(task: Task) -> First
+    ensures { result ≡ first_of task }
+{
+    match task {
+        Task::Lower | Task::Vectors => First::Text,
+        Task::AigConvert
+        | Task::ConvertForEngines(_)
+        | Task::CheckAig
+        | Task::Restore(_)
+        | Task::RestoreForm(_)
+        | Task::Named(Named::CheckAig) => First::Circuit,
+        Task::Obligation(..) | Task::CheckProof(..) | Task::Named(Named::CheckProof(..)) => {
+            First::Certified
+        }
+        _ => First::Model,
+    }
+}
+
 /// Does a command, and tells no refusal.
-#[tactic(auto, unfolding(crate::specs::Done::is_on_certificates, crate::specs::Done::has_one_file, crate::specs::Done::has_three_files))]
+#[tactic(auto, unfolding(crate::specs::Done::first_of, crate::specs::Done::has_one_file, crate::specs::Done::has_three_files))]
 fn obey<A: Source, B: Source, T: Source, O: Sink, E: Sink, W: Watch>(
     alloc: Global,
     order: &Order<'_>,
@@ -111,26 +142,15 @@ fn obey<A: Source, B: Source, T: Source, O: Sink, E: Sink, W: Watch>(
     ensures one_file { has_one_file order.now.task ≡ true → second.new ≡ second.old }
     ensures no_third { has_three_files order.now.task ≡ false → third.new ≡ third.old }
 {
-    if is_on_certificates(order.task) {
+    if first_of(order.task) == First::Certified {
         obey_on_certificates(alloc, order.task, first, second, third, out, err, watch)
     } else {
         obey_two(alloc, order, first, second, out, err, watch)
     }
 }
 
-/// Whether a command is on certificates.
-#[tactic(auto, unfolding(crate::specs::Done::is_on_certificates))]
-fn is_on_certificates(task: Task) -> bool
-    ensures { result ≡ is_on_certificates task }
-{
-    matches!(
-        task,
-        Task::Obligation(..) | Task::CheckProof(..) | Task::Named(Named::CheckProof(..))
-    )
-}
-
 /// Does a command on certificates.
-#[tactic(auto, unfolding(crate::specs::Done::Answers, crate::specs::Done::AnswersByName, crate::specs::Done::is_on_certificates, crate::specs::Done::is_quiet, crate::specs::Done::has_three_files, crate::specs::Refusals::Refuses, crate::specs::Refusals::RefusesByName))]
+#[tactic(auto, unfolding(crate::specs::Done::Answers, crate::specs::Done::AnswersByName, crate::specs::Done::first_of, crate::specs::Done::is_quiet, crate::specs::Done::has_three_files, crate::specs::Refusals::Refuses, crate::specs::Refusals::RefusesByName))]
 fn obey_on_certificates<A: Source, B: Source, T: Source, O: Sink, E: Sink, W: Watch>(
     alloc: Global,
     task: Task,
@@ -141,7 +161,7 @@ fn obey_on_certificates<A: Source, B: Source, T: Source, O: Sink, E: Sink, W: Wa
     err: &mut E,
     watch: &mut W,
 ) -> Result<Answer, Refusal>
-    requires { is_on_certificates task ≡ true }
+    requires { first_of task ≡ first_is.Certified }
     ensures done { (form : Form) → IfOk result (λ answer. Answers task form answer (A.to_come first.old) (B.to_come second.old) (T.to_come third.old) (O.written out.old) (O.written out.new) (E.written err.old) (E.written err.new)) }
     ensures refused { IfErr result (IfInput (Refuses task (A.to_come first.old))) }
     ensures refused_second { IfErr result (IfSecond (RefusesSecond task (A.to_come first.old) (B.to_come second.old))) }
@@ -167,7 +187,6 @@ fn obey_on_certificates<A: Source, B: Source, T: Source, O: Sink, E: Sink, W: Wa
 }
 
 /// Does a command that reads no third file and is on no certificate.
-#[tactic(auto, unfolding(crate::specs::Done::Answers, crate::specs::Done::is_on_certificates, crate::specs::Done::is_quiet, crate::specs::Done::has_one_file, crate::specs::Refusals::Refuses))]
 fn obey_two<A: Source, B: Source, O: Sink, E: Sink, W: Watch>(
     alloc: Global,
     order: &Order<'_>,
@@ -177,7 +196,7 @@ fn obey_two<A: Source, B: Source, O: Sink, E: Sink, W: Watch>(
     err: &mut E,
     watch: &mut W,
 ) -> Result<Answer, Refusal>
-    requires { is_on_certificates order.now.task ≡ false }
+    requires { ¬ (first_of order.now.task ≡ first_is.Certified) }
     ensures done { (third : Option (List ℕ)) → IfOk result (λ answer. Answers order.now.task order.now.form answer (A.to_come first.old) (B.to_come second.old) third (O.written out.old) (O.written out.new) (E.written err.old) (E.written err.new)) }
     ensures refused { IfErr result (IfInput (Refuses order.now.task (A.to_come first.old))) }
     ensures unwritten { IfErr result (IfInput (λ _. out.new ≡ out.old)) }
@@ -186,31 +205,156 @@ fn obey_two<A: Source, B: Source, O: Sink, E: Sink, W: Watch>(
     ensures quiet { is_quiet order.now.task ≡ true → err.new ≡ err.old }
     ensures one_file { has_one_file order.now.task ≡ true → second.new ≡ second.old }
 {
+    match first_of(order.task) {
+        First::Text => obey_on_text(alloc, order, first, out, watch),
+        First::Model => obey_on_model(alloc, order, first, second, out, err, watch),
+        First::Circuit => obey_on_circuit(alloc, order, first, second, out, err),
+        First::Certified => unreachable!(),
+    }
+}
+
+/// Does a command on a text that is read as it comes.
+#[tactic(auto, unfolding(crate::specs::Done::Answers, crate::specs::Done::first_of, crate::specs::Refusals::Refuses))]
+fn obey_on_text<A: Source, O: Sink, W: Watch>(
+    alloc: Global,
+    order: &Order<'_>,
+    first: &mut A,
+    out: &mut O,
+    watch: &mut W,
+) -> Result<Answer, Refusal>
+    requires { first_of order.now.task ≡ first_is.Text }
+    ensures done { (second third told : Option (List ℕ)) → IfOk result (λ answer. Answers order.now.task order.now.form answer (A.to_come first.old) second third (O.written out.old) (O.written out.new) told told) }
+    ensures refused { IfErr result (IfInput (Refuses order.now.task (A.to_come first.old))) }
+    ensures unwritten { IfErr result (IfInput (λ _. out.new ≡ out.old)) }
+    ensures counted { (s e : ℕ) → Counts result (A.failures first.old) (A.failures first.new) s s (O.failures out.old) (O.failures out.new) e e }
+{
     match order.task {
         Task::Lower => lower_model(alloc, order.form, first, out, watch),
-        Task::LowerForEngines(choice) => lower_for_engines(
-            alloc, order.form, choice, first, out, watch,
-        ),
-        Task::CheckBtor => check_model(alloc, false, first, second, out, err),
-        Task::Show => show(alloc, first, out),
-        Task::Cost => tell_cost(alloc, first, out),
-        Task::AigConvert => convert_circuit(alloc, order.form, first, out),
-        Task::ConvertForEngines(choice) => {
-            convert_for_engines(alloc, order.form, choice, first, out)
+        Task::Vectors => compare_vectors(alloc, first, out),
+        _ => unreachable!(),
+    }
+}
+
+/// Reads a model, and does a command on it.
+fn obey_on_model<A: Source, B: Source, O: Sink, E: Sink, W: Watch>(
+    alloc: Global,
+    order: &Order<'_>,
+    first: &mut A,
+    second: &mut B,
+    out: &mut O,
+    err: &mut E,
+    watch: &mut W,
+) -> Result<Answer, Refusal>
+    requires { first_of order.now.task ≡ first_is.Model }
+    ensures done { (third : Option (List ℕ)) → IfOk result (λ answer. Answers order.now.task order.now.form answer (A.to_come first.old) (B.to_come second.old) third (O.written out.old) (O.written out.new) (E.written err.old) (E.written err.new)) }
+    ensures refused { IfErr result (IfInput (Refuses order.now.task (A.to_come first.old))) }
+    ensures unwritten { IfErr result (IfInput (λ _. out.new ≡ out.old)) }
+    ensures untold { ErrUntold result (err.new ≡ err.old) }
+    ensures counted { Counts result (A.failures first.old) (A.failures first.new) (B.failures second.old) (B.failures second.new) (O.failures out.old) (O.failures out.new) (E.failures err.old) (E.failures err.new) }
+    ensures quiet { is_quiet order.now.task ≡ true → err.new ≡ err.old }
+    ensures one_file { has_one_file order.now.task ≡ true → second.new ≡ second.old }
+{
+    let model = read_model(alloc, first)?;
+    do_on_model(alloc, order, &model, second, out, err, watch)
+}
+
+/// Does a command on a model that was read.
+#[tactic(auto, unfolding(crate::specs::Done::Answers, crate::specs::Done::AnswersByName, crate::specs::Done::first_of, crate::specs::Done::is_quiet, crate::specs::Done::has_one_file, crate::specs::Refusals::Refuses, crate::specs::Refusals::RefusesByName))]
+fn do_on_model<B: Source, O: Sink, E: Sink, W: Watch>(
+    alloc: Global,
+    order: &Order<'_>,
+    model: &Model,
+    second: &mut B,
+    out: &mut O,
+    err: &mut E,
+    watch: &mut W,
+) -> Result<Answer, Refusal>
+    requires { first_of order.now.task ≡ first_is.Model }
+    ensures done { (known third : Option (List ℕ)) → IsModelOf known model.now → IfOk result (λ answer. Answers order.now.task order.now.form answer known (B.to_come second.old) third (O.written out.old) (O.written out.new) (E.written err.old) (E.written err.new)) }
+    ensures refused { (known : Option (List ℕ)) → IsModelOf known model.now → IfErr result (IfInput (Refuses order.now.task known)) }
+    ensures unwritten { IfErr result (IfInput (λ _. out.new ≡ out.old)) }
+    ensures untold { ErrUntold result (err.new ≡ err.old) }
+    ensures counted { (f : ℕ) → Counts result f f (B.failures second.old) (B.failures second.new) (O.failures out.old) (O.failures out.new) (E.failures err.old) (E.failures err.new) }
+    ensures quiet { is_quiet order.now.task ≡ true → err.new ≡ err.old }
+    ensures one_file { has_one_file order.now.task ≡ true → second.new ≡ second.old }
+{
+    match order.task {
+        Task::LowerForEngines(choice) => {
+            lower_for_engines(alloc, model, order.form, choice, out, watch)
         }
-        Task::CheckAig => check_circuit(alloc, false, first, second, out, err),
-        Task::Lift => lift_witness(alloc, false, first, second, out, err, watch),
-        Task::Restore(choice) => restore_counterexample(alloc, choice, first, second, out, err),
-        Task::RestoreForm(choice) => restore_witness(alloc, choice, first, second, out, err),
+        Task::CheckBtor => check_model(alloc, false, model, second, out, err),
+        Task::Show => show(alloc, model, out),
+        Task::Cost => tell_cost(alloc, model, out),
+        Task::Lift => lift_witness(alloc, false, model, second, out, err, watch),
         Task::LiftFound(choice) => {
-            lift_counterexample(alloc, false, choice, first, second, out, err, watch)
+            lift_counterexample(alloc, false, model, choice, second, out, err, watch)
         }
         Task::LiftForm(choice) => {
-            lift_form_witness(alloc, false, choice, first, second, out, err, watch)
+            lift_form_witness(alloc, false, model, choice, second, out, err, watch)
         }
-        Task::Wave(shown) => dump_witness(alloc, order, shown, first, second, out, err),
-        Task::Named(named) => judge_by_name(alloc, named, first, second, out, err, watch),
-        Task::Vectors => compare_vectors(alloc, first, out),
-        Task::Obligation(..) | Task::CheckProof(..) => unreachable!(),
+        Task::Wave(shown) => dump_witness(alloc, order, shown, model, second, out, err),
+        Task::Named(Named::CheckBtor) => check_model(alloc, true, model, second, out, err),
+        Task::Named(Named::Lift) => lift_witness(alloc, true, model, second, out, err, watch),
+        Task::Named(Named::LiftFound(choice)) => {
+            lift_counterexample(alloc, true, model, choice, second, out, err, watch)
+        }
+        Task::Named(Named::LiftForm(choice)) => {
+            lift_form_witness(alloc, true, model, choice, second, out, err, watch)
+        }
+        _ => unreachable!(),
+    }
+}
+
+/// Reads a circuit, and does a command on it.
+fn obey_on_circuit<A: Source, B: Source, O: Sink, E: Sink>(
+    alloc: Global,
+    order: &Order<'_>,
+    first: &mut A,
+    second: &mut B,
+    out: &mut O,
+    err: &mut E,
+) -> Result<Answer, Refusal>
+    requires { first_of order.now.task ≡ first_is.Circuit }
+    ensures done { (third : Option (List ℕ)) → IfOk result (λ answer. Answers order.now.task order.now.form answer (A.to_come first.old) (B.to_come second.old) third (O.written out.old) (O.written out.new) (E.written err.old) (E.written err.new)) }
+    ensures refused { IfErr result (IfInput (Refuses order.now.task (A.to_come first.old))) }
+    ensures unwritten { IfErr result (IfInput (λ _. out.new ≡ out.old)) }
+    ensures untold { ErrUntold result (err.new ≡ err.old) }
+    ensures counted { Counts result (A.failures first.old) (A.failures first.new) (B.failures second.old) (B.failures second.new) (O.failures out.old) (O.failures out.new) (E.failures err.old) (E.failures err.new) }
+    ensures quiet { is_quiet order.now.task ≡ true → err.new ≡ err.old }
+    ensures one_file { has_one_file order.now.task ≡ true → second.new ≡ second.old }
+{
+    let circuit = read_circuit(alloc, first)?;
+    do_on_circuit(alloc, order, &circuit, second, out, err)
+}
+
+/// Does a command on a circuit that was read.
+#[tactic(auto, unfolding(crate::specs::Done::Answers, crate::specs::Done::AnswersByName, crate::specs::Done::first_of, crate::specs::Done::is_quiet, crate::specs::Done::has_one_file, crate::specs::Refusals::Refuses, crate::specs::Refusals::RefusesByName))]
+fn do_on_circuit<B: Source, O: Sink, E: Sink>(
+    alloc: Global,
+    order: &Order<'_>,
+    circuit: &Circuit,
+    second: &mut B,
+    out: &mut O,
+    err: &mut E,
+) -> Result<Answer, Refusal>
+    requires { first_of order.now.task ≡ first_is.Circuit }
+    ensures done { (known third : Option (List ℕ)) → IsCircuitText known circuit.now → IfOk result (λ answer. Answers order.now.task order.now.form answer known (B.to_come second.old) third (O.written out.old) (O.written out.new) (E.written err.old) (E.written err.new)) }
+    ensures refused { (known : Option (List ℕ)) → IsCircuitText known circuit.now → IfErr result (IfInput (Refuses order.now.task known)) }
+    ensures unwritten { IfErr result (IfInput (λ _. out.new ≡ out.old)) }
+    ensures untold { ErrUntold result (err.new ≡ err.old) }
+    ensures counted { (f : ℕ) → Counts result f f (B.failures second.old) (B.failures second.new) (O.failures out.old) (O.failures out.new) (E.failures err.old) (E.failures err.new) }
+    ensures quiet { is_quiet order.now.task ≡ true → err.new ≡ err.old }
+    ensures one_file { has_one_file order.now.task ≡ true → second.new ≡ second.old }
+{
+    match order.task {
+        Task::AigConvert => convert_circuit(order.form, circuit, out),
+        Task::ConvertForEngines(choice) => {
+            convert_for_engines(alloc, circuit, order.form, choice, out)
+        }
+        Task::CheckAig => check_circuit(alloc, false, circuit, second, out, err),
+        Task::Restore(choice) => restore_counterexample(alloc, circuit, choice, second, out, err),
+        Task::RestoreForm(choice) => restore_witness(alloc, circuit, choice, second, out, err),
+        Task::Named(Named::CheckAig) => check_circuit(alloc, true, circuit, second, out, err),
+        _ => unreachable!(),
     }
 }

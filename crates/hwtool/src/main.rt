@@ -3,11 +3,12 @@
 
 use base::ToWriter;
 use command_line::{Terminals, given_words, order_at};
-use commands::{Counted, Output, Progress, Watched, Work, end, open_input, run, run_to_file};
+use commands::{Output, run, run_to_file};
 use orders::{Order, Stop};
 use std::fs;
 use std::io::IsTerminal;
 use std::process::{self, ExitCode};
+use tasks::{Counted, Progress, Watched, Work, end, open_input};
 
 /// Does what the words after the program's name ask for.
 fn main(rt: HostRuntime) -> ExitCode {

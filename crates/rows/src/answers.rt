@@ -2,9 +2,10 @@
 
 use base::{Chop, FailAt, Sink, Source, VecSink};
 use blast::Unwatched;
-use commands::{Input, NoFile, run};
+use commands::run;
 use orders::Order;
 use std::alloc::{AllocError, Global};
+use tasks::{Input, NoFile};
 
 /// The status of a command, and what it writes to standard output and to standard error.
 #[derive(Clone, Copy)]

@@ -3,9 +3,9 @@
 use crate::answers::{Answer, Files, gives, status_on};
 use crate::blocks::Cut;
 use base::VecSink;
-use commands::NoFile;
 use orders::Order;
 use std::alloc::{AllocError, Global};
+use tasks::NoFile;
 
 /// The beginning of a text: its bytes, how many of its lines are whole, and where the line behind these begins.
 #[derive(Clone, Copy)]

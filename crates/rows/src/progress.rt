@@ -4,11 +4,11 @@ ghost use Rattle.std.specs.Prelude.{◌≤◌};
 use crate::Fault;
 use base::{Source, VecSink, write_all};
 use blast::Watch;
-use commands::{Counted, Progress, Watched, Work};
 use std::alloc::{AllocError, Global};
 use std::cell::Cell;
 use std::io::{self, Write};
 use std::time::{Clock, Duration};
+use tasks::{Counted, Progress, Watched, Work};
 
 /// A clock that begins with 0 and goes on by so many milliseconds at each look.
 #[derive(Drop)]

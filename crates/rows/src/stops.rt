@@ -2,9 +2,9 @@
 
 use crate::answers::Answer;
 use base::{Chop, FailAt, VecSink};
-use commands::end;
 use orders::Stop;
 use std::alloc::Global;
+use tasks::end;
 
 /// Whether a text has a part, or is empty where the part is.
 fn has_part(text: &[u8], part: &[u8]) -> bool {

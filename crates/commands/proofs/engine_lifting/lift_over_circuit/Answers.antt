@@ -1,4 +1,5 @@
-use Rattle.commands.proofs.RestoreLemmas.{answer_of, engine_lifted, kept_with}
+use Rattle.tasks.proofs.RestoreLemmas.{answer_of}
+use Rattle.commands.proofs.LiftLemmas.{engine_lifted, kept_with}
 use Rattle.commands.proofs.engine_lifting.lift_over_circuit.Goals as goal
 
 pub returns-clause-done : goal.returns-clause-done

@@ -1,4 +1,4 @@
-use Rattle.commands.proofs.RestoreLemmas.{form_lifted}
+use Rattle.commands.proofs.LiftLemmas.{form_lifted}
 use Rattle.commands.proofs.form_lifting.lift_through_form.Goals as goal
 
 pub returns-clause-done : goal.returns-clause-done

@@ -1,6 +1,6 @@
 use Rattle.std.proofs.Common.{ℕ, List, Option, Bor, inl}
 use Rattle.std.specs.Prelude.{option_map}
-use Rattle.commands.proofs.CountLemmas.{told_failed, untold_failed}
+use Rattle.commands.proofs.FailureLemmas.{told_failed, untold_failed}
 use Rattle.commands.proofs.running.run.Goals as goal
 
 pub returns-in-Ok-tell-clause-failed : goal.returns-in-Ok-tell-clause-failed

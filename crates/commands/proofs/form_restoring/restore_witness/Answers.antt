@@ -1,7 +1,0 @@
-use Rattle.commands.proofs.CountLemmas.{counted_behind}
-use Rattle.commands.proofs.form_restoring.restore_witness.Goals as goal
-
-pub returns-clause-counted : goal.returns-clause-counted
-returns-clause-counted g c =
-    counted_behind c.restore_over_form.result (g.A.Source.failures c.args.first.now) (g.A.Source.failures c.read_circuit.new.first) (g.B.Source.failures c.args.second.now) (g.B.Source.failures c.restore_over_form.new.second) (g.O.Sink.failures c.args.out.now) (g.O.Sink.failures c.restore_over_form.new.out) (g.E.Sink.failures c.args.err.now) (g.E.Sink.failures c.restore_over_form.new.err)
-    (c.in_ok-circuit.ensures.counted 0 0 0).0 (c.restore_over_form.ensures.counted (g.A.Source.failures c.read_circuit.new.first))

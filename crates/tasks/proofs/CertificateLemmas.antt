@@ -1,0 +1,114 @@
+-- What is refused of a second file, and what a command has done that judged a certificate.
+use Rattle.std.proofs.Common.{◌≡◌, inl, inr, ◌↔◌, ℕ, Bool, true, false, List, Option, None, Result, Ok, Err, IfOk, OnOk, refl, subst}
+use Rattle.std.specs.Io.KnownBytes.{Appends}
+use Rattle.btor2.specs.declared.item.Item.{Item}
+use Rattle.aiger.specs.Circuit.{Circuit}
+use Rattle.aiger.specs.Reachability.{CanRiseInCircuit}
+use Rattle.blast.specs.Lowering.{Lowers}
+use Rattle.blast.specs.Reachability.{CanRise}
+use Rattle.blast.specs.Refusal.{lowering_refusal}
+use Rattle.engine.specs.declared.fault.EngineFault.{EngineFault}
+use Rattle.engine.specs.declared.fault.EngineFault.TheVariants as engine
+use Rattle.clauses.specs.declared.judgement.Judgement.{Judgement}
+use Rattle.clauses.specs.declared.judgement.Judgement.TheVariants as verdict
+use Rattle.invariants.specs.declared.why.InvariantFault.{InvariantFault}
+use Rattle.invariants.specs.declared.why.InvariantWhy.{InvariantWhy}
+use Rattle.invariants.specs.declared.why.InvariantWhy.TheVariants as why
+use Rattle.invariants.specs.declared.fault.ObligationFault.{ObligationFault}
+use Rattle.invariants.specs.declared.fault.ObligationFault.TheVariants as obligation
+use Rattle.invariants.specs.declared.claim_fault.ClaimFault.{ClaimFault}
+use Rattle.invariants.specs.declared.claim_fault.ClaimFault.TheVariants as claim
+use Rattle.invariants.specs.declared.certificate_fault.CertificateFault.{CertificateFault}
+use Rattle.invariants.specs.declared.certificate_fault.CertificateFault.TheVariants as certificate
+use Rattle.invariants.specs.Certificates.{IsCertified, IsNotJudged, OwesNone, OwesNoneOver}
+use Rattle.tasks.specs.declared.answers.Answer.{Answer}
+use Rattle.tasks.specs.declared.answers.Answer.TheVariants as answer
+use Rattle.orders.specs.declared.tasks.Given.{Given}
+use Rattle.orders.specs.declared.tasks.Given.TheVariants as given
+use Rattle.tasks.specs.declared.refusals.Fault.{Fault}
+use Rattle.tasks.specs.declared.refusals.Refusal.{Refusal}
+use Rattle.tasks.specs.declared.refusals.Refusal.TheVariants as refusal
+use Rattle.tasks.specs.Certificates.{Certifies, CertifiesWith, Gives, IfDone, IsSoDerived, LowersFirst, NeverRises, given_said, verdict_line}
+use Rattle.tasks.specs.Conversions.{of_certificate, of_claim, of_engine_form, of_invariant_for, of_obligation}
+use Rattle.tasks.specs.Refusals.{IsFaultyFor, IsFaultyOver}
+use Rattle.tasks.specs.Statuses.{IfSecond}
+use Rattle.tasks.specs.Subjects.{holds_said, where_named}
+use Rattle.tasks.specs.Texts.{IsClaim, IsModelOf}
+
+-- ---- what is refused
+
+form_no_second : (P : Fault → Type 0) (e : EngineFault) → IfSecond P (of_engine_form e)
+form_no_second P engine.NoMemory = tt
+form_no_second P _ = tt
+
+faulty_line : (d : Circuit) (invariant : Option (List ℕ)) (e : InvariantFault) (w : InvariantWhy) → e.why ≡ w → OwesNoneOver d invariant (claim.Invariant e) → IfSecond (IsFaultyOver d invariant) (of_invariant_for e w)
+faulty_line d invariant e why.Device is h = tt
+faulty_line d invariant e why.NoMemory is h = tt
+faulty_line d invariant e _ is (inl memory) = absurd (cc)
+faulty_line d invariant e _ is (inr (inl device)) = absurd (cc)
+faulty_line d invariant e _ is (inr (inr reads)) = reads
+
+faulty_cubes : (d : Circuit) (invariant : Option (List ℕ)) (e : ObligationFault) → OwesNoneOver d invariant (claim.Obligation e) → IfSecond (IsFaultyOver d invariant) (of_obligation e)
+faulty_cubes d invariant obligation.NoMemory h = tt
+faulty_cubes d invariant obligation.TooBig (cubes, are, inl refused) = (cubes, are, refused)
+faulty_cubes d invariant obligation.TooBig (cubes, are, inr memory) = let is = memory.1 in absurd (cc)
+
+with_form : (c : Circuit) (k : ℕ) (invariant : Option (List ℕ)) (d : Circuit) (r : Refusal) → ((f : Fault) → IsFaultyOver d invariant f → IsFaultyFor c k invariant f) → IfSecond (IsFaultyOver d invariant) r → IfSecond (IsFaultyFor c k invariant) r
+with_form c k invariant d (refusal.Second f) is h = is f h
+with_form c k invariant d _ is h = tt
+
+-- no formula is owed: the second file is refused, for its text or its cubes, or the first, for the form
+pub refuses_invariant : (c : Circuit) (k : ℕ) (invariant : Option (List ℕ)) (e : ClaimFault) → OwesNone c k invariant e → IfSecond (IsFaultyFor c k invariant) (of_claim e)
+refuses_invariant c k invariant (claim.Form e) h = form_no_second (IsFaultyFor c k invariant) e
+refuses_invariant c k invariant (claim.Invariant e) h =
+    with_form c k invariant h.form (of_invariant_for e e.why) (λ f faulty. record { form = h.form; is_form = h.is_form; faulty = faulty }) (faulty_line h.form invariant e e.why refl h.owes_none)
+refuses_invariant c k invariant (claim.Obligation e) h =
+    with_form c k invariant h.form (of_obligation e) (λ f faulty. record { form = h.form; is_form = h.is_form; faulty = faulty }) (faulty_cubes h.form invariant e h.owes_none)
+
+-- the same of a certificate that is not judged
+pub certificate_refuses_invariant : (c : Circuit) (k : ℕ) (invariant : Option (List ℕ)) (e : CertificateFault) → IsNotJudged c k invariant e → IfSecond (IsFaultyFor c k invariant) (of_certificate e)
+certificate_refuses_invariant c k invariant (certificate.Claim e) h = refuses_invariant c k invariant e h
+certificate_refuses_invariant c k invariant (certificate.Judge e) h = tt
+certificate_refuses_invariant c k invariant certificate.Device h = tt
+
+-- ---- what is done
+
+-- a first text of a model against which nothing speaks gives the circuit that lowers it
+pub gives_lowered : (known : Option (List ℕ)) (items : List Item) (c : Circuit) → IsModelOf known items → lowering_refusal items ≡ None → Lowers items c → LowersFirst known c
+gives_lowered known items c text accepted lowers = record { items = items; text = text; accepted = accepted; lowers = lowers }
+
+never : (g : Given) (known : Option (List ℕ)) (c : Circuit) (gives : Gives g known c) (k : ℕ) → ((items : List Item) (d : Circuit) (b : ℕ) → Lowers items d → CanRise items b ↔ CanRiseInCircuit d b) → (CanRiseInCircuit c k → ⊥) → NeverRises g known c gives k
+never given.Model known c gives k alike cannot = λ rise. cannot ((alike gives.items c k gives.lowers).0 rise)
+never given.Circuit known c gives k alike cannot = cannot
+
+holds_where_done : (a : Answer) (j : Judgement) (X : Type 0) → IsSoDerived a j → ((line : ℕ) → j ≡ verdict.Derived line → X) → IfDone a X
+holds_where_done answer.Done (verdict.Derived line) X so f = f line refl
+holds_where_done answer.Done _ X so f = absurd so
+holds_where_done answer.NotAccepted j X so f = tt
+
+-- a command that told how a certificate is judged has judged it, with names or without
+pub certified : (named : Bool) (r : Result Answer Refusal) (g : Given) (choice : Option ℕ) (known second third before now told told' : Option (List ℕ)) (c : Circuit) (k : ℕ) (j : Judgement)
+    → ((d : Circuit) (b : ℕ) (invariant proof : Option (List ℕ)) (line : ℕ) → IsCertified d b invariant proof (verdict.Derived line) → CanRiseInCircuit d b → ⊥)
+    → ((items : List Item) (d : Circuit) (b : ℕ) → Lowers items d → CanRise items b ↔ CanRiseInCircuit d b)
+    → (gives : Gives g known c) → IsClaim choice c k → IsCertified c k second third j
+    → OnOk r (Appends before now (verdict_line k j)) → OnOk r (Appends told told' (where_named named (holds_said j (given_said g known c gives k)))) → IfOk r (λ a. IsSoDerived a j)
+    → IfOk r (CertifiesWith named g choice known second third before now told told')
+certified named (Ok a) g choice known second third before now told told' c k j law alike gives is judged line said so = with_names named said
+  where
+    certifies : Certifies g choice known second third before now a
+    certifies = record {
+      circuit = c;
+      claim = k;
+      judgement = j;
+      gives = gives;
+      is_claim = is;
+      certified = judged;
+      so = so;
+      holds = holds_where_done a j (NeverRises g known c gives k) so (λ n derives. never g known c gives k alike (law c k second third n (subst (IsCertified c k second third) derives judged)));
+      line = line;
+    }
+
+    with_names : (named : Bool) → Appends told told' (where_named named (holds_said j (given_said g known c gives k))) → CertifiesWith named g choice known second third before now told told' a
+    with_names false said = certifies
+    with_names true said = record { certifies = certifies; subject = said }
+certified named (Err e) g choice known second third before now told told' c k j law alike gives is judged line said so = so

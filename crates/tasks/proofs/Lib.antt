@@ -1,0 +1,6 @@
+pub mod CertificateLemmas
+pub mod CountLemmas
+pub mod EngineLemmas
+pub mod RestoreLemmas
+pub mod SubjectLemmas
+pub mod WaveLemmas

@@ -1,0 +1,10 @@
+-- What tasks read, do and tell.
+pub mod Certificates
+pub mod Conversions
+pub mod Done
+pub mod Files
+pub mod Refusals
+pub mod Restoring
+pub mod Statuses
+pub mod Subjects
+pub mod Texts

@@ -1,0 +1,30 @@
+-- How the answer of a restoring is told.
+use Rattle.std.specs.Prelude.{◌≡◌, ◌++◌, ℕ, List, Option, None, Some, IfSome, Result, Ok, Err, true}
+use Rattle.std.specs.Io.KnownBytes.{Appends}
+use Rattle.aiger.specs.Circuit.{Circuit}
+use Rattle.engine.specs.EngineForm.{input_count}
+use Rattle.witness.specs.declared.judgement.Judgement.{Judgement}
+use Rattle.witness.specs.BitJudgements.{BitJudges}
+use Rattle.restore.specs.declared.fault.RestoreFault.{RestoreFault}
+use Rattle.restore.specs.Accepted.{FindsAgain}
+use Rattle.restore.specs.Faults.{is_of_text}
+use Rattle.restore.specs.Reading.{read_text}
+use Rattle.restore.specs.Restored.{restored_text}
+use Rattle.tasks.specs.declared.answers.Answer.{Answer}
+use Rattle.tasks.specs.Done.{IsSo, judgement_line}
+
+-- what a restoring answers: the judgement of what was restored, or the first faulty line
+abbrev pub IsAnswerOf : Circuit → ℕ → Option (List ℕ) → Result Judgement RestoreFault → Type 0
+IsAnswerOf c claim found (Ok j) =
+    IfSome found (λ text. (read_text (input_count c) text).fault ≡ None) × (IfSome found (λ text. BitJudges c (restored_text c claim text) j) × IfSome found (λ text. FindsAgain c claim text j))
+IsAnswerOf c claim found (Err e) = is_of_text e.why ≡ true → IfSome found (λ text. (read_text (input_count c) text).fault ≡ Some e)
+
+-- what was told of a judgement, and behind it, and whether it is that the witness is accepted
+abbrev pub TellsVerdict : (Judgement → List ℕ) → Result Judgement RestoreFault → Answer → Option (List ℕ) → Option (List ℕ) → Type 0
+TellsVerdict said (Ok j) a told told' = IsSo a j × Appends told told' (judgement_line j ++ said j)
+TellsVerdict said (Err e) a told told' = is_of_text e.why ≡ true
+
+-- the counterexample was read to its end, and all that it gives was written
+abbrev pub IsWhole : Result Judgement RestoreFault → Type 0
+IsWhole (Ok j) = Unit {0}
+IsWhole (Err e) = is_of_text e.why ≡ true

@@ -1,0 +1,101 @@
+//! Lines of judgements.
+
+ghost use Rattle.std.specs.Prelude.{◌≡◌, ◌++◌, ℕ, false, IfOk, OnOk};
+ghost use Rattle.std.specs.Io.KnownBytes.{Appends};
+ghost use Rattle.std.specs.String.{string_bytes};
+ghost use Rattle.tasks.specs.Done.{IsSo, judgement_line};
+ghost use Rattle.tasks.specs.Statuses.{Counts, ErrUntold, IsOfNoInput};
+ghost use Rattle.tasks.specs.Subjects.{subject_said, where_named};
+
+use crate::answers::Answer;
+use crate::refusals::{Device, Refusal};
+use crate::subjects::{Subject, tell_subject};
+use crate::telling::write_result;
+use base::{Sink, write_all};
+use std::alloc::{AllocError, Global};
+use witness::Judgement;
+
+/// The line of a judgement.
+fn judgement_line(alloc: Global, judgement: &Judgement) -> Result<String, AllocError>
+    ensures { IfOk result (λ line. string_bytes line ≡ judgement_line judgement.now) }
+{
+    format!(in alloc; "{judgement}\n")
+}
+
+/// Writes the line of a judgement to standard output, and answers whether the witness is accepted.
+fn write_line<O: Sink>(alloc: Global, judgement: &Judgement, out: &mut O) -> Result<Answer, Refusal>
+    ensures written { OnOk result (Appends (O.written out.old) (O.written out.new) (judgement_line judgement.now)) }
+    ensures so { IfOk result (λ answer. IsSo answer judgement.now) }
+    ensures no_input { IsOfNoInput result }
+    ensures counted { (f s e : ℕ) → Counts result f f s s (O.failures out.old) (O.failures out.new) e e }
+{
+    let line = judgement_line(alloc, judgement)?;
+    write_result(out, line.as_bytes())?;
+    Ok(Answer::of(judgement))
+}
+
+/// Writes the line of a judgement to standard output, with names says on standard error what it is about, and answers whether
+/// the witness is accepted.
+pub fn write_judgement<O: Sink, E: Sink>(
+    alloc: Global,
+    named: bool,
+    subject: Subject<'_>,
+    judgement: &Judgement,
+    out: &mut O,
+    err: &mut E,
+) -> Result<Answer, Refusal>
+    ensures written { OnOk result (Appends (O.written out.old) (O.written out.new) (judgement_line judgement.now)) }
+    ensures told { OnOk result (Appends (E.written err.old) (E.written err.new) (where_named named (subject_said subject.entry judgement.now))) }
+    ensures quiet { named ≡ false → err.new ≡ err.old }
+    ensures so { IfOk result (λ answer. IsSo answer judgement.now) }
+    ensures no_input { IsOfNoInput result }
+    ensures untold { ErrUntold result (err.new ≡ err.old) }
+    ensures counted { (f s : ℕ) → Counts result f f s s (O.failures out.old) (O.failures out.new) (E.failures err.old) (E.failures err.new) }
+{
+    let answer = write_line(alloc, judgement, out)?;
+    match tell_subject(named, subject, judgement, err) {
+        Ok(()) => Ok(answer),
+        Err(_) => Err(Refusal::Failed(Device::Error)),
+    }
+}
+
+/// Writes the line of a judgement to standard error, and answers whether the witness is accepted.
+pub fn tell_line<E: Sink>(
+    alloc: Global,
+    judgement: &Judgement,
+    err: &mut E,
+) -> Result<Answer, Refusal>
+    ensures written { OnOk result (Appends (E.written err.old) (E.written err.new) (judgement_line judgement.now)) }
+    ensures so { IfOk result (λ answer. IsSo answer judgement.now) }
+    ensures no_input { IsOfNoInput result }
+    ensures untold { ErrUntold result (err.new ≡ err.old) }
+    ensures counted { (f s o : ℕ) → Counts result f f s s o o (E.failures err.old) (E.failures err.new) }
+{
+    let line = judgement_line(alloc, judgement)?;
+    match write_all(err, line.as_bytes()) {
+        Ok(()) => Ok(Answer::of(judgement)),
+        Err(_) => Err(Refusal::Failed(Device::Error)),
+    }
+}
+
+/// Writes the line of a judgement to standard error, with names behind it what it is about, and answers whether the witness is
+/// accepted.
+pub fn tell_judgement<E: Sink>(
+    alloc: Global,
+    named: bool,
+    subject: Subject<'_>,
+    judgement: &Judgement,
+    err: &mut E,
+) -> Result<Answer, Refusal>
+    ensures written { OnOk result (Appends (E.written err.old) (E.written err.new) (judgement_line judgement.now ++ where_named named (subject_said subject.entry judgement.now))) }
+    ensures so { IfOk result (λ answer. IsSo answer judgement.now) }
+    ensures no_input { IsOfNoInput result }
+    ensures untold { ErrUntold result (err.new ≡ err.old) }
+    ensures counted { (f s o : ℕ) → Counts result f f s s o o (E.failures err.old) (E.failures err.new) }
+{
+    let answer = tell_line(alloc, judgement, err)?;
+    match tell_subject(named, subject, judgement, err) {
+        Ok(()) => Ok(answer),
+        Err(_) => Err(Refusal::Failed(Device::Error)),
+    }
+}

@@ -1,0 +1,34 @@
+//! What commands read, do and tell, but for those that lift: each over sources and sinks.
+#![tactic(auto)]
+
+mod answers;
+mod certificates;
+mod circuits;
+mod engines;
+mod files;
+mod form_restoring;
+mod judgements;
+mod models;
+mod progress;
+mod refusals;
+mod restoring;
+mod subjects;
+mod telling;
+mod vector_reports;
+mod waving;
+
+pub use answers::Answer;
+pub use certificates::{check_proof, write_obligation};
+pub use circuits::{check_circuit, convert_circuit, read_circuit};
+pub use engines::{convert_for_engines, lower_for_engines};
+pub use files::{Input, NoFile, open_input};
+pub use form_restoring::restore_witness;
+pub use judgements::tell_judgement;
+pub use models::{check_model, lower_model, read_model, show, tell_cost};
+pub use progress::{Counted, Progress, Watched, Work};
+pub use refusals::{Device, Fault, Refusal};
+pub use restoring::{claim_of, has_form, restore_counterexample, tell_restored};
+pub use subjects::Subject;
+pub use telling::{end, tell, tell_no_memory, tell_output};
+pub use vector_reports::compare_vectors;
+pub use waving::dump_witness;

@@ -1,0 +1,133 @@
+//! The command that restores counterexamples over engine forms.
+
+ghost use Rattle.std.specs.Prelude.{◌≡◌, ◌≢◌, ◌<◌, ℕ, List, None, Option, Some, IfOk, IfErr, OnOk, length};
+ghost use Rattle.std.specs.Io.KnownBytes.{Appends};
+ghost use Rattle.std.specs.String.{string_bytes};
+ghost use Rattle.engine.specs.Refusal.{engine_refusal};
+ghost use Rattle.tasks.specs.declared.answers.Answer.TheVariants as answer_is;
+ghost use Rattle.orders.specs.declared.tasks.Given.TheVariants as given_is;
+ghost use Rattle.tasks.specs.declared.refusals.Refusal.TheVariants as refusal;
+ghost use Rattle.tasks.specs.declared.refusals.Fault.TheVariants as fault_is;
+ghost use Rattle.restore.specs.Answers.{CountsRestore};
+ghost use Rattle.tasks.specs.Done.{IsCircuitText, IsClaim, Restores, TellsRestored, malformed_line};
+ghost use Rattle.tasks.specs.Restoring.{IsAnswerOf, IsWhole, TellsVerdict};
+ghost use Rattle.tasks.specs.Refusals.{IsNotClaimed, IsWithoutForm};
+ghost use Rattle.tasks.specs.Statuses.{Counts, IfInput, IsOfNoInput, ErrUntold};
+ghost use Rattle.tasks.specs.Subjects.{subject_said, where_named};
+
+use crate::answers::Answer;
+use crate::circuits::read_circuit;
+use crate::judgements::tell_judgement;
+use crate::refusals::{Device, Fault, Refusal};
+use crate::subjects::Subject;
+use aiger::Circuit;
+use base::{Sink, Source, write_all};
+use engine::engine_form;
+use restore::{RestoreFault, RestoreWhy, restore};
+use std::alloc::{AllocError, Global};
+use witness::Judgement;
+
+/// The line of the first faulty line of a counterexample.
+fn malformed_line(alloc: Global, fault: &RestoreFault) -> Result<String, AllocError>
+    ensures { IfOk result (λ line. string_bytes line ≡ malformed_line fault.now) }
+{
+    let line = fault.line;
+    let number = fault.why.number();
+    let name = fault.why.name();
+    format!(in alloc; "malformed line {line}: {number} {name}\n")
+}
+
+/// Tells the first faulty line of a counterexample on standard error.
+fn tell_malformed<E: Sink>(
+    alloc: Global,
+    fault: &RestoreFault,
+    err: &mut E,
+) -> Result<Answer, Refusal>
+    ensures written { OnOk result (Appends (E.written err.old) (E.written err.new) (malformed_line fault.now)) }
+    ensures answer { IfOk result (λ answer. answer ≡ answer_is.NotAccepted) }
+    ensures no_input { IsOfNoInput result }
+    ensures untold { ErrUntold result (err.new ≡ err.old) }
+    ensures counted { (f s o : ℕ) → Counts result f f s s o o (E.failures err.old) (E.failures err.new) }
+{
+    let line = malformed_line(alloc, fault)?;
+    match write_all(err, line.as_bytes()) {
+        Ok(()) => Ok(Answer::NotAccepted),
+        Err(_) => Err(Refusal::Failed(Device::Error)),
+    }
+}
+
+/// The bad property of a circuit that is claimed: the chosen one, or the only one.
+pub fn claim_of(circuit: &Circuit, choice: Option<usize>) -> Result<usize, Refusal>
+    ensures claim { IfOk result (λ claim. IsClaim choice circuit.now claim) }
+    ensures unchosen { IfErr result (λ r. (r ≡ refusal.Input fault_is.Unchosen) × ((choice ≡ None) × (length circuit.now.bads ≢ 1))) }
+{
+    match choice {
+        Some(position) => Ok(position),
+        None if circuit.bads().len() == 1 => Ok(0),
+        None => Err(Refusal::Input(Fault::Unchosen)),
+    }
+}
+
+/// Whether a circuit has an engine form with this bad property alone.
+pub fn has_form(alloc: Global, circuit: &Circuit, claim: usize) -> Result<(), Refusal>
+    ensures accepted { OnOk result (engine_refusal circuit.now (Some claim) ≡ None) }
+    ensures there { OnOk result (claim < length circuit.now.bads) }
+    ensures refused { IfErr result (IfInput (IsWithoutForm circuit.now (Some claim))) }
+    ensures counted { (f s o e : ℕ) → Counts result f f s s o o e e }
+{
+    let _ = engine_form(alloc, circuit, Some(claim))?;
+    Ok(())
+}
+
+/// Tells on standard error what a restoring answers, with names behind a judgement what it is about.
+pub fn tell_restored<E: Sink>(
+    alloc: Global,
+    told: Result<Judgement, RestoreFault>,
+    named: bool,
+    subject: Subject<'_>,
+    err: &mut E,
+) -> Result<Answer, Refusal>
+    ensures done { (c : Circuit) (claim : ℕ) (found : Option (List ℕ)) → IsAnswerOf c claim found told → IfOk result (λ answer. TellsRestored (λ verdict. where_named named (subject_said subject.entry verdict)) answer c claim found (E.written err.old) (E.written err.new)) }
+    ensures whole { OnOk result (IsWhole told) }
+    ensures verdict { IfOk result (λ answer. TellsVerdict (λ verdict. where_named named (subject_said subject.entry verdict)) told answer (E.written err.old) (E.written err.new)) }
+    ensures no_input { IsOfNoInput result }
+    ensures untold { ErrUntold result (err.new ≡ err.old) }
+    ensures counted { (f s s' o o' : ℕ) → CountsRestore told s s' o o' → Counts result f f s s' o o' (E.failures err.old) (E.failures err.new) }
+{
+    match told {
+        Ok(judgement) => tell_judgement(alloc, named, subject, &judgement, err),
+        Err(fault) => match fault.why {
+            RestoreWhy::Device => Err(Refusal::Failed(Device::Second)),
+            RestoreWhy::Write => Err(Refusal::Failed(Device::Output)),
+            RestoreWhy::NoMemory => Err(Refusal::NoMemory),
+            _ => tell_malformed(alloc, &fault, err),
+        },
+    }
+}
+
+/// Restores a counterexample over the engine form of a circuit to standard output, and tells on standard error how that
+/// is judged.
+///
+/// Its buffers stand in a frame of its own: each command enters that of its caller.
+#[inline(never)]
+pub fn restore_counterexample<B: Source, O: Sink, E: Sink>(
+    alloc: Global,
+    circuit: &Circuit,
+    choice: Option<usize>,
+    second: &mut B,
+    out: &mut O,
+    err: &mut E,
+) -> Result<Answer, Refusal>
+    ensures done { (known : Option (List ℕ)) → IsCircuitText known circuit.now → IfOk result (Restores choice known (B.to_come second.old) (O.written out.old) (O.written out.new) (E.written err.old) (E.written err.new)) }
+    ensures refused { (known : Option (List ℕ)) → IsCircuitText known circuit.now → IfErr result (IfInput (IsNotClaimed given_is.Circuit choice known)) }
+    ensures unwritten { IfErr result (IfInput (λ _. out.new ≡ out.old)) }
+    ensures untold { ErrUntold result (err.new ≡ err.old) }
+    ensures counted { (f : ℕ) → Counts result f f (B.failures second.old) (B.failures second.new) (O.failures out.old) (O.failures out.new) (E.failures err.old) (E.failures err.new) }
+{
+    // the lists of a circuit are one
+    let _ = circuit.inputs();
+    let claim = claim_of(circuit, choice)?;
+    has_form(alloc, circuit, claim)?;
+    let told = restore(alloc, circuit, claim, second, out);
+    tell_restored(alloc, told, false, Subject::Circuit(circuit), err)
+}

@@ -1,0 +1,129 @@
+//! What is written to standard output and to standard error.
+
+ghost use Rattle.std.specs.Prelude.{◌≡◌, ◌⊎◌, ℕ, IfOk, OnOk, OnErr, codes, option_map};
+ghost use Rattle.std.specs.Io.KnownBytes.{Appends};
+ghost use Rattle.std.specs.String.{string_bytes};
+ghost use Rattle.base.specs.Device.{CountsFaults};
+ghost use Rattle.tasks.specs.declared.refusals.Device.TheVariants as device;
+ghost use Rattle.tasks.specs.declared.refusals.Refusal.TheVariants as refusal_is;
+ghost use Rattle.tasks.specs.Refusals.{about};
+ghost use Rattle.tasks.specs.Statuses.{Counts, IsOfNoInput, Tells, TellsFault};
+
+use crate::refusals::{Device, Fault, Refusal};
+use base::{DeviceFault, Sink, write_all};
+use orders::{DEVICE, DONE, Order, STANDARD_INPUT, Stop};
+use std::alloc::Global;
+
+/// What is told where memory was wanting.
+const NO_MEMORY: &[u8] = b"no memory\n";
+
+/// Writes a result to standard output.
+pub fn write_result<O: Sink>(out: &mut O, text: &[u8]) -> Result<(), Refusal>
+    ensures written { OnOk result (Appends (O.written out.old) (O.written out.new) text.now) }
+    ensures no_input { IsOfNoInput result }
+    ensures counted { (f s e : ℕ) → Counts result f f s s (O.failures out.old) (O.failures out.new) e e }
+{
+    match write_all(out, text) {
+        Ok(()) => Ok(()),
+        Err(_) => Err(Refusal::Failed(Device::Output)),
+    }
+}
+
+/// Tells that a file or a stream failed. It takes no memory.
+fn tell_device<E: Sink>(device: &str, err: &mut E) -> Result<u8, DeviceFault>
+    ensures status { IfOk result (λ status. status ≡ 3) }
+    ensures told { OnOk result (Appends (E.written err.old) (E.written err.new) (about device.now (codes "device\n"))) }
+    ensures counted { CountsFaults result (E.failures err.old) (E.failures err.new) }
+{
+    write_all(err, device.as_bytes())?;
+    write_all(err, b": device\n")?;
+    Ok(DEVICE)
+}
+
+/// Tells that a result could not be written, and answers the exit status.
+pub fn tell_output<E: Sink>(err: &mut E) -> u8
+    ensures { result ≡ 3 }
+{
+    tell_device("output", err).unwrap_or(DEVICE)
+}
+
+/// Tells that memory was wanting. It takes none.
+pub fn tell_no_memory<E: Sink>(err: &mut E) -> Result<u8, DeviceFault>
+    ensures status { IfOk result (λ status. status ≡ 3) }
+    ensures told { OnOk result (Appends (E.written err.old) (E.written err.new) (codes "no memory\n")) }
+    ensures counted { CountsFaults result (E.failures err.old) (E.failures err.new) }
+{
+    write_all(err, NO_MEMORY)?;
+    Ok(DEVICE)
+}
+
+/// Tells the fault of a file.
+fn tell_fault<E: Sink>(
+    alloc: Global,
+    file: &str,
+    fault: &Fault,
+    err: &mut E,
+) -> Result<u8, DeviceFault>
+    ensures told { IfOk result (λ status. TellsFault file.now fault.now status (E.written err.old) (E.written err.new)) }
+    ensures counted { CountsFaults result (E.failures err.old) (E.failures err.new) }
+{
+    match fault.line(alloc, file) {
+        Ok(line) => {
+            write_all(err, line.as_bytes())?;
+            Ok(fault.status())
+        }
+        Err(_) => tell_no_memory(err),
+    }
+}
+
+/// Tells a refusal on standard error, and answers the exit status: 2 where an input is refused, 4 where the words leave a
+/// choice open, 3 where a file or a stream failed or memory was wanting, be it for the line.
+pub fn tell<E: Sink>(
+    alloc: Global,
+    order: &Order<'_>,
+    refusal: &Refusal,
+    err: &mut E,
+) -> Result<u8, DeviceFault>
+    ensures told { IfOk result (λ status. Tells order.now.first.now (option_map (λ name. name.now) order.now.second) (option_map (λ name. name.now) order.now.third) refusal.now status (E.written err.old) (E.written err.new)) }
+    ensures untold { OnErr result (¬ (refusal.now ≡ refusal_is.Failed device.Error)) }
+    ensures counted { CountsFaults result (E.failures err.old) (E.failures err.new) }
+{
+    match refusal {
+        Refusal::Input(fault) => tell_fault(alloc, order.first, fault, err),
+        Refusal::Second(fault) => {
+            tell_fault(alloc, order.second.unwrap_or(STANDARD_INPUT), fault, err)
+        }
+        Refusal::Failed(Device::First) => tell_device(order.first, err),
+        Refusal::Failed(Device::Second) => {
+            tell_device(order.second.unwrap_or(STANDARD_INPUT), err)
+        }
+        Refusal::Failed(Device::Third) => tell_device(order.third.unwrap_or(STANDARD_INPUT), err),
+        Refusal::Failed(Device::Output) => tell_device("output", err),
+        Refusal::Failed(Device::Error) => Ok(DEVICE),
+        Refusal::NoMemory => tell_no_memory(err),
+    }
+}
+
+/// Tells what stands in place of a command, and answers the exit status.
+///
+/// Help and the version go to `out`, with status 0; refused words go to `err`, with status 4, and the line `no memory`
+/// with status 3. Where the text can't be written the status is 3, and where that is so of `out`, a line on `err` says
+/// it.
+pub fn end<O: Sink, E: Sink>(stop: &Stop, out: &mut O, err: &mut E) -> u8
+    ensures status { (result ≡ stop.now.status) ⊎ (result ≡ 3) }
+    ensures shown { result ≡ 0 → Appends (O.written out.old) (O.written out.new) (string_bytes stop.now.text) }
+    ensures refused { result ≡ 4 → Appends (E.written err.old) (E.written err.new) (string_bytes stop.now.text) }
+{
+    let text = stop.text.as_bytes();
+    match stop.status {
+        DONE => match write_all(out, text) {
+            Ok(()) => DONE,
+            Err(_) => tell_output(err),
+        },
+        DEVICE => tell_no_memory(err).unwrap_or(DEVICE),
+        status => match write_all(err, text) {
+            Ok(()) => status,
+            Err(_) => DEVICE,
+        },
+    }
+}
