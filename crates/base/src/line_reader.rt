@@ -71,6 +71,7 @@ impl LineReader {
     ///
     /// Errors: `Device` where the source failed in this call, `NoMemory` where a growth was refused. No byte is lost
     /// then: a further call goes on.
+    #[inline(always)]
     #[tactic(auto, using(crate::proofs::HeldLemmas::takes_line))]
     pub fn advance<S: Source>(&mut self, source: &mut S) -> Result<bool, ReadAllFault>
         ensures bytes { Advances result self.old self.new (S.to_come source.old) (S.to_come source.new) }
@@ -79,22 +80,21 @@ impl LineReader {
         ensures device { IsErrOf result ReadAllFault.Device → HasRisen (S.failures source.old) (S.failures source.new) }
         ensures memory { IsErrOf result ReadAllFault.NoMemory → S.failures source.new ≡ S.failures source.old }
     {
-        if self.cut(0) {
-            return Ok(true);
-        }
-        self.compact();
+        let mut seen = 0;
         loop {
-            let seen = self.filled - self.next;
-            if self.fill(source)? == 0 {
-                return Ok(false);
-            }
             if self.cut(seen) {
                 return Ok(true);
+            }
+            self.compact();
+            seen = self.rest().len();
+            if self.fill(source)? == 0 {
+                return Ok(false);
             }
         }
     }
 
     /// Cuts the next line off what is held, and answers whether there is one. The first `seen` of the bytes have no byte 10.
+    #[inline(always)]
     fn cut(&mut self, seen: usize) -> bool
         requires within { seen ≤ length self.old.rest }
         requires none { IsLine (take seen self.old.rest) }
@@ -119,7 +119,9 @@ impl LineReader {
         ensures { self.new ≡ record { line = []; rest = self.old.rest } }
     {
         let (next, filled) = (self.next, self.filled);
-        self.buffer.copy_within(next..filled, 0);
+        if next > 0 {
+            self.buffer.copy_within(next..filled, 0);
+        }
         self.filled = filled - next;
         self.start = 0;
         self.next = 0;
