@@ -17,7 +17,7 @@ use indexmap::IndexMap;
 
 /// How many items a model gets room for at first: so much that the allocator gives them pages of their own, which a growth
 /// moves and does not copy.
-const FIRST_ROOM: usize = 4096;
+const FIRST_ROOM: usize = 16_384;
 
 /// Adds a place at the end of a list.
 fn add_place(list: &mut Vec<usize>, place: usize) -> Result<(), PushFault>
