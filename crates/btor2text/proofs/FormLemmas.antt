@@ -74,7 +74,7 @@ known_is : (word : List ℕ) (o : Option Form) (f : Form) → known_form word o 
 known_is word None f e = absurd cc
 known_is word (Some g) f e = ap (λ x. Some x) (ok_is g f e)
 
-form_takes : (word : List ℕ) (f : Form) → form_of word ≡ Ok f → word ≡ form_name f
+pub form_takes : (word : List ℕ) (f : Form) → form_of word ≡ Ok f → word ≡ form_name f
 unfolding form_of
 form_takes word f e = form_named_is word f (known_is word (form_named word) f e)
 

@@ -6,6 +6,7 @@ pub mod DigitLemmas
 pub mod FaultLemmas
 pub mod FormLemmas
 pub mod ItemLemmas
+pub mod KnownLemmas
 pub mod NumberLemmas
 pub mod OperandLemmas
 pub mod PlaceLemmas

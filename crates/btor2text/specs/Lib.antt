@@ -1,5 +1,6 @@
 pub mod Digits
 pub mod FirstFault
+pub mod KnownWords
 pub mod Tokens
 pub mod Reading
 pub mod Stopping

@@ -2,31 +2,18 @@
 
 ghost use Rattle.std.specs.Prelude.{◌≡◌};
 ghost use Rattle.btor2text.specs.Tokens.{tokens};
-ghost use Rattle.btor2text.specs.Reading.{Gives, GivesUnlessFull, form_at, leaf_body, extension_body, link_body, property_body, justice_at, body_at, symbol_at, item_of};
+ghost use Rattle.btor2text.specs.Reading.{GivesUnlessFull, leaf_body, extension_body, link_body, property_body, justice_at, body_at, symbol_at, item_of};
 
 use crate::constants::constant_at;
 use crate::fault::Why;
-use crate::forms::{Extension, Form, Leaf, Link, Property, form_of};
+use crate::forms::{Extension, Form, Leaf, Link, Property};
+use crate::known_words::KnownWords;
 use crate::places::{
     bit_at, counted_at, operand_at, pair_at, plain_at, sort_at, triple_at, width_at,
 };
 use crate::tokens::next_token;
 use btor2::{Body, Item, Operands, Symbol, SymbolFault};
 use std::alloc::Global;
-
-/// A form, and the line behind its word.
-#[tactic(auto, unfolding(crate::specs::Reading::form_at))]
-fn form_at(line: &[u8]) -> Result<(Form, &[u8]), Why>
-    ensures { Gives (λ x. (x.0, tokens x.1.now)) result (form_at (tokens line.now)) }
-{
-    match next_token(line) {
-        None => Err(Why::BadToken),
-        Some((word, rest)) => {
-            let form = form_of(word)?;
-            Ok((form, rest))
-        }
-    }
-}
 
 /// The body of a node that has a sort alone.
 fn leaf_body(leaf: Leaf, sort: u32) -> Body
@@ -183,11 +170,11 @@ fn symbol_at(alloc: Global, line: &[u8]) -> Result<Option<Symbol>, Why>
 /// The item that a line spells.
 #[inline(always)]
 #[tactic(auto, unfolding(crate::specs::Reading::item_of))]
-pub(crate) fn item(alloc: Global, line: &[u8]) -> Result<Item, Why>
+pub(crate) fn item(alloc: Global, words: &mut KnownWords, line: &[u8]) -> Result<Item, Why>
     ensures { GivesUnlessFull (λ x. x) result (item_of (tokens line.now)) }
 {
     let (id, rest) = plain_at(line)?;
-    let (form, rest) = form_at(rest)?;
+    let (form, rest) = words.form_at(rest)?;
     let (body, rest) = body_at(alloc, form, rest)?;
     let symbol = symbol_at(alloc, rest)?;
     Ok(Item { id, symbol, body })

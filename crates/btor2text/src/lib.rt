@@ -5,6 +5,7 @@ mod constants;
 mod fault;
 mod forms;
 mod items;
+mod known_words;
 pub mod laws;
 mod line;
 mod operators;

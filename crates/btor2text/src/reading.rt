@@ -12,6 +12,7 @@ ghost use Rattle.btor2text.specs.Stopping.{unread_fault, Stops, IsOfLine, Ends, 
 
 use crate::fault::{ReadFault, Why};
 use crate::items::item;
+use crate::known_words::KnownWords;
 use crate::tokens::from_token;
 use base::{DeviceFault, LineReader, ReadAllFault, Source, skip_all};
 use btor2::{Item, Model, PushFault};
@@ -32,13 +33,18 @@ fn push(model: &mut Model, item: Item) -> Result<(), Why>
 /// Reads a line onto a model.
 #[inline(always)]
 #[tactic(auto, unfolding(crate::specs::Reading::line_on))]
-fn read_line(alloc: Global, line: &[u8], model: &mut Model) -> Result<(), Why>
+fn read_line(
+    alloc: Global,
+    words: &mut KnownWords,
+    line: &[u8],
+    model: &mut Model,
+) -> Result<(), Why>
     ensures { ReadsLine result model.new (line_on model.old (tokens line.now)) }
 {
     match from_token(line) {
         None => Ok(()),
         Some(line) => {
-            let item = item(alloc, line)?;
+            let item = item(alloc, words, line)?;
             push(model, item)
         }
     }
@@ -90,6 +96,7 @@ fn read_lines<S: Source>(alloc: Global, source: &mut S, model: &mut Model) -> Re
     ensures { ReadsLines result model.old model.new (S.to_come source.old) (S.to_come source.new) (S.failures source.old) (S.failures source.new) }
 {
     let mut lines = LineReader::new(alloc);
+    let mut words = KnownWords::new();
     let mut line: u64 = 0;
     loop {
         match lines.advance(source) {
@@ -98,7 +105,7 @@ fn read_lines<S: Source>(alloc: Global, source: &mut S, model: &mut Model) -> Re
             Err(cause) => return Err(unread(cause)),
         }
         line = line.saturating_add(1);
-        match read_line(alloc, lines.line(), model) {
+        match read_line(alloc, &mut words, lines.line(), model) {
             Ok(()) => {}
             Err(why) => return Err(line_fault(source, line, why)),
         }
