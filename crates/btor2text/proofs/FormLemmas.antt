@@ -14,7 +14,7 @@ use Rattle.btor2text.specs.declared.forms.Constant.TheVariants as constant
 use Rattle.btor2text.specs.declared.forms.Extension.TheVariants as extension
 use Rattle.btor2text.specs.declared.forms.Link.TheVariants as link
 use Rattle.btor2text.specs.declared.forms.Property.TheVariants as property
-use Rattle.btor2text.specs.Words.{unary_name, binary_name, form_name, named, unaries, tests, bitwise, arithmetic, leaves, others, unary_of, binary_of, plain_form_of, form_named, known_form, form_of}
+use Rattle.btor2text.specs.Words.{unary_name, binary_name, form_name, named, unaries, tests, bitwise, arithmetic, plain_forms, unary_of, binary_of, plain_form_of, form_named, known_form, form_of}
 use Rattle.btor2text.specs.Reading.{Tokens, form_at}
 use Rattle.btor2text.proofs.PlaceLemmas.{bind_ok, ok_is, some_is, is_word}
 
@@ -55,7 +55,7 @@ binary_is word op e0 =
 
 plain_is : (word : List ℕ) (f : Form) → plain_form_of word ≡ Some f → word ≡ form_name f
 unfolding plain_form_of
-plain_is word f e = option_or_word _ _ f word (form_name f) e (named_is form_name word leaves f) (named_is form_name word others f)
+plain_is word f e = named_is form_name word plain_forms f e
 
 operator_is : {A : Type 0} (make : A → Form) (name : A → List ℕ) (o : Option A) (word : List ℕ) (f : Form) → ((a : A) → form_name (make a) ≡ name a) → ((a : A) → o ≡ Some a → word ≡ name a) → option_map make o ≡ Some f → word ≡ form_name f
 operator_is make name o word f same is e =

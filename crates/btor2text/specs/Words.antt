@@ -114,14 +114,11 @@ arithmetic =
     ∷ binary.Uaddo ∷ binary.Saddo ∷ binary.Usubo ∷ binary.Ssubo ∷ binary.Umulo ∷ binary.Smulo ∷ binary.Sdivo ∷ []
 
 -- the forms that are no operators of one or of two operands alike: nodes without operands, and all others
-abbrev pub leaves : List Form
-leaves =
+abbrev pub plain_forms : List Form
+plain_forms =
     form.Leaf leaf.Input ∷ form.Leaf leaf.State ∷ form.Leaf leaf.Zero ∷ form.Leaf leaf.One ∷ form.Leaf leaf.Ones
-    ∷ form.Constant constant.Const ∷ form.Constant constant.Constd ∷ form.Constant constant.Consth ∷ []
-
-abbrev pub others : List Form
-others =
-    form.Sort ∷ form.Extension extension.Uext ∷ form.Extension extension.Sext ∷ form.Slice ∷ form.Concat ∷ form.Ite ∷ form.Link link.Init ∷ form.Link link.Next
+    ∷ form.Constant constant.Const ∷ form.Constant constant.Constd ∷ form.Constant constant.Consth
+    ∷ form.Sort ∷ form.Extension extension.Uext ∷ form.Extension extension.Sext ∷ form.Slice ∷ form.Concat ∷ form.Ite ∷ form.Link link.Init ∷ form.Link link.Next
     ∷ form.Property property.Bad ∷ form.Property property.Constraint ∷ form.Property property.Fair ∷ form.Property property.Output ∷ form.Justice ∷ []
 
 -- the operator of one operand that a word names
@@ -134,7 +131,7 @@ binary_of word = option_or (named binary_name word tests) (option_or (named bina
 
 -- the form that a word names and that is no operator of one or of two operands alike
 unfoldable pub plain_form_of : List ℕ → Option Form
-plain_form_of word = option_or (named form_name word leaves) (named form_name word others)
+plain_form_of word = named form_name word plain_forms
 
 -- the form that a word names
 unfoldable pub form_named : List ℕ → Option Form

@@ -1,6 +1,6 @@
 //! The forms of lines and the words that name them.
 ghost use Rattle.std.specs.Prelude.{◌≡◌};
-ghost use Rattle.btor2text.specs.Words.{named, form_name, leaves, others, plain_form_of, form_named, no_form, form_of};
+ghost use Rattle.btor2text.specs.Words.{plain_form_of, form_of};
 
 use crate::fault::Why;
 use crate::operators::{binary_of, by_word, is_word, unary_of};
@@ -64,9 +64,10 @@ pub(crate) enum Form {
     Justice,
 }
 
-/// The form that a word names, where it is a node that has a sort alone, or a constant that is spelled with digits.
-fn leaf_of(word: &[u8]) -> Option<Form>
-    ensures { result ≡ named form_name word.now leaves }
+/// The form that a word names and that is no operator of one or of two operands alike.
+#[tactic(auto, unfolding(crate::specs::Words::plain_form_of))]
+fn plain_form_of(word: &[u8]) -> Option<Form>
+    ensures { result ≡ plain_form_of word.now }
 {
     by_word!(word;
         b"input" => Form::Leaf(Leaf::Input),
@@ -77,14 +78,6 @@ fn leaf_of(word: &[u8]) -> Option<Form>
         b"const" => Form::Constant(Constant::Const),
         b"constd" => Form::Constant(Constant::Constd),
         b"consth" => Form::Constant(Constant::Consth),
-    )
-}
-
-/// The form that a word names, where it is no such node and no operator of one or of two operands alike.
-fn other_of(word: &[u8]) -> Option<Form>
-    ensures { result ≡ named form_name word.now others }
-{
-    by_word!(word;
         b"sort" => Form::Sort,
         b"uext" => Form::Extension(Extension::Uext),
         b"sext" => Form::Extension(Extension::Sext),
@@ -101,51 +94,20 @@ fn other_of(word: &[u8]) -> Option<Form>
     )
 }
 
-/// The form that a word names and that is no operator of one or of two operands alike.
-#[tactic(auto, unfolding(crate::specs::Words::plain_form_of))]
-fn plain_form_of(word: &[u8]) -> Option<Form>
-    ensures { result ≡ plain_form_of word.now }
-{
-    if let Some(form) = leaf_of(word) {
-        return Some(form);
-    }
-    other_of(word)
-}
-
-/// The form that a word names.
-#[tactic(auto, unfolding(crate::specs::Words::form_named))]
-fn form_named(word: &[u8]) -> Option<Form>
-    ensures { result ≡ form_named word.now }
-{
-    if let Some(form) = plain_form_of(word) {
-        return Some(form);
-    }
-    if let Some(operator) = unary_of(word) {
-        return Some(Form::Unary(operator));
-    }
-    let operator = binary_of(word)?;
-    Some(Form::Binary(operator))
-}
-
-/// Why a word names no form.
-#[tactic(auto, unfolding(crate::specs::Words::no_form))]
-fn no_form(word: &[u8]) -> Why
-    ensures { result ≡ no_form word.now }
-{
-    if is_word(word, b"read") || is_word(word, b"write") {
-        Why::ArrayOperator
-    } else {
-        Why::UnknownOperator
-    }
-}
-
-/// The form that a word names, where it is known.
-#[tactic(auto, unfolding(crate::specs::Words::form_of))]
+/// The form that a word names, where it is known; else whether the word is one of arrays.
+#[tactic(auto, unfolding(crate::specs::Words::form_of, crate::specs::Words::form_named, crate::specs::Words::no_form))]
 pub(crate) fn form_of(word: &[u8]) -> Result<Form, Why>
     ensures { result ≡ form_of word.now }
 {
-    match form_named(word) {
-        None => Err(no_form(word)),
-        Some(form) => Ok(form),
+    if let Some(form) = plain_form_of(word) {
+        return Ok(form);
+    }
+    if let Some(operator) = unary_of(word) {
+        return Ok(Form::Unary(operator));
+    }
+    match binary_of(word) {
+        Some(operator) => Ok(Form::Binary(operator)),
+        None if is_word(word, b"read") || is_word(word, b"write") => Err(Why::ArrayOperator),
+        None => Err(Why::UnknownOperator),
     }
 }
