@@ -1,7 +1,7 @@
 -- Which tokens a line has, from its front.
 use Rattle.std.proofs.Common.{◌≡◌, ℕ, zero, suc, ◌+◌, ◌<◌, true, false, not, ◌||◌, ◌==◌, cond, List, [], ◌∷◌, ◌++◌, length, get_or, take, drop, filter, refl, sym, ap, subst, ◌∙◌, arith}
 use Rattle.std.specs.List.{list_any}
-use Rattle.std.proofs.lemmas.Bool.{or_parts, or_from, not-true, not-false, both_ways, or_left}
+use Rattle.std.proofs.lemmas.Bool.{or_parts, not-true, not-false, both_ways, or_left}
 use Rattle.std.proofs.lemmas.Bool.Decides.{nat_tests}
 use Rattle.std.proofs.lemmas.List.{drop_more, take_all, drop_all, take-append-drop}
 use Rattle.bstr.specs.Bytes.{is_in, not_in}
@@ -67,11 +67,6 @@ pub tokens-to_blank : (line : List ℕ) (at : ℕ) → at < length line → list
 tokens-to_blank line at inside none blank begins =
     let parts : line ≡ take at line ++ get_or line at 0 ∷ drop (at + 1) line = sym (take-append-drop at line) ∙ ap (λ (rest : List ℕ). take at line ++ rest) (drop_more line at 0 inside) in
     ap tokens parts ∙ tokens-word_blank (take at line) (get_or line at 0) (drop (at + 1) line) none blank (subst (λ l. begins_token l ≡ true) parts begins)
-
--- and its first byte is no blank
-pub first_is_none : (line : List ℕ) → begins_token line ≡ true → list_any is_blank (take 1 line) ≡ false
-first_is_none [] h = absurd cc
-first_is_none (b ∷ bs) h = or_from _ _ (or_parts (is_blank b) (b == 59) (not-true _ h)).0 refl
 
 pub tokens-word : (word : List ℕ) → list_any is_blank word ≡ false → begins_token word ≡ true → tokens word ≡ word ∷ []
 tokens-word [] h begins = absurd cc

@@ -10,11 +10,10 @@ use crate::forms::{Form, form_of};
 use crate::tokens::next_token;
 use std::marker::Model;
 
-/// A form, and how its word stands in front of a line: the word, a space, and byte 0 in the places behind them.
+/// A form, and how a line with its word begins: with the word and a space, so many bytes, before bytes 0.
 #[derive(Clone, Copy)]
 struct KnownWord {
     text: [u8; 8],
-    // how many bytes the word and the space have
     length: u8,
     form: Form,
 }
@@ -48,19 +47,14 @@ fn begin_as(bytes: &[u8; 8], text: &[u8; 8]) -> bool
     same
 }
 
-/// What of four bytes tells words apart: three of them, and of the fourth, which may be a digit behind a short word, two bits.
-const TELLING: u32 = 0x50ff_ffff;
-
-/// What spreads that over the places: no two words of five bytes or more have the same, but those of constants.
-const SPREAD: u32 = 0x0cbd_817d;
-
-/// The place of the word that a line begins with.
+/// The place of the word that a line begins with, by three of its bytes and two bits of the fourth, which may be a digit
+/// behind a short word. Few words share a place.
 #[inline(always)]
 fn place(bytes: &[u8; 8]) -> usize
     ensures { result < 256 }
 {
-    let four = u32::from_le_bytes([bytes[0], bytes[1], bytes[2], bytes[3]]);
-    ((four & TELLING).wrapping_mul(SPREAD) >> 24) as usize
+    let front = u32::from_le_bytes([bytes[0], bytes[1], bytes[2], bytes[3]]) & 0x50ff_ffff;
+    (front.wrapping_mul(0x0cbd_817d) >> 24) as usize
 }
 
 /// The words of forms that were read before, each at the place that its first bytes give. A line's word is mostly one of
@@ -96,19 +90,16 @@ impl KnownWords {
     pub(crate) fn form_at<'a>(&mut self, line: &'a [u8]) -> Result<(Form, &'a [u8]), Why>
         ensures { Gives (λ x. (x.0, tokens x.1.now)) result (form_at (tokens line.now)) }
     {
-        match line.first_chunk::<8>() {
-            None => self.learn(0, line),
-            Some(bytes) => {
-                let place = place(bytes);
-                let known = self.words[place];
-                if begin_as(bytes, &known.text) {
-                    let (_, rest) = line.split_at(usize::from(known.length));
-                    Ok((known.form, rest))
-                } else {
-                    self.learn(place, line)
-                }
+        let mut at = 0;
+        if let Some(bytes) = line.first_chunk::<8>() {
+            at = place(bytes);
+            let known = self.words[at];
+            if begin_as(bytes, &known.text) {
+                let (_, rest) = line.split_at(usize::from(known.length));
+                return Ok((known.form, rest));
             }
         }
+        self.learn(at, line)
     }
 
     /// The same by the first token, which is known then at this place, where it is short.

@@ -2,25 +2,13 @@
 
 ghost use Rattle.std.specs.Prelude.{◌≡◌, Ok, IfSome};
 ghost use Rattle.btor2text.specs.Tokens.{tokens};
-ghost use Rattle.btor2text.specs.Reading.{Gives, GivesUnlessFull, is_negative, plain, operand, plain_at, kept_id, kept_bit, sort_at, bit_at, operand_at, width_at, pair_at, triple_at, operands_at, counted_at};
+ghost use Rattle.btor2text.specs.Reading.{Gives, GivesUnlessFull, is_negative, plain_at, kept_id, kept_bit, sort_at, bit_at, operand_at, width_at, pair_at, triple_at, operands_at, counted_at};
 
 use crate::fault::Why;
 use crate::operators::is_word;
 use crate::tokens::next_token;
 use base::decimal;
 use std::alloc::Global;
-
-/// The number of a token in a plain place.
-#[inline(never)]
-#[tactic(auto, unfolding(crate::specs::Reading::plain))]
-fn plain(token: &[u8]) -> Result<u64, Why>
-    ensures { Gives (λ n. n) result (plain token.now) }
-{
-    match decimal(token) {
-        Some(number) => Ok(number),
-        None => Err(Why::BadToken),
-    }
-}
 
 /// Whether a token is `-` and a decimal.
 #[tactic(auto, unfolding(crate::specs::Reading::is_negative, base::specs::Decimals::number_of))]
@@ -30,19 +18,6 @@ fn is_negative(token: &[u8]) -> bool
     match token {
         [b'-', rest @ ..] => decimal(rest).is_some(),
         _ => false,
-    }
-}
-
-/// The number of a token in an operand's place.
-#[inline(never)]
-#[tactic(auto, unfolding(crate::specs::Reading::operand))]
-fn operand(token: &[u8]) -> Result<u64, Why>
-    ensures { Gives (λ n. n) result (operand token.now) }
-{
-    match decimal(token) {
-        Some(number) => Ok(number),
-        None if is_negative(token) => Err(Why::NegativeOperand),
-        None => Err(Why::BadToken),
     }
 }
 
@@ -81,17 +56,18 @@ fn number_at(line: &[u8]) -> Option<(u64, &[u8])>
 }
 
 /// The same as `plain_at`: the first token is cut off, and then read.
-#[inline(always)]
-#[tactic(auto, unfolding(crate::specs::Reading::plain_at))]
+#[cold]
+#[inline(never)]
+#[tactic(auto, unfolding(crate::specs::Reading::plain_at, crate::specs::Reading::plain))]
 fn plain_token_at(line: &[u8]) -> Result<(u64, &[u8]), Why>
     ensures { Gives (λ x. (x.0, tokens x.1.now)) result (plain_at (tokens line.now)) }
 {
     match next_token(line) {
         None => Err(Why::BadToken),
-        Some((token, rest)) => {
-            let number = plain(token)?;
-            Ok((number, rest))
-        }
+        Some((token, rest)) => match decimal(token) {
+            Some(number) => Ok((number, rest)),
+            None => Err(Why::BadToken),
+        },
     }
 }
 
@@ -146,17 +122,19 @@ pub(crate) fn bit_at(line: &[u8]) -> Result<(u32, &[u8]), Why>
 }
 
 /// The same as `operand_at`: the first token is cut off, and then read.
-#[inline(always)]
-#[tactic(auto, unfolding(crate::specs::Reading::operand_at))]
+#[cold]
+#[inline(never)]
+#[tactic(auto, unfolding(crate::specs::Reading::operand_at, crate::specs::Reading::operand))]
 fn operand_token_at(line: &[u8]) -> Result<(u32, &[u8]), Why>
     ensures { Gives (λ x. (x.0, tokens x.1.now)) result (operand_at (tokens line.now)) }
 {
     match next_token(line) {
         None => Err(Why::BadToken),
-        Some((token, rest)) => {
-            let number = operand(token)?;
-            Ok((kept_id(number), rest))
-        }
+        Some((token, rest)) => match decimal(token) {
+            Some(number) => Ok((kept_id(number), rest)),
+            None if is_negative(token) => Err(Why::NegativeOperand),
+            None => Err(Why::BadToken),
+        },
     }
 }
 

@@ -22,24 +22,6 @@ fn without_blanks(line: &[u8]) -> &[u8]
     }
 }
 
-/// A token at the start of a line, and the line behind it. Tokens are short, so this is a plain loop and no search that
-/// is made for long texts.
-#[inline(always)]
-fn cut(line: &[u8]) -> (&[u8], &[u8])
-    requires { begins_token line.now ≡ true }
-    ensures { tokens line.now ≡ result.0.now ∷ tokens result.1.now }
-{
-    // the first byte is no blank
-    for at in 1..line.len() {
-        if line[at] == b' ' || line[at] == b'\t' {
-            let (token, _) = line.split_at(at);
-            let (_, rest) = line.split_at(at + 1);
-            return (token, rest);
-        }
-    }
-    line.split_at(line.len())
-}
-
 /// A line from its first token on; nothing where no token stands before a comment. Between most tokens there is one
 /// blank, which is cut off with the token before it, so most often the line begins with the token, or is empty.
 #[inline(always)]
@@ -59,10 +41,16 @@ pub(crate) fn from_token(line: &[u8]) -> Option<&[u8]>
 }
 
 /// The first token of a line, and the line behind it; nothing where no token stands before a comment.
-#[inline(always)]
 pub(crate) fn next_token(line: &[u8]) -> Option<(&[u8], &[u8])>
     ensures { MatchOption result (tokens line.now ≡ []) (λ x. tokens line.now ≡ x.0.now ∷ tokens x.1.now) }
 {
     let rest = from_token(line)?;
-    Some(cut(rest))
+    match rest.find_byteset(b" \t") {
+        None => Some(rest.split_at(rest.len())),
+        Some(at) => {
+            let (token, _) = rest.split_at(at);
+            let (_, behind) = rest.split_at(at + 1);
+            Some((token, behind))
+        }
+    }
 }
