@@ -1,19 +1,15 @@
 -- Numbers that digits of a radix write, read from the left.
-use Rattle.std.proofs.Common.{◌≡◌, ℕ, zero, suc, ◌+◌, ◌*◌, ◌^◌, ◌<◌, ◌≤◌, min, true, false, List, [], ◌∷◌, length, get_or, take, ℤ, pos, neg_ℤ, to_z, of_z, FitsSigned, ◌-ℤ◌, Option, Some, None, inl, inr, refl, sym, ap, ◌∙◌, arith}
-use Rattle.std.specs.Int.{w128}
-use Rattle.std.specs.Prelude.{IfSome}
+use Rattle.std.proofs.Common.{◌≡◌, ℕ, ◌+◌, ◌*◌, ◌^◌, ◌<◌, ◌≤◌, min, true, false, List, [], ◌∷◌, length, get_or, take, Some, None, inl, inr, refl, ap, ◌∙◌, arith}
 use Rattle.std.specs.Char.{is_digit, digit_value}
 use Rattle.std.specs.Str.Parse.{AllDigits, digits_value}
 use Rattle.std.proofs.Math.Nat.{le-mul_of_pos_right, pow-le-pow_right}
-use Rattle.std.proofs.Math.Facts.{to_z_pos, to_z-of_z}
-use Rattle.std.proofs.Math.IntN.{+ℤ_idl}
-use Rattle.std.proofs.lemmas.Bool.{cases_lt, and_parts, and_from, ltb-true, lt-ltb, false_from_ne_true, ne_eqb}
+use Rattle.std.proofs.lemmas.Bool.{cases_lt, and_parts, and_from, ltb-true, lt-ltb, false_from_ne_true}
 use Rattle.std.proofs.lemmas.List.{take_all}
 use Rattle.std.proofs.lemmas.List.Folds.{list_all_at, list_all_more}
 use Rattle.std.proofs.lemmas.Int.Digits.{digits_value_more, digits_value-lt}
 use Rattle.base.proofs.DecimalLemmas.{chosen}
 use Rattle.btor2text.proofs.PlaceLemmas.{some_is}
-use Rattle.btor2text.specs.Digits.{are_digits_of, number_in, negated, unsigned}
+use Rattle.btor2text.specs.Digits.{are_digits_of, number_in}
 
 -- one more digit of a number that is told up to 2 ^ 64
 capped_more : (v n radix d : ℕ) → 1 ≤ radix → min v (2 ^ 64) ≡ n → min (v * radix + d) (2 ^ 64) ≡ min (n * radix + d) (2 ^ 64)
@@ -80,31 +76,3 @@ word_of_digits radix most bytes least word le h =
     let below = digits_value-lt radix bytes (all_digits radix bytes h) in
     let more : radix ^ length bytes ≤ radix ^ most = pow-le-pow_right least le in
     omega (arith, below, more, word)
-
--- numbers with a sign, in 128 bits
-pub cast_up : (n : ℕ) → n ≤ 2 ^ 64 → to_z w128 n ≡ pos n
-cast_up n le = to_z_pos w128 (omega (arith, le))
-
-taken_from_none : (n : ℕ) → pos 0 -ℤ pos n ≡ neg_ℤ (pos n)
-taken_from_none n = +ℤ_idl (neg_ℤ (pos n))
-
--- a negated number fits 128 bits
-negated_fits : (n : ℕ) → n ≤ 2 ^ 64 → FitsSigned w128 (neg_ℤ (pos n))
-negated_fits zero le = omega arith
-negated_fits (suc n) le = omega (arith, le)
-
-pub cast_negated : (n : ℕ) → n ≤ 2 ^ 64 → to_z w128 (of_z w128 (pos 0 -ℤ to_z w128 n)) ≡ neg_ℤ (pos n)
-cast_negated n le =
-    let is : pos 0 -ℤ to_z w128 n ≡ neg_ℤ (pos n) = ap (λ (z : ℤ). pos 0 -ℤ z) (cast_up n le) ∙ taken_from_none n in
-    rw is (to_z-of_z {w = w128} {z = neg_ℤ (pos n)} (negated_fits n le))
-
-pub unsigned_some : (o : Option ℕ) (n : ℕ) → o ≡ Some n → IfSome o (λ m. m ≤ 2 ^ 64) → Some (to_z w128 n) ≡ unsigned o
-unsigned_some None n e le = absurd cc
-unsigned_some (Some m) n e le = let same : m ≡ n = some_is m n e in rw (← same) (ap (λ (z : ℤ). Some z) (cast_up m le))
-
-pub negated_some : (o : Option ℕ) (n : ℕ) → o ≡ Some n → (n ≡ 0 → ⊥) → IfSome o (λ m. m ≤ 2 ^ 64) → Some (to_z w128 (of_z w128 (pos 0 -ℤ to_z w128 n))) ≡ negated o
-negated_some None n e not le = absurd cc
-negated_some (Some m) n e not le =
-    let same : m ≡ n = some_is m n e in
-    let other : m ≡ 0 → ⊥ = λ is. not (sym same ∙ is) in
-    rw (← same, ne_eqb m 0 other) (ap (λ (z : ℤ). Some z) (cast_negated m le))

@@ -11,8 +11,7 @@ use Rattle.std.proofs.lemmas.Str.Parse.{IsDigitsTest, digits_value_short, numera
 use Rattle.base.specs.Decimals.{are_digits, begins_decimal, capped_value, number_of}
 use Rattle.base.proofs.DecimalLemmas.{digit_range, digits_more, digits_all, begun}
 use Rattle.btor2text.specs.Tokens.{is_blank, tokens, begins_token}
-use Rattle.btor2text.specs.Reading.{Tokens, plain, operand, plain_at, kept_id, operand_at}
-use Rattle.btor2text.proofs.PlaceLemmas.{bind_ok, ok_is, some_read}
+use Rattle.btor2text.specs.Reading.{Tokens, plain, plain_at}
 use Rattle.btor2text.proofs.TokenLemmas.{tokens-to_blank, tokens-whole}
 
 -- the first so many bytes of a line, one at least, are digits that write this number, modulo 2 ^ 32
@@ -116,16 +115,3 @@ module _ (line : List ℕ) (at value : ℕ) (lt : 0 < length line) (first : (49 
       let token = tokens-whole line none (begins_a_token line lt first) in
       let number : number_of (take (length line) line) ≡ Some value = ap number_of (all ∙ sym whole) ∙ front_number in
       ap plain_at token ∙ plain_front (take (length line) line) (tokens (drop (length line) line)) value number
-
--- ---- a plain number in an operand's place
-
-operand_front : (token : List ℕ) (rest : Tokens) (n : ℕ) → plain token ≡ Ok n → operand_at (token ∷ rest) ≡ Ok (kept_id n, rest)
-unfolding operand_at operand plain
-operand_front token rest n is = rw (some_read (number_of token) n is) refl
-
-pub plain_is_operand : (tokens : Tokens) (x : ℕ × Tokens) → plain_at tokens ≡ Ok x → operand_at tokens ≡ Ok (kept_id x.0, x.1)
-unfolding plain_at
-plain_is_operand [] x e = absurd cc
-plain_is_operand (token ∷ rest) x e =
-    let b = bind_ok (plain token) (λ n. Ok (n, rest)) x e in
-    subst (λ (p : ℕ × Tokens). operand_at (token ∷ rest) ≡ Ok (kept_id p.0, p.1)) {x = (b.0, rest)} (ok_is (b.0, rest) x b.2) (operand_front token rest b.0 b.1)

@@ -38,26 +38,13 @@ pub some_read : {A : Type 0} (o : Option A) (x : A) → some_of o ≡ Ok x → o
 some_read (Some y) x e = ap (λ z. Some z) (ok_is y x e)
 some_read None x e = absurd cc
 
-operand_some : (negative : Bool) (o : Option ℕ) (n : ℕ) → operand_of negative o ≡ Ok n → o ≡ Some n
-operand_some negative (Some m) n e = cc
-operand_some true None n e = absurd cc
-operand_some false None n e = absurd cc
-
 pub plain_takes : (token : List ℕ) (n : ℕ) → plain token ≡ Ok n → n < most → token ≡ decimal n
 unfolding plain
 plain_takes token n e lt = number_is_decimal token n (some_read (number_of token) n e) lt
 
-operand_takes : (token : List ℕ) (n : ℕ) → operand token ≡ Ok n → n < most → token ≡ decimal n
-unfolding operand
-operand_takes token n e lt = number_is_decimal token n (operand_some (is_negative token) (number_of token) n e) lt
-
 pub plain-decimal : (n : ℕ) → n < 2 ^ 64 → plain (decimal n) ≡ Ok n
 unfolding plain
 plain-decimal n lt = rw (number_of-decimal n lt) refl
-
-operand-decimal : (n : ℕ) → n < 2 ^ 64 → operand (decimal n) ≡ Ok n
-unfolding operand
-operand-decimal n lt = rw (number_of-decimal n lt) refl
 
 -- ---- places
 
@@ -110,17 +97,32 @@ bit_at_takes tokens x e =
     let y = bind_ok (plain_at tokens) (λ y. Ok (kept_bit y.0, y.1)) x e in
     subst (λ (p : ℕ × Tokens). p.0 ≤ 64 → tokens ≡ decimal p.0 ∷ p.1) {x = (kept_bit y.0.0, y.0.1)} (ok_is (kept_bit y.0.0, y.0.1) x y.2) (bit_is tokens y.0.0 y.0.1 y.1)
 
-operand_is : (token : List ℕ) (n : ℕ) → operand token ≡ Ok n → IsId (kept_id n) → token ≡ decimal (kept_id n)
-operand_is token n e h =
-    let is = kept_is n (kept_id n) refl h in
-    operand_takes token (kept_id n) (e ∙ ap (λ (m : ℕ). Ok m) is.0) is.1
+abbrev number : ℕ → Tokens → Result (ℕ × Tokens) Why
+number n rest = Ok (n, rest)
+
+-- an operand is read as a sort, where it is a number
+operand_is_sort : (tokens : Tokens) (x : ℕ × Tokens) → operand_at tokens ≡ Ok x → sort_at tokens ≡ Ok x
+unfolding operand_at sort_at plain_at operand plain
+operand_is_sort [] x e = absurd cc
+operand_is_sort (token ∷ rest) x e = by (is_negative token) (number_of token) e
+  where
+    by : (negative : Bool) (o : Option ℕ) → (operand_of negative o >>= λ n. number (kept_id n) rest) ≡ Ok x → ((some_of o >>= λ n. number n rest) >>= λ y. number (kept_id y.0) y.1) ≡ Ok x
+    by negative (Some n) e = e
+    by true None e = absurd cc
+    by false None e = absurd cc
 
 pub operand_at_takes : (tokens : Tokens) (x : ℕ × Tokens) → operand_at tokens ≡ Ok x → IsId x.0 → tokens ≡ decimal x.0 ∷ x.1
-unfolding operand_at
-operand_at_takes [] x e = absurd cc
-operand_at_takes (token ∷ rest) x e =
-    let b = bind_ok (operand token) (λ n. Ok (kept_id n, rest)) x e in
-    subst (λ (p : ℕ × Tokens). IsId p.0 → token ∷ rest ≡ decimal p.0 ∷ p.1) {x = (kept_id b.0, rest)} (ok_is (kept_id b.0, rest) x b.2) (λ h. ap (λ t. t ∷ rest) (operand_is token b.0 b.1 h))
+operand_at_takes tokens x e = sort_at_takes tokens x (operand_is_sort tokens x e)
+
+-- a plain number is read in an operand's place
+pub plain_is_operand : (tokens : Tokens) (x : ℕ × Tokens) → plain_at tokens ≡ Ok x → operand_at tokens ≡ Ok (kept_id x.0, x.1)
+unfolding operand_at plain_at operand plain
+plain_is_operand [] x e = absurd cc
+plain_is_operand (token ∷ rest) x e = by (is_negative token) (number_of token) e
+  where
+    by : (negative : Bool) (o : Option ℕ) → (some_of o >>= λ n. number n rest) ≡ Ok x → (operand_of negative o >>= λ n. number (kept_id n) rest) ≡ Ok (kept_id x.0, x.1)
+    by negative (Some n) e = ap (λ (y : ℕ × Tokens). Ok (kept_id y.0, y.1)) (ok_is (n, rest) x e)
+    by negative None e = absurd cc
 
 pub plain_at-decimal : (n : ℕ) (rest : Tokens) → n < 2 ^ 64 → plain_at (decimal n ∷ rest) ≡ Ok (n, rest)
 unfolding plain_at
@@ -135,8 +137,8 @@ unfolding bit_at
 bit_at-decimal n rest le = rw (plain_at-decimal n rest (omega (arith, le)), small-bit n le) refl
 
 pub operand_at-decimal : (n : ℕ) (rest : Tokens) → IsId n → operand_at (decimal n ∷ rest) ≡ Ok (n, rest)
-unfolding operand_at
-operand_at-decimal n rest h = rw (operand-decimal n (omega (arith, h.1)), kept-id n h) refl
+operand_at-decimal n rest h =
+    plain_is_operand (decimal n ∷ rest) (n, rest) (plain_at-decimal n rest (omega (arith, h.1))) ∙ ap (λ (m : ℕ). Ok (m, rest)) (kept-id n h)
 
 pub width_at_takes : (tokens : Tokens) (x : ℕ × Tokens) → width_at tokens ≡ Ok x → x.0 < most → tokens ≡ codes "bitvec" ∷ decimal x.0 ∷ x.1
 unfolding width_at

@@ -1,7 +1,7 @@
 //! Constants that are spelled with digits.
 
 ghost use Rattle.std.specs.Prelude.{◌≡◌, ◌≤◌, ◌^◌, IfSome};
-ghost use Rattle.btor2text.specs.Digits.{number_in, decimal_number, negated, unsigned, signed_number};
+ghost use Rattle.btor2text.specs.Digits.{number_in, decimal_number, signed_number};
 ghost use Rattle.btor2text.specs.Tokens.{tokens};
 ghost use Rattle.btor2text.specs.Reading.{Gives, digits_at, signed_at, constant_at};
 
@@ -44,27 +44,6 @@ fn decimal_number(bytes: &[u8]) -> Option<u128>
     number_in(10, bytes)
 }
 
-/// The negated number, where there is one other than 0.
-fn negated(number: Option<u128>) -> Option<i128>
-    requires { IfSome number (λ n. n ≤ 2 ^ 64) }
-    ensures { result ≡ negated number }
-{
-    let number = number?;
-    if number == 0 {
-        return None;
-    }
-    Some(-(number as i128))
-}
-
-/// The number itself, where there is one.
-fn unsigned(number: Option<u128>) -> Option<i128>
-    requires { IfSome number (λ n. n ≤ 2 ^ 64) }
-    ensures { result ≡ unsigned number }
-{
-    let number = number?;
-    Some(number as i128)
-}
-
 /// The number that bytes write as a decimal, or as `-` and a decimal other than 0; one beyond 2^64 on either side
 /// counts as 2^64 on that side.
 #[tactic(auto, unfolding(crate::specs::Digits::signed_number))]
@@ -73,8 +52,11 @@ fn signed_number(bytes: &[u8]) -> Option<i128>
 {
     match bytes {
         [] => None,
-        [b'-', rest @ ..] => negated(decimal_number(rest)),
-        _ => unsigned(decimal_number(bytes)),
+        [b'-', rest @ ..] => match decimal_number(rest)? {
+            0 => None,
+            number => Some(-(number as i128)),
+        },
+        _ => Some(decimal_number(bytes)? as i128),
     }
 }
 

@@ -1,5 +1,5 @@
 use Rattle.btor2text.specs.Tokens.{tokens}
-use Rattle.btor2text.proofs.NumberLemmas.{plain_is_operand}
+use Rattle.btor2text.proofs.PlaceLemmas.{plain_is_operand}
 use Rattle.btor2text.proofs.places.operand_at.Goals as goal
 
 pub returns-in-Some : goal.returns-in-Some
