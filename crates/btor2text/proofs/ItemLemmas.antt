@@ -9,9 +9,9 @@ use Rattle.btor2text.specs.declared.fault.Why.TheVariants as why
 use Rattle.btor2text.specs.declared.forms.Form.{Form}
 use Rattle.btor2text.specs.Words.{form_name}
 use Rattle.btor2text.specs.Spelling.{symbol_tokens, Says, Spells}
-use Rattle.btor2text.specs.Reading.{◌>>=◌, Tokens, plain, form_at, body_at, symbol_end, symbol_at, item_at}
+use Rattle.btor2text.specs.Reading.{◌>>=◌, Tokens, plain_at, form_at, body_at, symbol_end, symbol_at, item_at}
 use Rattle.btor2text.proofs.BoundLemmas.{Fits}
-use Rattle.btor2text.proofs.PlaceLemmas.{bind_ok, ok_is, plain_takes, plain-decimal}
+use Rattle.btor2text.proofs.PlaceLemmas.{bind_ok, ok_is, plain_at_takes, plain_at-decimal}
 use Rattle.btor2text.proofs.FormLemmas.{form_at_takes, form_at-again}
 use Rattle.btor2text.proofs.BodyLemmas.{body_form, body_at_takes, says_again}
 
@@ -41,40 +41,35 @@ symbol_at-again (Some token) h = rw h refl
 -- ---- items
 
 -- the parts of a line, joined
-spelled : (first : List ℕ) (rest : Tokens) (id : ℕ) (f : Form × Tokens) (b : Body × Tokens) (s : Option (List ℕ))
-    → plain first ≡ Ok id → form_at rest ≡ Ok f → body_at f.0 f.1 ≡ Ok b → symbol_at b.1 ≡ Ok s
-    → Fits (record { id = id; symbol = s; body = b.0 }) → Spells (first ∷ rest) (record { id = id; symbol = s; body = b.0 })
-spelled first rest id f b s ri rf rb rs fits =
+spelled : (tokens : Tokens) (i : ℕ × Tokens) (f : Form × Tokens) (b : Body × Tokens) (s : Option (List ℕ))
+    → plain_at tokens ≡ Ok i → form_at i.1 ≡ Ok f → body_at f.0 f.1 ≡ Ok b → symbol_at b.1 ≡ Ok s
+    → Fits (record { id = i.0; symbol = s; body = b.0 }) → Spells tokens (record { id = i.0; symbol = s; body = b.0 })
+spelled tokens i f b s ri rf rb rs fits =
     let symbol = symbol_at_takes b.1 s rs in
-    let form = form_at_takes rest f rf in
+    let form = form_at_takes i.1 f rf in
     let body = body_at_takes f.0 f.1 b rb in
     let says = body.says fits.body in
     record {
       form = form_name f.0 ∷ says.0;
-      tokens = ap (λ t. t ∷ rest) (plain_takes first id ri (omega (arith, fits.id.1))) ∙ ap (λ t. decimal id ∷ t) (form ∙ ap (λ t. form_name f.0 ∷ t) (says.1 ∙ ap (λ t. says.0 ++ t) symbol.0));
+      tokens = plain_at_takes tokens i ri (omega (arith, fits.id.1)) ∙ ap (λ t. decimal i.0 ∷ t) (form ∙ ap (λ t. form_name f.0 ∷ t) (says.1 ∙ ap (λ t. says.0 ++ t) symbol.0));
       says = says.2;
       symbol = symbol.1;
     }
 
-pub item_takes : (first : List ℕ) (rest : Tokens) (x : Item) → item_at first rest ≡ Ok x → Fits x → Spells (first ∷ rest) x
+pub item_takes : (tokens : Tokens) (x : Item) → item_at tokens ≡ Ok x → Fits x → Spells tokens x
 unfolding item_at
-item_takes first rest x e =
-    let i = bind_ok (plain first) (λ id. form_at rest >>= λ f. body_at f.0 f.1 >>= λ b. symbol_at b.1 >>= λ s. Ok (record { id = id; symbol = s; body = b.0 })) x e in
-    let f = bind_ok (form_at rest) (λ f. body_at f.0 f.1 >>= λ b. symbol_at b.1 >>= λ s. Ok (record { id = i.0; symbol = s; body = b.0 })) x i.2 in
-    let b = bind_ok (body_at f.0.0 f.0.1) (λ b. symbol_at b.1 >>= λ s. Ok (record { id = i.0; symbol = s; body = b.0 })) x f.2 in
-    let s = bind_ok (symbol_at b.0.1) (λ s. Ok (record { id = i.0; symbol = s; body = b.0.0 })) x b.2 in
-    subst (λ (y : Item). Fits y → Spells (first ∷ rest) y) {x = record { id = i.0; symbol = s.0; body = b.0.0 }} (ok_is (record { id = i.0; symbol = s.0; body = b.0.0 }) x s.2) (spelled first rest i.0 f.0 b.0 s.0 i.1 f.1 b.1 s.1)
+item_takes tokens x e =
+    let i = bind_ok (plain_at tokens) (λ i. form_at i.1 >>= λ f. body_at f.0 f.1 >>= λ b. symbol_at b.1 >>= λ s. Ok (record { id = i.0; symbol = s; body = b.0 })) x e in
+    let f = bind_ok (form_at i.0.1) (λ f. body_at f.0 f.1 >>= λ b. symbol_at b.1 >>= λ s. Ok (record { id = i.0.0; symbol = s; body = b.0 })) x i.2 in
+    let b = bind_ok (body_at f.0.0 f.0.1) (λ b. symbol_at b.1 >>= λ s. Ok (record { id = i.0.0; symbol = s; body = b.0 })) x f.2 in
+    let s = bind_ok (symbol_at b.0.1) (λ s. Ok (record { id = i.0.0; symbol = s; body = b.0.0 })) x b.2 in
+    subst (λ (y : Item). Fits y → Spells tokens y) {x = record { id = i.0.0; symbol = s.0; body = b.0.0 }} (ok_is (record { id = i.0.0; symbol = s.0; body = b.0.0 }) x s.2) (spelled tokens i.0 f.0 b.0 s.0 i.1 f.1 b.1 s.1)
 
-read_again : (x : Item) (tokens : Tokens) → Fits x → Says x.body tokens → IsSymbolOption x.symbol → item_at (decimal x.id) (tokens ++ symbol_tokens x.symbol) ≡ Ok x
+read_again : (x : Item) (tokens : Tokens) → Fits x → Says x.body tokens → IsSymbolOption x.symbol → item_at (decimal x.id ∷ tokens ++ symbol_tokens x.symbol) ≡ Ok x
 unfolding item_at
 read_again x tokens fits says symbol =
     let a = says_again x.body tokens says fits.body in
-    rw (a.parts, plain-decimal x.id (omega (arith, fits.id.1)), form_at-again (body_form x.body) (a.behind ++ symbol_tokens x.symbol), a.again (symbol_tokens x.symbol), symbol_at-again x.symbol symbol) refl
+    rw (a.parts, plain_at-decimal x.id (form_name (body_form x.body) ∷ a.behind ++ symbol_tokens x.symbol) (omega (arith, fits.id.1)), form_at-again (body_form x.body) (a.behind ++ symbol_tokens x.symbol), a.again (symbol_tokens x.symbol), symbol_at-again x.symbol symbol) refl
 
-heads : (a b : List ℕ) (xs ys : Tokens) → a ∷ xs ≡ b ∷ ys → (a ≡ b) × (xs ≡ ys)
-heads a b xs ys e = (cc, cc)
-
-pub item_again : (first : List ℕ) (rest : Tokens) (x : Item) → Spells (first ∷ rest) x → Fits x → item_at first rest ≡ Ok x
-item_again first rest x spelled fits =
-    let parts = heads first (decimal x.id) rest (spelled.form ++ symbol_tokens x.symbol) spelled.tokens in
-    rw (parts.0, parts.1) (read_again x spelled.form fits spelled.says spelled.symbol)
+pub item_again : (tokens : Tokens) (x : Item) → Spells tokens x → Fits x → item_at tokens ≡ Ok x
+item_again tokens x spelled fits = ap item_at spelled.tokens ∙ read_again x spelled.form fits spelled.says spelled.symbol

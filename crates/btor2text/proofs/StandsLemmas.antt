@@ -31,14 +31,14 @@ pub line_takes : (before : List Item) (line : Tokens) (items : List Item) → Is
 unfolding line_on
 line_takes before [] items formed e = inl (refl, cc)
 line_takes before (first ∷ rest) items formed e =
-    let x = bind_ok (item_at first rest) (λ x. accepted before x (refusal before x)) items e in
+    let x = bind_ok (item_at (first ∷ rest)) (λ x. accepted before x (refusal before x)) items e in
     let is = accepted_is before x.0 (refusal before x.0) items x.2 in
-    inr (x.0, ((item_takes first rest x.0 x.1 (accepted_fits before x.0 formed is.0), is.0), is.1))
+    inr (x.0, ((item_takes (first ∷ rest) x.0 x.1 (accepted_fits before x.0 formed is.0), is.0), is.1))
 
 line_again : (before : List Item) (first : List ℕ) (rest : Tokens) (x : Item) → IsWellFormed before → Spells (first ∷ rest) x → refusal before x ≡ None → line_on before (first ∷ rest) ≡ Ok (before ++ x ∷ [])
 unfolding line_on
 line_again before first rest x formed spelled none =
-    rw (item_again first rest x spelled (accepted_fits before x formed none), none) refl
+    rw (item_again (first ∷ rest) x spelled (accepted_fits before x formed none), none) refl
 
 -- ---- lines
 

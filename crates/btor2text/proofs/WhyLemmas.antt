@@ -173,11 +173,11 @@ unfolding symbol_at
 symbol_at_told [] = tt
 symbol_at_told (token ∷ rest) = told_if (is_symbol token) (symbol_end token rest) (Err why.BadSymbol) (symbol_end_told token rest) tt
 
-item_at_told : (first : List ℕ) (rest : Tokens) → Told (item_at first rest)
+item_at_told : (tokens : Tokens) → Told (item_at tokens)
 unfolding item_at
-item_at_told first rest =
-    told_bind (plain first) _ (plain_told first) (λ id.
-    told_bind (form_at rest) _ (form_at_told rest) (λ f.
+item_at_told tokens =
+    told_bind (plain_at tokens) _ (plain_at_told tokens) (λ id.
+    told_bind (form_at id.1) _ (form_at_told id.1) (λ f.
     told_bind (body_at f.0 f.1) _ (body_at_told f.0 f.1) (λ b.
     told_bind (symbol_at b.1) _ (symbol_at_told b.1) (λ _. tt))))
 
@@ -192,4 +192,4 @@ accepted_told before x (Some f) = refused_told f
 pub line_on_told : (before : List Item) (line : Tokens) → Told (line_on before line)
 unfolding line_on
 line_on_told before [] = tt
-line_on_told before (first ∷ rest) = told_bind (item_at first rest) _ (item_at_told first rest) (λ x. accepted_told before x (refusal before x))
+line_on_told before (first ∷ rest) = told_bind (item_at (first ∷ rest)) _ (item_at_told (first ∷ rest)) (λ x. accepted_told before x (refusal before x))

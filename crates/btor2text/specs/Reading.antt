@@ -262,18 +262,9 @@ symbol_at (token ∷ rest) = if is_symbol token then symbol_end token rest else 
 
 -- ---- lines
 
--- the item that a line's tokens spell, of which `first` is the first
-unfoldable pub item_at : List ℕ → Tokens → Result Item Why
-item_at first rest = do
-  id ← plain first
-  f ← form_at rest
-  b ← body_at f.0 f.1
-  symbol ← symbol_at b.1
-  Ok (record { id = id; symbol = symbol; body = b.0 })
-
--- the same, of all its tokens
-unfoldable pub item_of : Tokens → Result Item Why
-item_of tokens = do
+-- the item that a line's tokens spell
+unfoldable pub item_at : Tokens → Result Item Why
+item_at tokens = do
   id ← plain_at tokens
   f ← form_at id.1
   b ← body_at f.0 f.1
@@ -294,7 +285,7 @@ accepted before x (Some f) = Err (refused f)
 unfoldable pub line_on : List Item → Tokens → Result (List Item) Why
 line_on before [] = Ok before
 line_on before (first ∷ rest) = do
-  x ← item_at first rest
+  x ← item_at (first ∷ rest)
   accepted before x (refusal before x)
 
 -- ---- texts

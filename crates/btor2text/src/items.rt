@@ -2,7 +2,7 @@
 
 ghost use Rattle.std.specs.Prelude.{◌≡◌};
 ghost use Rattle.btor2text.specs.Tokens.{tokens};
-ghost use Rattle.btor2text.specs.Reading.{GivesUnlessFull, leaf_body, extension_body, link_body, property_body, justice_at, body_at, symbol_at, item_of};
+ghost use Rattle.btor2text.specs.Reading.{GivesUnlessFull, leaf_body, extension_body, link_body, property_body, justice_at, body_at, symbol_at, item_at};
 
 use crate::constants::constant_at;
 use crate::fault::Why;
@@ -169,9 +169,9 @@ fn symbol_at(alloc: Global, line: &[u8]) -> Result<Option<Symbol>, Why>
 
 /// The item that a line spells.
 #[inline(always)]
-#[tactic(auto, unfolding(crate::specs::Reading::item_of))]
+#[tactic(auto, unfolding(crate::specs::Reading::item_at))]
 pub(crate) fn item(alloc: Global, words: &mut KnownWords, line: &[u8]) -> Result<Item, Why>
-    ensures { GivesUnlessFull (λ x. x) result (item_of (tokens line.now)) }
+    ensures { GivesUnlessFull (λ x. x) result (item_at (tokens line.now)) }
 {
     let (id, rest) = plain_at(line)?;
     let (form, rest) = words.form_at(rest)?;
