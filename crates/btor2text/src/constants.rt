@@ -70,15 +70,12 @@ fn digits_at(radix: u32, most: u32, line: &[u8]) -> Result<(u32, u64, &[u8]), Wh
     requires most { most ≤ 64 }
     ensures { Gives (λ x. (x.0, x.1, tokens x.2.now)) result (digits_at radix most (tokens line.now)) }
 {
-    match next_token(line) {
-        None => Err(Why::BadToken),
-        Some((token, rest)) => match number_in(radix, token) {
-            None => Err(Why::BadToken),
-            Some(number) if token.len() <= most as usize => {
-                Ok((token.len() as u32, number as u64, rest))
-            }
-            Some(_) => Ok((most + 1, 0, rest)),
-        },
+    let (token, rest) = next_token(line).ok_or(Why::BadToken)?;
+    let number = number_in(radix, token).ok_or(Why::BadToken)?;
+    if token.len() <= most as usize {
+        Ok((token.len() as u32, number as u64, rest))
+    } else {
+        Ok((most + 1, 0, rest))
     }
 }
 
@@ -87,13 +84,9 @@ fn digits_at(radix: u32, most: u32, line: &[u8]) -> Result<(u32, u64, &[u8]), Wh
 fn signed_at(line: &[u8]) -> Result<(i128, &[u8]), Why>
     ensures { Gives (λ x. (x.0, tokens x.1.now)) result (signed_at (tokens line.now)) }
 {
-    match next_token(line) {
-        None => Err(Why::BadToken),
-        Some((token, rest)) => match signed_number(token) {
-            Some(number) => Ok((number, rest)),
-            None => Err(Why::BadToken),
-        },
-    }
+    let (token, rest) = next_token(line).ok_or(Why::BadToken)?;
+    let number = signed_number(token).ok_or(Why::BadToken)?;
+    Ok((number, rest))
 }
 
 /// What the tokens behind a constant's word say, and the line behind them.

@@ -110,15 +110,11 @@ impl KnownWords {
         requires { place < 256 }
         ensures { Gives (λ x. (x.0, tokens x.1.now)) result (form_at (tokens line.now)) }
     {
-        match next_token(line) {
-            None => Err(Why::BadToken),
-            Some((word, rest)) => {
-                let form = form_of(word)?;
-                if word.len() <= 7 {
-                    self.words[place] = known(word, form);
-                }
-                Ok((form, rest))
-            }
+        let (word, rest) = next_token(line).ok_or(Why::BadToken)?;
+        let form = form_of(word)?;
+        if word.len() <= 7 {
+            self.words[place] = known(word, form);
         }
+        Ok((form, rest))
     }
 }

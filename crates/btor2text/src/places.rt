@@ -62,13 +62,9 @@ fn number_at(line: &[u8]) -> Option<(u64, &[u8])>
 fn plain_token_at(line: &[u8]) -> Result<(u64, &[u8]), Why>
     ensures { Gives (λ x. (x.0, tokens x.1.now)) result (plain_at (tokens line.now)) }
 {
-    match next_token(line) {
-        None => Err(Why::BadToken),
-        Some((token, rest)) => match decimal(token) {
-            Some(number) => Ok((number, rest)),
-            None => Err(Why::BadToken),
-        },
-    }
+    let (token, rest) = next_token(line).ok_or(Why::BadToken)?;
+    let number = decimal(token).ok_or(Why::BadToken)?;
+    Ok((number, rest))
 }
 
 /// A number in a plain place, and the line behind it.
@@ -128,13 +124,11 @@ pub(crate) fn bit_at(line: &[u8]) -> Result<(u32, &[u8]), Why>
 fn operand_token_at(line: &[u8]) -> Result<(u32, &[u8]), Why>
     ensures { Gives (λ x. (x.0, tokens x.1.now)) result (operand_at (tokens line.now)) }
 {
-    match next_token(line) {
+    let (token, rest) = next_token(line).ok_or(Why::BadToken)?;
+    match decimal(token) {
+        Some(number) => Ok((kept_id(number), rest)),
+        None if is_negative(token) => Err(Why::NegativeOperand),
         None => Err(Why::BadToken),
-        Some((token, rest)) => match decimal(token) {
-            Some(number) => Ok((kept_id(number), rest)),
-            None if is_negative(token) => Err(Why::NegativeOperand),
-            None => Err(Why::BadToken),
-        },
     }
 }
 
@@ -154,17 +148,13 @@ pub(crate) fn operand_at(line: &[u8]) -> Result<(u32, &[u8]), Why>
 pub(crate) fn width_at(line: &[u8]) -> Result<(u64, &[u8]), Why>
     ensures { Gives (λ x. (x.0, tokens x.1.now)) result (width_at (tokens line.now)) }
 {
-    match next_token(line) {
-        None => Err(Why::BadToken),
-        Some((token, rest)) => {
-            if is_word(token, b"bitvec") {
-                plain_at(rest)
-            } else if is_word(token, b"array") {
-                Err(Why::ArraySort)
-            } else {
-                Err(Why::BadToken)
-            }
-        }
+    let (token, rest) = next_token(line).ok_or(Why::BadToken)?;
+    if is_word(token, b"bitvec") {
+        plain_at(rest)
+    } else if is_word(token, b"array") {
+        Err(Why::ArraySort)
+    } else {
+        Err(Why::BadToken)
     }
 }
 
