@@ -53,8 +53,8 @@ fn begin_as(bytes: &[u8; 8], text: &[u8; 8]) -> bool
 fn place(bytes: &[u8; 8]) -> usize
     ensures { result < 256 }
 {
-    let front = u32::from_le_bytes([bytes[0], bytes[1], bytes[2], bytes[3]]) & 0x50ff_ffff;
-    (front.wrapping_mul(0x0cbd_817d) >> 24) as usize
+    let front = u64::from_le_bytes(*bytes) & 0x50ff_ffff;
+    (front.wrapping_mul(0x0cbd_817d_0000_0000) >> 56) as usize
 }
 
 /// The words of forms that were read before, each at the place that its first bytes give. A line's word is mostly one of
@@ -93,13 +93,14 @@ impl KnownWords {
         let mut at = 0;
         if let Some(bytes) = line.first_chunk::<8>() {
             at = place(bytes);
-            let known = self.words[at];
+            let known = &self.words[at];
             if begin_as(bytes, &known.text) {
                 let (_, rest) = line.split_at(usize::from(known.length));
                 return Ok((known.form, rest));
             }
         }
-        self.learn(at, line)
+        // the answer is made here, so that that of a known word need not stand where a call writes
+        Ok(self.learn(at, line)?)
     }
 
     /// The same by the first token, which is known then at this place, where it is short.

@@ -74,7 +74,7 @@ pub(crate) fn plain_at(line: &[u8]) -> Result<(u64, &[u8]), Why>
 {
     match number_at(line) {
         Some((number, rest)) => Ok((number, rest)),
-        None => plain_token_at(line),
+        None => Ok(plain_token_at(line)?),
     }
 }
 
@@ -139,7 +139,7 @@ pub(crate) fn operand_at(line: &[u8]) -> Result<(u32, &[u8]), Why>
 {
     match number_at(line) {
         Some((number, rest)) => Ok((kept_id(number), rest)),
-        None => operand_token_at(line),
+        None => Ok(operand_token_at(line)?),
     }
 }
 
