@@ -14,8 +14,7 @@ use std::marker::Model;
 /// At most how many bytes one call of a source is asked for, and how much room the buffer gets at a time.
 const PIECE: usize = 32768;
 
-/// The lines of a source, one after the other. Bytes are read straight into one buffer of 32768, which grows only where
-/// the part of a line that is held fills it.
+/// The lines of a source, one after the other. One buffer of 32768 bytes is read into, and grows where part of a line fills it.
 ///
 /// Clauses see the line that was found last and the bytes that were read behind it.
 #[derive(Drop)]
@@ -94,7 +93,6 @@ impl LineReader {
     }
 
     /// Cuts the next line off what is held, and answers whether there is one. The first `seen` of the bytes have no byte 10.
-    #[inline(always)]
     fn cut(&mut self, seen: usize) -> bool
         requires within { seen ≤ length self.old.rest }
         requires none { IsLine (take seen self.old.rest) }
