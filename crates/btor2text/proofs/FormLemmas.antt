@@ -14,7 +14,7 @@ use Rattle.btor2text.specs.declared.forms.Constant.TheVariants as constant
 use Rattle.btor2text.specs.declared.forms.Extension.TheVariants as extension
 use Rattle.btor2text.specs.declared.forms.Link.TheVariants as link
 use Rattle.btor2text.specs.declared.forms.Property.TheVariants as property
-use Rattle.btor2text.specs.Words.{unary_name, binary_name, form_name, named, unaries, tests, bitwise, arithmetic, plain_forms, unary_of, binary_of, plain_form_of, form_named, known_form, form_of}
+use Rattle.btor2text.specs.Words.{unary_name, binary_name, form_name, named, unaries, tests, bitwise, arithmetic, plain_forms, unary_of, binary_of, form_named, known_form, form_of}
 use Rattle.btor2text.specs.Reading.{Tokens, form_at}
 use Rattle.btor2text.proofs.PlaceLemmas.{bind_ok, ok_is, some_is, is_word}
 
@@ -53,10 +53,6 @@ binary_is word op e0 =
     option_or_word _ _ op word (binary_name op) e0 (named_is binary_name word tests op) (λ e1.
     option_or_word _ _ op word (binary_name op) e1 (named_is binary_name word bitwise op) (named_is binary_name word arithmetic op))
 
-plain_is : (word : List ℕ) (f : Form) → plain_form_of word ≡ Some f → word ≡ form_name f
-unfolding plain_form_of
-plain_is word f e = named_is form_name word plain_forms f e
-
 operator_is : {A : Type 0} (make : A → Form) (name : A → List ℕ) (o : Option A) (word : List ℕ) (f : Form) → ((a : A) → form_name (make a) ≡ name a) → ((a : A) → o ≡ Some a → word ≡ name a) → option_map make o ≡ Some f → word ≡ form_name f
 operator_is make name o word f same is e =
     let a = mapped_is make o f e in
@@ -65,7 +61,7 @@ operator_is make name o word f same is e =
 form_named_is : (word : List ℕ) (f : Form) → form_named word ≡ Some f → word ≡ form_name f
 unfolding form_named
 form_named_is word f e0 =
-    option_or_word _ _ f word (form_name f) e0 (plain_is word f) (λ e1.
+    option_or_word _ _ f word (form_name f) e0 (named_is form_name word plain_forms f) (λ e1.
     option_or_word _ _ f word (form_name f) e1
     (operator_is (λ op. form.Unary op) unary_name (unary_of word) word f (λ op. refl) (unary_is word))
     (operator_is (λ op. form.Binary op) binary_name (binary_of word) word f (λ op. refl) (binary_is word)))
@@ -88,7 +84,7 @@ form_at_takes (word ∷ rest) x e =
 
 -- each form's word is read as it
 form_named-again : (f : Form) → form_named (form_name f) ≡ Some f
-unfolding form_named plain_form_of unary_of binary_of
+unfolding form_named unary_of binary_of
 form_named-again (form.Leaf leaf.Input) = refl
 form_named-again (form.Constant constant.Const) = refl
 form_named-again (form.Extension extension.Uext) = refl

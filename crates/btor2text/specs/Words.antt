@@ -129,14 +129,10 @@ unary_of word = named unary_name word unaries
 unfoldable pub binary_of : List ℕ → Option Binary
 binary_of word = option_or (named binary_name word tests) (option_or (named binary_name word bitwise) (named binary_name word arithmetic))
 
--- the form that a word names and that is no operator of one or of two operands alike
-unfoldable pub plain_form_of : List ℕ → Option Form
-plain_form_of word = named form_name word plain_forms
-
 -- the form that a word names
 unfoldable pub form_named : List ℕ → Option Form
 form_named word =
-    option_or (plain_form_of word)
+    option_or (named form_name word plain_forms)
     (option_or (option_map (λ op. form.Unary op) (unary_of word)) (option_map (λ op. form.Binary op) (binary_of word)))
 
 -- why a word names no form: it is of arrays, or unknown

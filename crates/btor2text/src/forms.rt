@@ -1,6 +1,6 @@
 //! The forms of lines and the words that name them.
 ghost use Rattle.std.specs.Prelude.{◌≡◌};
-ghost use Rattle.btor2text.specs.Words.{plain_form_of, form_of};
+ghost use Rattle.btor2text.specs.Words.{named, form_name, plain_forms, form_of};
 
 use crate::fault::Why;
 use crate::operators::{binary_of, by_word, is_word, unary_of};
@@ -65,9 +65,8 @@ pub(crate) enum Form {
 }
 
 /// The form that a word names and that is no operator of one or of two operands alike.
-#[tactic(auto, unfolding(crate::specs::Words::plain_form_of))]
 fn plain_form_of(word: &[u8]) -> Option<Form>
-    ensures { result ≡ plain_form_of word.now }
+    ensures { result ≡ named form_name word.now plain_forms }
 {
     by_word!(word;
         b"input" => Form::Leaf(Leaf::Input),
