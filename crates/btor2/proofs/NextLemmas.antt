@@ -1,7 +1,5 @@
 -- The first state with an init line and without a next line, by the places of the states.
-use Rattle.std.proofs.Common.{◌≡◌, ℕ, suc, ◌+◌, ◌<◌, ◌≤◌, Bool, true, false, ◌&&◌, List, [], ◌∷◌, ◌++◌, length, slice_get, get_or, drop, Option, Some, None, is_none, option_and_then, is_some, cond, subst, if◌then◌else◌, refl, sym, ap, ◌∙◌, arith, length-append, append_assoc}
-use Rattle.std.proofs.Math.Seq.{drop-cons}
-use Rattle.std.proofs.lemmas.List.{drop_all}
+use Rattle.std.proofs.Common.{◌≡◌, ℕ, suc, Bool, true, false, ◌&&◌, List, [], ◌∷◌, ◌++◌, length, slice_get, Option, Some, None, is_none, option_and_then, is_some, cond, subst, if◌then◌else◌, refl, sym, ap, ◌∙◌, arith, length-append, append_assoc}
 use Rattle.std.proofs.lemmas.Option.{none-some}
 use Rattle.btor2.specs.declared.item.Item.{Item}
 use Rattle.btor2.specs.Items.{is_state, init_value, next_value, is_free}
@@ -29,19 +27,6 @@ first_by_places items (x ∷ xs) front at split long =
         → first_lacking items (if b then at ∷ places is_state (suc at) xs else places is_state (suc at) xs) ≡ (if b && has_init_without_next items x.id then Some x.id else first_init_without_next items xs)
     by_kind true id rest = rw (id, rest) refl
     by_kind false id rest = rest
-
--- the state at a place that has an init line alone is the first, and a place whose state has not is passed over
-pub first_lacking-here : (items : List Item) (ps : List ℕ) (k : ℕ) → k < length ps → true ≡ has_init_without_next_at items (get_or ps k 0) → first_lacking items (drop k ps) ≡ id_at items (get_or ps k 0)
-first_lacking-here items ps k within lacks = rw (drop-cons ps k 0 within, ← lacks) refl
-
-pub first_lacking-passed : (items : List Item) (ps : List ℕ) (k : ℕ) → k < length ps → false ≡ has_init_without_next_at items (get_or ps k 0) → first_lacking items (drop k ps) ≡ first_lacking items (drop (k + 1) ps)
-first_lacking-passed items ps k within has =
-    let after : suc k ≡ k + 1 = omega arith in
-    rw (drop-cons ps k 0 within, ← has) (ap (λ n. first_lacking items (drop n ps)) after)
-
--- no place is left
-pub first_lacking-none : (items : List Item) (ps : List ℕ) (k : ℕ) → length ps ≤ k → first_lacking items (drop k ps) ≡ None
-first_lacking-none items ps k past = ap (first_lacking items) (drop_all k ps past)
 
 -- where no state among some items has an init line alone, each that is not free has a next line
 
