@@ -1,8 +1,6 @@
 -- From how the reading of a source's lines ends to what is promised of reading a source.
-use Rattle.std.proofs.Common.{◌≡◌, ◌≢◌, ℕ, List, [], Option, Some, None, Ok, Err, refl, sym, ap, subst, ◌∙◌, inl, inr, ◌⊎◌}
+use Rattle.std.proofs.Common.{◌≡◌, ℕ, List, [], Option, Some, None, Ok, Err, refl, sym, ap, subst, ◌∙◌, inl, inr, ◌⊎◌}
 use Rattle.std.specs.Prelude.{IfSome}
-use Rattle.std.specs.Io.KnownBytes.{IsAtEnd}
-use Rattle.base.specs.Device.{HasRisen}
 use Rattle.base.specs.Lines.{whole_lines, unfinished}
 use Rattle.btor2.specs.declared.item.Item.{Item}
 use Rattle.btor2text.specs.declared.fault.Why.{Why}
@@ -41,14 +39,8 @@ pub only : (known : Option (List ℕ)) (model : List Item) → GivesItems known 
 only known model h text items is stands = ok_items model items (sym (gives_items known model h text is) ∙ stands_read text items stands)
 
 -- the reading stopped
-memory_is_no_device : why.NoMemory ≢ why.Device
-memory_is_no_device e = cc
-
 why_is : (e : ReadFault) (w : Why) → e ≡ fault_at 0 w → e.why ≡ w
 why_is e w is = ap (λ (f : ReadFault). f.why) is
-
-line_is : (e : ReadFault) (w : Why) → e ≡ fault_at 0 w → e.line ≡ 0
-line_is e w is = ap (λ (f : ReadFault). f.line) is
 
 gives_fault : (known after : Option (List ℕ)) (e : ReadFault) → TextFails known after [] e → (text : List ℕ) → known ≡ Some text → text_on text ≡ Err e
 unfolding text_on
@@ -69,23 +61,3 @@ module _ (known after : Option (List ℕ)) (e : ReadFault) (old new : ℕ) where
   not_read (inr (inl full, same)) text items is stands = inr (why_is e why.NoMemory full)
   not_read (inr (inr fails, same)) text items is stands =
       absurd (not_failed items e (sym (stands_read text items stands) ∙ gives_fault known after e fails text is))
-
-  pub device : Stops e old new (TextFails known after [] e) → e.why ≡ why.Device → HasRisen old new
-  device (inl failed) is = failed.1
-  device (inr (inl full, same)) is = absurd (memory_is_no_device (sym (why_is e why.NoMemory full) ∙ is))
-  device (inr (inr fails, same)) is = absurd (fails.no_device is)
-
-  pub unfailed : Stops e old new (TextFails known after [] e) → (e.why ≡ why.Device → ⊥) → new ≡ old
-  unfailed (inl failed) not = absurd (not (why_is e why.Device failed.0))
-  unfailed (inr (other, same)) not = same
-
-  pub read_on : Stops e old new (TextFails known after [] e) → (e.why ≡ why.Device → ⊥) → (e.why ≡ why.NoMemory → ⊥) → IsAtEnd after
-  read_on (inl failed) not nor = absurd (not (why_is e why.Device failed.0))
-  read_on (inr (inl full, same)) not nor = absurd (nor (why_is e why.NoMemory full))
-  read_on (inr (inr fails, same)) not nor = fails.end
-
-  pub place : Stops e old new (TextFails known after [] e) → (e.why ≡ why.Device) ⊎ (e.why ≡ why.NoMemory) → e.line ≡ 0
-  place (inl failed) is = line_is e why.Device failed.0
-  place (inr (inl full, same)) is = line_is e why.NoMemory full
-  place (inr (inr fails, same)) (inl is) = absurd (fails.no_device is)
-  place (inr (inr fails, same)) (inr is) = absurd (fails.no_memory is)

@@ -4,7 +4,6 @@ use Rattle.std.specs.Char.{is_digit, digit_value}
 use Rattle.std.specs.Str.Parse.{AllDigits, digits_value}
 use Rattle.std.proofs.Math.Nat.{le-mul_of_pos_right, pow-le-pow_right}
 use Rattle.std.proofs.lemmas.Bool.{cases_lt, and_parts, and_from, ltb-true, lt-ltb, false_from_ne_true}
-use Rattle.std.proofs.lemmas.List.{take_all}
 use Rattle.std.proofs.lemmas.List.Folds.{list_all_at, list_all_more}
 use Rattle.std.proofs.lemmas.Int.Digits.{digits_value_more, digits_value-lt}
 use Rattle.base.proofs.DecimalLemmas.{chosen}
@@ -55,9 +54,6 @@ number_more radix bytes i n least lt e digit =
 pub number_stops : (radix : ℕ) (bytes : List ℕ) (i : ℕ) → i < length bytes → is_digit (get_or bytes i 0) radix ≡ false → number_in radix bytes ≡ None
 unfolding number_in
 number_stops radix bytes i lt not = rw (list_all_at (λ b. is_digit b radix) bytes i 0 lt not) refl
-
-pub number_all : (radix : ℕ) (bytes : List ℕ) (i n : ℕ) → length bytes ≤ i → number_in radix (take i bytes) ≡ Some n → number_in radix bytes ≡ Some n
-number_all radix bytes i n le e = rw (take_all i bytes le) at e
 
 -- a byte is a digit where its value is below the radix
 pub digit_is : (b radix : ℕ) → digit_value b < radix → is_digit b radix ≡ true

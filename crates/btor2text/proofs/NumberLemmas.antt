@@ -1,5 +1,5 @@
 -- A number at the front of a line, in digits up to a blank or the line's end.
-use Rattle.std.proofs.Common.{◌≡◌, ℕ, zero, suc, ◌+◌, ◌-◌, ◌*◌, ◌%◌, ◌^◌, ◌<◌, ◌≤◌, true, false, List, [], ◌∷◌, length, get_or, take, drop, Some, Ok, refl, sym, ap, subst, ◌∙◌, arith}
+use Rattle.std.proofs.Common.{◌≡◌, ℕ, zero, suc, ◌+◌, ◌*◌, ◌%◌, ◌^◌, ◌<◌, ◌≤◌, true, false, List, [], ◌∷◌, length, get_or, take, drop, Some, Ok, refl, sym, ap, subst, ◌∙◌, arith}
 use Rattle.std.specs.List.{list_any}
 use Rattle.std.proofs.lemmas.Bool.{and_parts, and_from, or_from, ne_eqb, le-leb}
 use Rattle.std.proofs.lemmas.List.{length-take, take_all}
@@ -25,16 +25,6 @@ abbrev pub IsDigit : ℕ → Type 0
 IsDigit b = (48 ≤ b) × (b ≤ 57)
 
 -- ---- the digits that are read
-
-pub read_first : (line : List ℕ) → 0 < length line → IsDigit (get_or line 0 0) → IsRead line 1 (get_or line 0 0 - 48)
-read_first line lt digit =
-    let more : digits_value 10 (take 1 line) ≡ 0 + digit_value (get_or line 0 0) = digits_value_more 10 line 0 lt in
-    let value = digit_value_digit (get_or line 0 0) digit in
-    record {
-      some = omega arith;
-      digits = digits_more line 0 lt digit refl;
-      writes = rw more (omega (arith, value, digit));
-    }
 
 -- a number with a digit more, modulo 2 ^ 32
 value_more : (before digit byte value : ℕ) → value ≡ before % 2 ^ 32 → digit + 48 ≡ byte → byte ≤ 57

@@ -15,10 +15,6 @@ use Rattle.btor2text.proofs.PlaceLemmas.{most, bind_ok, done, ok_is, some_is, so
 abbrev pub behind : List ℕ → Result (List ℕ × Tokens) Why → Result (List ℕ × Tokens) Why
 behind ids r = r >>= λ x. Ok (ids ++ x.0, x.1)
 
-pub behind_none : (r : Result (List ℕ × Tokens) Why) → behind [] r ≡ r
-behind_none (Ok x) = refl
-behind_none (Err w) = refl
-
 -- an operand in front of others
 abbrev in_front : ℕ → Result (List ℕ × Tokens) Why → Result (List ℕ × Tokens) Why
 in_front a r = r >>= λ more. Ok (a ∷ more.0, more.1)

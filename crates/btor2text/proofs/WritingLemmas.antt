@@ -93,9 +93,6 @@ few_digits_at items i x d h lt e =
 
 -- ---- the last digits of a number
 
-pub digits_none : (radix count value : ℕ) (behind : List ℕ) → last_digits radix (count - 0) value ++ behind ≡ last_digits radix count value ++ behind
-digits_none radix count value behind = let all : count - 0 ≡ count = omega arith in rw all refl
-
 -- a number of 64 bits has at most twenty digits
 pub decimal_short : (n : ℕ) → n < 2 ^ 64 → length (decimal n) ≤ 20
 decimal_short n h = length-decimal-le 20 n (lit< tt) (omega arith) h
@@ -105,6 +102,3 @@ pub digits_more : (radix count i rest : ℕ) (digits total : List ℕ) → i < c
 digits_more radix count i rest digits total lt e =
     let left : count - i ≡ suc (count - (i + 1)) = omega arith in
     sym (append_assoc (last_digits radix (count - (i + 1)) (rest / radix)) (digit_char (rest % radix) ∷ []) digits) ∙ rw left at e
-
-pub digits_all : (radix count i rest : ℕ) (digits total : List ℕ) → count ≤ i → last_digits radix (count - i) rest ++ digits ≡ total → digits ≡ total
-digits_all radix count i rest digits total le e = let none : count - i ≡ 0 = omega arith in rw none at e

@@ -1,7 +1,7 @@
 use Rattle.std.proofs.Common.{min, ap₂, ◌+◌, ◌≡◌, ◌≤◌, ◌*◌, ◌^◌, ℕ, Some, get_or, sym, ap, ◌∙◌, arith}
 use Rattle.std.specs.Char.{digit_value}
 use Rattle.std.proofs.Math.Nat.{mul-le-mul_right}
-use Rattle.btor2text.proofs.DigitLemmas.{number_none, number_small, number_more, number_stops, number_all, digit_is, not_digit}
+use Rattle.btor2text.proofs.DigitLemmas.{number_none, number_small, number_more, number_stops, digit_is, not_digit}
 use Rattle.btor2text.proofs.constants.number_in.Goals as goal
 
 pub loop-byte-init : goal.loop-byte-init
@@ -30,9 +30,6 @@ loop-byte-preserved c =
     let value : c.from-in-Some-2.result ≡ digit_value (get_or c.args.bytes.now c.loop-byte.byte-index 0) = c.from-in-Some-2.ensures ∙ (c.in-Some.ensures.value.1 ∙ ap digit_value byte) in
     let more = number_more c.args.radix c.args.bytes.now c.loop-byte.byte-index c.loop-byte.number (omega (arith, c.requires.least)) (omega arith) c.loop-byte.invariant (digit_is (get_or c.args.bytes.now c.loop-byte.byte-index 0) c.args.radix (rw byte at c.in-Some.ensures.value.0)) in
     more ∙ ap (λ (n : ℕ). Some n) (ap₂ (λ (r d : ℕ). min (c.loop-byte.number * r + d) (2 ^ 64)) (sym c.from-in-Some.ensures) (sym value) ∙ sym c.min-number.ensures)
-
-pub returns-clause-number : goal.returns-clause-number
-returns-clause-number c = sym (number_all c.args.radix c.args.bytes.now c.loop-byte.byte-index c.loop-byte.number (omega arith) c.loop-byte.invariant)
 
 pub returns-clause-small : goal.returns-clause-small
 returns-clause-small c = number_small c.args.radix _ c.loop-byte.number c.loop-byte.invariant

@@ -1,10 +1,7 @@
 use Rattle.std.proofs.Common.{◌≡◌, ◌≤◌, get_or, true, inl, inr, refl, arith}
 use Rattle.btor2text.specs.Tokens.{is_blank}
-use Rattle.btor2text.proofs.NumberLemmas.{read_first, read_more, read_to_blank, read_to_end}
+use Rattle.btor2text.proofs.NumberLemmas.{read_more, read_to_blank, read_to_end}
 use Rattle.btor2text.proofs.places.number_at.Goals as goal
-
-pub loop-at-init : goal.loop-at-init
-loop-at-init c = rw c.from.ensures (read_first c.args.line.now c.in-len1-up.len_at_least (omega arith))
 
 pub loop-at-preserved : goal.loop-at-preserved
 loop-at-preserved c = read_more c.args.line.now c.loop-at.at c.loop-at.value c.from-digit.result c.loop-at.invariant c.loop-at-test.true c.from-digit.ensures (omega (arith, c.from-digit.ensures, c.type_inv.line c.loop-at.at)) c.if-digit-gt9.false

@@ -1,14 +1,8 @@
-use Rattle.std.proofs.Common.{◌≡◌, ◌-◌, inr, arith}
+use Rattle.std.proofs.Common.{inr, arith}
 use Rattle.std.proofs.lemmas.Result.{err_from_is_err_and}
 use Rattle.btor2text.specs.Tokens.{tokens}
-use Rattle.btor2text.specs.Reading.{operands_at}
-use Rattle.btor2text.proofs.OperandLemmas.{behind_none, operand_read, operand_fails, operands_read}
+use Rattle.btor2text.proofs.OperandLemmas.{operand_read, operand_fails, operands_read}
 use Rattle.btor2text.proofs.places.operands_at.Goals as goal
-
-pub loop-init : goal.loop-init
-loop-init c =
-    let all : c.args.count - 0 ≡ c.args.count = omega arith in
-    rw (c.new-ids.ensures.items, all) (behind_none (operands_at c.args.count (tokens c.args.line.now)))
 
 pub returns-in_err-id : goal.returns-in_err-id
 returns-in_err-id c =

@@ -1,4 +1,4 @@
-use Rattle.btor2text.proofs.AnswerLemmas.{GivesItems, found, only, fault, not_read, device, unfailed, read_on, place}
+use Rattle.btor2text.proofs.AnswerLemmas.{GivesItems, found, only, fault, not_read}
 use Rattle.btor2text.proofs.reading.read.Goals as goal
 
 pub returns-in-Ok-clause-found : goal.returns-in-Ok-clause-found
@@ -16,15 +16,3 @@ returns-in-Err-clause-only g c = not_read (g.S.Source.to_come c.args.source.now)
 
 pub returns-in-Err-clause-fault : goal.returns-in-Err-clause-fault
 returns-in-Err-clause-fault g c = fault (g.S.Source.to_come c.args.source.now) (g.S.Source.to_come c.read_lines.new.source) c.in-Err.fault _ _ (rw c.new-model.ensures at c.in-Err.ensures)
-
-pub returns-in-Err-clause-device : goal.returns-in-Err-clause-device
-returns-in-Err-clause-device g c = device (g.S.Source.to_come c.args.source.now) (g.S.Source.to_come c.read_lines.new.source) c.in-Err.fault _ _ (rw c.new-model.ensures at c.in-Err.ensures)
-
-pub returns-in-Err-clause-unfailed : goal.returns-in-Err-clause-unfailed
-returns-in-Err-clause-unfailed g c = unfailed (g.S.Source.to_come c.args.source.now) (g.S.Source.to_come c.read_lines.new.source) c.in-Err.fault _ _ (rw c.new-model.ensures at c.in-Err.ensures)
-
-pub returns-in-Err-clause-read_on : goal.returns-in-Err-clause-read_on
-returns-in-Err-clause-read_on g c = read_on (g.S.Source.to_come c.args.source.now) (g.S.Source.to_come c.read_lines.new.source) c.in-Err.fault _ _ (rw c.new-model.ensures at c.in-Err.ensures)
-
-pub returns-in-Err-clause-place : goal.returns-in-Err-clause-place
-returns-in-Err-clause-place g c = place (g.S.Source.to_come c.args.source.now) (g.S.Source.to_come c.read_lines.new.source) c.in-Err.fault _ _ (rw c.new-model.ensures at c.in-Err.ensures)
