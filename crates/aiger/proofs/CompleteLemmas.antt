@@ -1,41 +1,20 @@
 -- Orders: none is longer than the file has gates, there is one that cannot go on, and without cycles it is complete.
-use Rattle.std.proofs.Common.{◌≡◌, ℕ, zero, suc, ◌+◌, ◌<◌, ◌≤◌, Bool, true, false, not, ◌&&◌, nat_lt, List, [], ◌∷◌, ◌++◌, length, replicate, ◌⊎◌, inl, inr, None, nat_eq, slice_index_or, slice_set, sym, ◌∙◌, subst, refl, arith, length-append, ⊎_elim}
+use Rattle.std.proofs.Common.{◌≡◌, ℕ, zero, suc, ◌+◌, ◌<◌, ◌≤◌, Bool, true, false, not, ◌&&◌, nat_lt, List, [], ◌∷◌, ◌++◌, length, ◌⊎◌, inl, inr, None, nat_eq, sym, ◌∙◌, subst, refl, arith, length-append, ⊎_elim}
 use Rattle.std.proofs.lemmas.Bool.Decides.{nat_tests}
 use Rattle.std.proofs.lemmas.Bool.{cases_order, and_parts, ltb-true}
-use Rattle.std.proofs.lemmas.List.{length-set, get_or-set_other, length-replicate}
-use Rattle.std.proofs.lemmas.List.Folds.{list_any-append}
-use Rattle.std.proofs.lemmas.List.Sums.{count_by-le-length}
-use Rattle.std.specs.List.{list_any, count_by}
+use Rattle.std.specs.List.{list_any}
 use Rattle.aiger.specs.Circuit.{Circuit, IsCircuit}
 use Rattle.aiger.specs.Loose.{Loose, IsLoose}
 use Rattle.aiger.specs.Renumbering.{first_undefined, is_ready, AreInTurn, IsOrder, IsRenumbered, LeadsToCycle, IsFirstCyclic, renumbered}
 use Rattle.aiger.proofs.OrderLemmas.{ready_parts, false_unless}
-use Rattle.aiger.proofs.ReadinessLemmas.{AreFirst-push}
+use Rattle.aiger.proofs.ReadinessLemmas.{AreFirst-push, few_first}
 use Rattle.aiger.proofs.KnownLemmas.{all_known}
-use Rattle.aiger.proofs.NumberingLemmas.{mark_more, none_marked, leads_to_cycle, first_cyclic, IsCircuit-renumbered}
+use Rattle.aiger.proofs.NumberingLemmas.{leads_to_cycle, first_cyclic, IsCircuit-renumbered}
 
--- gates in turn are no more than those that are not marked
-few_in_turn : (l : Loose) (done js : List ℕ) (marks : List Bool) → AreInTurn l done js → length marks ≡ length l.gates
-    → ((i : ℕ) → slice_index_or marks i false ≡ true → list_any (nat_eq i) done ≡ true) → length js ≤ count_by not marks
-few_in_turn l done [] marks turn count marked = omega arith
-few_in_turn l done (j ∷ js) marks turn count marked =
-    let r = ready_parts l done j turn.0.ready in
-    let free : slice_index_or marks j false ≡ false = false_unless (slice_index_or marks j false) (λ t. let z : true ≡ false = sym (marked j t) ∙ r.1 in cc) in
-    let low : j < length marks = omega (arith, count, r.0) in
-    let more : (i : ℕ) → slice_index_or (slice_set marks j true) i false ≡ true → list_any (nat_eq i) (done ++ j ∷ []) ≡ true = λ i t.
-    ⊎_elim (λ (same : i ≡ j). let e = list_any-append (nat_eq i) done (j ∷ []) in let s : nat_eq i j ≡ true = grind (arith, nat_tests) in grind (arith, nat_tests, e, s))
-    (λ (o : (i < j) ⊎ (j < i)).
-    let other : i ≡ j → ⊥ = λ x. ⊎_elim (λ (h : i < j). omega arith) (λ (h : j < i). omega arith) o in
-    let before : list_any (nat_eq i) done ≡ true = marked i (sym (get_or-set_other marks j i true false other) ∙ t) in
-    let e = list_any-append (nat_eq i) done (j ∷ []) in
-    grind (arith, nat_tests, e, before))
-    (cases_order i j) in
-    omega (arith, few_in_turn l (done ++ j ∷ []) js (slice_set marks j true) turn.1 (length-set marks j true ∙ count) more, mark_more marks j low free)
-
+-- gates in turn are no more than there are
 pub few_in_order : (l : Loose) (order : List ℕ) → AreInTurn l [] order → length order ≤ length l.gates
 few_in_order l order turn =
-    let marks : List Bool = replicate (length l.gates) false in
-    omega (arith, few_in_turn l [] order marks turn (length-replicate (length l.gates) false) (λ i t. let z : true ≡ false = sym t ∙ none_marked (length l.gates) i in absurd (cc)), count_by-le-length not marks, length-replicate (length l.gates) false)
+    few_first (is_ready l) (length l.gates) (λ done j t. let r = ready_parts l done j t in (r.0, r.1)) order turn
 
 -- what a file is as numbered is a circuit
 pub is_circuit : (l : Loose) (c : Circuit) → IsLoose l → IsRenumbered l c → IsCircuit c

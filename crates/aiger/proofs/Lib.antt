@@ -9,7 +9,6 @@ mod RenumberingLemmas
 mod OrderLemmas
 mod KnownLemmas
 mod ReadinessLemmas
-mod BitTreeLemmas
 mod NumberingLemmas
 pub mod PlacesLemmas
 mod LooseTraceLemmas

@@ -68,7 +68,7 @@ walk_on l j k u (i, (r, around)) =
     (i, (inr on, around))
 
 -- one mark more
-pub mark_more : (marks : List Bool) (k : ℕ) → k < length marks → slice_index_or marks k false ≡ false → count_by not (slice_set marks k true) + 1 ≡ count_by not marks
+mark_more : (marks : List Bool) (k : ℕ) → k < length marks → slice_index_or marks k false ≡ false → count_by not (slice_set marks k true) + 1 ≡ count_by not marks
 mark_more marks k low t =
     let s : count_by not (slice_set marks k true) + cond (not (slice_index_or marks k false)) 1 0 ≡ count_by not marks + 0 = sum_by-set (λ (b : Bool). cond (not b) 1 0) marks k true false low in
     let u : ◌≡◌ {A = ℕ} (cond (not (slice_index_or marks k false)) 1 0) 1 = ap (λ (b : Bool). cond (not b) 1 0) t in
@@ -103,7 +103,7 @@ walk l order known stuck (suc fuel) marks j few count low new reach =
     by k u false t rest = walk_on l j k u (rest t)
 
 -- at first none is marked
-pub none_marked : (n i : ℕ) → slice_index_or (replicate n false) i false ≡ false
+none_marked : (n i : ℕ) → slice_index_or (replicate n false) i false ≡ false
 none_marked zero i = refl
 none_marked (suc n) zero = refl
 none_marked (suc n) (suc i) = none_marked n i

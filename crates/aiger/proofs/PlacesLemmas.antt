@@ -172,14 +172,14 @@ are_slots l valid known = record {
 }
 
 -- the order by slots is the order of the file's gates
-pub ready_order : (l : Loose) (order : List ℕ) (marks : List Bool) → IsLoose l → AllKnown l → IsWholeOrder (slots_of (defined_variables l) (leaf_count l) l.gates) (length l.gates) order marks → IsReadyOrder l order marks
-ready_order l order marks valid known is =
+pub ready_order : (l : Loose) (order waiting : List ℕ) → IsLoose l → AllKnown l → IsWholeOrder (slots_of (defined_variables l) (leaf_count l) l.gates) (length l.gates) order waiting → IsReadyOrder l order waiting
+ready_order l order waiting valid known is =
     let slots : List ℕ = slots_of (defined_variables l) (leaf_count l) l.gates in
     let none : AreGates l [] = λ k u. absurd (cc) in
     let turn : AreInTurn l [] order = in_turn_from_slots l slots [] order valid none (slots_are l known) is.in_turn in
     record {
       in_turn = turn;
-      marked = is.marked;
+      done = is.done;
       whole = λ j. sym (next_is_ready l slots order valid (are_gates l [] order none turn) (slots_are l known) j) ∙ is.whole j;
     }
 
@@ -191,23 +191,27 @@ not_false : (b : Bool) → not b ≡ false → b ≡ true
 not_false true t = refl
 not_false false t = absurd (cc)
 
--- the first gate that is left is the first that leads to a cycle
-pub left_is_cyclic : (l : Loose) (order : List ℕ) (marks : List Bool) (g : ℕ) → IsLoose l → AllKnown l → IsReadyOrder l order marks → position not marks ≡ Some g → IsFirstCyclic l g
-left_is_cyclic l order marks g valid known is e =
-    let f = place_found not marks g e in
-    let here : slice_index_or marks g false ≡ false = subst (λ (k : ℕ). slice_index_or marks k false ≡ false) f.0
-    (twice_not (slice_index_or marks (position_or_len not marks) false) (prefix_len_stops (λ (b : Bool). not (not b)) marks false (omega (arith, f.0, f.1)))) in
-    let low : g < length l.gates = omega (arith, f.1, is.marked.count) in
-    let before : (i : ℕ) → i < g → list_any (nat_eq i) order ≡ true = λ i h. sym (is.marked.each i (omega (arith, h, low))) ∙ not_false (slice_index_or marks i false) (fails_before_first not marks i false (omega (arith, h, f.0))) in
-    first_cyclic l order g valid known is.in_turn is.whole low (sym (is.marked.each g low) ∙ here) before
+-- whether a gate waits for something
+abbrev is_waiting : ℕ → Bool
+is_waiting left = not (nat_eq left 0)
 
--- where none is left, it is the whole order
-pub none_left_is_order : (l : Loose) (order : List ℕ) (marks : List Bool) → IsReadyOrder l order marks → position not marks ≡ None → IsOrder l order
-none_left_is_order l order marks is e =
-    let m = place_missed not marks e in
+-- the first gate that waits is the first that leads to a cycle
+pub left_is_cyclic : (l : Loose) (order waiting : List ℕ) (g : ℕ) → IsLoose l → AllKnown l → IsReadyOrder l order waiting → position (λ left. not (nat_eq left 0)) waiting ≡ Some g → IsFirstCyclic l g
+left_is_cyclic l order waiting g valid known is e =
+    let f = place_found is_waiting waiting g e in
+    let here : nat_eq (slice_index_or waiting g 0) 0 ≡ false = subst (λ (k : ℕ). nat_eq (slice_index_or waiting k 0) 0 ≡ false) f.0
+    (twice_not (nat_eq (slice_index_or waiting (position_or_len is_waiting waiting) 0) 0) (prefix_len_stops (λ (left : ℕ). not (is_waiting left)) waiting 0 (omega (arith, f.0, f.1)))) in
+    let low : g < length l.gates = omega (arith, f.1, is.done.count) in
+    let before : (i : ℕ) → i < g → list_any (nat_eq i) order ≡ true = λ i h. sym (is.done.each i (omega (arith, h, low))) ∙ not_false (nat_eq (slice_index_or waiting i 0) 0) (fails_before_first is_waiting waiting i 0 (omega (arith, h, f.0))) in
+    first_cyclic l order g valid known is.in_turn is.whole low (sym (is.done.each g low) ∙ here) before
+
+-- where none waits, it is the whole order
+pub none_left_is_order : (l : Loose) (order waiting : List ℕ) → IsReadyOrder l order waiting → position (λ left. not (nat_eq left 0)) waiting ≡ None → IsOrder l order
+none_left_is_order l order waiting is e =
+    let m = place_missed is_waiting waiting e in
     record {
       in_turn = is.in_turn;
-      all = λ j h. sym (is.marked.each j h) ∙ not_false (slice_index_or marks j false) (fails_before_first not marks j false (omega (arith, h, m, is.marked.count)));
+      all = λ j h. sym (is.done.each j h) ∙ not_false (nat_eq (slice_index_or waiting j 0) 0) (fails_before_first is_waiting waiting j 0 (omega (arith, h, m, is.done.count)));
     }
 
 -- the line that is read at a place, whatever is read past the end

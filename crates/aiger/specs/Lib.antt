@@ -14,9 +14,6 @@ pub mod View
 pub mod LooseView
 pub mod Trace
 pub mod Readiness
-pub mod BitTree
-pub mod ReadyGates
-pub mod NextGates
 pub mod Numbering
 pub mod OwnLists
 pub mod Worked

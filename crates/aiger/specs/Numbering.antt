@@ -5,7 +5,7 @@ use Rattle.aiger.specs.declared.loose.GateLine.{GateLine}
 use Rattle.aiger.specs.Literal.{variable}
 use Rattle.aiger.specs.Loose.{Loose, gate_variable}
 use Rattle.aiger.specs.Renumbering.{AreInTurn, is_ready, is_known}
-use Rattle.aiger.specs.Readiness.{MarksDone}
+use Rattle.aiger.specs.Readiness.{AreDone}
 
 -- a line with a literal whose variable is neither 0 nor defined
 abbrev pub is_unknown : Loose → List ℕ → Bool
@@ -39,8 +39,8 @@ slots_of names leaves gates = flat_map (λ line. slot_of names leaves line.rhs0 
 abbrev pub WaitForEarlier : List ℕ → ℕ → List GateLine → Type 0
 WaitForEarlier names leaves gates = (j : ℕ) → j < length gates → (slot_of names leaves (line_in gates j).rhs0 ≤ j) × (slot_of names leaves (line_in gates j).rhs1 ≤ j)
 
--- the gates of a file in the order of readiness, until none is ready, and which ones these are
-pub record IsReadyOrder (l : Loose) (order : List ℕ) (marks : List Bool) : Type 0 where
+-- the gates of a file in the order of readiness, until none is ready, and for how many operands each waits then
+pub record IsReadyOrder (l : Loose) (order : List ℕ) (waiting : List ℕ) : Type 0 where
   pub in_turn : AreInTurn l [] order
-  pub marked : MarksDone (length l.gates) order marks
+  pub done : AreDone (length l.gates) order waiting
   pub whole : (j : ℕ) → is_ready l order j ≡ false

@@ -1,6 +1,10 @@
 -- Gates that wait for others: two slots for each gate say which gate's number an operand waits for.
-use Rattle.std.specs.Prelude.{◌≡◌, ℕ, zero, suc, ◌+◌, ◌*◌, ◌<◌, ◌≤◌, Bool, true, false, ◌&&◌, ◌||◌, not, List, [], ◌∷◌, ◌++◌, length, All, slice_index_or, nat_lt, nat_eq, count_by, if◌then◌else◌}
+use Rattle.std.specs.Prelude.{◌≡◌, ℕ, zero, suc, ◌+◌, ◌*◌, ◌<◌, ◌≤◌, Bool, true, false, ◌&&◌, ◌||◌, not, List, [], ◌∷◌, ◌++◌, length, All, slice_index_or, nat_lt, nat_eq, count_by, cond, if◌then◌else◌}
+use Rattle.std.specs.BinaryHeap.{IsHeap, KeepsHeap}
 use Rattle.std.specs.List.{list_any}
+use Rattle.std.specs.Ordering.{nat_cmp}
+use Rattle.std.specs.declared.cmp.Ordering.{Ordering}
+use Rattle.std.specs.declared.cmp.Reverse.{Reverse}
 
 -- a slot: 0 for an operand that waits for no gate, or the gate's position and 1
 abbrev pub slot_at : List ℕ → ℕ → ℕ
@@ -33,15 +37,15 @@ pub record HasChains (slots : List ℕ) (n : ℕ) (heads : List ℕ) (nexts : Li
   pub next : (s g : ℕ) → s < length slots → slot_at slots s ≡ suc g → slice_index_or nexts s 0 ≡ last_user slots g s
 
 -- there are slots with these chains, of which something holds
-pub record HasSlots (n : ℕ) (heads nexts : List ℕ) (Holds : List ℕ → Type 0) : Type 0 where
+pub record HasSlots (heads nexts : List ℕ) (Holds : List ℕ → Type 0) : Type 0 where
   pub slots : List ℕ
-  pub are : AreSlots slots n
-  pub chains : HasChains slots n heads nexts
+  pub are : AreSlots slots (length heads)
+  pub chains : HasChains slots (length heads) heads nexts
   pub holds : Holds slots
 
 -- of all slots with these chains of which one thing holds another does
-abbrev pub ForSlots : ℕ → List ℕ → List ℕ → (List ℕ → Type 0) → (List ℕ → Type 0) → Type 0
-ForSlots n heads nexts If Then = (slots : List ℕ) → AreSlots slots n → HasChains slots n heads nexts → If slots → Then slots
+abbrev pub ForSlots : List ℕ → List ℕ → (List ℕ → Type 0) → (List ℕ → Type 0) → Type 0
+ForSlots heads nexts If Then = (slots : List ℕ) → AreSlots slots (length heads) → HasChains slots (length heads) heads nexts → If slots → Then slots
 
 -- for each gate how many of its slots wait; a gate that is done waits for nothing
 pub record CountsWaits (slots : List ℕ) (n : ℕ) (done : List ℕ) (waiting : List ℕ) : Type 0 where
@@ -49,9 +53,31 @@ pub record CountsWaits (slots : List ℕ) (n : ℕ) (done : List ℕ) (waiting :
   pub each : (j : ℕ) → j < n → slice_index_or waiting j 0 ≡ waits slots done (2 * j) + waits slots done (2 * j + 1)
   pub none : (j : ℕ) → list_any (nat_eq j) done ≡ true → slice_index_or waiting j 0 ≡ 0
 
--- the gates that are not done and wait for nothing
+-- the gates before a bound that are not done and wait for nothing
 abbrev pub waits_for_nothing : ℕ → List ℕ → List ℕ → ℕ → Bool
-waits_for_nothing n done waiting j = nat_lt j n && (not (list_any (nat_eq j) done) && nat_eq (slice_index_or waiting j 0) 0)
+waits_for_nothing bound done waiting j = nat_lt j bound && (not (list_any (nat_eq j) done) && nat_eq (slice_index_or waiting j 0) 0)
+
+-- the order of a heap of gates, of which the first one is the greatest
+abbrev pub turns : Reverse ℕ → Reverse ℕ → Ordering
+turns x y = nat_cmp y.0 x.0
+
+-- 1 where a test is passed, else 0
+abbrev pub one_if : Bool → ℕ
+one_if test = cond test 1 0
+
+-- how often a gate is in a heap
+abbrev pub times : List (Reverse ℕ) → ℕ → ℕ
+times ready i = count_by (λ (g : Reverse ℕ). nat_eq g.0 i) ready
+
+-- a heap has the gates before a bound that are not done and wait for nothing, each once
+pub record HasReady (bound : ℕ) (done waiting : List ℕ) (ready : List (Reverse ℕ)) : Type 0 where
+  pub heap : IsHeap turns ready
+  pub each : (i : ℕ) → times ready i ≡ one_if (waits_for_nothing bound done waiting i)
+
+-- a gate is put into a heap where it is before a bound and so many of its slots that are left are none
+pub record IsNoted (gate bound left : ℕ) (ready noted : List (Reverse ℕ)) : Type 0 where
+  pub heap : KeepsHeap turns ready noted
+  pub each : (i : ℕ) → times noted i ≡ times ready i + one_if (nat_eq gate i && (nat_lt gate bound && nat_eq left 0))
 
 -- a position is the first that passes a test after these
 pub record IsFirst (passes : List ℕ → ℕ → Bool) (done : List ℕ) (j : ℕ) : Type 0 where
@@ -63,21 +89,20 @@ abbrev pub AreFirst : (List ℕ → ℕ → Bool) → List ℕ → List ℕ → 
 AreFirst passes done [] = Unit {0}
 AreFirst passes done (j ∷ js) = IsFirst passes done j × AreFirst passes (done ++ j ∷ []) js
 
--- which gates are done
-pub record MarksDone (n : ℕ) (done : List ℕ) (marks : List Bool) : Type 0 where
-  pub count : length marks ≡ n
-  pub each : (j : ℕ) → j < n → slice_index_or marks j false ≡ list_any (nat_eq j) done
-  pub left : count_by not marks + length done ≡ n
+-- the gates that wait for nothing are those that are done
+pub record AreDone (n : ℕ) (done : List ℕ) (waiting : List ℕ) : Type 0 where
+  pub count : length waiting ≡ n
+  pub each : (j : ℕ) → j < n → nat_eq (slice_index_or waiting j 0) 0 ≡ list_any (nat_eq j) done
 
--- between two gates: what waits, what is ready and what is done
-pub record IsBetween (slots : List ℕ) (n : ℕ) (done : List ℕ) (waiting : List ℕ) (marks : List Bool) (is_in : ℕ → Bool) : Type 0 where
+-- between two gates: what waits, what is ready before a bound, and what is done, all of it before the bound
+pub record IsBetween (slots : List ℕ) (n bound : ℕ) (done : List ℕ) (waiting : List ℕ) (ready : List (Reverse ℕ)) : Type 0 where
   pub waits : CountsWaits slots n done waiting
-  pub marked : MarksDone n done marks
-  pub ready : (i : ℕ) → is_in i ≡ waits_for_nothing n done waiting i
+  pub has : HasReady bound done waiting ready
+  pub before : (i : ℕ) → list_any (nat_eq i) done ≡ true → i < bound
   pub in_turn : AreFirst (may_be_next slots n) [] done
 
 -- a gate has left those that are ready, and its slots still count as waiting
-pub record IsTaken (slots : List ℕ) (n : ℕ) (order : List ℕ) (waiting : List ℕ) (is_in : ℕ → Bool) : Type 0 where
+pub record IsTaken (slots : List ℕ) (n bound : ℕ) (order : List ℕ) (waiting : List ℕ) (ready : List (Reverse ℕ)) : Type 0 where
   pub done : List ℕ
   pub gate : ℕ
   pub last : order ≡ done ++ gate ∷ []
@@ -85,10 +110,10 @@ pub record IsTaken (slots : List ℕ) (n : ℕ) (order : List ℕ) (waiting : Li
   pub new : list_any (nat_eq gate) done ≡ false
   pub waits : CountsWaits slots n done waiting
   pub free : slice_index_or waiting gate 0 ≡ 0
-  pub ready : (i : ℕ) → is_in i ≡ waits_for_nothing n order waiting i
+  pub has : HasReady bound order waiting ready
 
 -- all gates in turn, until none may be next
-pub record IsWholeOrder (slots : List ℕ) (n : ℕ) (order : List ℕ) (marks : List Bool) : Type 0 where
+pub record IsWholeOrder (slots : List ℕ) (n : ℕ) (order : List ℕ) (waiting : List ℕ) : Type 0 where
   pub in_turn : AreFirst (may_be_next slots n) [] order
-  pub marked : MarksDone n order marks
+  pub done : AreDone n order waiting
   pub whole : (j : ℕ) → may_be_next slots n order j ≡ false

@@ -1,5 +1,5 @@
 //! The lists of a file as a circuit: their variables get the numbers of a circuit.
-ghost use Rattle.std.specs.Prelude.{◌≡◌, ◌+◌, ◌++◌, [], map, ◌<◌, ◌≤◌, length, nat_le, not, All, None, IfOk, OnOk};
+ghost use Rattle.std.specs.Prelude.{◌≡◌, ◌+◌, ◌++◌, [], map, ◌<◌, ◌≤◌, length, nat_le, nat_eq, not, All, None, IfOk, OnOk};
 ghost use Rattle.std.specs.List.{list_all, position};
 ghost use Rattle.aiger.specs.Limits.{greatest_count};
 ghost use Rattle.aiger.specs.Literal.{variable};
@@ -105,8 +105,8 @@ impl Loose {
         requires slots { slots.items ≡ slots_of (defined_variables self.now) (length self.now.inputs + length self.now.latches) self.now.gates }
         ensures { AnswersNumber self.now result }
     {
-        let (order, marks) = order_of_readiness(alloc, slots, self.gates().len())?;
-        match first_left(&marks) {
+        let (order, waiting) = order_of_readiness(alloc, slots, self.gates().len())?;
+        match first_left(&waiting) {
             Some(gate) => Err(LooseFault::Cycle(gate)),
             None => self.number_by_order(alloc, &order),
         }
@@ -206,9 +206,9 @@ fn are_within(slots: &[u32], most: usize) -> bool
     slots.iter().all(|slot| *slot as usize <= most)
 }
 
-/// The first gate that has no number, if there is one.
-fn first_left(marks: &[bool]) -> Option<usize>
-    ensures { result ≡ position not marks.now }
+/// The first gate that waits for something, if there is one.
+fn first_left(waiting: &[u8]) -> Option<usize>
+    ensures { result ≡ position (λ left. not (nat_eq left 0)) waiting.now }
 {
-    marks.iter().position(|done| !*done)
+    waiting.iter().position(|left| *left != 0)
 }

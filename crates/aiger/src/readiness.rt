@@ -1,10 +1,11 @@
 //! The order of readiness: each time the first gate of those that wait for no other.
-ghost use Rattle.std.specs.Prelude.{◌≡◌, ℕ, suc, ◌+◌, ◌-◌, ◌*◌, ◌<◌, ◌≤◌, [], ◌∷◌, ◌++◌, ◌&&◌, ◌||◌, length, slice_index_or, nat_lt, nat_eq, IfOk, OnOk, slice_set, if◌then◌else◌};
-ghost use Rattle.aiger.specs.Readiness.{AreSlots, HasChains, HasSlots, ForSlots, CountsWaits, waits_for_nothing, IsBetween, IsTaken, IsWholeOrder};
-ghost use Rattle.aiger.specs.NextGates.{is_next, next_room};
+ghost use Rattle.std.specs.Prelude.{◌≡◌, ℕ, suc, ◌+◌, ◌-◌, ◌<◌, ◌≤◌, [], length, slice_index_or, nat_eq, IfOk, OnOk, slice_set, if◌then◌else◌};
+ghost use Rattle.std.specs.BinaryHeap.{heap_items};
+ghost use Rattle.aiger.specs.Readiness.{AreSlots, HasChains, HasSlots, ForSlots, CountsWaits, HasReady, IsNoted, IsBetween, IsTaken, IsWholeOrder};
 
-use crate::next_gates::NextGates;
 use std::alloc::{AllocError, Global};
+use std::cmp::Reverse;
+use std::collections::BinaryHeap;
 
 /// Who waits for whom.
 ///
@@ -18,42 +19,60 @@ struct Users {
     nexts: Vec<u32>,
 }
 
-/// The gates in the order of readiness, until none is ready, and for each gate whether it is among
-/// them. The error is want of memory.
+/// The gates in the order of readiness, until none is ready, and for how many slots each waits then: those
+/// that have their place in the order for none, and the others for one at least. The error is want of memory.
 pub fn order_of_readiness(
     alloc: Global,
     slots: Vec<u32>,
     gates: usize,
-) -> Result<(Vec<u32>, Vec<bool>), AllocError>
+) -> Result<(Vec<u32>, Vec<u8>), AllocError>
     requires { AreSlots slots.items gates }
     ensures { IfOk result (λ r. IsWholeOrder slots.items gates r.0.items r.1.items) }
 {
     let mut waiting = first_waits(alloc, &slots, gates)?;
-    let mut ready = first_ready(alloc, &waiting)?;
     let users = chains(alloc, slots, gates)?;
-    let mut marks = vec![in alloc; false; gates]?;
     let mut order = Vec::with_capacity(alloc, gates)?;
-    take_in_turn(&users, &mut waiting, &mut ready, &mut order, &mut marks)?;
-    Ok((order, marks))
+    take_in_turn(alloc, &users, &mut waiting, &mut order)?;
+    Ok((order, waiting))
 }
 
-/// Puts the gates that are ready into their order, each time the first one, until none is ready.
+/// Puts the gates into their order: each in file order once it is ready, and behind it those before it that have become
+/// ready, each time the first one.
 fn take_in_turn(
+    alloc: Global,
     users: &Users,
     waiting: &mut Vec<u8>,
-    ready: &mut NextGates,
     order: &mut Vec<u32>,
-    marks: &mut Vec<bool>,
 ) -> Result<(), AllocError>
-    requires known { HasSlots (length waiting.old.items) users.now.heads.items users.now.nexts.items (λ slots. IsBetween slots (length waiting.old.items) order.old.items waiting.old.items marks.old.items (is_next ready.old)) }
-    requires room { length waiting.old.items ≤ next_room ready.old }
-    ensures { OnOk result (ForSlots (length waiting.old.items) users.now.heads.items users.now.nexts.items (λ slots. IsBetween slots (length waiting.old.items) order.old.items waiting.old.items marks.old.items (is_next ready.old))
-        (λ slots. IsWholeOrder slots (length waiting.old.items) order.new.items marks.new.items)) }
+    requires { HasSlots users.now.heads.items users.now.nexts.items (λ slots. IsBetween slots (length users.now.heads.items) 0 order.old.items waiting.old.items []) }
+    ensures { OnOk result (ForSlots users.now.heads.items users.now.nexts.items (λ slots. IsBetween slots (length users.now.heads.items) 0 order.old.items waiting.old.items [])
+        (λ slots. IsWholeOrder slots (length users.now.heads.items) order.new.items waiting.new.items)) }
 {
-    while let Some(gate) = ready.pop_first() {
+    let mut ready = BinaryHeap::new(alloc);
+    for gate in 0..waiting.len() {
+        note(&mut ready, gate as u32, gate + 1, waiting[gate])?;
+        take_ready(users, gate + 1, waiting, &mut ready, order)?;
+    }
+    Ok(())
+}
+
+/// Puts the gates before a bound that are ready into their order, each time the first one, until none is ready.
+fn take_ready(
+    users: &Users,
+    bound: usize,
+    waiting: &mut Vec<u8>,
+    ready: &mut BinaryHeap<Reverse<u32>>,
+    order: &mut Vec<u32>,
+) -> Result<(), AllocError>
+    requires known { HasSlots users.now.heads.items users.now.nexts.items (λ slots. IsBetween slots (length users.now.heads.items) bound order.old.items waiting.old.items (heap_items ready.old)) }
+    requires low { bound ≤ length users.now.heads.items }
+    ensures between { OnOk result (ForSlots users.now.heads.items users.now.nexts.items (λ slots. IsBetween slots (length users.now.heads.items) bound order.old.items waiting.old.items (heap_items ready.old))
+        (λ slots. IsBetween slots (length users.now.heads.items) bound order.new.items waiting.new.items [])) }
+    ensures none { OnOk result (heap_items ready.new ≡ []) }
+{
+    while let Some(Reverse(gate)) = ready.pop() {
         order.push(gate)?;
-        marks[gate as usize] = true;
-        release(users, order, waiting, ready);
+        release(users, order, bound, waiting, ready)?;
     }
     Ok(())
 }
@@ -101,39 +120,34 @@ fn first_waits(alloc: Global, slots: &[u32], gates: usize) -> Result<Vec<u8>, Al
     Ok(waiting)
 }
 
-/// The gates that wait for nothing, before any gate is done.
-fn first_ready(alloc: Global, waiting: &[u8]) -> Result<NextGates, AllocError>
-    requires { length waiting.now ≤ 1073741824 }
-    ensures ready { IfOk result (λ r. (i : ℕ) → is_next r i ≡ waits_for_nothing (length waiting.now) [] waiting.now i) }
-    ensures room { IfOk result (λ r. length waiting.now ≤ next_room r) }
+/// Notes a gate as ready where it stands before a bound and nothing is left that it waits for.
+fn note(
+    ready: &mut BinaryHeap<Reverse<u32>>,
+    gate: u32,
+    bound: usize,
+    left: u8,
+) -> Result<(), AllocError>
+    ensures { OnOk result (IsNoted gate bound left (heap_items ready.old) (heap_items ready.new)) }
 {
-    let mut ready = NextGates::new(alloc, waiting.len())?;
-    for gate in 0..waiting.len() {
-        note(&mut ready, gate as u32, waiting[gate]);
+    if left != 0 || gate as usize >= bound {
+        return Ok(());
     }
-    Ok(ready)
-}
-
-/// Notes a gate as ready where nothing is left that it waits for.
-fn note(ready: &mut NextGates, gate: u32, left: u8)
-    requires { gate < next_room ready.old }
-    ensures noted { (i : ℕ) → is_next ready.new i ≡ (is_next ready.old i || (nat_eq gate i && nat_eq left 0)) }
-    ensures room { next_room ready.new ≡ next_room ready.old }
-{
-    if left != 0 {
-        return;
-    }
-    ready.insert(gate);
+    ready.push(Reverse(gate))?;
+    Ok(())
 }
 
 /// Each slot of the last gate of an order waits no longer.
-fn release(users: &Users, order: &[u32], waiting: &mut Vec<u8>, ready: &mut NextGates)
-    requires known { HasSlots (length waiting.old.items) users.now.heads.items users.now.nexts.items (λ slots. IsTaken slots (length waiting.old.items) order.now waiting.old.items (is_next ready.old)) }
-    requires room { length waiting.old.items ≤ next_room ready.old }
-    ensures waits { ForSlots (length waiting.old.items) users.now.heads.items users.now.nexts.items (λ slots. IsTaken slots (length waiting.old.items) order.now waiting.old.items (is_next ready.old))
-        (λ slots. CountsWaits slots (length waiting.old.items) order.now waiting.new.items) }
-    ensures ready { (i : ℕ) → is_next ready.new i ≡ waits_for_nothing (length waiting.old.items) order.now waiting.new.items i }
-    ensures room { next_room ready.new ≡ next_room ready.old }
+fn release(
+    users: &Users,
+    order: &[u32],
+    bound: usize,
+    waiting: &mut Vec<u8>,
+    ready: &mut BinaryHeap<Reverse<u32>>,
+) -> Result<(), AllocError>
+    requires { HasSlots users.now.heads.items users.now.nexts.items (λ slots. IsTaken slots (length users.now.heads.items) bound order.now waiting.old.items (heap_items ready.old)) }
+    ensures waits { OnOk result (ForSlots users.now.heads.items users.now.nexts.items (λ slots. IsTaken slots (length users.now.heads.items) bound order.now waiting.old.items (heap_items ready.old))
+        (λ slots. CountsWaits slots (length users.now.heads.items) order.now waiting.new.items)) }
+    ensures ready { OnOk result (HasReady bound order.now waiting.new.items (heap_items ready.new)) }
 {
     let gate = order[order.len() - 1] as usize;
     let mut at = users.heads[gate];
@@ -141,7 +155,8 @@ fn release(users: &Users, order: &[u32], waiting: &mut Vec<u8>, ready: &mut Next
         let slot = at as usize - 1;
         let left = waiting[slot / 2] - 1;
         waiting[slot / 2] = left;
-        note(ready, (slot / 2) as u32, left);
         at = users.nexts[slot];
+        note(ready, (slot / 2) as u32, bound, left)?;
     }
+    Ok(())
 }

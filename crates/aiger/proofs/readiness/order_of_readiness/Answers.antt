@@ -1,17 +1,24 @@
-use Rattle.std.proofs.Common.{◌≡◌, ℕ, List, [], false, length, replicate, ap, sym, subst, ◌∙◌, rules}
-use Rattle.aiger.specs.Readiness.{AreSlots, HasChains, CountsWaits, IsWholeOrder, waits_for_nothing}
-use Rattle.aiger.specs.NextGates.{is_next}
+use Rattle.std.proofs.Common.{◌≡◌, ℕ, List, [], length, sym, subst}
+use Rattle.aiger.specs.Readiness.{AreSlots, HasChains, HasSlots, CountsWaits, IsBetween, IsWholeOrder}
 use Rattle.aiger.proofs.ReadinessLemmas.{between_begins}
 use Rattle.aiger.proofs.readiness.order_of_readiness.Goals as goal
 
+-- the slots are those of the chains, and nothing is done
+abbrev known : (slots : List ℕ) (gates : ℕ) (heads nexts order waiting : List ℕ) → AreSlots slots gates → HasChains slots gates heads nexts → CountsWaits slots gates [] waiting → order ≡ []
+    → HasSlots heads nexts (λ slots. IsBetween slots (length heads) 0 order waiting [])
+known slots gates heads nexts order waiting are chains waits none =
+    record {
+      slots = slots;
+      are = subst (AreSlots slots) (sym chains.heads_count) are;
+      chains = subst (λ (n : ℕ). HasChains slots n heads nexts) (sym chains.heads_count) chains;
+      holds = between_begins slots (length heads) order waiting (subst (λ (n : ℕ). CountsWaits slots n [] waiting) (sym chains.heads_count) waits) none;
+    }
+
+pub take_in_turn-requires : goal.take_in_turn-requires
+take_in_turn-requires c =
+    known c.args.slots.items c.args.gates _ _ _ _ c.requires c.in_ok-users.ensures (subst (λ (slots : List ℕ). CountsWaits slots c.args.gates [] c.in_ok-waiting.waiting.items) c.deref.ensures.value c.in_ok-waiting.ensures) c.in_ok-order.ensures.items
+
 pub returns : goal.returns
 returns c =
-    let slots : List ℕ = c.args.slots.items in
-    let count = c.in_ok-waiting.ensures.count in
-    let waits : CountsWaits slots (length c.in_ok-waiting.waiting.items) [] c.in_ok-waiting.waiting.items = subst (λ (n : ℕ). CountsWaits slots n [] c.in_ok-waiting.waiting.items) (sym count) (subst (λ (s : List ℕ). CountsWaits s c.args.gates [] c.in_ok-waiting.waiting.items) c.deref.ensures.value c.in_ok-waiting.ensures) in
-    let marks : c.in_ok-marks.marks.items ≡ replicate c.args.gates false = search rules in
-    let holds = between_begins slots (length c.in_ok-waiting.waiting.items) c.in_ok-order.order.items c.in_ok-waiting.waiting.items c.in_ok-marks.marks.items (is_next c.in_ok-ready.ready) waits c.in_ok-order.ensures.items
-    (marks ∙ ap (λ (n : ℕ). replicate n false) (sym count)) (λ i. c.in_ok-ready.ensures.ready i ∙ ap (λ (ws : List ℕ). waits_for_nothing (length ws) [] ws i) c.deref-2.ensures.value) in
-    let are : AreSlots slots (length c.in_ok-waiting.waiting.items) = subst (AreSlots slots) (sym count) c.requires in
-    let chains : HasChains slots (length c.in_ok-waiting.waiting.items) c.in_ok-users.users.heads.items c.in_ok-users.users.nexts.items = subst (λ (n : ℕ). HasChains slots n c.in_ok-users.users.heads.items c.in_ok-users.users.nexts.items) (sym count) c.in_ok-users.ensures in
-    subst (λ (n : ℕ). IsWholeOrder slots n c.take_in_turn.new.order.items c.take_in_turn.new.marks.items) count (c.in_ok-take_in_turn.ensures slots are chains holds)
+    let k = known c.args.slots.items c.args.gates _ _ _ _ c.requires c.in_ok-users.ensures (subst (λ (slots : List ℕ). CountsWaits slots c.args.gates [] c.in_ok-waiting.waiting.items) c.deref.ensures.value c.in_ok-waiting.ensures) c.in_ok-order.ensures.items in
+    subst (λ (n : ℕ). IsWholeOrder c.args.slots.items n c.take_in_turn.new.order.items c.take_in_turn.new.waiting.items) c.in_ok-users.ensures.heads_count (c.in_ok-take_in_turn.ensures k.slots k.are k.chains k.holds)

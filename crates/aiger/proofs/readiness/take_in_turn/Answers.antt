@@ -1,46 +1,38 @@
-use Rattle.std.proofs.Common.{◌≡◌, ◌<◌, ℕ, true, not, length, slice_set, arith, List, [], ◌∷◌, ◌++◌, ap, sym, subst, ◌∙◌, length-append}
-use Rattle.aiger.specs.NextGates.{is_next}
-use Rattle.std.specs.List.{count_by}
-use Rattle.aiger.specs.Readiness.{AreSlots, HasChains, IsTaken, AreFirst, may_be_next, MarksDone, CountsWaits, waits_for_nothing}
-use Rattle.aiger.proofs.ReadinessLemmas.{taken}
+use Rattle.std.proofs.Common.{◌≡◌, ◌+◌, ℕ, List, [], length, slice_index_or, sym, subst, arith}
+use Rattle.std.specs.BinaryHeap.{heap_items}
+use Rattle.std.specs.declared.cmp.Reverse.{Reverse}
+use Rattle.aiger.specs.Readiness.{ForSlots, IsNoted, IsBetween}
+use Rattle.aiger.proofs.ReadinessLemmas.{between_next, between_ends, read_at}
 use Rattle.aiger.proofs.readiness.take_in_turn.Goals as goal
 
-pub release-requires-clause-known : goal.release-requires-clause-known
-release-requires-clause-known c =
-    let b = c.loop-gate.invariant.between c.requires.known.slots c.requires.known.are c.requires.known.chains c.requires.known.holds in
-    let t = taken c.requires.known.slots (length c.args.waiting.now.items) c.loop-gate.order.items c.loop-gate.waiting.items c.loop-gate.marks.items (is_next c.loop-gate.ready) (is_next c.pop_first.new.self) c.in-Some.gate b c.in-Some.ensures.member c.in-Some.ensures.least c.in-Some.ensures.rest in
-    let o : c.deref.result.now ≡ c.loop-gate.order.items ++ c.in-Some.gate ∷ [] = c.deref.ensures.value ∙ c.in_ok-push.ensures.items in
-    record {
-      slots = c.requires.known.slots;
-      are = subst (AreSlots c.requires.known.slots) (sym b.waits.count) c.requires.known.are;
-      chains = subst (λ (m : ℕ). HasChains c.requires.known.slots m c.args.users.now.heads.items c.args.users.now.nexts.items) (sym b.waits.count) c.requires.known.chains;
-      holds = subst (λ (m : ℕ). IsTaken c.requires.known.slots m c.deref.result.now c.loop-gate.waiting.items (is_next c.pop_first.new.self)) (sym b.waits.count)
-          (subst (λ (x : List ℕ). IsTaken c.requires.known.slots (length c.args.waiting.now.items) x c.loop-gate.waiting.items (is_next c.pop_first.new.self)) (sym o) t.0);
-    }
+-- the next gate may be ready too, where none before it is
+next : (slots : List ℕ) (n gate left : ℕ) (order waiting : List ℕ) (ready noted : List (Reverse ℕ)) → ready ≡ [] → left ≡ slice_index_or waiting gate 0 → IsNoted gate (gate + 1) left ready noted → IsBetween slots n gate order waiting [] → IsBetween slots n (gate + 1) order waiting noted
+next slots n gate left order waiting ready noted none is note b =
+    between_next slots n gate left order waiting [] noted b is (subst (λ (r : List (Reverse ℕ)). IsNoted gate (gate + 1) left r noted) none note)
 
-pub loop-gate-smaller : goal.loop-gate-smaller
-loop-gate-smaller c =
-    let b = c.loop-gate.invariant.between c.requires.known.slots c.requires.known.are c.requires.known.chains c.requires.known.holds in
-    let t = taken c.requires.known.slots (length c.args.waiting.now.items) c.loop-gate.order.items c.loop-gate.waiting.items c.loop-gate.marks.items (is_next c.loop-gate.ready) (is_next c.pop_first.new.self) c.in-Some.gate b c.in-Some.ensures.member c.in-Some.ensures.least c.in-Some.ensures.rest in
-    let less : count_by not (slice_set c.loop-gate.marks.items c.in-Some.gate true) < count_by not c.loop-gate.marks.items = omega (arith, t.2.left, b.marked.left, length-append c.loop-gate.order.items (c.in-Some.gate ∷ [])) in
-    less
+pub take_ready-requires-clause-known : goal.take_ready-requires-clause-known
+take_ready-requires-clause-known c =
+    let k = c.requires in
+    let left = read_at c.loop-gate.waiting.items c.loop-gate.gate c.index.result.now (omega arith) c.index.ensures in
+    record {
+      slots = k.slots;
+      are = k.are;
+      chains = k.chains;
+      holds = next k.slots _ c.loop-gate.gate c.index.result.now _ _ (heap_items c.loop-gate.ready) (heap_items c.note.new.ready) c.loop-gate.invariant.none (sym left) c.in_ok-note.ensures (c.loop-gate.invariant.between k.slots k.are k.chains k.holds);
+    }
 
 pub loop-gate-preserved : goal.loop-gate-preserved
 loop-gate-preserved c =
-    let o : c.push.new.self.items ≡ c.loop-gate.order.items ++ c.in-Some.gate ∷ [] = c.in_ok-push.ensures.items in
-    let v : c.deref.result.now ≡ c.push.new.self.items = c.deref.ensures.value in
-    record {
-      between = λ slots are chains start.
-          let b = c.loop-gate.invariant.between slots are chains start in
-          let t = taken slots (length c.args.waiting.now.items) c.loop-gate.order.items c.loop-gate.waiting.items c.loop-gate.marks.items (is_next c.loop-gate.ready) (is_next c.pop_first.new.self) c.in-Some.gate b c.in-Some.ensures.member c.in-Some.ensures.least c.in-Some.ensures.rest in
-          let waits = c.release.ensures.waits slots (subst (AreSlots slots) (sym b.waits.count) are) (subst (λ (m : ℕ). HasChains slots m c.args.users.now.heads.items c.args.users.now.nexts.items) (sym b.waits.count) chains)
-          (subst (λ (m : ℕ). IsTaken slots m c.deref.result.now c.loop-gate.waiting.items (is_next c.pop_first.new.self)) (sym b.waits.count)
-          (subst (λ (x : List ℕ). IsTaken slots (length c.args.waiting.now.items) x c.loop-gate.waiting.items (is_next c.pop_first.new.self)) (sym (v ∙ o)) t.0)) in
-          record {
-            waits = subst (λ (m : ℕ). CountsWaits slots m c.push.new.self.items c.release.new.waiting.items) b.waits.count (subst (λ (x : List ℕ). CountsWaits slots (length c.loop-gate.waiting.items) x c.release.new.waiting.items) v waits);
-            marked = subst (λ (x : List ℕ). MarksDone (length c.args.waiting.now.items) x (slice_set c.loop-gate.marks.items c.in-Some.gate true)) (sym o) t.2;
-            ready = λ i. c.release.ensures.ready i ∙ (ap (λ (x : List ℕ). waits_for_nothing (length c.loop-gate.waiting.items) x c.release.new.waiting.items i) v ∙ ap (λ (m : ℕ). waits_for_nothing m c.push.new.self.items c.release.new.waiting.items i) b.waits.count);
-            in_turn = subst (λ (x : List ℕ). AreFirst (may_be_next slots (length c.args.waiting.now.items)) [] x) (sym o) t.1;
-          };
-      within = omega (arith, c.loop-gate.invariant.within, c.in-Some.ensures.room, c.release.ensures.room);
-    }
+    let k = c.requires in
+    let heads : List ℕ = c.args.users.now.heads.items in
+    let left = read_at c.loop-gate.waiting.items c.loop-gate.gate c.index.result.now (omega arith) c.index.ensures in
+    let between : ForSlots heads c.args.users.now.nexts.items (λ slots. IsBetween slots (length heads) 0 c.args.order.now.items c.args.waiting.now.items []) (λ slots. IsBetween slots (length heads) (c.loop-gate.gate + 1) c.take_ready.new.order.items c.take_ready.new.waiting.items []) =
+    λ slots are chains start. c.in_ok-take_ready.ensures.between slots are chains (next slots _ c.loop-gate.gate c.index.result.now _ _ (heap_items c.loop-gate.ready) (heap_items c.note.new.ready) c.loop-gate.invariant.none (sym left) c.in_ok-note.ensures (c.loop-gate.invariant.between slots are chains start)) in
+    record { between = between; none = c.in_ok-take_ready.ensures.none; count = (between k.slots k.are k.chains k.holds).waits.count }
+
+pub returns : goal.returns
+returns c =
+    let n : ℕ = length c.args.users.now.heads.items in
+    let k = c.requires in
+    let whole : c.loop-gate.gate ≡ n = omega (arith, k.holds.waits.count) in
+    λ slots are chains start. between_ends slots n _ _ (subst (λ (bound : ℕ). IsBetween slots n bound c.loop-gate.order.items c.loop-gate.waiting.items []) whole (c.loop-gate.invariant.between slots are chains start))
