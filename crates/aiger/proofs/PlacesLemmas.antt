@@ -1,7 +1,7 @@
 -- Variables that stand once, their places, and the slots that these give.
 use Rattle.std.proofs.Common.{◌≡◌, ℕ, zero, suc, ◌+◌, ◌-◌, ◌*◌, ◌<◌, ◌≤◌, Bool, true, false, not, ◌||◌, ◌==◌, List, [], ◌∷◌, ◌++◌, map, length, take, drop, get_or, slice_index_or, All, Some, None, nat_eq, cond, refl, ap, sym, ◌∙◌, subst, arith, if◌then◌else◌, length-append, append-nil, append_assoc}
 use Rattle.std.proofs.lemmas.Bool.Decides.{nat_tests}
-use Rattle.std.proofs.lemmas.List.{length-map, map-append, get_or_append_left, get_or-append_right}
+use Rattle.std.proofs.lemmas.List.{length-map, map-append, get_or_append_left, get_or-append_right, take-append-drop, take_more}
 use Rattle.std.proofs.lemmas.List.Elements.{All-cons, All-nil}
 use Rattle.std.proofs.lemmas.List.Folds.{list_any_at}
 use Rattle.std.proofs.lemmas.List.Sums.{sum_by-append, sum_by_push, fails_before_first, prefix_len_stops}
@@ -9,10 +9,10 @@ use Rattle.std.specs.List.{list_any, position, position_or_len, count_by}
 use Rattle.aiger.specs.declared.loose.GateLine.{GateLine}
 use Rattle.aiger.specs.Literal.{variable}
 use Rattle.aiger.specs.Loose.{Loose, IsLoose, defined_variables, defined_count, latch_variable, gate_variable}
-use Rattle.aiger.specs.Renumbering.{is_known, gate_line, gate_name, numbered, AreInTurn, IsOrder, IsFirstCyclic}
+use Rattle.aiger.specs.Renumbering.{is_known, gate_line, gate_name, numbered, has_number, is_ready, AreInTurn, IsOrder, IsFirstCyclic, new_literal, ordered_gate, new_gate}
 use Rattle.aiger.specs.Readiness.{slot_at, AreSlots, IsWholeOrder}
-use Rattle.aiger.specs.Numbering.{IsOnce, line_in, name_in, slot_of, slots_of, IsReadyOrder}
-use Rattle.aiger.proofs.RenumberingLemmas.{found}
+use Rattle.aiger.specs.Numbering.{IsOnce, UseNumbered, line_in, name_in, slot_of, slots_of, IsReadyOrder}
+use Rattle.aiger.proofs.RenumberingLemmas.{found, new_literal-kept}
 use Rattle.aiger.proofs.OrderLemmas.{AreGates, AreGates-push, count_some, false_unless, fresh, ready_parts, name_at_place, numbered-append}
 use Rattle.aiger.proofs.KnownLemmas.{IsKnown, AllKnown}
 use Rattle.aiger.proofs.LooseLemmas.{once_push}
@@ -78,6 +78,33 @@ pub each_is_gate : (l : Loose) (order : List ℕ) → AreInTurn l [] order → A
 each_is_gate l order turn k d h =
     let t : nat_eq (get_or order k d) (get_or order k d) ≡ true = grind (arith, nat_tests) in
     are_gates l [] order (λ i u. absurd (cc)) turn (get_or order k d) (list_any_at (nat_eq (get_or order k d)) order k d h t)
+
+-- a gate of an order is ready after those before it
+in_turn_at : (l : Loose) (done js : List ℕ) (k j : ℕ) → AreInTurn l done js → k < length js → j ≡ slice_index_or js k j → is_ready l (done ++ take k js) j ≡ true
+in_turn_at l done [] k j turn h e = absurd (omega arith)
+in_turn_at l done (i ∷ js) zero j turn h e = subst (λ (x : ℕ). is_ready l (done ++ []) x ≡ true) (sym e) (subst (λ (d : List ℕ). is_ready l d i ≡ true) (sym (append-nil done)) turn.0.ready)
+in_turn_at l done (i ∷ js) (suc k) j turn h e = subst (λ (d : List ℕ). is_ready l d j ≡ true) (append_assoc done (i ∷ []) (take k js)) (in_turn_at l (done ++ i ∷ []) js k j turn.1 (omega arith) e)
+
+-- so its operands have numbers then
+pub use_numbered : (l : Loose) (order : List ℕ) → AreInTurn l [] order → UseNumbered (map variable l.inputs ++ map latch_variable l.latches) l.gates order
+use_numbered l order turn k j h e = let r = ready_parts l (take k order) j (in_turn_at l [] order k j turn h e) in (r.2, r.3)
+
+-- and the gate is the same when all have theirs
+pub gate_in_turn : (names : List ℕ) (lines : List GateLine) (order : List ℕ) (k j : ℕ) → UseNumbered names lines order → k < length order → j ≡ slice_index_or order k j → new_gate (names ++ map (name_in lines) (take k order)) (line_in lines j) ≡ new_gate (names ++ map (name_in lines) order) (line_in lines j)
+gate_in_turn names lines order k j known h e =
+    let front : List ℕ = names ++ map (name_in lines) (take k order) in
+    let more : List ℕ = map (name_in lines) (drop k order) in
+    let whole : names ++ map (name_in lines) order ≡ front ++ more = ap (λ (js : List ℕ). names ++ map (name_in lines) js) (sym (take-append-drop k order)) ∙ (ap (λ (xs : List ℕ). names ++ xs) (map-append (name_in lines) (take k order) (drop k order)) ∙ sym (append_assoc names (map (name_in lines) (take k order)) more)) in
+    let kept : (lit : ℕ) → has_number front lit ≡ true → new_literal front lit ≡ new_literal (names ++ map (name_in lines) order) lit = λ lit t. sym (ap (λ (ns : List ℕ). new_literal ns lit) whole ∙ new_literal-kept front more lit t) in
+    let u = known k j h e in
+    ap (λ (a : ℕ). ordered_gate a (new_literal front (line_in lines j).rhs1)) (kept (line_in lines j).rhs0 u.0) ∙ ap (ordered_gate (new_literal (names ++ map (name_in lines) order) (line_in lines j).rhs0)) (kept (line_in lines j).rhs1 u.1)
+
+-- one element more of what a list is mapped to
+pub mapped_more : {X Y : Type 0} (f : X → Y) (front now next : List Y) (xs : List X) (k : ℕ) (x : X) (y : Y) → now ≡ front ++ map f (take k xs) → next ≡ now ++ y ∷ [] → y ≡ f x → k < length xs → x ≡ get_or xs k x → next ≡ front ++ map f (take (k + 1) xs)
+mapped_more {X} {Y} f front now next xs k x y before is e h at =
+    let t : take (k + 1) xs ≡ take k xs ++ x ∷ [] = take_more xs k x h ∙ ap (λ (z : X). take k xs ++ z ∷ []) (sym at) in
+    let m : map f (take k xs) ++ y ∷ [] ≡ map f (take (k + 1) xs) = ap (λ (z : Y). map f (take k xs) ++ z ∷ []) e ∙ (sym (map-append f (take k xs) (x ∷ [])) ∙ ap (map f) (sym t)) in
+    is ∙ (ap (λ (zs : List Y). zs ++ y ∷ []) before ∙ (append_assoc front (map f (take k xs)) (y ∷ []) ∙ ap (λ (zs : List Y). front ++ zs) m))
 
 -- the leaves of a file: inputs and latches
 abbrev leaf_names : Loose → List ℕ
@@ -215,7 +242,7 @@ none_left_is_order l order waiting is e =
     }
 
 -- the line that is read at a place, whatever is read past the end
-line_read : (lines : List GateLine) (i : ℕ) (d : GateLine) → i < length lines → get_or lines i d ≡ line_in lines i
+pub line_read : (lines : List GateLine) (i : ℕ) (d : GateLine) → i < length lines → get_or lines i d ≡ line_in lines i
 line_read [] i d h = absurd (omega arith)
 line_read (y ∷ ys) zero d h = refl
 line_read (y ∷ ys) (suc i) d h = line_read ys i d (omega arith)

@@ -85,6 +85,14 @@ new_of_variable names lit e = ap (λ (b : Bool). if b then lit else 2 * suc (pos
 pub named_from_test : (names : List ℕ) (lit : ℕ) → has_number names lit ≡ true → (variable lit == 0) ≡ false → list_any (nat_eq (variable lit)) names ≡ true
 named_from_test names lit t e = sym (ap (λ (b : Bool). b || list_any (nat_eq (variable lit)) names) e) ∙ t
 
+-- a literal that has a number keeps it when more variables have theirs
+pub new_literal-kept : (names more : List ℕ) (lit : ℕ) → has_number names lit ≡ true → new_literal (names ++ more) lit ≡ new_literal names lit
+new_literal-kept names more lit t = by (variable lit == 0) refl
+  where
+    by : (b : Bool) → (variable lit == 0) ≡ b → new_literal (names ++ more) lit ≡ new_literal names lit
+    by true e = new_constant (names ++ more) lit e ∙ sym (new_constant names lit e)
+    by false e = new_of_variable (names ++ more) lit e ∙ (ap (λ (k : ℕ). 2 * suc k + lit % 2) (place_kept (variable lit) names more (named_from_test names lit t e)) ∙ sym (new_of_variable names lit e))
+
 -- a valuation of the file's variables by their numbers
 abbrev pub rename : List ℕ → Valuation → Valuation
 rename names v = λ k. v (slice_index_or names (k - 1) 0)

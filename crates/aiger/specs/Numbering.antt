@@ -1,10 +1,10 @@
 -- What stands between the parts of numbering: the slots of a file's gates, and their order as far as it goes.
-use Rattle.std.specs.Prelude.{◌≡◌, ℕ, suc, ◌-◌, ◌<◌, ◌≤◌, slice_index_or, count_by, Bool, not, false, List, [], ◌∷◌, length, nat_eq, if◌then◌else◌, ◌==◌}
+use Rattle.std.specs.Prelude.{◌≡◌, ℕ, suc, ◌-◌, ◌<◌, ◌≤◌, slice_index_or, count_by, Bool, not, false, true, List, [], ◌∷◌, ◌++◌, map, take, length, nat_eq, if◌then◌else◌, ◌==◌}
 use Rattle.std.specs.List.{position_or_len, flat_map, list_all, list_any}
 use Rattle.aiger.specs.declared.loose.GateLine.{GateLine}
 use Rattle.aiger.specs.Literal.{variable}
 use Rattle.aiger.specs.Loose.{Loose, gate_variable}
-use Rattle.aiger.specs.Renumbering.{AreInTurn, is_ready, is_known}
+use Rattle.aiger.specs.Renumbering.{AreInTurn, has_number, is_ready, is_known}
 use Rattle.aiger.specs.Readiness.{AreDone}
 
 -- a line with a literal whose variable is neither 0 nor defined
@@ -38,6 +38,11 @@ slots_of names leaves gates = flat_map (λ line. slot_of names leaves line.rhs0 
 -- the operands of each gate wait for no gate but those before it
 abbrev pub WaitForEarlier : List ℕ → ℕ → List GateLine → Type 0
 WaitForEarlier names leaves gates = (j : ℕ) → j < length gates → (slot_of names leaves (line_in gates j).rhs0 ≤ j) × (slot_of names leaves (line_in gates j).rhs1 ≤ j)
+
+-- the operands of each gate of an order have numbers once the gates before it have theirs, behind those of these variables
+abbrev pub UseNumbered : List ℕ → List GateLine → List ℕ → Type 0
+UseNumbered names lines order = (k j : ℕ) → k < length order → j ≡ slice_index_or order k j
+    → (has_number (names ++ map (name_in lines) (take k order)) (line_in lines j).rhs0 ≡ true) × (has_number (names ++ map (name_in lines) (take k order)) (line_in lines j).rhs1 ≡ true)
 
 -- the gates of a file in the order of readiness, until none is ready, and for how many operands each waits then
 pub record IsReadyOrder (l : Loose) (order : List ℕ) (waiting : List ℕ) : Type 0 where

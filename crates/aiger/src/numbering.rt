@@ -120,23 +120,10 @@ impl Loose {
         requires valid { IsLoose self.now }
         ensures { AnswersNumber self.now result }
     {
-        let numbers = self.numbers(alloc, order)?;
-        let gates = gates_in_order(alloc, &numbers, self.gates(), order)?;
-        Ok(Circuit::renumbered(alloc, self, &numbers, gates)?)
-    }
-
-    /// The variables in the order of their numbers: inputs and latches in file order, and the gates
-    /// in this order.
-    fn numbers(&self, alloc: Global, order: &[u32]) -> Result<Numbers, AllocError>
-        requires within { All (λ j. j < length self.now.gates) order.now }
-        requires once { IsOnce (numbered self.now order.now) }
-        requires few { length (numbered self.now order.now) ≤ greatest_count }
-        ensures { IfOk result (λ n. n ≡ numbered self.now order.now) }
-    {
         let mut numbers = self.room_for(alloc, self.leaf_count() + order.len())?;
         self.push_leaves(&mut numbers)?;
-        numbers.push_in_order(self.gates(), order)?;
-        Ok(numbers)
+        let gates = gates_in_order(alloc, &mut numbers, self.gates(), order)?;
+        Ok(Circuit::renumbered(alloc, self, &numbers, gates)?)
     }
 
     /// How many inputs and latches there are.

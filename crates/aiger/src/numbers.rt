@@ -1,11 +1,11 @@
 //! Variables in the order of their numbers, and the literals that have these numbers.
-ghost use Rattle.std.specs.Prelude.{◌≡◌, ℕ, ◌<◌, ◌≤◌, ◌+◌, true, false, All, [], ◌∷◌, ◌++◌, map, length, nat_eq, IfOk, OnOk};
+ghost use Rattle.std.specs.Prelude.{◌≡◌, ℕ, ◌<◌, ◌≤◌, ◌+◌, true, false, [], ◌∷◌, ◌++◌, map, length, nat_eq, IfOk, OnOk};
 ghost use Rattle.std.specs.List.{list_any, position_or_len};
 ghost use Rattle.aiger.specs.Limits.{greatest_count};
 ghost use Rattle.aiger.specs.Literal.{variable};
 ghost use Rattle.aiger.specs.Loose.{latch_variable, gate_variable};
 ghost use Rattle.aiger.specs.Renumbering.{new_literal};
-ghost use Rattle.aiger.specs.Numbering.{IsOnce, WaitForEarlier, name_in, number_in, slot_of, slots_of};
+ghost use Rattle.aiger.specs.Numbering.{IsOnce, WaitForEarlier, number_in, slot_of, slots_of};
 ghost use Rattle.aiger.specs.VariableNumbers.{number_of};
 
 use crate::literal::Lit;
@@ -116,19 +116,6 @@ impl Numbers {
     {
         for line in lines {
             self.push(line.lhs.var())?;
-        }
-        Ok(())
-    }
-
-    /// Gives the variables of gate lines the next numbers, in this order.
-    pub fn push_in_order(&mut self, lines: &[GateLine], order: &[u32]) -> Result<(), AllocError>
-        requires within { All (λ j. j < length lines.now) order.now }
-        requires once { IsOnce (self.old ++ map (name_in lines.now) order.now) }
-        requires few { length self.old + length order.now ≤ greatest_count }
-        ensures { OnOk result (self.new ≡ self.old ++ map (name_in lines.now) order.now) }
-    {
-        for gate in order {
-            self.push(lines[*gate as usize].lhs.var())?;
         }
         Ok(())
     }

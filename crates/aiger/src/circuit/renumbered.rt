@@ -1,8 +1,9 @@
 //! The circuit of the lists of a file whose variables have their numbers.
-ghost use Rattle.std.specs.Prelude.{◌≡◌, ◌<◌, ◌≤◌, map, length, All, slice_index_or, IfOk};
+ghost use Rattle.std.specs.Prelude.{◌≡◌, ◌+◌, ◌++◌, ◌<◌, ◌≤◌, map, length, All, IfOk, OnOk};
 ghost use Rattle.aiger.specs.Limits.{greatest_count};
 ghost use Rattle.aiger.specs.Circuit.{IsCircuit};
 ghost use Rattle.aiger.specs.Renumbering.{new_literal, ordered_gate, new_gate, circuit_by};
+ghost use Rattle.aiger.specs.Numbering.{IsOnce, UseNumbered, line_in, name_in};
 
 use crate::circuit::{Circuit, Gate, Latch};
 use crate::literal::Lit;
@@ -80,21 +81,26 @@ pub(crate) fn gates_as_they_stand(
     Ok(gates)
 }
 
-/// Gates in this order, by the numbers of their operands.
+/// Gates in this order, by the numbers of their operands, of which each has its number when the gate's turn comes; the
+/// gates' own variables get the next numbers.
 pub(crate) fn gates_in_order(
     alloc: Global,
-    numbers: &Numbers,
+    numbers: &mut Numbers,
     lines: &[GateLine],
     order: &[u32],
 ) -> Result<Vec<Gate>, AllocError>
-    requires few { length numbers.now ≤ greatest_count }
+    requires few { length numbers.old + length order.now ≤ greatest_count }
     requires within { All (λ j. j < length lines.now) order.now }
-    ensures { IfOk result (λ v. v.items ≡ map (λ j. new_gate numbers.now (slice_index_or lines.now j (record { lhs = 0; rhs0 = 0; rhs1 = 0 }))) order.now) }
+    requires once { IsOnce (numbers.old ++ map (name_in lines.now) order.now) }
+    requires known { UseNumbered numbers.old lines.now order.now }
+    ensures numbers { OnOk result (numbers.new ≡ numbers.old ++ map (name_in lines.now) order.now) }
+    ensures gates { IfOk result (λ v. v.items ≡ map (λ j. new_gate (numbers.old ++ map (name_in lines.now) order.now) (line_in lines.now j)) order.now) }
 {
     let mut gates = Vec::with_capacity(alloc, order.len())?;
     for gate in order {
         let line = lines[*gate as usize];
         gates.push(ordered(numbers.literal(line.rhs0), numbers.literal(line.rhs1)))?;
+        numbers.push(line.lhs.var())?;
     }
     Ok(gates)
 }

@@ -1,39 +1,52 @@
-use Rattle.std.proofs.Common.{◌≡◌, ℕ, List, map, ap, sym, ◌∙◌, subst, slice_index_or}
+use Rattle.std.proofs.Common.{◌≡◌, ℕ, List, ◌++◌, map, ap, sym, ◌∙◌, subst}
+use Rattle.aiger.specs.declared.circuit.Gate.{Gate}
 use Rattle.aiger.specs.declared.loose.GateLine.{GateLine}
 use Rattle.aiger.specs.Circuit.{IsCircuit}
-use Rattle.aiger.specs.Loose.{Loose}
-use Rattle.aiger.specs.Renumbering.{new_gate, renumbered, circuit_by}
+use Rattle.aiger.specs.Literal.{variable}
+use Rattle.aiger.specs.Loose.{Loose, latch_variable}
+use Rattle.aiger.specs.Numbering.{IsOnce, UseNumbered, line_in, name_in}
+use Rattle.aiger.specs.Renumbering.{new_gate, numbered, renumbered, circuit_by}
 use Rattle.aiger.proofs.InOrderLemmas.{by_order}
 use Rattle.aiger.proofs.KnownLemmas.{all_known}
 use Rattle.aiger.proofs.NumberingLemmas.{IsCircuit-renumbered}
-use Rattle.aiger.proofs.PlacesLemmas.{each_is_gate, once_numbered}
+use Rattle.aiger.proofs.PlacesLemmas.{each_is_gate, once_numbered, use_numbered}
 use Rattle.aiger.proofs.loose.Loose.number_by_order.Goals as goal
 
-pub numbers-requires-clause-within : goal.numbers-requires-clause-within
-numbers-requires-clause-within c = each_is_gate c.args.self.now c.args.order.now c.requires.order.in_turn
-
-pub numbers-requires-clause-once : goal.numbers-requires-clause-once
-numbers-requires-clause-once c = once_numbered c.args.self.now c.args.order.now c.requires.valid c.requires.order.in_turn
+-- the variables of leaves and gates are those that have numbers
+are_numbered : (l : Loose) (order front : List ℕ) (lines : List GateLine) → front ≡ map variable l.inputs ++ map latch_variable l.latches → lines ≡ l.gates → front ++ map (name_in lines) order ≡ numbered l order
+are_numbered l order front lines e f = ap (λ (xs : List ℕ). xs ++ map (name_in lines) order) e ∙ ap (λ (gates : List GateLine). (map variable l.inputs ++ map latch_variable l.latches) ++ map (name_in gates) order) f
 
 pub gates_in_order-requires-clause-within : goal.gates_in_order-requires-clause-within
-gates_in_order-requires-clause-within c = rw c.gates.ensures.items (each_is_gate c.args.self.now c.args.order.now c.requires.order.in_turn)
+gates_in_order-requires-clause-within c = rw (c.gates.ensures.items) (each_is_gate c.args.self.now c.args.order.now c.requires.order.in_turn)
+
+pub gates_in_order-requires-clause-once : goal.gates_in_order-requires-clause-once
+gates_in_order-requires-clause-once c =
+    let l : Loose = c.args.self.now in
+    subst IsOnce (sym (are_numbered l c.args.order.now _ _ c.in_ok-push_leaves.ensures.numbers c.gates.ensures.items)) (once_numbered l c.args.order.now c.requires.valid c.requires.order.in_turn)
+
+pub gates_in_order-requires-clause-known : goal.gates_in_order-requires-clause-known
+gates_in_order-requires-clause-known c =
+    rw (c.in_ok-push_leaves.ensures.numbers, c.gates.ensures.items) (use_numbered c.args.self.now c.args.order.now c.requires.order.in_turn)
+
+-- the circuit by them
+circuit_is : (l : Loose) (order front names : List ℕ) (lines : List GateLine) (gates : List Gate) → front ≡ map variable l.inputs ++ map latch_variable l.latches → lines ≡ l.gates → names ≡ front ++ map (name_in lines) order
+    → gates ≡ map (λ j. new_gate (front ++ map (name_in lines) order) (line_in lines j)) order → circuit_by l names gates ≡ renumbered l order
+circuit_is l order front names lines gates e f is made =
+    let all : front ++ map (name_in lines) order ≡ numbered l order = are_numbered l order front lines e f in
+    by_order l order names gates (is ∙ all)
+    (made ∙ (ap (λ (ns : List ℕ). map (λ (j : ℕ). new_gate ns (line_in lines j)) order) (sym is) ∙ ap (λ (ls : List GateLine). map (λ (j : ℕ). new_gate names (line_in ls j)) order) f))
 
 pub renumbered-requires-clause-valid : goal.renumbered-requires-clause-valid
 renumbered-requires-clause-valid c =
     let l : Loose = c.args.self.now in
-    let order : List ℕ = c.args.order.now in
-    let gates = c.in_ok-gates.ensures ∙ ap (λ (lines : List GateLine). map (λ (j : ℕ). new_gate c.in_ok-numbers.numbers (slice_index_or lines j (record { lhs = 0; rhs0 = 0; rhs1 = 0 }))) order) c.gates.ensures.items in
-    let is : circuit_by l c.in_ok-numbers.numbers c.in_ok-gates.gates.items ≡ renumbered l order = by_order l order c.in_ok-numbers.numbers c.in_ok-gates.gates.items c.in_ok-numbers.ensures gates in
-    subst IsCircuit (sym is) (IsCircuit-renumbered l order c.requires.valid (all_known l c.requires.known) c.requires.order c.requires.few)
+    subst IsCircuit (sym (circuit_is l c.args.order.now _ _ _ _ c.in_ok-push_leaves.ensures.numbers c.gates.ensures.items c.in_ok-gates.ensures.numbers c.in_ok-gates.ensures.gates))
+    (IsCircuit-renumbered l c.args.order.now c.requires.valid (all_known l c.requires.known) c.requires.order c.requires.few)
 
 pub returns : goal.returns
 returns c =
-    let l : Loose = c.args.self.now in
-    let order : List ℕ = c.args.order.now in
-    let gates = c.in_ok-gates.ensures ∙ ap (λ (lines : List GateLine). map (λ (j : ℕ). new_gate c.in_ok-numbers.numbers (slice_index_or lines j (record { lhs = 0; rhs0 = 0; rhs1 = 0 }))) order) c.gates.ensures.items in
     record {
       known = c.requires.known;
-      order = order;
+      order = c.args.order.now;
       is_order = c.requires.order;
-      circuit = c.in_ok-renumbered.ensures ∙ by_order l order c.in_ok-numbers.numbers c.in_ok-gates.gates.items c.in_ok-numbers.ensures gates;
+      circuit = c.in_ok-renumbered.ensures ∙ circuit_is c.args.self.now c.args.order.now _ _ _ _ c.in_ok-push_leaves.ensures.numbers c.gates.ensures.items c.in_ok-gates.ensures.numbers c.in_ok-gates.ensures.gates;
     }
