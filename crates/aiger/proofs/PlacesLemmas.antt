@@ -246,6 +246,3 @@ pub line_read : (lines : List GateLine) (i : ℕ) (d : GateLine) → i < length 
 line_read [] i d h = absurd (omega arith)
 line_read (y ∷ ys) zero d h = refl
 line_read (y ∷ ys) (suc i) d h = line_read ys i d (omega arith)
-
-pub name_read : (lines : List GateLine) (i : ℕ) (d : GateLine) → i < length lines → gate_variable (get_or lines i d) ≡ name_in lines i
-name_read lines i d h = ap gate_variable (line_read lines i d h)

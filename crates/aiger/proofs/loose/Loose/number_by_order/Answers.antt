@@ -4,7 +4,7 @@ use Rattle.aiger.specs.declared.loose.GateLine.{GateLine}
 use Rattle.aiger.specs.Circuit.{IsCircuit}
 use Rattle.aiger.specs.Literal.{variable}
 use Rattle.aiger.specs.Loose.{Loose, latch_variable}
-use Rattle.aiger.specs.Numbering.{IsOnce, UseNumbered, line_in, name_in}
+use Rattle.aiger.specs.Numbering.{IsOnce, line_in, name_in}
 use Rattle.aiger.specs.Renumbering.{new_gate, numbered, renumbered, circuit_by}
 use Rattle.aiger.proofs.InOrderLemmas.{by_order}
 use Rattle.aiger.proofs.KnownLemmas.{all_known}
