@@ -23,7 +23,7 @@ use Rattle.aigertext.specs.Ascii.{property_lines}
 use Rattle.aigertext.specs.Counts.{AreSmall, Fits, counts_of_file}
 use Rattle.aigertext.specs.Spelling.{AreLines, IsInputLine, IsLatchLine, IsGateLine, use_lines, AreUpTo}
 use Rattle.aigertext.specs.Reading.{some_or, fields, within, Properties, lists_of, nameless, properties_at, next_fields}
-use Rattle.aigertext.specs.AsciiReading.{defining, input_by, input_of, own_by, latch_fields, latch_of, gate_fields, gate_of, onto_lists, with_properties_of, lists_of_file}
+use Rattle.aigertext.specs.AsciiReading.{defining, defining_by, input_of, latch_fields, latch_of, gate_fields, gate_of, onto_lists, with_properties_of, lists_of_file}
 use Rattle.aigertext.proofs.BackLemmas.{ok_same, not_err, bind-back, bind-then, within-back}
 use Rattle.aigertext.proofs.FileReadLemmas.{inputs_onto, latches_onto, gates_onto, HasInputs, HasLeaves, input_grows, latch_grows, gate_grows}
 use Rattle.aigertext.proofs.LatchBackLemmas.{spaced, fields-back, latch_by}
@@ -72,13 +72,9 @@ module _ (greatest : ℕ) (small : greatest < 2 ^ 64 - 1) where
   own_field : (l : Loose) (field : List ℕ) (m n : ℕ) → number_of field ≡ Some m → (m ≡ n) × IsNewLiteral greatest l n → IsOwnField l field n
   own_field l field m n f d = (field_is field m n f d.0 d.1.0.0, d.1)
 
-  input-is : (l : Loose) (field : List ℕ) (n : ℕ) (r : Option ℕ) → number_of field ≡ r → input_by greatest l r ≡ Ok n → IsOwnField l field n
-  input-is l field n None f e = absurd (not_err _ _ e)
-  input-is l field n (Some m) f e = own_field l field m n f (defining-back why.BadNumber greatest l m n e)
-
-  own-is : (l : Loose) (field : List ℕ) (n : ℕ) (r : Option ℕ) → number_of field ≡ r → own_by greatest l r ≡ Ok n → IsOwnField l field n
-  own-is l field n None f e = absurd (not_err _ _ e)
-  own-is l field n (Some m) f e = own_field l field m n f (defining-back why.BadLatch greatest l m n e)
+  own-is : (w : Why) (l : Loose) (field : List ℕ) (n : ℕ) (r : Option ℕ) → number_of field ≡ r → defining_by w greatest l r ≡ Ok n → IsOwnField l field n
+  own-is w l field n None f e = absurd (not_err _ _ e)
+  own-is w l field n (Some m) f e = own_field l field m n f (defining-back w greatest l m n e)
 
   some-is : (l : Loose) (field : List ℕ) (m n : ℕ) (r : Option ℕ) → number_of field ≡ r → some_or why.BadNumber r ≡ Ok m → (m ≡ n) × IsNewLiteral greatest l n → IsOwnField l field n
   some-is l field m n None f e d = absurd (not_err _ _ e)
@@ -87,7 +83,7 @@ module _ (greatest : ℕ) (small : greatest < 2 ^ 64 - 1) where
   input-back : (l : Loose) (n : ℕ) (line : List ℕ) → input_of greatest l line ≡ Ok n → IsInputLine n (line ++ 10 ∷ []) × ((n ≤ greatest) × IsDefining n) × (is_defined l (variable n) ≡ false)
   unfolding input_of
   input-back l n line e =
-      let d = input-is l line n (number_of line) refl e in
+      let d = own-is why.BadNumber l line n (number_of line) refl e in
       (ap (λ (t : List ℕ). t ++ 10 ∷ []) d.0, d.1.0, d.1.1)
 
   -- a latch
@@ -101,13 +97,13 @@ module _ (greatest : ℕ) (small : greatest < 2 ^ 64 - 1) where
   unfolding latch_fields next_fields
   latch_line-back l x [] e = absurd (not_err _ _ e)
   latch_line-back l x (current ∷ []) e =
-      let own = bind-back (own_by greatest l (number_of current)) _ x e in
+      let own = bind-back (defining_by why.BadLatch greatest l (number_of current)) _ x e in
       absurd (not_err _ _ own.then')
   latch_line-back l x (current ∷ next ∷ others) e =
-      let own = bind-back (own_by greatest l (number_of current)) _ x e in
+      let own = bind-back (defining_by why.BadLatch greatest l (number_of current)) _ x e in
       let n = bind-back (next_fields greatest own.value (next ∷ others)) _ x own.then' in
       let is : ◌≡◌ {A = LatchLine} (record { current = own.value; next = n.value.next; reset = n.value.reset }) x = ok_same _ x n.then' in
-      let c = own-is l current own.value (number_of current) refl own.was in
+      let c = own-is why.BadLatch l current own.value (number_of current) refl own.was in
       let line = latch_by greatest own.value n.value (next ∷ others) small (omega (arith, c.1.0.0)) n.was in
       let text : (current ++ 32 ∷ spaced (next ∷ others)) ++ 10 ∷ [] ≡ decimal own.value ++ 32 ∷ (spaced (next ∷ others) ++ 10 ∷ []) =
       append_assoc current (32 ∷ spaced (next ∷ others)) (10 ∷ []) ∙ ap (λ (t : List ℕ). t ++ 32 ∷ (spaced (next ∷ others) ++ 10 ∷ [])) c.0 in

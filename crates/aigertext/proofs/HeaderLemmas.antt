@@ -1,6 +1,7 @@
 -- The header is read again, however much of its zero tail it keeps.
-use Rattle.std.proofs.Common.{◌≡◌, ℕ, zero, suc, ◌+◌, ◌≤◌, false, nat_lt, List, [], ◌∷◌, ◌++◌, length, map, get_or, replicate, decimal, Ok, refl, sym, ap, ◌∙◌, append_assoc, length-append, arith}
-use Rattle.std.proofs.lemmas.Bool.{eq-eqb}
+use Rattle.std.proofs.Common.{◌≡◌, ℕ, zero, suc, ◌+◌, ◌≤◌, true, false, nat_le, nat_lt, List, [], ◌∷◌, ◌++◌, length, map, get_or, replicate, decimal, Ok, refl, sym, ap, ◌∙◌, append_assoc, length-append, arith}
+use Rattle.std.specs.List.{list_all}
+use Rattle.std.proofs.lemmas.Bool.{eq-eqb, and_from, le-leb}
 use Rattle.std.proofs.lemmas.Bool.Decides.{nat_tests}
 use Rattle.base.specs.Lines.{HasNone, IsLine}
 use Rattle.base.proofs.DecimalLemmas.{number_of-decimal}
@@ -14,7 +15,8 @@ use Rattle.aigertext.specs.Ascii.{numbers_line, form_word}
 use Rattle.aigertext.specs.Counts as counts
 use Rattle.aigertext.specs.Counts.{Fits, first_of_counts, last_of_counts, counts_by, counts_in}
 use Rattle.aigertext.specs.Spelling.{IsHeader}
-use Rattle.aigertext.specs.Reading.{fields, line_at, number_at, last_at, last_four, first_five, count_of, counts_of, fitting, form_of, header_fields, header_of}
+use Rattle.aigertext.specs.Reading.{fields, line_at, numbers_in, counts_of, fitting, form_of, header_fields, header_of}
+use Rattle.aigertext.proofs.HeaderBackLemmas.{AreCounts, counts_front}
 use Rattle.aigertext.proofs.FieldLemmas.{joined, AreSmall, fields-joined, fields-more, joined_is_line, none_of_both, numbers_line-joined, line_read}
 
 -- what a list has at a place, zeros behind it or not
@@ -28,44 +30,15 @@ kept_at [] n i = zeros_at n i
 kept_at (k ∷ kept) n zero = refl
 kept_at (k ∷ kept) n (suc i) = kept_at kept n i
 
--- the last four numbers, of which some are left out
-last-read : (kept : List ℕ) → AreSmall kept → length kept ≤ 4 → last_four (map decimal kept) ≡ Ok (get_or kept 0 0, get_or kept 1 0, get_or kept 2 0, get_or kept 3 0)
-unfolding last_four last_at number_at
-last-read [] small few = refl
-last-read (b ∷ []) small few = rw (number_of-decimal b small.0) refl
-last-read (b ∷ c ∷ []) small few = rw (number_of-decimal b small.0, number_of-decimal c small.1.0) refl
-last-read (b ∷ c ∷ j ∷ []) small few = rw (number_of-decimal b small.0, number_of-decimal c small.1.0, number_of-decimal j small.1.1.0) refl
-last-read (b ∷ c ∷ j ∷ f ∷ []) small few =
-    rw (number_of-decimal b small.0, number_of-decimal c small.1.0, number_of-decimal j small.1.1.0, number_of-decimal f small.1.1.1.0) refl
-last-read (b ∷ c ∷ j ∷ f ∷ x ∷ more) small few = absurd (omega arith)
-
--- the first five
-first-read : (m i l o a : ℕ) (rest : List ℕ) → AreSmall (m ∷ i ∷ l ∷ o ∷ a ∷ rest) → first_five (map decimal (m ∷ i ∷ l ∷ o ∷ a ∷ rest)) ≡ Ok ((m, i, l, o, a), map decimal rest)
-unfolding first_five number_at
-first-read m i l o a rest small =
-    rw (number_of-decimal m small.0, number_of-decimal i small.1.0, number_of-decimal l small.1.1.0, number_of-decimal o small.1.1.1.0, number_of-decimal a small.1.1.1.1.0) refl
+-- numbers are read
+numbers-read : (ns : List ℕ) → AreSmall ns → numbers_in (map decimal ns) ≡ Ok ns
+numbers-read [] small = refl
+numbers-read (n ∷ ns) small = rw (number_of-decimal n small.0, numbers-read ns small.1) refl
 
 -- numbers that are at most 2^30
-count-read : (n : ℕ) → n ≤ greatest_count → count_of n ≡ Ok n
-unfolding count_of
-count-read n le =
-    let small : nat_lt greatest_count n ≡ false = grind (arith, nat_tests) in
-    rw small refl
-
-counts-read : (h : Counts) → counts.AreSmall h → counts_of (h.variables, h.inputs, h.latches, h.outputs, h.gates) (h.bads, h.constraints, h.justice, h.fair) ≡ Ok h
-unfolding counts_of
-counts-read h small =
-    rw (
-      count-read h.variables small.variables,
-      count-read h.inputs small.inputs,
-      count-read h.latches small.latches,
-      count-read h.outputs small.outputs,
-      count-read h.gates small.gates,
-      count-read h.bads small.bads,
-      count-read h.constraints small.constraints,
-      count-read h.justice small.justice,
-      count-read h.fair small.fair,
-    ) refl
+all_counts : (ns : List ℕ) → AreCounts ns → list_all (λ n. nat_le n greatest_count) ns ≡ true
+all_counts [] few = refl
+all_counts (n ∷ ns) few = and_from (nat_le n greatest_count) (list_all (λ n. nat_le n greatest_count) ns) (le-leb n greatest_count few.0) (all_counts ns few.1)
 
 fitting-read : (form : Form) (h : Counts) → Fits form h → fitting form h ≡ Ok h
 unfolding fitting
@@ -84,11 +57,6 @@ word_has_none : (form : Form) → HasNone 32 (form_word form) × IsLine (form_wo
 word_has_none Ascii = (refl, refl)
 word_has_none Binary = (refl, refl)
 
--- the numbers are small
-small_front : (xs ys : List ℕ) → AreSmall (xs ++ ys) → AreSmall xs
-small_front [] ys small = tt
-small_front (x ∷ xs) ys small = (small.0, small_front xs ys small.1)
-
 -- the numbers of sections that are within the limits
 pub counts_small : (greatest inputs latches gates : ℕ) (c : Circuit) → greatest ≤ greatest_count → inputs + latches + gates ≤ greatest_count → HasFew c → counts.AreSmall (counts_by greatest inputs latches gates c)
 counts_small greatest inputs latches gates c small sum few = record {
@@ -106,34 +74,50 @@ counts_small greatest inputs latches gates c small sum few = record {
 pub circuit_counts : (c : Circuit) → IsCircuit c → counts.AreSmall (counts_in c)
 circuit_counts c valid = counts_small (variables (net c)) c.inputs (length c.latches) (length c.gates) c valid.small valid.small valid.few
 
-last_small : (h : Counts) → counts.AreSmall h → AreSmall (last_of_counts h)
-last_small h small = (omega (arith, small.bads), (omega (arith, small.constraints), (omega (arith, small.justice), (omega (arith, small.fair), tt))))
+counts_list : (h : Counts) → counts.AreSmall h → AreCounts (first_of_counts h) × AreCounts (last_of_counts h)
+counts_list h small = (
+  (small.variables, (small.inputs, (small.latches, (small.outputs, (small.gates, tt))))),
+  (small.bads, (small.constraints, (small.justice, (small.fair, tt)))),
+)
+
+counts_both : (xs ys : List ℕ) → AreCounts xs → AreCounts ys → AreCounts (xs ++ ys)
+counts_both [] ys few more = more
+counts_both (x ∷ xs) ys few more = (few.0, counts_both xs ys few.1 more)
+
+below_2^64 : (ns : List ℕ) → AreCounts ns → AreSmall ns
+below_2^64 [] few = tt
+below_2^64 (n ∷ ns) few = (omega (arith, few.0), below_2^64 ns few.1)
 
 put_together : (word numbers rest : List ℕ) → (word ++ 32 ∷ (numbers ++ 10 ∷ [])) ++ rest ≡ (word ++ 32 ∷ numbers) ++ 10 ∷ rest
 put_together word numbers rest = simp append_assoc
 
 -- the fields of a header
 module _ (form : Form) (h : Counts) (kept : List ℕ) (dropped : ℕ) (told : kept ++ replicate dropped 0 ≡ last_of_counts h) (small : counts.AreSmall h) (fits : Fits form h) where
-  kept_small : AreSmall kept
-  kept_small = small_front kept (replicate dropped 0) (rw told (last_small h small))
-
   kept_few : length kept ≤ 4
   kept_few = omega (arith, length-append kept (replicate dropped 0), ap (length {A = ℕ}) told)
 
+  all_few : AreCounts (first_of_counts h ++ kept)
+  all_few = counts_both (first_of_counts h) kept (counts_list h small).0 (counts_front kept (replicate dropped 0) (rw told (counts_list h small).1))
+
   all_small : AreSmall (first_of_counts h ++ kept)
-  all_small = (omega (arith, small.variables), (omega (arith, small.inputs), (omega (arith, small.latches), (omega (arith, small.outputs), (omega (arith, small.gates), kept_small)))))
+  all_small = below_2^64 (first_of_counts h ++ kept) all_few
 
   kept_is : (i : ℕ) → get_or kept i 0 ≡ get_or (last_of_counts h) i 0
   kept_is i = sym (kept_at kept dropped i) ∙ ap (λ (l : List ℕ). get_or l i 0) told
 
-  last_is : last_four (map decimal kept) ≡ Ok (h.bads, h.constraints, h.justice, h.fair)
-  last_is = last-read kept kept_small kept_few ∙ (rw (kept_is 0, kept_is 1, kept_is 2, kept_is 3) refl)
+  counts-read : counts_of (first_of_counts h ++ kept) ≡ Ok h
+  unfolding counts_of
+  counts-read =
+      let kept' : length kept ≤ 4 = kept_few in
+      let many : nat_lt (length (first_of_counts h ++ kept)) 5 ≡ false = grind (arith, nat_tests) in
+      let few : nat_lt 9 (length (first_of_counts h ++ kept)) ≡ false = grind (arith, nat_tests) in
+      rw (many, few, all_counts (first_of_counts h ++ kept) all_few, kept_is 0, kept_is 1, kept_is 2, kept_is 3) refl
 
   fields-read : header_fields (form_word form ∷ map decimal (first_of_counts h ++ kept)) ≡ Ok (form, h)
   unfolding header_fields
   fields-read =
-      let five = first-read h.variables h.inputs h.latches h.outputs h.gates kept all_small in
-      rw (form-read form, five, last_is, counts-read h small, fitting-read form h fits) refl
+      let numbers = numbers-read (first_of_counts h ++ kept) all_small in
+      rw (form-read form, numbers, counts-read, fitting-read form h fits) refl
 
   line-says : header_of (form_word form ++ 32 ∷ joined (first_of_counts h ++ kept)) ≡ Ok (form, h)
   line-says =

@@ -1,5 +1,5 @@
 -- From what reading gives back to the text: fields and latches.
-use Rattle.std.proofs.Common.{◌≡◌, ◌≢◌, ℕ, zero, suc, ◌+◌, ◌-◌, ◌*◌, ◌^◌, ◌<◌, ◌≤◌, true, ◌==◌, List, [], ◌∷◌, ◌++◌, length, decimal, All, Option, Some, None, Result, Ok, Err, refl, sym, ap, subst, ◌∙◌, append_assoc, inl, inr, if◌then◌else◌, arith}
+use Rattle.std.proofs.Common.{◌≡◌, ◌≢◌, ℕ, zero, suc, ◌+◌, ◌-◌, ◌*◌, ◌^◌, ◌<◌, ◌≤◌, true, ◌==◌, List, [], ◌∷◌, ◌++◌, length, map, decimal, All, Option, Some, None, Ok, Err, refl, sym, ap, subst, ◌∙◌, append_assoc, inl, inr, if◌then◌else◌, arith}
 use Rattle.std.proofs.lemmas.Bool.{eqb-true}
 use Rattle.std.proofs.lemmas.List.Elements.{All-nil, All-cons}
 use Rattle.base.specs.Lines.{onto_first}
@@ -10,14 +10,14 @@ use Rattle.aiger.specs.declared.loose.LatchLine.{LatchLine}
 use Rattle.aiger.specs.OwnLists.{own_latches}
 use Rattle.aiger.specs.declared.circuit.Reset.{Reset}
 use Rattle.aiger.specs.declared.circuit.Reset.TheVariants.{Zero, One, Free}
-use Rattle.aigertext.specs.declared.fault.Why.{Why}
 use Rattle.aigertext.specs.declared.fault.Why.TheVariants as why
 use Rattle.aigertext.specs.declared.forms.Form.{Form}
 use Rattle.aigertext.specs.declared.forms.Form.TheVariants.{Ascii, Binary}
 use Rattle.aigertext.specs.Spelling.{IsReset, IsNextLine, AreNextLines, AreLines, IsLatchLine}
-use Rattle.aigertext.specs.Reading.{◌>>=◌, fields, within, reset_of, next_fields}
+use Rattle.aigertext.specs.Reading.{fields, within, reset_of, reset_at, next_fields}
 use Rattle.aigertext.specs.Passes.{is_number, own_fields, latch_in, latches_in}
-use Rattle.aigertext.proofs.BackLemmas.{ok_same, not_err, within-back, lines-back}
+use Rattle.aigertext.proofs.BackLemmas.{ok_same, not_err, bind-then, within-back, lines-back}
+use Rattle.aigertext.proofs.FieldLemmas.{joined, numbers_line-joined}
 use Rattle.aigertext.proofs.GateLemmas.{next_literal}
 
 -- fields with a space between
@@ -96,36 +96,36 @@ reset-back own r field small e = by (number_of field) refl e
 abbrev IsLatchAt : ℕ → ℕ → Latch → List ℕ → Type 0
 IsLatchAt greatest own l bytes = IsNextLine own l bytes × (l.next ≤ greatest)
 
+-- the fields behind a next literal are the numbers that say how a latch begins
+resets-back : (own : ℕ) (r : Reset) (fs : List (List ℕ)) → own < 2 ^ 64 - 1 → reset_at own fs ≡ Ok r → (numbers : List ℕ) × (IsReset own r numbers × (fs ≡ map decimal numbers))
+resets-back own r [] small e = ([], (subst (λ (x : Reset). IsReset own x []) (ok_same Zero r e) (inl refl), refl))
+resets-back own r (field ∷ []) small e = let b = reset-back own r field small e in (b.0 ∷ [], (b.1.1, ap (λ (f : List ℕ). f ∷ []) b.1.0))
+resets-back own r (field ∷ more ∷ others) small e = absurd (not_err _ _ e)
+
+pub spaced-joined : (ns : List ℕ) → spaced (map decimal ns) ≡ joined ns
+spaced-joined [] = refl
+spaced-joined (n ∷ []) = refl
+spaced-joined (n ∷ m ∷ ns) = ap (λ (l : List ℕ). decimal n ++ 32 ∷ l) (spaced-joined (m ∷ ns))
+
 pub latch_by : (greatest own : ℕ) (l : Latch) (fs : List (List ℕ)) → greatest < 2 ^ 64 - 1 → own < 2 ^ 64 - 1 → next_fields greatest own fs ≡ Ok l → IsLatchAt greatest own l (spaced fs ++ 10 ∷ [])
 unfolding next_fields
 latch_by greatest own l [] g_small o_small e = absurd (not_err _ _ e)
-latch_by greatest own l (next ∷ []) g_small o_small e = by (within why.BadLatch greatest (number_of next)) refl e
-  where
-    by : (r : Result ℕ Why) → within why.BadLatch greatest (number_of next) ≡ r → ◌>>=◌ {A = ℕ} {B = Latch} {E = Why} r (λ n. Ok (record { next = n; reset = Zero })) ≡ Ok l → IsLatchAt greatest own l (next ++ 10 ∷ [])
-    by (Err w) f g = absurd (not_err _ _ g)
-    by (Ok n) f g =
-        let p = within-back why.BadLatch greatest n (number_of next) f in
-        subst (λ (x : Latch). IsLatchAt greatest own x (next ++ 10 ∷ [])) (ok_same (record { next = n; reset = Zero }) l g)
-        (record { reset = []; is_reset = inl refl; spelled = ap (λ (t : List ℕ). t ++ 10 ∷ []) (number_is_decimal next n p.0 (omega (arith, p.1))) }, p.1)
-latch_by greatest own l (next ∷ begins ∷ []) g_small o_small e = by (within why.BadLatch greatest (number_of next)) refl e
-  where
-    then' : (n : ℕ) (r : Result Reset Why) → number_of next ≡ Some n → n ≤ greatest → reset_of own (number_of begins) ≡ r
-        → ◌>>=◌ {A = Reset} {B = Latch} {E = Why} r (λ x. Ok (record { next = n; reset = x })) ≡ Ok l → IsLatchAt greatest own l ((next ++ 32 ∷ begins) ++ 10 ∷ [])
-    then' n (Err w) d le f g = absurd (not_err _ _ g)
-    then' n (Ok x) d le f g =
-        let b = reset-back own x begins o_small f in
-        let text : (next ++ 32 ∷ begins) ++ 10 ∷ [] ≡ decimal n ++ 32 ∷ (decimal b.0 ++ 10 ∷ []) =
-        append_assoc next (32 ∷ begins) (10 ∷ [])
-        ∙ ap (λ (t : List ℕ). t ++ 32 ∷ (begins ++ 10 ∷ [])) (number_is_decimal next n d (omega (arith, le)))
-        ∙ ap (λ (t : List ℕ). decimal n ++ 32 ∷ (t ++ 10 ∷ [])) b.1.0 in
-        subst (λ (y : Latch). IsLatchAt greatest own y ((next ++ 32 ∷ begins) ++ 10 ∷ [])) (ok_same (record { next = n; reset = x }) l g)
-        (record { reset = b.0 ∷ []; is_reset = b.1.1; spelled = text }, le)
-
-    by : (r : Result ℕ Why) → within why.BadLatch greatest (number_of next) ≡ r
-        → ◌>>=◌ {A = ℕ} {B = Latch} {E = Why} r (λ n. ◌>>=◌ {A = Reset} {B = Latch} {E = Why} (reset_of own (number_of begins)) (λ x. Ok (record { next = n; reset = x }))) ≡ Ok l → IsLatchAt greatest own l ((next ++ 32 ∷ begins) ++ 10 ∷ [])
-    by (Err w) f g = absurd (not_err _ _ g)
-    by (Ok n) f g = let p = within-back why.BadLatch greatest n (number_of next) f in then' n (reset_of own (number_of begins)) p.0 p.1 refl g
-latch_by greatest own l (next ∷ begins ∷ more ∷ others) g_small o_small e = absurd (not_err _ _ e)
+latch_by greatest own l (next ∷ others) g_small o_small e =
+    bind-then (within why.BadLatch greatest (number_of next)) _ l e
+    (λ n n' e1. bind-then (reset_at own others) _ l e1
+    (λ r r' e2.
+    let p = within-back why.BadLatch greatest n (number_of next) n' in
+    let b = resets-back own r others o_small r' in
+    let first : next ≡ decimal n = number_is_decimal next n p.0 (omega (arith, p.1)) in
+    subst (λ (y : Latch). IsLatchAt greatest own y (spaced (next ∷ others) ++ 10 ∷ [])) (ok_same (record { next = n; reset = r }) l e2) (
+      record {
+        reset = b.0;
+        is_reset = b.1.0;
+        spelled = ap (λ (f : List ℕ). spaced (f ∷ others) ++ 10 ∷ []) first ∙ ap (λ (fs : List (List ℕ)). spaced (decimal n ∷ fs) ++ 10 ∷ []) b.1.1
+            ∙ ap (λ (t : List ℕ). t ++ 10 ∷ []) (spaced-joined (n ∷ b.0)) ∙ sym (numbers_line-joined (n ∷ b.0));
+      },
+      p.1,
+    )))
 
 -- the line of a latch whose own literal is given
 abbrev pub with_own : ℕ → Latch → LatchLine

@@ -1,4 +1,5 @@
 mod LineLemmas
+mod PenLemmas
 mod SectionLemmas
 mod DeltaLemmas
 mod FormLemmas

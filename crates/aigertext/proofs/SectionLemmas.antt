@@ -1,19 +1,14 @@
--- Each section's lines from a position on: the line at it, and the lines behind it; and where putting them stops.
+-- Each section's lines from a position on: the line at it, and the lines behind it.
 use Rattle.std.proofs.Common.{◌≡◌, ℕ, zero, suc, ◌+◌, ◌*◌, ◌<◌, List, [], ◌∷◌, ◌++◌, length, drop, get_or, Option, Some, slice_get, ◌≤◌, refl, ap, sym, subst, ◌∙◌, add-one, append_assoc, drop-cons, arith}
 use Rattle.aiger.specs.declared.circuit.Section.{Section}
 use Rattle.aiger.specs.Circuit.{Circuit, IsCircuit, Names, letter, all_sections, name_at, name_of, section_count, section_names}
 use Rattle.aiger.proofs.SectionNameLemmas.{length-section_names, name_at-section_names}
 use Rattle.aigertext.specs.Ascii.{numbers_line, input_lines, literal_lines, name_line, name_lines, names_of, size_lines, list_lines}
-use Rattle.std.specs.Prelude.{flat_map, Result, Ok, Err, MatchResult, IsErrAnd}
+use Rattle.std.specs.Prelude.{flat_map}
 use Rattle.std.proofs.lemmas.List.{drop_all}
 use Rattle.std.proofs.lemmas.List.Sums.{get_or-le-sum_by}
 use Rattle.std.proofs.lemmas.Option.{get_or_from_slice_get, slice_get_within}
 use Rattle.aiger.specs.Limits.{greatest_count}
-
--- what `?` returns where putting stops
-pub put_stops : {T E A : Type 0} (S : Type 0) (Q : E → Type 0) (r : Result T E) → IsErrAnd r Q → A → MatchResult r (λ _. S) (λ _. A)
-put_stops S Q (Ok x) h stops = absurd h
-put_stops S Q (Err x) h stops = stops
 
 -- the inputs, so many of which are left
 pub input_lines_at : (first left next : ℕ) → left ≡ suc next

@@ -1,5 +1,5 @@
 -- Reading a circuit's ascii text from left to right ("AIGER 1.9 and Beyond", ascii format), with the first fault that is met: the lists of the file, then the circuit that they are, then its names; and reading a text of either form.
-use Rattle.std.specs.Prelude.{◌≡◌, ℕ, zero, suc, ◌+◌, ◌-◌, ◌*◌, ◌≤◌, ◌&&◌, true, not, List, [], ◌∷◌, length, Option, Some, None, Result, Ok, Err, nat_lt, nat_le, ◌⊎◌, if◌then◌else◌}
+use Rattle.std.specs.Prelude.{◌≡◌, ℕ, zero, suc, ◌+◌, ◌-◌, ◌*◌, ◌&&◌, not, List, [], ◌∷◌, length, Option, Some, None, Result, Ok, Err, nat_lt, nat_le, ◌⊎◌, if◌then◌else◌}
 use Rattle.base.specs.Decimals.{number_of}
 use Rattle.aiger.specs.declared.loose.GateLine.{GateLine}
 use Rattle.aiger.specs.declared.loose.LatchLine.{LatchLine}
@@ -22,27 +22,19 @@ use Rattle.aigertext.specs.declared.fault.ReadFault.{ReadFault}
 abbrev pub defining : Why → ℕ → Loose → ℕ → Result ℕ Why
 defining w greatest l n = if nat_le n greatest && (is_defining n && not (is_defined l (variable n))) then Ok n else Err w
 
--- the same of a literal: it is at most the greatest, may define a variable, and no line defines that
-abbrev pub IsNew : ℕ → Loose → ℕ → Type 0
-IsNew greatest l n = (n ≤ greatest) × ((is_defining n && not (is_defined l (variable n))) ≡ true)
+abbrev pub defining_by : Why → ℕ → Loose → Option ℕ → Result ℕ Why
+defining_by w greatest l None = Err w
+defining_by w greatest l (Some n) = defining w greatest l n
 
 -- the literal of an input's line
-abbrev pub input_by : ℕ → Loose → Option ℕ → Result ℕ Why
-input_by greatest l None = Err why.BadNumber
-input_by greatest l (Some n) = defining why.BadNumber greatest l n
-
 unfoldable pub input_of : ℕ → Loose → List ℕ → Result ℕ Why
-input_of greatest l line = input_by greatest l (number_of line)
+input_of greatest l line = defining_by why.BadNumber greatest l (number_of line)
 
 -- a latch: its own literal, and what the binary form has of it
-abbrev pub own_by : ℕ → Loose → Option ℕ → Result ℕ Why
-own_by greatest l None = Err why.BadLatch
-own_by greatest l (Some n) = defining why.BadLatch greatest l n
-
 unfoldable pub latch_fields : ℕ → Loose → List (List ℕ) → Result LatchLine Why
 latch_fields greatest l [] = Err why.BadLatch
 latch_fields greatest l (current ∷ others) = do
-  own ← own_by greatest l (number_of current)
+  own ← defining_by why.BadLatch greatest l (number_of current)
   x ← next_fields greatest own others
   Ok (record { current = own; next = x.next; reset = x.reset })
 

@@ -1,6 +1,6 @@
 -- Reading a circuit's text from left to right, with the first fault that is met.
-use Rattle.std.specs.Prelude.{◌≡◌, ℕ, zero, suc, ◌+◌, ◌-◌, ◌*◌, List, [], ◌∷◌, ◌++◌, length, take, drop, Option, Some, None, Result, Ok, Err, ◌==◌, ◌||◌, nat_le, nat_lt, if◌then◌else◌, codes}
-use Rattle.std.specs.List.{find, sum}
+use Rattle.std.specs.Prelude.{◌≡◌, ℕ, zero, suc, ◌+◌, ◌-◌, ◌*◌, List, [], ◌∷◌, ◌++◌, length, take, drop, get_or, Option, Some, None, Result, Ok, Err, ◌==◌, ◌||◌, nat_le, nat_lt, if◌then◌else◌, codes}
+use Rattle.std.specs.List.{find, list_all, sum}
 use Rattle.std.specs.Str.{bytes_eq}
 use Rattle.base.specs.Lines.{text_of_lines, onto_first, whole_lines, unfinished}
 use Rattle.base.specs.Decimals.{number_of}
@@ -88,58 +88,34 @@ lines_at says next s (suc n) text = do
 
 -- ---- header
 
--- the next number of a header, and the fields behind it
-unfoldable pub number_at : List (List ℕ) → Result (ℕ × List (List ℕ)) Why
-number_at [] = Err why.BadHeader
-number_at (field ∷ rest) = do
+-- the numbers that fields are
+abbrev pub numbers_in : List (List ℕ) → Result (List ℕ) Why
+numbers_in [] = Ok []
+numbers_in (field ∷ rest) = do
   n ← some_or why.BadHeader (number_of field)
-  Ok (n, rest)
+  ns ← numbers_in rest
+  Ok (n ∷ ns)
 
--- one that may be left out with all behind it, and is then 0
-unfoldable pub last_at : List (List ℕ) → Result (ℕ × List (List ℕ)) Why
-last_at [] = Ok (0, [])
-last_at (field ∷ rest) = number_at (field ∷ rest)
+-- the counts that numbers are; one that is left out is 0
+abbrev pub counts_at : List ℕ → Counts
+counts_at ns =
+    record {
+      variables = get_or ns 0 0;
+      inputs = get_or ns 1 0;
+      latches = get_or ns 2 0;
+      outputs = get_or ns 3 0;
+      gates = get_or ns 4 0;
+      bads = get_or ns 5 0;
+      constraints = get_or ns 6 0;
+      justice = get_or ns 7 0;
+      fair = get_or ns 8 0;
+    }
 
--- the last four numbers, behind which nothing stands
-abbrev pub no_more : {A : Type 0} → A → List (List ℕ) → Result A Why
-no_more x [] = Ok x
-no_more x (field ∷ rest) = Err why.BadHeader
-
-unfoldable pub last_four : List (List ℕ) → Result (ℕ × ℕ × ℕ × ℕ) Why
-last_four rest = do
-  b ← last_at rest
-  c ← last_at b.1
-  j ← last_at c.1
-  f ← last_at j.1
-  no_more (b.0, c.0, j.0, f.0) f.1
-
--- the first five numbers, and the fields behind them
-unfoldable pub first_five : List (List ℕ) → Result ((ℕ × ℕ × ℕ × ℕ × ℕ) × List (List ℕ)) Why
-first_five rest = do
-  m ← number_at rest
-  i ← number_at m.1
-  l ← number_at i.1
-  o ← number_at l.1
-  a ← number_at o.1
-  Ok ((m.0, i.0, l.0, o.0, a.0), a.1)
-
--- a number of the header, which is at most 2^30
-unfoldable pub count_of : ℕ → Result ℕ Why
-count_of n = if nat_lt greatest_count n then Err why.TooBig else Ok n
-
--- the counts, where each is at most 2^30
-unfoldable pub counts_of : ℕ × ℕ × ℕ × ℕ × ℕ → ℕ × ℕ × ℕ × ℕ → Result Counts Why
-counts_of x y = do
-  variables ← count_of x.0
-  inputs ← count_of x.1
-  latches ← count_of x.2
-  outputs ← count_of x.3
-  gates ← count_of x.4
-  bads ← count_of y.0
-  constraints ← count_of y.1
-  justice ← count_of y.2
-  fair ← count_of y.3
-  Ok (record { variables = variables; inputs = inputs; latches = latches; outputs = outputs; gates = gates; bads = bads; constraints = constraints; justice = justice; fair = fair })
+-- five to nine numbers, each of which is at most 2^30
+unfoldable pub counts_of : List ℕ → Result Counts Why
+counts_of ns =
+    if nat_lt (length ns) 5 || nat_lt 9 (length ns) then Err why.BadHeader
+    else (if list_all (λ n. nat_le n greatest_count) ns then Ok (counts_at ns) else Err why.TooBig)
 
 -- the counts, where the greatest variable fits what it counts: in the binary form it is the sum, in the ascii form at least that
 unfoldable pub fitting : Form → Counts → Result Counts Why
@@ -150,13 +126,15 @@ fitting Binary h = if h.variables == h.inputs + h.latches + h.gates then Ok h el
 unfoldable pub form_of : List ℕ → Result Form Why
 form_of word = if bytes_eq word (codes "aag") then Ok Ascii else (if bytes_eq word (codes "aig") then Ok Binary else Err why.BadHeader)
 
+-- the counts that fields are
+abbrev pub counts_told : List (List ℕ) → Result Counts Why
+counts_told fields = numbers_in fields >>= counts_of
+
 unfoldable pub header_fields : List (List ℕ) → Result (Form × Counts) Why
 header_fields [] = Err why.BadHeader
 header_fields (word ∷ rest) = do
   form ← form_of word
-  x ← first_five rest
-  y ← last_four x.1
-  h ← counts_of x.0 y
+  h ← counts_told rest
   fits ← fitting form h
   Ok (form, fits)
 
@@ -180,17 +158,19 @@ abbrev pub reset_of : ℕ → Option ℕ → Result Reset Why
 reset_of own None = Err why.BadLatch
 reset_of own (Some n) = if n == 0 then Ok reset.Zero else (if n == 1 then Ok reset.One else (if n == own then Ok reset.Free else Err why.BadLatch))
 
+-- the same of the fields behind the next literal: none stands for 0
+abbrev pub reset_at : ℕ → List (List ℕ) → Result Reset Why
+reset_at own [] = Ok reset.Zero
+reset_at own (field ∷ []) = reset_of own (number_of field)
+reset_at own (field ∷ more ∷ others) = Err why.BadLatch
+
 -- a latch of the binary form: its next literal, and how it begins
 unfoldable pub next_fields : ℕ → ℕ → List (List ℕ) → Result Latch Why
 next_fields greatest own [] = Err why.BadLatch
-next_fields greatest own (next ∷ []) = do
+next_fields greatest own (next ∷ others) = do
   n ← within why.BadLatch greatest (number_of next)
-  Ok (record { next = n; reset = reset.Zero })
-next_fields greatest own (next ∷ begins ∷ []) = do
-  n ← within why.BadLatch greatest (number_of next)
-  r ← reset_of own (number_of begins)
+  r ← reset_at own others
   Ok (record { next = n; reset = r })
-next_fields greatest own (next ∷ begins ∷ more ∷ others) = Err why.BadLatch
 
 abbrev pub next_of : ℕ → ℕ → List ℕ → Result Latch Why
 next_of greatest own line = next_fields greatest own (fields line)

@@ -56,7 +56,7 @@ pub fn worked_binary_texts()
 {}
 
 /// Worked rows: binary texts that are read, in the writer's spelling and in others.
-#[tactic(auto, unfolding(crate::specs::AsciiReading::AnswersText, crate::specs::Reading::binary_at, crate::specs::Reading::properties_at, crate::specs::Reading::name_on, crate::specs::Reading::section_of, crate::specs::Reading::gate_at, crate::specs::Reading::delta_at, crate::specs::Reading::size_of, crate::specs::Reading::next_fields, crate::specs::Reading::literal_of, crate::specs::Reading::header_fields, crate::specs::Reading::form_of, crate::specs::Reading::fitting, crate::specs::Reading::counts_of, crate::specs::Reading::count_of, crate::specs::Reading::first_five, crate::specs::Reading::last_four, crate::specs::Reading::last_at, crate::specs::Reading::number_at, base::specs::Decimals::number_of, base::specs::Decimals::capped_value, base::specs::Decimals::is_decimal))]
+#[tactic(auto, unfolding(crate::specs::AsciiReading::AnswersText, crate::specs::Reading::binary_at, crate::specs::Reading::properties_at, crate::specs::Reading::name_on, crate::specs::Reading::section_of, crate::specs::Reading::gate_at, crate::specs::Reading::delta_at, crate::specs::Reading::size_of, crate::specs::Reading::next_fields, crate::specs::Reading::literal_of, crate::specs::Reading::header_fields, crate::specs::Reading::form_of, crate::specs::Reading::fitting, crate::specs::Reading::counts_of, base::specs::Decimals::number_of, base::specs::Decimals::capped_value, base::specs::Decimals::is_decimal))]
 pub fn worked_binary_readings()
     ensures toggler { AnswersText ((codes "aig 1 0 1 0 0 1\n3\n2\nl0 t[0]\n")) (Ok toggler) }
     ensures spelled_out { AnswersText ((codes "aig 1 0 1 0 0 1 0 0 0\n3 0\n2\nl0 t[0]\nc\nany")) (Ok toggler) }
@@ -67,7 +67,7 @@ pub fn worked_binary_readings()
 {}
 
 /// Worked rows: where reading a binary text stops, in bytes before the end, and why.
-#[tactic(auto, unfolding(crate::specs::AsciiReading::AnswersText, crate::specs::Reading::binary_at, crate::specs::Reading::properties_at, crate::specs::Reading::name_on, crate::specs::Reading::section_of, crate::specs::Reading::gate_at, crate::specs::Reading::delta_at, crate::specs::Reading::size_of, crate::specs::Reading::next_fields, crate::specs::Reading::literal_of, crate::specs::Reading::header_fields, crate::specs::Reading::form_of, crate::specs::Reading::fitting, crate::specs::Reading::counts_of, crate::specs::Reading::count_of, crate::specs::Reading::first_five, crate::specs::Reading::last_four, crate::specs::Reading::last_at, crate::specs::Reading::number_at, base::specs::Decimals::number_of, base::specs::Decimals::capped_value, base::specs::Decimals::is_decimal))]
+#[tactic(auto, unfolding(crate::specs::AsciiReading::AnswersText, crate::specs::Reading::binary_at, crate::specs::Reading::properties_at, crate::specs::Reading::name_on, crate::specs::Reading::section_of, crate::specs::Reading::gate_at, crate::specs::Reading::delta_at, crate::specs::Reading::size_of, crate::specs::Reading::next_fields, crate::specs::Reading::literal_of, crate::specs::Reading::header_fields, crate::specs::Reading::form_of, crate::specs::Reading::fitting, crate::specs::Reading::counts_of, base::specs::Decimals::number_of, base::specs::Decimals::capped_value, base::specs::Decimals::is_decimal))]
 pub fn worked_binary_faults()
     ensures header { AnswersText ((codes "aig 1 1 0 0\n")) (Err (record { left = 12; why = why.BadHeader })) }
     ensures two_spaces { AnswersText ((codes "aig 0  0 0 0 0\n")) (Err (record { left = 15; why = why.BadHeader })) }
@@ -177,7 +177,7 @@ pub fn worked_ascii_lists()
 {}
 
 /// Worked rows: a text of the ascii form that is read, and where reading others stops and why.
-#[tactic(auto, unfolding(crate::specs::AsciiReading::AnswersText, crate::specs::AsciiReading::lists_of_file, crate::specs::AsciiReading::input_of, crate::specs::AsciiReading::latch_fields, crate::specs::AsciiReading::gate_fields, crate::specs::Reading::next_fields, crate::specs::Reading::properties_at, crate::specs::Reading::literal_of, crate::specs::Reading::size_of, crate::specs::Reading::header_fields, crate::specs::Reading::form_of, crate::specs::Reading::fitting, crate::specs::Reading::counts_of, crate::specs::Reading::count_of, crate::specs::Reading::first_five, crate::specs::Reading::last_four, crate::specs::Reading::last_at, crate::specs::Reading::number_at, base::specs::Decimals::number_of, base::specs::Decimals::capped_value, base::specs::Decimals::is_decimal))]
+#[tactic(auto, unfolding(crate::specs::AsciiReading::AnswersText, crate::specs::AsciiReading::lists_of_file, crate::specs::AsciiReading::input_of, crate::specs::AsciiReading::latch_fields, crate::specs::AsciiReading::gate_fields, crate::specs::Reading::next_fields, crate::specs::Reading::properties_at, crate::specs::Reading::literal_of, crate::specs::Reading::size_of, crate::specs::Reading::header_fields, crate::specs::Reading::form_of, crate::specs::Reading::fitting, crate::specs::Reading::counts_of, base::specs::Decimals::number_of, base::specs::Decimals::capped_value, base::specs::Decimals::is_decimal))]
 pub fn worked_ascii_readings()
     ensures nothing { AnswersText (codes "aag 0 0 0 0 0\nc\nany") (Ok nothing) }
     ensures no_fault { ¬ AnswersText (codes "aag 0 0 0 0 0\nc\nany") (Err (record { left = 0; why = why.Truncated })) }

@@ -15,7 +15,6 @@ ghost use Rattle.aigertext.specs.declared.fault.Why.TheVariants as why;
 mod any_order;
 mod ascii;
 mod ascii_definitions;
-mod ascii_lines;
 mod counts;
 mod deltas;
 mod fields;

@@ -2,15 +2,16 @@
 ghost use Rattle.std.specs.Prelude.{OnOk, OnErr};
 ghost use Rattle.std.specs.Io.KnownBytes.{Appends};
 ghost use Rattle.base.specs.Device.{CountsFaults, AppendsBeginning};
-ghost use Rattle.base.specs.Pieces.{Puts};
 ghost use Rattle.aigertext.specs.Ascii.{ascii_text};
 ghost use Rattle.aigertext.specs.Binary.{binary_text, circuit_text};
+ghost use Rattle.aigertext.specs.Writing.{Writes};
 
 mod gates;
 mod header;
 mod inputs_and_latches;
 pub(crate) mod line;
 mod names;
+mod pen;
 mod properties;
 
 use crate::forms::Form;
@@ -18,9 +19,10 @@ use crate::writing::gates::{first_gate, put_gates};
 use crate::writing::header::put_header;
 use crate::writing::inputs_and_latches::{put_inputs, put_latches};
 use crate::writing::names::put_all_names;
+use crate::writing::pen::Pen;
 use crate::writing::properties::put_properties;
 use aiger::Circuit;
-use base::{DeviceFault, Outbox, Sink};
+use base::{DeviceFault, Sink};
 
 /// Writes the text of a circuit in a form ("AIGER 1.9 and Beyond"). No memory is taken.
 ///
@@ -30,9 +32,12 @@ pub fn write<K: Sink>(circuit: &Circuit, form: Form, sink: &mut K) -> Result<(),
     ensures err { OnErr result (AppendsBeginning (K.written sink.old) (K.written sink.new) (circuit_text form circuit.now)) }
     ensures failures { CountsFaults result (K.failures sink.old) (K.failures sink.new) }
 {
-    let mut outbox = Outbox::new();
-    put_text(&mut outbox, sink, form, circuit)?;
-    outbox.flush(sink)
+    let mut pen = Pen::new();
+    put_text(&mut pen, sink, form, circuit);
+    match pen.answer {
+        Ok(()) => pen.outbox.flush(sink),
+        Err(fault) => Err(fault),
+    }
 }
 
 /// Writes the ascii text of a circuit. No memory is taken.
@@ -57,21 +62,15 @@ pub fn write_binary<K: Sink>(circuit: &Circuit, sink: &mut K) -> Result<(), Devi
     write(circuit, Form::Binary, sink)
 }
 
-/// Puts the text of a circuit into the outbox.
-fn put_text<K: Sink>(
-    outbox: &mut Outbox,
-    sink: &mut K,
-    form: Form,
-    circuit: &Circuit,
-) -> Result<(), DeviceFault>
-    ensures puts { Puts result (K.written sink.old) (K.written sink.new) outbox.old outbox.new (circuit_text form circuit.now) }
-    ensures failures { CountsFaults result (K.failures sink.old) (K.failures sink.new) }
+/// Puts the text of a circuit.
+fn put_text<K: Sink>(pen: &mut Pen, sink: &mut K, form: Form, circuit: &Circuit)
+    ensures { Writes K.written K.failures sink.old sink.new pen.old pen.new (circuit_text form circuit.now) }
 {
     let inputs = circuit.inputs();
-    put_header(outbox, sink, form, circuit)?;
-    put_inputs(outbox, sink, form, inputs)?;
-    put_latches(outbox, sink, form, inputs + 1, circuit.latches())?;
-    put_properties(outbox, sink, circuit)?;
-    put_gates(outbox, sink, form, first_gate(circuit), circuit.gates())?;
-    put_all_names(outbox, sink, circuit)
+    put_header(pen, sink, form, circuit);
+    put_inputs(pen, sink, form, inputs);
+    put_latches(pen, sink, form, inputs + 1, circuit.latches());
+    put_properties(pen, sink, circuit);
+    put_gates(pen, sink, form, first_gate(circuit), circuit.gates());
+    put_all_names(pen, sink, circuit);
 }

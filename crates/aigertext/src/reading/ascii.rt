@@ -39,7 +39,7 @@ fn push_properties<'a>(
     };
     match put_properties(lists, &properties) {
         Ok(()) => Ok(rest),
-        Err(why) => Err(stop(rest, why)),
+        Err(_) => Err(stop(rest, Why::NoMemory)),
     }
 }
 

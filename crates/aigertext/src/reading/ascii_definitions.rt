@@ -1,65 +1,60 @@
-//! The lines of an ascii text that define variables, read onto the lists of a file.
-ghost use Rattle.std.specs.Prelude.{◌≡◌, ℕ, ◌+◌, ◌≤◌, List, Result, [], ◌∷◌, OnOk, IfOk};
-ghost use Rattle.std.specs.List.{AllByRecursion};
-ghost use Rattle.aiger.specs.Circuit.{RefusesBy};
-ghost use Rattle.aiger.specs.Loose.{Loose as Lists, defined_count, line_refusal, with_input_line, with_latch_line, with_gate_line};
+//! The lines of an ascii text that define variables, inputs, latches and gates, read onto the lists of a file.
+ghost use Rattle.std.specs.Prelude.{◌≡◌, ℕ, List, Result, [], ◌∷◌, Ok, OnOk, IfSome};
+ghost use Rattle.base.specs.Decimals.{number_of};
+ghost use Rattle.aiger.specs.Loose.{Loose as Lists, with_input_line, with_latch_line, with_gate_line};
 ghost use Rattle.aigertext.specs.declared.fault.Why.{Why as LineWhy};
 ghost use Rattle.aigertext.specs.Reading.{Gives, line_at};
-ghost use Rattle.aigertext.specs.AsciiReading.{input_of, latch_of, gate_of, onto_lists, IsNew};
+ghost use Rattle.aigertext.specs.AsciiReading.{defining, defining_by, input_of, latch_of, gate_fields, gate_of, onto_lists};
 ghost use Rattle.aigertext.specs.Passes.{Reads};
 
-use crate::fault::Stop;
-use crate::reading::ascii_lines::{gate, input, latch, plain_gate};
+use crate::fault::{Stop, Why};
+use crate::reading::fields::{first_field, next_field};
+use crate::reading::latches::latch_behind;
 use crate::reading::lines::{line, stop};
-use crate::reading::property_lists::want_of_memory;
+use crate::reading::numbers::literal;
+use crate::reading::plain_numbers::three_numbers;
 use aiger::{CircuitFault, GateLine, LatchLine, Lit, Loose};
+use base::decimal;
 
 /// What a line of an ascii text defines: an input, a latch or a gate.
 pub(crate) trait Definition {
     /// What a line says, by the greatest literal and the lists of the lines before it.
     ghost says: { ℕ → Lists → List ℕ → Result Self LineWhy };
 
-    /// The literal that it defines.
-    ghost own: { Self → ℕ };
-
-    /// The literals that it uses.
-    ghost uses: { Self → List ℕ };
-
     /// Lists with one more.
     ghost with_line: { Lists → Self → Lists };
 
-    /// What the line at the front of a text defines, and the text behind it.
-    fn first<'a>(text: &'a [u8], greatest: u32, lists: &Loose) -> Result<(Self, &'a [u8]), Stop>
-        ensures gives { Gives (λ x. (x.0, x.1.now)) result (line_at (says greatest lists.now) text.now) }
-        ensures new { IfOk result (λ x. IsNew greatest lists.now (own x.0)) }
-        ensures small { IfOk result (λ x. AllByRecursion (λ n. n ≤ greatest) (uses x.0)) };
+    /// What a line says.
+    fn of_line(line: &[u8], greatest: u32, lists: &Loose) -> Result<Self, Why>
+        ensures { Gives (λ x. x) result (says greatest lists.now line.now) };
+
+    /// What the line at the front of a text defines, and the text behind it, where it is quickly read; else nothing. Of
+    /// nothing no more is said.
+    fn plain<'a>(text: &'a [u8], greatest: u32, lists: &Loose) -> Option<(Self, &'a [u8])>
+        ensures { IfSome result (λ x. line_at (says greatest lists.now) text.now ≡ Ok (x.0, x.1.now)) };
 
     /// Adds it to lists.
     fn push(self, lists: &mut Loose) -> Result<(), CircuitFault>
-        ensures ok { OnOk result (lists.new ≡ with_line lists.old self) }
-        ensures count { OnOk result (defined_count lists.new ≡ defined_count lists.old + 1) }
-        ensures refused { RefusesBy result (line_refusal lists.old (own self) (uses self)) };
+        ensures { OnOk result (lists.new ≡ with_line lists.old self) };
 }
 
 impl Definition for Lit {
     ghost says = { input_of };
 
-    ghost own = { λ x. x };
-
-    ghost uses = { λ x. [] };
-
     ghost with_line = { with_input_line };
 
-    /// What the line at the front of a text defines, and the text behind it.
-    fn first<'a>(text: &'a [u8], greatest: u32, lists: &Loose) -> Result<(Lit, &'a [u8]), Stop> {
-        let (bytes, behind) = line(text)?;
-        match input(bytes, greatest, lists) {
-            Ok(literal) => Ok((literal, behind)),
-            Err(why) => Err(stop(text, why)),
-        }
+    /// The literal of an input.
+    ///
+    /// Error: `BadNumber`.
+    #[tactic(auto, unfolding(crate::specs::AsciiReading::input_of))]
+    fn of_line(line: &[u8], greatest: u32, lists: &Loose) -> Result<Lit, Why> {
+        defined_by(line, Why::BadNumber, greatest, lists)
     }
 
-    /// Adds it to lists.
+    fn plain<'a>(_text: &'a [u8], _greatest: u32, _lists: &Loose) -> Option<(Lit, &'a [u8])> {
+        None
+    }
+
     fn push(self, lists: &mut Loose) -> Result<(), CircuitFault> {
         lists.push_input(self)
     }
@@ -68,26 +63,32 @@ impl Definition for Lit {
 impl Definition for LatchLine {
     ghost says = { latch_of };
 
-    ghost own = { λ x. x.current };
-
-    ghost uses = { λ x. x.next ∷ [] };
-
     ghost with_line = { with_latch_line };
 
-    /// What the line at the front of a text defines, and the text behind it.
-    fn first<'a>(
-        text: &'a [u8],
-        greatest: u32,
-        lists: &Loose,
-    ) -> Result<(LatchLine, &'a [u8]), Stop> {
-        let (bytes, behind) = line(text)?;
-        match latch(bytes, greatest, lists) {
-            Ok(latch) => Ok((latch, behind)),
-            Err(why) => Err(stop(text, why)),
+    /// A latch: its own literal, its next literal, and how it begins.
+    ///
+    /// Error: `BadLatch`.
+    #[tactic(auto, unfolding(crate::specs::AsciiReading::latch_fields, crate::specs::Reading::next_fields))]
+    fn of_line(line: &[u8], greatest: u32, lists: &Loose) -> Result<LatchLine, Why> {
+        let (current, rest) = first_field(line);
+        let current = defined_by(current, Why::BadLatch, greatest, lists)?;
+        match next_field(rest) {
+            None => Err(Why::BadLatch),
+            Some((next, rest)) => {
+                let latch = latch_behind(next, rest, greatest, current.number())?;
+                Ok(LatchLine {
+                    current,
+                    next: latch.next,
+                    reset: latch.reset,
+                })
+            }
         }
     }
 
-    /// Adds it to lists.
+    fn plain<'a>(_text: &'a [u8], _greatest: u32, _lists: &Loose) -> Option<(LatchLine, &'a [u8])> {
+        None
+    }
+
     fn push(self, lists: &mut Loose) -> Result<(), CircuitFault> {
         lists.push_latch(self.current, self.next, self.reset)
     }
@@ -96,42 +97,108 @@ impl Definition for LatchLine {
 impl Definition for GateLine {
     ghost says = { gate_of };
 
-    ghost own = { λ x. x.lhs };
-
-    ghost uses = { λ x. x.rhs0 ∷ x.rhs1 ∷ [] };
-
     ghost with_line = { with_gate_line };
 
-    /// What the line at the front of a text defines, and the text behind it. A line that is three numbers is read in one
-    /// pass.
-    fn first<'a>(
-        text: &'a [u8],
-        greatest: u32,
-        lists: &Loose,
-    ) -> Result<(GateLine, &'a [u8]), Stop> {
-        match plain_gate(text, greatest, lists) {
-            Some((gate, behind)) => Ok((gate, behind)),
-            None => any_gate(text, greatest, lists),
+    /// A gate.
+    ///
+    /// Errors, of which the first that applies in this order is answered: `BadNumber` where the line is not three decimals
+    /// or an operand is above the greatest literal, `GateOrder` where its own literal defines no new variable.
+    #[tactic(auto, unfolding(crate::specs::AsciiReading::gate_fields))]
+    fn of_line(line: &[u8], greatest: u32, lists: &Loose) -> Result<GateLine, Why> {
+        let (lhs, rest) = first_field(line);
+        match next_field(rest) {
+            None => Err(Why::BadNumber),
+            Some((rhs0, rest)) => match next_field(rest) {
+                None => Err(Why::BadNumber),
+                Some((rhs1, rest)) => match next_field(rest) {
+                    None => gate_with(lhs, rhs0, rhs1, greatest, lists),
+                    Some(_) => Err(Why::BadNumber),
+                },
+            },
         }
     }
 
-    /// Adds it to lists.
+    fn plain<'a>(text: &'a [u8], greatest: u32, lists: &Loose) -> Option<(GateLine, &'a [u8])> {
+        let (number, first, second, behind) = three_numbers(text)?;
+        if first > greatest || second > greatest {
+            return None;
+        }
+        match defining(u64::from(number), Why::GateOrder, greatest, lists) {
+            Ok(lhs) => {
+                let rhs0 = Lit::new(first);
+                let rhs1 = Lit::new(second);
+                Some((GateLine { lhs, rhs0, rhs1 }, behind))
+            }
+            Err(_) => None,
+        }
+    }
+
     fn push(self, lists: &mut Loose) -> Result<(), CircuitFault> {
         lists.push_gate(self.lhs, self.rhs0, self.rhs1)
     }
 }
 
-/// The gate of the line at the front of a text, and the text behind it: the line is cut off and into its fields, and each
-/// is then read.
-#[inline(never)]
-fn any_gate<'a>(text: &'a [u8], greatest: u32, lists: &Loose) -> Result<(GateLine, &'a [u8]), Stop>
-    ensures gives { Gives (λ x. (x.0, x.1.now)) result (line_at (gate_of greatest lists.now) text.now) }
-    ensures new { IfOk result (λ x. IsNew greatest lists.now x.0.lhs) }
-    ensures small { IfOk result (λ x. (x.0.rhs0 ≤ greatest) × (x.0.rhs1 ≤ greatest)) }
+/// The literal of a number, where it is even, at least 2 and at most the greatest, and no line defines its variable.
+fn defining(number: u64, why: Why, greatest: u32, lists: &Loose) -> Result<Lit, Why>
+    ensures { Gives (λ x. x) result (defining why greatest lists.now number) }
 {
+    if number > u64::from(greatest) {
+        return Err(why);
+    }
+    let literal = Lit::new(number as u32);
+    if number >= 2 && number % 2 == 0 && !lists.defines(literal.var()) {
+        Ok(literal)
+    } else {
+        Err(why)
+    }
+}
+
+/// The same of bytes that are a number.
+fn defined_by(bytes: &[u8], why: Why, greatest: u32, lists: &Loose) -> Result<Lit, Why>
+    ensures { Gives (λ x. x) result (defining_by why greatest lists.now (number_of bytes.now)) }
+{
+    match decimal(bytes) {
+        None => Err(why),
+        Some(number) => defining(number, why, greatest, lists),
+    }
+}
+
+/// A gate of three numbers.
+#[tactic(auto, unfolding(crate::specs::AsciiReading::gate_fields, crate::specs::Reading::literal_of))]
+fn gate_with(
+    lhs: &[u8],
+    rhs0: &[u8],
+    rhs1: &[u8],
+    greatest: u32,
+    lists: &Loose,
+) -> Result<GateLine, Why>
+    ensures { Gives (λ x. x) result (gate_fields greatest lists.now (lhs.now ∷ rhs0.now ∷ rhs1.now ∷ [])) }
+{
+    match decimal(lhs) {
+        None => Err(Why::BadNumber),
+        Some(number) => {
+            let rhs0 = literal(rhs0, greatest)?;
+            let rhs1 = literal(rhs1, greatest)?;
+            let lhs = defining(number, Why::GateOrder, greatest, lists)?;
+            Ok(GateLine { lhs, rhs0, rhs1 })
+        }
+    }
+}
+
+/// What the line at the front of a text defines, and the text behind it.
+fn first<'a, D: Definition>(
+    text: &'a [u8],
+    greatest: u32,
+    lists: &Loose,
+) -> Result<(D, &'a [u8]), Stop>
+    ensures { Gives (λ x. (x.0, x.1.now)) result (line_at (D.says greatest lists.now) text.now) }
+{
+    if let Some(found) = D::plain(text, greatest, lists) {
+        return Ok(found);
+    }
     let (bytes, behind) = line(text)?;
-    match gate(bytes, greatest, lists) {
-        Ok(gate) => Ok((gate, behind)),
+    match D::of_line(bytes, greatest, lists) {
+        Ok(definition) => Ok((definition, behind)),
         Err(why) => Err(stop(text, why)),
     }
 }
@@ -143,20 +210,16 @@ pub fn push_definitions<'a, D: Definition>(
     greatest: u32,
     count: u32,
 ) -> Result<&'a [u8], Stop>
-    requires small { greatest ≤ 2147483649 }
-    requires few { defined_count lists.old + count ≤ 1073741824 }
-    ensures read { Reads (λ x. (lists.new, x.now)) result (onto_lists (D.says greatest) D.with_line lists.old count text.now) }
-    ensures count { OnOk result (defined_count lists.new ≡ defined_count lists.old + count) }
+    ensures { Reads (λ x. (lists.new, x.now)) result (onto_lists (D.says greatest) D.with_line lists.old count text.now) }
 {
     let mut rest = text;
     for _index in 0..count {
-        let (definition, after) = match D::first(rest, greatest, lists) {
+        let (definition, after) = match first::<D>(rest, greatest, lists) {
             Ok(found) => found,
             Err(stop) => return Err(stop),
         };
-        match definition.push(lists) {
-            Ok(()) => {}
-            Err(fault) => return Err(stop(rest, want_of_memory(fault))),
+        if definition.push(lists).is_err() {
+            return Err(stop(rest, Why::NoMemory));
         }
         rest = after;
     }

@@ -1,7 +1,6 @@
 //! What stands before and behind the gates of a text, put onto a circuit whose gates are there.
-ghost use Rattle.std.specs.Prelude.{◌≡◌, ℕ, ◌+◌, ◌*◌, ◌≤◌, List, length, All};
-ghost use Rattle.aiger.specs.Circuit.{net, fresh_circuit};
-ghost use Rattle.aiger.specs.Net.{variables};
+ghost use Rattle.std.specs.Prelude.{◌≡◌, ℕ, ◌≤◌, List, length, OnOk};
+ghost use Rattle.aiger.specs.Circuit.{fresh_circuit};
 ghost use Rattle.aigertext.specs.declared.forms.Form.TheVariants as variant;
 ghost use Rattle.aigertext.specs.Counts.{AreSmall};
 ghost use Rattle.aigertext.specs.Passes.{with_latches, with_gates};
@@ -15,22 +14,19 @@ use crate::reading::lines::stop;
 use crate::reading::names::give_names;
 use crate::reading::property_lists::put_properties;
 use aiger::laws::own_numbers;
-use aiger::{Circuit, Latch};
+use aiger::{Circuit, CircuitFault, Latch};
 
 /// Sets all latches.
-fn set_latches(circuit: &mut Circuit, latches: &[Latch])
-    requires all { length latches.now ≡ length circuit.old.latches }
-    requires defined { All (λ l. l.next ≤ 2 * variables (net circuit.old) + 1) latches.now }
-    ensures { circuit.new ≡ with_latches circuit.old latches.now }
+fn set_latches(circuit: &mut Circuit, latches: &[Latch]) -> Result<(), CircuitFault>
+    requires { length latches.now ≡ length circuit.old.latches }
+    ensures { OnOk result (circuit.new ≡ with_latches circuit.old latches.now) }
 {
     let mut index = 0;
     for latch in latches {
-        match circuit.set_latch(index, latch.next, latch.reset) {
-            Ok(()) => {}
-            Err(_) => unreachable!(),
-        }
+        circuit.set_latch(index, latch.next, latch.reset)?;
         index += 1;
     }
+    Ok(())
 }
 
 /// Sets the latches of a circuit whose gates are there and adds its properties, and gives it the names of a text.
@@ -43,10 +39,11 @@ fn finish(circuit: &mut Circuit, front: &Front, names: &[u8]) -> Result<(), Stop
     requires front { (before : List ℕ) × IsFront front.now.form front.now.counts (uses_of front.now) before }
     ensures { IsFinish front.now.counts (uses_of front.now) circuit.old.gates circuit.new names.now result }
 {
-    set_latches(circuit, &front.latches);
-    match put_properties(circuit, &front.properties) {
-        Ok(()) => {}
-        Err(why) => return Err(stop(names, why)),
+    if set_latches(circuit, &front.latches).is_err() {
+        return Err(stop(names, Why::NoMemory));
+    }
+    if put_properties(circuit, &front.properties).is_err() {
+        return Err(stop(names, Why::NoMemory));
     }
     let _bare = circuit.variables();
     match give_names(circuit, names) {

@@ -5,7 +5,7 @@ ghost use Rattle.std.specs.Io.KnownBytes.{prepend_known};
 ghost use Rattle.base.specs.Device.{HasRisen};
 ghost use Rattle.aiger.specs.Loose.{with_gate_line};
 ghost use Rattle.aigertext.specs.Ascii.{numbers_line};
-ghost use Rattle.aigertext.specs.Binary.{delta, gate_text};
+ghost use Rattle.aigertext.specs.Binary.{gate_text};
 ghost use Rattle.aigertext.specs.declared.forms.Form.{Form as FormValue};
 ghost use Rattle.aigertext.specs.InOrder.{IsLineUpTo, IsPut, IsPutOnLists, PutsText, FollowEachOther};
 
@@ -33,17 +33,6 @@ fn line_gate(text: &[u8], own: u32) -> Option<(Gate, &[u8])>
     Some((Gate { rhs0, rhs1 }, behind))
 }
 
-/// The gate of the two deltas at the front of a binary text, and the text behind them, where they are right.
-#[inline(always)]
-fn delta_gate(text: &[u8], own: u32) -> Option<(Gate, &[u8])>
-    ensures { IfSome result (λ x. text.now ≡ (delta (own - x.0.rhs0) ++ delta (x.0.rhs0 - x.0.rhs1)) ++ x.1.now) }
-{
-    match gate(text, own) {
-        Ok(found) => Some(found),
-        Err(_) => None,
-    }
-}
-
 /// The gate with this literal at the front of a text of a form, and the text behind it. Of nothing no more is said.
 #[inline(always)]
 fn gate_in(form: Form, text: &[u8], own: u32) -> Option<(Gate, &[u8])>
@@ -51,7 +40,10 @@ fn gate_in(form: Form, text: &[u8], own: u32) -> Option<(Gate, &[u8])>
 {
     match form {
         Form::Ascii => line_gate(text, own),
-        Form::Binary => delta_gate(text, own),
+        Form::Binary => match gate(text, own) {
+            Ok(found) => Some(found),
+            Err(_) => None,
+        },
     }
 }
 

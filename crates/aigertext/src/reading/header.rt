@@ -1,6 +1,8 @@
 //! Reading a header.
-ghost use Rattle.std.specs.Prelude.{◌≡◌};
-ghost use Rattle.aigertext.specs.Reading.{Gives, fields_behind, number_at, last_at, last_four, first_five, count_of, counts_of, fitting, form_of, header_of, header_fields};
+ghost use Rattle.std.specs.Prelude.{◌≡◌, ◌≤◌, true, take, get_or, nat_le, Ok, Err, IfOk, IfErr};
+ghost use Rattle.std.specs.List.{list_all};
+ghost use Rattle.aiger.specs.Limits.{greatest_count};
+ghost use Rattle.aigertext.specs.Reading.{Gives, fields_behind, numbers_in, counts_of, counts_told, fitting, form_of, header_of, header_fields};
 
 use crate::fault::Why;
 use crate::forms::Form;
@@ -9,97 +11,69 @@ use crate::reading::fields::{first_field, next_field};
 use aiger::GREATEST_COUNT;
 use base::decimal;
 
-/// The next number of a header, and the line behind it.
-#[tactic(auto, unfolding(crate::specs::Reading::number_at))]
-fn number_at(rest: &[u8]) -> Result<(u64, &[u8]), Why>
-    ensures { Gives (λ x. (x.0, fields_behind x.1.now)) result (number_at (fields_behind rest.now)) }
+/// Puts the numbers of a line behind its first field into a list, and answers how many they are.
+fn numbers_in(rest: &[u8], numbers: &mut [u64; 9]) -> Result<usize, Why>
+    ensures told { IfOk result (λ n. numbers_in (fields_behind rest.now) ≡ Ok (take n numbers.new)) }
+    ensures few { IfOk result (λ n. n ≤ 9) }
+    ensures refused { IfErr result (λ e. counts_told (fields_behind rest.now) ≡ Err e) }
 {
-    match next_field(rest) {
-        None => Err(Why::BadHeader),
-        Some((field, behind)) => match decimal(field) {
-            None => Err(Why::BadHeader),
-            Some(number) => Ok((number, behind)),
-        },
+    let mut rest = rest;
+    let mut count = 0;
+    while let Some((field, behind)) = next_field(rest) {
+        let Some(number) = decimal(field) else {
+            return Err(Why::BadHeader);
+        };
+        if count == 9 {
+            return Err(Why::BadHeader);
+        }
+        numbers[count] = number;
+        count += 1;
+        rest = behind;
+    }
+    Ok(count)
+}
+
+/// Whether all numbers are at most 2^30.
+fn are_small(numbers: &[u64]) -> bool
+    ensures { result ≡ list_all (λ n. nat_le n greatest_count) numbers.now }
+{
+    numbers
+        .iter()
+        .all(|number| *number <= u64::from(GREATEST_COUNT))
+}
+
+/// One of small numbers, 0 where it is left out.
+fn number_at(numbers: &[u64], k: usize) -> u32
+    requires { list_all (λ n. nat_le n greatest_count) numbers.now ≡ true }
+    ensures { result ≡ get_or numbers.now k 0 }
+{
+    match numbers.get(k) {
+        Some(number) => *number as u32,
+        None => 0,
     }
 }
 
-/// A number that may be left out with all behind it, and is then 0, and the line behind it.
-#[tactic(auto, unfolding(crate::specs::Reading::last_at, crate::specs::Reading::number_at))]
-fn last_at(rest: &[u8]) -> Result<(u64, &[u8]), Why>
-    ensures { Gives (λ x. (x.0, fields_behind x.1.now)) result (last_at (fields_behind rest.now)) }
+/// The counts that numbers are.
+#[tactic(auto, unfolding(crate::specs::Reading::counts_of))]
+fn counts_of(numbers: &[u64]) -> Result<Counts, Why>
+    ensures { Gives (λ x. x) result (counts_of numbers.now) }
 {
-    match next_field(rest) {
-        None => Ok((0, rest)),
-        Some((field, behind)) => match decimal(field) {
-            None => Err(Why::BadHeader),
-            Some(number) => Ok((number, behind)),
-        },
+    if numbers.len() < 5 || numbers.len() > 9 {
+        return Err(Why::BadHeader);
     }
-}
-
-/// The first five numbers of a header, and the line behind them.
-#[tactic(auto, unfolding(crate::specs::Reading::first_five))]
-fn first_five(rest: &[u8]) -> Result<((u64, u64, u64, u64, u64), &[u8]), Why>
-    ensures { Gives (λ x. (x.0, fields_behind x.1.now)) result (first_five (fields_behind rest.now)) }
-{
-    let (variables, rest) = number_at(rest)?;
-    let (inputs, rest) = number_at(rest)?;
-    let (latches, rest) = number_at(rest)?;
-    let (outputs, rest) = number_at(rest)?;
-    let (gates, rest) = number_at(rest)?;
-    Ok(((variables, inputs, latches, outputs, gates), rest))
-}
-
-/// The last four numbers of a header, of which those at the end may be left out.
-#[tactic(auto, unfolding(crate::specs::Reading::last_four))]
-fn last_four(rest: &[u8]) -> Result<(u64, u64, u64, u64), Why>
-    ensures { Gives (λ x. x) result (last_four (fields_behind rest.now)) }
-{
-    let (bads, rest) = last_at(rest)?;
-    let (constraints, rest) = last_at(rest)?;
-    let (justice, rest) = last_at(rest)?;
-    let (fair, rest) = last_at(rest)?;
-    match next_field(rest) {
-        None => Ok((bads, constraints, justice, fair)),
-        Some(_) => Err(Why::BadHeader),
-    }
-}
-
-/// A number of a header as a count.
-#[tactic(auto, unfolding(crate::specs::Reading::count_of))]
-fn count_of(number: u64) -> Result<u32, Why>
-    ensures { Gives (λ x. x) result (count_of number) }
-{
-    if number > u64::from(GREATEST_COUNT) {
+    if !are_small(numbers) {
         return Err(Why::TooBig);
     }
-    Ok(number as u32)
-}
-
-/// The numbers of a header as counts.
-#[tactic(auto, unfolding(crate::specs::Reading::counts_of))]
-fn counts_of(first: (u64, u64, u64, u64, u64), last: (u64, u64, u64, u64)) -> Result<Counts, Why>
-    ensures { Gives (λ x. x) result (counts_of first last) }
-{
-    let variables = count_of(first.0)?;
-    let inputs = count_of(first.1)?;
-    let latches = count_of(first.2)?;
-    let outputs = count_of(first.3)?;
-    let gates = count_of(first.4)?;
-    let bads = count_of(last.0)?;
-    let constraints = count_of(last.1)?;
-    let justice = count_of(last.2)?;
-    let fair = count_of(last.3)?;
     Ok(Counts {
-        variables,
-        inputs,
-        latches,
-        outputs,
-        gates,
-        bads,
-        constraints,
-        justice,
-        fair,
+        variables: number_at(numbers, 0),
+        inputs: number_at(numbers, 1),
+        latches: number_at(numbers, 2),
+        outputs: number_at(numbers, 3),
+        gates: number_at(numbers, 4),
+        bads: number_at(numbers, 5),
+        constraints: number_at(numbers, 6),
+        justice: number_at(numbers, 7),
+        fair: number_at(numbers, 8),
     })
 }
 
@@ -125,20 +99,9 @@ fn fitting(form: Form, counts: Counts) -> Result<Counts, Why>
     let sum = u64::from(counts.inputs) + u64::from(counts.latches) + u64::from(counts.gates);
     let greatest = u64::from(counts.variables);
     match form {
-        Form::Ascii => {
-            if greatest < sum {
-                Err(Why::CountsDisagree)
-            } else {
-                Ok(counts)
-            }
-        }
-        Form::Binary => {
-            if greatest == sum {
-                Ok(counts)
-            } else {
-                Err(Why::CountsDisagree)
-            }
-        }
+        Form::Ascii if greatest >= sum => Ok(counts),
+        Form::Binary if greatest == sum => Ok(counts),
+        _ => Err(Why::CountsDisagree),
     }
 }
 
@@ -151,9 +114,10 @@ pub fn header(line: &[u8]) -> Result<(Form, Counts), Why>
 {
     let (word, rest) = first_field(line);
     let form = form_of(word)?;
-    let (first, rest) = first_five(rest)?;
-    let last = last_four(rest)?;
-    let counts = counts_of(first, last)?;
+    let mut numbers = [0; 9];
+    let count = numbers_in(rest, &mut numbers)?;
+    let (told, _) = numbers.split_at(count);
+    let counts = counts_of(told)?;
     let counts = fitting(form, counts)?;
     Ok((form, counts))
 }

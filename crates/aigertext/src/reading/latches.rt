@@ -1,6 +1,6 @@
 //! Reading the line of a latch whose own literal is given.
-ghost use Rattle.std.specs.Prelude.{◌≡◌, ◌≤◌, ◌∷◌, [], IfOk};
-ghost use Rattle.aigertext.specs.Reading.{Gives, reset_of, fields, fields_behind, next_fields, next_of};
+ghost use Rattle.std.specs.Prelude.{◌≡◌, ◌∷◌};
+ghost use Rattle.aigertext.specs.Reading.{Gives, reset_of, reset_at, fields, fields_behind, next_fields, next_of};
 ghost use Rattle.aigertext.specs.Passes.{own_fields, latch_in};
 ghost use Rattle.base.specs.Decimals.{number_of};
 
@@ -31,49 +31,32 @@ fn reset(field: &[u8], own: u32) -> Result<Reset, Why>
     }
 }
 
-/// A latch whose reset is left out.
-#[tactic(auto, unfolding(crate::specs::Reading::next_fields))]
-fn plain_latch(next: &[u8], greatest: u32, own: u32) -> Result<Latch, Why>
-    ensures gives { Gives (λ x. x) result (next_fields greatest own (next.now ∷ [])) }
-    ensures small { IfOk result (λ l. l.next ≤ greatest) }
-{
-    let next = literal_within(next, greatest, Why::BadLatch)?;
-    Ok(Latch {
-        next,
-        reset: Reset::Zero,
-    })
-}
-
-/// A latch with a reset.
-#[tactic(auto, unfolding(crate::specs::Reading::next_fields))]
-fn latch_with(next: &[u8], begins: &[u8], greatest: u32, own: u32) -> Result<Latch, Why>
-    ensures gives { Gives (λ x. x) result (next_fields greatest own (next.now ∷ begins.now ∷ [])) }
-    ensures small { IfOk result (λ l. l.next ≤ greatest) }
-{
-    let next = literal_within(next, greatest, Why::BadLatch)?;
-    let reset = reset(begins, own)?;
-    Ok(Latch { next, reset })
-}
-
-/// The latch of a next literal and what stands behind it on its line, which may say how the latch begins.
-#[tactic(auto, unfolding(crate::specs::Reading::next_fields))]
-pub fn latch_behind(next: &[u8], rest: &[u8], greatest: u32, own: u32) -> Result<Latch, Why>
-    ensures gives { Gives (λ x. x) result (next_fields greatest own (next.now ∷ fields_behind rest.now)) }
-    ensures small { IfOk result (λ l. l.next ≤ greatest) }
+/// How a latch begins, by what stands behind its next literal on its line; nothing stands for 0.
+fn reset_behind(rest: &[u8], own: u32) -> Result<Reset, Why>
+    ensures { Gives (λ x. x) result (reset_at own (fields_behind rest.now)) }
 {
     match next_field(rest) {
-        None => plain_latch(next, greatest, own),
-        Some((begins, rest)) => match next_field(rest) {
-            None => latch_with(next, begins, greatest, own),
+        None => Ok(Reset::Zero),
+        Some((field, rest)) => match next_field(rest) {
+            None => reset(field, own),
             Some(_) => Err(Why::BadLatch),
         },
     }
 }
 
+/// The latch of a next literal and what stands behind it on its line.
+#[tactic(auto, unfolding(crate::specs::Reading::next_fields))]
+pub fn latch_behind(next: &[u8], rest: &[u8], greatest: u32, own: u32) -> Result<Latch, Why>
+    ensures { Gives (λ x. x) result (next_fields greatest own (next.now ∷ fields_behind rest.now)) }
+{
+    let next = literal_within(next, greatest, Why::BadLatch)?;
+    let reset = reset_behind(rest, own)?;
+    Ok(Latch { next, reset })
+}
+
 /// The latch of a line of the binary form: its next literal, which is at most the greatest one, and how it begins.
 fn next_latch(line: &[u8], greatest: u32, own: u32) -> Result<Latch, Why>
-    ensures gives { Gives (λ x. x) result (next_of greatest own line.now) }
-    ensures small { IfOk result (λ l. l.next ≤ greatest) }
+    ensures { Gives (λ x. x) result (next_of greatest own line.now) }
 {
     let (next, rest) = first_field(line);
     latch_behind(next, rest, greatest, own)
@@ -82,8 +65,7 @@ fn next_latch(line: &[u8], greatest: u32, own: u32) -> Result<Latch, Why>
 /// The latch of a line of the ascii form, which begins with the given own literal.
 #[tactic(auto, unfolding(crate::specs::Passes::own_fields, crate::specs::Reading::next_fields))]
 fn own_latch(line: &[u8], greatest: u32, own: u32) -> Result<Latch, Why>
-    ensures gives { Gives (λ x. x) result (own_fields greatest own (fields line.now)) }
-    ensures small { IfOk result (λ l. l.next ≤ greatest) }
+    ensures { Gives (λ x. x) result (own_fields greatest own (fields line.now)) }
 {
     let (current, rest) = first_field(line);
     match decimal(current) {
@@ -105,8 +87,7 @@ fn own_latch(line: &[u8], greatest: u32, own: u32) -> Result<Latch, Why>
 ///
 /// Error: `BadLatch`.
 pub fn latch_in(form: Form, line: &[u8], greatest: u32, own: u32) -> Result<Latch, Why>
-    ensures gives { Gives (λ x. x) result (latch_in form greatest own line.now) }
-    ensures small { IfOk result (λ l. l.next ≤ greatest) }
+    ensures { Gives (λ x. x) result (latch_in form greatest own line.now) }
 {
     match form {
         Form::Ascii => own_latch(line, greatest, own),

@@ -65,8 +65,7 @@ pub fn header_line(text: &[u8]) -> Result<((Form, Counts), &[u8]), Stop>
 
 /// The latch of the first line of a text of a form, whose own literal is given, and the text behind it.
 pub fn latch_line(form: Form, text: &[u8], greatest: u32, own: u32) -> Result<(Latch, &[u8]), Stop>
-    ensures gives { Gives (λ x. (x.0, x.1.now)) result (line_at (latch_in form greatest own) text.now) }
-    ensures small { IfOk result (λ x. x.0.next ≤ greatest) }
+    ensures { Gives (λ x. (x.0, x.1.now)) result (line_at (latch_in form greatest own) text.now) }
 {
     let (bytes, behind) = line(text)?;
     match latch_in(form, bytes, greatest, own) {
@@ -77,8 +76,7 @@ pub fn latch_line(form: Form, text: &[u8], greatest: u32, own: u32) -> Result<(L
 
 /// The literal of the first line, and the text behind it.
 pub fn literal_line(text: &[u8], greatest: u32) -> Result<(Lit, &[u8]), Stop>
-    ensures gives { Gives (λ x. (x.0, x.1.now)) result (line_at (literal_of greatest) text.now) }
-    ensures small { IfOk result (λ x. x.0 ≤ greatest) }
+    ensures { Gives (λ x. (x.0, x.1.now)) result (line_at (literal_of greatest) text.now) }
 {
     let (bytes, behind) = line(text)?;
     match literal(bytes, greatest) {

@@ -9,8 +9,7 @@ use base::decimal;
 
 /// A literal that is at most the greatest one; any other bytes are refused for the given reason.
 pub fn literal_within(bytes: &[u8], greatest: u32, why: Why) -> Result<Lit, Why>
-    ensures gives { Gives (λ x. x) result (within why greatest (number_of bytes.now)) }
-    ensures small { IfOk result (λ l. l ≤ greatest) }
+    ensures { Gives (λ x. x) result (within why greatest (number_of bytes.now)) }
 {
     match decimal(bytes) {
         None => Err(why),
@@ -27,8 +26,7 @@ pub fn literal_within(bytes: &[u8], greatest: u32, why: Why) -> Result<Lit, Why>
 /// The literal of a line, which is at most the greatest one.
 #[tactic(auto, unfolding(crate::specs::Reading::literal_of))]
 pub fn literal(line: &[u8], greatest: u32) -> Result<Lit, Why>
-    ensures gives { Gives (λ x. x) result (literal_of greatest line.now) }
-    ensures small { IfOk result (λ l. l ≤ greatest) }
+    ensures { Gives (λ x. x) result (literal_of greatest line.now) }
 {
     literal_within(line, greatest, Why::BadNumber)
 }

@@ -1,5 +1,5 @@
 //! Reading a source piece by piece behind bytes that are held.
-ghost use Rattle.std.specs.Prelude.{vec_len, vec_capacity, ◌≡◌, ◌+◌, ◌<◌, ◌≤◌, ◌++◌, true, false, length, drop, Ok, OnOk, IsErrOf};
+ghost use Rattle.std.specs.Prelude.{◌≡◌, ◌<◌, ◌≤◌, true, false, length, drop, Ok, OnOk, IsErrOf};
 ghost use Rattle.std.specs.Io.KnownBytes.{prepend_known, Keeps, IsAtEnd};
 ghost use Rattle.base.specs.Device.{HasRisen};
 
@@ -21,15 +21,12 @@ pub fn read_piece<S: Source>(
     ensures device { IsErrOf result ReadAllFault.Device → HasRisen (S.failures source.old) (S.failures source.new) }
     ensures memory { IsErrOf result ReadAllFault.NoMemory → S.failures source.new ≡ S.failures source.old }
 {
-    if bytes.reserve(PIECE).is_err() {
-        return Err(ReadAllFault::NoMemory);
-    }
     match source.read(piece) {
         Err(DeviceFault::Failed) => Err(ReadAllFault::Device),
-        Ok(count) => {
-            append(bytes, &piece[..count]);
-            Ok(count > 0)
-        }
+        Ok(count) => match bytes.extend_from_slice(&piece[..count]) {
+            Ok(()) => Ok(count > 0),
+            Err(_) => Err(ReadAllFault::NoMemory),
+        },
     }
 }
 
@@ -54,14 +51,4 @@ pub fn remove_front(bytes: &mut Vec<u8>, n: usize)
     let len = bytes.len();
     bytes.as_mut_slice().copy_within(n..len, 0);
     bytes.truncate(len - n);
-}
-
-/// Puts a piece behind a buffer that has room for it.
-fn append(bytes: &mut Vec<u8>, piece: &[u8])
-    requires { vec_len bytes.old + length piece.now ≤ vec_capacity bytes.old }
-    ensures { bytes.new.items ≡ bytes.old.items ++ piece.now }
-{
-    let Ok(()) = bytes.extend_from_slice(piece) else {
-        unreachable!()
-    };
 }

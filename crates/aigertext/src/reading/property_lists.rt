@@ -1,13 +1,9 @@
 //! Properties that were read, put onto a circuit or onto the lists of a file.
-ghost use Rattle.std.specs.Prelude.{◌≡◌, ℕ, ◌≤◌, Bool, true, refl, [], ◌∷◌, length, OnOk, OnErr, IfErr};
-ghost use Rattle.std.specs.List.{list_all, sum};
-ghost use Rattle.aiger.specs.Circuit.{RefusesBy, count_refusal, size_refusal};
+ghost use Rattle.std.specs.Prelude.{◌≡◌, refl, [], ◌∷◌, length, OnOk};
+ghost use Rattle.std.specs.List.{sum};
 ghost use Rattle.aigertext.specs.Reading.{lists_of};
-ghost use Rattle.aigertext.specs.PropertyLists.{Lists, no_lists, numbers_of, literals_of, with_literals, with_justice, lists_made, TakesAll, AreTaken, ArePropertyLists, circuit_lists, circuit_with, circuit_takes, file_lists, file_with, file_takes};
-ghost use Rattle.aigertext.specs.declared.fault.Why.TheVariants as why;
-ghost use Rattle.aiger.specs.declared.fault.CircuitFault.TheVariants as circuit_fault;
+ghost use Rattle.aigertext.specs.PropertyLists.{Lists, no_lists, numbers_of, with_literals, with_justice, lists_made, ArePropertyLists, circuit_lists, circuit_with, file_lists, file_with};
 
-use crate::fault::Why;
 use crate::reading::properties::PropertyLines;
 use aiger::{Circuit, CircuitFault, Lit, Loose};
 
@@ -32,21 +28,16 @@ pub(crate) trait PropertyLists {
     /// The same with other lists.
     ghost with_lists: { Self → Lists → Self };
 
-    /// Whether its properties may have a literal.
-    ghost takes: { Self → ℕ → Bool };
-
     /// Adds a literal to a section.
     fn add_literal(&mut self, section: LiteralSection, literal: Lit) -> Result<(), CircuitFault>
-        ensures ok { OnOk result (self.new ≡ with_lists self.old (with_literals section (lists self.old) (literal ∷ []))) }
-        ensures refused { takes self.old literal ≡ true → RefusesBy result (count_refusal (length (literals_of section (lists self.old)))) };
+        ensures { OnOk result (self.new ≡ with_lists self.old (with_literals section (lists self.old) (literal ∷ []))) };
 
     /// Adds a justice property.
     fn add_justice(&mut self, literals: &[Lit]) -> Result<(), CircuitFault>
-        ensures ok { OnOk result (self.new ≡ with_lists self.old (with_justice (lists self.old) (literals.now ∷ []))) }
-        ensures refused { list_all (takes self.old) literals.now ≡ true → RefusesBy result (size_refusal (lists self.old).justice (length literals.now)) };
+        ensures { OnOk result (self.new ≡ with_lists self.old (with_justice (lists self.old) (literals.now ∷ []))) };
 
     /// They are lists beside which nothing changes.
-    ghost laws: { ArePropertyLists lists with_lists takes };
+    ghost laws: { ArePropertyLists lists with_lists };
 }
 
 impl PropertyLists for Circuit {
@@ -54,8 +45,6 @@ impl PropertyLists for Circuit {
 
     ghost with_lists = { circuit_with };
 
-    ghost takes = { circuit_takes };
-
     /// Adds a literal to a section.
     fn add_literal(&mut self, section: LiteralSection, literal: Lit) -> Result<(), CircuitFault> {
         match section {
@@ -71,7 +60,7 @@ impl PropertyLists for Circuit {
         self.push_justice(literals)
     }
 
-    ghost laws = { record { again = λ c p q. refl; back = λ c. refl; has = λ c p. refl; same = λ c p. refl } };
+    ghost laws = { record { again = λ c p q. refl; back = λ c. refl; has = λ c p. refl } };
 }
 
 impl PropertyLists for Loose {
@@ -79,8 +68,6 @@ impl PropertyLists for Loose {
 
     ghost with_lists = { file_with };
 
-    ghost takes = { file_takes };
-
     /// Adds a literal to a section.
     fn add_literal(&mut self, section: LiteralSection, literal: Lit) -> Result<(), CircuitFault> {
         match section {
@@ -96,76 +83,53 @@ impl PropertyLists for Loose {
         self.push_justice(literals)
     }
 
-    ghost laws = { record { again = λ l p q. refl; back = λ l. refl; has = λ l p. refl; same = λ l p. refl } };
+    ghost laws = { record { again = λ l p q. refl; back = λ l. refl; has = λ l p. refl } };
 }
 
-/// Adds literals to a section that has none.
+/// Adds literals to a section.
 fn put_literals<L: PropertyLists>(
     lists: &mut L,
     section: LiteralSection,
     literals: &[Lit],
-) -> Result<(), Why>
-    requires taken { TakesAll (L.takes lists.old) literals.now }
-    requires none { literals_of section (L.lists lists.old) ≡ [] }
-    ensures ok { OnOk result (lists.new ≡ L.with_lists lists.old (with_literals section (L.lists lists.old) literals.now)) }
-    ensures full { IfErr result (λ e. e ≡ why.NoMemory) }
+) -> Result<(), CircuitFault>
+    ensures { OnOk result (lists.new ≡ L.with_lists lists.old (with_literals section (L.lists lists.old) literals.now)) }
 {
     for literal in literals {
-        match lists.add_literal(section, *literal) {
-            Ok(()) => {}
-            Err(fault) => return Err(want_of_memory(fault)),
-        }
+        lists.add_literal(section, *literal)?;
     }
     Ok(())
 }
 
-/// Adds justice properties of these sizes, by the literals of all of them, where there are none.
-fn put_justice<L: PropertyLists>(lists: &mut L, sizes: &[u32], listed: &[Lit]) -> Result<(), Why>
-    requires taken { TakesAll (L.takes lists.old) listed.now }
-    requires few { length sizes.now ≤ 1073741824 }
-    requires sums { length listed.now ≡ sum sizes.now }
-    requires none { (L.lists lists.old).justice ≡ [] }
-    ensures ok { OnOk result (lists.new ≡ L.with_lists lists.old (with_justice (L.lists lists.old) (lists_of sizes.now listed.now))) }
-    ensures full { IfErr result (λ e. e ≡ why.NoMemory) }
+/// Adds justice properties of these sizes, by the literals of all of them.
+fn put_justice<L: PropertyLists>(
+    lists: &mut L,
+    sizes: &[u32],
+    listed: &[Lit],
+) -> Result<(), CircuitFault>
+    requires { length listed.now ≡ sum sizes.now }
+    ensures { OnOk result (lists.new ≡ L.with_lists lists.old (with_justice (L.lists lists.old) (lists_of sizes.now listed.now))) }
 {
     let mut rest = listed;
     for size in sizes {
         let (literals, behind) = rest.split_at(*size as usize);
-        match lists.add_justice(literals) {
-            Ok(()) => {}
-            Err(fault) => return Err(want_of_memory(fault)),
-        }
+        lists.add_justice(literals)?;
         rest = behind;
     }
     Ok(())
 }
 
-/// Adds all properties, where there are none.
-///
-/// Error: `NoMemory`.
+/// Adds all properties, where there are none. What is refused but for want of memory is none that was read.
 pub fn put_properties<L: PropertyLists>(
     lists: &mut L,
     properties: &PropertyLines,
-) -> Result<(), Why>
-    requires taken { AreTaken (L.takes lists.old) (numbers_of properties.now) }
+) -> Result<(), CircuitFault>
+    requires sums { length properties.now.listed.items ≡ sum properties.now.sizes.items }
     requires none { L.lists lists.old ≡ no_lists }
-    ensures ok { OnOk result (lists.new ≡ L.with_lists lists.old (lists_made (numbers_of properties.now))) }
-    ensures full { IfErr result (λ e. e ≡ why.NoMemory) }
+    ensures { OnOk result (lists.new ≡ L.with_lists lists.old (lists_made (numbers_of properties.now))) }
 {
     put_literals(lists, LiteralSection::Output, &properties.outputs)?;
     put_literals(lists, LiteralSection::Bad, &properties.bads)?;
     put_literals(lists, LiteralSection::Constraint, &properties.constraints)?;
     put_justice(lists, &properties.sizes, &properties.listed)?;
     put_literals(lists, LiteralSection::Fair, &properties.fair)
-}
-
-/// Where nothing else is wrong, a refusal is want of memory.
-pub fn want_of_memory(fault: CircuitFault) -> Why
-    requires { fault ≡ circuit_fault.NoMemory }
-    ensures { result ≡ why.NoMemory }
-{
-    match fault {
-        CircuitFault::NoMemory => Why::NoMemory,
-        _ => unreachable!(),
-    }
 }

@@ -1,35 +1,28 @@
 //! The header of a text.
 ghost use Rattle.std.specs.Prelude.{◌≡◌, ◌≤◌, ◌∷◌, length};
-ghost use Rattle.base.specs.Device.{CountsFaults};
-ghost use Rattle.base.specs.Pieces.{Puts};
 ghost use Rattle.aigertext.specs.Ascii.{numbers_line, without_zero_tail, last_counts, header};
+ghost use Rattle.aigertext.specs.Writing.{Writes};
 
 use crate::forms::Form;
-use crate::writing::line::{Line, put_bytes};
+use crate::writing::line::Line;
+use crate::writing::pen::Pen;
 use aiger::Circuit;
-use base::{DeviceFault, Outbox, Sink};
+use base::Sink;
 
 /// Puts the header of a circuit in a form.
-pub fn put_header<K: Sink>(
-    outbox: &mut Outbox,
-    sink: &mut K,
-    form: Form,
-    circuit: &Circuit,
-) -> Result<(), DeviceFault>
-    ensures puts { Puts result (K.written sink.old) (K.written sink.new) outbox.old outbox.new (header form circuit.now) }
-    ensures failures { CountsFaults result (K.failures sink.old) (K.failures sink.new) }
+pub fn put_header<K: Sink>(pen: &mut Pen, sink: &mut K, form: Form, circuit: &Circuit)
+    ensures { Writes K.written K.failures sink.old sink.new pen.old pen.new (header form circuit.now) }
 {
-    let mut line = Line::new();
-    write_last_counts(&mut line, circuit);
-    line.before(circuit.outputs().len() as u32);
-    line.before(circuit.latches().len() as u32);
-    line.before(circuit.inputs());
-    line.before(circuit.variables());
-    line.byte(b' ');
-    line.byte(b'g');
-    line.byte(form.letter());
-    line.byte(b'a');
-    put_bytes(outbox, sink, line.bytes())
+    write_last_counts(&mut pen.line, circuit);
+    pen.line.before(circuit.outputs().len() as u32);
+    pen.line.before(circuit.latches().len() as u32);
+    pen.line.before(circuit.inputs());
+    pen.line.before(circuit.variables());
+    pen.line.byte(b' ');
+    pen.line.byte(b'g');
+    pen.line.byte(form.letter());
+    pen.line.byte(b'a');
+    pen.put_line(sink);
 }
 
 /// Writes the end of a header: the gates, and the counts behind them as far as they are not 0.

@@ -1,87 +1,57 @@
 //! The lines of inputs and latches.
-ghost use Rattle.std.specs.Prelude.{◌+◌, ◌≤◌, ◌≡◌, ◌∷◌, [], length};
-ghost use Rattle.base.specs.Device.{CountsFaults};
+ghost use Rattle.std.specs.Prelude.{◌+◌, ◌≤◌, ◌≡◌, ◌∷◌, length};
 ghost use Rattle.aigertext.specs.Ascii.{numbers_line, input_lines, reset_numbers};
 ghost use Rattle.aigertext.specs.Binary.{inputs_text, latch_text, latches_text};
-ghost use Rattle.base.specs.Pieces.{Puts};
+ghost use Rattle.aigertext.specs.Writing.{Writes};
 
 use crate::forms::Form;
-use crate::writing::line::{Line, put_bytes, put_number};
+use crate::writing::line::Line;
+use crate::writing::pen::Pen;
 use aiger::{Latch, Reset};
-use base::{DeviceFault, Outbox, Sink};
+use base::Sink;
 
 /// Puts the lines of so many inputs, which only the ascii form has.
-pub fn put_inputs<K: Sink>(
-    outbox: &mut Outbox,
-    sink: &mut K,
-    form: Form,
-    count: u32,
-) -> Result<(), DeviceFault>
+pub fn put_inputs<K: Sink>(pen: &mut Pen, sink: &mut K, form: Form, count: u32)
     requires { count ≤ 1073741824 }
-    ensures puts { Puts result (K.written sink.old) (K.written sink.new) outbox.old outbox.new (inputs_text form count) }
-    ensures failures { CountsFaults result (K.failures sink.old) (K.failures sink.new) }
+    ensures { Writes K.written K.failures sink.old sink.new pen.old pen.new (inputs_text form count) }
 {
     match form {
-        Form::Ascii => put_input_lines(outbox, sink, count),
-        Form::Binary => Ok(()),
+        Form::Ascii => put_input_lines(pen, sink, count),
+        Form::Binary => {}
     }
 }
 
 /// Puts the lines of so many inputs.
-fn put_input_lines<K: Sink>(
-    outbox: &mut Outbox,
-    sink: &mut K,
-    count: u32,
-) -> Result<(), DeviceFault>
+fn put_input_lines<K: Sink>(pen: &mut Pen, sink: &mut K, count: u32)
     requires { count ≤ 1073741824 }
-    ensures puts { Puts result (K.written sink.old) (K.written sink.new) outbox.old outbox.new (input_lines 1 count) }
-    ensures failures { CountsFaults result (K.failures sink.old) (K.failures sink.new) }
+    ensures { Writes K.written K.failures sink.old sink.new pen.old pen.new (input_lines 1 count) }
 {
-    let mut line = Line::new();
     for index in 0..count {
-        put_number(outbox, sink, &mut line, 2 * (index + 1))?;
+        pen.put_number(sink, 2 * (index + 1));
     }
-    Ok(())
 }
 
 /// Puts the lines of the latches, the first of which has the given variable.
-pub fn put_latches<K: Sink>(
-    outbox: &mut Outbox,
-    sink: &mut K,
-    form: Form,
-    first: u32,
-    latches: &[Latch],
-) -> Result<(), DeviceFault>
+pub fn put_latches<K: Sink>(pen: &mut Pen, sink: &mut K, form: Form, first: u32, latches: &[Latch])
     requires { first + length latches.now ≤ 1073741825 }
-    ensures puts { Puts result (K.written sink.old) (K.written sink.new) outbox.old outbox.new (latches_text form first latches.now) }
-    ensures failures { CountsFaults result (K.failures sink.old) (K.failures sink.new) }
+    ensures { Writes K.written K.failures sink.old sink.new pen.old pen.new (latches_text form first latches.now) }
 {
-    let mut line = Line::new();
     let mut variable = first;
     for latch in latches {
-        put_latch(outbox, sink, &mut line, form, 2 * variable, latch)?;
+        put_latch(pen, sink, form, 2 * variable, latch);
         variable += 1;
     }
-    Ok(())
 }
 
 /// Puts the line of a latch: its literal, which the binary form leaves out, its next literal and its reset.
-fn put_latch<K: Sink>(
-    outbox: &mut Outbox,
-    sink: &mut K,
-    line: &mut Line,
-    form: Form,
-    own: u32,
-    latch: &Latch,
-) -> Result<(), DeviceFault>
-    ensures puts { Puts result (K.written sink.old) (K.written sink.new) outbox.old outbox.new (latch_text form own latch.now) }
-    ensures failures { CountsFaults result (K.failures sink.old) (K.failures sink.new) }
+fn put_latch<K: Sink>(pen: &mut Pen, sink: &mut K, form: Form, own: u32, latch: &Latch)
+    ensures { Writes K.written K.failures sink.old sink.new pen.old pen.new (latch_text form own latch.now) }
 {
-    write_next(line, own, latch);
+    write_next(&mut pen.line, own, latch);
     if form == Form::Ascii {
-        line.before(own);
+        pen.line.before(own);
     }
-    put_bytes(outbox, sink, line.bytes())
+    pen.put_line(sink);
 }
 
 /// Writes the end of a latch's line: its next literal and its reset.

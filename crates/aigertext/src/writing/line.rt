@@ -1,10 +1,7 @@
 //! One line, written from its end to its front.
 ghost use Rattle.std.specs.Prelude.{◌≡◌, ℕ, ◌+◌, ◌<◌, ◌≤◌, List, [], ◌∷◌, ◌++◌, length, drop, decimal};
-ghost use Rattle.base.specs.Device.{CountsFaults};
-ghost use Rattle.base.specs.Pieces.{Puts};
 ghost use Rattle.aigertext.specs.Ascii.{numbers_line, kept_line, before_kept};
 
-use base::{DeviceFault, Outbox, Sink};
 use itoa::write_digits;
 use std::marker::Model;
 
@@ -102,31 +99,4 @@ impl Line {
             self.last(count);
         }
     }
-}
-
-/// Puts bytes into the outbox.
-#[inline(always)]
-pub fn put_bytes<K: Sink>(
-    outbox: &mut Outbox,
-    sink: &mut K,
-    bytes: &[u8],
-) -> Result<(), DeviceFault>
-    ensures puts { Puts result (K.written sink.old) (K.written sink.new) outbox.old outbox.new bytes.now }
-    ensures failures { CountsFaults result (K.failures sink.old) (K.failures sink.new) }
-{
-    outbox.put(sink, bytes)
-}
-
-/// Puts the line of one number.
-pub fn put_number<K: Sink>(
-    outbox: &mut Outbox,
-    sink: &mut K,
-    line: &mut Line,
-    number: u32,
-) -> Result<(), DeviceFault>
-    ensures puts { Puts result (K.written sink.old) (K.written sink.new) outbox.old outbox.new (numbers_line (number ∷ [])) }
-    ensures failures { CountsFaults result (K.failures sink.old) (K.failures sink.new) }
-{
-    line.last(number);
-    put_bytes(outbox, sink, line.bytes())
 }

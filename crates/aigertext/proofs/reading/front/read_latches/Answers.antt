@@ -6,10 +6,10 @@ use Rattle.aigertext.proofs.reading.front.read_latches.Goals as goal
 pub returns-in-Err : goal.returns-in-Err
 returns-in-Err c =
     inr (onto_stop (latch_in c.args.form c.args.greatest) (λ o l. o + 2) (c.args.first + 2 * c.loop-index.index) (c.args.count - c.loop-index.index) (c.args.count - (c.loop-index.index + 1)) c.loop-index.rest.now (omega arith)
-    c.loop-index.latches.items c.in-Err.stop _ c.in-Err.ensures.gives c.loop-index.invariant)
+    c.loop-index.latches.items c.in-Err.stop _ c.in-Err.ensures c.loop-index.invariant)
 
 pub loop-index-preserved : goal.loop-index-preserved
 loop-index-preserved c =
     ap (λ ls. onto ls (latches_in c.args.form c.args.greatest (c.args.first + 2 * (c.loop-index.index + 1)) (c.args.count - (c.loop-index.index + 1)) c.in-Ok.found.1.now)) c.in-Ok-push.ensures.items
     ∙ onto_step (latch_in c.args.form c.args.greatest) (λ o l. o + 2) (c.args.first + 2 * c.loop-index.index) (c.args.count - c.loop-index.index) (c.args.count - (c.loop-index.index + 1)) c.loop-index.rest.now (omega arith)
-    c.loop-index.latches.items c.in-Ok.found.0 c.in-Ok.found.1.now (c.args.first + 2 * (c.loop-index.index + 1)) _ (omega arith) c.in-Ok.ensures.gives c.loop-index.invariant
+    c.loop-index.latches.items c.in-Ok.found.0 c.in-Ok.found.1.now (c.args.first + 2 * (c.loop-index.index + 1)) _ (omega arith) c.in-Ok.ensures c.loop-index.invariant

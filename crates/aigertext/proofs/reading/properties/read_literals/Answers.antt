@@ -7,10 +7,10 @@ use Rattle.aigertext.proofs.reading.properties.read_literals.Goals as goal
 pub returns-in-Err : goal.returns-in-Err
 returns-in-Err c =
     inr (onto_stop literal_of (λ g l. g) c.args.greatest (c.args.count - c.loop-index._index) (c.args.count - (c.loop-index._index + 1)) c.loop-index.rest.now (omega arith)
-    c.loop-index.list.items c.in-Err.stop _ c.in-Err.ensures.gives c.loop-index.invariant)
+    c.loop-index.list.items c.in-Err.stop _ c.in-Err.ensures c.loop-index.invariant)
 
 pub loop-index-preserved : goal.loop-index-preserved
 loop-index-preserved c =
     ap (λ ls. onto ls (literals_at c.args.greatest (c.args.count - (c.loop-index._index + 1)) c.in-Ok.found.1.now)) c.in-Ok-push.ensures.items
     ∙ onto_step literal_of (λ g l. g) c.args.greatest (c.args.count - c.loop-index._index) (c.args.count - (c.loop-index._index + 1)) c.loop-index.rest.now (omega arith)
-    c.loop-index.list.items c.in-Ok.found.0 c.in-Ok.found.1.now c.args.greatest _ refl c.in-Ok.ensures.gives c.loop-index.invariant
+    c.loop-index.list.items c.in-Ok.found.0 c.in-Ok.found.1.now c.args.greatest _ refl c.in-Ok.ensures c.loop-index.invariant

@@ -8,6 +8,6 @@ invariant-loop-size g l =
     let m = g.L.PropertyLists in
     record {
       made : List (List ℕ);
-      lists : ListsMade (m.takes l.initial.lists) l.sizes l.fn.listed l.size-index made l.rest;
+      lists : ListsMade l.sizes l.fn.listed l.size-index made l.rest;
       is : l.lists ≡ m.with_lists l.initial.lists (with_justice (m.lists l.initial.lists) made);
     }

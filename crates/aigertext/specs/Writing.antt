@@ -1,0 +1,13 @@
+-- What calls that put pieces of a text with a pen do.
+use Rattle.std.specs.Prelude.{◌≡◌, ℕ, List, Option, Result, Ok, Err}
+use Rattle.base.specs.Device.{CountsFaults}
+use Rattle.base.specs.Pieces.{Puts}
+use Rattle.aigertext.specs.declared.writing.pen.Pen.{Pen}
+
+-- a text was put behind what was kept, or the sink failed at it; once it has, nothing more is done
+abbrev pub PutsOn : {T E : Type 0} → Result T E → Result T E → Option (List ℕ) → Option (List ℕ) → ℕ → ℕ → List ℕ → List ℕ → List ℕ → Type 0
+PutsOn (Ok x) now old new before after kept left text = Puts now old new kept left text × CountsFaults now before after
+PutsOn (Err e) now old new before after kept left text = (now ≡ Err e) × (new ≡ old) × (after ≡ before)
+
+pub record Writes {K : Type 0} (written : K → Option (List ℕ)) (failures : K → ℕ) (s t : K) (p q : Pen) (text : List ℕ) : Type 0 where
+  pub puts : PutsOn p.answer q.answer (written s) (written t) (failures s) (failures t) p.outbox q.outbox text
